@@ -1,0 +1,14 @@
+pub mod Values
+pub mod Counts
+pub mod Reading
+pub mod OnLists
+pub mod Decimals
+pub mod OneName
+pub mod OneLine
+pub mod ManyNames
+pub mod Cores
+pub mod OneStep
+pub mod OneText
+pub mod Again
+pub mod Parsing
+pub mod EachOne

@@ -1,0 +1,60 @@
+-- What a program is: its names, and for each core its operations.
+use Rattle.std.specs.Prelude.{◌≡◌, ◌≤◌, ◌<◌, ◌^◌, ◌+◌, ◌==◌, ℕ, List, [], ◌∷◌, Option, Some, None, length, nat_lt, if◌then◌else◌, option_and_then}
+use Rattle.std.specs.List.{AllByRecursion, IsDistinct}
+use Rattle.litmus.specs.declared.name.Name.{Name}
+use Rattle.litmus.specs.declared.op.Op.{Op}
+use Rattle.litmus.specs.declared.op.Op.TheVariants.{St, Ld, Fence, Swap, Add}
+use Rattle.litmus.specs.declared.limits.TheConstants.{MAX_CORES, MAX_EVENTS, MAX_ADDRESSES}
+use Rattle.litmus.specs.Names.{name_eq, AreLawful}
+
+-- the names in order of first use, and the operations of each core in program order
+pub record Parts : Type 0 where
+  pub names : List Name
+  pub cores : List (List Op)
+
+-- how many operations there are
+abbrev pub op_count : List (List Op) → ℕ
+op_count [] = 0
+op_count (ops ∷ cores) = length ops + op_count cores
+
+abbrev pub addr_of : Op → Option ℕ
+addr_of (St a n) = Some a
+addr_of (Ld a) = Some a
+addr_of Fence = None
+addr_of (Swap a n) = Some a
+addr_of (Add a n) = Some a
+
+abbrev pub value_of : Op → ℕ
+value_of (St a n) = n
+value_of (Ld a) = 0
+value_of Fence = 0
+value_of (Swap a n) = n
+value_of (Add a n) = n
+
+abbrev pub Small : Op → Type 0
+Small op = value_of op < 2 ^ 32
+
+-- how many addresses were used after this one, where the first m were used before
+abbrev pub use_addr : ℕ → Option ℕ → Option ℕ
+use_addr m None = Some m
+use_addr m (Some a) = if nat_lt a m then Some m else (if a == m then Some (m + 1) else None)
+
+-- the same after all operations of a core
+abbrev pub use_ops : ℕ → List Op → Option ℕ
+use_ops m [] = Some m
+use_ops m (op ∷ ops) = option_and_then (λ k. use_ops k ops) (use_addr m (addr_of op))
+
+-- the same after all cores; None where addresses aren't numbered in order of first use
+abbrev pub use_cores : ℕ → List (List Op) → Option ℕ
+use_cores m [] = Some m
+use_cores m (ops ∷ cores) = option_and_then (λ k. use_cores k cores) (use_ops m ops)
+
+-- a program within the limits, whose names are lawful, distinct, and those of its addresses
+pub record IsProgram (p : Parts) : Type 0 where
+  pub few_cores : length p.cores ≤ MAX_CORES
+  pub few_ops : op_count p.cores ≤ MAX_EVENTS
+  pub few_names : length p.names ≤ MAX_ADDRESSES
+  pub values : AllByRecursion (AllByRecursion Small) p.cores
+  pub lawful : AreLawful p.names
+  pub distinct : IsDistinct name_eq p.names
+  pub numbered : use_cores 0 p.cores ≡ Some (length p.names)

@@ -1,0 +1,72 @@
+-- What a line does to what was read before it.
+use Rattle.std.specs.Prelude.{ℕ, List, [], ◌∷◌, ◌++◌, ◌-◌, ◌^◌, ◌==◌, nat_lt, length, slice_set, slice_index_or, Option, None, Some, Result, Ok, Err, if◌then◌else◌}
+use Rattle.std.specs.List.{position_or_len}
+use Rattle.indexmap.specs.IndexSet.{insert_key}
+use Rattle.litmus.specs.declared.name.Name.{Name}
+use Rattle.litmus.specs.declared.line.Write.{Write}
+use Rattle.litmus.specs.declared.line.Write.TheVariants as writes
+use Rattle.litmus.specs.declared.op.Op.{Op}
+use Rattle.litmus.specs.declared.op.Op.TheVariants.{St, Ld, Fence, Swap, Add}
+use Rattle.litmus.specs.declared.fault.LineFault.{LineFault}
+use Rattle.litmus.specs.declared.fault.LineFault.TheVariants.{L1, L2, L3, L4, L5}
+use Rattle.litmus.specs.declared.limits.TheConstants.{MAX_CORES, MAX_EVENTS, MAX_ADDRESSES}
+use Rattle.litmus.specs.Names.{name_eq}
+use Rattle.litmus.specs.Lines.{Line, core_line, fence_line, load_line, write_line, line_of}
+use Rattle.litmus.specs.Parts.{Parts, op_count}
+
+abbrev pub empty : Parts
+empty = record { names = []; cores = [] }
+
+abbrev pub names_with : List Name → Name → List Name
+names_with names name = insert_key name_eq names name
+
+-- the number of a name, or how many there are
+abbrev pub number_in : List Name → Name → ℕ
+number_in names name = position_or_len (name_eq name) names
+
+-- the operation is the last one of the last core
+abbrev pub with_op : List (List Op) → Op → List (List Op)
+with_op cores op = slice_set cores (length cores - 1) (slice_index_or cores (length cores - 1) [] ++ op ∷ [])
+
+abbrev pub written : Write → ℕ → ℕ → Op
+written writes.Store a n = St a n
+written writes.Swap a n = Swap a n
+written writes.Add a n = Add a n
+
+-- whether an operation may come
+abbrev pub op_fault : Parts → Option LineFault
+op_fault p = if length p.cores == 0 then Some L1 else (if nat_lt (op_count p.cores) MAX_EVENTS then None else Some L3)
+
+abbrev pub unless : Option LineFault → Result Parts LineFault → Result Parts LineFault
+unless None r = r
+unless (Some f) r = Err f
+
+unfoldable pub core_step : Parts → Result Parts LineFault
+core_step p = if nat_lt (length p.cores) MAX_CORES then Ok (record p { cores = p.cores ++ [] ∷ [] }) else Err L2
+
+unfoldable pub fence_step : Parts → Result Parts LineFault
+fence_step p = unless (op_fault p) (Ok (record p { cores = with_op p.cores Fence }))
+
+unfoldable pub load_step : Parts → Name → Result Parts LineFault
+load_step p name =
+    unless (op_fault p)
+    (if nat_lt MAX_ADDRESSES (length (names_with p.names name)) then Err L4
+    else Ok (record { names = names_with p.names name; cores = with_op p.cores (Ld (number_in p.names name)) }))
+
+unfoldable pub write_step : Parts → Write → Name → ℕ → Result Parts LineFault
+write_step p write name n =
+    unless (op_fault p)
+    (if nat_lt MAX_ADDRESSES (length (names_with p.names name)) then Err L4
+    else (if nat_lt n (2 ^ 32)
+    then Ok (record { names = names_with p.names name; cores = with_op p.cores (written write (number_in p.names name) n) })
+    else Err L5))
+
+abbrev pub said_step : Parts → Option Line → Result Parts LineFault
+said_step p None = Err L1
+said_step p (Some core_line) = core_step p
+said_step p (Some fence_line) = fence_step p
+said_step p (Some (load_line name)) = load_step p name
+said_step p (Some (write_line write name n)) = write_step p write name n
+
+abbrev pub step : Parts → List ℕ → Result Parts LineFault
+step p line = said_step p (line_of line)

@@ -1,0 +1,189 @@
+//! What was read so far.
+
+ghost use Rattle.std.specs.Prelude.{◌≡◌, nat_lt};
+ghost use Rattle.litmus.specs.Parts.{op_count};
+ghost use Rattle.litmus.specs.Steps.{written};
+
+use crate::fault::{LineFault, LitmusError};
+use crate::ids::Addr;
+use crate::limits::{MAX_ADDRESSES, MAX_CORES, MAX_EVENTS};
+use crate::line::{Number, Said, Write, line_of};
+use crate::name::Name;
+use crate::op::{Op, Ops};
+use indexmap::IndexSet;
+use std::alloc::Global;
+
+/// Whether the cores have fewer operations than `limit`.
+pub fn are_below(cores: &[Ops], limit: usize) -> bool
+    ensures { result ≡ nat_lt (op_count cores.now) limit }
+{
+    let mut room = limit;
+    for core in cores {
+        let len = core.as_slice().len();
+        if room <= len {
+            return false;
+        }
+        room -= len;
+    }
+    0 < room
+}
+
+/// The names in order of first use, and the operations of each core.
+#[derive(Drop)]
+pub struct Builder {
+    pub names: IndexSet<Name>,
+    pub cores: Vec<Ops>,
+}
+
+impl Builder {
+    ghost use Rattle.std.specs.Prelude.{◌≡◌, ◌≤◌, ◌<◌, ◌^◌, ℕ, Err, Ok, None, OnOk, IfErr, length, nat_lt};
+    ghost use Rattle.litmus.specs.Parts.{op_count, addr_of};
+    ghost use Rattle.litmus.specs.Steps.{empty, step, core_step, fence_step, load_step, write_step, op_fault, names_with, number_in, with_op, written};
+    ghost use Rattle.litmus.specs.Text.{AnswersLine};
+    ghost use Rattle.litmus.specs.declared.line.Write.{Write};
+    ghost use Rattle.litmus.specs.Built.{state, built};
+
+    pub fn new(alloc: Global) -> Builder
+        ensures { state result ≡ empty }
+    {
+        Builder {
+            names: IndexSet::new(alloc),
+            cores: Vec::new(alloc),
+        }
+    }
+
+    #[tactic(auto, unfolding(crate::specs::Steps::core_step))]
+    fn begin_core(&mut self, alloc: Global, number: usize) -> Result<(), LitmusError>
+        ensures { AnswersLine (built result (state self.new)) number (core_step (state self.old)) }
+    {
+        if MAX_CORES <= self.cores.len() {
+            return Err(LitmusError::AtLine(LineFault::L2, number));
+        }
+        if self.cores.push(Ops::new(alloc)).is_err() {
+            return Err(LitmusError::OutOfMemory);
+        }
+        Ok(())
+    }
+
+    fn op_fault(&self) -> Option<LineFault>
+        ensures value { result ≡ op_fault (state self.now) }
+        ensures some_core { result ≡ None → 0 < length self.now.cores.items }
+    {
+        if self.cores.is_empty() {
+            return Some(LineFault::L1);
+        }
+        if !are_below(&self.cores, MAX_EVENTS) {
+            return Some(LineFault::L3);
+        }
+        None
+    }
+
+    fn push(&mut self, op: Op) -> Result<(), LitmusError>
+        requires { 0 < length self.old.cores.items }
+        ensures ok { OnOk result (self.new.cores.items ≡ with_op self.old.cores.items op) }
+        ensures err { IfErr result (λ e. e ≡ LitmusError.OutOfMemory) }
+        ensures names { self.new.names ≡ self.old.names }
+    {
+        let last = self.cores.len() - 1;
+        if self.cores[last].push(op).is_err() {
+            return Err(LitmusError::OutOfMemory);
+        }
+        Ok(())
+    }
+
+    #[tactic(auto, unfolding(crate::specs::Steps::fence_step))]
+    fn fence(&mut self, number: usize) -> Result<(), LitmusError>
+        ensures { AnswersLine (built result (state self.new)) number (fence_step (state self.old)) }
+    {
+        if let Some(fault) = self.op_fault() {
+            return Err(LitmusError::AtLine(fault, number));
+        }
+        self.push(Op::Fence)
+    }
+
+    #[tactic(auto, unfolding(crate::specs::Steps::load_step))]
+    fn load(&mut self, name: Name, number: usize) -> Result<(), LitmusError>
+        ensures { AnswersLine (built result (state self.new)) number (load_step (state self.old) name) }
+    {
+        if let Some(fault) = self.op_fault() {
+            return Err(LitmusError::AtLine(fault, number));
+        }
+        let Ok((addr, _)) = self.names.insert_full(name) else {
+            return Err(LitmusError::OutOfMemory);
+        };
+        if MAX_ADDRESSES < self.names.len() {
+            return Err(LitmusError::AtLine(LineFault::L4, number));
+        }
+        self.push(Op::Ld(addr as Addr))
+    }
+
+    #[tactic(auto, unfolding(crate::specs::Steps::write_step))]
+    fn write(
+        &mut self,
+        write: Write,
+        name: Name,
+        value: u32,
+        number: usize,
+    ) -> Result<(), LitmusError>
+        ensures { AnswersLine (built result (state self.new)) number (write_step (state self.old) write name value) }
+    {
+        if let Some(fault) = self.op_fault() {
+            return Err(LitmusError::AtLine(fault, number));
+        }
+        let Ok((addr, _)) = self.names.insert_full(name) else {
+            return Err(LitmusError::OutOfMemory);
+        };
+        if MAX_ADDRESSES < self.names.len() {
+            return Err(LitmusError::AtLine(LineFault::L4, number));
+        }
+        self.push(written(write, addr as Addr, value))
+    }
+
+    // A value that is too large.
+    #[tactic(auto, unfolding(crate::specs::Steps::write_step))]
+    fn write_large(&mut self, name: Name, number: usize) -> LitmusError
+        ensures { (w : Write) → (n : ℕ) → 2 ^ 32 ≤ n → AnswersLine (Err result) number (write_step (state self.old) w name n) }
+    {
+        if let Some(fault) = self.op_fault() {
+            return LitmusError::AtLine(fault, number);
+        }
+        if self.names.insert_full(name).is_err() {
+            return LitmusError::OutOfMemory;
+        }
+        if MAX_ADDRESSES < self.names.len() {
+            return LitmusError::AtLine(LineFault::L4, number);
+        }
+        LitmusError::AtLine(LineFault::L5, number)
+    }
+
+    /// Takes line `number`. After an error the builder is of no use.
+    pub fn take_line(
+        &mut self,
+        alloc: Global,
+        line: &[u8],
+        number: usize,
+    ) -> Result<(), LitmusError>
+        ensures { AnswersLine (built result (state self.new)) number (step (state self.old) line.now) }
+    {
+        match line_of(line) {
+            None => Err(LitmusError::AtLine(LineFault::L1, number)),
+            Some(Said::Core) => self.begin_core(alloc, number),
+            Some(Said::Fence) => self.fence(number),
+            Some(Said::Load(name)) => self.load(name, number),
+            Some(Said::Write(write, name, Number::Value(value))) => self.write(
+                write, name, value, number,
+            ),
+            Some(Said::Write(_, name, Number::TooLarge)) => Err(self.write_large(name, number)),
+        }
+    }
+}
+
+fn written(write: Write, addr: Addr, value: u32) -> Op
+    ensures { result ≡ written write addr value }
+{
+    match write {
+        Write::Store => Op::St(addr, value),
+        Write::Swap => Op::Swap(addr, value),
+        Write::Add => Op::Add(addr, value),
+    }
+}

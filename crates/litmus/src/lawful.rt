@@ -1,0 +1,94 @@
+//! Whether names and operations are those of a program.
+
+ghost use Rattle.std.specs.Prelude.{◌≡◌, ◌<◌, ◌^◌, IsTrue, IsSome, true, false};
+ghost use Rattle.std.specs.List.{AllByRecursion};
+ghost use Rattle.litmus.specs.Names.{AreLawful};
+ghost use Rattle.litmus.specs.Parts.{Parts, IsProgram, Small, addr_of, value_of, use_addr, use_ops, use_cores};
+
+use crate::builder::are_below;
+use crate::limits::{MAX_ADDRESSES, MAX_CORES, MAX_EVENTS};
+use crate::name::{Name, is_lawful, name_at};
+use crate::op::{Op, Ops};
+use indexmap::IndexSet;
+
+fn are_lawful(names: &IndexSet<Name>) -> bool
+    ensures yes { result ≡ true → AreLawful names.now.keys }
+    ensures other { result ≡ false → AreLawful names.now.keys → ⊥ }
+{
+    for i in 0..names.len() {
+        if !is_lawful(name_at(names, i)) {
+            return false;
+        }
+    }
+    true
+}
+
+// How many addresses were used after the operation.
+fn use_op(used: usize, op: Op) -> Option<usize>
+    ensures value { result ≡ use_addr used (addr_of op) }
+    ensures small { Small op }
+{
+    let addr = match op {
+        Op::St(addr, _) => addr,
+        Op::Ld(addr) => addr,
+        Op::Fence => return Some(used),
+        Op::Swap(addr, _) => addr,
+        Op::Add(addr, _) => addr,
+    };
+    use_addr(used, addr)
+}
+
+fn use_addr(used: usize, addr: u16) -> Option<usize>
+    ensures { result ≡ use_addr used (Some addr) }
+{
+    let addr = addr as usize;
+    if addr < used {
+        return Some(used);
+    }
+    if addr == used { Some(used + 1) } else { None }
+}
+
+fn use_ops(first: usize, ops: &[Op]) -> Option<usize>
+    ensures value { result ≡ use_ops first ops.now }
+    ensures small { IsSome result → AllByRecursion Small ops.now }
+{
+    let mut used = first;
+    for op in ops {
+        used = use_op(used, *op)?;
+    }
+    Some(used)
+}
+
+fn use_cores(cores: &[Ops]) -> Option<usize>
+    ensures value { result ≡ use_cores 0 cores.now }
+    ensures small { IsSome result → AllByRecursion (AllByRecursion Small) cores.now }
+{
+    let mut used = 0;
+    for core in cores {
+        used = use_ops(used, core.as_slice())?;
+    }
+    Some(used)
+}
+
+/// Whether these are the names and operations of a program.
+pub(crate) fn is_program(names: &IndexSet<Name>, cores: &[Ops]) -> bool
+    ensures yes { result ≡ true → IsProgram (record { names = names.now.keys; cores = cores.now }) }
+    ensures other { result ≡ false → IsProgram (record { names = names.now.keys; cores = cores.now }) → ⊥ }
+{
+    if MAX_CORES < cores.len() {
+        return false;
+    }
+    if !are_below(cores, MAX_EVENTS + 1) {
+        return false;
+    }
+    if MAX_ADDRESSES < names.len() {
+        return false;
+    }
+    if !are_lawful(names) {
+        return false;
+    }
+    match use_cores(cores) {
+        Some(used) => used == names.len(),
+        None => false,
+    }
+}

@@ -1,0 +1,28 @@
+//! Litmus programs and their text.
+#![tactic(auto)]
+
+mod builder;
+mod fault;
+mod ids;
+mod lawful;
+mod limits;
+mod line;
+mod name;
+mod one_text;
+mod op;
+mod program;
+mod text;
+mod writing;
+
+pub use fault::{LineFault, LitmusError};
+pub use ids::{Addr, CoreId, EventId};
+pub use limits::{MAX_ADDRESSES, MAX_CAPACITY, MAX_CORES, MAX_EVENTS, MAX_STEPS};
+pub use name::Name;
+pub use one_text::has_one_text;
+pub use op::{Op, Ops};
+pub use program::Program;
+pub use text::parse;
+pub use writing::print;
+
+#[cfg(test)]
+mod tests;

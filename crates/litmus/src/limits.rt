@@ -1,0 +1,16 @@
+//! How large programs, machines and scripts may be.
+
+/// The most cores that a program has.
+pub const MAX_CORES: usize = 8;
+
+/// The most operations that a program has over all cores, and the most events of a recording.
+pub const MAX_EVENTS: usize = 256;
+
+/// The most addresses that a program names.
+pub const MAX_ADDRESSES: usize = 16;
+
+/// The most stores that wait in a write buffer.
+pub const MAX_CAPACITY: usize = 256;
+
+/// The most steps of a script, and of a trace.
+pub const MAX_STEPS: usize = 1_000_000;
