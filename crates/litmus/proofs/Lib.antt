@@ -1,5 +1,4 @@
 pub mod Values
-pub mod Counts
 pub mod Reading
 pub mod OnLists
 pub mod Decimals
@@ -11,4 +10,4 @@ pub mod OneStep
 pub mod OneText
 pub mod Again
 pub mod Parsing
-pub mod EachOne
+pub mod Soundness

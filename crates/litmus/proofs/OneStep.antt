@@ -21,47 +21,76 @@ use Rattle.litmus.proofs.OneLine.{Reads, line_reads}
 use Rattle.litmus.proofs.ManyNames.{one_name, all_push}
 use Rattle.litmus.proofs.Cores.{Cores, last_core, with_op-is, count-append, use_with_op, use_cores-push, cores_kept, text_more, small_more}
 
+-- a line that was read
 abbrev pub done : Parts → Result Parts LineFault
 done p = Ok p
 
+-- two programs that are one answer
 ok_is : (p q : Parts) → done p ≡ done q → p ≡ q
 ok_is p q e = cc
 
-test_ok : (b : Bool) (p : Parts) (f : LineFault) (q : Parts) → cond b (done p) (Err f) ≡ done q → (b ≡ true) × (p ≡ q)
+-- a test that was passed
+test_ok : (b : Bool) (p : Parts) (f : LineFault) (q : Parts) → cond b (done p) (Err f) ≡ done q →
+    (b ≡ true) × (p ≡ q)
 test_ok true p f q e = (refl, ok_is p q e)
 test_ok false p f q e = absurd cc
 
-guard_ok : (b : Bool) (r : Result Parts LineFault) (f : LineFault) (q : Parts) → cond b (Err f) r ≡ done q → (b ≡ false) × (r ≡ done q)
+-- a fault that was not met
+guard_ok : (b : Bool) (r : Result Parts LineFault) (f : LineFault) (q : Parts) → cond b (Err f) r
+    ≡ done q → (b ≡ false) × (r ≡ done q)
 guard_ok true r f q e = absurd cc
 guard_ok false r f q e = (refl, e)
 
-unless_ok : (o : Option LineFault) (r : Result Parts LineFault) (q : Parts) → unless o r ≡ done q → (o ≡ None) × (r ≡ done q)
+-- no fault came first
+unless_ok : (o : Option LineFault) (r : Result Parts LineFault) (q : Parts) → unless o r ≡ done q →
+    (o ≡ None) × (r ≡ done q)
 unless_ok None r q e = (refl, e)
 unless_ok (Some f) r q e = absurd cc
 
-room_in : (a b : Bool) (f g : LineFault) → cond a (Some f) (cond b None (Some g)) ≡ None → (a ≡ false) × (b ≡ true)
+-- both tests for an operation were passed
+room_in : (a b : Bool) (f g : LineFault) → cond a (Some f) (cond b None (Some g)) ≡ None →
+    (a ≡ false) × (b ≡ true)
 room_in true b f g e = absurd cc
 room_in false true f g e = (refl, refl)
 room_in false false f g e = absurd cc
 
-pub op_room : (p : Parts) → op_fault p ≡ None → (0 < length p.cores) × (op_count p.cores < MAX_EVENTS)
+-- where an operation may come there is a core, and room
+pub op_room : (p : Parts) → op_fault p ≡ None → (0 < length p.cores) ×
+    (op_count p.cores < MAX_EVENTS)
 op_room p e =
     let r = room_in (length p.cores == 0) (nat_lt (op_count p.cores) MAX_EVENTS) L1 L3 e in
     let other = eqb-false (length p.cores) 0 r.0 in (omega (arith, other), ltb-true _ _ r.1)
 
-pub record Grown (names : List Name) (cores : Cores) (op : Op) (more : List Name) (after : Cores) : Type 0 where
+pub record Grown (names : List Name) (cores : Cores) (op : Op) (more : List Name)
+    (after : Cores) : Type 0 where
   pub program : IsProgram (record { names = more; cores = after })
-  pub text : spelling (record { names = more; cores = after }) ≡ spelling (record { names = names; cores = cores }) ++ op_text more op
+  pub text : spelling (record { names = more; cores = after })
+      ≡ spelling (record { names = names; cores = cores }) ++ op_text more op
 
-grown_at : (names more extra : List Name) (front : Cores) (last : List Op) (op : Op) → IsProgram (record { names = names; cores = front ++ last ∷ [] }) →
-    op_count (front ++ last ∷ []) < MAX_EVENTS → more ≡ names ++ extra → use_addr (length names) (addr_of op) ≡ Some (length more) → length more ≤ MAX_ADDRESSES →
-    AreLawful more → IsDistinct name_eq more → Small op → Grown names (front ++ last ∷ []) op more (front ++ (last ++ op ∷ []) ∷ [])
+-- one operation more in the last core keeps a program
+grown_at : (names more extra : List Name) (front : Cores) (last : List Op) (op : Op) →
+    IsProgram (record { names = names; cores = front ++ last ∷ [] }) →
+    op_count (front ++ last ∷ []) < MAX_EVENTS → more ≡ names ++ extra → use_addr (length names)
+    (addr_of op) ≡ Some (length more) → length more ≤ MAX_ADDRESSES →
+    AreLawful more → IsDistinct name_eq more → Small op →
+    Grown names (front ++ last ∷ []) op more (front ++ (last ++ op ∷ []) ∷ [])
 grown_at names more extra front last op h room kept used few lawful distinct small =
     let cores = front ++ last ∷ [] in
     record {
       program = record {
-        few_cores = omega (arith, h.few_cores, length-append front (last ∷ []), length-append front ((last ++ op ∷ []) ∷ []));
-        few_ops = omega (arith, room, count-append front last, count-append front (last ++ op ∷ []), length-append last (op ∷ []));
+        few_cores = omega (
+          arith,
+          h.few_cores,
+          length-append front (last ∷ []),
+          length-append front ((last ++ op ∷ []) ∷ []),
+        );
+        few_ops = omega (
+          arith,
+          room,
+          count-append front last,
+          count-append front (last ++ op ∷ []),
+          length-append last (op ∷ []),
+        );
         few_names = few;
         values = small_more front last op h.values small;
         lawful = lawful;
@@ -69,22 +98,32 @@ grown_at names more extra front last op h room kept used few lawful distinct sma
         numbered = use_with_op front last op ∙ rw h.numbered used;
       };
       text =
-          let old : flat_map (core_text more) cores ≡ flat_map (core_text names) cores = rw kept (cores_kept names extra cores 0 (length names) h.numbered (omega arith)) in
+          let old : flat_map (core_text more) cores ≡ flat_map (core_text names) cores =
+          rw kept (cores_kept names extra cores 0 (length names) h.numbered (omega arith)) in
           text_more more front last op ∙ ap (λ t. t ++ op_text more op) old;
     }
 
-pub grown : (names more extra : List Name) (cores : Cores) (op : Op) → IsProgram (record { names = names; cores = cores }) →
-    0 < length cores → op_count cores < MAX_EVENTS → more ≡ names ++ extra → use_addr (length names) (addr_of op) ≡ Some (length more) → length more ≤ MAX_ADDRESSES →
-    AreLawful more → IsDistinct name_eq more → Small op → Grown names cores op more (with_op cores op)
+-- one operation more keeps a program
+pub grown : (names more extra : List Name) (cores : Cores) (op : Op) →
+    IsProgram (record { names = names; cores = cores }) →
+    0 < length cores → op_count cores < MAX_EVENTS → more ≡ names ++ extra → use_addr (length names)
+    (addr_of op) ≡ Some (length more) → length more ≤ MAX_ADDRESSES →
+    AreLawful more → IsDistinct name_eq more → Small op →
+    Grown names cores op more (with_op cores op)
 grown names more extra cores op h some room kept used few lawful distinct small =
     let parts = last_core cores some in
     let front = parts.0 in
     let last = parts.1 in
-    let there : IsProgram (record { names = names; cores = front ++ last ∷ [] }) = subst (λ (cs : Cores). IsProgram (record { names = names; cores = cs })) parts.2 h in
-    let count : op_count (front ++ last ∷ []) < MAX_EVENTS = subst (λ (cs : Cores). op_count cs < MAX_EVENTS) parts.2 room in
-    let at = grown_at names more extra front last op there count kept used few lawful distinct small in
-    let after : front ++ (last ++ op ∷ []) ∷ [] ≡ with_op cores op = sym (ap (λ (cs : Cores). with_op cs op) parts.2 ∙ with_op-is front last op) in
-    let one : Grown names (front ++ last ∷ []) op more (with_op cores op) = subst (λ (cs : Cores). Grown names (front ++ last ∷ []) op more cs) after at in
+    let there : IsProgram (record { names = names; cores = front ++ last ∷ [] }) =
+    subst (λ (cs : Cores). IsProgram (record { names = names; cores = cs })) parts.2 h in
+    let count : op_count (front ++ last ∷ []) < MAX_EVENTS =
+    subst (λ (cs : Cores). op_count cs < MAX_EVENTS) parts.2 room in
+    let at = grown_at names more extra front last op there count kept used few lawful distinct
+    small in
+    let after : front ++ (last ++ op ∷ []) ∷ [] ≡ with_op cores op =
+    sym (ap (λ (cs : Cores). with_op cs op) parts.2 ∙ with_op-is front last op) in
+    let one : Grown names (front ++ last ∷ []) op more (with_op cores op) =
+    subst (λ (cs : Cores). Grown names (front ++ last ∷ []) op more cs) after at in
     subst (λ (cs : Cores). Grown names cs op more (with_op cores op)) (sym parts.2) one
 
 -- what holds after a line
@@ -92,14 +131,21 @@ pub record Keeps (p : Parts) (line : List ℕ) (q : Parts) : Type 0 where
   pub program : IsProgram q
   pub text : spelling q ≡ spelling p ++ (line ++ 10 ∷ [])
 
-keeps_op : (p : Parts) (line : List ℕ) (op : Op) (more : List Name) (text : List ℕ) → Grown p.names p.cores op more (with_op p.cores op) → op_text more op ≡ text ++ 10 ∷ [] → text ≡ line →
+-- one operation more is one line more
+keeps_op : (p : Parts) (line : List ℕ) (op : Op) (more : List Name) (text : List ℕ) →
+    Grown p.names p.cores op more (with_op p.cores op) → op_text more op ≡ text ++ 10 ∷ [] → text
+    ≡ line →
     Keeps p line (record { names = more; cores = with_op p.cores op })
-keeps_op p line op more text g this is = record { program = g.program; text = g.text ∙ rw this (rw is refl) }
+keeps_op p line op more text g this is =
+    record { program = g.program; text = g.text ∙ rw this (rw is refl) }
 
-keeps_core : (p q : Parts) (line : List ℕ) → IsProgram p → codes "core" ≡ line → core_step p ≡ Ok q → Keeps p line q
+-- after the line of a core there is a program
+keeps_core : (p q : Parts) (line : List ℕ) → IsProgram p → codes "core" ≡ line → core_step p
+    ≡ Ok q → Keeps p line q
 unfolding core_step
 keeps_core p q line h is e =
-    let t = test_ok (nat_lt (length p.cores) MAX_CORES) (record p { cores = p.cores ++ [] ∷ [] }) L2 q e in
+    let t = test_ok (nat_lt (length p.cores) MAX_CORES)
+    (record p { cores = p.cores ++ [] ∷ [] }) L2 q e in
     let few = ltb-true _ _ t.0 in
     rw (← t.1) (record {
       program = record {
@@ -111,47 +157,63 @@ keeps_core p q line h is e =
         distinct = h.distinct;
         numbered = use_cores-push 0 p.cores [] ∙ rw h.numbered refl;
       };
-      text = flat_map-append (core_text p.names) p.cores ([] ∷ []) ∙ ap (λ t'. spelling p ++ (t' ++ 10 ∷ [])) is;
+      text = flat_map-append (core_text p.names) p.cores ([] ∷ [])
+          ∙ ap (λ t'. spelling p ++ (t' ++ 10 ∷ [])) is;
     })
 
-keeps_fence : (p q : Parts) (line : List ℕ) → IsProgram p → codes "fence" ≡ line → fence_step p ≡ Ok q → Keeps p line q
+-- after the line of a fence there is a program
+keeps_fence : (p q : Parts) (line : List ℕ) → IsProgram p → codes "fence" ≡ line → fence_step p
+    ≡ Ok q → Keeps p line q
 unfolding fence_step
 keeps_fence p q line h is e =
     let u = unless_ok (op_fault p) (done (record p { cores = with_op p.cores Fence })) q e in
     let room = op_room p u.0 in
-    let g = grown p.names p.names [] p.cores Fence h room.0 room.1 (sym (append-nil p.names)) refl h.few_names h.lawful h.distinct (omega arith) in
+    let g = grown p.names p.names [] p.cores Fence h room.0 room.1 (sym (append-nil p.names)) refl
+    h.few_names h.lawful h.distinct (omega arith) in
     rw (← ok_is _ _ u.1) (keeps_op p line Fence p.names (codes "fence") g refl is)
 
-keeps_load : (p q : Parts) (line : List ℕ) (name : Name) → IsProgram p → name_of (name_text name) ≡ Some name → line_text (load_line name) ≡ line → load_step p name ≡ Ok q → Keeps p line q
+-- after the line of a load there is a program
+keeps_load : (p q : Parts) (line : List ℕ) (name : Name) → IsProgram p → name_of (name_text name)
+    ≡ Some name → line_text (load_line name) ≡ line → load_step p name ≡ Ok q → Keeps p line q
 unfolding load_step
 keeps_load p q line name h named is e =
     let more = names_with p.names name in
     let op = Ld (number_in p.names name) in
     let after : Parts = record { names = more; cores = with_op p.cores op } in
-    let u = unless_ok (op_fault p) (cond (nat_lt MAX_ADDRESSES (length more)) (Err L4) (done after)) q e in
+    let u = unless_ok (op_fault p)
+    (cond (nat_lt MAX_ADDRESSES (length more)) (Err L4) (done after)) q e in
     let room = op_room p u.0 in
     let few = guard_ok (nat_lt MAX_ADDRESSES (length more)) (done after) L4 q u.1 in
     let n = one_name p.names name h.lawful h.distinct named in
-    let g = grown p.names more n.extra p.cores op h room.0 room.1 n.kept n.used (ltb-false _ _ few.0) n.lawful n.distinct (omega arith) in
-    let this : op_text more op ≡ line_text (load_line name) ++ 10 ∷ [] = ap (λ (m : Name). line_text (load_line m) ++ 10 ∷ []) n.there in
+    let g = grown p.names more n.extra p.cores op h room.0 room.1 n.kept n.used
+    (ltb-false _ _ few.0) n.lawful n.distinct (omega arith) in
+    let this : op_text more op ≡ line_text (load_line name) ++ 10 ∷ [] =
+    ap (λ (m : Name). line_text (load_line m) ++ 10 ∷ []) n.there in
     rw (← ok_is after q few.1) (keeps_op p line op more (line_text (load_line name)) g this is)
 
-written_text : (write : Write) (names : List Name) (a n : ℕ) → op_text names (written write a n) ≡ line_text (write_line write (name_at names a) n) ++ 10 ∷ []
+-- the text of a write
+written_text : (write : Write) (names : List Name) (a n : ℕ) → op_text names (written write a n)
+    ≡ line_text (write_line write (name_at names a) n) ++ 10 ∷ []
 written_text writes.Store names a n = refl
 written_text writes.Swap names a n = refl
 written_text writes.Add names a n = refl
 
+-- the address of a write
 written_addr : (write : Write) (a n : ℕ) → addr_of (written write a n) ≡ Some a
 written_addr writes.Store a n = refl
 written_addr writes.Swap a n = refl
 written_addr writes.Add a n = refl
 
+-- the value of a write
 written_small : (write : Write) (a n : ℕ) → n < 2 ^ 32 → Small (written write a n)
 written_small writes.Store a n h = h
 written_small writes.Swap a n h = h
 written_small writes.Add a n h = h
 
-keeps_write : (p q : Parts) (line : List ℕ) (write : Write) (name : Name) (n : ℕ) → IsProgram p → name_of (name_text name) ≡ Some name → (n < 2 ^ 32 → line_text (write_line write name n) ≡ line) →
+-- after the line of a write there is a program
+keeps_write : (p q : Parts) (line : List ℕ) (write : Write) (name : Name) (n : ℕ) → IsProgram p →
+    name_of (name_text name) ≡ Some name →
+    (n < 2 ^ 32 → line_text (write_line write name n) ≡ line) →
     write_step p write name n ≡ Ok q → Keeps p line q
 unfolding write_step
 keeps_write p q line write name n h named is e =
@@ -159,23 +221,34 @@ keeps_write p q line write name n h named is e =
     let a = number_in p.names name in
     let op = written write a n in
     let after : Parts = record { names = more; cores = with_op p.cores op } in
-    let u = unless_ok (op_fault p) (cond (nat_lt MAX_ADDRESSES (length more)) (Err L4) (cond (nat_lt n (2 ^ 32)) (done after) (Err L5))) q e in
+    let u = unless_ok (op_fault p)
+    (cond (nat_lt MAX_ADDRESSES (length more)) (Err L4)
+    (cond (nat_lt n (2 ^ 32)) (done after) (Err L5))) q e in
     let room = op_room p u.0 in
-    let few = guard_ok (nat_lt MAX_ADDRESSES (length more)) (cond (nat_lt n (2 ^ 32)) (done after) (Err L5)) L4 q u.1 in
+    let few = guard_ok (nat_lt MAX_ADDRESSES (length more))
+    (cond (nat_lt n (2 ^ 32)) (done after) (Err L5)) L4 q u.1 in
     let fits = test_ok (nat_lt n (2 ^ 32)) after L5 q few.1 in
     let small : n < 2 ^ 32 = ltb-true _ _ fits.0 in
     let m = one_name p.names name h.lawful h.distinct named in
-    let used : use_addr (length p.names) (addr_of op) ≡ Some (length more) = rw (written_addr write a n) m.used in
-    let g = grown p.names more m.extra p.cores op h room.0 room.1 m.kept used (ltb-false _ _ few.0) m.lawful m.distinct (written_small write a n small) in
-    let this : op_text more op ≡ line_text (write_line write name n) ++ 10 ∷ [] = written_text write more a n ∙ ap (λ (o : Name). line_text (write_line write o n) ++ 10 ∷ []) m.there in
+    let used : use_addr (length p.names) (addr_of op) ≡ Some (length more) =
+    rw (written_addr write a n) m.used in
+    let g = grown p.names more m.extra p.cores op h room.0 room.1 m.kept used (ltb-false _ _ few.0)
+    m.lawful m.distinct (written_small write a n small) in
+    let this : op_text more op ≡ line_text (write_line write name n) ++ 10 ∷ [] =
+    written_text write more a n
+    ∙ ap (λ (o : Name). line_text (write_line write o n) ++ 10 ∷ []) m.there in
     rw (← fits.1) (keeps_op p line op more (line_text (write_line write name n)) g this (is small))
 
-keeps_said : (p q : Parts) (line : List ℕ) (l : Line) → IsProgram p → Reads l line → said_step p (Some l) ≡ Ok q → Keeps p line q
+-- after a line of the grammar there is a program
+keeps_said : (p q : Parts) (line : List ℕ) (l : Line) → IsProgram p → Reads l line →
+    said_step p (Some l) ≡ Ok q → Keeps p line q
 keeps_said p q line core_line h r e = keeps_core p q line h (r.text_is tt) e
 keeps_said p q line fence_line h r e = keeps_fence p q line h (r.text_is tt) e
 keeps_said p q line (load_line name) h r e = keeps_load p q line name h r.named (r.text_is tt) e
-keeps_said p q line (write_line write name n) h r e = keeps_write p q line write name n h r.named r.text_is e
+keeps_said p q line (write_line write name n) h r e =
+    keeps_write p q line write name n h r.named r.text_is e
 
+-- after a line that is read there is a program, and its text is one line longer
 pub step_keeps : (p q : Parts) (line : List ℕ) → IsProgram p → step p line ≡ Ok q → Keeps p line q
 step_keeps p q line h e = by (line_of line) refl
   where
@@ -184,4 +257,5 @@ step_keeps p q line h e = by (line_of line) refl
       where
         none_ok : said_step p None ≡ done q → ⊥
         none_ok f = cc
-    by (Some l) is = keeps_said p q line l h (line_reads line l is) (sym (ap (λ (o : Option Line). said_step p o) is) ∙ e)
+    by (Some l) is = keeps_said p q line l h (line_reads line l is)
+        (sym (ap (λ (o : Option Line). said_step p o) is) ∙ e)

@@ -1,8 +1,10 @@
 pub mod Names
+pub mod Numbers
 pub mod Lines
 pub mod Said
 pub mod Parts
 pub mod Steps
+pub mod Reading
 pub mod Text
 pub mod Spelling
 pub mod Built

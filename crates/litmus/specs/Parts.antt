@@ -1,5 +1,5 @@
 -- What a program is: its names, and for each core its operations.
-use Rattle.std.specs.Prelude.{◌≡◌, ◌≤◌, ◌<◌, ◌^◌, ◌+◌, ◌==◌, ℕ, List, [], ◌∷◌, Option, Some, None, length, nat_lt, if◌then◌else◌, option_and_then}
+use Rattle.std.specs.Prelude.{◌≡◌, ◌≤◌, ◌<◌, ◌^◌, ◌+◌, ◌==◌, ℕ, List, [], ◌∷◌, Option, Some, None, length, nat_lt, if◌then◌else◌, option_and_then, ⊤}
 use Rattle.std.specs.List.{AllByRecursion, IsDistinct}
 use Rattle.litmus.specs.declared.name.Name.{Name}
 use Rattle.litmus.specs.declared.op.Op.{Op}
@@ -12,11 +12,16 @@ pub record Parts : Type 0 where
   pub names : List Name
   pub cores : List (List Op)
 
+-- the program of these names and operations
+abbrev pub parts_of : List Name → List (List Op) → Parts
+parts_of names cores = record { names = names; cores = cores }
+
 -- how many operations there are
 abbrev pub op_count : List (List Op) → ℕ
 op_count [] = 0
 op_count (ops ∷ cores) = length ops + op_count cores
 
+-- the address of an operation
 abbrev pub addr_of : Op → Option ℕ
 addr_of (St a n) = Some a
 addr_of (Ld a) = Some a
@@ -24,6 +29,7 @@ addr_of Fence = None
 addr_of (Swap a n) = Some a
 addr_of (Add a n) = Some a
 
+-- the value of an operation, 0 where it has none
 abbrev pub value_of : Op → ℕ
 value_of (St a n) = n
 value_of (Ld a) = 0
@@ -31,6 +37,15 @@ value_of Fence = 0
 value_of (Swap a n) = n
 value_of (Add a n) = n
 
+-- an operation's address, if it has one, is below n
+abbrev pub IsWithin : ℕ → Op → Type 0
+IsWithin n (St a v) = a < n
+IsWithin n (Ld a) = a < n
+IsWithin n Fence = ⊤
+IsWithin n (Swap a v) = a < n
+IsWithin n (Add a v) = a < n
+
+-- a value of 32 bits
 abbrev pub Small : Op → Type 0
 Small op = value_of op < 2 ^ 32
 

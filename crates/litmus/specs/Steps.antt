@@ -14,9 +14,11 @@ use Rattle.litmus.specs.Names.{name_eq}
 use Rattle.litmus.specs.Lines.{Line, core_line, fence_line, load_line, write_line, line_of}
 use Rattle.litmus.specs.Parts.{Parts, op_count}
 
+-- what is read from no line
 abbrev pub empty : Parts
 empty = record { names = []; cores = [] }
 
+-- the names, with one that may be new at the end
 abbrev pub names_with : List Name → Name → List Name
 names_with names name = insert_key name_eq names name
 
@@ -26,8 +28,10 @@ number_in names name = position_or_len (name_eq name) names
 
 -- the operation is the last one of the last core
 abbrev pub with_op : List (List Op) → Op → List (List Op)
-with_op cores op = slice_set cores (length cores - 1) (slice_index_or cores (length cores - 1) [] ++ op ∷ [])
+with_op cores op = slice_set cores (length cores - 1)
+    (slice_index_or cores (length cores - 1) [] ++ op ∷ [])
 
+-- the operation that a write is
 abbrev pub written : Write → ℕ → ℕ → Op
 written writes.Store a n = St a n
 written writes.Swap a n = Swap a n
@@ -35,32 +39,49 @@ written writes.Add a n = Add a n
 
 -- whether an operation may come
 abbrev pub op_fault : Parts → Option LineFault
-op_fault p = if length p.cores == 0 then Some L1 else (if nat_lt (op_count p.cores) MAX_EVENTS then None else Some L3)
+op_fault p =
+    if length p.cores == 0 then Some L1
+    else (if nat_lt (op_count p.cores) MAX_EVENTS then None else Some L3)
 
+-- an answer, unless there is a fault before it
 abbrev pub unless : Option LineFault → Result Parts LineFault → Result Parts LineFault
 unless None r = r
 unless (Some f) r = Err f
 
+-- a new core begins
 unfoldable pub core_step : Parts → Result Parts LineFault
-core_step p = if nat_lt (length p.cores) MAX_CORES then Ok (record p { cores = p.cores ++ [] ∷ [] }) else Err L2
+core_step p = if nat_lt (length p.cores) MAX_CORES then Ok (record p {
+  cores =
+      p.cores ++ [] ∷ [];
+}) else Err L2
 
+-- a fence comes
 unfoldable pub fence_step : Parts → Result Parts LineFault
 fence_step p = unless (op_fault p) (Ok (record p { cores = with_op p.cores Fence }))
 
+-- a load comes: its address is tested
 unfoldable pub load_step : Parts → Name → Result Parts LineFault
 load_step p name =
     unless (op_fault p)
     (if nat_lt MAX_ADDRESSES (length (names_with p.names name)) then Err L4
-    else Ok (record { names = names_with p.names name; cores = with_op p.cores (Ld (number_in p.names name)) }))
+    else Ok (record {
+      names = names_with p.names name;
+      cores = with_op p.cores (Ld (number_in p.names name));
+    }))
 
+-- a write comes: its address is tested, and then its value
 unfoldable pub write_step : Parts → Write → Name → ℕ → Result Parts LineFault
 write_step p write name n =
     unless (op_fault p)
     (if nat_lt MAX_ADDRESSES (length (names_with p.names name)) then Err L4
     else (if nat_lt n (2 ^ 32)
-    then Ok (record { names = names_with p.names name; cores = with_op p.cores (written write (number_in p.names name) n) })
+    then Ok (record {
+      names = names_with p.names name;
+      cores = with_op p.cores (written write (number_in p.names name) n);
+    })
     else Err L5))
 
+-- what a line does, which may be outside the grammar
 abbrev pub said_step : Parts → Option Line → Result Parts LineFault
 said_step p None = Err L1
 said_step p (Some core_line) = core_step p
@@ -68,5 +89,6 @@ said_step p (Some fence_line) = fence_step p
 said_step p (Some (load_line name)) = load_step p name
 said_step p (Some (write_line write name n)) = write_step p write name n
 
+-- what the bytes of a line do
 abbrev pub step : Parts → List ℕ → Result Parts LineFault
 step p line = said_step p (line_of line)

@@ -7,8 +7,9 @@ ghost use Rattle.litmus.specs.Steps.{written};
 use crate::fault::{LineFault, LitmusError};
 use crate::ids::Addr;
 use crate::limits::{MAX_ADDRESSES, MAX_CORES, MAX_EVENTS};
-use crate::line::{Number, Said, Write, line_of};
+use crate::line::{Said, Write, line_of};
 use crate::name::Name;
+use crate::number::Number;
 use crate::op::{Op, Ops};
 use indexmap::IndexSet;
 use std::alloc::Global;
@@ -39,6 +40,7 @@ impl Builder {
     ghost use Rattle.std.specs.Prelude.{◌≡◌, ◌≤◌, ◌<◌, ◌^◌, ℕ, Err, Ok, None, OnOk, IfErr, length, nat_lt};
     ghost use Rattle.litmus.specs.Parts.{op_count, addr_of};
     ghost use Rattle.litmus.specs.Steps.{empty, step, core_step, fence_step, load_step, write_step, op_fault, names_with, number_in, with_op, written};
+    ghost use Rattle.litmus.specs.Numbers.{IsValue};
     ghost use Rattle.litmus.specs.Text.{AnswersLine};
     ghost use Rattle.litmus.specs.declared.line.Write.{Write};
     ghost use Rattle.litmus.specs.Built.{state, built};
@@ -59,9 +61,7 @@ impl Builder {
         if MAX_CORES <= self.cores.len() {
             return Err(LitmusError::AtLine(LineFault::L2, number));
         }
-        if self.cores.push(Ops::new(alloc)).is_err() {
-            return Err(LitmusError::OutOfMemory);
-        }
+        self.cores.push(Ops::new(alloc))?;
         Ok(())
     }
 
@@ -85,9 +85,7 @@ impl Builder {
         ensures names { self.new.names ≡ self.old.names }
     {
         let last = self.cores.len() - 1;
-        if self.cores[last].push(op).is_err() {
-            return Err(LitmusError::OutOfMemory);
-        }
+        self.cores[last].push(op)?;
         Ok(())
     }
 
@@ -103,77 +101,61 @@ impl Builder {
 
     #[tactic(auto, unfolding(crate::specs::Steps::load_step))]
     fn load(&mut self, name: Name, number: usize) -> Result<(), LitmusError>
-        ensures { AnswersLine (built result (state self.new)) number (load_step (state self.old) name) }
+        ensures { AnswersLine (built result (state self.new)) number
+            (load_step (state self.old) name) }
     {
         if let Some(fault) = self.op_fault() {
             return Err(LitmusError::AtLine(fault, number));
         }
-        let Ok((addr, _)) = self.names.insert_full(name) else {
-            return Err(LitmusError::OutOfMemory);
-        };
+        let (addr, _) = self.names.insert_full(name)?;
         if MAX_ADDRESSES < self.names.len() {
             return Err(LitmusError::AtLine(LineFault::L4, number));
         }
         self.push(Op::Ld(addr as Addr))
     }
 
+    // The addresses are tested before the value.
     #[tactic(auto, unfolding(crate::specs::Steps::write_step))]
     fn write(
         &mut self,
         write: Write,
         name: Name,
-        value: u32,
+        value: Number,
         number: usize,
     ) -> Result<(), LitmusError>
-        ensures { AnswersLine (built result (state self.new)) number (write_step (state self.old) write name value) }
+        ensures { (n : ℕ) → IsValue value n →
+            AnswersLine (built result (state self.new)) number
+            (write_step (state self.old) write name n) }
     {
         if let Some(fault) = self.op_fault() {
             return Err(LitmusError::AtLine(fault, number));
         }
-        let Ok((addr, _)) = self.names.insert_full(name) else {
-            return Err(LitmusError::OutOfMemory);
-        };
+        let (addr, _) = self.names.insert_full(name)?;
         if MAX_ADDRESSES < self.names.len() {
             return Err(LitmusError::AtLine(LineFault::L4, number));
         }
-        self.push(written(write, addr as Addr, value))
+        match value {
+            Number::Value(value) => self.push(written(write, addr as Addr, value)),
+            Number::TooLarge => Err(LitmusError::AtLine(LineFault::L5, number)),
+        }
     }
 
-    // A value that is too large.
-    #[tactic(auto, unfolding(crate::specs::Steps::write_step))]
-    fn write_large(&mut self, name: Name, number: usize) -> LitmusError
-        ensures { (w : Write) → (n : ℕ) → 2 ^ 32 ≤ n → AnswersLine (Err result) number (write_step (state self.old) w name n) }
-    {
-        if let Some(fault) = self.op_fault() {
-            return LitmusError::AtLine(fault, number);
-        }
-        if self.names.insert_full(name).is_err() {
-            return LitmusError::OutOfMemory;
-        }
-        if MAX_ADDRESSES < self.names.len() {
-            return LitmusError::AtLine(LineFault::L4, number);
-        }
-        LitmusError::AtLine(LineFault::L5, number)
-    }
-
-    /// Takes line `number`. After an error the builder is of no use.
+    /// Takes line `number`. After an error what was read so far is of no use.
     pub fn take_line(
         &mut self,
         alloc: Global,
         line: &[u8],
         number: usize,
     ) -> Result<(), LitmusError>
-        ensures { AnswersLine (built result (state self.new)) number (step (state self.old) line.now) }
+        ensures { AnswersLine (built result (state self.new)) number
+            (step (state self.old) line.now) }
     {
         match line_of(line) {
             None => Err(LitmusError::AtLine(LineFault::L1, number)),
             Some(Said::Core) => self.begin_core(alloc, number),
             Some(Said::Fence) => self.fence(number),
             Some(Said::Load(name)) => self.load(name, number),
-            Some(Said::Write(write, name, Number::Value(value))) => self.write(
-                write, name, value, number,
-            ),
-            Some(Said::Write(_, name, Number::TooLarge)) => Err(self.write_large(name, number)),
+            Some(Said::Write(write, name, value)) => self.write(write, name, value, number),
         }
     }
 }

@@ -3,7 +3,7 @@
 ghost use Rattle.std.specs.Prelude.{◌≡◌, ◌<◌, ◌^◌, IsTrue, IsSome, true, false};
 ghost use Rattle.std.specs.List.{AllByRecursion};
 ghost use Rattle.litmus.specs.Names.{AreLawful};
-ghost use Rattle.litmus.specs.Parts.{Parts, IsProgram, Small, addr_of, value_of, use_addr, use_ops, use_cores};
+ghost use Rattle.litmus.specs.Parts.{IsProgram, Small, parts_of, addr_of, value_of, use_addr, use_ops, use_cores};
 
 use crate::builder::are_below;
 use crate::limits::{MAX_ADDRESSES, MAX_CORES, MAX_EVENTS};
@@ -72,8 +72,8 @@ fn use_cores(cores: &[Ops]) -> Option<usize>
 
 /// Whether these are the names and operations of a program.
 pub(crate) fn is_program(names: &IndexSet<Name>, cores: &[Ops]) -> bool
-    ensures yes { result ≡ true → IsProgram (record { names = names.now.keys; cores = cores.now }) }
-    ensures other { result ≡ false → IsProgram (record { names = names.now.keys; cores = cores.now }) → ⊥ }
+    ensures yes { result ≡ true → IsProgram (parts_of names.now.keys cores.now) }
+    ensures other { result ≡ false → IsProgram (parts_of names.now.keys cores.now) → ⊥ }
 {
     if MAX_CORES < cores.len() {
         return false;

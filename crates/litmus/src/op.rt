@@ -3,21 +3,24 @@
 ghost use Rattle.std.specs.Prelude.{◌≡◌, IfOk};
 
 use crate::ids::Addr;
-use std::alloc::{AllocError, Global};
+use crate::memory::OutOfMemory;
+use std::alloc::Global;
 use std::marker::Model;
 
-/// One operation of a core.
+/// One operation of a core. (Nagarajan, Sorin, Hill and Wood, A Primer on Memory Consistency and
+/// Cache Coherence, second edition, chapter 4.)
 #[derive(Clone, Copy, Debug, PartialEq, Eq)]
 pub enum Op {
-    /// A store of a value.
+    /// A store of a value of 32 bits.
     St(Addr, u32),
-    /// A load.
+    /// A load of the value.
     Ld(Addr),
-    /// A full fence.
+    /// A FENCE: it waits until the write buffer of its core is empty.
     Fence,
-    /// An atomic read-modify-write that writes the value.
+    /// An atomic read-modify-write: reads the old value, and writes this one.
     Swap(Addr, u32),
-    /// An atomic read-modify-write that writes the old value and the value added, modulo 2^32.
+    /// An atomic read-modify-write: reads the old value, and writes its sum with this one, modulo
+    /// 2^32.
     Add(Addr, u32),
 }
 
@@ -48,22 +51,20 @@ impl Ops {
         }
     }
 
-    /// The operations of a list.
-    pub fn copied(alloc: Global, list: &[Op]) -> Result<Ops, AllocError>
+    /// The operations of a list, in memory of their own.
+    pub fn copied(alloc: Global, list: &[Op]) -> Result<Ops, OutOfMemory>
         ensures { IfOk result (λ ops. ops ≡ list.now) }
     {
         let list = Vec::from_slice(alloc, list)?;
         Ok(Ops { list })
     }
 
-    /// Adds an operation at the end.
-    pub fn push(&mut self, op: Op) -> Result<(), AllocError>
+    /// Adds an operation at the end. Where there is no memory, nothing changes.
+    pub fn push(&mut self, op: Op) -> Result<(), OutOfMemory>
         ensures ok { OnOk result (self.new ≡ self.old ++ op ∷ []) }
         ensures err { OnErr result (self.new ≡ self.old) }
     {
-        if self.list.push(op).is_err() {
-            return Err(AllocError);
-        }
+        self.list.push(op)?;
         Ok(())
     }
 
@@ -75,8 +76,8 @@ impl Ops {
     }
 }
 
-/// The same operations.
-pub(crate) fn copies_of(alloc: Global, cores: &[Ops]) -> Result<Vec<Ops>, AllocError>
+/// The same operations, in memory of their own.
+pub(crate) fn copies_of(alloc: Global, cores: &[Ops]) -> Result<Vec<Ops>, OutOfMemory>
     ensures { IfOk result (λ copies. copies.items ≡ cores.now) }
 {
     let mut copies = Vec::new(alloc);

@@ -1,14 +1,17 @@
-//! Programs.
+//! Litmus programs.
 
+use crate::ids::CoreId;
 use crate::lawful::is_program;
-use crate::limits::{MAX_ADDRESSES, MAX_CORES};
+use crate::limits::{MAX_ADDRESSES, MAX_CORES, MAX_EVENTS};
+use crate::memory::OutOfMemory;
 use crate::name::{Name, copy_of};
 use crate::op::{Op, Ops, copies_of};
 use indexmap::IndexSet;
-use std::alloc::{AllocError, Global};
+use std::alloc::Global;
 use std::marker::Model;
 
-/// A litmus program: names of addresses in order of first use, and the operations of each core.
+/// A litmus program: the names of its addresses in order of first use, and the operations of each
+/// core in program order.
 #[derive(Drop)]
 pub struct Program {
     names: IndexSet<Name>,
@@ -16,24 +19,36 @@ pub struct Program {
 }
 
 impl Model for Program {
-    ghost use Rattle.litmus.specs.Parts.{Parts, IsProgram};
+    ghost use Rattle.litmus.specs.Parts.{Parts, IsProgram, parts_of};
 
     ghost Value = { Parts };
 
-    ghost view = { λ p. record { names = p.names.keys; cores = p.cores.items } };
+    ghost view = { λ p. parts_of p.names.keys p.cores.items };
 
-    ghost invariant = { λ p. IsProgram (record { names = p.names.keys; cores = p.cores.items }) };
+    ghost invariant = { λ p. IsProgram (parts_of p.names.keys p.cores.items) };
 }
 
 impl Program {
-    ghost use Rattle.std.specs.Prelude.{◌≡◌, ◌<◌, ◌≤◌, length, slice_index_or, [], IfOk, IfSome, IsSome, None};
-    ghost use Rattle.litmus.specs.Parts.{Parts, IsProgram};
+    ghost use Rattle.std.specs.Prelude.{◌≡◌, ◌≢◌, ◌<◌, ◌≤◌, ℕ, List, Ok, length, slice_index_or, [], IfOk, IfSome, IsSome, None, All, sum_by};
+    ghost use Rattle.litmus.specs.Parts.{IsProgram, IsWithin, parts_of};
+    ghost use Rattle.litmus.specs.Spelling.{spelling};
+    ghost use Rattle.litmus.specs.Text.{reading};
 
-    /// The program of these names and operations, if a text has them.
+    /// The program of these names and operations. None exactly where no text is of these names and
+    /// operations: where a limit is passed, a name is unused, or the names aren't in order of first
+    /// use. It takes no memory.
     pub fn new(names: IndexSet<Name>, cores: Vec<Ops>) -> Option<Program>
-        ensures some { IfSome result (λ p. p ≡ record { names = names.keys; cores = cores.items }) }
-        ensures lawful { IsSome result → IsProgram (record { names = names.keys; cores = cores.items }) }
-        ensures none { result ≡ None → IsProgram (record { names = names.keys; cores = cores.items }) → ⊥ }
+        ensures some { IfSome result (λ p. p ≡ parts_of names.keys cores.items) }
+
+        // Some where this is a program, and its text is read as it.
+        ensures lawful { IsSome result → IsProgram (parts_of names.keys cores.items) }
+        ensures read { IsSome result → reading (spelling (parts_of names.keys cores.items))
+            ≡ Ok (parts_of names.keys cores.items) }
+
+        // None where this is no program, and no text is read as it.
+        ensures none { result ≡ None → ¬ IsProgram (parts_of names.keys cores.items) }
+        ensures unread { result ≡ None → (text : List ℕ) →
+            reading text ≢ Ok (parts_of names.keys cores.items) }
     {
         if !is_program(&names, &cores) {
             return None;
@@ -42,14 +57,14 @@ impl Program {
     }
 
     pub(crate) fn of_lawful(names: IndexSet<Name>, cores: Vec<Ops>) -> Program
-        requires { let p : Parts = record { names = names.keys; cores = cores.items } in IsProgram p }
-        ensures { result ≡ record { names = names.keys; cores = cores.items } }
+        requires { IsProgram (parts_of names.keys cores.items) }
+        ensures { result ≡ parts_of names.keys cores.items }
     {
         Program { names, cores }
     }
 
-    /// The same program, in memory of its own.
-    pub fn copy(&self, alloc: Global) -> Result<Program, AllocError>
+    /// The same program, in memory of its own; an `Err` only where there is none.
+    pub fn copy(&self, alloc: Global) -> Result<Program, OutOfMemory>
         ensures { IfOk result (λ p. p ≡ self.now) }
     {
         let names = copy_of(&self.names)?;
@@ -57,7 +72,16 @@ impl Program {
         Ok(Program { names, cores })
     }
 
-    /// The names of the addresses, in order of first use.
+    /// What every program keeps. It does nothing.
+    pub fn sound(&self)
+        ensures lawful { IsProgram self.now }
+        ensures within { All (λ ops. All (IsWithin (length self.now.names)) ops) self.now.cores }
+        ensures few { sum_by (λ ops. length ops) self.now.cores ≤ MAX_EVENTS }
+    {
+        let _cores = &self.cores;
+    }
+
+    /// The names of the addresses, in order of first use; at most `MAX_ADDRESSES`.
     pub fn names(&self) -> &IndexSet<Name>
         ensures keys { result.now.keys ≡ self.now.names }
         ensures few { length result.now.keys ≤ MAX_ADDRESSES }
@@ -65,7 +89,7 @@ impl Program {
         &self.names
     }
 
-    /// How many cores there are.
+    /// How many cores there are; at most `MAX_CORES`.
     pub fn cores(&self) -> usize
         ensures count { result ≡ length self.now.cores }
         ensures few { result ≤ MAX_CORES }
@@ -74,14 +98,15 @@ impl Program {
     }
 
     /// The operations of a core, in program order.
-    pub fn ops(&self, core: usize) -> &[Op]
+    pub fn ops(&self, core: CoreId) -> &[Op]
         requires { core < length self.now.cores }
         ensures { result.now ≡ slice_index_or self.now.cores core [] }
     {
-        self.cores[core].as_slice()
+        self.cores[core as usize].as_slice()
     }
 
-    pub(crate) fn lists(&self) -> &[Ops]
+    /// The operations of each core, in program order.
+    pub fn lists(&self) -> &[Ops]
         ensures { result.now ≡ self.now.cores }
     {
         &self.cores
