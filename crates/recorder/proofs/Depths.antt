@@ -1,0 +1,37 @@
+-- A recording's value nests no deeper than `serde_json` reads.
+use Rattle.std.proofs.Common.{◌≤◌, ◌+◌, ℕ, List, [], ◌∷◌, Option, Some, None, arith, map}
+use Rattle.serde_json.specs.Data.{Data, depth, items_depth}
+use Rattle.serde_json.specs.Read.{max_depth}
+use Rattle.serde_json.specs.View.{items_of}
+use Rattle.recorder.specs.declared.event.Event.{Event}
+use Rattle.recorder.specs.declared.event.Event.TheVariants.{L, S, R, F}
+use Rattle.recorder.specs.Execution.{Execution}
+use Rattle.recorder.specs.Text.{number_data, list_data, source_data, event_data, data_of}
+
+-- items nest as deep as the deepest of them
+depth_in : {A : Type 0} (f : A → Data) (k : ℕ) → ((x : A) → depth (f x) ≤ k) → (xs : List A) → items_depth (items_of (map f xs)) ≤ k
+depth_in f k most [] = omega arith
+depth_in f k most (x ∷ xs) = omega (arith, most x, depth_in f k most xs)
+
+-- a list nests one level more
+depth_list : {A : Type 0} (f : A → Data) (k : ℕ) → ((x : A) → depth (f x) ≤ k) → (xs : List A) → depth (list_data f xs) ≤ k + 1
+depth_list f k most xs = omega (arith, depth_in f k most xs)
+
+-- a source does not nest
+depth_source : (s : Option ℕ) → depth (source_data s) ≤ 0
+depth_source None = omega arith
+depth_source (Some s) = omega arith
+
+-- an event is one level
+depth_event : (e : Event) → depth (event_data e) ≤ 1
+depth_event (L a r s) = omega (arith, depth_source s)
+depth_event (S a w) = omega arith
+depth_event (R a r s w) = omega (arith, depth_source s)
+depth_event F = omega arith
+
+-- an execution is four levels at most
+pub shallow : (x : Execution) → depth (data_of x) ≤ max_depth
+shallow x =
+    let cores = depth_list (list_data event_data) 2 (depth_list event_data 1 depth_event) x.cores in
+    let writes = depth_list (list_data number_data) 1 (depth_list number_data 0 (λ n. omega arith)) x.write_lists in
+    omega (arith, cores, writes)

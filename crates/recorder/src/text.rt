@@ -1,0 +1,50 @@
+//! The text of a recording.
+
+ghost use Rattle.std.specs.Prelude.{◌≡◌, ◌≤◌, IfOk, Some, false, string_bytes};
+ghost use Rattle.serde_json.specs.Data.{depth};
+ghost use Rattle.serde_json.specs.Read.{read, max_depth};
+ghost use Rattle.serde_json.specs.View.{view};
+ghost use Rattle.serde_json.specs.Written.{compact_text, has_float};
+ghost use Rattle.recorder.specs.Text.{data_of, recording_text, IsReadAs};
+
+use crate::recording::Recording;
+use crate::values::value_of;
+use litmus::OutOfMemory;
+use serde_json::Value;
+use std::alloc::{AllocError, Global};
+
+fn compact(alloc: Global, value: &Value) -> Result<String, AllocError>
+    requires whole { has_float (view value.now) ≡ false }
+    requires shallow { depth (view value.now) ≤ max_depth }
+    ensures text { IfOk result (λ s. string_bytes s ≡ compact_text (view value.now)) }
+    ensures reads_back { IfOk result (λ s. read (string_bytes s) ≡ Some (view value.now)) }
+{
+    value.to_string(alloc)
+}
+
+/// The text of a recording: compact JSON with the keys of each object in ascending order, and a newline.
+pub fn write_recording(alloc: Global, recording: &Recording) -> Result<Vec<u8>, OutOfMemory>
+    ensures text { IfOk result (λ v. v.items ≡ recording_text recording.now) }
+    ensures reads_back { IfOk result (λ v. IsReadAs v.items (data_of recording.now)) }
+{
+    let value = value_of(alloc, recording)?;
+    let mut text = compact(alloc, &value)?;
+    text.push('\n')?;
+    Ok(text.into_bytes())
+}
+
+#[cfg(test)]
+mod tests {
+    use super::*;
+    use std::test::Fail;
+
+    #[test]
+    fn an_empty_recording_is_written(rt: HostRuntime) -> Result<(), Fail> {
+        let alloc = rt.alloc();
+        let recording = Recording::new(Vec::new(alloc), Vec::new(alloc));
+        let text = write_recording(alloc, &recording)?;
+        let expected = b"{\"cores\":[],\"version\":1,\"writes\":[]}\n".as_slice();
+        assert_eq!(rt; text.as_slice(), expected);
+        Ok(())
+    }
+}

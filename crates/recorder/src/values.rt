@@ -1,0 +1,81 @@
+//! The JSON value of a recording.
+
+ghost use Rattle.std.specs.Prelude.{◌≡◌, IfOk, map};
+ghost use Rattle.serde_json.specs.View.{view};
+ghost use Rattle.recorder.specs.Text.{number_data, list_data, source_data, event_data, data_of};
+
+use crate::event::Event;
+use crate::recording::Recording;
+use litmus::EventId;
+use serde_json::{Value, json};
+use std::alloc::{AllocError, Global};
+
+fn source_value(source: Option<EventId>) -> Value
+    ensures { view result ≡ source_data source }
+{
+    match source {
+        Some(write) => Value::from(write),
+        None => Value::Null,
+    }
+}
+
+fn event_value(alloc: Global, event: &Event) -> Result<Value, AllocError>
+    ensures { IfOk result (λ v. view v ≡ event_data event.now) }
+{
+    match *event {
+        Event::L { a, r, s } => json!(in alloc; {"a": a, "k": "L", "r": r, "s": source_value(s)}),
+        Event::S { a, w } => json!(in alloc; {"a": a, "k": "S", "w": w}),
+        Event::R { a, r, s, w } => {
+            json!(in alloc; {"a": a, "k": "R", "r": r, "s": source_value(s), "w": w})
+        }
+        Event::F => json!(in alloc; {"k": "F"}),
+    }
+}
+
+fn core_value(alloc: Global, events: &[Event]) -> Result<Value, AllocError>
+    ensures { IfOk result (λ v. view v ≡ list_data event_data events.now) }
+{
+    let mut values = Vec::with_capacity(alloc, events.len())?;
+    for event in events {
+        values.push(event_value(alloc, event)?)?;
+    }
+    Ok(Value::Array(values))
+}
+
+fn cores_value(alloc: Global, cores: &[Vec<Event>]) -> Result<Value, AllocError>
+    ensures { IfOk result (λ v. view v ≡ list_data (list_data event_data) (map (λ w. w.items) cores.now)) }
+{
+    let mut values = Vec::with_capacity(alloc, cores.len())?;
+    for events in cores {
+        values.push(core_value(alloc, events.as_slice())?)?;
+    }
+    Ok(Value::Array(values))
+}
+
+fn list_value(alloc: Global, writes: &[EventId]) -> Result<Value, AllocError>
+    ensures { IfOk result (λ v. view v ≡ list_data number_data writes.now) }
+{
+    let mut values = Vec::with_capacity(alloc, writes.len())?;
+    for write in writes {
+        values.push(Value::from(*write))?;
+    }
+    Ok(Value::Array(values))
+}
+
+fn lists_value(alloc: Global, lists: &[Vec<EventId>]) -> Result<Value, AllocError>
+    ensures { IfOk result (λ v. view v ≡ list_data (list_data number_data) (map (λ w. w.items) lists.now)) }
+{
+    let mut values = Vec::with_capacity(alloc, lists.len())?;
+    for writes in lists {
+        values.push(list_value(alloc, writes.as_slice())?)?;
+    }
+    Ok(Value::Array(values))
+}
+
+pub(crate) fn value_of(alloc: Global, recording: &Recording) -> Result<Value, AllocError>
+    ensures { IfOk result (λ v. view v ≡ data_of recording.now) }
+{
+    let cores = cores_value(alloc, recording.cores())?;
+    let writes = lists_value(alloc, recording.writes())?;
+    json!(in alloc; {"cores": cores, "version": 1, "writes": writes})
+}
