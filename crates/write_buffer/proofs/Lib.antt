@@ -1,0 +1,2 @@
+pub mod Youngest
+pub mod Popped

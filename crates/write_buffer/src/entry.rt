@@ -1,0 +1,25 @@
+//! What waits in a store buffer.
+ghost use Rattle.std.specs.Prelude.{◌≡◌, ◌==◌, if◌then◌else◌, Option, Some};
+
+use litmus::{Addr, EventId};
+
+/// A store that has not reached memory.
+#[derive(Clone, Copy, Debug, PartialEq, Eq)]
+pub struct Entry {
+    pub addr: Addr,
+    pub value: u32,
+    pub event: EventId,
+}
+
+impl Entry {
+    /// This entry where it is of the address, or else what was found before.
+    pub(crate) fn or_before(&self, addr: Addr, found: Option<Entry>) -> Option<Entry>
+        ensures { result ≡ (if self.now.addr == addr then Some self.now else found) }
+    {
+        if self.addr == addr {
+            Some(*self)
+        } else {
+            found
+        }
+    }
+}
