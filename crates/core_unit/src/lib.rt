@@ -1,0 +1,9 @@
+//! The place of a core in its program.
+#![tactic(auto)]
+
+mod unit;
+
+pub use unit::CoreUnit;
+
+#[cfg(test)]
+mod tests;
