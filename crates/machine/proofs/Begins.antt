@@ -1,0 +1,112 @@
+-- What a new machine holds.
+use Rattle.std.proofs.Common.{◌≡◌, ◌<◌, ◌≤◌, ◌+◌, ◌-◌, inl, inr, ℕ, zero, suc, Option, None, List, [], ◌∷◌, ◌++◌, map, take, length, get_or, slice_index, slice_index_or, replicate, arith, refl, sym, ap, subst, ◌∙◌}
+use Rattle.std.specs.List.{All, sum, sum_by}
+use Rattle.std.proofs.lemmas.List.{length-replicate, get_or-replicate, get_or_append_left, get_or-append_right}
+use Rattle.std.proofs.lemmas.List.Sums.{sum_by-cons}
+use Rattle.std.proofs.lemmas.Bool.{cases_lt}
+use Rattle.litmus.specs.declared.limits.TheConstants.{MAX_EVENTS}
+use Rattle.litmus.specs.declared.op.Op.{Op}
+use Rattle.litmus.specs.Parts.{Parts, IsWithin}
+use Rattle.write_buffer.specs.declared.entry.Entry.{Entry}
+use Rattle.write_buffer.specs.Buffer.{Buffer}
+use Rattle.core_unit.specs.Progress.{Progress}
+use Rattle.machine.specs.Roomy.{Roomy}
+use Rattle.machine.specs.State.{first_event, opening}
+use Rattle.machine.specs.Made.{AreUnits}
+use Rattle.machine.specs.Held.{Rooms, IsSound, IsMachine, held, places_of, events_of, rooms_of}
+use Rattle.machine.proofs.Opening.{get_or_same}
+
+-- what is true of an item is true of all its copies
+all_same : {X : Type 0} (P : X → Type 0) (n : ℕ) (x : X) → P x → All P (replicate n x)
+all_same P n x h k d inside = subst P (sym (get_or-replicate n k x d (omega (arith, inside, length-replicate n x)))) h
+
+sum_same : {X : Type 0} (f : X → ℕ) (n : ℕ) (x : X) → f x ≡ 0 → sum_by f (replicate n x) ≡ 0
+sum_same f zero x h = refl
+sum_same f (suc n) x h = omega (arith, h, sum_by-cons f x (replicate n x), sum_same f n x h)
+
+map_same : {X Y : Type 0} (f : X → Y) (n : ℕ) (x : X) → map f (replicate n x) ≡ replicate n (f x)
+map_same f zero x = refl
+map_same f (suc n) x = ap (λ (ys : List _). f x ∷ ys) (map_same f n x)
+
+-- units of which each is at its start have executed nothing
+places_none : (units : List Progress) (n : ℕ) → length units ≡ n → ((c : ℕ) (d : Progress) → c < n → (slice_index_or units c d).place ≡ 0) → places_of units ≡ replicate n 0
+places_none [] zero l h = refl
+places_none [] (suc n) l h = absurd (omega (arith, l))
+places_none (u ∷ units) zero l h = absurd (omega (arith, l))
+places_none (u ∷ units) (suc n) l h =
+    ap (λ (k : ℕ). k ∷ places_of units) (h 0 u (omega arith)) ∙ ap (λ (ks : List ℕ). 0 ∷ ks) (places_none units n (omega (arith, l)) (λ c d inside. h (suc c) d (omega (arith, inside))))
+
+module _ (p : Parts) (capacity cores total n : ℕ) (units : List Progress) (cores_is : cores ≡ length p.cores) (n_is : n ≡ length p.names) (are : AreUnits p.cores units total)
+    (fits : All (λ ops. All (IsWithin (length p.names)) ops) p.cores) (few : events_of p ≤ MAX_EVENTS)
+    (buffers : List Buffer) (memory reads : List (ℕ × Option ℕ)) (writes : List (Roomy ℕ)) (done : Roomy ℕ) (blank : Rooms)
+    (buffers_are : buffers ≡ replicate cores (record { entries = []; capacity = capacity })) (memory_is : memory ≡ replicate n (0, None))
+    (writes_are : writes ≡ replicate n (record { items = []; room = total })) (reads_are : reads ≡ replicate total (0, None)) (done_is : done ≡ record { items = []; room = total })
+    (blank_is : blank ≡ record { cores = cores; events = total; addresses = n }) where
+  units_begun : (c : ℕ) (d : Progress) → c < length p.cores → slice_index_or units c d ≡ record { first = first_event p.cores c; place = 0 }
+  units_begun = are.begun
+
+  places_are : places_of units ≡ replicate (length p.cores) 0
+  places_are = places_none units (length p.cores) are.one_each (λ c d inside. ap (λ (u : Progress). u.place) (are.begun c d inside))
+
+  pub opening_held : held units buffers memory writes reads done.items ≡ opening p.cores (length p.names)
+  opening_held = rw (
+    places_are,
+    buffers_are,
+    memory_is,
+    writes_are,
+    reads_are,
+    done_is,
+    cores_is,
+    n_is,
+    map_same (λ (b : Buffer). b.entries) (length p.cores) (record { entries = []; capacity = capacity }),
+    map_same (λ (b : Roomy ℕ). b.items) (length p.names) (record { items = []; room = total }),
+    are.events,
+  ) refl
+
+  sound : IsSound p capacity units buffers memory writes reads done
+  sound = record {
+    operations = fits;
+    few = few;
+    units_length = are.one_each;
+    buffers_length = ap (λ (l : List Buffer). length l) buffers_are ∙ (length-replicate {A = Buffer} cores (record { entries = []; capacity = capacity }) ∙ cores_is);
+    cells = ap (λ (m : List (ℕ × Option ℕ)). length m) memory_is ∙ (length-replicate n (0, None) ∙ n_is);
+    writes_length = ap (λ (l : List (Roomy ℕ)). length l) writes_are ∙ (length-replicate {A = Roomy ℕ} n (record { items = []; room = total }) ∙ n_is);
+    events = ap (λ (m : List (ℕ × Option ℕ)). length m) reads_are ∙ (length-replicate total (0, None) ∙ are.events);
+    first = λ c d inside. ap (λ (u : Progress). u.first) (are.begun c d inside);
+    place = λ c. omega (arith, ap (λ (l : List ℕ). get_or l c 0) places_are, get_or_same {A = ℕ} (length p.cores) c 0);
+    capacities = subst (λ (l : List Buffer). All (λ b. b.capacity ≡ capacity) l) (sym buffers_are) (all_same (λ (b : Buffer). b.capacity ≡ capacity) cores (record { entries = []; capacity = capacity }) refl);
+    entries = subst (λ (l : List Buffer). All (λ b. All (λ x. x.addr < length p.names) b.entries) l) (sym buffers_are)
+        (all_same (λ (b : Buffer). All (λ x. x.addr < length p.names) b.entries) cores (record { entries = []; capacity = capacity }) (λ k d h. absurd (omega (arith, h))));
+    write_rooms = subst (λ (l : List (Roomy ℕ)). All (λ b. b.room ≡ events_of p) l) (sym writes_are) (all_same (λ (b : Roomy ℕ). b.room ≡ events_of p) n (record { items = []; room = total }) are.events);
+    write_lengths = subst (λ (l : List (Roomy ℕ)). All (λ b. length b.items ≤ length done.items) l) (sym writes_are)
+        (all_same (λ (b : Roomy ℕ). length b.items ≤ length done.items) n (record { items = []; room = total }) (omega arith));
+    performed_room = ap (λ (r : Roomy ℕ). r.room) done_is ∙ are.events;
+    counted = omega (
+      arith,
+      ap (λ (r : Roomy ℕ). length r.items) done_is,
+      ap (λ (l : List Buffer). sum_by (λ b. length b.entries) l) buffers_are,
+      sum_same (λ (b : Buffer). length b.entries) cores (record { entries = []; capacity = capacity }) refl,
+      ap (λ (l : List ℕ). sum_by (λ (x : ℕ). x) l) places_are,
+      sum_same (λ (x : ℕ). x) (length p.cores) 0 refl,
+    );
+  }
+
+  pub is_machine : IsMachine p capacity units buffers memory writes reads done blank
+  is_machine = record {
+    sound = sound;
+    reached = record { steps = []; leads = sym opening_held; operations = fits };
+    blank_is = rw (blank_is, cores_is, are.events, n_is) refl;
+  }
+
+-- one core more
+pub unit_more : (p : List (List Op)) (units units' : List Progress) (i next : ℕ) → length units ≡ i → next ≡ first_event p i
+    → ((c : ℕ) (d : Progress) → c < i → get_or units c d ≡ record { first = first_event p c; place = 0 })
+    → units' ≡ units ++ record { first = next; place = 0 } ∷ [] → (c : ℕ) (d : Progress) → c < i + 1 → get_or units' c d ≡ record { first = first_event p c; place = 0 }
+unit_more p units units' i next long next_is begun is c d inside = ap (λ (l : List Progress). get_or l c d) is ∙ (elim (cases_lt c i) [
+  | inl before ↦ get_or_append_left units (record { first = next; place = 0 } ∷ []) d c (omega (arith, before, long)) ∙ begun c d before
+  | inr behind ↦
+      let last : c ≡ i = omega (arith, inside, behind) in
+      get_or-append_right units (record { first = next; place = 0 } ∷ []) i c d long behind
+      ∙ (ap (λ (n : ℕ). get_or (record { first = next; place = 0 } ∷ []) n d) (let e : c - i ≡ 0 = omega (arith, last) in e)
+      ∙ ap (λ (n : ℕ). record { first = n; place = 0 }) (next_is ∙ ap (first_event p) (sym last)))
+])

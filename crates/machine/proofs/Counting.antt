@@ -1,0 +1,230 @@
+-- How each kind of step counts events: it moves one, and all others stay where they are.
+use Rattle.std.proofs.Common.{◌≡◌, ◌≢◌, ◌<◌, ◌≤◌, ◌+◌, inl, inr, ℕ, Bool, true, Option, None, List, [], ◌∷◌, ◌++◌, arith, refl, sym, ap, subst, ◌∙◌}
+use Rattle.std.proofs.lemmas.Bool.{cases_eq}
+use Rattle.recorder.specs.Order.{times}
+use Rattle.recorder.proofs.Orders.{times_here, times_there, times_nil, times_append}
+use Rattle.machine.proofs.Seen.{Static, Snapshot, seen, IsCounted, not_seen}
+
+-- the step from s to t moves the event b
+pub record Counts (p : Static) (s t : Snapshot) (b : ℕ) : Type 0 where
+  pub others : (d e : ℕ) → e ≢ b → times (seen t d) e ≡ times (seen s d) e
+  pub next : (e : ℕ) → e ≢ b → e < t.next (p.core e) → e < s.next (p.core e)
+  pub next_grows : (c : ℕ) → s.next c ≤ t.next c
+  pub waiting : (c e : ℕ) → 0 < times (t.buffer c) e → (p.core e ≡ c) × (p.store e ≡ true)
+  pub b_event : (b < p.count) × (b < t.next (p.core b))
+  pub b_once : times (seen t (p.core b)) b ≡ 1
+
+-- such a step keeps the count
+pub counted_kept : (p : Static) (s t : Snapshot) (b : ℕ) → IsCounted p s → Counts p s t b → IsCounted p t
+counted_kept p s t b counted step = record { listed = listed; executed = executed; waiting = step.waiting }
+  where
+    listed : (e : ℕ) → e < p.count → e < t.next (p.core e) → times (seen t (p.core e)) e ≡ 1
+    listed e event done = elim (cases_eq e b) [
+      | inl same ↦ subst (λ (z : ℕ). times (seen t (p.core z)) z ≡ 1) (sym same) step.b_once
+      | inr other ↦ omega (arith, step.others (p.core e) e other, counted.listed e event (step.next e other done))
+    ]
+
+    executed : (c e : ℕ) → 0 < times (seen t c) e → (e < p.count) × (e < t.next (p.core e))
+    executed c e there = elim (cases_eq e b) [
+      | inl same ↦ subst (λ (z : ℕ). (z < p.count) × (z < t.next (p.core z))) (sym same) step.b_event
+      | inr other ↦
+          let was : (e < p.count) × (e < s.next (p.core e)) = counted.executed c e (omega (arith, step.others c e other, there)) in
+          (was.0, omega (arith, was.1, step.next_grows (p.core e)))
+    ]
+
+-- where core's next event is executed, no other event is executed with it
+next_step : (p : Static) (s t : Snapshot) (b : ℕ) → s.next (p.core b) ≡ b → t.next (p.core b) ≡ b + 1 → ((d : ℕ) → d ≢ p.core b → t.next d ≡ s.next d)
+    → ((e : ℕ) → e ≢ b → e < t.next (p.core e) → e < s.next (p.core e))
+next_step p s t b old new others e eb done = elim (cases_eq (p.core e) (p.core b)) [
+  | inl one ↦
+      let below : e < t.next (p.core b) = subst (λ (c : ℕ). e < t.next c) one done in
+      subst (λ (c : ℕ). e < s.next c) (sym one) (omega (arith, below, old, new, eb))
+  | inr other ↦ omega (arith, others (p.core e) other, done)
+]
+
+next_up : (p : Static) (s t : Snapshot) (b : ℕ) → s.next (p.core b) ≡ b → t.next (p.core b) ≡ b + 1 → ((d : ℕ) → d ≢ p.core b → t.next d ≡ s.next d) → (c : ℕ) → s.next c ≤ t.next c
+next_up p s t b old new others c = elim (cases_eq c (p.core b)) [
+  | inl one ↦ subst (λ (z : ℕ). s.next z ≤ t.next z) (sym one) (omega (arith, old, new))
+  | inr other ↦ omega (arith, others c other)
+]
+
+-- a plain store goes to the back of its core's buffer
+pub record Issues (p : Static) (s t : Snapshot) (b : ℕ) : Type 0 where
+  pub event : b < p.count
+  pub store : p.store b ≡ true
+  pub reads : p.reads b ≡ None
+  pub next_was : s.next (p.core b) ≡ b
+  pub performed : t.performed ≡ s.performed
+  pub buffer : t.buffer (p.core b) ≡ s.buffer (p.core b) ++ b ∷ []
+  pub others : (d : ℕ) → d ≢ p.core b → t.buffer d ≡ s.buffer d
+  pub next : t.next (p.core b) ≡ b + 1
+  pub next_others : (d : ℕ) → d ≢ p.core b → t.next d ≡ s.next d
+  pub source : (e : ℕ) → e ≢ b → t.source e ≡ s.source e
+
+pub issue_counts : (p : Static) (s t : Snapshot) (b : ℕ) → IsCounted p s → Issues p s t b → Counts p s t b
+issue_counts p s t b counted i = record {
+  others = λ d e eb. elim (cases_eq d (p.core b)) [
+    | inl own ↦ subst (λ (z : ℕ). times (seen t z) e ≡ times (seen s z) e) (sym own) (omega (
+      arith,
+      times_append t.performed (t.buffer (p.core b)) e,
+      times_append s.performed (s.buffer (p.core b)) e,
+      ap (λ (m : List ℕ). times m e) i.performed,
+      ap (λ (q : List ℕ). times q e) i.buffer,
+      times_append (s.buffer (p.core b)) (b ∷ []) e,
+      times_there [] b e (λ z. eb (sym z)),
+      times_nil e,
+    ))
+    | inr other ↦ omega (
+      arith,
+      times_append t.performed (t.buffer d) e,
+      times_append s.performed (s.buffer d) e,
+      ap (λ (m : List ℕ). times m e) i.performed,
+      ap (λ (q : List ℕ). times q e) (i.others d other),
+    )
+  ];
+  next = next_step p s t b i.next_was i.next i.next_others;
+  next_grows = next_up p s t b i.next_was i.next i.next_others;
+  waiting = waiting;
+  b_event = (i.event, omega (arith, i.next));
+  b_once = omega (
+    arith,
+    not_seen p s counted b (p.core b) (omega (arith, i.next_was)),
+    times_append t.performed (t.buffer (p.core b)) b,
+    times_append s.performed (s.buffer (p.core b)) b,
+    ap (λ (m : List ℕ). times m b) i.performed,
+    ap (λ (q : List ℕ). times q b) i.buffer,
+    times_append (s.buffer (p.core b)) (b ∷ []) b,
+    times_here [] b b refl,
+    times_nil b,
+  );
+}
+  where
+    waiting : (d e : ℕ) → 0 < times (t.buffer d) e → (p.core e ≡ d) × (p.store e ≡ true)
+    waiting d e there = elim (cases_eq e b) [
+      | inl is_b ↦ elim (cases_eq d (p.core b)) [
+        | inl own ↦ (ap p.core is_b ∙ sym own, ap p.store is_b ∙ i.store)
+        | inr other ↦ counted.waiting d e (omega (arith, there, ap (λ (q : List ℕ). times q e) (i.others d other)))
+      ]
+      | inr old ↦ elim (cases_eq d (p.core b)) [
+        | inl own ↦
+            let at_own : 0 < times (t.buffer (p.core b)) e = subst (λ (z : ℕ). 0 < times (t.buffer z) e) own there in
+            let was : (p.core e ≡ p.core b) × (p.store e ≡ true) = counted.waiting (p.core b) e
+            (omega (arith, at_own, ap (λ (q : List ℕ). times q e) i.buffer, times_append (s.buffer (p.core b)) (b ∷ []) e, times_there [] b e (λ z. old (sym z)), times_nil e)) in
+            (was.0 ∙ sym own, was.1)
+        | inr other ↦ counted.waiting d e (omega (arith, there, ap (λ (q : List ℕ). times q e) (i.others d other)))
+      ]
+    ]
+
+-- an event is performed as it is executed
+pub record Performs (p : Static) (s t : Snapshot) (b : ℕ) : Type 0 where
+  pub event : b < p.count
+  pub next_was : s.next (p.core b) ≡ b
+  pub performed : t.performed ≡ s.performed ++ b ∷ []
+  pub buffer : (d : ℕ) → t.buffer d ≡ s.buffer d
+  pub next : t.next (p.core b) ≡ b + 1
+  pub next_others : (d : ℕ) → d ≢ p.core b → t.next d ≡ s.next d
+  pub source : (e : ℕ) → e ≢ b → t.source e ≡ s.source e
+
+pub perform_counts : (p : Static) (s t : Snapshot) (b : ℕ) → IsCounted p s → Performs p s t b → Counts p s t b
+perform_counts p s t b counted i = record {
+  others = λ d e eb. omega (arith, seen_more d e, times_there [] b e (λ z. eb (sym z)), times_nil e);
+  next = next_step p s t b i.next_was i.next i.next_others;
+  next_grows = next_up p s t b i.next_was i.next i.next_others;
+  waiting = λ d e there. counted.waiting d e (omega (arith, there, ap (λ (q : List ℕ). times q e) (i.buffer d)));
+  b_event = (i.event, omega (arith, i.next));
+  b_once = omega (arith, seen_more (p.core b) b, not_seen p s counted b (p.core b) (omega (arith, i.next_was)), times_here [] b b refl, times_nil b);
+}
+  where
+    seen_more : (d e : ℕ) → times (seen t d) e ≡ times (seen s d) e + times (b ∷ []) e
+    seen_more d e = omega (
+      arith,
+      times_append t.performed (t.buffer d) e,
+      times_append s.performed (s.buffer d) e,
+      ap (λ (m : List ℕ). times m e) i.performed,
+      ap (λ (q : List ℕ). times q e) (i.buffer d),
+      times_append s.performed (b ∷ []) e,
+    )
+
+-- a waiting store of core c goes to memory; front waits before it
+pub record Drains (p : Static) (s t : Snapshot) (c b : ℕ) (front : List ℕ) : Type 0 where
+  pub back : List ℕ
+  pub performed : t.performed ≡ s.performed ++ b ∷ []
+  pub was : s.buffer c ≡ front ++ b ∷ back
+  pub is : t.buffer c ≡ front ++ back
+  pub others : (d : ℕ) → d ≢ c → t.buffer d ≡ s.buffer d
+  pub next : (d : ℕ) → t.next d ≡ s.next d
+  pub source : (e : ℕ) → t.source e ≡ s.source e
+  pub reads : p.reads b ≡ None
+
+module _ (p : Static) (s t : Snapshot) (c b : ℕ) (front : List ℕ) (counted : IsCounted p s) (i : Drains p s t c b front) where
+  -- how often an event stands in core c's order, before and after
+  times_was : (e : ℕ) → times (seen s c) e ≡ times s.performed e + times front e + times (b ∷ []) e + times i.back e
+  times_was e = omega (
+    arith,
+    times_append s.performed (s.buffer c) e,
+    ap (λ (q : List ℕ). times q e) i.was,
+    times_append front (b ∷ i.back) e,
+    times_append (b ∷ []) i.back e,
+  )
+
+  times_is : (e : ℕ) → times (seen t c) e ≡ times (seen s c) e
+  times_is e = omega (
+    arith,
+    times_was e,
+    times_append t.performed (t.buffer c) e,
+    ap (λ (m : List ℕ). times m e) i.performed,
+    times_append s.performed (b ∷ []) e,
+    ap (λ (q : List ℕ). times q e) i.is,
+    times_append front i.back e,
+  )
+
+  one : times (b ∷ []) b ≡ 1
+  one = omega (arith, times_here [] b b refl, times_nil b)
+
+  pub drain_waits : 0 < times (s.buffer c) b
+  drain_waits = omega (arith, ap (λ (q : List ℕ). times q b) i.was, times_append front (b ∷ i.back) b, times_here i.back b b refl)
+
+  pub drain_core : p.core b ≡ c
+  drain_core = (counted.waiting c b drain_waits).0
+
+  pub drain_event : (b < p.count) × (b < s.next (p.core b))
+  drain_event = counted.executed c b (omega (arith, drain_waits, times_append s.performed (s.buffer c) b))
+
+  pub drain_once : times (seen s (p.core b)) b ≡ 1
+  drain_once = counted.listed b drain_event.0 drain_event.1
+
+  pub drain_counts : Counts p s t b
+  drain_counts = record {
+    others = λ d e eb. elim (cases_eq d c) [
+      | inl own ↦ subst (λ (z : ℕ). times (seen t z) e ≡ times (seen s z) e) (sym own) (times_is e)
+      | inr other ↦ omega (
+        arith,
+        times_append t.performed (t.buffer d) e,
+        times_append s.performed (s.buffer d) e,
+        ap (λ (m : List ℕ). times m e) i.performed,
+        times_append s.performed (b ∷ []) e,
+        times_there [] b e (λ z. eb (sym z)),
+        times_nil e,
+        ap (λ (q : List ℕ). times q e) (i.others d other),
+      )
+    ];
+    next = λ e eb done. omega (arith, done, i.next (p.core e));
+    next_grows = λ d. omega (arith, i.next d);
+    waiting = λ d e h. elim (cases_eq d c) [
+      | inl own ↦
+          let at_c : 0 < times (t.buffer c) e = subst (λ (z : ℕ). 0 < times (t.buffer z) e) own h in
+          let was : (p.core e ≡ c) × (p.store e ≡ true) = counted.waiting c e (omega (
+            arith,
+            at_c,
+            ap (λ (q : List ℕ). times q e) i.is,
+            times_append front i.back e,
+            ap (λ (q : List ℕ). times q e) i.was,
+            times_append front (b ∷ i.back) e,
+            times_append (b ∷ []) i.back e,
+          )) in
+          (was.0 ∙ sym own, was.1)
+      | inr other ↦ counted.waiting d e (omega (arith, h, ap (λ (q : List ℕ). times q e) (i.others d other)))
+    ];
+    b_event = (drain_event.0, omega (arith, drain_event.1, i.next (p.core b)));
+    b_once = subst (λ (z : ℕ). times (seen t z) b ≡ 1) (sym drain_core) (omega (arith, times_is b, subst (λ (z : ℕ). times (seen s z) b ≡ 1) drain_core drain_once));
+  }

@@ -1,0 +1,280 @@
+-- Each value in memory, in a buffer or read is one that an executed write of its address wrote, so a complete state's recording is well formed.
+use Rattle.std.proofs.Common.{◌≡◌, ◌≢◌, ◌<◌, ◌≤◌, ◌+◌, ◌⊎◌, inl, inr, ℕ, Bool, true, cond, Option, Some, None, List, [], ◌∷◌, map, length, get_or, slice_set, arith, refl, sym, ap, subst, ◌∙◌, get_or-set_same, get_or-set_other}
+use Rattle.std.specs.Prelude.{◌==◌}
+use Rattle.std.specs.List.{All, filter, sum_by}
+use Rattle.std.proofs.lemmas.List.{get_or_past}
+use Rattle.std.proofs.lemmas.Bool.{cases_eq, cases_lt, eq-eqb}
+use Rattle.litmus.specs.declared.op.Op.{Op}
+use Rattle.litmus.specs.declared.op.Op.TheVariants.{St, Ld, Fence, Swap, Add}
+use Rattle.litmus.specs.Parts.{IsWithin}
+use Rattle.recorder.specs.declared.event.Event.{Event}
+use Rattle.recorder.specs.Event.{read_address, written_address, source, value_read, value_written}
+use Rattle.recorder.specs.Execution.{event_at, write_list, Reads, Writes}
+use Rattle.recorder.specs.Order.{times}
+use Rattle.recorder.specs.Tso.{Gives, IsWellFormed}
+use Rattle.recorder.proofs.Orders.{times_nil, times_here, times_append}
+use Rattle.recorder.proofs.Events.{Writes-event}
+use Rattle.write_buffer.specs.declared.entry.Entry.{Entry}
+use Rattle.write_buffer.specs.Buffer.{youngest, or_else}
+use Rattle.machine.specs.declared.step.Step.{Step}
+use Rattle.machine.specs.State.{State, place_of, buffer_of, current, event_of, recorded, opening, IsComplete}
+use Rattle.machine.specs.Step.{advanced, performed, given, written, found, loaded, run}
+use Rattle.machine.proofs.Static.{static_of, snapshot_of, placed_op, done_by, op_reads}
+use Rattle.machine.proofs.Newest.{bool_cases, times_filter, times_filter_no}
+use Rattle.machine.proofs.WriteLists.{writes_to, is_address_true, is_address_back}
+use Rattle.machine.proofs.Drains.{AreStores, drained_state}
+use Rattle.machine.proofs.Loads.{not_equal}
+use Rattle.machine.proofs.Executes.{IsNext, next_placed}
+use Rattle.machine.proofs.Rows.{IsKept, IsExchange, stored_state, loaded_state, fenced_state, exchanged_state, run_kept}
+use Rattle.machine.proofs.Steady.{IsSteady, next_within, steady_kept}
+use Rattle.machine.proofs.Opening.{get_or_same, opening_steady}
+use Rattle.machine.proofs.Complete.{event_is, list_is, writes_is, reads_is, count_is, complete_listed}
+
+-- the value is the initial one, or the source is an executed write of it to the address
+abbrev pub IsGiven : List (List Op) → State → ℕ → Option ℕ → ℕ → Type 0
+IsGiven p s a None v = v ≡ 0
+IsGiven p s a (Some w) v = (w < (snapshot_of p s).next ((static_of p s).core w)) × (written_address (done_by p s w) ≡ Some a) × (value_written (done_by p s w) ≡ v)
+
+abbrev pub IsPairGiven : List (List Op) → State → ℕ → ℕ × Option ℕ → Type 0
+IsPairGiven p s a d = IsGiven p s a d.1 d.0
+
+-- what addresses hold and events read was given
+pub record IsData (p : List (List Op)) (s : State) : Type 0 where
+  pub steady : IsSteady p s
+  pub memory : (a : ℕ) → IsPairGiven p s a (current s a)
+  pub reads : (e a : ℕ) → op_reads (placed_op p e).1 ≡ Some a → IsPairGiven p s a (get_or s.reads e (0, None))
+
+-- an event that is executed now changes nothing that others gave
+given_kept : (p : List (List Op)) (s t : State) (b : ℕ) → (snapshot_of p s).next ((static_of p s).core b) ≡ b → ((e : ℕ) → e ≢ b → get_or t.reads e (0, None) ≡ get_or s.reads e (0, None))
+    → ((c : ℕ) → place_of s c ≤ place_of t c) → (a : ℕ) (o : Option ℕ) (v : ℕ) → IsGiven p s a o v → IsGiven p t a o v
+given_kept p s t b new same up a None v h = h
+given_kept p s t b new same up a (Some w) v h =
+    let other : w ≢ b = λ is. omega (arith, h.0, ap (λ (e : ℕ). (snapshot_of p s).next ((static_of p s).core e)) is, new, is) in
+    let does : done_by p t w ≡ done_by p s w = ap (event_of (placed_op p w).1) (same w other) in
+    (omega (arith, h.0, up ((static_of p s).core w)), ap written_address does ∙ h.1, ap value_written does ∙ h.2)
+
+-- an event that wrote, executed as far as t goes
+written_given : (p : List (List Op)) (t : State) (w c a v : ℕ) (op : Op) → placed_op p w ≡ (c, op) → w < (snapshot_of p t).next c
+    → written_address (event_of op (get_or t.reads w (0, None))) ≡ Some a → value_written (event_of op (get_or t.reads w (0, None))) ≡ v → IsGiven p t a (Some w) v
+written_given p t w c a v op is executed address value =
+    let does : done_by p t w ≡ event_of op (get_or t.reads w (0, None)) = ap (λ (z : ℕ × Op). event_of z.1 (get_or t.reads w (0, None))) is in (
+      subst (λ (k : ℕ). w < (snapshot_of p t).next k) (sym (ap (λ (z : ℕ × Op). z.0) is)) executed,
+      ap written_address does ∙ address,
+      ap value_written does ∙ value,
+    )
+
+some_entry : {u v : Entry} → Some u ≡ Some v → u ≡ v
+some_entry h = cc
+
+-- the youngest entry of an address is a store to it that waits
+youngest_is : (p : List (List Op)) (c : ℕ) (b : List Entry) (a : ℕ) (y : Entry) → AreStores p c b → youngest b a ≡ Some y
+    → (placed_op p y.event ≡ (c, St a y.value)) × (0 < times (map (λ (x : Entry). x.event) b) y.event)
+youngest_is p c [] a y stores is = absurd cc
+youngest_is p c (x ∷ xs) a y stores is = go (λ later. youngest_is p c xs a y stores.1 later) (youngest xs a) refl is
+  where
+    more : 0 < times (map (λ (z : Entry). z.event) xs) y.event → 0 < times (map (λ (z : Entry). z.event) (x ∷ xs)) y.event
+    more h = omega (arith, h, times_append (x.event ∷ []) (map (λ (z : Entry). z.event) xs) y.event)
+
+    go : (youngest xs a ≡ Some y → (placed_op p y.event ≡ (c, St a y.value)) × (0 < times (map (λ (z : Entry). z.event) xs) y.event))
+        → (found : Option Entry) → youngest xs a ≡ found → or_else found (cond (x.addr == a) (Some x) None) ≡ Some y
+        → (placed_op p y.event ≡ (c, St a y.value)) × (0 < times (map (λ (z : Entry). z.event) (x ∷ xs)) y.event)
+    go later (Some z) at one = ((later (at ∙ one)).0, more (later (at ∙ one)).1)
+    go later None at one = elim (cases_eq x.addr a) [
+      | inl here ↦
+          let same_as : x ≡ y = some_entry (subst (λ (t : Bool). cond t (Some x) None ≡ Some y) (eq-eqb x.addr a here) one) in (
+            subst (λ (z : Entry). placed_op p z.event ≡ (c, St a z.value)) same_as (stores.0 ∙ ap (λ (k : ℕ). (c, St k x.value)) here),
+            omega (arith, times_here (map (λ (z : Entry). z.event) xs) x.event y.event (ap (λ (z : Entry). z.event) same_as)),
+          )
+      | inr other ↦ absurd (let clash : None ≡ Some y = subst (λ (t : Bool). cond t (Some x) None ≡ Some y) (not_equal x.addr a other) one in cc)
+    ]
+
+module _ (p : List (List Op)) (s : State) (d : IsData p s) where
+  -- what waits was executed
+  executed_in : (c e : ℕ) → 0 < times (map (λ (x : Entry). x.event) (buffer_of s c)) e → e < (snapshot_of p s).next ((static_of p s).core e)
+  executed_in c e there = (d.steady.counted.executed c e (omega (arith, there, times_append s.performed (map (λ (x : Entry). x.event) (buffer_of s c)) e))).1
+
+  -- a waiting store was executed as far as its core goes
+  waits_executed : (c : ℕ) (x : Entry) → placed_op p x.event ≡ (c, St x.addr x.value) → 0 < times (map (λ (y : Entry). y.event) (buffer_of s c)) x.event → x.event < (snapshot_of p s).next c
+  waits_executed c x op there = subst (λ (k : ℕ). x.event < (snapshot_of p s).next k) (ap (λ (z : ℕ × Op). z.0) op) (executed_in c x.event there)
+
+  loaded_given : (c a : ℕ) → IsPairGiven p s a (loaded s c a)
+  loaded_given c a = go (youngest (buffer_of s c) a) refl
+    where
+      go : (o : Option Entry) → youngest (buffer_of s c) a ≡ o → IsPairGiven p s a (found o (current s a))
+      go None is = d.memory a
+      go (Some y) is =
+          let at = youngest_is p c (buffer_of s c) a y (d.steady.stores c) is in
+          written_given p s y.event c a y.value (St a y.value) at.0 (subst (λ (k : ℕ). y.event < (snapshot_of p s).next k) (ap (λ (z : ℕ × Op). z.0) at.0) (executed_in c y.event at.1)) refl refl
+
+  -- memory where one address was written by an event that gave its value
+  memory_given : (t : State) (a b v : ℕ) → a < length s.memory → IsGiven p t a (Some b) v → ((k : ℕ) → IsPairGiven p t k (current s k))
+      → (k : ℕ) → IsPairGiven p t k (get_or (slice_set s.memory a (v, Some b)) k (0, None))
+  memory_given t a b v inside gave old k = elim (cases_eq k a) [
+    | inl same ↦ subst (λ (z : ℕ). IsPairGiven p t z (get_or (slice_set s.memory a (v, Some b)) z (0, None))) (sym same)
+        (subst (λ (z : ℕ × Option ℕ). IsPairGiven p t a z) (sym (get_or-set_same s.memory a (v, Some b) (0, None) inside)) gave)
+    | inr other ↦ subst (λ (z : ℕ × Option ℕ). IsPairGiven p t k z) (sym (get_or-set_other s.memory a k (v, Some b) (0, None) other)) (old k)
+  ]
+
+  drain_data : (c : ℕ) (x : Entry) (xs : List Entry) → c < length p → buffer_of s c ≡ x ∷ xs → IsData p (drained_state s c x xs)
+  drain_data c x xs at is =
+      let here : AreStores p c (x ∷ xs) = subst (λ (b : List Entry). AreStores p c b) is (d.steady.stores c) in
+      let waits : 0 < times (map (λ (y : Entry). y.event) (buffer_of s c)) x.event =
+      subst (λ (b : List Entry). 0 < times (map (λ (y : Entry). y.event) b) x.event) (sym is) (omega (arith, times_here (map (λ (y : Entry). y.event) xs) x.event x.event refl)) in
+      let within : x.addr < length s.memory = d.steady.writes_within x.event x.addr (0, None) (ap (λ (z : ℕ × Op). written_address (event_of z.1 (0, None))) here.0) in
+      let gave : IsGiven p s x.addr (Some x.event) x.value = written_given p s x.event c x.addr x.value (St x.addr x.value) here.0 (waits_executed c x here.0 waits) refl refl in
+      record {
+        steady = (steady_kept p s d.steady).drain c x xs at is;
+        memory = memory_given s x.addr x.event x.value within gave d.memory;
+        reads = d.reads;
+      }
+
+  module _ (c b : ℕ) (op : Op) (n : IsNext p s c b op) where
+    new : (snapshot_of p s).next ((static_of p s).core b) ≡ b
+    new = ap (λ (z : ℕ × Op). (snapshot_of p s).next z.0) (next_placed p s c b op n) ∙ sym n.event
+
+    up : (k : ℕ) → place_of s k ≤ get_or (slice_set s.places c (place_of s c + 1)) k 0
+    up k = elim (cases_eq k c) [
+      | inl same ↦ subst (λ (z : ℕ). get_or s.places z 0 ≤ get_or (slice_set s.places c (place_of s c + 1)) z 0) (sym same) (omega (arith, get_or-set_same s.places c (place_of s c + 1) 0 n.core))
+      | inr other ↦ omega (arith, get_or-set_other s.places c k (place_of s c + 1) 0 other)
+    ]
+
+    -- what was given before core c goes on is given behind it
+    go_on : (t : State) → t.places ≡ slice_set s.places c (place_of s c + 1) → ((e : ℕ) → e ≢ b → get_or t.reads e (0, None) ≡ get_or s.reads e (0, None))
+        → (a : ℕ) (o : Option ℕ) (v : ℕ) → IsGiven p s a o v → IsGiven p t a o v
+    go_on t places reads = given_kept p s t b new reads (λ k. subst (λ (l : List ℕ). place_of s k ≤ get_or l k 0) (sym places) (up k))
+
+    -- what events read where b has read a pair that was given
+    read_given : (t : State) (a : ℕ) (what : ℕ × Option ℕ) → op_reads op ≡ Some a → IsPairGiven p s a what
+        → t.places ≡ slice_set s.places c (place_of s c + 1) → t.reads ≡ slice_set s.reads b what
+        → (e k : ℕ) → op_reads (placed_op p e).1 ≡ Some k → IsPairGiven p t k (get_or t.reads e (0, None))
+    read_given t a what reads_a was places reads e k r =
+        let keep : (k : ℕ) (o : Option ℕ) (v : ℕ) → IsGiven p s k o v → IsGiven p t k o v =
+        go_on t places (λ f other. ap (λ (l : List (ℕ × Option ℕ)). get_or l f (0, None)) reads ∙ get_or-set_other s.reads b f what (0, None) other) in
+        elim (cases_eq e b) [
+          | inl is_b ↦
+              let one : a ≡ k = let h : Some a ≡ Some k = sym reads_a ∙ (sym (ap (λ (z : ℕ × Op). op_reads z.1) (next_placed p s c b op n)) ∙ (ap (λ (z : ℕ). op_reads (placed_op p z).1) (sym is_b) ∙ r)) in cc in
+              subst (λ (z : ℕ). IsPairGiven p t k (get_or t.reads z (0, None))) (sym is_b)
+              (subst (λ (l : List (ℕ × Option ℕ)). IsPairGiven p t k (get_or l b (0, None))) (sym reads)
+              (subst (λ (z : ℕ × Option ℕ). IsPairGiven p t k z) (sym (get_or-set_same s.reads b what (0, None) (next_within p s d.steady c b op n)))
+              (subst (λ (z : ℕ). IsPairGiven p t z what) one (keep a what.1 what.0 was))))
+          | inr other ↦
+              subst (λ (l : List (ℕ × Option ℕ)). IsPairGiven p t k (get_or l e (0, None))) (sym reads)
+              (subst (λ (z : ℕ × Option ℕ). IsPairGiven p t k z) (sym (get_or-set_other s.reads b e what (0, None) other)) (keep k _ _ (d.reads e k r)))
+        ]
+
+  store_data : (c b a v : ℕ) → IsNext p s c b (St a v) → c < length p → IsData p (stored_state s c b a v)
+  store_data c b a v n at =
+      let keep : (k : ℕ) (o : Option ℕ) (w : ℕ) → IsGiven p s k o w → IsGiven p (stored_state s c b a v) k o w = go_on c b (St a v) n (stored_state s c b a v) refl (λ e other. refl) in
+      record {
+        steady = (steady_kept p s d.steady).store c b a v n at;
+        memory = λ k. keep k _ _ (d.memory k);
+        reads = λ e k r. keep k _ _ (d.reads e k r);
+      }
+
+  fence_data : (c b : ℕ) → IsNext p s c b Fence → buffer_of s c ≡ [] → IsData p (fenced_state s c b)
+  fence_data c b n empty =
+      let keep : (k : ℕ) (o : Option ℕ) (w : ℕ) → IsGiven p s k o w → IsGiven p (fenced_state s c b) k o w = go_on c b Fence n (fenced_state s c b) refl (λ e other. refl) in
+      record {
+        steady = (steady_kept p s d.steady).fence c b n empty;
+        memory = λ k. keep k _ _ (d.memory k);
+        reads = λ e k r. keep k _ _ (d.reads e k r);
+      }
+
+  load_data : (c b a : ℕ) → IsNext p s c b (Ld a) → IsData p (loaded_state s c b a)
+  load_data c b a n =
+      let t : State = loaded_state s c b a in
+      record {
+        steady = (steady_kept p s d.steady).load c b a n;
+        memory = λ k. go_on c b (Ld a) n t refl (λ e other. get_or-set_other s.reads b e (loaded s c a) (0, None) other) k _ _ (d.memory k);
+        reads = read_given c b (Ld a) n t a (loaded s c a) refl (loaded_given c a) refl refl;
+      }
+
+  exchange_data : (c b a v : ℕ) (op : Op) → IsNext p s c b op → IsExchange op (current s a) a v → buffer_of s c ≡ [] → IsData p (exchanged_state s c b a v)
+  exchange_data c b a v op n is empty =
+      let t : State = exchanged_state s c b a v in
+      let read : get_or t.reads b (0, None) ≡ current s a = get_or-set_same s.reads b (current s a) (0, None) (next_within p s d.steady c b op n) in
+      let within : a < length s.memory = d.steady.reads_within b a (ap (λ (z : ℕ × Op). op_reads z.1) (next_placed p s c b op n) ∙ is.reads) in
+      let gave : IsGiven p t a (Some b) v = written_given p t b c a v op (next_placed p s c b op n) (omega (arith, n.event, get_or-set_same s.places c (place_of s c + 1) 0 n.core))
+      (ap (λ (z : ℕ × Option ℕ). written_address (event_of op z)) read ∙ is.address) (ap (λ (z : ℕ × Option ℕ). value_written (event_of op z)) read ∙ is.value) in
+      record {
+        steady = (steady_kept p s d.steady).exchange c b a v op n is empty;
+        memory = memory_given t a b v within gave (λ k. go_on c b op n t refl (λ e other. get_or-set_other s.reads b e (current s a) (0, None) other) k _ _ (d.memory k));
+        reads = read_given c b op n t a (current s a) is.reads (d.memory a) refl refl;
+      }
+
+  pub data_kept : IsKept p s (IsData p)
+  data_kept = record {
+    drain = drain_data;
+    store = store_data;
+    load = load_data;
+    fence = fence_data;
+    exchange = exchange_data;
+  }
+
+opening_data : (p : List (List Op)) (n : ℕ) → All (λ ops. All (IsWithin n) ops) p → IsData p (opening p n)
+opening_data p n fits = record {
+  steady = opening_steady p n fits;
+  memory = λ a. subst (λ (z : ℕ × Option ℕ). IsPairGiven p (opening p n) a z) (sym (get_or_same n a (0, None))) refl;
+  reads = λ e a r. subst (λ (z : ℕ × Option ℕ). IsPairGiven p (opening p n) a z) (sym (get_or_same (sum_by (λ ops. length ops) p) e (0, None))) refl;
+}
+
+pub run_data : (p : List (List Op)) (n capacity : ℕ) (steps : List Step) → All (λ ops. All (IsWithin n) ops) p → IsData p (run p capacity (opening p n) steps)
+run_data p n capacity steps fits = run_kept p capacity (IsData p) (λ s d. (data_kept p s d, d.steady.places)) steps (opening p n) (opening_data p n fits)
+
+-- Well-formedness
+
+value_same : (op : Op) (d : ℕ × Option ℕ) (a : ℕ) → op_reads op ≡ Some a → (source (event_of op d) ≡ d.1) × (value_read (event_of op d) ≡ d.0)
+value_same (St b v) d a h = absurd cc
+value_same (Ld b) d a h = (refl, refl)
+value_same Fence d a h = absurd cc
+value_same (Swap b v) d a h = (refl, refl)
+value_same (Add b v) d a h = (refl, refl)
+
+gives : (p : List (List Op)) (s : State) (a : ℕ) (o : Option ℕ) (v : ℕ) → IsGiven p s a o v → Gives (recorded p s) a o v
+gives p s a None v h = h
+gives p s a (Some w) v h = (ap written_address (event_is p s w) ∙ h.1, ap value_written (event_is p s w) ∙ h.2)
+
+module _ (p : List (List Op)) (s : State) (d : IsData p s) (end : IsComplete p s) where
+  passes : (a e : ℕ) → 0 < times (filter (writes_to p s a) s.performed) e → writes_to p s a e ≡ true
+  passes a e there = elim (bool_cases (writes_to p s a e)) [ inl is ↦ is | inr fails ↦ absurd (omega (arith, there, times_filter_no (writes_to p s a) s.performed e fails)) ]
+
+  list_at : (a : ℕ) → a < length s.memory → write_list (recorded p s) a ≡ filter (writes_to p s a) s.performed
+  list_at a inside = list_is p s a ∙ d.steady.listed.lists a inside
+
+  list_past : (a : ℕ) → length s.memory ≤ a → write_list (recorded p s) a ≡ []
+  list_past a past = list_is p s a ∙ get_or_past s.write_lists a [] (omega (arith, past, d.steady.listed.cells))
+
+  writes_inside : (e a : ℕ) → (static_of p s).writes e ≡ Some a → a < length s.memory
+  writes_inside e a writes = d.steady.writes_within e a (get_or s.reads e (0, None)) writes
+
+  once : (a e : ℕ) → Writes (recorded p s) e a → times (write_list (recorded p s) a) e ≡ 1
+  once a e writes =
+      let wrote : (static_of p s).writes e ≡ Some a = sym (writes_is p s e) ∙ writes in
+      subst (λ (l : List ℕ). times l e ≡ 1) (sym (list_at a (writes_inside e a wrote)))
+      (times_filter (writes_to p s a) s.performed e (is_address_back ((static_of p s).writes e) a wrote)
+      ∙ (complete_listed p s end d.steady).once e (Writes-event (recorded p s) e a writes))
+
+  nothing_else : (a e : ℕ) → 0 < times (write_list (recorded p s) a) e → Writes (recorded p s) e a
+  nothing_else a e there = elim (cases_lt a (length s.memory)) [
+    | inl inside ↦ writes_is p s e
+        ∙ is_address_true ((static_of p s).writes e) a (passes a e (subst (λ (l : List ℕ). 0 < times l e) (list_at a inside) there))
+    | inr past ↦ absurd (omega (arith, subst (λ (l : List ℕ). 0 < times l e) (list_past a past) there, times_nil e))
+  ]
+
+  pub complete_well_formed : IsWellFormed (recorded p s)
+  complete_well_formed = record {
+    sources = λ e a reads.
+        let op : op_reads (placed_op p e).1 ≡ Some a = sym (reads_is p s e) ∙ reads in
+        let same = value_same (placed_op p e).1 (get_or s.reads e (0, None)) a op in
+        subst (λ (o : Option ℕ). Gives (recorded p s) a o (value_read (event_at (recorded p s) e))) (sym (ap source (event_is p s e) ∙ same.0))
+        (subst (λ (v : ℕ). Gives (recorded p s) a (get_or s.reads e (0, None)).1 v) (sym (ap value_read (event_is p s e) ∙ same.1))
+        (gives p s a (get_or s.reads e (0, None)).1 (get_or s.reads e (0, None)).0 (d.reads e a op)));
+    write_lists = λ a. record { once = λ e writes. once a e writes; nothing_else = λ e there. nothing_else a e there };
+  }
+
+  -- each address that an event of the recording uses has a write list
+  pub complete_addresses : (e a : ℕ) → Reads (recorded p s) e a ⊎ Writes (recorded p s) e a → a < length s.write_lists
+  complete_addresses e a used = elim used [
+    | inl reads ↦ omega (arith, d.steady.reads_within e a (sym (reads_is p s e) ∙ reads), d.steady.listed.cells)
+    | inr writes ↦ omega (arith, writes_inside e a (sym (writes_is p s e) ∙ writes), d.steady.listed.cells)
+  ]

@@ -1,0 +1,47 @@
+-- A drain of the machine is a drain of event numbers.
+use Rattle.std.proofs.Common.{◌≡◌, ◌<◌, ℕ, List, [], ◌∷◌, map, length, refl, sym, ap, ◌∙◌, get_or-set_same, get_or-set_other}
+use Rattle.litmus.specs.declared.op.Op.{Op}
+use Rattle.litmus.specs.declared.op.Op.TheVariants.{St}
+use Rattle.write_buffer.specs.declared.entry.Entry.{Entry}
+use Rattle.machine.specs.State.{State, buffer_of}
+use Rattle.machine.specs.Step.{performed, written, with_buffer}
+use Rattle.machine.proofs.Seen.{IsCounted, IsOrdered}
+use Rattle.machine.proofs.Counting.{Drains, counted_kept, drain_counts}
+use Rattle.machine.proofs.Ordering.{ordered_kept, drain_orders}
+use Rattle.machine.proofs.Static.{static_of, snapshot_of, placed_op, op_reads}
+
+-- each waiting entry is the store of its event
+abbrev pub AreStores : List (List Op) → ℕ → List Entry → Type 0
+AreStores p c [] = Unit {0}
+AreStores p c (x ∷ xs) = (placed_op p x.event ≡ (c, St x.addr x.value)) × AreStores p c xs
+
+-- the state after core c's entry x went to memory
+abbrev pub drained_state : State → ℕ → Entry → List Entry → State
+drained_state s c x xs = performed (written (with_buffer s c xs) x.addr x.value x.event) x.event
+
+-- the drain of a waiting entry is one of event numbers, the oldest first
+pub drains : (p : List (List Op)) (s : State) (c : ℕ) (x : Entry) (xs : List Entry) → c < length s.buffers → buffer_of s c ≡ x ∷ xs → AreStores p c (x ∷ xs)
+    → Drains (static_of p s) (snapshot_of p s) (snapshot_of p (drained_state s c x xs)) c x.event []
+drains p s c x xs at is stores = record {
+  back = map (λ (y : Entry). y.event) xs;
+  performed = refl;
+  was = ap (map (λ (y : Entry). y.event)) is;
+  is = ap (map (λ (y : Entry). y.event)) (get_or-set_same s.buffers c xs [] at);
+  others = λ d other. ap (map (λ (y : Entry). y.event)) (get_or-set_other s.buffers c d xs [] other);
+  next = λ d. refl;
+  source = λ e. refl;
+  reads = ap (λ (z : ℕ × Op). op_reads z.1) stores.0;
+}
+
+pub drain_counted : (p : List (List Op)) (s : State) (c : ℕ) (x : Entry) (xs : List Entry) → c < length s.buffers → buffer_of s c ≡ x ∷ xs → AreStores p c (x ∷ xs)
+    → IsCounted (static_of p s) (snapshot_of p s) → IsCounted (static_of p (drained_state s c x xs)) (snapshot_of p (drained_state s c x xs))
+drain_counted p s c x xs at is stores counted =
+    counted_kept (static_of p s) (snapshot_of p s) (snapshot_of p (drained_state s c x xs)) x.event counted
+    (drain_counts (static_of p s) (snapshot_of p s) (snapshot_of p (drained_state s c x xs)) c x.event [] counted (drains p s c x xs at is stores))
+
+pub drain_ordered : (p : List (List Op)) (s : State) (c : ℕ) (x : Entry) (xs : List Entry) → c < length s.buffers → buffer_of s c ≡ x ∷ xs → AreStores p c (x ∷ xs)
+    → IsCounted (static_of p s) (snapshot_of p s) → IsOrdered (static_of p s) (snapshot_of p s) → IsOrdered (static_of p (drained_state s c x xs)) (snapshot_of p (drained_state s c x xs))
+drain_ordered p s c x xs at is stores counted ordered =
+    ordered_kept (static_of p s) (snapshot_of p s) (snapshot_of p (drained_state s c x xs)) x.event counted ordered
+    (drain_counts (static_of p s) (snapshot_of p s) (snapshot_of p (drained_state s c x xs)) c x.event [] counted (drains p s c x xs at is stores))
+    (drain_orders (static_of p s) (snapshot_of p s) (snapshot_of p (drained_state s c x xs)) c x.event counted ordered (drains p s c x xs at is stores))

@@ -1,0 +1,264 @@
+-- What the execution of an operation does to the parts of a machine.
+use Rattle.std.proofs.Common.{◌≡◌, ◌≢◌, ◌<◌, ◌≤◌, ◌+◌, ◌-◌, inl, inr, ℕ, suc, true, Option, Some, None, Ok, List, [], ◌∷◌, ◌++◌, length, map, take, slice_index, slice_index_or, slice_set, arith, refl, sym, ap, subst, ◌∙◌, length-set, length-append, get_or-set_same, get_or-set_other}
+use Rattle.std.specs.Prelude.{◌==◌}
+use Rattle.std.specs.List.{All, sum, sum_by}
+use Rattle.std.proofs.lemmas.List.Elements.{All-set, All-weaker, All-push}
+use Rattle.std.proofs.lemmas.List.Sums.{sum_by-set, sum_by-cons}
+use Rattle.std.proofs.lemmas.List.{map-set, get_or_read, get_or_default, get_or-map, length-map}
+use Rattle.std.proofs.lemmas.Option.{slice_get_within, get_or_from_slice_get}
+use Rattle.std.proofs.lemmas.Bool.{cases_eq, lt-ltb, eq-eqb}
+use Rattle.litmus.specs.declared.limits.TheConstants.{MAX_EVENTS}
+use Rattle.litmus.specs.declared.op.Op.{Op}
+use Rattle.litmus.specs.declared.op.Op.TheVariants.{St, Ld, Fence}
+use Rattle.litmus.specs.Parts.{Parts, IsWithin}
+use Rattle.write_buffer.specs.declared.entry.Entry.{Entry}
+use Rattle.write_buffer.specs.Buffer.{Buffer, youngest}
+use Rattle.core_unit.specs.Progress.{Progress}
+use Rattle.machine.specs.State.{first_event, current}
+use Rattle.machine.specs.Step.{exec, exchanged, IsAt, found}
+use Rattle.machine.specs.Roomy.{Roomy}
+use Rattle.machine.specs.Held.{IsSound, held, places_of, events_of}
+use Rattle.machine.proofs.Static.{placed_at, placed_total, first_within}
+
+-- each core is within its operations, so all together are
+pub places_within : (places : List ℕ) (program : List (List Op)) → length places ≡ length program → ((c : ℕ) → slice_index places c ≤ length (slice_index_or program c [])) → sum places ≤ sum_by (λ ops. length ops) program
+places_within [] [] l h = omega arith
+places_within [] (ops ∷ program) l h = omega arith
+places_within (x ∷ places) [] l h = absurd (omega (arith, l))
+places_within (x ∷ places) (ops ∷ program) l h = omega (arith, sum_by-cons (λ (y : ℕ). y) x places, sum_by-cons (λ (os : List Op). length os) ops program, h 0, places_within places program (omega (arith, l)) (λ c. h (suc c)))
+
+-- a buffer and a write list as what they hold
+pub buffer_seen : (buffers : List Buffer) (core : ℕ) (old : Buffer) → core < length buffers → old ≡ slice_index_or buffers core old → slice_index_or (map (λ b. b.entries) buffers) core [] ≡ old.entries
+buffer_seen buffers core old at is = get_or-map (λ (b : Buffer). b.entries) buffers core old [] at ∙ ap (λ (b : Buffer). b.entries) (sym is)
+
+pub list_seen : (writes : List (Roomy ℕ)) (a : ℕ) (old : Roomy ℕ) → a < length writes → old ≡ slice_index_or writes a old → slice_index_or (map (λ b. b.items) writes) a [] ≡ old.items
+list_seen writes a old at is = get_or-map (λ (b : Roomy ℕ). b.items) writes a old [] at ∙ ap (λ (b : Roomy ℕ). b.items) (sym is)
+
+module _ (p : Parts) (capacity : ℕ) (units : List Progress) (buffers : List Buffer) (memory : List (ℕ × Option ℕ))
+    (writes : List (Roomy ℕ)) (reads : List (ℕ × Option ℕ)) (done : Roomy ℕ)
+    (sound : IsSound p capacity units buffers memory writes reads done)
+    (core : ℕ) (op : Op) (event : ℕ) (at : IsAt p.cores (held units buffers memory writes reads done.items) core op event) where
+  pub unit_there : core < length units
+  unit_there = omega (arith, at.core, sound.units_length)
+
+  pub buffer_there : core < length buffers
+  buffer_there = omega (arith, at.core, sound.buffers_length)
+
+  below : slice_index (places_of units) core < length (slice_index_or p.cores core [])
+  below = slice_get_within (slice_index_or p.cores core []) (slice_index (places_of units) core) op at.operation
+
+  -- the event's number is among those of the program
+  pub number : event < length reads
+  number = omega (arith, at.number, (placed_at 0 p.cores core (slice_index (places_of units) core) Fence below).1, placed_total 0 p.cores, sound.events)
+
+  pub within : IsWithin (length p.names) op
+  within = subst (λ (o : Op). IsWithin (length p.names) o) (get_or_from_slice_get (slice_index_or p.cores core []) (slice_index (places_of units) core) op Fence at.operation)
+      (sound.operations core [] at.core (slice_index (places_of units) core) Fence below)
+
+  -- the core's unit, before and after it goes on
+  module _ (unit : Progress) (unit_is : unit ≡ slice_index_or units core unit) (ops : List Op) (ops_is : ops ≡ slice_index_or p.cores core []) where
+    place_at : unit.place ≡ slice_index (places_of units) core
+    place_at = ap (λ (u : Progress). u.place) unit_is ∙ sym (get_or-map (λ (u : Progress). u.place) units core unit 0 unit_there)
+
+    first_at : unit.first ≡ first_event p.cores core
+    first_at = ap (λ (u : Progress). u.first) unit_is ∙ sound.first core unit at.core
+
+    pub left : unit.place < length ops
+    left = omega (arith, place_at, below, ap (λ (os : List Op). length os) ops_is)
+
+    -- all events of the core are within the limit
+    pub few : unit.first + length ops ≤ MAX_EVENTS
+    few = omega (arith, first_at, ap (λ (os : List Op). length os) ops_is, first_within p.cores core at.core, sound.few)
+
+    module _ (moved : Progress) (moved_is : moved ≡ record unit { place = unit.place + 1 }) where
+      pub places_set : places_of (slice_set units core moved) ≡ slice_set (places_of units) core (slice_index (places_of units) core + 1)
+      places_set = map-set (λ (u : Progress). u.place) units core moved
+          ∙ ap (λ (n : ℕ). slice_set (places_of units) core n) (ap (λ (u : Progress). u.place) moved_is ∙ ap (λ (n : ℕ). n + 1) place_at)
+
+      place_there : core < length (places_of units)
+      place_there = omega (arith, unit_there, length-map units (λ (u : Progress). u.place))
+
+      units_up : length (slice_set units core moved) ≡ length p.cores
+      units_up = length-set units core moved ∙ sound.units_length
+
+      first_up : (c : ℕ) (d : Progress) → c < length p.cores → (slice_index_or (slice_set units core moved) c d).first ≡ first_event p.cores c
+      first_up c d inside = elim (cases_eq c core) [
+        | inl same ↦ subst (λ (k : ℕ). (slice_index_or (slice_set units core moved) k d).first ≡ first_event p.cores k) (sym same)
+            (ap (λ (u : Progress). u.first) (get_or-set_same units core moved d unit_there ∙ moved_is) ∙ first_at)
+        | inr other ↦ ap (λ (u : Progress). u.first) (get_or-set_other units core c moved d other) ∙ sound.first c d inside
+      ]
+
+      place_up : (c : ℕ) → slice_index (places_of (slice_set units core moved)) c ≤ length (slice_index_or p.cores c [])
+      place_up c = subst (λ (l : List ℕ). slice_index l c ≤ length (slice_index_or p.cores c [])) (sym places_set) (elim (cases_eq c core) [
+        | inl same ↦ subst (λ (d : ℕ). slice_index (slice_set (places_of units) core (slice_index (places_of units) core + 1)) d ≤ length (slice_index_or p.cores d [])) (sym same)
+            (omega (arith, get_or-set_same (places_of units) core (slice_index (places_of units) core + 1) 0 place_there, below))
+        | inr other ↦ omega (arith, get_or-set_other (places_of units) core c (slice_index (places_of units) core + 1) 0 other, sound.place c)
+      ])
+
+      sum_up : sum (places_of (slice_set units core moved)) ≡ sum (places_of units) + 1
+      sum_up = ap (λ (l : List ℕ). sum l) places_set ∙ omega (arith, sum_by-set (λ (x : ℕ). x) (places_of units) core (slice_index (places_of units) core + 1) 0 place_there)
+
+      -- one more than what was performed and waits has room
+      room_left : length done.items + sum_by (λ b. length b.entries) buffers < events_of p
+      room_left = omega (
+        arith,
+        sound.counted,
+        sum_up,
+        places_within (places_of (slice_set units core moved)) p.cores (length-map (slice_set units core moved) (λ (u : Progress). u.place) ∙ units_up) place_up,
+      )
+
+      -- an event is performed; the reads are others of the same number
+      pub performed_sound : (reads' : List (ℕ × Option ℕ)) → length reads' ≡ length reads → (new : Roomy ℕ) → new ≡ record { items = done.items ++ event ∷ []; room = done.room }
+          → IsSound p capacity (slice_set units core moved) buffers memory writes reads' new
+      performed_sound reads' same new is = record {
+        operations = sound.operations;
+        few = sound.few;
+        units_length = units_up;
+        buffers_length = sound.buffers_length;
+        cells = sound.cells;
+        writes_length = sound.writes_length;
+        events = same ∙ sound.events;
+        first = first_up;
+        place = place_up;
+        capacities = sound.capacities;
+        entries = sound.entries;
+        write_rooms = sound.write_rooms;
+        write_lengths = All-weaker (λ l. length l.items ≤ length done.items) (λ l. length l.items ≤ length new.items)
+            (λ l h. omega (arith, h, longer)) writes sound.write_lengths;
+        performed_room = ap (λ (r : Roomy ℕ). r.room) is ∙ sound.performed_room;
+        counted = omega (arith, longer, sum_up, sound.counted);
+      }
+        where
+          longer : length new.items ≡ length done.items + 1
+          longer = ap (λ (r : Roomy ℕ). length r.items) is ∙ length-append done.items (event ∷ [])
+
+      -- the row of a fence
+      pub fence_taken : (old : Buffer) → old ≡ slice_index_or buffers core old → old.entries ≡ []
+          → exec capacity (held units buffers memory writes reads done.items) core event Fence
+          ≡ Ok (held (slice_set units core moved) buffers memory writes reads (done.items ++ event ∷ []))
+      fence_taken old is empty = rw (buffer_seen buffers core old buffer_there is, empty, places_set) refl
+
+      -- the row of a load
+      pub load_taken : (old : Buffer) → old ≡ slice_index_or buffers core old → (addr : ℕ) → addr < length memory → (entry : Option Entry) → entry ≡ youngest old.entries addr
+          → (cell : ℕ × Option ℕ) → cell ≡ slice_index_or memory addr cell → (what : ℕ × Option ℕ) → what ≡ found entry cell
+          → exec capacity (held units buffers memory writes reads done.items) core event (Ld addr)
+          ≡ Ok (held (slice_set units core moved) buffers memory writes (slice_set reads event what) (done.items ++ event ∷ []))
+      load_taken old is addr addressed entry entry_is cell cell_is what what_is =
+          rw (buffer_seen buffers core old buffer_there is, ← entry_is, ← get_or_read memory addr cell addressed cell_is (0, None), ← what_is, places_set) refl
+
+      -- the row of a read-modify-write
+      pub exchange_taken : (old : Buffer) → old ≡ slice_index_or buffers core old → old.entries ≡ [] → (addr value : ℕ) → addr < length p.names
+          → (cell : ℕ × Option ℕ) → cell ≡ slice_index_or memory addr cell → (list new : Roomy ℕ) → list ≡ slice_index_or writes addr list → new ≡ record { items = list.items ++ event ∷ []; room = list.room }
+          → exchanged (held units buffers memory writes reads done.items) core event addr value
+          ≡ Ok (held (slice_set units core moved) buffers (slice_set memory addr (value, Some event)) (slice_set writes addr new) (slice_set reads event cell) (done.items ++ event ∷ []))
+      exchange_taken old is empty addr value addressed cell cell_is list new list_is pushed =
+          rw (
+            map-set (λ (b : Roomy ℕ). b.items) writes addr new,
+            pushed,
+            buffer_seen buffers core old buffer_there is,
+            empty,
+            ← get_or_read memory addr cell (omega (arith, addressed, sound.cells)) cell_is (0, None),
+            list_seen writes addr list (omega (arith, addressed, sound.writes_length)) list_is,
+            places_set,
+          ) refl
+
+      -- an event writes its address and is performed
+      module _ (addr : ℕ) (addressed : addr < length p.names) (list : Roomy ℕ) (list_is : list ≡ slice_index_or writes addr list) where
+        there : addr < length writes
+        there = omega (arith, addressed, sound.writes_length)
+
+        list_short : length list.items ≤ length done.items
+        list_short = omega (arith, ap (λ (l : Roomy ℕ). length l.items) list_is, sound.write_lengths addr list there)
+
+        list_room : list.room ≡ events_of p
+        list_room = ap (λ (l : Roomy ℕ). l.room) list_is ∙ sound.write_rooms addr list there
+
+        pub exchanged_sound : (cell : ℕ × Option ℕ) (reads' : List (ℕ × Option ℕ)) → length reads' ≡ length reads → (list' new : Roomy ℕ)
+            → list' ≡ record { items = list.items ++ event ∷ []; room = list.room } → new ≡ record { items = done.items ++ event ∷ []; room = done.room }
+            → IsSound p capacity (slice_set units core moved) buffers (slice_set memory addr cell) (slice_set writes addr list') reads' new
+        exchanged_sound cell reads' same list' new pushed is =
+            let base : IsSound p capacity (slice_set units core moved) buffers memory writes reads' new = performed_sound reads' same new is in
+            record {
+              operations = base.operations;
+              few = base.few;
+              units_length = base.units_length;
+              buffers_length = base.buffers_length;
+              cells = length-set memory addr cell ∙ base.cells;
+              writes_length = length-set writes addr list' ∙ base.writes_length;
+              events = base.events;
+              first = base.first;
+              place = base.place;
+              capacities = base.capacities;
+              entries = base.entries;
+              write_rooms = All-set (λ l. l.room ≡ events_of p) writes addr list' (ap (λ (r : Roomy ℕ). r.room) pushed ∙ list_room) base.write_rooms;
+              write_lengths = All-set (λ l. length l.items ≤ length new.items) writes addr list'
+                  (omega (arith, list_short, ap (λ (r : Roomy ℕ). length r.items) pushed, length-append list.items (event ∷ []), ap (λ (r : Roomy ℕ). length r.items) is, length-append done.items (event ∷ [])))
+                  base.write_lengths;
+              performed_room = base.performed_room;
+              counted = base.counted;
+            }
+
+      -- a store goes to the back of the buffer
+      module _ (old new : Buffer) (is : old ≡ slice_index_or buffers core old) (entry : Entry) (pushed : new ≡ record old { entries = old.entries ++ entry ∷ [] })
+          (addressed : entry.addr < length p.names) where
+        longer : length new.entries ≡ length old.entries + 1
+        longer = ap (λ (b : Buffer). length b.entries) pushed ∙ length-append old.entries (entry ∷ [])
+
+        capacity_is : old.capacity ≡ capacity
+        capacity_is = ap (λ (b : Buffer). b.capacity) is ∙ sound.capacities core old buffer_there
+
+        pub stored_sound : IsSound p capacity (slice_set units core moved) (slice_set buffers core new) memory writes reads done
+        stored_sound = record {
+          operations = sound.operations;
+          few = sound.few;
+          units_length = units_up;
+          buffers_length = length-set buffers core new ∙ sound.buffers_length;
+          cells = sound.cells;
+          writes_length = sound.writes_length;
+          events = sound.events;
+          first = first_up;
+          place = place_up;
+          capacities = All-set (λ b. b.capacity ≡ capacity) buffers core new (ap (λ (b : Buffer). b.capacity) pushed ∙ capacity_is) sound.capacities;
+          entries = All-set (λ b. All (λ x. x.addr < length p.names) b.entries) buffers core new
+              (subst (λ (b : Buffer). All (λ x. x.addr < length p.names) b.entries) (sym pushed)
+              (All-push (λ x. x.addr < length p.names) old.entries entry (subst (λ (b : Buffer). All (λ x. x.addr < length p.names) b.entries) (sym is) (sound.entries core old buffer_there)) addressed))
+              sound.entries;
+          write_rooms = sound.write_rooms;
+          write_lengths = sound.write_lengths;
+          performed_room = sound.performed_room;
+          counted = omega (arith, sum_by-set (λ b. length b.entries) buffers core new old buffer_there, ap (λ (b : Buffer). length b.entries) is, longer, sum_up, sound.counted);
+        }
+
+        -- the row of a store
+        pub store_taken : entry.event ≡ event → length old.entries < old.capacity
+            → exec capacity (held units buffers memory writes reads done.items) core event (St entry.addr entry.value)
+            ≡ Ok (held (slice_set units core moved) (slice_set buffers core new) memory writes reads done.items)
+        store_taken event_is room =
+            let entry_is : entry ≡ record { addr = entry.addr; value = entry.value; event = event } = ap (λ (e : ℕ). record { addr = entry.addr; value = entry.value; event = e }) event_is in
+            let free : length (slice_index_or (map (λ b. b.entries) buffers) core []) < capacity = omega (arith, room, capacity_is, ap (λ (l : List Entry). length l) (buffer_seen buffers core old buffer_there is)) in
+            rw (lt-ltb (length (slice_index_or (map (λ b. b.entries) buffers) core [])) capacity free, map-set (λ (b : Buffer). b.entries) buffers core new, pushed, buffer_seen buffers core old buffer_there is, places_set, ← entry_is) refl
+
+  -- what was performed has room for one more, and so has each write list
+  module _ (unit : Progress) (unit_is : unit ≡ slice_index_or units core unit) where
+    has_room_left : length done.items + sum_by (λ b. length b.entries) buffers < events_of p
+    has_room_left = room_left unit unit_is (slice_index_or p.cores core []) refl (record unit { place = unit.place + 1 }) refl
+
+  -- the core's unit
+  abbrev some_unit : Progress
+  some_unit = slice_index_or units core (record { first = 0; place = 0 })
+
+  unit_is_some : some_unit ≡ slice_index_or units core some_unit
+  unit_is_some = get_or_default units core (record { first = 0; place = 0 }) some_unit unit_there
+
+  pub has_room : length done.items < done.room
+  has_room = omega (arith, has_room_left some_unit unit_is_some, sound.performed_room)
+
+  pub list_has_room : (addr : ℕ) → addr < length p.names → (list : Roomy ℕ) → list ≡ slice_index_or writes addr list → length list.items < list.room
+  list_has_room addr addressed list list_is = omega (
+    arith,
+    ap (λ (l : Roomy ℕ). l.room) list_is,
+    sound.write_rooms addr list (omega (arith, addressed, sound.writes_length)),
+    ap (λ (l : Roomy ℕ). length l.items) list_is,
+    sound.write_lengths addr list (omega (arith, addressed, sound.writes_length)),
+    has_room_left some_unit unit_is_some,
+  )

@@ -1,0 +1,118 @@
+-- The opening state keeps all that a step keeps, and where the events of a core stand.
+use Rattle.std.proofs.Common.{◌≡◌, ◌<◌, ◌≤◌, ◌+◌, ◌-◌, inl, inr, ℕ, suc, Option, Some, None, List, [], ◌∷◌, map, take, length, get_or, replicate, arith, sym, ap, subst, ◌∙◌, length-append}
+use Rattle.std.specs.List.{All, sum, sum_by}
+use Rattle.std.proofs.lemmas.List.{length-replicate, get_or-replicate, get_or_past}
+use Rattle.std.proofs.lemmas.List.Sums.{sum_by-cons}
+use Rattle.std.proofs.lemmas.Bool.{cases_lt}
+use Rattle.recorder.specs.Execution.{placed_from}
+use Rattle.recorder.specs.Order.{times}
+use Rattle.recorder.proofs.Orders.{times_nil}
+use Rattle.litmus.specs.declared.op.Op.{Op}
+use Rattle.litmus.specs.declared.op.Op.TheVariants.{St, Ld, Fence, Swap, Add}
+use Rattle.write_buffer.specs.declared.entry.Entry.{Entry}
+use Rattle.machine.specs.State.{State, first_event, opening, event_of}
+use Rattle.litmus.specs.Parts.{IsWithin}
+use Rattle.recorder.specs.Event.{written_address}
+use Rattle.machine.proofs.Static.{static_of, snapshot_of, placed_op, placed_at, placed_total, op_reads, tagged}
+use Rattle.machine.proofs.Newest.{last_of, last_nil}
+use Rattle.machine.proofs.Drains.{AreStores}
+use Rattle.machine.proofs.Steady.{IsSteady}
+use Rattle.machine.proofs.InOrder.{IsInOrder}
+
+-- event e is the operation j of core i
+pub located : {A : Type 0} (k : ℕ) (cores : List (List A)) (e : ℕ) → e < length (placed_from k cores)
+    → (i : ℕ) × (j : ℕ) × (i < length cores) × (j < length (get_or cores i [])) × (sum (take i (map (λ es. length es) cores)) + j ≡ e)
+located k [] e h = absurd (omega arith)
+located k (es ∷ rest) e h = elim (cases_lt e (length es)) [
+  | inl here ↦ (0, e, omega arith, here, omega arith)
+  | inr behind ↦
+      let at = located (k + 1) rest (e - length es) (omega (arith, h, behind, length-append (map (λ x. (k, x)) es) (placed_from (k + 1) rest), tagged k es)) in
+      (suc at.0, at.1, omega (arith, at.2), at.3, omega (arith, behind, at.4, sum_by-cons (λ (n : ℕ). n) (length es) (take at.0 (map (λ fs. length fs) rest))))
+]
+
+module _ (p : List (List Op)) (s : State) (e : ℕ) (event : e < (static_of p s).count) where
+  core : ℕ
+  core = (located 0 p e event).0
+
+  pub event_core : (static_of p s).core e ≡ (located 0 p e event).0
+  event_core =
+      let at = located 0 p e event in
+      ap (λ (n : ℕ). (placed_op p n).0) (sym at.4) ∙ (ap (λ (z : ℕ × Op). z.0) (placed_at 0 p at.0 at.1 Fence at.3).0 ∙ omega arith)
+
+  pub event_op : (placed_op p e).1 ≡ get_or (get_or p (located 0 p e event).0 []) (located 0 p e event).1 Fence
+  event_op =
+      let at = located 0 p e event in
+      ap (λ (n : ℕ). (placed_op p n).1) (sym at.4) ∙ ap (λ (z : ℕ × Op). z.1) (placed_at 0 p at.0 at.1 Fence at.3).0
+
+  -- it comes after the first of its core, and before the end
+  pub event_behind : first_event p ((static_of p s).core e) ≤ e
+  event_behind = subst (λ (c : ℕ). first_event p c ≤ e) (sym event_core) (omega (arith, (located 0 p e event).4))
+
+  pub event_before : e < first_event p ((static_of p s).core e) + length (get_or p ((static_of p s).core e) [])
+  event_before = subst (λ (c : ℕ). e < first_event p c + length (get_or p c [])) (sym event_core) (omega (arith, (located 0 p e event).4, (located 0 p e event).3))
+
+-- a list of one item has it everywhere
+pub get_or_same : {A : Type 0} (n i : ℕ) (x : A) → get_or (replicate n x) i x ≡ x
+get_or_same n i x = elim (cases_lt i n) [
+  | inl inside ↦ get_or-replicate n i x x inside
+  | inr past ↦ get_or_past (replicate n x) i x (omega (arith, past, length-replicate n x))
+]
+
+-- an event writes the address of its operation, which is within the program's
+pub address_within : (n : ℕ) (o : Op) (a : ℕ) (d : ℕ × Option ℕ) → IsWithin n o → written_address (event_of o d) ≡ Some a → a < n
+address_within n (St b v) a d h is = omega (arith, h, let one : b ≡ a = cc in one)
+address_within n (Ld b) a d h is = absurd cc
+address_within n Fence a d h is = absurd cc
+address_within n (Swap b v) a d h is = omega (arith, h, let one : b ≡ a = cc in one)
+address_within n (Add b v) a d h is = omega (arith, h, let one : b ≡ a = cc in one)
+
+module _ (p : List (List Op)) (n : ℕ) (fits : All (λ ops. All (IsWithin n) ops) p) where
+  nothing_executed : (e : ℕ) → e < (static_of p (opening p n)).count → ¬ (e < (snapshot_of p (opening p n)).next ((static_of p (opening p n)).core e))
+  nothing_executed e event done = omega (arith, done, event_behind p (opening p n) e event, get_or_same {A = ℕ} (length p) ((static_of p (opening p n)).core e) 0)
+
+  nothing_waits : (c e : ℕ) → times (map (λ (x : Entry). x.event) (get_or (replicate (length p) []) c [])) e ≡ 0
+  nothing_waits c e = ap (λ (b : List Entry). times (map (λ (x : Entry). x.event) b) e) (get_or_same (length p) c []) ∙ times_nil e
+
+  op_within : (e : ℕ) → IsWithin n (placed_op p e).1
+  op_within e = elim (cases_lt e (length (placed_from 0 p))) [
+    | inl event ↦
+        let at = located 0 p e event in
+        subst (λ (o : Op). IsWithin n o) (sym (event_op p (opening p n) e event)) (fits at.0 [] at.2 at.1 Fence at.3)
+    | inr past ↦ subst (λ (z : ℕ × Op). IsWithin n z.1) (sym (get_or_past (placed_from 0 p) e (0, Fence) past)) tt
+  ]
+
+  reads_within : (o : Op) (a : ℕ) → IsWithin n o → op_reads o ≡ Some a → a < n
+  reads_within (St b v) a h is = absurd cc
+  reads_within (Ld b) a h is = omega (arith, h, let one : b ≡ a = cc in one)
+  reads_within Fence a h is = absurd cc
+  reads_within (Swap b v) a h is = omega (arith, h, let one : b ≡ a = cc in one)
+  reads_within (Add b v) a h is = omega (arith, h, let one : b ≡ a = cc in one)
+
+  pub opening_steady : IsSteady p (opening p n)
+  opening_steady = record {
+    counted = record {
+      listed = λ e event done. absurd (nothing_executed e event done);
+      executed = λ c e there. absurd (omega (arith, there, nothing_waits c e));
+      waiting = λ c e there. absurd (omega (arith, there, nothing_waits c e));
+    };
+    listed = record {
+      cells = length-replicate n [] ∙ sym (length-replicate n (0, None));
+      lists = λ a inside. get_or_same n a [];
+    };
+    stores = λ c. subst (λ (b : List Entry). AreStores p c b) (sym (get_or_same (length p) c [])) tt;
+    places = length-replicate (length p) 0;
+    buffers = length-replicate (length p) [];
+    reads = length-replicate (sum_by (λ ops. length ops) p) (0, None) ∙ sym (placed_total 0 p);
+    writes_within = λ e a d is. omega (arith, address_within n (placed_op p e).1 a d (op_within e) is, length-replicate {A = ℕ × Option ℕ} n (0, None));
+    reads_within = λ e a is. omega (arith, reads_within (placed_op p e).1 a (op_within e) is, length-replicate {A = ℕ × Option ℕ} n (0, None));
+  }
+
+  pub opening_in_order : IsInOrder p (opening p n)
+  opening_in_order = record {
+    steady = opening_steady;
+    ordered = record {
+      kept = λ e f own done strong. absurd (nothing_executed f own.1 done);
+      values = λ e a reads there. absurd (omega (arith, there, times_nil e));
+    };
+    latest = λ a inside. ap (λ (z : ℕ × Option ℕ). z.1) (get_or_same n a (0, None)) ∙ (sym last_nil ∙ ap last_of (sym (get_or_same n a [])));
+  }

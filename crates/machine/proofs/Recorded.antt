@@ -1,0 +1,26 @@
+-- The recording of a complete state is one within the limits.
+use Rattle.std.proofs.Common.{◌≡◌, ◌<◌, ◌≤◌, ◌+◌, ◌⊎◌, ℕ, suc, Option, List, [], ◌∷◌, length, arith, refl, ap, ◌∙◌}
+use Rattle.std.specs.List.{sum_by}
+use Rattle.litmus.specs.declared.limits.TheConstants.{MAX_CORES, MAX_EVENTS, MAX_ADDRESSES}
+use Rattle.litmus.specs.declared.op.Op.{Op}
+use Rattle.litmus.specs.Parts.{Parts, IsProgram}
+use Rattle.recorder.specs.Recording.{IsRecording}
+use Rattle.machine.specs.State.{State, cores_from, recorded, IsComplete}
+use Rattle.machine.proofs.Static.{static_of, placed_total}
+use Rattle.machine.proofs.Complete.{count_is}
+use Rattle.machine.proofs.Data.{IsData, complete_well_formed, complete_addresses}
+
+-- a recording has the cores of its program
+cores_length : (e : ℕ) (p : List (List Op)) (reads : List (ℕ × Option ℕ)) → length (cores_from e p reads) ≡ length p
+cores_length e [] reads = refl
+cores_length e (ops ∷ p) reads = ap suc (cores_length (e + length ops) p reads)
+
+pub complete_recording : (p : Parts) (s : State) → length p.cores ≤ MAX_CORES → sum_by (λ ops. length ops) p.cores ≤ MAX_EVENTS → length s.write_lists ≤ MAX_ADDRESSES
+    → IsData p.cores s → IsComplete p.cores s → IsRecording (recorded p.cores s)
+complete_recording p s cores events addresses d end = record {
+  well_formed = complete_well_formed p.cores s d end;
+  few_cores = omega (arith, cores, cores_length 0 p.cores s.reads);
+  few_events = omega (arith, events, count_is p.cores s, placed_total 0 p.cores);
+  few_addresses = addresses;
+  addresses = complete_addresses p.cores s d end;
+}

@@ -1,0 +1,22 @@
+-- A step in code, as a step of the definition.
+use Rattle.std.proofs.Common.{◌≡◌, ◌<◌, ◌+◌, ℕ, Result, Ok, Err, List, drop, length, get_or, refl, ap, ◌∙◌, add-one, drop-cons}
+use Rattle.std.specs.Prelude.{OnOk, OnErr, IfErr}
+use Rattle.litmus.specs.declared.op.Op.{Op}
+use Rattle.machine.specs.declared.step.Step.{Step}
+use Rattle.machine.specs.declared.blocked.Blocked.{Blocked}
+use Rattle.machine.specs.State.{State}
+use Rattle.machine.specs.Held.{Held}
+use Rattle.machine.specs.Step.{taken, after, run}
+
+-- whether it was blocked or not, a step leads to the state after it
+pub after_is : (old new : Held) (step : Step) (r : Result (Unit {0}) Blocked)
+    → OnOk r (taken old.program.cores old.capacity old.state step ≡ Ok new.state)
+    → IfErr r (λ b. taken old.program.cores old.capacity old.state step ≡ Err b)
+    → OnOk r (new ≡ record old { state = new.state }) → OnErr r (new ≡ old)
+    → new ≡ record old { state = after old.state (taken old.program.cores old.capacity old.state step) }
+after_is old new step (Ok u) took blocked rest same = rw took rest
+after_is old new step (Err b) took blocked rest same = rw blocked same
+
+pub run_more : (p : List (List Op)) (capacity : ℕ) (s : State) (steps : List Step) (i : ℕ) (d : Step) → i < length steps
+    → run p capacity (after s (taken p capacity s (get_or steps i d))) (drop (i + 1) steps) ≡ run p capacity s (drop i steps)
+run_more p capacity s steps i d inside = rw (drop-cons steps i d inside, add-one) refl

@@ -1,0 +1,127 @@
+-- Write lists are what was performed, memory has the last of each, and so a load gets the newest write that its core sees.
+use Rattle.std.proofs.Common.{◌≡◌, ◌≢◌, ◌<◌, ◌≤◌, inl, inr, ℕ, Bool, true, false, Option, Some, None, List, [], ◌∷◌, ◌++◌, map, length, get_or, slice_set, arith, refl, sym, ap, subst, ◌∙◌, get_or-set_same, get_or-set_other, length-set}
+use Rattle.std.specs.List.{filter}
+use Rattle.std.proofs.lemmas.List.Elements.{filter-append}
+use Rattle.std.proofs.lemmas.Bool.{cases_eq, eq-eqb, eqb-true}
+use Rattle.std.proofs.Math.Dec.{eqb}
+use Rattle.std.proofs.lemmas.List.{append-nil}
+use Rattle.std.proofs.lemmas.Bool.Decides.{nat_tests}
+use Rattle.litmus.specs.declared.op.Op.{Op}
+use Rattle.recorder.specs.Event.{written_address}
+use Rattle.recorder.specs.Order.{times}
+use Rattle.write_buffer.specs.declared.entry.Entry.{Entry}
+use Rattle.write_buffer.specs.Buffer.{youngest}
+use Rattle.machine.specs.State.{State, buffer_of, current, event_of}
+use Rattle.machine.specs.Step.{performed, written, given, found, loaded}
+use Rattle.machine.proofs.Seen.{seen, IsNewest}
+use Rattle.machine.proofs.Static.{static_of, snapshot_of, placed_op, done_by}
+use Rattle.machine.proofs.Newest.{last_of, last_one, last_two, filter_same, newest_in_memory}
+use Rattle.machine.proofs.Drains.{AreStores}
+use Rattle.machine.proofs.Loads.{Says, youngest_says, newest_in_buffer}
+
+-- whether an address written, if any, is a
+pub is_address : Option ℕ → ℕ → Bool
+is_address (Some b) a = eqb b a
+is_address None a = false
+
+-- whether event e writes a, as far as s goes
+abbrev pub writes_to : List (List Op) → State → ℕ → ℕ → Bool
+writes_to p s a e = is_address (written_address (done_by p s e)) a
+
+pub is_address_true : (o : Option ℕ) (a : ℕ) → is_address o a ≡ true → o ≡ Some a
+unfolding is_address
+is_address_true (Some b) a h = ap Some (eqb-true b a h)
+is_address_true None a h = absurd cc
+
+pub is_address_back : (o : Option ℕ) (a : ℕ) → o ≡ Some a → is_address o a ≡ true
+unfolding is_address
+is_address_back o a h = ap (λ (z : Option ℕ). is_address z a) h ∙ eq-eqb a a refl
+
+is_address_other : (b a : ℕ) → (b ≡ a → ⊥) → is_address (Some b) a ≡ false
+unfolding is_address
+is_address_other b a h = grind (arith, nat_tests)
+
+is_address_none : (a : ℕ) → is_address None a ≡ false
+unfolding is_address
+is_address_none a = refl
+
+filter_one_yes : (q : ℕ → Bool) (e : ℕ) → q e ≡ true → filter q (e ∷ []) ≡ e ∷ []
+filter_one_yes q e h = rw h refl
+
+filter_one_no : (q : ℕ → Bool) (e : ℕ) → q e ≡ false → filter q (e ∷ []) ≡ []
+filter_one_no q e h = rw h refl
+
+last_push : (xs : List ℕ) (e : ℕ) → last_of (xs ++ e ∷ []) ≡ Some e
+last_push [] e = last_one e
+last_push (x ∷ []) e = last_two x [] e ∙ last_one e
+last_push (x ∷ (y ∷ ys)) e = last_two x (y ∷ ys) e ∙ last_push (y ∷ ys) e
+
+-- each write list is what of the performed events writes its address
+pub record AreListed (p : List (List Op)) (s : State) : Type 0 where
+  pub cells : length s.write_lists ≡ length s.memory
+  pub lists : (a : ℕ) → a < length s.memory → get_or s.write_lists a [] ≡ filter (writes_to p s a) s.performed
+
+-- each address has the value of the last of its write list
+abbrev pub IsLatest : State → Type 0
+IsLatest s = (a : ℕ) → a < length s.memory → (current s a).1 ≡ last_of (get_or s.write_lists a [])
+
+-- what an event reads, before it is performed, changes no list
+pub listed_given : (p : List (List Op)) (s : State) (b : ℕ) (what : ℕ × Option ℕ) → times s.performed b ≡ 0 → AreListed p s → AreListed p (given s b what)
+listed_given p s b what fresh listed = record {
+  cells = listed.cells;
+  lists = λ a inside. listed.lists a inside ∙ filter_same (writes_to p s a) (writes_to p (given s b what) a) s.performed (λ e there.
+      ap (λ (d : ℕ × Option ℕ). is_address (written_address (event_of (placed_op p e).1 d)) a)
+      (sym (get_or-set_other s.reads b e what (0, None) (λ is. omega (arith, there, fresh, ap (times s.performed) is)))));
+}
+
+-- to write and perform e keeps the lists
+pub listed_written : (p : List (List Op)) (s : State) (a value e : ℕ) → written_address (done_by p s e) ≡ Some a → a < length s.memory → AreListed p s → AreListed p (performed (written s a value e) e)
+listed_written p s a value e writes at listed = record {
+  cells = length-set s.write_lists a (get_or s.write_lists a [] ++ e ∷ []) ∙ (listed.cells ∙ sym (length-set s.memory a (value, Some e)));
+  lists = λ b inside. elim (cases_eq b a) [
+    | inl here ↦ subst (λ (z : ℕ). get_or (slice_set s.write_lists a (get_or s.write_lists a [] ++ e ∷ [])) z [] ≡ filter (writes_to p s z) (s.performed ++ e ∷ [])) (sym here)
+        (get_or-set_same s.write_lists a (get_or s.write_lists a [] ++ e ∷ []) [] (omega (arith, at, listed.cells))
+        ∙ (ap (λ (l : List ℕ). l ++ e ∷ []) (listed.lists a at)
+        ∙ (ap (λ (l : List ℕ). filter (writes_to p s a) s.performed ++ l) (sym (filter_one_yes (writes_to p s a) e (is_address_back (written_address (done_by p s e)) a writes)))
+        ∙ sym (filter-append (writes_to p s a) s.performed (e ∷ [])))))
+    | inr other ↦
+        get_or-set_other s.write_lists a b (get_or s.write_lists a [] ++ e ∷ []) [] other
+        ∙ (listed.lists b (omega (arith, inside, length-set s.memory a (value, Some e)))
+        ∙ (sym (append-nil (filter (writes_to p s b) s.performed))
+        ∙ (ap (λ (l : List ℕ). filter (writes_to p s b) s.performed ++ l) (sym (filter_one_no (writes_to p s b) e (ap (λ (z : Option ℕ). is_address z b) writes ∙ is_address_other a b (λ same_as. other (sym same_as)))))
+        ∙ sym (filter-append (writes_to p s b) s.performed (e ∷ [])))))
+  ];
+}
+
+-- to perform e, which writes nothing, keeps the lists
+pub listed_performed : (p : List (List Op)) (s : State) (e : ℕ) → written_address (done_by p s e) ≡ None → AreListed p s → AreListed p (performed s e)
+listed_performed p s e none listed = record {
+  cells = listed.cells;
+  lists = λ a inside. listed.lists a inside ∙ (sym (append-nil (filter (writes_to p s a) s.performed))
+      ∙ (ap (λ (l : List ℕ). filter (writes_to p s a) s.performed ++ l) (sym (filter_one_no (writes_to p s a) e (ap (λ (z : Option ℕ). is_address z a) none ∙ is_address_none a)))
+      ∙ sym (filter-append (writes_to p s a) s.performed (e ∷ []))));
+}
+
+-- the address that e wrote has the value of e
+pub latest_written : (s : State) (a value e : ℕ) → a < length s.memory → length s.write_lists ≡ length s.memory → IsLatest s → IsLatest (written s a value e)
+latest_written s a value e at cells latest b inside = elim (cases_eq b a) [
+  | inl here ↦ subst (λ (z : ℕ). (get_or (slice_set s.memory a (value, Some e)) z (0, None)).1 ≡ last_of (get_or (slice_set s.write_lists a (get_or s.write_lists a [] ++ e ∷ [])) z [])) (sym here)
+      (ap (λ (z : ℕ × Option ℕ). z.1) (get_or-set_same s.memory a (value, Some e) (0, None) at)
+      ∙ (sym (last_push (get_or s.write_lists a []) e) ∙ ap last_of (sym (get_or-set_same s.write_lists a (get_or s.write_lists a [] ++ e ∷ []) [] (omega (arith, at, cells))))))
+  | inr other ↦
+      ap (λ (z : ℕ × Option ℕ). z.1) (get_or-set_other s.memory a b (value, Some e) (0, None) other)
+      ∙ (latest b (omega (arith, inside, length-set s.memory a (value, Some e))) ∙ ap last_of (sym (get_or-set_other s.write_lists a b (get_or s.write_lists a [] ++ e ∷ []) [] other)))
+]
+
+-- what a load of core c gets is the newest write that c sees
+pub loaded_newest : (p : List (List Op)) (s : State) (c a : ℕ) → a < length s.memory → AreListed p s → IsLatest s → AreStores p c (buffer_of s c)
+    → ((e : ℕ) → times s.performed e ≤ 1) → ((e : ℕ) → times (map (λ (x : Entry). x.event) (buffer_of s c)) e ≤ 1)
+    → ((e : ℕ) → 0 < times (map (λ (x : Entry). x.event) (buffer_of s c)) e → times s.performed e ≡ 0)
+    → IsNewest (static_of p s) (seen (snapshot_of p s) c) a (loaded s c a).1
+loaded_newest p s c a at listed latest stores once once_waiting apart = go (youngest (buffer_of s c) a) (youngest_says p s c (buffer_of s c) a stores once_waiting)
+  where
+    go : (entry : Option Entry) → Says p s (buffer_of s c) a entry → IsNewest (static_of p s) (seen (snapshot_of p s) c) a (found entry (current s a)).1
+    go None says = subst (λ (o : Option ℕ). IsNewest (static_of p s) (seen (snapshot_of p s) c) a o) (sym (latest a at ∙ ap last_of (listed.lists a at)))
+        (newest_in_memory (static_of p s) (writes_to p s a) s.performed (map (λ (x : Entry). x.event) (buffer_of s c)) a
+        (λ e h. is_address_true (written_address (done_by p s e)) a h) (λ e h. is_address_back (written_address (done_by p s e)) a h) once says)
+    go (Some y) says = newest_in_buffer p s s.performed (buffer_of s c) a y apart says

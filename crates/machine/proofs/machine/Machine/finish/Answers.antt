@@ -1,0 +1,30 @@
+use Rattle.std.proofs.Common.{arith, sym, ap, subst, ◌∙◌, ◌≡◌, ◌≤◌, ℕ, length, map, List}
+use Rattle.std.proofs.lemmas.List.{length-map}
+use Rattle.litmus.specs.declared.limits.TheConstants.{MAX_CORES, MAX_EVENTS, MAX_ADDRESSES}
+use Rattle.recorder.specs.Execution.{Execution}
+use Rattle.recorder.specs.Recording.{IsRecording}
+use Rattle.machine.specs.Roomy.{Roomy}
+use Rattle.machine.specs.State.{State, recorded, IsComplete}
+use Rattle.machine.specs.Held.{Held, held}
+use Rattle.machine.proofs.InOrder.{IsInOrder}
+use Rattle.machine.proofs.Data.{IsData}
+use Rattle.machine.proofs.Complete.{complete_is_tso}
+use Rattle.machine.proofs.Reached.{reached_data, reached_in_order}
+use Rattle.machine.proofs.Recorded.{complete_recording}
+use Rattle.machine.proofs.machine.Machine.finish.Goals as goal
+
+pub new-requires : goal.new-requires
+new-requires c =
+    let p = c.self.inside.program in
+    let d = reached_data _ _ _ _ c.self.invariant.reached in
+    let end = subst (λ (h : Held). IsComplete h.program.cores h.state) (sym c.self.view_is) (c.is_complete.ensures.0 c.if-not-is_complete.false) in
+    let addresses : length (map (λ (l : Roomy ℕ). l.items) c.self.inside.writes.items) ≤ MAX_ADDRESSES =
+    omega (arith, length-map c.self.inside.writes.items (λ (l : Roomy ℕ). l.items), c.self.invariant.sound.writes_length, c.sound.ensures.lawful.few_names) in
+    rw (c.fill-cores.ensures.cores, c.fill-cores.ensures.writes, c.lists.ensures, c.as_slice.ensures.value)
+    (complete_recording p _ c.sound.ensures.lawful.few_cores c.sound.ensures.few addresses d end)
+
+pub returns-clause-tso : goal.returns-clause-tso
+returns-clause-tso c =
+    let g = reached_in_order _ _ _ _ c.self.invariant.reached in
+    let end = c.is_complete.ensures.0 c.if-not-is_complete.false in
+    complete_is_tso _ _ end (subst (λ (h : Held). IsInOrder h.program.cores h.state) c.self.view_is g)

@@ -1,0 +1,34 @@
+use Rattle.std.proofs.Common.{arith, sym, ap, refl, ◌∙◌, ◌≡◌, ◌<◌, Ok, Some, subst, length, List, length-set}
+use Rattle.litmus.specs.declared.op.Op.{Op}
+use Rattle.litmus.specs.declared.op.Op.TheVariants.{St, Ld, Fence}
+use Rattle.litmus.specs.Parts.{IsWithin}
+use Rattle.write_buffer.specs.declared.entry.Entry.{Entry}
+use Rattle.recorder.specs.Event.{written_address}
+use Rattle.machine.specs.State.{current, event_of}
+use Rattle.machine.specs.Held.{Held}
+use Rattle.machine.specs.Step.{IsAt, exec, exchanged, taken}
+use Rattle.machine.specs.declared.step.Step.TheVariants.{Drain}
+use Rattle.machine.proofs.Executed as executed
+use Rattle.machine.proofs.Drained as drained
+use Rattle.machine.proofs.Opening.{address_within}
+use Rattle.machine.proofs.Reached.{reached_exec, reached_step}
+use Rattle.machine.proofs.machine.Machine.store.Goals as goal
+
+pub advance-requires-clause-few : goal.advance-requires-clause-few
+advance-requires-clause-few c =
+    let at = subst (λ (h : Held). IsAt h.program.cores h.state c.args.core (St c.args.addr c.args.value) c.args.event) (sym c.self.view_is) c.requires in
+    executed.few _ _ _ _ _ _ _ _ c.self.invariant.sound c.args.core (St c.args.addr c.args.value) c.args.event at c.index_mut-2.result.now c.index_mut-2.ensures.value c.ops.result.now c.ops.ensures
+
+pub invariant_of-self-2 : goal.invariant_of-self-2
+invariant_of-self-2 c =
+    let at = subst (λ (h : Held). IsAt h.program.cores h.state c.args.core (St c.args.addr c.args.value) c.args.event) (sym c.self.view_is) c.requires in
+    record {
+      sound = executed.stored_sound _ _ _ _ _ _ _ _ c.self.invariant.sound c.args.core (St c.args.addr c.args.value) c.args.event at c.index_mut-2.result.now c.index_mut-2.ensures.value c.ops.result.now c.ops.ensures c.advance.new.self c.advance.ensures c.index_mut.result.now c.push.new.self c.index_mut.ensures.value _ c.in-Ok.ensures.ok (executed.within _ _ _ _ _ _ _ _ c.self.invariant.sound c.args.core (St c.args.addr c.args.value) c.args.event at);
+      reached = reached_exec _ _ _ _ _ c.args.core (St c.args.addr c.args.value) c.args.event at c.self.invariant.reached (executed.store_taken _ _ _ _ _ _ _ _ c.self.invariant.sound c.args.core (St c.args.addr c.args.value) c.args.event at c.index_mut-2.result.now c.index_mut-2.ensures.value c.ops.result.now c.ops.ensures c.advance.new.self c.advance.ensures c.index_mut.result.now c.push.new.self c.index_mut.ensures.value _ c.in-Ok.ensures.ok (executed.within _ _ _ _ _ _ _ _ c.self.invariant.sound c.args.core (St c.args.addr c.args.value) c.args.event at) refl (c.in-Ok.ensures.variant.0 refl));
+      blank_is = c.self.invariant.blank_is;
+    }
+
+pub returns-clause-ok : goal.returns-clause-ok
+returns-clause-ok c =
+    let at = subst (λ (h : Held). IsAt h.program.cores h.state c.args.core (St c.args.addr c.args.value) c.args.event) (sym c.self.view_is) c.requires in
+    rw (← c.self.view_is) (executed.store_taken _ _ _ _ _ _ _ _ c.self.invariant.sound c.args.core (St c.args.addr c.args.value) c.args.event at c.index_mut-2.result.now c.index_mut-2.ensures.value c.ops.result.now c.ops.ensures c.advance.new.self c.advance.ensures c.index_mut.result.now c.push.new.self c.index_mut.ensures.value _ c.in-Ok.ensures.ok (executed.within _ _ _ _ _ _ _ _ c.self.invariant.sound c.args.core (St c.args.addr c.args.value) c.args.event at) refl (c.in-Ok.ensures.variant.0 refl))

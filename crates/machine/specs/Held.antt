@@ -1,0 +1,80 @@
+-- What a machine holds, how its parts fit together, and that it was reached by steps.
+use Rattle.std.specs.Prelude.{◌≡◌, ◌+◌, ◌<◌, ◌≤◌, ℕ, Option, List, [], length, map, sum, sum_by, slice_index, slice_index_or, All}
+use Rattle.litmus.specs.declared.limits.TheConstants.{MAX_EVENTS}
+use Rattle.litmus.specs.declared.op.Op.{Op}
+use Rattle.litmus.specs.Parts.{Parts, IsWithin}
+use Rattle.write_buffer.specs.Buffer.{Buffer}
+use Rattle.core_unit.specs.Progress.{Progress}
+use Rattle.machine.specs.declared.fault.Fault.{Fault}
+use Rattle.machine.specs.declared.step.Step.{Step}
+use Rattle.machine.specs.Roomy.{Roomy}
+use Rattle.machine.specs.State.{State, first_event, opening}
+use Rattle.machine.specs.Step.{run}
+
+-- what a machine holds
+pub record Held : Type 0 where
+  pub program : Parts
+  pub capacity : ℕ
+  pub fault : Fault
+  pub state : State
+
+-- how many events a program has
+abbrev pub events_of : Parts → ℕ
+events_of p = sum_by (λ ops. length ops) p.cores
+
+-- the operations that each core has executed
+abbrev pub places_of : List Progress → List ℕ
+places_of units = map (λ u. u.place) units
+
+-- the state that the parts make
+abbrev pub held : List Progress → List Buffer → List (ℕ × Option ℕ) → List (Roomy ℕ) → List (ℕ × Option ℕ) → List ℕ → State
+held units buffers memory writes reads performed = record {
+  places = places_of units;
+  buffers = map (λ b. b.entries) buffers;
+  memory = memory;
+  write_lists = map (λ l. l.items) writes;
+  reads = reads;
+  performed = performed;
+}
+
+-- the parts of a machine fit together, and there is room for all that will come
+pub record IsSound (p : Parts) (capacity : ℕ) (units : List Progress) (buffers : List Buffer) (memory : List (ℕ × Option ℕ))
+    (writes : List (Roomy ℕ)) (reads : List (ℕ × Option ℕ)) (performed : Roomy ℕ) : Type 0 where
+  pub operations : All (λ ops. All (IsWithin (length p.names)) ops) p.cores
+  pub few : events_of p ≤ MAX_EVENTS
+  pub units_length : length units ≡ length p.cores
+  pub buffers_length : length buffers ≡ length p.cores
+  pub cells : length memory ≡ length p.names
+  pub writes_length : length writes ≡ length p.names
+  pub events : length reads ≡ events_of p
+  pub first : (c : ℕ) (d : Progress) → c < length p.cores → (slice_index_or units c d).first ≡ first_event p.cores c
+  pub place : (c : ℕ) → slice_index (places_of units) c ≤ length (slice_index_or p.cores c [])
+  pub capacities : All (λ b. b.capacity ≡ capacity) buffers
+  pub entries : All (λ b. All (λ x. x.addr < length p.names) b.entries) buffers
+  pub write_rooms : All (λ l. l.room ≡ events_of p) writes
+  pub write_lengths : All (λ l. length l.items ≤ length performed.items) writes
+  pub performed_room : performed.room ≡ events_of p
+  pub counted : length performed.items + sum_by (λ b. length b.entries) buffers ≡ sum (places_of units)
+
+-- some list of steps leads from the opening state to this one, and each operation has one of the n addresses
+pub record IsReached (p : List (List Op)) (n capacity : ℕ) (s : State) : Type 0 where
+  pub steps : List Step
+  pub leads : run p capacity (opening p n) steps ≡ s
+  pub operations : All (λ ops. All (IsWithin n) ops) p
+
+-- the room that was made for the recording of a run
+pub record Rooms : Type 0 where
+  pub cores : ℕ
+  pub events : ℕ
+  pub addresses : ℕ
+
+-- the room for the recording of a program
+abbrev pub rooms_of : Parts → Rooms
+rooms_of p = record { cores = length p.cores; events = events_of p; addresses = length p.names }
+
+-- what every machine keeps
+pub record IsMachine (p : Parts) (capacity : ℕ) (units : List Progress) (buffers : List Buffer) (memory : List (ℕ × Option ℕ))
+    (writes : List (Roomy ℕ)) (reads : List (ℕ × Option ℕ)) (performed : Roomy ℕ) (blank : Rooms) : Type 0 where
+  pub sound : IsSound p capacity units buffers memory writes reads performed
+  pub reached : IsReached p.cores (length p.names) capacity (held units buffers memory writes reads performed.items)
+  pub blank_is : blank ≡ rooms_of p

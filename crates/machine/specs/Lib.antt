@@ -1,0 +1,9 @@
+pub mod State
+pub mod Step
+pub mod Tso
+pub mod Roomy
+pub mod Held
+pub mod Made
+pub mod ScriptLine
+pub mod ScriptSaid
+pub mod Script

@@ -1,0 +1,66 @@
+-- What a whole step script gives: its steps, or the first line at fault with its number.
+use Rattle.std.specs.Prelude.{◌≡◌, ◌<◌, ◌++◌, ◌∷◌, [], ℕ, List, nat_lt, length, Option, None, Some, Result, Ok, Err, if◌then◌else◌, ⊤}
+use Rattle.std.specs.declared.vec.Vec.{Vec}
+use Rattle.litmus.specs.declared.limits.TheConstants.{MAX_STEPS}
+use Rattle.litmus.specs.Parts.{Parts}
+use Rattle.litmus.specs.Reading.{Reading, read_from}
+use Rattle.machine.specs.declared.step.Step.{Step}
+use Rattle.machine.specs.declared.step.Step.TheVariants.{Exec, Drain}
+use Rattle.machine.specs.declared.script_fault.StepFault.{StepFault}
+use Rattle.machine.specs.declared.script_fault.StepFault.TheVariants.{S1, S2, S4}
+use Rattle.machine.specs.declared.script_fault.StepsError.{StepsError}
+use Rattle.machine.specs.declared.script_fault.StepsError.TheVariants.{AtLine, OutOfMemory}
+use Rattle.machine.specs.ScriptLine.{ScriptLine, own_line, script_line_of, own_step}
+
+-- the core of this number, if the program has it
+abbrev pub core_in : Parts → ℕ → Option ℕ
+core_in p c = if nat_lt c (length p.cores) then Some c else None
+
+-- the step is the next one
+abbrev pub with_step : List Step → Step → Result (List Step) StepFault
+with_step done step = if nat_lt (length done) MAX_STEPS then Ok (done ++ step ∷ []) else Err S4
+
+-- what a kind of step and its core do, if the program has the core
+abbrev pub core_step : List Step → (ℕ → Step) → Option ℕ → Result (List Step) StepFault
+core_step done step None = Err S2
+core_step done step (Some c) = with_step done (step c)
+
+-- what a line does to the steps before it
+abbrev pub said_step : Parts → List Step → Option ScriptLine → Result (List Step) StepFault
+said_step p done None = Err S1
+said_step p done (Some (own_line own c)) = core_step done (own_step own) (core_in p c)
+
+-- what the bytes of a line do to the steps before it
+abbrev pub line_step : Parts → List Step → List ℕ → Result (List Step) StepFault
+line_step p done line = said_step p done (script_line_of line)
+
+-- the steps of a script for the program, or its first line at fault
+abbrev pub steps_of : Parts → List ℕ → Reading (List Step) StepFault
+steps_of p text = read_from (line_step p) S1 1 [] [] text
+
+-- the step's core is one of the program's
+abbrev pub IsStepOf : Parts → Step → Type 0
+IsStepOf p (Exec c) = c < length p.cores
+IsStepOf p (Drain c) = c < length p.cores
+
+-- an answer, beside what is to be read: memory alone is left open
+abbrev pub Answers : Result (List Step) StepsError → Reading (List Step) StepFault → Type 0
+Answers (Ok s) r = r ≡ Ok s
+Answers (Err (AtLine f k)) r = r ≡ Err (f, k)
+Answers (Err OutOfMemory) r = ⊤
+
+-- an answer, beside what is to be said of line k alone
+abbrev pub AnswersLine : Result (List Step) StepsError → ℕ → Result (List Step) StepFault → Type 0
+AnswersLine (Ok s) k r = r ≡ Ok s
+AnswersLine (Err (AtLine f j)) k r = (r ≡ Err f) × (j ≡ k)
+AnswersLine (Err OutOfMemory) k r = ⊤
+
+-- the list of a vector
+abbrev pub listed : {A : Type 0} → Result (Vec Step A) StepsError → Result (List Step) StepsError
+listed (Ok v) = Ok v.items
+listed (Err e) = Err e
+
+-- the steps so far, where there is no fault
+abbrev pub stepped : {X : Type 0} → Result X StepsError → List Step → Result (List Step) StepsError
+stepped (Ok x) steps = Ok steps
+stepped (Err e) steps = Err e

@@ -1,0 +1,80 @@
+-- What a machine of store buffers over one memory has reached, and the recording of it.
+use Rattle.std.specs.Prelude.{◌+◌, ◌%◌, ◌^◌, ◌≡◌, ℕ, Option, None, List, [], ◌∷◌, map, length, slice_index, slice_index_or, sum, sum_by, take, replicate}
+use Rattle.litmus.specs.declared.op.Op.{Op}
+use Rattle.litmus.specs.declared.op.Op.TheVariants.{St, Ld, Fence, Swap, Add}
+use Rattle.recorder.specs.declared.event.Event.{Event}
+use Rattle.recorder.specs.declared.event.Event.TheVariants.{L, S, R, F}
+use Rattle.recorder.specs.Execution.{Execution}
+use Rattle.write_buffer.specs.declared.entry.Entry.{Entry}
+
+-- what was reached
+pub record State : Type 0 where
+  -- for each core, how many of its operations were executed
+  pub places : List ℕ
+  -- for each core its waiting stores, the oldest first
+  pub buffers : List (List Entry)
+  -- for each address its value, and the event that wrote it
+  pub memory : List (ℕ × Option ℕ)
+  -- for each address the events that wrote it, first to last
+  pub write_lists : List (List ℕ)
+  -- for each event the value that it read, and its source
+  pub reads : List (ℕ × Option ℕ)
+  -- the performed events, first to last
+  pub performed : List ℕ
+
+-- how many operations core c has executed
+abbrev pub place_of : State → ℕ → ℕ
+place_of s c = slice_index s.places c
+
+-- the waiting stores of core c
+abbrev pub buffer_of : State → ℕ → List Entry
+buffer_of s c = slice_index_or s.buffers c []
+
+-- the value of an address, and the event that wrote it
+abbrev pub current : State → ℕ → ℕ × Option ℕ
+current s a = slice_index_or s.memory a (0, None)
+
+-- the number of the first event of core c
+abbrev pub first_event : List (List Op) → ℕ → ℕ
+first_event p c = sum (take c (map (λ ops. length ops) p))
+
+-- the event that an operation makes, from the value that it read and its source
+abbrev pub event_of : Op → ℕ × Option ℕ → Event
+event_of (St a v) d = S a v
+event_of (Ld a) d = L a d.0 d.1
+event_of Fence d = F
+event_of (Swap a v) d = R a d.0 d.1 v
+event_of (Add a v) d = R a d.0 d.1 ((d.0 + v) % 2 ^ 32)
+
+-- the events of one core, of which the first has number e
+abbrev pub events_from : ℕ → List Op → List (ℕ × Option ℕ) → List Event
+events_from e [] reads = []
+events_from e (op ∷ ops) reads = event_of op (slice_index_or reads e (0, None)) ∷ events_from (e + 1) ops reads
+
+-- the events of all cores, of which the first has number e
+abbrev pub cores_from : ℕ → List (List Op) → List (ℕ × Option ℕ) → List (List Event)
+cores_from e [] reads = []
+cores_from e (ops ∷ rest) reads = events_from e ops reads ∷ cores_from (e + length ops) rest reads
+
+-- the recording of a state; what was not read yet is the initial value
+abbrev pub recorded : List (List Op) → State → Execution
+recorded p s = record { cores = cores_from 0 p s.reads; write_lists = s.write_lists }
+
+-- the state in which a program of n addresses begins
+abbrev pub opening : List (List Op) → ℕ → State
+opening p n = record {
+  places = replicate (length p) 0;
+  buffers = replicate (length p) [];
+  memory = replicate n (0, None);
+  write_lists = replicate n [];
+  reads = replicate (sum_by (λ ops. length ops) p) (0, None);
+  performed = [];
+}
+
+-- core c has executed all its operations, and no store of it waits
+abbrev pub IsDone : List (List Op) → State → ℕ → Type 0
+IsDone p s c = (place_of s c ≡ length (slice_index_or p c [])) × (buffer_of s c ≡ [])
+
+-- every operation was executed, and no store waits
+abbrev pub IsComplete : List (List Op) → State → Type 0
+IsComplete p s = (c : ℕ) → IsDone p s c

@@ -1,0 +1,72 @@
+//! A recording that is not yet written.
+
+use crate::bounded::Bounded;
+use crate::makes::rooms;
+use crate::record::{record_all, unwrap_all};
+use litmus::{EventId, Ops, OutOfMemory};
+use recorder::Event;
+use std::alloc::Global;
+use std::marker::Model;
+
+/// The room for a recording: for each core's events, and for the write lists.
+#[derive(Drop)]
+pub(crate) struct Blank {
+    cores: Bounded<Vec<Event>>,
+    events: Vec<Bounded<Event>>,
+    room: usize,
+    writes: Bounded<Vec<EventId>>,
+}
+
+impl Model for Blank {
+    ghost use Rattle.std.specs.Prelude.{◌≡◌, [], replicate};
+    ghost use Rattle.machine.specs.Held.{Rooms};
+
+    ghost Value = { Rooms };
+
+    ghost view = { λ b. record { cores = b.cores.room; events = b.room; addresses = b.writes.room } };
+
+    ghost invariant = { λ b. (b.cores.items ≡ []) × (b.writes.items ≡ []) × (b.events.items ≡ replicate b.cores.room (record { items = []; room = b.room })) };
+}
+
+impl Blank {
+    ghost use Rattle.std.specs.Prelude.{◌≡◌, ◌≤◌, length, map, sum_by, IfOk};
+    ghost use Rattle.machine.specs.Held.{Rooms};
+    ghost use Rattle.machine.specs.State.{cores_from};
+
+    /// Room for the recording of so many cores, events and addresses.
+    pub(crate) fn new(
+        alloc: Global,
+        cores: usize,
+        events: usize,
+        addresses: usize,
+    ) -> Result<Blank, OutOfMemory>
+        ensures { IfOk result (λ b. b ≡ record { cores = cores; events = events; addresses = addresses }) }
+    {
+        Ok(Blank {
+            cores: Bounded::new(alloc, cores)?,
+            events: rooms(alloc, cores, events)?,
+            room: events,
+            writes: Bounded::new(alloc, addresses)?,
+        })
+    }
+
+    /// The events of a program's operations from what they read, and the write lists. It takes no memory.
+    pub(crate) fn fill(
+        self,
+        program: &[Ops],
+        reads: &[(u32, Option<EventId>)],
+        writes: Vec<Bounded<EventId>>,
+    ) -> (Vec<Vec<Event>>, Vec<Vec<EventId>>)
+        requires cores { self.cores ≡ length program.now }
+        requires events { self.events ≡ length reads.now }
+        requires addresses { self.addresses ≡ length writes.items }
+        requires fits { sum_by (λ ops. length ops) program.now ≤ length reads.now }
+        ensures cores { map (λ v. v.items) result.0.items ≡ cores_from 0 program.now reads.now }
+        ensures writes { map (λ v. v.items) result.1.items ≡ map (λ b. b.items) writes.items }
+    {
+        (
+            record_all(self.cores, self.events, program, reads),
+            unwrap_all(self.writes, writes),
+        )
+    }
+}

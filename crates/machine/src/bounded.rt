@@ -1,0 +1,59 @@
+//! Lists with room made beforehand.
+
+use litmus::OutOfMemory;
+use std::alloc::Global;
+use std::marker::Model;
+
+/// A list that never grows past its room.
+#[derive(Drop)]
+pub(crate) struct Bounded<T: Drop> {
+    held: Vec<T>,
+    most: usize,
+}
+
+impl<T: Drop> Model for Bounded<T> {
+    ghost use Rattle.std.specs.Prelude.{◌≤◌, vec_capacity, vec_len};
+    ghost use Rattle.machine.specs.Roomy.{Roomy};
+
+    ghost Value = { Roomy T };
+
+    ghost view = { λ b. record { items = b.held.items; room = b.most } };
+
+    ghost invariant = { λ b. (vec_len b.held ≤ b.most) × (b.most ≤ vec_capacity b.held) };
+}
+
+impl<T: Drop> Bounded<T> {
+    ghost use Rattle.std.specs.Prelude.{◌≡◌, ◌<◌, ◌++◌, ◌∷◌, [], length, IfOk};
+
+    /// An empty list with this room.
+    pub(crate) fn new(alloc: Global, room: usize) -> Result<Bounded<T>, OutOfMemory>
+        ensures { IfOk result (λ b. b ≡ record { items = []; room = room }) }
+    {
+        let held = Vec::with_capacity(alloc, room)?;
+        Ok(Bounded { held, most: room })
+    }
+
+    /// The items, first to last.
+    pub(crate) fn as_slice(&self) -> &[T]
+        ensures { result.now ≡ self.now.items }
+    {
+        self.held.as_slice()
+    }
+
+    /// Adds an item at the end, where there is room. It takes no memory.
+    pub(crate) fn push(&mut self, x: T)
+        requires { length self.old.items < self.old.room }
+        ensures { self.new ≡ record { items = self.old.items ++ x ∷ []; room = self.old.room } }
+    {
+        if self.held.push(x).is_err() {
+            unreachable!()
+        }
+    }
+
+    /// The items alone.
+    pub(crate) fn into_items(self) -> Vec<T>
+        ensures { result.items ≡ self.items }
+    {
+        self.held
+    }
+}

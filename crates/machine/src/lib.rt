@@ -1,0 +1,27 @@
+//! The machine: cores with store buffers over one memory.
+#![tactic(auto)]
+
+mod blank;
+mod blocked;
+mod bounded;
+mod fault;
+mod law;
+mod load;
+mod machine;
+mod makes;
+mod record;
+mod script;
+mod script_fault;
+mod script_line;
+mod step;
+
+pub use blocked::Blocked;
+pub use fault::Fault;
+pub use law::every_run_is_tso;
+pub use machine::{Machine, Unfinished};
+pub use script::parse_steps;
+pub use script_fault::{StepFault, StepsError};
+pub use step::Step;
+
+#[cfg(test)]
+mod script_tests;

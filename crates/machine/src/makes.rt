@@ -1,0 +1,68 @@
+//! The parts of a new machine.
+
+ghost use Rattle.std.specs.Prelude.{◌≡◌, ◌≤◌, [], length, replicate, sum_by, IfOk};
+ghost use Rattle.machine.specs.Made.{AreUnits};
+
+use crate::bounded::Bounded;
+use core_unit::CoreUnit;
+use litmus::{EventId, MAX_EVENTS, Ops, OutOfMemory};
+use std::alloc::Global;
+use write_buffer::WriteBuffer;
+
+/// A list of so many equal items.
+pub(crate) fn filled<T: Copy>(alloc: Global, count: usize, x: T) -> Result<Vec<T>, OutOfMemory>
+    ensures { IfOk result (λ v. v.items ≡ replicate count x) }
+{
+    let mut items = Vec::with_capacity(alloc, count)?;
+    for made in 0..count {
+        items.push(x)?;
+    }
+    Ok(items)
+}
+
+/// So many empty lists, each with the same room.
+pub(crate) fn rooms<T: Drop>(
+    alloc: Global,
+    count: usize,
+    room: usize,
+) -> Result<Vec<Bounded<T>>, OutOfMemory>
+    ensures { IfOk result (λ v. v.items ≡ replicate count (record { items = []; room = room })) }
+{
+    let mut lists = Vec::with_capacity(alloc, count)?;
+    for made in 0..count {
+        lists.push(Bounded::new(alloc, room)?)?;
+    }
+    Ok(lists)
+}
+
+/// So many empty store buffers of one capacity.
+pub(crate) fn buffers_of(
+    alloc: Global,
+    count: usize,
+    capacity: usize,
+) -> Result<Vec<WriteBuffer>, OutOfMemory>
+    ensures { IfOk result (λ v. v.items ≡ replicate count (record { entries = []; capacity = capacity })) }
+{
+    let mut buffers = Vec::with_capacity(alloc, count)?;
+    for made in 0..count {
+        buffers.push(WriteBuffer::new(alloc, capacity)?)?;
+    }
+    Ok(buffers)
+}
+
+/// Each core before its first operation, and how many events there are.
+pub(crate) fn units_of(
+    alloc: Global,
+    program: &[Ops],
+) -> Result<(Vec<CoreUnit>, usize), OutOfMemory>
+    requires { sum_by (λ ops. length ops) program.now ≤ MAX_EVENTS }
+    ensures { IfOk result (λ r. AreUnits program.now r.0.items r.1) }
+{
+    let mut units = Vec::new(alloc);
+    let mut next = 0;
+    for ops in program {
+        units.push(CoreUnit::new(next as EventId))?;
+        next += ops.as_slice().len();
+    }
+    Ok((units, next))
+}

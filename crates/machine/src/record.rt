@@ -1,0 +1,86 @@
+//! From what events read to a recording.
+
+ghost use Rattle.std.specs.Prelude.{◌≡◌, ◌+◌, ◌≤◌, ◌++◌, [], length, map, sum_by, All};
+ghost use Rattle.machine.specs.State.{event_of, events_from, cores_from};
+
+use crate::bounded::Bounded;
+use litmus::{EventId, Op, Ops};
+use recorder::Event;
+
+/// The event that an operation makes, from the value that it read and its source.
+pub(crate) fn event_of(op: Op, read: (u32, Option<EventId>)) -> Event
+    ensures { result ≡ event_of op read }
+{
+    let (r, s) = read;
+    match op {
+        Op::St(a, w) => Event::S { a, w },
+        Op::Ld(a) => Event::L { a, r, s },
+        Op::Fence => Event::F,
+        Op::Swap(a, w) => Event::R { a, r, s, w },
+        Op::Add(a, value) => Event::R {
+            a,
+            r,
+            s,
+            w: r.wrapping_add(value),
+        },
+    }
+}
+
+/// Adds the events of a core, whose first event is `first`.
+pub(crate) fn record_core(
+    events: &mut Bounded<Event>,
+    ops: &[Op],
+    reads: &[(u32, Option<EventId>)],
+    first: usize,
+)
+    requires room { length events.old.items + length ops.now ≤ events.old.room }
+    requires within { first + length ops.now ≤ length reads.now }
+    ensures { events.new ≡ record { items = events.old.items ++ events_from first ops.now reads.now; room = events.old.room } }
+{
+    for (i, op) in ops.iter().enumerate() {
+        events.push(event_of(*op, reads[first + i]));
+    }
+}
+
+/// The events of all cores, in lists that were made before.
+pub(crate) fn record_all(
+    mut lists: Bounded<Vec<Event>>,
+    mut events: Vec<Bounded<Event>>,
+    program: &[Ops],
+    reads: &[(u32, Option<EventId>)],
+) -> Vec<Vec<Event>>
+    requires empty { lists.items ≡ [] }
+    requires room { length program.now ≤ lists.room }
+    requires one_each { length events.items ≡ length program.now }
+    requires fresh { All (λ b. b ≡ record { items = []; room = length reads.now }) events.items }
+    requires fits { sum_by (λ ops. length ops) program.now ≤ length reads.now }
+    ensures { map (λ v. v.items) result.items ≡ cores_from 0 program.now reads.now }
+{
+    let mut first = 0;
+    for ops in program {
+        let mut list = match events.pop() {
+            Some(list) => list,
+            None => unreachable!(),
+        };
+        record_core(&mut list, ops.as_slice(), reads, first);
+        first += ops.as_slice().len();
+        lists.push(list.into_items());
+    }
+    lists.into_items()
+}
+
+/// The lists without their rooms, in a list that was made before.
+pub(crate) fn unwrap_all(
+    mut lists: Bounded<Vec<EventId>>,
+    mut writes: Vec<Bounded<EventId>>,
+) -> Vec<Vec<EventId>>
+    requires empty { lists.items ≡ [] }
+    requires room { length writes.items ≤ lists.room }
+    ensures { map (λ v. v.items) result.items ≡ map (λ b. b.items) writes.items }
+{
+    let count = writes.len();
+    for moved in 0..count {
+        lists.push(writes.remove(0).into_items());
+    }
+    lists.into_items()
+}

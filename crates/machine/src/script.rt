@@ -1,0 +1,85 @@
+//! From a step script to its steps.
+
+ghost use Rattle.std.specs.Prelude.{◌≡◌, ◌≤◌, ℕ, [], All, IfOk, length};
+ghost use Rattle.litmus.specs.Numbers.{IsValue};
+ghost use Rattle.machine.specs.Script.{core_in, with_step, line_step, steps_of, IsStepOf, Answers, AnswersLine, listed, stepped};
+
+use crate::script_fault::{StepFault, StepsError};
+use crate::script_line::{Said, own_step, script_line_of};
+use crate::step::Step;
+use litmus::{CoreId, MAX_STEPS, Number, Program};
+use std::alloc::Global;
+
+fn core_in(program: &Program, number: Number) -> Option<CoreId>
+    ensures { (c : ℕ) → IsValue number c → result ≡ core_in program.now c }
+{
+    let cores = program.cores();
+    match number {
+        Number::Value(core) if (core as usize) < cores => Some(core as CoreId),
+        _ => None,
+    }
+}
+
+fn push_step(steps: &mut Vec<Step>, step: Step, number: usize) -> Result<(), StepsError>
+    ensures { AnswersLine (stepped result steps.new.items) number (with_step steps.old.items step) }
+{
+    if MAX_STEPS <= steps.len() {
+        return Err(StepsError::AtLine(StepFault::S4, number));
+    }
+    steps.push(step)?;
+    Ok(())
+}
+
+// Takes line `number`. After an error the steps so far are of no use.
+fn take_line(
+    steps: &mut Vec<Step>,
+    program: &Program,
+    line: &[u8],
+    number: usize,
+) -> Result<(), StepsError>
+    ensures { AnswersLine (stepped result steps.new.items) number
+        (line_step program.now steps.old.items line.now) }
+{
+    match script_line_of(line) {
+        None => Err(StepsError::AtLine(StepFault::S1, number)),
+        Some(Said::Own(own, core)) => match core_in(program, core) {
+            None => Err(StepsError::AtLine(StepFault::S2, number)),
+            Some(core) => push_step(steps, own_step(own, core), number),
+        },
+    }
+}
+
+fn read_lines(alloc: Global, text: &[u8], program: &Program) -> Result<Vec<Step>, StepsError>
+    ensures { Answers (listed result) (steps_of program.now text.now) }
+{
+    let mut steps = Vec::new(alloc);
+    let mut start: usize = 0;
+    let mut number: usize = 1;
+    for (i, b) in text.iter().enumerate() {
+        if *b == b'\n' {
+            take_line(&mut steps, program, &text[start..i], number)?;
+            start = i + 1;
+            number += 1;
+        }
+    }
+    if start < text.len() {
+        return Err(StepsError::AtLine(StepFault::S1, number));
+    }
+    Ok(steps)
+}
+
+/// The steps of a script for the program, or the first line at fault.
+///
+/// A line is `exec C` or `drain C`, with the number of a core, and ends with a newline. A step that
+/// the machine can't take is lawful here.
+#[tactic(auto, using(crate::proofs::ScriptText::script_cores, crate::proofs::ScriptText::script_few))]
+pub fn parse_steps(alloc: Global, text: &[u8], program: &Program) -> Result<Vec<Step>, StepsError>
+    // The steps, or which line is at fault, and why.
+    ensures exact { Answers (listed result) (steps_of program.now text.now) }
+    // The cores of the steps are the program's.
+    ensures cores { IfOk result (λ steps. All (IsStepOf program.now) steps.items) }
+    ensures few { IfOk result (λ steps. length steps.items ≤ MAX_STEPS) }
+{
+    let steps = read_lines(alloc, text, program)?;
+    Ok(steps)
+}
