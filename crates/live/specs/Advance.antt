@@ -1,0 +1,21 @@
+-- One step more of a traced machine, or why it is not taken.
+use Rattle.std.specs.Prelude.{List, [], ◌∷◌, ◌++◌, length, nat_lt, if◌then◌else◌, Result, Ok, Err}
+use Rattle.machine.specs.declared.step.Step.{Step}
+use Rattle.machine.specs.declared.blocked.Blocked.{Blocked as Reason}
+use Rattle.machine.specs.State.{State}
+use Rattle.machine.specs.Step.{taken}
+use Rattle.live.specs.declared.error.LiveError.{LiveError}
+use Rattle.live.specs.declared.error.LiveError.TheVariants.{Blocked, TraceFull}
+use Rattle.live.specs.Trace.{Trace}
+
+-- the step, if the machine took it, is the last of the trace
+abbrev pub with_step : Trace → Step → Result State Reason → Result Trace LiveError
+with_step t step (Ok s) = Ok (record t { machine = record t.machine { state = s }; steps = t.steps ++ step ∷ [] })
+with_step t step (Err b) = Err (Blocked b)
+
+-- a full trace comes before a blocked step
+abbrev pub advanced : Trace → Step → Result Trace LiveError
+advanced t step =
+    if nat_lt (length t.steps) t.limit
+    then with_step t step (taken t.machine.program.cores t.machine.capacity t.machine.state step)
+    else Err TraceFull

@@ -1,0 +1,97 @@
+//! Machines with the trace of their steps.
+
+use crate::error::LiveError;
+use litmus::OutOfMemory;
+use machine::{Machine, Step};
+use std::alloc::Global;
+use std::marker::Model;
+
+/// A machine and the trace of the steps that it took, which lead to it from the opening state of its program.
+#[derive(Drop)]
+pub struct Traced {
+    machine: Machine,
+    steps: Vec<Step>,
+    limit: usize,
+}
+
+impl Model for Traced {
+    ghost use Rattle.std.specs.Prelude.{◌≤◌, vec_capacity, vec_len};
+    ghost use Rattle.live.specs.Trace.{Trace, IsReplay};
+
+    ghost Value = { Trace };
+
+    ghost view = { λ t. record { machine = t.machine; steps = t.steps.items; limit = t.limit } };
+
+    ghost invariant = { λ t. IsReplay (record { machine = t.machine; steps = t.steps.items; limit = t.limit })
+        × (vec_len t.steps ≤ t.limit) × (t.limit ≤ vec_capacity t.steps) };
+}
+
+impl Traced {
+    ghost use Rattle.std.specs.Prelude.{◌≡◌, ◌≤◌, ◌<◌, [], IfOk, IfErr, OnOk, OnErr, Ok, Err, length};
+    ghost use Rattle.live.specs.Trace.{Trace, IsReplay, opening_of};
+    ghost use Rattle.live.specs.Advance.{advanced};
+
+    /// A machine that has not yet taken a step, whose trace may have `limit` steps; the room for them is made here.
+    /// An `Err` only where there is no memory.
+    pub fn new(alloc: Global, machine: Machine, limit: usize) -> Result<Traced, OutOfMemory>
+        requires { machine.state ≡ opening_of machine }
+        ensures { IfOk result (λ t. t ≡ record { machine = machine; steps = []; limit = limit }) }
+    {
+        let steps = Vec::with_capacity(alloc, limit)?;
+        Ok(Traced {
+            machine,
+            steps,
+            limit,
+        })
+    }
+
+    /// The steps that were taken, first to last. From the opening state they lead to the machine.
+    pub fn trace(&self) -> &[Step]
+        ensures steps { result.now ≡ self.now.steps }
+        ensures replay { IsReplay self.now }
+        ensures within { length self.now.steps ≤ self.now.limit }
+    {
+        self.steps.as_slice()
+    }
+
+    /// How many steps the trace may have.
+    pub fn limit(&self) -> usize
+        ensures { result ≡ self.now.limit }
+    {
+        self.limit
+    }
+
+    /// The machine.
+    pub fn machine(&self) -> &Machine
+        ensures { result.now ≡ self.now.machine }
+    {
+        &self.machine
+    }
+
+    /// The machine alone.
+    pub fn into_machine(self) -> Machine
+        ensures machine { result ≡ self.machine }
+        ensures replay { IsReplay self }
+    {
+        self.machine
+    }
+
+    /// Takes a step and adds it to the trace. A full trace is answered first, then a blocked step; both change nothing.
+    /// It takes no memory.
+    pub fn advance(&mut self, step: Step) -> Result<(), LiveError>
+        ensures ok { OnOk result (advanced self.old step ≡ Ok self.new) }
+        ensures refused { IfErr result (λ e. advanced self.old step ≡ Err e) }
+        ensures unchanged { OnErr result (self.new ≡ self.old) }
+    {
+        if self.steps.len() >= self.limit {
+            return Err(LiveError::TraceFull);
+        }
+        if let Err(blocked) = self.machine.step(step) {
+            return Err(LiveError::Blocked(blocked));
+        }
+        let Ok(()) = self.steps.push(step) else {
+            unreachable!()
+        };
+        Ok(())
+    }
+}
