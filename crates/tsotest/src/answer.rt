@@ -1,0 +1,59 @@
+//! What a command answers.
+
+use crate::fault::CommandFault;
+use litmus::OutOfMemory;
+use std::alloc::{AllocError, AllocFailed, Global};
+
+/// The status of a command that printed what it was asked for.
+pub const DONE: u8 = 0;
+/// The status of a refused text or number.
+pub const REFUSED: u8 = 3;
+/// The status of a run that left an operation or a buffered store.
+pub const UNFINISHED: u8 = 4;
+
+/// What a command prints on standard output, and its exit status.
+#[derive(Drop)]
+pub struct Answer {
+    pub status: u8,
+    pub text: Vec<u8>,
+}
+
+impl Answer {
+    /// The answer of this status and text.
+    pub fn of(alloc: Global, status: u8, text: &str) -> Result<Answer, AllocError> {
+        let text = Vec::from_slice(alloc, text.as_bytes())?;
+        Ok(Answer { status, text })
+    }
+}
+
+/// Why a command stops before its usual answer.
+#[derive(Debug, Drop)]
+pub enum Stop {
+    /// A text or a number is refused: the line to print.
+    Refused(String),
+    Fault(CommandFault),
+}
+
+impl From<CommandFault> for Stop {
+    fn from(fault: CommandFault) -> Stop {
+        Stop::Fault(fault)
+    }
+}
+
+impl From<OutOfMemory> for Stop {
+    fn from(_refused: OutOfMemory) -> Stop {
+        Stop::Fault(CommandFault::OutOfMemory)
+    }
+}
+
+impl From<AllocError> for Stop {
+    fn from(_refused: AllocError) -> Stop {
+        Stop::Fault(CommandFault::OutOfMemory)
+    }
+}
+
+impl<T: Drop> From<AllocFailed<T>> for Stop {
+    fn from(_refused: AllocFailed<T>) -> Stop {
+        Stop::Fault(CommandFault::OutOfMemory)
+    }
+}

@@ -1,0 +1,85 @@
+//! The commands and options, as `clap` reads and explains them.
+
+use crate::options::DEFAULT_BUFFER;
+use clap::{Arg, ArgAction, Command};
+use litmus::{MAX_CAPACITY, MAX_STEPS};
+use std::alloc::{AllocError, Global};
+
+const ABOUT: &str = "Runs multiprocessor programs under total store order (TSO)";
+
+const RUN_ABOUT: &str = "Runs a litmus program by a script of steps and prints its recording";
+
+const RUN_MORE: &str = "Runs a litmus program by a script of steps and prints its recording.
+
+Each core has a store buffer in front of one memory. A script has a line for each step:
+`exec C` executes the next operation of core C, and `drain C` moves the oldest store of
+its buffer to memory. A step that is blocked is skipped. The recording is one line of
+JSON: what each operation read and wrote, and for each address its writes in the order
+in which they reached memory.";
+
+const STATUSES: &str = "Exit status:
+  0  the command printed its answer
+  1  a fault of the command line, a file or memory, as standard error says
+  3  a text or a number was refused, as the line `refused: ..` says
+  4  the run is unfinished: an operation or a buffered store is left
+
+Example:
+  tsotest run store_buffering.litmus --steps store_buffering.steps";
+
+/// Texts of `--help` that name limits.
+#[derive(Drop)]
+pub struct Texts {
+    steps: String,
+    buffer: String,
+}
+
+impl Texts {
+    /// The texts at the limits of this program.
+    pub fn new(alloc: Global) -> Result<Texts, AllocError> {
+        Ok(Texts {
+            steps: format!(in alloc;
+                "The script: a file of at most {MAX_STEPS} lines, or - for standard input"
+            )?,
+            buffer: format!(in alloc;
+                "Stores that a buffer holds, from 1 to {MAX_CAPACITY} [default: {DEFAULT_BUFFER}]"
+            )?,
+        })
+    }
+}
+
+fn run<'a>(alloc: Global, texts: &'a Texts) -> Result<Command<'a>, AllocError> {
+    let program = Arg::new(alloc, "PROGRAM")
+        .required(true)
+        .action(ArgAction::Set)
+        .help("The litmus program: a file, or - for standard input");
+    let steps = Arg::new(alloc, "steps")
+        .long("steps")
+        .value_name("FILE")
+        .required(true)
+        .action(ArgAction::Set)
+        .help(texts.steps.as_str());
+    let buffer = Arg::new(alloc, "buffer")
+        .long("buffer")
+        .value_name("N")
+        .value_parser(clap::value_parser!(u64))
+        .help(texts.buffer.as_str());
+    Command::new(alloc, "run")
+        .about(RUN_ABOUT)
+        .long_about(RUN_MORE)
+        .after_help(STATUSES)
+        .arg(program)?
+        .arg(steps)?
+        .arg(buffer)
+}
+
+/// The command line of the program, of whose words the first is not the program's name.
+pub fn command<'a>(alloc: Global, texts: &'a Texts) -> Result<Command<'a>, AllocError> {
+    let run = run(alloc, texts)?;
+    Command::new(alloc, "tsotest")
+        .bin_name("tsotest")?
+        .no_binary_name(true)
+        .about(ABOUT)
+        .after_help(STATUSES)
+        .subcommand_required(true)
+        .subcommand(run)
+}

@@ -1,0 +1,66 @@
+//! What ends the program with status 1.
+
+use litmus::OutOfMemory;
+use std::alloc::{AllocError, AllocFailed};
+use std::io;
+use thiserror::Error;
+
+/// A fault that is no answer of a command. Its text goes to standard error.
+#[derive(Debug, Drop, Error)]
+pub enum CommandFault {
+    /// The words are not a command.
+    #[error("{0}")]
+    CommandLine(clap::Error),
+    /// A word of the command line is not UTF-8.
+    #[error("tsotest: the command line is not text")]
+    NotText,
+    /// `clap` accepted the words and lacks a value that its command requires.
+    #[error("tsotest: no value of {0}")]
+    NoValue(&'static str),
+    #[error("tsotest: cannot open {0}")]
+    CannotOpen(String),
+    #[error("tsotest: read failed")]
+    ReadFailed,
+    #[error("tsotest: write failed")]
+    WriteFailed,
+    #[error("tsotest: out of memory")]
+    OutOfMemory,
+}
+
+impl CommandFault {
+    /// Why the words of the command line could not be had.
+    pub fn of_words(error: io::Error) -> CommandFault {
+        if error.kind() == io::ErrorKind::OutOfMemory {
+            CommandFault::OutOfMemory
+        } else {
+            CommandFault::NotText
+        }
+    }
+
+    /// Why an input could not be read.
+    pub fn of_reading(error: io::Error) -> CommandFault {
+        if error.kind() == io::ErrorKind::OutOfMemory {
+            CommandFault::OutOfMemory
+        } else {
+            CommandFault::ReadFailed
+        }
+    }
+}
+
+impl From<OutOfMemory> for CommandFault {
+    fn from(_refused: OutOfMemory) -> CommandFault {
+        CommandFault::OutOfMemory
+    }
+}
+
+impl From<AllocError> for CommandFault {
+    fn from(_refused: AllocError) -> CommandFault {
+        CommandFault::OutOfMemory
+    }
+}
+
+impl<T: Drop> From<AllocFailed<T>> for CommandFault {
+    fn from(_refused: AllocFailed<T>) -> CommandFault {
+        CommandFault::OutOfMemory
+    }
+}

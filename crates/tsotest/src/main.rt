@@ -1,0 +1,55 @@
+//! The program `tsotest`.
+#![tactic(auto)]
+
+mod answer;
+#[cfg(test)]
+mod classics;
+mod command;
+mod disk;
+mod fault;
+mod options;
+mod perform;
+mod place;
+mod reading;
+mod run;
+#[cfg(test)]
+mod tests;
+mod words;
+
+use disk::Disk;
+use fault::CommandFault;
+use perform::perform;
+use std::process::ExitCode;
+use std::rt::Env;
+use std::{env, io};
+
+/// The words of the command line behind the program's name.
+fn words_of(rt: &(impl Env + AllocGlobal)) -> Result<Vec<String>, CommandFault> {
+    let mut words = Vec::new(rt.alloc());
+    let all = env::args(rt).map_err(CommandFault::of_words)?;
+    for word in all.skip(1) {
+        words.push(word)?;
+    }
+    Ok(words)
+}
+
+fn status_of(rt: &HostRuntime) -> Result<u8, CommandFault> {
+    let words = words_of(rt)?;
+    let mut place = Disk { rt };
+    let mut out = io::writer(rt);
+    perform(rt.alloc(), words.as_slice(), &mut place, &mut out)
+}
+
+fn main(rt: HostRuntime) -> ExitCode {
+    match status_of(&rt) {
+        Ok(status) => ExitCode::from(status),
+        Err(fault) => {
+            let _ = match fault {
+                // This text ends its own lines.
+                CommandFault::CommandLine(error) => eprint!(rt; "{error}"),
+                fault => eprintln!(rt; "{fault}"),
+            };
+            ExitCode::from(1)
+        }
+    }
+}
