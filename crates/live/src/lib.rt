@@ -6,6 +6,3 @@ mod traced;
 
 pub use error::LiveError;
 pub use traced::Traced;
-
-#[cfg(test)]
-mod tests;

@@ -22,6 +22,3 @@ pub use machine::{Machine, Unfinished};
 pub use script::parse_steps;
 pub use script_fault::{StepFault, StepsError};
 pub use step::Step;
-
-#[cfg(test)]
-mod script_tests;

@@ -195,7 +195,8 @@ impl Machine {
         ensures rest { OnOk result (self.new ≡ record self.old { state = self.new.state }) }
         ensures unchanged { OnErr result (self.new ≡ self.old) }
     {
-        if !self.buffers[core as usize].is_empty() {
+        let buffer = &self.buffers[core as usize];
+        if !buffer.is_empty() {
             return Err(Blocked::B3);
         }
         self.performed.push(event);

@@ -1,1 +1,5 @@
+pub mod Answer
+pub mod Commands
 pub mod Options
+pub mod Refusal
+pub mod Run

@@ -1,8 +1,66 @@
--- What an option's number is.
-use Rattle.std.specs.Prelude.{ℕ, List, Option, Some, None}
+-- The options that the words ask for.
+use Rattle.std.specs.Prelude.{◌≡◌, ◌≢◌, ◌<◌, ◌≤◌, ◌⊎◌, ℕ, List, Option, Some, None, false, ⊤, codes, string_bytes}
 use Rattle.std.specs.Str.Parse.{digits_value, without_leading_plus}
+use Rattle.clap.specs.Words.{Row, Text, first_of, kind_of, one_of, takes}
+use Rattle.clap.specs.declared.error.Error.{Error}
+use Rattle.clap.specs.declared.error.kind.ErrorKind.TheVariants as kinds
+use Rattle.litmus.specs.declared.limits.TheConstants.{MAX_CAPACITY}
+use Rattle.tsotest.specs.declared.options.Options.{Options}
+use Rattle.tsotest.specs.declared.options.Options.TheVariants.{Run}
+use Rattle.tsotest.specs.declared.options.RunOptions.{RunOptions}
+use Rattle.tsotest.specs.declared.options.OptionFault.{OptionFault}
+use Rattle.tsotest.specs.declared.options.OptionFault.TheVariants.{Clap, Buffer, NoValue, OutOfMemory}
+use Rattle.tsotest.specs.declared.options.TheConstants.{DEFAULT_BUFFER}
+use Rattle.tsotest.specs.Commands.{command_of, program_app}
 
 -- the number that an entry's text writes, or else the default
-abbrev pub number_or : ℕ → Option (List ℕ) → ℕ
+abbrev pub number_or : ℕ → Option Text → ℕ
 number_or default None = default
 number_or default (Some text) = digits_value 10 (without_leading_plus text)
+
+-- the capacity that the entries ask for
+abbrev pub capacity_of : List Row → ℕ
+capacity_of rows = number_or DEFAULT_BUFFER (one_of (codes "buffer") rows)
+
+-- each option of run is its entry, or else its default
+pub record AreRunOptions (o : RunOptions) (rows : List Row) : Type 0 where
+  pub program : first_of (codes "PROGRAM") rows ≡ Some (string_bytes o.program)
+  pub steps : first_of (codes "steps") rows ≡ Some (string_bytes o.steps)
+  pub buffer : o.buffer ≡ capacity_of rows
+  pub within : (1 ≤ o.buffer) × (o.buffer ≤ MAX_CAPACITY)
+
+-- why the entries of run give no options
+abbrev pub IsRunFault : OptionFault → List Row → Type 0
+IsRunFault (Clap error) rows = ⊥
+IsRunFault Buffer rows = (capacity_of rows < 1) ⊎ (MAX_CAPACITY < capacity_of rows)
+IsRunFault (NoValue name) rows =
+    (first_of (codes "PROGRAM") rows ≡ None) ⊎ (first_of (codes "steps") rows ≡ None) ⊎ (one_of (codes "buffer") rows ≢ None)
+IsRunFault OutOfMemory rows = ⊤
+
+-- the options are those of the command that was read
+abbrev pub AreOptions : Options → Option (Text × List Row) → Type 0
+AreOptions o None = ⊥
+AreOptions (Run o) (Some command) = (command.0 ≡ codes "run") × AreRunOptions o command.1
+
+-- why the command that was read gives no options
+abbrev pub IsCommandFault : OptionFault → Option (Text × List Row) → Type 0
+IsCommandFault (Clap error) command = ⊥
+IsCommandFault Buffer None = ⊥
+IsCommandFault Buffer (Some command) = IsRunFault Buffer command.1
+IsCommandFault (NoValue name) None = ⊤
+IsCommandFault (NoValue name) (Some command) = (command.0 ≢ codes "run") ⊎ IsRunFault (NoValue name) command.1
+IsCommandFault OutOfMemory command = ⊤
+
+-- why the words give no options: clap doesn't take them, or what it reads of them gives none
+abbrev pub IsFault : OptionFault → List Text → Type 0
+IsFault (Clap error) words = takes program_app words ≡ false
+IsFault Buffer words = IsCommandFault Buffer (command_of words)
+IsFault (NoValue name) words = IsCommandFault (NoValue name) (command_of words)
+IsFault OutOfMemory words = ⊤
+
+-- what clap's error is as a fault of the options
+abbrev pub IsSaid : Error → OptionFault → Type 0
+IsSaid e (Clap error) = (error ≡ e) × (kind_of e ≢ kinds.OutOfMemory)
+IsSaid e Buffer = ⊥
+IsSaid e (NoValue name) = ⊥
+IsSaid e OutOfMemory = kind_of e ≡ kinds.OutOfMemory

@@ -1,4 +1,5 @@
 //! What a command answers.
+ghost use Rattle.std.specs.Prelude.{◌≡◌, IfOk};
 
 use crate::fault::CommandFault;
 use litmus::OutOfMemory;
@@ -20,7 +21,9 @@ pub struct Answer {
 
 impl Answer {
     /// The answer of this status and text.
-    pub fn of(alloc: Global, status: u8, text: &str) -> Result<Answer, AllocError> {
+    pub fn of(alloc: Global, status: u8, text: &str) -> Result<Answer, AllocError>
+        ensures { IfOk result (λ a. (a.status ≡ status) × (a.text.items ≡ text.now)) }
+    {
         let text = Vec::from_slice(alloc, text.as_bytes())?;
         Ok(Answer { status, text })
     }
@@ -41,18 +44,36 @@ impl From<CommandFault> for Stop {
 }
 
 impl From<OutOfMemory> for Stop {
+    ghost use Rattle.std.specs.Prelude.{◌≡◌};
+    ghost use Rattle.tsotest.specs.declared.answer.Stop.TheVariants.{Fault};
+    ghost use Rattle.tsotest.specs.declared.fault.CommandFault.TheVariants.{OutOfMemory};
+
+    ghost from_gives = { λ _ stop. stop ≡ Fault OutOfMemory };
+
     fn from(_refused: OutOfMemory) -> Stop {
         Stop::Fault(CommandFault::OutOfMemory)
     }
 }
 
 impl From<AllocError> for Stop {
+    ghost use Rattle.std.specs.Prelude.{◌≡◌};
+    ghost use Rattle.tsotest.specs.declared.answer.Stop.TheVariants.{Fault};
+    ghost use Rattle.tsotest.specs.declared.fault.CommandFault.TheVariants.{OutOfMemory};
+
+    ghost from_gives = { λ _ stop. stop ≡ Fault OutOfMemory };
+
     fn from(_refused: AllocError) -> Stop {
         Stop::Fault(CommandFault::OutOfMemory)
     }
 }
 
 impl<T: Drop> From<AllocFailed<T>> for Stop {
+    ghost use Rattle.std.specs.Prelude.{◌≡◌};
+    ghost use Rattle.tsotest.specs.declared.answer.Stop.TheVariants.{Fault};
+    ghost use Rattle.tsotest.specs.declared.fault.CommandFault.TheVariants.{OutOfMemory};
+
+    ghost from_gives = { λ _ stop. stop ≡ Fault OutOfMemory };
+
     fn from(_refused: AllocFailed<T>) -> Stop {
         Stop::Fault(CommandFault::OutOfMemory)
     }

@@ -1,4 +1,8 @@
 //! The commands and options, as `clap` reads and explains them.
+ghost use Rattle.std.specs.Prelude.{◌≡◌, IfOk, false};
+ghost use Rattle.clap.specs.Words.{app_of, rule_of};
+ghost use Rattle.clap.specs.declared.builder.command.Command.TheViews.{out-Command as fields_of};
+ghost use Rattle.tsotest.specs.Commands.{bare_app, buffer_rule, program_app, program_rule, run_app, steps_rule};
 
 use crate::options::DEFAULT_BUFFER;
 use clap::{Arg, ArgAction, Command};
@@ -47,22 +51,46 @@ impl Texts {
     }
 }
 
-fn run<'a>(alloc: Global, texts: &'a Texts) -> Result<Command<'a>, AllocError> {
-    let program = Arg::new(alloc, "PROGRAM")
+fn program_arg<'a>(alloc: Global) -> Arg<'a>
+    ensures rule { rule_of result ≡ program_rule }
+    ensures local { result.global ≡ false }
+{
+    Arg::new(alloc, "PROGRAM")
         .required(true)
         .action(ArgAction::Set)
-        .help("The litmus program: a file, or - for standard input");
-    let steps = Arg::new(alloc, "steps")
+        .help("The litmus program: a file, or - for standard input")
+}
+
+fn steps_arg<'a>(alloc: Global, texts: &'a Texts) -> Arg<'a>
+    ensures rule { rule_of result ≡ steps_rule }
+    ensures local { result.global ≡ false }
+{
+    Arg::new(alloc, "steps")
         .long("steps")
         .value_name("FILE")
         .required(true)
         .action(ArgAction::Set)
-        .help(texts.steps.as_str());
-    let buffer = Arg::new(alloc, "buffer")
+        .help(texts.steps.as_str())
+}
+
+fn buffer_arg<'a>(alloc: Global, texts: &'a Texts) -> Arg<'a>
+    ensures rule { rule_of result ≡ buffer_rule }
+    ensures local { result.global ≡ false }
+{
+    Arg::new(alloc, "buffer")
         .long("buffer")
         .value_name("N")
         .value_parser(clap::value_parser!(u64))
-        .help(texts.buffer.as_str());
+        .help(texts.buffer.as_str())
+}
+
+fn run<'a>(alloc: Global, texts: &'a Texts) -> Result<Command<'a>, AllocError>
+    ensures app { IfOk result (λ c. app_of c ≡ run_app) }
+    ensures local { IfOk result (λ c. (fields_of c).has_globals ≡ false) }
+{
+    let program = program_arg(alloc);
+    let steps = steps_arg(alloc, texts);
+    let buffer = buffer_arg(alloc, texts);
     Command::new(alloc, "run")
         .about(RUN_ABOUT)
         .long_about(RUN_MORE)
@@ -72,14 +100,23 @@ fn run<'a>(alloc: Global, texts: &'a Texts) -> Result<Command<'a>, AllocError> {
         .arg(buffer)
 }
 
+fn bare<'a>(alloc: Global) -> Result<Command<'a>, AllocError>
+    ensures { IfOk result (λ c. app_of c ≡ bare_app) }
+{
+    let command = Command::new(alloc, "tsotest").bin_name("tsotest")?;
+    Ok(
+        command
+            .no_binary_name(true)
+            .about(ABOUT)
+            .after_help(STATUSES)
+            .subcommand_required(true),
+    )
+}
+
 /// The command line of the program, of whose words the first is not the program's name.
-pub fn command<'a>(alloc: Global, texts: &'a Texts) -> Result<Command<'a>, AllocError> {
+pub fn command<'a>(alloc: Global, texts: &'a Texts) -> Result<Command<'a>, AllocError>
+    ensures { IfOk result (λ c. app_of c ≡ program_app) }
+{
     let run = run(alloc, texts)?;
-    Command::new(alloc, "tsotest")
-        .bin_name("tsotest")?
-        .no_binary_name(true)
-        .about(ABOUT)
-        .after_help(STATUSES)
-        .subcommand_required(true)
-        .subcommand(run)
+    bare(alloc)?.subcommand(run)
 }

@@ -1,8 +1,11 @@
 //! What ends the program with status 1.
+ghost use Rattle.std.specs.Prelude.{◌≡◌, ◌↔◌};
+ghost use Rattle.std.specs.IoError.{error_kind};
 
 use litmus::OutOfMemory;
 use std::alloc::{AllocError, AllocFailed};
 use std::io;
+use std::io::ErrorKind;
 use thiserror::Error;
 
 /// A fault that is no answer of a command. Its text goes to standard error.
@@ -29,8 +32,10 @@ pub enum CommandFault {
 
 impl CommandFault {
     /// Why the words of the command line could not be had.
-    pub fn of_words(error: io::Error) -> CommandFault {
-        if error.kind() == io::ErrorKind::OutOfMemory {
+    pub fn of_words(error: io::Error) -> CommandFault
+        ensures { (result ≡ CommandFault.OutOfMemory) ↔ (error_kind error ≡ ErrorKind.OutOfMemory) }
+    {
+        if error.kind() == ErrorKind::OutOfMemory {
             CommandFault::OutOfMemory
         } else {
             CommandFault::NotText
@@ -38,8 +43,10 @@ impl CommandFault {
     }
 
     /// Why an input could not be read.
-    pub fn of_reading(error: io::Error) -> CommandFault {
-        if error.kind() == io::ErrorKind::OutOfMemory {
+    pub fn of_reading(error: io::Error) -> CommandFault
+        ensures { (result ≡ CommandFault.OutOfMemory) ↔ (error_kind error ≡ ErrorKind.OutOfMemory) }
+    {
+        if error.kind() == ErrorKind::OutOfMemory {
             CommandFault::OutOfMemory
         } else {
             CommandFault::ReadFailed

@@ -8,12 +8,20 @@ mod command;
 mod disk;
 mod fault;
 mod options;
+mod outcome;
 mod perform;
 mod place;
 mod reading;
+mod refusal;
 mod run;
 #[cfg(test)]
+mod runs;
+#[cfg(test)]
+mod scripts;
+#[cfg(test)]
 mod tests;
+#[cfg(test)]
+mod traces;
 mod words;
 
 use disk::Disk;

@@ -1,8 +1,7 @@
 //! The options, from what `clap` reads of the words.
-ghost use Rattle.std.specs.Prelude.{◌≡◌, ◌≤◌, ◌<◌, ◌⊎◌, ℕ, List, Some, None, Option, IfOk, IfSome, codes, string_bytes};
-ghost use Rattle.clap.specs.Words.{first_value, found_of};
-ghost use Rattle.clap.specs.Matches.{one_text};
-ghost use Rattle.tsotest.specs.Options.{number_or};
+ghost use Rattle.std.specs.Prelude.{◌≡◌, Some, None, IfErr, IfOk, IfSome, option_map};
+ghost use Rattle.clap.specs.Words.{first_of, found_of, one_of, rows_of};
+ghost use Rattle.tsotest.specs.Options.{AreRunOptions, IsRunFault, number_or};
 
 use clap::ArgMatches;
 use clap::error::ErrorKind;
@@ -61,6 +60,10 @@ impl<T: Drop> From<AllocFailed<T>> for OptionFault {
 }
 
 impl From<clap::Error> for OptionFault {
+    ghost use Rattle.tsotest.specs.Options.{IsSaid};
+
+    ghost from_gives = { IsSaid };
+
     fn from(error: clap::Error) -> OptionFault {
         if error.kind() == ErrorKind::OutOfMemory {
             return OptionFault::OutOfMemory;
@@ -69,10 +72,17 @@ impl From<clap::Error> for OptionFault {
     }
 }
 
+/// The text of an argument or an option, where there is one.
+fn value<'a>(matches: &ArgMatches<'a>, id: &str) -> Option<&'a str>
+    ensures { option_map (λ s. s.now) result ≡ first_of id.now (rows_of (found_of matches.now)) }
+{
+    matches.get_str(id)
+}
+
 /// The number of an option, or its default where there is no entry. None where an entry is no number.
 fn number_or(matches: &ArgMatches<'_>, id: &str, default: u64) -> Option<u64>
-    ensures number { IfSome result (λ n. n ≡ number_or default (one_text (found_of matches.now) id.now)) }
-    ensures none { one_text (found_of matches.now) id.now ≡ None → result ≡ Some default }
+    ensures number { IfSome result (λ n. n ≡ number_or default (one_of id.now (rows_of (found_of matches.now)))) }
+    ensures none { one_of id.now (rows_of (found_of matches.now)) ≡ None → result ≡ Some default }
 {
     match matches.try_get_one::<u64>(id) {
         Ok(Some(n)) => Some(n),
@@ -84,18 +94,13 @@ fn number_or(matches: &ArgMatches<'_>, id: &str, default: u64) -> Option<u64>
 /// The options of `run`: each is `clap`'s entry, else its default, and a capacity outside its limits
 /// is refused.
 pub fn run_options(alloc: Global, matches: &ArgMatches<'_>) -> Result<RunOptions, OptionFault>
-    ensures program { IfOk result (λ o. first_value (found_of matches.now) (codes "PROGRAM") ≡ Some (string_bytes o.program)) }
-    ensures steps { IfOk result (λ o. first_value (found_of matches.now) (codes "steps") ≡ Some (string_bytes o.steps)) }
-    ensures buffer { IfOk result (λ o. o.buffer ≡ number_or DEFAULT_BUFFER (one_text (found_of matches.now) (codes "buffer"))) }
-    ensures limits { IfOk result (λ o. (1 ≤ o.buffer) × (o.buffer ≤ MAX_CAPACITY)) }
-    ensures refused { result ≡ Err OptionFault.Buffer
-        → (number_or DEFAULT_BUFFER (one_text (found_of matches.now) (codes "buffer")) < 1)
-        ⊎ (MAX_CAPACITY < number_or DEFAULT_BUFFER (one_text (found_of matches.now) (codes "buffer"))) }
+    ensures ok { IfOk result (λ o. AreRunOptions o (rows_of (found_of matches.now))) }
+    ensures err { IfErr result (λ fault. IsRunFault fault (rows_of (found_of matches.now))) }
 {
-    let Some(program) = matches.get_str("PROGRAM") else {
+    let Some(program) = value(matches, "PROGRAM") else {
         return Err(OptionFault::NoValue("PROGRAM"));
     };
-    let Some(steps) = matches.get_str("steps") else {
+    let Some(steps) = value(matches, "steps") else {
         return Err(OptionFault::NoValue("--steps"));
     };
     let Some(buffer) = number_or(matches, "buffer", DEFAULT_BUFFER as u64) else {

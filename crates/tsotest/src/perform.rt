@@ -1,4 +1,6 @@
 //! From the words of a command line to what is printed.
+ghost use Rattle.std.specs.Prelude.{◌≡◌, ◌≢◌, IfErr, IfOk};
+ghost use Rattle.tsotest.specs.Answer.{IsStatus};
 
 use crate::answer::{Answer, DONE, REFUSED, Stop};
 use crate::fault::CommandFault;
@@ -11,7 +13,9 @@ use std::io;
 use std::io::Write;
 
 /// The answer where there are no options: the help that was asked for, a refusal or a fault.
-fn without_options(alloc: Global, fault: OptionFault) -> Result<Answer, Stop> {
+fn without_options(alloc: Global, fault: OptionFault) -> Result<Answer, Stop>
+    ensures { IfOk result (λ answer. IsStatus answer.status) }
+{
     match fault {
         OptionFault::Clap(error) => {
             if error.use_stderr() {
@@ -29,7 +33,9 @@ fn without_options(alloc: Global, fault: OptionFault) -> Result<Answer, Stop> {
     }
 }
 
-fn answered<P: Place>(alloc: Global, words: &[String], place: &mut P) -> Result<Answer, Stop> {
+fn answered<P: Place>(alloc: Global, words: &[String], place: &mut P) -> Result<Answer, Stop>
+    ensures { IfOk result (λ answer. IsStatus answer.status) }
+{
     match options(alloc, words) {
         Ok(Options::Run(run)) => ran(alloc, &run, place),
         Err(fault) => without_options(alloc, fault),
@@ -40,7 +46,9 @@ fn whole_answer<P: Place>(
     alloc: Global,
     words: &[String],
     place: &mut P,
-) -> Result<Answer, CommandFault> {
+) -> Result<Answer, CommandFault>
+    ensures { IfOk result (λ answer. IsStatus answer.status) }
+{
     match answered(alloc, words, place) {
         Ok(answer) => Ok(answer),
         Err(Stop::Refused(line)) => Ok(Answer {
@@ -63,7 +71,11 @@ pub fn perform<P: Place, W: Write>(
     words: &[String],
     place: &mut P,
     out: &mut W,
-) -> Result<u8, CommandFault> {
+) -> Result<u8, CommandFault>
+    ensures status { IfOk result IsStatus }
+    // Only a write that fails leaves a part of an answer.
+    ensures unwritten { IfErr result (λ fault. fault ≢ CommandFault.WriteFailed → out.new ≡ out.old) }
+{
     let answer = whole_answer(alloc, words, place)?;
     match put(out, answer.text.as_slice()) {
         Ok(()) => Ok(answer.status),

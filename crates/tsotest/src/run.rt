@@ -1,68 +1,60 @@
 //! The command `run`.
+ghost use Rattle.std.specs.Prelude.{◌≡◌, IfErr, IfOk, Ok};
+ghost use Rattle.litmus.specs.Text.{reading};
+ghost use Rattle.machine.specs.Script.{steps_of};
+ghost use Rattle.tsotest.specs.Refusal.{IsStopOf, line_fault_name, step_fault_name};
+ghost use Rattle.tsotest.specs.Run.{IsRun};
 
-use crate::answer::{Answer, DONE, Stop, UNFINISHED};
+use crate::answer::{Answer, Stop};
 use crate::fault::CommandFault;
 use crate::options::RunOptions;
+use crate::outcome::outcome;
 use crate::place::Place;
 use crate::reading::text_at;
-use litmus::{LitmusError, OutOfMemory, Program, parse};
-use live::Traced;
-use machine::{Fault, Machine, Step, StepsError, parse_steps};
-use recorder::write_recording;
+use crate::refusal::{line_fault_name, refusal_line, step_fault_name};
+use litmus::{LitmusError, Program, parse};
+use machine::{Step, StepsError, parse_steps};
 use std::alloc::Global;
 
-fn program_at<P: Place>(alloc: Global, place: &mut P, name: &str) -> Result<Program, Stop> {
-    let text = text_at(alloc, place, name)?;
-    match parse(alloc, text.as_slice()) {
+/// The program of a text, or the line that is printed for its first line at fault.
+fn program_of(alloc: Global, text: &[u8]) -> Result<Program, Stop>
+    ensures ok { IfOk result (λ program. reading text.now ≡ Ok program) }
+    ensures err { IfErr result (IsStopOf line_fault_name (reading text.now)) }
+{
+    match parse(alloc, text) {
         Ok(program) => Ok(program),
         Err(LitmusError::OutOfMemory) => Err(Stop::Fault(CommandFault::OutOfMemory)),
-        Err(LitmusError::AtLine(fault, line)) => Err(Stop::Refused(format!(in alloc;
-            "refused: {fault:?} line {line}\n"
+        Err(LitmusError::AtLine(fault, line)) => Err(Stop::Refused(refusal_line(
+            alloc,
+            line_fault_name(fault),
+            line,
         )?)),
     }
 }
 
-fn steps_at<P: Place>(
-    alloc: Global,
-    place: &mut P,
-    name: &str,
-    program: &Program,
-) -> Result<Vec<Step>, Stop> {
-    let text = text_at(alloc, place, name)?;
-    match parse_steps(alloc, text.as_slice(), program) {
+/// The steps of a script for a program, or the line that is printed for its first line at fault.
+fn steps_of(alloc: Global, text: &[u8], program: &Program) -> Result<Vec<Step>, Stop>
+    ensures ok { IfOk result (λ steps. steps_of program.now text.now ≡ Ok steps.items) }
+    ensures err { IfErr result (IsStopOf step_fault_name (steps_of program.now text.now)) }
+{
+    match parse_steps(alloc, text, program) {
         Ok(steps) => Ok(steps),
         Err(StepsError::OutOfMemory) => Err(Stop::Fault(CommandFault::OutOfMemory)),
-        Err(StepsError::AtLine(fault, line)) => Err(Stop::Refused(format!(in alloc;
-            "refused: {fault:?} line {line}\n"
+        Err(StepsError::AtLine(fault, line)) => Err(Stop::Refused(refusal_line(
+            alloc,
+            step_fault_name(fault),
+            line,
         )?)),
     }
 }
 
-/// The machine after a script, of which blocked steps are skipped.
-fn stepped(
-    alloc: Global,
-    program: Program,
-    capacity: usize,
-    steps: &[Step],
-) -> Result<Machine, OutOfMemory> {
-    let machine = Machine::new(alloc, program, capacity, Fault::None)?;
-    let mut traced = Traced::new(alloc, machine, steps.len().max(1))?;
-    for step in steps {
-        // The trace has room for each step, so this one was taken or blocked.
-        let _ = traced.advance(*step);
-    }
-    Ok(traced.into_machine())
-}
-
-/// Runs a program by a script, and answers its recording line or that it is unfinished.
-pub fn ran<P: Place>(alloc: Global, options: &RunOptions, place: &mut P) -> Result<Answer, Stop> {
-    let program = program_at(alloc, place, options.program.as_str())?;
-    let steps = steps_at(alloc, place, options.steps.as_str(), &program)?;
-    match stepped(alloc, program, options.buffer, steps.as_slice())?.finish() {
-        Ok(recording) => Ok(Answer {
-            status: DONE,
-            text: write_recording(alloc, &recording)?,
-        }),
-        Err(_) => Ok(Answer::of(alloc, UNFINISHED, "unfinished\n")?),
-    }
+/// Runs a program by a script: both are named inputs, and the program is read before the script is opened.
+pub fn ran<P: Place>(alloc: Global, options: &RunOptions, place: &mut P) -> Result<Answer, Stop>
+    ensures { IfOk result (IsRun options.now.buffer) }
+{
+    let text = text_at(alloc, place, options.program.as_str())?;
+    let program = program_of(alloc, text.as_slice())?;
+    let text = text_at(alloc, place, options.steps.as_str())?;
+    let steps = steps_of(alloc, text.as_slice(), &program)?;
+    Ok(outcome(alloc, program, options.buffer, steps.as_slice())?)
 }

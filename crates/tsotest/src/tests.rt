@@ -116,60 +116,70 @@ const TWO_STORES: &str =
     "{\"cores\":[[{\"a\":0,\"k\":\"S\",\"w\":1},{\"a\":0,\"k\":\"S\",\"w\":2}]],\
     \"version\":1,\"writes\":[[0,1]]}\n";
 
+/// Programs and scripts by their names.
+const TEXTS: [(&str, &str); 17] = [
+    ("sb", STORE_BUFFERING),
+    ("loads_first", LOADS_FIRST),
+    ("empty", ""),
+    ("adds", "core\nadd x 4294967295\nadd x 2\n"),
+    ("twice", "exec 0\nexec 0\n"),
+    ("fenced", "core\nst x 1\nfence\nld x\n"),
+    ("fence_waits", "exec 0\nexec 0\ndrain 0\nexec 0\nexec 0\n"),
+    ("stores", "core\nst x 1\nst x 2\n"),
+    ("store_ahead", "exec 0\nexec 0\ndrain 0\ndrain 0\n"),
+    ("headless", "st x 1\n"),
+    ("padded", "core\nst x 01\n"),
+    ("large", "core\nst x 4294967296\n"),
+    ("unended", "core\nld x"),
+    ("no_step", "exec 0\nexit 0\n"),
+    ("no_core", "exec 0\ndrain 1\nexec 2\n"),
+    ("far_core", "exec 99999999999999999999\n"),
+    ("unended_step", "exec 0\nexec 0"),
+];
+
+/// Command lines, the status of each, and its output.
+const ROWS: [(&str, u8, &str); 20] = [
+    ("run sb --steps loads_first", 0, BOTH_MISS),
+    ("run empty --steps empty", 0, EMPTY),
+    ("run --steps=empty empty", 0, EMPTY),
+    ("run adds --steps twice", 0, SUM_WRAPS),
+    ("run fenced --steps fence_waits", 0, FENCED),
+    ("run stores --steps store_ahead", 0, TWO_STORES),
+    ("run stores --steps store_ahead --buffer 2", 0, TWO_STORES),
+    (
+        "run stores --steps store_ahead --buffer 1",
+        4,
+        "unfinished\n",
+    ),
+    ("run sb --steps empty", 4, "unfinished\n"),
+    ("run stores --steps twice", 4, "unfinished\n"),
+    ("run headless --steps nowhere", 3, "refused: L1 line 1\n"),
+    ("run padded --steps nowhere", 3, "refused: L1 line 2\n"),
+    ("run large --steps nowhere", 3, "refused: L5 line 2\n"),
+    ("run unended --steps nowhere", 3, "refused: L1 line 2\n"),
+    ("run sb --steps no_step", 3, "refused: S1 line 2\n"),
+    ("run sb --steps no_core", 3, "refused: S2 line 3\n"),
+    ("run sb --steps far_core", 3, "refused: S2 line 1\n"),
+    ("run sb --steps unended_step", 3, "refused: S1 line 2\n"),
+    ("run nowhere --steps nowhere --buffer 0", 3, "refused: K7\n"),
+    (
+        "run nowhere --steps nowhere --buffer 18446744073709551615",
+        3,
+        "refused: K7\n",
+    ),
+];
+
 #[test]
 fn a_run_prints_its_recording_or_why_there_is_none(rt: HostRuntime) -> Result<(), Fail> {
     let alloc = rt.alloc();
-    let texts = [
-        named("sb", STORE_BUFFERING),
-        named("loads_first", LOADS_FIRST),
-        named("empty", ""),
-        named("adds", "core\nadd x 4294967295\nadd x 2\n"),
-        named("twice", "exec 0\nexec 0\n"),
-        named("fenced", "core\nst x 1\nfence\nld x\n"),
-        named("fence_waits", "exec 0\nexec 0\ndrain 0\nexec 0\nexec 0\n"),
-        named("stores", "core\nst x 1\nst x 2\n"),
-        named("store_ahead", "exec 0\nexec 0\ndrain 0\ndrain 0\n"),
-        named("headless", "st x 1\n"),
-        named("padded", "core\nst x 01\n"),
-        named("large", "core\nst x 4294967296\n"),
-        named("unended", "core\nld x"),
-        named("no_step", "exec 0\nexit 0\n"),
-        named("no_core", "exec 0\ndrain 1\nexec 2\n"),
-        named("far_core", "exec 99999999999999999999\n"),
-        named("unended_step", "exec 0\nexec 0"),
-    ];
-    let rows = [
-        ("run sb --steps loads_first", 0, BOTH_MISS),
-        ("run empty --steps empty", 0, EMPTY),
-        ("run --steps=empty empty", 0, EMPTY),
-        ("run adds --steps twice", 0, SUM_WRAPS),
-        ("run fenced --steps fence_waits", 0, FENCED),
-        ("run stores --steps store_ahead", 0, TWO_STORES),
-        ("run stores --steps store_ahead --buffer 2", 0, TWO_STORES),
-        (
-            "run stores --steps store_ahead --buffer 1",
-            4,
-            "unfinished\n",
-        ),
-        ("run sb --steps empty", 4, "unfinished\n"),
-        ("run stores --steps twice", 4, "unfinished\n"),
-        ("run headless --steps nowhere", 3, "refused: L1 line 1\n"),
-        ("run padded --steps nowhere", 3, "refused: L1 line 2\n"),
-        ("run large --steps nowhere", 3, "refused: L5 line 2\n"),
-        ("run unended --steps nowhere", 3, "refused: L1 line 2\n"),
-        ("run sb --steps no_step", 3, "refused: S1 line 2\n"),
-        ("run sb --steps no_core", 3, "refused: S2 line 3\n"),
-        ("run sb --steps far_core", 3, "refused: S2 line 1\n"),
-        ("run sb --steps unended_step", 3, "refused: S1 line 2\n"),
-        ("run nowhere --steps nowhere --buffer 0", 3, "refused: K7\n"),
-        (
-            "run nowhere --steps nowhere --buffer 18446744073709551615",
-            3,
-            "refused: K7\n",
-        ),
-    ];
-    for (line, status, output) in rows {
-        let mut place = Texts { texts: &texts };
+    let mut texts = Vec::new(alloc);
+    for (name, bytes) in TEXTS {
+        texts.push(named(name, bytes))?;
+    }
+    for (line, status, output) in ROWS {
+        let mut place = Texts {
+            texts: texts.as_slice(),
+        };
         let mut out = Vec::new(alloc);
         let words = words(alloc, line)?;
         let answer = perform(alloc, words.as_slice(), &mut place, &mut out)?;
@@ -266,8 +276,16 @@ fn a_fault_prints_nothing_on_standard_output(rt: HostRuntime) -> Result<(), Fail
         }
         assert!(rt; out.is_empty(), "{line}");
     }
-    let mut place = Texts { texts: &texts };
-    let words = words(alloc, "run sb --steps loads_first")?;
+    Ok(())
+}
+
+#[test]
+fn a_write_that_fails_is_a_fault(rt: HostRuntime) -> Result<(), Fail> {
+    let alloc = rt.alloc();
+    let mut place = Texts {
+        texts: &[named("empty", "")],
+    };
+    let words = words(alloc, "run empty --steps empty")?;
     let answer = perform(alloc, words.as_slice(), &mut place, &mut Full);
     assert!(rt; matches!(answer, Err(CommandFault::WriteFailed)));
     Ok(())

@@ -1,15 +1,42 @@
 //! The words of a command line.
+ghost use Rattle.std.specs.Prelude.{◌≡◌, IfErr, IfOk, map, option_map, string_bytes};
+ghost use Rattle.clap.specs.Words.{found_of, rows_of, subcommand_rows_of};
+ghost use Rattle.tsotest.specs.Options.{AreOptions, IsCommandFault, IsFault};
+ghost use Rattle.tsotest.specs.Commands.{command_of};
 
 use crate::command::{Texts, command};
 use crate::options::{OptionFault, Options, run_options};
+use clap::ArgMatches;
 use std::alloc::Global;
 
-/// The options that the words ask for. They come without the program's name.
-pub fn options(alloc: Global, words: &[String]) -> Result<Options, OptionFault> {
-    let texts = Texts::new(alloc)?;
-    let matches = command(alloc, &texts)?.try_get_matches_from(words)?;
-    match matches.subcommand() {
-        Some(("run", inner)) => Ok(Options::Run(run_options(alloc, inner)?)),
-        _ => Err(OptionFault::NoValue("the command")),
+/// The command that was read, with its entries.
+fn entered<'m, 'a>(matches: &'m ArgMatches<'a>) -> Option<(&'a str, &'m ArgMatches<'a>)>
+    ensures { option_map (λ p. (p.0.now, rows_of (found_of p.1.now))) result ≡ subcommand_rows_of matches.now }
+{
+    matches.subcommand()
+}
+
+fn command_options(alloc: Global, matches: &ArgMatches<'_>) -> Result<Options, OptionFault>
+    ensures ok { IfOk result (λ o. AreOptions o (subcommand_rows_of matches.now)) }
+    ensures err { IfErr result (λ fault. IsCommandFault fault (subcommand_rows_of matches.now)) }
+{
+    let Some((name, entries)) = entered(matches) else {
+        return Err(OptionFault::NoValue("the command"));
+    };
+    if name != "run" {
+        return Err(OptionFault::NoValue("the command"));
     }
+    let run = run_options(alloc, entries)?;
+    Ok(Options::Run(run))
+}
+
+/// The options that the words ask for. They come without the program's name.
+pub fn options(alloc: Global, words: &[String]) -> Result<Options, OptionFault>
+    ensures ok { IfOk result (λ o. AreOptions o (command_of (map string_bytes words.now))) }
+    ensures err { IfErr result (λ fault. IsFault fault (map string_bytes words.now)) }
+{
+    let texts = Texts::new(alloc)?;
+    let command = command(alloc, &texts)?;
+    let matches = command.try_get_matches_from(words)?;
+    command_options(alloc, &matches)
 }

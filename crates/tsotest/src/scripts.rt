@@ -1,5 +1,7 @@
-use super::*;
+//! Step scripts that are read, and those that are refused.
+
 use litmus::{MAX_STEPS, Program, parse};
+use machine::{Step, StepFault, StepsError, parse_steps};
 use std::alloc::Global;
 use std::test::*;
 

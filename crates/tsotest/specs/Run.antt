@@ -1,0 +1,47 @@
+-- What a script makes of a program.
+use Rattle.std.specs.Prelude.{◌≡◌, ◌≤◌, ◌+◌, ◌⊎◌, ◌++◌, ◌∷◌, [], ℕ, List, Ok, length, codes}
+use Rattle.litmus.specs.Parts.{Parts}
+use Rattle.litmus.specs.Text.{reading}
+use Rattle.recorder.specs.Text.{recording_text}
+use Rattle.recorder.specs.Tso.{IsTsoOrder}
+use Rattle.machine.specs.declared.step.Step.{Step}
+use Rattle.machine.specs.State.{State, IsComplete, opening, recorded}
+use Rattle.machine.specs.Step.{after, run, taken}
+use Rattle.machine.specs.Script.{steps_of}
+use Rattle.live.specs.Trace.{Trace}
+use Rattle.tsotest.specs.declared.answer.Answer.{Answer}
+use Rattle.tsotest.specs.declared.answer.TheConstants.{DONE, UNFINISHED}
+
+-- the state of a program after a script, of which the steps that are blocked are skipped
+abbrev pub state_after : Parts → ℕ → List Step → State
+state_after p capacity script = run p.cores capacity (opening p.cores (length p.names)) script
+
+-- the recording of a run that is complete, which TSO allows, or that the run is unfinished
+pub record IsRunAnswer (p : Parts) (s : State) (answer : Answer) : Type 0 where
+  pub status : (answer.status ≡ DONE) ⊎ (answer.status ≡ UNFINISHED)
+  pub done : IsComplete p.cores s
+      → (answer.status ≡ DONE) × (answer.text.items ≡ recording_text (recorded p.cores s))
+  pub unfinished : (IsComplete p.cores s → ⊥)
+      → (answer.status ≡ UNFINISHED) × (answer.text.items ≡ codes "unfinished" ++ 10 ∷ [])
+  pub tso : answer.status ≡ DONE → IsTsoOrder (recorded p.cores s) s.performed
+
+-- the answer of some program and some script that were read
+pub record IsRun (capacity : ℕ) (answer : Answer) : Type 0 where
+  pub program_text : List ℕ
+  pub program : Parts
+  pub read : reading program_text ≡ Ok program
+  pub script_text : List ℕ
+  pub script : List Step
+  pub listed : steps_of program script_text ≡ Ok script
+  pub answered : IsRunAnswer program (state_after program capacity script) answer
+
+-- the machine's state after one step more
+abbrev pub state_with : Trace → Step → State
+state_with t step =
+    after t.machine.state (taken t.machine.program.cores t.machine.capacity t.machine.state step)
+
+-- one step more, if the machine doesn't block it
+pub record GoesOn (old new : Trace) (step : Step) : Type 0 where
+  pub machine : new.machine ≡ record old.machine { state = state_with old step }
+  pub limit : new.limit ≡ old.limit
+  pub trace : length new.steps ≤ length old.steps + 1

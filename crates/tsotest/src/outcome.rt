@@ -1,0 +1,58 @@
+//! What a script makes of a program.
+ghost use Rattle.std.specs.Prelude.{◌≡◌, ◌<◌, IfOk, length};
+ghost use Rattle.tsotest.specs.Run.{GoesOn, IsRunAnswer, state_after};
+
+use crate::answer::{Answer, DONE, UNFINISHED};
+use litmus::{OutOfMemory, Program};
+use live::Traced;
+use machine::{Fault, Machine, Step};
+use recorder::write_recording;
+use std::alloc::Global;
+
+/// Takes a step, or skips one that is blocked.
+fn go_on(traced: &mut Traced, step: Step)
+    requires { length traced.old.steps < traced.old.limit }
+    ensures { GoesOn traced.old traced.new step }
+{
+    let _ = traced.advance(step);
+}
+
+fn stepped(
+    alloc: Global,
+    program: Program,
+    capacity: usize,
+    steps: &[Step],
+) -> Result<Machine, OutOfMemory>
+    ensures { IfOk result (λ m. m ≡ record {
+      program = program;
+      capacity = capacity;
+      fault = Fault.None;
+      state = state_after program capacity steps.now;
+    }) }
+{
+    let machine = Machine::new(alloc, program, capacity, Fault::None)?;
+    let mut traced = Traced::new(alloc, machine, steps.len().max(1))?;
+    for step in steps {
+        go_on(&mut traced, *step);
+    }
+    Ok(traced.into_machine())
+}
+
+/// Runs a program by a script, and answers with the line of its recording, or that it is unfinished.
+pub fn outcome(
+    alloc: Global,
+    program: Program,
+    capacity: usize,
+    steps: &[Step],
+) -> Result<Answer, OutOfMemory>
+    ensures { IfOk result (IsRunAnswer program (state_after program capacity steps.now)) }
+{
+    let machine = stepped(alloc, program, capacity, steps)?;
+    match machine.finish() {
+        Ok(recording) => {
+            let text = write_recording(alloc, &recording)?;
+            Ok(Answer { status: DONE, text })
+        }
+        Err(_) => Ok(Answer::of(alloc, UNFINISHED, "unfinished\n")?),
+    }
+}
