@@ -1,5 +1,5 @@
 -- A machine and the steps that led to it.
-use Rattle.std.specs.Prelude.{◌≡◌, ◌≤◌, ℕ, List, length}
+use Rattle.std.specs.Prelude.{◌≡◌, ℕ, List, length}
 use Rattle.machine.specs.declared.step.Step.{Step}
 use Rattle.machine.specs.State.{State, opening}
 use Rattle.machine.specs.Step.{run}

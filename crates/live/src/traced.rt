@@ -6,7 +6,8 @@ use machine::{Machine, Step};
 use std::alloc::Global;
 use std::marker::Model;
 
-/// A machine and the trace of the steps that it took, which lead to it from the opening state of its program.
+/// A machine and the trace of the steps that it took, which lead to it from the opening state of
+/// its program.
 #[derive(Drop)]
 pub struct Traced {
     machine: Machine,
@@ -31,11 +32,12 @@ impl Traced {
     ghost use Rattle.live.specs.Trace.{Trace, IsReplay, opening_of};
     ghost use Rattle.live.specs.Advance.{advanced};
 
-    /// A machine that has not yet taken a step, whose trace may have `limit` steps; the room for them is made here.
-    /// An `Err` only where there is no memory.
+    /// A machine that has not yet taken a step, whose trace may have `limit` steps; the room for
+    /// them is made here. An `Err` only where there is no memory.
     pub fn new(alloc: Global, machine: Machine, limit: usize) -> Result<Traced, OutOfMemory>
         requires { machine.state ≡ opening_of machine }
-        ensures { IfOk result (λ t. t ≡ record { machine = machine; steps = []; limit = limit }) }
+        ensures { IfOk result (λ t. t
+            ≡ record { machine = machine; steps = []; limit = limit }) }
     {
         let steps = Vec::with_capacity(alloc, limit)?;
         Ok(Traced {
@@ -76,8 +78,8 @@ impl Traced {
         self.machine
     }
 
-    /// Takes a step and adds it to the trace. A full trace is answered first, then a blocked step; both change nothing.
-    /// It takes no memory.
+    /// Takes a step and adds it to the trace. A full trace is answered first, then a blocked step;
+    /// both change nothing. It takes no memory.
     pub fn advance(&mut self, step: Step) -> Result<(), LiveError>
         ensures ok { OnOk result (advanced self.old step ≡ Ok self.new) }
         ensures refused { IfErr result (λ e. advanced self.old step ≡ Err e) }

@@ -1,29 +1,30 @@
 -- What a new machine holds.
-use Rattle.std.proofs.Common.{◌≡◌, ◌<◌, ◌≤◌, ◌+◌, ◌-◌, inl, inr, ℕ, zero, suc, Option, None, List, [], ◌∷◌, ◌++◌, map, take, length, get_or, slice_index, slice_index_or, replicate, arith, refl, sym, ap, subst, ◌∙◌}
-use Rattle.std.specs.List.{All, sum, sum_by}
+use Rattle.std.proofs.Common.{◌≡◌, ◌<◌, ◌≤◌, ◌+◌, ◌-◌, inl, inr, ℕ, zero, suc, Option, None, List, [], ◌∷◌, ◌++◌, map, length, get_or, slice_index_or, replicate, arith, refl, sym, ap, subst, ◌∙◌}
+use Rattle.std.specs.List.{All, sum_by}
 use Rattle.std.proofs.lemmas.List.{length-replicate, get_or-replicate, get_or_append_left, get_or-append_right}
 use Rattle.std.proofs.lemmas.List.Sums.{sum_by-cons}
 use Rattle.std.proofs.lemmas.Bool.{cases_lt}
 use Rattle.litmus.specs.declared.limits.TheConstants.{MAX_EVENTS}
 use Rattle.litmus.specs.declared.op.Op.{Op}
 use Rattle.litmus.specs.Parts.{Parts, IsWithin}
-use Rattle.write_buffer.specs.declared.entry.Entry.{Entry}
 use Rattle.write_buffer.specs.Buffer.{Buffer}
 use Rattle.core_unit.specs.Progress.{Progress}
 use Rattle.machine.specs.Roomy.{Roomy}
 use Rattle.machine.specs.State.{first_event, opening}
 use Rattle.machine.specs.Made.{AreUnits}
-use Rattle.machine.specs.Held.{Rooms, IsSound, IsMachine, held, places_of, events_of, rooms_of}
+use Rattle.machine.specs.Held.{Rooms, IsSound, IsMachine, held, places_of, events_of}
 use Rattle.machine.proofs.Opening.{get_or_same}
 
 -- what is true of an item is true of all its copies
 all_same : {X : Type 0} (P : X → Type 0) (n : ℕ) (x : X) → P x → All P (replicate n x)
 all_same P n x h k d inside = subst P (sym (get_or-replicate n k x d (omega (arith, inside, length-replicate n x)))) h
 
+-- copies of what counts nothing count nothing
 sum_same : {X : Type 0} (f : X → ℕ) (n : ℕ) (x : X) → f x ≡ 0 → sum_by f (replicate n x) ≡ 0
 sum_same f zero x h = refl
 sum_same f (suc n) x h = omega (arith, h, sum_by-cons f x (replicate n x), sum_same f n x h)
 
+-- a function of all copies
 map_same : {X Y : Type 0} (f : X → Y) (n : ℕ) (x : X) → map f (replicate n x) ≡ replicate n (f x)
 map_same f zero x = refl
 map_same f (suc n) x = ap (λ (ys : List _). f x ∷ ys) (map_same f n x)
@@ -42,12 +43,15 @@ module _ (p : Parts) (capacity cores total n : ℕ) (units : List Progress) (cor
     (buffers_are : buffers ≡ replicate cores (record { entries = []; capacity = capacity })) (memory_is : memory ≡ replicate n (0, None))
     (writes_are : writes ≡ replicate n (record { items = []; room = total })) (reads_are : reads ≡ replicate total (0, None)) (done_is : done ≡ record { items = []; room = total })
     (blank_is : blank ≡ record { cores = cores; events = total; addresses = n }) where
+  -- each unit is at the start of its core
   units_begun : (c : ℕ) (d : Progress) → c < length p.cores → slice_index_or units c d ≡ record { first = first_event p.cores c; place = 0 }
   units_begun = are.begun
 
+  -- no core has executed anything
   places_are : places_of units ≡ replicate (length p.cores) 0
   places_are = places_none units (length p.cores) are.one_each (λ c d inside. ap (λ (u : Progress). u.place) (are.begun c d inside))
 
+  -- the parts make the opening state
   pub opening_held : held units buffers memory writes reads done.items ≡ opening p.cores (length p.names)
   opening_held = rw (
     places_are,
@@ -63,6 +67,7 @@ module _ (p : Parts) (capacity cores total n : ℕ) (units : List Progress) (cor
     are.events,
   ) refl
 
+  -- the parts fit together
   sound : IsSound p capacity units buffers memory writes reads done
   sound = record {
     operations = fits;
@@ -91,6 +96,7 @@ module _ (p : Parts) (capacity cores total n : ℕ) (units : List Progress) (cor
     );
   }
 
+  -- so they are a machine
   pub is_machine : IsMachine p capacity units buffers memory writes reads done blank
   is_machine = record {
     sound = sound;

@@ -1,5 +1,5 @@
 -- How each kind of step counts events: it moves one, and all others stay where they are.
-use Rattle.std.proofs.Common.{◌≡◌, ◌≢◌, ◌<◌, ◌≤◌, ◌+◌, inl, inr, ℕ, Bool, true, Option, None, List, [], ◌∷◌, ◌++◌, arith, refl, sym, ap, subst, ◌∙◌}
+use Rattle.std.proofs.Common.{◌≡◌, ◌≢◌, ◌<◌, ◌≤◌, ◌+◌, inl, inr, ℕ, true, None, List, [], ◌∷◌, ◌++◌, arith, refl, sym, ap, subst, ◌∙◌}
 use Rattle.std.proofs.lemmas.Bool.{cases_eq}
 use Rattle.recorder.specs.Order.{times}
 use Rattle.recorder.proofs.Orders.{times_here, times_there, times_nil, times_append}
@@ -42,6 +42,7 @@ next_step p s t b old new others e eb done = elim (cases_eq (p.core e) (p.core b
   | inr other ↦ omega (arith, others (p.core e) other, done)
 ]
 
+-- no core goes back
 next_up : (p : Static) (s t : Snapshot) (b : ℕ) → s.next (p.core b) ≡ b → t.next (p.core b) ≡ b + 1 → ((d : ℕ) → d ≢ p.core b → t.next d ≡ s.next d) → (c : ℕ) → s.next c ≤ t.next c
 next_up p s t b old new others c = elim (cases_eq c (p.core b)) [
   | inl one ↦ subst (λ (z : ℕ). s.next z ≤ t.next z) (sym one) (omega (arith, old, new))
@@ -61,6 +62,7 @@ pub record Issues (p : Static) (s t : Snapshot) (b : ℕ) : Type 0 where
   pub next_others : (d : ℕ) → d ≢ p.core b → t.next d ≡ s.next d
   pub source : (e : ℕ) → e ≢ b → t.source e ≡ s.source e
 
+-- a store that goes to its buffer is counted
 pub issue_counts : (p : Static) (s t : Snapshot) (b : ℕ) → IsCounted p s → Issues p s t b → Counts p s t b
 issue_counts p s t b counted i = record {
   others = λ d e eb. elim (cases_eq d (p.core b)) [
@@ -125,6 +127,7 @@ pub record Performs (p : Static) (s t : Snapshot) (b : ℕ) : Type 0 where
   pub next_others : (d : ℕ) → d ≢ p.core b → t.next d ≡ s.next d
   pub source : (e : ℕ) → e ≢ b → t.source e ≡ s.source e
 
+-- an event that is performed is counted
 pub perform_counts : (p : Static) (s t : Snapshot) (b : ℕ) → IsCounted p s → Performs p s t b → Counts p s t b
 perform_counts p s t b counted i = record {
   others = λ d e eb. omega (arith, seen_more d e, times_there [] b e (λ z. eb (sym z)), times_nil e);
@@ -167,6 +170,7 @@ module _ (p : Static) (s t : Snapshot) (c b : ℕ) (front : List ℕ) (counted :
     times_append (b ∷ []) i.back e,
   )
 
+  -- the drain changes no count
   times_is : (e : ℕ) → times (seen t c) e ≡ times (seen s c) e
   times_is e = omega (
     arith,
@@ -178,21 +182,27 @@ module _ (p : Static) (s t : Snapshot) (c b : ℕ) (front : List ℕ) (counted :
     times_append front i.back e,
   )
 
+  -- the drained store stands once by itself
   one : times (b ∷ []) b ≡ 1
   one = omega (arith, times_here [] b b refl, times_nil b)
 
+  -- it waited
   pub drain_waits : 0 < times (s.buffer c) b
   drain_waits = omega (arith, ap (λ (q : List ℕ). times q b) i.was, times_append front (b ∷ i.back) b, times_here i.back b b refl)
 
+  -- it is of that core
   pub drain_core : p.core b ≡ c
   drain_core = (counted.waiting c b drain_waits).0
 
+  -- it was executed
   pub drain_event : (b < p.count) × (b < s.next (p.core b))
   drain_event = counted.executed c b (omega (arith, drain_waits, times_append s.performed (s.buffer c) b))
 
+  -- it stood once in its core's order
   pub drain_once : times (seen s (p.core b)) b ≡ 1
   drain_once = counted.listed b drain_event.0 drain_event.1
 
+  -- a drain is counted
   pub drain_counts : Counts p s t b
   drain_counts = record {
     others = λ d e eb. elim (cases_eq d c) [

@@ -7,8 +7,7 @@ use Rattle.std.proofs.lemmas.Bool.{cases_eq, cases_lt, eq-eqb}
 use Rattle.litmus.specs.declared.op.Op.{Op}
 use Rattle.litmus.specs.declared.op.Op.TheVariants.{St, Ld, Fence, Swap, Add}
 use Rattle.litmus.specs.Parts.{IsWithin}
-use Rattle.recorder.specs.declared.event.Event.{Event}
-use Rattle.recorder.specs.Event.{read_address, written_address, source, value_read, value_written}
+use Rattle.recorder.specs.Event.{written_address, source, value_read, value_written}
 use Rattle.recorder.specs.Execution.{event_at, write_list, Reads, Writes}
 use Rattle.recorder.specs.Order.{times}
 use Rattle.recorder.specs.Tso.{Gives, IsWellFormed}
@@ -18,7 +17,7 @@ use Rattle.write_buffer.specs.declared.entry.Entry.{Entry}
 use Rattle.write_buffer.specs.Buffer.{youngest, or_else}
 use Rattle.machine.specs.declared.step.Step.{Step}
 use Rattle.machine.specs.State.{State, place_of, buffer_of, current, event_of, recorded, opening, IsComplete}
-use Rattle.machine.specs.Step.{advanced, performed, given, written, found, loaded, run}
+use Rattle.machine.specs.Step.{found, loaded, run}
 use Rattle.machine.proofs.Static.{static_of, snapshot_of, placed_op, done_by, op_reads}
 use Rattle.machine.proofs.Newest.{bool_cases, times_filter, times_filter_no}
 use Rattle.machine.proofs.WriteLists.{writes_to, is_address_true, is_address_back}
@@ -28,13 +27,14 @@ use Rattle.machine.proofs.Executes.{IsNext, next_placed}
 use Rattle.machine.proofs.Rows.{IsKept, IsExchange, stored_state, loaded_state, fenced_state, exchanged_state, run_kept}
 use Rattle.machine.proofs.Steady.{IsSteady, next_within, steady_kept}
 use Rattle.machine.proofs.Opening.{get_or_same, opening_steady}
-use Rattle.machine.proofs.Complete.{event_is, list_is, writes_is, reads_is, count_is, complete_listed}
+use Rattle.machine.proofs.Complete.{event_is, list_is, writes_is, reads_is, complete_listed}
 
 -- the value is the initial one, or the source is an executed write of it to the address
 abbrev pub IsGiven : List (List Op) → State → ℕ → Option ℕ → ℕ → Type 0
 IsGiven p s a None v = v ≡ 0
 IsGiven p s a (Some w) v = (w < (snapshot_of p s).next ((static_of p s).core w)) × (written_address (done_by p s w) ≡ Some a) × (value_written (done_by p s w) ≡ v)
 
+-- a pair of a value and its source is given
 abbrev pub IsPairGiven : List (List Op) → State → ℕ → ℕ × Option ℕ → Type 0
 IsPairGiven p s a d = IsGiven p s a d.1 d.0
 
@@ -63,6 +63,7 @@ written_given p t w c a v op is executed address value =
       ap value_written does ∙ value,
     )
 
+-- one entry, found twice
 some_entry : {u v : Entry} → Some u ≡ Some v → u ≡ v
 some_entry h = cc
 
@@ -97,6 +98,7 @@ module _ (p : List (List Op)) (s : State) (d : IsData p s) where
   waits_executed : (c : ℕ) (x : Entry) → placed_op p x.event ≡ (c, St x.addr x.value) → 0 < times (map (λ (y : Entry). y.event) (buffer_of s c)) x.event → x.event < (snapshot_of p s).next c
   waits_executed c x op there = subst (λ (k : ℕ). x.event < (snapshot_of p s).next k) (ap (λ (z : ℕ × Op). z.0) op) (executed_in c x.event there)
 
+  -- what a load gets is given
   loaded_given : (c a : ℕ) → IsPairGiven p s a (loaded s c a)
   loaded_given c a = go (youngest (buffer_of s c) a) refl
     where
@@ -115,6 +117,7 @@ module _ (p : List (List Op)) (s : State) (d : IsData p s) where
     | inr other ↦ subst (λ (z : ℕ × Option ℕ). IsPairGiven p t k z) (sym (get_or-set_other s.memory a k (v, Some b) (0, None) other)) (old k)
   ]
 
+  -- a drain keeps the data
   drain_data : (c : ℕ) (x : Entry) (xs : List Entry) → c < length p → buffer_of s c ≡ x ∷ xs → IsData p (drained_state s c x xs)
   drain_data c x xs at is =
       let here : AreStores p c (x ∷ xs) = subst (λ (b : List Entry). AreStores p c b) is (d.steady.stores c) in
@@ -129,9 +132,11 @@ module _ (p : List (List Op)) (s : State) (d : IsData p s) where
       }
 
   module _ (c b : ℕ) (op : Op) (n : IsNext p s c b op) where
+    -- the event is the next of its core
     new : (snapshot_of p s).next ((static_of p s).core b) ≡ b
     new = ap (λ (z : ℕ × Op). (snapshot_of p s).next z.0) (next_placed p s c b op n) ∙ sym n.event
 
+    -- no core goes back
     up : (k : ℕ) → place_of s k ≤ get_or (slice_set s.places c (place_of s c + 1)) k 0
     up k = elim (cases_eq k c) [
       | inl same ↦ subst (λ (z : ℕ). get_or s.places z 0 ≤ get_or (slice_set s.places c (place_of s c + 1)) z 0) (sym same) (omega (arith, get_or-set_same s.places c (place_of s c + 1) 0 n.core))
@@ -162,6 +167,7 @@ module _ (p : List (List Op)) (s : State) (d : IsData p s) where
               (subst (λ (z : ℕ × Option ℕ). IsPairGiven p t k z) (sym (get_or-set_other s.reads b e what (0, None) other)) (keep k _ _ (d.reads e k r)))
         ]
 
+  -- a store keeps the data
   store_data : (c b a v : ℕ) → IsNext p s c b (St a v) → c < length p → IsData p (stored_state s c b a v)
   store_data c b a v n at =
       let keep : (k : ℕ) (o : Option ℕ) (w : ℕ) → IsGiven p s k o w → IsGiven p (stored_state s c b a v) k o w = go_on c b (St a v) n (stored_state s c b a v) refl (λ e other. refl) in
@@ -171,6 +177,7 @@ module _ (p : List (List Op)) (s : State) (d : IsData p s) where
         reads = λ e k r. keep k _ _ (d.reads e k r);
       }
 
+  -- a fence keeps the data
   fence_data : (c b : ℕ) → IsNext p s c b Fence → buffer_of s c ≡ [] → IsData p (fenced_state s c b)
   fence_data c b n empty =
       let keep : (k : ℕ) (o : Option ℕ) (w : ℕ) → IsGiven p s k o w → IsGiven p (fenced_state s c b) k o w = go_on c b Fence n (fenced_state s c b) refl (λ e other. refl) in
@@ -180,6 +187,7 @@ module _ (p : List (List Op)) (s : State) (d : IsData p s) where
         reads = λ e k r. keep k _ _ (d.reads e k r);
       }
 
+  -- a load keeps the data
   load_data : (c b a : ℕ) → IsNext p s c b (Ld a) → IsData p (loaded_state s c b a)
   load_data c b a n =
       let t : State = loaded_state s c b a in
@@ -189,6 +197,7 @@ module _ (p : List (List Op)) (s : State) (d : IsData p s) where
         reads = read_given c b (Ld a) n t a (loaded s c a) refl (loaded_given c a) refl refl;
       }
 
+  -- a read-modify-write keeps the data
   exchange_data : (c b a v : ℕ) (op : Op) → IsNext p s c b op → IsExchange op (current s a) a v → buffer_of s c ≡ [] → IsData p (exchanged_state s c b a v)
   exchange_data c b a v op n is empty =
       let t : State = exchanged_state s c b a v in
@@ -202,6 +211,7 @@ module _ (p : List (List Op)) (s : State) (d : IsData p s) where
         reads = read_given c b op n t a (current s a) is.reads (d.memory a) refl refl;
       }
 
+  -- each row keeps the data
   pub data_kept : IsKept p s (IsData p)
   data_kept = record {
     drain = drain_data;
@@ -211,6 +221,7 @@ module _ (p : List (List Op)) (s : State) (d : IsData p s) where
     exchange = exchange_data;
   }
 
+-- the opening state has only initial values
 opening_data : (p : List (List Op)) (n : ℕ) → All (λ ops. All (IsWithin n) ops) p → IsData p (opening p n)
 opening_data p n fits = record {
   steady = opening_steady p n fits;
@@ -218,11 +229,13 @@ opening_data p n fits = record {
   reads = λ e a r. subst (λ (z : ℕ × Option ℕ). IsPairGiven p (opening p n) a z) (sym (get_or_same (sum_by (λ ops. length ops) p) e (0, None))) refl;
 }
 
+-- every run has its data from executed writes
 pub run_data : (p : List (List Op)) (n capacity : ℕ) (steps : List Step) → All (λ ops. All (IsWithin n) ops) p → IsData p (run p capacity (opening p n) steps)
 run_data p n capacity steps fits = run_kept p capacity (IsData p) (λ s d. (data_kept p s d, d.steady.places)) steps (opening p n) (opening_data p n fits)
 
 -- Well-formedness
 
+-- an event read what it was given
 value_same : (op : Op) (d : ℕ × Option ℕ) (a : ℕ) → op_reads op ≡ Some a → (source (event_of op d) ≡ d.1) × (value_read (event_of op d) ≡ d.0)
 value_same (St b v) d a h = absurd cc
 value_same (Ld b) d a h = (refl, refl)
@@ -230,23 +243,29 @@ value_same Fence d a h = absurd cc
 value_same (Swap b v) d a h = (refl, refl)
 value_same (Add b v) d a h = (refl, refl)
 
+-- what is given is what the recording asks of a source
 gives : (p : List (List Op)) (s : State) (a : ℕ) (o : Option ℕ) (v : ℕ) → IsGiven p s a o v → Gives (recorded p s) a o v
 gives p s a None v h = h
 gives p s a (Some w) v h = (ap written_address (event_is p s w) ∙ h.1, ap value_written (event_is p s w) ∙ h.2)
 
 module _ (p : List (List Op)) (s : State) (d : IsData p s) (end : IsComplete p s) where
+  -- what stands in a write list writes its address
   passes : (a e : ℕ) → 0 < times (filter (writes_to p s a) s.performed) e → writes_to p s a e ≡ true
   passes a e there = elim (bool_cases (writes_to p s a e)) [ inl is ↦ is | inr fails ↦ absurd (omega (arith, there, times_filter_no (writes_to p s a) s.performed e fails)) ]
 
+  -- the write list of an address of the program
   list_at : (a : ℕ) → a < length s.memory → write_list (recorded p s) a ≡ filter (writes_to p s a) s.performed
   list_at a inside = list_is p s a ∙ d.steady.listed.lists a inside
 
+  -- there is no other write list
   list_past : (a : ℕ) → length s.memory ≤ a → write_list (recorded p s) a ≡ []
   list_past a past = list_is p s a ∙ get_or_past s.write_lists a [] (omega (arith, past, d.steady.listed.cells))
 
+  -- events write addresses of the program
   writes_inside : (e a : ℕ) → (static_of p s).writes e ≡ Some a → a < length s.memory
   writes_inside e a writes = d.steady.writes_within e a (get_or s.reads e (0, None)) writes
 
+  -- each write stands once in the list of its address
   once : (a e : ℕ) → Writes (recorded p s) e a → times (write_list (recorded p s) a) e ≡ 1
   once a e writes =
       let wrote : (static_of p s).writes e ≡ Some a = sym (writes_is p s e) ∙ writes in
@@ -254,6 +273,7 @@ module _ (p : List (List Op)) (s : State) (d : IsData p s) (end : IsComplete p s
       (times_filter (writes_to p s a) s.performed e (is_address_back ((static_of p s).writes e) a wrote)
       ∙ (complete_listed p s end d.steady).once e (Writes-event (recorded p s) e a writes))
 
+  -- nothing else stands there
   nothing_else : (a e : ℕ) → 0 < times (write_list (recorded p s) a) e → Writes (recorded p s) e a
   nothing_else a e there = elim (cases_lt a (length s.memory)) [
     | inl inside ↦ writes_is p s e
@@ -261,6 +281,7 @@ module _ (p : List (List Op)) (s : State) (d : IsData p s) (end : IsComplete p s
     | inr past ↦ absurd (omega (arith, subst (λ (l : List ℕ). 0 < times l e) (list_past a past) there, times_nil e))
   ]
 
+  -- the recording of a complete state is well formed
   pub complete_well_formed : IsWellFormed (recorded p s)
   complete_well_formed = record {
     sources = λ e a reads.

@@ -1,5 +1,5 @@
 -- A drain of the machine is a drain of event numbers.
-use Rattle.std.proofs.Common.{◌≡◌, ◌<◌, ℕ, List, [], ◌∷◌, map, length, refl, sym, ap, ◌∙◌, get_or-set_same, get_or-set_other}
+use Rattle.std.proofs.Common.{◌≡◌, ◌<◌, ℕ, List, [], ◌∷◌, map, length, refl, ap, get_or-set_same, get_or-set_other}
 use Rattle.litmus.specs.declared.op.Op.{Op}
 use Rattle.litmus.specs.declared.op.Op.TheVariants.{St}
 use Rattle.write_buffer.specs.declared.entry.Entry.{Entry}
@@ -33,12 +33,14 @@ drains p s c x xs at is stores = record {
   reads = ap (λ (z : ℕ × Op). op_reads z.1) stores.0;
 }
 
+-- a drain keeps the count
 pub drain_counted : (p : List (List Op)) (s : State) (c : ℕ) (x : Entry) (xs : List Entry) → c < length s.buffers → buffer_of s c ≡ x ∷ xs → AreStores p c (x ∷ xs)
     → IsCounted (static_of p s) (snapshot_of p s) → IsCounted (static_of p (drained_state s c x xs)) (snapshot_of p (drained_state s c x xs))
 drain_counted p s c x xs at is stores counted =
     counted_kept (static_of p s) (snapshot_of p s) (snapshot_of p (drained_state s c x xs)) x.event counted
     (drain_counts (static_of p s) (snapshot_of p s) (snapshot_of p (drained_state s c x xs)) c x.event [] counted (drains p s c x xs at is stores))
 
+-- a drain of the oldest store keeps the order
 pub drain_ordered : (p : List (List Op)) (s : State) (c : ℕ) (x : Entry) (xs : List Entry) → c < length s.buffers → buffer_of s c ≡ x ∷ xs → AreStores p c (x ∷ xs)
     → IsCounted (static_of p s) (snapshot_of p s) → IsOrdered (static_of p s) (snapshot_of p s) → IsOrdered (static_of p (drained_state s c x xs)) (snapshot_of p (drained_state s c x xs))
 drain_ordered p s c x xs at is stores counted ordered =

@@ -1,5 +1,5 @@
 -- Where a core is in its operations, and what it does next.
-use Rattle.std.proofs.Common.{◌≡◌, ◌<◌, ◌≤◌, ◌+◌, inl, inr, ℕ, false, Bool, Option, Some, None, List, [], ◌∷◌, length, map, slice_get, slice_index, slice_index_or, arith, refl, sym, ap, subst, ◌∙◌}
+use Rattle.std.proofs.Common.{◌≡◌, ◌<◌, ◌≤◌, ◌+◌, inl, inr, ℕ, false, Option, Some, None, List, [], length, slice_get, slice_index, slice_index_or, arith, refl, sym, ap, subst, ◌∙◌}
 use Rattle.std.specs.Prelude.{is_some, option_map}
 use Rattle.std.proofs.lemmas.List.{get_or-map}
 use Rattle.std.proofs.lemmas.Option.{slice_get_past, slice_get_within, slice_get_cases, get_or_from_slice_get}
@@ -25,6 +25,7 @@ none_left u ops h = elim (slice_get_cases ops u.place).1 [
   | inr past ↦ past.0
 ]
 
+-- and the other way round
 pub none_left_back : (u : Progress) (ops : List Op) → length ops ≤ u.place → is_some (next_of u ops) ≡ false
 none_left_back u ops h = rw (slice_get_past ops u.place h) refl
 
@@ -44,15 +45,19 @@ module _ (p : Parts) (capacity : ℕ) (units : List Progress) (buffers : List Bu
     (sound : IsSound p capacity units buffers memory writes reads done)
     (core : ℕ) (there : core < length p.cores) (unit : Progress) (unit_is : unit ≡ slice_index_or units core unit)
     (ops : List Op) (ops_is : ops ≡ slice_index_or p.cores core []) where
+  -- the unit's place is the state's
   place_at : unit.place ≡ slice_index (places_of units) core
   place_at = ap (λ (u : Progress). u.place) unit_is ∙ sym (get_or-map (λ (u : Progress). u.place) units core unit 0 (omega (arith, there, sound.units_length)))
 
+  -- the unit's first event is the core's
   first_at : unit.first ≡ first_event p.cores core
   first_at = ap (λ (u : Progress). u.first) unit_is ∙ sound.first core unit there
 
+  -- its events are within the limit
   pub few : unit.first + length ops ≤ MAX_EVENTS
   few = omega (arith, first_at, ap (λ (os : List Op). length os) ops_is, first_within p.cores core there, sound.few)
 
+  -- the next operation of a unit is that of its core
   pub is_at : (n : Op × ℕ) → Some n ≡ next_of unit ops → IsAt p.cores (held units buffers memory writes reads done.items) core n.0 n.1
   is_at n h = record {
     core = there;
@@ -61,26 +66,31 @@ module _ (p : Parts) (capacity : ℕ) (units : List Progress) (buffers : List Bu
     number = (one_left unit ops n h).1 ∙ omega (arith, first_at, place_at);
   }
 
+  -- and its address is one of the program's
   pub is_within : (n : Op × ℕ) → Some n ≡ next_of unit ops → IsWithin (length p.names) n.0
   is_within n h =
       let op = (one_left unit ops n h).0 in
       subst (λ (o : Op). IsWithin (length p.names) o) (ap (λ (os : List Op). slice_index_or os unit.place Fence) (sym ops_is) ∙ get_or_from_slice_get ops unit.place n.0 Fence op)
       (sound.operations core [] there unit.place Fence (subst (λ (os : List Op). unit.place < length os) ops_is (slice_get_within ops unit.place n.0 op)))
 
+  -- no operation is left to the core where the unit has none
   none_at : None ≡ next_of unit ops → slice_get (slice_index_or p.cores core []) (slice_index (places_of units) core) ≡ None
   none_at h = slice_get_past (slice_index_or p.cores core []) (slice_index (places_of units) core)
       (omega (arith, none_left unit ops (ap is_some (sym h)), place_at, ap (λ (os : List Op). length os) ops_is))
 
   -- a core is done where no operation is left and no store waits
   module _ (buffer : Buffer) (buffer_is : buffer ≡ slice_index_or buffers core buffer) where
+    -- nothing left and nothing waiting is done
     pub done_is : is_some (next_of unit ops) ≡ false → buffer.entries ≡ [] → IsDone p.cores (held units buffers memory writes reads done.items) core
     done_is none empty = (
       omega (arith, none_left unit ops none, sound.place core, place_at, ap (λ (os : List Op). length os) ops_is),
       buffer_seen buffers core buffer (omega (arith, there, sound.buffers_length)) buffer_is ∙ empty,
     )
 
+    -- nothing of a core that is done waits
     pub buffer_empty : IsDone p.cores (held units buffers memory writes reads done.items) core → buffer.entries ≡ []
     buffer_empty h = sym (buffer_seen buffers core buffer (omega (arith, there, sound.buffers_length)) buffer_is) ∙ h.1
 
+  -- nothing of a core that is done is left
   pub none_is : IsDone p.cores (held units buffers memory writes reads done.items) core → is_some (next_of unit ops) ≡ false
   none_is h = none_left_back unit ops (omega (arith, h.0, place_at, ap (λ (os : List Op). length os) ops_is))

@@ -1,12 +1,11 @@
 -- What the execution of an operation does to the parts of a machine.
-use Rattle.std.proofs.Common.{◌≡◌, ◌≢◌, ◌<◌, ◌≤◌, ◌+◌, ◌-◌, inl, inr, ℕ, suc, true, Option, Some, None, Ok, List, [], ◌∷◌, ◌++◌, length, map, take, slice_index, slice_index_or, slice_set, arith, refl, sym, ap, subst, ◌∙◌, length-set, length-append, get_or-set_same, get_or-set_other}
-use Rattle.std.specs.Prelude.{◌==◌}
+use Rattle.std.proofs.Common.{◌≡◌, ◌<◌, ◌≤◌, ◌+◌, inl, inr, ℕ, suc, Option, Some, None, Ok, List, [], ◌∷◌, ◌++◌, length, map, slice_index, slice_index_or, slice_set, arith, refl, sym, ap, subst, ◌∙◌, length-set, length-append, get_or-set_same, get_or-set_other}
 use Rattle.std.specs.List.{All, sum, sum_by}
 use Rattle.std.proofs.lemmas.List.Elements.{All-set, All-weaker, All-push}
 use Rattle.std.proofs.lemmas.List.Sums.{sum_by-set, sum_by-cons}
 use Rattle.std.proofs.lemmas.List.{map-set, get_or_read, get_or_default, get_or-map, length-map}
 use Rattle.std.proofs.lemmas.Option.{slice_get_within, get_or_from_slice_get}
-use Rattle.std.proofs.lemmas.Bool.{cases_eq, lt-ltb, eq-eqb}
+use Rattle.std.proofs.lemmas.Bool.{cases_eq, lt-ltb}
 use Rattle.litmus.specs.declared.limits.TheConstants.{MAX_EVENTS}
 use Rattle.litmus.specs.declared.op.Op.{Op}
 use Rattle.litmus.specs.declared.op.Op.TheVariants.{St, Ld, Fence}
@@ -14,7 +13,7 @@ use Rattle.litmus.specs.Parts.{Parts, IsWithin}
 use Rattle.write_buffer.specs.declared.entry.Entry.{Entry}
 use Rattle.write_buffer.specs.Buffer.{Buffer, youngest}
 use Rattle.core_unit.specs.Progress.{Progress}
-use Rattle.machine.specs.State.{first_event, current}
+use Rattle.machine.specs.State.{first_event}
 use Rattle.machine.specs.Step.{exec, exchanged, IsAt, found}
 use Rattle.machine.specs.Roomy.{Roomy}
 use Rattle.machine.specs.Held.{IsSound, held, places_of, events_of}
@@ -31,6 +30,7 @@ places_within (x ∷ places) (ops ∷ program) l h = omega (arith, sum_by-cons (
 pub buffer_seen : (buffers : List Buffer) (core : ℕ) (old : Buffer) → core < length buffers → old ≡ slice_index_or buffers core old → slice_index_or (map (λ b. b.entries) buffers) core [] ≡ old.entries
 buffer_seen buffers core old at is = get_or-map (λ (b : Buffer). b.entries) buffers core old [] at ∙ ap (λ (b : Buffer). b.entries) (sym is)
 
+-- a write list as what it holds
 pub list_seen : (writes : List (Roomy ℕ)) (a : ℕ) (old : Roomy ℕ) → a < length writes → old ≡ slice_index_or writes a old → slice_index_or (map (λ b. b.items) writes) a [] ≡ old.items
 list_seen writes a old at is = get_or-map (λ (b : Roomy ℕ). b.items) writes a old [] at ∙ ap (λ (b : Roomy ℕ). b.items) (sym is)
 
@@ -38,12 +38,15 @@ module _ (p : Parts) (capacity : ℕ) (units : List Progress) (buffers : List Bu
     (writes : List (Roomy ℕ)) (reads : List (ℕ × Option ℕ)) (done : Roomy ℕ)
     (sound : IsSound p capacity units buffers memory writes reads done)
     (core : ℕ) (op : Op) (event : ℕ) (at : IsAt p.cores (held units buffers memory writes reads done.items) core op event) where
+  -- the core has a unit
   pub unit_there : core < length units
   unit_there = omega (arith, at.core, sound.units_length)
 
+  -- the core has a buffer
   pub buffer_there : core < length buffers
   buffer_there = omega (arith, at.core, sound.buffers_length)
 
+  -- the core has an operation left
   below : slice_index (places_of units) core < length (slice_index_or p.cores core [])
   below = slice_get_within (slice_index_or p.cores core []) (slice_index (places_of units) core) op at.operation
 
@@ -51,18 +54,22 @@ module _ (p : Parts) (capacity : ℕ) (units : List Progress) (buffers : List Bu
   pub number : event < length reads
   number = omega (arith, at.number, (placed_at 0 p.cores core (slice_index (places_of units) core) Fence below).1, placed_total 0 p.cores, sound.events)
 
+  -- its address is one of the program's
   pub within : IsWithin (length p.names) op
   within = subst (λ (o : Op). IsWithin (length p.names) o) (get_or_from_slice_get (slice_index_or p.cores core []) (slice_index (places_of units) core) op Fence at.operation)
       (sound.operations core [] at.core (slice_index (places_of units) core) Fence below)
 
   -- the core's unit, before and after it goes on
   module _ (unit : Progress) (unit_is : unit ≡ slice_index_or units core unit) (ops : List Op) (ops_is : ops ≡ slice_index_or p.cores core []) where
+    -- the unit's place is the state's
     place_at : unit.place ≡ slice_index (places_of units) core
     place_at = ap (λ (u : Progress). u.place) unit_is ∙ sym (get_or-map (λ (u : Progress). u.place) units core unit 0 unit_there)
 
+    -- the unit's first event is the core's
     first_at : unit.first ≡ first_event p.cores core
     first_at = ap (λ (u : Progress). u.first) unit_is ∙ sound.first core unit at.core
 
+    -- an operation is left to the unit
     pub left : unit.place < length ops
     left = omega (arith, place_at, below, ap (λ (os : List Op). length os) ops_is)
 
@@ -71,16 +78,20 @@ module _ (p : Parts) (capacity : ℕ) (units : List Progress) (buffers : List Bu
     few = omega (arith, first_at, ap (λ (os : List Op). length os) ops_is, first_within p.cores core at.core, sound.few)
 
     module _ (moved : Progress) (moved_is : moved ≡ record unit { place = unit.place + 1 }) where
+      -- the state's places, where the unit went on
       pub places_set : places_of (slice_set units core moved) ≡ slice_set (places_of units) core (slice_index (places_of units) core + 1)
       places_set = map-set (λ (u : Progress). u.place) units core moved
           ∙ ap (λ (n : ℕ). slice_set (places_of units) core n) (ap (λ (u : Progress). u.place) moved_is ∙ ap (λ (n : ℕ). n + 1) place_at)
 
+      -- the core has a place
       place_there : core < length (places_of units)
       place_there = omega (arith, unit_there, length-map units (λ (u : Progress). u.place))
 
+      -- there are as many units
       units_up : length (slice_set units core moved) ≡ length p.cores
       units_up = length-set units core moved ∙ sound.units_length
 
+      -- their first events stay
       first_up : (c : ℕ) (d : Progress) → c < length p.cores → (slice_index_or (slice_set units core moved) c d).first ≡ first_event p.cores c
       first_up c d inside = elim (cases_eq c core) [
         | inl same ↦ subst (λ (k : ℕ). (slice_index_or (slice_set units core moved) k d).first ≡ first_event p.cores k) (sym same)
@@ -88,6 +99,7 @@ module _ (p : Parts) (capacity : ℕ) (units : List Progress) (buffers : List Bu
         | inr other ↦ ap (λ (u : Progress). u.first) (get_or-set_other units core c moved d other) ∙ sound.first c d inside
       ]
 
+      -- each core is within its operations
       place_up : (c : ℕ) → slice_index (places_of (slice_set units core moved)) c ≤ length (slice_index_or p.cores c [])
       place_up c = subst (λ (l : List ℕ). slice_index l c ≤ length (slice_index_or p.cores c [])) (sym places_set) (elim (cases_eq c core) [
         | inl same ↦ subst (λ (d : ℕ). slice_index (slice_set (places_of units) core (slice_index (places_of units) core + 1)) d ≤ length (slice_index_or p.cores d [])) (sym same)
@@ -95,6 +107,7 @@ module _ (p : Parts) (capacity : ℕ) (units : List Progress) (buffers : List Bu
         | inr other ↦ omega (arith, get_or-set_other (places_of units) core c (slice_index (places_of units) core + 1) 0 other, sound.place c)
       ])
 
+      -- one more operation was executed
       sum_up : sum (places_of (slice_set units core moved)) ≡ sum (places_of units) + 1
       sum_up = ap (λ (l : List ℕ). sum l) places_set ∙ omega (arith, sum_by-set (λ (x : ℕ). x) (places_of units) core (slice_index (places_of units) core + 1) 0 place_there)
 
@@ -164,15 +177,19 @@ module _ (p : Parts) (capacity : ℕ) (units : List Progress) (buffers : List Bu
 
       -- an event writes its address and is performed
       module _ (addr : ℕ) (addressed : addr < length p.names) (list : Roomy ℕ) (list_is : list ≡ slice_index_or writes addr list) where
+        -- the address has a write list
         there : addr < length writes
         there = omega (arith, addressed, sound.writes_length)
 
+        -- no longer than the performed list
         list_short : length list.items ≤ length done.items
         list_short = omega (arith, ap (λ (l : Roomy ℕ). length l.items) list_is, sound.write_lengths addr list there)
 
+        -- with room for every event
         list_room : list.room ≡ events_of p
         list_room = ap (λ (l : Roomy ℕ). l.room) list_is ∙ sound.write_rooms addr list there
 
+        -- the parts still fit together behind a read-modify-write
         pub exchanged_sound : (cell : ℕ × Option ℕ) (reads' : List (ℕ × Option ℕ)) → length reads' ≡ length reads → (list' new : Roomy ℕ)
             → list' ≡ record { items = list.items ++ event ∷ []; room = list.room } → new ≡ record { items = done.items ++ event ∷ []; room = done.room }
             → IsSound p capacity (slice_set units core moved) buffers (slice_set memory addr cell) (slice_set writes addr list') reads' new
@@ -201,12 +218,15 @@ module _ (p : Parts) (capacity : ℕ) (units : List Progress) (buffers : List Bu
       -- a store goes to the back of the buffer
       module _ (old new : Buffer) (is : old ≡ slice_index_or buffers core old) (entry : Entry) (pushed : new ≡ record old { entries = old.entries ++ entry ∷ [] })
           (addressed : entry.addr < length p.names) where
+        -- the buffer grows by one
         longer : length new.entries ≡ length old.entries + 1
         longer = ap (λ (b : Buffer). length b.entries) pushed ∙ length-append old.entries (entry ∷ [])
 
+        -- its capacity is the machine's
         capacity_is : old.capacity ≡ capacity
         capacity_is = ap (λ (b : Buffer). b.capacity) is ∙ sound.capacities core old buffer_there
 
+        -- the parts still fit together behind a store
         pub stored_sound : IsSound p capacity (slice_set units core moved) (slice_set buffers core new) memory writes reads done
         stored_sound = record {
           operations = sound.operations;
@@ -240,6 +260,7 @@ module _ (p : Parts) (capacity : ℕ) (units : List Progress) (buffers : List Bu
 
   -- what was performed has room for one more, and so has each write list
   module _ (unit : Progress) (unit_is : unit ≡ slice_index_or units core unit) where
+    -- there is room, whatever unit is looked at
     has_room_left : length done.items + sum_by (λ b. length b.entries) buffers < events_of p
     has_room_left = room_left unit unit_is (slice_index_or p.cores core []) refl (record unit { place = unit.place + 1 }) refl
 
@@ -247,12 +268,15 @@ module _ (p : Parts) (capacity : ℕ) (units : List Progress) (buffers : List Bu
   abbrev some_unit : Progress
   some_unit = slice_index_or units core (record { first = 0; place = 0 })
 
+  -- it is the core's
   unit_is_some : some_unit ≡ slice_index_or units core some_unit
   unit_is_some = get_or_default units core (record { first = 0; place = 0 }) some_unit unit_there
 
+  -- the performed list has room for one more
   pub has_room : length done.items < done.room
   has_room = omega (arith, has_room_left some_unit unit_is_some, sound.performed_room)
 
+  -- and so has each write list
   pub list_has_room : (addr : ℕ) → addr < length p.names → (list : Roomy ℕ) → list ≡ slice_index_or writes addr list → length list.items < list.room
   list_has_room addr addressed list list_is = omega (
     arith,

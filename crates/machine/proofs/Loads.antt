@@ -11,7 +11,7 @@ use Rattle.write_buffer.specs.Buffer.{youngest, or_else}
 use Rattle.machine.specs.State.{State, event_of}
 use Rattle.machine.proofs.Seen.{IsNewest}
 use Rattle.recorder.specs.Event.{written_address}
-use Rattle.machine.proofs.Static.{static_of, placed_op, done_by}
+use Rattle.machine.proofs.Static.{static_of, done_by}
 use Rattle.machine.proofs.Drains.{AreStores}
 
 -- what the buffer says of an address: nothing, or its last store
@@ -20,12 +20,15 @@ Says p s b a None = (w : ℕ) → 0 < times (map (λ (x : Entry). x.event) b) w 
 Says p s b a (Some y) = (0 < times (map (λ (x : Entry). x.event) b) y.event) × (written_address (done_by p s y.event) ≡ Some a)
     × ((w : ℕ) → 0 < times (map (λ (x : Entry). x.event) b) w → written_address (done_by p s w) ≡ Some a → (w ≡ y.event) ⊎ Before (map (λ (x : Entry). x.event) b) w y.event)
 
+-- a test of two different numbers
 pub not_equal : (a b : ℕ) → (a ≡ b → ⊥) → (a == b) ≡ false
 not_equal a b h = grind (arith, nat_tests)
 
+-- one number, found twice
 pub some_one : {a b : ℕ} → Some a ≡ Some b → a ≡ b
 some_one h = cc
 
+-- the youngest entry of an address is its last store
 pub youngest_says : (p : List (List Op)) (s : State) (c : ℕ) (b : List Entry) (a : ℕ) → AreStores p c b → ((e : ℕ) → times (map (λ (x : Entry). x.event) b) e ≤ 1) → Says p s b a (youngest b a)
 youngest_says p s c [] a stores once = λ w there. absurd (omega (arith, there, times_nil w))
 youngest_says p s c (x ∷ xs) a stores once = go (youngest xs a) (youngest_says p s c xs a stores.1 (λ e. elim (cases_eq x.event e) [

@@ -12,29 +12,36 @@ last_of [] = None
 last_of (x ∷ []) = Some x
 last_of (x ∷ (y ∷ ys)) = last_of (y ∷ ys)
 
+-- the empty list has no last
 pub last_nil : last_of [] ≡ None
 unfolding last_of
 last_nil = refl
 
+-- a single number is the last
 pub last_one : (x : ℕ) → last_of (x ∷ []) ≡ Some x
 unfolding last_of
 last_one x = refl
 
+-- the first of more is not the last
 pub last_two : (x : ℕ) (xs : List ℕ) (e : ℕ) → last_of (x ∷ (xs ++ e ∷ [])) ≡ last_of (xs ++ e ∷ [])
 unfolding last_of
 last_two x [] e = refl
 last_two x (y ∷ ys) e = refl
 
+-- true or false
 pub bool_cases : (b : Bool) → (b ≡ true) ⊎ (b ≡ false)
 bool_cases true = inl refl
 bool_cases false = inr refl
 
+-- what passes is kept
 filter_yes : (q : ℕ → Bool) (x : ℕ) (xs : List ℕ) → q x ≡ true → filter q (x ∷ xs) ≡ x ∷ filter q xs
 filter_yes q x xs h = rw h refl
 
+-- what fails is left out
 filter_no : (q : ℕ → Bool) (x : ℕ) (xs : List ℕ) → q x ≡ false → filter q (x ∷ xs) ≡ filter q xs
 filter_no q x xs h = rw h refl
 
+-- what passes stands as often as before
 pub times_filter : (q : ℕ → Bool) (m : List ℕ) (e : ℕ) → q e ≡ true → times (filter q m) e ≡ times m e
 times_filter q [] e h = refl
 times_filter q (x ∷ xs) e h = elim (bool_cases (q x)) [
@@ -45,6 +52,7 @@ times_filter q (x ∷ xs) e h = elim (bool_cases (q x)) [
   | inr fails ↦ rw (filter_no q x xs fails) (omega (arith, times_filter q xs e h, times_there xs x e (λ s. let clash : true ≡ false = sym h ∙ (ap q (sym s) ∙ fails) in cc)))
 ]
 
+-- what fails stands nowhere
 pub times_filter_no : (q : ℕ → Bool) (m : List ℕ) (e : ℕ) → q e ≡ false → times (filter q m) e ≡ 0
 times_filter_no q [] e h = times_nil e
 times_filter_no q (x ∷ xs) e h = elim (bool_cases (q x)) [
@@ -108,6 +116,7 @@ last_behind (x ∷ (y ∷ ys)) s once is =
       ],
     )
 
+-- a list without a last has nothing
 last_none : (l : List ℕ) → last_of l ≡ None → (w : ℕ) → times l w ≡ 0
 unfolding last_of
 last_none [] is w = times_nil w

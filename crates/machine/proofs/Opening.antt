@@ -31,14 +31,17 @@ located k (es ∷ rest) e h = elim (cases_lt e (length es)) [
 ]
 
 module _ (p : List (List Op)) (s : State) (e : ℕ) (event : e < (static_of p s).count) where
+  -- the core of event e
   core : ℕ
   core = (located 0 p e event).0
 
+  -- it is the one that the numbers say
   pub event_core : (static_of p s).core e ≡ (located 0 p e event).0
   event_core =
       let at = located 0 p e event in
       ap (λ (n : ℕ). (placed_op p n).0) (sym at.4) ∙ (ap (λ (z : ℕ × Op). z.0) (placed_at 0 p at.0 at.1 Fence at.3).0 ∙ omega arith)
 
+  -- and e is its operation there
   pub event_op : (placed_op p e).1 ≡ get_or (get_or p (located 0 p e event).0 []) (located 0 p e event).1 Fence
   event_op =
       let at = located 0 p e event in
@@ -48,6 +51,7 @@ module _ (p : List (List Op)) (s : State) (e : ℕ) (event : e < (static_of p s)
   pub event_behind : first_event p ((static_of p s).core e) ≤ e
   event_behind = subst (λ (c : ℕ). first_event p c ≤ e) (sym event_core) (omega (arith, (located 0 p e event).4))
 
+  -- it comes before the end of its core
   pub event_before : e < first_event p ((static_of p s).core e) + length (get_or p ((static_of p s).core e) [])
   event_before = subst (λ (c : ℕ). e < first_event p c + length (get_or p c [])) (sym event_core) (omega (arith, (located 0 p e event).4, (located 0 p e event).3))
 
@@ -67,12 +71,15 @@ address_within n (Swap b v) a d h is = omega (arith, h, let one : b ≡ a = cc i
 address_within n (Add b v) a d h is = omega (arith, h, let one : b ≡ a = cc in one)
 
 module _ (p : List (List Op)) (n : ℕ) (fits : All (λ ops. All (IsWithin n) ops) p) where
+  -- nothing was executed
   nothing_executed : (e : ℕ) → e < (static_of p (opening p n)).count → ¬ (e < (snapshot_of p (opening p n)).next ((static_of p (opening p n)).core e))
   nothing_executed e event done = omega (arith, done, event_behind p (opening p n) e event, get_or_same {A = ℕ} (length p) ((static_of p (opening p n)).core e) 0)
 
+  -- nothing waits
   nothing_waits : (c e : ℕ) → times (map (λ (x : Entry). x.event) (get_or (replicate (length p) []) c [])) e ≡ 0
   nothing_waits c e = ap (λ (b : List Entry). times (map (λ (x : Entry). x.event) b) e) (get_or_same (length p) c []) ∙ times_nil e
 
+  -- each operation has an address of the program
   op_within : (e : ℕ) → IsWithin n (placed_op p e).1
   op_within e = elim (cases_lt e (length (placed_from 0 p))) [
     | inl event ↦
@@ -81,6 +88,7 @@ module _ (p : List (List Op)) (n : ℕ) (fits : All (λ ops. All (IsWithin n) op
     | inr past ↦ subst (λ (z : ℕ × Op). IsWithin n z.1) (sym (get_or_past (placed_from 0 p) e (0, Fence) past)) tt
   ]
 
+  -- so has each read
   reads_within : (o : Op) (a : ℕ) → IsWithin n o → op_reads o ≡ Some a → a < n
   reads_within (St b v) a h is = absurd cc
   reads_within (Ld b) a h is = omega (arith, h, let one : b ≡ a = cc in one)
@@ -88,6 +96,7 @@ module _ (p : List (List Op)) (n : ℕ) (fits : All (λ ops. All (IsWithin n) op
   reads_within (Swap b v) a h is = omega (arith, h, let one : b ≡ a = cc in one)
   reads_within (Add b v) a h is = omega (arith, h, let one : b ≡ a = cc in one)
 
+  -- the opening state is steady
   pub opening_steady : IsSteady p (opening p n)
   opening_steady = record {
     counted = record {
@@ -107,6 +116,7 @@ module _ (p : List (List Op)) (n : ℕ) (fits : All (λ ops. All (IsWithin n) op
     reads_within = λ e a is. omega (arith, reads_within (placed_op p e).1 a (op_within e) is, length-replicate {A = ℕ × Option ℕ} n (0, None));
   }
 
+  -- and in order
   pub opening_in_order : IsInOrder p (opening p n)
   opening_in_order = record {
     steady = opening_steady;

@@ -1,5 +1,5 @@
 -- How each kind of step keeps the order that TSO asks for, where no fault is at work.
-use Rattle.std.proofs.Common.{◌≡◌, ◌≢◌, ◌<◌, ◌≤◌, ◌+◌, ◌⊎◌, inl, inr, ℕ, Bool, true, false, ◌&&◌, Option, Some, None, List, [], ◌∷◌, ◌++◌, length, arith, refl, sym, ap, subst, ◌∙◌, append_assoc}
+use Rattle.std.proofs.Common.{◌≡◌, ◌≢◌, ◌<◌, ◌+◌, ◌⊎◌, inl, inr, ℕ, Bool, true, false, ◌&&◌, Option, Some, None, List, [], ◌∷◌, ◌++◌, length, arith, refl, sym, ap, subst, ◌∙◌, append_assoc}
 use Rattle.std.proofs.lemmas.List.{append-nil}
 use Rattle.std.proofs.lemmas.Bool.{cases_eq}
 use Rattle.recorder.specs.Order.{place, times, Before, Enumerates}
@@ -46,6 +46,7 @@ earlier_seen : (p : Static) (s : Snapshot) (b : ℕ) → IsCounted p s → b < p
 earlier_seen p s b counted event new e own = subst (λ (z : ℕ). 0 < times (seen s z) e) own.2
     (omega (arith, counted.listed e (omega (arith, own, event)) (subst (λ (z : ℕ). e < s.next z) (sym own.2) (omega (arith, own, new)))))
 
+-- a store that goes to its buffer comes last in its core's order
 pub issue_orders : (p : Static) (s t : Snapshot) (b : ℕ) → IsCounted p s → Issues p s t b → Orders p s t b
 issue_orders p s t b counted i = record {
   grows = grows;
@@ -86,6 +87,7 @@ pub record Follows (p : Static) (s t : Snapshot) (b : ℕ) : Type 0 where
   pub allowed : (p.load b ≡ true) ⊎ (s.buffer (p.core b) ≡ [])
   pub newest : (a : ℕ) → p.reads b ≡ Some a → IsNewest p (seen s (p.core b)) a (t.source b)
 
+-- an event that is performed comes behind all that was performed
 pub perform_orders : (p : Static) (s t : Snapshot) (b : ℕ) → IsCounted p s → Performs p s t b → Follows p s t b → Orders p s t b
 perform_orders p s t b counted i f = record {
   grows = λ d. subst (λ (o : List ℕ). Grows p b s.performed d (seen s d) o) (sym (seen_now d))
@@ -216,6 +218,7 @@ pub record IsAllDone (p : Static) (s : Snapshot) : Type 0 where
 pub seen_all : (s : Snapshot) → ((c : ℕ) → s.buffer c ≡ []) → (c : ℕ) → seen s c ≡ s.performed
 seen_all s empty c = ap (λ (q : List ℕ). s.performed ++ q) (empty c) ∙ append-nil s.performed
 
+-- then each event was performed once
 pub all_listed : (p : Static) (s : Snapshot) → IsCounted p s → IsAllDone p s → Enumerates (λ e. e < p.count) s.performed
 all_listed p s counted end = record {
   once = λ e event. subst (λ (o : List ℕ). times o e ≡ 1) (seen_all s end.empty (p.core e)) (counted.listed e event (end.done e event));
@@ -227,6 +230,7 @@ pub record Meets (p : Static) (s : Snapshot) : Type 0 where
   pub kept : (e f : ℕ) → Own p e f → (p.store e && p.load f) ≡ false → Before s.performed e f
   pub values : (e a : ℕ) → e < p.count → p.reads e ≡ Some a → IsLast p s.performed e a (s.source e)
 
+-- and the performed list is in order
 pub all_meet : (p : Static) (s : Snapshot) → IsCounted p s → IsOrdered p s → IsAllDone p s → Meets p s
 all_meet p s counted ordered end = record {
   kept = λ e f own strong. subst (λ (o : List ℕ). Before o e f) (seen_all s end.empty (p.core f)) (ordered.kept e f own (end.done f own.1) strong);

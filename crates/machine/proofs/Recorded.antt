@@ -1,12 +1,12 @@
 -- The recording of a complete state is one within the limits.
-use Rattle.std.proofs.Common.{◌≡◌, ◌<◌, ◌≤◌, ◌+◌, ◌⊎◌, ℕ, suc, Option, List, [], ◌∷◌, length, arith, refl, ap, ◌∙◌}
+use Rattle.std.proofs.Common.{◌≡◌, ◌≤◌, ◌+◌, ℕ, suc, Option, List, [], ◌∷◌, length, arith, refl, ap}
 use Rattle.std.specs.List.{sum_by}
 use Rattle.litmus.specs.declared.limits.TheConstants.{MAX_CORES, MAX_EVENTS, MAX_ADDRESSES}
 use Rattle.litmus.specs.declared.op.Op.{Op}
-use Rattle.litmus.specs.Parts.{Parts, IsProgram}
+use Rattle.litmus.specs.Parts.{Parts}
 use Rattle.recorder.specs.Recording.{IsRecording}
 use Rattle.machine.specs.State.{State, cores_from, recorded, IsComplete}
-use Rattle.machine.proofs.Static.{static_of, placed_total}
+use Rattle.machine.proofs.Static.{placed_total}
 use Rattle.machine.proofs.Complete.{count_is}
 use Rattle.machine.proofs.Data.{IsData, complete_well_formed, complete_addresses}
 
@@ -15,6 +15,7 @@ cores_length : (e : ℕ) (p : List (List Op)) (reads : List (ℕ × Option ℕ))
 cores_length e [] reads = refl
 cores_length e (ops ∷ p) reads = ap suc (cores_length (e + length ops) p reads)
 
+-- the recording of a complete state is a recording
 pub complete_recording : (p : Parts) (s : State) → length p.cores ≤ MAX_CORES → sum_by (λ ops. length ops) p.cores ≤ MAX_EVENTS → length s.write_lists ≤ MAX_ADDRESSES
     → IsData p.cores s → IsComplete p.cores s → IsRecording (recorded p.cores s)
 complete_recording p s cores events addresses d end = record {

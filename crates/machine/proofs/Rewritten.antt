@@ -1,5 +1,5 @@
 -- What an event writes may depend on what it reads: until it is executed, nothing looks at it.
-use Rattle.std.proofs.Common.{◌≡◌, ◌≢◌, ◌<◌, ◌⊎◌, inl, inr, ℕ, Option, Some, None, List, arith, sym, ap, ◌∙◌}
+use Rattle.std.proofs.Common.{◌≡◌, ◌≢◌, ◌<◌, ◌⊎◌, inl, inr, ℕ, Option, Some, None, arith, sym, ap, ◌∙◌}
 use Rattle.recorder.specs.Order.{times, Before}
 use Rattle.recorder.proofs.Orders.{times_in}
 use Rattle.machine.proofs.Seen.{Static, Snapshot, seen, Own, CanSee, IsLast, IsNewest, IsCounted, IsOrdered, performed_is_seen}
@@ -15,6 +15,7 @@ with_writes p w = record {
   load = p.load;
 }
 
+-- the count does not look at writes
 pub counted_rewritten : (p : Static) (s : Snapshot) (w : ℕ → Option ℕ) → IsCounted p s → IsCounted (with_writes p w) s
 counted_rewritten p s w counted = record { listed = counted.listed; executed = counted.executed; waiting = counted.waiting }
 
@@ -23,22 +24,27 @@ module _ (p : Static) (s : Snapshot) (w : ℕ → Option ℕ) (b : ℕ) (counted
   pub not_listed : (c e : ℕ) → 0 < times (seen s c) e → e ≢ b
   not_listed c e there is = omega (arith, (counted.executed c e there).1, ap (λ (x : ℕ). s.next (p.core x)) is, new, is)
 
+  -- what an executed event sees is not b
   not_b : (e v : ℕ) → e < s.next (p.core e) → Before (seen s (p.core e)) v e ⊎ Own p v e → v ≢ b
   not_b e v done earlier is = elim earlier [
     | inl before ↦ not_listed (p.core e) v (times_in (seen s (p.core e)) v (omega (arith, before))) is
     | inr own ↦ omega (arith, done, own.0, ap s.next own.2, ap (λ (x : ℕ). s.next (p.core x)) is, new, is)
   ]
 
+  -- what it sees by the new writes it saw
   back : (e a v : ℕ) → e < s.next (p.core e) → CanSee (with_writes p w) (seen s (p.core e)) e a v → CanSee p (seen s (p.core e)) e a v
   back e a v done h = (sym (same v (not_b e v done h.2)) ∙ h.0, h.1, h.2)
 
+  -- and the other way round
   forth : (e a v : ℕ) → e < s.next (p.core e) → CanSee p (seen s (p.core e)) e a v → CanSee (with_writes p w) (seen s (p.core e)) e a v
   forth e a v done h = (same v (not_b e v done h.2) ∙ h.0, h.1, h.2)
 
+  -- so its last write stays
   last : (e a : ℕ) (o : Option ℕ) → e < s.next (p.core e) → IsLast p (seen s (p.core e)) e a o → IsLast (with_writes p w) (seen s (p.core e)) e a o
   last e a None done old = λ v h. old v (back e a v done h)
   last e a (Some v) done old = (forth e a v done old.0, λ u h. old.1 u (back e a u done h))
 
+  -- the order stays
   pub ordered_rewritten : IsOrdered p s → IsOrdered (with_writes p w) s
   ordered_rewritten ordered = record {
     kept = ordered.kept;

@@ -55,15 +55,18 @@ pub guarded : (b : Bool) (r : Result State Blocked) (e : Blocked) (t : State) �
 guarded true r e t h = (refl, h)
 guarded false r e t h = absurd cc
 
+-- one state, answered twice
 pub ok_one : (s t : State) → (let r : Result State Blocked = Ok s in r) ≡ Ok t → s ≡ t
 ok_one s t h = cc
 
 module _ (p : List (List Op)) (capacity : ℕ) (s : State) (P : State → Type 0) (kept : IsKept p s P) (one_each : length s.places ≡ length p) where
+  -- a read-modify-write is one of the rows
   exchange_kept : (c b a v : ℕ) (op : Op) (t : State) → IsNext p s c b op → IsExchange op (current s a) a v
       → cond (length (buffer_of s c) == 0) (let r : Result State Blocked = Ok (exchanged_state s c b a v) in r) (Err B3) ≡ Ok t → P t
   exchange_kept c b a v op t n is h = subst P (ok_one _ t (guarded _ _ _ t h).1)
       (kept.exchange c b a v op n is (nil_from_length (buffer_of s c) (eqb-true _ _ (guarded _ _ _ t h).0)))
 
+  -- so is every execution
   exec_kept : (c b : ℕ) (op : Op) (t : State) → IsNext p s c b op → c < length p → exec capacity s c b op ≡ Ok t → P t
   exec_kept c b (St a v) t n at h = subst P (ok_one _ t (guarded _ _ _ t h).1) (kept.store c b a v n at)
   exec_kept c b (Ld a) t n at h = subst P (ok_one _ t h) (kept.load c b a n)

@@ -1,7 +1,7 @@
 -- Store buffers over one memory, seen as lists of event numbers: the order of events as each core sees it.
-use Rattle.std.proofs.Common.{◌≡◌, ◌≢◌, ◌<◌, ◌≤◌, ◌+◌, ◌⊎◌, inl, inr, ℕ, Bool, true, false, ◌&&◌, Option, Some, None, List, [], ◌∷◌, ◌++◌, arith, refl, sym, ap, subst, ◌∙◌}
+use Rattle.std.proofs.Common.{◌≡◌, ◌≢◌, ◌<◌, ◌≤◌, ◌+◌, ◌⊎◌, inl, inr, ℕ, Bool, true, false, ◌&&◌, Option, Some, None, List, ◌∷◌, ◌++◌, arith, refl, sym, ap, subst}
 use Rattle.std.proofs.lemmas.Bool.{cases_eq}
-use Rattle.recorder.specs.Order.{place, times, Before}
+use Rattle.recorder.specs.Order.{times, Before}
 use Rattle.recorder.proofs.Orders.{place_in, times_in, times_here, times_there, times_append, place_append_left, place_append_right, cases_zero, inserted, removed}
 
 -- what is known of the events: their number, their cores, what they write and read, and which are plain stores or loads
@@ -83,9 +83,11 @@ last_seen p o e a s w is h = (subst (λ (z : Option ℕ). IsLast p o e a z) is h
 
 -- What an event does not change: b goes between two parts of an order, and e was there before
 
+-- what e could see it still sees
 can_see_same : (p : Static) (u v : List ℕ) (b e a w : ℕ) → e ≢ b → w ≢ b → CanSee p (u ++ v) e a w → CanSee p (u ++ b ∷ v) e a w
 can_see_same p u v b e a w eb wb h = (h.0, h.1, elim h.2 [ inl before ↦ inl (inserted u v b w e wb eb before) | inr own ↦ inr own ])
 
+-- what e sees it could see
 can_see_back : (p : Static) (u v : List ℕ) (b e a w : ℕ) → e ≢ b → w ≢ b → CanSee p (u ++ b ∷ v) e a w → CanSee p (u ++ v) e a w
 can_see_back p u v b e a w eb wb h = (h.0, h.1, elim h.2 [ inl before ↦ inl (removed u v b w e wb eb before) | inr own ↦ inr own ])
 
@@ -96,6 +98,7 @@ b_unseen p u v b e a eb fresh e_left not_own h = elim h.2 [
   | inr own ↦ not_own own
 ]
 
+-- its last write stays
 is_last_same : (p : Static) (u v : List ℕ) (b e a : ℕ) → e ≢ b → times (u ++ v) b ≡ 0 → 0 < times u e → ¬ Own p b e
     → (o : Option ℕ) → ((s : ℕ) → o ≡ Some s → s ≢ b) → IsLast p (u ++ v) e a o → IsLast p (u ++ b ∷ v) e a o
 is_last_same p u v b e a eb fresh e_left not_own None others h = λ w seen. elim (cases_eq w b) [
@@ -120,10 +123,12 @@ pub data Grows (p : Static) (b : ℕ) (performed : List ℕ) (d : ℕ) : List �
   moved : (u v : List ℕ) → times (u ++ v) b ≡ 0 → ((e : ℕ) → 0 < times performed e → 0 < times u e)
       → ((e : ℕ) → 0 < times performed e → p.core e ≡ d → ¬ Own p b e) → Grows p b performed d (u ++ v) (u ++ b ∷ v)
 
+-- the others stay in order
 pub before_grown : (p : Static) (d : ℕ) {b : ℕ} {performed o o' : List ℕ} → Grows p b performed d o o' → (e f : ℕ) → e ≢ b → f ≢ b → Before o e f → Before o' e f
 before_grown p d unmoved e f eb fb h = h
 before_grown p d (moved u v fresh left hidden) e f eb fb h = inserted u v _ e f eb fb h
 
+-- and their last writes stay
 pub is_last_grown : (p : Static) {b : ℕ} {performed o o' : List ℕ} (e a : ℕ) → Grows p b performed (p.core e) o o' → e ≢ b → 0 < times performed e
     → (s : Option ℕ) → ((w : ℕ) → s ≡ Some w → 0 < times o w) → IsLast p o e a s → IsLast p o' e a s
 is_last_grown p e a unmoved eb there s old h = h
@@ -134,5 +139,6 @@ is_last_grown p {b} e a (moved u v fresh left hidden) eb there s old h =
 pub times_inserted : (u v : List ℕ) (b e : ℕ) → e ≢ b → times (u ++ b ∷ v) e ≡ times (u ++ v) e
 times_inserted u v b e eb = omega (arith, times_append u (b ∷ v) e, times_append u v e, times_there v b e (λ s. eb (sym s)))
 
+-- b itself stands once more
 pub times_inserted_here : (u v : List ℕ) (b : ℕ) → times (u ++ b ∷ v) b ≡ times (u ++ v) b + 1
 times_inserted_here u v b = omega (arith, times_append u (b ∷ v) b, times_append u v b, times_here v b b refl)

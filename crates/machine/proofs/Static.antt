@@ -86,6 +86,7 @@ placed_at k (es ∷ rest) (suc c) i d h =
       omega (arith, front, at.1, length-append (map (λ e. (k, e)) es) (placed_from (k + 1) rest), tagged k es),
     )
 
+-- there are as many numbers as items
 pub placed_total : {A : Type 0} (k : ℕ) (cores : List (List A)) → length (placed_from k cores) ≡ sum_by (λ es. length es) cores
 placed_total k [] = refl
 placed_total k (es ∷ rest) =
@@ -96,11 +97,13 @@ events_length : (e : ℕ) (ops : List Op) (reads : List (ℕ × Option ℕ)) →
 events_length e [] reads = refl
 events_length e (op ∷ ops) reads = ap suc (events_length (e + 1) ops reads)
 
+-- event i of a core is that of its operation i
 events_at : (e : ℕ) (ops : List Op) (reads : List (ℕ × Option ℕ)) (i : ℕ) → get_or (events_from e ops reads) i F ≡ event_of (get_or ops i Fence) (get_or reads (e + i) (0, None))
 events_at e [] reads i = refl
 events_at e (op ∷ ops) reads zero = ap (λ (n : ℕ). event_of op (get_or reads n (0, None))) (omega arith)
 events_at e (op ∷ ops) reads (suc i) = events_at (e + 1) ops reads i ∙ ap (λ (n : ℕ). event_of (get_or ops i Fence) (get_or reads n (0, None))) (omega arith)
 
+-- a recording has as many events as its program has operations
 pub recorded_length : (k e : ℕ) (p : List (List Op)) (reads : List (ℕ × Option ℕ)) → length (placed_from k (cores_from e p reads)) ≡ length (placed_from k p)
 recorded_length k e [] reads = refl
 recorded_length k e (ops ∷ p) reads =
@@ -108,6 +111,7 @@ recorded_length k e (ops ∷ p) reads =
     ∙ (omega (arith, tagged k (events_from e ops reads), tagged k ops, events_length e ops reads, recorded_length (k + 1) (e + length ops) p reads)
     ∙ sym (length-append (map (λ (x : Op). (k, x)) ops) (placed_from (k + 1) p)))
 
+-- event i is that of the operation i
 pub recorded_at : (k e : ℕ) (p : List (List Op)) (reads : List (ℕ × Option ℕ)) (i : ℕ)
     → get_or (placed_from k (cores_from e p reads)) i (0, F) ≡ ((get_or (placed_from k p) i (0, Fence)).0, event_of (get_or (placed_from k p) i (0, Fence)).1 (get_or reads (e + i) (0, None)))
 recorded_at k e [] reads i = refl

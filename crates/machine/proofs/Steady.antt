@@ -7,8 +7,8 @@ use Rattle.recorder.specs.Event.{written_address}
 use Rattle.recorder.specs.Order.{times}
 use Rattle.recorder.proofs.Orders.{times_append, cases_zero}
 use Rattle.write_buffer.specs.declared.entry.Entry.{Entry}
-use Rattle.machine.specs.State.{State, place_of, buffer_of, current, first_event, event_of}
-use Rattle.machine.specs.Step.{advanced, performed, given, written, with_buffer, loaded}
+use Rattle.machine.specs.State.{State, place_of, buffer_of, current, event_of}
+use Rattle.machine.specs.Step.{performed, given, written, with_buffer, loaded}
 use Rattle.machine.proofs.Seen.{seen, IsCounted}
 use Rattle.machine.proofs.Static.{static_of, snapshot_of, placed_op, done_by, op_reads}
 use Rattle.machine.proofs.Drains.{AreStores, drained_state, drain_counted}
@@ -16,6 +16,7 @@ use Rattle.machine.proofs.Executes.{IsNext, next_placed, next_event, perform_cou
 use Rattle.machine.proofs.WriteLists.{AreListed, listed_given, listed_written, listed_performed}
 use Rattle.machine.proofs.Rows.{IsKept, IsExchange, stored_state, loaded_state, fenced_state, exchanged_state}
 
+-- what every step keeps, under every fault: the count, the write lists, that plain stores wait, and what fits together
 pub record IsSteady (p : List (List Op)) (s : State) : Type 0 where
   pub counted : IsCounted (static_of p s) (snapshot_of p s)
   pub listed : AreListed p s
@@ -49,6 +50,7 @@ module _ (p : List (List Op)) (s : State) (g : IsSteady p s) where
       let one : times (seen (snapshot_of p s) c) e ≡ 1 = subst (λ (d : ℕ). times (seen (snapshot_of p s) d) e ≡ 1) core (g.counted.listed e was.0 was.1) in
       omega (arith, one, times_append s.performed (map (λ (x : Entry). x.event) (buffer_of s c)) e)
 
+  -- nothing waits twice
   pub waiting_once : (c e : ℕ) → times (map (λ (x : Entry). x.event) (buffer_of s c)) e ≤ 1
   waiting_once c e = elim (cases_zero (times (map (λ (x : Entry). x.event) (buffer_of s c)) e)) [ inl none ↦ omega (arith, none) | inr there ↦ omega (arith, waits_once c e there) ]
 
@@ -65,6 +67,7 @@ module _ (p : List (List Op)) (s : State) (g : IsSteady p s) where
   pub next_within : (c b : ℕ) (op : Op) → IsNext p s c b op → b < length s.reads
   next_within c b op n = omega (arith, g.reads, next_event p s c b op n)
 
+  -- a drain keeps it
   drain_steady : (c : ℕ) (x : Entry) (xs : List Entry) → c < length p → buffer_of s c ≡ x ∷ xs → IsSteady p (drained_state s c x xs)
   drain_steady c x xs at is =
       let here : AreStores p c (x ∷ xs) = subst (λ (b : List Entry). AreStores p c b) is (g.stores c) in
@@ -87,6 +90,7 @@ module _ (p : List (List Op)) (s : State) (g : IsSteady p s) where
         reads_within = λ e a h. omega (arith, g.reads_within e a h, length-set s.memory x.addr (x.value, Some x.event));
       }
 
+  -- a store keeps it
   store_steady : (c b a v : ℕ) → IsNext p s c b (St a v) → c < length p → IsSteady p (stored_state s c b a v)
   store_steady c b a v n at =
       let op : placed_op p b ≡ (c, St a v) = next_placed p s c b (St a v) n in
@@ -107,6 +111,7 @@ module _ (p : List (List Op)) (s : State) (g : IsSteady p s) where
         reads_within = g.reads_within;
       }
 
+  -- a load keeps it
   load_steady : (c b a : ℕ) → IsNext p s c b (Ld a) → IsSteady p (loaded_state s c b a)
   load_steady c b a n =
       let what : ℕ × Option ℕ = loaded s c a in
@@ -124,6 +129,7 @@ module _ (p : List (List Op)) (s : State) (g : IsSteady p s) where
         reads_within = g.reads_within;
       }
 
+  -- a fence keeps it
   fence_steady : (c b : ℕ) → IsNext p s c b Fence → buffer_of s c ≡ [] → IsSteady p (fenced_state s c b)
   fence_steady c b n empty =
       let op : placed_op p b ≡ (c, Fence) = next_placed p s c b Fence n in
@@ -145,6 +151,7 @@ module _ (p : List (List Op)) (s : State) (g : IsSteady p s) where
       ap (λ (d : ℕ × Option ℕ). written_address (event_of (placed_op p b).1 d)) (get_or-set_same s.reads b (current s a) (0, None) (next_within c b op n))
       ∙ (ap (λ (z : ℕ × Op). written_address (event_of z.1 (current s a))) (next_placed p s c b op n) ∙ is.address)
 
+  -- a read-modify-write keeps it
   exchange_steady : (c b a v : ℕ) (op : Op) → IsNext p s c b op → IsExchange op (current s a) a v → buffer_of s c ≡ [] → IsSteady p (exchanged_state s c b a v)
   exchange_steady c b a v op n is empty =
       let what : ℕ × Option ℕ = current s a in
@@ -162,6 +169,7 @@ module _ (p : List (List Op)) (s : State) (g : IsSteady p s) where
         reads_within = λ e k h. omega (arith, g.reads_within e k h, length-set s.memory a (v, Some b));
       }
 
+  -- each row keeps it
   pub steady_kept : IsKept p s (IsSteady p)
   steady_kept = record {
     drain = drain_steady;

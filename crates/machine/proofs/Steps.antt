@@ -1,5 +1,5 @@
 -- A step in code, as a step of the definition.
-use Rattle.std.proofs.Common.{◌≡◌, ◌<◌, ◌+◌, ℕ, Result, Ok, Err, List, drop, length, get_or, refl, ap, ◌∙◌, add-one, drop-cons}
+use Rattle.std.proofs.Common.{◌≡◌, ◌<◌, ◌+◌, ℕ, Result, Ok, Err, List, drop, length, get_or, refl, add-one, drop-cons}
 use Rattle.std.specs.Prelude.{OnOk, OnErr, IfErr}
 use Rattle.litmus.specs.declared.op.Op.{Op}
 use Rattle.machine.specs.declared.step.Step.{Step}
@@ -17,6 +17,7 @@ pub after_is : (old new : Held) (step : Step) (r : Result (Unit {0}) Blocked)
 after_is old new step (Ok u) took blocked rest same = rw took rest
 after_is old new step (Err b) took blocked rest same = rw blocked same
 
+-- one step of the list, and then the rest
 pub run_more : (p : List (List Op)) (capacity : ℕ) (s : State) (steps : List Step) (i : ℕ) (d : Step) → i < length steps
     → run p capacity (after s (taken p capacity s (get_or steps i d))) (drop (i + 1) steps) ≡ run p capacity s (drop i steps)
 run_more p capacity s steps i d inside = rw (drop-cons steps i d inside, add-one) refl

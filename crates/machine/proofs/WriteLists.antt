@@ -1,5 +1,5 @@
 -- Write lists are what was performed, memory has the last of each, and so a load gets the newest write that its core sees.
-use Rattle.std.proofs.Common.{◌≡◌, ◌≢◌, ◌<◌, ◌≤◌, inl, inr, ℕ, Bool, true, false, Option, Some, None, List, [], ◌∷◌, ◌++◌, map, length, get_or, slice_set, arith, refl, sym, ap, subst, ◌∙◌, get_or-set_same, get_or-set_other, length-set}
+use Rattle.std.proofs.Common.{◌≡◌, ◌<◌, ◌≤◌, inl, inr, ℕ, Bool, true, false, Option, Some, None, List, [], ◌∷◌, ◌++◌, map, length, get_or, slice_set, arith, refl, sym, ap, subst, ◌∙◌, get_or-set_same, get_or-set_other, length-set}
 use Rattle.std.specs.List.{filter}
 use Rattle.std.proofs.lemmas.List.Elements.{filter-append}
 use Rattle.std.proofs.lemmas.Bool.{cases_eq, eq-eqb, eqb-true}
@@ -28,29 +28,36 @@ is_address None a = false
 abbrev pub writes_to : List (List Op) → State → ℕ → ℕ → Bool
 writes_to p s a e = is_address (written_address (done_by p s e)) a
 
+-- the test holds of that address
 pub is_address_true : (o : Option ℕ) (a : ℕ) → is_address o a ≡ true → o ≡ Some a
 unfolding is_address
 is_address_true (Some b) a h = ap Some (eqb-true b a h)
 is_address_true None a h = absurd cc
 
+-- and the other way round
 pub is_address_back : (o : Option ℕ) (a : ℕ) → o ≡ Some a → is_address o a ≡ true
 unfolding is_address
 is_address_back o a h = ap (λ (z : Option ℕ). is_address z a) h ∙ eq-eqb a a refl
 
+-- it fails of another address
 is_address_other : (b a : ℕ) → (b ≡ a → ⊥) → is_address (Some b) a ≡ false
 unfolding is_address
 is_address_other b a h = grind (arith, nat_tests)
 
+-- and of no address
 is_address_none : (a : ℕ) → is_address None a ≡ false
 unfolding is_address
 is_address_none a = refl
 
+-- a single event that passes
 filter_one_yes : (q : ℕ → Bool) (e : ℕ) → q e ≡ true → filter q (e ∷ []) ≡ e ∷ []
 filter_one_yes q e h = rw h refl
 
+-- a single event that fails
 filter_one_no : (q : ℕ → Bool) (e : ℕ) → q e ≡ false → filter q (e ∷ []) ≡ []
 filter_one_no q e h = rw h refl
 
+-- what was put at the end is the last
 last_push : (xs : List ℕ) (e : ℕ) → last_of (xs ++ e ∷ []) ≡ Some e
 last_push [] e = last_one e
 last_push (x ∷ []) e = last_two x [] e ∙ last_one e

@@ -1,5 +1,5 @@
 -- What a machine holds, how its parts fit together, and that it was reached by steps.
-use Rattle.std.specs.Prelude.{◌≡◌, ◌+◌, ◌<◌, ◌≤◌, ℕ, Option, List, [], length, map, sum, sum_by, slice_index, slice_index_or, All}
+use Rattle.std.specs.Prelude.{◌≡◌, ◌+◌, ◌<◌, ◌≤◌, ℕ, Option, Result, List, [], length, map, sum, sum_by, slice_index, slice_index_or, All}
 use Rattle.litmus.specs.declared.limits.TheConstants.{MAX_EVENTS}
 use Rattle.litmus.specs.declared.op.Op.{Op}
 use Rattle.litmus.specs.Parts.{Parts, IsWithin}
@@ -8,8 +8,10 @@ use Rattle.core_unit.specs.Progress.{Progress}
 use Rattle.machine.specs.declared.fault.Fault.{Fault}
 use Rattle.machine.specs.declared.step.Step.{Step}
 use Rattle.machine.specs.Roomy.{Roomy}
-use Rattle.machine.specs.State.{State, first_event, opening}
-use Rattle.machine.specs.Step.{run}
+use Rattle.machine.specs.declared.blocked.Blocked.{Blocked}
+use Rattle.recorder.specs.Execution.{Execution}
+use Rattle.machine.specs.State.{State, first_event, opening, recorded, IsComplete}
+use Rattle.machine.specs.Step.{exec, taken, run, IsAt}
 
 -- what a machine holds
 pub record Held : Type 0 where
@@ -78,3 +80,29 @@ pub record IsMachine (p : Parts) (capacity : ℕ) (units : List Progress) (buffe
   pub sound : IsSound p capacity units buffers memory writes reads performed
   pub reached : IsReached p.cores (length p.names) capacity (held units buffers memory writes reads performed.items)
   pub blank_is : blank ≡ rooms_of p
+
+-- The words of a machine's contracts
+
+-- what a machine answers to a step: the state that it leads to, or why it is blocked
+abbrev pub answer_of : Held → Step → Result State Blocked
+answer_of h step = taken h.program.cores h.capacity h.state step
+
+-- what it answers where core c executes the operation op as event e
+abbrev pub exec_answer : Held → ℕ → Op → ℕ → Result State Blocked
+exec_answer h c op e = exec h.capacity h.state c e op
+
+-- core c is at its operation op, whose event is e
+abbrev pub IsNextOf : Held → ℕ → Op → ℕ → Type 0
+IsNextOf h c op e = IsAt h.program.cores h.state c op e
+
+-- the state after a list of steps
+abbrev pub state_behind : Held → List Step → State
+state_behind h steps = run h.program.cores h.capacity h.state steps
+
+-- the recording of what a machine has done
+abbrev pub recording_of : Held → Execution
+recording_of h = recorded h.program.cores h.state
+
+-- every operation was executed, and no store waits
+abbrev pub IsAtEnd : Held → Type 0
+IsAtEnd h = IsComplete h.program.cores h.state

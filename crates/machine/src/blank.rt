@@ -23,9 +23,14 @@ impl Model for Blank {
 
     ghost Value = { Rooms };
 
-    ghost view = { λ b. record { cores = b.cores.room; events = b.room; addresses = b.writes.room } };
+    ghost view = { λ b. record {
+      cores = b.cores.room;
+      events = b.room;
+      addresses = b.writes.room;
+    } };
 
-    ghost invariant = { λ b. (b.cores.items ≡ []) × (b.writes.items ≡ []) × (b.events.items ≡ replicate b.cores.room (record { items = []; room = b.room })) };
+    ghost invariant = { λ b. (b.cores.items ≡ []) × (b.writes.items ≡ [])
+        × (b.events.items ≡ replicate b.cores.room (record { items = []; room = b.room })) };
 }
 
 impl Blank {
@@ -40,7 +45,8 @@ impl Blank {
         events: usize,
         addresses: usize,
     ) -> Result<Blank, OutOfMemory>
-        ensures { IfOk result (λ b. b ≡ record { cores = cores; events = events; addresses = addresses }) }
+        ensures { IfOk result (λ b. b
+            ≡ record { cores = cores; events = events; addresses = addresses }) }
     {
         Ok(Blank {
             cores: Bounded::new(alloc, cores)?,
@@ -50,7 +56,8 @@ impl Blank {
         })
     }
 
-    /// The events of a program's operations from what they read, and the write lists. It takes no memory.
+    /// The events of a program's operations from what they read, and the write lists. It takes no
+    /// memory.
     pub(crate) fn fill(
         self,
         program: &[Ops],

@@ -5,8 +5,9 @@ ghost use Rattle.litmus.specs.declared.op.Op.{Op};
 ghost use Rattle.machine.specs.declared.step.Step.{Step};
 ghost use Rattle.machine.specs.Tso.{EveryRunIsTso};
 
-/// Where a run is complete, whatever its program, its capacity and its steps, the order of what it performed is one
-/// that TSO allows for its recording. It does nothing.
+/// Where a run is complete, whatever its program, its capacity and its steps, the order of what it
+/// performed is one that TSO allows for its recording. It does nothing.
 pub fn every_run_is_tso()
-    ensures tso { (program : List (List Op)) (addresses capacity : ℕ) (steps : List Step) → EveryRunIsTso program addresses capacity steps }
+    ensures tso { (program : List (List Op)) (addresses capacity : ℕ) (steps : List Step)
+        → EveryRunIsTso program addresses capacity steps }
 {}

@@ -14,8 +14,9 @@ use std::alloc::Global;
 use std::marker::Model;
 use write_buffer::{Entry, WriteBuffer};
 
-/// The cores of a program, each with its store buffer, over one memory, and what they have done so far
-/// (chapter 4 of the Primer, where it implements TSO).
+/// The cores of a program, each with its store buffer, over one memory, and what they have done so
+/// far: the usual implementation of TSO (Nagarajan, Sorin, Hill and Wood, A Primer on Memory
+/// Consistency and Cache Coherence, second edition, chapter 4).
 #[derive(Drop)]
 pub struct Machine {
     program: Program,
@@ -45,24 +46,28 @@ impl Model for Machine {
       program = m.program;
       capacity = m.capacity;
       fault = m.fault;
-      state = held m.units.items m.buffers.items m.memory.items m.writes.items m.reads.items m.performed.items;
+      state = held m.units.items m.buffers.items m.memory.items m.writes.items m.reads.items
+          m.performed.items;
     } };
 
-    ghost invariant = { λ m. IsMachine m.program m.capacity m.units.items m.buffers.items m.memory.items m.writes.items m.reads.items m.performed m.blank };
+    ghost invariant = { λ m. IsMachine m.program m.capacity m.units.items m.buffers.items
+        m.memory.items m.writes.items m.reads.items m.performed m.blank };
 }
 
 impl Machine {
     ghost use Rattle.std.specs.Prelude.{◌≡◌, ◌+◌, ◌<◌, ◌++◌, ◌∷◌, [], ◌↔◌, IsTrue, Ok, Err, IfOk, OnOk, OnErr, IfErr, MatchResult, Some, length, slice_index};
     ghost use Rattle.recorder.specs.Event.{written_address};
     ghost use Rattle.recorder.specs.Tso.{IsTsoOrder};
-    ghost use Rattle.machine.specs.State.{State, opening, place_of, current, first_event, event_of, recorded, IsDone, IsComplete};
-    ghost use Rattle.machine.specs.Step.{taken, exec, exchanged, run, IsAt};
+    ghost use Rattle.machine.specs.State.{opening, current, event_of, IsDone};
+    ghost use Rattle.machine.specs.Step.{exchanged};
+    ghost use Rattle.machine.specs.Held.{answer_of, exec_answer, recording_of, state_behind, IsAtEnd, IsNextOf};
     ghost use Rattle.machine.specs.declared.step.Step.TheVariants.{Exec, Drain};
     ghost use Rattle.litmus.specs.declared.op.Op.TheVariants.{St, Ld, Fence};
     ghost use Rattle.litmus.specs.Parts.{IsWithin};
 
-    /// A machine at the start of a program, whose store buffers have room for `capacity` stores each.
-    /// All memory that a run and its `finish` need is taken here; an `Err` only where there is none.
+    /// A machine at the start of a program, whose store buffers have room for `capacity` stores
+    /// each. All memory that a run and its `finish` need is taken here; an `Err` only where there
+    /// is none.
     pub fn new(
         alloc: Global,
         program: Program,
@@ -128,7 +133,8 @@ impl Machine {
         self.performed.as_slice()
     }
 
-    /// The value of an address of the program, and the event that wrote it; none is the initial value.
+    /// The value of an address of the program, and the event that wrote it; none for the initial
+    /// value.
     pub fn memory(&self, addr: Addr) -> (u32, Option<EventId>)
         requires { addr < length self.now.program.names }
         ensures { result ≡ current self.now.state addr }
@@ -149,7 +155,7 @@ impl Machine {
 
     /// Whether every operation was executed and no store waits.
     pub fn is_complete(&self) -> bool
-        ensures { IsTrue result ↔ IsComplete self.now.program.cores self.now.state }
+        ensures { IsTrue result ↔ IsAtEnd self.now }
     {
         for core in 0..self.program.cores() {
             if !self.is_done(core as CoreId) {
@@ -161,9 +167,9 @@ impl Machine {
 
     /// Puts a store at the back of its core's buffer.
     fn store(&mut self, core: CoreId, event: EventId, addr: Addr, value: u32) -> Result<(), Blocked>
-        requires { IsAt self.old.program.cores self.old.state core (St addr value) event }
-        ensures ok { OnOk result (exec self.old.capacity self.old.state core event (St addr value) ≡ Ok self.new.state) }
-        ensures blocked { IfErr result (λ b. exec self.old.capacity self.old.state core event (St addr value) ≡ Err b) }
+        requires { IsNextOf self.old core (St addr value) event }
+        ensures ok { OnOk result (exec_answer self.old core (St addr value) event ≡ Ok self.new.state) }
+        ensures blocked { IfErr result (λ b. exec_answer self.old core (St addr value) event ≡ Err b) }
         ensures rest { OnOk result (self.new ≡ record self.old { state = self.new.state }) }
         ensures unchanged { OnErr result (self.new ≡ self.old) }
     {
@@ -177,8 +183,8 @@ impl Machine {
 
     /// Reads from the core's own buffer, or from memory.
     fn load(&mut self, core: CoreId, event: EventId, addr: Addr)
-        requires { IsAt self.old.program.cores self.old.state core (Ld addr) event }
-        ensures ok { exec self.old.capacity self.old.state core event (Ld addr) ≡ Ok self.new.state }
+        requires { IsNextOf self.old core (Ld addr) event }
+        ensures ok { exec_answer self.old core (Ld addr) event ≡ Ok self.new.state }
         ensures rest { self.new ≡ record self.old { state = self.new.state } }
     {
         let entry = self.buffers[core as usize].youngest(addr);
@@ -189,9 +195,9 @@ impl Machine {
 
     /// Waits for an empty buffer.
     fn fence(&mut self, core: CoreId, event: EventId) -> Result<(), Blocked>
-        requires { IsAt self.old.program.cores self.old.state core Fence event }
-        ensures ok { OnOk result (exec self.old.capacity self.old.state core event Fence ≡ Ok self.new.state) }
-        ensures blocked { IfErr result (λ b. exec self.old.capacity self.old.state core event Fence ≡ Err b) }
+        requires { IsNextOf self.old core Fence event }
+        ensures ok { OnOk result (exec_answer self.old core Fence event ≡ Ok self.new.state) }
+        ensures blocked { IfErr result (λ b. exec_answer self.old core Fence event ≡ Err b) }
         ensures rest { OnOk result (self.new ≡ record self.old { state = self.new.state }) }
         ensures unchanged { OnErr result (self.new ≡ self.old) }
     {
@@ -213,11 +219,12 @@ impl Machine {
         addr: Addr,
         value: u32,
     ) -> Result<(), Blocked>
-        requires at { IsAt self.old.program.cores self.old.state core op event }
+        requires at { IsNextOf self.old core op event }
         requires address { written_address (event_of op (current self.old.state addr)) ≡ Some addr }
-        requires row { exec self.old.capacity self.old.state core event op ≡ exchanged self.old.state core event addr value }
-        ensures ok { OnOk result (exec self.old.capacity self.old.state core event op ≡ Ok self.new.state) }
-        ensures blocked { IfErr result (λ b. exec self.old.capacity self.old.state core event op ≡ Err b) }
+        requires row { exec_answer self.old core op event
+            ≡ exchanged self.old.state core event addr value }
+        ensures ok { OnOk result (exec_answer self.old core op event ≡ Ok self.new.state) }
+        ensures blocked { IfErr result (λ b. exec_answer self.old core op event ≡ Err b) }
         ensures rest { OnOk result (self.new ≡ record self.old { state = self.new.state }) }
         ensures unchanged { OnErr result (self.new ≡ self.old) }
     {
@@ -234,9 +241,9 @@ impl Machine {
 
     /// The next operation of a core, and the number of its event.
     fn next_op(&self, core: CoreId) -> Result<(Op, EventId), Blocked>
-        ensures at { IfOk result (λ n. IsAt self.now.program.cores self.now.state core n.0 n.1) }
+        ensures at { IfOk result (λ n. IsNextOf self.now core n.0 n.1) }
         ensures within { IfOk result (λ n. IsWithin (length self.now.program.names) n.0) }
-        ensures blocked { IfErr result (λ b. taken self.now.program.cores self.now.capacity self.now.state (Exec core) ≡ Err b) }
+        ensures blocked { IfErr result (λ b. answer_of self.now (Exec core) ≡ Err b) }
     {
         if core as usize >= self.program.cores() {
             return Err(Blocked::B8);
@@ -249,8 +256,8 @@ impl Machine {
 
     /// Executes the next operation of a core.
     fn exec(&mut self, core: CoreId) -> Result<(), Blocked>
-        ensures ok { OnOk result (taken self.old.program.cores self.old.capacity self.old.state (Exec core) ≡ Ok self.new.state) }
-        ensures blocked { IfErr result (λ b. taken self.old.program.cores self.old.capacity self.old.state (Exec core) ≡ Err b) }
+        ensures ok { OnOk result (answer_of self.old (Exec core) ≡ Ok self.new.state) }
+        ensures blocked { IfErr result (λ b. answer_of self.old (Exec core) ≡ Err b) }
         ensures rest { OnOk result (self.new ≡ record self.old { state = self.new.state }) }
         ensures unchanged { OnErr result (self.new ≡ self.old) }
     {
@@ -272,8 +279,8 @@ impl Machine {
 
     /// Takes the oldest store of a core out of its buffer.
     fn drain(&mut self, core: CoreId) -> Result<(), Blocked>
-        ensures ok { OnOk result (taken self.old.program.cores self.old.capacity self.old.state (Drain core) ≡ Ok self.new.state) }
-        ensures blocked { IfErr result (λ b. taken self.old.program.cores self.old.capacity self.old.state (Drain core) ≡ Err b) }
+        ensures ok { OnOk result (answer_of self.old (Drain core) ≡ Ok self.new.state) }
+        ensures blocked { IfErr result (λ b. answer_of self.old (Drain core) ≡ Err b) }
         ensures rest { OnOk result (self.new ≡ record self.old { state = self.new.state }) }
         ensures unchanged { OnErr result (self.new ≡ self.old) }
     {
@@ -291,8 +298,8 @@ impl Machine {
 
     /// Takes one step, or answers the first guard that is false and changes nothing.
     pub fn step(&mut self, step: Step) -> Result<(), Blocked>
-        ensures ok { OnOk result (taken self.old.program.cores self.old.capacity self.old.state step ≡ Ok self.new.state) }
-        ensures blocked { IfErr result (λ b. taken self.old.program.cores self.old.capacity self.old.state step ≡ Err b) }
+        ensures ok { OnOk result (answer_of self.old step ≡ Ok self.new.state) }
+        ensures blocked { IfErr result (λ b. answer_of self.old step ≡ Err b) }
         ensures rest { OnOk result (self.new ≡ record self.old { state = self.new.state }) }
         ensures unchanged { OnErr result (self.new ≡ self.old) }
     {
@@ -304,7 +311,7 @@ impl Machine {
 
     /// Takes the steps of a list in turn; those that are blocked change nothing.
     pub fn run(&mut self, steps: &[Step])
-        ensures { self.new ≡ record self.old { state = run self.old.program.cores self.old.capacity self.old.state steps.now } }
+        ensures { self.new ≡ record self.old { state = state_behind self.old steps.now } }
     {
         for step in steps {
             let _ = self.step(*step);
@@ -313,12 +320,12 @@ impl Machine {
 
     /// The recording of a machine that is complete; else the machine as it is. It takes no memory.
     pub fn finish(self) -> Result<Recording, Unfinished>
-        ensures recording { IfOk result (λ r. r ≡ recorded self.program.cores self.state) }
-        ensures complete { OnOk result (IsComplete self.program.cores self.state) }
+        ensures recording { IfOk result (λ r. r ≡ recording_of self) }
+        ensures complete { OnOk result (IsAtEnd self) }
         // The order of what was performed is one that TSO allows.
-        ensures tso { OnOk result (IsTsoOrder (recorded self.program.cores self.state) self.state.performed) }
+        ensures tso { OnOk result (IsTsoOrder (recording_of self) self.state.performed) }
         ensures unfinished { IfErr result (λ u. u.machine ≡ self) }
-        ensures incomplete { OnErr result (IsComplete self.program.cores self.state → ⊥) }
+        ensures incomplete { OnErr result (IsAtEnd self → ⊥) }
     {
         if !self.is_complete() {
             return Err(Unfinished { machine: self });

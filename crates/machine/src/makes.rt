@@ -41,7 +41,8 @@ pub(crate) fn buffers_of(
     count: usize,
     capacity: usize,
 ) -> Result<Vec<WriteBuffer>, OutOfMemory>
-    ensures { IfOk result (λ v. v.items ≡ replicate count (record { entries = []; capacity = capacity })) }
+    ensures { IfOk result (λ v. v.items
+        ≡ replicate count (record { entries = []; capacity = capacity })) }
 {
     let mut buffers = Vec::with_capacity(alloc, count)?;
     for made in 0..count {

@@ -35,7 +35,10 @@ pub(crate) fn record_core(
 )
     requires room { length events.old.items + length ops.now ≤ events.old.room }
     requires within { first + length ops.now ≤ length reads.now }
-    ensures { events.new ≡ record { items = events.old.items ++ events_from first ops.now reads.now; room = events.old.room } }
+    ensures { events.new ≡ record {
+      items = events.old.items ++ events_from first ops.now reads.now;
+      room = events.old.room;
+    } }
 {
     for (i, op) in ops.iter().enumerate() {
         events.push(event_of(*op, reads[first + i]));

@@ -2,8 +2,8 @@
 
 use litmus::CoreId;
 
-/// A step of the machine, of cores with write buffers before one memory. (Nagarajan, Sorin, Hill and
-/// Wood, A Primer on Memory Consistency and Cache Coherence, second edition, chapter 4.)
+/// A step of the machine, of cores with store buffers before one memory (Nagarajan, Sorin, Hill and
+/// Wood, A Primer on Memory Consistency and Cache Coherence, second edition, chapter 4).
 #[derive(Clone, Copy, Debug, PartialEq, Eq)]
 pub enum Step {
     /// The core executes its next operation in program order.

@@ -1,4 +1,4 @@
-use Rattle.std.proofs.Common.{arith, sym, ap, ◌∙◌, ◌≡◌, ◌++◌, ◌∷◌, [], length, List, length-append}
+use Rattle.std.proofs.Common.{arith, ap, ◌∙◌, ◌++◌, ◌∷◌, [], length, List, length-append}
 use Rattle.std.proofs.lemmas.List.{get_or_read}
 use Rattle.litmus.specs.declared.op.Op.{Op}
 use Rattle.core_unit.specs.Progress.{Progress}

@@ -1,5 +1,4 @@
-use Rattle.std.proofs.Common.{◌≡◌, ◌<◌, ℕ, length, take, get_or}
-use Rattle.std.specs.List.{sum_by}
+use Rattle.std.proofs.Common.{◌≡◌, ◌<◌, ℕ, length, get_or}
 use Rattle.core_unit.specs.Progress.{Progress}
 use Rattle.machine.specs.State.{first_event}
 use Rattle.machine.proofs.makes.units_of.Given as goal

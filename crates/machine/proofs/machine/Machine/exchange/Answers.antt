@@ -1,17 +1,11 @@
-use Rattle.std.proofs.Common.{arith, sym, ap, refl, ◌∙◌, ◌≡◌, ◌<◌, Ok, Some, subst, length, List, length-set}
-use Rattle.litmus.specs.declared.op.Op.{Op}
-use Rattle.litmus.specs.declared.op.Op.TheVariants.{St, Ld, Fence}
-use Rattle.litmus.specs.Parts.{IsWithin}
-use Rattle.write_buffer.specs.declared.entry.Entry.{Entry}
+use Rattle.std.proofs.Common.{arith, sym, ◌∙◌, ◌≡◌, ◌<◌, Some, subst, length, length-set}
 use Rattle.recorder.specs.Event.{written_address}
 use Rattle.machine.specs.State.{current, event_of}
 use Rattle.machine.specs.Held.{Held}
-use Rattle.machine.specs.Step.{IsAt, exec, exchanged, taken}
-use Rattle.machine.specs.declared.step.Step.TheVariants.{Drain}
+use Rattle.machine.specs.Step.{IsAt, exec, exchanged}
 use Rattle.machine.proofs.Executed as executed
-use Rattle.machine.proofs.Drained as drained
 use Rattle.machine.proofs.Opening.{address_within}
-use Rattle.machine.proofs.Reached.{reached_exec, reached_step}
+use Rattle.machine.proofs.Reached.{reached_exec}
 use Rattle.machine.proofs.machine.Machine.exchange.Goals as goal
 
 pub index-requires-2 : goal.index-requires-2

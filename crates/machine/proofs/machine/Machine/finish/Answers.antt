@@ -1,13 +1,10 @@
-use Rattle.std.proofs.Common.{arith, sym, ap, subst, ◌∙◌, ◌≡◌, ◌≤◌, ℕ, length, map, List}
+use Rattle.std.proofs.Common.{arith, sym, subst, ◌≤◌, ℕ, length, map}
 use Rattle.std.proofs.lemmas.List.{length-map}
-use Rattle.litmus.specs.declared.limits.TheConstants.{MAX_CORES, MAX_EVENTS, MAX_ADDRESSES}
-use Rattle.recorder.specs.Execution.{Execution}
-use Rattle.recorder.specs.Recording.{IsRecording}
+use Rattle.litmus.specs.declared.limits.TheConstants.{MAX_ADDRESSES}
 use Rattle.machine.specs.Roomy.{Roomy}
-use Rattle.machine.specs.State.{State, recorded, IsComplete}
-use Rattle.machine.specs.Held.{Held, held}
+use Rattle.machine.specs.State.{IsComplete}
+use Rattle.machine.specs.Held.{Held}
 use Rattle.machine.proofs.InOrder.{IsInOrder}
-use Rattle.machine.proofs.Data.{IsData}
 use Rattle.machine.proofs.Complete.{complete_is_tso}
 use Rattle.machine.proofs.Reached.{reached_data, reached_in_order}
 use Rattle.machine.proofs.Recorded.{complete_recording}

@@ -1,6 +1,5 @@
-use Rattle.std.proofs.Common.{arith, sym, ap, ◌∙◌, subst, ◌≡◌, ◌<◌, length, not, true, false, Bool}
+use Rattle.std.proofs.Common.{sym, ap, ◌∙◌, subst, ◌≡◌, ◌<◌, length, not, true, false}
 use Rattle.std.specs.Prelude.{is_some}
-use Rattle.machine.specs.State.{IsDone}
 use Rattle.machine.specs.Held.{Held}
 use Rattle.machine.proofs.Ends as ends
 use Rattle.machine.proofs.machine.Machine.is_done.Goals as goal

@@ -1,8 +1,7 @@
-use Rattle.std.proofs.Common.{arith, sym, ap, subst, ◌∙◌, ◌≡◌, length, List}
+use Rattle.std.proofs.Common.{ap, subst, ◌∙◌, ◌≡◌, length, List}
 use Rattle.litmus.specs.declared.op.Op.{Op}
 use Rattle.litmus.specs.declared.name.Name.{Name}
 use Rattle.machine.specs.State.{State}
-use Rattle.machine.specs.Held.{Held}
 use Rattle.machine.specs.Made.{AreUnits}
 use Rattle.machine.proofs.Begins.{is_machine, opening_held}
 use Rattle.machine.proofs.machine.Machine.new.Goals as goal

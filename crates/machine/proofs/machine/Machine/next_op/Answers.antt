@@ -1,4 +1,4 @@
-use Rattle.std.proofs.Common.{arith, sym, ap, ◌∙◌, subst, ◌<◌, length}
+use Rattle.std.proofs.Common.{arith, ◌<◌, length}
 use Rattle.machine.proofs.Ends as ends
 use Rattle.machine.proofs.machine.Machine.next_op.Goals as goal
 
