@@ -5,4 +5,14 @@ pub mod Places
 pub mod Floats
 pub mod Newline
 pub mod Depths
-pub mod Empty
+pub mod Obeys
+pub mod Refused
+pub mod Members
+pub mod Each
+pub mod Again
+pub mod Clipped
+pub mod ClippedLists
+pub mod ClippedLimits
+pub mod ClippedRefusals
+pub mod ClippedRecording
+pub mod ClippedAnswers

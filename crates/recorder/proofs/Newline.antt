@@ -1,5 +1,8 @@
 -- A newline behind a JSON text changes nothing of what is read.
-use Rattle.std.proofs.Common.{◌≡◌, ◌-◌, ◌==◌, ◌&&◌, ◌||◌, ℕ, List, [], ◌∷◌, ◌++◌, Bool, true, false, cond, Option, Some, None, option_map, option_and_then, length, drop, refl, ap, arith, length-append}
+use Rattle.std.proofs.Common.{◌≡◌, ◌-◌, ◌==◌, ◌&&◌, ◌||◌, ℕ, List, [], ◌∷◌, ◌++◌, Bool, true, false, cond, Option, Some, None, option_map, option_and_then, length, drop, refl, sym, ap, subst, ◌∙◌, arith, length-append, String, string_bytes, IsUtf8, Global}
+use Rattle.std.proofs.lemmas.Str.{IsUtf8-string_bytes}
+use Rattle.serde_json.specs.Data.{Data}
+use Rattle.recorder.specs.Text.{IsReadAs}
 use Rattle.std.specs.List.{prefix_len}
 use Rattle.std.specs.Char.{is_digit, is_ascii_digit, encode_utf8}
 use Rattle.std.proofs.lemmas.List.{take-append-le, drop-append-le}
@@ -90,6 +93,7 @@ true_nl (a ∷ b ∷ []) = refl
 true_nl (a ∷ b ∷ c ∷ []) = refl
 true_nl (a ∷ b ∷ c ∷ d ∷ t) = rw (ends_nl t) refl
 
+-- and so is `false`
 false_nl : (t : List ℕ) → literal ascii.false_text (boolean false) (t ++ 10 ∷ []) ≡ literal ascii.false_text (boolean false) t
 false_nl [] = refl
 false_nl (a ∷ []) = refl
@@ -98,6 +102,7 @@ false_nl (a ∷ b ∷ c ∷ []) = refl
 false_nl (a ∷ b ∷ c ∷ d ∷ []) = refl
 false_nl (a ∷ b ∷ c ∷ d ∷ e ∷ t) = rw (ends_nl t) refl
 
+-- and `null`
 null_nl : (t : List ℕ) → literal ascii.null_text null (t ++ 10 ∷ []) ≡ literal ascii.null_text null t
 null_nl [] = refl
 null_nl (a ∷ []) = refl
@@ -191,3 +196,7 @@ tokens_newline text = ap (punctuate fresh) (lex_nl between text)
 -- and so is the value that is read
 pub read_newline : (text : List ℕ) → read (text ++ 10 ∷ []) ≡ read text
 read_newline text = rw (lex_nl between text) refl
+
+-- so bytes that are a text with a newline are read as the text is
+pub read_as : (bytes text : List ℕ) (s : String Global) (v d : Data) → bytes ≡ string_bytes s → bytes ≡ text ++ 10 ∷ [] → read text ≡ Some v → v ≡ d → IsReadAs bytes d
+read_as bytes text s v d pushed whole reads is = (subst IsUtf8 (sym pushed) (IsUtf8-string_bytes s), ap read whole ∙ read_newline text ∙ reads ∙ ap Some is)

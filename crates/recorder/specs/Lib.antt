@@ -4,3 +4,7 @@ pub mod Order
 pub mod Tso
 pub mod Recording
 pub mod Text
+pub mod Refusals
+pub mod Reading
+pub mod Clipped
+pub mod Found

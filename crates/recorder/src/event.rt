@@ -26,3 +26,85 @@ pub enum Event {
     /// A full fence.
     F,
 }
+
+impl Event {
+    ghost use Rattle.std.specs.Prelude.{◌≡◌, ◌↔◌, ◌<◌, ◌⊎◌, ◌&&◌, ℕ, IsTrue, Some, false};
+    ghost use Rattle.recorder.specs.Event.{read_address, written_address, source, value_read, value_written, is_plain_store, is_plain_load};
+
+    /// The address that it reads.
+    pub(crate) fn read_address(&self) -> Option<Addr>
+        ensures { result ≡ read_address self.now }
+    {
+        match self {
+            Event::L { a, .. } | Event::R { a, .. } => Some(*a),
+            Event::S { .. } | Event::F => None,
+        }
+    }
+
+    /// The address that it writes.
+    pub(crate) fn written_address(&self) -> Option<Addr>
+        ensures { result ≡ written_address self.now }
+    {
+        match self {
+            Event::S { a, .. } | Event::R { a, .. } => Some(*a),
+            Event::L { .. } | Event::F => None,
+        }
+    }
+
+    /// Whether it writes an address.
+    pub(crate) fn writes_to(&self, address: Addr) -> bool
+        ensures { IsTrue result ↔ (written_address self.now ≡ Some address) }
+    {
+        match self.written_address() {
+            Some(written) => written == address,
+            None => false,
+        }
+    }
+
+    /// Whether each address that it reads or writes is below a number.
+    pub(crate) fn uses_below(&self, count: usize) -> bool
+        ensures { IsTrue result ↔ ((a : ℕ) → (read_address self.now ≡ Some a) ⊎ (written_address self.now ≡ Some a) → a < count) }
+    {
+        match self {
+            Event::L { a, .. } | Event::S { a, .. } | Event::R { a, .. } => (*a as usize) < count,
+            Event::F => true,
+        }
+    }
+
+    /// The write that it read from; none for the initial value, and where it does not read.
+    pub(crate) fn source(&self) -> Option<EventId>
+        ensures { result ≡ source self.now }
+    {
+        match self {
+            Event::L { s, .. } | Event::R { s, .. } => *s,
+            Event::S { .. } | Event::F => None,
+        }
+    }
+
+    /// The value that it reads; 0 where it does not read.
+    pub(crate) fn value_read(&self) -> u32
+        ensures { result ≡ value_read self.now }
+    {
+        match self {
+            Event::L { r, .. } | Event::R { r, .. } => *r,
+            Event::S { .. } | Event::F => 0,
+        }
+    }
+
+    /// The value that it writes; 0 where it does not write.
+    pub(crate) fn value_written(&self) -> u32
+        ensures { result ≡ value_written self.now }
+    {
+        match self {
+            Event::S { w, .. } | Event::R { w, .. } => *w,
+            Event::L { .. } | Event::F => 0,
+        }
+    }
+
+    /// Whether a later event of its core may not overtake it in memory order.
+    pub(crate) fn keeps(&self, later: &Event) -> bool
+        ensures { IsTrue result ↔ ((is_plain_store self.now && is_plain_load later.now) ≡ false) }
+    {
+        !(matches!(self, Event::S { .. }) && matches!(later, Event::L { .. }))
+    }
+}

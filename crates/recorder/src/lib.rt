@@ -2,10 +2,24 @@
 #![tactic(auto)]
 
 mod event;
+mod fault;
+mod items;
+mod lists;
+mod parts;
+mod readers;
+mod reading;
 mod recording;
+mod refusal;
+mod rules;
 mod text;
 mod values;
 
 pub use event::Event;
+pub use fault::RecError;
+pub use lists::{place, stands_before, times};
+pub use reading::read_recording;
 pub use recording::Recording;
 pub use text::write_recording;
+
+#[cfg(test)]
+mod tests;

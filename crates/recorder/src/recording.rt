@@ -1,71 +1,87 @@
 //! Recordings.
 
 use crate::event::Event;
-use litmus::{CoreId, EventId};
+use crate::fault::RecError;
+use crate::parts::Parts;
+use litmus::{Addr, CoreId, EventId};
 use std::marker::Model;
 
 /// A recording: the events of each core in program order, and for each address its writes in memory order.
 #[derive(Drop)]
 pub struct Recording {
-    cores: Vec<Vec<Event>>,
-    writes: Vec<Vec<EventId>>,
+    parts: Parts,
 }
 
 impl Model for Recording {
-    ghost use Rattle.std.specs.Prelude.{map};
     ghost use Rattle.recorder.specs.Execution.{Execution};
-    ghost use Rattle.recorder.specs.Recording.{executed, IsRecording};
+    ghost use Rattle.recorder.specs.Recording.{IsRecording};
 
     ghost Value = { Execution };
 
-    ghost view = { λ r. executed (map (λ v. v.items) r.cores.items) (map (λ v. v.items) r.writes.items) };
+    ghost view = { λ r. r.parts };
 
-    ghost invariant = { λ r. IsRecording (executed (map (λ v. v.items) r.cores.items) (map (λ v. v.items) r.writes.items)) };
+    ghost invariant = { λ r. IsRecording r.parts };
 }
 
 impl Recording {
-    ghost use Rattle.std.specs.Prelude.{◌≡◌, ◌≤◌, ◌<◌, map, MatchOption};
-    ghost use Rattle.recorder.specs.Execution.{event_count, event_at, core_of};
+    ghost use Rattle.std.specs.Prelude.{◌≡◌, ◌≤◌, ◌<◌, map, ◌↔◌, MatchOption, length, IsOk, IfOk, IfErr};
+    ghost use Rattle.recorder.specs.Execution.{event_count, event_at, core_of, write_list};
     ghost use Rattle.recorder.specs.Recording.{executed, IsRecording};
+    ghost use Rattle.recorder.specs.Refusals.{IsRefusal};
 
     /// The recording of these events and write lists.
     pub fn new(cores: Vec<Vec<Event>>, writes: Vec<Vec<EventId>>) -> Recording
         requires { IsRecording (executed (map (λ v. v.items) cores.items) (map (λ v. v.items) writes.items)) }
         ensures { result ≡ executed (map (λ v. v.items) cores.items) (map (λ v. v.items) writes.items) }
     {
-        Recording { cores, writes }
+        Recording {
+            parts: Parts::new(cores, writes),
+        }
+    }
+
+    /// The recording of these events and write lists, or the first refusal: of the limits, of the least event without
+    /// its source, of the least event without the value of its source, of the least address without its write list.
+    pub fn from_parts(
+        cores: Vec<Vec<Event>>,
+        writes: Vec<Vec<EventId>>,
+    ) -> Result<Recording, RecError>
+        ensures exact { IsOk result ↔ IsRecording (executed (map (λ v. v.items) cores.items) (map (λ v. v.items) writes.items)) }
+        ensures ok { IfOk result (λ r. r ≡ executed (map (λ v. v.items) cores.items) (map (λ v. v.items) writes.items)) }
+        ensures err { IfErr result (λ e. IsRefusal (executed (map (λ v. v.items) cores.items) (map (λ v. v.items) writes.items)) e) }
+    {
+        let parts = Parts::new(cores, writes);
+        match parts.refusal() {
+            Some(refusal) => Err(refusal),
+            None => Ok(Recording { parts }),
+        }
     }
 
     /// What every recording keeps. It does nothing.
     pub fn sound(&self)
         ensures { IsRecording self.now }
     {
-        let _cores = &self.cores;
+        let _parts = &self.parts;
     }
 
     /// The events of each core, in program order.
     pub fn cores(&self) -> &[Vec<Event>]
         ensures { map (λ v. v.items) result.now ≡ self.now.cores }
     {
-        self.cores.as_slice()
+        self.parts.cores()
     }
 
     /// For each address the numbers of its writes, in memory order.
     pub fn writes(&self) -> &[Vec<EventId>]
         ensures { map (λ v. v.items) result.now ≡ self.now.write_lists }
     {
-        self.writes.as_slice()
+        self.parts.writes()
     }
 
     /// How many events there are.
     pub fn len(&self) -> usize
         ensures { result ≡ event_count self.now }
     {
-        let mut count = 0;
-        for events in &self.cores {
-            count += events.len();
-        }
-        count
+        self.parts.len()
     }
 
     /// The core and the event of a number; none past the last event.
@@ -73,13 +89,20 @@ impl Recording {
         ensures { MatchOption result (event_count self.now ≤ number)
             (λ p. (number < event_count self.now) × (p.0 ≡ core_of self.now number) × (p.1.now ≡ event_at self.now number)) }
     {
-        let mut rest = number as usize;
-        for (core, events) in self.cores.iter().enumerate() {
-            if rest < events.len() {
-                return Some((core as CoreId, &events[rest]));
-            }
-            rest -= events.len();
-        }
-        None
+        self.parts.event(number)
+    }
+
+    /// How many addresses have a write list.
+    pub fn addresses(&self) -> usize
+        ensures { result ≡ length self.now.write_lists }
+    {
+        self.parts.writes().len()
+    }
+
+    /// The writes of an address, in memory order; none where there is no such address.
+    pub fn write_list(&self, address: Addr) -> &[EventId]
+        ensures { result.now ≡ write_list self.now address }
+    {
+        self.parts.write_list(address)
     }
 }

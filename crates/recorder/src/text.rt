@@ -1,10 +1,11 @@
 //! The text of a recording.
 
-ghost use Rattle.std.specs.Prelude.{◌≡◌, ◌≤◌, IfOk, Some, false, string_bytes};
+ghost use Rattle.std.specs.Prelude.{◌≡◌, ◌≤◌, IfOk, Ok, Some, false, string_bytes};
 ghost use Rattle.serde_json.specs.Data.{depth};
 ghost use Rattle.serde_json.specs.Read.{read, max_depth};
 ghost use Rattle.serde_json.specs.View.{view};
 ghost use Rattle.serde_json.specs.Written.{compact_text, has_float};
+ghost use Rattle.recorder.specs.Reading.{Answers};
 ghost use Rattle.recorder.specs.Text.{data_of, recording_text, IsReadAs};
 
 use crate::recording::Recording;
@@ -26,25 +27,11 @@ fn compact(alloc: Global, value: &Value) -> Result<String, AllocError>
 pub fn write_recording(alloc: Global, recording: &Recording) -> Result<Vec<u8>, OutOfMemory>
     ensures text { IfOk result (λ v. v.items ≡ recording_text recording.now) }
     ensures reads_back { IfOk result (λ v. IsReadAs v.items (data_of recording.now)) }
+    ensures again { IfOk result (λ v. Answers v.items (Ok recording.now)) }
 {
+    recording.sound();
     let value = value_of(alloc, recording)?;
     let mut text = compact(alloc, &value)?;
     text.push('\n')?;
     Ok(text.into_bytes())
-}
-
-#[cfg(test)]
-mod tests {
-    use super::*;
-    use std::test::Fail;
-
-    #[test]
-    fn an_empty_recording_is_written(rt: HostRuntime) -> Result<(), Fail> {
-        let alloc = rt.alloc();
-        let recording = Recording::new(Vec::new(alloc), Vec::new(alloc));
-        let text = write_recording(alloc, &recording)?;
-        let expected = b"{\"cores\":[],\"version\":1,\"writes\":[]}\n".as_slice();
-        assert_eq!(rt; text.as_slice(), expected);
-        Ok(())
-    }
 }

@@ -1,7 +1,8 @@
 //! The JSON value of a recording.
 
-ghost use Rattle.std.specs.Prelude.{◌≡◌, IfOk, map};
+ghost use Rattle.std.specs.Prelude.{◌≡◌, IfOk, Some, map};
 ghost use Rattle.serde_json.specs.View.{view};
+ghost use Rattle.recorder.specs.Reading.{number_in, source_in, event_in, list_in, shape_in};
 ghost use Rattle.recorder.specs.Text.{number_data, list_data, source_data, event_data, data_of};
 
 use crate::event::Event;
@@ -11,7 +12,8 @@ use serde_json::{Value, json};
 use std::alloc::{AllocError, Global};
 
 fn source_value(source: Option<EventId>) -> Value
-    ensures { view result ≡ source_data source }
+    ensures value { view result ≡ source_data source }
+    ensures again { source_in (source_data source) ≡ Some source }
 {
     match source {
         Some(write) => Value::from(write),
@@ -20,7 +22,8 @@ fn source_value(source: Option<EventId>) -> Value
 }
 
 fn event_value(alloc: Global, event: &Event) -> Result<Value, AllocError>
-    ensures { IfOk result (λ v. view v ≡ event_data event.now) }
+    ensures value { IfOk result (λ v. view v ≡ event_data event.now) }
+    ensures again { IfOk result (λ _. event_in (event_data event.now) ≡ Some event.now) }
 {
     match *event {
         Event::L { a, r, s } => json!(in alloc; {"a": a, "k": "L", "r": r, "s": source_value(s)}),
@@ -33,7 +36,8 @@ fn event_value(alloc: Global, event: &Event) -> Result<Value, AllocError>
 }
 
 fn core_value(alloc: Global, events: &[Event]) -> Result<Value, AllocError>
-    ensures { IfOk result (λ v. view v ≡ list_data event_data events.now) }
+    ensures value { IfOk result (λ v. view v ≡ list_data event_data events.now) }
+    ensures again { IfOk result (λ _. list_in event_in (list_data event_data events.now) ≡ Some events.now) }
 {
     let mut values = Vec::with_capacity(alloc, events.len())?;
     for event in events {
@@ -43,7 +47,9 @@ fn core_value(alloc: Global, events: &[Event]) -> Result<Value, AllocError>
 }
 
 fn cores_value(alloc: Global, cores: &[Vec<Event>]) -> Result<Value, AllocError>
-    ensures { IfOk result (λ v. view v ≡ list_data (list_data event_data) (map (λ w. w.items) cores.now)) }
+    ensures value { IfOk result (λ v. view v ≡ list_data (list_data event_data) (map (λ w. w.items) cores.now)) }
+    ensures again { let lists = map (λ w. w.items) cores.now
+        in IfOk result (λ _. list_in (list_in event_in) (list_data (list_data event_data) lists) ≡ Some lists) }
 {
     let mut values = Vec::with_capacity(alloc, cores.len())?;
     for events in cores {
@@ -53,7 +59,8 @@ fn cores_value(alloc: Global, cores: &[Vec<Event>]) -> Result<Value, AllocError>
 }
 
 fn list_value(alloc: Global, writes: &[EventId]) -> Result<Value, AllocError>
-    ensures { IfOk result (λ v. view v ≡ list_data number_data writes.now) }
+    ensures value { IfOk result (λ v. view v ≡ list_data number_data writes.now) }
+    ensures again { IfOk result (λ _. list_in number_in (list_data number_data writes.now) ≡ Some writes.now) }
 {
     let mut values = Vec::with_capacity(alloc, writes.len())?;
     for write in writes {
@@ -63,7 +70,9 @@ fn list_value(alloc: Global, writes: &[EventId]) -> Result<Value, AllocError>
 }
 
 fn lists_value(alloc: Global, lists: &[Vec<EventId>]) -> Result<Value, AllocError>
-    ensures { IfOk result (λ v. view v ≡ list_data (list_data number_data) (map (λ w. w.items) lists.now)) }
+    ensures value { IfOk result (λ v. view v ≡ list_data (list_data number_data) (map (λ w. w.items) lists.now)) }
+    ensures again { let numbers = map (λ w. w.items) lists.now
+        in IfOk result (λ _. list_in (list_in number_in) (list_data (list_data number_data) numbers) ≡ Some numbers) }
 {
     let mut values = Vec::with_capacity(alloc, lists.len())?;
     for writes in lists {
@@ -73,7 +82,8 @@ fn lists_value(alloc: Global, lists: &[Vec<EventId>]) -> Result<Value, AllocErro
 }
 
 pub(crate) fn value_of(alloc: Global, recording: &Recording) -> Result<Value, AllocError>
-    ensures { IfOk result (λ v. view v ≡ data_of recording.now) }
+    ensures value { IfOk result (λ v. view v ≡ data_of recording.now) }
+    ensures again { IfOk result (λ _. shape_in (data_of recording.now) ≡ Some (1, recording.now)) }
 {
     let cores = cores_value(alloc, recording.cores())?;
     let writes = lists_value(alloc, recording.writes())?;

@@ -1,0 +1,20 @@
+use Rattle.std.proofs.Common.{◌≡◌, Some, arith, sym, subst}
+use Rattle.recorder.specs.declared.event.Event.{Event}
+use Rattle.recorder.specs.Reading.{event_in}
+use Rattle.recorder.specs.Text.{event_data}
+use Rattle.recorder.proofs.Again.{load_again, store_again, swap_again, fence_again}
+use Rattle.recorder.proofs.values.event_value.Goals as goal
+
+pub returns-in-Ok-json-8-clause-again : goal.returns-in-Ok-json-8-clause-again
+returns-in-Ok-json-8-clause-again c =
+    subst (λ (e : Event). event_in (event_data e) ≡ Some e) (sym c.in-L.is) (load_again c.in-L.a c.in-L.r c.in-L.s (omega arith) c.source_value.ensures.again)
+
+pub returns-in-Ok-json-14-clause-again : goal.returns-in-Ok-json-14-clause-again
+returns-in-Ok-json-14-clause-again c = subst (λ (e : Event). event_in (event_data e) ≡ Some e) (sym c.in-S.is) (store_again c.in-S.a c.in-S.w (omega arith))
+
+pub returns-in-Ok-json-24-clause-again : goal.returns-in-Ok-json-24-clause-again
+returns-in-Ok-json-24-clause-again c =
+    subst (λ (e : Event). event_in (event_data e) ≡ Some e) (sym c.in-R.is) (swap_again c.in-R.a c.in-R.r c.in-R.s c.in-R.w (omega arith) c.source_value-in-R.ensures.again (omega arith))
+
+pub returns-in-Ok-json-26-clause-again : goal.returns-in-Ok-json-26-clause-again
+returns-in-Ok-json-26-clause-again c = subst (λ (e : Event). event_in (event_data e) ≡ Some e) (sym c.in-F.is) fence_again

@@ -1,0 +1,93 @@
+-- What the bytes of a recording give, from what `serde_json` reads of them: an execution, or the first refusal.
+use Rattle.std.specs.Prelude.{◌≡◌, ◌≢◌, ◌^◌, ◌==◌, ◌&&◌, ℕ, suc, List, [], ◌∷◌, Option, None, Some, is_some, option_map, option_and_then, Result, Ok, Err, codes, nat_lt, bytes_eq, if◌then◌else◌, ⊤}
+use Rattle.serde_json.specs.Data.{Data, Items, no_items, item, Members, no_members, member}
+use Rattle.serde_json.specs.Find.{get, as_null, as_number, as_u64, as_str, as_array, as_object}
+use Rattle.recorder.specs.declared.event.Event.{Event}
+use Rattle.recorder.specs.declared.event.Event.TheVariants.{L, S, R, F}
+use Rattle.recorder.specs.declared.fault.RecError.{RecError}
+use Rattle.recorder.specs.declared.fault.RecError.TheVariants.{NotJson, Shape, Version, Limits, Source, Value, WriteList, OutOfMemory}
+use Rattle.recorder.specs.Execution.{Execution}
+use Rattle.recorder.specs.Recording.{executed, IsRecording}
+use Rattle.recorder.specs.Refusals.{IsRefusal}
+use Rattle.recorder.specs.Text.{IsReadAs}
+
+-- a natural number
+abbrev pub natural : Data → Option ℕ
+natural d = option_and_then as_u64 (as_number d)
+
+-- the number of an event or of an address, of any size
+abbrev pub number_in : Data → Option ℕ
+number_in d = natural d
+
+-- a value of 32 bits
+abbrev pub word : ℕ → Option ℕ
+word n = if nat_lt n (2 ^ 32) then Some n else None
+
+abbrev pub value_in : Data → Option ℕ
+value_in d = option_and_then word (natural d)
+
+-- a source: null, or the number of an event
+abbrev pub source_in : Data → Option (Option ℕ)
+source_in d = if is_some (as_null d) then Some None else option_map Some (number_in d)
+
+-- what a list gives, where each item gives something
+abbrev pub each : {A : Type 0} → (Data → Option A) → Items → Option (List A)
+each f no_items = Some []
+each f (item d ds) = option_and_then (λ x. option_map (λ xs. x ∷ xs) (each f ds)) (f d)
+
+abbrev pub list_in : {A : Type 0} → (Data → Option A) → Data → Option (List A)
+list_in f d = option_and_then (each f) (as_array d)
+
+-- how many keys an object has
+abbrev pub count_members : Members → ℕ
+count_members no_members = 0
+count_members (member k d ms) = suc (count_members ms)
+
+-- what the value at a key gives
+abbrev pub at_key : {A : Type 0} → (Data → Option A) → List ℕ → Data → Option A
+at_key f k d = option_and_then f (get k d)
+
+-- an event of each kind, by the keys that it has
+unfoldable pub load_in : Data → Option Event
+load_in d =
+    option_and_then (λ a. option_and_then (λ r. option_map (λ s. L a r s) (at_key source_in (codes "s") d)) (at_key value_in (codes "r") d)) (at_key number_in (codes "a") d)
+
+unfoldable pub store_in : Data → Option Event
+store_in d = option_and_then (λ a. option_map (λ w. S a w) (at_key value_in (codes "w") d)) (at_key number_in (codes "a") d)
+
+unfoldable pub swap_in : Data → Option Event
+swap_in d =
+    option_and_then (λ a. option_and_then (λ r. option_and_then (λ s. option_map (λ w. R a r s w) (at_key value_in (codes "w") d)) (at_key source_in (codes "s") d)) (at_key value_in (codes "r") d))
+    (at_key number_in (codes "a") d)
+
+-- an event of a kind, in an object with so many keys
+unfoldable pub event_of : List ℕ → ℕ → Data → Option Event
+event_of k n d =
+    if bytes_eq k (codes "L") && n == 4 then load_in d
+    else (if bytes_eq k (codes "S") && n == 3 then store_in d
+    else (if bytes_eq k (codes "R") && n == 5 then swap_in d
+    else (if bytes_eq k (codes "F") && n == 1 then Some F else None)))
+
+unfoldable pub event_in : Data → Option Event
+event_in d = option_and_then (λ n. option_and_then (λ k. event_of k n d) (at_key as_str (codes "k") d)) (option_map count_members (as_object d))
+
+-- the version and the execution of an object with exactly three keys
+unfoldable pub shape_of : Data → Option (ℕ × Execution)
+shape_of d =
+    option_and_then (λ version. option_and_then (λ cores. option_map (λ writes. (version, executed cores writes))
+    (at_key (list_in (list_in number_in)) (codes "writes") d)) (at_key (list_in (list_in event_in)) (codes "cores") d)) (at_key natural (codes "version") d)
+
+unfoldable pub shape_in : Data → Option (ℕ × Execution)
+shape_in d = option_and_then (λ n. if n == 3 then shape_of d else None) (option_map count_members (as_object d))
+
+-- what a reader of these bytes may answer: the first refusal in this order; memory alone is left open
+abbrev pub Answers : List ℕ → Result Execution RecError → Type 0
+Answers bytes (Ok x) = (d : Data) × IsReadAs bytes d × (shape_in d ≡ Some (1, x)) × IsRecording x
+Answers bytes (Err NotJson) = (d : Data) → IsReadAs bytes d → ⊥
+Answers bytes (Err Shape) = (d : Data) × IsReadAs bytes d × (shape_in d ≡ None)
+Answers bytes (Err Version) = (d : Data) × IsReadAs bytes d × ((version : ℕ) × (x : Execution) × (shape_in d ≡ Some (version, x)) × (version ≢ 1))
+Answers bytes (Err Limits) = (d : Data) × IsReadAs bytes d × ((x : Execution) × (shape_in d ≡ Some (1, x)) × IsRefusal x Limits)
+Answers bytes (Err (Source e)) = (d : Data) × IsReadAs bytes d × ((x : Execution) × (shape_in d ≡ Some (1, x)) × IsRefusal x (Source e))
+Answers bytes (Err (Value e)) = (d : Data) × IsReadAs bytes d × ((x : Execution) × (shape_in d ≡ Some (1, x)) × IsRefusal x (Value e))
+Answers bytes (Err (WriteList a)) = (d : Data) × IsReadAs bytes d × ((x : Execution) × (shape_in d ≡ Some (1, x)) × IsRefusal x (WriteList a))
+Answers bytes (Err OutOfMemory) = ⊤

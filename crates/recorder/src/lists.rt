@@ -1,0 +1,41 @@
+//! Lists of events as orders.
+
+ghost use Rattle.std.specs.Prelude.{◌≡◌, ◌↔◌, IsTrue};
+ghost use Rattle.recorder.specs.Order.{place, times, Before};
+
+use litmus::EventId;
+
+/// Where an event first stands, or the length where it does not stand.
+pub fn place(order: &[EventId], event: EventId) -> usize
+    ensures { result ≡ place order.now event }
+{
+    let mut i = 0;
+    while i < order.len() {
+        if order[i] == event {
+            return i;
+        }
+        i += 1;
+    }
+    i
+}
+
+/// How often an event stands.
+pub fn times(order: &[EventId], event: EventId) -> usize
+    ensures { result ≡ times order.now event }
+{
+    let mut found = 0;
+    for i in 0..order.len() {
+        if order[i] == event {
+            found += 1;
+        }
+    }
+    found
+}
+
+/// Whether one event stands before another; false where one of them does not stand.
+pub fn stands_before(order: &[EventId], first: EventId, second: EventId) -> bool
+    ensures { IsTrue result ↔ Before order.now first second }
+{
+    let later = place(order, second);
+    place(order, first) < later && later < order.len()
+}

@@ -1,0 +1,173 @@
+//! Reading the text of a recording.
+
+ghost use Rattle.std.specs.Prelude.{◌≡◌, IfOk, option_map, map, codes};
+ghost use Rattle.serde_json.specs.View.{view, items_view};
+ghost use Rattle.recorder.specs.Found.{found};
+ghost use Rattle.recorder.specs.Reading.{each, list_in, number_in, event_in, at_key, shape_of, shape_in, Answers};
+ghost use Rattle.recorder.specs.Clipped.{clip, clip_event, clipped_shape, clipped_number, clipped_event};
+
+use crate::event::Event;
+use crate::fault::RecError;
+use crate::items::{event_in, keys_of, number_in};
+use crate::recording::Recording;
+use litmus::EventId;
+use serde_json::Value;
+use std::alloc::{AllocError, Global};
+
+/// The version, the events of each core and the write lists, which may break every rule.
+#[derive(Drop)]
+struct Found {
+    version: u64,
+    cores: Vec<Vec<Event>>,
+    writes: Vec<Vec<EventId>>,
+}
+
+fn events_in(alloc: Global, list: &[Value]) -> Result<Option<Vec<Event>>, AllocError>
+    ensures { IfOk result (λ o. option_map (λ v. v.items) o ≡ each clipped_event (items_view list.now)) }
+{
+    let mut found = Vec::new(alloc);
+    for value in list {
+        let Some(event) = event_in(value) else {
+            return Ok(None);
+        };
+        found.push(event)?;
+    }
+    Ok(Some(found))
+}
+
+fn numbers_in(alloc: Global, list: &[Value]) -> Result<Option<Vec<EventId>>, AllocError>
+    ensures { IfOk result (λ o. option_map (λ v. v.items) o ≡ each clipped_number (items_view list.now)) }
+{
+    let mut found = Vec::new(alloc);
+    for value in list {
+        let Some(number) = number_in(value) else {
+            return Ok(None);
+        };
+        found.push(number)?;
+    }
+    Ok(Some(found))
+}
+
+fn core_in(alloc: Global, value: &Value) -> Result<Option<Vec<Event>>, AllocError>
+    ensures { IfOk result (λ o. option_map (λ v. v.items) o ≡ list_in clipped_event (view value.now)) }
+{
+    let Some(list) = value.as_array() else {
+        return Ok(None);
+    };
+    events_in(alloc, list.as_slice())
+}
+
+fn writes_in(alloc: Global, value: &Value) -> Result<Option<Vec<EventId>>, AllocError>
+    ensures { IfOk result (λ o. option_map (λ v. v.items) o ≡ list_in clipped_number (view value.now)) }
+{
+    let Some(list) = value.as_array() else {
+        return Ok(None);
+    };
+    numbers_in(alloc, list.as_slice())
+}
+
+fn cores_in(alloc: Global, list: &[Value]) -> Result<Option<Vec<Vec<Event>>>, AllocError>
+    ensures { IfOk result (λ o. option_map (λ v. map (λ w. w.items) v.items) o ≡ each (list_in clipped_event) (items_view list.now)) }
+{
+    let mut found = Vec::new(alloc);
+    for value in list {
+        let Some(core) = core_in(alloc, value)? else {
+            return Ok(None);
+        };
+        found.push(core)?;
+    }
+    Ok(Some(found))
+}
+
+fn lists_in(alloc: Global, list: &[Value]) -> Result<Option<Vec<Vec<EventId>>>, AllocError>
+    ensures { IfOk result (λ o. option_map (λ v. map (λ w. w.items) v.items) o ≡ each (list_in clipped_number) (items_view list.now)) }
+{
+    let mut found = Vec::new(alloc);
+    for value in list {
+        let Some(writes) = writes_in(alloc, value)? else {
+            return Ok(None);
+        };
+        found.push(writes)?;
+    }
+    Ok(Some(found))
+}
+
+#[tactic(auto, using(crate::proofs::ClippedLists::cores_clipped))]
+fn cores_at(alloc: Global, value: &Value) -> Result<Option<Vec<Vec<Event>>>, AllocError>
+    ensures { IfOk result (λ o. option_map (λ v. map (λ w. w.items) v.items) o ≡ option_map (map (map clip_event)) (at_key (list_in (list_in event_in)) (codes "cores") (view value.now))) }
+{
+    let Some(list) = value.get("cores").and_then(Value::as_array) else {
+        return Ok(None);
+    };
+    cores_in(alloc, list.as_slice())
+}
+
+#[tactic(auto, using(crate::proofs::ClippedLists::writes_clipped))]
+fn lists_at(alloc: Global, value: &Value) -> Result<Option<Vec<Vec<EventId>>>, AllocError>
+    ensures { IfOk result (λ o. option_map (λ v. map (λ w. w.items) v.items) o ≡ option_map (map (map clip)) (at_key (list_in (list_in number_in)) (codes "writes") (view value.now))) }
+{
+    let Some(list) = value.get("writes").and_then(Value::as_array) else {
+        return Ok(None);
+    };
+    lists_in(alloc, list.as_slice())
+}
+
+#[tactic(auto, unfolding(crate::specs::Reading::shape_of))]
+fn shape_of(alloc: Global, value: &Value) -> Result<Option<Found>, AllocError>
+    ensures { IfOk result (λ o. option_map found o ≡ option_map clipped_shape (shape_of (view value.now))) }
+{
+    let Some(version) = value.get("version").and_then(Value::as_u64) else {
+        return Ok(None);
+    };
+    let Some(cores) = cores_at(alloc, value)? else {
+        return Ok(None);
+    };
+    let Some(writes) = lists_at(alloc, value)? else {
+        return Ok(None);
+    };
+    Ok(Some(Found {
+        version,
+        cores,
+        writes,
+    }))
+}
+
+#[tactic(auto, unfolding(crate::specs::Reading::shape_in))]
+fn shape_in(alloc: Global, value: &Value) -> Result<Option<Found>, AllocError>
+    ensures { IfOk result (λ o. option_map found o ≡ option_map clipped_shape (shape_in (view value.now))) }
+{
+    let Some(keys) = keys_of(value) else {
+        return Ok(None);
+    };
+    if keys != 3 {
+        return Ok(None);
+    }
+    shape_of(alloc, value)
+}
+
+/// The recording that the bytes give, or the first refusal: of the JSON, its shape, the version, and what
+/// `Recording::from_parts` refuses.
+pub fn read_recording(alloc: Global, bytes: &[u8]) -> Result<Recording, RecError>
+    ensures { Answers bytes.now result }
+{
+    let value = match Value::from_slice(alloc, bytes) {
+        Ok(value) => value,
+        Err(e) => {
+            return Err(if e.is_memory() {
+                RecError::OutOfMemory
+            } else {
+                RecError::NotJson
+            });
+        }
+    };
+    let Ok(found) = shape_in(alloc, &value) else {
+        return Err(RecError::OutOfMemory);
+    };
+    let Some(found) = found else {
+        return Err(RecError::Shape);
+    };
+    if found.version != 1 {
+        return Err(RecError::Version);
+    }
+    Recording::from_parts(found.cores, found.writes)
+}

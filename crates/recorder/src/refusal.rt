@@ -1,0 +1,103 @@
+//! The first rule that parts of a recording break.
+
+use crate::fault::RecError;
+use crate::parts::Parts;
+use litmus::{Addr, EventId, MAX_ADDRESSES, MAX_CORES};
+
+impl Parts {
+    ghost use Rattle.std.specs.Prelude.{◌≡◌, ◌↔◌, ◌<◌, ◌≤◌, ◌⊎◌, ℕ, IsTrue, MatchOption, length};
+    ghost use Rattle.litmus.specs.declared.limits.TheConstants.{MAX_CORES, MAX_EVENTS, MAX_ADDRESSES};
+    ghost use Rattle.recorder.specs.Execution.{event_count, Reads, Writes};
+    ghost use Rattle.recorder.specs.Recording.{IsRecording};
+    ghost use Rattle.recorder.specs.Refusals.{IsWithinLimits, HasSource, HasValue, HasWriteList, IsLeastWithout, IsRefusal};
+
+    /// Whether each address that is used has a write list.
+    fn has_all_lists(&self) -> bool
+        requires few_cores { length self.now.cores ≤ MAX_CORES }
+        requires few_events { event_count self.now ≤ MAX_EVENTS }
+        ensures { IsTrue result ↔ ((e a : ℕ) → Reads self.now e a ⊎ Writes self.now e a → a < length self.now.write_lists) }
+    {
+        for number in 0..self.len() as EventId {
+            if !self.has_lists_of(number) {
+                return false;
+            }
+        }
+        true
+    }
+
+    /// Whether they are within the limits, and each address that is used has a write list.
+    fn is_within_limits(&self) -> bool
+        ensures { IsTrue result ↔ IsWithinLimits self.now }
+    {
+        if self.cores().len() > MAX_CORES {
+            return false;
+        }
+        if self.writes().len() > MAX_ADDRESSES {
+            return false;
+        }
+        if !self.has_few_events() {
+            return false;
+        }
+        self.has_all_lists()
+    }
+
+    /// The least event whose source is no write to the address that it reads.
+    fn first_without_source(&self) -> Option<EventId>
+        requires few_cores { length self.now.cores ≤ MAX_CORES }
+        requires few_events { event_count self.now ≤ MAX_EVENTS }
+        ensures { MatchOption result ((e : ℕ) → HasSource self.now e) (λ e. IsLeastWithout (HasSource self.now) e) }
+    {
+        for number in 0..self.len() as EventId {
+            if !self.has_source(number) {
+                return Some(number);
+            }
+        }
+        None
+    }
+
+    /// The least event whose value read is not that of its source.
+    fn first_without_value(&self) -> Option<EventId>
+        requires few_cores { length self.now.cores ≤ MAX_CORES }
+        requires few_events { event_count self.now ≤ MAX_EVENTS }
+        ensures { MatchOption result ((e : ℕ) → HasValue self.now e) (λ e. IsLeastWithout (HasValue self.now) e) }
+    {
+        for number in 0..self.len() as EventId {
+            if !self.has_value(number) {
+                return Some(number);
+            }
+        }
+        None
+    }
+
+    /// The least address whose write list does not have each of its writes once and nothing else.
+    fn first_without_list(&self) -> Option<Addr>
+        requires { IsWithinLimits self.now }
+        ensures { MatchOption result ((a : ℕ) → HasWriteList self.now a) (λ a. IsLeastWithout (HasWriteList self.now) a) }
+    {
+        for address in 0..self.writes().len() as Addr {
+            if !self.has_write_list(address) {
+                return Some(address);
+            }
+        }
+        None
+    }
+
+    /// Why they are no recording: what is refused first.
+    pub(crate) fn refusal(&self) -> Option<RecError>
+        ensures { MatchOption result (IsRecording self.now) (λ e. IsRefusal self.now e) }
+    {
+        if !self.is_within_limits() {
+            return Some(RecError::Limits);
+        }
+        if let Some(event) = self.first_without_source() {
+            return Some(RecError::Source(event));
+        }
+        if let Some(event) = self.first_without_value() {
+            return Some(RecError::Value(event));
+        }
+        if let Some(address) = self.first_without_list() {
+            return Some(RecError::WriteList(address));
+        }
+        None
+    }
+}
