@@ -1,0 +1,2 @@
+pub mod Enumerated
+pub mod Visible
