@@ -1,0 +1,6 @@
+use Rattle.std.proofs.Common.{arith}
+use Rattle.relations.proofs.Newer.{place_within}
+use Rattle.relations.proofs.overlooks.newer_from.Goals as goal
+
+pub overflow_add-result : goal.overflow_add-result
+overflow_add-result c = grind (arith, place_within c.args.list.now c.in-Some.source)
