@@ -10,10 +10,12 @@ mod load;
 mod machine;
 mod makes;
 mod record;
+mod run;
 mod script;
 mod script_fault;
 mod script_line;
 mod step;
+mod table;
 
 pub use blocked::Blocked;
 pub use fault::Fault;
