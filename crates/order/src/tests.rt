@@ -42,7 +42,7 @@ fn memory_orders_are_those_that_the_rules_allow(rt: HostRuntime) -> Result<(), F
     };
     let store_buffering = recorded(alloc, &[&[X1, y0], &[Y1, x0]], &[&[0], &[2]])?;
     let message_passing = recorded(alloc, &[&[X1, Y1], &[read_y1, x0]], &[&[0], &[1]])?;
-    let rows: [(&str, &Recording, &[EventId], bool); 7] = [
+    let rows: [(&str, &Recording, &[EventId], bool); 8] = [
         ("one store last", &store_buffering, &[1, 2, 3, 0], true),
         (
             "loads before both stores",
@@ -52,6 +52,7 @@ fn memory_orders_are_those_that_the_rules_allow(rt: HostRuntime) -> Result<(), F
         ),
         ("in program order", &store_buffering, &[0, 1, 2, 3], false),
         ("too short", &store_buffering, &[1, 2, 3], false),
+        ("too long", &store_buffering, &[1, 2, 3, 0, 0], false),
         ("an event twice", &store_buffering, &[1, 2, 3, 3], false),
         ("no such event", &store_buffering, &[1, 2, 3, 999], false),
         ("message passing", &message_passing, &[0, 1, 2, 3], false),
