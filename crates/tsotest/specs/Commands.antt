@@ -29,6 +29,14 @@ buffer_rule = record (new_rule (codes "buffer")) {
 abbrev pub run_app : App
 run_app = with_rule (with_rule (with_rule (new_app (codes "run")) program_rule) steps_rule) buffer_rule
 
+-- FILE
+abbrev pub file_rule : Rule
+file_rule = record (new_rule (codes "FILE")) { required = true; action = Some Set }
+
+-- judge FILE
+abbrev pub judge_app : App
+judge_app = with_rule (new_app (codes "judge")) file_rule
+
 -- the program without a command
 abbrev pub bare_app : App
 bare_app =
@@ -37,7 +45,7 @@ bare_app =
 
 -- the program with its commands; its name is not among the words
 abbrev pub program_app : App
-program_app = with_subcommand bare_app run_app.top
+program_app = with_subcommand (with_subcommand bare_app run_app.top) judge_app.top
 
 -- the command that clap reads of the words, and the entries of its arguments and options
 abbrev pub command_of : List Text → Option (Text × List Row)

@@ -6,8 +6,9 @@ use Rattle.clap.specs.declared.error.Error.{Error}
 use Rattle.clap.specs.declared.error.kind.ErrorKind.TheVariants as kinds
 use Rattle.litmus.specs.declared.limits.TheConstants.{MAX_CAPACITY}
 use Rattle.tsotest.specs.declared.options.Options.{Options}
-use Rattle.tsotest.specs.declared.options.Options.TheVariants.{Run}
+use Rattle.tsotest.specs.declared.options.Options.TheVariants.{Run, Judge}
 use Rattle.tsotest.specs.declared.options.RunOptions.{RunOptions}
+use Rattle.tsotest.specs.declared.options.JudgeOptions.{JudgeOptions}
 use Rattle.tsotest.specs.declared.options.OptionFault.{OptionFault}
 use Rattle.tsotest.specs.declared.options.OptionFault.TheVariants.{Clap, Buffer, NoValue, OutOfMemory}
 use Rattle.tsotest.specs.declared.options.TheConstants.{DEFAULT_BUFFER}
@@ -37,18 +38,35 @@ IsRunFault (NoValue name) rows =
     (first_of (codes "PROGRAM") rows ≡ None) ⊎ (first_of (codes "steps") rows ≡ None) ⊎ (one_of (codes "buffer") rows ≢ None)
 IsRunFault OutOfMemory rows = ⊤
 
+-- the file of judge is its entry
+abbrev pub AreJudgeOptions : JudgeOptions → List Row → Type 0
+AreJudgeOptions o rows = first_of (codes "FILE") rows ≡ Some (string_bytes o.file)
+
+-- why the entries of judge give no options
+abbrev pub IsJudgeFault : OptionFault → List Row → Type 0
+IsJudgeFault (Clap error) rows = ⊥
+IsJudgeFault Buffer rows = ⊥
+IsJudgeFault (NoValue name) rows = first_of (codes "FILE") rows ≡ None
+IsJudgeFault OutOfMemory rows = ⊤
+
 -- the options are those of the command that was read
 abbrev pub AreOptions : Options → Option (Text × List Row) → Type 0
 AreOptions o None = ⊥
 AreOptions (Run o) (Some command) = (command.0 ≡ codes "run") × AreRunOptions o command.1
+AreOptions (Judge o) (Some command) = (command.0 ≡ codes "judge") × AreJudgeOptions o command.1
+
+-- a name that is no command's
+abbrev pub IsNoCommand : Text → Type 0
+IsNoCommand name = (name ≢ codes "run") × (name ≢ codes "judge")
 
 -- why the command that was read gives no options
 abbrev pub IsCommandFault : OptionFault → Option (Text × List Row) → Type 0
 IsCommandFault (Clap error) command = ⊥
 IsCommandFault Buffer None = ⊥
-IsCommandFault Buffer (Some command) = IsRunFault Buffer command.1
+IsCommandFault Buffer (Some command) = (command.0 ≡ codes "run") × IsRunFault Buffer command.1
 IsCommandFault (NoValue name) None = ⊤
-IsCommandFault (NoValue name) (Some command) = (command.0 ≢ codes "run") ⊎ IsRunFault (NoValue name) command.1
+IsCommandFault (NoValue name) (Some command) =
+    IsNoCommand command.0 ⊎ ((command.0 ≡ codes "run") × IsRunFault (NoValue name) command.1) ⊎ ((command.0 ≡ codes "judge") × IsJudgeFault (NoValue name) command.1)
 IsCommandFault OutOfMemory command = ⊤
 
 -- why the words give no options: clap doesn't take them, or what it reads of them gives none

@@ -7,9 +7,11 @@ use std::alloc::{AllocError, AllocFailed, Global};
 
 /// The status of a command that printed what it was asked for.
 pub const DONE: u8 = 0;
+/// The status of a recording that TSO does not allow.
+pub const VIOLATION: u8 = 2;
 /// The status of a refused text or number.
 pub const REFUSED: u8 = 3;
-/// The status of a run that left an operation or a buffered store.
+/// The status of a run that left an operation or a buffered store, and of a recording without a verdict.
 pub const UNFINISHED: u8 = 4;
 
 /// What a command prints on standard output, and its exit status.
@@ -38,6 +40,11 @@ pub enum Stop {
 }
 
 impl From<CommandFault> for Stop {
+    ghost use Rattle.std.specs.Prelude.{◌≡◌};
+    ghost use Rattle.tsotest.specs.declared.answer.Stop.TheVariants.{Fault};
+
+    ghost from_gives = { λ fault stop. stop ≡ Fault fault };
+
     fn from(fault: CommandFault) -> Stop {
         Stop::Fault(fault)
     }

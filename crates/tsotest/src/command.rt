@@ -2,7 +2,7 @@
 ghost use Rattle.std.specs.Prelude.{◌≡◌, IfOk, false};
 ghost use Rattle.clap.specs.Words.{app_of, rule_of};
 ghost use Rattle.clap.specs.declared.builder.command.Command.TheViews.{out-Command as fields_of};
-ghost use Rattle.tsotest.specs.Commands.{bare_app, buffer_rule, program_app, program_rule, run_app, steps_rule};
+ghost use Rattle.tsotest.specs.Commands.{bare_app, buffer_rule, file_rule, judge_app, program_app, program_rule, run_app, steps_rule};
 
 use crate::options::DEFAULT_BUFFER;
 use clap::{Arg, ArgAction, Command};
@@ -10,6 +10,17 @@ use litmus::{MAX_CAPACITY, MAX_STEPS};
 use std::alloc::{AllocError, Global};
 
 const ABOUT: &str = "Runs multiprocessor programs under total store order (TSO)";
+
+const STATUSES: &str = "Exit status:
+  0  the command printed its answer
+  1  a fault of the command line, a file or memory, as standard error says
+  2  the recording is a violation of TSO
+  3  a text or a number was refused, as the line `refused: ..` says
+  4  the run is unfinished, or the recording has no verdict
+
+Examples:
+  tsotest judge recording.json
+  tsotest run store_buffering.litmus --steps store_buffering.steps";
 
 const RUN_ABOUT: &str = "Runs a litmus program by a script of steps and prints its recording";
 
@@ -21,7 +32,7 @@ its buffer to memory. A step that is blocked is skipped. The recording is one li
 JSON: what each operation read and wrote, and for each address its writes in the order
 in which they reached memory.";
 
-const STATUSES: &str = "Exit status:
+const RUN_STATUSES: &str = "Exit status:
   0  the command printed its answer
   1  a fault of the command line, a file or memory, as standard error says
   3  a text or a number was refused, as the line `refused: ..` says
@@ -29,6 +40,24 @@ const STATUSES: &str = "Exit status:
 
 Example:
   tsotest run store_buffering.litmus --steps store_buffering.steps";
+
+const JUDGE_ABOUT: &str = "Looks for a read that overlooks a store of its own core";
+
+const JUDGE_MORE: &str = "Looks in a recording for a read that overlooks a store of its own core.
+
+A store is overlooked by a read of its address that comes after it on the same core and
+gives an older value. TSO allows no such read: a load takes the youngest store of its
+address that waits in the buffer of its core. The least read that overlooks a store is
+named, with the least store that it overlooks.";
+
+const JUDGE_STATUSES: &str = "Exit status:
+  1  a fault of the command line, a file or memory, as standard error says
+  2  a read overlooks a store: the recording is a violation of TSO
+  3  the recording was refused, as the line `refused: ..` says
+  4  no read overlooks a store: the recording has no verdict
+
+Example:
+  tsotest judge recording.json";
 
 /// Texts of `--help` that name limits.
 #[derive(Drop)]
@@ -94,10 +123,32 @@ fn run<'a>(alloc: Global, texts: &'a Texts) -> Result<Command<'a>, AllocError>
     Command::new(alloc, "run")
         .about(RUN_ABOUT)
         .long_about(RUN_MORE)
-        .after_help(STATUSES)
+        .after_help(RUN_STATUSES)
         .arg(program)?
         .arg(steps)?
         .arg(buffer)
+}
+
+fn file_arg<'a>(alloc: Global) -> Arg<'a>
+    ensures rule { rule_of result ≡ file_rule }
+    ensures local { result.global ≡ false }
+{
+    Arg::new(alloc, "FILE")
+        .required(true)
+        .action(ArgAction::Set)
+        .help("The recording: a file, or - for standard input")
+}
+
+fn judge<'a>(alloc: Global) -> Result<Command<'a>, AllocError>
+    ensures app { IfOk result (λ c. app_of c ≡ judge_app) }
+    ensures local { IfOk result (λ c. (fields_of c).has_globals ≡ false) }
+{
+    let file = file_arg(alloc);
+    Command::new(alloc, "judge")
+        .about(JUDGE_ABOUT)
+        .long_about(JUDGE_MORE)
+        .after_help(JUDGE_STATUSES)
+        .arg(file)
 }
 
 fn bare<'a>(alloc: Global) -> Result<Command<'a>, AllocError>
@@ -118,5 +169,6 @@ pub fn command<'a>(alloc: Global, texts: &'a Texts) -> Result<Command<'a>, Alloc
     ensures { IfOk result (λ c. app_of c ≡ program_app) }
 {
     let run = run(alloc, texts)?;
-    bare(alloc)?.subcommand(run)
+    let judge = judge(alloc)?;
+    bare(alloc)?.subcommand(run)?.subcommand(judge)
 }

@@ -3,15 +3,24 @@
 
 mod answer;
 #[cfg(test)]
+mod bad_texts;
+#[cfg(test)]
 mod classics;
 mod command;
 mod disk;
 mod fault;
+#[cfg(test)]
+mod inputs;
+mod judge;
+#[cfg(test)]
+mod judging;
 mod options;
 mod outcome;
 mod perform;
 mod place;
 mod reading;
+#[cfg(test)]
+mod recordings;
 mod refusal;
 mod run;
 #[cfg(test)]

@@ -1,7 +1,7 @@
 //! The options, from what `clap` reads of the words.
 ghost use Rattle.std.specs.Prelude.{◌≡◌, Some, None, IfErr, IfOk, IfSome, option_map};
 ghost use Rattle.clap.specs.Words.{first_of, found_of, one_of, rows_of};
-ghost use Rattle.tsotest.specs.Options.{AreRunOptions, IsRunFault, number_or};
+ghost use Rattle.tsotest.specs.Options.{AreJudgeOptions, AreRunOptions, IsJudgeFault, IsRunFault, number_or};
 
 use clap::ArgMatches;
 use clap::error::ErrorKind;
@@ -15,6 +15,7 @@ pub const DEFAULT_BUFFER: usize = 8;
 #[derive(Debug, Drop)]
 pub enum Options {
     Run(RunOptions),
+    Judge(JudgeOptions),
 }
 
 /// What `run` is asked: the names of the program and of the script, and the capacity of each buffer.
@@ -23,6 +24,12 @@ pub struct RunOptions {
     pub program: String,
     pub steps: String,
     pub buffer: usize,
+}
+
+/// What `judge` is asked: the name of the recording.
+#[derive(Debug, Drop)]
+pub struct JudgeOptions {
+    pub file: String,
 }
 
 /// Why the words gave no options.
@@ -113,5 +120,18 @@ pub fn run_options(alloc: Global, matches: &ArgMatches<'_>) -> Result<RunOptions
         program: String::from_str(alloc, program)?,
         steps: String::from_str(alloc, steps)?,
         buffer: buffer as usize,
+    })
+}
+
+/// The options of `judge`: the file is `clap`'s entry.
+pub fn judge_options(alloc: Global, matches: &ArgMatches<'_>) -> Result<JudgeOptions, OptionFault>
+    ensures ok { IfOk result (λ o. AreJudgeOptions o (rows_of (found_of matches.now))) }
+    ensures err { IfErr result (λ fault. IsJudgeFault fault (rows_of (found_of matches.now))) }
+{
+    let Some(file) = value(matches, "FILE") else {
+        return Err(OptionFault::NoValue("FILE"));
+    };
+    Ok(JudgeOptions {
+        file: String::from_str(alloc, file)?,
     })
 }

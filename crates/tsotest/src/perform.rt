@@ -4,6 +4,7 @@ ghost use Rattle.tsotest.specs.Answer.{IsStatus};
 
 use crate::answer::{Answer, DONE, REFUSED, Stop};
 use crate::fault::CommandFault;
+use crate::judge::judge;
 use crate::options::{OptionFault, Options};
 use crate::place::Place;
 use crate::run::ran;
@@ -38,6 +39,7 @@ fn answered<P: Place>(alloc: Global, words: &[String], place: &mut P) -> Result<
 {
     match options(alloc, words) {
         Ok(Options::Run(run)) => ran(alloc, &run, place),
+        Ok(Options::Judge(options)) => judge(alloc, &options, place),
         Err(fault) => without_options(alloc, fault),
     }
 }

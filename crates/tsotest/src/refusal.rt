@@ -1,9 +1,10 @@
 //! The lines of refused texts.
-ghost use Rattle.std.specs.Prelude.{◌≡◌, IfOk, string_bytes};
-ghost use Rattle.tsotest.specs.Refusal.{line_fault_name, refusal_line, step_fault_name};
+ghost use Rattle.std.specs.Prelude.{◌≡◌, IfOk, option_map, string_bytes};
+ghost use Rattle.tsotest.specs.Refusal.{line_fault_name, recording_line, refusal_line, step_fault_name};
 
 use litmus::LineFault;
 use machine::StepFault;
+use recorder::RecError;
 use std::alloc::{AllocError, Global};
 
 /// What is printed for a fault of a program's line.
@@ -36,4 +37,21 @@ pub fn refusal_line(alloc: Global, name: &str, line: usize) -> Result<String, Al
     ensures { IfOk result (λ text. string_bytes text ≡ refusal_line name.now line) }
 {
     format!(in alloc; "refused: {name} line {line}\n")
+}
+
+/// The line that is printed for a refused recording; none for want of memory.
+pub fn recording_line(alloc: Global, refusal: RecError) -> Result<Option<String>, AllocError>
+    ensures { IfOk result (λ line. option_map string_bytes line ≡ recording_line refusal) }
+{
+    let line = match refusal {
+        RecError::NotJson => String::from_str(alloc, "refused: N1\n")?,
+        RecError::Shape => String::from_str(alloc, "refused: N2\n")?,
+        RecError::Version => String::from_str(alloc, "refused: N3\n")?,
+        RecError::Limits => String::from_str(alloc, "refused: N4\n")?,
+        RecError::Source(event) => format!(in alloc; "refused: N5 event {event}\n")?,
+        RecError::Value(event) => format!(in alloc; "refused: N6 event {event}\n")?,
+        RecError::WriteList(address) => format!(in alloc; "refused: N7 address {address}\n")?,
+        RecError::OutOfMemory => return Ok(None),
+    };
+    Ok(Some(line))
 }

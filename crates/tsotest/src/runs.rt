@@ -2,6 +2,7 @@
 
 use litmus::{EventId, Program, parse};
 use machine::{Blocked, Fault, Machine, Step};
+use order::check;
 use recorder::{Event, Recording};
 use std::alloc::Global;
 use std::test::*;
@@ -96,6 +97,8 @@ fn each_step_answers_its_row(rt: HostRuntime) -> Result<(), Fail> {
         }
         assert!(rt; machine.is_complete(), "{}", row.name);
         assert_eq!(rt; machine.performed(), row.performed, "{}", row.name);
+        let recording = machine.finish().ok().ok_or(row.name)?;
+        assert!(rt; check(&recording, row.performed), "{}", row.name);
     }
     Ok(())
 }
@@ -143,7 +146,8 @@ fn an_unfinished_machine_comes_back(rt: HostRuntime) -> Result<(), Fail> {
 
 const STEPS: [Step; 4] = [Step::Exec(0), Step::Exec(1), Step::Drain(0), Step::Drain(1)];
 
-/// The recording of a program under the list of steps whose digits to the base of 4 are `code`, if they complete it.
+/// The recording of a program under the list of steps whose digits to the base of 4 are `code`, if they complete it;
+/// it fails where what was performed is no memory order of the recording.
 fn recorded(
     alloc: Global,
     program: &Program,
@@ -156,7 +160,14 @@ fn recorded(
         let _ = machine.step(STEPS[rest % 4]);
         rest /= 4;
     }
-    Ok(machine.finish().ok())
+    let performed = Vec::from_slice(alloc, machine.performed())?;
+    let Ok(recording) = machine.finish() else {
+        return Ok(None);
+    };
+    if !check(&recording, performed.as_slice()) {
+        return Err("a run is no memory order of its recording")?;
+    }
+    Ok(Some(recording))
 }
 
 fn reads_zero(recording: &Recording, number: EventId) -> bool {

@@ -1,57 +1,13 @@
 //! Commands over texts in memory.
 use crate::classics::CLASSICS;
 use crate::fault::CommandFault;
+use crate::inputs::{Text, Texts, named, times, words};
 use crate::perform::perform;
-use crate::place::{InputFault, Place};
 use litmus::{MAX_ADDRESSES, MAX_CAPACITY, MAX_CORES, MAX_EVENTS, MAX_STEPS, parse, print};
 use std::alloc::{AllocError, Global};
 use std::io;
-use std::io::{ErrorKind, Read, Write};
+use std::io::{ErrorKind, Write};
 use std::test::Fail;
-
-/// A text that may break: behind its last byte a read fails.
-#[derive(Clone, Copy)]
-struct Text<'a> {
-    name: &'a str,
-    bytes: &'a [u8],
-    breaks: bool,
-}
-
-/// A text that reads without a fault.
-fn named<'a>(name: &'a str, bytes: &'a str) -> Text<'a> {
-    Text {
-        name,
-        bytes: bytes.as_bytes(),
-        breaks: false,
-    }
-}
-
-impl Read for Text<'_> {
-    fn read(&mut self, buf: &mut [u8]) -> io::Result<usize> {
-        if self.bytes.is_empty() && self.breaks {
-            return Err(io::Error::from(ErrorKind::Other));
-        }
-        self.bytes.read(buf)
-    }
-}
-
-#[derive(Drop)]
-struct Texts<'a> {
-    texts: &'a [Text<'a>],
-}
-
-impl<'a> Place for Texts<'a> {
-    type Input = Text<'a>;
-
-    fn input(&mut self, name: &str) -> Result<Text<'a>, InputFault> {
-        for text in self.texts {
-            if text.name == name {
-                return Ok(*text);
-            }
-        }
-        Err(InputFault::CannotOpen)
-    }
-}
 
 /// A writer that takes no byte.
 #[derive(Drop)]
@@ -67,24 +23,6 @@ impl Write for Full {
     }
 }
 
-fn words(alloc: Global, line: &str) -> Result<Vec<String>, AllocError> {
-    let mut words = Vec::new(alloc);
-    for word in line.split(' ') {
-        if !word.is_empty() {
-            words.push(String::from_str(alloc, word)?)?;
-        }
-    }
-    Ok(words)
-}
-
-fn times(alloc: Global, line: &str, count: usize) -> Result<String, AllocError> {
-    let mut text = String::new(alloc);
-    for _ in 0..count {
-        text.push_str(line)?;
-    }
-    Ok(text)
-}
-
 /// One core that loads each of so many addresses.
 fn loads(alloc: Global, addresses: usize) -> Result<String, AllocError> {
     let mut text = String::from_str(alloc, "core\n")?;
@@ -95,11 +33,11 @@ fn loads(alloc: Global, addresses: usize) -> Result<String, AllocError> {
     Ok(text)
 }
 
-const STORE_BUFFERING: &str = "core\nst x 1\nld y\ncore\nst y 1\nld x\n";
+pub const STORE_BUFFERING: &str = "core\nst x 1\nld y\ncore\nst y 1\nld x\n";
 
-const LOADS_FIRST: &str = "exec 0\nexec 1\nexec 0\nexec 1\ndrain 0\ndrain 1\n";
+pub const LOADS_FIRST: &str = "exec 0\nexec 1\nexec 0\nexec 1\ndrain 0\ndrain 1\n";
 
-const BOTH_MISS: &str =
+pub const BOTH_MISS: &str =
     "{\"cores\":[[{\"a\":0,\"k\":\"S\",\"w\":1},{\"a\":1,\"k\":\"L\",\"r\":0,\"s\":null}],\
     [{\"a\":1,\"k\":\"S\",\"w\":1},{\"a\":0,\"k\":\"L\",\"r\":0,\"s\":null}]],\"version\":1,\"writes\":[[0],[2]]}\n";
 
@@ -117,7 +55,7 @@ const TWO_STORES: &str =
     \"version\":1,\"writes\":[[0,1]]}\n";
 
 /// Programs and scripts by their names.
-const TEXTS: [(&str, &str); 17] = [
+const TEXTS: [(&str, &str); 21] = [
     ("sb", STORE_BUFFERING),
     ("loads_first", LOADS_FIRST),
     ("empty", ""),
@@ -135,10 +73,14 @@ const TEXTS: [(&str, &str); 17] = [
     ("no_core", "exec 0\ndrain 1\nexec 2\n"),
     ("far_core", "exec 99999999999999999999\n"),
     ("unended_step", "exec 0\nexec 0"),
+    ("marked", "\u{feff}core\n"),
+    ("nul", "core\nld x\0\n"),
+    ("returns", "core\r\nld x\r\n"),
+    ("nul_step", "exec 0\0\n"),
 ];
 
 /// Command lines, the status of each, and its output.
-const ROWS: [(&str, u8, &str); 20] = [
+const ROWS: [(&str, u8, &str); 24] = [
     ("run sb --steps loads_first", 0, BOTH_MISS),
     ("run empty --steps empty", 0, EMPTY),
     ("run --steps=empty empty", 0, EMPTY),
@@ -161,6 +103,10 @@ const ROWS: [(&str, u8, &str); 20] = [
     ("run sb --steps no_core", 3, "refused: S2 line 3\n"),
     ("run sb --steps far_core", 3, "refused: S2 line 1\n"),
     ("run sb --steps unended_step", 3, "refused: S1 line 2\n"),
+    ("run marked --steps nowhere", 3, "refused: L1 line 1\n"),
+    ("run nul --steps nowhere", 3, "refused: L1 line 2\n"),
+    ("run returns --steps nowhere", 3, "refused: L1 line 1\n"),
+    ("run sb --steps nul_step", 3, "refused: S1 line 1\n"),
     ("run nowhere --steps nowhere --buffer 0", 3, "refused: K7\n"),
     (
         "run nowhere --steps nowhere --buffer 18446744073709551615",
@@ -253,6 +199,11 @@ fn a_fault_prints_nothing_on_standard_output(rt: HostRuntime) -> Result<(), Fail
             bytes: b"exec 0\n",
             breaks: true,
         },
+        Text {
+            name: "broken_recording",
+            bytes: EMPTY.as_bytes(),
+            breaks: true,
+        },
     ];
     let rows = [
         (
@@ -262,6 +213,8 @@ fn a_fault_prints_nothing_on_standard_output(rt: HostRuntime) -> Result<(), Fail
         ("run sb --steps nowhere", "tsotest: cannot open nowhere"),
         ("run broken --steps loads_first", "tsotest: read failed"),
         ("run sb --steps broken_steps", "tsotest: read failed"),
+        ("judge nowhere", "tsotest: cannot open nowhere"),
+        ("judge broken_recording", "tsotest: read failed"),
     ];
     for (line, fault) in rows {
         let mut place = Texts { texts: &texts };
@@ -291,6 +244,16 @@ fn a_write_that_fails_is_a_fault(rt: HostRuntime) -> Result<(), Fail> {
     Ok(())
 }
 
+/// Words that ask for help, and how it ends.
+const HELPS: [(&str, &str); 6] = [
+    ("--help", "--steps store_buffering.steps\n"),
+    ("help", "--steps store_buffering.steps\n"),
+    ("run --help", "--steps store_buffering.steps\n"),
+    ("help run", "--steps store_buffering.steps\n"),
+    ("judge --help", "judge recording.json\n"),
+    ("help judge", "judge recording.json\n"),
+];
+
 #[test]
 fn clap_reads_the_words(rt: HostRuntime) -> Result<(), Fail> {
     let alloc = rt.alloc();
@@ -307,6 +270,9 @@ fn clap_reads_the_words(rt: HostRuntime) -> Result<(), Fail> {
         "run sb --steps loads_first --buffer -1",
         "run sb --steps loads_first --buffer 99999999999999999999",
         "run sb --steps loads_first --buffer 0 --workers 1",
+        "judge",
+        "judge sb sb",
+        "judge sb --steps loads_first",
     ];
     let mut place = Texts { texts: &[] };
     for line in mistakes {
@@ -319,12 +285,12 @@ fn clap_reads_the_words(rt: HostRuntime) -> Result<(), Fail> {
         );
         assert!(rt; out.is_empty(), "{line}");
     }
-    for line in ["--help", "help", "run --help", "help run"] {
+    for (line, example) in HELPS {
         let mut out = Vec::new(alloc);
         let words = words(alloc, line)?;
         let status = perform(alloc, words.as_slice(), &mut place, &mut out)?;
         assert_eq!(rt; status, 0, "{line}");
-        assert!(rt; out.ends_with(b"--steps store_buffering.steps\n"), "{line}");
+        assert!(rt; out.ends_with(example.as_bytes()), "{line}");
     }
     Ok(())
 }

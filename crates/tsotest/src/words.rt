@@ -5,7 +5,7 @@ ghost use Rattle.tsotest.specs.Options.{AreOptions, IsCommandFault, IsFault};
 ghost use Rattle.tsotest.specs.Commands.{command_of};
 
 use crate::command::{Texts, command};
-use crate::options::{OptionFault, Options, run_options};
+use crate::options::{OptionFault, Options, judge_options, run_options};
 use clap::ArgMatches;
 use std::alloc::Global;
 
@@ -23,11 +23,15 @@ fn command_options(alloc: Global, matches: &ArgMatches<'_>) -> Result<Options, O
     let Some((name, entries)) = entered(matches) else {
         return Err(OptionFault::NoValue("the command"));
     };
-    if name != "run" {
-        return Err(OptionFault::NoValue("the command"));
+    if name == "run" {
+        let run = run_options(alloc, entries)?;
+        return Ok(Options::Run(run));
     }
-    let run = run_options(alloc, entries)?;
-    Ok(Options::Run(run))
+    if name == "judge" {
+        let judge = judge_options(alloc, entries)?;
+        return Ok(Options::Judge(judge));
+    }
+    Err(OptionFault::NoValue("the command"))
 }
 
 /// The options that the words ask for. They come without the program's name.
