@@ -1,0 +1,59 @@
+//! The lines of one address, core by core.
+
+ghost use Rattle.std.specs.Prelude.{◌≡◌, map, replicate, IfOk};
+ghost use Rattle.std.specs.List.{list_any};
+ghost use Rattle.moesi.specs.Lines.{is_valid, supplies};
+ghost use Rattle.moesi.specs.Block.{copy_where, invalid};
+ghost use Rattle.moesi.specs.Rows.{shared, invalidated};
+
+use crate::cell::{Cell, INVALID};
+use litmus::{EventId, OutOfMemory};
+use std::alloc::Global;
+
+/// Lines of so many cores, all in I.
+pub(crate) fn invalid_lines(alloc: Global, cores: usize) -> Result<Vec<Cell>, OutOfMemory>
+    ensures { IfOk result (λ v. v.items ≡ replicate cores invalid) }
+{
+    let mut lines = Vec::with_capacity(alloc, cores)?;
+    for i in 0..cores {
+        lines.push(INVALID)?;
+    }
+    Ok(lines)
+}
+
+/// Whether some line is valid.
+pub(crate) fn any_valid(lines: &[Cell]) -> bool
+    ensures { result ≡ list_any (λ x. is_valid x.line) lines.now }
+{
+    lines.iter().any(|x| x.line.is_valid())
+}
+
+/// What a core that asks is given: the data of the first line that supplies them, else memory's.
+pub(crate) fn supplied(lines: &[Cell], memory: (u32, Option<EventId>)) -> (u32, Option<EventId>)
+    ensures { result ≡ copy_where supplies lines.now memory }
+{
+    for x in lines {
+        if x.line.supplies() {
+            return x.copy;
+        }
+    }
+    memory
+}
+
+/// Lowers each line, since another core shares it.
+pub(crate) fn share_all(lines: &mut [Cell])
+    ensures { lines.new ≡ map shared lines.old }
+{
+    for x in lines.iter_mut() {
+        *x = x.shared();
+    }
+}
+
+/// Makes each line I.
+pub(crate) fn invalidate_all(lines: &mut [Cell])
+    ensures { lines.new ≡ map invalidated lines.old }
+{
+    for x in lines.iter_mut() {
+        *x = INVALID;
+    }
+}
