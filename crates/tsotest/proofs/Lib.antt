@@ -1,2 +1,3 @@
 pub mod Faults
 pub mod Unread
+pub mod Printed

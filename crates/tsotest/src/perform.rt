@@ -1,6 +1,8 @@
 //! From the words of a command line to what is printed.
-ghost use Rattle.std.specs.Prelude.{◌≡◌, ◌≢◌, IfErr, IfOk};
-ghost use Rattle.tsotest.specs.Answer.{IsStatus};
+ghost use Rattle.std.specs.Prelude.{◌≡◌, ◌≢◌, IfErr, IfOk, OnOk, map, string_bytes};
+ghost use Rattle.std.specs.Io.KnownBytes.{Appends};
+ghost use Rattle.tsotest.specs.declared.answer.Answer.{Answer};
+ghost use Rattle.tsotest.specs.Perform.{IsAnswered, IsHelp, IsPrinted, IsStopWithout, IsStopped};
 
 use crate::answer::{Answer, DONE, REFUSED, Stop};
 use crate::fault::CommandFault;
@@ -15,7 +17,8 @@ use std::io::Write;
 
 /// The answer where there are no options: the help that was asked for, a refusal or a fault.
 fn without_options(alloc: Global, fault: OptionFault) -> Result<Answer, Stop>
-    ensures { IfOk result (λ answer. IsStatus answer.status) }
+    ensures ok { IfOk result (IsHelp fault) }
+    ensures err { IfErr result (IsStopWithout fault) }
 {
     match fault {
         OptionFault::Clap(error) => {
@@ -34,8 +37,10 @@ fn without_options(alloc: Global, fault: OptionFault) -> Result<Answer, Stop>
     }
 }
 
+/// What the command answers that the words ask for, or the help.
 fn answered<P: Place>(alloc: Global, words: &[String], place: &mut P) -> Result<Answer, Stop>
-    ensures { IfOk result (λ answer. IsStatus answer.status) }
+    ensures ok { IfOk result (IsAnswered (map string_bytes words.now)) }
+    ensures err { IfErr result (IsStopped (map string_bytes words.now)) }
 {
     match options(alloc, words) {
         Ok(Options::Run(run)) => ran(alloc, &run, place),
@@ -44,12 +49,13 @@ fn answered<P: Place>(alloc: Global, words: &[String], place: &mut P) -> Result<
     }
 }
 
+/// The answer, or the line of a refusal.
 fn whole_answer<P: Place>(
     alloc: Global,
     words: &[String],
     place: &mut P,
 ) -> Result<Answer, CommandFault>
-    ensures { IfOk result (λ answer. IsStatus answer.status) }
+    ensures { IfOk result (IsPrinted (map string_bytes words.now)) }
 {
     match answered(alloc, words, place) {
         Ok(answer) => Ok(answer),
@@ -61,7 +67,9 @@ fn whole_answer<P: Place>(
     }
 }
 
-fn put<W: Write>(out: &mut W, text: &[u8]) -> io::Result<()> {
+fn put<W: Write>(out: &mut W, text: &[u8]) -> io::Result<()>
+    ensures { OnOk result (Appends (W.contents out.old) (W.contents out.new) text.now) }
+{
     out.write_all(text)?;
     out.flush()
 }
@@ -74,7 +82,8 @@ pub fn perform<P: Place, W: Write>(
     place: &mut P,
     out: &mut W,
 ) -> Result<u8, CommandFault>
-    ensures status { IfOk result IsStatus }
+    ensures printed { IfOk result (λ status. (answer : Answer) × IsPrinted (map string_bytes words.now) answer
+        × (status ≡ answer.status) × Appends (W.contents out.old) (W.contents out.new) answer.text.items) }
     // Only a write that fails leaves a part of an answer.
     ensures unwritten { IfErr result (λ fault. fault ≢ CommandFault.WriteFailed → out.new ≡ out.old) }
 {

@@ -3,6 +3,7 @@ ghost use Rattle.std.specs.Prelude.{◌≡◌, IfErr, IfOk, Ok};
 ghost use Rattle.litmus.specs.Text.{reading};
 ghost use Rattle.machine.specs.Script.{steps_of};
 ghost use Rattle.tsotest.specs.Refusal.{IsStopOf, line_fault_name, step_fault_name};
+ghost use Rattle.tsotest.specs.Perform.{IsRunStop};
 ghost use Rattle.tsotest.specs.Run.{IsRun};
 
 use crate::answer::{Answer, Stop};
@@ -50,7 +51,8 @@ fn steps_of(alloc: Global, text: &[u8], program: &Program) -> Result<Vec<Step>, 
 
 /// Runs a program by a script: both are named inputs, and the program is read before the script is opened.
 pub fn ran<P: Place>(alloc: Global, options: &RunOptions, place: &mut P) -> Result<Answer, Stop>
-    ensures { IfOk result (IsRun options.now.buffer) }
+    ensures ok { IfOk result (IsRun options.now.buffer) }
+    ensures err { IfErr result IsRunStop }
 {
     let text = text_at(alloc, place, options.program.as_str())?;
     let program = program_of(alloc, text.as_slice())?;
