@@ -183,6 +183,19 @@ fn a_buffer_holds_at_most_its_limit(rt: HostRuntime) -> Result<(), Fail> {
     Ok(())
 }
 
+/// Command lines, and what standard error says of each.
+const FAULTS: [(&str, &str); 6] = [
+    (
+        "run nowhere --steps loads_first",
+        "tsotest: cannot open nowhere",
+    ),
+    ("run sb --steps nowhere", "tsotest: cannot open nowhere"),
+    ("run broken --steps loads_first", "tsotest: read failed"),
+    ("run sb --steps broken_steps", "tsotest: read failed"),
+    ("judge nowhere", "tsotest: cannot open nowhere"),
+    ("judge broken_recording", "tsotest: read failed"),
+];
+
 #[test]
 fn a_fault_prints_nothing_on_standard_output(rt: HostRuntime) -> Result<(), Fail> {
     let alloc = rt.alloc();
@@ -205,18 +218,7 @@ fn a_fault_prints_nothing_on_standard_output(rt: HostRuntime) -> Result<(), Fail
             breaks: true,
         },
     ];
-    let rows = [
-        (
-            "run nowhere --steps loads_first",
-            "tsotest: cannot open nowhere",
-        ),
-        ("run sb --steps nowhere", "tsotest: cannot open nowhere"),
-        ("run broken --steps loads_first", "tsotest: read failed"),
-        ("run sb --steps broken_steps", "tsotest: read failed"),
-        ("judge nowhere", "tsotest: cannot open nowhere"),
-        ("judge broken_recording", "tsotest: read failed"),
-    ];
-    for (line, fault) in rows {
+    for (line, fault) in FAULTS {
         let mut place = Texts { texts: &texts };
         let mut out = Vec::new(alloc);
         let words = words(alloc, line)?;
