@@ -2,35 +2,19 @@
 #![tactic(auto)]
 
 mod answer;
-#[cfg(test)]
-mod bad_texts;
-#[cfg(test)]
-mod classics;
 mod command;
 mod disk;
 mod fault;
-#[cfg(test)]
-mod inputs;
 mod judge;
-#[cfg(test)]
-mod judging;
 mod options;
 mod outcome;
 mod perform;
 mod place;
 mod reading;
-#[cfg(test)]
-mod recordings;
 mod refusal;
 mod run;
 #[cfg(test)]
-mod runs;
-#[cfg(test)]
-mod scripts;
-#[cfg(test)]
 mod tests;
-#[cfg(test)]
-mod traces;
 mod words;
 
 use disk::Disk;

@@ -1,9 +1,9 @@
 //! Recordings that are judged, and those that are refused.
-use crate::bad_texts::REFUSED;
-use crate::inputs::{Text, Texts, named, times, words};
 use crate::perform::perform;
-use crate::recordings::RECORDINGS;
-use crate::tests::{BOTH_MISS, LOADS_FIRST, STORE_BUFFERING};
+use crate::tests::bad_texts::REFUSED;
+use crate::tests::commands::{BOTH_MISS, LOADS_FIRST, STORE_BUFFERING};
+use crate::tests::inputs::{Text, Texts, named, times, words};
+use crate::tests::recordings::RECORDINGS;
 use litmus::{EventId, MAX_ADDRESSES, MAX_CORES, MAX_EVENTS};
 use order::check;
 use recorder::read_recording;
