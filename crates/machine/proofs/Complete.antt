@@ -131,7 +131,7 @@ module _ (p : List (List Op)) (s : State) (end : IsComplete p s) where
 
     -- write lists stand in order
     write_order : (a e f : ℕ) → Before (write_list (recorded p s) a) e f → Before s.performed e f
-    write_order a e f h = elim (cases_lt a (length s.memory)) [
+    write_order a e f h = elim (cases_lt a (length s.caches.blocks)) [
       | inl inside ↦
           let b : Before (filter (writes_to p s a) s.performed) e f = subst (λ (l : List ℕ). Before l e f) (list_is p s a ∙ g.steady.listed.lists a inside) h in
           before_filter (writes_to p s a) s.performed e f (passes a e (times_in (filter (writes_to p s a) s.performed) e (omega (arith, b)))) (passes a f (times_in (filter (writes_to p s a) s.performed) f b.1)) b

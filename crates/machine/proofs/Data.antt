@@ -1,5 +1,5 @@
--- Each value in memory, in a buffer or read is one that an executed write of its address wrote, so a complete state's recording is well formed.
-use Rattle.std.proofs.Common.{◌≡◌, ◌≢◌, ◌<◌, ◌≤◌, ◌+◌, ◌⊎◌, inl, inr, ℕ, Bool, true, cond, Option, Some, None, List, [], ◌∷◌, map, length, get_or, slice_set, arith, refl, sym, ap, subst, ◌∙◌, get_or-set_same, get_or-set_other}
+-- Each value in a line, in memory, in a buffer or read is one that an executed write of its address wrote, so a complete state's recording is well formed.
+use Rattle.std.proofs.Common.{◌≡◌, ◌≢◌, ◌<◌, ◌≤◌, ◌+◌, ◌⊎◌, inl, inr, ℕ, Bool, true, cond, Option, Some, None, Ok, List, [], ◌∷◌, map, length, get_or, slice_set, arith, refl, sym, ap, subst, ◌∙◌, get_or-set_same, get_or-set_other}
 use Rattle.std.specs.Prelude.{◌==◌}
 use Rattle.std.specs.List.{All, filter, sum_by}
 use Rattle.std.proofs.lemmas.List.{get_or_past}
@@ -16,11 +16,15 @@ use Rattle.recorder.proofs.Events.{Writes-event}
 use Rattle.write_buffer.specs.declared.entry.Entry.{Entry}
 use Rattle.write_buffer.specs.Buffer.{youngest, or_else}
 use Rattle.machine.specs.declared.step.Step.{Step}
-use Rattle.machine.specs.State.{State, place_of, buffer_of, current, event_of, recorded, opening, IsComplete}
-use Rattle.machine.specs.Step.{found, loaded, run}
+use Rattle.moesi.specs.State as moesi
+use Rattle.moesi.specs.Laws.{IsTransaction}
+use Rattle.moesi.proofs.Origins.{copy_was_there, write_adds}
+use Rattle.machine.specs.State.{State, place_of, buffer_of, copy_of, event_of, recorded, opening, IsComplete}
+use Rattle.machine.specs.Step.{with_caches, found, looked_up, exchanged_value, run}
+use Rattle.machine.proofs.Cached.{read_has, written_read, opening_has}
 use Rattle.machine.proofs.Static.{static_of, snapshot_of, placed_op, done_by, op_reads}
 use Rattle.machine.proofs.Newest.{bool_cases, times_filter, times_filter_no}
-use Rattle.machine.proofs.WriteLists.{writes_to, is_address_true, is_address_back}
+use Rattle.machine.proofs.WriteLists.{writes_to, is_address_true, is_address_back, pair_one}
 use Rattle.machine.proofs.Drains.{AreStores, drained_state}
 use Rattle.machine.proofs.Loads.{not_equal}
 use Rattle.machine.proofs.Executes.{IsNext, next_placed}
@@ -38,10 +42,10 @@ IsGiven p s a (Some w) v = (w < (snapshot_of p s).next ((static_of p s).core w))
 abbrev pub IsPairGiven : List (List Op) → State → ℕ → ℕ × Option ℕ → Type 0
 IsPairGiven p s a d = IsGiven p s a d.1 d.0
 
--- what addresses hold and events read was given
+-- what lines and memory hold and events read was given
 pub record IsData (p : List (List Op)) (s : State) : Type 0 where
   pub steady : IsSteady p s
-  pub memory : (a : ℕ) → IsPairGiven p s a (current s a)
+  pub copies : (a : ℕ) (copy : ℕ × Option ℕ) → moesi.Has s.caches a copy → IsPairGiven p s a copy
   pub reads : (e a : ℕ) → op_reads (placed_op p e).1 ≡ Some a → IsPairGiven p s a (get_or s.reads e (0, None))
 
 -- an event that is executed now changes nothing that others gave
@@ -99,35 +103,36 @@ module _ (p : List (List Op)) (s : State) (d : IsData p s) where
   waits_executed c x op there = subst (λ (k : ℕ). x.event < (snapshot_of p s).next k) (ap (λ (z : ℕ × Op). z.0) op) (executed_in c x.event there)
 
   -- what a load gets is given
-  loaded_given : (c a : ℕ) → IsPairGiven p s a (loaded s c a)
-  loaded_given c a = go (youngest (buffer_of s c) a) refl
+  loaded_given : (c a : ℕ) (what : ℕ × Option ℕ) → looked_up s c a ≡ Ok what → IsPairGiven p s a what
+  loaded_given c a what = go (youngest (buffer_of s c) a) refl
     where
-      go : (o : Option Entry) → youngest (buffer_of s c) a ≡ o → IsPairGiven p s a (found o (current s a))
-      go None is = d.memory a
-      go (Some y) is =
+      go : (o : Option Entry) → youngest (buffer_of s c) a ≡ o → found o (moesi.read s.caches c a) ≡ Ok what → IsPairGiven p s a what
+      go None is got = d.copies a what (read_has s.caches c a what got)
+      go (Some y) is got =
           let at = youngest_is p c (buffer_of s c) a y (d.steady.stores c) is in
-          written_given p s y.event c a y.value (St a y.value) at.0 (subst (λ (k : ℕ). y.event < (snapshot_of p s).next k) (ap (λ (z : ℕ × Op). z.0) at.0) (executed_in c y.event at.1)) refl refl
+          subst (λ (z : ℕ × Option ℕ). IsPairGiven p s a z) (pair_one (y.value, Some y.event) what got)
+          (written_given p s y.event c a y.value (St a y.value) at.0 (subst (λ (k : ℕ). y.event < (snapshot_of p s).next k) (ap (λ (z : ℕ × Op). z.0) at.0) (executed_in c y.event at.1)) refl refl)
 
-  -- memory where one address was written by an event that gave its value
-  memory_given : (t : State) (a b v : ℕ) → a < length s.memory → IsGiven p t a (Some b) v → ((k : ℕ) → IsPairGiven p t k (current s k))
-      → (k : ℕ) → IsPairGiven p t k (get_or (slice_set s.memory a (v, Some b)) k (0, None))
-  memory_given t a b v inside gave old k = elim (cases_eq k a) [
-    | inl same ↦ subst (λ (z : ℕ). IsPairGiven p t z (get_or (slice_set s.memory a (v, Some b)) z (0, None))) (sym same)
-        (subst (λ (z : ℕ × Option ℕ). IsPairGiven p t a z) (sym (get_or-set_same s.memory a (v, Some b) (0, None) inside)) gave)
-    | inr other ↦ subst (λ (z : ℕ × Option ℕ). IsPairGiven p t k z) (sym (get_or-set_other s.memory a k (v, Some b) (0, None) other)) (old k)
+  -- caches where one address was written by an event that gave its value
+  copies_given : (t : State) (caches : moesi.State) (c a b v : ℕ) → moesi.write s.caches c a v b ≡ Ok caches → IsGiven p t a (Some b) v
+      → ((k : ℕ) (copy : ℕ × Option ℕ) → moesi.Has s.caches k copy → IsPairGiven p t k copy)
+      → (k : ℕ) (copy : ℕ × Option ℕ) → moesi.Has caches k copy → IsPairGiven p t k copy
+  copies_given t caches c a b v wrote gave old k copy h = elim (write_adds s.caches caches c a k copy v b wrote h) [
+    | inl was ↦ old k copy was
+    | inr new ↦ subst (λ (z : ℕ). IsPairGiven p t z copy) (sym new.0) (subst (λ (z : ℕ × Option ℕ). IsPairGiven p t a z) (sym new.1) gave)
   ]
 
   -- a drain keeps the data
-  drain_data : (c : ℕ) (x : Entry) (xs : List Entry) → c < length p → buffer_of s c ≡ x ∷ xs → IsData p (drained_state s c x xs)
-  drain_data c x xs at is =
+  drain_data : (caches : moesi.State) (c : ℕ) (x : Entry) (xs : List Entry) → c < length p → buffer_of s c ≡ x ∷ xs
+      → moesi.write s.caches c x.addr x.value x.event ≡ Ok caches → IsData p (drained_state s caches c x xs)
+  drain_data caches c x xs at is wrote =
       let here : AreStores p c (x ∷ xs) = subst (λ (b : List Entry). AreStores p c b) is (d.steady.stores c) in
       let waits : 0 < times (map (λ (y : Entry). y.event) (buffer_of s c)) x.event =
       subst (λ (b : List Entry). 0 < times (map (λ (y : Entry). y.event) b) x.event) (sym is) (omega (arith, times_here (map (λ (y : Entry). y.event) xs) x.event x.event refl)) in
-      let within : x.addr < length s.memory = d.steady.writes_within x.event x.addr (0, None) (ap (λ (z : ℕ × Op). written_address (event_of z.1 (0, None))) here.0) in
       let gave : IsGiven p s x.addr (Some x.event) x.value = written_given p s x.event c x.addr x.value (St x.addr x.value) here.0 (waits_executed c x here.0 waits) refl refl in
       record {
-        steady = (steady_kept p s d.steady).drain c x xs at is;
-        memory = memory_given s x.addr x.event x.value within gave d.memory;
+        steady = (steady_kept p s d.steady).drain caches c x xs at is wrote;
+        copies = copies_given s caches c x.addr x.event x.value wrote gave d.copies;
         reads = d.reads;
       }
 
@@ -173,7 +178,7 @@ module _ (p : List (List Op)) (s : State) (d : IsData p s) where
       let keep : (k : ℕ) (o : Option ℕ) (w : ℕ) → IsGiven p s k o w → IsGiven p (stored_state s c b a v) k o w = go_on c b (St a v) n (stored_state s c b a v) refl (λ e other. refl) in
       record {
         steady = (steady_kept p s d.steady).store c b a v n at;
-        memory = λ k. keep k _ _ (d.memory k);
+        copies = λ k copy h. keep k _ _ (d.copies k copy h);
         reads = λ e k r. keep k _ _ (d.reads e k r);
       }
 
@@ -183,33 +188,47 @@ module _ (p : List (List Op)) (s : State) (d : IsData p s) where
       let keep : (k : ℕ) (o : Option ℕ) (w : ℕ) → IsGiven p s k o w → IsGiven p (fenced_state s c b) k o w = go_on c b Fence n (fenced_state s c b) refl (λ e other. refl) in
       record {
         steady = (steady_kept p s d.steady).fence c b n empty;
-        memory = λ k. keep k _ _ (d.memory k);
+        copies = λ k copy h. keep k _ _ (d.copies k copy h);
         reads = λ e k r. keep k _ _ (d.reads e k r);
       }
 
   -- a load keeps the data
-  load_data : (c b a : ℕ) → IsNext p s c b (Ld a) → IsData p (loaded_state s c b a)
-  load_data c b a n =
-      let t : State = loaded_state s c b a in
+  load_data : (c b a : ℕ) (what : ℕ × Option ℕ) → IsNext p s c b (Ld a) → looked_up s c a ≡ Ok what → IsData p (loaded_state s c b what)
+  load_data c b a what n got =
+      let t : State = loaded_state s c b what in
       record {
-        steady = (steady_kept p s d.steady).load c b a n;
-        memory = λ k. go_on c b (Ld a) n t refl (λ e other. get_or-set_other s.reads b e (loaded s c a) (0, None) other) k _ _ (d.memory k);
-        reads = read_given c b (Ld a) n t a (loaded s c a) refl (loaded_given c a) refl refl;
+        steady = (steady_kept p s d.steady).load c b a what n got;
+        copies = λ k copy h. go_on c b (Ld a) n t refl (λ e other. get_or-set_other s.reads b e what (0, None) other) k _ _ (d.copies k copy h);
+        reads = read_given c b (Ld a) n t a what refl (loaded_given c a what got) refl refl;
       }
 
   -- a read-modify-write keeps the data
-  exchange_data : (c b a v : ℕ) (op : Op) → IsNext p s c b op → IsExchange op (current s a) a v → buffer_of s c ≡ [] → IsData p (exchanged_state s c b a v)
-  exchange_data c b a v op n is empty =
-      let t : State = exchanged_state s c b a v in
-      let read : get_or t.reads b (0, None) ≡ current s a = get_or-set_same s.reads b (current s a) (0, None) (next_within p s d.steady c b op n) in
-      let within : a < length s.memory = d.steady.reads_within b a (ap (λ (z : ℕ × Op). op_reads z.1) (next_placed p s c b op n) ∙ is.reads) in
-      let gave : IsGiven p t a (Some b) v = written_given p t b c a v op (next_placed p s c b op n) (omega (arith, n.event, get_or-set_same s.places c (place_of s c + 1) 0 n.core))
-      (ap (λ (z : ℕ × Option ℕ). written_address (event_of op z)) read ∙ is.address) (ap (λ (z : ℕ × Option ℕ). value_written (event_of op z)) read ∙ is.value) in
+  exchange_data : (caches : moesi.State) (c b a : ℕ) (op : Op) → IsNext p s c b op → c < length p → IsExchange op (copy_of s c a) a → buffer_of s c ≡ []
+      → moesi.write s.caches c a (exchanged_value s c op a) b ≡ Ok caches → IsData p (exchanged_state s caches c b a)
+  exchange_data caches c b a op n at is empty wrote =
+      let t : State = exchanged_state s caches c b a in
+      let what : ℕ × Option ℕ = copy_of s c a in
+      let value : ℕ = exchanged_value s c op a in
+      let read : get_or t.reads b (0, None) ≡ what = get_or-set_same s.reads b what (0, None) (next_within p s d.steady c b op n) in
+      let gave : IsGiven p t a (Some b) value = written_given p t b c a value op (next_placed p s c b op n) (omega (arith, n.event, get_or-set_same s.places c (place_of s c + 1) 0 n.core))
+      (ap (λ (z : ℕ × Option ℕ). written_address (event_of op z)) read ∙ is.address) (ap (λ (z : ℕ × Option ℕ). value_written (event_of op z)) read) in
       record {
-        steady = (steady_kept p s d.steady).exchange c b a v op n is empty;
-        memory = memory_given t a b v within gave (λ k. go_on c b op n t refl (λ e other. get_or-set_other s.reads b e (current s a) (0, None) other) k _ _ (d.memory k));
-        reads = read_given c b op n t a (current s a) is.reads (d.memory a) refl refl;
+        steady = (steady_kept p s d.steady).exchange caches c b a op n at is empty wrote;
+        copies = copies_given t caches c a b value wrote gave (λ k copy h. go_on c b op n t refl (λ e other. get_or-set_other s.reads b e what (0, None) other) k _ _ (d.copies k copy h));
+        reads = read_given c b op n t a what is.reads (d.copies a what (read_has s.caches c a what (written_read s.caches caches c a value b wrote))) refl refl;
       }
+
+  -- a transaction keeps the data
+  transact_data : (caches : moesi.State) (c a : ℕ) → c < length p → a < length s.caches.blocks → IsTransaction s.caches c a caches → IsData p (with_caches s caches)
+  transact_data caches c a at within made = record {
+    steady = (steady_kept p s d.steady).transact caches c a at within made;
+    copies = λ k copy h. given_same k copy (d.copies k copy (copy_was_there s.caches caches c a k copy made h));
+    reads = λ e k r. given_same k (get_or s.reads e (0, None)) (d.reads e k r);
+  }
+    where
+      given_same : (k : ℕ) (copy : ℕ × Option ℕ) → IsPairGiven p s k copy → IsPairGiven p (with_caches s caches) k copy
+      given_same k (v, None) h = h
+      given_same k (v, Some w) h = h
 
   -- each row keeps the data
   pub data_kept : IsKept p s (IsData p)
@@ -219,13 +238,14 @@ module _ (p : List (List Op)) (s : State) (d : IsData p s) where
     load = load_data;
     fence = fence_data;
     exchange = exchange_data;
+    transact = transact_data;
   }
 
 -- the opening state has only initial values
 opening_data : (p : List (List Op)) (n : ℕ) → All (λ ops. All (IsWithin n) ops) p → IsData p (opening p n)
 opening_data p n fits = record {
   steady = opening_steady p n fits;
-  memory = λ a. subst (λ (z : ℕ × Option ℕ). IsPairGiven p (opening p n) a z) (sym (get_or_same n a (0, None))) refl;
+  copies = λ a copy h. subst (λ (z : ℕ × Option ℕ). IsPairGiven p (opening p n) a z) (sym (opening_has (length p) n a copy h)) refl;
   reads = λ e a r. subst (λ (z : ℕ × Option ℕ). IsPairGiven p (opening p n) a z) (sym (get_or_same (sum_by (λ ops. length ops) p) e (0, None))) refl;
 }
 
@@ -254,15 +274,15 @@ module _ (p : List (List Op)) (s : State) (d : IsData p s) (end : IsComplete p s
   passes a e there = elim (bool_cases (writes_to p s a e)) [ inl is ↦ is | inr fails ↦ absurd (omega (arith, there, times_filter_no (writes_to p s a) s.performed e fails)) ]
 
   -- the write list of an address of the program
-  list_at : (a : ℕ) → a < length s.memory → write_list (recorded p s) a ≡ filter (writes_to p s a) s.performed
+  list_at : (a : ℕ) → a < length s.caches.blocks → write_list (recorded p s) a ≡ filter (writes_to p s a) s.performed
   list_at a inside = list_is p s a ∙ d.steady.listed.lists a inside
 
   -- there is no other write list
-  list_past : (a : ℕ) → length s.memory ≤ a → write_list (recorded p s) a ≡ []
+  list_past : (a : ℕ) → length s.caches.blocks ≤ a → write_list (recorded p s) a ≡ []
   list_past a past = list_is p s a ∙ get_or_past s.write_lists a [] (omega (arith, past, d.steady.listed.cells))
 
   -- events write addresses of the program
-  writes_inside : (e a : ℕ) → (static_of p s).writes e ≡ Some a → a < length s.memory
+  writes_inside : (e a : ℕ) → (static_of p s).writes e ≡ Some a → a < length s.caches.blocks
   writes_inside e a writes = d.steady.writes_within e a (get_or s.reads e (0, None)) writes
 
   -- each write stands once in the list of its address
@@ -275,7 +295,7 @@ module _ (p : List (List Op)) (s : State) (d : IsData p s) (end : IsComplete p s
 
   -- nothing else stands there
   nothing_else : (a e : ℕ) → 0 < times (write_list (recorded p s) a) e → Writes (recorded p s) e a
-  nothing_else a e there = elim (cases_lt a (length s.memory)) [
+  nothing_else a e there = elim (cases_lt a (length s.caches.blocks)) [
     | inl inside ↦ writes_is p s e
         ∙ is_address_true ((static_of p s).writes e) a (passes a e (subst (λ (l : List ℕ). 0 < times l e) (list_at a inside) there))
     | inr past ↦ absurd (omega (arith, subst (λ (l : List ℕ). 0 < times l e) (list_past a past) there, times_nil e))

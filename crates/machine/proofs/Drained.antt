@@ -1,40 +1,85 @@
 -- What a drain does to the parts of a machine.
-use Rattle.std.proofs.Common.{◌≡◌, ◌<◌, ◌≤◌, ◌+◌, ℕ, suc, Option, Some, Ok, List, [], ◌∷◌, ◌++◌, length, slice_index_or, slice_set, arith, refl, sym, ap, subst, ◌∙◌, length-set, length-append}
+use Rattle.std.proofs.Common.{◌≡◌, ◌<◌, ◌≤◌, ◌+◌, ℕ, suc, Option, Some, None, Ok, Err, List, [], ◌∷◌, ◌++◌, length, slice_get, slice_index_or, slice_set, arith, refl, sym, ap, subst, ◌∙◌, length-set, length-append}
 use Rattle.std.specs.List.{All, sum_by}
 use Rattle.std.proofs.lemmas.List.Elements.{All-set, All-weaker}
 use Rattle.std.proofs.lemmas.List.Sums.{sum_by-set}
-use Rattle.std.proofs.lemmas.List.{map-set, length-map}
+use Rattle.std.proofs.lemmas.List.{map-set, length-map, get_or_default}
+use Rattle.std.specs.Prelude.{IfSome, IfNone}
+use Rattle.std.proofs.lemmas.Option.{slice_get_within, get_or_from_slice_get}
 use Rattle.std.proofs.lemmas.Bool.{lt-ltb}
+use Rattle.moesi.specs.State as moesi
+use Rattle.moesi.specs.declared.error.CacheError.{CacheError}
+use Rattle.machine.specs.declared.blocked.Blocked.TheVariants.{B5}
 use Rattle.litmus.specs.Parts.{Parts}
 use Rattle.write_buffer.specs.declared.entry.Entry.{Entry}
 use Rattle.write_buffer.specs.Buffer.{Buffer}
 use Rattle.core_unit.specs.Progress.{Progress}
 use Rattle.machine.specs.declared.step.Step.TheVariants.{Drain}
-use Rattle.machine.specs.Step.{taken}
+use Rattle.machine.specs.Step.{drained, taken}
 use Rattle.machine.specs.Roomy.{Roomy}
-use Rattle.machine.specs.Held.{IsSound, held, places_of, events_of}
+use Rattle.machine.specs.Held.{IsSound, IsEntry, held, places_of, events_of}
 use Rattle.machine.proofs.Executed.{places_within, buffer_seen, list_seen}
 
-module _ (p : Parts) (capacity : ℕ) (units : List Progress) (buffers : List Buffer) (memory : List (ℕ × Option ℕ))
+-- what leaves a buffer is its oldest entry
+popped_is : (old new : Buffer) (entry : Entry) (r : Option Entry) → Some entry ≡ slice_get old.entries 0
+    → IfSome r (λ x. old.entries ≡ x ∷ new.entries) → IfNone r ((old.entries ≡ []) × (new ≡ old)) → old.entries ≡ entry ∷ new.entries
+popped_is old new entry (Some x) first some none =
+    let one : Some entry ≡ Some x = first ∙ ap (λ (l : List Entry). slice_get l 0) some in
+    let same : x ≡ entry = cc (one) in
+    some ∙ ap (λ (y : Entry). y ∷ new.entries) same
+popped_is old new entry None first some none = absurd (let clash : Some entry ≡ None = first ∙ ap (λ (l : List Entry). slice_get l 0) none.0 in cc (clash))
+
+module _ (p : Parts) (capacity : ℕ) (units : List Progress) (buffers : List Buffer) (caches : moesi.State)
     (writes : List (Roomy ℕ)) (reads : List (ℕ × Option ℕ)) (done : Roomy ℕ)
-    (sound : IsSound p capacity units buffers memory writes reads done)
+    (sound : IsSound p capacity units buffers caches writes reads done)
+    (core : ℕ) (at : core < length p.cores) (old : Buffer) (is : old ≡ slice_index_or buffers core old)
+    (entry : Entry) (first : Some entry ≡ slice_get old.entries 0) where
+  -- the core has a buffer
+  buffer_there : core < length buffers
+  buffer_there = omega (arith, at, sound.buffers_length)
+
+  -- all waiting stores have addresses of the program
+  waiting_within : All (IsEntry (length p.names)) old.entries
+  waiting_within = subst (λ (b : Buffer). All (IsEntry (length p.names)) b.entries) (sym is) (sound.entries core old buffer_there)
+
+  -- so has the oldest
+  pub entry_within : IsEntry (length p.names) entry
+  entry_within = subst (IsEntry (length p.names)) (get_or_from_slice_get old.entries 0 entry entry (sym first)) (waiting_within 0 entry (slice_get_within old.entries 0 entry (sym first)))
+
+  -- what leaves the buffer is that entry
+  pub popped : (now new : Buffer) → now ≡ slice_index_or buffers core now → (r : Option Entry)
+      → IfSome r (λ x. now.entries ≡ x ∷ new.entries) → IfNone r ((now.entries ≡ []) × (new ≡ now)) → now.entries ≡ entry ∷ new.entries
+  popped now new now_is r some none =
+      let same : old ≡ now = is ∙ (get_or_default buffers core old now buffer_there ∙ sym now_is) in
+      popped_is now new entry r (first ∙ ap (λ (b : Buffer). slice_get b.entries 0) same) some none
+
+  -- a drain that the caches refuse is blocked
+  pub drain_blocked : (e : CacheError) → moesi.write caches core entry.addr entry.value entry.event ≡ Err e
+      → taken p.cores capacity (held units buffers caches writes reads done.items) (Drain core) ≡ Err B5
+  drain_blocked e refused = rw (lt-ltb core (length p.cores) at, buffer_seen buffers core old buffer_there is) (go old.entries first)
+    where
+      go : (l : List Entry) → Some entry ≡ slice_get l 0 → drained (held units buffers caches writes reads done.items) core l ≡ Err B5
+      go [] h = absurd (let clash : Some entry ≡ None = h in cc (clash))
+      go (x ∷ xs) h =
+          let same : entry ≡ x = let one : Some entry ≡ Some x = h in cc (one) in
+          rw (← same, refused) refl
+
+module _ (p : Parts) (capacity : ℕ) (units : List Progress) (buffers : List Buffer) (caches : moesi.State)
+    (writes : List (Roomy ℕ)) (reads : List (ℕ × Option ℕ)) (done : Roomy ℕ)
+    (sound : IsSound p capacity units buffers caches writes reads done)
     (core : ℕ) (at : core < length p.cores) (old new : Buffer) (is : old ≡ slice_index_or buffers core old)
     (entry : Entry) (popped : old.entries ≡ entry ∷ new.entries) (same : new.capacity ≡ old.capacity) where
   -- the core has a buffer
   there : core < length buffers
   there = omega (arith, at, sound.buffers_length)
 
-  -- all waiting stores have addresses of the program
-  all_within : All (λ x. x.addr < length p.names) (entry ∷ new.entries)
-  all_within = subst (λ (xs : List Entry). All (λ x. x.addr < length p.names) xs) popped
-      (subst (λ (b : Buffer). All (λ x. x.addr < length p.names) b.entries) (sym is) (sound.entries core old there))
+  -- all waiting stores are as they should be
+  all_within : All (IsEntry (length p.names)) (entry ∷ new.entries)
+  all_within = subst (λ (xs : List Entry). All (IsEntry (length p.names)) xs) popped
+      (subst (λ (b : Buffer). All (IsEntry (length p.names)) b.entries) (sym is) (sound.entries core old there))
 
-  -- so has the drained one
-  pub entry_within : entry.addr < length p.names
-  entry_within = all_within 0 entry (omega arith)
-
-  -- and so have the others
-  rest_within : All (λ x. x.addr < length p.names) new.entries
+  -- and so are those that stay
+  rest_within : All (IsEntry (length p.names)) new.entries
   rest_within k d h = all_within (suc k) d (omega (arith, h))
 
   -- one store less waits
@@ -57,7 +102,7 @@ module _ (p : Parts) (capacity : ℕ) (units : List Progress) (buffers : List Bu
   module _ (list : Roomy ℕ) (list_is : list ≡ slice_index_or writes entry.addr list) where
     -- its address has a write list
     in_writes : entry.addr < length writes
-    in_writes = omega (arith, entry_within, sound.writes_length)
+    in_writes = omega (arith, (all_within 0 entry (omega arith)).0, sound.writes_length)
 
     -- with room for every event
     list_room : list.room ≡ events_of p
@@ -78,19 +123,21 @@ module _ (p : Parts) (capacity : ℕ) (units : List Progress) (buffers : List Bu
       longer = ap (λ (r : Roomy ℕ). length r.items) done_is ∙ length-append done.items (entry.event ∷ [])
 
       -- the parts still fit together
-      pub drained_sound : (cell : ℕ × Option ℕ) → IsSound p capacity units (slice_set buffers core new) (slice_set memory entry.addr cell) (slice_set writes entry.addr list') reads done'
-      drained_sound cell = record {
+      pub drained_sound : (caches' : moesi.State) → caches'.cores ≡ caches.cores → length caches'.blocks ≡ length caches.blocks
+          → IsSound p capacity units (slice_set buffers core new) caches' (slice_set writes entry.addr list') reads done'
+      drained_sound caches' same_cores same_blocks = record {
         operations = sound.operations;
         few = sound.few;
         units_length = sound.units_length;
         buffers_length = length-set buffers core new ∙ sound.buffers_length;
-        cells = length-set memory entry.addr cell ∙ sound.cells;
+        cache_cores = same_cores ∙ sound.cache_cores;
+        cache_blocks = same_blocks ∙ sound.cache_blocks;
         writes_length = length-set writes entry.addr list' ∙ sound.writes_length;
         events = sound.events;
         first = sound.first;
         place = sound.place;
         capacities = All-set (λ b. b.capacity ≡ capacity) buffers core new (same ∙ (ap (λ (b : Buffer). b.capacity) is ∙ sound.capacities core old there)) sound.capacities;
-        entries = All-set (λ b. All (λ x. x.addr < length p.names) b.entries) buffers core new rest_within sound.entries;
+        entries = All-set (λ b. All (IsEntry (length p.names)) b.entries) buffers core new rest_within sound.entries;
         write_rooms = All-set (λ l. l.room ≡ events_of p) writes entry.addr list' (ap (λ (r : Roomy ℕ). r.room) pushed ∙ list_room) sound.write_rooms;
         write_lengths = All-set (λ l. length l.items ≤ length done'.items) writes entry.addr list'
             (omega (arith, list_short, longer, ap (λ (r : Roomy ℕ). length r.items) pushed, length-append list.items (entry.event ∷ [])))
@@ -100,14 +147,16 @@ module _ (p : Parts) (capacity : ℕ) (units : List Progress) (buffers : List Bu
       }
 
       -- the row of a drain
-      pub drain_taken : taken p.cores capacity (held units buffers memory writes reads done.items) (Drain core)
-          ≡ Ok (held units (slice_set buffers core new) (slice_set memory entry.addr (entry.value, Some entry.event)) (slice_set writes entry.addr list') reads done'.items)
-      drain_taken = rw (
+      pub drain_taken : (caches' : moesi.State) → moesi.write caches core entry.addr entry.value entry.event ≡ Ok caches'
+          → taken p.cores capacity (held units buffers caches writes reads done.items) (Drain core)
+          ≡ Ok (held units (slice_set buffers core new) caches' (slice_set writes entry.addr list') reads done'.items)
+      drain_taken caches' wrote = rw (
         lt-ltb core (length p.cores) at,
         map-set (λ (b : Buffer). b.entries) buffers core new,
         map-set (λ (b : Roomy ℕ). b.items) writes entry.addr list',
         buffer_seen buffers core old there is,
         popped,
+        wrote,
         list_seen writes entry.addr list in_writes list_is,
         pushed,
         done_is,

@@ -3,6 +3,7 @@ use Rattle.std.proofs.Common.{◌≡◌, ◌<◌, ℕ, List, [], ◌∷◌, map,
 use Rattle.litmus.specs.declared.op.Op.{Op}
 use Rattle.litmus.specs.declared.op.Op.TheVariants.{St}
 use Rattle.write_buffer.specs.declared.entry.Entry.{Entry}
+use Rattle.moesi.specs.State as moesi
 use Rattle.machine.specs.State.{State, buffer_of}
 use Rattle.machine.specs.Step.{performed, written, with_buffer}
 use Rattle.machine.proofs.Seen.{IsCounted, IsOrdered}
@@ -15,14 +16,14 @@ abbrev pub AreStores : List (List Op) → ℕ → List Entry → Type 0
 AreStores p c [] = Unit {0}
 AreStores p c (x ∷ xs) = (placed_op p x.event ≡ (c, St x.addr x.value)) × AreStores p c xs
 
--- the state after core c's entry x went to memory
-abbrev pub drained_state : State → ℕ → Entry → List Entry → State
-drained_state s c x xs = performed (written (with_buffer s c xs) x.addr x.value x.event) x.event
+-- the state after core c's entry x went to its line, which left these caches
+abbrev pub drained_state : State → moesi.State → ℕ → Entry → List Entry → State
+drained_state s caches c x xs = performed (written (with_buffer s c xs) caches x.addr x.event) x.event
 
 -- the drain of a waiting entry is one of event numbers, the oldest first
-pub drains : (p : List (List Op)) (s : State) (c : ℕ) (x : Entry) (xs : List Entry) → c < length s.buffers → buffer_of s c ≡ x ∷ xs → AreStores p c (x ∷ xs)
-    → Drains (static_of p s) (snapshot_of p s) (snapshot_of p (drained_state s c x xs)) c x.event []
-drains p s c x xs at is stores = record {
+pub drains : (p : List (List Op)) (s : State) (caches : moesi.State) (c : ℕ) (x : Entry) (xs : List Entry) → c < length s.buffers → buffer_of s c ≡ x ∷ xs → AreStores p c (x ∷ xs)
+    → Drains (static_of p s) (snapshot_of p s) (snapshot_of p (drained_state s caches c x xs)) c x.event []
+drains p s caches c x xs at is stores = record {
   back = map (λ (y : Entry). y.event) xs;
   performed = refl;
   was = ap (map (λ (y : Entry). y.event)) is;
@@ -34,16 +35,16 @@ drains p s c x xs at is stores = record {
 }
 
 -- a drain keeps the count
-pub drain_counted : (p : List (List Op)) (s : State) (c : ℕ) (x : Entry) (xs : List Entry) → c < length s.buffers → buffer_of s c ≡ x ∷ xs → AreStores p c (x ∷ xs)
-    → IsCounted (static_of p s) (snapshot_of p s) → IsCounted (static_of p (drained_state s c x xs)) (snapshot_of p (drained_state s c x xs))
-drain_counted p s c x xs at is stores counted =
-    counted_kept (static_of p s) (snapshot_of p s) (snapshot_of p (drained_state s c x xs)) x.event counted
-    (drain_counts (static_of p s) (snapshot_of p s) (snapshot_of p (drained_state s c x xs)) c x.event [] counted (drains p s c x xs at is stores))
+pub drain_counted : (p : List (List Op)) (s : State) (caches : moesi.State) (c : ℕ) (x : Entry) (xs : List Entry) → c < length s.buffers → buffer_of s c ≡ x ∷ xs → AreStores p c (x ∷ xs)
+    → IsCounted (static_of p s) (snapshot_of p s) → IsCounted (static_of p (drained_state s caches c x xs)) (snapshot_of p (drained_state s caches c x xs))
+drain_counted p s caches c x xs at is stores counted =
+    counted_kept (static_of p s) (snapshot_of p s) (snapshot_of p (drained_state s caches c x xs)) x.event counted
+    (drain_counts (static_of p s) (snapshot_of p s) (snapshot_of p (drained_state s caches c x xs)) c x.event [] counted (drains p s caches c x xs at is stores))
 
 -- a drain of the oldest store keeps the order
-pub drain_ordered : (p : List (List Op)) (s : State) (c : ℕ) (x : Entry) (xs : List Entry) → c < length s.buffers → buffer_of s c ≡ x ∷ xs → AreStores p c (x ∷ xs)
-    → IsCounted (static_of p s) (snapshot_of p s) → IsOrdered (static_of p s) (snapshot_of p s) → IsOrdered (static_of p (drained_state s c x xs)) (snapshot_of p (drained_state s c x xs))
-drain_ordered p s c x xs at is stores counted ordered =
-    ordered_kept (static_of p s) (snapshot_of p s) (snapshot_of p (drained_state s c x xs)) x.event counted ordered
-    (drain_counts (static_of p s) (snapshot_of p s) (snapshot_of p (drained_state s c x xs)) c x.event [] counted (drains p s c x xs at is stores))
-    (drain_orders (static_of p s) (snapshot_of p s) (snapshot_of p (drained_state s c x xs)) c x.event counted ordered (drains p s c x xs at is stores))
+pub drain_ordered : (p : List (List Op)) (s : State) (caches : moesi.State) (c : ℕ) (x : Entry) (xs : List Entry) → c < length s.buffers → buffer_of s c ≡ x ∷ xs → AreStores p c (x ∷ xs)
+    → IsCounted (static_of p s) (snapshot_of p s) → IsOrdered (static_of p s) (snapshot_of p s) → IsOrdered (static_of p (drained_state s caches c x xs)) (snapshot_of p (drained_state s caches c x xs))
+drain_ordered p s caches c x xs at is stores counted ordered =
+    ordered_kept (static_of p s) (snapshot_of p s) (snapshot_of p (drained_state s caches c x xs)) x.event counted ordered
+    (drain_counts (static_of p s) (snapshot_of p s) (snapshot_of p (drained_state s caches c x xs)) c x.event [] counted (drains p s caches c x xs at is stores))
+    (drain_orders (static_of p s) (snapshot_of p s) (snapshot_of p (drained_state s caches c x xs)) c x.event counted ordered (drains p s caches c x xs at is stores))

@@ -9,6 +9,7 @@ use Rattle.litmus.specs.declared.op.Op.TheVariants.{Fence}
 use Rattle.litmus.specs.Parts.{Parts, IsWithin}
 use Rattle.write_buffer.specs.Buffer.{Buffer}
 use Rattle.core_unit.specs.Progress.{Progress, next_of}
+use Rattle.moesi.specs.State as moesi
 use Rattle.machine.specs.State.{first_event, IsDone}
 use Rattle.machine.specs.Step.{IsAt}
 use Rattle.machine.specs.Roomy.{Roomy}
@@ -40,9 +41,9 @@ one_left u ops n h = elim (slice_get_cases ops u.place).1 [
   | inr past ↦ absurd (let clash : Some n ≡ None = h ∙ ap (option_map (λ (op : Op). (op, u.first + u.place))) past.1 in cc)
 ]
 
-module _ (p : Parts) (capacity : ℕ) (units : List Progress) (buffers : List Buffer) (memory : List (ℕ × Option ℕ))
+module _ (p : Parts) (capacity : ℕ) (units : List Progress) (buffers : List Buffer) (caches : moesi.State)
     (writes : List (Roomy ℕ)) (reads : List (ℕ × Option ℕ)) (done : Roomy ℕ)
-    (sound : IsSound p capacity units buffers memory writes reads done)
+    (sound : IsSound p capacity units buffers caches writes reads done)
     (core : ℕ) (there : core < length p.cores) (unit : Progress) (unit_is : unit ≡ slice_index_or units core unit)
     (ops : List Op) (ops_is : ops ≡ slice_index_or p.cores core []) where
   -- the unit's place is the state's
@@ -58,7 +59,7 @@ module _ (p : Parts) (capacity : ℕ) (units : List Progress) (buffers : List Bu
   few = omega (arith, first_at, ap (λ (os : List Op). length os) ops_is, first_within p.cores core there, sound.few)
 
   -- the next operation of a unit is that of its core
-  pub is_at : (n : Op × ℕ) → Some n ≡ next_of unit ops → IsAt p.cores (held units buffers memory writes reads done.items) core n.0 n.1
+  pub is_at : (n : Op × ℕ) → Some n ≡ next_of unit ops → IsAt p.cores (held units buffers caches writes reads done.items) core n.0 n.1
   is_at n h = record {
     core = there;
     operation = subst (λ (os : List Op). slice_get os (slice_index (places_of units) core) ≡ Some n.0) ops_is
@@ -81,16 +82,16 @@ module _ (p : Parts) (capacity : ℕ) (units : List Progress) (buffers : List Bu
   -- a core is done where no operation is left and no store waits
   module _ (buffer : Buffer) (buffer_is : buffer ≡ slice_index_or buffers core buffer) where
     -- nothing left and nothing waiting is done
-    pub done_is : is_some (next_of unit ops) ≡ false → buffer.entries ≡ [] → IsDone p.cores (held units buffers memory writes reads done.items) core
+    pub done_is : is_some (next_of unit ops) ≡ false → buffer.entries ≡ [] → IsDone p.cores (held units buffers caches writes reads done.items) core
     done_is none empty = (
       omega (arith, none_left unit ops none, sound.place core, place_at, ap (λ (os : List Op). length os) ops_is),
       buffer_seen buffers core buffer (omega (arith, there, sound.buffers_length)) buffer_is ∙ empty,
     )
 
     -- nothing of a core that is done waits
-    pub buffer_empty : IsDone p.cores (held units buffers memory writes reads done.items) core → buffer.entries ≡ []
+    pub buffer_empty : IsDone p.cores (held units buffers caches writes reads done.items) core → buffer.entries ≡ []
     buffer_empty h = sym (buffer_seen buffers core buffer (omega (arith, there, sound.buffers_length)) buffer_is) ∙ h.1
 
   -- nothing of a core that is done is left
-  pub none_is : IsDone p.cores (held units buffers memory writes reads done.items) core → is_some (next_of unit ops) ≡ false
+  pub none_is : IsDone p.cores (held units buffers caches writes reads done.items) core → is_some (next_of unit ops) ≡ false
   none_is h = none_left_back unit ops (omega (arith, h.0, place_at, ap (λ (os : List Op). length os) ops_is))

@@ -1,9 +1,9 @@
 -- What the execution of an operation does to the parts of a machine.
-use Rattle.std.proofs.Common.{◌≡◌, ◌<◌, ◌≤◌, ◌+◌, inl, inr, ℕ, suc, Option, Some, None, Ok, List, [], ◌∷◌, ◌++◌, length, map, slice_index, slice_index_or, slice_set, arith, refl, sym, ap, subst, ◌∙◌, length-set, length-append, get_or-set_same, get_or-set_other}
+use Rattle.std.proofs.Common.{◌≡◌, ◌<◌, ◌≤◌, ◌+◌, inl, inr, ℕ, suc, Option, Ok, Err, List, [], ◌∷◌, ◌++◌, length, map, slice_index, slice_index_or, slice_set, arith, refl, sym, ap, subst, ◌∙◌, length-set, length-append, get_or-set_same, get_or-set_other}
 use Rattle.std.specs.List.{All, sum, sum_by}
 use Rattle.std.proofs.lemmas.List.Elements.{All-set, All-weaker, All-push}
 use Rattle.std.proofs.lemmas.List.Sums.{sum_by-set, sum_by-cons}
-use Rattle.std.proofs.lemmas.List.{map-set, get_or_read, get_or_default, get_or-map, length-map}
+use Rattle.std.proofs.lemmas.List.{map-set, get_or_default, get_or-map, length-map}
 use Rattle.std.proofs.lemmas.Option.{slice_get_within, get_or_from_slice_get}
 use Rattle.std.proofs.lemmas.Bool.{cases_eq, lt-ltb}
 use Rattle.litmus.specs.declared.limits.TheConstants.{MAX_EVENTS}
@@ -13,10 +13,14 @@ use Rattle.litmus.specs.Parts.{Parts, IsWithin}
 use Rattle.write_buffer.specs.declared.entry.Entry.{Entry}
 use Rattle.write_buffer.specs.Buffer.{Buffer, youngest}
 use Rattle.core_unit.specs.Progress.{Progress}
-use Rattle.machine.specs.State.{first_event}
+use Rattle.recorder.specs.Event.{value_written}
+use Rattle.moesi.specs.declared.error.CacheError.{CacheError}
+use Rattle.machine.specs.declared.blocked.Blocked.TheVariants.{B5}
+use Rattle.moesi.specs.State as moesi
+use Rattle.machine.specs.State.{first_event, event_of}
 use Rattle.machine.specs.Step.{exec, exchanged, IsAt, found}
 use Rattle.machine.specs.Roomy.{Roomy}
-use Rattle.machine.specs.Held.{IsSound, held, places_of, events_of}
+use Rattle.machine.specs.Held.{IsSound, IsEntry, held, places_of, events_of}
 use Rattle.machine.proofs.Static.{placed_at, placed_total, first_within}
 
 -- each core is within its operations, so all together are
@@ -34,10 +38,10 @@ buffer_seen buffers core old at is = get_or-map (λ (b : Buffer). b.entries) buf
 pub list_seen : (writes : List (Roomy ℕ)) (a : ℕ) (old : Roomy ℕ) → a < length writes → old ≡ slice_index_or writes a old → slice_index_or (map (λ b. b.items) writes) a [] ≡ old.items
 list_seen writes a old at is = get_or-map (λ (b : Roomy ℕ). b.items) writes a old [] at ∙ ap (λ (b : Roomy ℕ). b.items) (sym is)
 
-module _ (p : Parts) (capacity : ℕ) (units : List Progress) (buffers : List Buffer) (memory : List (ℕ × Option ℕ))
+module _ (p : Parts) (capacity : ℕ) (units : List Progress) (buffers : List Buffer) (caches : moesi.State)
     (writes : List (Roomy ℕ)) (reads : List (ℕ × Option ℕ)) (done : Roomy ℕ)
-    (sound : IsSound p capacity units buffers memory writes reads done)
-    (core : ℕ) (op : Op) (event : ℕ) (at : IsAt p.cores (held units buffers memory writes reads done.items) core op event) where
+    (sound : IsSound p capacity units buffers caches writes reads done)
+    (core : ℕ) (op : Op) (event : ℕ) (at : IsAt p.cores (held units buffers caches writes reads done.items) core op event) where
   -- the core has a unit
   pub unit_there : core < length units
   unit_there = omega (arith, at.core, sound.units_length)
@@ -46,6 +50,12 @@ module _ (p : Parts) (capacity : ℕ) (units : List Progress) (buffers : List Bu
   pub buffer_there : core < length buffers
   buffer_there = omega (arith, at.core, sound.buffers_length)
 
+  -- a read-modify-write that the caches refuse is blocked
+  pub exchange_blocked : (old : Buffer) → old ≡ slice_index_or buffers core old → old.entries ≡ [] → (addr : ℕ) (what : ℕ × Option ℕ) → moesi.copy_of caches core addr ≡ what
+      → (e : CacheError) → moesi.write caches core addr (value_written (event_of op what)) event ≡ Err e
+      → exchanged (held units buffers caches writes reads done.items) core event op addr ≡ Err B5
+  exchange_blocked old is empty addr what what_is e refused = rw (buffer_seen buffers core old buffer_there is, empty, what_is, refused) refl
+
   -- the core has an operation left
   below : slice_index (places_of units) core < length (slice_index_or p.cores core [])
   below = slice_get_within (slice_index_or p.cores core []) (slice_index (places_of units) core) op at.operation
@@ -53,6 +63,10 @@ module _ (p : Parts) (capacity : ℕ) (units : List Progress) (buffers : List Bu
   -- the event's number is among those of the program
   pub number : event < length reads
   number = omega (arith, at.number, (placed_at 0 p.cores core (slice_index (places_of units) core) Fence below).1, placed_total 0 p.cores, sound.events)
+
+  -- and within the limit
+  pub number_few : event < MAX_EVENTS
+  number_few = omega (arith, number, sound.events, sound.few)
 
   -- its address is one of the program's
   pub within : IsWithin (length p.names) op
@@ -122,13 +136,14 @@ module _ (p : Parts) (capacity : ℕ) (units : List Progress) (buffers : List Bu
 
       -- an event is performed; the reads are others of the same number
       pub performed_sound : (reads' : List (ℕ × Option ℕ)) → length reads' ≡ length reads → (new : Roomy ℕ) → new ≡ record { items = done.items ++ event ∷ []; room = done.room }
-          → IsSound p capacity (slice_set units core moved) buffers memory writes reads' new
+          → IsSound p capacity (slice_set units core moved) buffers caches writes reads' new
       performed_sound reads' same new is = record {
         operations = sound.operations;
         few = sound.few;
         units_length = units_up;
         buffers_length = sound.buffers_length;
-        cells = sound.cells;
+        cache_cores = sound.cache_cores;
+        cache_blocks = sound.cache_blocks;
         writes_length = sound.writes_length;
         events = same ∙ sound.events;
         first = first_up;
@@ -147,30 +162,31 @@ module _ (p : Parts) (capacity : ℕ) (units : List Progress) (buffers : List Bu
 
       -- the row of a fence
       pub fence_taken : (old : Buffer) → old ≡ slice_index_or buffers core old → old.entries ≡ []
-          → exec capacity (held units buffers memory writes reads done.items) core event Fence
-          ≡ Ok (held (slice_set units core moved) buffers memory writes reads (done.items ++ event ∷ []))
+          → exec capacity (held units buffers caches writes reads done.items) core event Fence
+          ≡ Ok (held (slice_set units core moved) buffers caches writes reads (done.items ++ event ∷ []))
       fence_taken old is empty = rw (buffer_seen buffers core old buffer_there is, empty, places_set) refl
 
       -- the row of a load
-      pub load_taken : (old : Buffer) → old ≡ slice_index_or buffers core old → (addr : ℕ) → addr < length memory → (entry : Option Entry) → entry ≡ youngest old.entries addr
-          → (cell : ℕ × Option ℕ) → cell ≡ slice_index_or memory addr cell → (what : ℕ × Option ℕ) → what ≡ found entry cell
-          → exec capacity (held units buffers memory writes reads done.items) core event (Ld addr)
-          ≡ Ok (held (slice_set units core moved) buffers memory writes (slice_set reads event what) (done.items ++ event ∷ []))
-      load_taken old is addr addressed entry entry_is cell cell_is what what_is =
-          rw (buffer_seen buffers core old buffer_there is, ← entry_is, ← get_or_read memory addr cell addressed cell_is (0, None), ← what_is, places_set) refl
+      pub load_taken : (old : Buffer) → old ≡ slice_index_or buffers core old → (addr : ℕ) (entry : Option Entry) → entry ≡ youngest old.entries addr
+          → (what : ℕ × Option ℕ) → found entry (moesi.read caches core addr) ≡ Ok what
+          → exec capacity (held units buffers caches writes reads done.items) core event (Ld addr)
+          ≡ Ok (held (slice_set units core moved) buffers caches writes (slice_set reads event what) (done.items ++ event ∷ []))
+      load_taken old is addr entry entry_is what got = rw (buffer_seen buffers core old buffer_there is, ← entry_is, got, places_set) refl
 
       -- the row of a read-modify-write
-      pub exchange_taken : (old : Buffer) → old ≡ slice_index_or buffers core old → old.entries ≡ [] → (addr value : ℕ) → addr < length p.names
-          → (cell : ℕ × Option ℕ) → cell ≡ slice_index_or memory addr cell → (list new : Roomy ℕ) → list ≡ slice_index_or writes addr list → new ≡ record { items = list.items ++ event ∷ []; room = list.room }
-          → exchanged (held units buffers memory writes reads done.items) core event addr value
-          ≡ Ok (held (slice_set units core moved) buffers (slice_set memory addr (value, Some event)) (slice_set writes addr new) (slice_set reads event cell) (done.items ++ event ∷ []))
-      exchange_taken old is empty addr value addressed cell cell_is list new list_is pushed =
+      pub exchange_taken : (old : Buffer) → old ≡ slice_index_or buffers core old → old.entries ≡ [] → (addr : ℕ) → addr < length p.names
+          → (what : ℕ × Option ℕ) → moesi.copy_of caches core addr ≡ what → (caches' : moesi.State) → moesi.write caches core addr (value_written (event_of op what)) event ≡ Ok caches'
+          → (list new : Roomy ℕ) → list ≡ slice_index_or writes addr list → new ≡ record { items = list.items ++ event ∷ []; room = list.room }
+          → exchanged (held units buffers caches writes reads done.items) core event op addr
+          ≡ Ok (held (slice_set units core moved) buffers caches' (slice_set writes addr new) (slice_set reads event what) (done.items ++ event ∷ []))
+      exchange_taken old is empty addr addressed what what_is caches' wrote list new list_is pushed =
           rw (
             map-set (λ (b : Roomy ℕ). b.items) writes addr new,
             pushed,
             buffer_seen buffers core old buffer_there is,
             empty,
-            ← get_or_read memory addr cell (omega (arith, addressed, sound.cells)) cell_is (0, None),
+            what_is,
+            wrote,
             list_seen writes addr list (omega (arith, addressed, sound.writes_length)) list_is,
             places_set,
           ) refl
@@ -190,17 +206,18 @@ module _ (p : Parts) (capacity : ℕ) (units : List Progress) (buffers : List Bu
         list_room = ap (λ (l : Roomy ℕ). l.room) list_is ∙ sound.write_rooms addr list there
 
         -- the parts still fit together behind a read-modify-write
-        pub exchanged_sound : (cell : ℕ × Option ℕ) (reads' : List (ℕ × Option ℕ)) → length reads' ≡ length reads → (list' new : Roomy ℕ)
+        pub exchanged_sound : (caches' : moesi.State) → caches'.cores ≡ caches.cores → length caches'.blocks ≡ length caches.blocks → (reads' : List (ℕ × Option ℕ)) → length reads' ≡ length reads → (list' new : Roomy ℕ)
             → list' ≡ record { items = list.items ++ event ∷ []; room = list.room } → new ≡ record { items = done.items ++ event ∷ []; room = done.room }
-            → IsSound p capacity (slice_set units core moved) buffers (slice_set memory addr cell) (slice_set writes addr list') reads' new
-        exchanged_sound cell reads' same list' new pushed is =
-            let base : IsSound p capacity (slice_set units core moved) buffers memory writes reads' new = performed_sound reads' same new is in
+            → IsSound p capacity (slice_set units core moved) buffers caches' (slice_set writes addr list') reads' new
+        exchanged_sound caches' same_cores same_blocks reads' same list' new pushed is =
+            let base : IsSound p capacity (slice_set units core moved) buffers caches writes reads' new = performed_sound reads' same new is in
             record {
               operations = base.operations;
               few = base.few;
               units_length = base.units_length;
               buffers_length = base.buffers_length;
-              cells = length-set memory addr cell ∙ base.cells;
+              cache_cores = same_cores ∙ base.cache_cores;
+              cache_blocks = same_blocks ∙ base.cache_blocks;
               writes_length = length-set writes addr list' ∙ base.writes_length;
               events = base.events;
               first = base.first;
@@ -217,7 +234,7 @@ module _ (p : Parts) (capacity : ℕ) (units : List Progress) (buffers : List Bu
 
       -- a store goes to the back of the buffer
       module _ (old new : Buffer) (is : old ≡ slice_index_or buffers core old) (entry : Entry) (pushed : new ≡ record old { entries = old.entries ++ entry ∷ [] })
-          (addressed : entry.addr < length p.names) where
+          (addressed : IsEntry (length p.names) entry) where
         -- the buffer grows by one
         longer : length new.entries ≡ length old.entries + 1
         longer = ap (λ (b : Buffer). length b.entries) pushed ∙ length-append old.entries (entry ∷ [])
@@ -227,21 +244,22 @@ module _ (p : Parts) (capacity : ℕ) (units : List Progress) (buffers : List Bu
         capacity_is = ap (λ (b : Buffer). b.capacity) is ∙ sound.capacities core old buffer_there
 
         -- the parts still fit together behind a store
-        pub stored_sound : IsSound p capacity (slice_set units core moved) (slice_set buffers core new) memory writes reads done
+        pub stored_sound : IsSound p capacity (slice_set units core moved) (slice_set buffers core new) caches writes reads done
         stored_sound = record {
           operations = sound.operations;
           few = sound.few;
           units_length = units_up;
           buffers_length = length-set buffers core new ∙ sound.buffers_length;
-          cells = sound.cells;
+          cache_cores = sound.cache_cores;
+          cache_blocks = sound.cache_blocks;
           writes_length = sound.writes_length;
           events = sound.events;
           first = first_up;
           place = place_up;
           capacities = All-set (λ b. b.capacity ≡ capacity) buffers core new (ap (λ (b : Buffer). b.capacity) pushed ∙ capacity_is) sound.capacities;
-          entries = All-set (λ b. All (λ x. x.addr < length p.names) b.entries) buffers core new
-              (subst (λ (b : Buffer). All (λ x. x.addr < length p.names) b.entries) (sym pushed)
-              (All-push (λ x. x.addr < length p.names) old.entries entry (subst (λ (b : Buffer). All (λ x. x.addr < length p.names) b.entries) (sym is) (sound.entries core old buffer_there)) addressed))
+          entries = All-set (λ b. All (IsEntry (length p.names)) b.entries) buffers core new
+              (subst (λ (b : Buffer). All (IsEntry (length p.names)) b.entries) (sym pushed)
+              (All-push (IsEntry (length p.names)) old.entries entry (subst (λ (b : Buffer). All (IsEntry (length p.names)) b.entries) (sym is) (sound.entries core old buffer_there)) addressed))
               sound.entries;
           write_rooms = sound.write_rooms;
           write_lengths = sound.write_lengths;
@@ -251,8 +269,8 @@ module _ (p : Parts) (capacity : ℕ) (units : List Progress) (buffers : List Bu
 
         -- the row of a store
         pub store_taken : entry.event ≡ event → length old.entries < old.capacity
-            → exec capacity (held units buffers memory writes reads done.items) core event (St entry.addr entry.value)
-            ≡ Ok (held (slice_set units core moved) (slice_set buffers core new) memory writes reads done.items)
+            → exec capacity (held units buffers caches writes reads done.items) core event (St entry.addr entry.value)
+            ≡ Ok (held (slice_set units core moved) (slice_set buffers core new) caches writes reads done.items)
         store_taken event_is room =
             let entry_is : entry ≡ record { addr = entry.addr; value = entry.value; event = event } = ap (λ (e : ℕ). record { addr = entry.addr; value = entry.value; event = e }) event_is in
             let free : length (slice_index_or (map (λ b. b.entries) buffers) core []) < capacity = omega (arith, room, capacity_is, ap (λ (l : List Entry). length l) (buffer_seen buffers core old buffer_there is)) in

@@ -1,12 +1,17 @@
 -- What every step keeps where no fault is at work: the order that TSO asks for, and that memory has the last writes.
-use Rattle.std.proofs.Common.{◌≡◌, ◌<◌, inl, inr, ℕ, Option, Some, None, List, [], ◌∷◌, length, get_or, slice_set, arith, refl, sym, ap, subst, ◌∙◌, get_or-set_same, get_or-set_other}
+use Rattle.std.proofs.Common.{◌≡◌, ◌<◌, inl, inr, ℕ, Option, Some, None, Ok, List, [], ◌∷◌, length, get_or, slice_set, arith, refl, sym, ap, subst, ◌∙◌, get_or-set_same, get_or-set_other}
 use Rattle.litmus.specs.declared.op.Op.{Op}
 use Rattle.litmus.specs.declared.op.Op.TheVariants.{St, Ld, Fence}
 use Rattle.recorder.specs.Event.{written_address}
 use Rattle.write_buffer.specs.declared.entry.Entry.{Entry}
 use Rattle.write_buffer.specs.Buffer.{youngest}
-use Rattle.machine.specs.State.{State, buffer_of, current, event_of}
-use Rattle.machine.specs.Step.{given, with_buffer, found, loaded}
+use Rattle.moesi.specs.State as moesi
+use Rattle.moesi.specs.Laws.{IsTransaction}
+use Rattle.moesi.specs.Coherent.{IsCoherent}
+use Rattle.moesi.proofs.Kept.{write_kept, write_current, transaction_kept, transaction_current}
+use Rattle.machine.specs.State.{State, buffer_of, copy_of, event_of}
+use Rattle.machine.specs.Step.{given, with_buffer, with_caches, found, looked_up, exchanged_value}
+use Rattle.machine.proofs.Cached.{written_large, transaction_large, written_read}
 use Rattle.machine.proofs.Seen.{seen, IsOrdered, IsNewest}
 use Rattle.machine.proofs.Static.{static_of, snapshot_of, op_reads}
 use Rattle.machine.proofs.Drains.{AreStores, drained_state, drain_ordered}
@@ -14,18 +19,19 @@ use Rattle.machine.proofs.Executes.{IsNext, next_placed, perform_ordered, issue_
 use Rattle.machine.proofs.Loads.{some_one}
 use Rattle.machine.proofs.WriteLists.{IsLatest, latest_written, loaded_newest}
 use Rattle.machine.proofs.Rows.{IsKept, IsExchange, stored_state, loaded_state, fenced_state, exchanged_state}
-use Rattle.machine.proofs.Steady.{IsSteady, once, waits_once, waiting_once, next_within, steady_kept}
+use Rattle.machine.proofs.Steady.{IsSteady, once, waits_once, waiting_once, next_within, exchange_within, steady_kept}
 
--- what every step keeps without fault: TSO's order as each core sees it, and that each address has its last write
+-- what every step keeps without fault: TSO's order as each core sees it, that the caches are coherent, and that each address has its last write
 pub record IsInOrder (p : List (List Op)) (s : State) : Type 0 where
   pub steady : IsSteady p s
   pub ordered : IsOrdered (static_of p s) (snapshot_of p s)
+  pub coherent : IsCoherent s.caches
   pub latest : IsLatest s
 
 module _ (p : List (List Op)) (s : State) (g : IsInOrder p s) where
   -- a load of core c gets the newest write that the core sees
-  newest : (c a : ℕ) → a < length s.memory → IsNewest (static_of p s) (seen (snapshot_of p s) c) a (loaded s c a).1
-  newest c a at = loaded_newest p s c a at g.steady.listed g.latest (g.steady.stores c) (once p s g.steady) (waiting_once p s g.steady c)
+  newest : (c a : ℕ) (what : ℕ × Option ℕ) → a < length s.caches.blocks → looked_up s c a ≡ Ok what → IsNewest (static_of p s) (seen (snapshot_of p s) c) a what.1
+  newest c a what at = loaded_newest p s c a what at g.steady.listed g.latest g.coherent (g.steady.stores c) (once p s g.steady) (waiting_once p s g.steady c)
       (λ e there. omega (arith, waits_once p s g.steady c e there, there))
 
   -- the newest write, as the source of the event that reads it
@@ -34,15 +40,22 @@ module _ (p : List (List Op)) (s : State) (g : IsInOrder p s) where
   newest_read c b a what event h k is = subst (λ (z : ℕ). IsNewest (static_of p s) (seen (snapshot_of p s) c) z (get_or (slice_set s.reads b what) b (0, None)).1) (some_one is)
       (subst (λ (z : ℕ × Option ℕ). IsNewest (static_of p s) (seen (snapshot_of p s) c) a z.1) (sym (get_or-set_same s.reads b what (0, None) event)) h)
 
+  -- a core of the program has lines
+  core_within : (c : ℕ) → c < length p → c < s.caches.cores
+  core_within c at = omega (arith, at, g.steady.cores)
+
   -- a drain keeps the order
-  drain_in_order : (c : ℕ) (x : Entry) (xs : List Entry) → c < length p → buffer_of s c ≡ x ∷ xs → IsInOrder p (drained_state s c x xs)
-  drain_in_order c x xs at is =
+  drain_in_order : (caches : moesi.State) (c : ℕ) (x : Entry) (xs : List Entry) → c < length p → buffer_of s c ≡ x ∷ xs
+      → moesi.write s.caches c x.addr x.value x.event ≡ Ok caches → IsInOrder p (drained_state s caches c x xs)
+  drain_in_order caches c x xs at is wrote =
       let here : AreStores p c (x ∷ xs) = subst (λ (b : List Entry). AreStores p c b) is (g.steady.stores c) in
-      let within : x.addr < length s.memory = g.steady.writes_within x.event x.addr (0, None) (ap (λ (z : ℕ × Op). written_address (event_of z.1 (0, None))) here.0) in
+      let within : x.addr < length s.caches.blocks = g.steady.writes_within x.event x.addr (0, None) (ap (λ (z : ℕ × Op). written_address (event_of z.1 (0, None))) here.0) in
       record {
-        steady = (steady_kept p s g.steady).drain c x xs at is;
-        ordered = drain_ordered p s c x xs (omega (arith, at, g.steady.buffers)) is here g.steady.counted g.ordered;
-        latest = latest_written (with_buffer s c xs) x.addr x.value x.event within g.steady.listed.cells g.latest;
+        steady = (steady_kept p s g.steady).drain caches c x xs at is wrote;
+        ordered = drain_ordered p s caches c x xs (omega (arith, at, g.steady.buffers)) is here g.steady.counted g.ordered;
+        coherent = (write_kept s.caches caches c x.addr g.coherent (core_within c at) within x.value x.event wrote).coherent;
+        latest = latest_written (with_buffer s c xs) caches x.addr x.value x.event within g.steady.listed.cells (written_large s.caches caches c x.addr x.value x.event wrote).blocks
+            (λ b. write_current s.caches caches c x.addr g.coherent (core_within c at) within x.value x.event b wrote) g.latest;
       }
 
   -- a store keeps the order
@@ -50,16 +63,18 @@ module _ (p : List (List Op)) (s : State) (g : IsInOrder p s) where
   store_in_order c b a v n at = record {
     steady = (steady_kept p s g.steady).store c b a v n at;
     ordered = issue_ordered p s (stored_state s c b a v) c b (St a v) n refl refl refl refl (record { addr = a; value = v; event = b }) refl (omega (arith, at, g.steady.buffers)) refl refl g.steady.counted g.ordered;
+    coherent = g.coherent;
     latest = g.latest;
   }
 
   -- a load keeps the order
-  load_in_order : (c b a : ℕ) → IsNext p s c b (Ld a) → IsInOrder p (loaded_state s c b a)
-  load_in_order c b a n = record {
-    steady = (steady_kept p s g.steady).load c b a n;
-    ordered = perform_ordered p s (loaded_state s c b a) c b (Ld a) n refl refl refl (λ e other. get_or-set_other s.reads b e (loaded s c a) (0, None) other) refl (inl refl)
-        (newest_read c b a (loaded s c a) (next_within p s g.steady c b (Ld a) n) (newest c a (g.steady.reads_within b a (ap (λ (z : ℕ × Op). op_reads z.1) (next_placed p s c b (Ld a) n)))))
+  load_in_order : (c b a : ℕ) (what : ℕ × Option ℕ) → IsNext p s c b (Ld a) → looked_up s c a ≡ Ok what → IsInOrder p (loaded_state s c b what)
+  load_in_order c b a what n got = record {
+    steady = (steady_kept p s g.steady).load c b a what n got;
+    ordered = perform_ordered p s (loaded_state s c b what) c b (Ld a) n refl refl refl (λ e other. get_or-set_other s.reads b e what (0, None) other) refl (inl refl)
+        (newest_read c b a what (next_within p s g.steady c b (Ld a) n) (newest c a what (g.steady.reads_within b a (ap (λ (z : ℕ × Op). op_reads z.1) (next_placed p s c b (Ld a) n))) got))
         g.steady.counted g.ordered;
+    coherent = g.coherent;
     latest = g.latest;
   }
 
@@ -68,22 +83,40 @@ module _ (p : List (List Op)) (s : State) (g : IsInOrder p s) where
   fence_in_order c b n empty = record {
     steady = (steady_kept p s g.steady).fence c b n empty;
     ordered = perform_ordered p s (fenced_state s c b) c b Fence n refl refl refl (λ e other. refl) refl (inr empty) (λ k h. absurd cc) g.steady.counted g.ordered;
+    coherent = g.coherent;
     latest = g.latest;
   }
 
+  -- what a read-modify-write reads is what a load would get
+  exchange_read : (caches : moesi.State) (c b a value : ℕ) → buffer_of s c ≡ [] → moesi.write s.caches c a value b ≡ Ok caches → looked_up s c a ≡ Ok (copy_of s c a)
+  exchange_read caches c b a value empty wrote = ap (λ (l : List Entry). found (youngest l a) (moesi.read s.caches c a)) empty ∙ written_read s.caches caches c a value b wrote
+
   -- a read-modify-write keeps the order
-  exchange_in_order : (c b a v : ℕ) (op : Op) → IsNext p s c b op → IsExchange op (current s a) a v → buffer_of s c ≡ [] → IsInOrder p (exchanged_state s c b a v)
-  exchange_in_order c b a v op n is empty =
-      let within : a < length s.memory = g.steady.reads_within b a (ap (λ (z : ℕ × Op). op_reads z.1) (next_placed p s c b op n) ∙ is.reads) in
-      let seen_now : IsNewest (static_of p s) (seen (snapshot_of p s) c) a (current s a).1 =
-      subst (λ (l : List Entry). IsNewest (static_of p s) (seen (snapshot_of p s) c) a (found (youngest l a) (current s a)).1) empty (newest c a within) in
+  exchange_in_order : (caches : moesi.State) (c b a : ℕ) (op : Op) → IsNext p s c b op → c < length p → IsExchange op (copy_of s c a) a → buffer_of s c ≡ []
+      → moesi.write s.caches c a (exchanged_value s c op a) b ≡ Ok caches → IsInOrder p (exchanged_state s caches c b a)
+  exchange_in_order caches c b a op n at is empty wrote =
+      let what : ℕ × Option ℕ = copy_of s c a in
+      let value : ℕ = exchanged_value s c op a in
+      let within : a < length s.caches.blocks = exchange_within p s g.steady c b a op n is in
       record {
-        steady = (steady_kept p s g.steady).exchange c b a v op n is empty;
-        ordered = perform_ordered p s (exchanged_state s c b a v) c b op n refl refl refl (λ e other. get_or-set_other s.reads b e (current s a) (0, None) other) is.store (inr empty)
-            (λ k h. newest_read c b a (current s a) (next_within p s g.steady c b op n) seen_now k (sym is.reads ∙ h))
+        steady = (steady_kept p s g.steady).exchange caches c b a op n at is empty wrote;
+        ordered = perform_ordered p s (exchanged_state s caches c b a) c b op n refl refl refl (λ e other. get_or-set_other s.reads b e what (0, None) other) is.store (inr empty)
+            (λ k h. newest_read c b a what (next_within p s g.steady c b op n) (newest c a what within (exchange_read caches c b a value empty wrote)) k (sym is.reads ∙ h))
             g.steady.counted g.ordered;
-        latest = latest_written (given s b (current s a)) a v b within g.steady.listed.cells g.latest;
+        coherent = (write_kept s.caches caches c a g.coherent (core_within c at) within value b wrote).coherent;
+        latest = latest_written (given s b what) caches a value b within g.steady.listed.cells (written_large s.caches caches c a value b wrote).blocks
+            (λ k. write_current s.caches caches c a g.coherent (core_within c at) within value b k wrote) g.latest;
       }
+
+  -- a transaction keeps the order
+  transact_in_order : (caches : moesi.State) (c a : ℕ) → c < length p → a < length s.caches.blocks → IsTransaction s.caches c a caches → IsInOrder p (with_caches s caches)
+  transact_in_order caches c a at within made = record {
+    steady = (steady_kept p s g.steady).transact caches c a at within made;
+    ordered = record { kept = g.ordered.kept; values = g.ordered.values };
+    coherent = (transaction_kept s.caches caches c a g.coherent (core_within c at) within made).coherent;
+    latest = λ b inside. ap (λ (z : ℕ × Option ℕ). z.1) (transaction_current s.caches caches c a g.coherent (core_within c at) within b made)
+        ∙ g.latest b (omega (arith, inside, (transaction_large s.caches caches c a made).blocks));
+  }
 
   -- each row keeps the order
   pub in_order_kept : IsKept p s (IsInOrder p)
@@ -93,4 +126,5 @@ module _ (p : List (List Op)) (s : State) (g : IsInOrder p s) where
     load = load_in_order;
     fence = fence_in_order;
     exchange = exchange_in_order;
+    transact = transact_in_order;
   }

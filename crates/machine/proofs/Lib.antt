@@ -5,6 +5,7 @@ pub mod Rewritten
 pub mod Static
 pub mod Newest
 pub mod Loads
+pub mod Cached
 pub mod Drains
 pub mod Executes
 pub mod WriteLists
@@ -16,6 +17,7 @@ pub mod Complete
 pub mod Data
 pub mod Executed
 pub mod Drained
+pub mod Transacted
 pub mod Reached
 pub mod Begins
 pub mod Steps

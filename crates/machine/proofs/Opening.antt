@@ -1,5 +1,5 @@
 -- The opening state keeps all that a step keeps, and where the events of a core stand.
-use Rattle.std.proofs.Common.{◌≡◌, ◌<◌, ◌≤◌, ◌+◌, ◌-◌, inl, inr, ℕ, suc, Option, Some, None, List, [], ◌∷◌, map, take, length, get_or, replicate, arith, sym, ap, subst, ◌∙◌, length-append}
+use Rattle.std.proofs.Common.{◌≡◌, ◌<◌, ◌≤◌, ◌+◌, ◌-◌, inl, inr, ℕ, suc, Option, Some, None, List, [], ◌∷◌, map, take, length, get_or, replicate, arith, refl, sym, ap, subst, ◌∙◌, length-append}
 use Rattle.std.specs.List.{All, sum, sum_by}
 use Rattle.std.proofs.lemmas.List.{length-replicate, get_or-replicate, get_or_past}
 use Rattle.std.proofs.lemmas.List.Sums.{sum_by-cons}
@@ -13,6 +13,8 @@ use Rattle.write_buffer.specs.declared.entry.Entry.{Entry}
 use Rattle.machine.specs.State.{State, first_event, opening, event_of}
 use Rattle.litmus.specs.Parts.{IsWithin}
 use Rattle.recorder.specs.Event.{written_address}
+use Rattle.moesi.specs.Block.{Block, opening_block}
+use Rattle.moesi.proofs.Kept.{opening_coherent}
 use Rattle.machine.proofs.Static.{static_of, snapshot_of, placed_op, placed_at, placed_total, op_reads, tagged}
 use Rattle.machine.proofs.Newest.{last_of, last_nil}
 use Rattle.machine.proofs.Drains.{AreStores}
@@ -105,15 +107,16 @@ module _ (p : List (List Op)) (n : ℕ) (fits : All (λ ops. All (IsWithin n) op
       waiting = λ c e there. absurd (omega (arith, there, nothing_waits c e));
     };
     listed = record {
-      cells = length-replicate n [] ∙ sym (length-replicate n (0, None));
+      cells = length-replicate n [] ∙ sym (length-replicate n (opening_block (length p)));
       lists = λ a inside. get_or_same n a [];
     };
     stores = λ c. subst (λ (b : List Entry). AreStores p c b) (sym (get_or_same (length p) c [])) tt;
     places = length-replicate (length p) 0;
+    cores = (let same : length p ≡ length p = refl in same);
     buffers = length-replicate (length p) [];
     reads = length-replicate (sum_by (λ ops. length ops) p) (0, None) ∙ sym (placed_total 0 p);
-    writes_within = λ e a d is. omega (arith, address_within n (placed_op p e).1 a d (op_within e) is, length-replicate {A = ℕ × Option ℕ} n (0, None));
-    reads_within = λ e a is. omega (arith, reads_within (placed_op p e).1 a (op_within e) is, length-replicate {A = ℕ × Option ℕ} n (0, None));
+    writes_within = λ e a d is. omega (arith, address_within n (placed_op p e).1 a d (op_within e) is, length-replicate {A = Block} n (opening_block (length p)));
+    reads_within = λ e a is. omega (arith, reads_within (placed_op p e).1 a (op_within e) is, length-replicate {A = Block} n (opening_block (length p)));
   }
 
   -- and in order
@@ -124,5 +127,6 @@ module _ (p : List (List Op)) (n : ℕ) (fits : All (λ ops. All (IsWithin n) op
       kept = λ e f own done strong. absurd (nothing_executed f own.1 done);
       values = λ e a reads there. absurd (omega (arith, there, times_nil e));
     };
-    latest = λ a inside. ap (λ (z : ℕ × Option ℕ). z.1) (get_or_same n a (0, None)) ∙ (sym last_nil ∙ ap last_of (sym (get_or_same n a [])));
+    coherent = (opening_coherent (length p) n).0;
+    latest = λ a inside. ap (λ (z : ℕ × Option ℕ). z.1) ((opening_coherent (length p) n).1 a) ∙ (sym last_nil ∙ ap last_of (sym (get_or_same n a [])));
   }

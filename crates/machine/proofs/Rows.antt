@@ -1,19 +1,21 @@
 -- The rows of the table of steps, each as one change of the state.
-use Rattle.std.proofs.Common.{◌≡◌, ◌<◌, ◌+◌, ℕ, Bool, true, false, cond, Option, Some, None, Result, Ok, Err, List, [], ◌∷◌, ◌++◌, length, slice_get, slice_index_or, arith, refl, subst}
-use Rattle.std.specs.Prelude.{◌%◌, ◌^◌, ◌==◌}
+use Rattle.std.proofs.Common.{◌≡◌, ◌<◌, ◌+◌, ◌&&◌, inl, inr, ℕ, nat_lt, Bool, true, false, cond, Option, Some, None, Result, Ok, Err, List, [], ◌∷◌, ◌++◌, length, slice_get, slice_index_or, arith, refl, subst}
 use Rattle.std.proofs.lemmas.Bool.{eqb-true, ltb-true}
 use Rattle.std.proofs.lemmas.List.{nil_from_length}
 use Rattle.std.proofs.lemmas.Option.{slice_get_within, get_or_from_slice_get}
 use Rattle.litmus.specs.declared.op.Op.{Op}
 use Rattle.litmus.specs.declared.op.Op.TheVariants.{St, Ld, Fence, Swap, Add}
-use Rattle.recorder.specs.Event.{written_address, value_written}
+use Rattle.recorder.specs.Event.{written_address}
+use Rattle.moesi.specs.State as moesi
+use Rattle.moesi.specs.Laws.{IsTransaction}
+use Rattle.moesi.specs.declared.error.CacheError.{CacheError}
 use Rattle.write_buffer.specs.declared.entry.Entry.{Entry}
 use Rattle.machine.specs.declared.step.Step.{Step}
-use Rattle.machine.specs.declared.step.Step.TheVariants.{Exec, Drain}
+use Rattle.machine.specs.declared.step.Step.TheVariants.{Exec, Drain, GetS, GetM, Put}
 use Rattle.machine.specs.declared.blocked.Blocked.{Blocked}
-use Rattle.machine.specs.declared.blocked.Blocked.TheVariants.{B3}
-use Rattle.machine.specs.State.{State, place_of, buffer_of, current, first_event, event_of}
-use Rattle.machine.specs.Step.{advanced, performed, given, written, with_buffer, loaded, exec, exec_next, drained, taken, after, run}
+use Rattle.machine.specs.declared.blocked.Blocked.TheVariants.{B4, B5, B7, B8}
+use Rattle.machine.specs.State.{State, place_of, buffer_of, copy_of, first_event, event_of}
+use Rattle.machine.specs.Step.{advanced, performed, given, written, with_buffer, with_caches, allowed, looked_up, exchanged, exchanged_value, exec, exec_next, drained, has, taken, after, run}
 use Rattle.machine.proofs.Static.{op_reads, is_st, is_ld}
 use Rattle.machine.proofs.Executes.{IsNext}
 use Rattle.machine.proofs.Drains.{drained_state}
@@ -22,33 +24,35 @@ use Rattle.machine.proofs.Drains.{drained_state}
 abbrev pub stored_state : State → ℕ → ℕ → ℕ → ℕ → State
 stored_state s c b a v = advanced (with_buffer s c (buffer_of s c ++ record { addr = a; value = v; event = b } ∷ [])) c
 
--- the state after core c's load
-abbrev pub loaded_state : State → ℕ → ℕ → ℕ → State
-loaded_state s c b a = advanced (performed (given s b (loaded s c a)) b) c
+-- the state after core c's load got this
+abbrev pub loaded_state : State → ℕ → ℕ → ℕ × Option ℕ → State
+loaded_state s c b what = advanced (performed (given s b what) b) c
 
 -- the state after core c's fence
 abbrev pub fenced_state : State → ℕ → ℕ → State
 fenced_state s c b = advanced (performed s b) c
 
--- the state after core c read address a and wrote v to it
-abbrev pub exchanged_state : State → ℕ → ℕ → ℕ → ℕ → State
-exchanged_state s c b a v = advanced (performed (written (given s b (current s a)) a v b) b) c
+-- the state after core c read its line of address a and wrote it, which left these caches
+abbrev pub exchanged_state : State → moesi.State → ℕ → ℕ → ℕ → State
+exchanged_state s caches c b a = advanced (performed (written (given s b (copy_of s c a)) caches a b) b) c
 
--- op reads a pair of a's and then writes v to it
-pub record IsExchange (op : Op) (d : ℕ × Option ℕ) (a v : ℕ) : Type 0 where
+-- op reads address a and then writes it
+pub record IsExchange (op : Op) (d : ℕ × Option ℕ) (a : ℕ) : Type 0 where
   pub store : is_st op ≡ false
   pub load : is_ld op ≡ false
   pub reads : op_reads op ≡ Some a
   pub address : written_address (event_of op d) ≡ Some a
-  pub value : value_written (event_of op d) ≡ v
 
 -- what each row of the table keeps
 pub record IsKept (p : List (List Op)) (s : State) (P : State → Type 0) : Type 0 where
-  pub drain : (c : ℕ) (x : Entry) (xs : List Entry) → c < length p → buffer_of s c ≡ x ∷ xs → P (drained_state s c x xs)
+  pub drain : (caches : moesi.State) (c : ℕ) (x : Entry) (xs : List Entry) → c < length p → buffer_of s c ≡ x ∷ xs
+      → moesi.write s.caches c x.addr x.value x.event ≡ Ok caches → P (drained_state s caches c x xs)
   pub store : (c b a v : ℕ) → IsNext p s c b (St a v) → c < length p → P (stored_state s c b a v)
-  pub load : (c b a : ℕ) → IsNext p s c b (Ld a) → P (loaded_state s c b a)
+  pub load : (c b a : ℕ) (what : ℕ × Option ℕ) → IsNext p s c b (Ld a) → looked_up s c a ≡ Ok what → P (loaded_state s c b what)
   pub fence : (c b : ℕ) → IsNext p s c b Fence → buffer_of s c ≡ [] → P (fenced_state s c b)
-  pub exchange : (c b a v : ℕ) (op : Op) → IsNext p s c b op → IsExchange op (current s a) a v → buffer_of s c ≡ [] → P (exchanged_state s c b a v)
+  pub exchange : (caches : moesi.State) (c b a : ℕ) (op : Op) → IsNext p s c b op → c < length p → IsExchange op (copy_of s c a) a → buffer_of s c ≡ []
+      → moesi.write s.caches c a (exchanged_value s c op a) b ≡ Ok caches → P (exchanged_state s caches c b a)
+  pub transact : (caches : moesi.State) (c a : ℕ) → c < length p → a < length s.caches.blocks → IsTransaction s.caches c a caches → P (with_caches s caches)
 
 -- a guarded step that is taken had its guard
 pub guarded : (b : Bool) (r : Result State Blocked) (e : Blocked) (t : State) → cond b r (Err e) ≡ Ok t → (b ≡ true) × (r ≡ Ok t)
@@ -59,21 +63,45 @@ guarded false r e t h = absurd cc
 pub ok_one : (s t : State) → (let r : Result State Blocked = Ok s in r) ≡ Ok t → s ≡ t
 ok_one s t h = cc
 
+-- what had its effect was allowed
+pub allowed_ok : {A : Type 0} (b : Blocked) (effect : A → State) (r : Result A CacheError) (t : State) → allowed b effect r ≡ Ok t → (x : A) × (r ≡ Ok x) × (effect x ≡ t)
+allowed_ok b effect (Ok x) t h = (x, refl, ok_one (effect x) t h)
+allowed_ok b effect (Err e) t h = absurd cc
+
+-- a core and an address that are there
+pub has_both : (p : List (List Op)) (s : State) (c a : ℕ) → has p s c a ≡ true → (c < length p) × (a < length s.caches.blocks)
+has_both p s c a h = go (nat_lt c (length p)) refl h
+  where
+    go : (b : Bool) → nat_lt c (length p) ≡ b → (b && nat_lt a (length s.caches.blocks)) ≡ true → (c < length p) × (a < length s.caches.blocks)
+    go true is k = (ltb-true c (length p) is, ltb-true a (length s.caches.blocks) k)
+    go false is k = absurd cc
+
 module _ (p : List (List Op)) (capacity : ℕ) (s : State) (P : State → Type 0) (kept : IsKept p s P) (one_each : length s.places ≡ length p) where
   -- a read-modify-write is one of the rows
-  exchange_kept : (c b a v : ℕ) (op : Op) (t : State) → IsNext p s c b op → IsExchange op (current s a) a v
-      → cond (length (buffer_of s c) == 0) (let r : Result State Blocked = Ok (exchanged_state s c b a v) in r) (Err B3) ≡ Ok t → P t
-  exchange_kept c b a v op t n is h = subst P (ok_one _ t (guarded _ _ _ t h).1)
-      (kept.exchange c b a v op n is (nil_from_length (buffer_of s c) (eqb-true _ _ (guarded _ _ _ t h).0)))
+  exchange_kept : (c b a : ℕ) (op : Op) (t : State) → IsNext p s c b op → c < length p → IsExchange op (copy_of s c a) a → exchanged s c b op a ≡ Ok t → P t
+  exchange_kept c b a op t n at is h =
+      let g = guarded _ _ _ t h in
+      let wrote = allowed_ok B5 _ (moesi.write s.caches c a (exchanged_value s c op a) b) t g.1 in
+      subst P wrote.2 (kept.exchange wrote.0 c b a op n at is (nil_from_length (buffer_of s c) (eqb-true _ _ g.0)) wrote.1)
+
+  -- so is a transaction
+  transaction_kept : (c a : ℕ) (t : State) (r : Result moesi.State CacheError) → ((caches : moesi.State) → r ≡ Ok caches → IsTransaction s.caches c a caches)
+      → cond (has p s c a) (allowed B7 (with_caches s) r) (Err B8) ≡ Ok t → P t
+  transaction_kept c a t r is h =
+      let g = guarded _ _ _ t h in
+      let there = has_both p s c a g.0 in
+      let made = allowed_ok B7 (with_caches s) r t g.1 in
+      subst P made.2 (kept.transact made.0 c a there.0 there.1 (is made.0 made.1))
 
   -- so is every execution
   exec_kept : (c b : ℕ) (op : Op) (t : State) → IsNext p s c b op → c < length p → exec capacity s c b op ≡ Ok t → P t
   exec_kept c b (St a v) t n at h = subst P (ok_one _ t (guarded _ _ _ t h).1) (kept.store c b a v n at)
-  exec_kept c b (Ld a) t n at h = subst P (ok_one _ t h) (kept.load c b a n)
+  exec_kept c b (Ld a) t n at h =
+      let got = allowed_ok B4 _ (looked_up s c a) t h in
+      subst P got.2 (kept.load c b a got.0 n got.1)
   exec_kept c b Fence t n at h = subst P (ok_one _ t (guarded _ _ _ t h).1) (kept.fence c b n (nil_from_length (buffer_of s c) (eqb-true _ _ (guarded _ _ _ t h).0)))
-  exec_kept c b (Swap a v) t n at h = exchange_kept c b a v (Swap a v) t n (record { store = refl; load = refl; reads = refl; address = refl; value = refl }) h
-  exec_kept c b (Add a v) t n at h =
-      exchange_kept c b a (((current s a).0 + v) % 2 ^ 32) (Add a v) t n (record { store = refl; load = refl; reads = refl; address = refl; value = refl }) h
+  exec_kept c b (Swap a v) t n at h = exchange_kept c b a (Swap a v) t n at (record { store = refl; load = refl; reads = refl; address = refl }) h
+  exec_kept c b (Add a v) t n at h = exchange_kept c b a (Add a v) t n at (record { store = refl; load = refl; reads = refl; address = refl }) h
 
   -- a step that is taken is one of the rows
   pub step_kept : (step : Step) (t : State) → taken p capacity s step ≡ Ok t → P t
@@ -97,7 +125,12 @@ module _ (p : List (List Op)) (capacity : ℕ) (s : State) (P : State → Type 0
 
       go : (l : List Entry) → buffer_of s c ≡ l → drained s c l ≡ Ok t → P t
       go [] is h' = absurd cc
-      go (x ∷ xs) is h' = subst P (ok_one _ t h') (kept.drain c x xs at is)
+      go (x ∷ xs) is h' =
+          let wrote = allowed_ok B5 _ (moesi.write s.caches c x.addr x.value x.event) t h' in
+          subst P wrote.2 (kept.drain wrote.0 c x xs at is wrote.1)
+  step_kept (GetS c a) t h = transaction_kept c a t (moesi.get_s s.caches c a) (λ caches is. inl is) h
+  step_kept (GetM c a) t h = transaction_kept c a t (moesi.get_m s.caches c a) (λ caches is. inr (inl is)) h
+  step_kept (Put c a) t h = transaction_kept c a t (moesi.put s.caches c a) (λ caches is. inr (inr is)) h
 
 -- what each row keeps, every list of steps keeps
 pub run_kept : (p : List (List Op)) (capacity : ℕ) (P : State → Type 0) → ((s : State) → P s → IsKept p s P × (length s.places ≡ length p))

@@ -1,20 +1,26 @@
 -- What holds of the steps of a script.
-use Rattle.std.proofs.Common.{◌≡◌, ℕ, ◌<◌, ◌≤◌, nat_lt, List, [], ◌∷◌, ◌++◌, length, Bool, true, false, cond, Option, Some, None, Result, Ok, Err, refl, arith, sym, ap, ◌∙◌, subst, inl, inr}
+use Rattle.std.proofs.Common.{◌≡◌, ℕ, ◌<◌, ◌≤◌, nat_lt, List, [], ◌∷◌, ◌++◌, length, Option, Some, None, Result, Ok, Err, refl, arith, subst, inl, inr}
 use Rattle.std.specs.Prelude.{All}
+use Rattle.std.specs.List.{position_or_len}
 use Rattle.std.proofs.lemmas.Bool.{ltb-true}
 use Rattle.std.proofs.lemmas.List.{length-append}
 use Rattle.std.proofs.lemmas.List.Elements.{All-nil, All-push}
+use Rattle.std.proofs.lemmas.Option.{cond_some}
 use Rattle.litmus.specs.declared.limits.TheConstants.{MAX_STEPS}
+use Rattle.litmus.specs.declared.name.Name.{Name}
+use Rattle.litmus.specs.Names.{name_eq}
 use Rattle.litmus.specs.Parts.{Parts}
 use Rattle.litmus.proofs.OnLists.{cases_of}
 use Rattle.litmus.proofs.Reading.{kept}
 use Rattle.machine.specs.declared.script_line.Own.{Own}
 use Rattle.machine.specs.declared.script_line.Own.TheVariants.{Exec, Drain}
+use Rattle.machine.specs.declared.script_line.Transaction.{Transaction}
+use Rattle.machine.specs.declared.script_line.Transaction.TheVariants.{GetS, GetM, Put}
 use Rattle.machine.specs.declared.script_fault.StepFault.{StepFault}
-use Rattle.machine.specs.declared.script_fault.StepFault.TheVariants.{S1, S2, S4}
+use Rattle.machine.specs.declared.script_fault.StepFault.TheVariants.{S1, S4}
 use Rattle.machine.specs.declared.step.Step.{Step}
-use Rattle.machine.specs.ScriptLine.{ScriptLine, own_line, script_line_of, own_step}
-use Rattle.machine.specs.Script.{with_step, core_step, said_step, line_step, steps_of, IsStepOf}
+use Rattle.machine.specs.ScriptLine.{ScriptLine, own_line, transaction_line, script_line_of, own_step, transaction_step}
+use Rattle.machine.specs.Script.{core_in, address_in, with_step, core_step, address_step, said_step, line_step, steps_of, IsStepOf}
 
 -- what every line keeps
 record IsScript (p : Parts) (steps : List Step) : Type 0 where
@@ -42,25 +48,55 @@ step_kept p s t step h of e =
       | inr full ↦ absurd cc
     ]
 
+-- a core that was found is one of the program's
+core_within : (p : Parts) (c d : ℕ) → core_in p c ≡ Some d → d < length p.cores
+core_within p c d e = let found = cond_some (nat_lt c (length p.cores)) c d e in
+    rw (← found.1) (ltb-true _ _ found.0)
+
+-- so is an address
+address_within : (p : Parts) (name : Name) (a : ℕ) → address_in p name ≡ Some a →
+    a < length p.names
+address_within p name a e =
+    let first = position_or_len (name_eq name) p.names in
+    let found = cond_some (nat_lt first (length p.names)) first a e in
+    rw (← found.1) (ltb-true _ _ found.0)
+
 -- a step of one of the program's cores
 own_kept : (p : Parts) (own : Own) (c : ℕ) → c < length p.cores → IsStepOf p (own_step own c)
 own_kept p Exec c h = h
 own_kept p Drain c h = h
 
+-- a transaction of one of the program's cores at one of its addresses
+transaction_kept : (p : Parts) (kind : Transaction) (c a : ℕ) → c < length p.cores →
+    a < length p.names → IsStepOf p (transaction_step kind c a)
+transaction_kept p GetS c a h k = (h, k)
+transaction_kept p GetM c a h k = (h, k)
+transaction_kept p Put c a h k = (h, k)
+
+-- one step of a core more
+core_kept : (p : Parts) (s t : List Step) (step : ℕ → Step) (core : Option ℕ) → IsScript p s →
+    ((c : ℕ) → core ≡ Some c → IsStepOf p (step c)) → core_step s step core ≡ done t → IsScript p t
+core_kept p s t step None h of e = absurd cc
+core_kept p s t step (Some c) h of e = step_kept p s t (step c) h (of c refl) e
+
+-- one step of a core at an address more
+address_kept : (p : Parts) (s t : List Step) (step : ℕ → ℕ → Step) (core address : Option ℕ) →
+    IsScript p s → ((c a : ℕ) → core ≡ Some c → address ≡ Some a → IsStepOf p (step c a)) →
+    address_step s step core address ≡ done t → IsScript p t
+address_kept p s t step None address h of e = absurd cc
+address_kept p s t step (Some c) None h of e = absurd cc
+address_kept p s t step (Some c) (Some a) h of e = step_kept p s t (step c a) h (of c a refl refl) e
+
 -- one line more
 said_kept : (p : Parts) (s t : List Step) (said : Option ScriptLine) → IsScript p s →
     said_step p s said ≡ done t → IsScript p t
 said_kept p s t None h e = absurd cc
-said_kept p s t (Some (own_line own c)) h e = by (nat_lt c (length p.cores)) refl
-  where
-    by : (b : Bool) → nat_lt c (length p.cores) ≡ b → IsScript p t
-    by true is = step_kept p s t (own_step own c) h (own_kept p own c (ltb-true _ _ is))
-        (sym (ap (λ (b : Bool). core_step s (own_step own) (cond b (Some c) None)) is) ∙ e)
-    by false is = absurd (none (sym (ap (λ (b : Bool). core_step s (own_step own)
-        (cond b (Some c) None)) is) ∙ e))
-      where
-        none : (let r : Result (List Step) StepFault = Err S2 in r) ≡ done t → ⊥
-        none f = cc
+said_kept p s t (Some (own_line own c)) h e =
+    core_kept p s t (own_step own) (core_in p c) h
+    (λ d is. own_kept p own d (core_within p c d is)) e
+said_kept p s t (Some (transaction_line kind c name)) h e =
+    address_kept p s t (transaction_step kind) (core_in p c) (address_in p name) h
+    (λ d a is at. transaction_kept p kind d a (core_within p c d is) (address_within p name a at)) e
 
 -- what holds after a script
 script_kept : (p : Parts) (text : List ℕ) (t : List Step) → steps_of p text ≡ Ok t → IsScript p t
@@ -72,7 +108,7 @@ script_kept p text t e =
       few = omega arith;
     }) e
 
--- the cores of a script's steps are the program's
+-- the cores and addresses of a script's steps are the program's
 pub script_cores : (p : Parts) (text : List ℕ) (t : List Step) → steps_of p text ≡ Ok t →
     All (IsStepOf p) t
 script_cores p text t e = (script_kept p text t e).cores

@@ -1,5 +1,5 @@
 -- What every step keeps whatever it reads: the count of events, the write lists, and that what waits are plain stores.
-use Rattle.std.proofs.Common.{◌≡◌, ◌<◌, ◌≤◌, ◌+◌, inl, inr, ℕ, Option, Some, None, List, [], ◌∷◌, ◌++◌, map, length, get_or, slice_set, arith, refl, sym, ap, subst, ◌∙◌, get_or-set_same, get_or-set_other, length-set}
+use Rattle.std.proofs.Common.{◌≡◌, ◌<◌, ◌≤◌, ◌+◌, inl, inr, ℕ, Option, Some, None, Ok, List, [], ◌∷◌, ◌++◌, map, length, get_or, slice_set, arith, refl, sym, ap, subst, ◌∙◌, get_or-set_same, get_or-set_other, length-set}
 use Rattle.std.proofs.lemmas.Bool.{cases_eq}
 use Rattle.litmus.specs.declared.op.Op.{Op}
 use Rattle.litmus.specs.declared.op.Op.TheVariants.{St, Ld, Fence}
@@ -7,8 +7,11 @@ use Rattle.recorder.specs.Event.{written_address}
 use Rattle.recorder.specs.Order.{times}
 use Rattle.recorder.proofs.Orders.{times_append, cases_zero}
 use Rattle.write_buffer.specs.declared.entry.Entry.{Entry}
-use Rattle.machine.specs.State.{State, place_of, buffer_of, current, event_of}
-use Rattle.machine.specs.Step.{performed, given, written, with_buffer, loaded}
+use Rattle.moesi.specs.State as moesi
+use Rattle.moesi.specs.Laws.{IsTransaction}
+use Rattle.machine.specs.State.{State, place_of, buffer_of, copy_of, event_of}
+use Rattle.machine.specs.Step.{performed, given, written, with_buffer, with_caches, exchanged_value}
+use Rattle.machine.proofs.Cached.{written_large, transaction_large}
 use Rattle.machine.proofs.Seen.{seen, IsCounted}
 use Rattle.machine.proofs.Static.{static_of, snapshot_of, placed_op, done_by, op_reads}
 use Rattle.machine.proofs.Drains.{AreStores, drained_state, drain_counted}
@@ -22,10 +25,11 @@ pub record IsSteady (p : List (List Op)) (s : State) : Type 0 where
   pub listed : AreListed p s
   pub stores : (c : ℕ) → AreStores p c (buffer_of s c)
   pub places : length s.places ≡ length p
+  pub cores : s.caches.cores ≡ length p
   pub buffers : length s.buffers ≡ length p
   pub reads : length s.reads ≡ (static_of p s).count
-  pub writes_within : (e a : ℕ) (d : ℕ × Option ℕ) → written_address (event_of (placed_op p e).1 d) ≡ Some a → a < length s.memory
-  pub reads_within : (e a : ℕ) → op_reads (placed_op p e).1 ≡ Some a → a < length s.memory
+  pub writes_within : (e a : ℕ) (d : ℕ × Option ℕ) → written_address (event_of (placed_op p e).1 d) ≡ Some a → a < length s.caches.blocks
+  pub reads_within : (e a : ℕ) → op_reads (placed_op p e).1 ≡ Some a → a < length s.caches.blocks
 
 -- one more waiting store
 stores_push : (p : List (List Op)) (c : ℕ) (l : List Entry) (x : Entry) → AreStores p c l → placed_op p x.event ≡ (c, St x.addr x.value) → AreStores p c (l ++ x ∷ [])
@@ -68,26 +72,29 @@ module _ (p : List (List Op)) (s : State) (g : IsSteady p s) where
   next_within c b op n = omega (arith, g.reads, next_event p s c b op n)
 
   -- a drain keeps it
-  drain_steady : (c : ℕ) (x : Entry) (xs : List Entry) → c < length p → buffer_of s c ≡ x ∷ xs → IsSteady p (drained_state s c x xs)
-  drain_steady c x xs at is =
+  drain_steady : (caches : moesi.State) (c : ℕ) (x : Entry) (xs : List Entry) → c < length p → buffer_of s c ≡ x ∷ xs
+      → moesi.write s.caches c x.addr x.value x.event ≡ Ok caches → IsSteady p (drained_state s caches c x xs)
+  drain_steady caches c x xs at is wrote =
+      let large = written_large s.caches caches c x.addr x.value x.event wrote in
       let here : AreStores p c (x ∷ xs) = subst (λ (b : List Entry). AreStores p c b) is (g.stores c) in
       let inside : c < length s.buffers = omega (arith, at, g.buffers) in
       let writes : (d : ℕ × Option ℕ) → written_address (event_of (placed_op p x.event).1 d) ≡ Some x.addr = λ d. ap (λ (z : ℕ × Op). written_address (event_of z.1 d)) here.0 in
-      let within : x.addr < length s.memory = g.writes_within x.event x.addr (0, None) (writes (0, None)) in
+      let within : x.addr < length s.caches.blocks = g.writes_within x.event x.addr (0, None) (writes (0, None)) in
       let base : AreListed p (with_buffer s c xs) = record { cells = g.listed.cells; lists = g.listed.lists } in
-      let kept : AreListed p (drained_state s c x xs) = listed_written p (with_buffer s c xs) x.addr x.value x.event (writes (get_or s.reads x.event (0, None))) within base in
+      let kept : AreListed p (drained_state s caches c x xs) = listed_written p (with_buffer s c xs) caches x.addr x.event large.blocks (writes (get_or s.reads x.event (0, None))) within base in
       record {
-        counted = drain_counted p s c x xs inside is here g.counted;
+        counted = drain_counted p s caches c x xs inside is here g.counted;
         listed = kept;
         stores = λ d. elim (cases_eq d c) [
           | inl own ↦ subst (λ (z : ℕ). AreStores p z (get_or (slice_set s.buffers c xs) z [])) (sym own) (subst (λ (b : List Entry). AreStores p c b) (sym (get_or-set_same s.buffers c xs [] inside)) here.1)
           | inr other ↦ subst (λ (b : List Entry). AreStores p d b) (sym (get_or-set_other s.buffers c d xs [] other)) (g.stores d)
         ];
         places = g.places;
+        cores = large.cores ∙ g.cores;
         buffers = length-set s.buffers c xs ∙ g.buffers;
         reads = g.reads;
-        writes_within = λ e a d h. omega (arith, g.writes_within e a d h, length-set s.memory x.addr (x.value, Some x.event));
-        reads_within = λ e a h. omega (arith, g.reads_within e a h, length-set s.memory x.addr (x.value, Some x.event));
+        writes_within = λ e a d h. omega (arith, g.writes_within e a d h, large.blocks);
+        reads_within = λ e a h. omega (arith, g.reads_within e a h, large.blocks);
       }
 
   -- a store keeps it
@@ -105,6 +112,7 @@ module _ (p : List (List Op)) (s : State) (g : IsSteady p s) where
           | inr other ↦ subst (λ (l : List Entry). AreStores p d l) (sym (get_or-set_other s.buffers c d (buffer_of s c ++ record { addr = a; value = v; event = b } ∷ []) [] other)) (g.stores d)
         ];
         places = length-set s.places c (place_of s c + 1) ∙ g.places;
+        cores = g.cores;
         buffers = length-set s.buffers c (buffer_of s c ++ record { addr = a; value = v; event = b } ∷ []) ∙ g.buffers;
         reads = g.reads;
         writes_within = g.writes_within;
@@ -112,17 +120,17 @@ module _ (p : List (List Op)) (s : State) (g : IsSteady p s) where
       }
 
   -- a load keeps it
-  load_steady : (c b a : ℕ) → IsNext p s c b (Ld a) → IsSteady p (loaded_state s c b a)
-  load_steady c b a n =
-      let what : ℕ × Option ℕ = loaded s c a in
+  load_steady : (c b a : ℕ) (what : ℕ × Option ℕ) → IsNext p s c b (Ld a) → IsSteady p (loaded_state s c b what)
+  load_steady c b a what n =
       let op : placed_op p b ≡ (c, Ld a) = next_placed p s c b (Ld a) n in
       let kept : AreListed p (performed (given s b what) b) =
       listed_performed p (given s b what) b (ap (λ (z : ℕ × Op). written_address (event_of z.1 (get_or (slice_set s.reads b what) b (0, None)))) op) (listed_given p s b what (next_fresh c b (Ld a) n) g.listed) in
       record {
-        counted = perform_counted p s (loaded_state s c b a) c b (Ld a) n refl refl refl (λ e other. get_or-set_other s.reads b e what (0, None) other) g.counted;
+        counted = perform_counted p s (loaded_state s c b what) c b (Ld a) n refl refl refl (λ e other. get_or-set_other s.reads b e what (0, None) other) g.counted;
         listed = record { cells = kept.cells; lists = kept.lists };
         stores = g.stores;
         places = length-set s.places c (place_of s c + 1) ∙ g.places;
+        cores = g.cores;
         buffers = g.buffers;
         reads = length-set s.reads b what ∙ g.reads;
         writes_within = g.writes_within;
@@ -139,6 +147,7 @@ module _ (p : List (List Op)) (s : State) (g : IsSteady p s) where
         listed = record { cells = kept.cells; lists = kept.lists };
         stores = g.stores;
         places = length-set s.places c (place_of s c + 1) ∙ g.places;
+        cores = g.cores;
         buffers = g.buffers;
         reads = g.reads;
         writes_within = g.writes_within;
@@ -146,27 +155,50 @@ module _ (p : List (List Op)) (s : State) (g : IsSteady p s) where
       }
 
   -- what an exchange writes, once it has read
-  pub exchange_writes : (c b a v : ℕ) (op : Op) → IsNext p s c b op → IsExchange op (current s a) a v → written_address (done_by p (given s b (current s a)) b) ≡ Some a
-  exchange_writes c b a v op n is =
-      ap (λ (d : ℕ × Option ℕ). written_address (event_of (placed_op p b).1 d)) (get_or-set_same s.reads b (current s a) (0, None) (next_within c b op n))
-      ∙ (ap (λ (z : ℕ × Op). written_address (event_of z.1 (current s a))) (next_placed p s c b op n) ∙ is.address)
+  pub exchange_writes : (c b a : ℕ) (op : Op) → IsNext p s c b op → IsExchange op (copy_of s c a) a → written_address (done_by p (given s b (copy_of s c a)) b) ≡ Some a
+  exchange_writes c b a op n is =
+      ap (λ (d : ℕ × Option ℕ). written_address (event_of (placed_op p b).1 d)) (get_or-set_same s.reads b (copy_of s c a) (0, None) (next_within c b op n))
+      ∙ (ap (λ (z : ℕ × Op). written_address (event_of z.1 (copy_of s c a))) (next_placed p s c b op n) ∙ is.address)
+
+  -- its address is one of the program's
+  pub exchange_within : (c b a : ℕ) (op : Op) → IsNext p s c b op → IsExchange op (copy_of s c a) a → a < length s.caches.blocks
+  exchange_within c b a op n is = g.reads_within b a (ap (λ (z : ℕ × Op). op_reads z.1) (next_placed p s c b op n) ∙ is.reads)
 
   -- a read-modify-write keeps it
-  exchange_steady : (c b a v : ℕ) (op : Op) → IsNext p s c b op → IsExchange op (current s a) a v → buffer_of s c ≡ [] → IsSteady p (exchanged_state s c b a v)
-  exchange_steady c b a v op n is empty =
-      let what : ℕ × Option ℕ = current s a in
-      let writes : written_address (done_by p (given s b what) b) ≡ Some a = exchange_writes c b a v op n is in
-      let within : a < length s.memory = g.reads_within b a (ap (λ (z : ℕ × Op). op_reads z.1) (next_placed p s c b op n) ∙ is.reads) in
-      let kept : AreListed p (performed (written (given s b what) a v b) b) = listed_written p (given s b what) a v b writes within (listed_given p s b what (next_fresh c b op n) g.listed) in
+  exchange_steady : (caches : moesi.State) (c b a : ℕ) (op : Op) → IsNext p s c b op → IsExchange op (copy_of s c a) a
+      → moesi.write s.caches c a (exchanged_value s c op a) b ≡ Ok caches → IsSteady p (exchanged_state s caches c b a)
+  exchange_steady caches c b a op n is wrote =
+      let what : ℕ × Option ℕ = copy_of s c a in
+      let large = written_large s.caches caches c a (exchanged_value s c op a) b wrote in
+      let writes : written_address (done_by p (given s b what) b) ≡ Some a = exchange_writes c b a op n is in
+      let kept : AreListed p (performed (written (given s b what) caches a b) b) =
+      listed_written p (given s b what) caches a b large.blocks writes (exchange_within c b a op n is) (listed_given p s b what (next_fresh c b op n) g.listed) in
       record {
-        counted = perform_counted p s (exchanged_state s c b a v) c b op n refl refl refl (λ e other. get_or-set_other s.reads b e what (0, None) other) g.counted;
+        counted = perform_counted p s (exchanged_state s caches c b a) c b op n refl refl refl (λ e other. get_or-set_other s.reads b e what (0, None) other) g.counted;
         listed = record { cells = kept.cells; lists = kept.lists };
         stores = g.stores;
         places = length-set s.places c (place_of s c + 1) ∙ g.places;
+        cores = large.cores ∙ g.cores;
         buffers = g.buffers;
         reads = length-set s.reads b what ∙ g.reads;
-        writes_within = λ e k d h. omega (arith, g.writes_within e k d h, length-set s.memory a (v, Some b));
-        reads_within = λ e k h. omega (arith, g.reads_within e k h, length-set s.memory a (v, Some b));
+        writes_within = λ e k d h. omega (arith, g.writes_within e k d h, large.blocks);
+        reads_within = λ e k h. omega (arith, g.reads_within e k h, large.blocks);
+      }
+
+  -- a transaction keeps it
+  transact_steady : (caches : moesi.State) (c a : ℕ) → IsTransaction s.caches c a caches → IsSteady p (with_caches s caches)
+  transact_steady caches c a made =
+      let large = transaction_large s.caches caches c a made in
+      record {
+        counted = record { listed = g.counted.listed; executed = g.counted.executed; waiting = g.counted.waiting };
+        listed = record { cells = g.listed.cells ∙ sym large.blocks; lists = λ b inside. g.listed.lists b (omega (arith, inside, large.blocks)) };
+        stores = g.stores;
+        places = g.places;
+        cores = large.cores ∙ g.cores;
+        buffers = g.buffers;
+        reads = g.reads;
+        writes_within = λ e k d h. omega (arith, g.writes_within e k d h, large.blocks);
+        reads_within = λ e k h. omega (arith, g.reads_within e k h, large.blocks);
       }
 
   -- each row keeps it
@@ -174,7 +206,8 @@ module _ (p : List (List Op)) (s : State) (g : IsSteady p s) where
   steady_kept = record {
     drain = drain_steady;
     store = store_steady;
-    load = load_steady;
+    load = λ c b a what n got. load_steady c b a what n;
     fence = fence_steady;
-    exchange = exchange_steady;
+    exchange = λ caches c b a op n at is empty wrote. exchange_steady caches c b a op n is wrote;
+    transact = λ caches c a at within made. transact_steady caches c a made;
   }

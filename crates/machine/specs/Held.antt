@@ -1,17 +1,19 @@
 -- What a machine holds, how its parts fit together, and that it was reached by steps.
-use Rattle.std.specs.Prelude.{◌≡◌, ◌+◌, ◌<◌, ◌≤◌, ℕ, Option, Result, List, [], length, map, sum, sum_by, slice_index, slice_index_or, All}
+use Rattle.std.specs.Prelude.{◌≡◌, ◌+◌, ◌<◌, ◌≤◌, ℕ, Bool, Option, Result, List, [], length, map, sum, sum_by, slice_index, slice_index_or, All}
 use Rattle.litmus.specs.declared.limits.TheConstants.{MAX_EVENTS}
 use Rattle.litmus.specs.declared.op.Op.{Op}
 use Rattle.litmus.specs.Parts.{Parts, IsWithin}
+use Rattle.write_buffer.specs.declared.entry.Entry.{Entry}
 use Rattle.write_buffer.specs.Buffer.{Buffer}
 use Rattle.core_unit.specs.Progress.{Progress}
+use Rattle.moesi.specs.State as moesi
 use Rattle.machine.specs.declared.fault.Fault.{Fault}
 use Rattle.machine.specs.declared.step.Step.{Step}
 use Rattle.machine.specs.Roomy.{Roomy}
 use Rattle.machine.specs.declared.blocked.Blocked.{Blocked}
 use Rattle.recorder.specs.Execution.{Execution}
 use Rattle.machine.specs.State.{State, first_event, opening, recorded, IsComplete}
-use Rattle.machine.specs.Step.{exec, taken, run, IsAt}
+use Rattle.machine.specs.Step.{exec, taken, run, has, IsAt}
 
 -- what a machine holds
 pub record Held : Type 0 where
@@ -29,30 +31,35 @@ abbrev pub places_of : List Progress → List ℕ
 places_of units = map (λ u. u.place) units
 
 -- the state that the parts make
-abbrev pub held : List Progress → List Buffer → List (ℕ × Option ℕ) → List (Roomy ℕ) → List (ℕ × Option ℕ) → List ℕ → State
-held units buffers memory writes reads performed = record {
+abbrev pub held : List Progress → List Buffer → moesi.State → List (Roomy ℕ) → List (ℕ × Option ℕ) → List ℕ → State
+held units buffers caches writes reads performed = record {
   places = places_of units;
   buffers = map (λ b. b.entries) buffers;
-  memory = memory;
+  caches = caches;
   write_lists = map (λ l. l.items) writes;
   reads = reads;
   performed = performed;
 }
 
+-- a waiting store is to one of n addresses, and its event is within the limit
+abbrev pub IsEntry : ℕ → Entry → Type 0
+IsEntry n x = (x.addr < n) × (x.event < MAX_EVENTS)
+
 -- the parts of a machine fit together, and there is room for all that will come
-pub record IsSound (p : Parts) (capacity : ℕ) (units : List Progress) (buffers : List Buffer) (memory : List (ℕ × Option ℕ))
+pub record IsSound (p : Parts) (capacity : ℕ) (units : List Progress) (buffers : List Buffer) (caches : moesi.State)
     (writes : List (Roomy ℕ)) (reads : List (ℕ × Option ℕ)) (performed : Roomy ℕ) : Type 0 where
   pub operations : All (λ ops. All (IsWithin (length p.names)) ops) p.cores
   pub few : events_of p ≤ MAX_EVENTS
   pub units_length : length units ≡ length p.cores
   pub buffers_length : length buffers ≡ length p.cores
-  pub cells : length memory ≡ length p.names
+  pub cache_cores : caches.cores ≡ length p.cores
+  pub cache_blocks : length caches.blocks ≡ length p.names
   pub writes_length : length writes ≡ length p.names
   pub events : length reads ≡ events_of p
   pub first : (c : ℕ) (d : Progress) → c < length p.cores → (slice_index_or units c d).first ≡ first_event p.cores c
   pub place : (c : ℕ) → slice_index (places_of units) c ≤ length (slice_index_or p.cores c [])
   pub capacities : All (λ b. b.capacity ≡ capacity) buffers
-  pub entries : All (λ b. All (λ x. x.addr < length p.names) b.entries) buffers
+  pub entries : All (λ b. All (IsEntry (length p.names)) b.entries) buffers
   pub write_rooms : All (λ l. l.room ≡ events_of p) writes
   pub write_lengths : All (λ l. length l.items ≤ length performed.items) writes
   pub performed_room : performed.room ≡ events_of p
@@ -75,10 +82,10 @@ abbrev pub rooms_of : Parts → Rooms
 rooms_of p = record { cores = length p.cores; events = events_of p; addresses = length p.names }
 
 -- what every machine keeps
-pub record IsMachine (p : Parts) (capacity : ℕ) (units : List Progress) (buffers : List Buffer) (memory : List (ℕ × Option ℕ))
+pub record IsMachine (p : Parts) (capacity : ℕ) (units : List Progress) (buffers : List Buffer) (caches : moesi.State)
     (writes : List (Roomy ℕ)) (reads : List (ℕ × Option ℕ)) (performed : Roomy ℕ) (blank : Rooms) : Type 0 where
-  pub sound : IsSound p capacity units buffers memory writes reads performed
-  pub reached : IsReached p.cores (length p.names) capacity (held units buffers memory writes reads performed.items)
+  pub sound : IsSound p capacity units buffers caches writes reads performed
+  pub reached : IsReached p.cores (length p.names) capacity (held units buffers caches writes reads performed.items)
   pub blank_is : blank ≡ rooms_of p
 
 -- The words of a machine's contracts
@@ -106,3 +113,7 @@ recording_of h = recorded h.program.cores h.state
 -- every operation was executed, and no store waits
 abbrev pub IsAtEnd : Held → Type 0
 IsAtEnd h = IsComplete h.program.cores h.state
+
+-- core c and address a are there
+abbrev pub has_line : Held → ℕ → ℕ → Bool
+has_line h c a = has h.program.cores h.state c a

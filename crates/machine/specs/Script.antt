@@ -1,20 +1,26 @@
 -- What a whole step script gives: its steps, or the first line at fault with its number.
-use Rattle.std.specs.Prelude.{◌≡◌, ◌<◌, ◌++◌, ◌∷◌, [], ℕ, List, nat_lt, length, Option, None, Some, Result, Ok, Err, if◌then◌else◌, ⊤}
+use Rattle.std.specs.Prelude.{◌≡◌, ◌<◌, ◌++◌, ◌∷◌, [], ℕ, List, nat_lt, length, position, Option, None, Some, Result, Ok, Err, if◌then◌else◌, ⊤}
 use Rattle.std.specs.declared.vec.Vec.{Vec}
 use Rattle.litmus.specs.declared.limits.TheConstants.{MAX_STEPS}
+use Rattle.litmus.specs.declared.name.Name.{Name}
+use Rattle.litmus.specs.Names.{name_eq}
 use Rattle.litmus.specs.Parts.{Parts}
 use Rattle.litmus.specs.Reading.{Reading, read_from}
 use Rattle.machine.specs.declared.step.Step.{Step}
-use Rattle.machine.specs.declared.step.Step.TheVariants.{Exec, Drain}
+use Rattle.machine.specs.declared.step.Step.TheVariants.{Exec, Drain, GetS, GetM, Put}
 use Rattle.machine.specs.declared.script_fault.StepFault.{StepFault}
-use Rattle.machine.specs.declared.script_fault.StepFault.TheVariants.{S1, S2, S4}
+use Rattle.machine.specs.declared.script_fault.StepFault.TheVariants.{S1, S2, S3, S4}
 use Rattle.machine.specs.declared.script_fault.StepsError.{StepsError}
 use Rattle.machine.specs.declared.script_fault.StepsError.TheVariants.{AtLine, OutOfMemory}
-use Rattle.machine.specs.ScriptLine.{ScriptLine, own_line, script_line_of, own_step}
+use Rattle.machine.specs.ScriptLine.{ScriptLine, own_line, transaction_line, script_line_of, own_step, transaction_step}
 
 -- the core of this number, if the program has it
 abbrev pub core_in : Parts → ℕ → Option ℕ
 core_in p c = if nat_lt c (length p.cores) then Some c else None
+
+-- the number of the address of this name, if the program has it
+abbrev pub address_in : Parts → Name → Option ℕ
+address_in p name = position (name_eq name) p.names
 
 -- the step is the next one
 abbrev pub with_step : List Step → Step → Result (List Step) StepFault
@@ -25,10 +31,20 @@ abbrev pub core_step : List Step → (ℕ → Step) → Option ℕ → Result (L
 core_step done step None = Err S2
 core_step done step (Some c) = with_step done (step c)
 
+-- what a kind of transaction, its core and its address do, if the program has the core, and then
+-- the address
+abbrev pub address_step : List Step → (ℕ → ℕ → Step) → Option ℕ → Option ℕ →
+    Result (List Step) StepFault
+address_step done step None a = Err S2
+address_step done step (Some c) None = Err S3
+address_step done step (Some c) (Some a) = with_step done (step c a)
+
 -- what a line does to the steps before it
 abbrev pub said_step : Parts → List Step → Option ScriptLine → Result (List Step) StepFault
 said_step p done None = Err S1
 said_step p done (Some (own_line own c)) = core_step done (own_step own) (core_in p c)
+said_step p done (Some (transaction_line kind c name)) =
+    address_step done (transaction_step kind) (core_in p c) (address_in p name)
 
 -- what the bytes of a line do to the steps before it
 abbrev pub line_step : Parts → List Step → List ℕ → Result (List Step) StepFault
@@ -38,10 +54,13 @@ line_step p done line = said_step p done (script_line_of line)
 abbrev pub steps_of : Parts → List ℕ → Reading (List Step) StepFault
 steps_of p text = read_from (line_step p) S1 1 [] [] text
 
--- the step's core is one of the program's
+-- the step's core is one of the program's, and so is its address
 abbrev pub IsStepOf : Parts → Step → Type 0
 IsStepOf p (Exec c) = c < length p.cores
 IsStepOf p (Drain c) = c < length p.cores
+IsStepOf p (GetS c a) = (c < length p.cores) × (a < length p.names)
+IsStepOf p (GetM c a) = (c < length p.cores) × (a < length p.names)
+IsStepOf p (Put c a) = (c < length p.cores) × (a < length p.names)
 
 -- an answer, beside what is to be read: memory alone is left open
 abbrev pub Answers : Result (List Step) StepsError → Reading (List Step) StepFault → Type 0

@@ -2,12 +2,15 @@
 use Rattle.std.specs.Prelude.{◌≡◌, Option, None, Some, ⊤}
 use Rattle.litmus.specs.Numbers.{IsValue}
 use Rattle.machine.specs.declared.script_line.Said.{Said}
-use Rattle.machine.specs.declared.script_line.Said.TheVariants.{Own}
-use Rattle.machine.specs.ScriptLine.{ScriptLine, own_line}
+use Rattle.machine.specs.declared.script_line.Said.TheVariants.{Own, Transaction}
+use Rattle.machine.specs.ScriptLine.{ScriptLine, own_line, transaction_line}
 
 -- a line as the code says it is this line
 abbrev pub Says : Said → ScriptLine → Type 0
 Says (Own own number) (own_line how c) = (own ≡ how) × IsValue number c
+Says (Transaction kind number name) (transaction_line how c other) = (kind ≡ how)
+    × IsValue number c × (name ≡ other)
+Says said line = ⊥
 
 -- the same where the line may be outside the grammar
 abbrev pub SaysOption : Option Said → Option ScriptLine → Type 0

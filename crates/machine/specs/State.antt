@@ -1,4 +1,4 @@
--- What a machine of store buffers over one memory has reached, and the recording of it.
+-- What a machine of store buffers and caches has reached, and the recording of it.
 use Rattle.std.specs.Prelude.{◌+◌, ◌%◌, ◌^◌, ◌≡◌, ℕ, Option, None, List, [], ◌∷◌, map, length, slice_index, slice_index_or, sum, sum_by, take, replicate}
 use Rattle.litmus.specs.declared.op.Op.{Op}
 use Rattle.litmus.specs.declared.op.Op.TheVariants.{St, Ld, Fence, Swap, Add}
@@ -6,6 +6,7 @@ use Rattle.recorder.specs.declared.event.Event.{Event}
 use Rattle.recorder.specs.declared.event.Event.TheVariants.{L, S, R, F}
 use Rattle.recorder.specs.Execution.{Execution}
 use Rattle.write_buffer.specs.declared.entry.Entry.{Entry}
+use Rattle.moesi.specs.State as moesi
 
 -- what was reached
 pub record State : Type 0 where
@@ -13,8 +14,8 @@ pub record State : Type 0 where
   pub places : List ℕ
   -- for each core its waiting stores, the oldest first
   pub buffers : List (List Entry)
-  -- for each address its value, and the event that wrote it
-  pub memory : List (ℕ × Option ℕ)
+  -- each core's line of each address, and memory
+  pub caches : moesi.State
   -- for each address the events that wrote it, first to last
   pub write_lists : List (List ℕ)
   -- for each event the value that it read, and its source
@@ -32,7 +33,11 @@ buffer_of s c = slice_index_or s.buffers c []
 
 -- the value of an address, and the event that wrote it
 abbrev pub current : State → ℕ → ℕ × Option ℕ
-current s a = slice_index_or s.memory a (0, None)
+current s a = moesi.current s.caches a
+
+-- the data of core c's line of address a
+abbrev pub copy_of : State → ℕ → ℕ → ℕ × Option ℕ
+copy_of s c a = moesi.copy_of s.caches c a
 
 -- the number of the first event of core c
 abbrev pub first_event : List (List Op) → ℕ → ℕ
@@ -65,7 +70,7 @@ abbrev pub opening : List (List Op) → ℕ → State
 opening p n = record {
   places = replicate (length p) 0;
   buffers = replicate (length p) [];
-  memory = replicate n (0, None);
+  caches = moesi.opening (length p) n;
   write_lists = replicate n [];
   reads = replicate (sum_by (λ ops. length ops) p) (0, None);
   performed = [];

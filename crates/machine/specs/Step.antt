@@ -1,14 +1,17 @@
 -- One step of the machine: the first guard that is false, else one effect.
-use Rattle.std.specs.Prelude.{◌≡◌, ◌+◌, ◌%◌, ◌^◌, ◌<◌, ◌==◌, ℕ, nat_lt, if◌then◌else◌, Option, Some, None, Result, Ok, Err, List, [], ◌∷◌, ◌++◌, length, slice_index_or, slice_set, slice_get}
+use Rattle.std.specs.Prelude.{◌≡◌, ◌+◌, ◌<◌, ◌==◌, ◌&&◌, ℕ, Bool, nat_lt, if◌then◌else◌, Option, Some, None, Result, Ok, Err, List, [], ◌∷◌, ◌++◌, length, slice_index_or, slice_set, slice_get}
 use Rattle.litmus.specs.declared.op.Op.{Op}
 use Rattle.litmus.specs.declared.op.Op.TheVariants.{St, Ld, Fence, Swap, Add}
 use Rattle.write_buffer.specs.declared.entry.Entry.{Entry}
 use Rattle.write_buffer.specs.Buffer.{youngest}
 use Rattle.machine.specs.declared.step.Step.{Step}
-use Rattle.machine.specs.declared.step.Step.TheVariants.{Exec, Drain}
+use Rattle.machine.specs.declared.step.Step.TheVariants.{Exec, Drain, GetS, GetM, Put}
 use Rattle.machine.specs.declared.blocked.Blocked.{Blocked}
-use Rattle.machine.specs.declared.blocked.Blocked.TheVariants.{B1, B2, B3, B6, B8}
-use Rattle.machine.specs.State.{State, place_of, buffer_of, current, first_event}
+use Rattle.machine.specs.declared.blocked.Blocked.TheVariants.{B1, B2, B3, B4, B5, B6, B7, B8}
+use Rattle.recorder.specs.Event.{value_written}
+use Rattle.moesi.specs.State as moesi
+use Rattle.moesi.specs.declared.error.CacheError.{CacheError}
+use Rattle.machine.specs.State.{State, place_of, buffer_of, copy_of, first_event, event_of}
 
 -- Effects, each on its part of the state
 
@@ -24,27 +27,36 @@ performed s e = record s { performed = s.performed ++ e ∷ [] }
 abbrev pub given : State → ℕ → ℕ × Option ℕ → State
 given s e what = record s { reads = slice_set s.reads e what }
 
--- e writes a value to memory
-abbrev pub written : State → ℕ → ℕ → ℕ → State
-written s a value e = record s {
-  memory = slice_set s.memory a (value, Some e);
+-- e wrote address a, which left these caches
+abbrev pub written : State → moesi.State → ℕ → ℕ → State
+written s caches a e = record s {
+  caches = caches;
   write_lists = slice_set s.write_lists a (slice_index_or s.write_lists a [] ++ e ∷ []);
 }
+
+-- a transaction left these caches
+abbrev pub with_caches : State → moesi.State → State
+with_caches s caches = record s { caches = caches }
 
 -- core c has these waiting stores
 abbrev pub with_buffer : State → ℕ → List Entry → State
 with_buffer s c entries = record s { buffers = slice_set s.buffers c entries }
 
--- the value and the event of an entry, or else those of the address
-abbrev pub found : Option Entry → ℕ × Option ℕ → ℕ × Option ℕ
-found None cell = cell
-found (Some entry) cell = (entry.value, Some entry.event)
+-- the value and the event of an entry, or else what the line gives
+abbrev pub found : Option Entry → Result (ℕ × Option ℕ) CacheError → Result (ℕ × Option ℕ) CacheError
+found None line = line
+found (Some entry) line = Ok (entry.value, Some entry.event)
 
--- what a load of address a by core c gets: from its own buffer, else from memory
-abbrev pub loaded : State → ℕ → ℕ → ℕ × Option ℕ
-loaded s c a = found (youngest (buffer_of s c) a) (current s a)
+-- what a load of address a by core c gets: from its own buffer, else from its line
+abbrev pub looked_up : State → ℕ → ℕ → Result (ℕ × Option ℕ) CacheError
+looked_up s c a = found (youngest (buffer_of s c) a) (moesi.read s.caches c a)
 
 -- The guards and the effects
+
+-- what the caches allow has its effect, and what they refuse is blocked
+abbrev pub allowed : {A : Type 0} → Blocked → (A → State) → Result A CacheError → Result State Blocked
+allowed b effect (Ok x) = Ok (effect x)
+allowed b effect (Err e) = Err b
 
 -- core c stores to address a: the entry waits in its buffer
 abbrev pub stored : ℕ → State → ℕ → ℕ → ℕ → ℕ → Result State Blocked
@@ -57,36 +69,57 @@ stored capacity s c e a v =
 abbrev pub fenced : State → ℕ → ℕ → Result State Blocked
 fenced s c e = if length (buffer_of s c) == 0 then Ok (advanced (performed s e) c) else Err B3
 
--- core c reads address a and writes it at once, behind an empty buffer
-abbrev pub exchanged : State → ℕ → ℕ → ℕ → ℕ → Result State Blocked
-exchanged s c e a v =
+-- core c loads address a: its line is valid, where no store of its own waits
+abbrev pub loaded : State → ℕ → ℕ → ℕ → Result State Blocked
+loaded s c e a = allowed B4 (λ what. advanced (performed (given s e what) e) c) (looked_up s c a)
+
+-- the value that op writes, from what the line has
+abbrev pub exchanged_value : State → ℕ → Op → ℕ → ℕ
+exchanged_value s c op a = value_written (event_of op (copy_of s c a))
+
+-- core c reads address a and writes it at once, as op says, behind an empty buffer and in a line that is M or E
+abbrev pub exchanged : State → ℕ → ℕ → Op → ℕ → Result State Blocked
+exchanged s c e op a =
     if length (buffer_of s c) == 0
-    then Ok (advanced (performed (written (given s e (current s a)) a v e) e) c)
+    then allowed B5 (λ caches. advanced (performed (written (given s e (copy_of s c a)) caches a e) e) c)
+    (moesi.write s.caches c a (exchanged_value s c op a) e)
     else Err B3
 
 -- core c executes the operation op as event e
 abbrev pub exec : ℕ → State → ℕ → ℕ → Op → Result State Blocked
 exec capacity s c e (St a v) = stored capacity s c e a v
-exec capacity s c e (Ld a) = Ok (advanced (performed (given s e (loaded s c a)) e) c)
+exec capacity s c e (Ld a) = loaded s c e a
 exec capacity s c e Fence = fenced s c e
-exec capacity s c e (Swap a v) = exchanged s c e a v
-exec capacity s c e (Add a v) = exchanged s c e a (((current s a).0 + v) % 2 ^ 32)
+exec capacity s c e (Swap a v) = exchanged s c e (Swap a v) a
+exec capacity s c e (Add a v) = exchanged s c e (Add a v) a
 
 -- the next operation of core c, where one is left
 abbrev pub exec_next : List (List Op) → ℕ → State → ℕ → Option Op → Result State Blocked
 exec_next p capacity s c None = Err B1
 exec_next p capacity s c (Some op) = exec capacity s c (first_event p c + place_of s c) op
 
--- the oldest waiting store of core c goes to memory
+-- the oldest waiting store of core c goes to its line, which is M or E
 abbrev pub drained : State → ℕ → List Entry → Result State Blocked
 drained s c [] = Err B6
-drained s c (x ∷ xs) = Ok (performed (written (with_buffer s c xs) x.addr x.value x.event) x.event)
+drained s c (x ∷ xs) =
+    allowed B5 (λ caches. performed (written (with_buffer s c xs) caches x.addr x.event) x.event)
+    (moesi.write s.caches c x.addr x.value x.event)
+
+-- core c and address a are there
+abbrev pub has : List (List Op) → State → ℕ → ℕ → Bool
+has p s c a = nat_lt c (length p) && nat_lt a (length s.caches.blocks)
 
 -- one step of the machine, or why it is blocked
 abbrev pub taken : List (List Op) → ℕ → State → Step → Result State Blocked
 taken p capacity s (Exec c) =
     if nat_lt c (length p) then exec_next p capacity s c (slice_get (slice_index_or p c []) (place_of s c)) else Err B8
 taken p capacity s (Drain c) = if nat_lt c (length p) then drained s c (buffer_of s c) else Err B8
+taken p capacity s (GetS c a) =
+    if has p s c a then allowed B7 (with_caches s) (moesi.get_s s.caches c a) else Err B8
+taken p capacity s (GetM c a) =
+    if has p s c a then allowed B7 (with_caches s) (moesi.get_m s.caches c a) else Err B8
+taken p capacity s (Put c a) =
+    if has p s c a then allowed B7 (with_caches s) (moesi.put s.caches c a) else Err B8
 
 -- a blocked step leaves the state
 abbrev pub after : State → Result State Blocked → State

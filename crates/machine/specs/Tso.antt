@@ -1,4 +1,4 @@
--- What every run over plain memory keeps.
+-- What every run keeps.
 use Rattle.std.specs.Prelude.{ℕ, List, All}
 use Rattle.recorder.specs.Tso.{IsTsoOrder}
 use Rattle.litmus.specs.declared.op.Op.{Op}

@@ -9,8 +9,15 @@ pub enum Blocked {
     B2,
     /// The core's buffer isn't empty.
     B3,
+    /// The core loads, no store to the address waits in its buffer, and its line is in I.
+    B4,
+    /// The core writes, and its line is neither in M nor in E.
+    B5,
     /// The core's buffer is empty.
     B6,
-    /// There is no such core.
+    /// The core's line is in a state that the transaction isn't allowed in: for GetS another than
+    /// I, for GetM M or E, for Put I.
+    B7,
+    /// There is no such core or address. This guard comes before all others.
     B8,
 }

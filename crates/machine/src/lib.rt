@@ -1,4 +1,4 @@
-//! The machine: cores with store buffers over one memory.
+//! The machine: cores with store buffers and caches over one memory.
 #![tactic(auto)]
 
 mod blank;
@@ -16,6 +16,7 @@ mod script_fault;
 mod script_line;
 mod step;
 mod table;
+mod transactions;
 
 pub use blocked::Blocked;
 pub use fault::Fault;

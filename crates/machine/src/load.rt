@@ -4,14 +4,18 @@ ghost use Rattle.std.specs.Prelude.{◌≡◌};
 ghost use Rattle.machine.specs.Step.{found};
 
 use litmus::EventId;
+use moesi::CacheError;
 use write_buffer::Entry;
 
-/// The value and the event of a waiting store, or else of memory.
-pub(crate) fn found(entry: Option<Entry>, cell: (u32, Option<EventId>)) -> (u32, Option<EventId>)
-    ensures { result ≡ found entry cell }
+/// The value and the event of a waiting store, or else what the line gives.
+pub(crate) fn found(
+    entry: Option<Entry>,
+    line: Result<(u32, Option<EventId>), CacheError>,
+) -> Result<(u32, Option<EventId>), CacheError>
+    ensures { result ≡ found entry line }
 {
     match entry {
-        Some(entry) => (entry.value, Some(entry.event)),
-        None => cell,
+        Some(entry) => Ok((entry.value, Some(entry.event))),
+        None => line,
     }
 }

@@ -1,19 +1,21 @@
-//! The machine: cores with store buffers over one memory.
+//! The machine: cores with store buffers and caches over one memory.
 
 use crate::blank::Blank;
 use crate::bounded::Bounded;
 use crate::fault::Fault;
 use crate::makes::{buffers_of, filled, rooms, units_of};
 use core_unit::CoreUnit;
-use litmus::{Addr, CoreId, EventId, OutOfMemory, Program};
+use litmus::{Addr, CoreId, EventId, Op, OutOfMemory, Program};
+use moesi::{Caches, Line};
 use recorder::Recording;
 use std::alloc::Global;
 use std::marker::Model;
 use write_buffer::WriteBuffer;
 
-/// The cores of a program, each with its store buffer, over one memory, and what they have done so
-/// far: the usual implementation of TSO (Nagarajan, Sorin, Hill and Wood, A Primer on Memory
-/// Consistency and Cache Coherence, second edition, chapter 4).
+/// The cores of a program, each with its store buffer and its cache, over one memory, and what they
+/// have done so far: the usual implementation of TSO (Nagarajan, Sorin, Hill and Wood, A Primer on
+/// Memory Consistency and Cache Coherence, second edition, chapter 4) over MOESI caches (chapters 6
+/// to 8) with atomic transactions.
 #[derive(Drop)]
 pub struct Machine {
     pub(crate) program: Program,
@@ -21,7 +23,7 @@ pub struct Machine {
     fault: Fault,
     pub(crate) units: Vec<CoreUnit>,
     pub(crate) buffers: Vec<WriteBuffer>,
-    pub(crate) memory: Vec<(u32, Option<EventId>)>,
+    pub(crate) caches: Caches,
     pub(crate) writes: Vec<Bounded<EventId>>,
     pub(crate) reads: Vec<(u32, Option<EventId>)>,
     pub(crate) performed: Bounded<EventId>,
@@ -43,18 +45,19 @@ impl Model for Machine {
       program = m.program;
       capacity = m.capacity;
       fault = m.fault;
-      state = held m.units.items m.buffers.items m.memory.items m.writes.items m.reads.items
+      state = held m.units.items m.buffers.items m.caches m.writes.items m.reads.items
           m.performed.items;
     } };
 
     ghost invariant = { λ m. IsMachine m.program m.capacity m.units.items m.buffers.items
-        m.memory.items m.writes.items m.reads.items m.performed m.blank };
+        m.caches m.writes.items m.reads.items m.performed m.blank };
 }
 
 impl Machine {
-    ghost use Rattle.std.specs.Prelude.{◌≡◌, ◌<◌, ◌↔◌, IsTrue, IfOk, OnOk, OnErr, IfErr, length};
+    ghost use Rattle.std.specs.Prelude.{◌≡◌, ◌<◌, ◌↔◌, [], IsTrue, IfOk, OnOk, OnErr, IfErr, IfSome, length, slice_get, slice_index_or, option_map};
     ghost use Rattle.recorder.specs.Tso.{IsTsoOrder};
-    ghost use Rattle.machine.specs.State.{opening, current, IsDone};
+    ghost use Rattle.moesi.specs.State.{line_of, memory_of};
+    ghost use Rattle.machine.specs.State.{opening, place_of, buffer_of, IsDone};
     ghost use Rattle.machine.specs.Held.{recording_of, IsAtEnd};
 
     /// A machine at the start of a program, whose store buffers have room for `capacity` stores
@@ -78,7 +81,7 @@ impl Machine {
         let addresses = program.names().len();
         let (units, events) = units_of(alloc, program.lists())?;
         let buffers = buffers_of(alloc, cores, capacity)?;
-        let memory = filled(alloc, addresses, (0, None))?;
+        let caches = Caches::new(alloc, cores, addresses)?;
         let writes = rooms(alloc, addresses, events)?;
         let reads = filled(alloc, events, (0, None))?;
         let performed = Bounded::new(alloc, events)?;
@@ -89,7 +92,7 @@ impl Machine {
             fault,
             units,
             buffers,
-            memory,
+            caches,
             writes,
             reads,
             performed,
@@ -125,13 +128,49 @@ impl Machine {
         self.performed.as_slice()
     }
 
-    /// The value of an address of the program, and the event that wrote it; none for the initial
-    /// value.
+    /// The state of a core's line of an address of the program.
+    pub fn line(&self, core: CoreId, addr: Addr) -> Line
+        requires core { core < length self.now.program.cores }
+        requires address { addr < length self.now.program.names }
+        ensures { result ≡ line_of self.now.state.caches core addr }
+    {
+        self.caches.line(core, addr)
+    }
+
+    /// Memory's value of an address of the program, and the event that wrote it; none for the
+    /// initial value. A line in M or O may have a later one.
     pub fn memory(&self, addr: Addr) -> (u32, Option<EventId>)
         requires { addr < length self.now.program.names }
-        ensures { result ≡ current self.now.state addr }
+        ensures { result ≡ memory_of self.now.state.caches addr }
     {
-        self.memory[addr as usize]
+        self.caches.memory(addr)
+    }
+
+    /// The operation that a core executes next; none where it has executed all, or where there is
+    /// no such core.
+    pub fn next(&self, core: CoreId) -> Option<Op>
+        ensures { result ≡ slice_get (slice_index_or self.now.program.cores core [])
+            (place_of self.now.state core) }
+    {
+        if core as usize >= self.program.cores() {
+            return None;
+        }
+        let (op, _event) = self.units[core as usize].next(self.program.ops(core))?;
+        Some(op)
+    }
+
+    /// The address of the oldest store that waits in a core's buffer; none where none waits, or
+    /// where there is no such core.
+    pub fn oldest(&self, core: CoreId) -> Option<Addr>
+        ensures value { result ≡ option_map (λ x. x.addr)
+            (slice_get (buffer_of self.now.state core) 0) }
+        ensures within { IfSome result (λ a. a < length self.now.program.names) }
+    {
+        if core as usize >= self.program.cores() {
+            return None;
+        }
+        let entry = self.buffers[core as usize].oldest()?;
+        Some(entry.addr)
     }
 
     /// Whether a core has executed all its operations, and no store of it waits.

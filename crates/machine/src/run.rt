@@ -36,16 +36,10 @@ impl Machine {
         let (op, event) = self.next_op(core)?;
         match op {
             Op::St(addr, value) => self.store(core, event, addr, value),
-            Op::Ld(addr) => {
-                self.load(core, event, addr);
-                Ok(())
-            }
+            Op::Ld(addr) => self.load(core, event, addr),
             Op::Fence => self.fence(core, event),
-            Op::Swap(addr, value) => self.exchange(core, event, op, addr, value),
-            Op::Add(addr, value) => {
-                let (old, _) = self.memory(addr);
-                self.exchange(core, event, op, addr, old.wrapping_add(value))
-            }
+            Op::Swap(addr, _) => self.exchange(core, event, op, addr),
+            Op::Add(addr, _) => self.exchange(core, event, op, addr),
         }
     }
 
@@ -59,6 +53,9 @@ impl Machine {
         match step {
             Step::Exec(core) => self.exec(core),
             Step::Drain(core) => self.drain(core),
+            Step::GetS(core, addr) => self.get_s(core, addr),
+            Step::GetM(core, addr) => self.get_m(core, addr),
+            Step::Put(core, addr) => self.put(core, addr),
         }
     }
 

@@ -2,12 +2,12 @@
 
 ghost use Rattle.std.specs.Prelude.{◌≡◌, ◌≤◌, ℕ, [], All, IfOk, length};
 ghost use Rattle.litmus.specs.Numbers.{IsValue};
-ghost use Rattle.machine.specs.Script.{core_in, with_step, line_step, steps_of, IsStepOf, Answers, AnswersLine, listed, stepped};
+ghost use Rattle.machine.specs.Script.{core_in, address_in, with_step, line_step, steps_of, IsStepOf, Answers, AnswersLine, listed, stepped};
 
 use crate::script_fault::{StepFault, StepsError};
-use crate::script_line::{Said, own_step, script_line_of};
+use crate::script_line::{Said, own_step, script_line_of, transaction_step};
 use crate::step::Step;
-use litmus::{CoreId, MAX_STEPS, Number, Program};
+use litmus::{Addr, CoreId, MAX_STEPS, Name, Number, Program};
 use std::alloc::Global;
 
 fn core_in(program: &Program, number: Number) -> Option<CoreId>
@@ -17,6 +17,15 @@ fn core_in(program: &Program, number: Number) -> Option<CoreId>
     match number {
         Number::Value(core) if (core as usize) < cores => Some(core as CoreId),
         _ => None,
+    }
+}
+
+fn address_in(program: &Program, name: Name) -> Option<Addr>
+    ensures { result ≡ address_in program.now name }
+{
+    match program.names().get_index_of(&name) {
+        Some(addr) => Some(addr as Addr),
+        None => None,
     }
 }
 
@@ -46,6 +55,15 @@ fn take_line(
             None => Err(StepsError::AtLine(StepFault::S2, number)),
             Some(core) => push_step(steps, own_step(own, core), number),
         },
+        Some(Said::Transaction(kind, core, name)) => {
+            match (core_in(program, core), address_in(program, name)) {
+                (None, _) => Err(StepsError::AtLine(StepFault::S2, number)),
+                (_, None) => Err(StepsError::AtLine(StepFault::S3, number)),
+                (Some(core), Some(addr)) => {
+                    push_step(steps, transaction_step(kind, core, addr), number)
+                }
+            }
+        }
     }
 }
 
@@ -70,13 +88,14 @@ fn read_lines(alloc: Global, text: &[u8], program: &Program) -> Result<Vec<Step>
 
 /// The steps of a script for the program, or the first line at fault.
 ///
-/// A line is `exec C` or `drain C`, with the number of a core, and ends with a newline. A step that
-/// the machine can't take is lawful here.
+/// A line is `exec C`, `drain C`, `gets C NAME`, `getm C NAME` or `put C NAME`, with the number of a
+/// core and the name of an address, and ends with a newline. A step that the machine can't take is
+/// lawful here.
 #[tactic(auto, using(crate::proofs::ScriptText::script_cores, crate::proofs::ScriptText::script_few))]
 pub fn parse_steps(alloc: Global, text: &[u8], program: &Program) -> Result<Vec<Step>, StepsError>
     // The steps, or which line is at fault, and why.
     ensures exact { Answers (listed result) (steps_of program.now text.now) }
-    // The cores of the steps are the program's.
+    // The cores and addresses of the steps are the program's.
     ensures cores { IfOk result (λ steps. All (IsStepOf program.now) steps.items) }
     ensures few { IfOk result (λ steps. length steps.items ≤ MAX_STEPS) }
 {

@@ -1,11 +1,12 @@
 //! What one line of a step script says.
 
-ghost use Rattle.std.specs.Prelude.{◌≡◌};
-ghost use Rattle.machine.specs.ScriptLine.{own_of, script_line_of, own_step};
+ghost use Rattle.std.specs.Prelude.{◌≡◌, ◌<◌, IfSome, length, position};
+ghost use Rattle.litmus.specs.Lines.{is_space};
+ghost use Rattle.machine.specs.ScriptLine.{own_of, transaction_of, script_line_of, own_step, transaction_step};
 ghost use Rattle.machine.specs.ScriptSaid.{SaysOption};
 
 use crate::step::Step;
-use litmus::{CoreId, Number, decimal};
+use litmus::{Addr, CoreId, Name, Number, decimal};
 
 /// The kind of a step that a core takes alone.
 #[derive(Clone, Copy, Debug, PartialEq, Eq)]
@@ -14,10 +15,26 @@ pub enum Own {
     Drain,
 }
 
-/// What a line says, with its core not yet looked up.
+/// The kind of a transaction.
+#[derive(Clone, Copy, Debug, PartialEq, Eq)]
+pub enum Transaction {
+    GetS,
+    GetM,
+    Put,
+}
+
+/// What a line says, with its core and its name not yet looked up.
 #[derive(Clone, Copy, Debug, PartialEq, Eq)]
 pub enum Said {
     Own(Own, Number),
+    Transaction(Transaction, Number, Name),
+}
+
+fn space_in(text: &[u8]) -> Option<usize>
+    ensures place { result ≡ position is_space text.now }
+    ensures within { IfSome result (λ at. at < length text.now) }
+{
+    text.iter().position(|b| *b == b' ')
 }
 
 #[tactic(auto, unfolding(crate::specs::ScriptLine::own_of))]
@@ -28,6 +45,16 @@ fn own_of(own: Own, rest: &[u8]) -> Option<Said>
     Some(Said::Own(own, core))
 }
 
+#[tactic(auto, unfolding(crate::specs::ScriptLine::transaction_of))]
+fn transaction_of(kind: Transaction, rest: &[u8]) -> Option<Said>
+    ensures { SaysOption result (transaction_of kind rest.now) }
+{
+    let at = space_in(rest)?;
+    let core = decimal(&rest[..at])?;
+    let name = Name::new(&rest[at + 1..])?;
+    Some(Said::Transaction(kind, core, name))
+}
+
 /// What the line says, if it is in the grammar.
 #[tactic(auto, unfolding(crate::specs::ScriptLine::script_line_of))]
 pub fn script_line_of(line: &[u8]) -> Option<Said>
@@ -36,8 +63,17 @@ pub fn script_line_of(line: &[u8]) -> Option<Said>
     if let Some(rest) = line.strip_prefix(b"exec ".as_slice()) {
         return own_of(Own::Exec, rest);
     }
-    match line.strip_prefix(b"drain ".as_slice()) {
-        Some(rest) => own_of(Own::Drain, rest),
+    if let Some(rest) = line.strip_prefix(b"drain ".as_slice()) {
+        return own_of(Own::Drain, rest);
+    }
+    if let Some(rest) = line.strip_prefix(b"gets ".as_slice()) {
+        return transaction_of(Transaction::GetS, rest);
+    }
+    if let Some(rest) = line.strip_prefix(b"getm ".as_slice()) {
+        return transaction_of(Transaction::GetM, rest);
+    }
+    match line.strip_prefix(b"put ".as_slice()) {
+        Some(rest) => transaction_of(Transaction::Put, rest),
         None => None,
     }
 }
@@ -49,5 +85,16 @@ pub fn own_step(own: Own, core: CoreId) -> Step
     match own {
         Own::Exec => Step::Exec(core),
         Own::Drain => Step::Drain(core),
+    }
+}
+
+/// The transaction of this kind of the core at the address.
+pub fn transaction_step(kind: Transaction, core: CoreId, addr: Addr) -> Step
+    ensures { result ≡ transaction_step kind core addr }
+{
+    match kind {
+        Transaction::GetS => Step::GetS(core, addr),
+        Transaction::GetM => Step::GetM(core, addr),
+        Transaction::Put => Step::Put(core, addr),
     }
 }

@@ -3,15 +3,14 @@
 use crate::blocked::Blocked;
 use crate::load::found;
 use crate::machine::Machine;
+use crate::record::event_of;
 use litmus::{Addr, CoreId, EventId, Op};
 use write_buffer::Entry;
 
 impl Machine {
-    ghost use Rattle.std.specs.Prelude.{◌≡◌, Ok, Err, OnOk, OnErr, IfErr, Some};
+    ghost use Rattle.std.specs.Prelude.{◌≡◌, ◌<◌, Ok, Err, OnOk, OnErr, IfErr, length};
     ghost use Rattle.litmus.specs.declared.op.Op.TheVariants.{St, Ld, Fence};
-    ghost use Rattle.recorder.specs.Event.{written_address};
     ghost use Rattle.machine.specs.declared.step.Step.TheVariants.{Drain};
-    ghost use Rattle.machine.specs.State.{current, event_of};
     ghost use Rattle.machine.specs.Step.{exchanged};
     ghost use Rattle.machine.specs.Held.{answer_of, exec_answer, IsNextOf};
 
@@ -37,16 +36,22 @@ impl Machine {
         Ok(())
     }
 
-    /// Reads from the core's own buffer, or from memory.
-    pub(crate) fn load(&mut self, core: CoreId, event: EventId, addr: Addr)
+    /// Reads from the core's own buffer, or else from its line.
+    pub(crate) fn load(&mut self, core: CoreId, event: EventId, addr: Addr) -> Result<(), Blocked>
         requires { IsNextOf self.old core (Ld addr) event }
-        ensures ok { exec_answer self.old core (Ld addr) event ≡ Ok self.new.state }
-        ensures rest { self.new ≡ record self.old { state = self.new.state } }
+        ensures ok { OnOk result (exec_answer self.old core (Ld addr) event ≡ Ok self.new.state) }
+        ensures blocked { IfErr result (λ b. exec_answer self.old core (Ld addr) event ≡ Err b) }
+        ensures rest { OnOk result (self.new ≡ record self.old { state = self.new.state }) }
+        ensures unchanged { OnErr result (self.new ≡ self.old) }
     {
         let entry = self.buffers[core as usize].youngest(addr);
-        self.reads[event as usize] = found(entry, self.memory[addr as usize]);
+        let Ok(what) = found(entry, self.caches.read(core, addr)) else {
+            return Err(Blocked::B4);
+        };
+        self.reads[event as usize] = what;
         self.performed.push(event);
         self.units[core as usize].advance(self.program.ops(core));
+        Ok(())
     }
 
     /// Waits for an empty buffer.
@@ -66,19 +71,18 @@ impl Machine {
         Ok(())
     }
 
-    /// Reads an address and writes it at once, where the core's buffer is empty.
+    /// Reads the core's line and writes it at once, where the core's buffer is empty.
     pub(crate) fn exchange(
         &mut self,
         core: CoreId,
         event: EventId,
         op: Op,
         addr: Addr,
-        value: u32,
     ) -> Result<(), Blocked>
         requires at { IsNextOf self.old core op event }
-        requires address { written_address (event_of op (current self.old.state addr)) ≡ Some addr }
+        requires address { addr < length self.old.program.names }
         requires row { exec_answer self.old core op event
-            ≡ exchanged self.old.state core event addr value }
+            ≡ exchanged self.old.state core event op addr }
         ensures ok { OnOk result (exec_answer self.old core op event ≡ Ok self.new.state) }
         ensures blocked { IfErr result (λ b. exec_answer self.old core op event ≡ Err b) }
         ensures rest { OnOk result (self.new ≡ record self.old { state = self.new.state }) }
@@ -87,15 +91,21 @@ impl Machine {
         if !self.buffers[core as usize].is_empty() {
             return Err(Blocked::B3);
         }
-        self.reads[event as usize] = self.memory[addr as usize];
-        self.memory[addr as usize] = (value, Some(event));
+        let Ok(read) = self.caches.read(core, addr) else {
+            return Err(Blocked::B5);
+        };
+        let value = event_of(op, read).value_written();
+        let Ok(()) = self.caches.write(core, addr, value, event) else {
+            return Err(Blocked::B5);
+        };
+        self.reads[event as usize] = read;
         self.writes[addr as usize].push(event);
         self.performed.push(event);
         self.units[core as usize].advance(self.program.ops(core));
         Ok(())
     }
 
-    /// Takes the oldest store of a core out of its buffer.
+    /// Writes the oldest store of a core's buffer to the core's line.
     pub(crate) fn drain(&mut self, core: CoreId) -> Result<(), Blocked>
         ensures ok { OnOk result (answer_of self.old (Drain core) ≡ Ok self.new.state) }
         ensures blocked { IfErr result (λ b. answer_of self.old (Drain core) ≡ Err b) }
@@ -105,12 +115,16 @@ impl Machine {
         if core as usize >= self.program.cores() {
             return Err(Blocked::B8);
         }
-        let Some(entry) = self.buffers[core as usize].pop_oldest() else {
+        let Some(entry) = self.buffers[core as usize].oldest() else {
             return Err(Blocked::B6);
         };
-        self.memory[entry.addr as usize] = (entry.value, Some(entry.event));
-        self.writes[entry.addr as usize].push(entry.event);
-        self.performed.push(entry.event);
+        let Entry { addr, value, event } = entry;
+        let Ok(()) = self.caches.write(core, addr, value, event) else {
+            return Err(Blocked::B5);
+        };
+        let _written = self.buffers[core as usize].pop_oldest();
+        self.writes[addr as usize].push(event);
+        self.performed.push(event);
         Ok(())
     }
 }

@@ -32,7 +32,7 @@ impl Event {
     ghost use Rattle.recorder.specs.Event.{read_address, written_address, source, value_read, value_written, is_plain_store, is_plain_load};
 
     /// The address that it reads.
-    pub(crate) fn read_address(&self) -> Option<Addr>
+    pub fn read_address(&self) -> Option<Addr>
         ensures { result ≡ read_address self.now }
     {
         match self {
@@ -42,7 +42,7 @@ impl Event {
     }
 
     /// The address that it writes.
-    pub(crate) fn written_address(&self) -> Option<Addr>
+    pub fn written_address(&self) -> Option<Addr>
         ensures { result ≡ written_address self.now }
     {
         match self {
@@ -52,7 +52,7 @@ impl Event {
     }
 
     /// Whether it writes an address.
-    pub(crate) fn writes_to(&self, address: Addr) -> bool
+    pub fn writes_to(&self, address: Addr) -> bool
         ensures { IsTrue result ↔ (written_address self.now ≡ Some address) }
     {
         match self.written_address() {
@@ -72,7 +72,7 @@ impl Event {
     }
 
     /// The write that it read from; none for the initial value, and where it does not read.
-    pub(crate) fn source(&self) -> Option<EventId>
+    pub fn source(&self) -> Option<EventId>
         ensures { result ≡ source self.now }
     {
         match self {
@@ -92,7 +92,7 @@ impl Event {
     }
 
     /// The value that it writes; 0 where it does not write.
-    pub(crate) fn value_written(&self) -> u32
+    pub fn value_written(&self) -> u32
         ensures { result ≡ value_written self.now }
     {
         match self {
@@ -102,7 +102,7 @@ impl Event {
     }
 
     /// Whether a later event of its core may not overtake it in memory order.
-    pub(crate) fn keeps(&self, later: &Event) -> bool
+    pub fn keeps(&self, later: &Event) -> bool
         ensures { IsTrue result ↔ ((is_plain_store self.now && is_plain_load later.now) ≡ false) }
     {
         !(matches!(self, Event::S { .. }) && matches!(later, Event::L { .. }))

@@ -1,0 +1,50 @@
+-- What a transaction does to the parts of a machine.
+use Rattle.std.proofs.Common.{◌≡◌, ℕ, true, Option, Ok, List, length, refl, ◌∙◌}
+use Rattle.litmus.specs.Parts.{Parts}
+use Rattle.write_buffer.specs.Buffer.{Buffer}
+use Rattle.core_unit.specs.Progress.{Progress}
+use Rattle.moesi.specs.State as moesi
+use Rattle.machine.specs.declared.step.Step.TheVariants.{GetS, GetM, Put}
+use Rattle.machine.specs.Step.{has, taken}
+use Rattle.machine.specs.Roomy.{Roomy}
+use Rattle.machine.specs.Held.{IsSound, held}
+
+module _ (p : Parts) (capacity : ℕ) (units : List Progress) (buffers : List Buffer) (caches : moesi.State)
+    (writes : List (Roomy ℕ)) (reads : List (ℕ × Option ℕ)) (done : Roomy ℕ) (caches' : moesi.State) where
+  -- the parts still fit together
+  pub transacted_sound : IsSound p capacity units buffers caches writes reads done → caches'.cores ≡ caches.cores → length caches'.blocks ≡ length caches.blocks
+      → IsSound p capacity units buffers caches' writes reads done
+  transacted_sound sound same_cores same_blocks = record {
+    operations = sound.operations;
+    few = sound.few;
+    units_length = sound.units_length;
+    buffers_length = sound.buffers_length;
+    cache_cores = same_cores ∙ sound.cache_cores;
+    cache_blocks = same_blocks ∙ sound.cache_blocks;
+    writes_length = sound.writes_length;
+    events = sound.events;
+    first = sound.first;
+    place = sound.place;
+    capacities = sound.capacities;
+    entries = sound.entries;
+    write_rooms = sound.write_rooms;
+    write_lengths = sound.write_lengths;
+    performed_room = sound.performed_room;
+    counted = sound.counted;
+  }
+
+  module _ (core addr : ℕ) (there : has p.cores (held units buffers caches writes reads done.items) core addr ≡ true) where
+    -- the row of GetS
+    pub get_s_taken : moesi.get_s caches core addr ≡ Ok caches'
+        → taken p.cores capacity (held units buffers caches writes reads done.items) (GetS core addr) ≡ Ok (held units buffers caches' writes reads done.items)
+    get_s_taken made = rw (there, made) refl
+
+    -- the row of GetM
+    pub get_m_taken : moesi.get_m caches core addr ≡ Ok caches'
+        → taken p.cores capacity (held units buffers caches writes reads done.items) (GetM core addr) ≡ Ok (held units buffers caches' writes reads done.items)
+    get_m_taken made = rw (there, made) refl
+
+    -- the row of Put
+    pub put_taken : moesi.put caches core addr ≡ Ok caches'
+        → taken p.cores capacity (held units buffers caches writes reads done.items) (Put core addr) ≡ Ok (held units buffers caches' writes reads done.items)
+    put_taken made = rw (there, made) refl
