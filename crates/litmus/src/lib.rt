@@ -3,6 +3,7 @@
 
 mod builder;
 mod fault;
+mod gate;
 mod ids;
 mod lawful;
 mod limits;
@@ -13,10 +14,12 @@ mod number;
 mod one_text;
 mod op;
 mod program;
+mod same;
 mod text;
 mod writing;
 
 pub use fault::{LineFault, LitmusError};
+pub use gate::{Gate, OpenGate};
 pub use ids::{Addr, CoreId, EventId};
 pub use limits::{MAX_ADDRESSES, MAX_CAPACITY, MAX_CORES, MAX_EVENTS, MAX_STEPS};
 pub use memory::OutOfMemory;

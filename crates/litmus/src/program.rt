@@ -6,6 +6,7 @@ use crate::limits::{MAX_ADDRESSES, MAX_CORES, MAX_EVENTS};
 use crate::memory::OutOfMemory;
 use crate::name::{Name, copy_of};
 use crate::op::{Op, Ops, copies_of};
+use crate::same::{are_same_cores, are_same_names};
 use indexmap::IndexSet;
 use std::alloc::Global;
 use std::marker::Model;
@@ -29,7 +30,7 @@ impl Model for Program {
 }
 
 impl Program {
-    ghost use Rattle.std.specs.Prelude.{◌≡◌, ◌≢◌, ◌<◌, ◌≤◌, ℕ, List, Ok, length, slice_index_or, [], IfOk, IfSome, IsSome, None, All, sum_by};
+    ghost use Rattle.std.specs.Prelude.{◌≡◌, ◌≢◌, ◌<◌, ◌≤◌, ◌↔◌, ℕ, List, Ok, length, slice_index_or, [], IsTrue, IfOk, IfSome, IsSome, None, All, sum_by};
     ghost use Rattle.litmus.specs.Parts.{IsProgram, IsWithin, parts_of};
     ghost use Rattle.litmus.specs.Spelling.{spelling};
     ghost use Rattle.litmus.specs.Text.{reading};
@@ -70,6 +71,13 @@ impl Program {
         let names = copy_of(&self.names)?;
         let cores = copies_of(alloc, &self.cores)?;
         Ok(Program { names, cores })
+    }
+
+    /// Whether the other program is the same: its names and its operations, in their order.
+    pub fn is_same(&self, other: &Program) -> bool
+        ensures { IsTrue result ↔ (self.now ≡ other.now) }
+    {
+        are_same_names(&self.names, &other.names) && are_same_cores(&self.cores, &other.cores)
     }
 
     /// What every program keeps. It does nothing.

@@ -1,0 +1,51 @@
+//! Whether two programs are one.
+
+ghost use Rattle.std.specs.Prelude.{◌≡◌, ◌↔◌, IsTrue};
+
+use crate::name::Name;
+use crate::op::{Op, Ops};
+use indexmap::IndexSet;
+
+/// Whether these are the same names in the same order.
+pub(crate) fn are_same_names(a: &IndexSet<Name>, b: &IndexSet<Name>) -> bool
+    ensures { IsTrue result ↔ (a.now.keys ≡ b.now.keys) }
+{
+    a.as_slice() == b.as_slice()
+}
+
+/// Whether these are one operation.
+fn is_same_op(a: Op, b: Op) -> bool
+    ensures { IsTrue result ↔ (a ≡ b) }
+{
+    a == b
+}
+
+/// Whether these are the same operations in the same order.
+fn are_same_ops(a: &[Op], b: &[Op]) -> bool
+    ensures { IsTrue result ↔ (a.now ≡ b.now) }
+{
+    if a.len() != b.len() {
+        return false;
+    }
+    for (i, op) in a.iter().enumerate() {
+        if !is_same_op(*op, b[i]) {
+            return false;
+        }
+    }
+    true
+}
+
+/// Whether the cores have the same operations.
+pub(crate) fn are_same_cores(a: &[Ops], b: &[Ops]) -> bool
+    ensures { IsTrue result ↔ (a.now ≡ b.now) }
+{
+    if a.len() != b.len() {
+        return false;
+    }
+    for (i, ops) in a.iter().enumerate() {
+        if !are_same_ops(ops.as_slice(), b[i].as_slice()) {
+            return false;
+        }
+    }
+    true
+}
