@@ -1,2 +1,3 @@
 pub mod Trace
 pub mod Advance
+pub mod Driven

@@ -1,9 +1,9 @@
 -- A machine and the steps that led to it.
-use Rattle.std.specs.Prelude.{◌≡◌, ℕ, List, length}
+use Rattle.std.specs.Prelude.{◌≡◌, ◌⊎◌, ℕ, List, length}
 use Rattle.machine.specs.declared.step.Step.{Step}
 use Rattle.machine.specs.State.{State, opening}
 use Rattle.machine.specs.Step.{run}
-use Rattle.machine.specs.Held.{Held}
+use Rattle.machine.specs.Held.{Held, IsAtEnd}
 
 -- a machine, the steps that it took, and how many it may take
 pub record Trace : Type 0 where
@@ -18,3 +18,7 @@ opening_of h = opening h.program.cores (length h.program.names)
 -- the steps, from the opening state of the machine's program, lead to the machine's state
 abbrev pub IsReplay : Trace → Type 0
 IsReplay t = t.machine.state ≡ run t.machine.program.cores t.machine.capacity (opening_of t.machine) t.steps
+
+-- the machine is complete, or has taken all steps that it may take
+abbrev pub IsEnded : Trace → Type 0
+IsEnded t = IsAtEnd t.machine ⊎ (length t.steps ≡ t.limit)

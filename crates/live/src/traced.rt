@@ -2,7 +2,7 @@
 
 use crate::error::LiveError;
 use litmus::OutOfMemory;
-use machine::{Machine, Step};
+use machine::{Machine, Step, every_run_is_tso};
 use std::alloc::Global;
 use std::marker::Model;
 
@@ -28,8 +28,10 @@ impl Model for Traced {
 }
 
 impl Traced {
-    ghost use Rattle.std.specs.Prelude.{◌≡◌, ◌≤◌, ◌<◌, [], IfOk, IfErr, OnOk, OnErr, Ok, Err, length};
-    ghost use Rattle.live.specs.Trace.{Trace, IsReplay, opening_of};
+    ghost use Rattle.std.specs.Prelude.{◌≡◌, ◌≤◌, ◌<◌, ◌↔◌, [], IsTrue, IfOk, IfErr, OnOk, OnErr, Ok, Err, length};
+    ghost use Rattle.recorder.specs.Tso.{IsTsoOrder};
+    ghost use Rattle.machine.specs.Held.{recording_of, IsAtEnd};
+    ghost use Rattle.live.specs.Trace.{Trace, IsReplay, IsEnded, opening_of};
     ghost use Rattle.live.specs.Advance.{advanced};
 
     /// A machine that has not yet taken a step, whose trace may have `limit` steps; the room for
@@ -68,6 +70,26 @@ impl Traced {
         ensures { result.now ≡ self.now.machine }
     {
         &self.machine
+    }
+
+    /// Whether the machine is complete, or has taken all steps that it may take.
+    pub fn is_ended(&self) -> bool
+        ensures { IsTrue result ↔ IsEnded self.now }
+    {
+        self.machine.is_complete() || self.steps.len() == self.limit
+    }
+
+    /// What every traced machine keeps. It does nothing.
+    pub fn sound(&self)
+        ensures replay { IsReplay self.now }
+        ensures within { length self.now.steps ≤ self.now.limit }
+        // Where it is complete, the order of what was performed is one that TSO allows.
+        ensures tso { IsAtEnd self.now.machine
+            → IsTsoOrder (recording_of self.now.machine) self.now.machine.state.performed }
+    {
+        self.machine.program().sound();
+        every_run_is_tso();
+        let _steps = &self.steps;
     }
 
     /// The machine alone.

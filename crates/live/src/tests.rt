@@ -1,0 +1,93 @@
+//! Runs that threads drive.
+use crate::{LiveError, Traced, drive};
+use litmus::{Gate, OpenGate, Program, parse};
+use std::alloc::Global;
+use std::sync::atomic::{AtomicBool, Ordering};
+use std::test::*;
+use std::thread;
+
+const STORE_BUFFERING: &[u8] = b"core\nst x 1\nld y\ncore\nst y 1\nld x\n";
+const CORE: &[u8] = b"st x 1\nld y\nadd z 1\nfence\nswap y 2\nld x\nst z 3\nld z\n";
+const LIMIT: usize = 100_000;
+
+fn program(alloc: Global, text: &[u8]) -> Result<Program, Fail> {
+    Ok(parse(alloc, text).ok().ok_or("a program")?)
+}
+
+/// A core's first step is held until another core's was taken.
+#[derive(Drop)]
+struct Held {
+    taken: AtomicBool,
+    seen: AtomicBool,
+}
+
+impl Gate for Held {
+    fn begin(&self, _worker: usize, piece: usize) {
+        if piece == 0 {
+            for _ in 0..10_000_000 {
+                if self.taken.load(Ordering::SeqCst) {
+                    self.seen.store(true, Ordering::SeqCst);
+                    break;
+                }
+                thread::yield_now();
+            }
+        }
+    }
+
+    fn done(&self, _worker: usize, piece: usize) {
+        if piece == 1 {
+            self.taken.store(true, Ordering::SeqCst);
+        }
+    }
+}
+
+#[test]
+fn a_core_waits_for_no_other(rt: HostRuntime) -> Result<(), Fail> {
+    let program = program(rt.alloc(), STORE_BUFFERING)?;
+    let gate = Held {
+        taken: AtomicBool::new(false),
+        seen: AtomicBool::new(false),
+    };
+    let traced = drive(&rt, rt.alloc(), program, 8, LIMIT, &gate)?;
+    assert!(rt; gate.seen.load(Ordering::SeqCst));
+    assert!(rt; traced.machine().is_complete());
+    Ok(())
+}
+
+#[test]
+fn every_run_of_store_buffering_is_complete(rt: HostRuntime) -> Result<(), Fail> {
+    for run in 0..1000 {
+        let program = program(rt.alloc(), STORE_BUFFERING)?;
+        let traced = drive(&rt, rt.alloc(), program, 8, LIMIT, &OpenGate)?;
+        assert!(rt; traced.machine().is_complete(), "run {run}");
+    }
+    Ok(())
+}
+
+#[test]
+fn cores_that_want_the_same_lines_come_to_their_end(rt: HostRuntime) -> Result<(), Fail> {
+    let mut text = Vec::new(rt.alloc());
+    for core in 0..8 {
+        text.extend_from_slice(b"core\n")?;
+        for part in 0..4 {
+            text.extend_from_slice(CORE)?;
+        }
+    }
+    for capacity in [1, 8] {
+        let program = program(rt.alloc(), &text)?;
+        let traced = drive(&rt, rt.alloc(), program, capacity, LIMIT, &OpenGate)?;
+        assert!(rt; traced.machine().is_complete());
+    }
+    Ok(())
+}
+
+#[test]
+fn a_full_trace_or_a_store_without_room_ends_a_run(rt: HostRuntime) -> Result<(), Fail> {
+    let short = program(rt.alloc(), STORE_BUFFERING)?;
+    let traced = drive(&rt, rt.alloc(), short, 8, 3, &OpenGate)?;
+    assert_eq!(rt; traced.trace().len(), 3);
+    let roomless = program(rt.alloc(), STORE_BUFFERING)?;
+    let answer = drive(&rt, rt.alloc(), roomless, 0, LIMIT, &OpenGate);
+    assert_eq!(rt; answer.err(), Some(LiveError::Stranger));
+    Ok(())
+}
