@@ -7,7 +7,7 @@ use litmus::EventId;
 use recorder::{Recording, place};
 
 /// The place of a list from which on its writes are newer than a source.
-fn newer_from(list: &[EventId], source: Option<EventId>) -> usize
+pub(crate) fn newer_from(list: &[EventId], source: Option<EventId>) -> usize
     ensures { IsNewerFrom list.now source result }
 {
     match source {

@@ -1,0 +1,27 @@
+-- What tells the forced pairs of an event.
+use Rattle.std.specs.Prelude.{◌≡◌, ◌<◌, ℕ, List, length, slice_index_or}
+use Rattle.relations.specs.declared.placed.Placed.{Placed}
+use Rattle.relations.specs.Forced.{IsNewerFrom}
+use Rattle.recorder.specs.Event.{read_address, written_address}
+use Rattle.recorder.specs.Execution.{Execution, event_count, event_at, core_of, write_list, Reads, Writes, source_of}
+use Rattle.recorder.specs.Order.{place}
+use Rattle.recorder.specs.Tso.{IsWellFormed}
+
+-- an event of the well-formed execution x, with its places in the write lists
+pub record IsPlaced (x : Execution) (p : Placed) : Type 0 where
+  pub well_formed : IsWellFormed x
+  pub within : p.number < event_count x
+  pub core : p.core ≡ core_of x p.number
+  pub event : p.event ≡ event_at x p.number
+  pub reads : p.reads ≡ read_address (event_at x p.number)
+  pub writes : p.writes ≡ written_address (event_at x p.number)
+  pub source : p.source ≡ source_of x p.number
+  pub place : (a : ℕ) → Writes x p.number a → p.place ≡ place (write_list x a) p.number
+  pub newer : (a : ℕ) → Reads x p.number a
+      → IsNewerFrom (write_list x a) (source_of x p.number) p.newer
+
+-- the events of x, each at its number
+pub record ArePlaced (x : Execution) (ps : List Placed) : Type 0 where
+  pub size : length ps ≡ event_count x
+  pub each : (e : ℕ) (d : Placed) → e < length ps
+      → IsPlaced x (slice_index_or ps e d) × ((slice_index_or ps e d).number ≡ e)

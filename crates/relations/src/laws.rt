@@ -1,0 +1,25 @@
+//! Laws of forced pairs. These functions do nothing: callers have their contracts.
+
+ghost use Rattle.recorder.specs.Execution.{Execution};
+ghost use Rattle.relations.specs.Forced.{Forced};
+ghost use Rattle.relations.specs.Relation.{Table, Related};
+ghost use Rattle.relations.specs.Laws.{EveryOrderRespects, EveryRespectingIsOrder, OrderedIsAcyclic, LeastOrdersAgree, CyclesAgree};
+
+/// The forced pairs are what all memory orders of TSO have in common, and where no read overlooks
+/// a store of its own core they are all that TSO asks.
+pub fn forced_is_exact()
+    ensures respects { (x : Execution) → EveryOrderRespects x }
+    ensures enough { (x : Execution) → EveryRespectingIsOrder x }
+{}
+
+/// Where an order has the pairs in order, there is no cycle.
+pub fn ordered_is_acyclic()
+    ensures forced { (x : Execution) → OrderedIsAcyclic (Forced x) }
+    ensures related { (t : Table) → OrderedIsAcyclic (Related t) }
+{}
+
+/// A table with the forced pairs has the least order and the cycles of the forced pairs.
+pub fn relation_is_forced()
+    ensures least { (t : Table) (x : Execution) → LeastOrdersAgree (Related t) (Forced x) }
+    ensures cycles { (t : Table) (x : Execution) → CyclesAgree (Related t) (Forced x) }
+{}
