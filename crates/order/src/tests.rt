@@ -1,14 +1,27 @@
 //! Orders of small recordings, by hand.
 
-use crate::check;
+use crate::{build, check};
 use litmus::EventId;
 use recorder::{Event, Recording};
+use relations::Relation;
 use std::alloc::Global;
 use std::test::Fail;
 
 const X1: Event = Event::S { a: 0, w: 1 };
 
 const Y1: Event = Event::S { a: 1, w: 1 };
+
+const X0: Event = Event::L {
+    a: 0,
+    r: 0,
+    s: None,
+};
+
+const Y0: Event = Event::L {
+    a: 1,
+    r: 0,
+    s: None,
+};
 
 fn recorded(alloc: Global, cores: &[&[Event]], writes: &[&[EventId]]) -> Result<Recording, Fail> {
     let mut events = Vec::new(alloc);
@@ -22,26 +35,66 @@ fn recorded(alloc: Global, cores: &[&[Event]], writes: &[&[EventId]]) -> Result<
     Ok(Recording::from_parts(events, lists).ok().ok_or("refused")?)
 }
 
+fn least(
+    alloc: Global,
+    cores: &[&[Event]],
+    writes: &[&[EventId]],
+) -> Result<Option<Vec<EventId>>, Fail> {
+    let recording = recorded(alloc, cores, writes)?;
+    let relation = Relation::of(alloc, &recording).ok().ok_or("out of memory")?;
+    Ok(build(alloc, &relation).ok().ok_or("out of memory")?)
+}
+
 #[test]
-fn memory_orders_are_those_that_the_rules_allow(rt: HostRuntime) -> Result<(), Fail> {
+fn the_least_order_is_the_first_of_the_dictionary(rt: HostRuntime) -> Result<(), Fail> {
     let alloc = rt.alloc();
-    let y0 = Event::L {
-        a: 1,
-        r: 0,
-        s: None,
+    let own_x1 = Event::L {
+        a: 0,
+        r: 1,
+        s: Some(0),
     };
-    let x0 = Event::L {
+    let x2 = Event::S { a: 0, w: 2 };
+    let bypassing = least(alloc, &[&[X1, own_x1, Y0], &[Y1, x2]], &[&[4, 0], &[3]])?;
+    let store_buffering = least(alloc, &[&[X1, Y0], &[Y1, X0]], &[&[0], &[2]])?;
+    let nothing = least(alloc, &[], &[])?;
+    assert_eq!(rt; bypassing.as_deref(), Some(&[1, 2, 3, 4, 0][..]));
+    assert_eq!(rt; store_buffering.as_deref(), Some(&[1, 2, 3, 0][..]));
+    assert_eq!(rt; nothing.as_deref(), Some(&[][..]));
+    Ok(())
+}
+
+#[test]
+fn a_cycle_has_no_order(rt: HostRuntime) -> Result<(), Fail> {
+    let alloc = rt.alloc();
+    let swap_of_0 = Event::R {
         a: 0,
         r: 0,
         s: None,
+        w: 1,
     };
+    let swap_of_itself = Event::R {
+        a: 0,
+        r: 1,
+        s: Some(0),
+        w: 1,
+    };
+    let twin_swaps = least(alloc, &[&[swap_of_0], &[swap_of_0]], &[&[0, 1]])?;
+    let self_source = least(alloc, &[&[swap_of_itself]], &[&[0]])?;
+    assert!(rt; twin_swaps.is_none());
+    assert!(rt; self_source.is_none());
+    Ok(())
+}
+
+#[test]
+fn memory_orders_are_those_that_the_rules_allow(rt: HostRuntime) -> Result<(), Fail> {
+    let alloc = rt.alloc();
     let read_y1 = Event::L {
         a: 1,
         r: 1,
         s: Some(1),
     };
-    let store_buffering = recorded(alloc, &[&[X1, y0], &[Y1, x0]], &[&[0], &[2]])?;
-    let message_passing = recorded(alloc, &[&[X1, Y1], &[read_y1, x0]], &[&[0], &[1]])?;
+    let store_buffering = recorded(alloc, &[&[X1, Y0], &[Y1, X0]], &[&[0], &[2]])?;
+    let message_passing = recorded(alloc, &[&[X1, Y1], &[read_y1, X0]], &[&[0], &[1]])?;
     let rows: [(&str, &Recording, &[EventId], bool); 8] = [
         ("one store last", &store_buffering, &[1, 2, 3, 0], true),
         (

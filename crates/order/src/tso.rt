@@ -2,6 +2,7 @@
 
 ghost use Rattle.std.specs.Prelude.{◌↔◌, IsTrue};
 ghost use Rattle.recorder.specs.Tso.{IsTsoOrder};
+ghost use Rattle.relations.specs.Verdict.{RespectsForced, HasNoOverlook};
 
 use crate::kept::keeps_order;
 use crate::total::is_total;
@@ -9,14 +10,19 @@ use crate::values::gives_values;
 use crate::written::keeps_writes;
 use litmus::EventId;
 use recorder::Recording;
+use relations::forced_is_exact;
 
 /// Whether a list of any numbers is a memory order that TSO allows for the recording: each event
 /// stands once, kept pairs and write lists stand in order, and each read has the last visible write
 /// as its source (Nagarajan, Sorin, Hill and Wood, A Primer on Memory Consistency and Cache
 /// Coherence, second edition, chapter 4).
 pub fn check(recording: &Recording, order: &[EventId]) -> bool
-    ensures { IsTrue result ↔ IsTsoOrder recording.now order.now }
+    ensures order { IsTrue result ↔ IsTsoOrder recording.now order.now }
+    ensures respects { IsTrue result → RespectsForced recording.now order.now }
+    ensures no_overlook { IsTrue result → HasNoOverlook recording.now }
 {
+    recording.sound();
+    forced_is_exact();
     if !is_total(recording, order) || !keeps_order(recording, order) {
         return false;
     }
