@@ -5,7 +5,7 @@ use Rattle.clap.specs.declared.error.Error.{Error}
 use Rattle.clap.specs.declared.error.kind.ErrorKind.TheVariants as kinds
 use Rattle.tsotest.specs.declared.options.Options.{Options}
 use Rattle.tsotest.specs.declared.options.OptionFault.{OptionFault}
-use Rattle.tsotest.specs.declared.options.OptionFault.TheVariants.{Clap, Buffer, NoValue, OutOfMemory}
+use Rattle.tsotest.specs.declared.options.OptionFault.TheVariants.{Clap, Limit, Buffer, NoValue, OutOfMemory}
 use Rattle.tsotest.specs.Commands.{program_app}
 use Rattle.tsotest.specs.Options.{IsFault, IsSaid}
 
@@ -18,6 +18,7 @@ not_passed false passes fails = refl
 pub said_fault : (e : Error) (f : OptionFault) (words : List Text) → (takes program_app words ≡ true → kind_of e ≡ kinds.OutOfMemory) →
     IsSaid e f → IsFault f words
 said_fault e (Clap x) words passes said = not_passed (takes program_app words) passes said.1
+said_fault e Limit words passes said = absurd said
 said_fault e Buffer words passes said = absurd said
 said_fault e (NoValue name) words passes said = absurd said
 said_fault e OutOfMemory words passes said = tt

@@ -1,3 +1,5 @@
 pub mod Faults
 pub mod Unread
 pub mod Printed
+pub mod Ordered
+pub mod Threaded

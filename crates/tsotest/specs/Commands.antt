@@ -37,6 +37,18 @@ file_rule = record (new_rule (codes "FILE")) { required = true; action = Some Se
 abbrev pub judge_app : App
 judge_app = with_rule (new_app (codes "judge")) file_rule
 
+-- --limit N, a number of at most 64 bits
+abbrev pub limit_rule : Rule
+limit_rule = record (new_rule (codes "limit")) {
+  long = Some (codes "limit");
+  value_names = 1;
+  parser = Some (Unsigned 0 18446744073709551615);
+}
+
+-- live PROGRAM [--buffer N] [--limit N]
+abbrev pub live_app : App
+live_app = with_rule (with_rule (with_rule (new_app (codes "live")) program_rule) buffer_rule) limit_rule
+
 -- the program without a command
 abbrev pub bare_app : App
 bare_app =
@@ -45,7 +57,7 @@ bare_app =
 
 -- the program with its commands; its name is not among the words
 abbrev pub program_app : App
-program_app = with_subcommand (with_subcommand bare_app run_app.top) judge_app.top
+program_app = with_subcommand (with_subcommand (with_subcommand bare_app run_app.top) judge_app.top) live_app.top
 
 -- the command that clap reads of the words, and the entries of its arguments and options
 abbrev pub command_of : List Text → Option (Text × List Row)

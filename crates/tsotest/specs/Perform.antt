@@ -9,14 +9,14 @@ use Rattle.tsotest.specs.declared.answer.Stop.{Stop}
 use Rattle.tsotest.specs.declared.answer.Stop.TheVariants.{Refused, Fault}
 use Rattle.tsotest.specs.declared.answer.TheConstants.{DONE, REFUSED}
 use Rattle.tsotest.specs.declared.options.Options.{Options}
-use Rattle.tsotest.specs.declared.options.Options.TheVariants.{Run, Judge}
+use Rattle.tsotest.specs.declared.options.Options.TheVariants.{Run, Judge, Live}
 use Rattle.tsotest.specs.declared.options.OptionFault.{OptionFault}
-use Rattle.tsotest.specs.declared.options.OptionFault.TheVariants.{Clap, Buffer, NoValue, OutOfMemory}
+use Rattle.tsotest.specs.declared.options.OptionFault.TheVariants.{Clap, Limit, Buffer, NoValue, OutOfMemory}
 use Rattle.tsotest.specs.Commands.{command_of}
 use Rattle.tsotest.specs.Judge.{IsJudged, IsJudgeStop}
 use Rattle.tsotest.specs.Options.{AreOptions, IsFault}
 use Rattle.tsotest.specs.Refusal.{IsStopOf, line_fault_name, step_fault_name}
-use Rattle.tsotest.specs.Run.{IsRun}
+use Rattle.tsotest.specs.Run.{IsRun, IsLive}
 
 -- a line of refusal is that of some program's text, or of some script
 abbrev pub IsRunStop : Stop → Type 0
@@ -24,26 +24,35 @@ IsRunStop (Refused line) = ((text : List ℕ) × IsStopOf line_fault_name (readi
     ⊎ ((program : Parts) × (text : List ℕ) × IsStopOf step_fault_name (steps_of program text) (Refused line))
 IsRunStop (Fault fault) = ⊤
 
+-- a line of refusal is that of some program's text
+abbrev pub IsLiveStop : Stop → Type 0
+IsLiveStop (Refused line) = (text : List ℕ) × IsStopOf line_fault_name (reading text) (Refused line)
+IsLiveStop (Fault fault) = ⊤
+
 -- what a command answers of its options
 abbrev pub IsAnswerTo : Options → Answer → Type 0
 IsAnswerTo (Run o) answer = IsRun o.buffer answer
 IsAnswerTo (Judge o) answer = (bytes : List ℕ) × IsJudged bytes answer
+IsAnswerTo (Live o) answer = IsLive o.buffer o.limit answer
 
 -- why a command with these options stops
 abbrev pub IsStopTo : Options → Stop → Type 0
 IsStopTo (Run o) stop = IsRunStop stop
 IsStopTo (Judge o) stop = IsJudgeStop stop
+IsStopTo (Live o) stop = IsLiveStop stop
 
 -- without options the answer is the help that was asked for
 abbrev pub IsHelp : OptionFault → Answer → Type 0
 IsHelp (Clap error) answer = answer.status ≡ DONE
+IsHelp Limit answer = ⊥
 IsHelp Buffer answer = ⊥
 IsHelp (NoValue name) answer = ⊥
 IsHelp OutOfMemory answer = ⊥
 
--- without options the one line of refusal is that of a buffer's capacity
+-- without options a line of refusal is that of a limit or of a buffer's capacity
 abbrev pub IsStopWithout : OptionFault → Stop → Type 0
 IsStopWithout (Clap error) (Refused line) = ⊥
+IsStopWithout Limit (Refused line) = string_bytes line ≡ codes "refused: K6" ++ 10 ∷ []
 IsStopWithout Buffer (Refused line) = string_bytes line ≡ codes "refused: K7" ++ 10 ∷ []
 IsStopWithout (NoValue name) (Refused line) = ⊥
 IsStopWithout OutOfMemory (Refused line) = ⊥

@@ -2,6 +2,7 @@
 use Rattle.std.specs.Prelude.{◌≡◌, ◌≤◌, ◌+◌, ◌⊎◌, ◌++◌, ◌∷◌, [], ℕ, List, Ok, length, codes}
 use Rattle.litmus.specs.Parts.{Parts}
 use Rattle.litmus.specs.Text.{reading}
+use Rattle.recorder.specs.Execution.{Execution}
 use Rattle.recorder.specs.Text.{recording_text}
 use Rattle.recorder.specs.Tso.{IsTsoOrder}
 use Rattle.machine.specs.declared.step.Step.{Step}
@@ -9,6 +10,8 @@ use Rattle.machine.specs.State.{State, IsComplete, opening, recorded}
 use Rattle.machine.specs.Step.{after, run, taken}
 use Rattle.machine.specs.Script.{steps_of}
 use Rattle.live.specs.Trace.{Trace}
+use Rattle.judge.specs.Decision.{IsOrderedVerdict}
+use Rattle.tsotest.specs.Verdict.{order_line}
 use Rattle.tsotest.specs.declared.answer.Answer.{Answer}
 use Rattle.tsotest.specs.declared.answer.TheConstants.{DONE, UNFINISHED}
 
@@ -16,11 +19,17 @@ use Rattle.tsotest.specs.declared.answer.TheConstants.{DONE, UNFINISHED}
 abbrev pub state_after : Parts → ℕ → List Step → State
 state_after p capacity script = run p.cores capacity (opening p.cores (length p.names)) script
 
--- the recording of a run that is complete, which TSO allows, or that the run is unfinished
+-- a recording and the least order that TSO allows for it
+pub record IsOrderedAnswer (x : Execution) (answer : Answer) : Type 0 where
+  pub order : List ℕ
+  pub least : IsOrderedVerdict x order
+  pub status : answer.status ≡ DONE
+  pub text : answer.text.items ≡ recording_text x ++ order_line order
+
+-- the recording of a run that is complete and its least order, or that the run is unfinished
 pub record IsRunAnswer (p : Parts) (s : State) (answer : Answer) : Type 0 where
   pub status : (answer.status ≡ DONE) ⊎ (answer.status ≡ UNFINISHED)
-  pub done : IsComplete p.cores s
-      → (answer.status ≡ DONE) × (answer.text.items ≡ recording_text (recorded p.cores s))
+  pub done : IsComplete p.cores s → IsOrderedAnswer (recorded p.cores s) answer
   pub unfinished : (IsComplete p.cores s → ⊥)
       → (answer.status ≡ UNFINISHED) × (answer.text.items ≡ codes "unfinished" ++ 10 ∷ [])
   pub tso : answer.status ≡ DONE → IsTsoOrder (recorded p.cores s) s.performed
@@ -34,6 +43,15 @@ pub record IsRun (capacity : ℕ) (answer : Answer) : Type 0 where
   pub script : List Step
   pub listed : steps_of program script_text ≡ Ok script
   pub answered : IsRunAnswer program (state_after program capacity script) answer
+
+-- the answer of some program that was read, and of the steps that threads chose: they come to an end, or are as many as may be
+pub record IsLive (capacity limit : ℕ) (answer : Answer) : Type 0 where
+  pub program_text : List ℕ
+  pub program : Parts
+  pub read : reading program_text ≡ Ok program
+  pub steps : List Step
+  pub ended : IsComplete program.cores (state_after program capacity steps) ⊎ (length steps ≡ limit)
+  pub answered : IsRunAnswer program (state_after program capacity steps) answer
 
 -- the machine's state after one step more
 abbrev pub state_with : Trace → Step → State

@@ -5,13 +5,13 @@ use crate::fault::CommandFault;
 use litmus::OutOfMemory;
 use std::alloc::{AllocError, AllocFailed, Global};
 
-/// The status of a command that printed what it was asked for.
+/// The status of an order that TSO allows, and of help.
 pub const DONE: u8 = 0;
 /// The status of a recording that TSO does not allow.
 pub const VIOLATION: u8 = 2;
 /// The status of a refused text or number.
 pub const REFUSED: u8 = 3;
-/// The status of a run that left an operation or a buffered store, and of a recording without a verdict.
+/// The status of a run that left an operation or a buffered store.
 pub const UNFINISHED: u8 = 4;
 
 /// What a command prints on standard output, and its exit status.

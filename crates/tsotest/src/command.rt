@@ -2,9 +2,9 @@
 ghost use Rattle.std.specs.Prelude.{◌≡◌, IfOk, false};
 ghost use Rattle.clap.specs.Words.{app_of, rule_of};
 ghost use Rattle.clap.specs.declared.builder.command.Command.TheViews.{out-Command as fields_of};
-ghost use Rattle.tsotest.specs.Commands.{bare_app, buffer_rule, file_rule, judge_app, program_app, program_rule, run_app, steps_rule};
+ghost use Rattle.tsotest.specs.Commands.{bare_app, buffer_rule, file_rule, judge_app, limit_rule, live_app, program_app, program_rule, run_app, steps_rule};
 
-use crate::options::DEFAULT_BUFFER;
+use crate::options::{DEFAULT_BUFFER, DEFAULT_LIMIT};
 use clap::{Arg, ArgAction, Command};
 use litmus::{MAX_CAPACITY, MAX_STEPS};
 use std::alloc::{AllocError, Global};
@@ -12,28 +12,30 @@ use std::alloc::{AllocError, Global};
 const ABOUT: &str = "Runs multiprocessor programs under total store order (TSO)";
 
 const STATUSES: &str = "Exit status:
-  0  the command printed its answer
+  0  TSO allows the recording
   1  a fault of the command line, a file or memory, as standard error says
   2  the recording is a violation of TSO
   3  a text or a number was refused, as the line `refused: ..` says
-  4  the run is unfinished, or the recording has no verdict
+  4  the run is unfinished
 
 Examples:
   tsotest judge recording.json
   tsotest run store_buffering.litmus --steps store_buffering.steps";
 
-const RUN_ABOUT: &str = "Runs a litmus program by a script of steps and prints its recording";
+const RUN_ABOUT: &str = "Runs a litmus program by a script of steps and judges its recording";
 
-const RUN_MORE: &str = "Runs a litmus program by a script of steps and prints its recording.
+const RUN_MORE: &str =
+    "Runs a litmus program by a script of steps, prints its recording and judges it.
 
-Each core has a store buffer in front of one memory. A script has a line for each step:
-`exec C` executes the next operation of core C, and `drain C` moves the oldest store of
-its buffer to memory. A step that is blocked is skipped. The recording is one line of
-JSON: what each operation read and wrote, and for each address its writes in the order
-in which they reached memory.";
+Each core has a store buffer and a MOESI cache in front of one memory. A script has a line
+for each step: `exec C` executes the next operation of core C, and `drain C` writes the
+oldest store of its buffer to its cache. `gets C NAME` gets core C a line of an address that
+it may read, `getm C NAME` the only line, which it may write, and `put C NAME` gives it up.
+A step that is blocked is skipped. The recording is one line of JSON: what each operation
+read and wrote, and for each address its writes in memory order.";
 
 const RUN_STATUSES: &str = "Exit status:
-  0  the command printed its answer
+  0  the run is complete, and TSO allows its recording
   1  a fault of the command line, a file or memory, as standard error says
   3  a text or a number was refused, as the line `refused: ..` says
   4  the run is unfinished: an operation or a buffered store is left
@@ -41,29 +43,49 @@ const RUN_STATUSES: &str = "Exit status:
 Example:
   tsotest run store_buffering.litmus --steps store_buffering.steps";
 
-const JUDGE_ABOUT: &str = "Looks for a read that overlooks a store of its own core";
+const JUDGE_ABOUT: &str =
+    "Judges a recording: the least order that TSO allows, or why there is none";
 
-const JUDGE_MORE: &str = "Looks in a recording for a read that overlooks a store of its own core.
+const JUDGE_MORE: &str = "Judges a recording.
 
-A store is overlooked by a read of its address that comes after it on the same core and
-gives an older value. TSO allows no such read: a load takes the youngest store of its
-address that waits in the buffer of its core. The least read that overlooks a store is
-named, with the least store that it overlooks.";
+`ordered:` and the numbers of the events are the first memory order, in dictionary order,
+that TSO allows for the recording. `overlook: load L store S` names the least read that
+comes after a store of its address on the same core and gives an older value, with the
+least such store. `cyclic` says that the orders that TSO forces on pairs of events form a
+cycle. In the last two cases TSO allows no order.";
 
 const JUDGE_STATUSES: &str = "Exit status:
+  0  TSO allows the recording
   1  a fault of the command line, a file or memory, as standard error says
-  2  a read overlooks a store: the recording is a violation of TSO
+  2  the recording is a violation of TSO
   3  the recording was refused, as the line `refused: ..` says
-  4  no read overlooks a store: the recording has no verdict
 
 Example:
   tsotest judge recording.json";
+
+const LIVE_ABOUT: &str = "Runs a litmus program by threads and judges its recording";
+
+const LIVE_MORE: &str = "Runs a litmus program by threads, prints its recording and judges it.
+
+The machine is that of `run`. A thread for each core, one for the store buffers and one for
+the caches take its steps under one lock, until the program is complete or the limit of
+steps is reached. Two runs may differ.";
+
+const LIVE_STATUSES: &str = "Exit status:
+  0  the run is complete, and TSO allows its recording
+  1  a fault of the command line, a file, memory or a thread, as standard error says
+  3  a text or a number was refused, as the line `refused: ..` says
+  4  the run is unfinished: the limit of steps was reached before its end
+
+Example:
+  tsotest live store_buffering.litmus";
 
 /// Texts of `--help` that name limits.
 #[derive(Drop)]
 pub struct Texts {
     steps: String,
     buffer: String,
+    limit: String,
 }
 
 impl Texts {
@@ -75,6 +97,9 @@ impl Texts {
             )?,
             buffer: format!(in alloc;
                 "Stores that a buffer holds, from 1 to {MAX_CAPACITY} [default: {DEFAULT_BUFFER}]"
+            )?,
+            limit: format!(in alloc;
+                "Steps that may be taken, from 1 to {MAX_STEPS} [default: {DEFAULT_LIMIT}]"
             )?,
         })
     }
@@ -151,6 +176,33 @@ fn judge<'a>(alloc: Global) -> Result<Command<'a>, AllocError>
         .arg(file)
 }
 
+fn limit_arg<'a>(alloc: Global, texts: &'a Texts) -> Arg<'a>
+    ensures rule { rule_of result ≡ limit_rule }
+    ensures local { result.global ≡ false }
+{
+    Arg::new(alloc, "limit")
+        .long("limit")
+        .value_name("N")
+        .value_parser(clap::value_parser!(u64))
+        .help(texts.limit.as_str())
+}
+
+fn live<'a>(alloc: Global, texts: &'a Texts) -> Result<Command<'a>, AllocError>
+    ensures app { IfOk result (λ c. app_of c ≡ live_app) }
+    ensures local { IfOk result (λ c. (fields_of c).has_globals ≡ false) }
+{
+    let program = program_arg(alloc);
+    let buffer = buffer_arg(alloc, texts);
+    let limit = limit_arg(alloc, texts);
+    Command::new(alloc, "live")
+        .about(LIVE_ABOUT)
+        .long_about(LIVE_MORE)
+        .after_help(LIVE_STATUSES)
+        .arg(program)?
+        .arg(buffer)?
+        .arg(limit)
+}
+
 fn bare<'a>(alloc: Global) -> Result<Command<'a>, AllocError>
     ensures { IfOk result (λ c. app_of c ≡ bare_app) }
 {
@@ -170,5 +222,9 @@ pub fn command<'a>(alloc: Global, texts: &'a Texts) -> Result<Command<'a>, Alloc
 {
     let run = run(alloc, texts)?;
     let judge = judge(alloc)?;
-    bare(alloc)?.subcommand(run)?.subcommand(judge)
+    let live = live(alloc, texts)?;
+    bare(alloc)?
+        .subcommand(run)?
+        .subcommand(judge)?
+        .subcommand(live)
 }

@@ -26,6 +26,12 @@ pub enum CommandFault {
     ReadFailed,
     #[error("tsotest: write failed")]
     WriteFailed,
+    /// A thread was not started.
+    #[error("tsotest: no thread")]
+    NoThread,
+    /// Threads left no run of the program.
+    #[error("tsotest: stranger")]
+    Stranger,
     #[error("tsotest: out of memory")]
     OutOfMemory,
 }

@@ -4,8 +4,9 @@
 mod answer;
 mod command;
 mod disk;
+mod driven;
 mod fault;
-mod judge;
+mod judging;
 mod options;
 mod outcome;
 mod perform;
@@ -15,6 +16,7 @@ mod refusal;
 mod run;
 #[cfg(test)]
 mod tests;
+mod verdict;
 mod words;
 
 use disk::Disk;
@@ -22,6 +24,8 @@ use fault::CommandFault;
 use perform::perform;
 use std::process::ExitCode;
 use std::rt::Env;
+use std::sync::Wait;
+use std::thread::Threads;
 use std::{env, io};
 
 /// The words of the command line behind the program's name.
@@ -34,15 +38,16 @@ fn words_of(rt: &(impl Env + AllocGlobal)) -> Result<Vec<String>, CommandFault> 
     Ok(words)
 }
 
-fn status_of(rt: &HostRuntime) -> Result<u8, CommandFault> {
+/// The status of the command; its threads are started by `threads`.
+fn status_of<R: Threads + Wait + Sync>(rt: &HostRuntime, threads: &R) -> Result<u8, CommandFault> {
     let words = words_of(rt)?;
     let mut place = Disk { rt };
     let mut out = io::writer(rt);
-    perform(rt.alloc(), words.as_slice(), &mut place, &mut out)
+    perform(threads, rt.alloc(), words.as_slice(), &mut place, &mut out)
 }
 
 fn main(rt: HostRuntime) -> ExitCode {
-    match status_of(&rt) {
+    match status_of(&rt, &rt) {
         Ok(status) => ExitCode::from(status),
         Err(fault) => {
             let _ = match fault {

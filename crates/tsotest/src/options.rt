@@ -1,21 +1,25 @@
 //! The options, from what `clap` reads of the words.
 ghost use Rattle.std.specs.Prelude.{◌≡◌, Some, None, IfErr, IfOk, IfSome, option_map};
 ghost use Rattle.clap.specs.Words.{first_of, found_of, one_of, rows_of};
-ghost use Rattle.tsotest.specs.Options.{AreJudgeOptions, AreRunOptions, IsJudgeFault, IsRunFault, number_or};
+ghost use Rattle.tsotest.specs.Options.{AreJudgeOptions, AreLiveOptions, AreRunOptions, IsCapacity, IsCapacityFault, IsJudgeFault, IsLiveFault, IsRunFault, number_or};
 
 use clap::ArgMatches;
 use clap::error::ErrorKind;
-use litmus::MAX_CAPACITY;
+use litmus::{MAX_CAPACITY, MAX_STEPS};
 use std::alloc::{AllocError, AllocFailed, Global};
 
 /// How many stores a buffer holds where no option says it.
 pub const DEFAULT_BUFFER: usize = 8;
+
+/// How many steps threads may take where no option says it.
+pub const DEFAULT_LIMIT: usize = 100_000;
 
 /// What the command line asks for.
 #[derive(Debug, Drop)]
 pub enum Options {
     Run(RunOptions),
     Judge(JudgeOptions),
+    Live(LiveOptions),
 }
 
 /// What `run` is asked: the names of the program and of the script, and the capacity of each buffer.
@@ -32,11 +36,22 @@ pub struct JudgeOptions {
     pub file: String,
 }
 
+/// What `live` is asked: the name of the program, the capacity of each buffer, and how many steps
+/// may be taken.
+#[derive(Debug, Drop)]
+pub struct LiveOptions {
+    pub program: String,
+    pub buffer: usize,
+    pub limit: usize,
+}
+
 /// Why the words gave no options.
 #[derive(Debug, Drop)]
 pub enum OptionFault {
     /// What `clap` says: a fault of the command line, or the help that was asked for.
     Clap(clap::Error),
+    /// The limit of steps is not from 1 to `MAX_STEPS`.
+    Limit,
     /// The buffer's capacity is not from 1 to `MAX_CAPACITY`.
     Buffer,
     /// `clap` lacks a value that its command requires.
@@ -98,6 +113,20 @@ fn number_or(matches: &ArgMatches<'_>, id: &str, default: u64) -> Option<u64>
     }
 }
 
+/// The capacity of a buffer that the entries ask for, or its default, within its limits.
+fn capacity(matches: &ArgMatches<'_>) -> Result<usize, OptionFault>
+    ensures ok { IfOk result (λ n. IsCapacity n (rows_of (found_of matches.now))) }
+    ensures err { IfErr result (λ fault. IsCapacityFault fault (rows_of (found_of matches.now))) }
+{
+    let Some(buffer) = number_or(matches, "buffer", DEFAULT_BUFFER as u64) else {
+        return Err(OptionFault::NoValue("--buffer"));
+    };
+    if buffer < 1 || (MAX_CAPACITY as u64) < buffer {
+        return Err(OptionFault::Buffer);
+    }
+    Ok(buffer as usize)
+}
+
 /// The options of `run`: each is `clap`'s entry, else its default, and a capacity outside its limits
 /// is refused.
 pub fn run_options(alloc: Global, matches: &ArgMatches<'_>) -> Result<RunOptions, OptionFault>
@@ -110,16 +139,11 @@ pub fn run_options(alloc: Global, matches: &ArgMatches<'_>) -> Result<RunOptions
     let Some(steps) = value(matches, "steps") else {
         return Err(OptionFault::NoValue("--steps"));
     };
-    let Some(buffer) = number_or(matches, "buffer", DEFAULT_BUFFER as u64) else {
-        return Err(OptionFault::NoValue("--buffer"));
-    };
-    if buffer < 1 || (MAX_CAPACITY as u64) < buffer {
-        return Err(OptionFault::Buffer);
-    }
+    let buffer = capacity(matches)?;
     Ok(RunOptions {
         program: String::from_str(alloc, program)?,
         steps: String::from_str(alloc, steps)?,
-        buffer: buffer as usize,
+        buffer,
     })
 }
 
@@ -133,5 +157,28 @@ pub fn judge_options(alloc: Global, matches: &ArgMatches<'_>) -> Result<JudgeOpt
     };
     Ok(JudgeOptions {
         file: String::from_str(alloc, file)?,
+    })
+}
+
+/// The options of `live`: each is `clap`'s entry, else its default. A limit outside its own limits is
+/// refused before a capacity outside its limits.
+pub fn live_options(alloc: Global, matches: &ArgMatches<'_>) -> Result<LiveOptions, OptionFault>
+    ensures ok { IfOk result (λ o. AreLiveOptions o (rows_of (found_of matches.now))) }
+    ensures err { IfErr result (λ fault. IsLiveFault fault (rows_of (found_of matches.now))) }
+{
+    let Some(program) = value(matches, "PROGRAM") else {
+        return Err(OptionFault::NoValue("PROGRAM"));
+    };
+    let Some(limit) = number_or(matches, "limit", DEFAULT_LIMIT as u64) else {
+        return Err(OptionFault::NoValue("--limit"));
+    };
+    if limit < 1 || (MAX_STEPS as u64) < limit {
+        return Err(OptionFault::Limit);
+    }
+    let buffer = capacity(matches)?;
+    Ok(LiveOptions {
+        program: String::from_str(alloc, program)?,
+        buffer,
+        limit: limit as usize,
     })
 }

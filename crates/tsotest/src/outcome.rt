@@ -2,7 +2,8 @@
 ghost use Rattle.std.specs.Prelude.{◌≡◌, ◌<◌, IfOk, length};
 ghost use Rattle.tsotest.specs.Run.{GoesOn, IsRunAnswer, state_after};
 
-use crate::answer::{Answer, DONE, UNFINISHED};
+use crate::answer::{Answer, UNFINISHED};
+use crate::verdict::verdict_behind;
 use litmus::{OutOfMemory, Program};
 use live::Traced;
 use machine::{Fault, Machine, Step};
@@ -38,7 +39,21 @@ fn stepped(
     Ok(traced.into_machine())
 }
 
-/// Runs a program by a script, and answers with the line of its recording, or that it is unfinished.
+/// The line of the recording of a complete machine and the verdict on it, or that it is unfinished.
+pub fn finished(alloc: Global, machine: Machine) -> Result<Answer, OutOfMemory>
+    ensures { IfOk result (IsRunAnswer machine.program machine.state) }
+{
+    match machine.finish() {
+        Ok(recording) => {
+            let text = write_recording(alloc, &recording)?;
+            verdict_behind(alloc, text, &recording)
+        }
+        Err(_) => Ok(Answer::of(alloc, UNFINISHED, "unfinished\n")?),
+    }
+}
+
+/// Runs a program by a script, and answers with the line of its recording and the verdict on it, or
+/// that it is unfinished.
 pub fn outcome(
     alloc: Global,
     program: Program,
@@ -48,11 +63,5 @@ pub fn outcome(
     ensures { IfOk result (IsRunAnswer program (state_after program capacity steps.now)) }
 {
     let machine = stepped(alloc, program, capacity, steps)?;
-    match machine.finish() {
-        Ok(recording) => {
-            let text = write_recording(alloc, &recording)?;
-            Ok(Answer { status: DONE, text })
-        }
-        Err(_) => Ok(Answer::of(alloc, UNFINISHED, "unfinished\n")?),
-    }
+    finished(alloc, machine)
 }

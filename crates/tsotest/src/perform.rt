@@ -5,8 +5,9 @@ ghost use Rattle.tsotest.specs.declared.answer.Answer.{Answer};
 ghost use Rattle.tsotest.specs.Perform.{IsAnswered, IsHelp, IsPrinted, IsStopWithout, IsStopped};
 
 use crate::answer::{Answer, DONE, REFUSED, Stop};
+use crate::driven::driven;
 use crate::fault::CommandFault;
-use crate::judge::judge;
+use crate::judging::judge;
 use crate::options::{OptionFault, Options};
 use crate::place::Place;
 use crate::run::ran;
@@ -14,6 +15,8 @@ use crate::words::options;
 use std::alloc::Global;
 use std::io;
 use std::io::Write;
+use std::sync::Wait;
+use std::thread::Threads;
 
 /// The answer where there are no options: the help that was asked for, a refusal or a fault.
 fn without_options(alloc: Global, fault: OptionFault) -> Result<Answer, Stop>
@@ -31,6 +34,7 @@ fn without_options(alloc: Global, fault: OptionFault) -> Result<Answer, Stop>
                 text: text.into_bytes(),
             })
         }
+        OptionFault::Limit => Err(Stop::Refused(String::from_str(alloc, "refused: K6\n")?)),
         OptionFault::Buffer => Err(Stop::Refused(String::from_str(alloc, "refused: K7\n")?)),
         OptionFault::NoValue(name) => Err(Stop::Fault(CommandFault::NoValue(name))),
         OptionFault::OutOfMemory => Err(Stop::Fault(CommandFault::OutOfMemory)),
@@ -38,26 +42,33 @@ fn without_options(alloc: Global, fault: OptionFault) -> Result<Answer, Stop>
 }
 
 /// What the command answers that the words ask for, or the help.
-fn answered<P: Place>(alloc: Global, words: &[String], place: &mut P) -> Result<Answer, Stop>
+fn answered<R: Threads + Wait + Sync, P: Place>(
+    rt: &R,
+    alloc: Global,
+    words: &[String],
+    place: &mut P,
+) -> Result<Answer, Stop>
     ensures ok { IfOk result (IsAnswered (map string_bytes words.now)) }
     ensures err { IfErr result (IsStopped (map string_bytes words.now)) }
 {
     match options(alloc, words) {
         Ok(Options::Run(run)) => ran(alloc, &run, place),
         Ok(Options::Judge(options)) => judge(alloc, &options, place),
+        Ok(Options::Live(live)) => driven(rt, alloc, &live, place),
         Err(fault) => without_options(alloc, fault),
     }
 }
 
 /// The answer, or the line of a refusal.
-fn whole_answer<P: Place>(
+fn whole_answer<R: Threads + Wait + Sync, P: Place>(
+    rt: &R,
     alloc: Global,
     words: &[String],
     place: &mut P,
 ) -> Result<Answer, CommandFault>
     ensures { IfOk result (IsPrinted (map string_bytes words.now)) }
 {
-    match answered(alloc, words, place) {
+    match answered(rt, alloc, words, place) {
         Ok(answer) => Ok(answer),
         Err(Stop::Refused(line)) => Ok(Answer {
             status: REFUSED,
@@ -76,7 +87,8 @@ fn put<W: Write>(out: &mut W, text: &[u8]) -> io::Result<()>
 
 /// Does what the words ask, writes what the command prints and answers its exit status. The words
 /// come without the program's name, and nothing is written before the whole answer stands.
-pub fn perform<P: Place, W: Write>(
+pub fn perform<R: Threads + Wait + Sync, P: Place, W: Write>(
+    rt: &R,
     alloc: Global,
     words: &[String],
     place: &mut P,
@@ -87,7 +99,7 @@ pub fn perform<P: Place, W: Write>(
     // Only a write that fails leaves a part of an answer.
     ensures unwritten { IfErr result (λ fault. fault ≢ CommandFault.WriteFailed → out.new ≡ out.old) }
 {
-    let answer = whole_answer(alloc, words, place)?;
+    let answer = whole_answer(rt, alloc, words, place)?;
     match put(out, answer.text.as_slice()) {
         Ok(()) => Ok(answer.status),
         Err(_) => Err(CommandFault::WriteFailed),

@@ -18,7 +18,7 @@ use machine::{Step, StepsError, parse_steps};
 use std::alloc::Global;
 
 /// The program of a text, or the line that is printed for its first line at fault.
-fn program_of(alloc: Global, text: &[u8]) -> Result<Program, Stop>
+pub fn program_of(alloc: Global, text: &[u8]) -> Result<Program, Stop>
     ensures ok { IfOk result (λ program. reading text.now ≡ Ok program) }
     ensures err { IfErr result (IsStopOf line_fault_name (reading text.now)) }
 {

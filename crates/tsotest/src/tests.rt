@@ -8,4 +8,5 @@ mod judging;
 mod recordings;
 mod runs;
 mod scripts;
+mod threads;
 mod traces;

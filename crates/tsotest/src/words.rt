@@ -5,7 +5,7 @@ ghost use Rattle.tsotest.specs.Options.{AreOptions, IsCommandFault, IsFault};
 ghost use Rattle.tsotest.specs.Commands.{command_of};
 
 use crate::command::{Texts, command};
-use crate::options::{OptionFault, Options, judge_options, run_options};
+use crate::options::{OptionFault, Options, judge_options, live_options, run_options};
 use clap::ArgMatches;
 use std::alloc::Global;
 
@@ -30,6 +30,10 @@ fn command_options(alloc: Global, matches: &ArgMatches<'_>) -> Result<Options, O
     if name == "judge" {
         let judge = judge_options(alloc, entries)?;
         return Ok(Options::Judge(judge));
+    }
+    if name == "live" {
+        let live = live_options(alloc, entries)?;
+        return Ok(Options::Live(live));
     }
     Err(OptionFault::NoValue("the command"))
 }

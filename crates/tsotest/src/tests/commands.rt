@@ -35,7 +35,11 @@ fn loads(alloc: Global, addresses: usize) -> Result<String, AllocError> {
 
 pub const STORE_BUFFERING: &str = "core\nst x 1\nld y\ncore\nst y 1\nld x\n";
 
-pub const LOADS_FIRST: &str = "exec 0\nexec 1\nexec 0\nexec 1\ndrain 0\ndrain 1\n";
+pub const LOADS_FIRST: &str = "exec 0\nexec 1\ngets 0 y\nexec 0\ngets 1 x\nexec 1\n\
+    getm 0 x\ndrain 0\ngetm 1 y\ndrain 1\n";
+
+/// A script that asks for no line.
+const WITHOUT_LINES: &str = "exec 0\nexec 1\nexec 0\nexec 1\ndrain 0\ndrain 1\n";
 
 pub const BOTH_MISS: &str =
     "{\"cores\":[[{\"a\":0,\"k\":\"S\",\"w\":1},{\"a\":1,\"k\":\"L\",\"r\":0,\"s\":null}],\
@@ -55,22 +59,31 @@ const TWO_STORES: &str =
     \"version\":1,\"writes\":[[0,1]]}\n";
 
 /// Programs and scripts by their names.
-const TEXTS: [(&str, &str); 21] = [
+const TEXTS: [(&str, &str); 24] = [
     ("sb", STORE_BUFFERING),
     ("loads_first", LOADS_FIRST),
+    ("without_lines", WITHOUT_LINES),
     ("empty", ""),
     ("adds", "core\nadd x 4294967295\nadd x 2\n"),
-    ("twice", "exec 0\nexec 0\n"),
+    ("twice", "getm 0 x\nexec 0\nexec 0\n"),
     ("fenced", "core\nst x 1\nfence\nld x\n"),
-    ("fence_waits", "exec 0\nexec 0\ndrain 0\nexec 0\nexec 0\n"),
+    (
+        "fence_waits",
+        "exec 0\nexec 0\ngetm 0 x\ndrain 0\nexec 0\nexec 0\n",
+    ),
     ("stores", "core\nst x 1\nst x 2\n"),
-    ("store_ahead", "exec 0\nexec 0\ndrain 0\ndrain 0\n"),
+    (
+        "store_ahead",
+        "exec 0\nexec 0\ngetm 0 x\ndrain 0\ndrain 0\n",
+    ),
     ("headless", "st x 1\n"),
     ("padded", "core\nst x 01\n"),
     ("large", "core\nst x 4294967296\n"),
     ("unended", "core\nld x"),
     ("no_step", "exec 0\nexit 0\n"),
     ("no_core", "exec 0\ndrain 1\nexec 2\n"),
+    ("no_name", "exec 0\ngets 0 z\n"),
+    ("neither", "getm 2 z\n"),
     ("far_core", "exec 99999999999999999999\n"),
     ("unended_step", "exec 0\nexec 0"),
     ("marked", "\u{feff}core\n"),
@@ -79,39 +92,92 @@ const TEXTS: [(&str, &str); 21] = [
     ("nul_step", "exec 0\0\n"),
 ];
 
-/// Command lines, the status of each, and its output.
-const ROWS: [(&str, u8, &str); 24] = [
-    ("run sb --steps loads_first", 0, BOTH_MISS),
-    ("run empty --steps empty", 0, EMPTY),
-    ("run --steps=empty empty", 0, EMPTY),
-    ("run adds --steps twice", 0, SUM_WRAPS),
-    ("run fenced --steps fence_waits", 0, FENCED),
-    ("run stores --steps store_ahead", 0, TWO_STORES),
-    ("run stores --steps store_ahead --buffer 2", 0, TWO_STORES),
+/// Command lines, the status of each, and what it prints: a recording and the verdict on it, or one line.
+const ROWS: [(&str, u8, &str, &str); 35] = [
+    (
+        "run sb --steps loads_first",
+        0,
+        BOTH_MISS,
+        "ordered: 1 2 3 0\n",
+    ),
+    ("run empty --steps empty", 0, EMPTY, "ordered:\n"),
+    ("run --steps=empty empty", 0, EMPTY, "ordered:\n"),
+    ("run adds --steps twice", 0, SUM_WRAPS, "ordered: 0 1\n"),
+    (
+        "run fenced --steps fence_waits",
+        0,
+        FENCED,
+        "ordered: 0 1 2\n",
+    ),
+    (
+        "run stores --steps store_ahead",
+        0,
+        TWO_STORES,
+        "ordered: 0 1\n",
+    ),
+    (
+        "run stores --steps store_ahead --buffer 2",
+        0,
+        TWO_STORES,
+        "ordered: 0 1\n",
+    ),
     (
         "run stores --steps store_ahead --buffer 1",
         4,
         "unfinished\n",
+        "",
     ),
-    ("run sb --steps empty", 4, "unfinished\n"),
-    ("run stores --steps twice", 4, "unfinished\n"),
-    ("run headless --steps nowhere", 3, "refused: L1 line 1\n"),
-    ("run padded --steps nowhere", 3, "refused: L1 line 2\n"),
-    ("run large --steps nowhere", 3, "refused: L5 line 2\n"),
-    ("run unended --steps nowhere", 3, "refused: L1 line 2\n"),
-    ("run sb --steps no_step", 3, "refused: S1 line 2\n"),
-    ("run sb --steps no_core", 3, "refused: S2 line 3\n"),
-    ("run sb --steps far_core", 3, "refused: S2 line 1\n"),
-    ("run sb --steps unended_step", 3, "refused: S1 line 2\n"),
-    ("run marked --steps nowhere", 3, "refused: L1 line 1\n"),
-    ("run nul --steps nowhere", 3, "refused: L1 line 2\n"),
-    ("run returns --steps nowhere", 3, "refused: L1 line 1\n"),
-    ("run sb --steps nul_step", 3, "refused: S1 line 1\n"),
-    ("run nowhere --steps nowhere --buffer 0", 3, "refused: K7\n"),
+    ("run sb --steps without_lines", 4, "unfinished\n", ""),
+    ("run sb --steps empty", 4, "unfinished\n", ""),
+    ("run stores --steps twice", 4, "unfinished\n", ""),
+    (
+        "run headless --steps nowhere",
+        3,
+        "refused: L1 line 1\n",
+        "",
+    ),
+    ("run padded --steps nowhere", 3, "refused: L1 line 2\n", ""),
+    ("run large --steps nowhere", 3, "refused: L5 line 2\n", ""),
+    ("run unended --steps nowhere", 3, "refused: L1 line 2\n", ""),
+    ("run sb --steps no_step", 3, "refused: S1 line 2\n", ""),
+    ("run sb --steps no_core", 3, "refused: S2 line 3\n", ""),
+    ("run sb --steps no_name", 3, "refused: S3 line 2\n", ""),
+    ("run sb --steps neither", 3, "refused: S2 line 1\n", ""),
+    ("run sb --steps far_core", 3, "refused: S2 line 1\n", ""),
+    ("run sb --steps unended_step", 3, "refused: S1 line 2\n", ""),
+    ("run marked --steps nowhere", 3, "refused: L1 line 1\n", ""),
+    ("run nul --steps nowhere", 3, "refused: L1 line 2\n", ""),
+    ("run returns --steps nowhere", 3, "refused: L1 line 1\n", ""),
+    ("run sb --steps nul_step", 3, "refused: S1 line 1\n", ""),
+    (
+        "run nowhere --steps nowhere --buffer 0",
+        3,
+        "refused: K7\n",
+        "",
+    ),
     (
         "run nowhere --steps nowhere --buffer 18446744073709551615",
         3,
         "refused: K7\n",
+        "",
+    ),
+    ("live empty", 0, EMPTY, "ordered:\n"),
+    ("live sb --limit 3", 4, "unfinished\n", ""),
+    ("live headless", 3, "refused: L1 line 1\n", ""),
+    ("live nowhere --limit 0", 3, "refused: K6\n", ""),
+    ("live nowhere --limit 1000001", 3, "refused: K6\n", ""),
+    ("live nowhere --limit 0 --buffer 0", 3, "refused: K6\n", ""),
+    (
+        "live nowhere --limit 1000000 --buffer 0",
+        3,
+        "refused: K7\n",
+        "",
+    ),
+    (
+        "live nowhere --buffer 18446744073709551615",
+        3,
+        "refused: K7\n",
+        "",
     ),
 ];
 
@@ -122,15 +188,16 @@ fn a_run_prints_its_recording_or_why_there_is_none(rt: HostRuntime) -> Result<()
     for (name, bytes) in TEXTS {
         texts.push(named(name, bytes))?;
     }
-    for (line, status, output) in ROWS {
+    for (line, status, output, verdict) in ROWS {
         let mut place = Texts {
             texts: texts.as_slice(),
         };
         let mut out = Vec::new(alloc);
         let words = words(alloc, line)?;
-        let answer = perform(alloc, words.as_slice(), &mut place, &mut out)?;
+        let answer = perform(&rt, alloc, words.as_slice(), &mut place, &mut out)?;
         assert_eq!(rt; answer, status, "{line}");
-        assert_eq!(rt; out.as_slice(), output.as_bytes(), "{line}");
+        let printed = format!(in alloc; "{output}{verdict}")?;
+        assert_eq!(rt; out.as_slice(), printed.as_bytes(), "{line}");
     }
     Ok(())
 }
@@ -159,7 +226,7 @@ fn a_text_past_a_limit_is_refused(rt: HostRuntime) -> Result<(), Fail> {
         let mut place = Texts { texts: &texts };
         let mut out = Vec::new(alloc);
         let words = words(alloc, line)?;
-        let answer = perform(alloc, words.as_slice(), &mut place, &mut out)?;
+        let answer = perform(&rt, alloc, words.as_slice(), &mut place, &mut out)?;
         assert_eq!(rt; answer, 3, "{line}");
         let output = format!(in alloc; "refused: {fault} line {at}\n")?;
         assert_eq!(rt; out.as_slice(), output.as_bytes(), "{line}");
@@ -177,14 +244,15 @@ fn a_buffer_holds_at_most_its_limit(rt: HostRuntime) -> Result<(), Fail> {
         let mut out = Vec::new(alloc);
         let line = format!(in alloc; "run core --steps empty --buffer {capacity}")?;
         let words = words(alloc, line.as_str())?;
-        let answer = perform(alloc, words.as_slice(), &mut place, &mut out)?;
+        let answer = perform(&rt, alloc, words.as_slice(), &mut place, &mut out)?;
         assert_eq!(rt; answer, status, "{capacity}");
     }
     Ok(())
 }
 
 /// Command lines, and what standard error says of each.
-const FAULTS: [(&str, &str); 6] = [
+const FAULTS: [(&str, &str); 7] = [
+    ("live nowhere", "tsotest: cannot open nowhere"),
     (
         "run nowhere --steps loads_first",
         "tsotest: cannot open nowhere",
@@ -222,7 +290,7 @@ fn a_fault_prints_nothing_on_standard_output(rt: HostRuntime) -> Result<(), Fail
         let mut place = Texts { texts: &texts };
         let mut out = Vec::new(alloc);
         let words = words(alloc, line)?;
-        match perform(alloc, words.as_slice(), &mut place, &mut out) {
+        match perform(&rt, alloc, words.as_slice(), &mut place, &mut out) {
             Ok(status) => assert!(rt; false, "{line}: {status}"),
             Err(error) => {
                 let said = format!(in alloc; "{error}")?;
@@ -241,13 +309,14 @@ fn a_write_that_fails_is_a_fault(rt: HostRuntime) -> Result<(), Fail> {
         texts: &[named("empty", "")],
     };
     let words = words(alloc, "run empty --steps empty")?;
-    let answer = perform(alloc, words.as_slice(), &mut place, &mut Full);
+    let answer = perform(&rt, alloc, words.as_slice(), &mut place, &mut Full);
     assert!(rt; matches!(answer, Err(CommandFault::WriteFailed)));
     Ok(())
 }
 
 /// Words that ask for help, and how it ends.
-const HELPS: [(&str, &str); 6] = [
+const HELPS: [(&str, &str); 7] = [
+    ("live --help", "live store_buffering.litmus\n"),
     ("--help", "--steps store_buffering.steps\n"),
     ("help", "--steps store_buffering.steps\n"),
     ("run --help", "--steps store_buffering.steps\n"),
@@ -265,7 +334,6 @@ fn clap_reads_the_words(rt: HostRuntime) -> Result<(), Fail> {
         "walk sb --steps loads_first",
         "run",
         "run sb",
-        "run --steps loads_first",
         "run sb sb --steps loads_first",
         "run sb --steps loads_first --buffer",
         "run sb --steps loads_first --buffer few",
@@ -275,12 +343,15 @@ fn clap_reads_the_words(rt: HostRuntime) -> Result<(), Fail> {
         "judge",
         "judge sb sb",
         "judge sb --steps loads_first",
+        "live",
+        "live sb --limit few",
+        "live sb --limit 18446744073709551616",
     ];
     let mut place = Texts { texts: &[] };
     for line in mistakes {
         let mut out = Vec::new(alloc);
         let words = words(alloc, line)?;
-        let answer = perform(alloc, words.as_slice(), &mut place, &mut out);
+        let answer = perform(&rt, alloc, words.as_slice(), &mut place, &mut out);
         assert!(rt;
             matches!(answer, Err(CommandFault::CommandLine(_))),
             "{line}"
@@ -290,7 +361,7 @@ fn clap_reads_the_words(rt: HostRuntime) -> Result<(), Fail> {
     for (line, example) in HELPS {
         let mut out = Vec::new(alloc);
         let words = words(alloc, line)?;
-        let status = perform(alloc, words.as_slice(), &mut place, &mut out)?;
+        let status = perform(&rt, alloc, words.as_slice(), &mut place, &mut out)?;
         assert_eq!(rt; status, 0, "{line}");
         assert!(rt; out.ends_with(example.as_bytes()), "{line}");
     }

@@ -8,18 +8,64 @@ use litmus::{EventId, MAX_ADDRESSES, MAX_CORES, MAX_EVENTS};
 use order::check;
 use recorder::read_recording;
 use std::alloc::Global;
+use std::sync::Wait;
 use std::test::*;
+use std::thread::Threads;
 
-/// Recordings without an overlook.
-const READ: [&str; 8] = [
-    r#"{"version":1,"cores":[],"writes":[]}"#,
-    "\n{ \"version\" : 1 ,\t\"cores\":[ ],\r\n\"writes\" : [] } \n",
-    r#"{"version":2,"cores":[],"writes":[],"version":1}"#,
-    r#"{"\u0076ersion":1,"cores":[],"writes":[]}"#,
-    r#"{"version":2,"\u0076ersion":1,"cores":[],"writes":[]}"#,
-    r#"{"version":1,"cores":[[{"k":"\u004c","a":0,"r":0,"s":null}]],"writes":[[]]}"#,
-    r#"{"version":1,"cores":[[{"k":"S","a":0,"w":7,"w":1},{"k":"L","a":0,"r":1,"s":0}]],"writes":[[0]]}"#,
-    r#"{"version":1,"cores":[[{"k":"S","a":0,"w":1},{"k":"S","a":1,"w":1}],[{"k":"L","a":1,"r":1,"s":1},{"k":"L","a":0,"r":0,"s":null}]],"writes":[[0],[1]]}"#,
+/// Recordings, the status of each, and its verdict.
+const READ: [(&str, u8, &str); 12] = [
+    (r#"{"version":1,"cores":[],"writes":[]}"#, 0, "ordered:\n"),
+    (
+        "\n{ \"version\" : 1 ,\t\"cores\":[ ],\r\n\"writes\" : [] } \n",
+        0,
+        "ordered:\n",
+    ),
+    (
+        r#"{"version":2,"cores":[],"writes":[],"version":1}"#,
+        0,
+        "ordered:\n",
+    ),
+    (
+        r#"{"\u0076ersion":1,"cores":[],"writes":[]}"#,
+        0,
+        "ordered:\n",
+    ),
+    (
+        r#"{"version":2,"\u0076ersion":1,"cores":[],"writes":[]}"#,
+        0,
+        "ordered:\n",
+    ),
+    (
+        r#"{"version":1,"cores":[[{"k":"\u004c","a":0,"r":0,"s":null}]],"writes":[[]]}"#,
+        0,
+        "ordered: 0\n",
+    ),
+    (
+        r#"{"version":1,"cores":[[{"k":"S","a":0,"w":7,"w":1},{"k":"L","a":0,"r":1,"s":0}]],"writes":[[0]]}"#,
+        0,
+        "ordered: 0 1\n",
+    ),
+    (BOTH_MISS, 0, "ordered: 1 2 3 0\n"),
+    (
+        r#"{"version":1,"cores":[[{"k":"S","a":0,"w":1},{"k":"L","a":0,"r":1,"s":0},{"k":"L","a":1,"r":0,"s":null}],[{"k":"S","a":1,"w":1},{"k":"S","a":0,"w":2}]],"writes":[[4,0],[3]]}"#,
+        0,
+        "ordered: 1 2 3 4 0\n",
+    ),
+    (
+        r#"{"version":1,"cores":[[{"k":"S","a":0,"w":1},{"k":"L","a":0,"r":0,"s":null}]],"writes":[[0]]}"#,
+        2,
+        "overlook: load 1 store 0\n",
+    ),
+    (
+        r#"{"version":1,"cores":[[{"k":"S","a":0,"w":1},{"k":"S","a":1,"w":1}],[{"k":"L","a":1,"r":1,"s":1},{"k":"L","a":0,"r":0,"s":null}]],"writes":[[0],[1]]}"#,
+        2,
+        "cyclic\n",
+    ),
+    (
+        r#"{"version":1,"cores":[[{"k":"R","a":0,"r":1,"s":0,"w":1}]],"writes":[[0]]}"#,
+        2,
+        "cyclic\n",
+    ),
 ];
 
 /// How a text of so many items begins and ends, an item, and the most items.
@@ -44,13 +90,12 @@ const LIMITED: [(&str, &str, &str, usize); 3] = [
     ),
 ];
 
-const NONE: &[u8] = b"no overlook\n";
-
-const OVERLOOKED: &str =
-    r#"{"version":1,"cores":[[{"k":"S","a":0,"w":1},{"k":"L","a":0,"r":0,"s":null}]],"writes":[[0]]}"#;
-
 /// The status and the output of `judge -` on these bytes.
-fn judged(alloc: Global, bytes: &[u8]) -> Result<(u8, Vec<u8>), Fail> {
+fn judged<R: Threads + Wait + Sync>(
+    rt: &R,
+    alloc: Global,
+    bytes: &[u8],
+) -> Result<(u8, Vec<u8>), Fail> {
     let text = Text {
         name: "-",
         bytes,
@@ -59,7 +104,7 @@ fn judged(alloc: Global, bytes: &[u8]) -> Result<(u8, Vec<u8>), Fail> {
     let mut place = Texts { texts: &[text] };
     let mut out = Vec::new(alloc);
     let words = words(alloc, "judge -")?;
-    let status = perform(alloc, words.as_slice(), &mut place, &mut out)?;
+    let status = perform(rt, alloc, words.as_slice(), &mut place, &mut out)?;
     Ok((status, out))
 }
 
@@ -79,19 +124,19 @@ fn listed(alloc: Global, item: &str, count: usize) -> Result<String, Fail> {
 fn each_bad_text_has_its_refusal(rt: HostRuntime) -> Result<(), Fail> {
     let alloc = rt.alloc();
     for (number, (text, refusal)) in REFUSED.iter().enumerate() {
-        let (status, out) = judged(alloc, text)?;
+        let (status, out) = judged(&rt, alloc, text)?;
         let line = format!(in alloc; "refused: {refusal}\n")?;
         assert_eq!(rt; out.as_slice(), line.as_bytes(), "row {number}");
         assert_eq!(rt; status, 3, "row {number}");
     }
     let whole = BOTH_MISS.trim_end().as_bytes();
     for length in 0..whole.len() {
-        let (status, out) = judged(alloc, &whole[..length])?;
+        let (status, out) = judged(&rt, alloc, &whole[..length])?;
         assert_eq!(rt; out.as_slice(), b"refused: N1\n".as_slice(), "{length}");
         assert_eq!(rt; status, 3, "{length}");
     }
     let nested = format!(in alloc; "{}{}", times(alloc, "[", 200)?, times(alloc, "]", 200)?)?;
-    let (status, out) = judged(alloc, nested.as_bytes())?;
+    let (status, out) = judged(&rt, alloc, nested.as_bytes())?;
     assert!(rt;
         [b"refused: N1\n", b"refused: N2\n"]
             .iter()
@@ -104,22 +149,17 @@ fn each_bad_text_has_its_refusal(rt: HostRuntime) -> Result<(), Fail> {
 #[test]
 fn each_recording_that_is_read_is_judged(rt: HostRuntime) -> Result<(), Fail> {
     let alloc = rt.alloc();
-    for text in READ {
-        let (status, out) = judged(alloc, text.as_bytes())?;
-        assert_eq!(rt; out.as_slice(), NONE, "{text}");
-        assert_eq!(rt; status, 4, "{text}");
+    for (number, (text, wanted, verdict)) in READ.iter().enumerate() {
+        let (status, out) = judged(&rt, alloc, text.as_bytes())?;
+        assert_eq!(rt; out.as_slice(), verdict.as_bytes(), "row {number}");
+        assert_eq!(rt; status, *wanted, "row {number}");
     }
-    let (status, out) = judged(alloc, BOTH_MISS.trim_end().as_bytes())?;
-    assert_eq!(rt; (status, out.as_slice()), (4, NONE));
-    let (status, out) = judged(alloc, OVERLOOKED.as_bytes())?;
-    assert_eq!(rt; out.as_slice(), b"overlook: load 1 store 0\n".as_slice());
-    assert_eq!(rt; status, 2);
     for (head, item, tail, most) in LIMITED {
         let text = format!(in alloc; "{head}{}{tail}", listed(alloc, item, most)?)?;
-        let (_, out) = judged(alloc, text.as_bytes())?;
-        assert_eq!(rt; out.as_slice(), NONE, "{most}");
+        let (status, _) = judged(&rt, alloc, text.as_bytes())?;
+        assert_eq!(rt; status, 0, "{most}");
         let text = format!(in alloc; "{head}{}{tail}", listed(alloc, item, most + 1)?)?;
-        let (_, out) = judged(alloc, text.as_bytes())?;
+        let (_, out) = judged(&rt, alloc, text.as_bytes())?;
         assert_eq!(rt; out.as_slice(), b"refused: N4\n".as_slice(), "{most}");
     }
     Ok(())
@@ -134,11 +174,13 @@ fn what_a_run_prints_is_judged(rt: HostRuntime) -> Result<(), Fail> {
             named("loads_first", LOADS_FIRST),
         ],
     };
-    let mut recording = Vec::new(alloc);
+    let mut printed = Vec::new(alloc);
     let words = words(alloc, "run sb --steps loads_first")?;
-    perform(alloc, words.as_slice(), &mut place, &mut recording)?;
-    let (status, out) = judged(alloc, recording.as_slice())?;
-    assert_eq!(rt; (status, out.as_slice()), (4, NONE));
+    perform(&rt, alloc, words.as_slice(), &mut place, &mut printed)?;
+    let recording = BOTH_MISS.len();
+    let (status, verdict) = judged(&rt, alloc, &printed[..recording])?;
+    assert_eq!(rt; status, 0);
+    assert_eq!(rt; verdict.as_slice(), &printed[recording..]);
     Ok(())
 }
 
@@ -154,14 +196,24 @@ fn order_of(alloc: Global, line: &str) -> Result<Option<Vec<EventId>>, Fail> {
     Ok(Some(order))
 }
 
-/// Whether the overlook of a verdict is printed for a recording, or for any other verdict that there is none.
-fn prints_overlook(alloc: Global, text: &str, verdict: &str) -> Result<bool, Fail> {
-    let (status, out) = judged(alloc, text.as_bytes())?;
-    if !verdict.starts_with("overlook: ") {
-        return Ok(status == 4 && out.as_slice() == NONE);
+/// Whether a verdict is printed for a recording; of a cycle that there is one.
+fn prints_verdict<R: Threads + Wait + Sync>(
+    rt: &R,
+    alloc: Global,
+    text: &str,
+    verdict: &str,
+) -> Result<bool, Fail> {
+    let (status, out) = judged(rt, alloc, text.as_bytes())?;
+    if verdict.starts_with("cycle of ") {
+        return Ok(status == 2 && out.as_slice() == b"cyclic\n".as_slice());
     }
     let line = format!(in alloc; "{verdict}\n")?;
-    Ok(status == 2 && out.as_slice() == line.as_bytes())
+    let wanted = if verdict.starts_with("ordered:") {
+        0
+    } else {
+        2
+    };
+    Ok(status == wanted && out.as_slice() == line.as_bytes())
 }
 
 /// Whether the order of a verdict, if it is one, is a memory order of the recording, and its reverse is none.
@@ -181,7 +233,7 @@ fn has_order(alloc: Global, text: &str, verdict: &str) -> Result<bool, Fail> {
 fn classic_recordings_have_their_verdicts(rt: HostRuntime) -> Result<(), Fail> {
     let alloc = rt.alloc();
     for (name, text, verdict) in RECORDINGS {
-        assert!(rt; prints_overlook(alloc, text, verdict)?, "{name}");
+        assert!(rt; prints_verdict(&rt, alloc, text, verdict)?, "{name}");
         assert!(rt; has_order(alloc, text, verdict)?, "{name}");
     }
     Ok(())

@@ -7,16 +7,25 @@ use std::test::*;
 
 const TWO_CORES: &str = "core\nst x 1\nld y\ncore\nst y 1\nld x\n";
 
-const READ: [(&str, &[Step]); 3] = [
+const READ: [(&str, &[Step]); 4] = [
     ("", &[]),
     (
         "exec 0\ndrain 1\nexec 1\n",
         &[Step::Exec(0), Step::Drain(1), Step::Exec(1)],
     ),
     ("drain 0\ndrain 0\n", &[Step::Drain(0), Step::Drain(0)]),
+    (
+        "gets 0 y\ngetm 1 x\nput 1 x\nput 0 x\n",
+        &[
+            Step::GetS(0, 1),
+            Step::GetM(1, 0),
+            Step::Put(1, 0),
+            Step::Put(0, 0),
+        ],
+    ),
 ];
 
-const REFUSED: [(&str, StepFault, usize); 20] = [
+const REFUSED: [(&str, StepFault, usize); 37] = [
     ("exec 0", StepFault::S1, 1),
     ("exec 2", StepFault::S1, 1),
     ("exec\n", StepFault::S1, 1),
@@ -28,20 +37,39 @@ const REFUSED: [(&str, StepFault, usize); 20] = [
     ("exec 0 \n", StepFault::S1, 1),
     ("exec 0\r\n", StepFault::S1, 1),
     ("Exec 0\n", StepFault::S1, 1),
-    ("gets 0 x\n", StepFault::S1, 1),
+    ("gets 0 x", StepFault::S1, 1),
+    ("gets 0\n", StepFault::S1, 1),
+    ("gets 0 \n", StepFault::S1, 1),
+    ("gets x 0\n", StepFault::S1, 1),
+    ("gets  0 x\n", StepFault::S1, 1),
+    ("gets 0  x\n", StepFault::S1, 1),
+    ("gets 0 x y\n", StepFault::S1, 1),
+    ("getm 00 x\n", StepFault::S1, 1),
+    ("getm 9 X\n", StepFault::S1, 1),
+    ("put 0 abcdefghi\n", StepFault::S1, 1),
+    ("put 0x\n", StepFault::S1, 1),
     ("drain 0\n\n", StepFault::S1, 2),
     ("exec 2\n", StepFault::S2, 1),
     ("drain 2\n", StepFault::S2, 1),
     ("exec 65536\n", StepFault::S2, 1),
     ("exec 4294967296\n", StepFault::S2, 1),
     ("exec 99999999999999999999\n", StepFault::S2, 1),
+    ("gets 2 x\n", StepFault::S2, 1),
+    ("getm 2 z\n", StepFault::S2, 1),
+    ("put 4294967296 z\n", StepFault::S2, 1),
+    ("gets 0 z\n", StepFault::S3, 1),
+    ("getm 1 xx\n", StepFault::S3, 1),
+    ("put 0 abcdefgh\n", StepFault::S3, 1),
+    ("gets 0 z\ngets 2 x\n", StepFault::S3, 1),
     ("exec 0\nexec 2\nexec\n", StepFault::S2, 2),
     ("exec 0\nexec\nexec 2\n", StepFault::S1, 2),
 ];
 
 // What stands behind a script of the most lines, and its fault.
-const AFTER_LINES: [(&str, StepFault); 5] = [
+const AFTER_LINES: [(&str, StepFault); 7] = [
     ("exec 0\n", StepFault::S4),
+    ("gets 0 x\n", StepFault::S4),
+    ("gets 0 z\n", StepFault::S3),
     ("drain 1\n", StepFault::S4),
     ("exec 2\n", StepFault::S2),
     ("exec\n", StepFault::S1),

@@ -1,6 +1,6 @@
 use Rattle.std.proofs.Common.{map, sym}
 use Rattle.std.specs.Prelude.{string_bytes}
-use Rattle.tsotest.specs.declared.options.Options.TheVariants.{Run, Judge}
+use Rattle.tsotest.specs.declared.options.Options.TheVariants.{Run, Judge, Live}
 use Rattle.tsotest.proofs.Printed.{answer_of_words, stop_of_words}
 use Rattle.tsotest.proofs.perform.answered.Goals as goal
 
@@ -15,3 +15,9 @@ returns-in-Ok-Judge-clause-ok g c = answer_of_words c.judge.result (Judge c.in-O
 
 pub returns-in-Ok-Judge-clause-err : goal.returns-in-Ok-Judge-clause-err
 returns-in-Ok-Judge-clause-err g c = stop_of_words c.judge.result (Judge c.in-Ok-Judge.options) (map string_bytes c.args.words.now) (rw (sym c.in-Ok-Judge.field-0-is) c.in-Ok-Judge.ensures.ok) c.judge.ensures.err
+
+pub returns-in-Ok-Live-clause-ok : goal.returns-in-Ok-Live-clause-ok
+returns-in-Ok-Live-clause-ok g c = answer_of_words c.driven.result (Live c.in-Ok-Live.live) (map string_bytes c.args.words.now) (rw (sym c.in-Ok-Live.field-0-is) c.in-Ok-Live.ensures.ok) c.driven.ensures.ok
+
+pub returns-in-Ok-Live-clause-err : goal.returns-in-Ok-Live-clause-err
+returns-in-Ok-Live-clause-err g c = stop_of_words c.driven.result (Live c.in-Ok-Live.live) (map string_bytes c.args.words.now) (rw (sym c.in-Ok-Live.field-0-is) c.in-Ok-Live.ensures.ok) c.driven.ensures.err

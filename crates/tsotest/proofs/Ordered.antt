@@ -1,0 +1,34 @@
+-- What is found of a recording that TSO allows.
+use Rattle.std.proofs.Common.{◌≡◌, ◌++◌, inl, ℕ, List, Option, Some, None, subst}
+use Rattle.recorder.specs.Execution.{Execution}
+use Rattle.recorder.specs.Text.{recording_text}
+use Rattle.recorder.specs.Tso.{IsTsoOrder}
+use Rattle.judge.specs.declared.verdict.Verdict.{Verdict}
+use Rattle.judge.specs.declared.verdict.Verdict.TheVariants.{Ordered, Overlook}
+use Rattle.tsotest.specs.declared.answer.Answer.{Answer}
+use Rattle.tsotest.specs.Verdict.{IsFinding, IsVerdictAnswer, verdict_status, verdict_text}
+use Rattle.litmus.specs.Parts.{Parts}
+use Rattle.machine.specs.State.{State, IsComplete, recorded}
+use Rattle.tsotest.specs.Run.{IsOrderedAnswer, IsRunAnswer}
+
+-- it is its least order
+pub ordered_answer : (x : Execution) (m : List ℕ) (answer : Answer) → IsTsoOrder x m → IsVerdictAnswer x (recording_text x) answer → IsOrderedAnswer x answer
+ordered_answer x m answer tso is = go is.verdict is.found is.status is.text
+  where
+    go : (v : Option Verdict) → IsFinding x v → answer.status ≡ verdict_status v → answer.text.items ≡ recording_text x ++ verdict_text v → IsOrderedAnswer x answer
+    go None found status text = absurd (found.2 m tso)
+    go (Some (Ordered order)) found status text = record { order = order.items; least = found; status = status; text = text }
+    go (Some (Overlook load store)) found status text = absurd (found.no_order m tso)
+
+-- so the recording of a complete run and the verdict on it are the answer of the run
+pub run_answer : (p : Parts) (s : State) (text : List ℕ) (answer : Answer) → IsComplete p.cores s → IsTsoOrder (recorded p.cores s) s.performed
+    → text ≡ recording_text (recorded p.cores s) → IsVerdictAnswer (recorded p.cores s) text answer → IsRunAnswer p s answer
+run_answer p s text answer end tso is found =
+    let made : IsOrderedAnswer (recorded p.cores s) answer =
+    ordered_answer (recorded p.cores s) s.performed answer tso (subst (λ (t : List ℕ). IsVerdictAnswer (recorded p.cores s) t answer) is found) in
+    record {
+      status = inl made.status;
+      done = λ complete. made;
+      unfinished = λ left. absurd (left end);
+      tso = λ done. tso;
+    }

@@ -1,0 +1,31 @@
+-- What threads give is a run.
+use Rattle.std.proofs.Common.{◌≡◌, ◌⊎◌, inl, inr, ℕ, List, Ok, length, ap, subst, ◌∙◌}
+use Rattle.litmus.specs.Parts.{Parts}
+use Rattle.litmus.specs.Text.{reading}
+use Rattle.machine.specs.State.{State, IsComplete, opening}
+use Rattle.machine.specs.Step.{run}
+use Rattle.machine.specs.Held.{Held}
+use Rattle.live.specs.Trace.{Trace, IsEnded, IsReplay}
+use Rattle.live.specs.Driven.{IsGiven}
+use Rattle.tsotest.specs.declared.answer.Answer.{Answer}
+use Rattle.tsotest.specs.Run.{state_after, IsRunAnswer, IsLive}
+
+-- the answer of the machine that they leave is that of the run of its trace
+pub live_answer : (text : List ℕ) (program : Parts) (capacity limit : ℕ) (t : Trace) (machine : Held) (answer : Answer) → reading text ≡ Ok program
+    → IsGiven program capacity limit t → IsEnded t → IsReplay t → machine ≡ t.machine → IsRunAnswer machine.program machine.state answer → IsLive capacity limit answer
+live_answer text program capacity limit t machine answer read given ended replay same is =
+    let state : t.machine.state ≡ state_after program capacity t.steps =
+    replay ∙ (ap (λ (q : Parts). run q.cores t.machine.capacity (opening q.cores (length q.names)) t.steps) given.program_is
+    ∙ ap (λ (n : ℕ). run program.cores n (opening program.cores (length program.names)) t.steps) given.capacity_is) in
+    let here : IsRunAnswer t.machine.program t.machine.state answer = subst (λ (h : Held). IsRunAnswer h.program h.state answer) same is in
+    record {
+      program_text = text;
+      program = program;
+      read = read;
+      steps = t.steps;
+      ended = elim ended [
+        | inl end ↦ inl (subst (λ (s : State). IsComplete program.cores s) state (subst (λ (q : Parts). IsComplete q.cores t.machine.state) given.program_is end))
+        | inr full ↦ inr (full ∙ given.limit_is)
+      ];
+      answered = subst (λ (s : State). IsRunAnswer program s answer) state (subst (λ (q : Parts). IsRunAnswer q t.machine.state answer) given.program_is here);
+    }

@@ -1,5 +1,0 @@
-use Rattle.tsotest.proofs.Unread.{no_memory}
-use Rattle.tsotest.proofs.judge.judged.Goals as goal
-
-pub returns-in_err-overlook_answer-in-Ok-clause-err : goal.returns-in_err-overlook_answer-in-Ok-clause-err
-returns-in_err-overlook_answer-in-Ok-clause-err c = no_memory c.from_residual.result c.args.bytes.now c.from_residual.ensures.1
