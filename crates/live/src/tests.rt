@@ -7,7 +7,7 @@ use std::test::*;
 use std::thread;
 
 const STORE_BUFFERING: &[u8] = b"core\nst x 1\nld y\ncore\nst y 1\nld x\n";
-const CORE: &[u8] = b"st x 1\nld y\nadd z 1\nfence\nswap y 2\nld x\nst z 3\nld z\n";
+
 const LIMIT: usize = 100_000;
 
 fn program(alloc: Global, text: &[u8]) -> Result<Program, Fail> {
@@ -51,33 +51,6 @@ fn a_core_waits_for_no_other(rt: HostRuntime) -> Result<(), Fail> {
     let traced = drive(&rt, rt.alloc(), program, 8, LIMIT, &gate)?;
     assert!(rt; gate.seen.load(Ordering::SeqCst));
     assert!(rt; traced.machine().is_complete());
-    Ok(())
-}
-
-#[test]
-fn every_run_of_store_buffering_is_complete(rt: HostRuntime) -> Result<(), Fail> {
-    for run in 0..1000 {
-        let program = program(rt.alloc(), STORE_BUFFERING)?;
-        let traced = drive(&rt, rt.alloc(), program, 8, LIMIT, &OpenGate)?;
-        assert!(rt; traced.machine().is_complete(), "run {run}");
-    }
-    Ok(())
-}
-
-#[test]
-fn cores_that_want_the_same_lines_come_to_their_end(rt: HostRuntime) -> Result<(), Fail> {
-    let mut text = Vec::new(rt.alloc());
-    for core in 0..8 {
-        text.extend_from_slice(b"core\n")?;
-        for part in 0..4 {
-            text.extend_from_slice(CORE)?;
-        }
-    }
-    for capacity in [1, 8] {
-        let program = program(rt.alloc(), &text)?;
-        let traced = drive(&rt, rt.alloc(), program, capacity, LIMIT, &OpenGate)?;
-        assert!(rt; traced.machine().is_complete());
-    }
     Ok(())
 }
 

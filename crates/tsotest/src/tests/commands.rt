@@ -7,7 +7,9 @@ use litmus::{MAX_ADDRESSES, MAX_CAPACITY, MAX_CORES, MAX_EVENTS, MAX_STEPS, pars
 use std::alloc::{AllocError, Global};
 use std::io;
 use std::io::{ErrorKind, Write};
+use std::sync::Wait;
 use std::test::Fail;
+use std::thread::Threads;
 
 /// A writer that takes no byte.
 #[derive(Drop)]
@@ -93,7 +95,7 @@ const TEXTS: [(&str, &str); 24] = [
 ];
 
 /// Command lines, the status of each, and what it prints: a recording and the verdict on it, or one line.
-const ROWS: [(&str, u8, &str, &str); 35] = [
+const ROWS: [(&str, u8, &str, &str); 27] = [
     (
         "run sb --steps loads_first",
         0,
@@ -161,44 +163,70 @@ const ROWS: [(&str, u8, &str, &str); 35] = [
         "refused: K7\n",
         "",
     ),
-    ("live empty", 0, EMPTY, "ordered:\n"),
-    ("live sb --limit 3", 4, "unfinished\n", ""),
-    ("live headless", 3, "refused: L1 line 1\n", ""),
-    ("live nowhere --limit 0", 3, "refused: K6\n", ""),
-    ("live nowhere --limit 1000001", 3, "refused: K6\n", ""),
-    ("live nowhere --limit 0 --buffer 0", 3, "refused: K6\n", ""),
+];
+
+/// Command lines of runs by threads, the status of each, and what it prints.
+const LIVE_ROWS: [(&str, u8, &str); 7] = [
+    ("live sb --limit 3", 4, "unfinished\n"),
+    ("live headless", 3, "refused: L1 line 1\n"),
+    ("live nowhere --limit 0", 3, "refused: K6\n"),
+    ("live nowhere --limit 1000001", 3, "refused: K6\n"),
+    ("live nowhere --limit 0 --buffer 0", 3, "refused: K6\n"),
     (
         "live nowhere --limit 1000000 --buffer 0",
         3,
         "refused: K7\n",
-        "",
     ),
     (
         "live nowhere --buffer 18446744073709551615",
         3,
         "refused: K7\n",
-        "",
     ),
 ];
 
-#[test]
-fn a_run_prints_its_recording_or_why_there_is_none(rt: HostRuntime) -> Result<(), Fail> {
-    let alloc = rt.alloc();
+/// Whether a command line has this status and prints this output and the verdict behind it.
+fn prints<R: Threads + Wait + Sync>(
+    rt: &R,
+    alloc: Global,
+    line: &str,
+    status: u8,
+    output: &str,
+    verdict: &str,
+) -> Result<bool, Fail> {
     let mut texts = Vec::new(alloc);
     for (name, bytes) in TEXTS {
         texts.push(named(name, bytes))?;
     }
+    let mut place = Texts {
+        texts: texts.as_slice(),
+    };
+    let mut out = Vec::new(alloc);
+    let words = words(alloc, line)?;
+    let answer = perform(rt, alloc, words.as_slice(), &mut place, &mut out)?;
+    let printed = format!(in alloc; "{output}{verdict}")?;
+    Ok(answer == status && out.as_slice() == printed.as_bytes())
+}
+
+#[test]
+fn a_run_prints_its_recording_or_why_there_is_none(rt: HostRuntime) -> Result<(), Fail> {
     for (line, status, output, verdict) in ROWS {
-        let mut place = Texts {
-            texts: texts.as_slice(),
-        };
-        let mut out = Vec::new(alloc);
-        let words = words(alloc, line)?;
-        let answer = perform(&rt, alloc, words.as_slice(), &mut place, &mut out)?;
-        assert_eq!(rt; answer, status, "{line}");
-        let printed = format!(in alloc; "{output}{verdict}")?;
-        assert_eq!(rt; out.as_slice(), printed.as_bytes(), "{line}");
+        assert!(rt;
+            prints(&rt, rt.alloc(), line, status, output, verdict)?,
+            "{line}"
+        );
     }
+    Ok(())
+}
+
+#[test]
+fn a_run_by_threads_prints_the_same(rt: HostRuntime) -> Result<(), Fail> {
+    for (line, status, output) in LIVE_ROWS {
+        assert!(rt;
+            prints(&rt, rt.alloc(), line, status, output, "")?,
+            "{line}"
+        );
+    }
+    assert!(rt; prints(&rt, rt.alloc(), "live empty", 0, EMPTY, "ordered:\n")?);
     Ok(())
 }
 

@@ -177,10 +177,11 @@ fn what_a_run_prints_is_judged(rt: HostRuntime) -> Result<(), Fail> {
     let mut printed = Vec::new(alloc);
     let words = words(alloc, "run sb --steps loads_first")?;
     perform(&rt, alloc, words.as_slice(), &mut place, &mut printed)?;
-    let recording = BOTH_MISS.len();
-    let (status, verdict) = judged(&rt, alloc, &printed[..recording])?;
+    let (status, verdict) = judged(&rt, alloc, BOTH_MISS.as_bytes())?;
     assert_eq!(rt; status, 0);
-    assert_eq!(rt; verdict.as_slice(), &printed[recording..]);
+    let mut whole = Vec::from_slice(alloc, BOTH_MISS.as_bytes())?;
+    whole.extend_from_slice(verdict.as_slice())?;
+    assert_eq!(rt; printed.as_slice(), whole.as_slice());
     Ok(())
 }
 
