@@ -3,6 +3,7 @@ use Rattle.std.proofs.Common.{◌≡◌, ℕ, ◌+◌, ◌<◌, ◌≤◌, ◌==
 use Rattle.std.specs.List.{AllByRecursion, IsDistinct, flat_map}
 use Rattle.std.proofs.lemmas.Bool.{lt-ltb, le-ltb}
 use Rattle.std.proofs.lemmas.List.{length-append, append-nil, append_assoc, get_or_append_left}
+use Rattle.std.proofs.lemmas.List.Sums.{sum_by-cons}
 use Rattle.std.proofs.Math.Seq.{get_or-append_seam}
 use Rattle.litmus.specs.declared.name.Name.{Name}
 use Rattle.litmus.specs.declared.op.Op.{Op}
@@ -339,11 +340,11 @@ cores_read all h (ops ∷ cores) names back front k n parts used le few room sma
     let first = said_again k p q core_line (flat_map (op_text all) ops ++ rest) tt tt
     (core_so p (omega (arith, few))) in
     let inner = ops_read all h ops names back front [] rest (k + 1) b.0 parts b.1
-    (omega (arith, grows, le)) (omega (arith, room)) small.0 in
+    (omega (arith, grows, le)) (omega (arith, room, sum_by-cons (λ (os : List Op). length os) ops cores)) small.0 in
     let later = cores_read all h cores inner.more inner.back (front ++ ops ∷ []) inner.line n
     inner.parts (rw inner.long b.2) le
     (omega (arith, few, length-append front (ops ∷ [])))
-    (omega (arith, room, count-append front ops)) small.1 in
+    (omega (arith, room, count-append front ops, sum_by-cons (λ (os : List Op). length os) ops cores)) small.1 in
     let start : (core_text all ops) ++ rest
     ≡ (codes "core" ++ 10 ∷ []) ++ (flat_map (op_text all) ops ++ rest) =
     append_assoc (codes "core" ++ 10 ∷ []) (flat_map (op_text all) ops) rest in

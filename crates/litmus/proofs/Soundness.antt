@@ -1,11 +1,10 @@
 -- What every program keeps.
-use Rattle.std.proofs.Common.{◌≡◌, ℕ, ◌+◌, ◌≤◌, List, [], ◌∷◌, length, Some, refl, arith, ap, ◌∙◌}
-use Rattle.std.specs.Prelude.{All, sum_by}
+use Rattle.std.proofs.Common.{◌≡◌, ℕ, ◌≤◌, List, [], ◌∷◌, Some, arith}
+use Rattle.std.specs.Prelude.{All}
 use Rattle.std.proofs.lemmas.List.Elements.{All-nil, All-cons}
-use Rattle.std.proofs.lemmas.List.Sums.{sum_by-cons}
 use Rattle.litmus.specs.declared.op.Op.{Op}
 use Rattle.litmus.specs.declared.op.Op.TheVariants.{St, Ld, Fence, Swap, Add}
-use Rattle.litmus.specs.Parts.{IsWithin, op_count, addr_of, use_addr, use_ops, use_cores}
+use Rattle.litmus.specs.Parts.{IsWithin, addr_of, use_addr, use_ops, use_cores}
 use Rattle.litmus.proofs.OnLists.{bind_some}
 use Rattle.litmus.proofs.Cores.{use_below, ops_grow, cores_grow}
 
@@ -35,9 +34,3 @@ cores_within (ops ∷ cores) m j k e le =
     let grows = cores_grow b.0 cores j b.2 in
     All-cons (λ os. All (IsWithin k) os) ops cores
     (ops_within ops m b.0 k b.1 (omega (arith, grows, le))) (cores_within cores b.0 j k b.2 le)
-
--- the count of operations is the sum of the cores' lengths
-pub count_is : (cores : List (List Op)) → sum_by (λ ops. length ops) cores ≡ op_count cores
-count_is [] = refl
-count_is (ops ∷ cores) = sum_by-cons (λ os. length os) ops cores ∙ ap (λ n. length ops + n)
-    (count_is cores)

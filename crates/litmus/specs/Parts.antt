@@ -1,5 +1,5 @@
 -- What a program is: its names, and for each core its operations.
-use Rattle.std.specs.Prelude.{◌≡◌, ◌≤◌, ◌<◌, ◌^◌, ◌+◌, ◌==◌, ℕ, List, [], ◌∷◌, Option, Some, None, length, nat_lt, if◌then◌else◌, option_and_then, ⊤}
+use Rattle.std.specs.Prelude.{◌≡◌, ◌≤◌, ◌<◌, ◌^◌, ◌+◌, ◌==◌, ℕ, List, [], ◌∷◌, Option, Some, None, length, sum_by, nat_lt, if◌then◌else◌, option_and_then, ⊤}
 use Rattle.std.specs.List.{AllByRecursion, IsDistinct}
 use Rattle.litmus.specs.declared.name.Name.{Name}
 use Rattle.litmus.specs.declared.op.Op.{Op}
@@ -18,8 +18,7 @@ parts_of names cores = record { names = names; cores = cores }
 
 -- how many operations there are
 abbrev pub op_count : List (List Op) → ℕ
-op_count [] = 0
-op_count (ops ∷ cores) = length ops + op_count cores
+op_count cores = sum_by (λ ops. length ops) cores
 
 -- the address of an operation
 abbrev pub addr_of : Op → Option ℕ

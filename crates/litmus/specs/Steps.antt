@@ -59,12 +59,17 @@ core_step p = if nat_lt (length p.cores) MAX_CORES then Ok (record p {
 unfoldable pub fence_step : Parts → Result Parts LineFault
 fence_step p = unless (op_fault p) (Ok (record p { cores = with_op p.cores Fence }))
 
--- a load comes: its address is tested
+-- an operation with a name comes: its address is tested, and then there is this answer
+abbrev pub at_name : Parts → Name → Result Parts LineFault → Result Parts LineFault
+at_name p name r =
+    unless (op_fault p)
+    (if nat_lt MAX_ADDRESSES (length (names_with p.names name)) then Err L4 else r)
+
+-- a load comes
 unfoldable pub load_step : Parts → Name → Result Parts LineFault
 load_step p name =
-    unless (op_fault p)
-    (if nat_lt MAX_ADDRESSES (length (names_with p.names name)) then Err L4
-    else Ok (record {
+    at_name p name
+    (Ok (record {
       names = names_with p.names name;
       cores = with_op p.cores (Ld (number_in p.names name));
     }))
@@ -72,14 +77,13 @@ load_step p name =
 -- a write comes: its address is tested, and then its value
 unfoldable pub write_step : Parts → Write → Name → ℕ → Result Parts LineFault
 write_step p write name n =
-    unless (op_fault p)
-    (if nat_lt MAX_ADDRESSES (length (names_with p.names name)) then Err L4
-    else (if nat_lt n (2 ^ 32)
+    at_name p name
+    (if nat_lt n (2 ^ 32)
     then Ok (record {
       names = names_with p.names name;
       cores = with_op p.cores (written write (number_in p.names name) n);
     })
-    else Err L5))
+    else Err L5)
 
 -- what a line does, which may be outside the grammar
 abbrev pub said_step : Parts → Option Line → Result Parts LineFault

@@ -15,6 +15,7 @@ use indexmap::IndexSet;
 use std::alloc::Global;
 
 /// Whether the cores have fewer operations than `limit`.
+#[tactic(auto, using(crate::proofs::Cores::count_more))]
 pub fn are_below(cores: &[Ops], limit: usize) -> bool
     ensures { result ≡ nat_lt (op_count cores.now) limit }
 {
@@ -37,9 +38,10 @@ pub struct Builder {
 }
 
 impl Builder {
-    ghost use Rattle.std.specs.Prelude.{◌≡◌, ◌≤◌, ◌<◌, ◌^◌, ℕ, Err, Ok, None, OnOk, IfErr, length, nat_lt};
-    ghost use Rattle.litmus.specs.Parts.{op_count, addr_of};
-    ghost use Rattle.litmus.specs.Steps.{empty, step, core_step, fence_step, load_step, write_step, op_fault, names_with, number_in, with_op, written};
+    ghost use Rattle.std.specs.Prelude.{◌≡◌, ◌≤◌, ◌<◌, ◌^◌, ℕ, Err, Ok, None, Result, OnOk, IfOk, IfErr, length, nat_lt};
+    ghost use Rattle.litmus.specs.Parts.{Parts, op_count, addr_of};
+    ghost use Rattle.litmus.specs.declared.fault.LineFault.{LineFault};
+    ghost use Rattle.litmus.specs.Steps.{empty, step, core_step, fence_step, load_step, write_step, op_fault, at_name, names_with, number_in, with_op, written};
     ghost use Rattle.litmus.specs.Numbers.{IsValue};
     ghost use Rattle.litmus.specs.Text.{AnswersLine};
     ghost use Rattle.litmus.specs.declared.line.Write.{Write};
@@ -99,10 +101,16 @@ impl Builder {
         self.push(Op::Fence)
     }
 
-    #[tactic(auto, unfolding(crate::specs::Steps::load_step))]
-    fn load(&mut self, name: Name, number: usize) -> Result<(), LitmusError>
-        ensures { AnswersLine (built result (state self.new)) number
-            (load_step (state self.old) name) }
+    /// The address of a name, where an operation with it may come; else the line's fault.
+    fn address_of(&mut self, name: Name, number: usize) -> Result<Addr, LitmusError>
+        ensures ok { OnOk result ((r : Result Parts LineFault) →
+            at_name (state self.old) name r ≡ r) }
+        ensures err { IfErr result (λ e. (r : Result Parts LineFault) →
+            AnswersLine (Err e) number (at_name (state self.old) name r)) }
+        ensures address { IfOk result (λ addr. addr ≡ number_in self.old.names.keys name) }
+        ensures names { OnOk result (self.new.names.keys ≡ names_with self.old.names.keys name) }
+        ensures cores { self.new.cores.items ≡ self.old.cores.items }
+        ensures some_core { OnOk result (0 < length self.new.cores.items) }
     {
         if let Some(fault) = self.op_fault() {
             return Err(LitmusError::AtLine(fault, number));
@@ -111,7 +119,16 @@ impl Builder {
         if MAX_ADDRESSES < self.names.len() {
             return Err(LitmusError::AtLine(LineFault::L4, number));
         }
-        self.push(Op::Ld(addr as Addr))
+        Ok(addr as Addr)
+    }
+
+    #[tactic(auto, unfolding(crate::specs::Steps::load_step))]
+    fn load(&mut self, name: Name, number: usize) -> Result<(), LitmusError>
+        ensures { AnswersLine (built result (state self.new)) number
+            (load_step (state self.old) name) }
+    {
+        let addr = self.address_of(name, number)?;
+        self.push(Op::Ld(addr))
     }
 
     // The addresses are tested before the value.
@@ -127,15 +144,9 @@ impl Builder {
             AnswersLine (built result (state self.new)) number
             (write_step (state self.old) write name n) }
     {
-        if let Some(fault) = self.op_fault() {
-            return Err(LitmusError::AtLine(fault, number));
-        }
-        let (addr, _) = self.names.insert_full(name)?;
-        if MAX_ADDRESSES < self.names.len() {
-            return Err(LitmusError::AtLine(LineFault::L4, number));
-        }
+        let addr = self.address_of(name, number)?;
         match value {
-            Number::Value(value) => self.push(written(write, addr as Addr, value)),
+            Number::Value(value) => self.push(written(write, addr, value)),
             Number::TooLarge => Err(LitmusError::AtLine(LineFault::L5, number)),
         }
     }

@@ -1,4 +1,5 @@
-//! Litmus programs and their text.
+//! Litmus programs and their text, and what all crates share: numbers, limits, `OutOfMemory`,
+//! `Gate`.
 #![tactic(auto)]
 
 mod builder;
@@ -21,7 +22,8 @@ mod writing;
 pub use fault::{LineFault, LitmusError};
 pub use gate::{Gate, OpenGate};
 pub use ids::{Addr, CoreId, EventId};
-pub use limits::{MAX_ADDRESSES, MAX_CAPACITY, MAX_CORES, MAX_EVENTS, MAX_STEPS};
+pub use limits::{MAX_ADDRESSES, MAX_CAPACITY, MAX_CORES, MAX_EVENTS, MAX_STEPS, MAX_WORKERS};
+pub use line::space_in;
 pub use memory::OutOfMemory;
 pub use name::Name;
 pub use number::{Number, decimal};

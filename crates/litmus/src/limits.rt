@@ -1,4 +1,4 @@
-//! How large programs, machines and scripts may be.
+//! How large programs, machines and scripts may be, and how many workers.
 
 /// The most cores that a program has.
 pub const MAX_CORES: usize = 8;
@@ -9,8 +9,11 @@ pub const MAX_EVENTS: usize = 256;
 /// The most addresses that a program names.
 pub const MAX_ADDRESSES: usize = 16;
 
-/// The most stores that wait in a write buffer.
+/// The most stores that wait in a store buffer.
 pub const MAX_CAPACITY: usize = 256;
 
 /// The most steps of a script, and of a trace.
 pub const MAX_STEPS: usize = 1_000_000;
+
+/// The most workers that judge a recording together.
+pub const MAX_WORKERS: usize = 32;

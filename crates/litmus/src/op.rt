@@ -15,7 +15,7 @@ pub enum Op {
     St(Addr, u32),
     /// A load of the value.
     Ld(Addr),
-    /// A FENCE: it waits until the write buffer of its core is empty.
+    /// A FENCE: it waits until the store buffer of its core is empty.
     Fence,
     /// An atomic read-modify-write: reads the old value, and writes this one.
     Swap(Addr, u32),

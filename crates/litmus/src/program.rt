@@ -30,8 +30,8 @@ impl Model for Program {
 }
 
 impl Program {
-    ghost use Rattle.std.specs.Prelude.{◌≡◌, ◌≢◌, ◌<◌, ◌≤◌, ◌↔◌, ℕ, List, Ok, length, slice_index_or, [], IsTrue, IfOk, IfSome, IsSome, None, All, sum_by};
-    ghost use Rattle.litmus.specs.Parts.{IsProgram, IsWithin, parts_of};
+    ghost use Rattle.std.specs.Prelude.{◌≡◌, ◌≢◌, ◌<◌, ◌≤◌, ◌↔◌, ℕ, List, Ok, length, slice_index_or, [], IsTrue, IfOk, IfSome, IsSome, None, All};
+    ghost use Rattle.litmus.specs.Parts.{IsProgram, IsWithin, op_count, parts_of};
     ghost use Rattle.litmus.specs.Spelling.{spelling};
     ghost use Rattle.litmus.specs.Text.{reading};
 
@@ -84,7 +84,7 @@ impl Program {
     pub fn sound(&self)
         ensures lawful { IsProgram self.now }
         ensures within { All (λ ops. All (IsWithin (length self.now.names)) ops) self.now.cores }
-        ensures few { sum_by (λ ops. length ops) self.now.cores ≤ MAX_EVENTS }
+        ensures few { op_count self.now.cores ≤ MAX_EVENTS }
     {
         let _cores = &self.cores;
     }

@@ -36,14 +36,14 @@ fn are_same_ops(a: &[Op], b: &[Op]) -> bool
 }
 
 /// Whether the cores have the same operations.
-pub(crate) fn are_same_cores(a: &[Ops], b: &[Ops]) -> bool
-    ensures { IsTrue result ↔ (a.now ≡ b.now) }
+pub(crate) fn are_same_cores(first: &[Ops], second: &[Ops]) -> bool
+    ensures { IsTrue result ↔ (first.now ≡ second.now) }
 {
-    if a.len() != b.len() {
+    if first.len() != second.len() {
         return false;
     }
-    for (i, ops) in a.iter().enumerate() {
-        if !are_same_ops(ops.as_slice(), b[i].as_slice()) {
+    for (i, ops) in first.iter().enumerate() {
+        if !are_same_ops(ops.as_slice(), second[i].as_slice()) {
             return false;
         }
     }

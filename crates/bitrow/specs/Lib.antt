@@ -1,0 +1,2 @@
+pub mod Bits
+pub mod Walks

@@ -1,0 +1,75 @@
+//! The numbers of a set in turn.
+
+use crate::words::{first_word, next_word, without_bit};
+use std::marker::Model;
+
+/// The numbers of a set in turn, the least first.
+#[derive(Drop)]
+pub struct Numbers<'a> {
+    words: &'a [u64],
+    len: usize,
+    /// The place of the word that `rest` is of.
+    at: usize,
+    /// The bits of that word that are still to come.
+    rest: u64,
+    /// Where the next number is looked for.
+    from: usize,
+}
+
+impl<'a> Model for Numbers<'a> {
+    ghost use Rattle.std.specs.Prelude.{length};
+    ghost use Rattle.bitrow.specs.Bits.{members, IsRoom};
+    ghost use Rattle.bitrow.specs.Walks.{Walk, walk_of, IsRest};
+
+    ghost Value = { Walk };
+
+    ghost view = { λ n. walk_of (members n.words.now n.len) n.from };
+
+    ghost invariant = { λ n. IsRoom (length n.words.now) n.len × IsRest n.words.now n.at n.rest n.from };
+}
+
+impl<'a> Numbers<'a> {
+    ghost use Rattle.std.specs.Prelude.{◌≡◌, ◌+◌, length, IfSome};
+    ghost use Rattle.bitrow.specs.Bits.{members, IsNext, IsRoom};
+    ghost use Rattle.bitrow.specs.Walks.{walk_of};
+
+    /// The numbers below a length whose bits are 1.
+    pub(crate) fn new(words: &'a [u64], len: usize) -> Numbers<'a>
+        requires { IsRoom (length words.now) len }
+        ensures { result ≡ walk_of (members words.now len) 0 }
+    {
+        Numbers {
+            words,
+            len,
+            at: 0,
+            rest: first_word(words),
+            from: 0,
+        }
+    }
+
+    /// The next number; none behind the greatest.
+    pub fn next(&mut self) -> Option<usize>
+        ensures found { IsNext self.old.row self.old.from result }
+        ensures row { self.new.row ≡ self.old.row }
+        ensures from { IfSome result (λ e. self.new.from ≡ e + 1) }
+    {
+        if self.rest != 0 {
+            let bit = self.rest.trailing_zeros() as usize;
+            let number = 64 * self.at + bit;
+            if number >= self.len {
+                return None;
+            }
+            self.rest = without_bit(self.rest, bit);
+            self.from = number + 1;
+            return Some(number);
+        }
+        let number = next_word(self.words, self.at + 1)?;
+        if number >= self.len {
+            return None;
+        }
+        self.at = number / 64;
+        self.rest = without_bit(self.words[number / 64], number % 64);
+        self.from = number + 1;
+        Some(number)
+    }
+}

@@ -1,0 +1,108 @@
+//! Rows of bits.
+
+use crate::numbers::Numbers;
+use crate::words::{and_not_words, clear_bit, next_bit, or_words, set_bit, test_bit};
+use litmus::OutOfMemory;
+use std::alloc::Global;
+use std::marker::Model;
+
+/// A set of numbers below its length.
+#[derive(Drop)]
+pub struct BitRow {
+    words: Vec<u64>,
+    len: usize,
+}
+
+impl Model for BitRow {
+    ghost use Rattle.std.specs.Prelude.{List, Bool, vec_len};
+    ghost use Rattle.bitrow.specs.Bits.{members, IsRoom};
+
+    ghost Value = { List Bool };
+
+    ghost view = { λ r. members r.words.items r.len };
+
+    ghost invariant = { λ r. IsRoom (vec_len r.words) r.len };
+}
+
+impl BitRow {
+    ghost use Rattle.std.specs.Prelude.{◌≡◌, ◌<◌, ◌==◌, ◌||◌, ◌&&◌, ℕ, not, false, length, IfOk};
+    ghost use Rattle.bitrow.specs.Bits.{is_in, IsNext};
+    ghost use Rattle.bitrow.specs.Walks.{walk_of};
+
+    /// The empty set of numbers below a length.
+    pub fn new(alloc: Global, len: usize) -> Result<BitRow, OutOfMemory>
+        ensures len { IfOk result (λ row. length row ≡ len) }
+        ensures empty { IfOk result (λ row. (j : ℕ) → is_in row j ≡ false) }
+    {
+        let words = vec![in alloc; 0u64; len.div_ceil(64)]?;
+        Ok(BitRow { words, len })
+    }
+
+    /// Whether a number is in the set.
+    pub fn test(&self, number: usize) -> bool
+        requires { number < length self.now }
+        ensures { result ≡ is_in self.now number }
+    {
+        test_bit(self.words.as_slice(), number)
+    }
+
+    /// Puts a number into the set.
+    pub fn set(&mut self, number: usize)
+        requires { number < length self.old }
+        ensures len { length self.new ≡ length self.old }
+        ensures numbers { (j : ℕ) → is_in self.new j ≡ (is_in self.old j || (j == number)) }
+    {
+        set_bit(self.words.as_mut_slice(), number);
+    }
+
+    /// Takes a number out of the set.
+    pub fn remove(&mut self, number: usize)
+        requires { number < length self.old }
+        ensures len { length self.new ≡ length self.old }
+        ensures numbers { (j : ℕ) → is_in self.new j ≡ (is_in self.old j && not (j == number)) }
+    {
+        clear_bit(self.words.as_mut_slice(), number);
+    }
+
+    /// Puts the numbers of this set into another of its length.
+    pub fn or_into(&self, into: &mut BitRow)
+        requires { length self.now ≡ length into.old }
+        ensures len { length into.new ≡ length into.old }
+        ensures numbers { (j : ℕ) → is_in into.new j ≡ (is_in into.old j || is_in self.now j) }
+    {
+        or_words(into.words.as_mut_slice(), self.words.as_slice());
+    }
+
+    /// Takes the numbers of another set of its length out of this one.
+    pub fn and_not(&mut self, other: &BitRow)
+        requires { length other.now ≡ length self.old }
+        ensures len { length self.new ≡ length self.old }
+        ensures numbers { (j : ℕ) → is_in self.new j ≡ (is_in self.old j && not (is_in other.now j)) }
+    {
+        and_not_words(self.words.as_mut_slice(), other.words.as_slice());
+    }
+
+    /// The numbers of the set in turn.
+    pub fn numbers(&self) -> Numbers<'_>
+        ensures { result ≡ walk_of self.now 0 }
+    {
+        Numbers::new(self.words.as_slice(), self.len)
+    }
+
+    /// The least number in the set that is at least `from`.
+    pub(crate) fn next_set(&self, from: usize) -> Option<usize>
+        ensures { IsNext self.now from result }
+    {
+        let Some(next) = next_bit(self.words.as_slice(), from) else {
+            return None;
+        };
+        if next < self.len { Some(next) } else { None }
+    }
+
+    /// The least number in the set.
+    pub fn first_set(&self) -> Option<usize>
+        ensures { IsNext self.now 0 result }
+    {
+        self.next_set(0)
+    }
+}
