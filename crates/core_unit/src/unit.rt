@@ -2,7 +2,9 @@
 use litmus::{EventId, MAX_EVENTS, Op};
 use std::marker::Model;
 
-/// How far one core has come in program order (chapter 4 of the Primer: a core issues its operations in that order).
+/// How far one core has come in program order, the order in which it executes its operations
+/// (Nagarajan, Sorin, Hill and Wood, A Primer on Memory Consistency and Cache Coherence, second
+/// edition, chapter 4).
 #[derive(Clone, Copy, Debug)]
 pub struct CoreUnit {
     first: EventId,

@@ -6,7 +6,7 @@ use Rattle.std.proofs.lemmas.List.Sums.{sum_by-cons}
 use Rattle.std.proofs.lemmas.Bool.{cases_lt}
 use Rattle.litmus.specs.declared.limits.TheConstants.{MAX_EVENTS}
 use Rattle.litmus.specs.declared.op.Op.{Op}
-use Rattle.litmus.specs.Parts.{Parts, IsWithin}
+use Rattle.litmus.specs.Parts.{Parts, IsWithin, op_count}
 use Rattle.write_buffer.specs.Buffer.{Buffer}
 use Rattle.core_unit.specs.Progress.{Progress}
 use Rattle.machine.specs.Roomy.{Roomy}
@@ -14,7 +14,7 @@ use Rattle.machine.specs.State.{first_event, opening}
 use Rattle.machine.specs.Made.{AreUnits}
 use Rattle.moesi.specs.State as moesi
 use Rattle.moesi.specs.Block.{Block, opening_block}
-use Rattle.machine.specs.Held.{Rooms, IsSound, IsEntry, IsMachine, held, places_of, events_of}
+use Rattle.machine.specs.Held.{Rooms, IsSound, IsEntry, IsMachine, held, places_of}
 use Rattle.machine.proofs.Opening.{get_or_same}
 
 -- what is true of an item is true of all its copies
@@ -40,7 +40,7 @@ places_none (u ∷ units) (suc n) l h =
     ap (λ (k : ℕ). k ∷ places_of units) (h 0 u (omega arith)) ∙ ap (λ (ks : List ℕ). 0 ∷ ks) (places_none units n (omega (arith, l)) (λ c d inside. h (suc c) d (omega (arith, inside))))
 
 module _ (p : Parts) (capacity cores total n : ℕ) (units : List Progress) (cores_is : cores ≡ length p.cores) (n_is : n ≡ length p.names) (are : AreUnits p.cores units total)
-    (fits : All (λ ops. All (IsWithin (length p.names)) ops) p.cores) (few : events_of p ≤ MAX_EVENTS)
+    (fits : All (λ ops. All (IsWithin (length p.names)) ops) p.cores) (few : op_count p.cores ≤ MAX_EVENTS)
     (buffers : List Buffer) (caches : moesi.State) (reads : List (ℕ × Option ℕ)) (writes : List (Roomy ℕ)) (done : Roomy ℕ) (blank : Rooms)
     (buffers_are : buffers ≡ replicate cores (record { entries = []; capacity = capacity })) (caches_are : caches ≡ moesi.opening cores n)
     (writes_are : writes ≡ replicate n (record { items = []; room = total })) (reads_are : reads ≡ replicate total (0, None)) (done_is : done ≡ record { items = []; room = total })
@@ -85,7 +85,7 @@ module _ (p : Parts) (capacity cores total n : ℕ) (units : List Progress) (cor
     capacities = subst (λ (l : List Buffer). All (λ b. b.capacity ≡ capacity) l) (sym buffers_are) (all_same (λ (b : Buffer). b.capacity ≡ capacity) cores (record { entries = []; capacity = capacity }) refl);
     entries = subst (λ (l : List Buffer). All (λ b. All (IsEntry (length p.names)) b.entries) l) (sym buffers_are)
         (all_same (λ (b : Buffer). All (IsEntry (length p.names)) b.entries) cores (record { entries = []; capacity = capacity }) (λ k d h. absurd (omega (arith, h))));
-    write_rooms = subst (λ (l : List (Roomy ℕ)). All (λ b. b.room ≡ events_of p) l) (sym writes_are) (all_same (λ (b : Roomy ℕ). b.room ≡ events_of p) n (record { items = []; room = total }) are.events);
+    write_rooms = subst (λ (l : List (Roomy ℕ)). All (λ b. b.room ≡ op_count p.cores) l) (sym writes_are) (all_same (λ (b : Roomy ℕ). b.room ≡ op_count p.cores) n (record { items = []; room = total }) are.events);
     write_lengths = subst (λ (l : List (Roomy ℕ)). All (λ b. length b.items ≤ length done.items) l) (sym writes_are)
         (all_same (λ (b : Roomy ℕ). length b.items ≤ length done.items) n (record { items = []; room = total }) (omega arith));
     performed_room = ap (λ (r : Roomy ℕ). r.room) done_is ∙ are.events;

@@ -20,7 +20,7 @@ use Rattle.moesi.specs.State as moesi
 use Rattle.moesi.specs.Laws.{IsTransaction}
 use Rattle.moesi.proofs.Origins.{copy_was_there, write_adds}
 use Rattle.machine.specs.State.{State, place_of, buffer_of, copy_of, event_of, recorded, opening, IsComplete}
-use Rattle.machine.specs.Step.{with_caches, found, looked_up, exchanged_value, run}
+use Rattle.machine.specs.Step.{with_caches, forwarded_or_read, looked_up, rmw_value, run}
 use Rattle.machine.proofs.Cached.{read_has, written_read, opening_has}
 use Rattle.machine.proofs.Static.{static_of, snapshot_of, placed_op, done_by, op_reads}
 use Rattle.machine.proofs.Newest.{bool_cases, times_filter, times_filter_no}
@@ -28,7 +28,7 @@ use Rattle.machine.proofs.WriteLists.{writes_to, is_address_true, is_address_bac
 use Rattle.machine.proofs.Drains.{AreStores, drained_state}
 use Rattle.machine.proofs.Loads.{not_equal}
 use Rattle.machine.proofs.Executes.{IsNext, next_placed}
-use Rattle.machine.proofs.Rows.{IsKept, IsExchange, stored_state, loaded_state, fenced_state, exchanged_state, run_kept}
+use Rattle.machine.proofs.Rows.{IsKept, IsRmw, stored_state, loaded_state, fenced_state, rmw_state, run_kept}
 use Rattle.machine.proofs.Steady.{IsSteady, next_within, steady_kept}
 use Rattle.machine.proofs.Opening.{get_or_same, opening_steady}
 use Rattle.machine.proofs.Complete.{event_is, list_is, writes_is, reads_is, complete_listed}
@@ -106,7 +106,7 @@ module _ (p : List (List Op)) (s : State) (d : IsData p s) where
   loaded_given : (c a : ℕ) (what : ℕ × Option ℕ) → looked_up s c a ≡ Ok what → IsPairGiven p s a what
   loaded_given c a what = go (youngest (buffer_of s c) a) refl
     where
-      go : (o : Option Entry) → youngest (buffer_of s c) a ≡ o → found o (moesi.read s.caches c a) ≡ Ok what → IsPairGiven p s a what
+      go : (o : Option Entry) → youngest (buffer_of s c) a ≡ o → forwarded_or_read o (moesi.read s.caches c a) ≡ Ok what → IsPairGiven p s a what
       go None is got = d.copies a what (read_has s.caches c a what got)
       go (Some y) is got =
           let at = youngest_is p c (buffer_of s c) a y (d.steady.stores c) is in
@@ -203,17 +203,17 @@ module _ (p : List (List Op)) (s : State) (d : IsData p s) where
       }
 
   -- a read-modify-write keeps the data
-  exchange_data : (caches : moesi.State) (c b a : ℕ) (op : Op) → IsNext p s c b op → c < length p → IsExchange op (copy_of s c a) a → buffer_of s c ≡ []
-      → moesi.write s.caches c a (exchanged_value s c op a) b ≡ Ok caches → IsData p (exchanged_state s caches c b a)
-  exchange_data caches c b a op n at is empty wrote =
-      let t : State = exchanged_state s caches c b a in
+  rmw_data : (caches : moesi.State) (c b a : ℕ) (op : Op) → IsNext p s c b op → c < length p → IsRmw op (copy_of s c a) a → buffer_of s c ≡ []
+      → moesi.write s.caches c a (rmw_value s c op a) b ≡ Ok caches → IsData p (rmw_state s caches c b a)
+  rmw_data caches c b a op n at is empty wrote =
+      let t : State = rmw_state s caches c b a in
       let what : ℕ × Option ℕ = copy_of s c a in
-      let value : ℕ = exchanged_value s c op a in
+      let value : ℕ = rmw_value s c op a in
       let read : get_or t.reads b (0, None) ≡ what = get_or-set_same s.reads b what (0, None) (next_within p s d.steady c b op n) in
       let gave : IsGiven p t a (Some b) value = written_given p t b c a value op (next_placed p s c b op n) (omega (arith, n.event, get_or-set_same s.places c (place_of s c + 1) 0 n.core))
       (ap (λ (z : ℕ × Option ℕ). written_address (event_of op z)) read ∙ is.address) (ap (λ (z : ℕ × Option ℕ). value_written (event_of op z)) read) in
       record {
-        steady = (steady_kept p s d.steady).exchange caches c b a op n at is empty wrote;
+        steady = (steady_kept p s d.steady).rmw caches c b a op n at is empty wrote;
         copies = copies_given t caches c a b value wrote gave (λ k copy h. go_on c b op n t refl (λ e other. get_or-set_other s.reads b e what (0, None) other) k _ _ (d.copies k copy h));
         reads = read_given c b op n t a what is.reads (d.copies a what (read_has s.caches c a what (written_read s.caches caches c a value b wrote))) refl refl;
       }
@@ -237,7 +237,7 @@ module _ (p : List (List Op)) (s : State) (d : IsData p s) where
     store = store_data;
     load = load_data;
     fence = fence_data;
-    exchange = exchange_data;
+    rmw = rmw_data;
     transact = transact_data;
   }
 

@@ -10,14 +10,14 @@ use Rattle.std.proofs.lemmas.Bool.{lt-ltb}
 use Rattle.moesi.specs.State as moesi
 use Rattle.moesi.specs.declared.error.CacheError.{CacheError}
 use Rattle.machine.specs.declared.blocked.Blocked.TheVariants.{B5}
-use Rattle.litmus.specs.Parts.{Parts}
+use Rattle.litmus.specs.Parts.{Parts, op_count}
 use Rattle.write_buffer.specs.declared.entry.Entry.{Entry}
 use Rattle.write_buffer.specs.Buffer.{Buffer}
 use Rattle.core_unit.specs.Progress.{Progress}
 use Rattle.machine.specs.declared.step.Step.TheVariants.{Drain}
 use Rattle.machine.specs.Step.{drained, taken}
 use Rattle.machine.specs.Roomy.{Roomy}
-use Rattle.machine.specs.Held.{IsSound, IsEntry, held, places_of, events_of}
+use Rattle.machine.specs.Held.{IsSound, IsEntry, held, places_of}
 use Rattle.machine.proofs.Executed.{places_within, buffer_seen, list_seen}
 
 -- what leaves a buffer is its oldest entry
@@ -92,7 +92,7 @@ module _ (p : Parts) (capacity : ℕ) (units : List Progress) (buffers : List Bu
   )
 
   -- one more can be performed
-  room_left : length done.items < events_of p
+  room_left : length done.items < op_count p.cores
   room_left = omega (arith, counted, sound.counted, places_within (places_of units) p.cores (length-map units (λ (u : Progress). u.place) ∙ sound.units_length) sound.place)
 
   -- the performed list has room for it
@@ -105,7 +105,7 @@ module _ (p : Parts) (capacity : ℕ) (units : List Progress) (buffers : List Bu
     in_writes = omega (arith, (all_within 0 entry (omega arith)).0, sound.writes_length)
 
     -- with room for every event
-    list_room : list.room ≡ events_of p
+    list_room : list.room ≡ op_count p.cores
     list_room = ap (λ (l : Roomy ℕ). l.room) list_is ∙ sound.write_rooms entry.addr list in_writes
 
     -- and no longer than the performed list
@@ -138,7 +138,7 @@ module _ (p : Parts) (capacity : ℕ) (units : List Progress) (buffers : List Bu
         place = sound.place;
         capacities = All-set (λ b. b.capacity ≡ capacity) buffers core new (same ∙ (ap (λ (b : Buffer). b.capacity) is ∙ sound.capacities core old there)) sound.capacities;
         entries = All-set (λ b. All (IsEntry (length p.names)) b.entries) buffers core new rest_within sound.entries;
-        write_rooms = All-set (λ l. l.room ≡ events_of p) writes entry.addr list' (ap (λ (r : Roomy ℕ). r.room) pushed ∙ list_room) sound.write_rooms;
+        write_rooms = All-set (λ l. l.room ≡ op_count p.cores) writes entry.addr list' (ap (λ (r : Roomy ℕ). r.room) pushed ∙ list_room) sound.write_rooms;
         write_lengths = All-set (λ l. length l.items ≤ length done'.items) writes entry.addr list'
             (omega (arith, list_short, longer, ap (λ (r : Roomy ℕ). length r.items) pushed, length-append list.items (entry.event ∷ [])))
             (All-weaker (λ l. length l.items ≤ length done.items) (λ l. length l.items ≤ length done'.items) (λ l h. omega (arith, h, longer)) writes sound.write_lengths);

@@ -9,7 +9,7 @@ use Rattle.std.proofs.lemmas.Bool.{cases_eq, lt-ltb}
 use Rattle.litmus.specs.declared.limits.TheConstants.{MAX_EVENTS}
 use Rattle.litmus.specs.declared.op.Op.{Op}
 use Rattle.litmus.specs.declared.op.Op.TheVariants.{St, Ld, Fence}
-use Rattle.litmus.specs.Parts.{Parts, IsWithin}
+use Rattle.litmus.specs.Parts.{Parts, IsWithin, op_count}
 use Rattle.write_buffer.specs.declared.entry.Entry.{Entry}
 use Rattle.write_buffer.specs.Buffer.{Buffer, youngest}
 use Rattle.core_unit.specs.Progress.{Progress}
@@ -18,9 +18,9 @@ use Rattle.moesi.specs.declared.error.CacheError.{CacheError}
 use Rattle.machine.specs.declared.blocked.Blocked.TheVariants.{B5}
 use Rattle.moesi.specs.State as moesi
 use Rattle.machine.specs.State.{first_event, event_of}
-use Rattle.machine.specs.Step.{exec, exchanged, IsAt, found}
+use Rattle.machine.specs.Step.{exec, read_modify_written, IsAt, forwarded_or_read}
 use Rattle.machine.specs.Roomy.{Roomy}
-use Rattle.machine.specs.Held.{IsSound, IsEntry, held, places_of, events_of}
+use Rattle.machine.specs.Held.{IsSound, IsEntry, held, places_of}
 use Rattle.machine.proofs.Static.{placed_at, placed_total, first_within}
 
 -- each core is within its operations, so all together are
@@ -51,10 +51,10 @@ module _ (p : Parts) (capacity : ℕ) (units : List Progress) (buffers : List Bu
   buffer_there = omega (arith, at.core, sound.buffers_length)
 
   -- a read-modify-write that the caches refuse is blocked
-  pub exchange_blocked : (old : Buffer) → old ≡ slice_index_or buffers core old → old.entries ≡ [] → (addr : ℕ) (what : ℕ × Option ℕ) → moesi.copy_of caches core addr ≡ what
+  pub rmw_blocked : (old : Buffer) → old ≡ slice_index_or buffers core old → old.entries ≡ [] → (addr : ℕ) (what : ℕ × Option ℕ) → moesi.copy_of caches core addr ≡ what
       → (e : CacheError) → moesi.write caches core addr (value_written (event_of op what)) event ≡ Err e
-      → exchanged (held units buffers caches writes reads done.items) core event op addr ≡ Err B5
-  exchange_blocked old is empty addr what what_is e refused = rw (buffer_seen buffers core old buffer_there is, empty, what_is, refused) refl
+      → read_modify_written (held units buffers caches writes reads done.items) core event op addr ≡ Err B5
+  rmw_blocked old is empty addr what what_is e refused = rw (buffer_seen buffers core old buffer_there is, empty, what_is, refused) refl
 
   -- the core has an operation left
   below : slice_index (places_of units) core < length (slice_index_or p.cores core [])
@@ -126,7 +126,7 @@ module _ (p : Parts) (capacity : ℕ) (units : List Progress) (buffers : List Bu
       sum_up = ap (λ (l : List ℕ). sum l) places_set ∙ omega (arith, sum_by-set (λ (x : ℕ). x) (places_of units) core (slice_index (places_of units) core + 1) 0 place_there)
 
       -- one more than what was performed and waits has room
-      room_left : length done.items + sum_by (λ b. length b.entries) buffers < events_of p
+      room_left : length done.items + sum_by (λ b. length b.entries) buffers < op_count p.cores
       room_left = omega (
         arith,
         sound.counted,
@@ -168,18 +168,18 @@ module _ (p : Parts) (capacity : ℕ) (units : List Progress) (buffers : List Bu
 
       -- the row of a load
       pub load_taken : (old : Buffer) → old ≡ slice_index_or buffers core old → (addr : ℕ) (entry : Option Entry) → entry ≡ youngest old.entries addr
-          → (what : ℕ × Option ℕ) → found entry (moesi.read caches core addr) ≡ Ok what
+          → (what : ℕ × Option ℕ) → forwarded_or_read entry (moesi.read caches core addr) ≡ Ok what
           → exec capacity (held units buffers caches writes reads done.items) core event (Ld addr)
           ≡ Ok (held (slice_set units core moved) buffers caches writes (slice_set reads event what) (done.items ++ event ∷ []))
       load_taken old is addr entry entry_is what got = rw (buffer_seen buffers core old buffer_there is, ← entry_is, got, places_set) refl
 
       -- the row of a read-modify-write
-      pub exchange_taken : (old : Buffer) → old ≡ slice_index_or buffers core old → old.entries ≡ [] → (addr : ℕ) → addr < length p.names
+      pub rmw_taken : (old : Buffer) → old ≡ slice_index_or buffers core old → old.entries ≡ [] → (addr : ℕ) → addr < length p.names
           → (what : ℕ × Option ℕ) → moesi.copy_of caches core addr ≡ what → (caches' : moesi.State) → moesi.write caches core addr (value_written (event_of op what)) event ≡ Ok caches'
           → (list new : Roomy ℕ) → list ≡ slice_index_or writes addr list → new ≡ record { items = list.items ++ event ∷ []; room = list.room }
-          → exchanged (held units buffers caches writes reads done.items) core event op addr
+          → read_modify_written (held units buffers caches writes reads done.items) core event op addr
           ≡ Ok (held (slice_set units core moved) buffers caches' (slice_set writes addr new) (slice_set reads event what) (done.items ++ event ∷ []))
-      exchange_taken old is empty addr addressed what what_is caches' wrote list new list_is pushed =
+      rmw_taken old is empty addr addressed what what_is caches' wrote list new list_is pushed =
           rw (
             map-set (λ (b : Roomy ℕ). b.items) writes addr new,
             pushed,
@@ -202,14 +202,14 @@ module _ (p : Parts) (capacity : ℕ) (units : List Progress) (buffers : List Bu
         list_short = omega (arith, ap (λ (l : Roomy ℕ). length l.items) list_is, sound.write_lengths addr list there)
 
         -- with room for every event
-        list_room : list.room ≡ events_of p
+        list_room : list.room ≡ op_count p.cores
         list_room = ap (λ (l : Roomy ℕ). l.room) list_is ∙ sound.write_rooms addr list there
 
         -- the parts still fit together behind a read-modify-write
-        pub exchanged_sound : (caches' : moesi.State) → caches'.cores ≡ caches.cores → length caches'.blocks ≡ length caches.blocks → (reads' : List (ℕ × Option ℕ)) → length reads' ≡ length reads → (list' new : Roomy ℕ)
+        pub rmw_sound : (caches' : moesi.State) → caches'.cores ≡ caches.cores → length caches'.blocks ≡ length caches.blocks → (reads' : List (ℕ × Option ℕ)) → length reads' ≡ length reads → (list' new : Roomy ℕ)
             → list' ≡ record { items = list.items ++ event ∷ []; room = list.room } → new ≡ record { items = done.items ++ event ∷ []; room = done.room }
             → IsSound p capacity (slice_set units core moved) buffers caches' (slice_set writes addr list') reads' new
-        exchanged_sound caches' same_cores same_blocks reads' same list' new pushed is =
+        rmw_sound caches' same_cores same_blocks reads' same list' new pushed is =
             let base : IsSound p capacity (slice_set units core moved) buffers caches writes reads' new = performed_sound reads' same new is in
             record {
               operations = base.operations;
@@ -224,7 +224,7 @@ module _ (p : Parts) (capacity : ℕ) (units : List Progress) (buffers : List Bu
               place = base.place;
               capacities = base.capacities;
               entries = base.entries;
-              write_rooms = All-set (λ l. l.room ≡ events_of p) writes addr list' (ap (λ (r : Roomy ℕ). r.room) pushed ∙ list_room) base.write_rooms;
+              write_rooms = All-set (λ l. l.room ≡ op_count p.cores) writes addr list' (ap (λ (r : Roomy ℕ). r.room) pushed ∙ list_room) base.write_rooms;
               write_lengths = All-set (λ l. length l.items ≤ length new.items) writes addr list'
                   (omega (arith, list_short, ap (λ (r : Roomy ℕ). length r.items) pushed, length-append list.items (event ∷ []), ap (λ (r : Roomy ℕ). length r.items) is, length-append done.items (event ∷ [])))
                   base.write_lengths;
@@ -279,7 +279,7 @@ module _ (p : Parts) (capacity : ℕ) (units : List Progress) (buffers : List Bu
   -- what was performed has room for one more, and so has each write list
   module _ (unit : Progress) (unit_is : unit ≡ slice_index_or units core unit) where
     -- there is room, whatever unit is looked at
-    has_room_left : length done.items + sum_by (λ b. length b.entries) buffers < events_of p
+    has_room_left : length done.items + sum_by (λ b. length b.entries) buffers < op_count p.cores
     has_room_left = room_left unit unit_is (slice_index_or p.cores core []) refl (record unit { place = unit.place + 1 }) refl
 
   -- the core's unit

@@ -10,7 +10,7 @@ use Rattle.moesi.specs.Laws.{IsTransaction}
 use Rattle.moesi.specs.Coherent.{IsCoherent}
 use Rattle.moesi.proofs.Kept.{write_kept, write_current, transaction_kept, transaction_current}
 use Rattle.machine.specs.State.{State, buffer_of, copy_of, event_of}
-use Rattle.machine.specs.Step.{given, with_buffer, with_caches, found, looked_up, exchanged_value}
+use Rattle.machine.specs.Step.{given, with_buffer, with_caches, forwarded_or_read, looked_up, rmw_value}
 use Rattle.machine.proofs.Cached.{written_large, transaction_large, written_read}
 use Rattle.machine.proofs.Seen.{seen, IsOrdered, IsNewest}
 use Rattle.machine.proofs.Static.{static_of, snapshot_of, op_reads}
@@ -18,8 +18,8 @@ use Rattle.machine.proofs.Drains.{AreStores, drained_state, drain_ordered}
 use Rattle.machine.proofs.Executes.{IsNext, next_placed, perform_ordered, issue_ordered}
 use Rattle.machine.proofs.Loads.{some_one}
 use Rattle.machine.proofs.WriteLists.{IsLatest, latest_written, loaded_newest}
-use Rattle.machine.proofs.Rows.{IsKept, IsExchange, stored_state, loaded_state, fenced_state, exchanged_state}
-use Rattle.machine.proofs.Steady.{IsSteady, once, waits_once, waiting_once, next_within, exchange_within, steady_kept}
+use Rattle.machine.proofs.Rows.{IsKept, IsRmw, stored_state, loaded_state, fenced_state, rmw_state}
+use Rattle.machine.proofs.Steady.{IsSteady, once, waits_once, waiting_once, next_within, rmw_within, steady_kept}
 
 -- what every step keeps without fault: TSO's order as each core sees it, that the caches are coherent, and that each address has its last write
 pub record IsInOrder (p : List (List Op)) (s : State) : Type 0 where
@@ -88,20 +88,20 @@ module _ (p : List (List Op)) (s : State) (g : IsInOrder p s) where
   }
 
   -- what a read-modify-write reads is what a load would get
-  exchange_read : (caches : moesi.State) (c b a value : ℕ) → buffer_of s c ≡ [] → moesi.write s.caches c a value b ≡ Ok caches → looked_up s c a ≡ Ok (copy_of s c a)
-  exchange_read caches c b a value empty wrote = ap (λ (l : List Entry). found (youngest l a) (moesi.read s.caches c a)) empty ∙ written_read s.caches caches c a value b wrote
+  rmw_read : (caches : moesi.State) (c b a value : ℕ) → buffer_of s c ≡ [] → moesi.write s.caches c a value b ≡ Ok caches → looked_up s c a ≡ Ok (copy_of s c a)
+  rmw_read caches c b a value empty wrote = ap (λ (l : List Entry). forwarded_or_read (youngest l a) (moesi.read s.caches c a)) empty ∙ written_read s.caches caches c a value b wrote
 
   -- a read-modify-write keeps the order
-  exchange_in_order : (caches : moesi.State) (c b a : ℕ) (op : Op) → IsNext p s c b op → c < length p → IsExchange op (copy_of s c a) a → buffer_of s c ≡ []
-      → moesi.write s.caches c a (exchanged_value s c op a) b ≡ Ok caches → IsInOrder p (exchanged_state s caches c b a)
-  exchange_in_order caches c b a op n at is empty wrote =
+  rmw_in_order : (caches : moesi.State) (c b a : ℕ) (op : Op) → IsNext p s c b op → c < length p → IsRmw op (copy_of s c a) a → buffer_of s c ≡ []
+      → moesi.write s.caches c a (rmw_value s c op a) b ≡ Ok caches → IsInOrder p (rmw_state s caches c b a)
+  rmw_in_order caches c b a op n at is empty wrote =
       let what : ℕ × Option ℕ = copy_of s c a in
-      let value : ℕ = exchanged_value s c op a in
-      let within : a < length s.caches.blocks = exchange_within p s g.steady c b a op n is in
+      let value : ℕ = rmw_value s c op a in
+      let within : a < length s.caches.blocks = rmw_within p s g.steady c b a op n is in
       record {
-        steady = (steady_kept p s g.steady).exchange caches c b a op n at is empty wrote;
-        ordered = perform_ordered p s (exchanged_state s caches c b a) c b op n refl refl refl (λ e other. get_or-set_other s.reads b e what (0, None) other) is.store (inr empty)
-            (λ k h. newest_read c b a what (next_within p s g.steady c b op n) (newest c a what within (exchange_read caches c b a value empty wrote)) k (sym is.reads ∙ h))
+        steady = (steady_kept p s g.steady).rmw caches c b a op n at is empty wrote;
+        ordered = perform_ordered p s (rmw_state s caches c b a) c b op n refl refl refl (λ e other. get_or-set_other s.reads b e what (0, None) other) is.store (inr empty)
+            (λ k h. newest_read c b a what (next_within p s g.steady c b op n) (newest c a what within (rmw_read caches c b a value empty wrote)) k (sym is.reads ∙ h))
             g.steady.counted g.ordered;
         coherent = (write_kept s.caches caches c a g.coherent (core_within c at) within value b wrote).coherent;
         latest = latest_written (given s b what) caches a value b within g.steady.listed.cells (written_large s.caches caches c a value b wrote).blocks
@@ -125,6 +125,6 @@ module _ (p : List (List Op)) (s : State) (g : IsInOrder p s) where
     store = store_in_order;
     load = load_in_order;
     fence = fence_in_order;
-    exchange = exchange_in_order;
+    rmw = rmw_in_order;
     transact = transact_in_order;
   }

@@ -10,14 +10,14 @@ use Rattle.write_buffer.specs.declared.entry.Entry.{Entry}
 use Rattle.moesi.specs.State as moesi
 use Rattle.moesi.specs.Laws.{IsTransaction}
 use Rattle.machine.specs.State.{State, place_of, buffer_of, copy_of, event_of}
-use Rattle.machine.specs.Step.{performed, given, written, with_buffer, with_caches, exchanged_value}
+use Rattle.machine.specs.Step.{performed, given, written, with_buffer, with_caches, rmw_value}
 use Rattle.machine.proofs.Cached.{written_large, transaction_large}
 use Rattle.machine.proofs.Seen.{seen, IsCounted}
 use Rattle.machine.proofs.Static.{static_of, snapshot_of, placed_op, done_by, op_reads}
 use Rattle.machine.proofs.Drains.{AreStores, drained_state, drain_counted}
 use Rattle.machine.proofs.Executes.{IsNext, next_placed, next_event, perform_counted, issue_counted}
 use Rattle.machine.proofs.WriteLists.{AreListed, listed_given, listed_written, listed_performed}
-use Rattle.machine.proofs.Rows.{IsKept, IsExchange, stored_state, loaded_state, fenced_state, exchanged_state}
+use Rattle.machine.proofs.Rows.{IsKept, IsRmw, stored_state, loaded_state, fenced_state, rmw_state}
 
 -- what every step keeps, under every fault: the count, the write lists, that plain stores wait, and what fits together
 pub record IsSteady (p : List (List Op)) (s : State) : Type 0 where
@@ -154,27 +154,27 @@ module _ (p : List (List Op)) (s : State) (g : IsSteady p s) where
         reads_within = g.reads_within;
       }
 
-  -- what an exchange writes, once it has read
-  pub exchange_writes : (c b a : ℕ) (op : Op) → IsNext p s c b op → IsExchange op (copy_of s c a) a → written_address (done_by p (given s b (copy_of s c a)) b) ≡ Some a
-  exchange_writes c b a op n is =
+  -- what a read-modify-write writes, once it has read
+  pub rmw_writes : (c b a : ℕ) (op : Op) → IsNext p s c b op → IsRmw op (copy_of s c a) a → written_address (done_by p (given s b (copy_of s c a)) b) ≡ Some a
+  rmw_writes c b a op n is =
       ap (λ (d : ℕ × Option ℕ). written_address (event_of (placed_op p b).1 d)) (get_or-set_same s.reads b (copy_of s c a) (0, None) (next_within c b op n))
       ∙ (ap (λ (z : ℕ × Op). written_address (event_of z.1 (copy_of s c a))) (next_placed p s c b op n) ∙ is.address)
 
   -- its address is one of the program's
-  pub exchange_within : (c b a : ℕ) (op : Op) → IsNext p s c b op → IsExchange op (copy_of s c a) a → a < length s.caches.blocks
-  exchange_within c b a op n is = g.reads_within b a (ap (λ (z : ℕ × Op). op_reads z.1) (next_placed p s c b op n) ∙ is.reads)
+  pub rmw_within : (c b a : ℕ) (op : Op) → IsNext p s c b op → IsRmw op (copy_of s c a) a → a < length s.caches.blocks
+  rmw_within c b a op n is = g.reads_within b a (ap (λ (z : ℕ × Op). op_reads z.1) (next_placed p s c b op n) ∙ is.reads)
 
   -- a read-modify-write keeps it
-  exchange_steady : (caches : moesi.State) (c b a : ℕ) (op : Op) → IsNext p s c b op → IsExchange op (copy_of s c a) a
-      → moesi.write s.caches c a (exchanged_value s c op a) b ≡ Ok caches → IsSteady p (exchanged_state s caches c b a)
-  exchange_steady caches c b a op n is wrote =
+  rmw_steady : (caches : moesi.State) (c b a : ℕ) (op : Op) → IsNext p s c b op → IsRmw op (copy_of s c a) a
+      → moesi.write s.caches c a (rmw_value s c op a) b ≡ Ok caches → IsSteady p (rmw_state s caches c b a)
+  rmw_steady caches c b a op n is wrote =
       let what : ℕ × Option ℕ = copy_of s c a in
-      let large = written_large s.caches caches c a (exchanged_value s c op a) b wrote in
-      let writes : written_address (done_by p (given s b what) b) ≡ Some a = exchange_writes c b a op n is in
+      let large = written_large s.caches caches c a (rmw_value s c op a) b wrote in
+      let writes : written_address (done_by p (given s b what) b) ≡ Some a = rmw_writes c b a op n is in
       let kept : AreListed p (performed (written (given s b what) caches a b) b) =
-      listed_written p (given s b what) caches a b large.blocks writes (exchange_within c b a op n is) (listed_given p s b what (next_fresh c b op n) g.listed) in
+      listed_written p (given s b what) caches a b large.blocks writes (rmw_within c b a op n is) (listed_given p s b what (next_fresh c b op n) g.listed) in
       record {
-        counted = perform_counted p s (exchanged_state s caches c b a) c b op n refl refl refl (λ e other. get_or-set_other s.reads b e what (0, None) other) g.counted;
+        counted = perform_counted p s (rmw_state s caches c b a) c b op n refl refl refl (λ e other. get_or-set_other s.reads b e what (0, None) other) g.counted;
         listed = record { cells = kept.cells; lists = kept.lists };
         stores = g.stores;
         places = length-set s.places c (place_of s c + 1) ∙ g.places;
@@ -208,6 +208,6 @@ module _ (p : List (List Op)) (s : State) (g : IsSteady p s) where
     store = store_steady;
     load = λ c b a what n got. load_steady c b a what n;
     fence = fence_steady;
-    exchange = λ caches c b a op n at is empty wrote. exchange_steady caches c b a op n is wrote;
+    rmw = λ caches c b a op n at is empty wrote. rmw_steady caches c b a op n is wrote;
     transact = λ caches c a at within made. transact_steady caches c a made;
   }

@@ -17,7 +17,7 @@ use Rattle.moesi.specs.declared.error.CacheError.{CacheError}
 use Rattle.moesi.specs.Coherent.{IsCoherent}
 use Rattle.moesi.proofs.Kept.{read_current}
 use Rattle.machine.specs.State.{State, buffer_of, current, event_of}
-use Rattle.machine.specs.Step.{performed, written, given, found, looked_up}
+use Rattle.machine.specs.Step.{performed, written, given, forwarded_or_read, looked_up}
 use Rattle.machine.proofs.Seen.{seen, IsNewest}
 use Rattle.machine.proofs.Static.{static_of, snapshot_of, placed_op, done_by}
 use Rattle.machine.proofs.Newest.{last_of, last_one, last_two, filter_same, newest_in_memory}
@@ -137,7 +137,7 @@ pub loaded_newest : (p : List (List Op)) (s : State) (c a : ℕ) (what : ℕ × 
     → looked_up s c a ≡ Ok what → IsNewest (static_of p s) (seen (snapshot_of p s) c) a what.1
 loaded_newest p s c a what at listed latest coherent stores once once_waiting apart = go (youngest (buffer_of s c) a) (youngest_says p s c (buffer_of s c) a stores once_waiting)
   where
-    go : (entry : Option Entry) → Says p s (buffer_of s c) a entry → found entry (moesi.read s.caches c a) ≡ Ok what → IsNewest (static_of p s) (seen (snapshot_of p s) c) a what.1
+    go : (entry : Option Entry) → Says p s (buffer_of s c) a entry → forwarded_or_read entry (moesi.read s.caches c a) ≡ Ok what → IsNewest (static_of p s) (seen (snapshot_of p s) c) a what.1
     go None says is = subst (λ (o : Option ℕ). IsNewest (static_of p s) (seen (snapshot_of p s) c) a o)
         (sym (ap (λ (z : ℕ × Option ℕ). z.1) (read_current s.caches c a what coherent is) ∙ (latest a at ∙ ap last_of (listed.lists a at))))
         (newest_in_memory (static_of p s) (writes_to p s a) s.performed (map (λ (x : Entry). x.event) (buffer_of s c)) a

@@ -2,7 +2,7 @@
 use Rattle.std.specs.Prelude.{◌≡◌, ◌+◌, ◌<◌, ◌≤◌, ℕ, Bool, Option, Result, List, [], length, map, sum, sum_by, slice_index, slice_index_or, All}
 use Rattle.litmus.specs.declared.limits.TheConstants.{MAX_EVENTS}
 use Rattle.litmus.specs.declared.op.Op.{Op}
-use Rattle.litmus.specs.Parts.{Parts, IsWithin}
+use Rattle.litmus.specs.Parts.{Parts, IsWithin, op_count}
 use Rattle.write_buffer.specs.declared.entry.Entry.{Entry}
 use Rattle.write_buffer.specs.Buffer.{Buffer}
 use Rattle.core_unit.specs.Progress.{Progress}
@@ -21,10 +21,6 @@ pub record Held : Type 0 where
   pub capacity : ℕ
   pub fault : Fault
   pub state : State
-
--- how many events a program has
-abbrev pub events_of : Parts → ℕ
-events_of p = sum_by (λ ops. length ops) p.cores
 
 -- the operations that each core has executed
 abbrev pub places_of : List Progress → List ℕ
@@ -49,20 +45,20 @@ IsEntry n x = (x.addr < n) × (x.event < MAX_EVENTS)
 pub record IsSound (p : Parts) (capacity : ℕ) (units : List Progress) (buffers : List Buffer) (caches : moesi.State)
     (writes : List (Roomy ℕ)) (reads : List (ℕ × Option ℕ)) (performed : Roomy ℕ) : Type 0 where
   pub operations : All (λ ops. All (IsWithin (length p.names)) ops) p.cores
-  pub few : events_of p ≤ MAX_EVENTS
+  pub few : op_count p.cores ≤ MAX_EVENTS
   pub units_length : length units ≡ length p.cores
   pub buffers_length : length buffers ≡ length p.cores
   pub cache_cores : caches.cores ≡ length p.cores
   pub cache_blocks : length caches.blocks ≡ length p.names
   pub writes_length : length writes ≡ length p.names
-  pub events : length reads ≡ events_of p
+  pub events : length reads ≡ op_count p.cores
   pub first : (c : ℕ) (d : Progress) → c < length p.cores → (slice_index_or units c d).first ≡ first_event p.cores c
   pub place : (c : ℕ) → slice_index (places_of units) c ≤ length (slice_index_or p.cores c [])
   pub capacities : All (λ b. b.capacity ≡ capacity) buffers
   pub entries : All (λ b. All (IsEntry (length p.names)) b.entries) buffers
-  pub write_rooms : All (λ l. l.room ≡ events_of p) writes
+  pub write_rooms : All (λ l. l.room ≡ op_count p.cores) writes
   pub write_lengths : All (λ l. length l.items ≤ length performed.items) writes
-  pub performed_room : performed.room ≡ events_of p
+  pub performed_room : performed.room ≡ op_count p.cores
   pub counted : length performed.items + sum_by (λ b. length b.entries) buffers ≡ sum (places_of units)
 
 -- some list of steps leads from the opening state to this one, and each operation has one of the n addresses
@@ -79,7 +75,7 @@ pub record Rooms : Type 0 where
 
 -- the room for the recording of a program
 abbrev pub rooms_of : Parts → Rooms
-rooms_of p = record { cores = length p.cores; events = events_of p; addresses = length p.names }
+rooms_of p = record { cores = length p.cores; events = op_count p.cores; addresses = length p.names }
 
 -- what every machine keeps
 pub record IsMachine (p : Parts) (capacity : ℕ) (units : List Progress) (buffers : List Buffer) (caches : moesi.State)

@@ -1,6 +1,7 @@
 -- The cores of a machine at its start.
-use Rattle.std.specs.Prelude.{◌≡◌, ◌<◌, ℕ, List, length, sum_by, slice_index_or}
+use Rattle.std.specs.Prelude.{◌≡◌, ◌<◌, ℕ, List, length, slice_index_or}
 use Rattle.litmus.specs.declared.op.Op.{Op}
+use Rattle.litmus.specs.Parts.{op_count}
 use Rattle.core_unit.specs.Progress.{Progress}
 use Rattle.machine.specs.State.{first_event}
 
@@ -8,4 +9,4 @@ use Rattle.machine.specs.State.{first_event}
 pub record AreUnits (p : List (List Op)) (units : List Progress) (total : ℕ) : Type 0 where
   pub one_each : length units ≡ length p
   pub begun : (c : ℕ) (d : Progress) → c < length p → slice_index_or units c d ≡ record { first = first_event p c; place = 0 }
-  pub events : total ≡ sum_by (λ ops. length ops) p
+  pub events : total ≡ op_count p

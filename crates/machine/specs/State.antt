@@ -1,7 +1,8 @@
 -- What a machine of store buffers and caches has reached, and the recording of it.
-use Rattle.std.specs.Prelude.{◌+◌, ◌%◌, ◌^◌, ◌≡◌, ℕ, Option, None, List, [], ◌∷◌, map, length, slice_index, slice_index_or, sum, sum_by, take, replicate}
+use Rattle.std.specs.Prelude.{◌+◌, ◌%◌, ◌^◌, ◌≡◌, ℕ, Option, None, List, [], ◌∷◌, map, length, slice_index, slice_index_or, sum, take, replicate}
 use Rattle.litmus.specs.declared.op.Op.{Op}
 use Rattle.litmus.specs.declared.op.Op.TheVariants.{St, Ld, Fence, Swap, Add}
+use Rattle.litmus.specs.Parts.{op_count}
 use Rattle.recorder.specs.declared.event.Event.{Event}
 use Rattle.recorder.specs.declared.event.Event.TheVariants.{L, S, R, F}
 use Rattle.recorder.specs.Execution.{Execution}
@@ -72,7 +73,7 @@ opening p n = record {
   buffers = replicate (length p) [];
   caches = moesi.opening (length p) n;
   write_lists = replicate n [];
-  reads = replicate (sum_by (λ ops. length ops) p) (0, None);
+  reads = replicate (op_count p) (0, None);
   performed = [];
 }
 

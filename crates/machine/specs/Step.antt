@@ -43,13 +43,13 @@ abbrev pub with_buffer : State → ℕ → List Entry → State
 with_buffer s c entries = record s { buffers = slice_set s.buffers c entries }
 
 -- the value and the event of an entry, or else what the line gives
-abbrev pub found : Option Entry → Result (ℕ × Option ℕ) CacheError → Result (ℕ × Option ℕ) CacheError
-found None line = line
-found (Some entry) line = Ok (entry.value, Some entry.event)
+abbrev pub forwarded_or_read : Option Entry → Result (ℕ × Option ℕ) CacheError → Result (ℕ × Option ℕ) CacheError
+forwarded_or_read None line = line
+forwarded_or_read (Some entry) line = Ok (entry.value, Some entry.event)
 
 -- what a load of address a by core c gets: from its own buffer, else from its line
 abbrev pub looked_up : State → ℕ → ℕ → Result (ℕ × Option ℕ) CacheError
-looked_up s c a = found (youngest (buffer_of s c) a) (moesi.read s.caches c a)
+looked_up s c a = forwarded_or_read (youngest (buffer_of s c) a) (moesi.read s.caches c a)
 
 -- The guards and the effects
 
@@ -74,15 +74,15 @@ abbrev pub loaded : State → ℕ → ℕ → ℕ → Result State Blocked
 loaded s c e a = allowed B4 (λ what. advanced (performed (given s e what) e) c) (looked_up s c a)
 
 -- the value that op writes, from what the line has
-abbrev pub exchanged_value : State → ℕ → Op → ℕ → ℕ
-exchanged_value s c op a = value_written (event_of op (copy_of s c a))
+abbrev pub rmw_value : State → ℕ → Op → ℕ → ℕ
+rmw_value s c op a = value_written (event_of op (copy_of s c a))
 
 -- core c reads address a and writes it at once, as op says, behind an empty buffer and in a line that is M or E
-abbrev pub exchanged : State → ℕ → ℕ → Op → ℕ → Result State Blocked
-exchanged s c e op a =
+abbrev pub read_modify_written : State → ℕ → ℕ → Op → ℕ → Result State Blocked
+read_modify_written s c e op a =
     if length (buffer_of s c) == 0
     then allowed B5 (λ caches. advanced (performed (written (given s e (copy_of s c a)) caches a e) e) c)
-    (moesi.write s.caches c a (exchanged_value s c op a) e)
+    (moesi.write s.caches c a (rmw_value s c op a) e)
     else Err B3
 
 -- core c executes the operation op as event e
@@ -90,8 +90,8 @@ abbrev pub exec : ℕ → State → ℕ → ℕ → Op → Result State Blocked
 exec capacity s c e (St a v) = stored capacity s c e a v
 exec capacity s c e (Ld a) = loaded s c e a
 exec capacity s c e Fence = fenced s c e
-exec capacity s c e (Swap a v) = exchanged s c e (Swap a v) a
-exec capacity s c e (Add a v) = exchanged s c e (Add a v) a
+exec capacity s c e (Swap a v) = read_modify_written s c e (Swap a v) a
+exec capacity s c e (Add a v) = read_modify_written s c e (Add a v) a
 
 -- the next operation of core c, where one is left
 abbrev pub exec_next : List (List Op) → ℕ → State → ℕ → Option Op → Result State Blocked

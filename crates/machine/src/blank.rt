@@ -34,7 +34,8 @@ impl Model for Blank {
 }
 
 impl Blank {
-    ghost use Rattle.std.specs.Prelude.{◌≡◌, ◌≤◌, length, map, sum_by, IfOk};
+    ghost use Rattle.std.specs.Prelude.{◌≡◌, ◌≤◌, length, map, IfOk};
+    ghost use Rattle.litmus.specs.Parts.{op_count};
     ghost use Rattle.machine.specs.Held.{Rooms};
     ghost use Rattle.machine.specs.State.{cores_from};
 
@@ -67,7 +68,7 @@ impl Blank {
         requires cores { self.cores ≡ length program.now }
         requires events { self.events ≡ length reads.now }
         requires addresses { self.addresses ≡ length writes.items }
-        requires fits { sum_by (λ ops. length ops) program.now ≤ length reads.now }
+        requires fits { op_count program.now ≤ length reads.now }
         ensures cores { map (λ v. v.items) result.0.items ≡ cores_from 0 program.now reads.now }
         ensures writes { map (λ v. v.items) result.1.items ≡ map (λ b. b.items) writes.items }
     {

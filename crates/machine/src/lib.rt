@@ -6,7 +6,6 @@ mod blocked;
 mod bounded;
 mod fault;
 mod law;
-mod load;
 mod machine;
 mod makes;
 mod record;

@@ -3,7 +3,7 @@
 use crate::blank::Blank;
 use crate::bounded::Bounded;
 use crate::fault::Fault;
-use crate::makes::{buffers_of, filled, rooms, units_of};
+use crate::makes::{buffers_of, rooms, units_of};
 use core_unit::CoreUnit;
 use litmus::{Addr, CoreId, EventId, Op, OutOfMemory, Program};
 use moesi::{Caches, Line};
@@ -33,6 +33,7 @@ pub struct Machine {
 /// A machine whose program has not come to its end, or in which a store waits.
 #[derive(Drop)]
 pub struct Unfinished {
+    /// The machine as it was.
     pub machine: Machine,
 }
 
@@ -83,7 +84,7 @@ impl Machine {
         let buffers = buffers_of(alloc, cores, capacity)?;
         let caches = Caches::new(alloc, cores, addresses)?;
         let writes = rooms(alloc, addresses, events)?;
-        let reads = filled(alloc, events, (0, None))?;
+        let reads = vec![in alloc; (0, None); events]?;
         let performed = Bounded::new(alloc, events)?;
         let blank = Blank::new(alloc, cores, events, addresses)?;
         Ok(Machine {

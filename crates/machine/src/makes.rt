@@ -1,6 +1,7 @@
 //! The parts of a new machine.
 
-ghost use Rattle.std.specs.Prelude.{◌≡◌, ◌≤◌, [], length, replicate, sum_by, IfOk};
+ghost use Rattle.std.specs.Prelude.{◌≡◌, ◌≤◌, [], length, replicate, IfOk};
+ghost use Rattle.litmus.specs.Parts.{op_count};
 ghost use Rattle.machine.specs.Made.{AreUnits};
 
 use crate::bounded::Bounded;
@@ -8,17 +9,6 @@ use core_unit::CoreUnit;
 use litmus::{EventId, MAX_EVENTS, Ops, OutOfMemory};
 use std::alloc::Global;
 use write_buffer::WriteBuffer;
-
-/// A list of so many equal items.
-pub(crate) fn filled<T: Copy>(alloc: Global, count: usize, x: T) -> Result<Vec<T>, OutOfMemory>
-    ensures { IfOk result (λ v. v.items ≡ replicate count x) }
-{
-    let mut items = Vec::with_capacity(alloc, count)?;
-    for made in 0..count {
-        items.push(x)?;
-    }
-    Ok(items)
-}
 
 /// So many empty lists, each with the same room.
 pub(crate) fn rooms<T: Drop>(
@@ -29,7 +19,7 @@ pub(crate) fn rooms<T: Drop>(
     ensures { IfOk result (λ v. v.items ≡ replicate count (record { items = []; room = room })) }
 {
     let mut lists = Vec::with_capacity(alloc, count)?;
-    for made in 0..count {
+    for _ in 0..count {
         lists.push(Bounded::new(alloc, room)?)?;
     }
     Ok(lists)
@@ -45,7 +35,7 @@ pub(crate) fn buffers_of(
         ≡ replicate count (record { entries = []; capacity = capacity })) }
 {
     let mut buffers = Vec::with_capacity(alloc, count)?;
-    for made in 0..count {
+    for _ in 0..count {
         buffers.push(WriteBuffer::new(alloc, capacity)?)?;
     }
     Ok(buffers)
@@ -56,7 +46,7 @@ pub(crate) fn units_of(
     alloc: Global,
     program: &[Ops],
 ) -> Result<(Vec<CoreUnit>, usize), OutOfMemory>
-    requires { sum_by (λ ops. length ops) program.now ≤ MAX_EVENTS }
+    requires { op_count program.now ≤ MAX_EVENTS }
     ensures { IfOk result (λ r. AreUnits program.now r.0.items r.1) }
 {
     let mut units = Vec::new(alloc);

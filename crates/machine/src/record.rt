@@ -1,6 +1,7 @@
 //! From what events read to a recording.
 
-ghost use Rattle.std.specs.Prelude.{◌≡◌, ◌+◌, ◌≤◌, ◌++◌, [], length, map, sum_by, All};
+ghost use Rattle.std.specs.Prelude.{◌≡◌, ◌+◌, ◌≤◌, ◌++◌, [], length, map, All};
+ghost use Rattle.litmus.specs.Parts.{op_count};
 ghost use Rattle.machine.specs.State.{event_of, events_from, cores_from};
 
 use crate::bounded::Bounded;
@@ -56,7 +57,7 @@ pub(crate) fn record_all(
     requires room { length program.now ≤ lists.room }
     requires one_each { length events.items ≡ length program.now }
     requires fresh { All (λ b. b ≡ record { items = []; room = length reads.now }) events.items }
-    requires fits { sum_by (λ ops. length ops) program.now ≤ length reads.now }
+    requires fits { op_count program.now ≤ length reads.now }
     ensures { map (λ v. v.items) result.items ≡ cores_from 0 program.now reads.now }
 {
     let mut first = 0;
@@ -75,15 +76,14 @@ pub(crate) fn record_all(
 /// The lists without their rooms, in a list that was made before.
 pub(crate) fn unwrap_all(
     mut lists: Bounded<Vec<EventId>>,
-    mut writes: Vec<Bounded<EventId>>,
+    writes: Vec<Bounded<EventId>>,
 ) -> Vec<Vec<EventId>>
     requires empty { lists.items ≡ [] }
     requires room { length writes.items ≤ lists.room }
     ensures { map (λ v. v.items) result.items ≡ map (λ b. b.items) writes.items }
 {
-    let count = writes.len();
-    for moved in 0..count {
-        lists.push(writes.remove(0).into_items());
+    for list in writes {
+        lists.push(list.into_items());
     }
     lists.into_items()
 }

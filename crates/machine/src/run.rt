@@ -38,8 +38,8 @@ impl Machine {
             Op::St(addr, value) => self.store(core, event, addr, value),
             Op::Ld(addr) => self.load(core, event, addr),
             Op::Fence => self.fence(core, event),
-            Op::Swap(addr, _) => self.exchange(core, event, op, addr),
-            Op::Add(addr, _) => self.exchange(core, event, op, addr),
+            Op::Swap(addr, _) => self.read_modify_write(core, event, op, addr),
+            Op::Add(addr, _) => self.read_modify_write(core, event, op, addr),
         }
     }
 

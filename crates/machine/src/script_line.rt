@@ -1,12 +1,11 @@
 //! What one line of a step script says.
 
-ghost use Rattle.std.specs.Prelude.{◌≡◌, ◌<◌, IfSome, length, position};
-ghost use Rattle.litmus.specs.Lines.{is_space};
+ghost use Rattle.std.specs.Prelude.{◌≡◌};
 ghost use Rattle.machine.specs.ScriptLine.{own_of, transaction_of, script_line_of, own_step, transaction_step};
 ghost use Rattle.machine.specs.ScriptSaid.{SaysOption};
 
 use crate::step::Step;
-use litmus::{Addr, CoreId, Name, Number, decimal};
+use litmus::{Addr, CoreId, Name, Number, decimal, space_in};
 
 /// The kind of a step that a core takes alone.
 #[derive(Clone, Copy, Debug, PartialEq, Eq)]
@@ -28,13 +27,6 @@ pub enum Transaction {
 pub enum Said {
     Own(Own, Number),
     Transaction(Transaction, Number, Name),
-}
-
-fn space_in(text: &[u8]) -> Option<usize>
-    ensures place { result ≡ position is_space text.now }
-    ensures within { IfSome result (λ at. at < length text.now) }
-{
-    text.iter().position(|b| *b == b' ')
 }
 
 #[tactic(auto, unfolding(crate::specs::ScriptLine::own_of))]

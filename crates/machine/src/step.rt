@@ -9,7 +9,7 @@ use litmus::{Addr, CoreId};
 pub enum Step {
     /// The core executes its next operation in program order.
     Exec(CoreId),
-    /// The oldest store in the core's write buffer leaves it and is written to the core's line.
+    /// The oldest store in the core's store buffer leaves it and is written to the core's line.
     Drain(CoreId),
     /// The core gets a line of the address that it may read.
     GetS(CoreId, Addr),

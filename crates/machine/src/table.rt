@@ -1,17 +1,20 @@
 //! The rows of the table of steps.
 
+ghost use Rattle.std.specs.Prelude.{◌≡◌};
+ghost use Rattle.machine.specs.Step.{forwarded_or_read};
+
 use crate::blocked::Blocked;
-use crate::load::found;
 use crate::machine::Machine;
 use crate::record::event_of;
 use litmus::{Addr, CoreId, EventId, Op};
+use moesi::CacheError;
 use write_buffer::Entry;
 
 impl Machine {
     ghost use Rattle.std.specs.Prelude.{◌≡◌, ◌<◌, Ok, Err, OnOk, OnErr, IfErr, length};
     ghost use Rattle.litmus.specs.declared.op.Op.TheVariants.{St, Ld, Fence};
     ghost use Rattle.machine.specs.declared.step.Step.TheVariants.{Drain};
-    ghost use Rattle.machine.specs.Step.{exchanged};
+    ghost use Rattle.machine.specs.Step.{read_modify_written};
     ghost use Rattle.machine.specs.Held.{answer_of, exec_answer, IsNextOf};
 
     /// Puts a store at the back of its core's buffer.
@@ -45,7 +48,7 @@ impl Machine {
         ensures unchanged { OnErr result (self.new ≡ self.old) }
     {
         let entry = self.buffers[core as usize].youngest(addr);
-        let Ok(what) = found(entry, self.caches.read(core, addr)) else {
+        let Ok(what) = forwarded_or_read(entry, self.caches.read(core, addr)) else {
             return Err(Blocked::B4);
         };
         self.reads[event as usize] = what;
@@ -72,7 +75,7 @@ impl Machine {
     }
 
     /// Reads the core's line and writes it at once, where the core's buffer is empty.
-    pub(crate) fn exchange(
+    pub(crate) fn read_modify_write(
         &mut self,
         core: CoreId,
         event: EventId,
@@ -82,7 +85,7 @@ impl Machine {
         requires at { IsNextOf self.old core op event }
         requires address { addr < length self.old.program.names }
         requires row { exec_answer self.old core op event
-            ≡ exchanged self.old.state core event op addr }
+            ≡ read_modify_written self.old.state core event op addr }
         ensures ok { OnOk result (exec_answer self.old core op event ≡ Ok self.new.state) }
         ensures blocked { IfErr result (λ b. exec_answer self.old core op event ≡ Err b) }
         ensures rest { OnOk result (self.new ≡ record self.old { state = self.new.state }) }
@@ -126,5 +129,18 @@ impl Machine {
         self.writes[addr as usize].push(event);
         self.performed.push(event);
         Ok(())
+    }
+}
+
+/// What a load gets: the value and the event of the waiting store, or else what the line gives.
+fn forwarded_or_read(
+    entry: Option<Entry>,
+    line: Result<(u32, Option<EventId>), CacheError>,
+) -> Result<(u32, Option<EventId>), CacheError>
+    ensures { result ≡ forwarded_or_read entry line }
+{
+    match entry {
+        Some(entry) => Ok((entry.value, Some(entry.event))),
+        None => line,
     }
 }

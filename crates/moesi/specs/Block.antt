@@ -36,7 +36,7 @@ supplied b = copy_where supplies b.lines b.memory
 abbrev pub has_copy : Block → Bool
 has_copy b = list_any (λ x. is_valid x.line) b.lines
 
--- the data of any valid copy, else memory's: the value of the address and its writer
+-- the data of the first core's valid copy, else memory's: the value of the address and its writer
 abbrev pub current_of : Block → ℕ × Option ℕ
 current_of b = copy_where is_valid b.lines b.memory
 

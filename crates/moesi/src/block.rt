@@ -1,7 +1,7 @@
 //! One address in all caches and in memory.
 
 use crate::cell::{Cell, INVALID};
-use crate::cells::{any_valid, invalid_lines, invalidate_all, share_all, supplied};
+use crate::cells::{any_valid, invalidate_all, share_all, supplied};
 use crate::error::CacheError;
 use crate::line::Line;
 use litmus::{EventId, OutOfMemory};
@@ -33,7 +33,7 @@ impl Block {
         ensures { IfOk result (λ b. b ≡ opening_block cores) }
     {
         Ok(Block {
-            lines: invalid_lines(alloc, cores)?,
+            lines: vec![in alloc; INVALID; cores]?,
             memory: (0, None),
         })
     }

@@ -3,7 +3,7 @@
 use crate::block::Block;
 use crate::error::CacheError;
 use crate::line::Line;
-use litmus::{Addr, CoreId, EventId, MAX_EVENTS, OutOfMemory};
+use litmus::{Addr, CoreId, EventId, OutOfMemory};
 use std::alloc::Global;
 use std::marker::Model;
 
@@ -41,7 +41,7 @@ impl Caches {
         ensures { IfOk result (λ s. s ≡ opening cores addresses) }
     {
         let mut blocks = Vec::with_capacity(alloc, addresses)?;
-        for i in 0..addresses {
+        for _ in 0..addresses {
             blocks.push(Block::new(alloc, cores)?)?;
         }
         Ok(Caches { blocks, cores })
@@ -130,7 +130,6 @@ impl Caches {
     ) -> Result<(), CacheError>
         requires core { core < self.old.cores }
         requires address { addr < length self.old.blocks }
-        requires event { event < MAX_EVENTS }
         ensures ok { OnOk result (write self.old core addr value event ≡ Ok self.new) }
         ensures refused { IfErr result (λ e. write self.old core addr value event ≡ Err e) }
         ensures unchanged { OnErr result (self.new ≡ self.old) }

@@ -1,25 +1,13 @@
 //! The lines of one address, core by core.
 
-ghost use Rattle.std.specs.Prelude.{◌≡◌, map, replicate, IfOk};
+ghost use Rattle.std.specs.Prelude.{◌≡◌, map};
 ghost use Rattle.std.specs.List.{list_any};
 ghost use Rattle.moesi.specs.Lines.{is_valid, supplies};
-ghost use Rattle.moesi.specs.Block.{copy_where, invalid};
+ghost use Rattle.moesi.specs.Block.{copy_where};
 ghost use Rattle.moesi.specs.Rows.{shared, invalidated};
 
 use crate::cell::{Cell, INVALID};
-use litmus::{EventId, OutOfMemory};
-use std::alloc::Global;
-
-/// Lines of so many cores, all in I.
-pub(crate) fn invalid_lines(alloc: Global, cores: usize) -> Result<Vec<Cell>, OutOfMemory>
-    ensures { IfOk result (λ v. v.items ≡ replicate cores invalid) }
-{
-    let mut lines = Vec::with_capacity(alloc, cores)?;
-    for i in 0..cores {
-        lines.push(INVALID)?;
-    }
-    Ok(lines)
-}
+use litmus::EventId;
 
 /// Whether some line is valid.
 pub(crate) fn any_valid(lines: &[Cell]) -> bool

@@ -8,7 +8,8 @@ use litmus::{Addr, OutOfMemory};
 use std::alloc::Global;
 use std::marker::Model;
 
-/// The stores of one core that have not reached memory, oldest first (chapter 4 of the Primer).
+/// The stores of one core that have not reached memory, oldest first (Nagarajan, Sorin, Hill and
+/// Wood, A Primer on Memory Consistency and Cache Coherence, second edition, chapter 4).
 #[derive(Drop)]
 pub struct WriteBuffer {
     ring: HeapCircularBuffer<Entry>,

@@ -6,8 +6,11 @@ use litmus::{Addr, EventId};
 /// A store that has not reached memory.
 #[derive(Clone, Copy, Debug, PartialEq, Eq)]
 pub struct Entry {
+    /// The address that it writes.
     pub addr: Addr,
+    /// The value that it writes, of 32 bits.
     pub value: u32,
+    /// The number of its event, below `MAX_EVENTS`.
     pub event: EventId,
 }
 
