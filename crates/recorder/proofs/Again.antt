@@ -9,7 +9,7 @@ use Rattle.serde_json.specs.View.{view, items_of}
 use Rattle.recorder.specs.declared.event.Event.TheVariants.{L, S, R, F}
 use Rattle.recorder.specs.Execution.{Execution}
 use Rattle.recorder.specs.Text.{number_data, list_data, source_data, event_data, data_of}
-use Rattle.recorder.specs.Reading.{number_in, source_in, load_in, store_in, swap_in, event_of, event_in, each, list_in, shape_of, shape_in}
+use Rattle.recorder.specs.Reading.{number_in, source_in, load_in, store_in, rmw_in, event_of, event_in, each, list_in, shape_of, shape_in}
 
 -- the number of an event or of an address
 pub number_again : (n : ℕ) → number_in (number_data n) ≡ Some n
@@ -26,9 +26,9 @@ unfolding event_in event_of store_in
 store_again a w hw = rw (lt-ltb w (2 ^ 32) hw) refl
 
 -- a read-modify-write
-pub swap_again : (a r : ℕ) (s : Option ℕ) (w : ℕ) → r < 2 ^ 32 → source_in (source_data s) ≡ Some s → w < 2 ^ 32 → event_in (event_data (R a r s w)) ≡ Some (R a r s w)
-unfolding event_in event_of swap_in
-swap_again a r s w hr hs hw = rw (lt-ltb r (2 ^ 32) hr, hs, lt-ltb w (2 ^ 32) hw) refl
+pub rmw_again : (a r : ℕ) (s : Option ℕ) (w : ℕ) → r < 2 ^ 32 → source_in (source_data s) ≡ Some s → w < 2 ^ 32 → event_in (event_data (R a r s w)) ≡ Some (R a r s w)
+unfolding event_in event_of rmw_in
+rmw_again a r s w hr hs hw = rw (lt-ltb r (2 ^ 32) hr, hs, lt-ltb w (2 ^ 32) hw) refl
 
 -- a fence
 pub fence_again : event_in (event_data F) ≡ Some F

@@ -38,7 +38,7 @@ value_written (S a w) = w
 value_written (R a r s w) = w
 value_written F = 0
 
--- a store that waits in a write buffer: a plain load that follows it may overtake it
+-- a store that waits in a store buffer: a plain load that follows it may overtake it
 abbrev pub is_plain_store : Event → Bool
 is_plain_store (L a r s) = false
 is_plain_store (S a w) = true

@@ -26,7 +26,7 @@ core_of x e = (slice_index_or (placed_from 0 x.cores) e (0, F)).0
 unfoldable pub event_at : Execution → ℕ → Event
 event_at x e = (slice_index_or (placed_from 0 x.cores) e (0, F)).1
 
--- the writes to an address, in memory order
+-- the writes to an address, in memory order: its coherence order (co)
 unfoldable pub write_list : Execution → ℕ → List ℕ
 write_list x a = slice_index_or x.write_lists a []
 
@@ -50,6 +50,6 @@ source_of x e = source (event_at x e)
 abbrev pub ProgramOrder : Execution → ℕ → ℕ → Type 0
 ProgramOrder x e f = (e < f) × (f < event_count x) × (core_of x e ≡ core_of x f)
 
--- a pair in program order that is kept in memory order: every pair but a plain store before a plain load
+-- a pair in program order that is kept in memory order, preserved program order (ppo): every pair but a plain store before a plain load
 abbrev pub Kept : Execution → ℕ → ℕ → Type 0
 Kept x e f = ProgramOrder x e f × ((is_plain_store (event_at x e) && is_plain_load (event_at x f)) ≡ false)

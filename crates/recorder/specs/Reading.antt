@@ -55,8 +55,8 @@ load_in d =
 unfoldable pub store_in : Data → Option Event
 store_in d = option_and_then (λ a. option_map (λ w. S a w) (at_key value_in (codes "w") d)) (at_key number_in (codes "a") d)
 
-unfoldable pub swap_in : Data → Option Event
-swap_in d =
+unfoldable pub rmw_in : Data → Option Event
+rmw_in d =
     option_and_then (λ a. option_and_then (λ r. option_and_then (λ s. option_map (λ w. R a r s w) (at_key value_in (codes "w") d)) (at_key source_in (codes "s") d)) (at_key value_in (codes "r") d))
     (at_key number_in (codes "a") d)
 
@@ -65,7 +65,7 @@ unfoldable pub event_of : List ℕ → ℕ → Data → Option Event
 event_of k n d =
     if bytes_eq k (codes "L") && n == 4 then load_in d
     else (if bytes_eq k (codes "S") && n == 3 then store_in d
-    else (if bytes_eq k (codes "R") && n == 5 then swap_in d
+    else (if bytes_eq k (codes "R") && n == 5 then rmw_in d
     else (if bytes_eq k (codes "F") && n == 1 then Some F else None)))
 
 unfoldable pub event_in : Data → Option Event

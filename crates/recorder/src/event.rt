@@ -3,6 +3,8 @@
 use litmus::{Addr, EventId};
 
 /// What one operation of a core did to memory, with the values of 32 bits that it read and wrote.
+/// (Nagarajan, Sorin, Hill and Wood, A Primer on Memory Consistency and Cache Coherence, second
+/// edition, chapter 4.)
 #[derive(Clone, Copy, Debug, PartialEq, Eq)]
 pub enum Event {
     /// A load of address `a` that read `r`; `s` is the write that it read from, none for the initial value.
@@ -101,7 +103,8 @@ impl Event {
         }
     }
 
-    /// Whether a later event of its core may not overtake it in memory order.
+    /// Whether a later event of its core may not overtake it in memory order: whether the pair is
+    /// in preserved program order (ppo).
     pub fn keeps(&self, later: &Event) -> bool
         ensures { IsTrue result ↔ ((is_plain_store self.now && is_plain_load later.now) ≡ false) }
     {

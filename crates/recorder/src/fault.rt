@@ -1,24 +1,38 @@
 //! Why a recording is refused.
 
-use litmus::{Addr, EventId};
+use litmus::{Addr, EventId, OutOfMemory};
 
-/// Why parts or a text are refused as a recording.
+/// Why parts or a text are refused as a recording; each refusal is printed by its number.
 #[derive(Clone, Copy, Debug, Drop, PartialEq, Eq)]
 pub enum RecError {
-    /// The bytes are not read as JSON.
+    /// The bytes are not read as JSON; printed as N1.
     NotJson,
-    /// The JSON does not have the shape of a recording, or a value is too large.
+    /// The JSON does not have the shape of a recording, or a value is too large; printed as N2.
     Shape,
-    /// The version is not 1.
+    /// The version is not 1; printed as N3.
     Version,
-    /// There are too many cores, events or write lists, or an address has no write list.
+    /// There are too many cores, events or write lists, or an address has no write list; printed
+    /// as N4.
     Limits,
-    /// The least event whose source is no write to the address that it reads.
+    /// The least event whose source is no write to the address that it reads; printed as N5.
     Source(EventId),
-    /// The least event whose value read is not the one that its source wrote, or 0 where it has none.
+    /// The least event whose value read is not the one that its source wrote, or 0 where it has
+    /// none; printed as N6.
     Value(EventId),
-    /// The least address whose write list does not have each of its writes once and nothing else.
+    /// The least address whose write list does not have each of its writes once and nothing else;
+    /// printed as N7.
     WriteList(Addr),
     /// There was no memory for the recording.
     OutOfMemory,
+}
+
+impl From<OutOfMemory> for RecError {
+    ghost use Rattle.std.specs.Prelude.{◌≡◌};
+    ghost use Rattle.recorder.specs.declared.fault.RecError.TheVariants.{OutOfMemory};
+
+    ghost from_gives = { λ _ e. e ≡ OutOfMemory };
+
+    fn from(_refused: OutOfMemory) -> RecError {
+        RecError::OutOfMemory
+    }
 }

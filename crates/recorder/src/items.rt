@@ -2,7 +2,7 @@
 
 ghost use Rattle.std.specs.Prelude.{◌≡◌, option_map};
 ghost use Rattle.serde_json.specs.View.{view};
-ghost use Rattle.recorder.specs.Reading.{value_in, source_in, at_key, load_in, store_in, swap_in, event_of, count_members};
+ghost use Rattle.recorder.specs.Reading.{value_in, source_in, at_key, load_in, store_in, rmw_in, event_of, count_members};
 ghost use Rattle.recorder.specs.Clipped.{clip, clip_event, clipped_number, clipped_event};
 ghost use Rattle.serde_json.specs.Find.{as_object};
 
@@ -70,9 +70,9 @@ fn store_in(value: &Value) -> Option<Event>
     Some(Event::S { a, w })
 }
 
-#[tactic(auto, unfolding(crate::specs::Reading::swap_in))]
-fn swap_in(value: &Value) -> Option<Event>
-    ensures { result ≡ option_map clip_event (swap_in (view value.now)) }
+#[tactic(auto, unfolding(crate::specs::Reading::rmw_in))]
+fn rmw_in(value: &Value) -> Option<Event>
+    ensures { result ≡ option_map clip_event (rmw_in (view value.now)) }
 {
     let a = number_at(value, "a")?;
     let r = value_at(value, "r")?;
@@ -92,7 +92,7 @@ fn event_of(kind: &str, keys: usize, value: &Value) -> Option<Event>
         return store_in(value);
     }
     if kind == "R" && keys == 5 {
-        return swap_in(value);
+        return rmw_in(value);
     }
     if kind == "F" && keys == 1 {
         return Some(Event::F);

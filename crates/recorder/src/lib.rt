@@ -1,6 +1,7 @@
 //! Recordings of executions, and what TSO allows of them.
 #![tactic(auto)]
 
+mod copies;
 mod event;
 mod fault;
 mod items;

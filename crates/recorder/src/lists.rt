@@ -9,14 +9,12 @@ use litmus::EventId;
 pub fn place(order: &[EventId], event: EventId) -> usize
     ensures { result ≡ place order.now event }
 {
-    let mut i = 0;
-    while i < order.len() {
-        if order[i] == event {
+    for (i, item) in order.iter().enumerate() {
+        if *item == event {
             return i;
         }
-        i += 1;
     }
-    i
+    order.len()
 }
 
 /// How often an event stands.
@@ -24,8 +22,8 @@ pub fn times(order: &[EventId], event: EventId) -> usize
     ensures { result ≡ times order.now event }
 {
     let mut found = 0;
-    for i in 0..order.len() {
-        if order[i] == event {
+    for item in order {
+        if *item == event {
             found += 1;
         }
     }

@@ -89,7 +89,8 @@ impl Parts {
         None
     }
 
-    /// The writes of an address, in memory order; none where there is no such address.
+    /// The writes of an address, in memory order, which is the coherence order (co) of the address;
+    /// none where there is no such address.
     pub(crate) fn write_list(&self, address: Addr) -> &[EventId]
         ensures { result.now ≡ write_list self.now address }
     {

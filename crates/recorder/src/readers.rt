@@ -5,9 +5,9 @@ use crate::recording::Recording;
 use litmus::{Addr, EventId};
 
 impl Recording {
-    ghost use Rattle.std.specs.Prelude.{◌≡◌, ◌↔◌, IsTrue};
+    ghost use Rattle.std.specs.Prelude.{◌≡◌, ◌↔◌, IsTrue, MatchOption};
     ghost use Rattle.recorder.specs.Event.{read_address, written_address};
-    ghost use Rattle.recorder.specs.Execution.{event_at, source_of, Writes, ProgramOrder, Kept};
+    ghost use Rattle.recorder.specs.Execution.{event_at, source_of, ProgramOrder, Kept};
 
     /// The address that an event reads.
     pub fn read_address(&self, number: EventId) -> Option<Addr>
@@ -29,16 +29,6 @@ impl Recording {
         }
     }
 
-    /// Whether an event writes an address.
-    pub fn writes_to(&self, number: EventId, address: Addr) -> bool
-        ensures { IsTrue result ↔ Writes self.now number address }
-    {
-        match self.written_address(number) {
-            Some(written) => written == address,
-            None => false,
-        }
-    }
-
     /// The write that an event read from; none for the initial value, and where it does not read.
     pub fn source(&self, number: EventId) -> Option<EventId>
         ensures { result ≡ source_of self.now number }
@@ -49,37 +39,40 @@ impl Recording {
         }
     }
 
+    /// The two events of a pair in program order; none where the pair is not in it.
+    fn pair(&self, first: EventId, second: EventId) -> Option<(&Event, &Event)>
+        ensures { MatchOption result (¬ ProgramOrder self.now first second)
+            (λ p. ProgramOrder self.now first second × (p.0.now ≡ event_at self.now first)
+            × (p.1.now ≡ event_at self.now second)) }
+    {
+        if first >= second {
+            return None;
+        }
+        let (core, earlier) = self.event(first)?;
+        let (other, later) = self.event(second)?;
+        if core == other {
+            Some((earlier, later))
+        } else {
+            None
+        }
+    }
+
     /// Whether one event is earlier than another on one core.
     pub fn precedes(&self, first: EventId, second: EventId) -> bool
         ensures { IsTrue result ↔ ProgramOrder self.now first second }
     {
-        if first >= second {
-            return false;
-        }
-        let Some((core, _)) = self.event(first) else {
-            return false;
-        };
-        let Some((other, _)) = self.event(second) else {
-            return false;
-        };
-        core == other
+        self.pair(first, second).is_some()
     }
 
-    /// Whether a pair in program order is kept in memory order: every pair but a plain store before
-    /// a plain load (Nagarajan, Sorin, Hill and Wood, A Primer on Memory Consistency and Cache
-    /// Coherence, second edition, chapter 4).
+    /// Whether a pair in program order is kept in memory order, which is preserved program order
+    /// (ppo): every pair but a plain store before a plain load (Nagarajan, Sorin, Hill and Wood, A
+    /// Primer on Memory Consistency and Cache Coherence, second edition, chapter 4).
     pub fn keeps(&self, first: EventId, second: EventId) -> bool
         ensures { IsTrue result ↔ Kept self.now first second }
     {
-        if first >= second {
-            return false;
+        match self.pair(first, second) {
+            Some((earlier, later)) => earlier.keeps(later),
+            None => false,
         }
-        let Some((core, earlier)) = self.event(first) else {
-            return false;
-        };
-        let Some((other, later)) = self.event(second) else {
-            return false;
-        };
-        core == other && earlier.keeps(later)
     }
 }

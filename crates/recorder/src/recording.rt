@@ -1,9 +1,11 @@
 //! Recordings.
 
+use crate::copies::{copied_cores, copied_writes};
 use crate::event::Event;
 use crate::fault::RecError;
 use crate::parts::Parts;
 use litmus::{Addr, CoreId, EventId};
+use std::alloc::Global;
 use std::marker::Model;
 
 /// A recording: the events of each core in program order, and for each address its writes in memory order.
@@ -24,10 +26,11 @@ impl Model for Recording {
 }
 
 impl Recording {
-    ghost use Rattle.std.specs.Prelude.{◌≡◌, ◌≤◌, ◌<◌, map, ◌↔◌, MatchOption, length, IsOk, IfOk, IfErr};
-    ghost use Rattle.recorder.specs.Execution.{event_count, event_at, core_of, write_list};
+    ghost use Rattle.std.specs.Prelude.{◌≡◌, ◌≤◌, ◌<◌, map, ◌↔◌, ◌⊎◌, MatchOption, length, IsOk, IsTrue, IfOk, IfErr};
+    ghost use Rattle.recorder.specs.Execution.{event_count, event_at, core_of, write_list, Writes};
     ghost use Rattle.recorder.specs.Recording.{executed, IsRecording};
     ghost use Rattle.recorder.specs.Refusals.{IsRefusal};
+    ghost use Rattle.recorder.specs.declared.fault.RecError.TheVariants.{OutOfMemory};
 
     /// The recording of these events and write lists.
     pub fn new(cores: Vec<Vec<Event>>, writes: Vec<Vec<EventId>>) -> Recording
@@ -54,6 +57,22 @@ impl Recording {
             Some(refusal) => Err(refusal),
             None => Ok(Recording { parts }),
         }
+    }
+
+    /// The recording of copies of these events and write lists, or the first refusal, as
+    /// `from_parts` has it; `OutOfMemory` where there is none for a copy.
+    pub fn from_lists(
+        alloc: Global,
+        cores: &[&[Event]],
+        writes: &[&[EventId]],
+    ) -> Result<Recording, RecError>
+        ensures ok { IfOk result (λ r. r ≡ executed (map (λ s. s.now) cores.now) (map (λ s. s.now) writes.now)) }
+        ensures err { IfErr result (λ e. (e ≡ OutOfMemory)
+            ⊎ IsRefusal (executed (map (λ s. s.now) cores.now) (map (λ s. s.now) writes.now)) e) }
+    {
+        let cores = copied_cores(alloc, cores)?;
+        let writes = copied_writes(alloc, writes)?;
+        Recording::from_parts(cores, writes)
     }
 
     /// What every recording keeps. It does nothing.
@@ -92,6 +111,13 @@ impl Recording {
         self.parts.event(number)
     }
 
+    /// Whether an event writes an address; false past the last event.
+    pub fn writes_to(&self, number: EventId, address: Addr) -> bool
+        ensures { IsTrue result ↔ Writes self.now number address }
+    {
+        self.parts.writes_to(number, address)
+    }
+
     /// How many addresses have a write list.
     pub fn addresses(&self) -> usize
         ensures { result ≡ length self.now.write_lists }
@@ -99,7 +125,8 @@ impl Recording {
         self.parts.writes().len()
     }
 
-    /// The writes of an address, in memory order; none where there is no such address.
+    /// The writes of an address, in memory order, which is the coherence order (co) of the address;
+    /// none where there is no such address.
     pub fn write_list(&self, address: Addr) -> &[EventId]
         ensures { result.now ≡ write_list self.now address }
     {

@@ -1,27 +1,10 @@
 use super::*;
 use litmus::{EventId, MAX_ADDRESSES, MAX_CORES, MAX_EVENTS};
-use std::alloc::{AllocError, Global};
 use std::test::*;
 
 const X1: Event = Event::S { a: 0, w: 1 };
 
 const Y1: Event = Event::S { a: 1, w: 1 };
-
-fn recorded(
-    alloc: Global,
-    cores: &[&[Event]],
-    writes: &[&[EventId]],
-) -> Result<Result<Recording, RecError>, AllocError> {
-    let mut events = Vec::new(alloc);
-    for core in cores {
-        events.push(Vec::from_slice(alloc, *core)?)?;
-    }
-    let mut lists = Vec::new(alloc);
-    for list in writes {
-        lists.push(Vec::from_slice(alloc, *list)?)?;
-    }
-    Ok(Recording::from_parts(events, lists))
-}
 
 const SWAP: Event = Event::R {
     a: 0,
@@ -208,7 +191,9 @@ const REFUSED: [(&str, &[&[Event]], &[&[EventId]], RecError); 16] = [
 fn a_recording_is_written_and_read_back(rt: HostRuntime) -> Result<(), Fail> {
     let alloc = rt.alloc();
     for (cores, writes, text) in WRITTEN {
-        let recording = recorded(alloc, cores, writes)?.ok().ok_or("refused")?;
+        let recording = Recording::from_lists(alloc, cores, writes)
+            .ok()
+            .ok_or("refused")?;
         let written = write_recording(alloc, &recording)?;
         assert_eq!(rt; written.as_slice(), text);
         let read = read_recording(alloc, text).ok().ok_or("not read")?;
@@ -223,7 +208,7 @@ fn what_breaks_a_rule_is_refused(rt: HostRuntime) -> Result<(), Fail> {
     let alloc = rt.alloc();
     for (name, cores, writes, refusal) in REFUSED {
         assert_eq!(rt;
-            recorded(alloc, cores, writes)?.err(),
+            Recording::from_lists(alloc, cores, writes).err(),
             Some(refusal),
             "{name}"
         );
@@ -239,7 +224,7 @@ fn a_swap_may_read_its_own_write(rt: HostRuntime) -> Result<(), Fail> {
         s: Some(0),
         w: 1,
     };
-    let recording = recorded(rt.alloc(), &[&[swap]], &[&[0]])?
+    let recording = Recording::from_lists(rt.alloc(), &[&[swap]], &[&[0]])
         .ok()
         .ok_or("refused")?;
     assert_eq!(rt; recording.len(), 1);

@@ -2,7 +2,7 @@ use Rattle.std.proofs.Common.{◌≡◌, Some, arith, sym, subst}
 use Rattle.recorder.specs.declared.event.Event.{Event}
 use Rattle.recorder.specs.Reading.{event_in}
 use Rattle.recorder.specs.Text.{event_data}
-use Rattle.recorder.proofs.Again.{load_again, store_again, swap_again, fence_again}
+use Rattle.recorder.proofs.Again.{load_again, store_again, rmw_again, fence_again}
 use Rattle.recorder.proofs.values.event_value.Goals as goal
 
 pub returns-in-Ok-json-8-clause-again : goal.returns-in-Ok-json-8-clause-again
@@ -14,7 +14,7 @@ returns-in-Ok-json-14-clause-again c = subst (λ (e : Event). event_in (event_da
 
 pub returns-in-Ok-json-24-clause-again : goal.returns-in-Ok-json-24-clause-again
 returns-in-Ok-json-24-clause-again c =
-    subst (λ (e : Event). event_in (event_data e) ≡ Some e) (sym c.in-R.is) (swap_again c.in-R.a c.in-R.r c.in-R.s c.in-R.w (omega arith) c.source_value-in-R.ensures.again (omega arith))
+    subst (λ (e : Event). event_in (event_data e) ≡ Some e) (sym c.in-R.is) (rmw_again c.in-R.a c.in-R.r c.in-R.s c.in-R.w (omega arith) c.source_value-in-R.ensures.again (omega arith))
 
 pub returns-in-Ok-json-26-clause-again : goal.returns-in-Ok-json-26-clause-again
 returns-in-Ok-json-26-clause-again c = subst (λ (e : Event). event_in (event_data e) ≡ Some e) (sym c.in-F.is) fence_again
