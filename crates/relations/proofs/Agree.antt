@@ -1,17 +1,16 @@
 -- A table of the forced pairs relates the forced pairs.
-use Rattle.std.proofs.Common.{◌≡◌, ◌<◌, ◌↔◌, inl, inr, ℕ, true, false, Option, Some, None, List, [], length, get_or, arith, refl, sym, ap, ◌∙◌, subst}
+use Rattle.std.proofs.Common.{◌≡◌, ◌<◌, ◌↔◌, inl, inr, ℕ, true, false, Option, Some, None, List, [], length, get_or, arith, refl, sym, ap, ◌∙◌}
 use Rattle.std.specs.Prelude.{is_some, All}
 use Rattle.std.proofs.lemmas.Bool.{cases_lt}
 use Rattle.std.proofs.lemmas.List.{get_or_past}
-use Rattle.recorder.specs.Event.{value_read}
-use Rattle.recorder.specs.Execution.{Execution, event_count, event_at, Reads}
-use Rattle.recorder.specs.Tso.{IsWellFormed, Gives}
-use Rattle.recorder.proofs.Events.{Reads-event, Writes-event, source-Reads}
+use Rattle.recorder.specs.Execution.{Execution, event_count}
+use Rattle.recorder.specs.Tso.{IsWellFormed}
+use Rattle.recorder.proofs.Events.{Reads-event, Writes-event}
 use Rattle.relations.specs.declared.reason.Reason.{Reason}
 use Rattle.relations.specs.declared.reason.Reason.TheVariants.{Po, Wo, Rf, Fr}
 use Rattle.relations.specs.Forced.{Holds, Forced, IsReason}
 use Rattle.relations.specs.Relation.{Table, reason_at, Related, IsTableOf}
-use Rattle.relations.proofs.Written.{writes_listed}
+use Rattle.relations.proofs.Written.{writes_listed, source_writes, source_within}
 
 -- where each row has as many reasons as there are rows, related numbers are numbers of rows
 pub related_within : (t : Table) (n : ℕ) → length t ≡ n → All (λ row. length row ≡ n) t → (e f : ℕ) → Related t e f → (e < n) × (f < n)
@@ -31,10 +30,7 @@ pub forced_within : (x : Execution) → IsWellFormed x → (reason : Reason) (e 
 forced_within x wf Po e f h = let own : (e < f) × (f < event_count x) × _ = h.0 in (omega arith, own.1)
 forced_within x wf Wo e f h =
     let w = writes_listed x wf h.0 e f h.1 in (Writes-event x e h.0 w.0, Writes-event x f h.0 w.1)
-forced_within x wf Rf e f h =
-    let reads : (a : ℕ) × Reads x f a = source-Reads x f e h.0 in
-    let gives : Gives x reads.0 (Some e) (value_read (event_at x f)) = subst (λ (o : Option ℕ). Gives x reads.0 o (value_read (event_at x f))) h.0 (wf.sources f reads.0 reads.1) in
-    (Writes-event x e reads.0 gives.0, Reads-event x f reads.0 reads.1)
+forced_within x wf Rf e f h = (source_within x wf e f h.0, (source_writes x wf e f h.0).0)
 forced_within x wf Fr e f h = (Reads-event x e h.0 h.1, Writes-event x f h.0 h.2)
 
 -- a pair with a reason is forced

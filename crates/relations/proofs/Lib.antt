@@ -3,6 +3,12 @@ pub mod Written
 pub mod Exact
 pub mod Acyclic
 pub mod Tables
+pub mod Sets
 pub mod Agree
 pub mod Pairs
 pub mod Same
+pub mod Filled
+pub mod Cores
+pub mod Pigeonhole
+pub mod Dictionary
+pub mod Readers

@@ -1,10 +1,11 @@
 -- What the places of two events tell is what holds of the pair.
-use Rattle.std.proofs.Common.{◌<◌, ◌≤◌, ◌↔◌, ℕ, arith, length, subst}
+use Rattle.std.proofs.Common.{◌≡◌, ◌<◌, ◌≤◌, ◌↔◌, ◌⊎◌, inl, inr, ℕ, Some, arith, length, subst, ap, ◌∙◌}
+use Rattle.std.specs.Prelude.{is_some, IsSome}
 use Rattle.recorder.specs.Execution.{Execution, write_list, Reads, Writes, source_of}
 use Rattle.recorder.specs.Order.{place, Before}
 use Rattle.recorder.proofs.Orders.{place_in}
 use Rattle.relations.specs.declared.placed.Placed.{Placed}
-use Rattle.relations.specs.declared.reason.Reason.TheVariants.{Wo}
+use Rattle.relations.specs.declared.reason.Reason.TheVariants.{Wo, Fr}
 use Rattle.relations.specs.Forced.{IsOlder, Holds}
 use Rattle.relations.specs.Placed.{IsPlaced}
 use Rattle.relations.proofs.Written.{writes_listed, writes_one}
@@ -34,3 +35,21 @@ read_pair x p q a hp hq reads writes =
       λ less. newer.1 (omega (arith, hq.place a writes)),
       λ older. omega (arith, newer.0 older, hq.place a writes),
     )
+
+-- f stands in the write list of a, at place n or later
+abbrev pub IsLaterPlace : Execution → ℕ → ℕ → ℕ → Type 0
+IsLaterPlace x a f n = (n ≤ place (write_list x a) f) × (place (write_list x a) f < length (write_list x a))
+
+-- what an event is before by write order or from-read stands in the write list of the address that it reads or writes, at its first place or later
+pub later_place : (x : Execution) (p : Placed) (n a f : ℕ) → IsPlaced x p → (IsSome p.reads → n ≤ p.newer) → (IsSome p.writes → n ≤ p.place) → ((b : ℕ) → Reads x p.number b → Some a ≡ Some b) → ((b : ℕ) → Writes x p.number b → Some a ≡ Some b)
+    → Holds x Wo p.number f ⊎ Holds x Fr p.number f → IsLaterPlace x a f n
+later_place x p n a f hp newer place reads writes (inl h) =
+    let w : Writes x p.number h.0 × Writes x f h.0 = writes_listed x hp.well_formed h.0 p.number f h.1 in
+    let same : Some a ≡ Some h.0 = writes h.0 w.0 in
+    let one : h.0 ≡ a = cc in
+    subst (λ (b : ℕ). IsLaterPlace x b f n) one (omega (arith, h.1, hp.place h.0 w.0, place (ap is_some (hp.writes ∙ w.0))), h.1.1)
+later_place x p n a f hp newer place reads writes (inr h) =
+    let same : Some a ≡ Some h.0 = reads h.0 h.1 in
+    let one : h.0 ≡ a = cc in
+    let within = place_in (write_list x h.0) f (omega (arith, (hp.well_formed.write_lists h.0).once f h.2)) in
+    subst (λ (b : ℕ). IsLaterPlace x b f n) one (omega (arith, (hp.newer h.0 h.1 f within).0 h.5, newer (ap is_some (hp.reads ∙ h.1))), within)

@@ -1,7 +1,7 @@
--- Relations with the same pairs have the same cycles and the same first order.
-use Rattle.std.proofs.Common.{ℕ, List, [], ◌∷◌}
-use Rattle.relations.specs.Cycle.{Leads, IsCycle}
-use Rattle.relations.specs.Laws.{LeastOrdersAgree, CyclesAgree}
+-- Relations with the same pairs have the same cycles, distances and first order.
+use Rattle.std.proofs.Common.{ℕ, zero, suc, List, [], ◌∷◌}
+use Rattle.relations.specs.Cycle.{Leads, IsCycle, IsShortest, Walk, IsCappedDistance, IsExactRow, IsLabelling, IsCertificate}
+use Rattle.relations.specs.Laws.{Agree, LeastOrdersAgree, CyclesAgree, LeastCyclesAgree, ExactRowsAgree, CertificatesAgree}
 
 -- neighbours that are related in the one are related in the other
 leads_into : (R S : ℕ → ℕ → Type 0) → ((e f : ℕ) → R e f → S e f) → (e : ℕ) (es : List ℕ) (back : ℕ) → Leads R e es back → Leads S e es back
@@ -23,3 +23,65 @@ least_agree R S same n m l = record {
   respects = record { total = l.respects.total; related = λ e f s. l.respects.related e f ((same e f).1 s) };
   least = λ other r. l.least other (record { total = r.total; related = λ e f h. r.related e f ((same e f).0 h) });
 }
+
+-- a shortest cycle of the one is one of the other
+shortest_into : (R S : ℕ → ℕ → Type 0) → Agree R S → (c : List ℕ) → IsShortest R c → IsShortest S c
+shortest_into R S same c s = record {
+  cycle = (cycles_agree R S same c).0 s.cycle;
+  shortest = λ d cycle. s.shortest d ((cycles_agree R S same d).1 cycle);
+}
+
+-- they have the same pairs, the other way round
+turned : (R S : ℕ → ℕ → Type 0) → Agree R S → Agree S R
+turned R S same e f = ((same e f).1, (same e f).0)
+
+-- they have the same first of their shortest cycles
+pub least_cycles_agree : (R S : ℕ → ℕ → Type 0) → LeastCyclesAgree R S
+least_cycles_agree R S same c l = record {
+  shortest = shortest_into R S same c l.shortest;
+  least = λ d s. l.least d (shortest_into S R (turned R S same) d s);
+}
+
+-- steps of the one are steps of the other
+walk_into : (R S : ℕ → ℕ → Type 0) → Agree R S → (n e f : ℕ) → Walk R n e f → Walk S n e f
+walk_into R S same zero e f w = w
+walk_into R S same (suc n) e f w = (w.0, (same e w.0).0 w.1, walk_into R S same n w.0 f w.2)
+
+-- a distance of the one is that of the other
+distance_into : (R S : ℕ → ℕ → Type 0) → Agree R S → (k e f n : ℕ) → IsCappedDistance R k e f n → IsCappedDistance S k e f n
+distance_into R S same k e f n d = record {
+  cap = d.cap;
+  walk = λ low. walk_into R S same n e f (d.walk low);
+  least = λ j w. d.least j (walk_into S R (turned R S same) j e f w);
+}
+
+-- they have the same distances
+pub exact_rows_agree : (R S : ℕ → ℕ → Type 0) → ExactRowsAgree R S
+exact_rows_agree R S same n k rows exact = record {
+  one_each = exact.one_each;
+  exact = λ v low. let row : IsExactRow R n k v _ = exact.exact v low in record {
+    one_each = row.one_each;
+    labels = λ e here. distance_into R S same k v e _ (row.labels e here);
+  };
+}
+
+-- labels of the one are labels of the other
+labelling_into : (R S : ℕ → ℕ → Type 0) → Agree R S → (k n v : ℕ) (labels : List ℕ) → IsLabelling R k n v labels → IsLabelling S k n v labels
+labelling_into R S same k n v labels l = record {
+  one_each = l.one_each;
+  start = l.start;
+  grows = λ e f s. l.grows e f ((same e f).1 s);
+  closes = λ e s. l.closes e ((same e v).1 s);
+}
+
+-- a certificate of the one is one of the other
+certificate_into : (R S : ℕ → ℕ → Type 0) → Agree R S → (n : ℕ) (c : List ℕ) (rows : List (List ℕ)) → IsCertificate R n c rows → IsCertificate S n c rows
+certificate_into R S same n c rows h = record {
+  cyclic = (cycles_agree R S same c).0 h.cyclic;
+  one_each = h.one_each;
+  labelled = λ v low. labelling_into R S same _ n v _ (h.labelled v low);
+}
+
+-- they have the same certificates
+pub certificates_agree : (R S : ℕ → ℕ → Type 0) → CertificatesAgree R S
+certificates_agree R S same n c rows = (certificate_into R S same n c rows, certificate_into S R (turned R S same) n c rows)

@@ -2,7 +2,7 @@
 use Rattle.std.specs.Prelude.{◌↔◌, ℕ, List}
 use Rattle.recorder.specs.Execution.{Execution}
 use Rattle.recorder.specs.Tso.{IsTsoOrder, IsWellFormed}
-use Rattle.relations.specs.Cycle.{IsCycle}
+use Rattle.relations.specs.Cycle.{IsCycle, IsAcyclic, IsLeastCycle, AreExactRows, IsCertificate}
 use Rattle.relations.specs.Respects.{Respects, IsLeastOrder}
 use Rattle.relations.specs.Verdict.{RespectsForced, HasNoOverlook}
 
@@ -18,7 +18,7 @@ EveryRespectingIsOrder x = (m : List ℕ) → IsWellFormed x → HasNoOverlook x
 
 -- a relation with an order that has its pairs in order has no cycle
 abbrev pub OrderedIsAcyclic : (ℕ → ℕ → Type 0) → Type 0
-OrderedIsAcyclic R = (n : ℕ) (m : List ℕ) → Respects R n m → (c : List ℕ) → ¬ IsCycle R c
+OrderedIsAcyclic R = (n : ℕ) (m : List ℕ) → Respects R n m → IsAcyclic R
 
 -- two relations have the same pairs
 abbrev pub Agree : (ℕ → ℕ → Type 0) → (ℕ → ℕ → Type 0) → Type 0
@@ -31,3 +31,15 @@ LeastOrdersAgree R S = Agree R S → (n : ℕ) (m : List ℕ) → IsLeastOrder R
 -- relations with the same pairs have the same cycles
 abbrev pub CyclesAgree : (ℕ → ℕ → Type 0) → (ℕ → ℕ → Type 0) → Type 0
 CyclesAgree R S = Agree R S → (c : List ℕ) → IsCycle R c ↔ IsCycle S c
+
+-- relations with the same pairs have the same first of their shortest cycles
+abbrev pub LeastCyclesAgree : (ℕ → ℕ → Type 0) → (ℕ → ℕ → Type 0) → Type 0
+LeastCyclesAgree R S = Agree R S → (c : List ℕ) → IsLeastCycle R c → IsLeastCycle S c
+
+-- relations with the same pairs have the same distances
+abbrev pub ExactRowsAgree : (ℕ → ℕ → Type 0) → (ℕ → ℕ → Type 0) → Type 0
+ExactRowsAgree R S = Agree R S → (n k : ℕ) (rows : List (List ℕ)) → AreExactRows R n k rows → AreExactRows S n k rows
+
+-- relations with the same pairs have the same certificates
+abbrev pub CertificatesAgree : (ℕ → ℕ → Type 0) → (ℕ → ℕ → Type 0) → Type 0
+CertificatesAgree R S = Agree R S → (n : ℕ) (c : List ℕ) (rows : List (List ℕ)) → IsCertificate R n c rows ↔ IsCertificate S n c rows

@@ -1,6 +1,8 @@
 pub mod Forced
 pub mod Placed
+pub mod Filled
 pub mod Relation
+pub mod Sets
 pub mod Cycle
 pub mod Respects
 pub mod Verdict

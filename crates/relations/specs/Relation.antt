@@ -22,11 +22,6 @@ pub record IsSquare (t : Table) : Type 0 where
   pub rows : All (λ row. length row ≡ length t) t
   pub few : length t ≤ MAX_EVENTS
 
--- the reasons for e before each event
-pub record IsRowOf (x : Execution) (e : ℕ) (row : List (Option Reason)) : Type 0 where
-  pub size : length row ≡ event_count x
-  pub reasons : (f : ℕ) → f < event_count x → IsReason x e f (slice_index_or row f None)
-
 -- a row for each event, with its reasons
 pub record IsTableOf (x : Execution) (t : Table) : Type 0 where
   pub size : length t ≡ event_count x

@@ -3,7 +3,7 @@ use Rattle.std.specs.Prelude.{ℕ, List}
 use Rattle.recorder.specs.Execution.{Execution, event_count}
 use Rattle.recorder.specs.Tso.{IsTsoOrder}
 use Rattle.relations.specs.Forced.{Forced, Overlooks}
-use Rattle.relations.specs.Cycle.{IsCycle}
+use Rattle.relations.specs.Cycle.{IsAcyclic}
 use Rattle.relations.specs.Respects.{Respects}
 
 -- a list of the events with each forced pair in order
@@ -16,7 +16,7 @@ HasNoOverlook x = (l s : ℕ) → ¬ Overlooks x l s
 
 -- the forced pairs have no cycle
 abbrev pub HasNoCycle : Execution → Type 0
-HasNoCycle x = (c : List ℕ) → ¬ IsCycle (Forced x) c
+HasNoCycle x = IsAcyclic (Forced x)
 
 -- no memory order of TSO explains the execution
 abbrev pub HasNoOrder : Execution → Type 0

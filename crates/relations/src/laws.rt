@@ -3,10 +3,10 @@
 ghost use Rattle.recorder.specs.Execution.{Execution};
 ghost use Rattle.relations.specs.Forced.{Forced};
 ghost use Rattle.relations.specs.Relation.{Table, Related};
-ghost use Rattle.relations.specs.Laws.{EveryOrderRespects, EveryRespectingIsOrder, OrderedIsAcyclic, LeastOrdersAgree, CyclesAgree};
+ghost use Rattle.relations.specs.Laws.{EveryOrderRespects, EveryRespectingIsOrder, OrderedIsAcyclic, LeastOrdersAgree, CyclesAgree, LeastCyclesAgree, ExactRowsAgree, CertificatesAgree};
 
-/// The forced pairs are what all memory orders of TSO have in common, and where no read overlooks
-/// a store of its own core they are all that TSO asks.
+/// Every memory order of TSO has the forced pairs in order, and where no read overlooks a store of
+/// its own core, every order that has them in order is one of TSO.
 pub fn forced_is_exact()
     ensures respects { (x : Execution) → EveryOrderRespects x }
     ensures enough { (x : Execution) → EveryRespectingIsOrder x }
@@ -18,8 +18,11 @@ pub fn ordered_is_acyclic()
     ensures related { (t : Table) → OrderedIsAcyclic (Related t) }
 {}
 
-/// A table with the forced pairs has the least order and the cycles of the forced pairs.
+/// A table with the forced pairs has their least order, cycles, distances and certificates.
 pub fn relation_is_forced()
     ensures least { (t : Table) (x : Execution) → LeastOrdersAgree (Related t) (Forced x) }
     ensures cycles { (t : Table) (x : Execution) → CyclesAgree (Related t) (Forced x) }
+    ensures least_cycles { (t : Table) (x : Execution) → LeastCyclesAgree (Related t) (Forced x) }
+    ensures rows { (t : Table) (x : Execution) → ExactRowsAgree (Related t) (Forced x) }
+    ensures certificates { (t : Table) (x : Execution) → CertificatesAgree (Related t) (Forced x) }
 {}

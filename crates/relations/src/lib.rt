@@ -1,15 +1,20 @@
-//! What memory orders of TSO have in common.
+//! Pairs of events that every memory order of TSO has in order, and overlooked stores.
 #![tactic(auto)]
 
+mod candidates;
+mod filling;
 mod forced;
 mod laws;
 mod overlooks;
+mod pair;
 mod placed;
 mod reason;
 mod relation;
+mod row;
 
 pub use laws::{forced_is_exact, ordered_is_acyclic, relation_is_forced};
 pub use overlooks::overlook;
+pub use pair::{first_reason, is_overlook};
 pub use reason::Reason;
 pub use relation::Relation;
 

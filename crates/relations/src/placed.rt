@@ -57,7 +57,7 @@ fn newer_of(recording: &Recording, number: EventId) -> usize
 }
 
 /// An event with its places.
-fn placed_event(recording: &Recording, number: EventId) -> Placed
+pub(crate) fn placed_event(recording: &Recording, number: EventId) -> Placed
     requires { number < event_count recording.now }
     ensures place { IsPlaced recording.now result }
     ensures number { result.number ≡ number }

@@ -1,51 +1,40 @@
 //! The relation of forced pairs.
 
-use crate::placed::{Placed, placed_events};
+use crate::filling::{filled_rows, taken_apart};
 use crate::reason::Reason;
+use bitrow::BitRow;
 use litmus::{EventId, OutOfMemory};
 use recorder::Recording;
 use std::alloc::Global;
 use std::marker::Model;
 
-/// The forced pairs of a recording, each with the first reason that holds.
+/// The forced pairs of a recording, each with the first reason that holds, and for each event the
+/// set of the events that it is forced before.
 #[derive(Drop)]
 pub struct Relation {
     rows: Vec<Vec<Option<Reason>>>,
+    successors: Vec<BitRow>,
 }
 
 impl Model for Relation {
     ghost use Rattle.std.specs.Prelude.{map};
     ghost use Rattle.relations.specs.Relation.{Table, IsSquare};
+    ghost use Rattle.relations.specs.Sets.{AreSetsOf};
 
     ghost Value = { Table };
 
     ghost view = { λ r. map (λ v. v.items) r.rows.items };
 
-    ghost invariant = { λ r. IsSquare (map (λ v. v.items) r.rows.items) };
+    ghost invariant = { λ r. IsSquare (map (λ v. v.items) r.rows.items)
+        × AreSetsOf (map (λ v. v.items) r.rows.items) r.successors.items };
 }
 
 impl Relation {
     ghost use Rattle.std.specs.Prelude.{◌≡◌, ◌<◌, ◌↔◌, ℕ, IsTrue, IfOk, length};
     ghost use Rattle.recorder.specs.Execution.{Execution};
     ghost use Rattle.relations.specs.Forced.{Forced};
-    ghost use Rattle.relations.specs.Placed.{IsPlaced, ArePlaced};
-    ghost use Rattle.relations.specs.Relation.{IsRowOf, IsTableOf, IsSquare, Related, reason_at};
-
-    /// The reasons for one event before each.
-    fn row(
-        alloc: Global,
-        first: &Placed,
-        events: &[Placed],
-    ) -> Result<Vec<Option<Reason>>, OutOfMemory>
-        ensures { IfOk result (λ row. (x : Execution) → IsPlaced x first.now
-            → ArePlaced x events.now → IsRowOf x first.now.number row.items) }
-    {
-        let mut row = Vec::with_capacity(alloc, events.len())?;
-        for second in events {
-            row.push(first.reason(second))?;
-        }
-        Ok(row)
-    }
+    ghost use Rattle.relations.specs.Relation.{IsTableOf, IsSquare, Related, reason_at};
+    ghost use Rattle.relations.specs.Sets.{AreSetsOf};
 
     /// The forced pairs of a recording (Nagarajan, Sorin, Hill and Wood, A Primer on Memory
     /// Consistency and Cache Coherence, second edition, chapter 4).
@@ -54,12 +43,9 @@ impl Relation {
         ensures related { IfOk result (λ r. (e f : ℕ) → Related r e f ↔ Forced recording.now e f) }
     {
         recording.sound();
-        let events = placed_events(alloc, recording)?;
-        let mut rows = Vec::with_capacity(alloc, events.len())?;
-        for first in &events {
-            rows.push(Relation::row(alloc, first, &events)?)?;
-        }
-        Ok(Relation { rows })
+        let filled = filled_rows(alloc, recording)?;
+        let (rows, successors) = taken_apart(alloc, filled)?;
+        Ok(Relation { rows, successors })
     }
 
     /// What every relation keeps. It does nothing.
@@ -76,6 +62,13 @@ impl Relation {
         ensures { result ≡ length self.now }
     {
         self.rows.len()
+    }
+
+    /// For each event the set of the events that it is forced before.
+    pub fn successors(&self) -> &[BitRow]
+        ensures { AreSetsOf self.now result.now }
+    {
+        self.successors.as_slice()
     }
 
     /// The first reason for one event before another; none where there is none, and for a number

@@ -44,20 +44,10 @@ const SWAP_OF_ITSELF: Event = Event::R {
     w: 1,
 };
 
-fn recorded(alloc: Global, cores: &[&[Event]], writes: &[&[EventId]]) -> Result<Recording, Fail> {
-    let mut events = Vec::new(alloc);
-    for core in cores {
-        events.push(Vec::from_slice(alloc, *core)?)?;
-    }
-    let mut lists = Vec::new(alloc);
-    for list in writes {
-        lists.push(Vec::from_slice(alloc, *list)?)?;
-    }
-    Ok(Recording::from_parts(events, lists).ok().ok_or("refused")?)
-}
-
 fn related(alloc: Global, cores: &[&[Event]], writes: &[&[EventId]]) -> Result<Relation, Fail> {
-    let recording = recorded(alloc, cores, writes)?;
+    let recording = Recording::from_lists(alloc, cores, writes)
+        .ok()
+        .ok_or("refused")?;
     Ok(Relation::of(alloc, &recording).ok().ok_or("out of memory")?)
 }
 
@@ -96,8 +86,12 @@ fn a_load_of_an_older_value_than_its_core_stored_is_named(rt: HostRuntime) -> Re
         r: 1,
         s: Some(1),
     };
-    let overlooked_store = recorded(alloc, &[&[X1, X0]], &[&[0]])?;
-    let message_passing = recorded(alloc, &[&[X1, Y1], &[y1, X0]], &[&[0], &[1]])?;
+    let overlooked_store = Recording::from_lists(alloc, &[&[X1, X0]], &[&[0]])
+        .ok()
+        .ok_or("refused")?;
+    let message_passing = Recording::from_lists(alloc, &[&[X1, Y1], &[y1, X0]], &[&[0], &[1]])
+        .ok()
+        .ok_or("refused")?;
     assert_eq!(rt; overlook(&overlooked_store), Some((1, 0)));
     assert_eq!(rt; overlook(&message_passing), None);
     Ok(())

@@ -1,22 +1,27 @@
-use Rattle.std.proofs.Common.{◌≡◌, Option, Vec, Global, List, length, arith, ap}
-use Rattle.std.proofs.lemmas.List.{length-map}
-use Rattle.recorder.specs.Execution.{event_count}
-use Rattle.relations.specs.declared.placed.Placed.{Placed}
-use Rattle.relations.specs.declared.reason.Reason.{Reason}
+use Rattle.std.proofs.Common.{◌↔◌, ℕ, sym, subst}
+use Rattle.relations.specs.Forced.{Forced}
+use Rattle.relations.specs.Relation.{Table, IsTableOf, IsSquare, Related}
+use Rattle.relations.specs.Sets.{AreSetsOf}
 use Rattle.relations.proofs.Agree.{related_is_forced}
-use Rattle.relations.proofs.Tables.{rows_of, table_all}
+use Rattle.relations.proofs.Sets.{sets_all}
+use Rattle.relations.proofs.Tables.{table_of_filled, square_of_table}
 use Rattle.relations.proofs.relation.Relation.of.Goals as goal
+
+pub invariant_of-result : goal.invariant_of-result
+invariant_of-result c =
+    let x = c.args.recording.now in
+    let t = c.in_ok-filled.filled.items in
+    let sets = c.in_ok-rows.successors.items in
+    let square = square_of_table x t c.sound.ensures.few_events (table_of_filled x t c.in_ok-filled.ensures) in
+    subst (λ (t : Table). IsSquare t × AreSetsOf t sets) (sym c.in_ok-rows.ensures.reasons) (square, sets_all t sets square c.in_ok-rows.ensures.sets)
+
+pub returns-clause-table : goal.returns-clause-table
+returns-clause-table c =
+    let x = c.args.recording.now in
+    subst (λ (t : Table). IsTableOf x t) (sym c.in_ok-rows.ensures.reasons) (table_of_filled x c.in_ok-filled.filled.items c.in_ok-filled.ensures)
 
 pub returns-clause-related : goal.returns-clause-related
 returns-clause-related c =
     let x = c.args.recording.now in
-    let t = rows_of c.loop-first.rows.items in
-    let size : length t ≡ event_count x =
-    omega (
-      arith,
-      length-map c.loop-first.rows.items (λ (v : Vec (Option Reason) Global). v.items),
-      c.loop-first.invariant.0,
-      c.in_ok-events.ensures.size,
-      ap (λ (ps : List Placed). length ps) c.deref-first-items.ensures.value,
-    ) in
-    related_is_forced x t c.sound.ensures.well_formed (table_all x t size c.loop-first.invariant.1)
+    let t = c.in_ok-filled.filled.items in
+    subst (λ (t : Table). (e f : ℕ) → Related t e f ↔ Forced x e f) (sym c.in_ok-rows.ensures.reasons) (related_is_forced x t c.sound.ensures.well_formed (table_of_filled x t c.in_ok-filled.ensures))
