@@ -1,27 +1,15 @@
 -- The greedy order: each time the least event that has nothing open before it.
-use Rattle.std.proofs.Common.{◌≡◌, ◌≢◌, ◌<◌, ◌≤◌, inl, inr, ℕ, Option, Some, None, List, [], ◌∷◌, ◌++◌, get_or, length, arith, refl, sym, ap, ◌∙◌, subst}
+use Rattle.std.proofs.Common.{◌≡◌, ◌≢◌, ◌<◌, ◌≤◌, inl, inr, ℕ, List, [], ◌∷◌, ◌++◌, get_or, length, arith, refl, sym, ap, ◌∙◌, subst}
 use Rattle.std.proofs.lemmas.Bool.{cases_eq}
 use Rattle.recorder.specs.Order.{place, times, Before}
 use Rattle.recorder.proofs.Orders.{times_here, times_nil, times_append, place_here, place_append_right, cases_zero, before_in_left, left_before_right}
 use Rattle.relations.specs.Relation.{Table, Related}
 use Rattle.relations.specs.Cycle.{ComesFirst, IsCycle}
 use Rattle.relations.specs.Respects.{Respects, IsLeastOrder}
-use Rattle.order.proofs.Pigeonhole.{length_total, missing, all_listed, cycle_of}
+use Rattle.relations.proofs.Dictionary.{first_more}
+use Rattle.relations.proofs.Pigeonhole.{length_total, missing, all_listed, cycle_of}
 use Rattle.order.specs.Open.{waits, IsOpen}
 use Rattle.order.proofs.Waits.{waits_none, all_placed, open_before, times_other, times_own}
-
--- p comes first as far as it goes; where m goes on behind p, it goes on with x or more. So p with x comes first
-first_more : (p : List ℕ) (x : ℕ) (m : List ℕ) → ComesFirst p m → length p < length m → ((y : ℕ) (ys : List ℕ) → m ≡ p ++ y ∷ ys → x ≤ y) → ComesFirst (p ++ x ∷ []) m
-first_more [] x [] first long least = absurd (omega arith)
-first_more [] x (y ∷ ys) first long least = elim (cases_eq x y) [
-  | inl one ↦ inr (one, tt)
-  | inr other ↦ inl (omega (arith, least y ys refl))
-]
-first_more (z ∷ p) x [] first long least = elim first [ ]
-first_more (z ∷ p) x (y ∷ ys) first long least = elim first [
-  | inl smaller ↦ inl smaller
-  | inr rest ↦ inr (rest.0, first_more p x ys rest.1 (omega arith) (λ v vs is. least v vs (ap (λ (t : List ℕ). y ∷ t) is ∙ ap (λ (h : ℕ). h ∷ (p ++ v ∷ vs)) (sym rest.0))))
-]
 
 -- related numbers are numbers of rows
 abbrev pub IsWithin : Table → Type 0
@@ -43,22 +31,21 @@ greedy_none t = record {
   first = λ m r. tt;
 }
 
--- an event with a count of nothing is not placed
-pub free_is_fresh : (t : Table) (p : List ℕ) (counts : List (Option ℕ)) → IsOpen t p counts → (v : ℕ) → v < length t → get_or counts v None ≡ Some 0 → times p v ≡ 0
+-- an event that alone is counted is not placed
+pub free_is_fresh : (t : Table) (p : List ℕ) (counts : List ℕ) → IsOpen t p counts → (v : ℕ) → v < length t → get_or counts v 0 ≡ 1 → times p v ≡ 0
 free_is_fresh t p counts o v less free = elim (cases_zero (times p v)) [
   | inl none ↦ none
-  | inr some ↦ absurd (let no : None ≡ Some 0 = sym (o.done v less some) ∙ free in cc)
+  | inr some ↦ absurd (omega (arith, o.done v less some, free))
 ]
 
 -- and nothing is open before it
-free_waits : (t : Table) (p : List ℕ) (counts : List (Option ℕ)) → IsOpen t p counts → (v : ℕ) → v < length t → get_or counts v None ≡ Some 0 → waits t p (length t) v ≡ 0
-free_waits t p counts o v less free =
-    let both : Some (waits t p (length t) v) ≡ Some 0 = sym (o.waiting v less (free_is_fresh t p counts o v less free)) ∙ free in cc
+free_waits : (t : Table) (p : List ℕ) (counts : List ℕ) → IsOpen t p counts → (v : ℕ) → v < length t → get_or counts v 0 ≡ 1 → waits t p (length t) v ≡ 0
+free_waits t p counts o v less free = omega (arith, o.waiting v less (free_is_fresh t p counts o v less free), free)
 
 -- where an order goes on behind p with y, nothing is open before y
-goes_on_free : (t : Table) (p : List ℕ) (counts : List (Option ℕ)) → IsOpen t p counts → (y : ℕ) (ys : List ℕ) → Respects (Related t) (length t) (p ++ y ∷ ys)
-    → (y < length t) × (get_or counts y None ≡ Some 0)
-goes_on_free t p counts o y ys r = (less, o.waiting y less fresh ∙ ap (λ (k : ℕ). Some k) (waits_none t p (length t) y placed))
+goes_on_free : (t : Table) (p : List ℕ) (counts : List ℕ) → IsOpen t p counts → (y : ℕ) (ys : List ℕ) → Respects (Related t) (length t) (p ++ y ∷ ys)
+    → (y < length t) × (get_or counts y 0 ≡ 1)
+goes_on_free t p counts o y ys r = (less, omega (arith, o.waiting y less fresh, waits_none t p (length t) y placed))
   where
     there : 0 < times (p ++ y ∷ ys) y
     there = omega (arith, times_append p (y ∷ ys) y, times_here ys y y refl)
@@ -79,8 +66,8 @@ goes_on_free t p counts o y ys r = (less, o.waiting y less fresh ∙ ap (λ (k :
     ]
 
 -- the least free event goes on
-pub greedy_more : (t : Table) (p : List ℕ) (counts : List (Option ℕ)) (v : ℕ) → IsWithin t → IsGreedy t p → IsOpen t p counts → length p < length t → v < length t → get_or counts v None ≡ Some 0
-    → ((e : ℕ) → e < length counts → get_or counts e None ≡ Some 0 → v ≤ e) → IsGreedy t (p ++ v ∷ [])
+pub greedy_more : (t : Table) (p : List ℕ) (counts : List ℕ) (v : ℕ) → IsWithin t → IsGreedy t p → IsOpen t p counts → length p < length t → v < length t → get_or counts v 0 ≡ 1
+    → ((e : ℕ) → e < length counts → get_or counts e 0 ≡ 1 → v ≤ e) → IsGreedy t (p ++ v ∷ [])
 greedy_more t p counts v inside g o long less free least = record {
   once = λ e. elim (cases_eq e v) [
     | inl one ↦ omega (arith, fresh, times_own p v, ap (times (p ++ v ∷ [])) one)
@@ -96,7 +83,7 @@ greedy_more t p counts v inside g o long less free least = record {
     | inr other ↦ before_in_left p (v ∷ []) e f (g.ordered e f r (omega (arith, h, times_other p v f other)))
   ];
   first = λ m r. first_more p v m (g.first m r) (omega (arith, length_total (length t) m r.total)) (λ y ys is.
-      let on : (y < length t) × (get_or counts y None ≡ Some 0) = goes_on_free t p counts o y ys (subst (λ (k : List ℕ). Respects (Related t) (length t) k) is r) in
+      let on : (y < length t) × (get_or counts y 0 ≡ 1) = goes_on_free t p counts o y ys (subst (λ (k : List ℕ). Respects (Related t) (length t) k) is r) in
       least y (omega (arith, on.0, o.size)) on.1);
 }
   where
@@ -107,14 +94,15 @@ greedy_more t p counts v inside g o long less free least = record {
     none_open = free_waits t p counts o v less free
 
 -- where nothing is free and an event is left, there is a cycle
-pub greedy_cycle : (t : Table) (p : List ℕ) (counts : List (Option ℕ)) → IsGreedy t p → IsOpen t p counts → length p < length t → ((e : ℕ) → e < length counts → get_or counts e None ≢ Some 0) → (c : List ℕ) × IsCycle (Related t) c
+pub greedy_cycle : (t : Table) (p : List ℕ) (counts : List ℕ) → IsGreedy t p → IsOpen t p counts → length p < length t → ((e : ℕ) → e < length counts → get_or counts e 0 ≢ 1) → (c : List ℕ) × IsCycle (Related t) c
 greedy_cycle t p counts g o long none =
     let left : (e : ℕ) × (e < length t) × (times p e ≡ 0) = missing (length t) p g.within long in
-    cycle_of (Related t) (λ e. (e < length t) × (times p e ≡ 0)) (length t) (λ e u. u.0) before left.0 (left.1, left.2)
+    let found = cycle_of (Related t) (λ e. (e < length t) × (times p e ≡ 0)) (length t) (λ e u. u.0) before left.0 (left.1, left.2) in
+    (found.0, found.1)
   where
     before : (e : ℕ) → (e < length t) × (times p e ≡ 0) → (d : ℕ) × ((d < length t) × (times p d ≡ 0)) × Related t d e
     before e u = elim (cases_zero (waits t p (length t) e)) [
-      | inl zero_waits ↦ absurd (none e (omega (arith, u.0, o.size)) (o.waiting e u.0 u.1 ∙ ap (λ (k : ℕ). Some k) zero_waits))
+      | inl zero_waits ↦ absurd (none e (omega (arith, u.0, o.size)) (omega (arith, o.waiting e u.0 u.1, zero_waits)))
       | inr some ↦ let d : (d : ℕ) × (d < length t) × (times p d ≡ 0) × Related t d e = open_before t p (length t) e some in (d.0, (d.1, d.2), d.3)
     ]
 

@@ -1,11 +1,12 @@
 -- Counts of unplaced events as the order grows.
-use Rattle.std.proofs.Common.{◌≡◌, ◌≢◌, ◌<◌, ◌≤◌, ◌+◌, ◌-◌, ◌⊎◌, inl, inr, ℕ, zero, suc, Bool, true, false, ◌&&◌, eqb, Option, Some, None, List, [], ◌∷◌, ◌++◌, get_or, length, arith, refl, sym, ap, ◌∙◌, subst}
+use Rattle.std.proofs.Common.{◌≡◌, ◌≢◌, ◌<◌, ◌≤◌, ◌+◌, ◌-◌, ◌⊎◌, inl, inr, ℕ, zero, suc, Bool, true, false, ◌&&◌, eqb, replicate, List, [], ◌∷◌, ◌++◌, get_or, length, arith, refl, sym, ap, ◌∙◌, subst}
 use Rattle.std.specs.Prelude.{is_some}
 use Rattle.std.proofs.lemmas.Bool.{cases_eq, cases_Bool, eq-eqb, ne_eqb}
+use Rattle.std.proofs.lemmas.List.{length-replicate, get_or-replicate}
 use Rattle.recorder.specs.Order.{times}
 use Rattle.recorder.proofs.Orders.{times_here, times_there, times_nil, times_append, cases_zero}
 use Rattle.relations.specs.Relation.{Table, reason_at, Related}
-use Rattle.order.specs.Open.{waits, one_if, IsOpen, lowered}
+use Rattle.order.specs.Open.{waits, one_if, IsOpen}
 
 -- an event counts where both tests hold
 step_counts : (b c : Bool) → b ≡ true → c ≡ true → one_if (b && c) ≡ 1
@@ -149,62 +150,99 @@ waits_less t p v (suc n) e r none less =
       | inr other ↦ step other (below (omega arith))
     ]
 
--- no count stays none
-lowered_none : (b : Bool) → lowered b None ≡ None
-lowered_none true = refl
-lowered_none false = refl
-
--- a count is lowered where the test holds
-lowered_some : (b : Bool) (k : ℕ) → b ≡ true → lowered b (Some k) ≡ Some (k - 1)
-lowered_some b k h = subst (λ (c : Bool). lowered c (Some k) ≡ Some (k - 1)) (sym h) refl
-
--- and stays where it fails
-lowered_same : (b : Bool) (o : Option ℕ) → b ≡ false → lowered b o ≡ o
-lowered_same b o h = subst (λ (c : Bool). lowered c o ≡ o) (sym h) refl
-
 -- what a release leaves
-pub record IsReleased (t : Table) (v : ℕ) (old new : List (Option ℕ)) : Type 0 where
+pub record IsReleased (t : Table) (v : ℕ) (old new : List ℕ) : Type 0 where
   pub size : length new ≡ length old
-  pub own : get_or new v None ≡ None
-  pub others : (f : ℕ) → f < length old → f ≢ v → get_or new f None ≡ lowered (is_some (reason_at t v f)) (get_or old f None)
+  pub own : get_or new v 0 ≡ 0
+  pub others : (f : ℕ) → f < length old → f ≢ v → get_or new f 0 ≡ get_or old f 0 - one_if (is_some (reason_at t v f))
 
 -- one event more is placed
-pub open_more : (t : Table) (p : List ℕ) (v : ℕ) (old new : List (Option ℕ)) → v < length t → times p v ≡ 0 → IsOpen t p old → IsReleased t v old new → IsOpen t (p ++ v ∷ []) new
+pub open_more : (t : Table) (p : List ℕ) (v : ℕ) (old new : List ℕ) → v < length t → times p v ≡ 0 → IsOpen t p old → IsReleased t v old new → IsOpen t (p ++ v ∷ []) new
 open_more t p v old new less none unplaced released = record {
   size = released.size ∙ unplaced.size;
-  waiting = waiting;
+  waiting = λ e h fresh. elim (cases_eq e v) [
+    | inl here ↦ absurd (omega (arith, fresh, times_own p v, ap (times (p ++ v ∷ [])) here))
+    | inr other ↦ waiting e other (released.others e (omega (arith, h, unplaced.size)) other) (unplaced.waiting e h (sym (times_other p v e other) ∙ fresh))
+  ];
   done = λ e h placed. elim (cases_eq e v) [
-    | inl here ↦ ap (λ (k : ℕ). get_or new k None) here ∙ released.own
-    | inr other ↦ released.others e (omega (arith, unplaced.size)) other
-        ∙ (ap (λ (o : Option ℕ). lowered (is_some (reason_at t v e)) o) (unplaced.done e h (omega (arith, placed, times_other p v e other))) ∙ lowered_none (is_some (reason_at t v e)))
+    | inl here ↦ ap (λ (k : ℕ). get_or new k 0) here ∙ released.own
+    | inr other ↦ omega (arith, released.others e (omega (arith, h, unplaced.size)) other, unplaced.done e h (omega (arith, placed, times_other p v e other)))
   ];
 }
   where
-    waiting : (e : ℕ) → e < length t → times (p ++ v ∷ []) e ≡ 0 → get_or new e None ≡ Some (waits t (p ++ v ∷ []) (length t) e)
-    waiting e h zero_times = elim (cases_eq e v) [
-      | inl here ↦ absurd (omega (arith, zero_times, times_own p v, ap (times (p ++ v ∷ [])) here))
-      | inr other ↦ was other (unplaced.waiting e h (sym (times_other p v e other) ∙ zero_times))
+    waiting : (e : ℕ) → e ≢ v → get_or new e 0 ≡ get_or old e 0 - one_if (is_some (reason_at t v e)) → get_or old e 0 ≡ waits t p (length t) e + 1
+        → get_or new e 0 ≡ waits t (p ++ v ∷ []) (length t) e + 1
+    waiting e other after before = elim (cases_Bool (is_some (reason_at t v e))) [
+      | inl holds ↦ omega (arith, after, before, ap one_if holds, waits_less t p v (length t) e holds none less)
+      | inr fails ↦ omega (
+        arith,
+        after,
+        before,
+        ap one_if fails,
+        waits_same t p v (length t) e (λ holds. absurd (let no : false ≡ true = sym fails ∙ holds in cc)),
+      )
     ]
-      where
-        was : e ≢ v → get_or old e None ≡ Some (waits t p (length t) e) → get_or new e None ≡ Some (waits t (p ++ v ∷ []) (length t) e)
-        was other before = elim (cases_Bool (is_some (reason_at t v e))) [
-          | inl holds ↦ released.others e (omega (arith, unplaced.size)) other
-              ∙ (ap (λ (o : Option ℕ). lowered (is_some (reason_at t v e)) o) before
-              ∙ (lowered_some (is_some (reason_at t v e)) (waits t p (length t) e) holds
-              ∙ ap (λ (k : ℕ). Some k) (omega (arith, waits_less t p v (length t) e holds none less))))
-          | inr fails ↦ released.others e (omega (arith, unplaced.size)) other
-              ∙ (lowered_same (is_some (reason_at t v e)) (get_or old e None) fails
-              ∙ (before ∙ ap (λ (k : ℕ). Some k) (sym (waits_same t p v (length t) e (λ holds. absurd (let no : false ≡ true = sym fails ∙ holds in cc))))))
-        ]
 
--- the counts at the start, as far as they go
-abbrev pub AreCounts : Table → List (Option ℕ) → Type 0
-AreCounts t counts = (e : ℕ) → e < length counts → get_or counts e None ≡ Some (waits t [] (length t) e)
+-- no more wait than there are
+pub waits_most : (t : Table) (p : List ℕ) (n e : ℕ) → waits t p n e ≤ n
+waits_most t p zero e = omega (arith, waits_zero t p e)
+waits_most t p (suc n) e = go (waits_most t p n e)
+  where
+    one : waits t p (n + 1) e ≡ waits t p (suc n) e
+    one = ap (λ (k : ℕ). waits t p k e) (let is : n + 1 ≡ suc n = omega arith in is)
 
--- a count for each event, before any is placed
-pub counts_all : (t : Table) (counts : List (Option ℕ)) → length counts ≡ length t → AreCounts t counts → IsOpen t [] counts
-counts_all t counts size rest = record {
-  size = size;
-  waiting = λ e h _. rest e (omega arith);
-  done = λ e h placed. absurd (omega (arith, times_nil e));
+    go : waits t p n e ≤ n → waits t p (suc n) e ≤ suc n
+    go most = elim (related_or_not t n e) [
+      | inl holds ↦ elim (cases_zero (times p n)) [
+        | inl unplaced ↦ omega (arith, most, one, waits_counts t p n e holds unplaced)
+        | inr placed ↦ omega (arith, most, one, waits_skips t p n e (λ _. placed))
+      ]
+      | inr fails ↦ omega (arith, most, one, waits_skips t p n e (λ holds. absurd (fails holds)))
+    ]
+
+-- the counts of the first d rows, before any event is placed
+pub record AreCounts (t : Table) (d : ℕ) (counts : List ℕ) : Type 0 where
+  pub size : length counts ≡ length t
+  pub counted : (f : ℕ) → f < length t → get_or counts f 0 ≡ waits t [] d f + 1
+
+-- no row is counted at the start
+pub counts_none : (t : Table) → AreCounts t 0 (replicate (length t) 1)
+counts_none t = record {
+  size = length-replicate (length t) 1;
+  counted = λ f h. omega (arith, get_or-replicate {A = ℕ} (length t) f 1 0 h, waits_zero t [] f);
+}
+
+-- one row more is counted
+pub counts_more : (t : Table) (d : ℕ) (old new : List ℕ) → AreCounts t d old → length new ≡ length old
+    → ((f : ℕ) → f < length old → get_or new f 0 ≡ get_or old f 0 + one_if (is_some (reason_at t d f))) → AreCounts t (d + 1) new
+counts_more t d old new were size more = record {
+  size = size ∙ were.size;
+  counted = λ f h. elim (cases_Bool (is_some (reason_at t d f))) [
+    | inl holds ↦ omega (
+      arith,
+      were.counted f h,
+      more f (omega (arith, h, were.size)),
+      ap one_if holds,
+      waits_counts t [] d f holds (times_nil d),
+    )
+    | inr fails ↦ omega (
+      arith,
+      were.counted f h,
+      more f (omega (arith, h, were.size)),
+      ap one_if fails,
+      waits_skips t [] d f (λ holds. absurd (let no : false ≡ true = sym fails ∙ holds in cc)),
+    )
+  ];
+}
+
+-- no count is larger than the rows are many, and one
+pub counts_most : (t : Table) (d : ℕ) (counts : List ℕ) → AreCounts t d counts → (f : ℕ) → f < length t → get_or counts f 0 ≤ d + 1
+counts_most t d counts all f h = omega (arith, all.counted f h, waits_most t [] d f)
+
+-- with all rows they are a count for each event, before any is placed
+pub counts_all : (t : Table) (counts : List ℕ) → AreCounts t (length t) counts → IsOpen t [] counts
+counts_all t counts all = record {
+  size = all.size;
+  waiting = λ e h _. all.counted e h;
+  done = λ e h placed. absurd (omega (arith, placed, times_nil e));
 }

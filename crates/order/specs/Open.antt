@@ -1,5 +1,6 @@
--- How many events before each are still open, while an order grows.
-use Rattle.std.specs.Prelude.{◌≡◌, ◌<◌, ◌+◌, ◌-◌, ◌==◌, ◌&&◌, ℕ, zero, suc, Bool, true, false, Option, Some, None, List, length, slice_index_or, is_some}
+-- How many events at or before each are still open, while an order grows.
+use Rattle.std.specs.Prelude.{◌≡◌, ◌↔◌, ◌<◌, ◌+◌, ◌==◌, ◌&&◌, ℕ, zero, suc, Bool, true, false, List, length, slice_index, is_some}
+use Rattle.bitrow.specs.Bits.{is_in}
 use Rattle.recorder.specs.Order.{times}
 use Rattle.relations.specs.Relation.{Table, reason_at}
 
@@ -14,16 +15,14 @@ waits t placed zero e = 0
 waits t placed (suc d) e = waits t placed d e
     + one_if (is_some (reason_at t d e) && (times placed d == 0))
 
--- for each event that is not placed, how many before it are not placed
-pub record IsOpen (t : Table) (placed : List ℕ) (counts : List (Option ℕ)) : Type 0 where
+-- for each event, how many at or before it are not placed; none at or before a placed one
+pub record IsOpen (t : Table) (placed counts : List ℕ) : Type 0 where
   pub size : length counts ≡ length t
   pub waiting : (e : ℕ) → e < length t → times placed e ≡ 0
-      → slice_index_or counts e None ≡ Some (waits t placed (length t) e)
-  pub done : (e : ℕ) → e < length t → 0 < times placed e
-      → slice_index_or counts e None ≡ None
+      → slice_index counts e ≡ waits t placed (length t) e + 1
+  pub done : (e : ℕ) → e < length t → 0 < times placed e → slice_index counts e ≡ 0
 
--- one fewer, if there was a count
-abbrev pub lowered : Bool → Option ℕ → Option ℕ
-lowered false o = o
-lowered true None = None
-lowered true (Some k) = Some (k - 1)
+-- the events whose count is 1
+pub record IsFreeSet (counts : List ℕ) (free : List Bool) : Type 0 where
+  pub size : length free ≡ length counts
+  pub each : (e : ℕ) → (is_in free e ≡ true) ↔ (slice_index counts e ≡ 1)

@@ -5,7 +5,7 @@ ghost use Rattle.relations.specs.Cycle.{IsCycle};
 ghost use Rattle.relations.specs.Relation.{Related};
 ghost use Rattle.relations.specs.Respects.{IsLeastOrder};
 
-use crate::waiting::{count_all, first_free, release};
+use crate::waiting::Waiting;
 use litmus::{EventId, OutOfMemory};
 use relations::{Relation, ordered_is_acyclic};
 use std::alloc::Global;
@@ -21,13 +21,13 @@ pub fn build(alloc: Global, relation: &Relation) -> Result<Option<Vec<EventId>>,
     relation.sound();
     ordered_is_acyclic();
     let len = relation.len();
-    let mut counts = count_all(alloc, relation)?;
+    let mut waiting = Waiting::all(alloc, relation)?;
     let mut order = Vec::with_capacity(alloc, len)?;
     for placed in 0..len {
-        let Some(event) = first_free(&counts) else {
+        let Some(event) = waiting.first() else {
             return Ok(None);
         };
-        release(relation, &mut counts, event);
+        waiting.place(relation, event);
         order.push(event)?;
     }
     Ok(Some(order))

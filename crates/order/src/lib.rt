@@ -1,6 +1,7 @@
 //! Memory orders: their check by the rules of TSO alone, and the least one.
 #![tactic(auto)]
 
+mod counts;
 mod kept;
 mod least;
 mod total;

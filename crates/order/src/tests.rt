@@ -23,24 +23,14 @@ const Y0: Event = Event::L {
     s: None,
 };
 
-fn recorded(alloc: Global, cores: &[&[Event]], writes: &[&[EventId]]) -> Result<Recording, Fail> {
-    let mut events = Vec::new(alloc);
-    for core in cores {
-        events.push(Vec::from_slice(alloc, *core)?)?;
-    }
-    let mut lists = Vec::new(alloc);
-    for list in writes {
-        lists.push(Vec::from_slice(alloc, *list)?)?;
-    }
-    Ok(Recording::from_parts(events, lists).ok().ok_or("refused")?)
-}
-
 fn least(
     alloc: Global,
     cores: &[&[Event]],
     writes: &[&[EventId]],
 ) -> Result<Option<Vec<EventId>>, Fail> {
-    let recording = recorded(alloc, cores, writes)?;
+    let recording = Recording::from_lists(alloc, cores, writes)
+        .ok()
+        .ok_or("refused")?;
     let relation = Relation::of(alloc, &recording).ok().ok_or("out of memory")?;
     Ok(build(alloc, &relation).ok().ok_or("out of memory")?)
 }
@@ -93,8 +83,12 @@ fn memory_orders_are_those_that_the_rules_allow(rt: HostRuntime) -> Result<(), F
         r: 1,
         s: Some(1),
     };
-    let store_buffering = recorded(alloc, &[&[X1, Y0], &[Y1, X0]], &[&[0], &[2]])?;
-    let message_passing = recorded(alloc, &[&[X1, Y1], &[read_y1, X0]], &[&[0], &[1]])?;
+    let store_buffering = Recording::from_lists(alloc, &[&[X1, Y0], &[Y1, X0]], &[&[0], &[2]])
+        .ok()
+        .ok_or("refused")?;
+    let message_passing = Recording::from_lists(alloc, &[&[X1, Y1], &[read_y1, X0]], &[&[0], &[1]])
+        .ok()
+        .ok_or("refused")?;
     let rows: [(&str, &Recording, &[EventId], bool); 8] = [
         ("one store last", &store_buffering, &[1, 2, 3, 0], true),
         (

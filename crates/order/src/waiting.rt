@@ -1,79 +1,108 @@
-//! How many events before each are still open, while an order grows.
+//! The events that wait for others, while an order grows.
 
-ghost use Rattle.std.specs.Prelude.{◌≡◌, ◌≢◌, ◌≤◌, ◌<◌, ◌^◌, ℕ, Some, None, [], IfOk, MatchOption, length, slice_index_or, is_some};
-ghost use Rattle.relations.specs.Relation.{reason_at};
-ghost use Rattle.order.specs.Open.{waits, IsOpen, lowered};
-
+use crate::counts::count_all;
+use bitrow::BitRow;
 use litmus::{EventId, OutOfMemory};
 use relations::Relation;
 use std::alloc::Global;
+use std::marker::Model;
 
-/// How many events are forced before an event.
-fn count_before(relation: &Relation, event: EventId) -> u16
-    ensures { result ≡ waits relation.now [] (length relation.now) event }
-{
-    relation.sound();
-    let mut found = 0;
-    for other in 0..relation.len() as EventId {
-        if relation.forced(other, event) {
-            found += 1;
+/// How many events at or before each are still open, with the set of the events that wait for no
+/// other.
+#[derive(Drop)]
+pub(crate) struct Waiting {
+    counts: Vec<u16>,
+    free: BitRow,
+}
+
+impl Model for Waiting {
+    ghost use Rattle.std.specs.Prelude.{ℕ, List};
+    ghost use Rattle.order.specs.Open.{IsFreeSet};
+
+    ghost Value = { List ℕ };
+
+    ghost view = { λ w. w.counts.items };
+
+    ghost invariant = { λ w. IsFreeSet w.counts.items w.free };
+}
+
+impl Waiting {
+    ghost use Rattle.std.specs.Prelude.{◌≡◌, ◌≢◌, ◌≤◌, ◌<◌, ◌-◌, ◌^◌, ℕ, [], IfOk, MatchOption, length, slice_index, slice_set, is_some};
+    ghost use Rattle.relations.specs.Relation.{reason_at};
+    ghost use Rattle.order.specs.Open.{one_if, IsOpen, IsFreeSet};
+
+    /// The set of the events that wait for no other.
+    fn free_set(alloc: Global, counts: &[u16]) -> Result<BitRow, OutOfMemory>
+        ensures { IfOk result (λ free. IsFreeSet counts.now free) }
+    {
+        let mut free = BitRow::new(alloc, counts.len())?;
+        for event in 0..counts.len() {
+            if counts[event] == 1 {
+                free.set(event);
+            }
+        }
+        Ok(free)
+    }
+
+    /// All events of a relation, before any is placed.
+    pub(crate) fn all(alloc: Global, relation: &Relation) -> Result<Waiting, OutOfMemory>
+        ensures { IfOk result (λ w. IsOpen relation.now [] w) }
+    {
+        let counts = count_all(alloc, relation)?;
+        let free = Waiting::free_set(alloc, &counts)?;
+        Ok(Waiting { counts, free })
+    }
+
+    /// The first event that waits for no other.
+    pub(crate) fn first(&self) -> Option<EventId>
+        requires { length self.now < 2 ^ 16 }
+        ensures { MatchOption result
+            ((e : ℕ) → e < length self.now → slice_index self.now e ≢ 1)
+            (λ v. (v < length self.now) × (slice_index self.now v ≡ 1)
+            × ((e : ℕ) → e < length self.now → slice_index self.now e ≡ 1 → v ≤ e)) }
+    {
+        let event = self.free.first_set()?;
+        Some(event as EventId)
+    }
+
+    /// One event fewer is open before one.
+    fn lower(&mut self, event: usize)
+        requires { event < length self.old }
+        ensures { self.new ≡ slice_set self.old event (slice_index self.old event - 1) }
+    {
+        let left = self.counts[event].saturating_sub(1);
+        self.counts[event] = left;
+        if left == 1 {
+            self.free.set(event);
+        } else if left == 0 {
+            self.free.remove(event);
         }
     }
-    found
-}
 
-/// How many events are forced before each.
-pub(crate) fn count_all(alloc: Global, relation: &Relation) -> Result<Vec<Option<u16>>, OutOfMemory>
-    ensures { IfOk result (λ counts. IsOpen relation.now [] counts.items) }
-{
-    relation.sound();
-    let len = relation.len();
-    let mut counts = Vec::with_capacity(alloc, len)?;
-    for event in 0..len as EventId {
-        counts.push(Some(count_before(relation, event)))?;
+    /// No event is open at or before one.
+    fn close(&mut self, event: usize)
+        requires { event < length self.old }
+        ensures { self.new ≡ slice_set self.old event 0 }
+    {
+        self.counts[event] = 0;
+        self.free.remove(event);
     }
-    Ok(counts)
-}
 
-/// The first event that has nothing open before it.
-pub(crate) fn first_free(counts: &[Option<u16>]) -> Option<EventId>
-    requires { length counts.now < 2 ^ 16 }
-    ensures { MatchOption result
-        ((e : ℕ) → e < length counts.now → slice_index_or counts.now e None ≢ Some 0)
-        (λ v. (v < length counts.now) × (slice_index_or counts.now v None ≡ Some 0)
-        × ((e : ℕ) → e < length counts.now → slice_index_or counts.now e None ≡ Some 0 → v ≤ e)) }
-{
-    for event in 0..counts.len() as EventId {
-        if counts[event as usize] == Some(0) {
-            return Some(event);
+    /// Counts an event as placed.
+    pub(crate) fn place(&mut self, relation: &Relation, event: EventId)
+        requires size { length self.old ≡ length relation.now }
+        requires event { event < length relation.now }
+        ensures size { length self.new ≡ length self.old }
+        ensures own { slice_index self.new event ≡ 0 }
+        ensures others { (f : ℕ) → f < length self.old → f ≢ event → slice_index self.new f
+            ≡ slice_index self.old f - one_if (is_some (reason_at relation.now event f)) }
+    {
+        relation.sound();
+        let behind = &relation.successors()[event as usize];
+        let mut others = behind.numbers();
+        while let Some(other) = others.next() {
+            self.lower(other);
         }
+        self.close(event as usize);
     }
-    None
-}
-
-/// One fewer, if there is a count.
-fn lowered(less: bool, before: Option<u16>) -> Option<u16>
-    ensures { result ≡ lowered less before }
-{
-    match before {
-        Some(count) if less => Some(count.saturating_sub(1)),
-        _ => before,
-    }
-}
-
-/// Counts an event as placed.
-pub(crate) fn release(relation: &Relation, counts: &mut [Option<u16>], event: EventId)
-    requires size { length counts.old ≡ length relation.now }
-    requires event { event < length relation.now }
-    ensures size { length counts.new ≡ length counts.old }
-    ensures own { slice_index_or counts.new event None ≡ None }
-    ensures others { (f : ℕ) → f < length counts.old → f ≢ event → slice_index_or counts.new f None
-        ≡ lowered (is_some (reason_at relation.now event f)) (slice_index_or counts.old f None) }
-{
-    relation.sound();
-    for other in 0..relation.len() as EventId {
-        let count = counts[other as usize];
-        counts[other as usize] = lowered(relation.forced(event, other), count);
-    }
-    counts[event as usize] = None;
 }
