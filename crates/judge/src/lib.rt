@@ -1,11 +1,15 @@
-//! The verdict on a recording.
+//! The verdict on a recording, and its check.
 #![tactic(auto)]
 
-mod decision;
+mod alone;
+mod check;
 mod verdict;
+mod workers;
 
-pub use decision::decide;
+pub use alone::judge_alone;
+pub use check::verify;
 pub use verdict::Verdict;
+pub use workers::judge;
 
 #[cfg(test)]
 mod tests;

@@ -1,12 +1,21 @@
 //! Verdicts.
 
+use labels::Certificate;
 use litmus::EventId;
 
-/// What is found of a recording.
+/// What is judged of a recording.
 #[derive(Drop)]
 pub enum Verdict {
-    /// Its least memory order.
+    /// A memory order of TSO that explains it: the events in that order.
     Ordered(Vec<EventId>),
-    /// The least load that overlooks a store of its own core, and the least store of those.
-    Overlook { load: EventId, store: EventId },
+    /// A read that overlooks a store of its own core, so that no memory order explains it.
+    Overlook {
+        /// The read, a load or a read-modify-write.
+        load: EventId,
+        /// The store, before it on its core and newer than its source.
+        store: EventId,
+    },
+    /// A shortest cycle of forced pairs, so that no memory order explains it, with the labels that
+    /// show that none is shorter.
+    Cycle(Certificate),
 }

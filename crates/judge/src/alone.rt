@@ -1,0 +1,50 @@
+//! The judge on the calling thread.
+
+ghost use Rattle.std.specs.Prelude.{ℕ, List, IfOk};
+ghost use Rattle.std.specs.Arc.{arc_value};
+ghost use Rattle.relations.specs.Cycle.{IsCycle};
+ghost use Rattle.relations.specs.Relation.{Related};
+ghost use Rattle.judge.specs.Verdict.{IsVerdict, IsLeastCertificate, Verifies};
+
+use crate::verdict::Verdict;
+use labels::Certificate;
+use litmus::OutOfMemory;
+use order::build;
+use recorder::Recording;
+use relations::{Relation, forced_is_exact, ordered_is_acyclic, overlook, relation_is_forced};
+use search::shortest_cycle;
+use std::alloc::Global;
+use std::sync::Arc;
+
+/// The certificate of a relation that has a cycle.
+fn least_certificate(alloc: Global, relation: &Arc<Relation>) -> Result<Certificate, OutOfMemory>
+    requires { (c : List ℕ) × IsCycle (Related (arc_value relation.now)) c }
+    ensures { IfOk result (IsLeastCertificate (arc_value relation.now)) }
+{
+    match shortest_cycle(alloc, relation)? {
+        Some(certificate) => Ok(certificate),
+        None => unreachable!(),
+    }
+}
+
+/// The verdict on a recording: its least overlook if there is one, else the first in dictionary
+/// order of its shortest cycles of forced pairs if there is one, else its first memory order of TSO
+/// in dictionary order (Nagarajan, Sorin, Hill and Wood, A Primer on Memory Consistency and Cache
+/// Coherence, second edition, chapter 4). It waits for nobody, and an error is want of memory.
+pub fn judge_alone(alloc: Global, recording: &Recording) -> Result<Verdict, OutOfMemory>
+    ensures verdict { IfOk result (IsVerdict recording.now) }
+    ensures verified { IfOk result (Verifies recording.now) }
+{
+    recording.sound();
+    forced_is_exact();
+    ordered_is_acyclic();
+    relation_is_forced();
+    if let Some((load, store)) = overlook(recording) {
+        return Ok(Verdict::Overlook { load, store });
+    }
+    let relation = Arc::new(alloc, Relation::of(alloc, recording)?)?;
+    match build(alloc, &relation)? {
+        Some(order) => Ok(Verdict::Ordered(order)),
+        None => Ok(Verdict::Cycle(least_certificate(alloc, &relation)?)),
+    }
+}

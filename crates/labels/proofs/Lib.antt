@@ -1,0 +1,4 @@
+pub mod Agreed
+pub mod Certificates
+pub mod Pairs
+pub mod Rows

@@ -1,0 +1,2 @@
+pub mod Certified
+pub mod Agreed

@@ -1,0 +1,15 @@
+//! Cycles of forced pairs with labels that show that none is shorter.
+#![tactic(auto)]
+
+mod certificate;
+mod cycle;
+mod labelling;
+mod parallel;
+mod shortest;
+
+pub use certificate::Certificate;
+pub use parallel::check_par;
+pub use shortest::check;
+
+#[cfg(test)]
+mod tests;

@@ -1,0 +1,124 @@
+//! Certificates of small recordings, by hand.
+
+use crate::{Certificate, check, check_par};
+use litmus::EventId;
+use recorder::{Event, Recording};
+use relations::Relation;
+use std::alloc::Global;
+use std::test::Fail;
+
+const X1: Event = Event::S { a: 0, w: 1 };
+
+const Y1: Event = Event::S { a: 1, w: 1 };
+
+const X0: Event = Event::L {
+    a: 0,
+    r: 0,
+    s: None,
+};
+
+const READ_Y1: Event = Event::L {
+    a: 1,
+    r: 1,
+    s: Some(1),
+};
+
+const SWAP_X: Event = Event::R {
+    a: 0,
+    r: 0,
+    s: None,
+    w: 1,
+};
+
+const SWAP_Y: Event = Event::R {
+    a: 1,
+    r: 0,
+    s: None,
+    w: 1,
+};
+
+fn related(alloc: Global, cores: &[&[Event]], writes: &[&[EventId]]) -> Result<Relation, Fail> {
+    let recording = Recording::from_lists(alloc, cores, writes)
+        .ok()
+        .ok_or("refused")?;
+    Ok(Relation::of(alloc, &recording).ok().ok_or("out of memory")?)
+}
+
+fn certificate(alloc: Global, cycle: &[EventId], rows: &[&[u16]]) -> Result<Certificate, Fail> {
+    let mut lists = Vec::new(alloc);
+    for row in rows {
+        lists.push(Vec::from_slice(alloc, *row)?)?;
+    }
+    Ok(Certificate {
+        cycle: Vec::from_slice(alloc, cycle)?,
+        rows: lists,
+    })
+}
+
+#[test]
+fn two_cycles_have_one_certificate(rt: HostRuntime) -> Result<(), Fail> {
+    let alloc = rt.alloc();
+    let swaps: &[Event] = &[SWAP_X, SWAP_Y];
+    let relation = related(alloc, &[swaps, swaps], &[&[0, 2], &[1, 3]])?;
+    let whole: &[&[u16]] = &[&[0, 1, 1, 2], &[2, 0, 2, 1], &[1, 2, 0, 1], &[2, 1, 2, 0]];
+    let cut: &[&[u16]] = &[&[0, 1, 1, 2], &[2, 0, 2, 1], &[1, 2, 0, 1]];
+    let long: &[&[u16]] = &[
+        &[0, 1, 1, 2],
+        &[2, 0, 2, 1],
+        &[1, 2, 0, 1],
+        &[2, 1, 2, 0],
+        &[0],
+    ];
+    let short: &[&[u16]] = &[&[0, 1, 1, 2], &[2, 0, 2], &[1, 2, 0, 1], &[2, 1, 2, 0]];
+    let broad: &[&[u16]] = &[
+        &[0, 1, 1, 2],
+        &[2, 0, 2, 1, 0],
+        &[1, 2, 0, 1],
+        &[2, 1, 2, 0],
+    ];
+    let small: &[&[u16]] = &[&[0, 1, 0, 2], &[2, 0, 2, 1], &[1, 2, 0, 1], &[2, 1, 2, 0]];
+    let rows: [(&str, &[EventId], &[&[u16]], bool); 11] = [
+        ("the certificate", &[0, 2], whole, true),
+        ("begun elsewhere", &[2, 0], whole, true),
+        ("the other cycle", &[1, 3], whole, true),
+        ("the last row is missing", &[0, 2], cut, false),
+        ("a row too many", &[0, 2], long, false),
+        ("a label is missing", &[0, 2], short, false),
+        ("a label too many", &[0, 2], broad, false),
+        ("a label that is too small", &[0, 2], small, false),
+        ("no such event", &[0, 9], whole, false),
+        ("no cycle", &[], whole, false),
+        ("a longer cycle", &[0, 2, 0, 2], whole, false),
+    ];
+    for (name, cycle, labels, passes) in rows {
+        let given = certificate(alloc, cycle, labels)?;
+        assert_eq!(rt; check(&relation, &given), passes, "{name}");
+        assert_eq!(rt;
+            check_par(&rt, &relation, &given),
+            passes,
+            "{name}, by threads"
+        );
+    }
+    Ok(())
+}
+
+#[test]
+fn labels_grow_by_one_at_most(rt: HostRuntime) -> Result<(), Fail> {
+    let alloc = rt.alloc();
+    let relation = related(alloc, &[&[X1, Y1], &[READ_Y1, X0]], &[&[0], &[1]])?;
+    let exact: &[&[u16]] = &[&[0, 1, 2, 3], &[3, 0, 1, 2], &[2, 3, 0, 1], &[1, 2, 3, 0]];
+    let steep: &[&[u16]] = &[&[0, 1, 3, 3], &[3, 0, 1, 2], &[2, 3, 0, 1], &[1, 2, 3, 0]];
+    let kept = certificate(alloc, &[0, 1, 2, 3], exact)?;
+    let refused = certificate(alloc, &[0, 1, 2, 3], steep)?;
+    assert!(rt; check(&relation, &kept), "exact labels");
+    assert!(rt; !check(&relation, &refused), "a label that grows by two");
+    assert!(rt;
+        check_par(&rt, &relation, &kept),
+        "exact labels, by threads"
+    );
+    assert!(rt;
+        !check_par(&rt, &relation, &refused),
+        "a label that grows by two, by threads"
+    );
+    Ok(())
+}

@@ -1,0 +1,124 @@
+//! The text of a cycle with its labels.
+
+ghost use Rattle.std.specs.Prelude.{◌≡◌, ◌++◌, ◌<◌, ℕ, List, OnOk, length};
+ghost use Rattle.relations.specs.Cycle.{IsCycle};
+ghost use Rattle.relations.specs.Forced.{Forced};
+ghost use Rattle.labels.specs.Certified.{lists_of};
+ghost use Rattle.report.specs.Verdict.{reason_name, pair_line, behind, labels_line, labels_text, IsPairLine, ArePairLines, IsCycleText};
+
+use crate::numbers::{put_number, put_numbers};
+use labels::Certificate;
+use litmus::{EventId, OutOfMemory};
+use recorder::Recording;
+use relations::{Reason, first_reason};
+
+/// The name of a reason.
+fn reason_name(reason: Reason) -> &'static [u8]
+    ensures { result.now ≡ reason_name reason }
+{
+    match reason {
+        Reason::Po => b"Po",
+        Reason::Wo => b"Wo",
+        Reason::Rf => b"Rf",
+        Reason::Fr => b"Fr",
+    }
+}
+
+/// Adds the line of a pair with a reason.
+fn put_reason(
+    out: &mut Vec<u8>,
+    first: EventId,
+    second: EventId,
+    reason: Reason,
+) -> Result<(), OutOfMemory>
+    ensures { OnOk result (out.new.items ≡ out.old.items ++ pair_line first second reason) }
+{
+    put_number(out, first as usize)?;
+    out.extend_from_slice(b" -> ")?;
+    put_number(out, second as usize)?;
+    out.push(b' ')?;
+    out.extend_from_slice(reason_name(reason))?;
+    out.push(b'\n')?;
+    Ok(())
+}
+
+/// Adds the line of a forced pair.
+fn put_pair(
+    out: &mut Vec<u8>,
+    recording: &Recording,
+    first: EventId,
+    second: EventId,
+) -> Result<(), OutOfMemory>
+    requires { Forced recording.now first second }
+    ensures { OnOk result ((line : List ℕ) × IsPairLine recording.now first second line
+        × (out.new.items ≡ out.old.items ++ line)) }
+{
+    let Some(reason) = first_reason(recording, first, second) else {
+        unreachable!();
+    };
+    put_reason(out, first, second, reason)
+}
+
+/// The event behind a place of a cycle: behind the last is the first.
+fn behind(cycle: &[EventId], i: usize) -> EventId
+    requires { i < length cycle.now }
+    ensures { result ≡ behind cycle.now i }
+{
+    if i + 1 < cycle.len() {
+        cycle[i + 1]
+    } else {
+        cycle[0]
+    }
+}
+
+/// Adds a line for each pair of neighbours.
+fn put_pairs(out: &mut Vec<u8>, recording: &Recording, cycle: &[EventId]) -> Result<(), OutOfMemory>
+    requires { IsCycle (Forced recording.now) cycle.now }
+    ensures { OnOk result ((lines : List ℕ) × ArePairLines recording.now cycle.now (length cycle.now) lines
+        × (out.new.items ≡ out.old.items ++ lines)) }
+{
+    for i in 0..cycle.len() {
+        put_pair(out, recording, cycle[i], behind(cycle, i))?;
+    }
+    Ok(())
+}
+
+/// Adds the line of the labels from an event.
+fn put_labels(out: &mut Vec<u8>, event: usize, labels: &[u16]) -> Result<(), OutOfMemory>
+    ensures { OnOk result (out.new.items ≡ out.old.items ++ labels_line event labels.now) }
+{
+    out.extend_from_slice(b"labels ")?;
+    put_number(out, event)?;
+    out.push(b':')?;
+    put_numbers(out, labels)?;
+    out.push(b'\n')?;
+    Ok(())
+}
+
+/// Adds a line for each row of labels.
+fn put_rows(out: &mut Vec<u8>, rows: &[Vec<u16>]) -> Result<(), OutOfMemory>
+    ensures { OnOk result (out.new.items ≡ out.old.items ++ labels_text (lists_of rows.now) (length rows.now)) }
+{
+    for event in 0..rows.len() {
+        put_labels(out, event, &rows[event])?;
+    }
+    Ok(())
+}
+
+/// Adds the text of a cycle with its labels.
+pub(crate) fn put_cycle(
+    out: &mut Vec<u8>,
+    recording: &Recording,
+    certificate: &Certificate,
+) -> Result<(), OutOfMemory>
+    requires { IsCycle (Forced recording.now) certificate.now.cycle.items }
+    ensures { OnOk result ((text : List ℕ)
+        × IsCycleText recording.now certificate.now.cycle.items (lists_of certificate.now.rows.items) text
+        × (out.new.items ≡ out.old.items ++ text)) }
+{
+    out.extend_from_slice(b"cycle of ")?;
+    put_number(out, certificate.cycle.len())?;
+    out.push(b'\n')?;
+    put_pairs(out, recording, &certificate.cycle)?;
+    put_rows(out, &certificate.rows)
+}

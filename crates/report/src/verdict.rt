@@ -1,0 +1,55 @@
+//! The text of a verdict.
+
+ghost use Rattle.std.specs.Prelude.{◌≡◌, ◌++◌, IfOk, OnOk};
+ghost use Rattle.judge.specs.Verdict.{Verifies};
+ghost use Rattle.report.specs.Verdict.{order_line, overlook_line, IsVerdictText};
+
+use crate::cycle::put_cycle;
+use crate::numbers::{put_number, put_numbers};
+use judge::Verdict;
+use litmus::{EventId, OutOfMemory};
+use recorder::Recording;
+use std::alloc::Global;
+
+/// Adds the line of an order.
+fn put_order(out: &mut Vec<u8>, order: &[EventId]) -> Result<(), OutOfMemory>
+    ensures { OnOk result (out.new.items ≡ out.old.items ++ order_line order.now) }
+{
+    out.extend_from_slice(b"ordered:")?;
+    put_numbers(out, order)?;
+    out.push(b'\n')?;
+    Ok(())
+}
+
+/// Adds the line of an overlook.
+fn put_overlook(out: &mut Vec<u8>, load: EventId, store: EventId) -> Result<(), OutOfMemory>
+    ensures { OnOk result (out.new.items ≡ out.old.items ++ overlook_line load store) }
+{
+    out.extend_from_slice(b"overlook: load ")?;
+    put_number(out, load as usize)?;
+    out.extend_from_slice(b" store ")?;
+    put_number(out, store as usize)?;
+    out.push(b'\n')?;
+    Ok(())
+}
+
+/// The text of a verdict that holds of the recording: the line of an order or of an overlook, or a
+/// cycle, with the first reason for each pair, and the labels of each event. An error is want of
+/// memory.
+pub fn verdict_text(
+    alloc: Global,
+    recording: &Recording,
+    verdict: &Verdict,
+) -> Result<Vec<u8>, OutOfMemory>
+    requires { Verifies recording.now verdict.now }
+    ensures { IfOk result (λ text. IsVerdictText recording.now verdict.now text.items) }
+{
+    recording.sound();
+    let mut out = Vec::new(alloc);
+    match verdict {
+        Verdict::Ordered(order) => put_order(&mut out, order)?,
+        Verdict::Overlook { load, store } => put_overlook(&mut out, *load, *store)?,
+        Verdict::Cycle(certificate) => put_cycle(&mut out, recording, certificate)?,
+    }
+    Ok(out)
+}

@@ -1,0 +1,112 @@
+-- Rows that get their names one by one, and jobs that share a relation.
+use Rattle.std.proofs.Common.{◌≡◌, ◌<◌, ◌+◌, inl, inr, ℕ, Option, None, Some, List, [], ◌∷◌, ◌++◌, length, get_or, arith, refl, sym, ap, subst, ◌∙◌, length-append, append_assoc, Vec, Global}
+use Rattle.std.specs.Option.{unwrap_or}
+use Rattle.std.specs.Prelude.{is_some, false, true}
+use Rattle.std.proofs.lemmas.Bool.{cases_eq}
+use Rattle.std.proofs.lemmas.List.{get_or_past, get_or_push, get_or_append_left, map-append, length-map}
+use Rattle.relations.specs.declared.reason.Reason.{Reason}
+use Rattle.relations.specs.Relation.{Table, Related}
+use Rattle.relations.specs.Cycle.{Leads, IsExactRow, AreExactRows, IsAcyclic}
+use Rattle.labels.specs.Certified.{lists_of}
+use Rattle.search.specs.Cycles.{IsLeastLength, IsShortestLength}
+use Rattle.search.specs.Labelled.{Labelled, IsCycleLength, IsLabelled, IsNamed, AreLeastRows, numbers_of, Job, AreJobsOf, AreShared}
+
+-- the length of the shortest cycles is that of a cycle
+least_is_cycle : (R : ℕ → ℕ → Type 0) (cap : Option ℕ) → IsLeastLength R cap → IsCycleLength R cap
+least_is_cycle R None least = tt
+least_is_cycle R (Some k) least = (least.0, least.1.cycle, least.2)
+
+-- what stands behind the front
+behind_front : (front : List (List ℕ)) (one : List ℕ) (rest : List (List ℕ)) → get_or (front ++ one ∷ rest) (length front) [] ≡ one
+behind_front [] one rest = refl
+behind_front (x ∷ front) one rest = behind_front front one rest
+
+-- the next row is one of labels
+pub labelled_next : (t : Table) (cap : Option ℕ) (i : ℕ) (front : List (List ℕ)) (one : List ℕ) (rest rows : List (List ℕ)) → length front ≡ i → front ++ one ∷ rest ≡ rows → IsLeastLength (Related t) cap
+    → AreExactRows (Related t) (length t) (unwrap_or cap (length t)) rows → IsLabelled (record { relation = t; source = i; cap = cap; numbers = one })
+labelled_next t cap i front one rest rows size split least exact =
+    let within : i < length t = omega (arith, size, exact.one_each, ap (λ (all : List (List ℕ)). length all) split, length-append front (one ∷ rest)) in
+    let read : get_or rows i [] ≡ one = ap (λ (all : List (List ℕ)). get_or all i []) (sym split) ∙ (ap (λ (k : ℕ). get_or (front ++ one ∷ rest) k []) (sym size) ∙ behind_front front one rest) in
+    record {
+      within = within;
+      cycle = least_is_cycle (Related t) cap least;
+      exact = subst (λ (row : List ℕ). IsExactRow (Related t) (length t) (unwrap_or cap (length t)) i row) read (exact.exact i within);
+    }
+
+-- one row goes from the rest to the front
+pub split_more : (all : List Labelled) (row : Labelled) (one : List ℕ) (rest rows : List (List ℕ)) → row.numbers ≡ one → numbers_of all ++ one ∷ rest ≡ rows → numbers_of (all ++ row ∷ []) ++ rest ≡ rows
+split_more all row one rest rows is split =
+    ap (λ (front : List (List ℕ)). front ++ rest) (map-append (λ (l : Labelled). l.numbers) all (row ∷ []))
+    ∙ (append_assoc (numbers_of all) (row.numbers ∷ []) rest ∙ (ap (λ (x : List ℕ). numbers_of all ++ x ∷ rest) is ∙ split))
+
+-- and has its name
+pub named_more : (t : Table) (cap : Option ℕ) (i : ℕ) (all : List Labelled) (row : Labelled) → length all ≡ i → IsNamed t cap i row → ((v : ℕ) (d : Labelled) → v < i → IsNamed t cap v (get_or all v d))
+    → (v : ℕ) (d : Labelled) → v < i + 1 → IsNamed t cap v (get_or (all ++ row ∷ []) v d)
+named_more t cap i all row long new before v d below = elim (cases_eq v i) [
+  | inl is ↦ subst (λ (x : ℕ). IsNamed t cap x (get_or (all ++ row ∷ []) x d)) (sym is) (subst (λ (l : Labelled). IsNamed t cap i l) (sym (get_or_push all row d i long)) new)
+  | inr other ↦ subst (λ (l : Labelled). IsNamed t cap v l) (sym (get_or_append_left all (row ∷ []) d v (omega (arith, long, below, other)))) (before v d (omega (arith, below, other)))
+]
+
+-- a relation of no events has no cycle
+empty_acyclic : (t : Table) → length t ≡ 0 → IsAcyclic (Related t)
+empty_acyclic t none [] cycle = cycle
+empty_acyclic t none (e ∷ es) cycle = leads_none es cycle
+  where
+    reason_none : (f : ℕ) → get_or (get_or t e []) f None ≡ None
+    reason_none f = ap (λ (row : List (Option Reason)). get_or row f None) (get_or_past t e [] (omega (arith, none))) ∙ get_or_past {X = Option Reason} [] f None (omega arith)
+
+    unrelated : (f : ℕ) → Related t e f → ⊥
+    unrelated f r = let wrong : false ≡ true = sym (ap (λ (o : Option Reason). is_some o) (reason_none f)) ∙ r in cc
+
+    leads_none : (es : List ℕ) → Leads (Related t) e es e → ⊥
+    leads_none [] h = unrelated e h
+    leads_none (f ∷ fs) h = unrelated f h.0
+
+-- no rows are those of a relation of no events
+pub least_none : (t : Table) (jobs : List Job) → length jobs ≡ 0 → AreShared t jobs → AreLeastRows t None []
+least_none t jobs none h = record {
+  least = empty_acyclic t no_events;
+  named = λ v d at. absurd (omega (arith, at, no_events));
+  exact = record { one_each = sym no_events; exact = λ v at. absurd (omega (arith, at, no_events)) };
+}
+  where
+    no_events : length t ≡ 0
+    no_events = elim (cases_eq (length t) 0) [
+      | inl is ↦ is
+      | inr more ↦ let some : (i : ℕ) × (i < length jobs) × ((d : Job) → (get_or jobs i d).source ≡ 0) = h.named 0 (omega (arith, more)) in absurd (omega (arith, some.1, none))
+    ]
+
+-- the jobs of a relation share it
+pub jobs_share : (t : Table) (jobs : List Job) → AreJobsOf t jobs → AreShared t jobs
+jobs_share t jobs h = record {
+  shared = λ i d at. ap (λ (j : Job). j.relation) (h.each i d (omega (arith, at, h.one_each)));
+  named = λ e at. (e, omega (arith, at, h.one_each), λ d. ap (λ (j : Job). j.source) (h.each e d at));
+}
+
+-- one row gives its numbers
+pub lists_more : (lists : List (Vec ℕ Global)) (last : Vec ℕ Global) (one : List ℕ) (rest all : List (List ℕ)) → last.items ≡ one → lists_of lists ++ one ∷ rest ≡ all → lists_of (lists ++ last ∷ []) ++ rest ≡ all
+lists_more lists last one rest all is split =
+    ap (λ (front : List (List ℕ)). front ++ rest) (map-append (λ (v : Vec ℕ Global). v.items) lists (last ∷ []))
+    ∙ (append_assoc (lists_of lists) (last.items ∷ []) rest ∙ (ap (λ (x : List ℕ). lists_of lists ++ x ∷ rest) is ∙ split))
+
+-- without rows there is no length
+pub no_cap : (t : Table) (cap : Option ℕ) (rows : List Labelled) → length rows ≡ 0 → AreLeastRows t cap rows → None ≡ cap
+no_cap t None rows none h = refl
+no_cap t (Some k) rows none h = absurd (empty_acyclic t (omega (arith, none, h.exact.one_each, length-map rows (λ (l : Labelled). l.numbers))) h.least.0 h.least.1.cycle)
+
+-- the first row is cut at the length
+pub first_cap : (t : Table) (cap : Option ℕ) (rows : List Labelled) (d : Labelled) → 0 < length rows → AreLeastRows t cap rows → (get_or rows 0 d).cap ≡ cap
+first_cap t cap rows d some h = (h.named 0 d (omega (arith, some, h.exact.one_each, length-map rows (λ (l : Labelled). l.numbers)))).cut
+
+-- rows without a length say that there is no cycle
+pub none_least : (t : Table) (cap : Option ℕ) (rows : List Labelled) → None ≡ cap → AreLeastRows t cap rows → IsAcyclic (Related t)
+none_least t cap rows is h = subst (λ (o : Option ℕ). IsLeastLength (Related t) o) (sym is) h.least
+
+-- rows with one say that it is that of the shortest cycles
+pub some_least : (t : Table) (cap : Option ℕ) (k : ℕ) (rows : List Labelled) → Some k ≡ cap → AreLeastRows t cap rows → IsShortestLength (Related t) k
+some_least t cap k rows is h = subst (λ (o : Option ℕ). IsLeastLength (Related t) o) (sym is) h.least
+
+-- and their numbers are exact under it
+pub some_exact : (t : Table) (cap : Option ℕ) (k : ℕ) (rows : List Labelled) (lists : List (List ℕ)) → Some k ≡ cap → lists ≡ numbers_of rows → AreLeastRows t cap rows → AreExactRows (Related t) (length t) k lists
+some_exact t cap k rows lists is same h =
+    subst (λ (ls : List (List ℕ)). AreExactRows (Related t) (length t) k ls) (sym same) (subst (λ (o : Option ℕ). AreExactRows (Related t) (length t) (unwrap_or o (length t)) (numbers_of rows)) (sym is) h.exact)

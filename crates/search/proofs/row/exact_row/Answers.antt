@@ -1,0 +1,94 @@
+use Rattle.std.proofs.Common.{◌≡◌, ◌<◌, ◌+◌, inl, inr, ℕ, Bool, true, ◌↔◌, IsTrue, List, length, get_or, refl, arith, sym, subst}
+use Rattle.std.proofs.lemmas.List.{get_or-replicate}
+use Rattle.relations.specs.Cycle.{IsExactRow}
+use Rattle.search.specs.Bits.{Marked}
+use Rattle.search.specs.Cycles.{IsNearest}
+use Rattle.search.specs.Levels.{Closes}
+use Rattle.search.proofs.Marks.{joins_one, one_alone, marked_within}
+use Rattle.search.proofs.Levels.{IsReached, reached_none, IsClosed, reached_more, closes_more, closes_by_next, reached_exact, nearest_more, last_exact, closed_nearest, written_back}
+use Rattle.search.proofs.row.exact_row.Goals as goal
+
+pub loop-label-init : goal.loop-label-init
+loop-label-init c =
+    let n = length c.args.rows.now in
+    let caps : (e : ℕ) → e < n → get_or c.in_ok-labels.labels.items e 0 ≡ c.args.cap =
+    subst (λ (row : List ℕ). (e : ℕ) → e < n → get_or row e 0 ≡ c.args.cap) (sym (c.in_ok-labels.ensures.items_if_clones_equal (λ y h. h))) (λ e at. get_or-replicate n e c.args.cap 0 at) in
+    record {
+      seen_size = c.in_ok-seen.ensures.len;
+      level_size = omega (arith, c.set.ensures.len, c.in_ok-level.ensures.len);
+      next_size = c.in_ok-next.ensures.len;
+      reached = reached_none (Marked c.args.rows.now) n c.args.cap c.args.source c.in_ok-labels.labels.items c.in_ok-seen.seen c.set.new.self c.in_ok-next.next (omega (arith, c.in_ok-labels.ensures.len)) caps c.in_ok-seen.ensures.empty c.in_ok-next.ensures.empty
+          (joins_one c.in_ok-level.level c.set.new.self c.args.source c.args.source c.set.ensures.numbers refl)
+          (λ e is. one_alone c.in_ok-level.level c.set.new.self c.args.source e c.in_ok-level.ensures.empty c.set.ensures.numbers is);
+      closed = record { below = omega arith; reached = inl refl; nearest = λ e r below. absurd (omega (arith, below)) };
+    }
+
+pub returns-in_default-clause-exact : goal.returns-in_default-clause-exact
+returns-in_default-clause-exact c =
+    reached_exact (Marked c.args.rows.now) (length c.args.rows.now) c.args.cap c.args.source c.loop-label.label c.loop-label.labels.items c.loop-label.seen c.loop-label.level c.loop-label.next
+    (marked_within c.args.rows.now c.requires.square) c.requires.source (omega arith) (inr (λ e. c.in_default.ensures e (omega arith))) c.loop-label.invariant.reached
+
+pub returns-in_default-clause-nearest : goal.returns-in_default-clause-nearest
+returns-in_default-clause-nearest c =
+    closed_nearest (Marked c.args.rows.now) (length c.args.rows.now) c.args.cap c.args.source c.loop-label.label c.loop-label.closing c.loop-label.labels.items
+    (marked_within c.args.rows.now c.requires.square) c.loop-label.invariant.reached.or_cap c.loop-label.invariant.closed
+
+pub returns-then-label-cap-clause-exact : goal.returns-then-label-cap-clause-exact
+returns-then-label-cap-clause-exact c =
+    let R = Marked c.args.rows.now in
+    let n = length c.args.rows.now in
+    let reached : IsReached R n c.args.cap c.args.source c.loop-label.label c.as_mut_slice.result.now c.loop-label.seen c.loop-label.level c.loop-label.next =
+    subst (λ (row : List ℕ). IsReached R n c.args.cap c.args.source c.loop-label.label row c.loop-label.seen c.loop-label.level c.loop-label.next) (sym c.as_mut_slice.ensures.value) c.loop-label.invariant.reached in
+    subst (λ (row : List ℕ). IsExactRow R n c.args.cap c.args.source row) (sym (written_back c.loop-label.labels.len c.take_last_level-closes.new.labels c.loop-label.labels.items (omega arith)))
+    (last_exact R n c.args.cap c.args.source c.loop-label.label (marked_within c.args.rows.now c.requires.square) c.as_mut_slice.result.now c.take_last_level-closes.new.labels c.loop-label.seen c.loop-label.level c.loop-label.next
+    c.loop-label-test.true c.requires.source (omega arith) reached c.take_last_level-closes.ensures.labels (omega arith))
+
+pub returns-then-label-cap-clause-nearest : goal.returns-then-label-cap-clause-nearest
+returns-then-label-cap-clause-nearest c =
+    let R = Marked c.args.rows.now in
+    let n = length c.args.rows.now in
+    let reached : IsReached R n c.args.cap c.args.source c.loop-label.label c.as_mut_slice.result.now c.loop-label.seen c.loop-label.level c.loop-label.next =
+    subst (λ (row : List ℕ). IsReached R n c.args.cap c.args.source c.loop-label.label row c.loop-label.seen c.loop-label.level c.loop-label.next) (sym c.as_mut_slice.ensures.value) c.loop-label.invariant.reached in
+    let closed : IsClosed R c.args.cap c.args.source c.loop-label.label c.as_mut_slice.result.now c.loop-label.closing =
+    subst (λ (row : List ℕ). IsClosed R c.args.cap c.args.source c.loop-label.label row c.loop-label.closing) (sym c.as_mut_slice.ensures.value) c.loop-label.invariant.closed in
+    subst (λ (row : List ℕ). IsNearest R c.args.source row c.args.cap c.closing_with.result) (sym (written_back c.loop-label.labels.len c.take_last_level-closes.new.labels c.loop-label.labels.items (omega arith)))
+    (nearest_more R n c.args.cap c.args.source c.loop-label.label (marked_within c.args.rows.now c.requires.square) c.as_mut_slice.result.now c.take_last_level-closes.new.labels c.loop-label.seen c.loop-label.level c.loop-label.next
+    c.loop-label-test.true c.requires.source (omega arith) reached c.take_last_level-closes.ensures.labels (IsTrue c.take_last_level-closes.result) c.loop-label.closing c.closing_with.result c.take_last_level-closes.ensures.closes closed c.closing_with.ensures)
+
+pub loop-label-preserved : goal.loop-label-preserved
+loop-label-preserved c =
+    let R = Marked c.args.rows.now in
+    let n = length c.args.rows.now in
+    let reached : IsReached R n c.args.cap c.args.source c.loop-label.label c.as_mut_slice-in-loop-label.result.now c.loop-label.seen c.loop-label.level c.loop-label.next =
+    subst (λ (row : List ℕ). IsReached R n c.args.cap c.args.source c.loop-label.label row c.loop-label.seen c.loop-label.level c.loop-label.next) (sym c.as_mut_slice-in-loop-label.ensures.value) c.loop-label.invariant.reached in
+    let closed : IsClosed R c.args.cap c.args.source c.loop-label.label c.as_mut_slice-in-loop-label.result.now c.loop-label.closing =
+    subst (λ (row : List ℕ). IsClosed R c.args.cap c.args.source c.loop-label.label row c.loop-label.closing) (sym c.as_mut_slice-in-loop-label.ensures.value) c.loop-label.invariant.closed in
+    let back = written_back c.loop-label.labels.len c.take_level.new.labels c.loop-label.labels.items (omega arith) in
+    record {
+      seen_size = omega (arith, c.or_into.ensures.len, c.loop-label.invariant.seen_size);
+      level_size = omega (arith, c.and_not.ensures.len, c.take_level.ensures.size);
+      next_size = omega (arith, c.and_not-in-loop-label.ensures.len, c.loop-label.invariant.level_size);
+      reached = subst (λ (row : List ℕ). IsReached R n c.args.cap c.args.source (c.loop-label.label + 1) row c.or_into.new.into c.and_not.new.self c.and_not-in-loop-label.new.self)
+          (sym back)
+          (reached_more R n c.args.cap c.args.source c.loop-label.label (marked_within c.args.rows.now c.requires.square) c.as_mut_slice-in-loop-label.result.now c.take_level.new.labels c.loop-label.seen c.loop-label.level c.loop-label.next
+          c.loop-label-test.true c.requires.source (omega arith) reached c.take_level.ensures.labels c.take_level.new.next c.or_into.new.into c.and_not.new.self c.and_not-in-loop-label.new.self
+          c.take_level.ensures.next c.or_into.ensures.numbers c.and_not.ensures.numbers c.and_not-in-loop-label.ensures.numbers);
+      closed = subst (λ (row : List ℕ). IsClosed R c.args.cap c.args.source (c.loop-label.label + 1) row c.closing_with-closing.result)
+          (sym back)
+          (closes_more R n c.args.cap c.args.source c.loop-label.label (marked_within c.args.rows.now c.requires.square) c.as_mut_slice-in-loop-label.result.now c.take_level.new.labels c.loop-label.seen c.loop-label.level c.loop-label.next
+          c.loop-label-test.true c.requires.source (omega arith) reached c.take_level.ensures.labels (IsTrue c.test.result) c.loop-label.closing c.closing_with-closing.result
+          (subst (λ (b : Bool). (b ≡ true) ↔ Closes R c.loop-label.level c.args.source) (sym c.test.ensures)
+          (closes_by_next R n c.args.cap c.args.source c.loop-label.label (marked_within c.args.rows.now c.requires.square) c.as_mut_slice-in-loop-label.result.now c.take_level.new.labels c.loop-label.seen c.loop-label.level c.loop-label.next
+          c.loop-label-test.true c.requires.source (omega arith) reached c.take_level.ensures.labels c.take_level.new.next c.take_level.ensures.next))
+          closed c.closing_with-closing.ensures);
+    }
+
+pub returns-clause-exact : goal.returns-clause-exact
+returns-clause-exact c =
+    reached_exact (Marked c.args.rows.now) (length c.args.rows.now) c.args.cap c.args.source c.loop-label.label c.loop-label.labels.items c.loop-label.seen c.loop-label.level c.loop-label.next
+    (marked_within c.args.rows.now c.requires.square) c.requires.source (omega arith) (inl (omega arith)) c.loop-label.invariant.reached
+
+pub returns-clause-nearest : goal.returns-clause-nearest
+returns-clause-nearest c =
+    closed_nearest (Marked c.args.rows.now) (length c.args.rows.now) c.args.cap c.args.source c.loop-label.label c.loop-label.closing c.loop-label.labels.items
+    (marked_within c.args.rows.now c.requires.square) c.loop-label.invariant.reached.or_cap c.loop-label.invariant.closed

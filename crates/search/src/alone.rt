@@ -1,0 +1,40 @@
+//! Jobs of a relation, and their rows on the calling thread.
+
+ghost use Rattle.std.specs.Prelude.{ℕ, Option, IfOk};
+ghost use Rattle.std.specs.Arc.{arc_value};
+ghost use Rattle.relations.specs.Relation.{Table};
+ghost use Rattle.search.specs.Labelled.{AreJobsOf, AreShared, AreLeastRows};
+
+use crate::job::SourceJob;
+use crate::label_row::LabelRow;
+use litmus::{EventId, OutOfMemory};
+use relations::Relation;
+use std::alloc::Global;
+use std::sync::Arc;
+
+/// A job for each event of a relation.
+pub fn jobs(alloc: Global, relation: Arc<Relation>) -> Result<Vec<SourceJob>, OutOfMemory>
+    ensures one_each { IfOk result (λ jobs. AreJobsOf (arc_value relation) jobs.items) }
+    ensures shared { IfOk result (λ jobs. AreShared (arc_value relation) jobs.items) }
+{
+    relation.sound();
+    let mut jobs = Vec::with_capacity(alloc, relation.len())?;
+    for source in 0..relation.len() {
+        jobs.push(SourceJob::new(&relation, source as EventId)?)?;
+    }
+    Ok(jobs)
+}
+
+/// The rows of jobs that share one relation and name each of its events, in any order: one for
+/// each event, by event, all cut at the length of the shortest cycles, or without a cycle at the
+/// number of events.
+pub fn run_alone(alloc: Global, jobs: Vec<SourceJob>) -> Result<Vec<LabelRow>, OutOfMemory>
+    ensures { IfOk result (λ rows. (t : Table) → AreShared t jobs.items
+        → (cap : Option ℕ) × AreLeastRows t cap rows.items) }
+{
+    if jobs.is_empty() {
+        return Ok(Vec::new(alloc));
+    }
+    // Each job holds the relation, so the first knows all that the rows need.
+    jobs[0].all_rows(alloc)
+}

@@ -1,0 +1,62 @@
+//! Sources whose rows are to be made.
+
+use crate::exact::exact_rows;
+use crate::label_row::LabelRow;
+use crate::label_rows::label_rows;
+use litmus::{EventId, OutOfMemory};
+use relations::Relation;
+use std::alloc::Global;
+use std::marker::Model;
+use std::sync::Arc;
+
+/// An event of a relation whose row is to be made. The jobs of a relation share it.
+#[derive(Drop)]
+pub struct SourceJob {
+    relation: Arc<Relation>,
+    source: EventId,
+}
+
+impl Model for SourceJob {
+    ghost use Rattle.std.specs.Prelude.{◌<◌, length};
+    ghost use Rattle.std.specs.Arc.{arc_value};
+    ghost use Rattle.search.specs.Labelled.{Job, job_of};
+
+    ghost Value = { Job };
+
+    ghost view = { λ j. job_of (arc_value j.relation) j.source };
+
+    ghost invariant = { λ j. j.source < length (arc_value j.relation) };
+}
+
+impl SourceJob {
+    ghost use Rattle.std.specs.Prelude.{◌≡◌, ◌<◌, ℕ, Option, length, IfOk};
+    ghost use Rattle.std.specs.Arc.{arc_value};
+    ghost use Rattle.search.specs.Labelled.{job_of, AreLeastRows};
+
+    /// A job for one event.
+    pub(crate) fn new(relation: &Arc<Relation>, source: EventId) -> Result<SourceJob, OutOfMemory>
+        requires { source < length (arc_value relation.now) }
+        ensures { IfOk result (λ job. job ≡ job_of (arc_value relation.now) source) }
+    {
+        Ok(SourceJob {
+            relation: Arc::try_clone(relation)?,
+            source,
+        })
+    }
+
+    /// The event.
+    pub fn source(&self) -> EventId
+        ensures { result ≡ self.now.source }
+    {
+        self.source
+    }
+
+    /// The rows of all events of the relation.
+    pub(crate) fn all_rows(&self, alloc: Global) -> Result<Vec<LabelRow>, OutOfMemory>
+        ensures { IfOk result (λ rows. (cap : Option ℕ)
+            × AreLeastRows self.now.relation cap rows.items) }
+    {
+        let (rows, cap) = exact_rows(alloc, &self.relation)?;
+        label_rows(alloc, &self.relation, rows, cap)
+    }
+}

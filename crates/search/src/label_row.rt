@@ -1,0 +1,88 @@
+//! Rows of labels.
+
+use litmus::{EventId, OutOfMemory};
+use relations::Relation;
+use std::marker::Model;
+use std::sync::Arc;
+
+/// The least numbers of steps from one event to each, cut at the length of a cycle or at the number
+/// of events.
+#[derive(Drop)]
+pub struct LabelRow {
+    relation: Arc<Relation>,
+    source: EventId,
+    cap: Option<u16>,
+    numbers: Vec<u16>,
+}
+
+impl Model for LabelRow {
+    ghost use Rattle.std.specs.Arc.{arc_value};
+    ghost use Rattle.search.specs.Labelled.{Labelled, labelled, IsLabelled};
+
+    ghost Value = { Labelled };
+
+    ghost view = { λ r. labelled (arc_value r.relation) r.source r.cap r.numbers.items };
+
+    ghost invariant = { λ r. IsLabelled (labelled (arc_value r.relation) r.source r.cap r.numbers.items) };
+}
+
+impl LabelRow {
+    ghost use Rattle.std.specs.Prelude.{◌≡◌, IfOk};
+    ghost use Rattle.std.specs.Arc.{arc_value};
+    ghost use Rattle.search.specs.Labelled.{labelled, IsLabelled};
+
+    /// A row of numbers that were found for a source under a cap.
+    pub(crate) fn new(
+        relation: &Arc<Relation>,
+        source: EventId,
+        cap: Option<u16>,
+        numbers: Vec<u16>,
+    ) -> Result<LabelRow, OutOfMemory>
+        requires { IsLabelled (labelled (arc_value relation.now) source cap numbers.items) }
+        ensures { IfOk result (λ row. row
+            ≡ labelled (arc_value relation.now) source cap numbers.items) }
+    {
+        Ok(LabelRow {
+            relation: Arc::try_clone(relation)?,
+            source,
+            cap,
+            numbers,
+        })
+    }
+
+    /// What every row keeps. It does nothing.
+    pub fn sound(&self)
+        ensures { IsLabelled self.now }
+    {
+        let _numbers = &self.numbers;
+    }
+
+    /// The event that the steps begin at.
+    pub fn source(&self) -> EventId
+        ensures { result ≡ self.now.source }
+    {
+        self.source
+    }
+
+    /// The length of a cycle that the numbers are cut at; none where it is the number of events.
+    pub fn cap(&self) -> Option<u16>
+        ensures { result ≡ self.now.cap }
+    {
+        self.cap
+    }
+
+    /// The number of steps to each event.
+    pub fn numbers(&self) -> &[u16]
+        ensures { result.now ≡ self.now.numbers }
+    {
+        self.numbers.as_slice()
+    }
+
+    /// The numbers, given away.
+    pub fn into_numbers(self) -> Vec<u16>
+        ensures { result.items ≡ self.numbers }
+    {
+        let LabelRow { numbers, .. } = self;
+        numbers
+    }
+}

@@ -1,0 +1,27 @@
+//! Distances along forced pairs, by breadth-first search over rows of bits, and the least of the
+//! shortest cycles.
+#![tactic(auto)]
+
+mod alone;
+mod certified;
+mod cut;
+mod distances;
+mod exact;
+mod job;
+mod label_row;
+mod label_rows;
+mod least;
+mod length;
+mod level;
+mod lists;
+mod row;
+
+pub use alone::{jobs, run_alone};
+pub use certified::shortest_cycle;
+pub use job::SourceJob;
+pub use label_row::LabelRow;
+pub use least::least_cycle;
+pub use lists::{into_lists, least_length};
+
+#[cfg(test)]
+mod tests;
