@@ -1,4 +1,3 @@
-pub mod Faults
 pub mod Unread
 pub mod Printed
 pub mod Ordered

@@ -1,24 +1,27 @@
 -- What is found of a recording that TSO allows.
-use Rattle.std.proofs.Common.{◌≡◌, ◌++◌, inl, ℕ, List, Option, Some, None, subst}
+use Rattle.std.proofs.Common.{◌≡◌, ◌++◌, inl, ℕ, List, subst, ap, ◌∙◌}
 use Rattle.recorder.specs.Execution.{Execution}
 use Rattle.recorder.specs.Text.{recording_text}
 use Rattle.recorder.specs.Tso.{IsTsoOrder}
 use Rattle.judge.specs.declared.verdict.Verdict.{Verdict}
-use Rattle.judge.specs.declared.verdict.Verdict.TheVariants.{Ordered, Overlook}
+use Rattle.judge.specs.declared.verdict.Verdict.TheVariants.{Ordered, Overlook, Cycle}
+use Rattle.judge.specs.Verdict.{IsVerdict}
+use Rattle.report.specs.Verdict.{IsVerdictText}
 use Rattle.tsotest.specs.declared.answer.Answer.{Answer}
-use Rattle.tsotest.specs.Verdict.{IsFinding, IsVerdictAnswer, verdict_status, verdict_text}
+use Rattle.tsotest.specs.Verdict.{IsVerdictAnswer, verdict_status}
 use Rattle.litmus.specs.Parts.{Parts}
 use Rattle.machine.specs.State.{State, IsComplete, recorded}
 use Rattle.tsotest.specs.Run.{IsOrderedAnswer, IsRunAnswer}
 
 -- it is its least order
 pub ordered_answer : (x : Execution) (m : List ℕ) (answer : Answer) → IsTsoOrder x m → IsVerdictAnswer x (recording_text x) answer → IsOrderedAnswer x answer
-ordered_answer x m answer tso is = go is.verdict is.found is.status is.text
+ordered_answer x m answer tso is = go is.verdict is.found is.status is.printed
   where
-    go : (v : Option Verdict) → IsFinding x v → answer.status ≡ verdict_status v → answer.text.items ≡ recording_text x ++ verdict_text v → IsOrderedAnswer x answer
-    go None found status text = absurd (found.2 m tso)
-    go (Some (Ordered order)) found status text = record { order = order.items; least = found; status = status; text = text }
-    go (Some (Overlook load store)) found status text = absurd (found.no_order m tso)
+    go : (v : Verdict) → IsVerdict x v → answer.status ≡ verdict_status v → IsVerdictText x v is.lines → IsOrderedAnswer x answer
+    go (Ordered order) found status printed =
+        record { order = order.items; least = found; status = status; text = is.text ∙ ap (λ (lines : List ℕ). recording_text x ++ lines) printed }
+    go (Overlook load store) found status printed = absurd (found.no_order m tso)
+    go (Cycle certificate) found status printed = absurd (found.no_order m tso)
 
 -- so the recording of a complete run and the verdict on it are the answer of the run
 pub run_answer : (p : Parts) (s : State) (text : List ℕ) (answer : Answer) → IsComplete p.cores s → IsTsoOrder (recorded p.cores s) s.performed

@@ -3,9 +3,9 @@ use Rattle.std.proofs.Common.{List, Result, Ok, Err, IfOk, IfErr, inl}
 use Rattle.clap.specs.Words.{Text}
 use Rattle.tsotest.specs.declared.answer.Answer.{Answer}
 use Rattle.tsotest.specs.declared.answer.Stop.{Stop}
-use Rattle.tsotest.specs.declared.options.Options.{Options}
-use Rattle.tsotest.specs.Commands.{command_of}
-use Rattle.tsotest.specs.Options.{AreOptions}
+use Rattle.command_line.specs.declared.options.Options.{Options}
+use Rattle.command_line.specs.Commands.{command_of}
+use Rattle.command_line.specs.Options.{AreOptions}
 use Rattle.tsotest.specs.Perform.{IsAnswerTo, IsAnswered, IsStopTo, IsStopped}
 
 -- the answer to the options of the words is that of the words

@@ -8,13 +8,13 @@ use Rattle.tsotest.specs.declared.answer.Answer.{Answer}
 use Rattle.tsotest.specs.declared.answer.Stop.{Stop}
 use Rattle.tsotest.specs.declared.answer.Stop.TheVariants.{Refused, Fault}
 use Rattle.tsotest.specs.declared.answer.TheConstants.{DONE, REFUSED}
-use Rattle.tsotest.specs.declared.options.Options.{Options}
-use Rattle.tsotest.specs.declared.options.Options.TheVariants.{Run, Judge, Live}
-use Rattle.tsotest.specs.declared.options.OptionFault.{OptionFault}
-use Rattle.tsotest.specs.declared.options.OptionFault.TheVariants.{Clap, Limit, Buffer, NoValue, OutOfMemory}
-use Rattle.tsotest.specs.Commands.{command_of}
+use Rattle.command_line.specs.declared.options.Options.{Options}
+use Rattle.command_line.specs.declared.options.Options.TheVariants.{Run, Judge, Live}
+use Rattle.command_line.specs.declared.options.OptionFault.{OptionFault}
+use Rattle.command_line.specs.declared.options.OptionFault.TheVariants.{Clap, Limit, Buffer, NoValue, OutOfMemory}
+use Rattle.command_line.specs.Commands.{command_of}
 use Rattle.tsotest.specs.Judge.{IsJudged, IsJudgeStop}
-use Rattle.tsotest.specs.Options.{AreOptions, IsFault}
+use Rattle.command_line.specs.Options.{AreOptions, IsFault}
 use Rattle.tsotest.specs.Refusal.{IsStopOf, line_fault_name, step_fault_name}
 use Rattle.tsotest.specs.Run.{IsRun, IsLive}
 

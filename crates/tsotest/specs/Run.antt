@@ -10,8 +10,8 @@ use Rattle.machine.specs.State.{State, IsComplete, opening, recorded}
 use Rattle.machine.specs.Step.{after, run, taken}
 use Rattle.machine.specs.Script.{steps_of}
 use Rattle.live.specs.Trace.{Trace}
-use Rattle.judge.specs.Decision.{IsOrderedVerdict}
-use Rattle.tsotest.specs.Verdict.{order_line}
+use Rattle.judge.specs.Verdict.{IsOrderedVerdict}
+use Rattle.report.specs.Verdict.{order_line}
 use Rattle.tsotest.specs.declared.answer.Answer.{Answer}
 use Rattle.tsotest.specs.declared.answer.TheConstants.{DONE, UNFINISHED}
 

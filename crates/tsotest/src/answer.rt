@@ -7,6 +7,8 @@ use std::alloc::{AllocError, AllocFailed, Global};
 
 /// The status of an order that TSO allows, and of help.
 pub const DONE: u8 = 0;
+/// The status of a fault of the command line, a file, memory or a thread.
+pub const FAULT: u8 = 1;
 /// The status of a recording that TSO does not allow.
 pub const VIOLATION: u8 = 2;
 /// The status of a refused text or number.
@@ -17,7 +19,9 @@ pub const UNFINISHED: u8 = 4;
 /// What a command prints on standard output, and its exit status.
 #[derive(Drop)]
 pub struct Answer {
+    /// One of `DONE`, `VIOLATION`, `REFUSED` and `UNFINISHED`.
     pub status: u8,
+    /// The bytes for standard output.
     pub text: Vec<u8>,
 }
 
@@ -36,6 +40,7 @@ impl Answer {
 pub enum Stop {
     /// A text or a number is refused: the line to print.
     Refused(String),
+    /// A fault: the program ends with status `FAULT`.
     Fault(CommandFault),
 }
 

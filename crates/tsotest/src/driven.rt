@@ -6,11 +6,11 @@ ghost use Rattle.tsotest.specs.Run.{IsLive};
 
 use crate::answer::{Answer, Stop};
 use crate::fault::CommandFault;
-use crate::options::LiveOptions;
 use crate::outcome::finished;
 use crate::place::Place;
 use crate::reading::text_at;
 use crate::run::program_of;
+use command_line::LiveOptions;
 use litmus::OpenGate;
 use live::{LiveError, drive};
 use std::alloc::Global;

@@ -20,10 +20,13 @@ pub enum CommandFault {
     /// `clap` accepted the words and lacks a value that its command requires.
     #[error("tsotest: no value of {0}")]
     NoValue(&'static str),
+    /// No file of this name can be opened.
     #[error("tsotest: cannot open {0}")]
     CannotOpen(String),
+    /// An opened input can't be read to its end.
     #[error("tsotest: read failed")]
     ReadFailed,
+    /// Standard output takes no more bytes.
     #[error("tsotest: write failed")]
     WriteFailed,
     /// A thread was not started.
@@ -32,6 +35,7 @@ pub enum CommandFault {
     /// Threads left no run of the program.
     #[error("tsotest: stranger")]
     Stranger,
+    /// There is no memory.
     #[error("tsotest: out of memory")]
     OutOfMemory,
 }

@@ -5,13 +5,19 @@ ghost use Rattle.tsotest.specs.Refusal.{IsRefusedAs};
 
 use crate::answer::{Answer, Stop};
 use crate::fault::CommandFault;
-use crate::options::JudgeOptions;
 use crate::place::Place;
 use crate::reading::text_at;
 use crate::refusal::recording_line;
 use crate::verdict::verdict_behind;
+use command_line::JudgeOptions;
+use judge::judge;
 use recorder::{RecError, read_recording};
 use std::alloc::{AllocError, Global};
+use std::sync::Wait;
+use std::thread::Threads;
+
+/// How many workers judge a recording.
+const WORKERS: usize = 1;
 
 /// Why the bytes are no recording, as it is printed.
 fn unread(alloc: Global, refusal: RecError) -> Result<Stop, AllocError>
@@ -24,21 +30,29 @@ fn unread(alloc: Global, refusal: RecError) -> Result<Stop, AllocError>
 }
 
 /// The verdict on the recording that the bytes are, or the line of their refusal.
-pub fn judged(alloc: Global, bytes: &[u8]) -> Result<Answer, Stop>
+pub fn judged<R: Threads + Wait + Sync>(rt: &R, alloc: Global, bytes: &[u8]) -> Result<Answer, Stop>
     ensures ok { IfOk result (IsJudged bytes.now) }
     ensures err { IfErr result (IsUnread bytes.now) }
 {
     match read_recording(alloc, bytes) {
-        Ok(recording) => Ok(verdict_behind(alloc, Vec::new(alloc), &recording)?),
+        Ok(recording) => {
+            let verdict = judge(rt, alloc, &recording, WORKERS)?;
+            Ok(verdict_behind(alloc, Vec::new(alloc), &recording, &verdict)?)
+        }
         Err(refusal) => Err(unread(alloc, refusal)?),
     }
 }
 
 /// Judges the recording of a named input.
-pub fn judge<P: Place>(alloc: Global, options: &JudgeOptions, place: &mut P) -> Result<Answer, Stop>
+pub fn judge_input<R: Threads + Wait + Sync, P: Place>(
+    rt: &R,
+    alloc: Global,
+    options: &JudgeOptions,
+    place: &mut P,
+) -> Result<Answer, Stop>
     ensures ok { IfOk result (λ answer. (bytes : List ℕ) × IsJudged bytes answer) }
     ensures err { IfErr result IsJudgeStop }
 {
     let bytes = text_at(alloc, place, options.file.as_str())?;
-    judged(alloc, bytes.as_slice())
+    judged(rt, alloc, bytes.as_slice())
 }

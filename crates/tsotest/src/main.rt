@@ -2,12 +2,10 @@
 #![tactic(auto)]
 
 mod answer;
-mod command;
 mod disk;
 mod driven;
 mod fault;
 mod judging;
-mod options;
 mod outcome;
 mod perform;
 mod place;
@@ -17,8 +15,8 @@ mod run;
 #[cfg(test)]
 mod tests;
 mod verdict;
-mod words;
 
+use answer::FAULT;
 use disk::Disk;
 use fault::CommandFault;
 use perform::perform;
@@ -55,7 +53,7 @@ fn main(rt: HostRuntime) -> ExitCode {
                 CommandFault::CommandLine(error) => eprint!(rt; "{error}"),
                 fault => eprintln!(rt; "{fault}"),
             };
-            ExitCode::from(1)
+            ExitCode::from(FAULT)
         }
     }
 }

@@ -4,6 +4,7 @@ ghost use Rattle.tsotest.specs.Run.{GoesOn, IsRunAnswer, state_after};
 
 use crate::answer::{Answer, UNFINISHED};
 use crate::verdict::verdict_behind;
+use judge::judge_alone;
 use litmus::{OutOfMemory, Program};
 use live::Traced;
 use machine::{Fault, Machine, Step};
@@ -46,7 +47,8 @@ pub fn finished(alloc: Global, machine: Machine) -> Result<Answer, OutOfMemory>
     match machine.finish() {
         Ok(recording) => {
             let text = write_recording(alloc, &recording)?;
-            verdict_behind(alloc, text, &recording)
+            let verdict = judge_alone(alloc, &recording)?;
+            verdict_behind(alloc, text, &recording, &verdict)
         }
         Err(_) => Ok(Answer::of(alloc, UNFINISHED, "unfinished\n")?),
     }

@@ -7,11 +7,11 @@ ghost use Rattle.tsotest.specs.Perform.{IsAnswered, IsHelp, IsPrinted, IsStopWit
 use crate::answer::{Answer, DONE, REFUSED, Stop};
 use crate::driven::driven;
 use crate::fault::CommandFault;
-use crate::judging::judge;
-use crate::options::{OptionFault, Options};
+use crate::judging::judge_input;
 use crate::place::Place;
 use crate::run::ran;
-use crate::words::options;
+use command_line::words::options;
+use command_line::{OptionFault, Options};
 use std::alloc::Global;
 use std::io;
 use std::io::Write;
@@ -53,7 +53,7 @@ fn answered<R: Threads + Wait + Sync, P: Place>(
 {
     match options(alloc, words) {
         Ok(Options::Run(run)) => ran(alloc, &run, place),
-        Ok(Options::Judge(options)) => judge(alloc, &options, place),
+        Ok(Options::Judge(options)) => judge_input(rt, alloc, &options, place),
         Ok(Options::Live(live)) => driven(rt, alloc, &live, place),
         Err(fault) => without_options(alloc, fault),
     }

@@ -8,11 +8,11 @@ ghost use Rattle.tsotest.specs.Run.{IsRun};
 
 use crate::answer::{Answer, Stop};
 use crate::fault::CommandFault;
-use crate::options::RunOptions;
 use crate::outcome::outcome;
 use crate::place::Place;
 use crate::reading::text_at;
 use crate::refusal::{line_fault_name, refusal_line, step_fault_name};
+use command_line::RunOptions;
 use litmus::{LitmusError, Program, parse};
 use machine::{Step, StepsError, parse_steps};
 use std::alloc::Global;

@@ -13,7 +13,7 @@ use std::test::*;
 use std::thread::Threads;
 
 /// Recordings, the status of each, and its verdict.
-const READ: [(&str, u8, &str); 12] = [
+const READ: [(&str, u8, &str); 15] = [
     (r#"{"version":1,"cores":[],"writes":[]}"#, 0, "ordered:\n"),
     (
         "\n{ \"version\" : 1 ,\t\"cores\":[ ],\r\n\"writes\" : [] } \n",
@@ -59,12 +59,27 @@ const READ: [(&str, u8, &str); 12] = [
     (
         r#"{"version":1,"cores":[[{"k":"S","a":0,"w":1},{"k":"S","a":1,"w":1}],[{"k":"L","a":1,"r":1,"s":1},{"k":"L","a":0,"r":0,"s":null}]],"writes":[[0],[1]]}"#,
         2,
-        "cyclic\n",
+        "cycle of 4\n0 -> 1 Po\n1 -> 2 Rf\n2 -> 3 Po\n3 -> 0 Fr\nlabels 0: 0 1 2 3\nlabels 1: 3 0 1 2\nlabels 2: 2 3 0 1\nlabels 3: 1 2 3 0\n",
     ),
     (
         r#"{"version":1,"cores":[[{"k":"R","a":0,"r":1,"s":0,"w":1}]],"writes":[[0]]}"#,
         2,
-        "cyclic\n",
+        "cycle of 1\n0 -> 0 Rf\nlabels 0: 0\n",
+    ),
+    (
+        r#"{"version":1,"cores":[[{"k":"S","a":0,"w":1},{"k":"S","a":1,"w":1}],[{"k":"L","a":1,"r":1,"s":1},{"k":"L","a":0,"r":0,"s":null}],[{"k":"S","a":2,"w":1}],[{"k":"L","a":2,"r":1,"s":4},{"k":"L","a":2,"r":0,"s":null}]],"writes":[[0],[1],[4]]}"#,
+        2,
+        "cycle of 3\n4 -> 5 Rf\n5 -> 6 Po\n6 -> 4 Fr\nlabels 0: 0 1 2 3 3 3 3\nlabels 1: 3 0 1 2 3 3 3\nlabels 2: 2 3 0 1 3 3 3\nlabels 3: 1 2 3 0 3 3 3\nlabels 4: 3 3 3 3 0 1 2\nlabels 5: 3 3 3 3 2 0 1\nlabels 6: 3 3 3 3 1 2 0\n",
+    ),
+    (
+        r#"{"version":1,"cores":[[{"k":"R","a":0,"r":0,"s":null,"w":1},{"k":"R","a":1,"r":0,"s":null,"w":1}],[{"k":"R","a":0,"r":0,"s":null,"w":1},{"k":"R","a":1,"r":0,"s":null,"w":1}]],"writes":[[0,2],[1,3]]}"#,
+        2,
+        "cycle of 2\n0 -> 2 Wo\n2 -> 0 Fr\nlabels 0: 0 1 1 2\nlabels 1: 2 0 2 1\nlabels 2: 1 2 0 1\nlabels 3: 2 1 2 0\n",
+    ),
+    (
+        r#"{"version":1,"cores":[[{"k":"R","a":0,"r":0,"s":null,"w":1}],[{"k":"R","a":0,"r":0,"s":null,"w":1}]],"writes":[[0,1]]}"#,
+        2,
+        "cycle of 2\n0 -> 1 Wo\n1 -> 0 Fr\nlabels 0: 0 1\nlabels 1: 1 0\n",
     ),
 ];
 
@@ -185,9 +200,44 @@ fn what_a_run_prints_is_judged(rt: HostRuntime) -> Result<(), Fail> {
     Ok(())
 }
 
-/// The order of a verdict's first line, if it is one.
-fn order_of(alloc: Global, line: &str) -> Result<Option<Vec<EventId>>, Fail> {
-    let Some(numbers) = line.strip_prefix("ordered: ") else {
+/// One core with `MAX_EVENTS` stores to one address, whose write list is their reverse.
+fn reversed_write_list(alloc: Global) -> Result<String, Fail> {
+    let stores = listed(alloc, r#"{"k":"S","a":0,"w":1}"#, MAX_EVENTS)?;
+    let mut text = format!(in alloc; "{{\"version\":1,\"cores\":[[{stores}]],\"writes\":[[")?;
+    for number in 0..MAX_EVENTS {
+        let comma = if number == 0 { "" } else { "," };
+        text.push_str(&format!(in alloc; "{comma}{}", MAX_EVENTS - 1 - number)?)?;
+    }
+    text.push_str("]]}")?;
+    Ok(text)
+}
+
+/// The verdict on it: the first two stores, and each label 1 but that of the row's own event.
+fn reversed_verdict(alloc: Global) -> Result<String, Fail> {
+    let mut text = String::from_str(alloc, "cycle of 2\n0 -> 1 Po\n1 -> 0 Wo\n")?;
+    for row in 0..MAX_EVENTS {
+        text.push_str(&format!(in alloc; "labels {row}:")?)?;
+        for number in 0..MAX_EVENTS {
+            text.push_str(if number == row { " 0" } else { " 1" })?;
+        }
+        text.push('\n')?;
+    }
+    Ok(text)
+}
+
+#[test]
+fn stores_in_reverse_have_a_cycle_of_two(rt: HostRuntime) -> Result<(), Fail> {
+    let alloc = rt.alloc();
+    let text = reversed_write_list(alloc)?;
+    let (status, out) = judged(&rt, alloc, text.as_bytes())?;
+    assert_eq!(rt; status, 2);
+    assert_eq!(rt; out.as_slice(), reversed_verdict(alloc)?.as_bytes());
+    Ok(())
+}
+
+/// The order of a verdict, if it is one.
+fn order_of(alloc: Global, verdict: &str) -> Result<Option<Vec<EventId>>, Fail> {
+    let Some(numbers) = verdict.trim_end().strip_prefix("ordered: ") else {
         return Ok(None);
     };
     let mut order = Vec::new(alloc);
@@ -197,7 +247,7 @@ fn order_of(alloc: Global, line: &str) -> Result<Option<Vec<EventId>>, Fail> {
     Ok(Some(order))
 }
 
-/// Whether a verdict is printed for a recording; of a cycle that there is one.
+/// Whether a verdict is printed for a recording.
 fn prints_verdict<R: Threads + Wait + Sync>(
     rt: &R,
     alloc: Global,
@@ -205,16 +255,12 @@ fn prints_verdict<R: Threads + Wait + Sync>(
     verdict: &str,
 ) -> Result<bool, Fail> {
     let (status, out) = judged(rt, alloc, text.as_bytes())?;
-    if verdict.starts_with("cycle of ") {
-        return Ok(status == 2 && out.as_slice() == b"cyclic\n".as_slice());
-    }
-    let line = format!(in alloc; "{verdict}\n")?;
     let wanted = if verdict.starts_with("ordered:") {
         0
     } else {
         2
     };
-    Ok(status == wanted && out.as_slice() == line.as_bytes())
+    Ok(status == wanted && out.as_slice() == verdict.as_bytes())
 }
 
 /// Whether the order of a verdict, if it is one, is a memory order of the recording, and its reverse is none.

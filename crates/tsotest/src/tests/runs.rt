@@ -143,7 +143,7 @@ fn each_step_answers_its_row(rt: HostRuntime) -> Result<(), Fail> {
     Ok(())
 }
 
-/// The first path of store buffering over plain memory: without lines its loads and drains wait.
+/// A script of store buffering over plain memory: without lines its loads and drains wait.
 const WITHOUT_LINES: [(Step, Answer); 6] = [
     (Step::Exec(0), Ok(())),
     (Step::Exec(1), Ok(())),

@@ -1,11 +1,10 @@
 //! Step scripts that are read, and those that are refused.
 
+use crate::tests::commands::STORE_BUFFERING;
 use litmus::{MAX_STEPS, Program, parse};
 use machine::{Step, StepFault, StepsError, parse_steps};
 use std::alloc::Global;
 use std::test::*;
-
-const TWO_CORES: &str = "core\nst x 1\nld y\ncore\nst y 1\nld x\n";
 
 const READ: [(&str, &[Step]); 4] = [
     ("", &[]),
@@ -91,7 +90,7 @@ fn is_refused(
 
 #[test]
 fn a_script_is_read_as_its_steps(rt: HostRuntime) -> Result<(), Fail> {
-    let program = parse(rt.alloc(), TWO_CORES.as_bytes())
+    let program = parse(rt.alloc(), STORE_BUFFERING.as_bytes())
         .ok()
         .ok_or("program")?;
     for (text, wanted) in READ {
@@ -105,7 +104,7 @@ fn a_script_is_read_as_its_steps(rt: HostRuntime) -> Result<(), Fail> {
 
 #[test]
 fn the_first_line_at_fault_is_named(rt: HostRuntime) -> Result<(), Fail> {
-    let program = parse(rt.alloc(), TWO_CORES.as_bytes())
+    let program = parse(rt.alloc(), STORE_BUFFERING.as_bytes())
         .ok()
         .ok_or("program")?;
     for (text, fault, line) in REFUSED {
@@ -119,7 +118,7 @@ fn the_first_line_at_fault_is_named(rt: HostRuntime) -> Result<(), Fail> {
 
 #[test]
 fn a_line_past_the_most_is_named_last(rt: HostRuntime) -> Result<(), Fail> {
-    let program = parse(rt.alloc(), TWO_CORES.as_bytes())
+    let program = parse(rt.alloc(), STORE_BUFFERING.as_bytes())
         .ok()
         .ok_or("program")?;
     let mut text = Vec::new(rt.alloc());

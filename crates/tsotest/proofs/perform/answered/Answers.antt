@@ -1,6 +1,6 @@
 use Rattle.std.proofs.Common.{map, sym}
 use Rattle.std.specs.Prelude.{string_bytes}
-use Rattle.tsotest.specs.declared.options.Options.TheVariants.{Run, Judge, Live}
+use Rattle.command_line.specs.declared.options.Options.TheVariants.{Run, Judge, Live}
 use Rattle.tsotest.proofs.Printed.{answer_of_words, stop_of_words}
 use Rattle.tsotest.proofs.perform.answered.Goals as goal
 
@@ -11,10 +11,10 @@ pub returns-in-Ok-Run-clause-err : goal.returns-in-Ok-Run-clause-err
 returns-in-Ok-Run-clause-err g c = stop_of_words c.ran.result (Run c.in-Ok-Run.run') (map string_bytes c.args.words.now) (rw (sym c.in-Ok-Run.field-0-is) c.in-Ok-Run.ensures.ok) c.ran.ensures.err
 
 pub returns-in-Ok-Judge-clause-ok : goal.returns-in-Ok-Judge-clause-ok
-returns-in-Ok-Judge-clause-ok g c = answer_of_words c.judge.result (Judge c.in-Ok-Judge.options) (map string_bytes c.args.words.now) (rw (sym c.in-Ok-Judge.field-0-is) c.in-Ok-Judge.ensures.ok) c.judge.ensures.ok
+returns-in-Ok-Judge-clause-ok g c = answer_of_words c.judge_input.result (Judge c.in-Ok-Judge.options) (map string_bytes c.args.words.now) (rw (sym c.in-Ok-Judge.field-0-is) c.in-Ok-Judge.ensures.ok) c.judge_input.ensures.ok
 
 pub returns-in-Ok-Judge-clause-err : goal.returns-in-Ok-Judge-clause-err
-returns-in-Ok-Judge-clause-err g c = stop_of_words c.judge.result (Judge c.in-Ok-Judge.options) (map string_bytes c.args.words.now) (rw (sym c.in-Ok-Judge.field-0-is) c.in-Ok-Judge.ensures.ok) c.judge.ensures.err
+returns-in-Ok-Judge-clause-err g c = stop_of_words c.judge_input.result (Judge c.in-Ok-Judge.options) (map string_bytes c.args.words.now) (rw (sym c.in-Ok-Judge.field-0-is) c.in-Ok-Judge.ensures.ok) c.judge_input.ensures.err
 
 pub returns-in-Ok-Live-clause-ok : goal.returns-in-Ok-Live-clause-ok
 returns-in-Ok-Live-clause-ok g c = answer_of_words c.driven.result (Live c.in-Ok-Live.live) (map string_bytes c.args.words.now) (rw (sym c.in-Ok-Live.field-0-is) c.in-Ok-Live.ensures.ok) c.driven.ensures.ok

@@ -1,7 +1,7 @@
 use Rattle.std.proofs.Common.{ap, ◌∙◌, map, string_bytes}
 use Rattle.clap.specs.Words.{App, takes}
-use Rattle.tsotest.proofs.Faults.{err_fault}
-use Rattle.tsotest.proofs.words.options.Goals as goal
+use Rattle.command_line.proofs.Faults.{err_fault}
+use Rattle.command_line.proofs.words.options.Goals as goal
 
 pub returns-in_err-matches-clause-err : goal.returns-in_err-matches-clause-err
 returns-in_err-matches-clause-err c =

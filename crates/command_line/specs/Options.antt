@@ -5,15 +5,15 @@ use Rattle.clap.specs.Words.{Row, Text, first_of, kind_of, one_of, takes}
 use Rattle.clap.specs.declared.error.Error.{Error}
 use Rattle.clap.specs.declared.error.kind.ErrorKind.TheVariants as kinds
 use Rattle.litmus.specs.declared.limits.TheConstants.{MAX_CAPACITY, MAX_STEPS}
-use Rattle.tsotest.specs.declared.options.Options.{Options}
-use Rattle.tsotest.specs.declared.options.Options.TheVariants.{Run, Judge, Live}
-use Rattle.tsotest.specs.declared.options.RunOptions.{RunOptions}
-use Rattle.tsotest.specs.declared.options.JudgeOptions.{JudgeOptions}
-use Rattle.tsotest.specs.declared.options.LiveOptions.{LiveOptions}
-use Rattle.tsotest.specs.declared.options.OptionFault.{OptionFault}
-use Rattle.tsotest.specs.declared.options.OptionFault.TheVariants.{Clap, Limit, Buffer, NoValue, OutOfMemory}
-use Rattle.tsotest.specs.declared.options.TheConstants.{DEFAULT_BUFFER, DEFAULT_LIMIT}
-use Rattle.tsotest.specs.Commands.{command_of, program_app}
+use Rattle.command_line.specs.declared.options.Options.{Options}
+use Rattle.command_line.specs.declared.options.Options.TheVariants.{Run, Judge, Live}
+use Rattle.command_line.specs.declared.options.RunOptions.{RunOptions}
+use Rattle.command_line.specs.declared.options.JudgeOptions.{JudgeOptions}
+use Rattle.command_line.specs.declared.options.LiveOptions.{LiveOptions}
+use Rattle.command_line.specs.declared.options.OptionFault.{OptionFault}
+use Rattle.command_line.specs.declared.options.OptionFault.TheVariants.{Clap, Limit, Buffer, NoValue, OutOfMemory}
+use Rattle.command_line.specs.declared.options.TheConstants.{DEFAULT_BUFFER, DEFAULT_LIMIT}
+use Rattle.command_line.specs.Commands.{command_of, program_app}
 
 -- the number that an entry's text writes, or else the default
 abbrev pub number_or : ℕ → Option Text → ℕ

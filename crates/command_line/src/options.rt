@@ -1,7 +1,7 @@
 //! The options, from what `clap` reads of the words.
 ghost use Rattle.std.specs.Prelude.{◌≡◌, Some, None, IfErr, IfOk, IfSome, option_map};
 ghost use Rattle.clap.specs.Words.{first_of, found_of, one_of, rows_of};
-ghost use Rattle.tsotest.specs.Options.{AreJudgeOptions, AreLiveOptions, AreRunOptions, IsCapacity, IsCapacityFault, IsJudgeFault, IsLiveFault, IsRunFault, number_or};
+ghost use Rattle.command_line.specs.Options.{AreJudgeOptions, AreLiveOptions, AreRunOptions, IsCapacity, IsCapacityFault, IsJudgeFault, IsLiveFault, IsRunFault, number_or};
 
 use clap::ArgMatches;
 use clap::error::ErrorKind;
@@ -17,22 +17,29 @@ pub const DEFAULT_LIMIT: usize = 100_000;
 /// What the command line asks for.
 #[derive(Debug, Drop)]
 pub enum Options {
+    /// `run`.
     Run(RunOptions),
+    /// `judge`.
     Judge(JudgeOptions),
+    /// `live`.
     Live(LiveOptions),
 }
 
 /// What `run` is asked: the names of the program and of the script, and the capacity of each buffer.
 #[derive(Debug, Drop)]
 pub struct RunOptions {
+    /// The name of the program.
     pub program: String,
+    /// The name of the script.
     pub steps: String,
+    /// How many stores a buffer holds, 1 to `MAX_CAPACITY`.
     pub buffer: usize,
 }
 
 /// What `judge` is asked: the name of the recording.
 #[derive(Debug, Drop)]
 pub struct JudgeOptions {
+    /// The name of the recording.
     pub file: String,
 }
 
@@ -40,8 +47,11 @@ pub struct JudgeOptions {
 /// may be taken.
 #[derive(Debug, Drop)]
 pub struct LiveOptions {
+    /// The name of the program.
     pub program: String,
+    /// How many stores a buffer holds, 1 to `MAX_CAPACITY`.
     pub buffer: usize,
+    /// How many steps may be taken, 1 to `MAX_STEPS`.
     pub limit: usize,
 }
 
@@ -56,12 +66,13 @@ pub enum OptionFault {
     Buffer,
     /// `clap` lacks a value that its command requires.
     NoValue(&'static str),
+    /// There is no memory.
     OutOfMemory,
 }
 
 impl From<AllocError> for OptionFault {
     ghost use Rattle.std.specs.Prelude.{◌≡◌};
-    ghost use Rattle.tsotest.specs.declared.options.OptionFault.TheVariants.{OutOfMemory};
+    ghost use Rattle.command_line.specs.declared.options.OptionFault.TheVariants.{OutOfMemory};
 
     ghost from_gives = { λ _ e. e ≡ OutOfMemory };
 
@@ -72,7 +83,7 @@ impl From<AllocError> for OptionFault {
 
 impl<T: Drop> From<AllocFailed<T>> for OptionFault {
     ghost use Rattle.std.specs.Prelude.{◌≡◌};
-    ghost use Rattle.tsotest.specs.declared.options.OptionFault.TheVariants.{OutOfMemory};
+    ghost use Rattle.command_line.specs.declared.options.OptionFault.TheVariants.{OutOfMemory};
 
     ghost from_gives = { λ _ e. e ≡ OutOfMemory };
 
@@ -82,7 +93,7 @@ impl<T: Drop> From<AllocFailed<T>> for OptionFault {
 }
 
 impl From<clap::Error> for OptionFault {
-    ghost use Rattle.tsotest.specs.Options.{IsSaid};
+    ghost use Rattle.command_line.specs.Options.{IsSaid};
 
     ghost from_gives = { IsSaid };
 

@@ -1,7 +1,7 @@
 use Rattle.std.proofs.Common.{rules}
 use Rattle.clap.specs.Words.{found_of}
 use Rattle.clap.proofs.WalkLemmas.{one_text-rows}
-use Rattle.tsotest.proofs.options.number_or.Goals as goal
+use Rattle.command_line.proofs.options.number_or.Goals as goal
 
 pub returns-in-Ok-Some-clause-number : goal.returns-in-Ok-Some-clause-number
 returns-in-Ok-Some-clause-number c =

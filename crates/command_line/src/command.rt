@@ -2,7 +2,7 @@
 ghost use Rattle.std.specs.Prelude.{◌≡◌, IfOk, false};
 ghost use Rattle.clap.specs.Words.{app_of, rule_of};
 ghost use Rattle.clap.specs.declared.builder.command.Command.TheViews.{out-Command as fields_of};
-ghost use Rattle.tsotest.specs.Commands.{bare_app, buffer_rule, file_rule, judge_app, limit_rule, live_app, program_app, program_rule, run_app, steps_rule};
+ghost use Rattle.command_line.specs.Commands.{bare_app, buffer_rule, file_rule, judge_app, limit_rule, live_app, program_app, program_rule, run_app, steps_rule};
 
 use crate::options::{DEFAULT_BUFFER, DEFAULT_LIMIT};
 use clap::{Arg, ArgAction, Command};
@@ -51,8 +51,10 @@ const JUDGE_MORE: &str = "Judges a recording.
 `ordered:` and the numbers of the events are the first memory order, in dictionary order,
 that TSO allows for the recording. `overlook: load L store S` names the least read that
 comes after a store of its address on the same core and gives an older value, with the
-least such store. `cyclic` says that the orders that TSO forces on pairs of events form a
-cycle. In the last two cases TSO allows no order.";
+least such store. `cycle of K` and its lines name the first shortest cycle of pairs of
+events that every memory order has in order, each with its reason: Po (program order), Wo
+(write order), Rf (reads-from) or Fr (from-read). The label lines show that no cycle is
+shorter. In the last two cases TSO allows no order.";
 
 const JUDGE_STATUSES: &str = "Exit status:
   0  TSO allows the recording

@@ -3,11 +3,11 @@ use Rattle.std.proofs.Common.{◌≡◌, Bool, true, false, refl, List, Result, 
 use Rattle.clap.specs.Words.{Text, kind_of, takes}
 use Rattle.clap.specs.declared.error.Error.{Error}
 use Rattle.clap.specs.declared.error.kind.ErrorKind.TheVariants as kinds
-use Rattle.tsotest.specs.declared.options.Options.{Options}
-use Rattle.tsotest.specs.declared.options.OptionFault.{OptionFault}
-use Rattle.tsotest.specs.declared.options.OptionFault.TheVariants.{Clap, Limit, Buffer, NoValue, OutOfMemory}
-use Rattle.tsotest.specs.Commands.{program_app}
-use Rattle.tsotest.specs.Options.{IsFault, IsSaid}
+use Rattle.command_line.specs.declared.options.Options.{Options}
+use Rattle.command_line.specs.declared.options.OptionFault.{OptionFault}
+use Rattle.command_line.specs.declared.options.OptionFault.TheVariants.{Clap, Limit, Buffer, NoValue, OutOfMemory}
+use Rattle.command_line.specs.Commands.{program_app}
+use Rattle.command_line.specs.Options.{IsFault, IsSaid}
 
 -- what doesn't hold where a test passes, doesn't let it pass
 not_passed : {P : Type 0} (b : Bool) → (b ≡ true → P) → (P → ⊥) → b ≡ false

@@ -1,8 +1,8 @@
 //! The words of a command line.
 ghost use Rattle.std.specs.Prelude.{◌≡◌, IfErr, IfOk, map, option_map, string_bytes};
 ghost use Rattle.clap.specs.Words.{found_of, rows_of, subcommand_rows_of};
-ghost use Rattle.tsotest.specs.Options.{AreOptions, IsCommandFault, IsFault};
-ghost use Rattle.tsotest.specs.Commands.{command_of};
+ghost use Rattle.command_line.specs.Options.{AreOptions, IsCommandFault, IsFault};
+ghost use Rattle.command_line.specs.Commands.{command_of};
 
 use crate::command::{Texts, command};
 use crate::options::{OptionFault, Options, judge_options, live_options, run_options};

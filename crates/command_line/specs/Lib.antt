@@ -1,0 +1,2 @@
+pub mod Commands
+pub mod Options
