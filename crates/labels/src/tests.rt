@@ -55,49 +55,55 @@ fn certificate(alloc: Global, cycle: &[EventId], rows: &[&[u16]]) -> Result<Cert
     })
 }
 
+/// The exact labels of two swaps on each of two cores, of which the other tables differ in one thing.
+const EXACT: &[&[u16]] = &[&[0, 1, 1, 2], &[2, 0, 2, 1], &[1, 2, 0, 1], &[2, 1, 2, 0]];
+
+const LAST_ROW_MISSING: &[&[u16]] = &[&[0, 1, 1, 2], &[2, 0, 2, 1], &[1, 2, 0, 1]];
+
+const ROW_TOO_MANY: &[&[u16]] = &[
+    &[0, 1, 1, 2],
+    &[2, 0, 2, 1],
+    &[1, 2, 0, 1],
+    &[2, 1, 2, 0],
+    &[0],
+];
+
+const LABEL_MISSING: &[&[u16]] = &[&[0, 1, 1, 2], &[2, 0, 2], &[1, 2, 0, 1], &[2, 1, 2, 0]];
+
+const LABEL_TOO_MANY: &[&[u16]] = &[
+    &[0, 1, 1, 2],
+    &[2, 0, 2, 1, 0],
+    &[1, 2, 0, 1],
+    &[2, 1, 2, 0],
+];
+
+const LABEL_TOO_SMALL: &[&[u16]] = &[&[0, 1, 0, 2], &[2, 0, 2, 1], &[1, 2, 0, 1], &[2, 1, 2, 0]];
+
+/// Cycles of two swaps on each of two cores, each with labels, and whether they are a certificate.
+const CERTIFICATES: [(&str, &[EventId], &[&[u16]], bool); 11] = [
+    ("the certificate", &[0, 2], EXACT, true),
+    ("begun elsewhere", &[2, 0], EXACT, true),
+    ("the other cycle", &[1, 3], EXACT, true),
+    ("the last row is missing", &[0, 2], LAST_ROW_MISSING, false),
+    ("a row too many", &[0, 2], ROW_TOO_MANY, false),
+    ("a label is missing", &[0, 2], LABEL_MISSING, false),
+    ("a label too many", &[0, 2], LABEL_TOO_MANY, false),
+    ("a label that is too small", &[0, 2], LABEL_TOO_SMALL, false),
+    ("no such event", &[0, 9], EXACT, false),
+    ("no cycle", &[], EXACT, false),
+    ("a longer cycle", &[0, 2, 0, 2], EXACT, false),
+];
+
 #[test]
 fn two_cycles_have_one_certificate(rt: HostRuntime) -> Result<(), Fail> {
     let alloc = rt.alloc();
     let swaps: &[Event] = &[SWAP_X, SWAP_Y];
     let relation = related(alloc, &[swaps, swaps], &[&[0, 2], &[1, 3]])?;
-    let whole: &[&[u16]] = &[&[0, 1, 1, 2], &[2, 0, 2, 1], &[1, 2, 0, 1], &[2, 1, 2, 0]];
-    let cut: &[&[u16]] = &[&[0, 1, 1, 2], &[2, 0, 2, 1], &[1, 2, 0, 1]];
-    let long: &[&[u16]] = &[
-        &[0, 1, 1, 2],
-        &[2, 0, 2, 1],
-        &[1, 2, 0, 1],
-        &[2, 1, 2, 0],
-        &[0],
-    ];
-    let short: &[&[u16]] = &[&[0, 1, 1, 2], &[2, 0, 2], &[1, 2, 0, 1], &[2, 1, 2, 0]];
-    let broad: &[&[u16]] = &[
-        &[0, 1, 1, 2],
-        &[2, 0, 2, 1, 0],
-        &[1, 2, 0, 1],
-        &[2, 1, 2, 0],
-    ];
-    let small: &[&[u16]] = &[&[0, 1, 0, 2], &[2, 0, 2, 1], &[1, 2, 0, 1], &[2, 1, 2, 0]];
-    let rows: [(&str, &[EventId], &[&[u16]], bool); 11] = [
-        ("the certificate", &[0, 2], whole, true),
-        ("begun elsewhere", &[2, 0], whole, true),
-        ("the other cycle", &[1, 3], whole, true),
-        ("the last row is missing", &[0, 2], cut, false),
-        ("a row too many", &[0, 2], long, false),
-        ("a label is missing", &[0, 2], short, false),
-        ("a label too many", &[0, 2], broad, false),
-        ("a label that is too small", &[0, 2], small, false),
-        ("no such event", &[0, 9], whole, false),
-        ("no cycle", &[], whole, false),
-        ("a longer cycle", &[0, 2, 0, 2], whole, false),
-    ];
-    for (name, cycle, labels, passes) in rows {
+    for (name, cycle, labels, passes) in CERTIFICATES {
         let given = certificate(alloc, cycle, labels)?;
         assert_eq!(rt; check(&relation, &given), passes, "{name}");
-        assert_eq!(rt;
-            check_par(&rt, &relation, &given),
-            passes,
-            "{name}, by threads"
-        );
+        let by_threads = check_par(&rt, &relation, &given);
+        assert_eq!(rt; by_threads, passes, "{name}, by threads");
     }
     Ok(())
 }

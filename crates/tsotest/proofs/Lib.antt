@@ -2,3 +2,4 @@ pub mod Unread
 pub mod Printed
 pub mod Ordered
 pub mod Threaded
+pub mod Stops

@@ -1,5 +1,7 @@
 -- What threads give is a run.
-use Rattle.std.proofs.Common.{◌≡◌, ◌⊎◌, inl, inr, ℕ, List, Ok, length, ap, subst, ◌∙◌}
+use Rattle.std.proofs.Common.{◌≡◌, inl, inr, ℕ, List, Option, Ok, length, ap, subst, ◌∙◌}
+use Rattle.std.specs.Prelude.{string_bytes}
+use Rattle.command_line.specs.declared.options.LiveOptions.{LiveOptions}
 use Rattle.litmus.specs.Parts.{Parts}
 use Rattle.litmus.specs.Text.{reading}
 use Rattle.machine.specs.State.{State, IsComplete, opening}
@@ -8,18 +10,21 @@ use Rattle.machine.specs.Held.{Held}
 use Rattle.live.specs.Trace.{Trace, IsEnded, IsReplay}
 use Rattle.live.specs.Driven.{IsGiven}
 use Rattle.tsotest.specs.declared.answer.Answer.{Answer}
+use Rattle.tsotest.specs.Inputs.{AreBytesOf}
 use Rattle.tsotest.specs.Run.{state_after, IsRunAnswer, IsLive}
 
 -- the answer of the machine that they leave is that of the run of its trace
-pub live_answer : (text : List ℕ) (program : Parts) (capacity limit : ℕ) (t : Trace) (machine : Held) (answer : Answer) → reading text ≡ Ok program
-    → IsGiven program capacity limit t → IsEnded t → IsReplay t → machine ≡ t.machine → IsRunAnswer machine.program machine.state answer → IsLive capacity limit answer
-live_answer text program capacity limit t machine answer read given ended replay same is =
-    let state : t.machine.state ≡ state_after program capacity t.steps =
+pub live_answer : (inputs : List ℕ → Option (List ℕ)) (o : LiveOptions) (text : List ℕ) (program : Parts) (t : Trace) (machine : Held) (answer : Answer)
+    → AreBytesOf inputs (string_bytes o.program) text → reading text ≡ Ok program
+    → IsGiven program o.buffer o.limit t → IsEnded t → IsReplay t → machine ≡ t.machine → IsRunAnswer machine.program machine.state answer → IsLive inputs o answer
+live_answer inputs o text program t machine answer bytes read given ended replay same is =
+    let state : t.machine.state ≡ state_after program o.buffer t.steps =
     replay ∙ (ap (λ (q : Parts). run q.cores t.machine.capacity (opening q.cores (length q.names)) t.steps) given.program_is
     ∙ ap (λ (n : ℕ). run program.cores n (opening program.cores (length program.names)) t.steps) given.capacity_is) in
     let here : IsRunAnswer t.machine.program t.machine.state answer = subst (λ (h : Held). IsRunAnswer h.program h.state answer) same is in
     record {
       program_text = text;
+      given = bytes;
       program = program;
       read = read;
       steps = t.steps;

@@ -1,11 +1,13 @@
 -- What is answered to the bytes of a recording.
-use Rattle.std.specs.Prelude.{[], ℕ, List, Ok, Err, ⊤}
+use Rattle.std.specs.Prelude.{◌≡◌, [], ℕ, List, Option, Ok, Err, string_bytes}
+use Rattle.command_line.specs.declared.options.JudgeOptions.{JudgeOptions}
 use Rattle.recorder.specs.declared.fault.RecError.{RecError}
 use Rattle.recorder.specs.Execution.{Execution}
 use Rattle.recorder.specs.Reading.{Answers}
 use Rattle.tsotest.specs.declared.answer.Answer.{Answer}
 use Rattle.tsotest.specs.declared.answer.Stop.{Stop}
 use Rattle.tsotest.specs.declared.answer.Stop.TheVariants.{Refused, Fault}
+use Rattle.tsotest.specs.Inputs.{AreBytesOf, IsInputFault}
 use Rattle.tsotest.specs.Refusal.{IsRefusedAs}
 use Rattle.tsotest.specs.Verdict.{IsVerdictAnswer}
 
@@ -19,7 +21,13 @@ pub record IsJudged (bytes : List ℕ) (answer : Answer) : Type 0 where
 abbrev pub IsUnread : List ℕ → Stop → Type 0
 IsUnread bytes stop = (fault : RecError) × Answers bytes (Err fault) × IsRefusedAs fault stop
 
--- a line of refusal is that of some bytes
-abbrev pub IsJudgeStop : Stop → Type 0
-IsJudgeStop (Refused line) = (bytes : List ℕ) × IsUnread bytes (Refused line)
-IsJudgeStop (Fault fault) = ⊤
+-- the verdict on the recording of the named input
+pub record IsJudgedInput (inputs : List ℕ → Option (List ℕ)) (o : JudgeOptions) (answer : Answer) : Type 0 where
+  pub bytes : List ℕ
+  pub given : AreBytesOf inputs (string_bytes o.file) bytes
+  pub judged : IsJudged bytes answer
+
+-- a line of refusal is that of the named input; a fault is one of reading it
+abbrev pub IsJudgeStop : (List ℕ → Option (List ℕ)) → JudgeOptions → Stop → Type 0
+IsJudgeStop inputs o (Refused line) = (bytes : List ℕ) × AreBytesOf inputs (string_bytes o.file) bytes × IsUnread bytes (Refused line)
+IsJudgeStop inputs o (Fault fault) = IsInputFault (λ name. name ≡ string_bytes o.file) fault

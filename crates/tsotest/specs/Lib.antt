@@ -1,3 +1,4 @@
+pub mod Inputs
 pub mod Verdict
 pub mod Judge
 pub mod Perform

@@ -1,45 +1,76 @@
 -- What the words of a command line are answered.
-use Rattle.std.specs.Prelude.{◌≡◌, ◌⊎◌, ◌++◌, ◌∷◌, [], ℕ, List, ⊤, codes, string_bytes}
+use Rattle.std.specs.Prelude.{◌≡◌, ◌⊎◌, ◌++◌, ◌∷◌, [], ℕ, List, Option, Ok, ⊤, codes, string_bytes}
 use Rattle.clap.specs.Words.{Text}
 use Rattle.litmus.specs.Parts.{Parts}
+use Rattle.live.specs.declared.error.LiveError.{LiveError}
+use Rattle.live.specs.declared.error.LiveError.TheVariants as live
 use Rattle.litmus.specs.Text.{reading}
 use Rattle.machine.specs.Script.{steps_of}
 use Rattle.tsotest.specs.declared.answer.Answer.{Answer}
 use Rattle.tsotest.specs.declared.answer.Stop.{Stop}
 use Rattle.tsotest.specs.declared.answer.Stop.TheVariants.{Refused, Fault}
 use Rattle.tsotest.specs.declared.answer.TheConstants.{DONE, REFUSED}
+use Rattle.tsotest.specs.declared.fault.CommandFault.{CommandFault}
+use Rattle.tsotest.specs.declared.fault.CommandFault.TheVariants.{CommandLine, NoThread, Stranger, WriteFailed}
+use Rattle.tsotest.specs.declared.fault.CommandFault.TheVariants as fault
 use Rattle.command_line.specs.declared.options.Options.{Options}
 use Rattle.command_line.specs.declared.options.Options.TheVariants.{Run, Judge, Live}
 use Rattle.command_line.specs.declared.options.OptionFault.{OptionFault}
 use Rattle.command_line.specs.declared.options.OptionFault.TheVariants.{Clap, Limit, Buffer, NoValue, OutOfMemory}
 use Rattle.command_line.specs.Commands.{command_of}
-use Rattle.tsotest.specs.Judge.{IsJudged, IsJudgeStop}
+use Rattle.command_line.specs.declared.options.LiveOptions.{LiveOptions}
+use Rattle.command_line.specs.declared.options.RunOptions.{RunOptions}
+use Rattle.tsotest.specs.Inputs.{AreBytesOf, IsInputFault}
+use Rattle.tsotest.specs.Judge.{IsJudgedInput, IsJudgeStop}
 use Rattle.command_line.specs.Options.{AreOptions, IsFault}
 use Rattle.tsotest.specs.Refusal.{IsStopOf, line_fault_name, step_fault_name}
 use Rattle.tsotest.specs.Run.{IsRun, IsLive}
 
--- a line of refusal is that of some program's text, or of some script
-abbrev pub IsRunStop : Stop → Type 0
-IsRunStop (Refused line) = ((text : List ℕ) × IsStopOf line_fault_name (reading text) (Refused line))
-    ⊎ ((program : Parts) × (text : List ℕ) × IsStopOf step_fault_name (steps_of program text) (Refused line))
-IsRunStop (Fault fault) = ⊤
+-- the named program is refused
+pub record IsProgramRefused (inputs : List ℕ → Option (List ℕ)) (name : List ℕ) (stop : Stop) : Type 0 where
+  pub text : List ℕ
+  pub given : AreBytesOf inputs name text
+  pub refused : IsStopOf line_fault_name (reading text) stop
 
--- a line of refusal is that of some program's text
-abbrev pub IsLiveStop : Stop → Type 0
-IsLiveStop (Refused line) = (text : List ℕ) × IsStopOf line_fault_name (reading text) (Refused line)
-IsLiveStop (Fault fault) = ⊤
+-- the named script is refused for the named program
+pub record IsScriptRefused (inputs : List ℕ → Option (List ℕ)) (o : RunOptions) (stop : Stop) : Type 0 where
+  pub program_text : List ℕ
+  pub program_given : AreBytesOf inputs (string_bytes o.program) program_text
+  pub program : Parts
+  pub read : reading program_text ≡ Ok program
+  pub text : List ℕ
+  pub given : AreBytesOf inputs (string_bytes o.steps) text
+  pub refused : IsStopOf step_fault_name (steps_of program text) stop
 
--- what a command answers of its options
-abbrev pub IsAnswerTo : Options → Answer → Type 0
-IsAnswerTo (Run o) answer = IsRun o.buffer answer
-IsAnswerTo (Judge o) answer = (bytes : List ℕ) × IsJudged bytes answer
-IsAnswerTo (Live o) answer = IsLive o.buffer o.limit answer
+-- a line of refusal is that of the named program, or of the named script; a fault is one of reading them
+abbrev pub IsRunStop : (List ℕ → Option (List ℕ)) → RunOptions → Stop → Type 0
+IsRunStop inputs o (Refused line) = IsProgramRefused inputs (string_bytes o.program) (Refused line) ⊎ IsScriptRefused inputs o (Refused line)
+IsRunStop inputs o (Fault fault) = IsInputFault (λ name. (name ≡ string_bytes o.program) ⊎ (name ≡ string_bytes o.steps)) fault
 
--- why a command with these options stops
-abbrev pub IsStopTo : Options → Stop → Type 0
-IsStopTo (Run o) stop = IsRunStop stop
-IsStopTo (Judge o) stop = IsJudgeStop stop
-IsStopTo (Live o) stop = IsLiveStop stop
+-- the fault that an error of threads is; they have no other errors
+abbrev pub thread_fault : LiveError → CommandFault
+thread_fault live.NoThread = NoThread
+thread_fault live.Stranger = Stranger
+thread_fault other = fault.OutOfMemory
+
+-- a line of refusal is that of the named program; a fault is one of reading it, or of threads
+abbrev pub IsLiveStop : (List ℕ → Option (List ℕ)) → LiveOptions → Stop → Type 0
+IsLiveStop inputs o (Refused line) = IsProgramRefused inputs (string_bytes o.program) (Refused line)
+IsLiveStop inputs o (Fault NoThread) = ⊤
+IsLiveStop inputs o (Fault Stranger) = ⊤
+IsLiveStop inputs o (Fault fault) = IsInputFault (λ name. name ≡ string_bytes o.program) fault
+
+-- what a command answers to its options and inputs
+abbrev pub IsAnswerTo : (List ℕ → Option (List ℕ)) → Options → Answer → Type 0
+IsAnswerTo inputs (Run o) answer = IsRun inputs o answer
+IsAnswerTo inputs (Judge o) answer = IsJudgedInput inputs o answer
+IsAnswerTo inputs (Live o) answer = IsLive inputs o answer
+
+-- why a command with these options and inputs stops
+abbrev pub IsStopTo : (List ℕ → Option (List ℕ)) → Options → Stop → Type 0
+IsStopTo inputs (Run o) stop = IsRunStop inputs o stop
+IsStopTo inputs (Judge o) stop = IsJudgeStop inputs o stop
+IsStopTo inputs (Live o) stop = IsLiveStop inputs o stop
 
 -- without options the answer is the help that was asked for
 abbrev pub IsHelp : OptionFault → Answer → Type 0
@@ -49,23 +80,26 @@ IsHelp Buffer answer = ⊥
 IsHelp (NoValue name) answer = ⊥
 IsHelp OutOfMemory answer = ⊥
 
--- without options a line of refusal is that of a limit or of a buffer's capacity
+-- without options a line of refusal is that of a limit or of a buffer's capacity, and a fault is what clap says or lacks
 abbrev pub IsStopWithout : OptionFault → Stop → Type 0
 IsStopWithout (Clap error) (Refused line) = ⊥
 IsStopWithout Limit (Refused line) = string_bytes line ≡ codes "refused: K6" ++ 10 ∷ []
 IsStopWithout Buffer (Refused line) = string_bytes line ≡ codes "refused: K7" ++ 10 ∷ []
 IsStopWithout (NoValue name) (Refused line) = ⊥
 IsStopWithout OutOfMemory (Refused line) = ⊥
-IsStopWithout other (Fault fault) = ⊤
+IsStopWithout (Clap error) (Fault (CommandLine said)) = said ≡ error
+IsStopWithout (NoValue name) (Fault (fault.NoValue said)) = said ≡ name
+IsStopWithout other (Fault fault.OutOfMemory) = ⊤
+IsStopWithout other (Fault fault) = ⊥
 
 -- the answer of the command that the words ask for, or help
-abbrev pub IsAnswered : List Text → Answer → Type 0
-IsAnswered words answer = ((o : Options) × AreOptions o (command_of words) × IsAnswerTo o answer)
+abbrev pub IsAnswered : (List ℕ → Option (List ℕ)) → List Text → Answer → Type 0
+IsAnswered inputs words answer = ((o : Options) × AreOptions o (command_of words) × IsAnswerTo inputs o answer)
     ⊎ ((fault : OptionFault) × IsFault fault words × IsHelp fault answer)
 
 -- why the command that the words ask for stops, or why they ask for none
-abbrev pub IsStopped : List Text → Stop → Type 0
-IsStopped words stop = ((o : Options) × AreOptions o (command_of words) × IsStopTo o stop)
+abbrev pub IsStopped : (List ℕ → Option (List ℕ)) → List Text → Stop → Type 0
+IsStopped inputs words stop = ((o : Options) × AreOptions o (command_of words) × IsStopTo inputs o stop)
     ⊎ ((fault : OptionFault) × IsFault fault words × IsStopWithout fault stop)
 
 -- a line of refusal as it is printed, with its status
@@ -74,6 +108,10 @@ IsLine (Refused line) answer = (answer.status ≡ REFUSED) × (answer.text.items
 IsLine (Fault fault) answer = ⊥
 
 -- what is printed, with its status: an answer, or a line of refusal
-abbrev pub IsPrinted : List Text → Answer → Type 0
-IsPrinted words answer = IsAnswered words answer
-    ⊎ ((stop : Stop) × IsStopped words stop × IsLine stop answer)
+abbrev pub IsPrinted : (List ℕ → Option (List ℕ)) → List Text → Answer → Type 0
+IsPrinted inputs words answer = IsAnswered inputs words answer
+    ⊎ ((stop : Stop) × IsStopped inputs words stop × IsLine stop answer)
+
+-- why nothing is printed: the command that the words ask for has a fault, or writing has
+abbrev pub IsFaultOf : (List ℕ → Option (List ℕ)) → List Text → CommandFault → Type 0
+IsFaultOf inputs words fault = IsStopped inputs words (Fault fault) ⊎ (fault ≡ WriteFailed)

@@ -1,5 +1,5 @@
 -- The lines of refused texts.
-use Rattle.std.specs.Prelude.{◌≡◌, ◌++◌, ◌∷◌, [], ℕ, List, Option, Some, None, Result, Ok, Err, ⊤, codes, decimal, string_bytes}
+use Rattle.std.specs.Prelude.{◌≡◌, ◌++◌, ◌∷◌, [], ℕ, List, Option, Some, None, Result, Ok, Err, codes, decimal, string_bytes}
 use Rattle.litmus.specs.declared.fault.LineFault.{LineFault}
 use Rattle.litmus.specs.declared.fault.LineFault.TheVariants.{L1, L2, L3, L4, L5}
 use Rattle.machine.specs.declared.script_fault.StepFault.{StepFault}
@@ -34,8 +34,7 @@ refusal_line name k = codes "refused: " ++ name ++ codes " line " ++ decimal k +
 abbrev pub IsStopOf : {X F : Type 0} → (F → List ℕ) → Result X (F × ℕ) → Stop → Type 0
 IsStopOf name (Ok x) (Refused line) = ⊥
 IsStopOf name (Err fault) (Refused line) = string_bytes line ≡ refusal_line (name fault.0) fault.1
-IsStopOf name reading (Fault OutOfMemory) = ⊤
-IsStopOf name reading (Fault fault) = ⊥
+IsStopOf name reading (Fault fault) = fault ≡ OutOfMemory
 
 -- the line that is printed of a refused recording
 abbrev pub refused_as : List ℕ → Option (List ℕ)
@@ -55,5 +54,4 @@ recording_line rec.OutOfMemory = None
 -- the stop is that of a refused recording, or memory is wanting
 abbrev pub IsRefusedAs : RecError → Stop → Type 0
 IsRefusedAs fault (Refused line) = recording_line fault ≡ Some (string_bytes line)
-IsRefusedAs fault (Fault OutOfMemory) = ⊤
-IsRefusedAs fault (Fault other) = ⊥
+IsRefusedAs fault (Fault other) = other ≡ OutOfMemory

@@ -1,5 +1,7 @@
 -- What a script makes of a program.
-use Rattle.std.specs.Prelude.{◌≡◌, ◌≤◌, ◌+◌, ◌⊎◌, ◌++◌, ◌∷◌, [], ℕ, List, Ok, length, codes}
+use Rattle.std.specs.Prelude.{◌≡◌, ◌≤◌, ◌+◌, ◌⊎◌, ◌++◌, ◌∷◌, [], ℕ, List, Option, Ok, length, codes, string_bytes}
+use Rattle.command_line.specs.declared.options.LiveOptions.{LiveOptions}
+use Rattle.command_line.specs.declared.options.RunOptions.{RunOptions}
 use Rattle.litmus.specs.Parts.{Parts}
 use Rattle.litmus.specs.Text.{reading}
 use Rattle.recorder.specs.Execution.{Execution}
@@ -14,6 +16,7 @@ use Rattle.judge.specs.Verdict.{IsOrderedVerdict}
 use Rattle.report.specs.Verdict.{order_line}
 use Rattle.tsotest.specs.declared.answer.Answer.{Answer}
 use Rattle.tsotest.specs.declared.answer.TheConstants.{DONE, UNFINISHED}
+use Rattle.tsotest.specs.Inputs.{AreBytesOf}
 
 -- the state of a program after a script, of which the steps that are blocked are skipped
 abbrev pub state_after : Parts → ℕ → List Step → State
@@ -34,24 +37,27 @@ pub record IsRunAnswer (p : Parts) (s : State) (answer : Answer) : Type 0 where
       → (answer.status ≡ UNFINISHED) × (answer.text.items ≡ codes "unfinished" ++ 10 ∷ [])
   pub tso : answer.status ≡ DONE → IsTsoOrder (recorded p.cores s) s.performed
 
--- the answer of some program and some script that were read
-pub record IsRun (capacity : ℕ) (answer : Answer) : Type 0 where
+-- the answer of the named program and the named script
+pub record IsRun (inputs : List ℕ → Option (List ℕ)) (o : RunOptions) (answer : Answer) : Type 0 where
   pub program_text : List ℕ
+  pub program_given : AreBytesOf inputs (string_bytes o.program) program_text
   pub program : Parts
   pub read : reading program_text ≡ Ok program
   pub script_text : List ℕ
+  pub script_given : AreBytesOf inputs (string_bytes o.steps) script_text
   pub script : List Step
   pub listed : steps_of program script_text ≡ Ok script
-  pub answered : IsRunAnswer program (state_after program capacity script) answer
+  pub answered : IsRunAnswer program (state_after program o.buffer script) answer
 
--- the answer of some program that was read, and of the steps that threads chose: they come to an end, or are as many as may be
-pub record IsLive (capacity limit : ℕ) (answer : Answer) : Type 0 where
+-- the answer of the named program, and of the steps that threads chose: they come to an end, or are as many as may be
+pub record IsLive (inputs : List ℕ → Option (List ℕ)) (o : LiveOptions) (answer : Answer) : Type 0 where
   pub program_text : List ℕ
+  pub given : AreBytesOf inputs (string_bytes o.program) program_text
   pub program : Parts
   pub read : reading program_text ≡ Ok program
   pub steps : List Step
-  pub ended : IsComplete program.cores (state_after program capacity steps) ⊎ (length steps ≡ limit)
-  pub answered : IsRunAnswer program (state_after program capacity steps) answer
+  pub ended : IsComplete program.cores (state_after program o.buffer steps) ⊎ (length steps ≡ o.limit)
+  pub answered : IsRunAnswer program (state_after program o.buffer steps) answer
 
 -- the machine's state after one step more
 abbrev pub state_with : Trace → Step → State

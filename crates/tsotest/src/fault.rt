@@ -1,5 +1,5 @@
 //! What ends the program with status 1.
-ghost use Rattle.std.specs.Prelude.{◌≡◌, ◌↔◌};
+ghost use Rattle.std.specs.Prelude.{◌≡◌, ◌↔◌, ◌⊎◌};
 ghost use Rattle.std.specs.IoError.{error_kind};
 
 use litmus::OutOfMemory;
@@ -43,7 +43,8 @@ pub enum CommandFault {
 impl CommandFault {
     /// Why the words of the command line could not be had.
     pub fn of_words(error: io::Error) -> CommandFault
-        ensures { (result ≡ CommandFault.OutOfMemory) ↔ (error_kind error ≡ ErrorKind.OutOfMemory) }
+        ensures one { (result ≡ CommandFault.OutOfMemory) ⊎ (result ≡ CommandFault.NotText) }
+        ensures kind { (result ≡ CommandFault.OutOfMemory) ↔ (error_kind error ≡ ErrorKind.OutOfMemory) }
     {
         if error.kind() == ErrorKind::OutOfMemory {
             CommandFault::OutOfMemory
@@ -54,7 +55,8 @@ impl CommandFault {
 
     /// Why an input could not be read.
     pub fn of_reading(error: io::Error) -> CommandFault
-        ensures { (result ≡ CommandFault.OutOfMemory) ↔ (error_kind error ≡ ErrorKind.OutOfMemory) }
+        ensures one { (result ≡ CommandFault.OutOfMemory) ⊎ (result ≡ CommandFault.ReadFailed) }
+        ensures kind { (result ≡ CommandFault.OutOfMemory) ↔ (error_kind error ≡ ErrorKind.OutOfMemory) }
     {
         if error.kind() == ErrorKind::OutOfMemory {
             CommandFault::OutOfMemory
@@ -65,18 +67,33 @@ impl CommandFault {
 }
 
 impl From<OutOfMemory> for CommandFault {
+    ghost use Rattle.std.specs.Prelude.{◌≡◌};
+    ghost use Rattle.tsotest.specs.declared.fault.CommandFault.TheVariants.{OutOfMemory};
+
+    ghost from_gives = { λ _ e. e ≡ OutOfMemory };
+
     fn from(_refused: OutOfMemory) -> CommandFault {
         CommandFault::OutOfMemory
     }
 }
 
 impl From<AllocError> for CommandFault {
+    ghost use Rattle.std.specs.Prelude.{◌≡◌};
+    ghost use Rattle.tsotest.specs.declared.fault.CommandFault.TheVariants.{OutOfMemory};
+
+    ghost from_gives = { λ _ e. e ≡ OutOfMemory };
+
     fn from(_refused: AllocError) -> CommandFault {
         CommandFault::OutOfMemory
     }
 }
 
 impl<T: Drop> From<AllocFailed<T>> for CommandFault {
+    ghost use Rattle.std.specs.Prelude.{◌≡◌};
+    ghost use Rattle.tsotest.specs.declared.fault.CommandFault.TheVariants.{OutOfMemory};
+
+    ghost from_gives = { λ _ e. e ≡ OutOfMemory };
+
     fn from(_refused: AllocFailed<T>) -> CommandFault {
         CommandFault::OutOfMemory
     }

@@ -3,15 +3,15 @@
 
 mod answer;
 mod disk;
-mod driven;
 mod fault;
-mod judging;
+mod judge_command;
+mod live_command;
 mod outcome;
 mod perform;
 mod place;
 mod reading;
 mod refusal;
-mod run;
+mod run_command;
 #[cfg(test)]
 mod tests;
 mod verdict;

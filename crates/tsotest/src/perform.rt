@@ -2,14 +2,15 @@
 ghost use Rattle.std.specs.Prelude.{◌≡◌, ◌≢◌, IfErr, IfOk, OnOk, map, string_bytes};
 ghost use Rattle.std.specs.Io.KnownBytes.{Appends};
 ghost use Rattle.tsotest.specs.declared.answer.Answer.{Answer};
-ghost use Rattle.tsotest.specs.Perform.{IsAnswered, IsHelp, IsPrinted, IsStopWithout, IsStopped};
+ghost use Rattle.tsotest.specs.declared.answer.Stop.{Stop};
+ghost use Rattle.tsotest.specs.Perform.{IsAnswered, IsFaultOf, IsHelp, IsPrinted, IsStopWithout, IsStopped};
 
 use crate::answer::{Answer, DONE, REFUSED, Stop};
-use crate::driven::driven;
 use crate::fault::CommandFault;
-use crate::judging::judge_input;
+use crate::judge_command::judge_command;
+use crate::live_command::live_command;
 use crate::place::Place;
-use crate::run::ran;
+use crate::run_command::run_command;
 use command_line::words::options;
 use command_line::{OptionFault, Options};
 use std::alloc::Global;
@@ -48,13 +49,13 @@ fn answered<R: Threads + Wait + Sync, P: Place>(
     words: &[String],
     place: &mut P,
 ) -> Result<Answer, Stop>
-    ensures ok { IfOk result (IsAnswered (map string_bytes words.now)) }
-    ensures err { IfErr result (IsStopped (map string_bytes words.now)) }
+    ensures ok { IfOk result (IsAnswered (P.bytes place.old) (map string_bytes words.now)) }
+    ensures err { IfErr result (IsStopped (P.bytes place.old) (map string_bytes words.now)) }
 {
     match options(alloc, words) {
-        Ok(Options::Run(run)) => ran(alloc, &run, place),
-        Ok(Options::Judge(options)) => judge_input(rt, alloc, &options, place),
-        Ok(Options::Live(live)) => driven(rt, alloc, &live, place),
+        Ok(Options::Run(run)) => run_command(alloc, &run, place),
+        Ok(Options::Judge(options)) => judge_command(rt, alloc, &options, place),
+        Ok(Options::Live(live)) => live_command(rt, alloc, &live, place),
         Err(fault) => without_options(alloc, fault),
     }
 }
@@ -66,7 +67,8 @@ fn whole_answer<R: Threads + Wait + Sync, P: Place>(
     words: &[String],
     place: &mut P,
 ) -> Result<Answer, CommandFault>
-    ensures { IfOk result (IsPrinted (map string_bytes words.now)) }
+    ensures ok { IfOk result (IsPrinted (P.bytes place.old) (map string_bytes words.now)) }
+    ensures err { IfErr result (λ fault. IsStopped (P.bytes place.old) (map string_bytes words.now) (Stop.Fault fault)) }
 {
     match answered(rt, alloc, words, place) {
         Ok(answer) => Ok(answer),
@@ -94,8 +96,9 @@ pub fn perform<R: Threads + Wait + Sync, P: Place, W: Write>(
     place: &mut P,
     out: &mut W,
 ) -> Result<u8, CommandFault>
-    ensures printed { IfOk result (λ status. (answer : Answer) × IsPrinted (map string_bytes words.now) answer
+    ensures printed { IfOk result (λ status. (answer : Answer) × IsPrinted (P.bytes place.old) (map string_bytes words.now) answer
         × (status ≡ answer.status) × Appends (W.contents out.old) (W.contents out.new) answer.text.items) }
+    ensures fault { IfErr result (IsFaultOf (P.bytes place.old) (map string_bytes words.now)) }
     // Only a write that fails leaves a part of an answer.
     ensures unwritten { IfErr result (λ fault. fault ≢ CommandFault.WriteFailed → out.new ≡ out.old) }
 {

@@ -13,9 +13,18 @@ pub enum InputFault {
 
 /// Gives inputs by name.
 pub trait Place {
+    ghost use Rattle.std.specs.Prelude.{◌≡◌, ℕ, List, Option, None, IfOk};
+    ghost use Rattle.std.specs.Io.KnownBytes.{Keeps};
+
     /// An opened input.
     type Input: Read + Drop;
 
-    /// The input of a name, opened. What it gives is not said.
-    fn input(&mut self, name: &str) -> Result<Self::Input, InputFault>;
+    /// The bytes that the input of each name gives, where they are known.
+    ghost bytes: { Self → List ℕ → Option (List ℕ) } = { λ _ _. None };
+
+    /// The input of a name, opened.
+    fn input(&mut self, name: &str) -> Result<Self::Input, InputFault>
+        ensures given { IfOk result (λ input. Keeps (bytes self.old name.now) (Self.Input.remaining input)) }
+        // To open an input changes none.
+        ensures kept { bytes self.new ≡ bytes self.old };
 }

@@ -1,11 +1,18 @@
 //! Inputs as bytes.
+ghost use Rattle.std.specs.Prelude.{◌≡◌, IfErr, IfOk};
+ghost use Rattle.std.specs.Io.KnownBytes.{Keeps};
+ghost use Rattle.tsotest.specs.Inputs.{AreBytesOf, IsInputFault};
 
 use crate::fault::CommandFault;
 use crate::place::{InputFault, Place};
 use std::alloc::Global;
 use std::io::Read;
 
-fn opened<P: Place>(alloc: Global, place: &mut P, name: &str) -> Result<P::Input, CommandFault> {
+fn opened<P: Place>(alloc: Global, place: &mut P, name: &str) -> Result<P::Input, CommandFault>
+    ensures fault { IfErr result (IsInputFault (λ missing. missing ≡ name.now)) }
+    ensures given { IfOk result (λ input. Keeps (P.bytes place.old name.now) (P.Input.remaining input)) }
+    ensures kept { P.bytes place.new ≡ P.bytes place.old }
+{
     match place.input(name) {
         Ok(input) => Ok(input),
         Err(InputFault::OutOfMemory) => Err(CommandFault::OutOfMemory),
@@ -17,11 +24,11 @@ fn opened<P: Place>(alloc: Global, place: &mut P, name: &str) -> Result<P::Input
 }
 
 /// All bytes of a named input.
-pub fn text_at<P: Place>(
-    alloc: Global,
-    place: &mut P,
-    name: &str,
-) -> Result<Vec<u8>, CommandFault> {
+pub fn text_at<P: Place>(alloc: Global, place: &mut P, name: &str) -> Result<Vec<u8>, CommandFault>
+    ensures fault { IfErr result (IsInputFault (λ missing. missing ≡ name.now)) }
+    ensures given { IfOk result (λ text. AreBytesOf (P.bytes place.old) name.now text.items) }
+    ensures kept { P.bytes place.new ≡ P.bytes place.old }
+{
     let mut input = opened(alloc, place, name)?;
     let mut bytes = Vec::new(alloc);
     match input.read_to_end(&mut bytes) {

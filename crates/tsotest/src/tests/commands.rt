@@ -1,7 +1,7 @@
 //! Commands over texts in memory.
 use crate::fault::CommandFault;
 use crate::perform::perform;
-use crate::tests::classics::CLASSICS;
+use crate::tests::classics::classics;
 use crate::tests::inputs::{Text, Texts, named, times, words};
 use litmus::{MAX_ADDRESSES, MAX_CAPACITY, MAX_CORES, MAX_EVENTS, MAX_STEPS, parse, print};
 use std::alloc::{AllocError, Global};
@@ -61,109 +61,113 @@ const TWO_STORES: &str =
     \"version\":1,\"writes\":[[0,1]]}\n";
 
 /// Programs and scripts by their names.
-const TEXTS: [(&str, &str); 24] = [
-    ("sb", STORE_BUFFERING),
-    ("loads_first", LOADS_FIRST),
-    ("without_lines", WITHOUT_LINES),
-    ("empty", ""),
-    ("adds", "core\nadd x 4294967295\nadd x 2\n"),
-    ("twice", "getm 0 x\nexec 0\nexec 0\n"),
-    ("fenced", "core\nst x 1\nfence\nld x\n"),
-    (
-        "fence_waits",
-        "exec 0\nexec 0\ngetm 0 x\ndrain 0\nexec 0\nexec 0\n",
-    ),
-    ("stores", "core\nst x 1\nst x 2\n"),
-    (
-        "store_ahead",
-        "exec 0\nexec 0\ngetm 0 x\ndrain 0\ndrain 0\n",
-    ),
-    ("headless", "st x 1\n"),
-    ("padded", "core\nst x 01\n"),
-    ("large", "core\nst x 4294967296\n"),
-    ("unended", "core\nld x"),
-    ("no_step", "exec 0\nexit 0\n"),
-    ("no_core", "exec 0\ndrain 1\nexec 2\n"),
-    ("no_name", "exec 0\ngets 0 z\n"),
-    ("neither", "getm 2 z\n"),
-    ("far_core", "exec 99999999999999999999\n"),
-    ("unended_step", "exec 0\nexec 0"),
-    ("marked", "\u{feff}core\n"),
-    ("nul", "core\nld x\0\n"),
-    ("returns", "core\r\nld x\r\n"),
-    ("nul_step", "exec 0\0\n"),
-];
+fn texts() -> &'static [(&'static str, &'static str)] {
+    &[
+        ("sb", STORE_BUFFERING),
+        ("loads_first", LOADS_FIRST),
+        ("without_lines", WITHOUT_LINES),
+        ("empty", ""),
+        ("adds", "core\nadd x 4294967295\nadd x 2\n"),
+        ("twice", "getm 0 x\nexec 0\nexec 0\n"),
+        ("fenced", "core\nst x 1\nfence\nld x\n"),
+        (
+            "fence_waits",
+            "exec 0\nexec 0\ngetm 0 x\ndrain 0\nexec 0\nexec 0\n",
+        ),
+        ("stores", "core\nst x 1\nst x 2\n"),
+        (
+            "store_ahead",
+            "exec 0\nexec 0\ngetm 0 x\ndrain 0\ndrain 0\n",
+        ),
+        ("headless", "st x 1\n"),
+        ("padded", "core\nst x 01\n"),
+        ("large", "core\nst x 4294967296\n"),
+        ("unended", "core\nld x"),
+        ("no_step", "exec 0\nexit 0\n"),
+        ("no_core", "exec 0\ndrain 1\nexec 2\n"),
+        ("no_name", "exec 0\ngets 0 z\n"),
+        ("neither", "getm 2 z\n"),
+        ("far_core", "exec 99999999999999999999\n"),
+        ("unended_step", "exec 0\nexec 0"),
+        ("marked", "\u{feff}core\n"),
+        ("nul", "core\nld x\0\n"),
+        ("returns", "core\r\nld x\r\n"),
+        ("nul_step", "exec 0\0\n"),
+    ]
+}
 
 /// Command lines, the status of each, and what it prints: a recording and the verdict on it, or one line.
-const ROWS: [(&str, u8, &str, &str); 27] = [
-    (
-        "run sb --steps loads_first",
-        0,
-        BOTH_MISS,
-        "ordered: 1 2 3 0\n",
-    ),
-    ("run empty --steps empty", 0, EMPTY, "ordered:\n"),
-    ("run --steps=empty empty", 0, EMPTY, "ordered:\n"),
-    ("run adds --steps twice", 0, SUM_WRAPS, "ordered: 0 1\n"),
-    (
-        "run fenced --steps fence_waits",
-        0,
-        FENCED,
-        "ordered: 0 1 2\n",
-    ),
-    (
-        "run stores --steps store_ahead",
-        0,
-        TWO_STORES,
-        "ordered: 0 1\n",
-    ),
-    (
-        "run stores --steps store_ahead --buffer 2",
-        0,
-        TWO_STORES,
-        "ordered: 0 1\n",
-    ),
-    (
-        "run stores --steps store_ahead --buffer 1",
-        4,
-        "unfinished\n",
-        "",
-    ),
-    ("run sb --steps without_lines", 4, "unfinished\n", ""),
-    ("run sb --steps empty", 4, "unfinished\n", ""),
-    ("run stores --steps twice", 4, "unfinished\n", ""),
-    (
-        "run headless --steps nowhere",
-        3,
-        "refused: L1 line 1\n",
-        "",
-    ),
-    ("run padded --steps nowhere", 3, "refused: L1 line 2\n", ""),
-    ("run large --steps nowhere", 3, "refused: L5 line 2\n", ""),
-    ("run unended --steps nowhere", 3, "refused: L1 line 2\n", ""),
-    ("run sb --steps no_step", 3, "refused: S1 line 2\n", ""),
-    ("run sb --steps no_core", 3, "refused: S2 line 3\n", ""),
-    ("run sb --steps no_name", 3, "refused: S3 line 2\n", ""),
-    ("run sb --steps neither", 3, "refused: S2 line 1\n", ""),
-    ("run sb --steps far_core", 3, "refused: S2 line 1\n", ""),
-    ("run sb --steps unended_step", 3, "refused: S1 line 2\n", ""),
-    ("run marked --steps nowhere", 3, "refused: L1 line 1\n", ""),
-    ("run nul --steps nowhere", 3, "refused: L1 line 2\n", ""),
-    ("run returns --steps nowhere", 3, "refused: L1 line 1\n", ""),
-    ("run sb --steps nul_step", 3, "refused: S1 line 1\n", ""),
-    (
-        "run nowhere --steps nowhere --buffer 0",
-        3,
-        "refused: K7\n",
-        "",
-    ),
-    (
-        "run nowhere --steps nowhere --buffer 18446744073709551615",
-        3,
-        "refused: K7\n",
-        "",
-    ),
-];
+fn rows() -> &'static [(&'static str, u8, &'static str, &'static str)] {
+    &[
+        (
+            "run sb --steps loads_first",
+            0,
+            BOTH_MISS,
+            "ordered: 1 2 3 0\n",
+        ),
+        ("run empty --steps empty", 0, EMPTY, "ordered:\n"),
+        ("run --steps=empty empty", 0, EMPTY, "ordered:\n"),
+        ("run adds --steps twice", 0, SUM_WRAPS, "ordered: 0 1\n"),
+        (
+            "run fenced --steps fence_waits",
+            0,
+            FENCED,
+            "ordered: 0 1 2\n",
+        ),
+        (
+            "run stores --steps store_ahead",
+            0,
+            TWO_STORES,
+            "ordered: 0 1\n",
+        ),
+        (
+            "run stores --steps store_ahead --buffer 2",
+            0,
+            TWO_STORES,
+            "ordered: 0 1\n",
+        ),
+        (
+            "run stores --steps store_ahead --buffer 1",
+            4,
+            "unfinished\n",
+            "",
+        ),
+        ("run sb --steps without_lines", 4, "unfinished\n", ""),
+        ("run sb --steps empty", 4, "unfinished\n", ""),
+        ("run stores --steps twice", 4, "unfinished\n", ""),
+        (
+            "run headless --steps nowhere",
+            3,
+            "refused: L1 line 1\n",
+            "",
+        ),
+        ("run padded --steps nowhere", 3, "refused: L1 line 2\n", ""),
+        ("run large --steps nowhere", 3, "refused: L5 line 2\n", ""),
+        ("run unended --steps nowhere", 3, "refused: L1 line 2\n", ""),
+        ("run sb --steps no_step", 3, "refused: S1 line 2\n", ""),
+        ("run sb --steps no_core", 3, "refused: S2 line 3\n", ""),
+        ("run sb --steps no_name", 3, "refused: S3 line 2\n", ""),
+        ("run sb --steps neither", 3, "refused: S2 line 1\n", ""),
+        ("run sb --steps far_core", 3, "refused: S2 line 1\n", ""),
+        ("run sb --steps unended_step", 3, "refused: S1 line 2\n", ""),
+        ("run marked --steps nowhere", 3, "refused: L1 line 1\n", ""),
+        ("run nul --steps nowhere", 3, "refused: L1 line 2\n", ""),
+        ("run returns --steps nowhere", 3, "refused: L1 line 1\n", ""),
+        ("run sb --steps nul_step", 3, "refused: S1 line 1\n", ""),
+        (
+            "run nowhere --steps nowhere --buffer 0",
+            3,
+            "refused: K7\n",
+            "",
+        ),
+        (
+            "run nowhere --steps nowhere --buffer 18446744073709551615",
+            3,
+            "refused: K7\n",
+            "",
+        ),
+    ]
+}
 
 /// Command lines of runs by threads, the status of each, and what it prints.
 const LIVE_ROWS: [(&str, u8, &str); 7] = [
@@ -193,12 +197,12 @@ fn prints<R: Threads + Wait + Sync>(
     output: &str,
     verdict: &str,
 ) -> Result<bool, Fail> {
-    let mut texts = Vec::new(alloc);
-    for (name, bytes) in TEXTS {
-        texts.push(named(name, bytes))?;
+    let mut inputs = Vec::new(alloc);
+    for &(name, bytes) in texts() {
+        inputs.push(named(name, bytes))?;
     }
     let mut place = Texts {
-        texts: texts.as_slice(),
+        texts: inputs.as_slice(),
     };
     let mut out = Vec::new(alloc);
     let words = words(alloc, line)?;
@@ -209,7 +213,7 @@ fn prints<R: Threads + Wait + Sync>(
 
 #[test]
 fn a_run_prints_its_recording_or_why_there_is_none(rt: HostRuntime) -> Result<(), Fail> {
-    for (line, status, output, verdict) in ROWS {
+    for &(line, status, output, verdict) in rows() {
         assert!(rt;
             prints(&rt, rt.alloc(), line, status, output, verdict)?,
             "{line}"
@@ -399,7 +403,7 @@ fn clap_reads_the_words(rt: HostRuntime) -> Result<(), Fail> {
 #[test]
 fn each_classic_program_prints_back_as_it_is(rt: HostRuntime) -> Result<(), Fail> {
     let alloc = rt.alloc();
-    for (name, text) in CLASSICS {
+    for &(name, text) in classics() {
         match parse(alloc, text.as_bytes()) {
             Ok(program) => {
                 let printed = print(alloc, &program)?;

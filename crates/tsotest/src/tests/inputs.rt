@@ -22,6 +22,10 @@ pub fn named<'a>(name: &'a str, bytes: &'a str) -> Text<'a> {
 }
 
 impl Read for Text<'_> {
+    ghost use Rattle.std.specs.Prelude.{Some};
+
+    ghost remaining = { λ text. Some text.bytes.now };
+
     fn read(&mut self, buf: &mut [u8]) -> io::Result<usize> {
         if self.bytes.is_empty() && self.breaks {
             return Err(io::Error::from(ErrorKind::Other));
@@ -37,15 +41,20 @@ pub struct Texts<'a> {
 }
 
 impl<'a> Place for Texts<'a> {
+    ghost use Rattle.std.specs.Prelude.{nat_eq, option_map};
+    ghost use Rattle.std.specs.Cmp.Lexicographic.{pointwise};
+    ghost use Rattle.std.specs.List.{find};
+
     type Input = Text<'a>;
 
+    ghost bytes = { λ place name.
+        option_map (λ text. text.bytes.now) (find (λ text. pointwise nat_eq text.name.now name) place.texts.now) };
+
     fn input(&mut self, name: &str) -> Result<Text<'a>, InputFault> {
-        for text in self.texts {
-            if text.name == name {
-                return Ok(*text);
-            }
+        match self.texts.iter().find(|text| text.name == name) {
+            Some(text) => Ok(*text),
+            None => Err(InputFault::CannotOpen),
         }
-        Err(InputFault::CannotOpen)
     }
 }
 

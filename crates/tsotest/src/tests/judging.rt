@@ -1,9 +1,9 @@
 //! Recordings that are judged, and those that are refused.
 use crate::perform::perform;
-use crate::tests::bad_texts::REFUSED;
+use crate::tests::bad_texts::refused;
 use crate::tests::commands::{BOTH_MISS, LOADS_FIRST, STORE_BUFFERING};
 use crate::tests::inputs::{Text, Texts, named, times, words};
-use crate::tests::recordings::RECORDINGS;
+use crate::tests::recordings::recordings;
 use litmus::{EventId, MAX_ADDRESSES, MAX_CORES, MAX_EVENTS};
 use order::check;
 use recorder::read_recording;
@@ -138,7 +138,7 @@ fn listed(alloc: Global, item: &str, count: usize) -> Result<String, Fail> {
 #[test]
 fn each_bad_text_has_its_refusal(rt: HostRuntime) -> Result<(), Fail> {
     let alloc = rt.alloc();
-    for (number, (text, refusal)) in REFUSED.iter().enumerate() {
+    for (number, (text, refusal)) in refused().iter().enumerate() {
         let (status, out) = judged(&rt, alloc, text)?;
         let line = format!(in alloc; "refused: {refusal}\n")?;
         assert_eq!(rt; out.as_slice(), line.as_bytes(), "row {number}");
@@ -279,7 +279,7 @@ fn has_order(alloc: Global, text: &str, verdict: &str) -> Result<bool, Fail> {
 #[test]
 fn classic_recordings_have_their_verdicts(rt: HostRuntime) -> Result<(), Fail> {
     let alloc = rt.alloc();
-    for (name, text, verdict) in RECORDINGS {
+    for &(name, text, verdict) in recordings() {
         assert!(rt; prints_verdict(&rt, alloc, text, verdict)?, "{name}");
         assert!(rt; has_order(alloc, text, verdict)?, "{name}");
     }

@@ -24,45 +24,47 @@ const READ: [(&str, &[Step]); 4] = [
     ),
 ];
 
-const REFUSED: [(&str, StepFault, usize); 37] = [
-    ("exec 0", StepFault::S1, 1),
-    ("exec 2", StepFault::S1, 1),
-    ("exec\n", StepFault::S1, 1),
-    ("exec \n", StepFault::S1, 1),
-    ("exec 00\n", StepFault::S1, 1),
-    ("exec 02\n", StepFault::S1, 1),
-    ("exec -1\n", StepFault::S1, 1),
-    ("exec  0\n", StepFault::S1, 1),
-    ("exec 0 \n", StepFault::S1, 1),
-    ("exec 0\r\n", StepFault::S1, 1),
-    ("Exec 0\n", StepFault::S1, 1),
-    ("gets 0 x", StepFault::S1, 1),
-    ("gets 0\n", StepFault::S1, 1),
-    ("gets 0 \n", StepFault::S1, 1),
-    ("gets x 0\n", StepFault::S1, 1),
-    ("gets  0 x\n", StepFault::S1, 1),
-    ("gets 0  x\n", StepFault::S1, 1),
-    ("gets 0 x y\n", StepFault::S1, 1),
-    ("getm 00 x\n", StepFault::S1, 1),
-    ("getm 9 X\n", StepFault::S1, 1),
-    ("put 0 abcdefghi\n", StepFault::S1, 1),
-    ("put 0x\n", StepFault::S1, 1),
-    ("drain 0\n\n", StepFault::S1, 2),
-    ("exec 2\n", StepFault::S2, 1),
-    ("drain 2\n", StepFault::S2, 1),
-    ("exec 65536\n", StepFault::S2, 1),
-    ("exec 4294967296\n", StepFault::S2, 1),
-    ("exec 99999999999999999999\n", StepFault::S2, 1),
-    ("gets 2 x\n", StepFault::S2, 1),
-    ("getm 2 z\n", StepFault::S2, 1),
-    ("put 4294967296 z\n", StepFault::S2, 1),
-    ("gets 0 z\n", StepFault::S3, 1),
-    ("getm 1 xx\n", StepFault::S3, 1),
-    ("put 0 abcdefgh\n", StepFault::S3, 1),
-    ("gets 0 z\ngets 2 x\n", StepFault::S3, 1),
-    ("exec 0\nexec 2\nexec\n", StepFault::S2, 2),
-    ("exec 0\nexec\nexec 2\n", StepFault::S1, 2),
-];
+fn refused() -> &'static [(&'static str, StepFault, usize)] {
+    &[
+        ("exec 0", StepFault::S1, 1),
+        ("exec 2", StepFault::S1, 1),
+        ("exec\n", StepFault::S1, 1),
+        ("exec \n", StepFault::S1, 1),
+        ("exec 00\n", StepFault::S1, 1),
+        ("exec 02\n", StepFault::S1, 1),
+        ("exec -1\n", StepFault::S1, 1),
+        ("exec  0\n", StepFault::S1, 1),
+        ("exec 0 \n", StepFault::S1, 1),
+        ("exec 0\r\n", StepFault::S1, 1),
+        ("Exec 0\n", StepFault::S1, 1),
+        ("gets 0 x", StepFault::S1, 1),
+        ("gets 0\n", StepFault::S1, 1),
+        ("gets 0 \n", StepFault::S1, 1),
+        ("gets x 0\n", StepFault::S1, 1),
+        ("gets  0 x\n", StepFault::S1, 1),
+        ("gets 0  x\n", StepFault::S1, 1),
+        ("gets 0 x y\n", StepFault::S1, 1),
+        ("getm 00 x\n", StepFault::S1, 1),
+        ("getm 9 X\n", StepFault::S1, 1),
+        ("put 0 abcdefghi\n", StepFault::S1, 1),
+        ("put 0x\n", StepFault::S1, 1),
+        ("drain 0\n\n", StepFault::S1, 2),
+        ("exec 2\n", StepFault::S2, 1),
+        ("drain 2\n", StepFault::S2, 1),
+        ("exec 65536\n", StepFault::S2, 1),
+        ("exec 4294967296\n", StepFault::S2, 1),
+        ("exec 99999999999999999999\n", StepFault::S2, 1),
+        ("gets 2 x\n", StepFault::S2, 1),
+        ("getm 2 z\n", StepFault::S2, 1),
+        ("put 4294967296 z\n", StepFault::S2, 1),
+        ("gets 0 z\n", StepFault::S3, 1),
+        ("getm 1 xx\n", StepFault::S3, 1),
+        ("put 0 abcdefgh\n", StepFault::S3, 1),
+        ("gets 0 z\ngets 2 x\n", StepFault::S3, 1),
+        ("exec 0\nexec 2\nexec\n", StepFault::S2, 2),
+        ("exec 0\nexec\nexec 2\n", StepFault::S1, 2),
+    ]
+}
 
 // What stands behind a script of the most lines, and its fault.
 const AFTER_LINES: [(&str, StepFault); 7] = [
@@ -107,7 +109,7 @@ fn the_first_line_at_fault_is_named(rt: HostRuntime) -> Result<(), Fail> {
     let program = parse(rt.alloc(), STORE_BUFFERING.as_bytes())
         .ok()
         .ok_or("program")?;
-    for (text, fault, line) in REFUSED {
+    for &(text, fault, line) in refused() {
         assert!(rt;
             is_refused(rt.alloc(), text.as_bytes(), &program, fault, line),
             "{text}"

@@ -1,6 +1,6 @@
 //! What threads perform, by the rules of TSO.
 
-use crate::tests::classics::CLASSICS;
+use crate::tests::classics::classics;
 use crate::tests::commands::STORE_BUFFERING;
 use crate::tests::inputs::times;
 use litmus::{OpenGate, parse};
@@ -32,7 +32,7 @@ fn is_lawful<R: Threads + Wait + Sync>(
 
 #[test]
 fn what_threads_perform_is_a_memory_order(rt: HostRuntime) -> Result<(), Fail> {
-    for (name, text) in CLASSICS {
+    for &(name, text) in classics() {
         for capacity in [1, 8] {
             assert!(rt;
                 is_lawful(&rt, rt.alloc(), text, capacity)?,

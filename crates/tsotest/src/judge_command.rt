@@ -1,6 +1,6 @@
 //! The command `judge`.
-ghost use Rattle.std.specs.Prelude.{ℕ, List, IfErr, IfOk};
-ghost use Rattle.tsotest.specs.Judge.{IsJudgeStop, IsJudged, IsUnread};
+ghost use Rattle.std.specs.Prelude.{IfErr, IfOk};
+ghost use Rattle.tsotest.specs.Judge.{IsJudgeStop, IsJudged, IsJudgedInput, IsUnread};
 ghost use Rattle.tsotest.specs.Refusal.{IsRefusedAs};
 
 use crate::answer::{Answer, Stop};
@@ -44,14 +44,14 @@ pub fn judged<R: Threads + Wait + Sync>(rt: &R, alloc: Global, bytes: &[u8]) -> 
 }
 
 /// Judges the recording of a named input.
-pub fn judge_input<R: Threads + Wait + Sync, P: Place>(
+pub fn judge_command<R: Threads + Wait + Sync, P: Place>(
     rt: &R,
     alloc: Global,
     options: &JudgeOptions,
     place: &mut P,
 ) -> Result<Answer, Stop>
-    ensures ok { IfOk result (λ answer. (bytes : List ℕ) × IsJudged bytes answer) }
-    ensures err { IfErr result IsJudgeStop }
+    ensures ok { IfOk result (IsJudgedInput (P.bytes place.old) options.now) }
+    ensures err { IfErr result (IsJudgeStop (P.bytes place.old) options.now) }
 {
     let bytes = text_at(alloc, place, options.file.as_str())?;
     judged(rt, alloc, bytes.as_slice())

@@ -49,10 +49,14 @@ fn steps_of(alloc: Global, text: &[u8], program: &Program) -> Result<Vec<Step>, 
     }
 }
 
-/// Runs a program by a script: both are named inputs, and the program is read before the script is opened.
-pub fn ran<P: Place>(alloc: Global, options: &RunOptions, place: &mut P) -> Result<Answer, Stop>
-    ensures ok { IfOk result (IsRun options.now.buffer) }
-    ensures err { IfErr result IsRunStop }
+/// Runs the named program by the named script; the program is read before the script is opened.
+pub fn run_command<P: Place>(
+    alloc: Global,
+    options: &RunOptions,
+    place: &mut P,
+) -> Result<Answer, Stop>
+    ensures ok { IfOk result (IsRun (P.bytes place.old) options.now) }
+    ensures err { IfErr result (IsRunStop (P.bytes place.old) options.now) }
 {
     let text = text_at(alloc, place, options.program.as_str())?;
     let program = program_of(alloc, text.as_slice())?;

@@ -1,7 +1,7 @@
 //! The command `live`.
-ghost use Rattle.std.specs.Prelude.{IfErr, IfOk};
+ghost use Rattle.std.specs.Prelude.{◌≡◌, IfErr, IfOk};
 ghost use Rattle.live.specs.Driven.{IsDriveError};
-ghost use Rattle.tsotest.specs.Perform.{IsLiveStop};
+ghost use Rattle.tsotest.specs.Perform.{IsLiveStop, thread_fault};
 ghost use Rattle.tsotest.specs.Run.{IsLive};
 
 use crate::answer::{Answer, Stop};
@@ -9,7 +9,7 @@ use crate::fault::CommandFault;
 use crate::outcome::finished;
 use crate::place::Place;
 use crate::reading::text_at;
-use crate::run::program_of;
+use crate::run_command::program_of;
 use command_line::LiveOptions;
 use litmus::OpenGate;
 use live::{LiveError, drive};
@@ -20,6 +20,7 @@ use std::thread::Threads;
 /// The fault of threads that gave no machine.
 fn fault_of(error: LiveError) -> CommandFault
     requires { IsDriveError error }
+    ensures { result ≡ thread_fault error }
 {
     match error {
         LiveError::NoThread => CommandFault::NoThread,
@@ -30,14 +31,14 @@ fn fault_of(error: LiveError) -> CommandFault
 }
 
 /// Runs the program of a named input by threads.
-pub fn driven<R: Threads + Wait + Sync, P: Place>(
+pub fn live_command<R: Threads + Wait + Sync, P: Place>(
     rt: &R,
     alloc: Global,
     options: &LiveOptions,
     place: &mut P,
 ) -> Result<Answer, Stop>
-    ensures ok { IfOk result (IsLive options.now.buffer options.now.limit) }
-    ensures err { IfErr result IsLiveStop }
+    ensures ok { IfOk result (IsLive (P.bytes place.old) options.now) }
+    ensures err { IfErr result (IsLiveStop (P.bytes place.old) options.now) }
 {
     let text = text_at(alloc, place, options.program.as_str())?;
     let program = program_of(alloc, text.as_slice())?;
