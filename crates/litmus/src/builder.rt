@@ -41,11 +41,12 @@ impl Builder {
     ghost use Rattle.std.specs.Prelude.{◌≡◌, ◌≤◌, ◌<◌, ◌^◌, ℕ, Err, Ok, None, Result, OnOk, IfOk, IfErr, length, nat_lt};
     ghost use Rattle.litmus.specs.Parts.{Parts, op_count, addr_of};
     ghost use Rattle.litmus.specs.declared.fault.LineFault.{LineFault};
+    ghost use Rattle.litmus.specs.declared.line_error.LineError.TheVariants.{OutOfMemory};
     ghost use Rattle.litmus.specs.Steps.{empty, step, core_step, fence_step, load_step, write_step, op_fault, at_name, names_with, number_in, with_op, written};
     ghost use Rattle.litmus.specs.Numbers.{IsValue};
-    ghost use Rattle.litmus.specs.Text.{AnswersLine};
+    ghost use Rattle.litmus.specs.Reading.{AnswersLine, seen_as};
     ghost use Rattle.litmus.specs.declared.line.Write.{Write};
-    ghost use Rattle.litmus.specs.Built.{state, built};
+    ghost use Rattle.litmus.specs.Built.{state};
 
     pub fn new(alloc: Global) -> Builder
         ensures { state result ≡ empty }
@@ -58,7 +59,8 @@ impl Builder {
 
     #[tactic(auto, unfolding(crate::specs::Steps::core_step))]
     fn begin_core(&mut self, alloc: Global, number: usize) -> Result<(), LitmusError>
-        ensures { AnswersLine (built result (state self.new)) number (core_step (state self.old)) }
+        ensures { AnswersLine (seen_as result (λ _. state self.new)) number
+            (core_step (state self.old)) }
     {
         if MAX_CORES <= self.cores.len() {
             return Err(LitmusError::AtLine(LineFault::L2, number));
@@ -83,7 +85,7 @@ impl Builder {
     fn push(&mut self, op: Op) -> Result<(), LitmusError>
         requires { 0 < length self.old.cores.items }
         ensures ok { OnOk result (self.new.cores.items ≡ with_op self.old.cores.items op) }
-        ensures err { IfErr result (λ e. e ≡ LitmusError.OutOfMemory) }
+        ensures err { IfErr result (λ e. e ≡ OutOfMemory) }
         ensures names { self.new.names ≡ self.old.names }
     {
         let last = self.cores.len() - 1;
@@ -93,7 +95,8 @@ impl Builder {
 
     #[tactic(auto, unfolding(crate::specs::Steps::fence_step))]
     fn fence(&mut self, number: usize) -> Result<(), LitmusError>
-        ensures { AnswersLine (built result (state self.new)) number (fence_step (state self.old)) }
+        ensures { AnswersLine (seen_as result (λ _. state self.new)) number
+            (fence_step (state self.old)) }
     {
         if let Some(fault) = self.op_fault() {
             return Err(LitmusError::AtLine(fault, number));
@@ -124,7 +127,7 @@ impl Builder {
 
     #[tactic(auto, unfolding(crate::specs::Steps::load_step))]
     fn load(&mut self, name: Name, number: usize) -> Result<(), LitmusError>
-        ensures { AnswersLine (built result (state self.new)) number
+        ensures { AnswersLine (seen_as result (λ _. state self.new)) number
             (load_step (state self.old) name) }
     {
         let addr = self.address_of(name, number)?;
@@ -141,7 +144,7 @@ impl Builder {
         number: usize,
     ) -> Result<(), LitmusError>
         ensures { (n : ℕ) → IsValue value n →
-            AnswersLine (built result (state self.new)) number
+            AnswersLine (seen_as result (λ _. state self.new)) number
             (write_step (state self.old) write name n) }
     {
         let addr = self.address_of(name, number)?;
@@ -158,7 +161,7 @@ impl Builder {
         line: &[u8],
         number: usize,
     ) -> Result<(), LitmusError>
-        ensures { AnswersLine (built result (state self.new)) number
+        ensures { AnswersLine (seen_as result (λ _. state self.new)) number
             (step (state self.old) line.now) }
     {
         match line_of(line) {

@@ -1,6 +1,5 @@
 -- What a whole step script gives: its steps, or the first line at fault with its number.
-use Rattle.std.specs.Prelude.{◌≡◌, ◌<◌, ◌++◌, ◌∷◌, [], ℕ, List, nat_lt, length, position, Option, None, Some, Result, Ok, Err, if◌then◌else◌, ⊤}
-use Rattle.std.specs.declared.vec.Vec.{Vec}
+use Rattle.std.specs.Prelude.{◌<◌, ◌++◌, ◌∷◌, [], ℕ, List, nat_lt, length, position, Option, None, Some, Result, Ok, Err, if◌then◌else◌}
 use Rattle.litmus.specs.declared.limits.TheConstants.{MAX_STEPS}
 use Rattle.litmus.specs.declared.name.Name.{Name}
 use Rattle.litmus.specs.Names.{name_eq}
@@ -10,8 +9,6 @@ use Rattle.machine.specs.declared.step.Step.{Step}
 use Rattle.machine.specs.declared.step.Step.TheVariants.{Exec, Drain, GetS, GetM, Put}
 use Rattle.machine.specs.declared.script_fault.StepFault.{StepFault}
 use Rattle.machine.specs.declared.script_fault.StepFault.TheVariants.{S1, S2, S3, S4}
-use Rattle.machine.specs.declared.script_fault.StepsError.{StepsError}
-use Rattle.machine.specs.declared.script_fault.StepsError.TheVariants.{AtLine, OutOfMemory}
 use Rattle.machine.specs.ScriptLine.{ScriptLine, own_line, transaction_line, script_line_of, own_step, transaction_step}
 
 -- the core of this number, if the program has it
@@ -61,25 +58,3 @@ IsStepOf p (Drain c) = c < length p.cores
 IsStepOf p (GetS c a) = (c < length p.cores) × (a < length p.names)
 IsStepOf p (GetM c a) = (c < length p.cores) × (a < length p.names)
 IsStepOf p (Put c a) = (c < length p.cores) × (a < length p.names)
-
--- an answer, beside what is to be read: memory alone is left open
-abbrev pub Answers : Result (List Step) StepsError → Reading (List Step) StepFault → Type 0
-Answers (Ok s) r = r ≡ Ok s
-Answers (Err (AtLine f k)) r = r ≡ Err (f, k)
-Answers (Err OutOfMemory) r = ⊤
-
--- an answer, beside what is to be said of line k alone
-abbrev pub AnswersLine : Result (List Step) StepsError → ℕ → Result (List Step) StepFault → Type 0
-AnswersLine (Ok s) k r = r ≡ Ok s
-AnswersLine (Err (AtLine f j)) k r = (r ≡ Err f) × (j ≡ k)
-AnswersLine (Err OutOfMemory) k r = ⊤
-
--- the list of a vector
-abbrev pub listed : {A : Type 0} → Result (Vec Step A) StepsError → Result (List Step) StepsError
-listed (Ok v) = Ok v.items
-listed (Err e) = Err e
-
--- the steps so far, where there is no fault
-abbrev pub stepped : {X : Type 0} → Result X StepsError → List Step → Result (List Step) StepsError
-stepped (Ok x) steps = Ok steps
-stepped (Err e) steps = Err e

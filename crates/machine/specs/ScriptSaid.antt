@@ -1,5 +1,5 @@
 -- What the code's words for a line of a step script say.
-use Rattle.std.specs.Prelude.{◌≡◌, Option, None, Some, ⊤}
+use Rattle.std.specs.Prelude.{◌≡◌}
 use Rattle.litmus.specs.Numbers.{IsValue}
 use Rattle.machine.specs.declared.script_line.Said.{Said}
 use Rattle.machine.specs.declared.script_line.Said.TheVariants.{Own, Transaction}
@@ -11,10 +11,3 @@ Says (Own own number) (own_line how c) = (own ≡ how) × IsValue number c
 Says (Transaction kind number name) (transaction_line how c other) = (kind ≡ how)
     × IsValue number c × (name ≡ other)
 Says said line = ⊥
-
--- the same where the line may be outside the grammar
-abbrev pub SaysOption : Option Said → Option ScriptLine → Type 0
-SaysOption None None = ⊤
-SaysOption None (Some line) = ⊥
-SaysOption (Some said) None = ⊥
-SaysOption (Some said) (Some line) = Says said line

@@ -2,7 +2,8 @@
 
 ghost use Rattle.std.specs.Prelude.{◌≡◌, ◌≤◌, ℕ, [], All, IfOk, length};
 ghost use Rattle.litmus.specs.Numbers.{IsValue};
-ghost use Rattle.machine.specs.Script.{core_in, address_in, with_step, line_step, steps_of, IsStepOf, Answers, AnswersLine, listed, stepped};
+ghost use Rattle.litmus.specs.Reading.{Answers, AnswersLine, seen_as};
+ghost use Rattle.machine.specs.Script.{core_in, address_in, with_step, line_step, steps_of, IsStepOf};
 
 use crate::script_fault::{StepFault, StepsError};
 use crate::script_line::{Said, own_step, script_line_of, transaction_step};
@@ -30,7 +31,8 @@ fn address_in(program: &Program, name: Name) -> Option<Addr>
 }
 
 fn push_step(steps: &mut Vec<Step>, step: Step, number: usize) -> Result<(), StepsError>
-    ensures { AnswersLine (stepped result steps.new.items) number (with_step steps.old.items step) }
+    ensures { AnswersLine (seen_as result (λ _. steps.new.items)) number
+        (with_step steps.old.items step) }
 {
     if MAX_STEPS <= steps.len() {
         return Err(StepsError::AtLine(StepFault::S4, number));
@@ -46,7 +48,7 @@ fn take_line(
     line: &[u8],
     number: usize,
 ) -> Result<(), StepsError>
-    ensures { AnswersLine (stepped result steps.new.items) number
+    ensures { AnswersLine (seen_as result (λ _. steps.new.items)) number
         (line_step program.now steps.old.items line.now) }
 {
     match script_line_of(line) {
@@ -68,7 +70,7 @@ fn take_line(
 }
 
 fn read_lines(alloc: Global, text: &[u8], program: &Program) -> Result<Vec<Step>, StepsError>
-    ensures { Answers (listed result) (steps_of program.now text.now) }
+    ensures { Answers (seen_as result (λ steps. steps.items)) (steps_of program.now text.now) }
 {
     let mut steps = Vec::new(alloc);
     let mut start: usize = 0;
@@ -94,7 +96,8 @@ fn read_lines(alloc: Global, text: &[u8], program: &Program) -> Result<Vec<Step>
 #[tactic(auto, using(crate::proofs::ScriptText::script_cores, crate::proofs::ScriptText::script_few))]
 pub fn parse_steps(alloc: Global, text: &[u8], program: &Program) -> Result<Vec<Step>, StepsError>
     // The steps, or which line is at fault, and why.
-    ensures exact { Answers (listed result) (steps_of program.now text.now) }
+    ensures exact { Answers (seen_as result (λ steps. steps.items))
+        (steps_of program.now text.now) }
     // The cores and addresses of the steps are the program's.
     ensures cores { IfOk result (λ steps. All (IsStepOf program.now) steps.items) }
     ensures few { IfOk result (λ steps. length steps.items ≤ MAX_STEPS) }

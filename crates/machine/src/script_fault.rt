@@ -1,6 +1,6 @@
 //! Why a step script is refused.
 
-use std::alloc::AllocFailed;
+use litmus::LineError;
 
 /// Why a line of a step script is refused. Where several apply to one line, the first in this order
 /// is answered.
@@ -17,21 +17,4 @@ pub enum StepFault {
 }
 
 /// Why a step script gave no steps.
-#[derive(Clone, Copy, Debug, Drop, PartialEq, Eq)]
-pub enum StepsError {
-    /// The first line at fault, counted from 1.
-    AtLine(StepFault, usize),
-    /// There was no memory for the steps.
-    OutOfMemory,
-}
-
-impl<T: Drop> From<AllocFailed<T>> for StepsError {
-    ghost use Rattle.std.specs.Prelude.{◌≡◌};
-    ghost use Rattle.machine.specs.declared.script_fault.StepsError.TheVariants.{OutOfMemory};
-
-    ghost from_gives = { λ _ e. e ≡ OutOfMemory };
-
-    fn from(_refused: AllocFailed<T>) -> StepsError {
-        StepsError::OutOfMemory
-    }
-}
+pub type StepsError = LineError<StepFault>;
