@@ -91,8 +91,13 @@ pub struct Texts {
 }
 
 impl Texts {
+    ghost use Rattle.std.specs.Prelude.{IfOk};
+    ghost use Rattle.command_line.specs.Help.{AreHelpTexts};
+
     /// The texts at the limits of this program.
-    pub fn new(alloc: Global) -> Result<Texts, AllocError> {
+    pub fn new(alloc: Global) -> Result<Texts, AllocError>
+        ensures { IfOk result AreHelpTexts }
+    {
         Ok(Texts {
             steps: format!(in alloc;
                 "The script: a file of at most {MAX_STEPS} lines, or - for standard input"

@@ -1,0 +1,23 @@
+-- The texts of the help that name limits.
+use Rattle.std.specs.Prelude.{◌≡◌, ◌++◌, ℕ, List, codes, decimal, string_bytes}
+use Rattle.litmus.specs.declared.limits.TheConstants.{MAX_CAPACITY, MAX_STEPS}
+use Rattle.command_line.specs.declared.command.Texts.{Texts}
+use Rattle.command_line.specs.declared.options.TheConstants.{DEFAULT_BUFFER, DEFAULT_LIMIT}
+
+-- --steps
+abbrev pub steps_text : List ℕ
+steps_text = codes "The script: a file of at most " ++ decimal MAX_STEPS ++ codes " lines, or - for standard input"
+
+-- --buffer
+abbrev pub buffer_text : List ℕ
+buffer_text = codes "Stores that a buffer holds, from 1 to " ++ decimal MAX_CAPACITY ++ codes " [default: " ++ decimal DEFAULT_BUFFER ++ codes "]"
+
+-- --limit
+abbrev pub limit_text : List ℕ
+limit_text = codes "Steps that may be taken, from 1 to " ++ decimal MAX_STEPS ++ codes " [default: " ++ decimal DEFAULT_LIMIT ++ codes "]"
+
+-- the texts name the limits of this program
+pub record AreHelpTexts (texts : Texts) : Type 0 where
+  pub steps : string_bytes texts.steps ≡ steps_text
+  pub buffer : string_bytes texts.buffer ≡ buffer_text
+  pub limit : string_bytes texts.limit ≡ limit_text
