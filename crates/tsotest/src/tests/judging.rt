@@ -3,7 +3,7 @@ use crate::perform::perform;
 use crate::tests::bad_texts::refused;
 use crate::tests::commands::{BOTH_MISS, LOADS_FIRST, STORE_BUFFERING};
 use crate::tests::inputs::{Text, Texts, named, times, words};
-use crate::tests::recordings::recordings;
+use crate::tests::recordings::RECORDINGS;
 use litmus::{EventId, MAX_ADDRESSES, MAX_CORES, MAX_EVENTS};
 use order::check;
 use recorder::read_recording;
@@ -279,7 +279,7 @@ fn has_order(alloc: Global, text: &str, verdict: &str) -> Result<bool, Fail> {
 #[test]
 fn classic_recordings_have_their_verdicts(rt: HostRuntime) -> Result<(), Fail> {
     let alloc = rt.alloc();
-    for &(name, text, verdict) in recordings() {
+    for (name, text, verdict) in RECORDINGS {
         assert!(rt; prints_verdict(&rt, alloc, text, verdict)?, "{name}");
         assert!(rt; has_order(alloc, text, verdict)?, "{name}");
     }
