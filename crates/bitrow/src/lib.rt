@@ -7,6 +7,3 @@ mod words;
 
 pub use numbers::Numbers;
 pub use row::BitRow;
-
-#[cfg(test)]
-mod tests;

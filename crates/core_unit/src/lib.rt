@@ -4,6 +4,3 @@
 mod unit;
 
 pub use unit::CoreUnit;
-
-#[cfg(test)]
-mod tests;

@@ -10,6 +10,3 @@ pub use alone::judge_alone;
 pub use check::verify;
 pub use verdict::Verdict;
 pub use workers::judge;
-
-#[cfg(test)]
-mod tests;

@@ -10,6 +10,3 @@ mod shortest;
 pub use certificate::Certificate;
 pub use parallel::check_par;
 pub use shortest::check;
-
-#[cfg(test)]
-mod tests;

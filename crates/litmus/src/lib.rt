@@ -34,6 +34,3 @@ pub use op::{Op, Ops};
 pub use program::Program;
 pub use text::parse;
 pub use writing::print;
-
-#[cfg(test)]
-mod tests;

@@ -11,6 +11,3 @@ pub use crew::LiveMachine;
 pub use driving::drive;
 pub use error::LiveError;
 pub use traced::Traced;
-
-#[cfg(test)]
-mod tests;

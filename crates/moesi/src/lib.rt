@@ -13,6 +13,3 @@ pub use caches::Caches;
 pub use error::CacheError;
 pub use laws::{coherent_caches, copies_of_caches};
 pub use line::Line;
-
-#[cfg(test)]
-mod tests;

@@ -12,6 +12,3 @@ mod written;
 
 pub use least::build;
 pub use tso::check;
-
-#[cfg(test)]
-mod tests;

@@ -21,6 +21,3 @@ pub use lists::{place, stands_before, times};
 pub use reading::read_recording;
 pub use recording::Recording;
 pub use text::write_recording;
-
-#[cfg(test)]
-mod tests;

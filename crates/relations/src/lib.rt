@@ -17,6 +17,3 @@ pub use overlooks::overlook;
 pub use pair::{first_reason, is_overlook};
 pub use reason::Reason;
 pub use relation::Relation;
-
-#[cfg(test)]
-mod tests;

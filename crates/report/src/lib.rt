@@ -6,6 +6,3 @@ mod numbers;
 mod verdict;
 
 pub use verdict::verdict_text;
-
-#[cfg(test)]
-mod tests;

@@ -22,6 +22,3 @@ pub use job::SourceJob;
 pub use label_row::LabelRow;
 pub use least::least_cycle;
 pub use lists::{into_lists, least_length};
-
-#[cfg(test)]
-mod tests;

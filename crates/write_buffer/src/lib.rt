@@ -6,6 +6,3 @@ mod entry;
 
 pub use buffer::WriteBuffer;
 pub use entry::Entry;
-
-#[cfg(test)]
-mod tests;

@@ -1,0 +1,21 @@
+-- What is printed, from what a command answers.
+use Rattle.std.proofs.Common.{ℕ, List, Option, Result, Ok, Err, IfOk, IfErr, inl}
+use Rattle.clap.specs.Words.{Text}
+use Rattle.commands.specs.declared.answer.Answer.{Answer}
+use Rattle.commands.specs.declared.answer.Stop.{Stop}
+use Rattle.command_line.specs.declared.options.Options.{Options}
+use Rattle.command_line.specs.Commands.{command_of}
+use Rattle.command_line.specs.Options.{AreOptions}
+use Rattle.commands.specs.Perform.{IsAnswerTo, IsAnswered, IsStopTo, IsStopped}
+
+-- the answer to the options of the words is that of the words
+pub answer_of_words : (inputs : List ℕ → Option (List ℕ)) (r : Result Answer Stop) (o : Options) (words : List Text) → AreOptions o (command_of words)
+    → IfOk r (IsAnswerTo inputs o) → IfOk r (IsAnswered inputs words)
+answer_of_words inputs (Ok answer) o words are is = inl (o, are, is)
+answer_of_words inputs (Err stop) o words are is = tt
+
+-- so is why their command stops
+pub stop_of_words : (inputs : List ℕ → Option (List ℕ)) (r : Result Answer Stop) (o : Options) (words : List Text) → AreOptions o (command_of words)
+    → IfErr r (IsStopTo inputs o) → IfErr r (IsStopped inputs words)
+stop_of_words inputs (Ok answer) o words are is = tt
+stop_of_words inputs (Err stop) o words are is = inl (o, are, is)

@@ -1,0 +1,13 @@
+-- Why a recording was not read.
+use Rattle.std.proofs.Common.{◌≡◌, ℕ, List, Result, Ok, Err, IfErr, IsErrAnd, refl}
+use Rattle.recorder.specs.declared.fault.RecError.TheVariants as rec
+use Rattle.commands.specs.declared.answer.Answer.{Answer}
+use Rattle.commands.specs.declared.answer.Stop.{Stop}
+use Rattle.commands.specs.declared.answer.Stop.TheVariants.{Fault}
+use Rattle.commands.specs.declared.fault.CommandFault.TheVariants.{OutOfMemory}
+use Rattle.commands.specs.Judge.{IsUnread}
+
+-- want of memory may come of any bytes
+pub no_memory : (r : Result Answer Stop) (bytes : List ℕ) → IsErrAnd r (λ stop. stop ≡ Fault OutOfMemory) → IfErr r (IsUnread bytes)
+no_memory (Ok answer) bytes wanting = tt
+no_memory (Err stop) bytes wanting = rw wanting (rec.OutOfMemory, tt, refl)

@@ -1,0 +1,23 @@
+use Rattle.std.proofs.Common.{map, sym}
+use Rattle.std.specs.Prelude.{string_bytes}
+use Rattle.command_line.specs.declared.options.Options.TheVariants.{Run, Judge, Live}
+use Rattle.commands.proofs.Printed.{answer_of_words, stop_of_words}
+use Rattle.commands.proofs.perform.answered.Goals as goal
+
+pub returns-in-Ok-Run-clause-ok : goal.returns-in-Ok-Run-clause-ok
+returns-in-Ok-Run-clause-ok g c = answer_of_words (g.P.Place.bytes c.args.place.now) c.run_command.result (Run c.in-Ok-Run.run') (map string_bytes c.args.words.now) (rw (sym c.in-Ok-Run.field-0-is) c.in-Ok-Run.ensures.ok) c.run_command.ensures.ok
+
+pub returns-in-Ok-Run-clause-err : goal.returns-in-Ok-Run-clause-err
+returns-in-Ok-Run-clause-err g c = stop_of_words (g.P.Place.bytes c.args.place.now) c.run_command.result (Run c.in-Ok-Run.run') (map string_bytes c.args.words.now) (rw (sym c.in-Ok-Run.field-0-is) c.in-Ok-Run.ensures.ok) c.run_command.ensures.err
+
+pub returns-in-Ok-Judge-clause-ok : goal.returns-in-Ok-Judge-clause-ok
+returns-in-Ok-Judge-clause-ok g c = answer_of_words (g.P.Place.bytes c.args.place.now) c.judge_command.result (Judge c.in-Ok-Judge.options) (map string_bytes c.args.words.now) (rw (sym c.in-Ok-Judge.field-0-is) c.in-Ok-Judge.ensures.ok) c.judge_command.ensures.ok
+
+pub returns-in-Ok-Judge-clause-err : goal.returns-in-Ok-Judge-clause-err
+returns-in-Ok-Judge-clause-err g c = stop_of_words (g.P.Place.bytes c.args.place.now) c.judge_command.result (Judge c.in-Ok-Judge.options) (map string_bytes c.args.words.now) (rw (sym c.in-Ok-Judge.field-0-is) c.in-Ok-Judge.ensures.ok) c.judge_command.ensures.err
+
+pub returns-in-Ok-Live-clause-ok : goal.returns-in-Ok-Live-clause-ok
+returns-in-Ok-Live-clause-ok g c = answer_of_words (g.P.Place.bytes c.args.place.now) c.live_command.result (Live c.in-Ok-Live.live) (map string_bytes c.args.words.now) (rw (sym c.in-Ok-Live.field-0-is) c.in-Ok-Live.ensures.ok) c.live_command.ensures.ok
+
+pub returns-in-Ok-Live-clause-err : goal.returns-in-Ok-Live-clause-err
+returns-in-Ok-Live-clause-err g c = stop_of_words (g.P.Place.bytes c.args.place.now) c.live_command.result (Live c.in-Ok-Live.live) (map string_bytes c.args.words.now) (rw (sym c.in-Ok-Live.field-0-is) c.in-Ok-Live.ensures.ok) c.live_command.ensures.err

@@ -1,0 +1,33 @@
+-- What is answered to the bytes of a recording.
+use Rattle.std.specs.Prelude.{◌≡◌, [], ℕ, List, Option, Ok, Err, string_bytes}
+use Rattle.command_line.specs.declared.options.JudgeOptions.{JudgeOptions}
+use Rattle.recorder.specs.declared.fault.RecError.{RecError}
+use Rattle.recorder.specs.Execution.{Execution}
+use Rattle.recorder.specs.Reading.{Answers}
+use Rattle.commands.specs.declared.answer.Answer.{Answer}
+use Rattle.commands.specs.declared.answer.Stop.{Stop}
+use Rattle.commands.specs.declared.answer.Stop.TheVariants.{Refused, Fault}
+use Rattle.commands.specs.Inputs.{AreBytesOf, IsInputFault}
+use Rattle.commands.specs.Refusal.{IsRefusedAs}
+use Rattle.commands.specs.Verdict.{IsVerdictAnswer}
+
+-- the verdict on the recording that the bytes give
+pub record IsJudged (bytes : List ℕ) (answer : Answer) : Type 0 where
+  pub recording : Execution
+  pub read : Answers bytes (Ok recording)
+  pub answered : IsVerdictAnswer recording [] answer
+
+-- the stop is that of the refusal that the bytes have; memory alone is left open
+abbrev pub IsUnread : List ℕ → Stop → Type 0
+IsUnread bytes stop = (fault : RecError) × Answers bytes (Err fault) × IsRefusedAs fault stop
+
+-- the verdict on the recording of the named input
+pub record IsJudgedInput (inputs : List ℕ → Option (List ℕ)) (o : JudgeOptions) (answer : Answer) : Type 0 where
+  pub bytes : List ℕ
+  pub given : AreBytesOf inputs (string_bytes o.file) bytes
+  pub judged : IsJudged bytes answer
+
+-- a line of refusal is that of the named input; a fault is one of reading it
+abbrev pub IsJudgeStop : (List ℕ → Option (List ℕ)) → JudgeOptions → Stop → Type 0
+IsJudgeStop inputs o (Refused line) = (bytes : List ℕ) × AreBytesOf inputs (string_bytes o.file) bytes × IsUnread bytes (Refused line)
+IsJudgeStop inputs o (Fault fault) = IsInputFault (λ name. name ≡ string_bytes o.file) fault

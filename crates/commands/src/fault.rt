@@ -1,0 +1,100 @@
+//! What ends the program with status 1.
+ghost use Rattle.std.specs.Prelude.{◌≡◌, ◌↔◌, ◌⊎◌};
+ghost use Rattle.std.specs.IoError.{error_kind};
+
+use litmus::OutOfMemory;
+use std::alloc::{AllocError, AllocFailed};
+use std::io;
+use std::io::ErrorKind;
+use thiserror::Error;
+
+/// A fault that is no answer of a command. Its text goes to standard error.
+#[derive(Debug, Drop, Error)]
+pub enum CommandFault {
+    /// The words are not a command.
+    #[error("{0}")]
+    CommandLine(clap::Error),
+    /// A word of the command line is not UTF-8.
+    #[error("tsotest: the command line is not text")]
+    NotText,
+    /// `clap` accepted the words and lacks a value that its command requires.
+    #[error("tsotest: no value of {0}")]
+    NoValue(&'static str),
+    /// No file of this name can be opened.
+    #[error("tsotest: cannot open {0}")]
+    CannotOpen(String),
+    /// An opened input can't be read to its end.
+    #[error("tsotest: read failed")]
+    ReadFailed,
+    /// Standard output takes no more bytes.
+    #[error("tsotest: write failed")]
+    WriteFailed,
+    /// A thread was not started.
+    #[error("tsotest: no thread")]
+    NoThread,
+    /// Threads left no run of the program.
+    #[error("tsotest: stranger")]
+    Stranger,
+    /// There is no memory.
+    #[error("tsotest: out of memory")]
+    OutOfMemory,
+}
+
+impl CommandFault {
+    /// Why the words of the command line could not be had.
+    pub fn of_words(error: io::Error) -> CommandFault
+        ensures one { (result ≡ CommandFault.OutOfMemory) ⊎ (result ≡ CommandFault.NotText) }
+        ensures kind { (result ≡ CommandFault.OutOfMemory) ↔ (error_kind error ≡ ErrorKind.OutOfMemory) }
+    {
+        if error.kind() == ErrorKind::OutOfMemory {
+            CommandFault::OutOfMemory
+        } else {
+            CommandFault::NotText
+        }
+    }
+
+    /// Why an input could not be read.
+    pub fn of_reading(error: io::Error) -> CommandFault
+        ensures one { (result ≡ CommandFault.OutOfMemory) ⊎ (result ≡ CommandFault.ReadFailed) }
+        ensures kind { (result ≡ CommandFault.OutOfMemory) ↔ (error_kind error ≡ ErrorKind.OutOfMemory) }
+    {
+        if error.kind() == ErrorKind::OutOfMemory {
+            CommandFault::OutOfMemory
+        } else {
+            CommandFault::ReadFailed
+        }
+    }
+}
+
+impl From<OutOfMemory> for CommandFault {
+    ghost use Rattle.std.specs.Prelude.{◌≡◌};
+    ghost use Rattle.commands.specs.declared.fault.CommandFault.TheVariants.{OutOfMemory};
+
+    ghost from_gives = { λ _ e. e ≡ OutOfMemory };
+
+    fn from(_refused: OutOfMemory) -> CommandFault {
+        CommandFault::OutOfMemory
+    }
+}
+
+impl From<AllocError> for CommandFault {
+    ghost use Rattle.std.specs.Prelude.{◌≡◌};
+    ghost use Rattle.commands.specs.declared.fault.CommandFault.TheVariants.{OutOfMemory};
+
+    ghost from_gives = { λ _ e. e ≡ OutOfMemory };
+
+    fn from(_refused: AllocError) -> CommandFault {
+        CommandFault::OutOfMemory
+    }
+}
+
+impl<T: Drop> From<AllocFailed<T>> for CommandFault {
+    ghost use Rattle.std.specs.Prelude.{◌≡◌};
+    ghost use Rattle.commands.specs.declared.fault.CommandFault.TheVariants.{OutOfMemory};
+
+    ghost from_gives = { λ _ e. e ≡ OutOfMemory };
+
+    fn from(_refused: AllocFailed<T>) -> CommandFault {
+        CommandFault::OutOfMemory
+    }
+}

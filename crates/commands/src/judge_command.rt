@@ -1,0 +1,58 @@
+//! The command `judge`.
+ghost use Rattle.std.specs.Prelude.{IfErr, IfOk};
+ghost use Rattle.commands.specs.Judge.{IsJudgeStop, IsJudged, IsJudgedInput, IsUnread};
+ghost use Rattle.commands.specs.Refusal.{IsRefusedAs};
+
+use crate::answer::{Answer, Stop};
+use crate::fault::CommandFault;
+use crate::place::Place;
+use crate::reading::text_at;
+use crate::refusal::recording_line;
+use crate::verdict::verdict_behind;
+use command_line::JudgeOptions;
+use judge::judge;
+use recorder::{RecError, read_recording};
+use std::alloc::{AllocError, Global};
+use std::sync::Wait;
+use std::thread::Threads;
+
+/// How many workers judge a recording.
+const WORKERS: usize = 1;
+
+/// Why the bytes are no recording, as it is printed.
+fn unread(alloc: Global, refusal: RecError) -> Result<Stop, AllocError>
+    ensures { IfOk result (IsRefusedAs refusal) }
+{
+    match recording_line(alloc, refusal)? {
+        Some(line) => Ok(Stop::Refused(line)),
+        None => Ok(Stop::Fault(CommandFault::OutOfMemory)),
+    }
+}
+
+/// The verdict on the recording that the bytes are, or the line of their refusal.
+pub fn judged<R: Threads + Wait + Sync>(rt: &R, alloc: Global, bytes: &[u8]) -> Result<Answer, Stop>
+    ensures ok { IfOk result (IsJudged bytes.now) }
+    ensures err { IfErr result (IsUnread bytes.now) }
+{
+    match read_recording(alloc, bytes) {
+        Ok(recording) => {
+            let verdict = judge(rt, alloc, &recording, WORKERS)?;
+            Ok(verdict_behind(alloc, Vec::new(alloc), &recording, &verdict)?)
+        }
+        Err(refusal) => Err(unread(alloc, refusal)?),
+    }
+}
+
+/// Judges the recording of a named input.
+pub fn judge_command<R: Threads + Wait + Sync, P: Place>(
+    rt: &R,
+    alloc: Global,
+    options: &JudgeOptions,
+    place: &mut P,
+) -> Result<Answer, Stop>
+    ensures ok { IfOk result (IsJudgedInput (P.bytes place.old) options.now) }
+    ensures err { IfErr result (IsJudgeStop (P.bytes place.old) options.now) }
+{
+    let bytes = text_at(alloc, place, options.file.as_str())?;
+    judged(rt, alloc, bytes.as_slice())
+}

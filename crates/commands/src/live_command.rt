@@ -1,0 +1,50 @@
+//! The command `live`.
+ghost use Rattle.std.specs.Prelude.{◌≡◌, IfErr, IfOk};
+ghost use Rattle.live.specs.Driven.{IsDriveError};
+ghost use Rattle.commands.specs.Perform.{IsLiveStop, thread_fault};
+ghost use Rattle.commands.specs.Run.{IsLive};
+
+use crate::answer::{Answer, Stop};
+use crate::fault::CommandFault;
+use crate::outcome::finished;
+use crate::place::Place;
+use crate::reading::text_at;
+use crate::run_command::program_of;
+use command_line::LiveOptions;
+use litmus::OpenGate;
+use live::{LiveError, drive};
+use std::alloc::Global;
+use std::sync::Wait;
+use std::thread::Threads;
+
+/// The fault of threads that gave no machine.
+fn fault_of(error: LiveError) -> CommandFault
+    requires { IsDriveError error }
+    ensures { result ≡ thread_fault error }
+{
+    match error {
+        LiveError::NoThread => CommandFault::NoThread,
+        LiveError::Stranger => CommandFault::Stranger,
+        LiveError::OutOfMemory => CommandFault::OutOfMemory,
+        LiveError::Blocked(_) | LiveError::TraceFull => unreachable!(),
+    }
+}
+
+/// Runs the program of a named input by threads.
+pub fn live_command<R: Threads + Wait + Sync, P: Place>(
+    rt: &R,
+    alloc: Global,
+    options: &LiveOptions,
+    place: &mut P,
+) -> Result<Answer, Stop>
+    ensures ok { IfOk result (IsLive (P.bytes place.old) options.now) }
+    ensures err { IfErr result (IsLiveStop (P.bytes place.old) options.now) }
+{
+    let text = text_at(alloc, place, options.program.as_str())?;
+    let program = program_of(alloc, text.as_slice())?;
+    let traced = match drive(rt, alloc, program, options.buffer, options.limit, &OpenGate) {
+        Ok(traced) => traced,
+        Err(error) => return Err(Stop::Fault(fault_of(error))),
+    };
+    Ok(finished(alloc, traced.into_machine())?)
+}

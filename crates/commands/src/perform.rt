@@ -1,0 +1,110 @@
+//! From the words of a command line to what is printed.
+ghost use Rattle.std.specs.Prelude.{◌≡◌, ◌≢◌, IfErr, IfOk, OnOk, map, string_bytes};
+ghost use Rattle.std.specs.Io.KnownBytes.{Appends};
+ghost use Rattle.commands.specs.declared.answer.Answer.{Answer};
+ghost use Rattle.commands.specs.declared.answer.Stop.{Stop};
+ghost use Rattle.commands.specs.Perform.{IsAnswered, IsFaultOf, IsHelp, IsPrinted, IsStopWithout, IsStopped};
+
+use crate::answer::{Answer, DONE, REFUSED, Stop};
+use crate::fault::CommandFault;
+use crate::judge_command::judge_command;
+use crate::live_command::live_command;
+use crate::place::Place;
+use crate::run_command::run_command;
+use command_line::words::options;
+use command_line::{OptionFault, Options};
+use std::alloc::Global;
+use std::io;
+use std::io::Write;
+use std::sync::Wait;
+use std::thread::Threads;
+
+/// The answer where there are no options: the help that was asked for, a refusal or a fault.
+fn without_options(alloc: Global, fault: OptionFault) -> Result<Answer, Stop>
+    ensures ok { IfOk result (IsHelp fault) }
+    ensures err { IfErr result (IsStopWithout fault) }
+{
+    match fault {
+        OptionFault::Clap(error) => {
+            if error.use_stderr() {
+                return Err(Stop::Fault(CommandFault::CommandLine(error)));
+            }
+            let text = format!(in alloc; "{error}")?;
+            Ok(Answer {
+                status: DONE,
+                text: text.into_bytes(),
+            })
+        }
+        OptionFault::Limit => Err(Stop::Refused(String::from_str(alloc, "refused: K6\n")?)),
+        OptionFault::Buffer => Err(Stop::Refused(String::from_str(alloc, "refused: K7\n")?)),
+        OptionFault::NoValue(name) => Err(Stop::Fault(CommandFault::NoValue(name))),
+        OptionFault::OutOfMemory => Err(Stop::Fault(CommandFault::OutOfMemory)),
+    }
+}
+
+/// What the command answers that the words ask for, or the help.
+fn answered<R: Threads + Wait + Sync, P: Place>(
+    rt: &R,
+    alloc: Global,
+    words: &[String],
+    place: &mut P,
+) -> Result<Answer, Stop>
+    ensures ok { IfOk result (IsAnswered (P.bytes place.old) (map string_bytes words.now)) }
+    ensures err { IfErr result (IsStopped (P.bytes place.old) (map string_bytes words.now)) }
+{
+    match options(alloc, words) {
+        Ok(Options::Run(run)) => run_command(alloc, &run, place),
+        Ok(Options::Judge(options)) => judge_command(rt, alloc, &options, place),
+        Ok(Options::Live(live)) => live_command(rt, alloc, &live, place),
+        Err(fault) => without_options(alloc, fault),
+    }
+}
+
+/// The answer, or the line of a refusal.
+fn whole_answer<R: Threads + Wait + Sync, P: Place>(
+    rt: &R,
+    alloc: Global,
+    words: &[String],
+    place: &mut P,
+) -> Result<Answer, CommandFault>
+    ensures ok { IfOk result (IsPrinted (P.bytes place.old) (map string_bytes words.now)) }
+    ensures err { IfErr result (λ fault. IsStopped (P.bytes place.old) (map string_bytes words.now) (Stop.Fault fault)) }
+{
+    match answered(rt, alloc, words, place) {
+        Ok(answer) => Ok(answer),
+        Err(Stop::Refused(line)) => Ok(Answer {
+            status: REFUSED,
+            text: line.into_bytes(),
+        }),
+        Err(Stop::Fault(fault)) => Err(fault),
+    }
+}
+
+fn put<W: Write>(out: &mut W, text: &[u8]) -> io::Result<()>
+    ensures { OnOk result (Appends (W.contents out.old) (W.contents out.new) text.now) }
+{
+    out.write_all(text)?;
+    out.flush()
+}
+
+/// Does what the words ask, writes what the command prints and answers its exit status. The words
+/// come without the program's name, and nothing is written before the whole answer stands.
+pub fn perform<R: Threads + Wait + Sync, P: Place, W: Write>(
+    rt: &R,
+    alloc: Global,
+    words: &[String],
+    place: &mut P,
+    out: &mut W,
+) -> Result<u8, CommandFault>
+    ensures printed { IfOk result (λ status. (answer : Answer) × IsPrinted (P.bytes place.old) (map string_bytes words.now) answer
+        × (status ≡ answer.status) × Appends (W.contents out.old) (W.contents out.new) answer.text.items) }
+    ensures fault { IfErr result (IsFaultOf (P.bytes place.old) (map string_bytes words.now)) }
+    // Only a write that fails leaves a part of an answer.
+    ensures unwritten { IfErr result (λ fault. fault ≢ CommandFault.WriteFailed → out.new ≡ out.old) }
+{
+    let answer = whole_answer(rt, alloc, words, place)?;
+    match put(out, answer.text.as_slice()) {
+        Ok(()) => Ok(answer.status),
+        Err(_) => Err(CommandFault::WriteFailed),
+    }
+}

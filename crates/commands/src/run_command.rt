@@ -1,0 +1,66 @@
+//! The command `run`.
+ghost use Rattle.std.specs.Prelude.{◌≡◌, IfErr, IfOk, Ok};
+ghost use Rattle.litmus.specs.Text.{reading};
+ghost use Rattle.machine.specs.Script.{steps_of};
+ghost use Rattle.commands.specs.Refusal.{IsStopOf, line_fault_name, step_fault_name};
+ghost use Rattle.commands.specs.Perform.{IsRunStop};
+ghost use Rattle.commands.specs.Run.{IsRun};
+
+use crate::answer::{Answer, Stop};
+use crate::fault::CommandFault;
+use crate::outcome::outcome;
+use crate::place::Place;
+use crate::reading::text_at;
+use crate::refusal::{line_fault_name, refusal_line, step_fault_name};
+use command_line::RunOptions;
+use litmus::{LitmusError, Program, parse};
+use machine::{Step, StepsError, parse_steps};
+use std::alloc::Global;
+
+/// The program of a text, or the line that is printed for its first line at fault.
+pub fn program_of(alloc: Global, text: &[u8]) -> Result<Program, Stop>
+    ensures ok { IfOk result (λ program. reading text.now ≡ Ok program) }
+    ensures err { IfErr result (IsStopOf line_fault_name (reading text.now)) }
+{
+    match parse(alloc, text) {
+        Ok(program) => Ok(program),
+        Err(LitmusError::OutOfMemory) => Err(Stop::Fault(CommandFault::OutOfMemory)),
+        Err(LitmusError::AtLine(fault, line)) => Err(Stop::Refused(refusal_line(
+            alloc,
+            line_fault_name(fault),
+            line,
+        )?)),
+    }
+}
+
+/// The steps of a script for a program, or the line that is printed for its first line at fault.
+fn steps_of(alloc: Global, text: &[u8], program: &Program) -> Result<Vec<Step>, Stop>
+    ensures ok { IfOk result (λ steps. steps_of program.now text.now ≡ Ok steps.items) }
+    ensures err { IfErr result (IsStopOf step_fault_name (steps_of program.now text.now)) }
+{
+    match parse_steps(alloc, text, program) {
+        Ok(steps) => Ok(steps),
+        Err(StepsError::OutOfMemory) => Err(Stop::Fault(CommandFault::OutOfMemory)),
+        Err(StepsError::AtLine(fault, line)) => Err(Stop::Refused(refusal_line(
+            alloc,
+            step_fault_name(fault),
+            line,
+        )?)),
+    }
+}
+
+/// Runs the named program by the named script; the program is read before the script is opened.
+pub fn run_command<P: Place>(
+    alloc: Global,
+    options: &RunOptions,
+    place: &mut P,
+) -> Result<Answer, Stop>
+    ensures ok { IfOk result (IsRun (P.bytes place.old) options.now) }
+    ensures err { IfErr result (IsRunStop (P.bytes place.old) options.now) }
+{
+    let text = text_at(alloc, place, options.program.as_str())?;
+    let program = program_of(alloc, text.as_slice())?;
+    let text = text_at(alloc, place, options.steps.as_str())?;
+    let steps = steps_of(alloc, text.as_slice(), &program)?;
+    Ok(outcome(alloc, program, options.buffer, steps.as_slice())?)
+}

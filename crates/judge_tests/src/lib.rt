@@ -1,0 +1,15 @@
+//! Tests of the judge and of what it stands on: rows of bits, forced pairs, orders, certificates.
+#![tactic(auto)]
+
+#[cfg(test)]
+mod bits;
+#[cfg(test)]
+mod certificates;
+#[cfg(test)]
+mod forced;
+#[cfg(test)]
+mod orders;
+#[cfg(test)]
+mod recordings;
+#[cfg(test)]
+mod verification;

@@ -1,0 +1,108 @@
+//! Recordings by the names that the field gives them.
+
+use litmus::EventId;
+use recorder::{Event, Recording};
+use relations::Relation;
+use std::alloc::Global;
+use std::test::Fail;
+
+/// A store of 1 to x.
+pub const X1: Event = Event::S { a: 0, w: 1 };
+
+/// A store of 2 to x.
+pub const X2: Event = Event::S { a: 0, w: 2 };
+
+/// A store of 1 to y.
+pub const Y1: Event = Event::S { a: 1, w: 1 };
+
+/// A load of x that reads the initial value.
+pub const X0: Event = Event::L {
+    a: 0,
+    r: 0,
+    s: None,
+};
+
+/// A load of y that reads the initial value.
+pub const Y0: Event = Event::L {
+    a: 1,
+    r: 0,
+    s: None,
+};
+
+/// A load of x that reads event 0.
+pub const OWN_X1: Event = Event::L {
+    a: 0,
+    r: 1,
+    s: Some(0),
+};
+
+/// A load of y that reads event 1.
+pub const READ_Y1: Event = Event::L {
+    a: 1,
+    r: 1,
+    s: Some(1),
+};
+
+/// A swap of x that reads the initial value.
+pub const SWAP_X: Event = Event::R {
+    a: 0,
+    r: 0,
+    s: None,
+    w: 1,
+};
+
+/// A swap of y that reads the initial value.
+pub const SWAP_Y: Event = Event::R {
+    a: 1,
+    r: 0,
+    s: None,
+    w: 1,
+};
+
+/// A swap of x that reads what it writes.
+pub const SWAP_OF_ITSELF: Event = Event::R {
+    a: 0,
+    r: 1,
+    s: Some(0),
+    w: 1,
+};
+
+/// The events of each core, and the write list of each address.
+pub type Parts = (&'static [&'static [Event]], &'static [&'static [EventId]]);
+
+pub const STORE_BUFFERING: Parts = (&[&[X1, Y0], &[Y1, X0]], &[&[0], &[2]]);
+
+pub const STORE_BUFFERING_FENCED: Parts = (
+    &[&[X1, Event::F, Y0], &[Y1, Event::F, X0]],
+    &[&[0], &[3]],
+);
+
+pub const BYPASSING: Parts = (&[&[X1, OWN_X1, Y0], &[Y1, X2]], &[&[4, 0], &[3]]);
+
+pub const MESSAGE_PASSING: Parts = (&[&[X1, Y1], &[READ_Y1, X0]], &[&[0], &[1]]);
+
+pub const OVERLOOKED_STORE: Parts = (&[&[X1, X0]], &[&[0]]);
+
+pub const TWIN_SWAPS: Parts = (&[&[SWAP_X], &[SWAP_X]], &[&[0, 1]]);
+
+pub const SELF_SOURCE: Parts = (&[&[SWAP_OF_ITSELF]], &[&[0]]);
+
+pub const LOAD_AND_STORE: Parts = (&[&[X0, X1]], &[&[1]]);
+
+pub const TWO_CYCLES: Parts = (&[&[SWAP_X, SWAP_Y], &[SWAP_X, SWAP_Y]], &[&[0, 2], &[1, 3]]);
+
+/// The recording of some parts.
+pub fn recorded(alloc: Global, parts: Parts) -> Result<Recording, Fail> {
+    let (cores, writes) = parts;
+    Ok(
+        Recording::from_lists(alloc, cores, writes)
+            .ok()
+            .ok_or("refused")?,
+    )
+}
+
+/// The forced pairs of a recording.
+pub fn related(alloc: Global, parts: Parts) -> Result<Relation, Fail> {
+    let recording = recorded(alloc, parts)?;
+    Ok(Relation::of(alloc, &recording).ok().ok_or("out of memory")?)
+}
