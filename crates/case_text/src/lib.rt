@@ -2,5 +2,7 @@
 #![tactic(auto)]
 
 mod case;
+mod file;
 
 pub use case::Case;
+pub use file::cases_of;
