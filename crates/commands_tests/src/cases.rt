@@ -3,7 +3,8 @@
 use case_text::cases_of;
 use std::test::Fail;
 
-const FILE: &str = "# Cases of a subject.\n\n# A remark.\n$ tsotest run - --steps nowhere\n< core\n< st x 1\n? 3\n\
+const FILE: &str =
+    "# Cases of a subject.\n\n# A remark.\n$ tsotest run - --steps nowhere\n< core\n< st x 1\n? 3\n\
     refused: L1 line 1\n\n$ tsotest replay -\nbuffer 1\n\n\n\n# Any lines.\n$ tsotest help\nfirst\n...\nlast\n";
 
 #[test]

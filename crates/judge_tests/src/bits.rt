@@ -10,18 +10,12 @@ fn numbers_stand_in_their_own_words(rt: HostRuntime) -> Result<(), Fail> {
     row.set(63);
     row.set(64);
     row.set(129);
-    let rows: [(usize, Option<usize>); 7] = [
-        (0, Some(0)),
-        (1, Some(63)),
-        (63, Some(63)),
-        (64, Some(64)),
-        (65, Some(129)),
-        (130, None),
-        (999, None),
-    ];
-    for (from, next) in rows {
-        assert_eq!(rt; row.next_set(from), next, "from {from}");
-    }
     assert_eq!(rt; row.first_set(), Some(0));
+    let mut numbers = row.numbers();
+    assert_eq!(rt; numbers.next(), Some(0));
+    assert_eq!(rt; numbers.next(), Some(63));
+    assert_eq!(rt; numbers.next(), Some(64));
+    assert_eq!(rt; numbers.next(), Some(129));
+    assert_eq!(rt; numbers.next(), None);
     Ok(())
 }
