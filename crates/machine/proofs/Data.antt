@@ -21,6 +21,7 @@ use Rattle.moesi.specs.Laws.{IsTransaction}
 use Rattle.moesi.proofs.Origins.{copy_was_there, write_adds}
 use Rattle.machine.specs.State.{State, place_of, buffer_of, copy_of, event_of, recorded, opening, IsComplete}
 use Rattle.machine.specs.Step.{with_caches, forwarded_or_read, looked_up, rmw_value, run}
+use Rattle.machine.specs.Tso.{EveryRunIsWellFormed}
 use Rattle.machine.proofs.Cached.{read_has, written_read, opening_has}
 use Rattle.machine.proofs.Static.{static_of, snapshot_of, placed_op, done_by, op_reads}
 use Rattle.machine.proofs.Newest.{bool_cases, times_filter, times_filter_no}
@@ -319,3 +320,7 @@ module _ (p : List (List Op)) (s : State) (d : IsData p s) (end : IsComplete p s
     | inl reads ↦ omega (arith, d.steady.reads_within e a (sym (reads_is p s e) ∙ reads), d.steady.listed.cells)
     | inr writes ↦ omega (arith, writes_inside e a (sym (writes_is p s e) ∙ writes), d.steady.listed.cells)
   ]
+
+-- every complete run has a well-formed recording
+pub every_run_is_well_formed : (p : List (List Op)) (n capacity : ℕ) (steps : List Step) → EveryRunIsWellFormed p n capacity steps
+every_run_is_well_formed p n capacity steps fits end = complete_well_formed p (run p capacity (opening p n) steps) (run_data p n capacity steps fits) end

@@ -24,3 +24,4 @@ pub mod Steps
 pub mod Ends
 pub mod ScriptText
 pub mod Recorded
+pub mod ScriptAgain

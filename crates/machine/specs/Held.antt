@@ -12,7 +12,7 @@ use Rattle.machine.specs.declared.step.Step.{Step}
 use Rattle.machine.specs.Roomy.{Roomy}
 use Rattle.machine.specs.declared.blocked.Blocked.{Blocked}
 use Rattle.recorder.specs.Execution.{Execution}
-use Rattle.machine.specs.State.{State, first_event, opening, recorded, IsComplete}
+use Rattle.machine.specs.State.{State, first_event, place_of, opening, recorded, IsComplete}
 use Rattle.machine.specs.Step.{exec, taken, run, has, IsAt}
 
 -- what a machine holds
@@ -109,6 +109,10 @@ recording_of h = recorded h.program.cores h.state
 -- every operation was executed, and no store waits
 abbrev pub IsAtEnd : Held → Type 0
 IsAtEnd h = IsComplete h.program.cores h.state
+
+-- the number of the next event of core c
+abbrev pub next_event : Held → ℕ → ℕ
+next_event h c = first_event h.program.cores c + place_of h.state c
 
 -- core c and address a are there
 abbrev pub has_line : Held → ℕ → ℕ → Bool

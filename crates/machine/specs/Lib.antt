@@ -7,3 +7,4 @@ pub mod Made
 pub mod ScriptLine
 pub mod ScriptSaid
 pub mod Script
+pub mod ScriptText

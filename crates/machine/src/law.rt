@@ -3,11 +3,13 @@
 ghost use Rattle.std.specs.Prelude.{ℕ, List};
 ghost use Rattle.litmus.specs.declared.op.Op.{Op};
 ghost use Rattle.machine.specs.declared.step.Step.{Step};
-ghost use Rattle.machine.specs.Tso.{EveryRunIsTso};
+ghost use Rattle.machine.specs.Tso.{EveryRunIsTso, EveryRunIsWellFormed};
 
 /// Where a run is complete, whatever its program, its capacity and its steps, the order of what it
-/// performed is one that TSO allows for its recording. It does nothing.
+/// performed is one that TSO allows for its recording, which is well formed. It does nothing.
 pub fn every_run_is_tso()
     ensures tso { (program : List (List Op)) (addresses capacity : ℕ) (steps : List Step)
         → EveryRunIsTso program addresses capacity steps }
+    ensures well_formed { (program : List (List Op)) (addresses capacity : ℕ) (steps : List Step)
+        → EveryRunIsWellFormed program addresses capacity steps }
 {}

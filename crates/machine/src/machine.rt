@@ -10,7 +10,7 @@ use moesi::{Caches, Line};
 use recorder::Recording;
 use std::alloc::Global;
 use std::marker::Model;
-use write_buffer::WriteBuffer;
+use write_buffer::{Entry, WriteBuffer};
 
 /// The cores of a program, each with its store buffer and its cache, over one memory, and what they
 /// have done so far: the usual implementation of TSO (Nagarajan, Sorin, Hill and Wood, A Primer on
@@ -59,7 +59,8 @@ impl Machine {
     ghost use Rattle.recorder.specs.Tso.{IsTsoOrder};
     ghost use Rattle.moesi.specs.State.{line_of, memory_of};
     ghost use Rattle.machine.specs.State.{opening, place_of, buffer_of, IsDone};
-    ghost use Rattle.machine.specs.Held.{recording_of, IsAtEnd};
+    ghost use Rattle.machine.specs.Held.{recording_of, next_event, IsAtEnd};
+    ghost use Rattle.write_buffer.specs.Buffer.{youngest};
 
     /// A machine at the start of a program, whose store buffers have room for `capacity` stores
     /// each. All memory that a run and its `finish` need is taken here; an `Err` only where there
@@ -106,6 +107,14 @@ impl Machine {
         ensures { result.now ≡ self.now.program }
     {
         &self.program
+    }
+
+    /// The program, of a machine that is given up.
+    pub fn into_program(self) -> Program
+        ensures { result ≡ self.program }
+    {
+        let Machine { program, .. } = self;
+        program
     }
 
     /// How many stores may wait in each buffer.
@@ -172,6 +181,22 @@ impl Machine {
         }
         let entry = self.buffers[core as usize].oldest()?;
         Some(entry.addr)
+    }
+
+    /// The number of a core's next event; that behind its last event where it has executed all.
+    pub fn next_event(&self, core: CoreId) -> usize
+        requires { core < length self.now.program.cores }
+        ensures { result ≡ next_event self.now core }
+    {
+        self.units[core as usize].next_event()
+    }
+
+    /// The youngest store to an address that waits in a core's buffer.
+    pub fn youngest(&self, core: CoreId, addr: Addr) -> Option<Entry>
+        requires { core < length self.now.program.cores }
+        ensures { result ≡ youngest (buffer_of self.now.state core) addr }
+    {
+        self.buffers[core as usize].youngest(addr)
     }
 
     /// Whether a core has executed all its operations, and no store of it waits.
