@@ -1,0 +1,217 @@
+-- What every step keeps of the sizes of a state: how much waits, how far cores are, and how many events there are.
+use Rattle.std.proofs.Common.{◌≡◌, ◌<◌, ◌≤◌, ◌+◌, inl, inr, ℕ, zero, suc, Bool, cond, Option, Ok, List, [], ◌∷◌, ◌++◌, map, length, get_or, slice_set, replicate, arith, refl, sym, ap, subst, ◌∙◌, get_or-set_same, get_or-set_other, length-set, length-append}
+use Rattle.std.specs.List.{All, sum, sum_by, count_by}
+use Rattle.std.proofs.lemmas.List.{length-replicate}
+use Rattle.std.proofs.lemmas.List.Sums.{sum_by-set, sum_by-cons}
+use Rattle.std.proofs.lemmas.Bool.{cases_eq}
+use Rattle.litmus.specs.declared.op.Op.{Op}
+use Rattle.litmus.specs.declared.op.Op.TheVariants.{St, Ld, Fence}
+use Rattle.litmus.specs.Parts.{IsWithin}
+use Rattle.recorder.specs.declared.event.Event.{Event}
+use Rattle.recorder.specs.Event.{is_plain_store}
+use Rattle.write_buffer.specs.declared.entry.Entry.{Entry}
+use Rattle.moesi.specs.State as moesi
+use Rattle.moesi.specs.Laws.{IsTransaction}
+use Rattle.machine.specs.State.{State, place_of, buffer_of, copy_of, opening}
+use Rattle.machine.specs.Step.{looked_up, rmw_value, with_caches}
+use Rattle.replay.specs.Program.{op_of}
+use Rattle.machine.proofs.Static.{is_st}
+use Rattle.replay.proofs.Made.{store_same}
+use Rattle.machine.proofs.Drains.{drained_state}
+use Rattle.machine.proofs.Executes.{IsNext}
+use Rattle.machine.proofs.Rows.{IsKept, IsRmw, stored_state, loaded_state, fenced_state, rmw_state}
+use Rattle.machine.proofs.InOrder.{IsInOrder, in_order_kept}
+use Rattle.machine.proofs.Opening.{get_or_same, opening_in_order}
+
+-- how many of the first n operations are plain stores
+pub stores_before : ℕ → List Op → ℕ
+stores_before zero ops = 0
+stores_before (suc n) [] = 0
+stores_before (suc n) (op ∷ ops) = cond (is_st op) 1 0 + stores_before n ops
+
+-- how many are plain stores
+pub stores_in : List Op → ℕ
+stores_in [] = 0
+stores_in (op ∷ ops) = cond (is_st op) 1 0 + stores_in ops
+
+-- none of no operations
+pub before_none : (ops : List Op) → stores_before 0 ops ≡ 0
+unfolding stores_before
+before_none ops = refl
+
+-- one operation more
+pub before_more : (i : ℕ) (ops : List Op) → i < length ops → stores_before (i + 1) ops ≡ stores_before i ops + cond (is_st (get_or ops i Fence)) 1 0
+unfolding stores_before
+before_more i [] h = absurd (omega (arith, h))
+before_more zero (op ∷ ops) h = omega arith
+before_more (suc i) (op ∷ ops) h = omega (arith, before_more i ops (omega (arith, h)), ap (λ (k : ℕ). stores_before k (op ∷ ops)) (let e : suc i + 1 ≡ suc (i + 1) = omega arith in e))
+
+-- no part has more than all
+pub before_all : (i : ℕ) (ops : List Op) → stores_before i ops ≤ stores_in ops
+unfolding stores_before stores_in
+before_all zero ops = omega arith
+before_all (suc i) [] = omega arith
+before_all (suc i) (op ∷ ops) = omega (arith, before_all i ops)
+
+-- a core has as many plain stores as its operations
+pub stores_same : (es : List Event) → stores_in (map op_of es) ≡ count_by is_plain_store es
+unfolding stores_in
+stores_same [] = refl
+stores_same (ev ∷ es) = omega (arith, ap {B = ℕ} (λ (b : Bool). cond b 1 0) (store_same ev), stores_same es, sum_by-cons {X = Event} (λ e. cond (is_plain_store e) 1 0) ev es)
+
+-- what fits: no core waits for more stores than it executed, none is past its end, and each executed event was performed or waits
+pub record IsFitting (p : List (List Op)) (n : ℕ) (s : State) : Type 0 where
+  pub in_order : IsInOrder p s
+  pub few : (c : ℕ) → length (buffer_of s c) ≤ stores_before (place_of s c) (get_or p c [])
+  pub places : (c : ℕ) → place_of s c ≤ length (get_or p c [])
+  pub lists : length s.write_lists ≡ n
+  pub counted : sum s.places ≡ length s.performed + sum_by (λ b. length b) s.buffers
+
+-- one event more at the end
+pushed : {A : Type 0} (xs : List A) (x : A) → length (xs ++ x ∷ []) ≡ length xs + 1
+pushed xs x = length-append xs (x ∷ [])
+
+module _ (p : List (List Op)) (n : ℕ) (s : State) (f : IsFitting p n s) where
+  -- one core goes on by one operation
+  place_up : (c b : ℕ) (op : Op) → IsNext p s c b op → (d : ℕ) → get_or (slice_set s.places c (place_of s c + 1)) d 0 ≤ length (get_or p d [])
+  place_up c b op at d = elim (cases_eq d c) [
+    | inl own ↦ subst (λ (z : ℕ). get_or (slice_set s.places c (place_of s c + 1)) z 0 ≤ length (get_or p z [])) (sym own)
+        (omega (arith, get_or-set_same s.places c (place_of s c + 1) 0 at.core, at.there))
+    | inr other ↦ omega (arith, get_or-set_other s.places c d (place_of s c + 1) 0 other, f.places d)
+  ]
+
+  -- all places together too
+  sum_up : (c b : ℕ) (op : Op) → IsNext p s c b op → sum (slice_set s.places c (place_of s c + 1)) ≡ sum s.places + 1
+  sum_up c b op at = omega (arith, sum_by-set (λ (x : ℕ). x) s.places c (place_of s c + 1) 0 at.core)
+
+  -- a core that goes on has executed no fewer stores
+  few_up : (c b : ℕ) (op : Op) → IsNext p s c b op → (d : ℕ) → stores_before (place_of s d) (get_or p d []) ≤ stores_before (get_or (slice_set s.places c (place_of s c + 1)) d 0) (get_or p d [])
+  few_up c b op at d = elim (cases_eq d c) [
+    | inl own ↦ subst (λ (z : ℕ). stores_before (place_of s z) (get_or p z []) ≤ stores_before (get_or (slice_set s.places c (place_of s c + 1)) z 0) (get_or p z [])) (sym own)
+        (omega (
+          arith,
+          ap (λ (i : ℕ). stores_before i (get_or p c [])) (get_or-set_same s.places c (place_of s c + 1) 0 at.core),
+          before_more (place_of s c) (get_or p c []) at.there,
+        ))
+    | inr other ↦ omega (arith, ap (λ (i : ℕ). stores_before i (get_or p d [])) (get_or-set_other s.places c d (place_of s c + 1) 0 other))
+  ]
+
+  -- a drain keeps what fits
+  drain_fits : (caches : moesi.State) (c : ℕ) (x : Entry) (xs : List Entry) → c < length p → buffer_of s c ≡ x ∷ xs
+      → moesi.write s.caches c x.addr x.value x.event ≡ Ok caches → IsFitting p n (drained_state s caches c x xs)
+  drain_fits caches c x xs at is wrote =
+      let inside : c < length s.buffers = omega (arith, at, f.in_order.steady.buffers) in
+      record {
+        in_order = (in_order_kept p s f.in_order).drain caches c x xs at is wrote;
+        few = λ d. elim (cases_eq d c) [
+          | inl own ↦ subst (λ (z : ℕ). length (get_or (slice_set s.buffers c xs) z []) ≤ stores_before (place_of s z) (get_or p z [])) (sym own)
+              (omega (arith, ap (λ (l : List Entry). length l) (get_or-set_same s.buffers c xs [] inside), ap (λ (l : List Entry). length l) is, f.few c))
+          | inr other ↦ omega (arith, ap (λ (l : List Entry). length l) (get_or-set_other s.buffers c d xs [] other), f.few d)
+        ];
+        places = f.places;
+        lists = length-set s.write_lists x.addr (get_or s.write_lists x.addr [] ++ x.event ∷ []) ∙ f.lists;
+        counted = omega (arith, f.counted, pushed s.performed x.event, sum_by-set (λ (b : List Entry). length b) s.buffers c xs [] inside, ap (λ (l : List Entry). length l) is);
+      }
+
+  -- a store keeps what fits
+  store_fits : (c b a v : ℕ) → IsNext p s c b (St a v) → c < length p → IsFitting p n (stored_state s c b a v)
+  store_fits c b a v at core =
+      let inside : c < length s.buffers = omega (arith, core, f.in_order.steady.buffers) in
+      let more : List Entry = buffer_of s c ++ record { addr = a; value = v; event = b } ∷ [] in
+      record {
+        in_order = (in_order_kept p s f.in_order).store c b a v at core;
+        few = λ d. elim (cases_eq d c) [
+          | inl own ↦ subst (λ (z : ℕ). length (get_or (slice_set s.buffers c more) z []) ≤ stores_before (get_or (slice_set s.places c (place_of s c + 1)) z 0) (get_or p z [])) (sym own)
+              (omega (
+                arith,
+                ap (λ (l : List Entry). length l) (get_or-set_same s.buffers c more [] inside),
+                pushed (buffer_of s c) (record { addr = a; value = v; event = b }),
+                ap (λ (i : ℕ). stores_before i (get_or p c [])) (get_or-set_same s.places c (place_of s c + 1) 0 at.core),
+                before_more (place_of s c) (get_or p c []) at.there,
+                ap {B = ℕ} (λ (o : Op). cond (is_st o) 1 0) at.operation,
+                f.few c,
+              ))
+          | inr other ↦ omega (arith, ap (λ (l : List Entry). length l) (get_or-set_other s.buffers c d more [] other), f.few d, few_up c b (St a v) at d)
+        ];
+        places = place_up c b (St a v) at;
+        lists = f.lists;
+        counted = omega (
+          arith,
+          f.counted,
+          sum_up c b (St a v) at,
+          sum_by-set (λ (l : List Entry). length l) s.buffers c more [] inside,
+          pushed (buffer_of s c) (record { addr = a; value = v; event = b }),
+        );
+      }
+
+  -- a load keeps what fits
+  load_fits : (c b a : ℕ) (what : ℕ × Option ℕ) → IsNext p s c b (Ld a) → looked_up s c a ≡ Ok what → IsFitting p n (loaded_state s c b what)
+  load_fits c b a what at got = record {
+    in_order = (in_order_kept p s f.in_order).load c b a what at got;
+    few = λ d. omega (arith, f.few d, few_up c b (Ld a) at d);
+    places = place_up c b (Ld a) at;
+    lists = f.lists;
+    counted = omega (arith, f.counted, sum_up c b (Ld a) at, pushed s.performed b);
+  }
+
+  -- a fence keeps what fits
+  fence_fits : (c b : ℕ) → IsNext p s c b Fence → buffer_of s c ≡ [] → IsFitting p n (fenced_state s c b)
+  fence_fits c b at empty = record {
+    in_order = (in_order_kept p s f.in_order).fence c b at empty;
+    few = λ d. omega (arith, f.few d, few_up c b Fence at d);
+    places = place_up c b Fence at;
+    lists = f.lists;
+    counted = omega (arith, f.counted, sum_up c b Fence at, pushed s.performed b);
+  }
+
+  -- a read-modify-write keeps what fits
+  rmw_fits : (caches : moesi.State) (c b a : ℕ) (op : Op) → IsNext p s c b op → c < length p → IsRmw op (copy_of s c a) a → buffer_of s c ≡ []
+      → moesi.write s.caches c a (rmw_value s c op a) b ≡ Ok caches → IsFitting p n (rmw_state s caches c b a)
+  rmw_fits caches c b a op at core is empty wrote = record {
+    in_order = (in_order_kept p s f.in_order).rmw caches c b a op at core is empty wrote;
+    few = λ d. omega (arith, f.few d, few_up c b op at d);
+    places = place_up c b op at;
+    lists = length-set s.write_lists a (get_or s.write_lists a [] ++ b ∷ []) ∙ f.lists;
+    counted = omega (arith, f.counted, sum_up c b op at, pushed s.performed b);
+  }
+
+  -- a transaction keeps what fits
+  transact_fits : (caches : moesi.State) (c a : ℕ) → c < length p → a < length s.caches.blocks → IsTransaction s.caches c a caches → IsFitting p n (with_caches s caches)
+  transact_fits caches c a core within made = record {
+    in_order = (in_order_kept p s f.in_order).transact caches c a core within made;
+    few = f.few;
+    places = f.places;
+    lists = f.lists;
+    counted = f.counted;
+  }
+
+  -- each row keeps what fits
+  pub fitting_kept : IsKept p s (IsFitting p n)
+  fitting_kept = record {
+    drain = drain_fits;
+    store = store_fits;
+    load = load_fits;
+    fence = fence_fits;
+    rmw = rmw_fits;
+    transact = transact_fits;
+  }
+
+-- nothing was executed at first
+sum_none : (n : ℕ) → sum (replicate n 0) ≡ 0
+sum_none zero = refl
+sum_none (suc n) = omega (arith, sum_by-cons (λ (k : ℕ). k) 0 (replicate n 0), sum_none n)
+
+-- and nothing waits
+wait_none : (n : ℕ) → sum_by (λ (b : List Entry). length b) (replicate n []) ≡ 0
+wait_none zero = refl
+wait_none (suc n) = omega (arith, sum_by-cons (λ (b : List Entry). length b) [] (replicate n []), wait_none n)
+
+-- the opening state fits
+pub opening_fits : (p : List (List Op)) (n : ℕ) → All (λ ops. All (IsWithin n) ops) p → IsFitting p n (opening p n)
+opening_fits p n fits = record {
+  in_order = opening_in_order p n fits;
+  few = λ c. omega (arith, ap (λ (l : List Entry). length l) (get_or_same {A = List Entry} (length p) c []));
+  places = λ c. omega (arith, get_or_same {A = ℕ} (length p) c 0);
+  lists = length-replicate {A = List ℕ} n [];
+  counted = omega (arith, sum_none (length p), wait_none (length p));
+}

@@ -1,0 +1,11 @@
+pub mod Made
+pub mod Determined
+pub mod Kept
+pub mod Goes
+pub mod Turns
+pub mod Orders
+pub mod Replayed
+pub mod Replays
+pub mod AddressNames
+pub mod FirstUse
+pub mod NamedProgram

@@ -1,0 +1,94 @@
+-- The program of a recording is lawful, and what its building makes.
+use Rattle.std.proofs.Common.{◌≡◌, ◌<◌, ◌≤◌, ◌+◌, ◌^◌, ℕ, suc, max, List, [], ◌∷◌, ◌++◌, map, length, Some, None, IsTrue, nat_eq, count_by, get_or, drop, arith, refl, sym, ap, ◌∙◌, Vec, Global, option_and_then, drop-cons, drop_of_length-le, eqb-true, eq-eqb}
+use Rattle.std.specs.List.{AllByRecursion}
+use Rattle.std.proofs.Math.Nat.{le-max_right, max-eq_left, max-eq_right}
+use Rattle.std.proofs.lemmas.List.{length-map}
+use Rattle.litmus.specs.declared.limits.TheConstants.{MAX_ADDRESSES}
+use Rattle.litmus.specs.declared.name.Name.{Name}
+use Rattle.litmus.specs.declared.op.Op.{Op}
+use Rattle.litmus.specs.Parts.{Small, IsProgram, use_ops, use_cores}
+use Rattle.litmus.specs.Steps.{names_with}
+use Rattle.recorder.specs.declared.event.Event.{Event}
+use Rattle.recorder.specs.Event.{is_plain_store}
+use Rattle.recorder.specs.Execution.{Execution}
+use Rattle.recorder.specs.Recording.{IsRecording}
+use Rattle.replay.specs.Program.{op_of, program_of}
+use Rattle.replay.specs.Stores.{most_stores}
+use Rattle.replay.specs.Numbered.{IsNumberedByFirstUse}
+use Rattle.replay.specs.Program.{address_name, address_names, named_program}
+use Rattle.machine.proofs.Static.{placed_total}
+use Rattle.replay.proofs.Made.{count_same}
+use Rattle.std.proofs.lemmas.Option.{same_Some}
+use Rattle.replay.proofs.FirstUse.{program_numbered, numbered_by_program}
+use Rattle.replay.proofs.AddressNames.{name_new, names_lawful, names_distinct, names_count}
+
+-- the names and the operations of a recording are a program
+pub named_is_program : (x : Execution) → IsRecording x → IsNumberedByFirstUse x → AllByRecursion (AllByRecursion Small) (program_of x) → IsProgram (named_program x)
+named_is_program x r numbered small =
+    let count : length (address_names (length x.write_lists)) ≡ length x.write_lists = names_count (length x.write_lists) in
+    let limit : MAX_ADDRESSES ≤ 10 ^ 7 = omega arith in
+    record {
+      few_cores = omega (arith, r.few_cores, length-map x.cores (λ es. map op_of es));
+      few_ops = omega (arith, r.few_events, count_same x, placed_total 0 (program_of x));
+      few_names = omega (arith, r.few_addresses, count);
+      values = small;
+      lawful = names_lawful (length x.write_lists) (omega (arith, limit, r.few_addresses));
+      distinct = names_distinct (length x.write_lists) (omega (arith, limit, r.few_addresses));
+      numbered = program_numbered x numbered r.addresses ∙ ap Some (sym count);
+    }
+
+-- one name more
+pub names_more : (n : ℕ) (old new : List Name) (name : Name) → n < 10 ^ 7 → old ≡ address_names n → name ≡ address_name n → new ≡ names_with old name → new ≡ address_names (n + 1)
+names_more n old new name small so_far this with_it =
+    let whole : names_with (address_names n) (address_name n) ≡ address_names n ++ address_name n ∷ [] = rw (name_new n small) refl in
+    with_it ∙ (ap (λ (l : List Name). names_with l name) so_far ∙ (ap (λ (m : Name). names_with (address_names n) m) this
+    ∙ (whole ∙ ap address_names (let e : suc n ≡ n + 1 = omega arith in e))))
+
+-- a core has room for one store at least
+most_least : (cores : List (List Event)) → 1 ≤ most_stores cores
+most_least [] = omega arith
+most_least (es ∷ rest) = omega (arith, most_least rest, le-max_right (count_by is_plain_store es) (most_stores rest))
+
+-- so nothing less than one counts
+pub most_of_one : (cores : List (List Event)) → max 1 (most_stores cores) ≡ most_stores cores
+most_of_one cores = max-eq_right (most_least cores)
+
+-- and one counts no more than what is more
+pub most_one : (n : ℕ) → 1 ≤ n → max n 1 ≡ n
+most_one n h = max-eq_left h
+
+-- the operations of each core, in two steps
+pub program_lists : (lists : List (Vec Event Global)) → map (λ v. map op_of v.items) lists ≡ map (λ es. map op_of es) (map (λ v. v.items) lists)
+program_lists [] = refl
+program_lists (v ∷ lists) = ap (λ (l : List (List Op)). map op_of v.items ∷ l) (program_lists lists)
+
+-- The test of a recording's addresses, over the lists of its events
+
+-- the operations of each core, from its list
+abbrev pub list_ops : Vec Event Global → List Op
+list_ops v = map op_of v.items
+
+module _ (x : Execution) (lists : List (Vec Event Global)) (are : map (λ v. v.items) lists ≡ x.cores) (r : IsRecording x) (used i : ℕ)
+    (so_far : use_cores used (map list_ops (drop i lists)) ≡ use_cores 0 (map list_ops lists)) where
+  -- they are the program's
+  list_program : map list_ops lists ≡ program_of x
+  list_program = program_lists lists ∙ ap (λ (cs : List (List Event)). map (λ es. map op_of es) cs) are
+
+  -- at the end the count is that of the program
+  all_used : length lists ≤ i → use_cores 0 (program_of x) ≡ Some used
+  all_used past = ap (use_cores 0) (sym list_program) ∙ (sym so_far ∙ ap (λ (l : List (Vec Event Global)). use_cores used (map list_ops l)) (drop_of_length-le lists past))
+
+  -- so the numbers are compared
+  pub is_numbered_end : length lists ≤ i → (n : ℕ) → n ≡ length x.write_lists → (IsTrue (nat_eq used n) → IsNumberedByFirstUse x) × (IsNumberedByFirstUse x → IsTrue (nat_eq used n))
+  is_numbered_end past n is = (
+    λ same. numbered_by_program x (all_used past ∙ ap Some (eqb-true used n same ∙ is)),
+    λ numbered. eq-eqb used n (same_Some _ _ (sym (all_used past) ∙ program_numbered x numbered r.addresses) ∙ sym is),
+  )
+
+  -- where an address is used before its turn they are not numbered
+  pub is_not_numbered : (d : Vec Event Global) → i < length lists → use_ops used (map op_of (get_or lists i d).items) ≡ None → ¬ IsNumberedByFirstUse x
+  is_not_numbered d inside early numbered =
+      let none : use_cores used (map list_ops (drop i lists)) ≡ None =
+      ap (λ (l : List (Vec Event Global)). use_cores used (map list_ops l)) (drop-cons lists i d inside)
+      ∙ ap (option_and_then (λ k. use_cores k (map list_ops (drop (suc i) lists)))) early in
+      let clash : None ≡ Some (length x.write_lists) = sym none ∙ (so_far ∙ (ap (use_cores 0) list_program ∙ program_numbered x numbered r.addresses)) in cc

@@ -1,0 +1,339 @@
+-- Where the order up to an event was performed, the steps of this event are taken, and perform it.
+use Rattle.std.proofs.Common.{◌≡◌, ◌<◌, ◌≤◌, ◌+◌, ◌-◌, ◌&&◌, inl, inr, ℕ, true, false, Option, Some, None, Ok, List, [], ◌∷◌, ◌++◌, map, length, get_or, slice_set, arith, refl, sym, ap, subst, ◌∙◌, length-append}
+use Rattle.std.specs.List.{sum}
+use Rattle.std.proofs.lemmas.List.{get_or_past}
+use Rattle.std.proofs.lemmas.List.Sums.{sum_by-set}
+use Rattle.std.proofs.lemmas.Bool.{cases_eq, cases_lt, lt-ltb, cases_Bool, and_parts, and_right}
+use Rattle.litmus.specs.declared.op.Op.{Op}
+use Rattle.litmus.specs.declared.op.Op.TheVariants.{St, Ld, Fence, Swap, Add}
+use Rattle.recorder.specs.declared.event.Event.{Event}
+use Rattle.recorder.specs.declared.event.Event.TheVariants.{L, S, R, F}
+use Rattle.recorder.specs.Event.{written_address, is_plain_store, is_plain_load}
+use Rattle.recorder.specs.Execution.{Execution, event_count, event_at, core_of}
+use Rattle.recorder.specs.Order.{times, Before}
+use Rattle.recorder.specs.Tso.{IsTsoOrder}
+use Rattle.recorder.proofs.Orders.{place_here, place_there, times_here, times_nil, times_append, place_append_right}
+use Rattle.moesi.specs.State as moesi
+use Rattle.moesi.specs.Lines.{is_exclusive}
+use Rattle.write_buffer.specs.declared.entry.Entry.{Entry}
+use Rattle.write_buffer.specs.Buffer.{youngest}
+use Rattle.machine.specs.declared.step.Step.{Step}
+use Rattle.machine.specs.declared.step.Step.TheVariants.{Exec, Drain}
+use Rattle.machine.specs.declared.blocked.Blocked.TheVariants.{B4}
+use Rattle.machine.specs.State.{State, place_of, buffer_of, first_event, event_of}
+use Rattle.machine.specs.Step.{exec, taken, allowed, advanced, performed, given, with_caches, rmw_value}
+use Rattle.replay.specs.Program.{op_of, program_of}
+use Rattle.replay.specs.Steps.{execute_to, get_to_write, get_to_read}
+use Rattle.machine.proofs.Seen.{seen, not_seen, not_performed, IsCounted}
+use Rattle.machine.proofs.Static.{static_of, snapshot_of, placed_op, placed_at, op_reads, is_st, is_ld}
+use Rattle.machine.proofs.Drains.{AreStores, drained_state}
+use Rattle.machine.proofs.Rows.{loaded_state, fenced_state, rmw_state}
+use Rattle.machine.proofs.Steady.{waits_once}
+use Rattle.machine.proofs.Reached.{at_taken}
+use Rattle.machine.proofs.Opening.{event_behind, event_before}
+use Rattle.replay.proofs.Made.{store_same, placed_is, count_same}
+use Rattle.replay.proofs.Kept.{stores_in, IsFitting}
+use Rattle.replay.proofs.Goes.{Goes, goes_one, goes_on, fits_on, is_at, HasStored, store_all, fetch_write, fetch_read, write_made, few_write, few_read}
+
+-- a plain store is no plain load
+store_no_load : (op : Op) → is_st op ≡ true → is_ld op ≡ false
+store_no_load (St a v) h = refl
+store_no_load (Ld a) h = absurd cc
+store_no_load Fence h = refl
+store_no_load (Swap a v) h = refl
+store_no_load (Add a v) h = refl
+
+-- the oldest store goes to its line
+drain_taken : (p : List (List Op)) (capacity : ℕ) (s : State) (caches : moesi.State) (c : ℕ) (y : Entry) (ys : List Entry) → c < length p → buffer_of s c ≡ y ∷ ys
+    → moesi.write s.caches c y.addr y.value y.event ≡ Ok caches → taken p capacity s (Drain c) ≡ Ok (drained_state s caches c y ys)
+drain_taken p capacity s caches c y ys core is wrote = rw (lt-ltb c (length p) core, is, wrote) refl
+
+-- the events that wait in a buffer
+abbrev pub waiting : State → ℕ → List ℕ
+waiting s c = map (λ (y : Entry). y.event) (buffer_of s c)
+
+-- the steps lead from s to t, which has performed e more, and no more than two of them execute nothing
+pub record IsTurn (p : List (List Op)) (n capacity : ℕ) (s : State) (steps : List Step) (e : ℕ) (t : State) : Type 0 where
+  pub goes : Goes p capacity s steps t
+  pub fits : IsFitting p n t
+  pub performed : t.performed ≡ s.performed ++ e ∷ []
+  pub few : length steps + sum s.places ≤ sum t.places + 2
+
+module _ (x : Execution) (m : List ℕ) (tso : IsTsoOrder x m) (n capacity : ℕ) (room : (c : ℕ) → stores_in (get_or (program_of x) c []) ≤ capacity) where
+  module _ (s : State) (f : IsFitting (program_of x) n s) (e : ℕ) (rest : List ℕ) (split : m ≡ s.performed ++ e ∷ rest) where
+    -- e is an event
+    event : e < event_count x
+    event = tso.total.nothing_else e (omega (arith, ap (λ (l : List ℕ). times l e) split, times_append s.performed (e ∷ rest) e, times_here rest e e refl))
+
+    -- and is not performed
+    fresh : times s.performed e ≡ 0
+    fresh = omega (arith, tso.total.once e event, ap (λ (l : List ℕ). times l e) split, times_append s.performed (e ∷ rest) e, times_here rest e e refl)
+
+    -- what is earlier on its core and not performed is a plain store, and e a plain load
+    behind : (w : ℕ) → w < e → core_of x w ≡ core_of x e → times s.performed w ≡ 0 → (is_plain_store (event_at x w) && is_plain_load (event_at x e)) ≡ true
+    behind w earlier core new = elim (cases_Bool (is_plain_store (event_at x w) && is_plain_load (event_at x e))) [
+      | inl is ↦ is
+      | inr strong ↦
+          let before : Before (s.performed ++ e ∷ rest) w e = subst (λ (l : List ℕ). Before l w e) split (tso.kept w e ((earlier, event, core), strong)) in
+          absurd (omega (arith, before, place_append_right s.performed (e ∷ rest) w new, place_append_right s.performed (e ∷ rest) e fresh, place_here rest e e refl))
+    ]
+
+    -- it is one of the program's
+    counted : e < (static_of (program_of x) s).count
+    counted = omega (arith, event, count_same x)
+
+    -- the core of an event
+    core_same : (w : ℕ) → (static_of (program_of x) s).core w ≡ core_of x w
+    core_same w = ap (λ (z : ℕ × Op). z.0) (placed_is x w)
+
+    -- it stands behind the first of its core
+    from : first_event (program_of x) (core_of x e) ≤ e
+    from = subst (λ (c : ℕ). first_event (program_of x) c ≤ e) (core_same e) (event_behind (program_of x) s e counted)
+
+    -- and before the end
+    to : e < first_event (program_of x) (core_of x e) + length (get_or (program_of x) (core_of x e) [])
+    to = subst (λ (c : ℕ). e < first_event (program_of x) c + length (get_or (program_of x) c [])) (core_same e) (event_before (program_of x) s e counted)
+
+    -- so its core is there
+    core : core_of x e < length (program_of x)
+    core = elim (cases_lt (core_of x e) (length (program_of x))) [
+      | inl inside ↦ inside
+      | inr past ↦ absurd (omega (arith, from, to, ap (λ (l : List Op). length l) (get_or_past (program_of x) (core_of x e) [] past)))
+    ]
+
+    -- the operation i of the core is that of its event i
+    op_there : (i : ℕ) → i < length (get_or (program_of x) (core_of x e) [])
+        → (get_or (get_or (program_of x) (core_of x e) []) i Fence ≡ op_of (event_at x (first_event (program_of x) (core_of x e) + i))) × (core_of x (first_event (program_of x) (core_of x e) + i) ≡ core_of x e)
+    op_there i inside =
+        let at = (placed_at 0 (program_of x) (core_of x e) i Fence inside).0 in
+        let is = placed_is x (first_event (program_of x) (core_of x e) + i) in (
+          ap (λ (z : ℕ × Op). z.1) (sym at) ∙ ap (λ (z : ℕ × Op). z.1) is,
+          ap (λ (z : ℕ × Op). z.0) (sym is) ∙ (ap (λ (z : ℕ × Op). z.0) at ∙ omega arith),
+        )
+
+    -- what its core has not executed is not performed
+    new : (w : ℕ) → core_of x w ≡ core_of x e → first_event (program_of x) (core_of x e) + place_of s (core_of x e) ≤ w → times s.performed w ≡ 0
+    new w own behind_all = not_performed (snapshot_of (program_of x) s) (core_of x e) w
+        (not_seen (static_of (program_of x) s) (snapshot_of (program_of x) s) f.in_order.steady.counted w (core_of x e)
+        (subst (λ (c : ℕ). first_event (program_of x) c + place_of s c ≤ w) (sym (core_same w ∙ own)) behind_all))
+
+    -- what its core executes before it are plain stores
+    stores_first : (i : ℕ) → place_of s (core_of x e) ≤ i → first_event (program_of x) (core_of x e) + i < e → is_st (get_or (get_or (program_of x) (core_of x e) []) i Fence) ≡ true
+    stores_first i next earlier =
+        let w : ℕ = first_event (program_of x) (core_of x e) + i in
+        let at = op_there i (omega (arith, earlier, to)) in
+        let both : (is_plain_store (event_at x w) && is_plain_load (event_at x e)) ≡ true = behind w earlier at.1 (new w at.1 (omega (arith, next))) in
+        ap is_st at.0 ∙ (store_same (event_at x w) ∙ (and_parts (is_plain_store (event_at x w)) (is_plain_load (event_at x e)) both).0)
+
+    -- its core executes them, and itself if it is a plain store
+    pub caught_up : (far : ℕ) → far ≤ e + 1 → (e < far → is_plain_store (event_at x e) ≡ true)
+        → (t : State) × Goes (program_of x) capacity s (execute_to (program_of x) s (core_of x e) far) t
+        × HasStored (program_of x) n s t (core_of x e) (far - (first_event (program_of x) (core_of x e) + place_of s (core_of x e)))
+    caught_up far short store = store_all (program_of x) n capacity (core_of x e) (far - (first_event (program_of x) (core_of x e) + place_of s (core_of x e))) s f core
+        (omega (arith, from, to, short, f.places (core_of x e))) (room (core_of x e))
+        (λ i next earlier. elim (cases_lt (first_event (program_of x) (core_of x e) + i) e) [
+          | inl before ↦ stores_first i next before
+          | inr not_before ↦
+              let here : first_event (program_of x) (core_of x e) + i ≡ e = omega (arith, not_before, next, earlier, short) in
+              ap is_st ((op_there i (omega (arith, here, to))).0 ∙ ap (λ (k : ℕ). op_of (event_at x k)) here)
+              ∙ (store_same (event_at x e) ∙ store (omega (arith, here, next, earlier)))
+        ])
+
+    -- what waits on its core is a plain store of it, executed and not performed
+    waits : (w : ℕ) → 0 < times (waiting s (core_of x e)) w
+        → (core_of x w ≡ core_of x e) × (is_plain_store (event_at x w) ≡ true) × (w < first_event (program_of x) (core_of x e) + place_of s (core_of x e)) × (times s.performed w ≡ 0)
+    waits w there =
+        let counts : IsCounted (static_of (program_of x) s) (snapshot_of (program_of x) s) = f.in_order.steady.counted in
+        let was = counts.waiting (core_of x e) w there in
+        let done = counts.executed (core_of x e) w (omega (arith, there, times_append s.performed (waiting s (core_of x e)) w)) in (
+          sym (core_same w) ∙ was.0,
+          sym (store_same (event_at x w)) ∙ (sym (ap (λ (z : ℕ × Op). is_st z.1) (placed_is x w)) ∙ was.1),
+          subst (λ (c : ℕ). w < first_event (program_of x) c + place_of s c) was.0 done.1,
+          omega (arith, waits_once (program_of x) s f.in_order.steady (core_of x e) w there, there),
+        )
+
+    -- if it is executed it waits
+    waits_itself : e < first_event (program_of x) (core_of x e) + place_of s (core_of x e) → 0 < times (waiting s (core_of x e)) e
+    waits_itself done =
+        let counts : IsCounted (static_of (program_of x) s) (snapshot_of (program_of x) s) = f.in_order.steady.counted in
+        let one : times (seen (snapshot_of (program_of x) s) (core_of x e)) e ≡ 1 =
+        subst (λ (c : ℕ). times (seen (snapshot_of (program_of x) s) c) e ≡ 1) (core_same e)
+        (counts.listed e counted (subst (λ (c : ℕ). e < first_event (program_of x) c + place_of s c) (sym (core_same e)) done)) in
+        omega (arith, one, fresh, times_append s.performed (waiting s (core_of x e)) e)
+
+    module _ (ready : e ≤ first_event (program_of x) (core_of x e) + place_of s (core_of x e)) where
+      -- if it is no plain store it is next
+      is_next : is_plain_store (event_at x e) ≡ false → e ≡ first_event (program_of x) (core_of x e) + place_of s (core_of x e)
+      is_next plain = elim (cases_lt e (first_event (program_of x) (core_of x e) + place_of s (core_of x e))) [
+        | inl done ↦ absurd (let clash : true ≡ false = sym (waits e (waits_itself done)).1 ∙ plain in cc)
+        | inr not_yet ↦ omega (arith, ready, not_yet)
+      ]
+
+      -- where it is no plain load either, nothing waits
+      is_emptied : is_plain_store (event_at x e) ≡ false → is_plain_load (event_at x e) ≡ false → buffer_of s (core_of x e) ≡ []
+      is_emptied plain strong = go (buffer_of s (core_of x e)) refl
+        where
+          go : (b : List Entry) → buffer_of s (core_of x e) ≡ b → buffer_of s (core_of x e) ≡ []
+          go [] is = is
+          go (y ∷ ys) is =
+              let there : 0 < times (waiting s (core_of x e)) y.event = subst (λ (b : List Entry). 0 < times (map (λ (z : Entry). z.event) b) y.event) (sym is)
+              (omega (arith, times_here (map (λ (z : Entry). z.event) ys) y.event y.event refl)) in
+              let own = waits y.event there in
+              let both = behind y.event (omega (arith, own.2, is_next plain)) own.0 own.3 in
+              absurd (let clash : true ≡ false = sym ((and_parts (is_plain_store (event_at x y.event)) (is_plain_load (event_at x e)) both).1) ∙ strong in cc)
+
+    -- where it is a plain store that is executed, it is the oldest that waits
+    oldest : is_plain_store (event_at x e) ≡ true → is_plain_load (event_at x e) ≡ false → e < first_event (program_of x) (core_of x e) + place_of s (core_of x e)
+        → (y : Entry) × (ys : List Entry) × (buffer_of s (core_of x e) ≡ y ∷ ys) × (y.event ≡ e)
+    oldest store strong done = go (buffer_of s (core_of x e)) refl
+      where
+        itself : 0 < times (waiting s (core_of x e)) e
+        itself = waits_itself done
+
+        go : (b : List Entry) → buffer_of s (core_of x e) ≡ b → (y : Entry) × (ys : List Entry) × (buffer_of s (core_of x e) ≡ y ∷ ys) × (y.event ≡ e)
+        go [] is = absurd (omega (arith, subst (λ (b : List Entry). 0 < times (map (λ (z : Entry). z.event) b) e) is itself, times_nil e))
+        go (y ∷ ys) is =
+            let w : ℕ = y.event in
+            let back : List ℕ = map (λ (z : Entry). z.event) ys in
+            let there : 0 < times (waiting s (core_of x e)) w = subst (λ (b : List Entry). 0 < times (map (λ (z : Entry). z.event) b) w) (sym is) (omega (arith, times_here back w w refl)) in
+            let own = waits w there in
+            elim (cases_eq w e) [
+              | inl one ↦ (y, ys, is, one)
+              | inr other ↦ elim (cases_lt w e) [
+                | inl less ↦
+                    let both = behind w less own.0 own.3 in
+                    absurd (let clash : true ≡ false = sym ((and_parts (is_plain_store (event_at x w)) (is_plain_load (event_at x e)) both).1) ∙ strong in cc)
+                | inr more ↦
+                    let static = static_of (program_of x) s in
+                    let same : static.core w ≡ core_of x e = core_same w ∙ own.0 in
+                    let st : is_st (placed_op (program_of x) w).1 ≡ true = ap (λ (z : ℕ × Op). is_st z.1) (placed_is x w) ∙ (store_same (event_at x w) ∙ own.1) in
+                    let done_w : w < first_event (program_of x) (static.core w) + place_of s (static.core w) =
+                    subst (λ (c : ℕ). w < first_event (program_of x) c + place_of s c) (sym same) own.2 in
+                    let executed = f.in_order.steady.counted.executed (core_of x e) w (omega (arith, there, times_append s.performed (waiting s (core_of x e)) w)) in
+                    let kept : Before (seen (snapshot_of (program_of x) s) (static.core w)) e w = f.in_order.ordered.kept e w (omega (arith, more, other), executed.0, core_same e ∙ sym same) done_w
+                    (and_right (is_st (placed_op (program_of x) e).1) (is_ld (placed_op (program_of x) w).1) (store_no_load (placed_op (program_of x) w).1 st)) in
+                    let here : Before (s.performed ++ w ∷ back) e w = subst (λ (b : List Entry). Before (s.performed ++ map (λ (z : Entry). z.event) b) e w) is
+                    (subst (λ (c : ℕ). Before (s.performed ++ waiting s c) e w) same kept) in
+                    absurd (omega (arith, here, place_append_right s.performed (w ∷ back) e fresh, place_append_right s.performed (w ∷ back) w own.3, place_here back w w refl, place_there back w e other))
+              ]
+            ]
+
+    -- the addresses of its event are there
+    reads_there : (a : ℕ) → op_reads (op_of (event_at x e)) ≡ Some a → a < length s.caches.blocks
+    reads_there a is = f.in_order.steady.reads_within e a (ap (λ (z : ℕ × Op). op_reads z.1) (placed_is x e) ∙ is)
+
+    -- the address of its store too
+    stores_there : (a w : ℕ) → op_of (event_at x e) ≡ St a w → a < length s.caches.blocks
+    stores_there a w is = f.in_order.steady.writes_within e a (0, None) (ap (λ (z : ℕ × Op). written_address (event_of z.1 (0, None))) (placed_is x e) ∙ ap (λ (o : Op). written_address (event_of o (0, None))) is)
+
+    -- a core that goes on by one operation adds one to all places
+    sum_up : sum (slice_set s.places (core_of x e) (place_of s (core_of x e) + 1)) ≡ sum s.places + 1
+    sum_up = omega (arith, sum_by-set (λ (k : ℕ). k) s.places (core_of x e) (place_of s (core_of x e) + 1) 0 (omega (arith, core, f.in_order.steady.places)))
+
+    -- the core executes e, behind a transaction that left these caches
+    executed : (caches : moesi.State) (op : Op) (t : State) → IsFitting (program_of x) n (with_caches s caches) → e ≡ first_event (program_of x) (core_of x e) + place_of s (core_of x e) → op_of (event_at x e) ≡ op
+        → exec capacity (with_caches s caches) (core_of x e) (first_event (program_of x) (core_of x e) + place_of s (core_of x e)) op ≡ Ok t
+        → (taken (program_of x) capacity (with_caches s caches) (Exec (core_of x e)) ≡ Ok t) × IsFitting (program_of x) n t
+    executed caches op t fits next is did =
+        let p : List (List Op) = program_of x in
+        let u : State = with_caches s caches in
+        let b : ℕ = first_event p (core_of x e) + place_of s (core_of x e) in
+        let inside : place_of s (core_of x e) < length (get_or p (core_of x e) []) = omega (arith, next, to) in
+        let op_is : get_or (get_or p (core_of x e) []) (place_of s (core_of x e)) Fence ≡ op =
+        (op_there (place_of s (core_of x e)) inside).0 ∙ (ap (λ (k : ℕ). op_of (event_at x k)) (sym next) ∙ is) in
+        let took : taken p capacity u (Exec (core_of x e)) ≡ Ok t =
+        at_taken p capacity u (core_of x e) (get_or (get_or p (core_of x e) []) (place_of s (core_of x e)) Fence) b (is_at p u (core_of x e) core inside)
+        ∙ (ap (exec capacity u (core_of x e) b) op_is ∙ did) in
+        (took, fits_on p n capacity u t (Exec (core_of x e)) fits took)
+
+    -- what is performed is e
+    performed_it : e ≡ first_event (program_of x) (core_of x e) + place_of s (core_of x e) → s.performed ++ (first_event (program_of x) (core_of x e) + place_of s (core_of x e)) ∷ [] ≡ s.performed ++ e ∷ []
+    performed_it next = ap (λ (k : ℕ). s.performed ++ k ∷ []) (sym next)
+
+    module _ (ready : e ≤ first_event (program_of x) (core_of x e) + place_of s (core_of x e)) where
+      -- a fence takes its turn
+      pub fence_turn : event_at x e ≡ F → (t : State) × IsTurn (program_of x) n capacity s (Exec (core_of x e) ∷ []) e t
+      fence_turn is =
+          let c : ℕ = core_of x e in
+          let b : ℕ = first_event (program_of x) c + place_of s c in
+          let next : e ≡ b = is_next ready (ap is_plain_store is) in
+          let empty : buffer_of s c ≡ [] = is_emptied ready (ap is_plain_store is) (ap is_plain_load is) in
+          let t : State = fenced_state s c b in
+          let did : exec capacity s c b Fence ≡ Ok t = rw empty refl in
+          let took = executed s.caches Fence t f next (ap op_of is) did in (
+            t,
+            record {
+              goes = goes_one (program_of x) capacity s t (Exec c) took.0;
+              fits = took.1;
+              performed = performed_it next;
+              few = omega (arith, sum_up);
+            },
+          )
+
+      -- a read-modify-write takes its turn
+      pub rmw_turn : (a r w : ℕ) (o : Option ℕ) → event_at x e ≡ R a r o w → (t : State) × IsTurn (program_of x) n capacity s (get_to_write s (core_of x e) a ++ Exec (core_of x e) ∷ []) e t
+      rmw_turn a r w o is =
+          let c : ℕ = core_of x e in
+          let b : ℕ = first_event (program_of x) c + place_of s c in
+          let next : e ≡ b = is_next ready (ap is_plain_store is) in
+          let empty : buffer_of s c ≡ [] = is_emptied ready (ap is_plain_store is) (ap is_plain_load is) in
+          let got = fetch_write (program_of x) n capacity s f c a core (reads_there a (ap (λ (v : Event). op_reads (op_of v)) is)) in
+          let u : State = with_caches s got.0 in
+          let made = write_made got.0 c a (rmw_value u c (Swap a w) a) b got.2 in
+          let t : State = rmw_state u made.0 c b a in
+          let did : exec capacity u c b (Swap a w) ≡ Ok t = rw (empty, made.1) refl in
+          let took = executed got.0 (Swap a w) t got.1.1 next (ap op_of is) did in (
+            t,
+            record {
+              goes = goes_on (program_of x) capacity s u t (get_to_write s c a) (Exec c ∷ []) got.1.0 (goes_one (program_of x) capacity u t (Exec c) took.0);
+              fits = took.1;
+              performed = performed_it next;
+              few = omega (arith, sum_up, few_write s c a, length-append (get_to_write s c a) (Exec c ∷ []));
+            },
+          )
+
+      -- a load takes its turn
+      pub load_turn : (a r : ℕ) (o : Option ℕ) → event_at x e ≡ L a r o → (t : State) × IsTurn (program_of x) n capacity s (get_to_read s (core_of x e) a (youngest (buffer_of s (core_of x e)) a) ++ Exec (core_of x e) ∷ []) e t
+      load_turn a r o is =
+          let c : ℕ = core_of x e in
+          let b : ℕ = first_event (program_of x) c + place_of s c in
+          let next : e ≡ b = is_next ready (ap is_plain_store is) in
+          let got = fetch_read (program_of x) n capacity s f c a core (reads_there a (ap (λ (v : Event). op_reads (op_of v)) is)) (youngest (buffer_of s c) a) in
+          let u : State = with_caches s got.0 in
+          let t : State = loaded_state u c b got.2.0 in
+          let did : exec capacity u c b (Ld a) ≡ Ok t = ap (allowed B4 (λ what. advanced (performed (given u b what) b) c)) got.2.1 in
+          let took = executed got.0 (Ld a) t got.1.1 next (ap op_of is) did in (
+            t,
+            record {
+              goes = goes_on (program_of x) capacity s u t (get_to_read s c a (youngest (buffer_of s c) a)) (Exec c ∷ []) got.1.0 (goes_one (program_of x) capacity u t (Exec c) took.0);
+              fits = took.1;
+              performed = performed_it next;
+              few = omega (arith, sum_up, few_read s c a (youngest (buffer_of s c) a), length-append (get_to_read s c a (youngest (buffer_of s c) a)) (Exec c ∷ []));
+            },
+          )
+
+    -- a store that is executed takes its turn
+    pub drain_turn : (a w : ℕ) → event_at x e ≡ S a w → e < first_event (program_of x) (core_of x e) + place_of s (core_of x e)
+        → (t : State) × IsTurn (program_of x) n capacity s (get_to_write s (core_of x e) a ++ Drain (core_of x e) ∷ []) e t
+    drain_turn a w is done = go (oldest (ap is_plain_store is) (ap is_plain_load is) done)
+      where
+        go : (o : (y : Entry) × (ys : List Entry) × (buffer_of s (core_of x e) ≡ y ∷ ys) × (y.event ≡ e)) → (t : State) × IsTurn (program_of x) n capacity s (get_to_write s (core_of x e) a ++ Drain (core_of x e) ∷ []) e t
+        go (y, ys, waits_first, one) =
+            let p : List (List Op) = program_of x in
+            let c : ℕ = core_of x e in
+            let entry : AreStores p c (y ∷ ys) = subst (λ (b : List Entry). AreStores p c b) waits_first (f.in_order.steady.stores c) in
+            let op : St a w ≡ St y.addr y.value = sym (ap op_of is) ∙ (sym (ap (λ (z : ℕ × Op). z.1) (placed_is x e)) ∙ (ap (λ (k : ℕ). (placed_op p k).1) (sym one) ∙ ap (λ (z : ℕ × Op). z.1) entry.0)) in
+            let at : a ≡ y.addr = cc in
+            let got = fetch_write p n capacity s f c a core (stores_there a w (ap op_of is)) in
+            let u : State = with_caches s got.0 in
+            let made = write_made got.0 c y.addr y.value y.event (subst (λ (k : ℕ). is_exclusive (moesi.line_of got.0 c k) ≡ true) at got.2) in
+            let t : State = drained_state u made.0 c y ys in
+            let took : taken p capacity u (Drain c) ≡ Ok t = drain_taken p capacity u made.0 c y ys core waits_first made.1 in (
+              t,
+              record {
+                goes = goes_on p capacity s u t (get_to_write s c a) (Drain c ∷ []) got.1.0 (goes_one p capacity u t (Drain c) took);
+                fits = fits_on p n capacity u t (Drain c) got.1.1 took;
+                performed = ap (λ (k : ℕ). s.performed ++ k ∷ []) one;
+                few = omega (arith, few_write s c a, length-append (get_to_write s c a) (Drain c ∷ []));
+              },
+            )

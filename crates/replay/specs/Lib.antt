@@ -1,0 +1,6 @@
+pub mod Numbered
+pub mod Program
+pub mod Stores
+pub mod Steps
+pub mod Replayed
+pub mod Replaying

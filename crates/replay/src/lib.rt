@@ -1,0 +1,16 @@
+//! Replay: a program and steps that make a recording again, from a memory order of it.
+#![tactic(auto)]
+
+mod law;
+mod names;
+mod numbered;
+mod operations;
+mod program;
+mod replaying;
+mod steps;
+mod stores;
+
+pub use law::every_order_is_replayed;
+pub use numbered::is_numbered;
+pub use steps::replay_steps;
+pub use stores::most_stores;
