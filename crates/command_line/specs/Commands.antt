@@ -49,6 +49,10 @@ limit_rule = record (new_rule (codes "limit")) {
 abbrev pub live_app : App
 live_app = with_rule (with_rule (with_rule (new_app (codes "live")) program_rule) buffer_rule) limit_rule
 
+-- replay FILE
+abbrev pub replay_app : App
+replay_app = with_rule (new_app (codes "replay")) file_rule
+
 -- the program without a command
 abbrev pub bare_app : App
 bare_app =
@@ -57,7 +61,7 @@ bare_app =
 
 -- the program with its commands; its name is not among the words
 abbrev pub program_app : App
-program_app = with_subcommand (with_subcommand (with_subcommand bare_app run_app.top) judge_app.top) live_app.top
+program_app = with_subcommand (with_subcommand (with_subcommand (with_subcommand bare_app run_app.top) judge_app.top) live_app.top) replay_app.top
 
 -- the command that clap reads of the words, and the entries of its arguments and options
 abbrev pub command_of : List Text → Option (Text × List Row)

@@ -6,10 +6,11 @@ use Rattle.clap.specs.declared.error.Error.{Error}
 use Rattle.clap.specs.declared.error.kind.ErrorKind.TheVariants as kinds
 use Rattle.litmus.specs.declared.limits.TheConstants.{MAX_CAPACITY, MAX_STEPS}
 use Rattle.command_line.specs.declared.options.Options.{Options}
-use Rattle.command_line.specs.declared.options.Options.TheVariants.{Run, Judge, Live}
+use Rattle.command_line.specs.declared.options.Options.TheVariants.{Run, Judge, Live, Replay}
 use Rattle.command_line.specs.declared.options.RunOptions.{RunOptions}
 use Rattle.command_line.specs.declared.options.JudgeOptions.{JudgeOptions}
 use Rattle.command_line.specs.declared.options.LiveOptions.{LiveOptions}
+use Rattle.command_line.specs.declared.options.ReplayOptions.{ReplayOptions}
 use Rattle.command_line.specs.declared.options.OptionFault.{OptionFault}
 use Rattle.command_line.specs.declared.options.OptionFault.TheVariants.{Clap, Limit, Buffer, NoValue, OutOfMemory}
 use Rattle.command_line.specs.declared.options.TheConstants.{DEFAULT_BUFFER, DEFAULT_LIMIT}
@@ -87,16 +88,29 @@ IsLiveFault (NoValue name) rows =
     (first_of (codes "PROGRAM") rows ≡ None) ⊎ (one_of (codes "limit") rows ≢ None) ⊎ (one_of (codes "buffer") rows ≢ None)
 IsLiveFault OutOfMemory rows = ⊤
 
+-- the file of replay is its entry
+abbrev pub AreReplayOptions : ReplayOptions → List Row → Type 0
+AreReplayOptions o rows = first_of (codes "FILE") rows ≡ Some (string_bytes o.file)
+
+-- why the entries of replay give no options
+abbrev pub IsReplayFault : OptionFault → List Row → Type 0
+IsReplayFault (Clap error) rows = ⊥
+IsReplayFault Limit rows = ⊥
+IsReplayFault Buffer rows = ⊥
+IsReplayFault (NoValue name) rows = first_of (codes "FILE") rows ≡ None
+IsReplayFault OutOfMemory rows = ⊤
+
 -- the options are those of the command that was read
 abbrev pub AreOptions : Options → Option (Text × List Row) → Type 0
 AreOptions o None = ⊥
 AreOptions (Run o) (Some command) = (command.0 ≡ codes "run") × AreRunOptions o command.1
 AreOptions (Judge o) (Some command) = (command.0 ≡ codes "judge") × AreJudgeOptions o command.1
 AreOptions (Live o) (Some command) = (command.0 ≡ codes "live") × AreLiveOptions o command.1
+AreOptions (Replay o) (Some command) = (command.0 ≡ codes "replay") × AreReplayOptions o command.1
 
 -- a name that is no command's
 abbrev pub IsNoCommand : Text → Type 0
-IsNoCommand name = (name ≢ codes "run") × (name ≢ codes "judge") × (name ≢ codes "live")
+IsNoCommand name = (name ≢ codes "run") × (name ≢ codes "judge") × (name ≢ codes "live") × (name ≢ codes "replay")
 
 -- why the command that was read gives no options
 abbrev pub IsCommandFault : OptionFault → Option (Text × List Row) → Type 0
@@ -110,6 +124,7 @@ IsCommandFault (NoValue name) None = ⊤
 IsCommandFault (NoValue name) (Some command) =
     IsNoCommand command.0 ⊎ ((command.0 ≡ codes "run") × IsRunFault (NoValue name) command.1) ⊎ ((command.0 ≡ codes "judge") × IsJudgeFault (NoValue name) command.1)
     ⊎ ((command.0 ≡ codes "live") × IsLiveFault (NoValue name) command.1)
+    ⊎ ((command.0 ≡ codes "replay") × IsReplayFault (NoValue name) command.1)
 IsCommandFault OutOfMemory command = ⊤
 
 -- why the words give no options: clap doesn't take them, or what it reads of them gives none

@@ -2,7 +2,7 @@
 ghost use Rattle.std.specs.Prelude.{◌≡◌, IfOk, false};
 ghost use Rattle.clap.specs.Words.{app_of, rule_of};
 ghost use Rattle.clap.specs.declared.builder.command.Command.TheViews.{out-Command as fields_of};
-ghost use Rattle.command_line.specs.Commands.{bare_app, buffer_rule, file_rule, judge_app, limit_rule, live_app, program_app, program_rule, run_app, steps_rule};
+ghost use Rattle.command_line.specs.Commands.{bare_app, buffer_rule, file_rule, judge_app, limit_rule, live_app, program_app, program_rule, replay_app, run_app, steps_rule};
 
 use crate::options::{DEFAULT_BUFFER, DEFAULT_LIMIT};
 use clap::{Arg, ArgAction, Command};
@@ -20,6 +20,7 @@ const STATUSES: &str = "Exit status:
 
 Examples:
   tsotest judge recording.json
+  tsotest replay recording.json
   tsotest run store_buffering.litmus --steps store_buffering.steps";
 
 const RUN_ABOUT: &str = "Runs a litmus program by a script of steps and judges its recording";
@@ -81,6 +82,25 @@ const LIVE_STATUSES: &str = "Exit status:
 
 Example:
   tsotest live store_buffering.litmus";
+
+const REPLAY_ABOUT: &str = "Gives a program and a script whose run makes a recording again";
+
+const REPLAY_MORE: &str = "Gives a program and a script whose run makes a recording again.
+
+The line `buffer N` says how many stores a buffer has to hold. Behind an empty line stands a
+litmus program, which names its addresses a0, a1 and so on, and behind another empty line a
+script. The run performs the first memory order, in dictionary order, that TSO allows for
+the recording. A violation is answered as by `judge`. The recording's addresses have to be
+numbered in the order of their first use, and each has to be used.";
+
+const REPLAY_STATUSES: &str = "Exit status:
+  0  TSO allows the recording
+  1  a fault of the command line, a file or memory, as standard error says
+  2  the recording is a violation of TSO
+  3  the recording was refused, as the line `refused: ..` says
+
+Example:
+  tsotest replay recording.json";
 
 /// Texts of `--help` that name limits.
 #[derive(Drop)]
@@ -210,6 +230,18 @@ fn live<'a>(alloc: Global, texts: &'a Texts) -> Result<Command<'a>, AllocError>
         .arg(limit)
 }
 
+fn replay<'a>(alloc: Global) -> Result<Command<'a>, AllocError>
+    ensures app { IfOk result (λ c. app_of c ≡ replay_app) }
+    ensures local { IfOk result (λ c. (fields_of c).has_globals ≡ false) }
+{
+    let file = file_arg(alloc);
+    Command::new(alloc, "replay")
+        .about(REPLAY_ABOUT)
+        .long_about(REPLAY_MORE)
+        .after_help(REPLAY_STATUSES)
+        .arg(file)
+}
+
 fn bare<'a>(alloc: Global) -> Result<Command<'a>, AllocError>
     ensures { IfOk result (λ c. app_of c ≡ bare_app) }
 {
@@ -230,8 +262,10 @@ pub fn command<'a>(alloc: Global, texts: &'a Texts) -> Result<Command<'a>, Alloc
     let run = run(alloc, texts)?;
     let judge = judge(alloc)?;
     let live = live(alloc, texts)?;
+    let replay = replay(alloc)?;
     bare(alloc)?
         .subcommand(run)?
         .subcommand(judge)?
-        .subcommand(live)
+        .subcommand(live)?
+        .subcommand(replay)
 }

@@ -5,4 +5,4 @@ mod command;
 mod options;
 pub mod words;
 
-pub use options::{JudgeOptions, LiveOptions, OptionFault, Options, RunOptions};
+pub use options::{JudgeOptions, LiveOptions, OptionFault, Options, ReplayOptions, RunOptions};

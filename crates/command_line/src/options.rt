@@ -1,7 +1,7 @@
 //! The options, from what `clap` reads of the words.
 ghost use Rattle.std.specs.Prelude.{◌≡◌, Some, None, IfErr, IfOk, IfSome, option_map};
 ghost use Rattle.clap.specs.Words.{first_of, found_of, one_of, rows_of};
-ghost use Rattle.command_line.specs.Options.{AreJudgeOptions, AreLiveOptions, AreRunOptions, IsCapacity, IsCapacityFault, IsJudgeFault, IsLiveFault, IsRunFault, number_or};
+ghost use Rattle.command_line.specs.Options.{AreJudgeOptions, AreLiveOptions, AreReplayOptions, AreRunOptions, IsCapacity, IsCapacityFault, IsJudgeFault, IsLiveFault, IsReplayFault, IsRunFault, number_or};
 
 use clap::ArgMatches;
 use clap::error::ErrorKind;
@@ -23,6 +23,8 @@ pub enum Options {
     Judge(JudgeOptions),
     /// `live`.
     Live(LiveOptions),
+    /// `replay`.
+    Replay(ReplayOptions),
 }
 
 /// What `run` is asked: the names of the program and of the script, and the capacity of each buffer.
@@ -53,6 +55,13 @@ pub struct LiveOptions {
     pub buffer: usize,
     /// How many steps may be taken, 1 to `MAX_STEPS`.
     pub limit: usize,
+}
+
+/// What `replay` is asked: the name of the recording.
+#[derive(Debug, Drop)]
+pub struct ReplayOptions {
+    /// The name of the recording.
+    pub file: String,
 }
 
 /// Why the words gave no options.
@@ -191,5 +200,18 @@ pub fn live_options(alloc: Global, matches: &ArgMatches<'_>) -> Result<LiveOptio
         program: String::from_str(alloc, program)?,
         buffer,
         limit: limit as usize,
+    })
+}
+
+/// The options of `replay`: the file is `clap`'s entry.
+pub fn replay_options(alloc: Global, matches: &ArgMatches<'_>) -> Result<ReplayOptions, OptionFault>
+    ensures ok { IfOk result (λ o. AreReplayOptions o (rows_of (found_of matches.now))) }
+    ensures err { IfErr result (λ fault. IsReplayFault fault (rows_of (found_of matches.now))) }
+{
+    let Some(file) = value(matches, "FILE") else {
+        return Err(OptionFault::NoValue("FILE"));
+    };
+    Ok(ReplayOptions {
+        file: String::from_str(alloc, file)?,
     })
 }

@@ -5,7 +5,9 @@ ghost use Rattle.command_line.specs.Options.{AreOptions, IsCommandFault, IsFault
 ghost use Rattle.command_line.specs.Commands.{command_of};
 
 use crate::command::{Texts, command};
-use crate::options::{OptionFault, Options, judge_options, live_options, run_options};
+use crate::options::{
+    OptionFault, Options, judge_options, live_options, replay_options, run_options,
+};
 use clap::ArgMatches;
 use std::alloc::Global;
 
@@ -34,6 +36,10 @@ fn command_options(alloc: Global, matches: &ArgMatches<'_>) -> Result<Options, O
     if name == "live" {
         let live = live_options(alloc, entries)?;
         return Ok(Options::Live(live));
+    }
+    if name == "replay" {
+        let replay = replay_options(alloc, entries)?;
+        return Ok(Options::Replay(replay));
     }
     Err(OptionFault::NoValue("the command"))
 }

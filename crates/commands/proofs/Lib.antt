@@ -3,3 +3,4 @@ pub mod Printed
 pub mod Ordered
 pub mod Threaded
 pub mod Stops
+pub mod Replays

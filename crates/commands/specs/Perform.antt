@@ -14,7 +14,7 @@ use Rattle.commands.specs.declared.fault.CommandFault.{CommandFault}
 use Rattle.commands.specs.declared.fault.CommandFault.TheVariants.{CommandLine, NoThread, Stranger, WriteFailed}
 use Rattle.commands.specs.declared.fault.CommandFault.TheVariants as fault
 use Rattle.command_line.specs.declared.options.Options.{Options}
-use Rattle.command_line.specs.declared.options.Options.TheVariants.{Run, Judge, Live}
+use Rattle.command_line.specs.declared.options.Options.TheVariants.{Run, Judge, Live, Replay}
 use Rattle.command_line.specs.declared.options.OptionFault.{OptionFault}
 use Rattle.command_line.specs.declared.options.OptionFault.TheVariants.{Clap, Limit, Buffer, NoValue, OutOfMemory}
 use Rattle.command_line.specs.Commands.{command_of}
@@ -22,6 +22,7 @@ use Rattle.command_line.specs.declared.options.LiveOptions.{LiveOptions}
 use Rattle.command_line.specs.declared.options.RunOptions.{RunOptions}
 use Rattle.commands.specs.Inputs.{AreBytesOf, IsInputFault}
 use Rattle.commands.specs.Judge.{IsJudgedInput, IsJudgeStop}
+use Rattle.commands.specs.Replay.{IsReplayedInput, IsReplayStop}
 use Rattle.command_line.specs.Options.{AreOptions, IsFault}
 use Rattle.commands.specs.Refusal.{IsStopOf, line_fault_name, step_fault_name}
 use Rattle.commands.specs.Run.{IsRun, IsLive}
@@ -65,12 +66,14 @@ abbrev pub IsAnswerTo : (List ℕ → Option (List ℕ)) → Options → Answer 
 IsAnswerTo inputs (Run o) answer = IsRun inputs o answer
 IsAnswerTo inputs (Judge o) answer = IsJudgedInput inputs o answer
 IsAnswerTo inputs (Live o) answer = IsLive inputs o answer
+IsAnswerTo inputs (Replay o) answer = IsReplayedInput inputs o answer
 
 -- why a command with these options and inputs stops
 abbrev pub IsStopTo : (List ℕ → Option (List ℕ)) → Options → Stop → Type 0
 IsStopTo inputs (Run o) stop = IsRunStop inputs o stop
 IsStopTo inputs (Judge o) stop = IsJudgeStop inputs o stop
 IsStopTo inputs (Live o) stop = IsLiveStop inputs o stop
+IsStopTo inputs (Replay o) stop = IsReplayStop inputs o stop
 
 -- without options the answer is the help that was asked for
 abbrev pub IsHelp : OptionFault → Answer → Type 0

@@ -17,10 +17,10 @@ use std::sync::Wait;
 use std::thread::Threads;
 
 /// How many workers judge a recording.
-const WORKERS: usize = 1;
+pub const WORKERS: usize = 1;
 
 /// Why the bytes are no recording, as it is printed.
-fn unread(alloc: Global, refusal: RecError) -> Result<Stop, AllocError>
+pub fn unread(alloc: Global, refusal: RecError) -> Result<Stop, AllocError>
     ensures { IfOk result (IsRefusedAs refusal) }
 {
     match recording_line(alloc, refusal)? {

@@ -10,6 +10,7 @@ use crate::fault::CommandFault;
 use crate::judge_command::judge_command;
 use crate::live_command::live_command;
 use crate::place::Place;
+use crate::replay_command::replay_command;
 use crate::run_command::run_command;
 use command_line::words::options;
 use command_line::{OptionFault, Options};
@@ -56,6 +57,7 @@ fn answered<R: Threads + Wait + Sync, P: Place>(
         Ok(Options::Run(run)) => run_command(alloc, &run, place),
         Ok(Options::Judge(options)) => judge_command(rt, alloc, &options, place),
         Ok(Options::Live(live)) => live_command(rt, alloc, &live, place),
+        Ok(Options::Replay(options)) => replay_command(rt, alloc, &options, place),
         Err(fault) => without_options(alloc, fault),
     }
 }

@@ -1,6 +1,6 @@
 use Rattle.std.proofs.Common.{map, sym}
 use Rattle.std.specs.Prelude.{string_bytes}
-use Rattle.command_line.specs.declared.options.Options.TheVariants.{Run, Judge, Live}
+use Rattle.command_line.specs.declared.options.Options.TheVariants.{Run, Judge, Live, Replay}
 use Rattle.commands.proofs.Printed.{answer_of_words, stop_of_words}
 use Rattle.commands.proofs.perform.answered.Goals as goal
 
@@ -21,3 +21,9 @@ returns-in-Ok-Live-clause-ok g c = answer_of_words (g.P.Place.bytes c.args.place
 
 pub returns-in-Ok-Live-clause-err : goal.returns-in-Ok-Live-clause-err
 returns-in-Ok-Live-clause-err g c = stop_of_words (g.P.Place.bytes c.args.place.now) c.live_command.result (Live c.in-Ok-Live.live) (map string_bytes c.args.words.now) (rw (sym c.in-Ok-Live.field-0-is) c.in-Ok-Live.ensures.ok) c.live_command.ensures.err
+
+pub returns-in-Ok-Replay-clause-ok : goal.returns-in-Ok-Replay-clause-ok
+returns-in-Ok-Replay-clause-ok g c = answer_of_words (g.P.Place.bytes c.args.place.now) c.replay_command.result (Replay c.in-Ok-Replay.options) (map string_bytes c.args.words.now) (rw (sym c.in-Ok-Replay.field-0-is) c.in-Ok-Replay.ensures.ok) c.replay_command.ensures.ok
+
+pub returns-in-Ok-Replay-clause-err : goal.returns-in-Ok-Replay-clause-err
+returns-in-Ok-Replay-clause-err g c = stop_of_words (g.P.Place.bytes c.args.place.now) c.replay_command.result (Replay c.in-Ok-Replay.options) (map string_bytes c.args.words.now) (rw (sym c.in-Ok-Replay.field-0-is) c.in-Ok-Replay.ensures.ok) c.replay_command.ensures.err

@@ -1,0 +1,19 @@
+use Rattle.std.proofs.Common.{◌∙◌, inl, refl, ap, subst, List, ℕ}
+use Rattle.judge.specs.declared.verdict.Verdict.{Verdict}
+use Rattle.judge.specs.Verdict.{IsVerdict, IsOrderedVerdict}
+use Rattle.recorder.specs.Execution.{Execution}
+use Rattle.commands.specs.Replay.{replay_text}
+use Rattle.commands.proofs.replay_command.replay_of.Goals as goal
+
+pub returns-in_ok-text-in-Ordered : goal.returns-in_ok-text-in-Ordered
+returns-in_ok-text-in-Ordered c =
+    let x : Execution = c.args.recording.now in
+    let m : List ℕ = c.in-Ordered.order.items in
+    let least : IsOrderedVerdict x m = subst (λ (v : Verdict). IsVerdict x v) c.in-Ordered.is c.requires.found in
+    inl (record {
+      order = m;
+      least = least;
+      status = refl;
+      text = c.in_ok-text-in-Ordered.ensures ∙ ap (λ (l : List ℕ). replay_text x l) c.deref.ensures.value;
+      replay = λ capacity room. c.every_order_is_replayed.ensures.replay x m capacity c.sound.ensures least.order room;
+    })

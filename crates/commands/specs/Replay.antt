@@ -1,0 +1,80 @@
+-- What is answered to the bytes of a recording that is to be replayed.
+use Rattle.std.specs.Prelude.{◌≡◌, ◌≤◌, ◌⊎◌, ◌++◌, ◌∷◌, [], ℕ, List, Option, Ok, codes, decimal, string_bytes}
+use Rattle.command_line.specs.declared.options.ReplayOptions.{ReplayOptions}
+use Rattle.litmus.specs.Spelling.{spelling}
+use Rattle.recorder.specs.Execution.{Execution}
+use Rattle.recorder.specs.Reading.{Answers}
+use Rattle.recorder.specs.Tso.{IsTsoOrder}
+use Rattle.machine.specs.ScriptText.{script_text}
+use Rattle.replay.specs.Numbered.{IsNumberedByFirstUse}
+use Rattle.replay.specs.Program.{named_program}
+use Rattle.replay.specs.Replayed.{IsReplay}
+use Rattle.replay.specs.Steps.{replay_steps}
+use Rattle.replay.specs.Stores.{most_stores}
+use Rattle.judge.specs.Verdict.{IsOrderedVerdict}
+use Rattle.commands.specs.declared.answer.Answer.{Answer}
+use Rattle.commands.specs.declared.answer.Stop.{Stop}
+use Rattle.commands.specs.declared.answer.Stop.TheVariants.{Refused, Fault}
+use Rattle.commands.specs.declared.answer.TheConstants.{DONE, VIOLATION}
+use Rattle.commands.specs.declared.fault.CommandFault.TheVariants.{OutOfMemory}
+use Rattle.commands.specs.Inputs.{AreBytesOf, IsInputFault}
+use Rattle.commands.specs.Judge.{IsUnread}
+use Rattle.commands.specs.Verdict.{IsVerdictAnswer}
+
+-- the capacity, the program and the script that replay an order, as they are printed
+abbrev pub replay_text : Execution → List ℕ → List ℕ
+replay_text x m =
+    codes "buffer " ++ decimal (most_stores x.cores) ++ 10 ∷ 10 ∷ [] ++ spelling (named_program x) ++ 10 ∷ []
+    ++ script_text (named_program x) (replay_steps x m)
+
+-- the replay of a recording's least order, which makes the recording again
+pub record IsReplayAnswer (x : Execution) (answer : Answer) : Type 0 where
+  pub order : List ℕ
+  pub least : IsOrderedVerdict x order
+  pub status : answer.status ≡ DONE
+  pub text : answer.text.items ≡ replay_text x order
+  pub replay : (capacity : ℕ) → most_stores x.cores ≤ capacity → IsReplay x order (named_program x) capacity (replay_steps x order)
+
+-- the verdict on a recording that TSO does not allow
+pub record IsViolationAnswer (x : Execution) (answer : Answer) : Type 0 where
+  pub no_order : (m : List ℕ) → ¬ IsTsoOrder x m
+  pub status : answer.status ≡ VIOLATION
+  pub answered : IsVerdictAnswer x [] answer
+
+-- the replay of a recording, or its violation
+abbrev pub IsReplayOf : Execution → Answer → Type 0
+IsReplayOf x answer = IsReplayAnswer x answer ⊎ IsViolationAnswer x answer
+
+-- the bytes give a recording whose addresses are numbered by first use, and its replay or its violation is answered
+pub record IsReplayed (bytes : List ℕ) (answer : Answer) : Type 0 where
+  pub recording : Execution
+  pub read : Answers bytes (Ok recording)
+  pub numbered : IsNumberedByFirstUse recording
+  pub answered : IsReplayOf recording answer
+
+-- the line of addresses that are not numbered by first use, or memory is wanting
+abbrev pub IsUnnumberedStop : Stop → Type 0
+IsUnnumberedStop (Refused line) = string_bytes line ≡ codes "refused: N8" ++ 10 ∷ []
+IsUnnumberedStop (Fault fault) = fault ≡ OutOfMemory
+
+-- the bytes give a recording whose addresses are not numbered by first use
+pub record IsUnnumbered (bytes : List ℕ) (stop : Stop) : Type 0 where
+  pub recording : Execution
+  pub read : Answers bytes (Ok recording)
+  pub unnumbered : ¬ IsNumberedByFirstUse recording
+  pub stopped : IsUnnumberedStop stop
+
+-- the stop is that of the refusal that the bytes have, or that of addresses that are not numbered
+abbrev pub IsUnreplayed : List ℕ → Stop → Type 0
+IsUnreplayed bytes stop = IsUnread bytes stop ⊎ IsUnnumbered bytes stop
+
+-- the replay of the named input
+pub record IsReplayedInput (inputs : List ℕ → Option (List ℕ)) (o : ReplayOptions) (answer : Answer) : Type 0 where
+  pub bytes : List ℕ
+  pub given : AreBytesOf inputs (string_bytes o.file) bytes
+  pub replayed : IsReplayed bytes answer
+
+-- a line of refusal is that of the named input; a fault is one of reading it
+abbrev pub IsReplayStop : (List ℕ → Option (List ℕ)) → ReplayOptions → Stop → Type 0
+IsReplayStop inputs o (Refused line) = (bytes : List ℕ) × AreBytesOf inputs (string_bytes o.file) bytes × IsUnreplayed bytes (Refused line)
+IsReplayStop inputs o (Fault fault) = IsInputFault (λ name. name ≡ string_bytes o.file) fault

@@ -1,0 +1,103 @@
+//! The command `replay`.
+ghost use Rattle.std.specs.Prelude.{◌≡◌, IfErr, IfOk};
+ghost use Rattle.judge.specs.Verdict.{IsVerdict, Verifies};
+ghost use Rattle.recorder.specs.Tso.{IsTsoOrder};
+ghost use Rattle.replay.specs.Numbered.{IsNumberedByFirstUse};
+ghost use Rattle.commands.specs.Replay.{IsReplayed, IsReplayedInput, IsReplayOf, IsReplayStop, IsUnreplayed, replay_text};
+
+use crate::answer::{Answer, DONE, Stop};
+use crate::judge_command::{WORKERS, unread};
+use crate::place::Place;
+use crate::reading::text_at;
+use crate::verdict::verdict_behind;
+use command_line::ReplayOptions;
+use itoa::Buffer;
+use judge::{Verdict, judge};
+use litmus::{EventId, OutOfMemory, print};
+use machine::steps_text;
+use recorder::{Recording, read_recording};
+use replay::{every_order_is_replayed, is_numbered, most_stores, replay_steps};
+use std::alloc::Global;
+use std::sync::Wait;
+use std::thread::Threads;
+
+/// The capacity, the program and the script that replay a TSO order.
+fn replay_text(
+    alloc: Global,
+    recording: &Recording,
+    order: &[EventId],
+) -> Result<Vec<u8>, OutOfMemory>
+    requires numbered { IsNumberedByFirstUse recording.now }
+    requires order { IsTsoOrder recording.now order.now }
+    ensures { IfOk result (λ text. text.items ≡ replay_text recording.now order.now) }
+{
+    recording.sound();
+    let (program, steps) = replay_steps(alloc, recording, order)?;
+    let program_text = print(alloc, &program)?;
+    let script = steps_text(alloc, &steps, &program)?;
+    let mut buffer = Buffer::new();
+    let mut text = Vec::new(alloc);
+    text.extend_from_slice(b"buffer ")?;
+    text.extend_from_slice(buffer.format(most_stores(recording)).as_bytes())?;
+    text.extend_from_slice(b"\n\n")?;
+    text.extend_from_slice(&program_text)?;
+    text.push(b'\n')?;
+    text.extend_from_slice(&script)?;
+    Ok(text)
+}
+
+/// The replay of the least order of a recording, or the verdict on a violation.
+fn replay_of(alloc: Global, recording: &Recording, verdict: &Verdict) -> Result<Answer, OutOfMemory>
+    requires numbered { IsNumberedByFirstUse recording.now }
+    requires found { IsVerdict recording.now verdict.now }
+    requires verified { Verifies recording.now verdict.now }
+    ensures { IfOk result (IsReplayOf recording.now) }
+{
+    every_order_is_replayed();
+    recording.sound();
+    match verdict {
+        Verdict::Ordered(order) => {
+            let text = replay_text(alloc, recording, order)?;
+            Ok(Answer { status: DONE, text })
+        }
+        Verdict::Overlook { .. } | Verdict::Cycle(_) => {
+            verdict_behind(alloc, Vec::new(alloc), recording, verdict)
+        }
+    }
+}
+
+/// The replay of the recording that the bytes are, or the verdict on it where it is a violation, or
+/// the line of their refusal.
+pub fn replayed<R: Threads + Wait + Sync>(
+    rt: &R,
+    alloc: Global,
+    bytes: &[u8],
+) -> Result<Answer, Stop>
+    ensures ok { IfOk result (IsReplayed bytes.now) }
+    ensures err { IfErr result (IsUnreplayed bytes.now) }
+{
+    match read_recording(alloc, bytes) {
+        Ok(recording) => {
+            if !is_numbered(&recording) {
+                return Err(Stop::Refused(String::from_str(alloc, "refused: N8\n")?));
+            }
+            let verdict = judge(rt, alloc, &recording, WORKERS)?;
+            Ok(replay_of(alloc, &recording, &verdict)?)
+        }
+        Err(refusal) => Err(unread(alloc, refusal)?),
+    }
+}
+
+/// Replays the recording of a named input.
+pub fn replay_command<R: Threads + Wait + Sync, P: Place>(
+    rt: &R,
+    alloc: Global,
+    options: &ReplayOptions,
+    place: &mut P,
+) -> Result<Answer, Stop>
+    ensures ok { IfOk result (IsReplayedInput (P.bytes place.old) options.now) }
+    ensures err { IfErr result (IsReplayStop (P.bytes place.old) options.now) }
+{
+    let bytes = text_at(alloc, place, options.file.as_str())?;
+    replayed(rt, alloc, bytes.as_slice())
+}
