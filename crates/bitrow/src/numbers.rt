@@ -29,7 +29,7 @@ impl<'a> Model for Numbers<'a> {
 }
 
 impl<'a> Numbers<'a> {
-    ghost use Rattle.std.specs.Prelude.{◌≡◌, ◌+◌, length, IfSome};
+    ghost use Rattle.std.specs.Prelude.{◌≡◌, ◌+◌, length, IfNone, IfSome};
     ghost use Rattle.bitrow.specs.Bits.{members, IsNext, IsRoom};
     ghost use Rattle.bitrow.specs.Walks.{walk_of};
 
@@ -52,6 +52,8 @@ impl<'a> Numbers<'a> {
         ensures found { IsNext self.old.row self.old.from result }
         ensures row { self.new.row ≡ self.old.row }
         ensures from { IfSome result (λ e. self.new.from ≡ e + 1) }
+        // Behind the greatest there is none for ever.
+        ensures ended { IfNone result (self.new.from ≡ self.old.from) }
     {
         if self.rest != 0 {
             let bit = self.rest.trailing_zeros() as usize;

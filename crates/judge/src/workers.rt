@@ -8,12 +8,11 @@ use crate::verdict::Verdict;
 use litmus::{MAX_WORKERS, OutOfMemory};
 use recorder::Recording;
 use std::alloc::Global;
-use std::sync::Wait;
 use std::thread::Threads;
 
 /// The verdict on a recording, as `judge_alone` gives it, from any number of workers, 1 to
-/// `MAX_WORKERS`; the calling thread does all the work. An error is want of memory.
-pub fn judge<R: Threads + Wait + Sync>(
+/// `MAX_WORKERS`; the calling thread does all the work, and waits for nobody. An error is want of memory.
+pub fn judge<R: Threads + Sync>(
     _rt: &R,
     alloc: Global,
     recording: &Recording,
