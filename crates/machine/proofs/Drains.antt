@@ -1,20 +1,15 @@
 -- A drain of the machine is a drain of event numbers.
 use Rattle.std.proofs.Common.{◌≡◌, ◌<◌, ℕ, List, [], ◌∷◌, map, length, refl, ap, get_or-set_same, get_or-set_other}
 use Rattle.litmus.specs.declared.op.Op.{Op}
-use Rattle.litmus.specs.declared.op.Op.TheVariants.{St}
 use Rattle.write_buffer.specs.declared.entry.Entry.{Entry}
 use Rattle.moesi.specs.State as moesi
 use Rattle.machine.specs.State.{State, buffer_of}
 use Rattle.machine.specs.Step.{performed, written, with_buffer}
+pub use Rattle.machine.specs.Orderly.{AreStores}
 use Rattle.machine.proofs.Seen.{IsCounted, IsOrdered}
 use Rattle.machine.proofs.Counting.{Drains, counted_kept, drain_counts}
 use Rattle.machine.proofs.Ordering.{ordered_kept, drain_orders}
-use Rattle.machine.proofs.Static.{static_of, snapshot_of, placed_op, op_reads}
-
--- each waiting entry is the store of its event
-abbrev pub AreStores : List (List Op) → ℕ → List Entry → Type 0
-AreStores p c [] = Unit {0}
-AreStores p c (x ∷ xs) = (placed_op p x.event ≡ (c, St x.addr x.value)) × AreStores p c xs
+use Rattle.machine.proofs.Static.{static_of, snapshot_of, op_reads}
 
 -- the state after core c's entry x went to its line, which left these caches
 abbrev pub drained_state : State → moesi.State → ℕ → Entry → List Entry → State

@@ -14,6 +14,7 @@ pub mod Steady
 pub mod InOrder
 pub mod Opening
 pub mod Complete
+pub mod Fitting
 pub mod Data
 pub mod Executed
 pub mod Drained

@@ -82,7 +82,7 @@ module _ (p : List (List Op)) (n : ℕ) (fits : All (λ ops. All (IsWithin n) op
   nothing_waits c e = ap (λ (b : List Entry). times (map (λ (x : Entry). x.event) b) e) (get_or_same (length p) c []) ∙ times_nil e
 
   -- each operation has an address of the program
-  op_within : (e : ℕ) → IsWithin n (placed_op p e).1
+  pub op_within : (e : ℕ) → IsWithin n (placed_op p e).1
   op_within e = elim (cases_lt e (length (placed_from 0 p))) [
     | inl event ↦
         let at = located 0 p e event in

@@ -1,5 +1,5 @@
 -- What a program fixes of its events, and a state as lists of event numbers.
-use Rattle.std.proofs.Common.{◌≡◌, ◌<◌, ◌≤◌, ◌+◌, ◌-◌, inl, inr, ℕ, zero, suc, Bool, true, false, Option, Some, None, List, [], ◌∷◌, ◌++◌, map, take, length, get_or, arith, refl, sym, ap, ◌∙◌, length-append}
+use Rattle.std.proofs.Common.{◌≡◌, ◌<◌, ◌≤◌, ◌+◌, ◌-◌, inl, inr, ℕ, zero, suc, Option, Some, None, List, [], ◌∷◌, ◌++◌, map, take, length, get_or, arith, refl, sym, ap, ◌∙◌, length-append}
 use Rattle.std.specs.List.{sum, sum_by}
 use Rattle.std.proofs.lemmas.List.{get_or_append_left, get_or-append_right, get_or-map, length-map}
 use Rattle.std.proofs.lemmas.List.Sums.{sum_by-cons}
@@ -11,6 +11,7 @@ use Rattle.recorder.specs.Event.{written_address}
 use Rattle.litmus.specs.declared.op.Op.{Op}
 use Rattle.litmus.specs.declared.op.Op.TheVariants.{St, Ld, Fence, Swap, Add}
 use Rattle.machine.specs.State.{State, place_of, buffer_of, first_event, event_of, events_from, cores_from}
+pub use Rattle.machine.specs.Orderly.{placed_op, is_st, is_ld}
 use Rattle.machine.proofs.Seen.{Static, Snapshot}
 
 -- the address that an operation reads, if it reads
@@ -20,26 +21,6 @@ op_reads (Ld a) = Some a
 op_reads Fence = None
 op_reads (Swap a v) = Some a
 op_reads (Add a v) = Some a
-
--- whether it is a plain store
-abbrev pub is_st : Op → Bool
-is_st (St a v) = true
-is_st (Ld a) = false
-is_st Fence = false
-is_st (Swap a v) = false
-is_st (Add a v) = false
-
--- whether it is a plain load
-abbrev pub is_ld : Op → Bool
-is_ld (St a v) = false
-is_ld (Ld a) = true
-is_ld Fence = false
-is_ld (Swap a v) = false
-is_ld (Add a v) = false
-
--- the core and the operation of event e
-abbrev pub placed_op : List (List Op) → ℕ → ℕ × Op
-placed_op p e = get_or (placed_from 0 p) e (0, Fence)
 
 -- what event e did, as far as s goes
 abbrev pub done_by : List (List Op) → State → ℕ → Event

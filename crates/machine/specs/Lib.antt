@@ -1,6 +1,7 @@
 pub mod State
 pub mod Step
 pub mod Tso
+pub mod Orderly
 pub mod Roomy
 pub mod Held
 pub mod Made

@@ -4,6 +4,7 @@ ghost use Rattle.std.specs.Prelude.{ℕ, List};
 ghost use Rattle.litmus.specs.declared.op.Op.{Op};
 ghost use Rattle.machine.specs.declared.step.Step.{Step};
 ghost use Rattle.machine.specs.Tso.{EveryRunIsTso, EveryRunIsWellFormed};
+ghost use Rattle.machine.specs.Orderly.{EveryStateIsOrderly};
 
 /// Where a run is complete, whatever its program, its capacity and its steps, the order of what it
 /// performed is one that TSO allows for its recording, which is well formed. It does nothing.
@@ -12,4 +13,11 @@ pub fn every_run_is_tso()
         → EveryRunIsTso program addresses capacity steps }
     ensures well_formed { (program : List (List Op)) (addresses capacity : ℕ) (steps : List Step)
         → EveryRunIsWellFormed program addresses capacity steps }
+{}
+
+/// Whatever its program, its capacity and its steps, a run leads to a state in which what cores have
+/// executed was performed or waits as a store, in the order that TSO keeps. It does nothing.
+pub fn every_state_is_orderly()
+    ensures { (program : List (List Op)) (addresses capacity : ℕ) (steps : List Step)
+        → EveryStateIsOrderly program addresses capacity steps }
 {}

@@ -1,6 +1,6 @@
 -- Lists of steps of which none is blocked.
 use Rattle.std.proofs.Common.{◌≡◌, ◌<◌, ◌≤◌, ◌+◌, ℕ, nat_lt, zero, suc, Bool, true, false, cond, Option, Some, None, Result, Ok, Err, List, [], ◌∷◌, ◌++◌, map, length, get_or, slice_get, slice_index_or, slice_set, replicate, arith, refl, sym, ap, subst, ◌∙◌, get_or-set_same, length-set}
-use Rattle.std.specs.List.{sum}
+use Rattle.std.specs.List.{sum, count_by}
 use Rattle.std.proofs.lemmas.Bool.{lt-ltb, ltb-true}
 use Rattle.std.proofs.lemmas.List.{length-map}
 use Rattle.std.proofs.lemmas.Option.{slice_get-get_or}
@@ -19,13 +19,11 @@ use Rattle.machine.specs.declared.step.Step.TheVariants.{Exec, Drain, GetS, GetM
 use Rattle.machine.specs.declared.blocked.Blocked.{Blocked}
 use Rattle.machine.specs.declared.blocked.Blocked.TheVariants.{B2, B8}
 use Rattle.machine.specs.State.{State, place_of, buffer_of, first_event}
-use Rattle.machine.specs.Step.{exec, exec_next, taken, after, run, with_caches, forwarded_or_read, has, IsAt}
+use Rattle.machine.specs.Step.{exec, exec_next, taken, after, run, advanced, with_buffer, with_caches, forwarded_or_read, has, IsAt}
 use Rattle.replay.specs.Steps.{get_to_write, get_to_read}
 use Rattle.replay.specs.Replayed.{AreTaken}
-use Rattle.machine.proofs.Static.{is_st}
-use Rattle.machine.proofs.Rows.{guarded, stored_state, step_kept}
-use Rattle.machine.proofs.Reached.{at_taken}
-use Rattle.replay.proofs.Kept.{stores_in, before_more, before_all, IsFitting, fitting_kept}
+use Rattle.machine.specs.Orderly.{is_st}
+use Rattle.replay.proofs.Going.{IsGoing, goes_further, before_more, before_all}
 
 -- the steps are all taken, and lead from s to t
 abbrev pub Goes : List (List Op) → ℕ → State → List Step → State → Type 0
@@ -48,6 +46,11 @@ goes_on p capacity s t u [] ys front back = subst (λ (z : State). Goes p capaci
 goes_on p capacity s t u (x ∷ xs) ys front back =
     let rest : Goes p capacity (after s (taken p capacity s x)) (xs ++ ys) u = goes_on p capacity (after s (taken p capacity s x)) t u xs ys (front.0.1, front.1) back in
     ((front.0.0, rest.0), rest.1)
+
+-- a guarded step that is taken had its guard
+pub guarded : (b : Bool) (r : Result State Blocked) (e : Blocked) (t : State) → cond b r (Err e) ≡ Ok t → (b ≡ true) × (r ≡ Ok t)
+guarded true r e t h = (refl, h)
+guarded false r e t h = absurd cc
 
 -- a test that only grows
 more_room : (k capacity larger : ℕ) (r t : State) → capacity ≤ larger → cond (nat_lt k capacity) (Ok r) (Err B2) ≡ Ok t → cond (nat_lt k larger) (Ok r) (Err B2) ≡ Ok t
@@ -90,10 +93,6 @@ goes_more p capacity larger h (step ∷ steps) s t g =
     let rest : Goes p capacity g.0.0.0 steps t = subst (λ (r : Result State Blocked). Goes p capacity (after s r) steps t) took (g.0.1, g.1) in
     goes_first p larger s g.0.0.0 t step steps (step_more p capacity larger s g.0.0.0 step h took) (goes_more p capacity larger h steps g.0.0.0 t rest)
 
--- a step that is taken keeps what fits
-pub fits_on : (p : List (List Op)) (n capacity : ℕ) (s t : State) (step : Step) → IsFitting p n s → taken p capacity s step ≡ Ok t → IsFitting p n t
-fits_on p n capacity s t step f took = step_kept p capacity s (IsFitting p n) (fitting_kept p n s f) f.in_order.steady.places step t took
-
 -- a plain store has an address and a value
 store_is : (op : Op) → is_st op ≡ true → (a : ℕ) × (v : ℕ) × (op ≡ St a v)
 store_is (St a v) h = (a, v, refl)
@@ -110,23 +109,27 @@ is_at p s c core there = record {
   number = refl;
 }
 
+-- the execution of a core's operation is a step
+pub at_taken : (p : List (List Op)) (capacity : ℕ) (s : State) (c : ℕ) (op : Op) (e : ℕ) → IsAt p s c op e → taken p capacity s (Exec c) ≡ exec capacity s c e op
+at_taken p capacity s c op e at = rw (lt-ltb c (length p) at.core, at.operation, at.number) refl
+
 -- core c has executed j stores more
-pub record HasStored (p : List (List Op)) (n : ℕ) (s t : State) (c j : ℕ) : Type 0 where
-  pub fits : IsFitting p n t
+pub record HasStored (p : List (List Op)) (n capacity : ℕ) (s t : State) (c j : ℕ) : Type 0 where
+  pub fits : IsGoing p n capacity t
   pub performed : t.performed ≡ s.performed
   pub place : place_of t c ≡ place_of s c + j
   pub caches : t.caches ≡ s.caches
   pub sum : sum t.places ≡ sum s.places + j
 
 -- a core with room for all its stores executes one
-store_one : (p : List (List Op)) (n capacity : ℕ) (s : State) (c : ℕ) → IsFitting p n s → c < length p → place_of s c < length (get_or p c []) → stores_in (get_or p c []) ≤ capacity
-    → is_st (get_or (get_or p c []) (place_of s c) Fence) ≡ true → (t : State) × (taken p capacity s (Exec c) ≡ Ok t) × HasStored p n s t c 1
+store_one : (p : List (List Op)) (n capacity : ℕ) (s : State) (c : ℕ) → IsGoing p n capacity s → c < length p → place_of s c < length (get_or p c []) → count_by is_st (get_or p c []) ≤ capacity
+    → is_st (get_or (get_or p c []) (place_of s c) Fence) ≡ true → (t : State) × (taken p capacity s (Exec c) ≡ Ok t) × HasStored p n capacity s t c 1
 store_one p n capacity s c f core there room store = go (store_is (get_or (get_or p c []) (place_of s c) Fence) store)
   where
     fewer : length (buffer_of s c) < capacity
     fewer = omega (
       arith,
-      f.few c,
+      (f.on []).few c,
       room,
       before_more (place_of s c) (get_or p c []) there,
       ap {B = ℕ} (λ (b : Bool). cond b 1 0) store,
@@ -134,18 +137,18 @@ store_one p n capacity s c f core there room store = go (store_is (get_or (get_o
     )
 
     within : c < length s.places
-    within = omega (arith, core, f.in_order.steady.places)
+    within = omega (arith, core, (f.on []).places)
 
-    go : (is : (a : ℕ) × (v : ℕ) × (get_or (get_or p c []) (place_of s c) Fence ≡ St a v)) → (t : State) × (taken p capacity s (Exec c) ≡ Ok t) × HasStored p n s t c 1
+    go : (is : (a : ℕ) × (v : ℕ) × (get_or (get_or p c []) (place_of s c) Fence ≡ St a v)) → (t : State) × (taken p capacity s (Exec c) ≡ Ok t) × HasStored p n capacity s t c 1
     go (a, v, is) =
         let b : ℕ = first_event p c + place_of s c in
-        let t : State = stored_state s c b a v in
+        let t : State = advanced (with_buffer s c (buffer_of s c ++ record { addr = a; value = v; event = b } ∷ [])) c in
         let did : exec capacity s c b (St a v) ≡ Ok t = rw (lt-ltb (length (buffer_of s c)) capacity fewer) refl in
         let took : taken p capacity s (Exec c) ≡ Ok t = at_taken p capacity s c (get_or (get_or p c []) (place_of s c) Fence) b (is_at p s c core there) ∙ (ap (exec capacity s c b) is ∙ did) in (
           t,
           took,
           record {
-            fits = fits_on p n capacity s t (Exec c) f took;
+            fits = goes_further p n capacity s t (Exec c) f took;
             performed = refl;
             place = get_or-set_same s.places c (place_of s c + 1) 0 within;
             caches = refl;
@@ -154,8 +157,8 @@ store_one p n capacity s c f core there room store = go (store_is (get_or (get_o
         )
 
 -- one store, and then more
-stored_more : (p : List (List Op)) (n : ℕ) (s u t : State) (c j : ℕ) → HasStored p n s u c 1 → HasStored p n u t c j → HasStored p n s t c (suc j)
-stored_more p n s u t c j one rest = record {
+stored_more : (p : List (List Op)) (n capacity : ℕ) (s u t : State) (c j : ℕ) → HasStored p n capacity s u c 1 → HasStored p n capacity u t c j → HasStored p n capacity s t c (suc j)
+stored_more p n capacity s u t c j one rest = record {
   fits = rest.fits;
   performed = rest.performed ∙ one.performed;
   place = omega (arith, rest.place, one.place);
@@ -164,14 +167,14 @@ stored_more p n s u t c j one rest = record {
 }
 
 -- and any number of them
-pub store_all : (p : List (List Op)) (n capacity c j : ℕ) (s : State) → IsFitting p n s → c < length p → place_of s c + j ≤ length (get_or p c []) → stores_in (get_or p c []) ≤ capacity
+pub store_all : (p : List (List Op)) (n capacity c j : ℕ) (s : State) → IsGoing p n capacity s → c < length p → place_of s c + j ≤ length (get_or p c []) → count_by is_st (get_or p c []) ≤ capacity
     → ((i : ℕ) → place_of s c ≤ i → i < place_of s c + j → is_st (get_or (get_or p c []) i Fence) ≡ true)
-    → (t : State) × Goes p capacity s (replicate j (Exec c)) t × HasStored p n s t c j
+    → (t : State) × Goes p capacity s (replicate j (Exec c)) t × HasStored p n capacity s t c j
 store_all p n capacity c zero s f core there room stores = (s, (tt, refl), record { fits = f; performed = refl; place = omega arith; caches = refl; sum = omega arith })
 store_all p n capacity c (suc j) s f core there room stores =
     let one = store_one p n capacity s c f core (omega (arith, there)) room (stores (place_of s c) (omega arith) (omega arith)) in
     let rest = store_all p n capacity c j one.0 one.2.fits core (omega (arith, one.2.place, there)) room (λ i from to. stores i (omega (arith, one.2.place, from)) (omega (arith, one.2.place, to))) in
-    (rest.0, goes_first p capacity s one.0 rest.0 (Exec c) (replicate j (Exec c)) one.1 rest.1, stored_more p n s one.0 rest.0 c j one.2 rest.2)
+    (rest.0, goes_first p capacity s one.0 rest.0 (Exec c) (replicate j (Exec c)) one.1 rest.1, stored_more p n capacity s one.0 rest.0 c j one.2 rest.2)
 
 -- Lines
 
@@ -185,17 +188,17 @@ line_new s c a u within = ap (λ (b : Block). (cell_of b c).line) (get_or-set_sa
 
 -- the steps lead from s to a state with these caches, and nothing else is changed
 abbrev pub Fetches : List (List Op) → ℕ → ℕ → State → List Step → moesi.State → Type 0
-Fetches p n capacity s steps caches = Goes p capacity s steps (with_caches s caches) × IsFitting p n (with_caches s caches) × (length caches.blocks ≡ length s.caches.blocks)
+Fetches p n capacity s steps caches = Goes p capacity s steps (with_caches s caches) × IsGoing p n capacity (with_caches s caches) × (length caches.blocks ≡ length s.caches.blocks)
 
 -- a line of either kind is valid
 shared_valid : (q : Bool) → is_valid (cond q line.S line.E) ≡ true
 shared_valid true = refl
 shared_valid false = refl
 
-module _ (p : List (List Op)) (n capacity : ℕ) (s : State) (f : IsFitting p n s) (c a : ℕ) (core : c < length p) (within : a < length s.caches.blocks) where
+module _ (p : List (List Op)) (n capacity : ℕ) (s : State) (f : IsGoing p n capacity s) (c a : ℕ) (core : c < length p) (within : a < length s.caches.blocks) where
   -- the address has a line for the core
   line_within : c < length (moesi.block_of s.caches a).lines
-  line_within = omega (arith, core, f.in_order.coherent.lines a within, f.in_order.steady.cores)
+  line_within = omega (arith, core, (f.on []).lines a (omega (arith, within, (f.on []).blocks)))
 
   -- a core that wants to write a line gets it
   pub fetch_write : (caches : moesi.State) × Fetches p n capacity s (get_to_write s c a) caches × (is_exclusive (moesi.line_of caches c a) ≡ true)
@@ -211,7 +214,7 @@ module _ (p : List (List Op)) (n capacity : ℕ) (s : State) (f : IsFitting p n 
           let made : moesi.get_m s.caches c a ≡ Ok caches = rw is refl in
           let took : taken p capacity s (GetM c a) ≡ Ok (with_caches s caches) = rw (has_line p s c a core within, made) refl in (
             caches,
-            (goes_one p capacity s (with_caches s caches) (GetM c a) took, fits_on p n capacity s (with_caches s caches) (GetM c a) f took, length-set s.caches.blocks a u),
+            (goes_one p capacity s (with_caches s caches) (GetM c a) took, goes_further p n capacity s (with_caches s caches) (GetM c a) f took, length-set s.caches.blocks a u),
             ap is_exclusive (line_new s.caches c a u within
                 ∙ ap (λ (y : Cell). y.line) (get_or-set_same (map row.invalidated b.lines) c (record { line = line.M; copy = supplied b }) invalid (omega (arith, line_within, length-map b.lines row.invalidated)))),
           )
@@ -234,7 +237,7 @@ module _ (p : List (List Op)) (n capacity : ℕ) (s : State) (f : IsFitting p n 
           let valid : is_valid (moesi.line_of caches c a) ≡ true = ap is_valid (line_new s.caches c a u within
           ∙ ap (λ (z : Cell). z.line) (get_or-set_same (map row.shared b.lines) c y invalid (omega (arith, line_within, length-map b.lines row.shared)))) ∙ shared_valid (has_copy b) in (
             caches,
-            (goes_one p capacity s (with_caches s caches) (GetS c a) took, fits_on p n capacity s (with_caches s caches) (GetS c a) f took, length-set s.caches.blocks a u),
+            (goes_one p capacity s (with_caches s caches) (GetS c a) took, goes_further p n capacity s (with_caches s caches) (GetS c a) f took, length-set s.caches.blocks a u),
             (moesi.copy_of caches c a, rw valid refl),
           )
 

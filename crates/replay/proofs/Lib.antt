@@ -1,6 +1,6 @@
 pub mod Made
 pub mod Determined
-pub mod Kept
+pub mod Going
 pub mod Goes
 pub mod Turns
 pub mod Orders

@@ -1,16 +1,18 @@
 -- The program of an execution has the cores of its events, and what they do but for what they read.
-use Rattle.std.proofs.Common.{◌≡◌, ◌+◌, ℕ, suc, true, Option, Some, None, List, [], ◌∷◌, ◌++◌, map, length, get_or, refl, sym, ap, ◌∙◌}
-use Rattle.std.proofs.lemmas.List.{map-append, length-map}
+use Rattle.std.proofs.Common.{◌≡◌, ◌<◌, ◌+◌, inl, inr, ℕ, suc, true, Option, Some, None, List, [], ◌∷◌, ◌++◌, map, length, get_or, arith, refl, sym, ap, subst, ◌∙◌}
+use Rattle.std.proofs.lemmas.List.{map-append, length-map, get_or_past}
+use Rattle.std.proofs.lemmas.Bool.{cases_lt}
 use Rattle.std.proofs.Math.ListN as lists
 use Rattle.litmus.specs.declared.op.Op.{Op}
 use Rattle.litmus.specs.declared.op.Op.TheVariants.{Fence}
 use Rattle.recorder.specs.declared.event.Event.{Event}
 use Rattle.recorder.specs.declared.event.Event.TheVariants.{L, S, R, F}
-use Rattle.recorder.specs.Event.{read_address, source, value_read, is_plain_store, is_plain_load}
+use Rattle.recorder.specs.Event.{read_address, source, value_read, is_plain_store}
 use Rattle.recorder.specs.Execution.{Execution, placed_from, event_count, event_at, core_of}
-use Rattle.machine.specs.State.{State, event_of, events_from, cores_from, recorded}
+use Rattle.machine.specs.State.{State, event_of, events_from, cores_from, recorded, opening}
 use Rattle.replay.specs.Program.{op_of, program_of}
-use Rattle.machine.proofs.Static.{placed_op, op_reads, is_st, is_ld}
+use Rattle.machine.specs.Orderly.{placed_op, is_st}
+use Rattle.machine.proofs.Opening.{event_behind, event_before}
 use Rattle.machine.proofs.Complete.{event_is, core_is, count_is}
 
 -- an operation makes its event again from what that read
@@ -48,26 +50,12 @@ store_unread (S a w) h = refl
 store_unread (R a r s w) h = absurd cc
 store_unread F h = absurd cc
 
--- it reads where its event does
-pub reads_same : (ev : Event) → op_reads (op_of ev) ≡ read_address ev
-reads_same (L a r s) = refl
-reads_same (S a w) = refl
-reads_same (R a r s w) = refl
-reads_same F = refl
-
 -- it is a plain store where its event is
 pub store_same : (ev : Event) → is_st (op_of ev) ≡ is_plain_store ev
 store_same (L a r s) = refl
 store_same (S a w) = refl
 store_same (R a r s w) = refl
 store_same F = refl
-
--- and a plain load
-pub load_same : (ev : Event) → is_ld (op_of ev) ≡ is_plain_load ev
-load_same (L a r s) = refl
-load_same (S a w) = refl
-load_same (R a r s w) = refl
-load_same F = refl
 
 -- a function of what stands beside the core
 tag_map : {A B : Type 0} (f : A → B) (k : ℕ) (es : List A) → map {B = ℕ × B} (λ y. (k, y)) (map f es) ≡ map (λ (z : ℕ × A). let t : ℕ × B = (z.0, f z.1) in t) (map (λ y. (k, y)) es)
@@ -94,6 +82,19 @@ placed_is x e =
 pub count_same : (x : Execution) → length (placed_from 0 (program_of x)) ≡ event_count x
 unfolding event_count
 count_same x = ap (λ (l : List (ℕ × Op)). length l) (placed_map op_of 0 x.cores) ∙ length-map (placed_from 0 x.cores) (λ (z : ℕ × Event). let t : ℕ × Op = (z.0, op_of z.1) in t)
+
+-- an event's core is one of the program's
+pub core_there : (x : Execution) (e : ℕ) → e < event_count x → core_of x e < length (program_of x)
+core_there x e event =
+    let p : List (List Op) = program_of x in
+    let here : e < length (placed_from 0 p) = omega (arith, event, count_same x) in
+    let c : ℕ = (placed_op p e).0 in
+    let core : c < length p = elim (cases_lt c (length p)) [
+      | inl inside ↦ inside
+      | inr past ↦
+          absurd (omega (arith, event_behind p (opening p 0) e here, event_before p (opening p 0) e here, ap (λ (l : List Op). length l) (get_or_past p c [] past)))
+    ] in
+    subst (λ (k : ℕ). k < length p) (ap (λ (z : ℕ × Op). z.0) (placed_is x e)) core
 
 -- a core records as many events as it has operations
 events_length : (e : ℕ) (ops : List Op) (reads : List (ℕ × Option ℕ)) → length (events_from e ops reads) ≡ length ops

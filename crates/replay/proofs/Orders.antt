@@ -1,6 +1,6 @@
 -- The events of a TSO order take their turns, one after another.
 use Rattle.std.proofs.Common.{◌≡◌, ◌<◌, ◌≤◌, ◌+◌, ◌-◌, ◌*◌, ℕ, true, List, [], ◌∷◌, ◌++◌, length, get_or, replicate, arith, refl, sym, ap, subst, ◌∙◌, length-append, append_assoc, append-nil}
-use Rattle.std.specs.List.{sum}
+use Rattle.std.specs.List.{sum, count_by}
 use Rattle.std.proofs.lemmas.List.{length-replicate}
 use Rattle.litmus.specs.declared.op.Op.{Op}
 use Rattle.recorder.specs.declared.event.Event.{Event}
@@ -13,7 +13,8 @@ use Rattle.machine.specs.declared.step.Step.TheVariants.{Exec}
 use Rattle.machine.specs.State.{State, place_of, first_event}
 use Rattle.replay.specs.Program.{program_of}
 use Rattle.replay.specs.Steps.{execute_to, executed_before, perform, turn, order_steps}
-use Rattle.replay.proofs.Kept.{stores_in, IsFitting}
+use Rattle.machine.specs.Orderly.{is_st}
+use Rattle.replay.proofs.Going.{IsGoing}
 use Rattle.replay.proofs.Goes.{Goes, goes_on, HasStored}
 use Rattle.replay.proofs.Turns.{IsTurn, caught_up, fence_turn, rmw_turn, load_turn, drain_turn}
 
@@ -32,7 +33,7 @@ before_store e (R a r o w) h = absurd (omega (arith, h))
 before_store e F h = absurd (omega (arith, h))
 
 -- core c executes stores before its turn
-turn_behind : (p : List (List Op)) (n capacity : ℕ) (s u t : State) (c j e : ℕ) (steps : List Step) → Goes p capacity s (replicate j (Exec c)) u → HasStored p n s u c j
+turn_behind : (p : List (List Op)) (n capacity : ℕ) (s u t : State) (c j e : ℕ) (steps : List Step) → Goes p capacity s (replicate j (Exec c)) u → HasStored p n capacity s u c j
     → IsTurn p n capacity u steps e t → IsTurn p n capacity s (replicate j (Exec c) ++ steps) e t
 turn_behind p n capacity s u t c j e steps goes stored took = record {
   goes = goes_on p capacity s u t (replicate j (Exec c)) steps goes took.goes;
@@ -41,9 +42,9 @@ turn_behind p n capacity s u t c j e steps goes stored took = record {
   few = omega (arith, took.few, stored.sum, length-append (replicate j (Exec c)) steps, length-replicate j (Exec c));
 }
 
-module _ (x : Execution) (m : List ℕ) (tso : IsTsoOrder x m) (n capacity : ℕ) (room : (c : ℕ) → stores_in (get_or (program_of x) c []) ≤ capacity) where
+module _ (x : Execution) (m : List ℕ) (tso : IsTsoOrder x m) (n capacity : ℕ) (room : (c : ℕ) → count_by is_st (get_or (program_of x) c []) ≤ capacity) where
   -- an event takes its turn once its core has executed what comes first
-  perform_turn : (s : State) (f : IsFitting (program_of x) n s) (e : ℕ) (rest : List ℕ) (split : m ≡ s.performed ++ e ∷ rest) → (ev : Event) → event_at x e ≡ ev
+  perform_turn : (s : State) (f : IsGoing (program_of x) n capacity s) (e : ℕ) (rest : List ℕ) (split : m ≡ s.performed ++ e ∷ rest) → (ev : Event) → event_at x e ≡ ev
       → executed_before e ev ≤ first_event (program_of x) (core_of x e) + place_of s (core_of x e)
       → (t : State) × IsTurn (program_of x) n capacity s (perform s (core_of x e) ev) e t
   perform_turn s f e rest split (S a w) is ready = drain_turn x m tso n capacity room s f e rest split a w is (omega (arith, ready))
@@ -52,7 +53,7 @@ module _ (x : Execution) (m : List ℕ) (tso : IsTsoOrder x m) (n capacity : ℕ
   perform_turn s f e rest split F is ready = fence_turn x m tso n capacity room s f e rest split ready is
 
   -- each event takes its turn
-  event_turn : (s : State) (f : IsFitting (program_of x) n s) (e : ℕ) (rest : List ℕ) (split : m ≡ s.performed ++ e ∷ rest)
+  event_turn : (s : State) (f : IsGoing (program_of x) n capacity s) (e : ℕ) (rest : List ℕ) (split : m ≡ s.performed ++ e ∷ rest)
       → (t : State) × IsTurn (program_of x) n capacity s (turn (program_of x) capacity s (core_of x e) e (event_at x e)) e t
   event_turn s f e rest split =
       let p : List (List Op) = program_of x in
@@ -69,12 +70,12 @@ module _ (x : Execution) (m : List ℕ) (tso : IsTsoOrder x m) (n capacity : ℕ
   -- the steps lead from s to t, which has performed the whole order
   pub record IsRun (s : State) (rest : List ℕ) (t : State) : Type 0 where
     pub goes : Goes (program_of x) capacity s (order_steps x capacity s rest) t
-    pub fits : IsFitting (program_of x) n t
+    pub fits : IsGoing (program_of x) n capacity t
     pub performed : t.performed ≡ m
     pub few : length (order_steps x capacity s rest) + sum s.places ≤ sum t.places + 2 * length rest
 
   -- so does the order
-  pub order_run : (rest : List ℕ) (s : State) → IsFitting (program_of x) n s → m ≡ s.performed ++ rest → (t : State) × IsRun s rest t
+  pub order_run : (rest : List ℕ) (s : State) → IsGoing (program_of x) n capacity s → m ≡ s.performed ++ rest → (t : State) × IsRun s rest t
   order_run [] s f split = (s, record { goes = (tt, refl); fits = f; performed = sym (split ∙ append-nil s.performed); few = omega arith })
   order_run (e ∷ rest) s f split =
       let took = event_turn s f e rest split in

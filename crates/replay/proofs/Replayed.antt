@@ -1,8 +1,8 @@
 -- Each TSO order of a recording is replayed.
 use Rattle.std.proofs.Common.{◌≡◌, ◌<◌, ◌≤◌, ◌+◌, inl, inr, ℕ, zero, suc, Some, List, [], ◌∷◌, map, length, get_or, arith, refl, sym, ap, subst, ◌∙◌, true, nat_lt, ltb-true, Result, Ok}
-use Rattle.std.specs.List.{All, sum_by, count_by}
+use Rattle.std.specs.List.{All, sum, sum_by, count_by}
 use Rattle.std.proofs.Math.Nat.{le-max_left, le-max_right}
-use Rattle.std.proofs.lemmas.List.{get_or_default}
+use Rattle.std.proofs.lemmas.List.{get_or_default, get_or_past}
 use Rattle.std.proofs.lemmas.List.Sums.{sum_by-cons}
 use Rattle.std.proofs.lemmas.Bool.{cases_lt, and_parts}
 use Rattle.litmus.specs.declared.op.Op.{Op}
@@ -32,21 +32,18 @@ use Rattle.machine.specs.declared.step.Step.TheVariants.{Exec, Drain, GetS, GetM
 use Rattle.machine.specs.Script.{IsStepOf}
 use Rattle.machine.specs.Tso.{EveryRunIsTso, EveryRunIsWellFormed}
 use Rattle.std.proofs.lemmas.List.Elements.{All-nil, All-cons}
-use Rattle.machine.proofs.Rows.{guarded}
-use Rattle.machine.proofs.Executed.{places_within}
-use Rattle.machine.proofs.Static.{placed_total, static_of, placed_at}
-use Rattle.machine.proofs.Steady.{waits_once}
-use Rattle.machine.proofs.Complete.{complete_below}
+use Rattle.machine.specs.Orderly.{placed_op, is_st, IsOrderly, EveryStateIsOrderly}
+use Rattle.machine.proofs.Static.{placed_total, placed_at}
 use Rattle.replay.proofs.Made.{placed_is, count_same, recorded_made}
 use Rattle.replay.proofs.Determined.{determined}
-use Rattle.replay.proofs.Kept.{stores_in, stores_same, IsFitting, opening_fits}
-use Rattle.replay.proofs.Goes.{Goes, goes_more, fits_on}
+use Rattle.replay.proofs.Going.{IsGoing, begun_going, goes_further, stores_same, waiting, waits_once}
+use Rattle.replay.proofs.Goes.{Goes, goes_more, guarded}
 use Rattle.replay.proofs.Orders.{order_run}
 
 -- Room for the stores of a core
 
 -- none has more than the greatest number
-stores_most : (cores : List (List Event)) (c : ℕ) → stores_in (get_or (map (λ es. map op_of es) cores) c []) ≤ most_stores cores
+stores_most : (cores : List (List Event)) (c : ℕ) → count_by is_st (get_or (map (λ es. map op_of es) cores) c []) ≤ most_stores cores
 stores_most [] c = omega (arith, stores_same [])
 stores_most (es ∷ rest) zero = omega (arith, stores_same es, le-max_left (count_by is_plain_store es) (most_stores rest))
 stores_most (es ∷ rest) (suc c) = omega (arith, stores_most rest c, le-max_right (count_by is_plain_store es) (most_stores rest))
@@ -74,12 +71,20 @@ recording_fits x r c other core i d inside =
 
 -- The end
 
+-- each core is within its operations, so all together are
+places_within : (places : List ℕ) (p : List (List Op)) → length places ≡ length p → ((c : ℕ) → get_or places c 0 ≤ length (get_or p c [])) → sum places ≤ sum_by (λ ops. length ops) p
+places_within [] [] l h = omega arith
+places_within [] (ops ∷ p) l h = omega arith
+places_within (i ∷ places) [] l h = absurd (omega (arith, l))
+places_within (i ∷ places) (ops ∷ p) l h =
+    omega (arith, sum_by-cons (λ (k : ℕ). k) i places, sum_by-cons (λ (os : List Op). length os) ops p, h 0, places_within places p (omega (arith, l)) (λ c. h (suc c)))
+
 -- empty buffers count nothing
 nothing_waits : (bs : List (List Entry)) → ((c : ℕ) → get_or bs c [] ≡ []) → sum_by (λ (b : List Entry). length b) bs ≡ 0
 nothing_waits [] h = refl
 nothing_waits (b ∷ bs) h = omega (arith, ap (λ (l : List Entry). length l) (h 0), nothing_waits bs (λ c. h (suc c)), sum_by-cons (λ (l : List Entry). length l) b bs)
 
-module _ (x : Execution) (m : List ℕ) (tso : IsTsoOrder x m) (n : ℕ) (t : State) (f : IsFitting (program_of x) n t) (whole : t.performed ≡ m) where
+module _ (x : Execution) (m : List ℕ) (tso : IsTsoOrder x m) (n : ℕ) (t : State) (f : IsOrderly (program_of x) n t) (whole : t.performed ≡ m) where
   -- each event is performed
   each : (e : ℕ) → e < length (placed_from 0 (program_of x)) → times t.performed e ≡ 1
   each e event = ap (λ (l : List ℕ). times l e) whole ∙ tso.total.once e (omega (arith, event, count_same x))
@@ -87,12 +92,12 @@ module _ (x : Execution) (m : List ℕ) (tso : IsTsoOrder x m) (n : ℕ) (t : St
   -- each core has come to its end
   all_executed : (c : ℕ) → c < length (program_of x) → place_of t c ≡ length (get_or (program_of x) c [])
   all_executed c core = elim (cases_lt (place_of t c) (length (get_or (program_of x) c []))) [
-    | inr done ↦ omega (arith, done, f.places c)
+    | inr done ↦ omega (arith, done, f.within c)
     | inl left ↦
         let at = placed_at 0 (program_of x) c (place_of t c) Fence left in
         let e : ℕ = first_event (program_of x) c + place_of t c in
-        let own : (static_of (program_of x) t).core e ≡ c = ap (λ (z : ℕ × Op). z.0) at.0 ∙ omega arith in
-        let done = f.in_order.steady.counted.executed 0 e (omega (arith, each e at.1, times_append t.performed (map (λ (y : Entry). y.event) (buffer_of t 0)) e)) in
+        let own : (placed_op (program_of x) e).0 ≡ c = ap (λ (z : ℕ × Op). z.0) at.0 ∙ omega arith in
+        let done = f.executed 0 e (omega (arith, each e at.1, times_append t.performed (map (λ (y : Entry). y.event) (buffer_of t 0)) e)) in
         absurd (omega (arith, subst (λ (d : ℕ). e < first_event (program_of x) d + place_of t d) own done.1))
   ]
 
@@ -103,15 +108,20 @@ module _ (x : Execution) (m : List ℕ) (tso : IsTsoOrder x m) (n : ℕ) (t : St
       go : (b : List Entry) → buffer_of t c ≡ b → buffer_of t c ≡ []
       go [] is = is
       go (y ∷ ys) is =
-          let waiting : List ℕ = map (λ (z : Entry). z.event) (buffer_of t c) in
-          let there : 0 < times waiting y.event = subst (λ (b : List Entry). 0 < times (map (λ (z : Entry). z.event) b) y.event) (sym is)
+          let there : 0 < times (waiting t c) y.event = subst (λ (b : List Entry). 0 < times (map (λ (z : Entry). z.event) b) y.event) (sym is)
           (omega (arith, times_here (map (λ (z : Entry). z.event) ys) y.event y.event refl)) in
-          let done = f.in_order.steady.counted.executed c y.event (omega (arith, there, times_append t.performed waiting y.event)) in
-          absurd (omega (arith, there, each y.event done.0, waits_once (program_of x) t f.in_order.steady c y.event there))
+          let done = f.executed c y.event (omega (arith, there, times_append t.performed (waiting t c) y.event)) in
+          absurd (omega (arith, there, each y.event done.0, waits_once (program_of x) n t f c y.event there))
 
   -- so the run is complete
   ended : IsComplete (program_of x) t
-  ended = complete_below (program_of x) t f.in_order.steady (λ c core. (all_executed c core, all_drained c))
+  ended c = elim (cases_lt c (length (program_of x))) [
+    | inl core ↦ (all_executed c core, all_drained c)
+    | inr past ↦ (
+      get_or_past t.places c 0 (omega (arith, past, f.places)) ∙ ap (λ (ops : List Op). length ops) (sym (get_or_past (program_of x) c [] past)),
+      all_drained c,
+    )
+  ]
 
   -- and made this recording
   recorded_it : IsRecording x → n ≡ length x.write_lists → IsWellFormed (recorded (program_of x) t) → IsTsoOrder (recorded (program_of x) t) t.performed → recorded (program_of x) t ≡ x
@@ -133,18 +143,19 @@ step_within q capacity s t (GetM c a) large took = line_within q s c a large (gu
 step_within q capacity s t (Put c a) large took = line_within q s c a large (guarded _ _ _ t took).0
 
 -- so have all
-steps_within : (q : Parts) (capacity : ℕ) (steps : List Step) (s : State) → IsFitting q.cores (length q.names) s → AreTaken q.cores capacity s steps → All (IsStepOf q) steps
+steps_within : (q : Parts) (capacity : ℕ) (steps : List Step) (s : State) → IsGoing q.cores (length q.names) capacity s → AreTaken q.cores capacity s steps → All (IsStepOf q) steps
 steps_within q capacity [] s f h = All-nil (IsStepOf q)
 steps_within q capacity (step ∷ steps) s f h =
-    let large : length s.caches.blocks ≡ length q.names = omega (arith, f.lists, f.in_order.steady.listed.cells) in
+    let large : length s.caches.blocks ≡ length q.names = (f.on []).blocks in
     let rest : AreTaken q.cores capacity h.0.0 steps = subst (λ (r : Result State Blocked). AreTaken q.cores capacity (after s r) steps) h.0.1 h.1 in
     All-cons (IsStepOf q) step steps (step_within q capacity s h.0.0 step large h.0.1)
-    (steps_within q capacity steps h.0.0 (fits_on q.cores (length q.names) capacity s h.0.0 step f h.0.1) rest)
+    (steps_within q capacity steps h.0.0 (goes_further q.cores (length q.names) capacity s h.0.0 step f h.0.1) rest)
 
--- what the machine's law says of every run
+-- what the machine's laws say of every run
 pub record Laws : Type 0 where
   pub tso : (p : List (List Op)) (n capacity : ℕ) (steps : List Step) → EveryRunIsTso p n capacity steps
   pub well_formed : (p : List (List Op)) (n capacity : ℕ) (steps : List Step) → EveryRunIsWellFormed p n capacity steps
+  pub orderly : (p : List (List Op)) (n capacity : ℕ) (steps : List Step) → EveryStateIsOrderly p n capacity steps
 
 module _ (law : Laws) where
   -- the steps replay the order, on a program of so many addresses
@@ -155,10 +166,11 @@ module _ (law : Laws) where
       let n : ℕ = length x.write_lists in
       let steps : List Step = replay_steps x m in
       let fits : All (λ ops. All (IsWithin n) ops) p = recording_fits x r in
-      let ran = order_run x m tso n (most_stores x.cores) (stores_most x.cores) m (opening p n) (opening_fits p n fits) refl in
+      let ran = order_run x m tso n (most_stores x.cores) (stores_most x.cores) m (opening p n) (begun_going p n (most_stores x.cores) (law.orderly p n (most_stores x.cores)) fits) refl in
       let t : State = ran.0 in
+      let f : IsOrderly p n t = ran.1.fits.on [] in
       let goes : Goes p capacity (opening p n) steps t = goes_more p (most_stores x.cores) capacity room steps (opening p n) t ran.1.goes in
-      let end : IsComplete p t = ended x m tso n t ran.1.fits ran.1.performed in
+      let end : IsComplete p t = ended x m tso n t f ran.1.performed in
       let there : IsComplete p (run p capacity (opening p n) steps) = subst (λ (z : State). IsComplete p z) (sym goes.1) end in
       let order : IsTsoOrder (recorded p t) t.performed = subst (λ (z : State). IsTsoOrder (recorded p z) z.performed) goes.1 (law.tso p n capacity steps fits there) in
       let well : IsWellFormed (recorded p t) = subst (λ (z : State). IsWellFormed (recorded p z)) goes.1 (law.well_formed p n capacity steps fits there) in
@@ -167,16 +179,16 @@ module _ (law : Laws) where
         taken = begins.0;
         complete = subst (λ (z : State). IsComplete p z) (sym begins.1) end;
         performed = ap (λ (z : State). z.performed) begins.1 ∙ ran.1.performed;
-        recording = ap (λ (z : State). recorded p z) begins.1 ∙ recorded_it x m tso n t ran.1.fits ran.1.performed r refl well order;
+        recording = ap (λ (z : State). recorded p z) begins.1 ∙ recorded_it x m tso n t f ran.1.performed r refl well order;
         within = steps_within (parts_of names p) capacity steps (opening p (length names))
-            (opening_fits p (length names) (subst (λ (k : ℕ). All (λ ops. All (IsWithin k) ops) p) (sym named) fits)) begins.0;
+            (begun_going p (length names) capacity (law.orderly p (length names) capacity) (subst (λ (k : ℕ). All (λ ops. All (IsWithin k) ops) p) (sym named) fits)) begins.0;
         few = omega (
           arith,
           ran.1.few,
-          ran.1.fits.counted,
+          f.counted,
           ap (λ (l : List ℕ). length l) ran.1.performed,
-          nothing_waits t.buffers (all_drained x m tso n t ran.1.fits ran.1.performed),
-          places_within t.places p ran.1.fits.in_order.steady.places ran.1.fits.places,
+          nothing_waits t.buffers (all_drained x m tso n t f ran.1.performed),
+          places_within t.places p f.places f.within,
           placed_total 0 p,
           count_same x,
         );

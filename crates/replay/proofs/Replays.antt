@@ -1,18 +1,20 @@
 -- A machine that takes steps and writes them down, step by step.
-use Rattle.std.proofs.Common.{◌≡◌, ◌+◌, ◌<◌, ℕ, zero, suc, Result, Ok, Err, OnOk, List, [], ◌∷◌, ◌++◌, length, replicate, arith, refl, sym, ap, subst, ◌∙◌, append_assoc, append-nil}
+use Rattle.std.proofs.Common.{◌≡◌, ◌+◌, ℕ, zero, suc, Result, Ok, Err, OnOk, List, [], ◌∷◌, ◌++◌, replicate, arith, refl, sym, ap, ◌∙◌, append_assoc, append-nil}
 use Rattle.litmus.specs.declared.op.Op.{Op}
 use Rattle.recorder.specs.declared.event.Event.{Event}
-use Rattle.recorder.specs.Execution.{Execution, placed_from, event_count, core_of, event_at}
+use Rattle.recorder.specs.Execution.{Execution, core_of, event_at}
 use Rattle.machine.specs.declared.step.Step.{Step}
-use Rattle.machine.specs.State.{State, opening}
-use Rattle.machine.specs.Step.{run}
+use Rattle.machine.specs.State.{State}
+use Rattle.machine.specs.Step.{taken, after, run}
 use Rattle.machine.specs.Held.{Held}
 use Rattle.replay.specs.Program.{program_of}
 use Rattle.replay.specs.Steps.{executed_before, execute_to, perform, turn, order_steps}
 use Rattle.replay.specs.Replaying.{Replaying, with_steps}
-use Rattle.machine.proofs.Reached.{run_append}
-use Rattle.machine.proofs.Opening.{located, event_core}
-use Rattle.replay.proofs.Made.{placed_is, count_same}
+
+-- steps in two parts
+run_append : (p : List (List Op)) (capacity : ℕ) (s : State) (xs ys : List Step) → run p capacity s (xs ++ ys) ≡ run p capacity (run p capacity s xs) ys
+run_append p capacity s [] ys = refl
+run_append p capacity s (x ∷ xs) ys = run_append p capacity (after s (taken p capacity s x)) xs ys
 
 -- more steps, and then more
 pub more_steps : (r : Replaying) (xs ys : List Step) → with_steps (with_steps r xs) ys ≡ with_steps r (xs ++ ys)
@@ -52,13 +54,6 @@ turn_taken r s t c e ev first second =
     then_steps r s t steps (perform (with_steps r steps).machine.state c ev) first (second ∙ ap (λ (z : Replaying). with_steps s (perform z.machine.state c ev)) first)
 
 -- Orders
-
--- an event's core is one of the program's
-pub core_within : (x : Execution) (e : ℕ) → e < event_count x → core_of x e < length (program_of x)
-core_within x e event =
-    let p : List (List Op) = program_of x in
-    let here : e < length (placed_from 0 p) = omega (arith, event, count_same x) in
-    subst (λ (c : ℕ). c < length p) (sym (event_core p (opening p 0) e here) ∙ ap (λ (z : ℕ × Op). z.0) (placed_is x e)) (located 0 p e here).2
 
 module _ (x : Execution) (h : Held) (old new : Replaying) (e : ℕ) (same : old.machine ≡ record h { state = old.machine.state }) (cores : h.program.cores ≡ program_of x)
     (took : new ≡ with_steps old (turn old.machine.program.cores old.machine.capacity old.machine.state (core_of x e) e (event_at x e))) where

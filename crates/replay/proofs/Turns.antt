@@ -1,18 +1,17 @@
 -- Where the order up to an event was performed, the steps of this event are taken, and perform it.
-use Rattle.std.proofs.Common.{◌≡◌, ◌<◌, ◌≤◌, ◌+◌, ◌-◌, ◌&&◌, inl, inr, ℕ, true, false, Option, Some, None, Ok, List, [], ◌∷◌, ◌++◌, map, length, get_or, slice_set, arith, refl, sym, ap, subst, ◌∙◌, length-append}
-use Rattle.std.specs.List.{sum}
-use Rattle.std.proofs.lemmas.List.{get_or_past}
+use Rattle.std.proofs.Common.{◌≡◌, ◌<◌, ◌≤◌, ◌+◌, ◌-◌, ◌&&◌, inl, inr, ℕ, true, false, Option, Ok, List, [], ◌∷◌, ◌++◌, map, length, get_or, slice_set, arith, refl, sym, ap, subst, ◌∙◌, length-append}
+use Rattle.std.specs.List.{sum, count_by}
 use Rattle.std.proofs.lemmas.List.Sums.{sum_by-set}
 use Rattle.std.proofs.lemmas.Bool.{cases_eq, cases_lt, lt-ltb, cases_Bool, and_parts, and_right}
 use Rattle.litmus.specs.declared.op.Op.{Op}
 use Rattle.litmus.specs.declared.op.Op.TheVariants.{St, Ld, Fence, Swap, Add}
-use Rattle.recorder.specs.declared.event.Event.{Event}
+use Rattle.litmus.specs.Parts.{IsWithin}
 use Rattle.recorder.specs.declared.event.Event.TheVariants.{L, S, R, F}
-use Rattle.recorder.specs.Event.{written_address, is_plain_store, is_plain_load}
-use Rattle.recorder.specs.Execution.{Execution, event_count, event_at, core_of}
+use Rattle.recorder.specs.Event.{is_plain_store, is_plain_load}
+use Rattle.recorder.specs.Execution.{Execution, placed_from, event_count, event_at, core_of}
 use Rattle.recorder.specs.Order.{times, Before}
 use Rattle.recorder.specs.Tso.{IsTsoOrder}
-use Rattle.recorder.proofs.Orders.{place_here, place_there, times_here, times_nil, times_append, place_append_right}
+use Rattle.recorder.proofs.Orders.{cases_zero, place_here, place_there, times_here, times_nil, times_append, place_append_right}
 use Rattle.moesi.specs.State as moesi
 use Rattle.moesi.specs.Lines.{is_exclusive}
 use Rattle.write_buffer.specs.declared.entry.Entry.{Entry}
@@ -20,20 +19,16 @@ use Rattle.write_buffer.specs.Buffer.{youngest}
 use Rattle.machine.specs.declared.step.Step.{Step}
 use Rattle.machine.specs.declared.step.Step.TheVariants.{Exec, Drain}
 use Rattle.machine.specs.declared.blocked.Blocked.TheVariants.{B4}
-use Rattle.machine.specs.State.{State, place_of, buffer_of, first_event, event_of}
-use Rattle.machine.specs.Step.{exec, taken, allowed, advanced, performed, given, with_caches, rmw_value}
+use Rattle.machine.specs.State.{State, place_of, buffer_of, copy_of, first_event}
+use Rattle.machine.specs.Step.{exec, taken, allowed, advanced, performed, given, written, with_buffer, with_caches, rmw_value}
 use Rattle.replay.specs.Program.{op_of, program_of}
 use Rattle.replay.specs.Steps.{execute_to, get_to_write, get_to_read}
-use Rattle.machine.proofs.Seen.{seen, not_seen, not_performed, IsCounted}
-use Rattle.machine.proofs.Static.{static_of, snapshot_of, placed_op, placed_at, op_reads, is_st, is_ld}
-use Rattle.machine.proofs.Drains.{AreStores, drained_state}
-use Rattle.machine.proofs.Rows.{loaded_state, fenced_state, rmw_state}
-use Rattle.machine.proofs.Steady.{waits_once}
-use Rattle.machine.proofs.Reached.{at_taken}
+use Rattle.machine.specs.Orderly.{placed_op, is_st, is_ld, AreStores, seen_by, IsOrderly}
+use Rattle.machine.proofs.Static.{placed_at}
 use Rattle.machine.proofs.Opening.{event_behind, event_before}
-use Rattle.replay.proofs.Made.{store_same, placed_is, count_same}
-use Rattle.replay.proofs.Kept.{stores_in, IsFitting}
-use Rattle.replay.proofs.Goes.{Goes, goes_one, goes_on, fits_on, is_at, HasStored, store_all, fetch_write, fetch_read, write_made, few_write, few_read}
+use Rattle.replay.proofs.Made.{store_same, placed_is, count_same, core_there}
+use Rattle.replay.proofs.Going.{IsGoing, goes_further, waiting, stores_wait, waits_once}
+use Rattle.replay.proofs.Goes.{Goes, goes_one, goes_on, is_at, at_taken, HasStored, store_all, fetch_write, fetch_read, write_made, few_write, few_read}
 
 -- a plain store is no plain load
 store_no_load : (op : Op) → is_st op ≡ true → is_ld op ≡ false
@@ -43,24 +38,24 @@ store_no_load Fence h = refl
 store_no_load (Swap a v) h = refl
 store_no_load (Add a v) h = refl
 
+-- the state after core c's oldest store went to its line, which left these caches
+abbrev pub drained_state : State → moesi.State → ℕ → Entry → List Entry → State
+drained_state s caches c y ys = performed (written (with_buffer s c ys) caches y.addr y.event) y.event
+
 -- the oldest store goes to its line
 drain_taken : (p : List (List Op)) (capacity : ℕ) (s : State) (caches : moesi.State) (c : ℕ) (y : Entry) (ys : List Entry) → c < length p → buffer_of s c ≡ y ∷ ys
     → moesi.write s.caches c y.addr y.value y.event ≡ Ok caches → taken p capacity s (Drain c) ≡ Ok (drained_state s caches c y ys)
 drain_taken p capacity s caches c y ys core is wrote = rw (lt-ltb c (length p) core, is, wrote) refl
 
--- the events that wait in a buffer
-abbrev pub waiting : State → ℕ → List ℕ
-waiting s c = map (λ (y : Entry). y.event) (buffer_of s c)
-
 -- the steps lead from s to t, which has performed e more, and no more than two of them execute nothing
 pub record IsTurn (p : List (List Op)) (n capacity : ℕ) (s : State) (steps : List Step) (e : ℕ) (t : State) : Type 0 where
   pub goes : Goes p capacity s steps t
-  pub fits : IsFitting p n t
+  pub fits : IsGoing p n capacity t
   pub performed : t.performed ≡ s.performed ++ e ∷ []
   pub few : length steps + sum s.places ≤ sum t.places + 2
 
-module _ (x : Execution) (m : List ℕ) (tso : IsTsoOrder x m) (n capacity : ℕ) (room : (c : ℕ) → stores_in (get_or (program_of x) c []) ≤ capacity) where
-  module _ (s : State) (f : IsFitting (program_of x) n s) (e : ℕ) (rest : List ℕ) (split : m ≡ s.performed ++ e ∷ rest) where
+module _ (x : Execution) (m : List ℕ) (tso : IsTsoOrder x m) (n capacity : ℕ) (room : (c : ℕ) → count_by is_st (get_or (program_of x) c []) ≤ capacity) where
+  module _ (s : State) (f : IsGoing (program_of x) n capacity s) (e : ℕ) (rest : List ℕ) (split : m ≡ s.performed ++ e ∷ rest) where
     -- e is an event
     event : e < event_count x
     event = tso.total.nothing_else e (omega (arith, ap (λ (l : List ℕ). times l e) split, times_append s.performed (e ∷ rest) e, times_here rest e e refl))
@@ -79,11 +74,11 @@ module _ (x : Execution) (m : List ℕ) (tso : IsTsoOrder x m) (n capacity : ℕ
     ]
 
     -- it is one of the program's
-    counted : e < (static_of (program_of x) s).count
+    counted : e < length (placed_from 0 (program_of x))
     counted = omega (arith, event, count_same x)
 
     -- the core of an event
-    core_same : (w : ℕ) → (static_of (program_of x) s).core w ≡ core_of x w
+    core_same : (w : ℕ) → (placed_op (program_of x) w).0 ≡ core_of x w
     core_same w = ap (λ (z : ℕ × Op). z.0) (placed_is x w)
 
     -- it stands behind the first of its core
@@ -96,10 +91,7 @@ module _ (x : Execution) (m : List ℕ) (tso : IsTsoOrder x m) (n capacity : ℕ
 
     -- so its core is there
     core : core_of x e < length (program_of x)
-    core = elim (cases_lt (core_of x e) (length (program_of x))) [
-      | inl inside ↦ inside
-      | inr past ↦ absurd (omega (arith, from, to, ap (λ (l : List Op). length l) (get_or_past (program_of x) (core_of x e) [] past)))
-    ]
+    core = core_there x e event
 
     -- the operation i of the core is that of its event i
     op_there : (i : ℕ) → i < length (get_or (program_of x) (core_of x e) [])
@@ -113,9 +105,12 @@ module _ (x : Execution) (m : List ℕ) (tso : IsTsoOrder x m) (n capacity : ℕ
 
     -- what its core has not executed is not performed
     new : (w : ℕ) → core_of x w ≡ core_of x e → first_event (program_of x) (core_of x e) + place_of s (core_of x e) ≤ w → times s.performed w ≡ 0
-    new w own behind_all = not_performed (snapshot_of (program_of x) s) (core_of x e) w
-        (not_seen (static_of (program_of x) s) (snapshot_of (program_of x) s) f.in_order.steady.counted w (core_of x e)
-        (subst (λ (c : ℕ). first_event (program_of x) c + place_of s c ≤ w) (sym (core_same w ∙ own)) behind_all))
+    new w own behind_all = elim (cases_zero (times s.performed w)) [
+      | inl none ↦ none
+      | inr there ↦
+          let done = (f.on []).executed (core_of x e) w (omega (arith, there, times_append s.performed (waiting s (core_of x e)) w)) in
+          absurd (omega (arith, behind_all, subst (λ (c : ℕ). w < first_event (program_of x) c + place_of s c) (core_same w ∙ own) done.1))
+    ]
 
     -- what its core executes before it are plain stores
     stores_first : (i : ℕ) → place_of s (core_of x e) ≤ i → first_event (program_of x) (core_of x e) + i < e → is_st (get_or (get_or (program_of x) (core_of x e) []) i Fence) ≡ true
@@ -128,9 +123,9 @@ module _ (x : Execution) (m : List ℕ) (tso : IsTsoOrder x m) (n capacity : ℕ
     -- its core executes them, and itself if it is a plain store
     pub caught_up : (far : ℕ) → far ≤ e + 1 → (e < far → is_plain_store (event_at x e) ≡ true)
         → (t : State) × Goes (program_of x) capacity s (execute_to (program_of x) s (core_of x e) far) t
-        × HasStored (program_of x) n s t (core_of x e) (far - (first_event (program_of x) (core_of x e) + place_of s (core_of x e)))
+        × HasStored (program_of x) n capacity s t (core_of x e) (far - (first_event (program_of x) (core_of x e) + place_of s (core_of x e)))
     caught_up far short store = store_all (program_of x) n capacity (core_of x e) (far - (first_event (program_of x) (core_of x e) + place_of s (core_of x e))) s f core
-        (omega (arith, from, to, short, f.places (core_of x e))) (room (core_of x e))
+        (omega (arith, from, to, short, (f.on []).within (core_of x e))) (room (core_of x e))
         (λ i next earlier. elim (cases_lt (first_event (program_of x) (core_of x e) + i) e) [
           | inl before ↦ stores_first i next before
           | inr not_before ↦
@@ -143,22 +138,21 @@ module _ (x : Execution) (m : List ℕ) (tso : IsTsoOrder x m) (n capacity : ℕ
     waits : (w : ℕ) → 0 < times (waiting s (core_of x e)) w
         → (core_of x w ≡ core_of x e) × (is_plain_store (event_at x w) ≡ true) × (w < first_event (program_of x) (core_of x e) + place_of s (core_of x e)) × (times s.performed w ≡ 0)
     waits w there =
-        let counts : IsCounted (static_of (program_of x) s) (snapshot_of (program_of x) s) = f.in_order.steady.counted in
-        let was = counts.waiting (core_of x e) w there in
-        let done = counts.executed (core_of x e) w (omega (arith, there, times_append s.performed (waiting s (core_of x e)) w)) in (
+        let o : IsOrderly (program_of x) n s = f.on [] in
+        let was = stores_wait (program_of x) (core_of x e) w (buffer_of s (core_of x e)) (o.stores (core_of x e)) there in
+        let done = o.executed (core_of x e) w (omega (arith, there, times_append s.performed (waiting s (core_of x e)) w)) in (
           sym (core_same w) ∙ was.0,
           sym (store_same (event_at x w)) ∙ (sym (ap (λ (z : ℕ × Op). is_st z.1) (placed_is x w)) ∙ was.1),
           subst (λ (c : ℕ). w < first_event (program_of x) c + place_of s c) was.0 done.1,
-          omega (arith, waits_once (program_of x) s f.in_order.steady (core_of x e) w there, there),
+          omega (arith, waits_once (program_of x) n s o (core_of x e) w there, there),
         )
 
     -- if it is executed it waits
     waits_itself : e < first_event (program_of x) (core_of x e) + place_of s (core_of x e) → 0 < times (waiting s (core_of x e)) e
     waits_itself done =
-        let counts : IsCounted (static_of (program_of x) s) (snapshot_of (program_of x) s) = f.in_order.steady.counted in
-        let one : times (seen (snapshot_of (program_of x) s) (core_of x e)) e ≡ 1 =
-        subst (λ (c : ℕ). times (seen (snapshot_of (program_of x) s) c) e ≡ 1) (core_same e)
-        (counts.listed e counted (subst (λ (c : ℕ). e < first_event (program_of x) c + place_of s c) (sym (core_same e)) done)) in
+        let one : times (seen_by s (core_of x e)) e ≡ 1 =
+        subst (λ (c : ℕ). times (seen_by s c) e ≡ 1) (core_same e)
+        ((f.on []).once e (counted, subst (λ (c : ℕ). e < first_event (program_of x) c + place_of s c) (sym (core_same e)) done)) in
         omega (arith, one, fresh, times_append s.performed (waiting s (core_of x e)) e)
 
     module _ (ready : e ≤ first_event (program_of x) (core_of x e) + place_of s (core_of x e)) where
@@ -204,13 +198,10 @@ module _ (x : Execution) (m : List ℕ) (tso : IsTsoOrder x m) (n capacity : ℕ
                     let both = behind w less own.0 own.3 in
                     absurd (let clash : true ≡ false = sym ((and_parts (is_plain_store (event_at x w)) (is_plain_load (event_at x e)) both).1) ∙ strong in cc)
                 | inr more ↦
-                    let static = static_of (program_of x) s in
-                    let same : static.core w ≡ core_of x e = core_same w ∙ own.0 in
+                    let same : (placed_op (program_of x) w).0 ≡ core_of x e = core_same w ∙ own.0 in
                     let st : is_st (placed_op (program_of x) w).1 ≡ true = ap (λ (z : ℕ × Op). is_st z.1) (placed_is x w) ∙ (store_same (event_at x w) ∙ own.1) in
-                    let done_w : w < first_event (program_of x) (static.core w) + place_of s (static.core w) =
-                    subst (λ (c : ℕ). w < first_event (program_of x) c + place_of s c) (sym same) own.2 in
-                    let executed = f.in_order.steady.counted.executed (core_of x e) w (omega (arith, there, times_append s.performed (waiting s (core_of x e)) w)) in
-                    let kept : Before (seen (snapshot_of (program_of x) s) (static.core w)) e w = f.in_order.ordered.kept e w (omega (arith, more, other), executed.0, core_same e ∙ sym same) done_w
+                    let executed = (f.on []).executed (core_of x e) w (omega (arith, there, times_append s.performed (waiting s (core_of x e)) w)) in
+                    let kept : Before (seen_by s (placed_op (program_of x) w).0) e w = (f.on []).kept e w (omega (arith, more, other), executed.0, core_same e ∙ sym same) executed
                     (and_right (is_st (placed_op (program_of x) e).1) (is_ld (placed_op (program_of x) w).1) (store_no_load (placed_op (program_of x) w).1 st)) in
                     let here : Before (s.performed ++ w ∷ back) e w = subst (λ (b : List Entry). Before (s.performed ++ map (λ (z : Entry). z.event) b) e w) is
                     (subst (λ (c : ℕ). Before (s.performed ++ waiting s c) e w) same kept) in
@@ -218,22 +209,19 @@ module _ (x : Execution) (m : List ℕ) (tso : IsTsoOrder x m) (n capacity : ℕ
               ]
             ]
 
-    -- the addresses of its event are there
-    reads_there : (a : ℕ) → op_reads (op_of (event_at x e)) ≡ Some a → a < length s.caches.blocks
-    reads_there a is = f.in_order.steady.reads_within e a (ap (λ (z : ℕ × Op). op_reads z.1) (placed_is x e) ∙ is)
-
-    -- the address of its store too
-    stores_there : (a w : ℕ) → op_of (event_at x e) ≡ St a w → a < length s.caches.blocks
-    stores_there a w is = f.in_order.steady.writes_within e a (0, None) (ap (λ (z : ℕ × Op). written_address (event_of z.1 (0, None))) (placed_is x e) ∙ ap (λ (o : Op). written_address (event_of o (0, None))) is)
+    -- the address of its operation is there
+    address_there : (op : Op) → op_of (event_at x e) ≡ op → IsWithin (length s.caches.blocks) op
+    address_there op is = subst (λ (k : ℕ). IsWithin k op) (sym (f.on []).blocks)
+        (subst (λ (o : Op). IsWithin n o) (ap (λ (z : ℕ × Op). z.1) (placed_is x e) ∙ is) ((f.on []).addresses e))
 
     -- a core that goes on by one operation adds one to all places
     sum_up : sum (slice_set s.places (core_of x e) (place_of s (core_of x e) + 1)) ≡ sum s.places + 1
-    sum_up = omega (arith, sum_by-set (λ (k : ℕ). k) s.places (core_of x e) (place_of s (core_of x e) + 1) 0 (omega (arith, core, f.in_order.steady.places)))
+    sum_up = omega (arith, sum_by-set (λ (k : ℕ). k) s.places (core_of x e) (place_of s (core_of x e) + 1) 0 (omega (arith, core, (f.on []).places)))
 
     -- the core executes e, behind a transaction that left these caches
-    executed : (caches : moesi.State) (op : Op) (t : State) → IsFitting (program_of x) n (with_caches s caches) → e ≡ first_event (program_of x) (core_of x e) + place_of s (core_of x e) → op_of (event_at x e) ≡ op
+    executed : (caches : moesi.State) (op : Op) (t : State) → IsGoing (program_of x) n capacity (with_caches s caches) → e ≡ first_event (program_of x) (core_of x e) + place_of s (core_of x e) → op_of (event_at x e) ≡ op
         → exec capacity (with_caches s caches) (core_of x e) (first_event (program_of x) (core_of x e) + place_of s (core_of x e)) op ≡ Ok t
-        → (taken (program_of x) capacity (with_caches s caches) (Exec (core_of x e)) ≡ Ok t) × IsFitting (program_of x) n t
+        → (taken (program_of x) capacity (with_caches s caches) (Exec (core_of x e)) ≡ Ok t) × IsGoing (program_of x) n capacity t
     executed caches op t fits next is did =
         let p : List (List Op) = program_of x in
         let u : State = with_caches s caches in
@@ -244,7 +232,7 @@ module _ (x : Execution) (m : List ℕ) (tso : IsTsoOrder x m) (n capacity : ℕ
         let took : taken p capacity u (Exec (core_of x e)) ≡ Ok t =
         at_taken p capacity u (core_of x e) (get_or (get_or p (core_of x e) []) (place_of s (core_of x e)) Fence) b (is_at p u (core_of x e) core inside)
         ∙ (ap (exec capacity u (core_of x e) b) op_is ∙ did) in
-        (took, fits_on p n capacity u t (Exec (core_of x e)) fits took)
+        (took, goes_further p n capacity u t (Exec (core_of x e)) fits took)
 
     -- what is performed is e
     performed_it : e ≡ first_event (program_of x) (core_of x e) + place_of s (core_of x e) → s.performed ++ (first_event (program_of x) (core_of x e) + place_of s (core_of x e)) ∷ [] ≡ s.performed ++ e ∷ []
@@ -258,7 +246,7 @@ module _ (x : Execution) (m : List ℕ) (tso : IsTsoOrder x m) (n capacity : ℕ
           let b : ℕ = first_event (program_of x) c + place_of s c in
           let next : e ≡ b = is_next ready (ap is_plain_store is) in
           let empty : buffer_of s c ≡ [] = is_emptied ready (ap is_plain_store is) (ap is_plain_load is) in
-          let t : State = fenced_state s c b in
+          let t : State = advanced (performed s b) c in
           let did : exec capacity s c b Fence ≡ Ok t = rw empty refl in
           let took = executed s.caches Fence t f next (ap op_of is) did in (
             t,
@@ -277,10 +265,10 @@ module _ (x : Execution) (m : List ℕ) (tso : IsTsoOrder x m) (n capacity : ℕ
           let b : ℕ = first_event (program_of x) c + place_of s c in
           let next : e ≡ b = is_next ready (ap is_plain_store is) in
           let empty : buffer_of s c ≡ [] = is_emptied ready (ap is_plain_store is) (ap is_plain_load is) in
-          let got = fetch_write (program_of x) n capacity s f c a core (reads_there a (ap (λ (v : Event). op_reads (op_of v)) is)) in
+          let got = fetch_write (program_of x) n capacity s f c a core (address_there (Swap a w) (ap op_of is)) in
           let u : State = with_caches s got.0 in
           let made = write_made got.0 c a (rmw_value u c (Swap a w) a) b got.2 in
-          let t : State = rmw_state u made.0 c b a in
+          let t : State = advanced (performed (written (given u b (copy_of u c a)) made.0 a b) b) c in
           let did : exec capacity u c b (Swap a w) ≡ Ok t = rw (empty, made.1) refl in
           let took = executed got.0 (Swap a w) t got.1.1 next (ap op_of is) did in (
             t,
@@ -298,9 +286,9 @@ module _ (x : Execution) (m : List ℕ) (tso : IsTsoOrder x m) (n capacity : ℕ
           let c : ℕ = core_of x e in
           let b : ℕ = first_event (program_of x) c + place_of s c in
           let next : e ≡ b = is_next ready (ap is_plain_store is) in
-          let got = fetch_read (program_of x) n capacity s f c a core (reads_there a (ap (λ (v : Event). op_reads (op_of v)) is)) (youngest (buffer_of s c) a) in
+          let got = fetch_read (program_of x) n capacity s f c a core (address_there (Ld a) (ap op_of is)) (youngest (buffer_of s c) a) in
           let u : State = with_caches s got.0 in
-          let t : State = loaded_state u c b got.2.0 in
+          let t : State = advanced (performed (given u b got.2.0) b) c in
           let did : exec capacity u c b (Ld a) ≡ Ok t = ap (allowed B4 (λ what. advanced (performed (given u b what) b) c)) got.2.1 in
           let took = executed got.0 (Ld a) t got.1.1 next (ap op_of is) did in (
             t,
@@ -321,10 +309,10 @@ module _ (x : Execution) (m : List ℕ) (tso : IsTsoOrder x m) (n capacity : ℕ
         go (y, ys, waits_first, one) =
             let p : List (List Op) = program_of x in
             let c : ℕ = core_of x e in
-            let entry : AreStores p c (y ∷ ys) = subst (λ (b : List Entry). AreStores p c b) waits_first (f.in_order.steady.stores c) in
+            let entry : AreStores p c (y ∷ ys) = subst (λ (b : List Entry). AreStores p c b) waits_first ((f.on []).stores c) in
             let op : St a w ≡ St y.addr y.value = sym (ap op_of is) ∙ (sym (ap (λ (z : ℕ × Op). z.1) (placed_is x e)) ∙ (ap (λ (k : ℕ). (placed_op p k).1) (sym one) ∙ ap (λ (z : ℕ × Op). z.1) entry.0)) in
             let at : a ≡ y.addr = cc in
-            let got = fetch_write p n capacity s f c a core (stores_there a w (ap op_of is)) in
+            let got = fetch_write p n capacity s f c a core (address_there (St a w) (ap op_of is)) in
             let u : State = with_caches s got.0 in
             let made = write_made got.0 c y.addr y.value y.event (subst (λ (k : ℕ). is_exclusive (moesi.line_of got.0 c k) ≡ true) at got.2) in
             let t : State = drained_state u made.0 c y ys in
@@ -332,7 +320,7 @@ module _ (x : Execution) (m : List ℕ) (tso : IsTsoOrder x m) (n capacity : ℕ
               t,
               record {
                 goes = goes_on p capacity s u t (get_to_write s c a) (Drain c ∷ []) got.1.0 (goes_one p capacity u t (Drain c) took);
-                fits = fits_on p n capacity u t (Drain c) got.1.1 took;
+                fits = goes_further p n capacity u t (Drain c) got.1.1 took;
                 performed = ap (λ (k : ℕ). s.performed ++ k ∷ []) one;
                 few = omega (arith, few_write s c a, length-append (get_to_write s c a) (Drain c ∷ []));
               },

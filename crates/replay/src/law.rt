@@ -4,7 +4,7 @@ ghost use Rattle.std.specs.Prelude.{ℕ, List};
 ghost use Rattle.recorder.specs.Execution.{Execution};
 ghost use Rattle.replay.specs.Replayed.{EveryOrderIsReplayed, MakesExactlyTso};
 
-use machine::every_run_is_tso;
+use machine::{every_run_is_tso, every_state_is_orderly};
 
 /// A machine without fault, with any capacity that holds the plain stores of a core, takes each step
 /// of the replay of a TSO order of a recording, comes to its end, and makes this recording again. So
@@ -14,4 +14,5 @@ pub fn every_order_is_replayed()
     ensures exactly { (x : Execution) (capacity : ℕ) → MakesExactlyTso x capacity }
 {
     every_run_is_tso();
+    every_state_is_orderly();
 }

@@ -7,7 +7,8 @@ use Rattle.recorder.proofs.Places.{times_at}
 use Rattle.machine.specs.Held.{Held}
 use Rattle.replay.specs.Steps.{turn, order_steps}
 use Rattle.replay.specs.Replaying.{Replaying, with_steps}
-use Rattle.replay.proofs.Replays.{core_within, order_machine, order_more}
+use Rattle.replay.proofs.Made.{core_there}
+use Rattle.replay.proofs.Replays.{order_machine, order_more}
 use Rattle.replay.proofs.steps.steps_of.Goals as goal
 
 pub unreachable-requires : goal.unreachable-requires
@@ -17,7 +18,7 @@ pub turn-requires-clause-core : goal.turn-requires-clause-core
 turn-requires-clause-core c =
     let x : Execution = c.args.recording.now in
     let e : ℕ = get_or c.args.order.now c.loop-number.number-index 0 in
-    let within : core_of x e < length c.args.machine.program.cores = subst (λ (p : List (List Op)). core_of x e < length p) (sym c.requires.cores) (core_within x e c.in-Some.ensures.0) in
+    let within : core_of x e < length c.args.machine.program.cores = subst (λ (p : List (List Op)). core_of x e < length p) (sym c.requires.cores) (core_there x e c.in-Some.ensures.0) in
     subst (λ (m : Held). c.in-Some.placed.0 < length m.program.cores) (sym c.loop-number.invariant.machine) (subst (λ (k : ℕ). k < length c.args.machine.program.cores) (sym c.in-Some.ensures.1) within)
 
 pub turn-requires-clause-addresses : goal.turn-requires-clause-addresses

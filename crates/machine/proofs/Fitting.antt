@@ -1,5 +1,5 @@
--- What every step keeps of the sizes of a state: how much waits, how far cores are, and how many events there are.
-use Rattle.std.proofs.Common.{◌≡◌, ◌<◌, ◌≤◌, ◌+◌, inl, inr, ℕ, zero, suc, Bool, cond, Option, Ok, List, [], ◌∷◌, ◌++◌, map, length, get_or, slice_set, replicate, arith, refl, sym, ap, subst, ◌∙◌, get_or-set_same, get_or-set_other, length-set, length-append}
+-- What every step keeps of the sizes of a state, so that every run leads to one that is orderly.
+use Rattle.std.proofs.Common.{◌≡◌, ◌<◌, ◌≤◌, ◌+◌, inl, inr, ℕ, zero, suc, cond, Option, Ok, List, [], ◌∷◌, ◌++◌, take, length, get_or, slice_set, replicate, arith, refl, sym, ap, subst, ◌∙◌, get_or-set_same, get_or-set_other, length-set, length-append}
 use Rattle.std.specs.List.{All, sum, sum_by, count_by}
 use Rattle.std.proofs.lemmas.List.{length-replicate}
 use Rattle.std.proofs.lemmas.List.Sums.{sum_by-set, sum_by-cons}
@@ -7,21 +7,18 @@ use Rattle.std.proofs.lemmas.Bool.{cases_eq}
 use Rattle.litmus.specs.declared.op.Op.{Op}
 use Rattle.litmus.specs.declared.op.Op.TheVariants.{St, Ld, Fence}
 use Rattle.litmus.specs.Parts.{IsWithin}
-use Rattle.recorder.specs.declared.event.Event.{Event}
-use Rattle.recorder.specs.Event.{is_plain_store}
 use Rattle.write_buffer.specs.declared.entry.Entry.{Entry}
 use Rattle.moesi.specs.State as moesi
 use Rattle.moesi.specs.Laws.{IsTransaction}
 use Rattle.machine.specs.State.{State, place_of, buffer_of, copy_of, opening}
-use Rattle.machine.specs.Step.{looked_up, rmw_value, with_caches}
-use Rattle.replay.specs.Program.{op_of}
-use Rattle.machine.proofs.Static.{is_st}
-use Rattle.replay.proofs.Made.{store_same}
+use Rattle.machine.specs.declared.step.Step.{Step}
+use Rattle.machine.specs.Step.{looked_up, rmw_value, with_caches, run}
+use Rattle.machine.specs.Orderly.{placed_op, is_st, IsOrderly, EveryStateIsOrderly}
 use Rattle.machine.proofs.Drains.{drained_state}
 use Rattle.machine.proofs.Executes.{IsNext}
-use Rattle.machine.proofs.Rows.{IsKept, IsRmw, stored_state, loaded_state, fenced_state, rmw_state}
+use Rattle.machine.proofs.Rows.{IsKept, IsRmw, stored_state, loaded_state, fenced_state, rmw_state, run_kept}
 use Rattle.machine.proofs.InOrder.{IsInOrder, in_order_kept}
-use Rattle.machine.proofs.Opening.{get_or_same, opening_in_order}
+use Rattle.machine.proofs.Opening.{get_or_same, op_within, opening_in_order}
 
 -- how many of the first n operations are plain stores
 pub stores_before : ℕ → List Op → ℕ
@@ -29,35 +26,19 @@ stores_before zero ops = 0
 stores_before (suc n) [] = 0
 stores_before (suc n) (op ∷ ops) = cond (is_st op) 1 0 + stores_before n ops
 
--- how many are plain stores
-pub stores_in : List Op → ℕ
-stores_in [] = 0
-stores_in (op ∷ ops) = cond (is_st op) 1 0 + stores_in ops
-
--- none of no operations
-pub before_none : (ops : List Op) → stores_before 0 ops ≡ 0
-unfolding stores_before
-before_none ops = refl
-
 -- one operation more
-pub before_more : (i : ℕ) (ops : List Op) → i < length ops → stores_before (i + 1) ops ≡ stores_before i ops + cond (is_st (get_or ops i Fence)) 1 0
+before_more : (i : ℕ) (ops : List Op) → i < length ops → stores_before (i + 1) ops ≡ stores_before i ops + cond (is_st (get_or ops i Fence)) 1 0
 unfolding stores_before
 before_more i [] h = absurd (omega (arith, h))
 before_more zero (op ∷ ops) h = omega arith
 before_more (suc i) (op ∷ ops) h = omega (arith, before_more i ops (omega (arith, h)), ap (λ (k : ℕ). stores_before k (op ∷ ops)) (let e : suc i + 1 ≡ suc (i + 1) = omega arith in e))
 
--- no part has more than all
-pub before_all : (i : ℕ) (ops : List Op) → stores_before i ops ≤ stores_in ops
-unfolding stores_before stores_in
-before_all zero ops = omega arith
-before_all (suc i) [] = omega arith
-before_all (suc i) (op ∷ ops) = omega (arith, before_all i ops)
-
--- a core has as many plain stores as its operations
-pub stores_same : (es : List Event) → stores_in (map op_of es) ≡ count_by is_plain_store es
-unfolding stores_in
-stores_same [] = refl
-stores_same (ev ∷ es) = omega (arith, ap {B = ℕ} (λ (b : Bool). cond b 1 0) (store_same ev), stores_same es, sum_by-cons {X = Event} (λ e. cond (is_plain_store e) 1 0) ev es)
+-- they are counted so
+before_is : (i : ℕ) (ops : List Op) → stores_before i ops ≡ count_by is_st (take i ops)
+unfolding stores_before
+before_is zero ops = refl
+before_is (suc i) [] = refl
+before_is (suc i) (op ∷ ops) = omega (arith, before_is i ops, sum_by-cons {X = Op} (λ o. cond (is_st o) 1 0) op (take i ops))
 
 -- what fits: no core waits for more stores than it executed, none is past its end, and each executed event was performed or waits
 pub record IsFitting (p : List (List Op)) (n : ℕ) (s : State) : Type 0 where
@@ -186,7 +167,7 @@ module _ (p : List (List Op)) (n : ℕ) (s : State) (f : IsFitting p n s) where
   }
 
   -- each row keeps what fits
-  pub fitting_kept : IsKept p s (IsFitting p n)
+  fitting_kept : IsKept p s (IsFitting p n)
   fitting_kept = record {
     drain = drain_fits;
     store = store_fits;
@@ -207,7 +188,7 @@ wait_none zero = refl
 wait_none (suc n) = omega (arith, sum_by-cons (λ (b : List Entry). length b) [] (replicate n []), wait_none n)
 
 -- the opening state fits
-pub opening_fits : (p : List (List Op)) (n : ℕ) → All (λ ops. All (IsWithin n) ops) p → IsFitting p n (opening p n)
+opening_fits : (p : List (List Op)) (n : ℕ) → All (λ ops. All (IsWithin n) ops) p → IsFitting p n (opening p n)
 opening_fits p n fits = record {
   in_order = opening_in_order p n fits;
   few = λ c. omega (arith, ap (λ (l : List Entry). length l) (get_or_same {A = List Entry} (length p) c []));
@@ -215,3 +196,27 @@ opening_fits p n fits = record {
   lists = length-replicate {A = List ℕ} n [];
   counted = omega (arith, sum_none (length p), wait_none (length p));
 }
+
+-- a state that fits is orderly
+orderly : (p : List (List Op)) (n : ℕ) (s : State) → ((e : ℕ) → IsWithin n (placed_op p e).1) → IsFitting p n s → IsOrderly p n s
+orderly p n s within f = record {
+  places = f.in_order.steady.places;
+  within = f.places;
+  buffers = f.in_order.steady.buffers;
+  lists = f.lists;
+  blocks = omega (arith, f.lists, f.in_order.steady.listed.cells);
+  lines = λ a inside. omega (arith, f.in_order.coherent.lines a (omega (arith, inside, f.lists, f.in_order.steady.listed.cells)), f.in_order.steady.cores);
+  addresses = within;
+  counted = f.counted;
+  once = λ e done. f.in_order.steady.counted.listed e done.0 done.1;
+  executed = λ c e there. f.in_order.steady.counted.executed c e there;
+  stores = f.in_order.steady.stores;
+  few = λ c. omega (arith, f.few c, before_is (place_of s c) (get_or p c []));
+  kept = λ e f' own done strong. f.in_order.ordered.kept e f' own done.1 strong;
+}
+
+-- every run leads to such a state
+pub every_state_is_orderly : (p : List (List Op)) (n capacity : ℕ) (steps : List Step) → EveryStateIsOrderly p n capacity steps
+every_state_is_orderly p n capacity steps fits =
+    orderly p n (run p capacity (opening p n) steps) (op_within p n fits)
+    (run_kept p capacity (IsFitting p n) (λ s f. (fitting_kept p n s f, f.in_order.steady.places)) steps (opening p n) (opening_fits p n fits))

@@ -1,0 +1,75 @@
+-- What holds of every state that a run leads to.
+use Rattle.std.specs.Prelude.{◌≡◌, ◌<◌, ◌≤◌, ◌+◌, ◌&&◌, ℕ, Bool, true, false, List, [], ◌∷◌, ◌++◌, map, take, length, slice_index_or, sum, sum_by, count_by, All}
+use Rattle.litmus.specs.declared.op.Op.{Op}
+use Rattle.litmus.specs.declared.op.Op.TheVariants.{St, Ld, Fence, Swap, Add}
+use Rattle.litmus.specs.Parts.{IsWithin}
+use Rattle.recorder.specs.Execution.{placed_from}
+use Rattle.recorder.specs.Order.{times, Before}
+use Rattle.write_buffer.specs.declared.entry.Entry.{Entry}
+use Rattle.moesi.specs.State as moesi
+use Rattle.machine.specs.declared.step.Step.{Step}
+use Rattle.machine.specs.State.{State, place_of, buffer_of, first_event, opening}
+use Rattle.machine.specs.Step.{run}
+
+-- the core and the operation of event e
+abbrev pub placed_op : List (List Op) → ℕ → ℕ × Op
+placed_op p e = slice_index_or (placed_from 0 p) e (0, Fence)
+
+-- whether an operation is a plain store
+abbrev pub is_st : Op → Bool
+is_st (St a v) = true
+is_st (Ld a) = false
+is_st Fence = false
+is_st (Swap a v) = false
+is_st (Add a v) = false
+
+-- whether it is a plain load
+abbrev pub is_ld : Op → Bool
+is_ld (St a v) = false
+is_ld (Ld a) = true
+is_ld Fence = false
+is_ld (Swap a v) = false
+is_ld (Add a v) = false
+
+-- e is earlier than f on one core
+abbrev pub IsBefore : List (List Op) → ℕ → ℕ → Type 0
+IsBefore p e f = (e < f) × (f < length (placed_from 0 p)) × ((placed_op p e).0 ≡ (placed_op p f).0)
+
+-- event e is one of the program's, and its core has executed it
+abbrev pub IsExecuted : List (List Op) → State → ℕ → Type 0
+IsExecuted p s e = (e < length (placed_from 0 p)) × (e < first_event p (placed_op p e).0 + place_of s (placed_op p e).0)
+
+-- each waiting entry is the store of its event
+abbrev pub AreStores : List (List Op) → ℕ → List Entry → Type 0
+AreStores p c [] = Unit {0}
+AreStores p c (x ∷ xs) = (placed_op p x.event ≡ (c, St x.addr x.value)) × AreStores p c xs
+
+-- the events as core c sees them: what was performed, then what waits in its buffer
+abbrev pub seen_by : State → ℕ → List ℕ
+seen_by s c = s.performed ++ map (λ x. x.event) (buffer_of s c)
+
+-- what fits together in a state of a program of n addresses
+pub record IsOrderly (p : List (List Op)) (n : ℕ) (s : State) : Type 0 where
+  -- each core has a place within its operations, and a buffer
+  pub places : length s.places ≡ length p
+  pub within : (c : ℕ) → place_of s c ≤ length (slice_index_or p c [])
+  pub buffers : length s.buffers ≡ length p
+  -- each address has a write list, and a line for each core; the operations have these addresses
+  pub lists : length s.write_lists ≡ n
+  pub blocks : length s.caches.blocks ≡ n
+  pub lines : (a : ℕ) → a < n → length (moesi.block_of s.caches a).lines ≡ length p
+  pub addresses : (e : ℕ) → IsWithin n (placed_op p e).1
+  -- what was executed was performed or waits: it stands once among what its core sees, and nothing else does
+  pub counted : sum s.places ≡ length s.performed + sum_by (λ b. length b) s.buffers
+  pub once : (e : ℕ) → IsExecuted p s e → times (seen_by s (placed_op p e).0) e ≡ 1
+  pub executed : (c e : ℕ) → 0 < times (seen_by s c) e → IsExecuted p s e
+  -- what waits are plain stores, no more than its core has executed
+  pub stores : (c : ℕ) → AreStores p c (buffer_of s c)
+  pub few : (c : ℕ) → length (buffer_of s c) ≤ count_by is_st (take (place_of s c) (slice_index_or p c []))
+  -- what is earlier on a core stands earlier, unless it is a plain store before a plain load
+  pub kept : (e f : ℕ) → IsBefore p e f → IsExecuted p s f → (is_st (placed_op p e).1 && is_ld (placed_op p f).1) ≡ false
+      → Before (seen_by s (placed_op p f).0) e f
+
+-- every run leads to such a state
+abbrev pub EveryStateIsOrderly : List (List Op) → ℕ → ℕ → List Step → Type 0
+EveryStateIsOrderly p n capacity steps = All (λ ops. All (IsWithin n) ops) p → IsOrderly p n (run p capacity (opening p n) steps)
