@@ -1,11 +1,8 @@
 //! The reasons of forced pairs.
 
-use crate::recordings::{
-    BYPASSING, LOAD_AND_STORE, MESSAGE_PASSING, OVERLOOKED_STORE, SELF_SOURCE, TWIN_SWAPS,
-    recorded, related,
-};
+use crate::recordings::{BYPASSING, LOAD_AND_STORE, SELF_SOURCE, TWIN_SWAPS, related};
 use litmus::EventId;
-use relations::{Reason, Relation, overlook};
+use relations::{Reason, Relation};
 use std::test::Fail;
 
 #[test]
@@ -32,14 +29,5 @@ fn a_pair_has_the_first_reason_that_holds(rt: HostRuntime) -> Result<(), Fail> {
         assert_eq!(rt; relation.forced(first, second), reason.is_some(), "{name}");
     }
     assert_eq!(rt; bypassing.len(), 5);
-    Ok(())
-}
-
-#[test]
-fn a_load_of_an_older_value_than_its_core_stored_is_named(rt: HostRuntime) -> Result<(), Fail> {
-    let overlooked_store = recorded(rt.alloc(), OVERLOOKED_STORE)?;
-    let message_passing = recorded(rt.alloc(), MESSAGE_PASSING)?;
-    assert_eq!(rt; overlook(&overlooked_store), Some((1, 0)));
-    assert_eq!(rt; overlook(&message_passing), None);
     Ok(())
 }

@@ -1,26 +1,10 @@
 //! Lists of events, and which of them are memory orders.
 
-use crate::recordings::{
-    BYPASSING, MESSAGE_PASSING, STORE_BUFFERING, TWIN_SWAPS, recorded, related,
-};
+use crate::recordings::{MESSAGE_PASSING, STORE_BUFFERING, recorded};
 use litmus::EventId;
-use order::{build, check};
+use order::check;
 use recorder::Recording;
 use std::test::Fail;
-
-#[test]
-fn the_least_order_is_built_where_there_is_one(rt: HostRuntime) -> Result<(), Fail> {
-    let alloc = rt.alloc();
-    let bypassing = build(alloc, &related(alloc, BYPASSING)?)
-        .ok()
-        .ok_or("memory")?;
-    let twin_swaps = build(alloc, &related(alloc, TWIN_SWAPS)?)
-        .ok()
-        .ok_or("memory")?;
-    assert_eq!(rt; bypassing.as_deref(), Some(&[1, 2, 3, 4, 0][..]));
-    assert!(rt; twin_swaps.is_none());
-    Ok(())
-}
 
 #[test]
 fn memory_orders_are_those_that_the_rules_allow(rt: HostRuntime) -> Result<(), Fail> {

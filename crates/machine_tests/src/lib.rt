@@ -4,8 +4,6 @@
 #[cfg(test)]
 mod buffers;
 #[cfg(test)]
-mod cores;
-#[cfg(test)]
 mod gates;
 #[cfg(test)]
 mod lines;

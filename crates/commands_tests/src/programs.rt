@@ -1,4 +1,4 @@
-//! Litmus texts at their limits, and past them.
+//! Programs at their limits, and past them.
 
 use litmus::{LineFault, LitmusError, MAX_ADDRESSES, MAX_CORES, MAX_EVENTS, parse};
 use std::alloc::Global;
