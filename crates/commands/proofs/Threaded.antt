@@ -7,7 +7,7 @@ use Rattle.litmus.specs.Text.{reading}
 use Rattle.machine.specs.State.{State, IsComplete, opening}
 use Rattle.machine.specs.Step.{run}
 use Rattle.machine.specs.Held.{Held}
-use Rattle.live.specs.Trace.{Trace, IsEnded, IsReplay}
+use Rattle.live.specs.Trace.{Trace, IsEnded, IsTrace}
 use Rattle.live.specs.Driven.{IsGiven}
 use Rattle.commands.specs.declared.answer.Answer.{Answer}
 use Rattle.commands.specs.Inputs.{AreBytesOf}
@@ -16,7 +16,7 @@ use Rattle.commands.specs.Run.{state_after, IsRunAnswer, IsLive}
 -- the answer of the machine that they leave is that of the run of its trace
 pub live_answer : (inputs : List ℕ → Option (List ℕ)) (o : LiveOptions) (text : List ℕ) (program : Parts) (t : Trace) (machine : Held) (answer : Answer)
     → AreBytesOf inputs (string_bytes o.program) text → reading text ≡ Ok program
-    → IsGiven program o.buffer o.limit t → IsEnded t → IsReplay t → machine ≡ t.machine → IsRunAnswer machine.program machine.state answer → IsLive inputs o answer
+    → IsGiven program o.buffer o.limit t → IsEnded t → IsTrace t → machine ≡ t.machine → IsRunAnswer machine.program machine.state answer → IsLive inputs o answer
 live_answer inputs o text program t machine answer bytes read given ended replay same is =
     let state : t.machine.state ≡ state_after program o.buffer t.steps =
     replay ∙ (ap (λ (q : Parts). run q.cores t.machine.capacity (opening q.cores (length q.names)) t.steps) given.program_is

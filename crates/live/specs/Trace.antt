@@ -16,8 +16,8 @@ abbrev pub opening_of : Held → State
 opening_of h = opening h.program.cores (length h.program.names)
 
 -- the steps, from the opening state of the machine's program, lead to the machine's state
-abbrev pub IsReplay : Trace → Type 0
-IsReplay t = t.machine.state ≡ run t.machine.program.cores t.machine.capacity (opening_of t.machine) t.steps
+abbrev pub IsTrace : Trace → Type 0
+IsTrace t = t.machine.state ≡ run t.machine.program.cores t.machine.capacity (opening_of t.machine) t.steps
 
 -- the machine is complete, or has taken all steps that it may take
 abbrev pub IsEnded : Trace → Type 0

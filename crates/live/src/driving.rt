@@ -3,7 +3,7 @@
 ghost use Rattle.std.specs.Prelude.{◌≡◌, ◌↔◌, IsTrue, IfOk, IfErr};
 ghost use Rattle.recorder.specs.Tso.{IsTsoOrder};
 ghost use Rattle.machine.specs.Held.{recording_of, IsAtEnd};
-ghost use Rattle.live.specs.Trace.{IsReplay, IsEnded};
+ghost use Rattle.live.specs.Trace.{IsTrace, IsEnded};
 ghost use Rattle.live.specs.Driven.{IsGiven, IsDriveError};
 
 use crate::crew::Crew;
@@ -51,7 +51,7 @@ pub fn drive<R: Threads + Wait + Sync, G: Gate>(
 ) -> Result<Traced, LiveError>
     ensures given { IfOk result (IsGiven program capacity limit) }
     ensures ended { IfOk result IsEnded }
-    ensures replay { IfOk result IsReplay }
+    ensures replay { IfOk result IsTrace }
     // Where it is complete, the order of what was performed is one that TSO allows.
     ensures tso { IfOk result (λ t. IsAtEnd t.machine
         → IsTsoOrder (recording_of t.machine) t.machine.state.performed) }

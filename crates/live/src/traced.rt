@@ -17,13 +17,13 @@ pub struct Traced {
 
 impl Model for Traced {
     ghost use Rattle.std.specs.Prelude.{◌≤◌, vec_capacity, vec_len};
-    ghost use Rattle.live.specs.Trace.{Trace, IsReplay};
+    ghost use Rattle.live.specs.Trace.{Trace, IsTrace};
 
     ghost Value = { Trace };
 
     ghost view = { λ t. record { machine = t.machine; steps = t.steps.items; limit = t.limit } };
 
-    ghost invariant = { λ t. IsReplay (record { machine = t.machine; steps = t.steps.items; limit = t.limit })
+    ghost invariant = { λ t. IsTrace (record { machine = t.machine; steps = t.steps.items; limit = t.limit })
         × (vec_len t.steps ≤ t.limit) × (t.limit ≤ vec_capacity t.steps) };
 }
 
@@ -31,7 +31,7 @@ impl Traced {
     ghost use Rattle.std.specs.Prelude.{◌≡◌, ◌≤◌, ◌<◌, ◌↔◌, [], IsTrue, IfOk, IfErr, OnOk, OnErr, Ok, Err, length};
     ghost use Rattle.recorder.specs.Tso.{IsTsoOrder};
     ghost use Rattle.machine.specs.Held.{recording_of, IsAtEnd};
-    ghost use Rattle.live.specs.Trace.{Trace, IsReplay, IsEnded, opening_of};
+    ghost use Rattle.live.specs.Trace.{Trace, IsTrace, IsEnded, opening_of};
     ghost use Rattle.live.specs.Advance.{advanced};
 
     /// A machine that has not yet taken a step, whose trace may have `limit` steps; the room for
@@ -52,7 +52,7 @@ impl Traced {
     /// The steps that were taken, first to last. From the opening state they lead to the machine.
     pub fn trace(&self) -> &[Step]
         ensures steps { result.now ≡ self.now.steps }
-        ensures replay { IsReplay self.now }
+        ensures replay { IsTrace self.now }
         ensures within { length self.now.steps ≤ self.now.limit }
     {
         self.steps.as_slice()
@@ -81,7 +81,7 @@ impl Traced {
 
     /// What every traced machine keeps. It does nothing.
     pub fn sound(&self)
-        ensures replay { IsReplay self.now }
+        ensures replay { IsTrace self.now }
         ensures within { length self.now.steps ≤ self.now.limit }
         // Where it is complete, the order of what was performed is one that TSO allows.
         ensures tso { IsAtEnd self.now.machine
@@ -95,7 +95,7 @@ impl Traced {
     /// The machine alone.
     pub fn into_machine(self) -> Machine
         ensures machine { result ≡ self.machine }
-        ensures replay { IsReplay self }
+        ensures replay { IsTrace self }
     {
         self.machine
     }
