@@ -2,9 +2,11 @@
 use Rattle.std.specs.Prelude.{◌≡◌, ◌≤◌, ◌⊎◌, ◌++◌, ◌∷◌, [], ℕ, List, Option, Ok, codes, decimal, string_bytes}
 use Rattle.command_line.specs.declared.options.ReplayOptions.{ReplayOptions}
 use Rattle.litmus.specs.Spelling.{spelling}
+use Rattle.litmus.specs.Text.{reading}
 use Rattle.recorder.specs.Execution.{Execution}
 use Rattle.recorder.specs.Reading.{Answers}
 use Rattle.recorder.specs.Tso.{IsTsoOrder}
+use Rattle.machine.specs.Script.{steps_of}
 use Rattle.machine.specs.ScriptText.{script_text}
 use Rattle.replay.specs.Numbered.{IsNumberedByFirstUse}
 use Rattle.replay.specs.Program.{named_program}
@@ -27,12 +29,18 @@ replay_text x m =
     codes "buffer " ++ decimal (most_stores x.cores) ++ 10 ∷ 10 ∷ [] ++ spelling (named_program x) ++ 10 ∷ []
     ++ script_text (named_program x) (replay_steps x m)
 
--- the replay of a recording's least order, which makes the recording again
+-- the printed program is read as the program, and the printed script for it as the steps
+pub record IsReadBack (x : Execution) (m : List ℕ) : Type 0 where
+  pub program : reading (spelling (named_program x)) ≡ Ok (named_program x)
+  pub script : steps_of (named_program x) (script_text (named_program x) (replay_steps x m)) ≡ Ok (replay_steps x m)
+
+-- the replay of a recording's least order, whose parts are read back and make the recording again
 pub record IsReplayAnswer (x : Execution) (answer : Answer) : Type 0 where
   pub order : List ℕ
   pub least : IsOrderedVerdict x order
   pub status : answer.status ≡ DONE
   pub text : answer.text.items ≡ replay_text x order
+  pub read : IsReadBack x order
   pub replay : (capacity : ℕ) → most_stores x.cores ≤ capacity → IsReplay x order (named_program x) capacity (replay_steps x order)
 
 -- the verdict on a recording that TSO does not allow

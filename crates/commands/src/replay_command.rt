@@ -3,7 +3,7 @@ ghost use Rattle.std.specs.Prelude.{◌≡◌, IfErr, IfOk};
 ghost use Rattle.judge.specs.Verdict.{IsVerdict, Verifies};
 ghost use Rattle.recorder.specs.Tso.{IsTsoOrder};
 ghost use Rattle.replay.specs.Numbered.{IsNumberedByFirstUse};
-ghost use Rattle.commands.specs.Replay.{IsReplayed, IsReplayedInput, IsReplayOf, IsReplayStop, IsUnreplayed, replay_text};
+ghost use Rattle.commands.specs.Replay.{IsReadBack, IsReplayed, IsReplayedInput, IsReplayOf, IsReplayStop, IsUnreplayed, replay_text};
 
 use crate::answer::{Answer, DONE, Stop};
 use crate::judge_command::{WORKERS, unread};
@@ -13,7 +13,7 @@ use crate::verdict::verdict_behind;
 use command_line::ReplayOptions;
 use itoa::Buffer;
 use judge::{Verdict, judge};
-use litmus::{EventId, OutOfMemory, print};
+use litmus::{EventId, OutOfMemory, has_one_text, print};
 use machine::steps_text;
 use recorder::{Recording, read_recording};
 use replay::{every_order_is_replayed, is_numbered, most_stores, replay_steps};
@@ -29,10 +29,13 @@ fn replay_text(
 ) -> Result<Vec<u8>, OutOfMemory>
     requires numbered { IsNumberedByFirstUse recording.now }
     requires order { IsTsoOrder recording.now order.now }
-    ensures { IfOk result (λ text. text.items ≡ replay_text recording.now order.now) }
+    ensures text { IfOk result (λ text. text.items ≡ replay_text recording.now order.now) }
+    ensures read { IfOk result (λ _. IsReadBack recording.now order.now) }
 {
     recording.sound();
+    has_one_text();
     let (program, steps) = replay_steps(alloc, recording, order)?;
+    program.sound();
     let program_text = print(alloc, &program)?;
     let script = steps_text(alloc, &steps, &program)?;
     let mut buffer = Buffer::new();

@@ -2,7 +2,7 @@ use Rattle.std.proofs.Common.{◌∙◌, inl, refl, ap, subst, List, ℕ}
 use Rattle.judge.specs.declared.verdict.Verdict.{Verdict}
 use Rattle.judge.specs.Verdict.{IsVerdict, IsOrderedVerdict}
 use Rattle.recorder.specs.Execution.{Execution}
-use Rattle.commands.specs.Replay.{replay_text}
+use Rattle.commands.specs.Replay.{replay_text, IsReadBack}
 use Rattle.commands.proofs.replay_command.replay_of.Goals as goal
 
 pub returns-in_ok-text-in-Ordered : goal.returns-in_ok-text-in-Ordered
@@ -14,6 +14,7 @@ returns-in_ok-text-in-Ordered c =
       order = m;
       least = least;
       status = refl;
-      text = c.in_ok-text-in-Ordered.ensures ∙ ap (λ (l : List ℕ). replay_text x l) c.deref.ensures.value;
+      text = c.in_ok-text-in-Ordered.ensures.text ∙ ap (λ (l : List ℕ). replay_text x l) c.deref.ensures.value;
+      read = subst (λ (l : List ℕ). IsReadBack x l) c.deref.ensures.value c.in_ok-text-in-Ordered.ensures.read;
       replay = λ capacity room. c.every_order_is_replayed.ensures.replay x m capacity c.sound.ensures least.order room;
     })
