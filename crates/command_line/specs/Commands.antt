@@ -1,6 +1,7 @@
 -- The commands and options, as clap reads them of words.
-use Rattle.std.specs.Prelude.{List, Option, Some, true, codes}
-use Rattle.clap.specs.Words.{App, Row, Rule, Text, new_app, new_rule, subcommand_of, with_rule, with_subcommand}
+use Rattle.std.specs.Prelude.{◌≡◌, List, [], Option, Some, true, codes}
+use Rattle.clap.specs.Words.{App, Row, Rule, Text, fault_of, new_app, new_rule, subcommand_of, with_rule}
+use Rattle.clap.specs.Words.{with_subcommand}
 use Rattle.clap.specs.declared.builder.ArgAction.TheVariants.{Set}
 use Rattle.clap.specs.declared.builder.value_parser.ValueParser.TheVariants.{Unsigned}
 
@@ -61,7 +62,12 @@ bare_app =
 
 -- the program with its commands; its name is not among the words
 abbrev pub program_app : App
-program_app = with_subcommand (with_subcommand (with_subcommand (with_subcommand bare_app run_app.top) judge_app.top) live_app.top) replay_app.top
+program_app = with_subcommand (with_subcommand
+    (with_subcommand (with_subcommand bare_app run_app.top) judge_app.top) live_app.top) replay_app.top
+
+-- clap finds no fault in the words
+abbrev pub AreTaken : List Text → Type 0
+AreTaken words = fault_of program_app words ≡ []
 
 -- the command that clap reads of the words, and the entries of its arguments and options
 abbrev pub command_of : List Text → Option (Text × List Row)

@@ -1,8 +1,11 @@
 //! The commands and options, as `clap` reads and explains them.
-ghost use Rattle.std.specs.Prelude.{◌≡◌, IfOk, false};
+ghost use Rattle.std.specs.Prelude.{◌≡◌, IfOk, Some, false, string_bytes};
 ghost use Rattle.clap.specs.Words.{app_of, rule_of};
 ghost use Rattle.clap.specs.declared.builder.command.Command.TheViews.{out-Command as fields_of};
-ghost use Rattle.command_line.specs.Commands.{bare_app, buffer_rule, file_rule, judge_app, limit_rule, live_app, program_app, program_rule, replay_app, run_app, steps_rule};
+ghost use Rattle.command_line.specs.Commands.{bare_app, buffer_rule, file_rule, judge_app, limit_rule};
+ghost use Rattle.command_line.specs.Commands.{live_app, program_app, program_rule, replay_app, run_app};
+ghost use Rattle.command_line.specs.Commands.{steps_rule};
+ghost use Rattle.command_line.specs.Help.{AreHelpTexts, buffer_text, help_of, limit_text, steps_text};
 
 use crate::options::{DEFAULT_BUFFER, DEFAULT_LIMIT};
 use clap::{Arg, ArgAction, Command};
@@ -108,16 +111,12 @@ pub struct Texts {
     steps: String,
     buffer: String,
     limit: String,
+    ghost named: { AreHelpTexts (string_bytes steps) (string_bytes buffer) (string_bytes limit) },
 }
 
 impl Texts {
-    ghost use Rattle.std.specs.Prelude.{IfOk};
-    ghost use Rattle.command_line.specs.Help.{AreHelpTexts};
-
     /// The texts at the limits of this program.
-    pub fn new(alloc: Global) -> Result<Texts, AllocError>
-        ensures { IfOk result AreHelpTexts }
-    {
+    pub fn new(alloc: Global) -> Result<Texts, AllocError> {
         Ok(Texts {
             steps: format!(in alloc;
                 "The script: a file of at most {MAX_STEPS} lines, or - for standard input"
@@ -144,6 +143,7 @@ fn program_arg<'a>(alloc: Global) -> Arg<'a>
 
 fn steps_arg<'a>(alloc: Global, texts: &'a Texts) -> Arg<'a>
     ensures rule { rule_of result ≡ steps_rule }
+    ensures help { help_of result ≡ Some steps_text }
     ensures local { result.global ≡ false }
 {
     Arg::new(alloc, "steps")
@@ -156,6 +156,7 @@ fn steps_arg<'a>(alloc: Global, texts: &'a Texts) -> Arg<'a>
 
 fn buffer_arg<'a>(alloc: Global, texts: &'a Texts) -> Arg<'a>
     ensures rule { rule_of result ≡ buffer_rule }
+    ensures help { help_of result ≡ Some buffer_text }
     ensures local { result.global ≡ false }
 {
     Arg::new(alloc, "buffer")
@@ -205,6 +206,7 @@ fn judge<'a>(alloc: Global) -> Result<Command<'a>, AllocError>
 
 fn limit_arg<'a>(alloc: Global, texts: &'a Texts) -> Arg<'a>
     ensures rule { rule_of result ≡ limit_rule }
+    ensures help { help_of result ≡ Some limit_text }
     ensures local { result.global ≡ false }
 {
     Arg::new(alloc, "limit")

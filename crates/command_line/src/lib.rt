@@ -5,4 +5,4 @@ mod command;
 mod options;
 pub mod words;
 
-pub use options::{JudgeOptions, LiveOptions, OptionFault, Options, ReplayOptions, RunOptions};
+pub use options::{FileOptions, LiveOptions, OptionFault, Options, RunOptions};

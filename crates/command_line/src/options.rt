@@ -1,7 +1,9 @@
 //! The options, from what `clap` reads of the words.
-ghost use Rattle.std.specs.Prelude.{◌≡◌, Some, None, IfErr, IfOk, IfSome, option_map};
+ghost use Rattle.std.specs.Prelude.{◌≡◌, IfErr, IfNone, IfOk, IfSome, option_map};
 ghost use Rattle.clap.specs.Words.{first_of, found_of, one_of, rows_of};
-ghost use Rattle.command_line.specs.Options.{AreJudgeOptions, AreLiveOptions, AreReplayOptions, AreRunOptions, IsCapacity, IsCapacityFault, IsJudgeFault, IsLiveFault, IsReplayFault, IsRunFault, number_or};
+ghost use Rattle.command_line.specs.Options.{AreFileOptions, AreLiveOptions, AreRunOptions, HasNoNumber};
+ghost use Rattle.command_line.specs.Options.{IsCapacity, IsCapacityFault, IsFileFault, IsLiveFault};
+ghost use Rattle.command_line.specs.Options.{IsRunFault, number_or};
 
 use clap::ArgMatches;
 use clap::error::ErrorKind;
@@ -20,11 +22,11 @@ pub enum Options {
     /// `run`.
     Run(RunOptions),
     /// `judge`.
-    Judge(JudgeOptions),
+    Judge(FileOptions),
     /// `live`.
     Live(LiveOptions),
     /// `replay`.
-    Replay(ReplayOptions),
+    Replay(FileOptions),
 }
 
 /// What `run` is asked: the names of the program and of the script, and the capacity of each buffer.
@@ -38,9 +40,9 @@ pub struct RunOptions {
     pub buffer: usize,
 }
 
-/// What `judge` is asked: the name of the recording.
+/// What `judge` and `replay` are asked: the name of the recording.
 #[derive(Debug, Drop)]
-pub struct JudgeOptions {
+pub struct FileOptions {
     /// The name of the recording.
     pub file: String,
 }
@@ -55,13 +57,6 @@ pub struct LiveOptions {
     pub buffer: usize,
     /// How many steps may be taken, 1 to `MAX_STEPS`.
     pub limit: usize,
-}
-
-/// What `replay` is asked: the name of the recording.
-#[derive(Debug, Drop)]
-pub struct ReplayOptions {
-    /// The name of the recording.
-    pub file: String,
 }
 
 /// Why the words gave no options.
@@ -123,8 +118,9 @@ fn value<'a>(matches: &ArgMatches<'a>, id: &str) -> Option<&'a str>
 
 /// The number of an option, or its default where there is no entry. None where an entry is no number.
 fn number_or(matches: &ArgMatches<'_>, id: &str, default: u64) -> Option<u64>
-    ensures number { IfSome result (λ n. n ≡ number_or default (one_of id.now (rows_of (found_of matches.now)))) }
-    ensures none { one_of id.now (rows_of (found_of matches.now)) ≡ None → result ≡ Some default }
+    ensures number { IfSome result (λ n. n ≡ number_or default
+        (one_of id.now (rows_of (found_of matches.now)))) }
+    ensures none { IfNone result (HasNoNumber id.now (rows_of (found_of matches.now))) }
 {
     match matches.try_get_one::<u64>(id) {
         Ok(Some(n)) => Some(n),
@@ -167,15 +163,15 @@ pub fn run_options(alloc: Global, matches: &ArgMatches<'_>) -> Result<RunOptions
     })
 }
 
-/// The options of `judge`: the file is `clap`'s entry.
-pub fn judge_options(alloc: Global, matches: &ArgMatches<'_>) -> Result<JudgeOptions, OptionFault>
-    ensures ok { IfOk result (λ o. AreJudgeOptions o (rows_of (found_of matches.now))) }
-    ensures err { IfErr result (λ fault. IsJudgeFault fault (rows_of (found_of matches.now))) }
+/// The options of `judge` and of `replay`: the file is `clap`'s entry.
+pub fn file_options(alloc: Global, matches: &ArgMatches<'_>) -> Result<FileOptions, OptionFault>
+    ensures ok { IfOk result (λ o. AreFileOptions o (rows_of (found_of matches.now))) }
+    ensures err { IfErr result (λ fault. IsFileFault fault (rows_of (found_of matches.now))) }
 {
     let Some(file) = value(matches, "FILE") else {
         return Err(OptionFault::NoValue("FILE"));
     };
-    Ok(JudgeOptions {
+    Ok(FileOptions {
         file: String::from_str(alloc, file)?,
     })
 }
@@ -200,18 +196,5 @@ pub fn live_options(alloc: Global, matches: &ArgMatches<'_>) -> Result<LiveOptio
         program: String::from_str(alloc, program)?,
         buffer,
         limit: limit as usize,
-    })
-}
-
-/// The options of `replay`: the file is `clap`'s entry.
-pub fn replay_options(alloc: Global, matches: &ArgMatches<'_>) -> Result<ReplayOptions, OptionFault>
-    ensures ok { IfOk result (λ o. AreReplayOptions o (rows_of (found_of matches.now))) }
-    ensures err { IfErr result (λ fault. IsReplayFault fault (rows_of (found_of matches.now))) }
-{
-    let Some(file) = value(matches, "FILE") else {
-        return Err(OptionFault::NoValue("FILE"));
-    };
-    Ok(ReplayOptions {
-        file: String::from_str(alloc, file)?,
     })
 }

@@ -2,18 +2,17 @@
 ghost use Rattle.std.specs.Prelude.{◌≡◌, IfErr, IfOk, map, option_map, string_bytes};
 ghost use Rattle.clap.specs.Words.{found_of, rows_of, subcommand_rows_of};
 ghost use Rattle.command_line.specs.Options.{AreOptions, IsCommandFault, IsFault};
-ghost use Rattle.command_line.specs.Commands.{command_of};
+ghost use Rattle.command_line.specs.Commands.{AreTaken, command_of};
 
 use crate::command::{Texts, command};
-use crate::options::{
-    OptionFault, Options, judge_options, live_options, replay_options, run_options,
-};
+use crate::options::{OptionFault, Options, file_options, live_options, run_options};
 use clap::ArgMatches;
 use std::alloc::Global;
 
 /// The command that was read, with its entries.
 fn entered<'m, 'a>(matches: &'m ArgMatches<'a>) -> Option<(&'a str, &'m ArgMatches<'a>)>
-    ensures { option_map (λ p. (p.0.now, rows_of (found_of p.1.now))) result ≡ subcommand_rows_of matches.now }
+    ensures { option_map (λ p. (p.0.now, rows_of (found_of p.1.now))) result
+        ≡ subcommand_rows_of matches.now }
 {
     matches.subcommand()
 }
@@ -30,7 +29,7 @@ fn command_options(alloc: Global, matches: &ArgMatches<'_>) -> Result<Options, O
         return Ok(Options::Run(run));
     }
     if name == "judge" {
-        let judge = judge_options(alloc, entries)?;
+        let judge = file_options(alloc, entries)?;
         return Ok(Options::Judge(judge));
     }
     if name == "live" {
@@ -38,7 +37,7 @@ fn command_options(alloc: Global, matches: &ArgMatches<'_>) -> Result<Options, O
         return Ok(Options::Live(live));
     }
     if name == "replay" {
-        let replay = replay_options(alloc, entries)?;
+        let replay = file_options(alloc, entries)?;
         return Ok(Options::Replay(replay));
     }
     Err(OptionFault::NoValue("the command"))
@@ -48,6 +47,7 @@ fn command_options(alloc: Global, matches: &ArgMatches<'_>) -> Result<Options, O
 pub fn options(alloc: Global, words: &[String]) -> Result<Options, OptionFault>
     ensures ok { IfOk result (λ o. AreOptions o (command_of (map string_bytes words.now))) }
     ensures err { IfErr result (λ fault. IsFault fault (map string_bytes words.now)) }
+    ensures taken { IfOk result (λ _. AreTaken (map string_bytes words.now)) }
 {
     let texts = Texts::new(alloc)?;
     let command = command(alloc, &texts)?;

@@ -1,7 +1,7 @@
 -- What is answered to a recording that is to be replayed.
 use Rattle.std.proofs.Common.{◌≡◌, inl, inr, refl, ℕ, List, Option, Result, Ok, Err, IfErr, IsErrAnd}
 use Rattle.std.specs.Prelude.{string_bytes}
-use Rattle.command_line.specs.declared.options.ReplayOptions.{ReplayOptions}
+use Rattle.command_line.specs.declared.options.FileOptions.{FileOptions}
 use Rattle.recorder.specs.declared.fault.RecError.TheVariants as rec
 use Rattle.commands.specs.declared.answer.Answer.{Answer}
 use Rattle.commands.specs.declared.answer.Stop.{Stop}
@@ -16,7 +16,7 @@ no_memory (Ok answer) bytes wanting = tt
 no_memory (Err stop) bytes wanting = rw wanting (inl (rec.OutOfMemory, tt, refl))
 
 -- the bytes of the named input are not replayed
-pub replay_stop : (inputs : List ℕ → Option (List ℕ)) (o : ReplayOptions) (bytes : List ℕ) (r : Result Answer Stop) → AreBytesOf inputs (string_bytes o.file) bytes
+pub replay_stop : (inputs : List ℕ → Option (List ℕ)) (o : FileOptions) (bytes : List ℕ) (r : Result Answer Stop) → AreBytesOf inputs (string_bytes o.file) bytes
     → IfErr r (IsUnreplayed bytes) → IfErr r (IsReplayStop inputs o)
 replay_stop inputs o bytes (Ok answer) given is = tt
 replay_stop inputs o bytes (Err (Refused line)) given is = (bytes, given, is)

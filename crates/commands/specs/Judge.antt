@@ -1,6 +1,6 @@
 -- What is answered to the bytes of a recording.
 use Rattle.std.specs.Prelude.{◌≡◌, [], ℕ, List, Option, Ok, Err, string_bytes}
-use Rattle.command_line.specs.declared.options.JudgeOptions.{JudgeOptions}
+use Rattle.command_line.specs.declared.options.FileOptions.{FileOptions}
 use Rattle.recorder.specs.declared.fault.RecError.{RecError}
 use Rattle.recorder.specs.Execution.{Execution}
 use Rattle.recorder.specs.Reading.{Answers}
@@ -22,12 +22,12 @@ abbrev pub IsUnread : List ℕ → Stop → Type 0
 IsUnread bytes stop = (fault : RecError) × Answers bytes (Err fault) × IsRefusedAs fault stop
 
 -- the verdict on the recording of the named input
-pub record IsJudgedInput (inputs : List ℕ → Option (List ℕ)) (o : JudgeOptions) (answer : Answer) : Type 0 where
+pub record IsJudgedInput (inputs : List ℕ → Option (List ℕ)) (o : FileOptions) (answer : Answer) : Type 0 where
   pub bytes : List ℕ
   pub given : AreBytesOf inputs (string_bytes o.file) bytes
   pub judged : IsJudged bytes answer
 
 -- a line of refusal is that of the named input; a fault is one of reading it
-abbrev pub IsJudgeStop : (List ℕ → Option (List ℕ)) → JudgeOptions → Stop → Type 0
+abbrev pub IsJudgeStop : (List ℕ → Option (List ℕ)) → FileOptions → Stop → Type 0
 IsJudgeStop inputs o (Refused line) = (bytes : List ℕ) × AreBytesOf inputs (string_bytes o.file) bytes × IsUnread bytes (Refused line)
 IsJudgeStop inputs o (Fault fault) = IsInputFault (λ name. name ≡ string_bytes o.file) fault

@@ -1,6 +1,8 @@
 -- What the words of a command line are answered.
-use Rattle.std.specs.Prelude.{◌≡◌, ◌⊎◌, ◌++◌, ◌∷◌, [], ℕ, List, Option, Ok, ⊤, codes, string_bytes}
-use Rattle.clap.specs.Words.{Text}
+use Rattle.std.specs.Prelude.{◌≡◌, ◌≢◌, ◌⊎◌, ◌++◌, ◌∷◌, [], ℕ, List, Option, Ok, ⊤, codes, string_bytes}
+use Rattle.clap.specs.Words.{Text, kind_of}
+use Rattle.clap.specs.declared.error.Error.{Error}
+use Rattle.clap.specs.declared.error.kind.ErrorKind.TheVariants.{DisplayHelp, DisplayVersion}
 use Rattle.litmus.specs.Parts.{Parts}
 use Rattle.live.specs.declared.error.LiveError.{LiveError}
 use Rattle.live.specs.declared.error.LiveError.TheVariants as live
@@ -75,9 +77,13 @@ IsStopTo inputs (Judge o) stop = IsJudgeStop inputs o stop
 IsStopTo inputs (Live o) stop = IsLiveStop inputs o stop
 IsStopTo inputs (Replay o) stop = IsReplayStop inputs o stop
 
+-- what clap says goes to standard error: it is neither help nor the version
+abbrev pub IsMistake : Error → Type 0
+IsMistake error = (kind_of error ≢ DisplayHelp) × (kind_of error ≢ DisplayVersion)
+
 -- without options the answer is the help that was asked for
 abbrev pub IsHelp : OptionFault → Answer → Type 0
-IsHelp (Clap error) answer = answer.status ≡ DONE
+IsHelp (Clap error) answer = (answer.status ≡ DONE) × (IsMistake error → ⊥)
 IsHelp Limit answer = ⊥
 IsHelp Buffer answer = ⊥
 IsHelp (NoValue name) answer = ⊥
@@ -90,7 +96,7 @@ IsStopWithout Limit (Refused line) = string_bytes line ≡ codes "refused: K6" +
 IsStopWithout Buffer (Refused line) = string_bytes line ≡ codes "refused: K7" ++ 10 ∷ []
 IsStopWithout (NoValue name) (Refused line) = ⊥
 IsStopWithout OutOfMemory (Refused line) = ⊥
-IsStopWithout (Clap error) (Fault (CommandLine said)) = said ≡ error
+IsStopWithout (Clap error) (Fault (CommandLine said)) = (said ≡ error) × IsMistake error
 IsStopWithout (NoValue name) (Fault (fault.NoValue said)) = said ≡ name
 IsStopWithout other (Fault fault.OutOfMemory) = ⊤
 IsStopWithout other (Fault fault) = ⊥

@@ -1,6 +1,6 @@
 -- What is answered to the bytes of a recording that is to be replayed.
 use Rattle.std.specs.Prelude.{◌≡◌, ◌≤◌, ◌⊎◌, ◌++◌, ◌∷◌, [], ℕ, List, Option, Ok, codes, decimal, string_bytes}
-use Rattle.command_line.specs.declared.options.ReplayOptions.{ReplayOptions}
+use Rattle.command_line.specs.declared.options.FileOptions.{FileOptions}
 use Rattle.litmus.specs.Spelling.{spelling}
 use Rattle.litmus.specs.Text.{reading}
 use Rattle.recorder.specs.Execution.{Execution}
@@ -77,12 +77,12 @@ abbrev pub IsUnreplayed : List ℕ → Stop → Type 0
 IsUnreplayed bytes stop = IsUnread bytes stop ⊎ IsUnnumbered bytes stop
 
 -- the replay of the named input
-pub record IsReplayedInput (inputs : List ℕ → Option (List ℕ)) (o : ReplayOptions) (answer : Answer) : Type 0 where
+pub record IsReplayedInput (inputs : List ℕ → Option (List ℕ)) (o : FileOptions) (answer : Answer) : Type 0 where
   pub bytes : List ℕ
   pub given : AreBytesOf inputs (string_bytes o.file) bytes
   pub replayed : IsReplayed bytes answer
 
 -- a line of refusal is that of the named input; a fault is one of reading it
-abbrev pub IsReplayStop : (List ℕ → Option (List ℕ)) → ReplayOptions → Stop → Type 0
+abbrev pub IsReplayStop : (List ℕ → Option (List ℕ)) → FileOptions → Stop → Type 0
 IsReplayStop inputs o (Refused line) = (bytes : List ℕ) × AreBytesOf inputs (string_bytes o.file) bytes × IsUnreplayed bytes (Refused line)
 IsReplayStop inputs o (Fault fault) = IsInputFault (λ name. name ≡ string_bytes o.file) fault

@@ -9,7 +9,7 @@ use crate::place::Place;
 use crate::reading::text_at;
 use crate::refusal::recording_line;
 use crate::verdict::verdict_behind;
-use command_line::JudgeOptions;
+use command_line::FileOptions;
 use judge::judge;
 use recorder::{RecError, read_recording};
 use std::alloc::{AllocError, Global};
@@ -47,7 +47,7 @@ pub fn judged<R: Threads + Wait + Sync>(rt: &R, alloc: Global, bytes: &[u8]) -> 
 pub fn judge_command<R: Threads + Wait + Sync, P: Place>(
     rt: &R,
     alloc: Global,
-    options: &JudgeOptions,
+    options: &FileOptions,
     place: &mut P,
 ) -> Result<Answer, Stop>
     ensures ok { IfOk result (IsJudgedInput (P.bytes place.old) options.now) }

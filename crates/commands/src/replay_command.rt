@@ -10,7 +10,7 @@ use crate::judge_command::{WORKERS, unread};
 use crate::place::Place;
 use crate::reading::text_at;
 use crate::verdict::verdict_behind;
-use command_line::ReplayOptions;
+use command_line::FileOptions;
 use itoa::Buffer;
 use judge::{Verdict, judge};
 use litmus::{EventId, OutOfMemory, has_one_text, print};
@@ -95,7 +95,7 @@ pub fn replayed<R: Threads + Wait + Sync>(
 pub fn replay_command<R: Threads + Wait + Sync, P: Place>(
     rt: &R,
     alloc: Global,
-    options: &ReplayOptions,
+    options: &FileOptions,
     place: &mut P,
 ) -> Result<Answer, Stop>
     ensures ok { IfOk result (IsReplayedInput (P.bytes place.old) options.now) }

@@ -1,10 +1,41 @@
-use Rattle.std.proofs.Common.{ap, ◌∙◌, map, string_bytes}
-use Rattle.clap.specs.Words.{App, takes}
-use Rattle.command_line.proofs.Faults.{err_fault}
+use Rattle.std.proofs.Common.{◌≡◌, ◌∙◌, ap, map, refl, string_bytes, subst, sym, true}
+use Rattle.clap.specs.Words.{App, HasKind, fault_of, is_simple, is_simple_and_free, subcommand_of}
+use Rattle.clap.specs.Words.{subcommand_rows_of, takes}
+use Rattle.command_line.specs.Commands.{AreTaken, program_app}
+use Rattle.command_line.proofs.Faults.{err_fault, known_ok, taken_fault}
 use Rattle.command_line.proofs.words.options.Goals as goal
+
+-- clap's contract says all of this command line's words
+simple : is_simple program_app ≡ true
+simple = refl
+
+free : is_simple_and_free program_app ≡ true
+free = refl
 
 pub returns-in_err-matches-clause-err : goal.returns-in_err-matches-clause-err
 returns-in_err-matches-clause-err c =
     let words = map (λ word. string_bytes word) c.args.words.now in
     let same = ap (λ (app : App). takes app words) c.in_ok-command.ensures in
-    err_fault _ c.in_err-matches.field-0.0 words (λ taken. c.in_err-matches.ensures.passes (same ∙ taken)) c.from_residual-in_err-matches.ensures.1
+    let found = c.in_err-matches.ensures.kinds (ap is_simple_and_free c.in_ok-command.ensures ∙ free) in
+    err_fault _ c.in_err-matches.field-0.0 words (λ taken. c.in_err-matches.ensures.passes (same ∙ taken))
+    (subst (λ (app : App). HasKind (fault_of app words) c.in_err-matches.field-0.0) c.in_ok-command.ensures
+    found)
+    c.from_residual-in_err-matches.ensures.1
+
+pub returns-clause-err : goal.returns-clause-err
+returns-clause-err c =
+    let words = map (λ word. string_bytes word) c.args.words.now in
+    let none = c.in_ok-matches.ensures.kinds (ap is_simple_and_free c.in_ok-command.ensures ∙ free) in
+    let taken : AreTaken words = ap (λ (app : App). fault_of app words) (sym c.in_ok-command.ensures)
+    ∙ none in
+    let rows = (c.in_ok-matches.ensures.matches (ap is_simple c.in_ok-command.ensures ∙ simple)).1 in
+    let command = ap (λ (app : App). subcommand_of app words) c.in_ok-command.ensures in
+    taken_fault c.command_options.result words (subcommand_rows_of c.in_ok-matches.matches) (rows ∙ command)
+    taken c.command_options.ensures.err
+
+pub returns-clause-taken : goal.returns-clause-taken
+returns-clause-taken c =
+    let words = map (λ word. string_bytes word) c.args.words.now in
+    let none = c.in_ok-matches.ensures.kinds (ap is_simple_and_free c.in_ok-command.ensures ∙ free) in
+    known_ok c.command_options.result (AreTaken words)
+    (ap (λ (app : App). fault_of app words) (sym c.in_ok-command.ensures) ∙ none)

@@ -1,9 +1,11 @@
 use Rattle.std.proofs.Common.{◌∙◌, append_assoc}
 use Rattle.command_line.proofs.command.Texts.new.Goals as goal
 
-pub returns : goal.returns
-returns c = record {
-  steps = c.in_ok-format.ensures.ok ∙ simp append_assoc;
-  buffer = c.in_ok-format-2.ensures.ok ∙ simp append_assoc;
-  limit = c.in_ok-format-3.ensures.ok ∙ simp append_assoc;
+pub invariant_of-result : goal.invariant_of-result
+invariant_of-result c = record {
+  named = record {
+    steps_is = c.in_ok-format.ensures.ok ∙ simp append_assoc;
+    buffer_is = c.in_ok-format-2.ensures.ok ∙ simp append_assoc;
+    limit_is = c.in_ok-format-3.ensures.ok ∙ simp append_assoc;
+  };
 }
