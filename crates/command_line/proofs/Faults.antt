@@ -8,7 +8,7 @@ use Rattle.command_line.specs.declared.options.Options.{Options}
 use Rattle.command_line.specs.declared.options.OptionFault.{OptionFault}
 use Rattle.command_line.specs.declared.options.OptionFault.TheVariants.{Clap, Limit, Buffer, NoValue}
 use Rattle.command_line.specs.declared.options.OptionFault.TheVariants.{OutOfMemory}
-use Rattle.command_line.specs.Commands.{AreTaken, command_of, program_app}
+use Rattle.command_line.specs.Commands.{AreFaultless, command_of, program_app}
 use Rattle.command_line.specs.Options.{IsCommandFault, IsFault, IsSaid}
 use Rattle.command_line.proofs.Taken.{no_value_is_lacking}
 
@@ -48,7 +48,7 @@ err_fault (Ok o) e words passes found said = tt
 err_fault (Err f) e words passes found said = said_fault e f words passes found said
 
 -- a fault of the command that clap reads of words that it takes
-command_fault : (f : OptionFault) (words : List Text) → AreTaken words → IsCommandFault f (command_of words)
+command_fault : (f : OptionFault) (words : List Text) → AreFaultless words → IsCommandFault f (command_of words)
     → IsFault f words
 command_fault (Clap error) words taken fault = absurd fault
 command_fault Limit words taken fault = (taken, fault)
@@ -58,7 +58,7 @@ command_fault OutOfMemory words taken fault = tt
 
 -- the same of an answer
 pub taken_fault : (r : Result Options OptionFault) (words : List Text) (command : Option (Text × List Row))
-    → command ≡ command_of words → AreTaken words
+    → command ≡ command_of words → AreFaultless words
     → IfErr r (λ fault. IsCommandFault fault command) → IfErr r (λ fault. IsFault fault words)
 taken_fault (Ok o) words command is taken fault = tt
 taken_fault (Err f) words command is taken fault = command_fault f words taken

@@ -28,7 +28,7 @@ use Rattle.clap.specs.declared.builder.value_parser.ValueParser.TheVariants.{Uns
 use Rattle.clap.specs.declared.parser.matches.ValueSource.TheVariants.{CommandLine}
 use Rattle.clap.specs.declared.error.kind.ErrorKind.TheVariants as kinds
 use Rattle.command_line.specs.declared.options.OptionFault.TheVariants.{NoValue}
-use Rattle.command_line.specs.Commands.{AreTaken, buffer_rule, command_of, file_rule, judge_app, limit_rule}
+use Rattle.command_line.specs.Commands.{AreFaultless, buffer_rule, command_of, file_rule, judge_app, limit_rule}
 use Rattle.command_line.specs.Commands.{live_app, program_app, program_rule, replay_app, run_app, steps_rule}
 use Rattle.command_line.specs.Options.{HasNoNumber, IsCommandFault, IsFileFault, IsLiveFault, IsNoCommand}
 use Rattle.command_line.specs.Options.{IsRunFault}
@@ -425,7 +425,7 @@ has_command : (b : Bool) → (not b && true) ≡ false → b ≡ true
 has_command true is = refl
 has_command false is = absurd (true≢false is)
 
-pub no_value_is_lacking : (name : Bor Text) (words : List Text) → AreTaken words
+pub no_value_is_lacking : (name : Bor Text) (words : List Text) → AreFaultless words
     → IsCommandFault (NoValue name) (command_of words) → ⊥
 no_value_is_lacking name words taken =
     let app = built program_app in

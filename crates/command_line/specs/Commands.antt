@@ -66,8 +66,8 @@ program_app = with_subcommand (with_subcommand
     (with_subcommand (with_subcommand bare_app run_app.top) judge_app.top) live_app.top) replay_app.top
 
 -- clap finds no fault in the words
-abbrev pub AreTaken : List Text → Type 0
-AreTaken words = fault_of program_app words ≡ []
+abbrev pub AreFaultless : List Text → Type 0
+AreFaultless words = fault_of program_app words ≡ []
 
 -- the command that clap reads of the words, and the entries of its arguments and options
 abbrev pub command_of : List Text → Option (Text × List Row)

@@ -15,7 +15,7 @@ use Rattle.command_line.specs.declared.options.OptionFault.{OptionFault}
 use Rattle.command_line.specs.declared.options.OptionFault.TheVariants.{Clap, Limit, Buffer, NoValue}
 use Rattle.command_line.specs.declared.options.OptionFault.TheVariants.{OutOfMemory}
 use Rattle.command_line.specs.declared.options.TheConstants.{DEFAULT_BUFFER, DEFAULT_LIMIT}
-use Rattle.command_line.specs.Commands.{AreTaken, command_of, program_app}
+use Rattle.command_line.specs.Commands.{AreFaultless, command_of, program_app}
 
 -- the number that an entry's text writes, or else the default
 abbrev pub number_or : ℕ → Option Text → ℕ
@@ -133,8 +133,8 @@ IsCommandFault OutOfMemory command = ⊤
 abbrev pub IsFault : OptionFault → List Text → Type 0
 IsFault (Clap error) words = (takes program_app words ≡ false)
     × IsAmong (kind_of error) (fault_of program_app words)
-IsFault Limit words = AreTaken words × IsCommandFault Limit (command_of words)
-IsFault Buffer words = AreTaken words × IsCommandFault Buffer (command_of words)
+IsFault Limit words = AreFaultless words × IsCommandFault Limit (command_of words)
+IsFault Buffer words = AreFaultless words × IsCommandFault Buffer (command_of words)
 IsFault (NoValue name) words = ⊥
 IsFault OutOfMemory words = ⊤
 

@@ -2,7 +2,7 @@
 ghost use Rattle.std.specs.Prelude.{◌≡◌, IfErr, IfOk, map, option_map, string_bytes};
 ghost use Rattle.clap.specs.Words.{found_of, rows_of, subcommand_rows_of};
 ghost use Rattle.command_line.specs.Options.{AreOptions, IsCommandFault, IsFault};
-ghost use Rattle.command_line.specs.Commands.{AreTaken, command_of};
+ghost use Rattle.command_line.specs.Commands.{AreFaultless, command_of};
 
 use crate::command::{Texts, command};
 use crate::options::{OptionFault, Options, file_options, live_options, run_options};
@@ -47,7 +47,7 @@ fn command_options(alloc: Global, matches: &ArgMatches<'_>) -> Result<Options, O
 pub fn options(alloc: Global, words: &[String]) -> Result<Options, OptionFault>
     ensures ok { IfOk result (λ o. AreOptions o (command_of (map string_bytes words.now))) }
     ensures err { IfErr result (λ fault. IsFault fault (map string_bytes words.now)) }
-    ensures taken { IfOk result (λ _. AreTaken (map string_bytes words.now)) }
+    ensures taken { IfOk result (λ _. AreFaultless (map string_bytes words.now)) }
 {
     let texts = Texts::new(alloc)?;
     let command = command(alloc, &texts)?;

@@ -1,7 +1,7 @@
 use Rattle.std.proofs.Common.{◌≡◌, ◌∙◌, ap, map, refl, string_bytes, subst, sym, true}
 use Rattle.clap.specs.Words.{App, HasKind, fault_of, is_simple, is_simple_and_free, subcommand_of}
 use Rattle.clap.specs.Words.{subcommand_rows_of, takes}
-use Rattle.command_line.specs.Commands.{AreTaken, program_app}
+use Rattle.command_line.specs.Commands.{AreFaultless, program_app}
 use Rattle.command_line.proofs.Faults.{err_fault, known_ok, taken_fault}
 use Rattle.command_line.proofs.words.options.Goals as goal
 
@@ -26,7 +26,7 @@ pub returns-clause-err : goal.returns-clause-err
 returns-clause-err c =
     let words = map (λ word. string_bytes word) c.args.words.now in
     let none = c.in_ok-matches.ensures.kinds (ap is_simple_and_free c.in_ok-command.ensures ∙ free) in
-    let taken : AreTaken words = ap (λ (app : App). fault_of app words) (sym c.in_ok-command.ensures)
+    let taken : AreFaultless words = ap (λ (app : App). fault_of app words) (sym c.in_ok-command.ensures)
     ∙ none in
     let rows = (c.in_ok-matches.ensures.matches (ap is_simple c.in_ok-command.ensures ∙ simple)).1 in
     let command = ap (λ (app : App). subcommand_of app words) c.in_ok-command.ensures in
@@ -37,5 +37,5 @@ pub returns-clause-taken : goal.returns-clause-taken
 returns-clause-taken c =
     let words = map (λ word. string_bytes word) c.args.words.now in
     let none = c.in_ok-matches.ensures.kinds (ap is_simple_and_free c.in_ok-command.ensures ∙ free) in
-    known_ok c.command_options.result (AreTaken words)
+    known_ok c.command_options.result (AreFaultless words)
     (ap (λ (app : App). fault_of app words) (sym c.in_ok-command.ensures) ∙ none)
