@@ -17,7 +17,7 @@ not_read gives (Some t) e parses none value = λ is. parses t (Err e) (value t r
 pub returns-in-Ok-Some-clause-number : goal.returns-in-Ok-Some-clause-number
 returns-in-Ok-Some-clause-number c =
     let rows = one_text-rows (found_of c.args.matches.now) c.args.id.now in
-    rw (← rows) (search rules)
+    search (rules, rows)
 
 pub returns-in-Ok-None-clause-number : goal.returns-in-Ok-None-clause-number
 returns-in-Ok-None-clause-number c =
