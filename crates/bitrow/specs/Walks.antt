@@ -3,12 +3,12 @@ use Rattle.std.specs.Prelude.{◌≡◌, ◌<◌, ◌≤◌, ◌+◌, ◌*◌, �
 use Rattle.std.specs.Int.{bit_at}
 
 -- a set, and from which number on the next one is looked for
-pub record Walk : Type 0 where
+pub record RowWalk : Type 0 where
   pub row : List Bool
   pub from : ℕ
 
 -- the set from a number on
-abbrev pub walk_of : List Bool → ℕ → Walk
+abbrev pub walk_of : List Bool → ℕ → RowWalk
 walk_of row from = record { row = row; from = from }
 
 -- rest has the bits of word k from one on, and no other

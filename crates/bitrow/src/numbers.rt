@@ -1,6 +1,6 @@
 //! The numbers of a set in turn.
 
-use crate::words::{first_word, next_word, without_bit};
+use crate::bits::{first_word, next_word, without_bit};
 use std::marker::Model;
 
 /// The numbers of a set in turn, the least first.
@@ -19,9 +19,9 @@ pub struct Numbers<'a> {
 impl<'a> Model for Numbers<'a> {
     ghost use Rattle.std.specs.Prelude.{length};
     ghost use Rattle.bitrow.specs.Bits.{members, IsRoom};
-    ghost use Rattle.bitrow.specs.Walks.{Walk, walk_of, IsRest};
+    ghost use Rattle.bitrow.specs.Walks.{RowWalk, walk_of, IsRest};
 
-    ghost Value = { Walk };
+    ghost Value = { RowWalk };
 
     ghost view = { λ n. walk_of (members n.words.now n.len) n.from };
 

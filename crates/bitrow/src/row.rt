@@ -1,7 +1,7 @@
 //! Rows of bits.
 
+use crate::bits::{and_not_words, clear_bit, next_bit, or_words, set_bit, test_bit};
 use crate::numbers::Numbers;
-use crate::words::{and_not_words, clear_bit, next_bit, or_words, set_bit, test_bit};
 use litmus::OutOfMemory;
 use std::alloc::Global;
 use std::marker::Model;
@@ -25,7 +25,7 @@ impl Model for BitRow {
 }
 
 impl BitRow {
-    ghost use Rattle.std.specs.Prelude.{◌≡◌, ◌<◌, ◌==◌, ◌||◌, ◌&&◌, ℕ, not, false, length, IfOk};
+    ghost use Rattle.std.specs.Prelude.{◌≡◌, ◌<◌, ◌==◌, ◌||◌, ◌&&◌, ◌↔◌, ℕ, not, false, length, IfOk, IsTrue};
     ghost use Rattle.bitrow.specs.Bits.{is_in, IsNext};
     ghost use Rattle.bitrow.specs.Walks.{walk_of};
 
@@ -97,6 +97,13 @@ impl BitRow {
             return None;
         };
         if next < self.len { Some(next) } else { None }
+    }
+
+    /// Whether no number is in the set.
+    pub fn is_empty(&self) -> bool
+        ensures { IsTrue result ↔ ((i : ℕ) → is_in self.now i ≡ false) }
+    {
+        self.first_set().is_none()
     }
 
     /// The least number in the set.

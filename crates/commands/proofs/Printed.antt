@@ -6,7 +6,7 @@ use Rattle.commands.specs.declared.answer.Stop.{Stop}
 use Rattle.command_line.specs.declared.options.Options.{Options}
 use Rattle.command_line.specs.Commands.{command_of}
 use Rattle.command_line.specs.Options.{AreOptions}
-use Rattle.commands.specs.Perform.{IsAnswerTo, IsAnswered, IsStopTo, IsStopped}
+use Rattle.commands.specs.Perform.{IsAnswerTo, IsAnswered, IsCommandStop, IsStop}
 
 -- the answer to the options of the words is that of the words
 pub answer_of_words : (inputs : List ℕ → Option (List ℕ)) (r : Result Answer Stop) (o : Options) (words : List Text) → AreOptions o (command_of words)
@@ -16,6 +16,6 @@ answer_of_words inputs (Err stop) o words are is = tt
 
 -- so is why their command stops
 pub stop_of_words : (inputs : List ℕ → Option (List ℕ)) (r : Result Answer Stop) (o : Options) (words : List Text) → AreOptions o (command_of words)
-    → IfErr r (IsStopTo inputs o) → IfErr r (IsStopped inputs words)
+    → IfErr r (IsCommandStop inputs o) → IfErr r (IsStop inputs words)
 stop_of_words inputs (Ok answer) o words are is = tt
 stop_of_words inputs (Err stop) o words are is = inl (o, are, is)

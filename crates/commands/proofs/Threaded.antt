@@ -6,7 +6,7 @@ use Rattle.litmus.specs.Parts.{Parts}
 use Rattle.litmus.specs.Text.{reading}
 use Rattle.machine.specs.State.{State, IsComplete, opening}
 use Rattle.machine.specs.Step.{run}
-use Rattle.machine.specs.Held.{Held}
+use Rattle.machine.specs.Configuration.{Configuration}
 use Rattle.live.specs.Trace.{Trace, IsEnded, IsTrace}
 use Rattle.live.specs.Driven.{IsGiven}
 use Rattle.commands.specs.declared.answer.Answer.{Answer}
@@ -14,14 +14,14 @@ use Rattle.commands.specs.Inputs.{AreBytesOf}
 use Rattle.commands.specs.Run.{state_after, IsRunAnswer, IsLive}
 
 -- the answer of the machine that they leave is that of the run of its trace
-pub live_answer : (inputs : List ℕ → Option (List ℕ)) (o : LiveOptions) (text : List ℕ) (program : Parts) (t : Trace) (machine : Held) (answer : Answer)
+pub live_answer : (inputs : List ℕ → Option (List ℕ)) (o : LiveOptions) (text : List ℕ) (program : Parts) (t : Trace) (machine : Configuration) (answer : Answer)
     → AreBytesOf inputs (string_bytes o.program) text → reading text ≡ Ok program
     → IsGiven program o.buffer o.limit t → IsEnded t → IsTrace t → machine ≡ t.machine → IsRunAnswer machine.program machine.state answer → IsLive inputs o answer
 live_answer inputs o text program t machine answer bytes read given ended replay same is =
     let state : t.machine.state ≡ state_after program o.buffer t.steps =
     replay ∙ (ap (λ (q : Parts). run q.cores t.machine.capacity (opening q.cores (length q.names)) t.steps) given.program_is
     ∙ ap (λ (n : ℕ). run program.cores n (opening program.cores (length program.names)) t.steps) given.capacity_is) in
-    let here : IsRunAnswer t.machine.program t.machine.state answer = subst (λ (h : Held). IsRunAnswer h.program h.state answer) same is in
+    let here : IsRunAnswer t.machine.program t.machine.state answer = subst (λ (h : Configuration). IsRunAnswer h.program h.state answer) same is in
     record {
       program_text = text;
       given = bytes;

@@ -3,7 +3,7 @@ use Rattle.std.specs.Prelude.{◌≡◌, [], ℕ, List, Option, Ok, Err, string_
 use Rattle.command_line.specs.declared.options.FileOptions.{FileOptions}
 use Rattle.recorder.specs.declared.fault.RecError.{RecError}
 use Rattle.recorder.specs.Execution.{Execution}
-use Rattle.recorder.specs.Reading.{Answers}
+use Rattle.recorder.specs.Reading.{IsReadingResult}
 use Rattle.commands.specs.declared.answer.Answer.{Answer}
 use Rattle.commands.specs.declared.answer.Stop.{Stop}
 use Rattle.commands.specs.declared.answer.Stop.TheVariants.{Refused, Fault}
@@ -14,20 +14,22 @@ use Rattle.commands.specs.Verdict.{IsVerdictAnswer}
 -- the verdict on the recording that the bytes give
 pub record IsJudged (bytes : List ℕ) (answer : Answer) : Type 0 where
   pub recording : Execution
-  pub read : Answers bytes (Ok recording)
+  pub read : IsReadingResult bytes (Ok recording)
   pub answered : IsVerdictAnswer recording [] answer
 
 -- the stop is that of the refusal that the bytes have; memory alone is left open
 abbrev pub IsUnread : List ℕ → Stop → Type 0
-IsUnread bytes stop = (fault : RecError) × Answers bytes (Err fault) × IsRefusedAs fault stop
+IsUnread bytes stop = (fault : RecError) × IsReadingResult bytes (Err fault) × IsRefusedAs fault stop
 
 -- the verdict on the recording of the named input
-pub record IsJudgedInput (inputs : List ℕ → Option (List ℕ)) (o : FileOptions) (answer : Answer) : Type 0 where
+pub record IsJudgedInput (inputs : List ℕ
+    → Option (List ℕ)) (o : FileOptions) (answer : Answer) : Type 0 where
   pub bytes : List ℕ
   pub given : AreBytesOf inputs (string_bytes o.file) bytes
   pub judged : IsJudged bytes answer
 
 -- a line of refusal is that of the named input; a fault is one of reading it
 abbrev pub IsJudgeStop : (List ℕ → Option (List ℕ)) → FileOptions → Stop → Type 0
-IsJudgeStop inputs o (Refused line) = (bytes : List ℕ) × AreBytesOf inputs (string_bytes o.file) bytes × IsUnread bytes (Refused line)
+IsJudgeStop inputs o (Refused line) = (bytes : List ℕ) × AreBytesOf inputs (string_bytes o.file) bytes
+    × IsUnread bytes (Refused line)
 IsJudgeStop inputs o (Fault fault) = IsInputFault (λ name. name ≡ string_bytes o.file) fault

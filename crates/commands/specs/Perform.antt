@@ -13,12 +13,14 @@ use Rattle.commands.specs.declared.answer.Stop.{Stop}
 use Rattle.commands.specs.declared.answer.Stop.TheVariants.{Refused, Fault}
 use Rattle.commands.specs.declared.answer.TheConstants.{DONE, REFUSED}
 use Rattle.commands.specs.declared.fault.CommandFault.{CommandFault}
-use Rattle.commands.specs.declared.fault.CommandFault.TheVariants.{CommandLine, NoThread, Stranger, WriteFailed}
+use Rattle.commands.specs.declared.fault.CommandFault.TheVariants.{CommandLine, NoThread, Stranger,
+    WriteFailed}
 use Rattle.commands.specs.declared.fault.CommandFault.TheVariants as fault
 use Rattle.command_line.specs.declared.options.Options.{Options}
 use Rattle.command_line.specs.declared.options.Options.TheVariants.{Run, Judge, Live, Replay}
 use Rattle.command_line.specs.declared.options.OptionFault.{OptionFault}
-use Rattle.command_line.specs.declared.options.OptionFault.TheVariants.{Clap, Limit, Buffer, NoValue, OutOfMemory}
+use Rattle.command_line.specs.declared.options.OptionFault.TheVariants.{Clap, Limit, Buffer, NoValue,
+    OutOfMemory}
 use Rattle.command_line.specs.Commands.{command_of}
 use Rattle.command_line.specs.declared.options.LiveOptions.{LiveOptions}
 use Rattle.command_line.specs.declared.options.RunOptions.{RunOptions}
@@ -26,14 +28,14 @@ use Rattle.commands.specs.Inputs.{AreBytesOf, IsInputFault}
 use Rattle.commands.specs.Judge.{IsJudgedInput, IsJudgeStop}
 use Rattle.commands.specs.Replay.{IsReplayedInput, IsReplayStop}
 use Rattle.command_line.specs.Options.{AreOptions, IsFault}
-use Rattle.commands.specs.Refusal.{IsStopOf, line_fault_name, step_fault_name}
+use Rattle.commands.specs.Refusal.{IsReadingStop, line_fault_name, step_fault_name}
 use Rattle.commands.specs.Run.{IsRun, IsLive}
 
 -- the named program is refused
 pub record IsProgramRefused (inputs : List ℕ → Option (List ℕ)) (name : List ℕ) (stop : Stop) : Type 0 where
   pub text : List ℕ
   pub given : AreBytesOf inputs name text
-  pub refused : IsStopOf line_fault_name (reading text) stop
+  pub refused : IsReadingStop line_fault_name (reading text) stop
 
 -- the named script is refused for the named program
 pub record IsScriptRefused (inputs : List ℕ → Option (List ℕ)) (o : RunOptions) (stop : Stop) : Type 0 where
@@ -43,12 +45,14 @@ pub record IsScriptRefused (inputs : List ℕ → Option (List ℕ)) (o : RunOpt
   pub read : reading program_text ≡ Ok program
   pub text : List ℕ
   pub given : AreBytesOf inputs (string_bytes o.steps) text
-  pub refused : IsStopOf step_fault_name (steps_of program text) stop
+  pub refused : IsReadingStop step_fault_name (steps_of program text) stop
 
 -- a line of refusal is that of the named program, or of the named script; a fault is one of reading them
 abbrev pub IsRunStop : (List ℕ → Option (List ℕ)) → RunOptions → Stop → Type 0
-IsRunStop inputs o (Refused line) = IsProgramRefused inputs (string_bytes o.program) (Refused line) ⊎ IsScriptRefused inputs o (Refused line)
-IsRunStop inputs o (Fault fault) = IsInputFault (λ name. (name ≡ string_bytes o.program) ⊎ (name ≡ string_bytes o.steps)) fault
+IsRunStop inputs o (Refused line) = IsProgramRefused inputs (string_bytes o.program) (Refused line)
+    ⊎ IsScriptRefused inputs o (Refused line)
+IsRunStop inputs o (Fault fault) =
+    IsInputFault (λ name. (name ≡ string_bytes o.program) ⊎ (name ≡ string_bytes o.steps)) fault
 
 -- the fault that an error of threads is; they have no other errors
 abbrev pub thread_fault : LiveError → CommandFault
@@ -71,11 +75,11 @@ IsAnswerTo inputs (Live o) answer = IsLive inputs o answer
 IsAnswerTo inputs (Replay o) answer = IsReplayedInput inputs o answer
 
 -- why a command with these options and inputs stops
-abbrev pub IsStopTo : (List ℕ → Option (List ℕ)) → Options → Stop → Type 0
-IsStopTo inputs (Run o) stop = IsRunStop inputs o stop
-IsStopTo inputs (Judge o) stop = IsJudgeStop inputs o stop
-IsStopTo inputs (Live o) stop = IsLiveStop inputs o stop
-IsStopTo inputs (Replay o) stop = IsReplayStop inputs o stop
+abbrev pub IsCommandStop : (List ℕ → Option (List ℕ)) → Options → Stop → Type 0
+IsCommandStop inputs (Run o) stop = IsRunStop inputs o stop
+IsCommandStop inputs (Judge o) stop = IsJudgeStop inputs o stop
+IsCommandStop inputs (Live o) stop = IsLiveStop inputs o stop
+IsCommandStop inputs (Replay o) stop = IsReplayStop inputs o stop
 
 -- what clap says goes to standard error: it is neither help nor the version
 abbrev pub IsMistake : Error → Type 0
@@ -89,27 +93,29 @@ IsHelp Buffer answer = ⊥
 IsHelp (NoValue name) answer = ⊥
 IsHelp OutOfMemory answer = ⊥
 
--- without options a line of refusal is that of a limit or of a buffer's capacity, and a fault is what clap says or lacks
-abbrev pub IsStopWithout : OptionFault → Stop → Type 0
-IsStopWithout (Clap error) (Refused line) = ⊥
-IsStopWithout Limit (Refused line) = string_bytes line ≡ codes "refused: K6" ++ 10 ∷ []
-IsStopWithout Buffer (Refused line) = string_bytes line ≡ codes "refused: K7" ++ 10 ∷ []
-IsStopWithout (NoValue name) (Refused line) = ⊥
-IsStopWithout OutOfMemory (Refused line) = ⊥
-IsStopWithout (Clap error) (Fault (CommandLine said)) = (said ≡ error) × IsMistake error
-IsStopWithout (NoValue name) (Fault (fault.NoValue said)) = said ≡ name
-IsStopWithout other (Fault fault.OutOfMemory) = ⊤
-IsStopWithout other (Fault fault) = ⊥
+-- without options a line of refusal is that of a limit or of a buffer's capacity, and a fault is
+-- what clap says or lacks
+abbrev pub IsOptionStop : OptionFault → Stop → Type 0
+IsOptionStop (Clap error) (Refused line) = ⊥
+IsOptionStop Limit (Refused line) = string_bytes line ≡ codes "refused: K6" ++ 10 ∷ []
+IsOptionStop Buffer (Refused line) = string_bytes line ≡ codes "refused: K7" ++ 10 ∷ []
+IsOptionStop (NoValue name) (Refused line) = ⊥
+IsOptionStop OutOfMemory (Refused line) = ⊥
+IsOptionStop (Clap error) (Fault (CommandLine said)) = (said ≡ error) × IsMistake error
+IsOptionStop (NoValue name) (Fault (fault.NoValue said)) = said ≡ name
+IsOptionStop other (Fault fault.OutOfMemory) = ⊤
+IsOptionStop other (Fault fault) = ⊥
 
 -- the answer of the command that the words ask for, or help
 abbrev pub IsAnswered : (List ℕ → Option (List ℕ)) → List Text → Answer → Type 0
-IsAnswered inputs words answer = ((o : Options) × AreOptions o (command_of words) × IsAnswerTo inputs o answer)
+IsAnswered inputs words answer =
+    ((o : Options) × AreOptions o (command_of words) × IsAnswerTo inputs o answer)
     ⊎ ((fault : OptionFault) × IsFault fault words × IsHelp fault answer)
 
 -- why the command that the words ask for stops, or why they ask for none
-abbrev pub IsStopped : (List ℕ → Option (List ℕ)) → List Text → Stop → Type 0
-IsStopped inputs words stop = ((o : Options) × AreOptions o (command_of words) × IsStopTo inputs o stop)
-    ⊎ ((fault : OptionFault) × IsFault fault words × IsStopWithout fault stop)
+abbrev pub IsStop : (List ℕ → Option (List ℕ)) → List Text → Stop → Type 0
+IsStop inputs words stop = ((o : Options) × AreOptions o (command_of words) × IsCommandStop inputs o stop)
+    ⊎ ((fault : OptionFault) × IsFault fault words × IsOptionStop fault stop)
 
 -- a line of refusal as it is printed, with its status
 abbrev pub IsLine : Stop → Answer → Type 0
@@ -119,8 +125,8 @@ IsLine (Fault fault) answer = ⊥
 -- what is printed, with its status: an answer, or a line of refusal
 abbrev pub IsPrinted : (List ℕ → Option (List ℕ)) → List Text → Answer → Type 0
 IsPrinted inputs words answer = IsAnswered inputs words answer
-    ⊎ ((stop : Stop) × IsStopped inputs words stop × IsLine stop answer)
+    ⊎ ((stop : Stop) × IsStop inputs words stop × IsLine stop answer)
 
 -- why nothing is printed: the command that the words ask for has a fault, or writing has
 abbrev pub IsFaultOf : (List ℕ → Option (List ℕ)) → List Text → CommandFault → Type 0
-IsFaultOf inputs words fault = IsStopped inputs words (Fault fault) ⊎ (fault ≡ WriteFailed)
+IsFaultOf inputs words fault = IsStop inputs words (Fault fault) ⊎ (fault ≡ WriteFailed)

@@ -1,11 +1,13 @@
 -- The lines of refused texts.
-use Rattle.std.specs.Prelude.{◌≡◌, ◌++◌, ◌∷◌, [], ℕ, List, Option, Some, None, Result, Ok, Err, codes, decimal, string_bytes}
+use Rattle.std.specs.Prelude.{◌≡◌, ◌++◌, ◌∷◌, [], ℕ, List, Option, Some, None, Result, Ok, Err, codes,
+    decimal, string_bytes}
 use Rattle.litmus.specs.declared.fault.LineFault.{LineFault}
 use Rattle.litmus.specs.declared.fault.LineFault.TheVariants.{L1, L2, L3, L4, L5}
 use Rattle.machine.specs.declared.script_fault.StepFault.{StepFault}
 use Rattle.machine.specs.declared.script_fault.StepFault.TheVariants.{S1, S2, S3, S4}
 use Rattle.recorder.specs.declared.fault.RecError.{RecError}
-use Rattle.recorder.specs.declared.fault.RecError.TheVariants.{NotJson, Shape, Version, Limits, Source, Value, WriteList}
+use Rattle.recorder.specs.declared.fault.RecError.TheVariants.{NotJson, Shape, Version, Limits, Source, Value,
+    WriteList}
 use Rattle.recorder.specs.declared.fault.RecError.TheVariants as rec
 use Rattle.commands.specs.declared.answer.Stop.{Stop}
 use Rattle.commands.specs.declared.answer.Stop.TheVariants.{Refused, Fault}
@@ -31,10 +33,10 @@ abbrev pub refusal_line : List ℕ → ℕ → List ℕ
 refusal_line name k = codes "refused: " ++ name ++ codes " line " ++ decimal k ++ 10 ∷ []
 
 -- the stop is that of a text which reads as a fault, or memory is wanting
-abbrev pub IsStopOf : {X F : Type 0} → (F → List ℕ) → Result X (F × ℕ) → Stop → Type 0
-IsStopOf name (Ok x) (Refused line) = ⊥
-IsStopOf name (Err fault) (Refused line) = string_bytes line ≡ refusal_line (name fault.0) fault.1
-IsStopOf name reading (Fault fault) = fault ≡ OutOfMemory
+abbrev pub IsReadingStop : {X F : Type 0} → (F → List ℕ) → Result X (F × ℕ) → Stop → Type 0
+IsReadingStop name (Ok x) (Refused line) = ⊥
+IsReadingStop name (Err fault) (Refused line) = string_bytes line ≡ refusal_line (name fault.0) fault.1
+IsReadingStop name reading (Fault fault) = fault ≡ OutOfMemory
 
 -- the line that is printed of a refused recording
 abbrev pub refused_as : List ℕ → Option (List ℕ)

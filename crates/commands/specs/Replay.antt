@@ -4,7 +4,7 @@ use Rattle.command_line.specs.declared.options.FileOptions.{FileOptions}
 use Rattle.litmus.specs.Spelling.{spelling}
 use Rattle.litmus.specs.Text.{reading}
 use Rattle.recorder.specs.Execution.{Execution}
-use Rattle.recorder.specs.Reading.{Answers}
+use Rattle.recorder.specs.Reading.{IsReadingResult}
 use Rattle.recorder.specs.Tso.{IsTsoOrder}
 use Rattle.machine.specs.Script.{steps_of}
 use Rattle.machine.specs.ScriptText.{script_text}
@@ -32,7 +32,8 @@ replay_text x m =
 -- the printed program is read as the program, and the printed script for it as the steps
 pub record IsReadBack (x : Execution) (m : List ℕ) : Type 0 where
   pub program : reading (spelling (named_program x)) ≡ Ok (named_program x)
-  pub script : steps_of (named_program x) (script_text (named_program x) (replay_steps x m)) ≡ Ok (replay_steps x m)
+  pub script : steps_of (named_program x) (script_text (named_program x) (replay_steps x m))
+      ≡ Ok (replay_steps x m)
 
 -- the replay of a recording's least order, whose parts are read back and make the recording again
 pub record IsReplayAnswer (x : Execution) (answer : Answer) : Type 0 where
@@ -41,7 +42,8 @@ pub record IsReplayAnswer (x : Execution) (answer : Answer) : Type 0 where
   pub status : answer.status ≡ DONE
   pub text : answer.text.items ≡ replay_text x order
   pub read : IsReadBack x order
-  pub replay : (capacity : ℕ) → most_stores x.cores ≤ capacity → IsReplay x order (named_program x) capacity (replay_steps x order)
+  pub replay : (capacity : ℕ) → most_stores x.cores ≤ capacity
+      → IsReplay x order (named_program x) capacity (replay_steps x order)
 
 -- the verdict on a recording that TSO does not allow
 pub record IsViolationAnswer (x : Execution) (answer : Answer) : Type 0 where
@@ -53,10 +55,11 @@ pub record IsViolationAnswer (x : Execution) (answer : Answer) : Type 0 where
 abbrev pub IsReplayOf : Execution → Answer → Type 0
 IsReplayOf x answer = IsReplayAnswer x answer ⊎ IsViolationAnswer x answer
 
--- the bytes give a recording whose addresses are numbered by first use, and its replay or its violation is answered
+-- the bytes give a recording whose addresses are numbered by first use, and its replay or its
+-- violation is answered
 pub record IsReplayed (bytes : List ℕ) (answer : Answer) : Type 0 where
   pub recording : Execution
-  pub read : Answers bytes (Ok recording)
+  pub read : IsReadingResult bytes (Ok recording)
   pub numbered : IsNumberedByFirstUse recording
   pub answered : IsReplayOf recording answer
 
@@ -68,7 +71,7 @@ IsUnnumberedStop (Fault fault) = fault ≡ OutOfMemory
 -- the bytes give a recording whose addresses are not numbered by first use
 pub record IsUnnumbered (bytes : List ℕ) (stop : Stop) : Type 0 where
   pub recording : Execution
-  pub read : Answers bytes (Ok recording)
+  pub read : IsReadingResult bytes (Ok recording)
   pub unnumbered : ¬ IsNumberedByFirstUse recording
   pub stopped : IsUnnumberedStop stop
 
@@ -77,12 +80,14 @@ abbrev pub IsUnreplayed : List ℕ → Stop → Type 0
 IsUnreplayed bytes stop = IsUnread bytes stop ⊎ IsUnnumbered bytes stop
 
 -- the replay of the named input
-pub record IsReplayedInput (inputs : List ℕ → Option (List ℕ)) (o : FileOptions) (answer : Answer) : Type 0 where
+pub record IsReplayedInput (inputs : List ℕ
+    → Option (List ℕ)) (o : FileOptions) (answer : Answer) : Type 0 where
   pub bytes : List ℕ
   pub given : AreBytesOf inputs (string_bytes o.file) bytes
   pub replayed : IsReplayed bytes answer
 
 -- a line of refusal is that of the named input; a fault is one of reading it
 abbrev pub IsReplayStop : (List ℕ → Option (List ℕ)) → FileOptions → Stop → Type 0
-IsReplayStop inputs o (Refused line) = (bytes : List ℕ) × AreBytesOf inputs (string_bytes o.file) bytes × IsUnreplayed bytes (Refused line)
+IsReplayStop inputs o (Refused line) = (bytes : List ℕ) × AreBytesOf inputs (string_bytes o.file) bytes
+    × IsUnreplayed bytes (Refused line)
 IsReplayStop inputs o (Fault fault) = IsInputFault (λ name. name ≡ string_bytes o.file) fault

@@ -1,5 +1,6 @@
 -- What a script makes of a program.
-use Rattle.std.specs.Prelude.{◌≡◌, ◌≤◌, ◌+◌, ◌⊎◌, ◌++◌, ◌∷◌, [], ℕ, List, Option, Ok, length, codes, string_bytes}
+use Rattle.std.specs.Prelude.{◌≡◌, ◌≤◌, ◌+◌, ◌⊎◌, ◌++◌, ◌∷◌, [], ℕ, List, Option, Ok, length, codes,
+    string_bytes}
 use Rattle.command_line.specs.declared.options.LiveOptions.{LiveOptions}
 use Rattle.command_line.specs.declared.options.RunOptions.{RunOptions}
 use Rattle.litmus.specs.Parts.{Parts}
@@ -49,7 +50,8 @@ pub record IsRun (inputs : List ℕ → Option (List ℕ)) (o : RunOptions) (ans
   pub listed : steps_of program script_text ≡ Ok script
   pub answered : IsRunAnswer program (state_after program o.buffer script) answer
 
--- the answer of the named program, and of the steps that threads chose: they come to an end, or are as many as may be
+-- the answer of the named program, and of the steps that threads chose: they come to an end, or are
+-- as many as may be
 pub record IsLive (inputs : List ℕ → Option (List ℕ)) (o : LiveOptions) (answer : Answer) : Type 0 where
   pub program_text : List ℕ
   pub given : AreBytesOf inputs (string_bytes o.program) program_text
@@ -65,7 +67,7 @@ state_with t step =
     after t.machine.state (taken t.machine.program.cores t.machine.capacity t.machine.state step)
 
 -- one step more, if the machine doesn't block it
-pub record GoesOn (old new : Trace) (step : Step) : Type 0 where
+pub record IsAdvance (old new : Trace) (step : Step) : Type 0 where
   pub machine : new.machine ≡ record old.machine { state = state_with old step }
   pub limit : new.limit ≡ old.limit
   pub trace : length new.steps ≤ length old.steps + 1

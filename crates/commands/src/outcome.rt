@@ -1,6 +1,6 @@
 //! What a script makes of a program.
 ghost use Rattle.std.specs.Prelude.{◌≡◌, ◌<◌, IfOk, length};
-ghost use Rattle.commands.specs.Run.{GoesOn, IsRunAnswer, state_after};
+ghost use Rattle.commands.specs.Run.{IsAdvance, IsRunAnswer, state_after};
 
 use crate::answer::{Answer, UNFINISHED};
 use crate::verdict::verdict_behind;
@@ -14,7 +14,7 @@ use std::alloc::Global;
 /// Takes a step, or skips one that is blocked.
 fn go_on(traced: &mut Traced, step: Step)
     requires { length traced.old.steps < traced.old.limit }
-    ensures { GoesOn traced.old traced.new step }
+    ensures { IsAdvance traced.old traced.new step }
 {
     let _ = traced.advance(step);
 }

@@ -3,7 +3,7 @@ ghost use Rattle.std.specs.Prelude.{◌≡◌, ◌≢◌, IfErr, IfOk, OnOk, map
 ghost use Rattle.std.specs.Io.KnownBytes.{Appends};
 ghost use Rattle.commands.specs.declared.answer.Answer.{Answer};
 ghost use Rattle.commands.specs.declared.answer.Stop.{Stop};
-ghost use Rattle.commands.specs.Perform.{IsAnswered, IsFaultOf, IsHelp, IsPrinted, IsStopWithout, IsStopped};
+ghost use Rattle.commands.specs.Perform.{IsAnswered, IsFaultOf, IsHelp, IsPrinted, IsOptionStop, IsStop};
 
 use crate::answer::{Answer, DONE, REFUSED, Stop};
 use crate::fault::CommandFault;
@@ -23,7 +23,7 @@ use std::thread::Threads;
 /// The answer where there are no options: the help that was asked for, a refusal or a fault.
 fn without_options(alloc: Global, fault: OptionFault) -> Result<Answer, Stop>
     ensures ok { IfOk result (IsHelp fault) }
-    ensures err { IfErr result (IsStopWithout fault) }
+    ensures err { IfErr result (IsOptionStop fault) }
 {
     match fault {
         OptionFault::Clap(error) => {
@@ -51,7 +51,7 @@ fn answered<R: Threads + Wait + Sync, P: Place>(
     place: &mut P,
 ) -> Result<Answer, Stop>
     ensures ok { IfOk result (IsAnswered (P.bytes place.old) (map string_bytes words.now)) }
-    ensures err { IfErr result (IsStopped (P.bytes place.old) (map string_bytes words.now)) }
+    ensures err { IfErr result (IsStop (P.bytes place.old) (map string_bytes words.now)) }
 {
     match options(alloc, words) {
         Ok(Options::Run(run)) => run_command(alloc, &run, place),
@@ -70,7 +70,8 @@ fn whole_answer<R: Threads + Wait + Sync, P: Place>(
     place: &mut P,
 ) -> Result<Answer, CommandFault>
     ensures ok { IfOk result (IsPrinted (P.bytes place.old) (map string_bytes words.now)) }
-    ensures err { IfErr result (λ fault. IsStopped (P.bytes place.old) (map string_bytes words.now) (Stop.Fault fault)) }
+    ensures err { IfErr result
+        (λ fault. IsStop (P.bytes place.old) (map string_bytes words.now) (Stop.Fault fault)) }
 {
     match answered(rt, alloc, words, place) {
         Ok(answer) => Ok(answer),
@@ -98,7 +99,8 @@ pub fn perform<R: Threads + Wait + Sync, P: Place, W: Write>(
     place: &mut P,
     out: &mut W,
 ) -> Result<u8, CommandFault>
-    ensures printed { IfOk result (λ status. (answer : Answer) × IsPrinted (P.bytes place.old) (map string_bytes words.now) answer
+    ensures printed { IfOk result (λ status. (answer : Answer)
+        × IsPrinted (P.bytes place.old) (map string_bytes words.now) answer
         × (status ≡ answer.status) × Appends (W.contents out.old) (W.contents out.new) answer.text.items) }
     ensures fault { IfErr result (IsFaultOf (P.bytes place.old) (map string_bytes words.now)) }
     // Only a write that fails leaves a part of an answer.

@@ -2,7 +2,7 @@
 ghost use Rattle.std.specs.Prelude.{◌≡◌, IfErr, IfOk, Ok};
 ghost use Rattle.litmus.specs.Text.{reading};
 ghost use Rattle.machine.specs.Script.{steps_of};
-ghost use Rattle.commands.specs.Refusal.{IsStopOf, line_fault_name, step_fault_name};
+ghost use Rattle.commands.specs.Refusal.{IsReadingStop, line_fault_name, step_fault_name};
 ghost use Rattle.commands.specs.Perform.{IsRunStop};
 ghost use Rattle.commands.specs.Run.{IsRun};
 
@@ -20,7 +20,7 @@ use std::alloc::Global;
 /// The program of a text, or the line that is printed for its first line at fault.
 pub fn program_of(alloc: Global, text: &[u8]) -> Result<Program, Stop>
     ensures ok { IfOk result (λ program. reading text.now ≡ Ok program) }
-    ensures err { IfErr result (IsStopOf line_fault_name (reading text.now)) }
+    ensures err { IfErr result (IsReadingStop line_fault_name (reading text.now)) }
 {
     match parse(alloc, text) {
         Ok(program) => Ok(program),
@@ -36,7 +36,7 @@ pub fn program_of(alloc: Global, text: &[u8]) -> Result<Program, Stop>
 /// The steps of a script for a program, or the line that is printed for its first line at fault.
 fn steps_of(alloc: Global, text: &[u8], program: &Program) -> Result<Vec<Step>, Stop>
     ensures ok { IfOk result (λ steps. steps_of program.now text.now ≡ Ok steps.items) }
-    ensures err { IfErr result (IsStopOf step_fault_name (steps_of program.now text.now)) }
+    ensures err { IfErr result (IsReadingStop step_fault_name (steps_of program.now text.now)) }
 {
     match parse_steps(alloc, text, program) {
         Ok(steps) => Ok(steps),

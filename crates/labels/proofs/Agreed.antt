@@ -8,7 +8,7 @@ pub agreed_certify : (R : ℕ → ℕ → Type 0) (n : ℕ) (c : List ℕ) (rows
 agreed_certify R n c rows within cyclic shape agreed = record {
   cyclic = cyclic;
   one_each = shape.one_each;
-  labelled = λ v low. record {
+  labellings = λ v low. record {
     one_each = shape.labels v low;
     start = shape.start v low;
     grows = λ e f h. (agreed v e low (within e f h).0).grows f h;
@@ -18,4 +18,4 @@ agreed_certify R n c rows within cyclic shape agreed = record {
 
 -- the rows of a certificate agree
 pub certified_agree : (R : ℕ → ℕ → Type 0) (n : ℕ) (c : List ℕ) (rows : List (List ℕ)) → IsCertificate R n c rows → AllAgree R (length c) n rows
-certified_agree R n c rows cert v e low _ = record { grows = (cert.labelled v low).grows e; closes = (cert.labelled v low).closes e }
+certified_agree R n c rows cert v e low _ = record { grows = (cert.labellings v low).grows e; closes = (cert.labellings v low).closes e }

@@ -3,7 +3,7 @@ use Rattle.std.proofs.Common.{◌<◌, ◌≤◌, ◌+◌, ℕ, List, [], ◌∷
 use Rattle.relations.specs.Relation.{Table, Related}
 use Rattle.relations.specs.Cycle.{Leads, IsCycle, IsShortest, IsLabelling, IsCertificate}
 use Rattle.labels.specs.declared.certificate.Certificate.{Certificate}
-use Rattle.labels.specs.Certified.{lists_of, AreLabelled}
+use Rattle.labels.specs.Certified.{lists_of, AreLabellings}
 
 -- along a list of related neighbours the label grows by one at most
 grows_along : (R : ℕ → ℕ → Type 0) (k n v : ℕ) (labels : List ℕ) → IsLabelling R k n v labels → (e : ℕ) (es : List ℕ) → Leads R e es v → k ≤ get_or labels e 0 + length es + 1
@@ -22,10 +22,10 @@ certificates_are_shortest R n c rows within cert = record { cycle = cert.cyclic;
     shortest : (d : List ℕ) → IsCycle R d → length c ≤ length d
     shortest [] h = elim h [ ]
     shortest (v ∷ es) h =
-        let row : IsLabelling R (length c) n v (get_or rows v []) = cert.labelled v (leads_from R n within v es v h) in
+        let row : IsLabelling R (length c) n v (get_or rows v []) = cert.labellings v (leads_from R n within v es v h) in
         omega (arith, row.start, grows_along R (length c) n v (get_or rows v []) row v es h)
 
 -- a cycle whose length the rows agree with is a shortest one
-pub labelled_is_shortest : (t : Table) (c : Certificate) → ((e f : ℕ) → Related t e f → (e < length t) × (f < length t)) → IsCycle (Related t) c.cycle.items → AreLabelled t (length c.cycle.items) c.rows.items → IsShortest (Related t) c.cycle.items
+pub labelled_is_shortest : (t : Table) (c : Certificate) → ((e f : ℕ) → Related t e f → (e < length t) × (f < length t)) → IsCycle (Related t) c.cycle.items → AreLabellings t (length c.cycle.items) c.rows.items → IsShortest (Related t) c.cycle.items
 labelled_is_shortest t c within cyclic rows =
-    certificates_are_shortest (Related t) (length t) c.cycle.items (lists_of c.rows.items) within (record { cyclic = cyclic; one_each = rows.one_each; labelled = rows.labelled })
+    certificates_are_shortest (Related t) (length t) c.cycle.items (lists_of c.rows.items) within (record { cyclic = cyclic; one_each = rows.one_each; labellings = rows.labellings })

@@ -10,9 +10,9 @@ abbrev pub lists_of : List (Vec ℕ Global) → List (List ℕ)
 lists_of rows = map (λ row. row.items) rows
 
 -- a row for each event, by which no cycle through it has fewer than k events
-pub record AreLabelled (t : Table) (k : ℕ) (rows : List (Vec ℕ Global)) : Type 0 where
+pub record AreLabellings (t : Table) (k : ℕ) (rows : List (Vec ℕ Global)) : Type 0 where
   pub one_each : length (lists_of rows) ≡ length t
-  pub labelled : (v : ℕ) → v < length t
+  pub labellings : (v : ℕ) → v < length t
       → IsLabelling (Related t) k (length t) v (slice_index_or (lists_of rows) v [])
 
 -- the rows show that the cycle is a shortest one

@@ -3,7 +3,7 @@
 ghost use Rattle.std.specs.Prelude.{◌≡◌, ◌↔◌, IsTrue, length};
 ghost use Rattle.relations.specs.Relation.{Related};
 ghost use Rattle.relations.specs.Cycle.{IsShortest};
-ghost use Rattle.labels.specs.Certified.{Certifies, AreLabelled};
+ghost use Rattle.labels.specs.Certified.{Certifies, AreLabellings};
 
 use crate::certificate::Certificate;
 use crate::cycle::is_cycle;
@@ -12,8 +12,8 @@ use litmus::EventId;
 use relations::Relation;
 
 /// Whether each event has a row by which no cycle through it is shorter than the length.
-fn are_labelled(relation: &Relation, size: usize, rows: &[Vec<u16>]) -> bool
-    ensures { IsTrue result ↔ AreLabelled relation.now size rows.now }
+fn are_labellings(relation: &Relation, size: usize, rows: &[Vec<u16>]) -> bool
+    ensures { IsTrue result ↔ AreLabellings relation.now size rows.now }
 {
     if rows.len() != relation.len() {
         return false;
@@ -35,5 +35,5 @@ pub fn check(relation: &Relation, certificate: &Certificate) -> bool
 {
     relation.sound();
     let size = certificate.cycle.len();
-    is_cycle(relation, &certificate.cycle) && are_labelled(relation, size, &certificate.rows)
+    is_cycle(relation, &certificate.cycle) && are_labellings(relation, size, &certificate.rows)
 }

@@ -16,7 +16,7 @@ use Rattle.litmus.specs.declared.limits.TheConstants.{MAX_CORES, MAX_EVENTS, MAX
 use Rattle.litmus.specs.Names.{AreLawful, name_eq, name_of, name_text, no_name}
 use Rattle.litmus.specs.Lines.{core_line}
 use Rattle.litmus.specs.Parts.{Small, Parts, IsProgram, op_count, addr_of, use_addr, use_ops, use_cores}
-use Rattle.litmus.specs.Steps.{names_with, number_in, with_op, written, op_fault, core_step, fence_step, load_step, write_step, said_step, step}
+use Rattle.litmus.specs.Steps.{names_with, name_number, with_op, write_op, op_fault, core_step, fence_step, load_step, write_step, said_step, step}
 use Rattle.litmus.specs.Reading.{Reading, read_from}
 use Rattle.litmus.specs.Text.{reading}
 use Rattle.litmus.specs.Spelling.{spelling, core_text, op_text, op_line, name_at}
@@ -102,7 +102,7 @@ fence_so p none = rw none refl
 
 -- what a load does
 load_so : (p : Parts) (name : Name) (more : List Name) (a : ℕ) → op_fault p ≡ None →
-    names_with p.names name ≡ more → number_in p.names name ≡ a → nat_lt MAX_ADDRESSES (length more)
+    names_with p.names name ≡ more → name_number p.names name ≡ a → nat_lt MAX_ADDRESSES (length more)
     ≡ false →
     load_step p name ≡ Ok (record { names = more; cores = with_op p.cores (Ld a) })
 unfolding load_step
@@ -110,10 +110,10 @@ load_so p name more a none next number few = rw (none, next, number, few) refl
 
 -- what a write does
 write_so : (p : Parts) (write : Write) (name : Name) (n : ℕ) (more : List Name) (a : ℕ) → op_fault p
-    ≡ None → names_with p.names name ≡ more → number_in p.names name ≡ a →
+    ≡ None → names_with p.names name ≡ more → name_number p.names name ≡ a →
     nat_lt MAX_ADDRESSES (length more) ≡ false →
     nat_lt n (2 ^ 32) ≡ true → write_step p write name n
-    ≡ Ok (record { names = more; cores = with_op p.cores (written write a n) })
+    ≡ Ok (record { names = more; cores = with_op p.cores (write_op write a n) })
 unfolding write_step
 write_so p write name n more a none next number few small = rw (none, next, number, few, small) refl
 
@@ -172,7 +172,7 @@ record NextWrite (all : List Name) (p : Parts) (write : Write) (a value n : ℕ)
   long : length more ≡ n
   named : name_of (name_text (name_at all a)) ≡ Some (name_at all a)
   step_is : write_step p write (name_at all a) value
-      ≡ Ok (record { names = more; cores = with_op p.cores (written write a value) })
+      ≡ Ok (record { names = more; cores = with_op p.cores (write_op write a value) })
 
 -- a store, swap or add is read
 write_next : (all : List Name) (p : Parts) (back : List Name) (write : Write) (a value n : ℕ) →

@@ -15,7 +15,7 @@ use Rattle.litmus.specs.declared.limits.TheConstants.{MAX_CORES, MAX_EVENTS, MAX
 use Rattle.litmus.specs.Names.{AreLawful, name_eq, name_of, name_text}
 use Rattle.litmus.specs.Lines.{Line, core_line, fence_line, load_line, write_line, line_of}
 use Rattle.litmus.specs.Parts.{Small, Parts, IsProgram, op_count, addr_of, use_addr}
-use Rattle.litmus.specs.Steps.{names_with, number_in, with_op, written, op_fault, unless, core_step, fence_step, load_step, write_step, said_step, step}
+use Rattle.litmus.specs.Steps.{names_with, name_number, with_op, write_op, op_fault, unless, core_step, fence_step, load_step, write_step, said_step, step}
 use Rattle.litmus.specs.Spelling.{spelling, core_text, op_text, line_text, name_at}
 use Rattle.litmus.proofs.OneLine.{Reads, line_reads}
 use Rattle.litmus.proofs.ManyNames.{one_name, all_push}
@@ -178,7 +178,7 @@ keeps_load : (p q : Parts) (line : List ℕ) (name : Name) → IsProgram p → n
 unfolding load_step
 keeps_load p q line name h named is e =
     let more = names_with p.names name in
-    let op = Ld (number_in p.names name) in
+    let op = Ld (name_number p.names name) in
     let after : Parts = record { names = more; cores = with_op p.cores op } in
     let u = unless_ok (op_fault p)
     (cond (nat_lt MAX_ADDRESSES (length more)) (Err L4) (done after)) q e in
@@ -192,20 +192,20 @@ keeps_load p q line name h named is e =
     rw (← ok_is after q few.1) (keeps_op p line op more (line_text (load_line name)) g this is)
 
 -- the text of a write
-written_text : (write : Write) (names : List Name) (a n : ℕ) → op_text names (written write a n)
+written_text : (write : Write) (names : List Name) (a n : ℕ) → op_text names (write_op write a n)
     ≡ line_text (write_line write (name_at names a) n) ++ 10 ∷ []
 written_text writes.Store names a n = refl
 written_text writes.Swap names a n = refl
 written_text writes.Add names a n = refl
 
 -- the address of a write
-written_addr : (write : Write) (a n : ℕ) → addr_of (written write a n) ≡ Some a
+written_addr : (write : Write) (a n : ℕ) → addr_of (write_op write a n) ≡ Some a
 written_addr writes.Store a n = refl
 written_addr writes.Swap a n = refl
 written_addr writes.Add a n = refl
 
 -- the value of a write
-written_small : (write : Write) (a n : ℕ) → n < 2 ^ 32 → Small (written write a n)
+written_small : (write : Write) (a n : ℕ) → n < 2 ^ 32 → Small (write_op write a n)
 written_small writes.Store a n h = h
 written_small writes.Swap a n h = h
 written_small writes.Add a n h = h
@@ -218,8 +218,8 @@ keeps_write : (p q : Parts) (line : List ℕ) (write : Write) (name : Name) (n :
 unfolding write_step
 keeps_write p q line write name n h named is e =
     let more = names_with p.names name in
-    let a = number_in p.names name in
-    let op = written write a n in
+    let a = name_number p.names name in
+    let op = write_op write a n in
     let after : Parts = record { names = more; cores = with_op p.cores op } in
     let u = unless_ok (op_fault p)
     (cond (nat_lt MAX_ADDRESSES (length more)) (Err L4)

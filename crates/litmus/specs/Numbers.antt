@@ -1,5 +1,6 @@
 -- Decimal numbers, and what the code's words for them say.
-use Rattle.std.specs.Prelude.{◌≡◌, ◌≤◌, ◌^◌, ℕ, List, [], ◌∷◌, ◌+◌, ◌*◌, ◌-◌, ◌==◌, ◌&&◌, ◌||◌, Bool, not, nat_lt, nat_le, slice_index, length, Option, None, Some, if◌then◌else◌, ⊤}
+use Rattle.std.specs.Prelude.{◌≡◌, ◌≤◌, ◌^◌, ℕ, List, [], ◌∷◌, ◌+◌, ◌*◌, ◌-◌, ◌==◌, ◌&&◌, ◌||◌, Bool, not,
+    nat_lt, nat_le, slice_index, length, Option, None, Some, if◌then◌else◌, ⊤}
 use Rattle.std.specs.List.{list_all}
 use Rattle.litmus.specs.declared.number.Number.{Number}
 use Rattle.litmus.specs.declared.number.Number.TheVariants.{Value, TooLarge}
@@ -29,8 +30,8 @@ IsValue (Value n) m = n ≡ m
 IsValue TooLarge m = 2 ^ 32 ≤ m
 
 -- the same where there may be none
-abbrev pub IsReadAs : Option Number → Option ℕ → Type 0
-IsReadAs None None = ⊤
-IsReadAs None (Some m) = ⊥
-IsReadAs (Some number) None = ⊥
-IsReadAs (Some number) (Some m) = IsValue number m
+abbrev pub AreValues : Option Number → Option ℕ → Type 0
+AreValues None None = ⊤
+AreValues None (Some m) = ⊥
+AreValues (Some number) None = ⊥
+AreValues (Some number) (Some m) = IsValue number m

@@ -1,5 +1,6 @@
 -- What a line does to what was read before it.
-use Rattle.std.specs.Prelude.{ℕ, List, [], ◌∷◌, ◌++◌, ◌-◌, ◌^◌, ◌==◌, nat_lt, length, slice_set, slice_index_or, Option, None, Some, Result, Ok, Err, if◌then◌else◌}
+use Rattle.std.specs.Prelude.{ℕ, List, [], ◌∷◌, ◌++◌, ◌-◌, ◌^◌, ◌==◌, nat_lt, length, slice_set,
+    slice_index_or, Option, None, Some, Result, Ok, Err, if◌then◌else◌}
 use Rattle.std.specs.List.{position_or_len}
 use Rattle.indexmap.specs.IndexSet.{insert_key}
 use Rattle.litmus.specs.declared.name.Name.{Name}
@@ -23,8 +24,8 @@ abbrev pub names_with : List Name → Name → List Name
 names_with names name = insert_key name_eq names name
 
 -- the number of a name, or how many there are
-abbrev pub number_in : List Name → Name → ℕ
-number_in names name = position_or_len (name_eq name) names
+abbrev pub name_number : List Name → Name → ℕ
+name_number names name = position_or_len (name_eq name) names
 
 -- the operation is the last one of the last core
 abbrev pub with_op : List (List Op) → Op → List (List Op)
@@ -32,10 +33,10 @@ with_op cores op = slice_set cores (length cores - 1)
     (slice_index_or cores (length cores - 1) [] ++ op ∷ [])
 
 -- the operation that a write is
-abbrev pub written : Write → ℕ → ℕ → Op
-written writes.Store a n = St a n
-written writes.Swap a n = Swap a n
-written writes.Add a n = Add a n
+abbrev pub write_op : Write → ℕ → ℕ → Op
+write_op writes.Store a n = St a n
+write_op writes.Swap a n = Swap a n
+write_op writes.Add a n = Add a n
 
 -- whether an operation may come
 abbrev pub op_fault : Parts → Option LineFault
@@ -71,7 +72,7 @@ load_step p name =
     at_name p name
     (Ok (record {
       names = names_with p.names name;
-      cores = with_op p.cores (Ld (number_in p.names name));
+      cores = with_op p.cores (Ld (name_number p.names name));
     }))
 
 -- a write comes: its address is tested, and then its value
@@ -81,7 +82,7 @@ write_step p write name n =
     (if nat_lt n (2 ^ 32)
     then Ok (record {
       names = names_with p.names name;
-      cores = with_op p.cores (written write (number_in p.names name) n);
+      cores = with_op p.cores (write_op write (name_number p.names name) n);
     })
     else Err L5)
 

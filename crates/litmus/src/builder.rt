@@ -2,7 +2,7 @@
 
 ghost use Rattle.std.specs.Prelude.{◌≡◌, nat_lt};
 ghost use Rattle.litmus.specs.Parts.{op_count};
-ghost use Rattle.litmus.specs.Steps.{written};
+ghost use Rattle.litmus.specs.Steps.{write_op};
 
 use crate::fault::{LineFault, LitmusError};
 use crate::ids::Addr;
@@ -38,11 +38,13 @@ pub struct Builder {
 }
 
 impl Builder {
-    ghost use Rattle.std.specs.Prelude.{◌≡◌, ◌≤◌, ◌<◌, ◌^◌, ℕ, Err, Ok, None, Result, OnOk, IfOk, IfErr, length, nat_lt};
+    ghost use Rattle.std.specs.Prelude.{◌≡◌, ◌≤◌, ◌<◌, ◌^◌, ℕ, Err, Ok, None, Result, OnOk, IfOk, IfErr,
+        length, nat_lt};
     ghost use Rattle.litmus.specs.Parts.{Parts, op_count, addr_of};
     ghost use Rattle.litmus.specs.declared.fault.LineFault.{LineFault};
     ghost use Rattle.litmus.specs.declared.line_error.LineError.TheVariants.{OutOfMemory};
-    ghost use Rattle.litmus.specs.Steps.{empty, step, core_step, fence_step, load_step, write_step, op_fault, at_name, names_with, number_in, with_op, written};
+    ghost use Rattle.litmus.specs.Steps.{empty, step, core_step, fence_step, load_step, write_step, op_fault,
+        at_name, names_with, name_number, with_op, write_op};
     ghost use Rattle.litmus.specs.Numbers.{IsValue};
     ghost use Rattle.litmus.specs.Reading.{AnswersLine, seen_as};
     ghost use Rattle.litmus.specs.declared.line.Write.{Write};
@@ -110,7 +112,7 @@ impl Builder {
             at_name (state self.old) name r ≡ r) }
         ensures err { IfErr result (λ e. (r : Result Parts LineFault) →
             AnswersLine (Err e) number (at_name (state self.old) name r)) }
-        ensures address { IfOk result (λ addr. addr ≡ number_in self.old.names.keys name) }
+        ensures address { IfOk result (λ addr. addr ≡ name_number self.old.names.keys name) }
         ensures names { OnOk result (self.new.names.keys ≡ names_with self.old.names.keys name) }
         ensures cores { self.new.cores.items ≡ self.old.cores.items }
         ensures some_core { OnOk result (0 < length self.new.cores.items) }
@@ -149,7 +151,7 @@ impl Builder {
     {
         let addr = self.address_of(name, number)?;
         match value {
-            Number::Value(value) => self.push(written(write, addr, value)),
+            Number::Value(value) => self.push(write_op(write, addr, value)),
             Number::TooLarge => Err(LitmusError::AtLine(LineFault::L5, number)),
         }
     }
@@ -174,8 +176,8 @@ impl Builder {
     }
 }
 
-fn written(write: Write, addr: Addr, value: u32) -> Op
-    ensures { result ≡ written write addr value }
+fn write_op(write: Write, addr: Addr, value: u32) -> Op
+    ensures { result ≡ write_op write addr value }
 {
     match write {
         Write::Store => Op::St(addr, value),

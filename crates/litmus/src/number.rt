@@ -2,7 +2,7 @@
 
 ghost use Rattle.std.specs.Prelude.{◌≡◌};
 ghost use Rattle.std.specs.List.{list_all};
-ghost use Rattle.litmus.specs.Numbers.{is_digit, is_decimal, value_from, decimal_of, IsValue, IsReadAs};
+ghost use Rattle.litmus.specs.Numbers.{is_digit, is_decimal, value_from, decimal_of, IsValue, AreValues};
 
 /// A number that was read.
 #[derive(Clone, Copy, Debug, PartialEq, Eq)]
@@ -17,7 +17,7 @@ pub enum Number {
 /// number; a number may have any count of digits.
 #[tactic(auto, unfolding(crate::specs::Numbers::decimal_of))]
 pub fn decimal(text: &[u8]) -> Option<Number>
-    ensures { IsReadAs result (decimal_of text.now) }
+    ensures { AreValues result (decimal_of text.now) }
 {
     if !is_decimal(text) {
         return None;

@@ -4,7 +4,7 @@ use crate::ids::CoreId;
 use crate::lawful::is_program;
 use crate::limits::{MAX_ADDRESSES, MAX_CORES, MAX_EVENTS};
 use crate::memory::OutOfMemory;
-use crate::name::{Name, copy_of};
+use crate::name::{Name, copy_names};
 use crate::op::{Op, Ops, copies_of};
 use crate::same::{are_same_cores, are_same_names};
 use indexmap::IndexSet;
@@ -30,7 +30,8 @@ impl Model for Program {
 }
 
 impl Program {
-    ghost use Rattle.std.specs.Prelude.{◌≡◌, ◌≢◌, ◌<◌, ◌≤◌, ◌↔◌, ℕ, List, Ok, length, slice_index_or, [], IsTrue, IfOk, IfSome, IsSome, None, All};
+    ghost use Rattle.std.specs.Prelude.{◌≡◌, ◌≢◌, ◌<◌, ◌≤◌, ◌↔◌, ℕ, List, Ok, length, slice_index_or, [],
+        IsTrue, IfOk, IfSome, IsSome, None, All};
     ghost use Rattle.litmus.specs.Parts.{IsProgram, IsWithin, op_count, parts_of};
     ghost use Rattle.litmus.specs.Spelling.{spelling};
     ghost use Rattle.litmus.specs.Text.{reading};
@@ -68,7 +69,7 @@ impl Program {
     pub fn copy(&self, alloc: Global) -> Result<Program, OutOfMemory>
         ensures { IfOk result (λ p. p ≡ self.now) }
     {
-        let names = copy_of(&self.names)?;
+        let names = copy_names(&self.names)?;
         let cores = copies_of(alloc, &self.cores)?;
         Ok(Program { names, cores })
     }

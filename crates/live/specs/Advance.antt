@@ -9,13 +9,14 @@ use Rattle.live.specs.declared.error.LiveError.TheVariants.{Blocked, TraceFull}
 use Rattle.live.specs.Trace.{Trace}
 
 -- the step, if the machine took it, is the last of the trace
-abbrev pub with_step : Trace → Step → Result State Reason → Result Trace LiveError
-with_step t step (Ok s) = Ok (record t { machine = record t.machine { state = s }; steps = t.steps ++ step ∷ [] })
-with_step t step (Err b) = Err (Blocked b)
+abbrev pub step_answer : Trace → Step → Result State Reason → Result Trace LiveError
+step_answer t step (Ok s) =
+    Ok (record t { machine = record t.machine { state = s }; steps = t.steps ++ step ∷ [] })
+step_answer t step (Err b) = Err (Blocked b)
 
 -- a full trace comes before a blocked step
-abbrev pub advanced : Trace → Step → Result Trace LiveError
-advanced t step =
+abbrev pub advance_answer : Trace → Step → Result Trace LiveError
+advance_answer t step =
     if nat_lt (length t.steps) t.limit
-    then with_step t step (taken t.machine.program.cores t.machine.capacity t.machine.state step)
+    then step_answer t step (taken t.machine.program.cores t.machine.capacity t.machine.state step)
     else Err TraceFull

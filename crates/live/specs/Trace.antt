@@ -3,16 +3,16 @@ use Rattle.std.specs.Prelude.{◌≡◌, ◌⊎◌, ℕ, List, length}
 use Rattle.machine.specs.declared.step.Step.{Step}
 use Rattle.machine.specs.State.{State, opening}
 use Rattle.machine.specs.Step.{run}
-use Rattle.machine.specs.Held.{Held, IsAtEnd}
+use Rattle.machine.specs.Configuration.{Configuration, IsAtEnd}
 
 -- a machine, the steps that it took, and how many it may take
 pub record Trace : Type 0 where
-  pub machine : Held
+  pub machine : Configuration
   pub steps : List Step
   pub limit : ℕ
 
 -- the state in which a machine's program begins
-abbrev pub opening_of : Held → State
+abbrev pub opening_of : Configuration → State
 opening_of h = opening h.program.cores (length h.program.names)
 
 -- the steps, from the opening state of the machine's program, lead to the machine's state

@@ -2,7 +2,7 @@
 
 ghost use Rattle.std.specs.Prelude.{◌≡◌, ◌↔◌, IsTrue, IfOk, IfErr};
 ghost use Rattle.recorder.specs.Tso.{IsTsoOrder};
-ghost use Rattle.machine.specs.Held.{recording_of, IsAtEnd};
+ghost use Rattle.machine.specs.Configuration.{recording_of, IsAtEnd};
 ghost use Rattle.live.specs.Trace.{IsTrace, IsEnded};
 ghost use Rattle.live.specs.Driven.{IsGiven, IsDriveError};
 

@@ -28,11 +28,12 @@ impl Model for Traced {
 }
 
 impl Traced {
-    ghost use Rattle.std.specs.Prelude.{◌≡◌, ◌≤◌, ◌<◌, ◌↔◌, [], IsTrue, IfOk, IfErr, OnOk, OnErr, Ok, Err, length};
+    ghost use Rattle.std.specs.Prelude.{◌≡◌, ◌≤◌, ◌<◌, ◌↔◌, [], IsTrue, IfOk, IfErr, OnOk, OnErr, Ok, Err,
+        length};
     ghost use Rattle.recorder.specs.Tso.{IsTsoOrder};
-    ghost use Rattle.machine.specs.Held.{recording_of, IsAtEnd};
+    ghost use Rattle.machine.specs.Configuration.{recording_of, IsAtEnd};
     ghost use Rattle.live.specs.Trace.{Trace, IsTrace, IsEnded, opening_of};
-    ghost use Rattle.live.specs.Advance.{advanced};
+    ghost use Rattle.live.specs.Advance.{advance_answer};
 
     /// A machine that has not yet taken a step, whose trace may have `limit` steps; the room for
     /// them is made here. An `Err` only where there is no memory.
@@ -103,8 +104,8 @@ impl Traced {
     /// Takes a step and adds it to the trace. A full trace is answered first, then a blocked step;
     /// both change nothing. It takes no memory.
     pub fn advance(&mut self, step: Step) -> Result<(), LiveError>
-        ensures ok { OnOk result (advanced self.old step ≡ Ok self.new) }
-        ensures refused { IfErr result (λ e. advanced self.old step ≡ Err e) }
+        ensures ok { OnOk result (advance_answer self.old step ≡ Ok self.new) }
+        ensures refused { IfErr result (λ e. advance_answer self.old step ≡ Err e) }
         ensures unchanged { OnErr result (self.new ≡ self.old) }
     {
         if self.steps.len() >= self.limit {

@@ -9,12 +9,12 @@ use Rattle.litmus.specs.declared.op.Op.{Op}
 use Rattle.litmus.specs.Parts.{Parts, IsWithin, op_count}
 use Rattle.write_buffer.specs.Buffer.{Buffer}
 use Rattle.core_unit.specs.Progress.{Progress}
-use Rattle.machine.specs.Roomy.{Roomy}
+use Rattle.machine.specs.BoundedItems.{BoundedItems}
 use Rattle.machine.specs.State.{first_event, opening}
 use Rattle.machine.specs.Made.{AreUnits}
 use Rattle.moesi.specs.State as moesi
 use Rattle.moesi.specs.Block.{Block, opening_block}
-use Rattle.machine.specs.Held.{Rooms, IsSound, IsEntry, IsMachine, held, places_of}
+use Rattle.machine.specs.Configuration.{BlankSize, IsSound, IsEntry, IsMachine, state_from, places_of}
 use Rattle.machine.proofs.Opening.{get_or_same}
 
 -- what is true of an item is true of all its copies
@@ -41,8 +41,8 @@ places_none (u ∷ units) (suc n) l h =
 
 module _ (p : Parts) (capacity cores total n : ℕ) (units : List Progress) (cores_is : cores ≡ length p.cores) (n_is : n ≡ length p.names) (are : AreUnits p.cores units total)
     (fits : All (λ ops. All (IsWithin (length p.names)) ops) p.cores) (few : op_count p.cores ≤ MAX_EVENTS)
-    (buffers : List Buffer) (caches : moesi.State) (reads : List (ℕ × Option ℕ)) (writes : List (Roomy ℕ)) (done : Roomy ℕ) (blank : Rooms)
-    (buffers_are : buffers ≡ replicate cores (record { entries = []; capacity = capacity })) (caches_are : caches ≡ moesi.opening cores n)
+    (buffers : List Buffer) (caches : moesi.CacheState) (reads : List (ℕ × Option ℕ)) (writes : List (BoundedItems ℕ)) (done : BoundedItems ℕ) (blank : BlankSize)
+    (buffers_are : buffers ≡ replicate cores (record { entries = []; capacity = capacity })) (caches_are : caches ≡ moesi.opening_caches cores n)
     (writes_are : writes ≡ replicate n (record { items = []; room = total })) (reads_are : reads ≡ replicate total (0, None)) (done_is : done ≡ record { items = []; room = total })
     (blank_is : blank ≡ record { cores = cores; events = total; addresses = n }) where
   -- each unit is at the start of its core
@@ -54,7 +54,7 @@ module _ (p : Parts) (capacity cores total n : ℕ) (units : List Progress) (cor
   places_are = places_none units (length p.cores) are.one_each (λ c d inside. ap (λ (u : Progress). u.place) (are.begun c d inside))
 
   -- the parts make the opening state
-  pub opening_held : held units buffers caches writes reads done.items ≡ opening p.cores (length p.names)
+  pub opening_held : state_from units buffers caches writes reads done.items ≡ opening p.cores (length p.names)
   opening_held = rw (
     places_are,
     buffers_are,
@@ -65,7 +65,7 @@ module _ (p : Parts) (capacity cores total n : ℕ) (units : List Progress) (cor
     cores_is,
     n_is,
     map_same (λ (b : Buffer). b.entries) (length p.cores) (record { entries = []; capacity = capacity }),
-    map_same (λ (b : Roomy ℕ). b.items) (length p.names) (record { items = []; room = total }),
+    map_same (λ (b : BoundedItems ℕ). b.items) (length p.names) (record { items = []; room = total }),
     are.events,
   ) refl
 
@@ -76,22 +76,22 @@ module _ (p : Parts) (capacity cores total n : ℕ) (units : List Progress) (cor
     few = few;
     units_length = are.one_each;
     buffers_length = ap (λ (l : List Buffer). length l) buffers_are ∙ (length-replicate {A = Buffer} cores (record { entries = []; capacity = capacity }) ∙ cores_is);
-    cache_cores = ap (λ (m : moesi.State). m.cores) caches_are ∙ cores_is;
-    cache_blocks = ap (λ (m : moesi.State). length m.blocks) caches_are ∙ (length-replicate {A = Block} n (opening_block cores) ∙ n_is);
-    writes_length = ap (λ (l : List (Roomy ℕ)). length l) writes_are ∙ (length-replicate {A = Roomy ℕ} n (record { items = []; room = total }) ∙ n_is);
+    cache_cores = ap (λ (m : moesi.CacheState). m.cores) caches_are ∙ cores_is;
+    cache_blocks = ap (λ (m : moesi.CacheState). length m.blocks) caches_are ∙ (length-replicate {A = Block} n (opening_block cores) ∙ n_is);
+    writes_length = ap (λ (l : List (BoundedItems ℕ)). length l) writes_are ∙ (length-replicate {A = BoundedItems ℕ} n (record { items = []; room = total }) ∙ n_is);
     events = ap (λ (m : List (ℕ × Option ℕ)). length m) reads_are ∙ (length-replicate total (0, None) ∙ are.events);
     first = λ c d inside. ap (λ (u : Progress). u.first) (are.begun c d inside);
     place = λ c. omega (arith, ap (λ (l : List ℕ). get_or l c 0) places_are, get_or_same {A = ℕ} (length p.cores) c 0);
     capacities = subst (λ (l : List Buffer). All (λ b. b.capacity ≡ capacity) l) (sym buffers_are) (all_same (λ (b : Buffer). b.capacity ≡ capacity) cores (record { entries = []; capacity = capacity }) refl);
     entries = subst (λ (l : List Buffer). All (λ b. All (IsEntry (length p.names)) b.entries) l) (sym buffers_are)
         (all_same (λ (b : Buffer). All (IsEntry (length p.names)) b.entries) cores (record { entries = []; capacity = capacity }) (λ k d h. absurd (omega (arith, h))));
-    write_rooms = subst (λ (l : List (Roomy ℕ)). All (λ b. b.room ≡ op_count p.cores) l) (sym writes_are) (all_same (λ (b : Roomy ℕ). b.room ≡ op_count p.cores) n (record { items = []; room = total }) are.events);
-    write_lengths = subst (λ (l : List (Roomy ℕ)). All (λ b. length b.items ≤ length done.items) l) (sym writes_are)
-        (all_same (λ (b : Roomy ℕ). length b.items ≤ length done.items) n (record { items = []; room = total }) (omega arith));
-    performed_room = ap (λ (r : Roomy ℕ). r.room) done_is ∙ are.events;
+    write_rooms = subst (λ (l : List (BoundedItems ℕ)). All (λ b. b.room ≡ op_count p.cores) l) (sym writes_are) (all_same (λ (b : BoundedItems ℕ). b.room ≡ op_count p.cores) n (record { items = []; room = total }) are.events);
+    write_lengths = subst (λ (l : List (BoundedItems ℕ)). All (λ b. length b.items ≤ length done.items) l) (sym writes_are)
+        (all_same (λ (b : BoundedItems ℕ). length b.items ≤ length done.items) n (record { items = []; room = total }) (omega arith));
+    performed_room = ap (λ (r : BoundedItems ℕ). r.room) done_is ∙ are.events;
     counted = omega (
       arith,
-      ap (λ (r : Roomy ℕ). length r.items) done_is,
+      ap (λ (r : BoundedItems ℕ). length r.items) done_is,
       ap (λ (l : List Buffer). sum_by (λ b. length b.entries) l) buffers_are,
       sum_same (λ (b : Buffer). length b.entries) cores (record { entries = []; capacity = capacity }) refl,
       ap (λ (l : List ℕ). sum_by (λ (x : ℕ). x) l) places_are,

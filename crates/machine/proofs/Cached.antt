@@ -6,63 +6,63 @@ use Rattle.moesi.specs.declared.error.CacheError.TheVariants.{C4}
 use Rattle.moesi.specs.Lines.{is_valid, is_exclusive}
 use Rattle.moesi.specs.Block.{Block, opening_block, invalid, HasBlock}
 use Rattle.moesi.specs.Rows as row
-use Rattle.moesi.specs.State.{State, block_of, line_of, copy_of, opening, at_address, read, write, Has}
+use Rattle.moesi.specs.State.{CacheState, block_of, line_of, copy_of, opening_caches, at_address, read, write, Has}
 use Rattle.moesi.specs.Laws.{IsTransaction}
 use Rattle.moesi.proofs.Settled.{exclusive_valid, all_invalid}
 use Rattle.moesi.proofs.Kept.{taken_then}
 
 -- there are as many cores and addresses as before
-pub record IsAsLarge (s t : State) : Type 0 where
+pub record IsAsLarge (s t : CacheState) : Type 0 where
   pub cores : t.cores ≡ s.cores
   pub blocks : length t.blocks ≡ length s.blocks
 
 -- a row at one address keeps their number
-at_address_large : (s t : State) (a : ℕ) (r : Result Block CacheError) → at_address s a r ≡ Ok t → IsAsLarge s t
+at_address_large : (s t : CacheState) (a : ℕ) (r : Result Block CacheError) → at_address s a r ≡ Ok t → IsAsLarge s t
 at_address_large s t a (Err e) h = cc (h)
 at_address_large s t a (Ok b) h =
     let one : record { cores = s.cores; blocks = slice_set s.blocks a b } ≡ t = cc (h) in
     record {
-      cores = ap (λ (x : State). x.cores) (sym one);
-      blocks = ap (λ (x : State). length x.blocks) (sym one) ∙ length-set s.blocks a b;
+      cores = ap (λ (x : CacheState). x.cores) (sym one);
+      blocks = ap (λ (x : CacheState). length x.blocks) (sym one) ∙ length-set s.blocks a b;
     }
 
 -- a write keeps their number
-pub written_large : (s t : State) (c a value event : ℕ) → write s c a value event ≡ Ok t → IsAsLarge s t
+pub written_large : (s t : CacheState) (c a value event : ℕ) → write s c a value event ≡ Ok t → IsAsLarge s t
 written_large s t c a value event h = at_address_large s t a _ h
 
 -- so does a transaction
-pub transaction_large : (s t : State) (c a : ℕ) → IsTransaction s c a t → IsAsLarge s t
+pub transaction_large : (s t : CacheState) (c a : ℕ) → IsTransaction s c a t → IsAsLarge s t
 transaction_large s t c a (inl h) = at_address_large s t a _ h
 transaction_large s t c a (inr (inl h)) = at_address_large s t a _ h
 transaction_large s t c a (inr (inr h)) = at_address_large s t a _ h
 
 -- what is read is a valid line's
-pub read_is : (s : State) (c a : ℕ) (copy : ℕ × Option ℕ) → read s c a ≡ Ok copy → IsTrue (is_valid (line_of s c a)) × (copy_of s c a ≡ copy)
+pub read_is : (s : CacheState) (c a : ℕ) (copy : ℕ × Option ℕ) → read s c a ≡ Ok copy → IsTrue (is_valid (line_of s c a)) × (copy_of s c a ≡ copy)
 read_is s c a copy h = taken_then _ _ _ copy h
 
 -- what is read is there
-pub read_has : (s : State) (c a : ℕ) (copy : ℕ × Option ℕ) → read s c a ≡ Ok copy → Has s a copy
+pub read_has : (s : CacheState) (c a : ℕ) (copy : ℕ × Option ℕ) → read s c a ≡ Ok copy → Has s a copy
 read_has s c a copy h =
     let r = read_is s c a copy h in
     inr (c, r.0, r.1)
 
 -- a row that changes an address was allowed
-at_one : (s t : State) (a : ℕ) (r : Result Block CacheError) → at_address s a r ≡ Ok t → (u : Block) × (r ≡ Ok u)
+at_one : (s t : CacheState) (a : ℕ) (r : Result Block CacheError) → at_address s a r ≡ Ok t → (u : Block) × (r ≡ Ok u)
 at_one s t a (Ok u) h = (u, refl)
 at_one s t a (Err e) h = cc (h)
 
 -- a line that may be written
-written_exclusive : (s t : State) (c a value event : ℕ) → write s c a value event ≡ Ok t → is_exclusive (line_of s c a) ≡ true
+written_exclusive : (s t : CacheState) (c a value event : ℕ) → write s c a value event ≡ Ok t → is_exclusive (line_of s c a) ≡ true
 written_exclusive s t c a value event h =
     let wrote = at_one s t a (row.write (block_of s a) c (value, Some event)) h in
     (taken_then _ _ _ wrote.0 wrote.1).0
 
 -- a line that may be written may be read
-pub written_read : (s t : State) (c a value event : ℕ) → write s c a value event ≡ Ok t → read s c a ≡ Ok (copy_of s c a)
+pub written_read : (s t : CacheState) (c a value event : ℕ) → write s c a value event ≡ Ok t → read s c a ≡ Ok (copy_of s c a)
 written_read s t c a value event h = rw (exclusive_valid (line_of s c a) (written_exclusive s t c a value event h)) refl
 
 -- a line that may not be read may not be written
-pub unread_unwritten : (s : State) (c a value event : ℕ) (e : CacheError) → read s c a ≡ Err e → write s c a value event ≡ Err C4
+pub unread_unwritten : (s : CacheState) (c a value event : ℕ) (e : CacheError) → read s c a ≡ Err e → write s c a value event ≡ Err C4
 unread_unwritten s c a value event e h = go (is_exclusive (line_of s c a)) refl
   where
     valid : is_exclusive (line_of s c a) ≡ true → read s c a ≡ Ok (copy_of s c a)
@@ -73,7 +73,7 @@ unread_unwritten s c a value event e h = go (is_exclusive (line_of s c a)) refl
     go false is = rw is refl
 
 -- at first 0 with no event is there, and nothing else
-pub opening_has : (cores addresses a : ℕ) (copy : ℕ × Option ℕ) → Has (opening cores addresses) a copy → copy ≡ (0, None)
+pub opening_has : (cores addresses a : ℕ) (copy : ℕ × Option ℕ) → Has (opening_caches cores addresses) a copy → copy ≡ (0, None)
 opening_has cores addresses a copy h = replicated addresses a h
   where
     none : Block

@@ -19,7 +19,7 @@ use Rattle.machine.specs.declared.step.Step.{Step}
 use Rattle.moesi.specs.State as moesi
 use Rattle.moesi.specs.Laws.{IsTransaction}
 use Rattle.moesi.proofs.Origins.{copy_was_there, write_adds}
-use Rattle.machine.specs.State.{State, place_of, buffer_of, copy_of, event_of, recorded, opening, IsComplete}
+use Rattle.machine.specs.State.{State, place_of, buffer_of, line_copy, event_of, recorded, opening, IsComplete}
 use Rattle.machine.specs.Step.{with_caches, forwarded_or_read, looked_up, rmw_value, run}
 use Rattle.machine.specs.Tso.{EveryRunIsWellFormed}
 use Rattle.machine.proofs.Cached.{read_has, written_read, opening_has}
@@ -115,7 +115,7 @@ module _ (p : List (List Op)) (s : State) (d : IsData p s) where
           (written_given p s y.event c a y.value (St a y.value) at.0 (subst (λ (k : ℕ). y.event < (snapshot_of p s).next k) (ap (λ (z : ℕ × Op). z.0) at.0) (executed_in c y.event at.1)) refl refl)
 
   -- caches where one address was written by an event that gave its value
-  copies_given : (t : State) (caches : moesi.State) (c a b v : ℕ) → moesi.write s.caches c a v b ≡ Ok caches → IsGiven p t a (Some b) v
+  copies_given : (t : State) (caches : moesi.CacheState) (c a b v : ℕ) → moesi.write s.caches c a v b ≡ Ok caches → IsGiven p t a (Some b) v
       → ((k : ℕ) (copy : ℕ × Option ℕ) → moesi.Has s.caches k copy → IsPairGiven p t k copy)
       → (k : ℕ) (copy : ℕ × Option ℕ) → moesi.Has caches k copy → IsPairGiven p t k copy
   copies_given t caches c a b v wrote gave old k copy h = elim (write_adds s.caches caches c a k copy v b wrote h) [
@@ -124,7 +124,7 @@ module _ (p : List (List Op)) (s : State) (d : IsData p s) where
   ]
 
   -- a drain keeps the data
-  drain_data : (caches : moesi.State) (c : ℕ) (x : Entry) (xs : List Entry) → c < length p → buffer_of s c ≡ x ∷ xs
+  drain_data : (caches : moesi.CacheState) (c : ℕ) (x : Entry) (xs : List Entry) → c < length p → buffer_of s c ≡ x ∷ xs
       → moesi.write s.caches c x.addr x.value x.event ≡ Ok caches → IsData p (drained_state s caches c x xs)
   drain_data caches c x xs at is wrote =
       let here : AreStores p c (x ∷ xs) = subst (λ (b : List Entry). AreStores p c b) is (d.steady.stores c) in
@@ -204,11 +204,11 @@ module _ (p : List (List Op)) (s : State) (d : IsData p s) where
       }
 
   -- a read-modify-write keeps the data
-  rmw_data : (caches : moesi.State) (c b a : ℕ) (op : Op) → IsNext p s c b op → c < length p → IsRmw op (copy_of s c a) a → buffer_of s c ≡ []
+  rmw_data : (caches : moesi.CacheState) (c b a : ℕ) (op : Op) → IsNext p s c b op → c < length p → IsRmw op (line_copy s c a) a → buffer_of s c ≡ []
       → moesi.write s.caches c a (rmw_value s c op a) b ≡ Ok caches → IsData p (rmw_state s caches c b a)
   rmw_data caches c b a op n at is empty wrote =
       let t : State = rmw_state s caches c b a in
-      let what : ℕ × Option ℕ = copy_of s c a in
+      let what : ℕ × Option ℕ = line_copy s c a in
       let value : ℕ = rmw_value s c op a in
       let read : get_or t.reads b (0, None) ≡ what = get_or-set_same s.reads b what (0, None) (next_within p s d.steady c b op n) in
       let gave : IsGiven p t a (Some b) value = written_given p t b c a value op (next_placed p s c b op n) (omega (arith, n.event, get_or-set_same s.places c (place_of s c + 1) 0 n.core))
@@ -220,7 +220,7 @@ module _ (p : List (List Op)) (s : State) (d : IsData p s) where
       }
 
   -- a transaction keeps the data
-  transact_data : (caches : moesi.State) (c a : ℕ) → c < length p → a < length s.caches.blocks → IsTransaction s.caches c a caches → IsData p (with_caches s caches)
+  transact_data : (caches : moesi.CacheState) (c a : ℕ) → c < length p → a < length s.caches.blocks → IsTransaction s.caches c a caches → IsData p (with_caches s caches)
   transact_data caches c a at within made = record {
     steady = (steady_kept p s d.steady).transact caches c a at within made;
     copies = λ k copy h. given_same k copy (d.copies k copy (copy_was_there s.caches caches c a k copy made h));

@@ -16,8 +16,8 @@ use Rattle.write_buffer.specs.Buffer.{Buffer}
 use Rattle.core_unit.specs.Progress.{Progress}
 use Rattle.machine.specs.declared.step.Step.TheVariants.{Drain}
 use Rattle.machine.specs.Step.{drained, taken}
-use Rattle.machine.specs.Roomy.{Roomy}
-use Rattle.machine.specs.Held.{IsSound, IsEntry, held, places_of}
+use Rattle.machine.specs.BoundedItems.{BoundedItems}
+use Rattle.machine.specs.Configuration.{IsSound, IsEntry, state_from, places_of}
 use Rattle.machine.proofs.Executed.{places_within, buffer_seen, list_seen}
 
 -- what leaves a buffer is its oldest entry
@@ -29,8 +29,8 @@ popped_is old new entry (Some x) first some none =
     some ∙ ap (λ (y : Entry). y ∷ new.entries) same
 popped_is old new entry None first some none = absurd (let clash : Some entry ≡ None = first ∙ ap (λ (l : List Entry). slice_get l 0) none.0 in cc (clash))
 
-module _ (p : Parts) (capacity : ℕ) (units : List Progress) (buffers : List Buffer) (caches : moesi.State)
-    (writes : List (Roomy ℕ)) (reads : List (ℕ × Option ℕ)) (done : Roomy ℕ)
+module _ (p : Parts) (capacity : ℕ) (units : List Progress) (buffers : List Buffer) (caches : moesi.CacheState)
+    (writes : List (BoundedItems ℕ)) (reads : List (ℕ × Option ℕ)) (done : BoundedItems ℕ)
     (sound : IsSound p capacity units buffers caches writes reads done)
     (core : ℕ) (at : core < length p.cores) (old : Buffer) (is : old ≡ slice_index_or buffers core old)
     (entry : Entry) (first : Some entry ≡ slice_get old.entries 0) where
@@ -55,17 +55,17 @@ module _ (p : Parts) (capacity : ℕ) (units : List Progress) (buffers : List Bu
 
   -- a drain that the caches refuse is blocked
   pub drain_blocked : (e : CacheError) → moesi.write caches core entry.addr entry.value entry.event ≡ Err e
-      → taken p.cores capacity (held units buffers caches writes reads done.items) (Drain core) ≡ Err B5
+      → taken p.cores capacity (state_from units buffers caches writes reads done.items) (Drain core) ≡ Err B5
   drain_blocked e refused = rw (lt-ltb core (length p.cores) at, buffer_seen buffers core old buffer_there is) (go old.entries first)
     where
-      go : (l : List Entry) → Some entry ≡ slice_get l 0 → drained (held units buffers caches writes reads done.items) core l ≡ Err B5
+      go : (l : List Entry) → Some entry ≡ slice_get l 0 → drained (state_from units buffers caches writes reads done.items) core l ≡ Err B5
       go [] h = absurd (let clash : Some entry ≡ None = h in cc (clash))
       go (x ∷ xs) h =
           let same : entry ≡ x = let one : Some entry ≡ Some x = h in cc (one) in
           rw (← same, refused) refl
 
-module _ (p : Parts) (capacity : ℕ) (units : List Progress) (buffers : List Buffer) (caches : moesi.State)
-    (writes : List (Roomy ℕ)) (reads : List (ℕ × Option ℕ)) (done : Roomy ℕ)
+module _ (p : Parts) (capacity : ℕ) (units : List Progress) (buffers : List Buffer) (caches : moesi.CacheState)
+    (writes : List (BoundedItems ℕ)) (reads : List (ℕ × Option ℕ)) (done : BoundedItems ℕ)
     (sound : IsSound p capacity units buffers caches writes reads done)
     (core : ℕ) (at : core < length p.cores) (old new : Buffer) (is : old ≡ slice_index_or buffers core old)
     (entry : Entry) (popped : old.entries ≡ entry ∷ new.entries) (same : new.capacity ≡ old.capacity) where
@@ -99,31 +99,31 @@ module _ (p : Parts) (capacity : ℕ) (units : List Progress) (buffers : List Bu
   pub has_room : length done.items < done.room
   has_room = omega (arith, room_left, sound.performed_room)
 
-  module _ (list : Roomy ℕ) (list_is : list ≡ slice_index_or writes entry.addr list) where
+  module _ (list : BoundedItems ℕ) (list_is : list ≡ slice_index_or writes entry.addr list) where
     -- its address has a write list
     in_writes : entry.addr < length writes
     in_writes = omega (arith, (all_within 0 entry (omega arith)).0, sound.writes_length)
 
     -- with room for every event
     list_room : list.room ≡ op_count p.cores
-    list_room = ap (λ (l : Roomy ℕ). l.room) list_is ∙ sound.write_rooms entry.addr list in_writes
+    list_room = ap (λ (l : BoundedItems ℕ). l.room) list_is ∙ sound.write_rooms entry.addr list in_writes
 
     -- and no longer than the performed list
     list_short : length list.items ≤ length done.items
-    list_short = omega (arith, ap (λ (l : Roomy ℕ). length l.items) list_is, sound.write_lengths entry.addr list in_writes)
+    list_short = omega (arith, ap (λ (l : BoundedItems ℕ). length l.items) list_is, sound.write_lengths entry.addr list in_writes)
 
     -- so it has room for one more
     pub list_has_room : length list.items < list.room
     list_has_room = omega (arith, list_room, list_short, room_left)
 
-    module _ (list' : Roomy ℕ) (pushed : list' ≡ record { items = list.items ++ entry.event ∷ []; room = list.room })
-        (done' : Roomy ℕ) (done_is : done' ≡ record { items = done.items ++ entry.event ∷ []; room = done.room }) where
+    module _ (list' : BoundedItems ℕ) (pushed : list' ≡ record { items = list.items ++ entry.event ∷ []; room = list.room })
+        (done' : BoundedItems ℕ) (done_is : done' ≡ record { items = done.items ++ entry.event ∷ []; room = done.room }) where
       -- the performed list grows by one
       longer : length done'.items ≡ length done.items + 1
-      longer = ap (λ (r : Roomy ℕ). length r.items) done_is ∙ length-append done.items (entry.event ∷ [])
+      longer = ap (λ (r : BoundedItems ℕ). length r.items) done_is ∙ length-append done.items (entry.event ∷ [])
 
       -- the parts still fit together
-      pub drained_sound : (caches' : moesi.State) → caches'.cores ≡ caches.cores → length caches'.blocks ≡ length caches.blocks
+      pub drained_sound : (caches' : moesi.CacheState) → caches'.cores ≡ caches.cores → length caches'.blocks ≡ length caches.blocks
           → IsSound p capacity units (slice_set buffers core new) caches' (slice_set writes entry.addr list') reads done'
       drained_sound caches' same_cores same_blocks = record {
         operations = sound.operations;
@@ -138,22 +138,22 @@ module _ (p : Parts) (capacity : ℕ) (units : List Progress) (buffers : List Bu
         place = sound.place;
         capacities = All-set (λ b. b.capacity ≡ capacity) buffers core new (same ∙ (ap (λ (b : Buffer). b.capacity) is ∙ sound.capacities core old there)) sound.capacities;
         entries = All-set (λ b. All (IsEntry (length p.names)) b.entries) buffers core new rest_within sound.entries;
-        write_rooms = All-set (λ l. l.room ≡ op_count p.cores) writes entry.addr list' (ap (λ (r : Roomy ℕ). r.room) pushed ∙ list_room) sound.write_rooms;
+        write_rooms = All-set (λ l. l.room ≡ op_count p.cores) writes entry.addr list' (ap (λ (r : BoundedItems ℕ). r.room) pushed ∙ list_room) sound.write_rooms;
         write_lengths = All-set (λ l. length l.items ≤ length done'.items) writes entry.addr list'
-            (omega (arith, list_short, longer, ap (λ (r : Roomy ℕ). length r.items) pushed, length-append list.items (entry.event ∷ [])))
+            (omega (arith, list_short, longer, ap (λ (r : BoundedItems ℕ). length r.items) pushed, length-append list.items (entry.event ∷ [])))
             (All-weaker (λ l. length l.items ≤ length done.items) (λ l. length l.items ≤ length done'.items) (λ l h. omega (arith, h, longer)) writes sound.write_lengths);
-        performed_room = ap (λ (r : Roomy ℕ). r.room) done_is ∙ sound.performed_room;
+        performed_room = ap (λ (r : BoundedItems ℕ). r.room) done_is ∙ sound.performed_room;
         counted = omega (arith, counted, longer, sound.counted);
       }
 
       -- the row of a drain
-      pub drain_taken : (caches' : moesi.State) → moesi.write caches core entry.addr entry.value entry.event ≡ Ok caches'
-          → taken p.cores capacity (held units buffers caches writes reads done.items) (Drain core)
-          ≡ Ok (held units (slice_set buffers core new) caches' (slice_set writes entry.addr list') reads done'.items)
+      pub drain_taken : (caches' : moesi.CacheState) → moesi.write caches core entry.addr entry.value entry.event ≡ Ok caches'
+          → taken p.cores capacity (state_from units buffers caches writes reads done.items) (Drain core)
+          ≡ Ok (state_from units (slice_set buffers core new) caches' (slice_set writes entry.addr list') reads done'.items)
       drain_taken caches' wrote = rw (
         lt-ltb core (length p.cores) at,
         map-set (λ (b : Buffer). b.entries) buffers core new,
-        map-set (λ (b : Roomy ℕ). b.items) writes entry.addr list',
+        map-set (λ (b : BoundedItems ℕ). b.items) writes entry.addr list',
         buffer_seen buffers core old there is,
         popped,
         wrote,

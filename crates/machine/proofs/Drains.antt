@@ -12,11 +12,11 @@ use Rattle.machine.proofs.Ordering.{ordered_kept, drain_orders}
 use Rattle.machine.proofs.Static.{static_of, snapshot_of, op_reads}
 
 -- the state after core c's entry x went to its line, which left these caches
-abbrev pub drained_state : State → moesi.State → ℕ → Entry → List Entry → State
+abbrev pub drained_state : State → moesi.CacheState → ℕ → Entry → List Entry → State
 drained_state s caches c x xs = performed (written (with_buffer s c xs) caches x.addr x.event) x.event
 
 -- the drain of a waiting entry is one of event numbers, the oldest first
-pub drains : (p : List (List Op)) (s : State) (caches : moesi.State) (c : ℕ) (x : Entry) (xs : List Entry) → c < length s.buffers → buffer_of s c ≡ x ∷ xs → AreStores p c (x ∷ xs)
+pub drains : (p : List (List Op)) (s : State) (caches : moesi.CacheState) (c : ℕ) (x : Entry) (xs : List Entry) → c < length s.buffers → buffer_of s c ≡ x ∷ xs → AreStores p c (x ∷ xs)
     → Drains (static_of p s) (snapshot_of p s) (snapshot_of p (drained_state s caches c x xs)) c x.event []
 drains p s caches c x xs at is stores = record {
   back = map (λ (y : Entry). y.event) xs;
@@ -30,14 +30,14 @@ drains p s caches c x xs at is stores = record {
 }
 
 -- a drain keeps the count
-pub drain_counted : (p : List (List Op)) (s : State) (caches : moesi.State) (c : ℕ) (x : Entry) (xs : List Entry) → c < length s.buffers → buffer_of s c ≡ x ∷ xs → AreStores p c (x ∷ xs)
+pub drain_counted : (p : List (List Op)) (s : State) (caches : moesi.CacheState) (c : ℕ) (x : Entry) (xs : List Entry) → c < length s.buffers → buffer_of s c ≡ x ∷ xs → AreStores p c (x ∷ xs)
     → IsCounted (static_of p s) (snapshot_of p s) → IsCounted (static_of p (drained_state s caches c x xs)) (snapshot_of p (drained_state s caches c x xs))
 drain_counted p s caches c x xs at is stores counted =
     counted_kept (static_of p s) (snapshot_of p s) (snapshot_of p (drained_state s caches c x xs)) x.event counted
     (drain_counts (static_of p s) (snapshot_of p s) (snapshot_of p (drained_state s caches c x xs)) c x.event [] counted (drains p s caches c x xs at is stores))
 
 -- a drain of the oldest store keeps the order
-pub drain_ordered : (p : List (List Op)) (s : State) (caches : moesi.State) (c : ℕ) (x : Entry) (xs : List Entry) → c < length s.buffers → buffer_of s c ≡ x ∷ xs → AreStores p c (x ∷ xs)
+pub drain_ordered : (p : List (List Op)) (s : State) (caches : moesi.CacheState) (c : ℕ) (x : Entry) (xs : List Entry) → c < length s.buffers → buffer_of s c ≡ x ∷ xs → AreStores p c (x ∷ xs)
     → IsCounted (static_of p s) (snapshot_of p s) → IsOrdered (static_of p s) (snapshot_of p s) → IsOrdered (static_of p (drained_state s caches c x xs)) (snapshot_of p (drained_state s caches c x xs))
 drain_ordered p s caches c x xs at is stores counted ordered =
     ordered_kept (static_of p s) (snapshot_of p s) (snapshot_of p (drained_state s caches c x xs)) x.event counted ordered

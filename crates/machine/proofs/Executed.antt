@@ -19,8 +19,8 @@ use Rattle.machine.specs.declared.blocked.Blocked.TheVariants.{B5}
 use Rattle.moesi.specs.State as moesi
 use Rattle.machine.specs.State.{first_event, event_of}
 use Rattle.machine.specs.Step.{exec, read_modify_written, IsAt, forwarded_or_read}
-use Rattle.machine.specs.Roomy.{Roomy}
-use Rattle.machine.specs.Held.{IsSound, IsEntry, held, places_of}
+use Rattle.machine.specs.BoundedItems.{BoundedItems}
+use Rattle.machine.specs.Configuration.{IsSound, IsEntry, state_from, places_of}
 use Rattle.machine.proofs.Static.{placed_at, placed_total, first_within}
 
 -- each core is within its operations, so all together are
@@ -35,13 +35,13 @@ pub buffer_seen : (buffers : List Buffer) (core : ℕ) (old : Buffer) → core <
 buffer_seen buffers core old at is = get_or-map (λ (b : Buffer). b.entries) buffers core old [] at ∙ ap (λ (b : Buffer). b.entries) (sym is)
 
 -- a write list as what it holds
-pub list_seen : (writes : List (Roomy ℕ)) (a : ℕ) (old : Roomy ℕ) → a < length writes → old ≡ slice_index_or writes a old → slice_index_or (map (λ b. b.items) writes) a [] ≡ old.items
-list_seen writes a old at is = get_or-map (λ (b : Roomy ℕ). b.items) writes a old [] at ∙ ap (λ (b : Roomy ℕ). b.items) (sym is)
+pub list_seen : (writes : List (BoundedItems ℕ)) (a : ℕ) (old : BoundedItems ℕ) → a < length writes → old ≡ slice_index_or writes a old → slice_index_or (map (λ b. b.items) writes) a [] ≡ old.items
+list_seen writes a old at is = get_or-map (λ (b : BoundedItems ℕ). b.items) writes a old [] at ∙ ap (λ (b : BoundedItems ℕ). b.items) (sym is)
 
-module _ (p : Parts) (capacity : ℕ) (units : List Progress) (buffers : List Buffer) (caches : moesi.State)
-    (writes : List (Roomy ℕ)) (reads : List (ℕ × Option ℕ)) (done : Roomy ℕ)
+module _ (p : Parts) (capacity : ℕ) (units : List Progress) (buffers : List Buffer) (caches : moesi.CacheState)
+    (writes : List (BoundedItems ℕ)) (reads : List (ℕ × Option ℕ)) (done : BoundedItems ℕ)
     (sound : IsSound p capacity units buffers caches writes reads done)
-    (core : ℕ) (op : Op) (event : ℕ) (at : IsAt p.cores (held units buffers caches writes reads done.items) core op event) where
+    (core : ℕ) (op : Op) (event : ℕ) (at : IsAt p.cores (state_from units buffers caches writes reads done.items) core op event) where
   -- the core has a unit
   pub unit_there : core < length units
   unit_there = omega (arith, at.core, sound.units_length)
@@ -53,7 +53,7 @@ module _ (p : Parts) (capacity : ℕ) (units : List Progress) (buffers : List Bu
   -- a read-modify-write that the caches refuse is blocked
   pub rmw_blocked : (old : Buffer) → old ≡ slice_index_or buffers core old → old.entries ≡ [] → (addr : ℕ) (what : ℕ × Option ℕ) → moesi.copy_of caches core addr ≡ what
       → (e : CacheError) → moesi.write caches core addr (value_written (event_of op what)) event ≡ Err e
-      → read_modify_written (held units buffers caches writes reads done.items) core event op addr ≡ Err B5
+      → read_modify_written (state_from units buffers caches writes reads done.items) core event op addr ≡ Err B5
   rmw_blocked old is empty addr what what_is e refused = rw (buffer_seen buffers core old buffer_there is, empty, what_is, refused) refl
 
   -- the core has an operation left
@@ -135,7 +135,7 @@ module _ (p : Parts) (capacity : ℕ) (units : List Progress) (buffers : List Bu
       )
 
       -- an event is performed; the reads are others of the same number
-      pub performed_sound : (reads' : List (ℕ × Option ℕ)) → length reads' ≡ length reads → (new : Roomy ℕ) → new ≡ record { items = done.items ++ event ∷ []; room = done.room }
+      pub performed_sound : (reads' : List (ℕ × Option ℕ)) → length reads' ≡ length reads → (new : BoundedItems ℕ) → new ≡ record { items = done.items ++ event ∷ []; room = done.room }
           → IsSound p capacity (slice_set units core moved) buffers caches writes reads' new
       performed_sound reads' same new is = record {
         operations = sound.operations;
@@ -153,35 +153,35 @@ module _ (p : Parts) (capacity : ℕ) (units : List Progress) (buffers : List Bu
         write_rooms = sound.write_rooms;
         write_lengths = All-weaker (λ l. length l.items ≤ length done.items) (λ l. length l.items ≤ length new.items)
             (λ l h. omega (arith, h, longer)) writes sound.write_lengths;
-        performed_room = ap (λ (r : Roomy ℕ). r.room) is ∙ sound.performed_room;
+        performed_room = ap (λ (r : BoundedItems ℕ). r.room) is ∙ sound.performed_room;
         counted = omega (arith, longer, sum_up, sound.counted);
       }
         where
           longer : length new.items ≡ length done.items + 1
-          longer = ap (λ (r : Roomy ℕ). length r.items) is ∙ length-append done.items (event ∷ [])
+          longer = ap (λ (r : BoundedItems ℕ). length r.items) is ∙ length-append done.items (event ∷ [])
 
       -- the row of a fence
       pub fence_taken : (old : Buffer) → old ≡ slice_index_or buffers core old → old.entries ≡ []
-          → exec capacity (held units buffers caches writes reads done.items) core event Fence
-          ≡ Ok (held (slice_set units core moved) buffers caches writes reads (done.items ++ event ∷ []))
+          → exec capacity (state_from units buffers caches writes reads done.items) core event Fence
+          ≡ Ok (state_from (slice_set units core moved) buffers caches writes reads (done.items ++ event ∷ []))
       fence_taken old is empty = rw (buffer_seen buffers core old buffer_there is, empty, places_set) refl
 
       -- the row of a load
       pub load_taken : (old : Buffer) → old ≡ slice_index_or buffers core old → (addr : ℕ) (entry : Option Entry) → entry ≡ youngest old.entries addr
           → (what : ℕ × Option ℕ) → forwarded_or_read entry (moesi.read caches core addr) ≡ Ok what
-          → exec capacity (held units buffers caches writes reads done.items) core event (Ld addr)
-          ≡ Ok (held (slice_set units core moved) buffers caches writes (slice_set reads event what) (done.items ++ event ∷ []))
+          → exec capacity (state_from units buffers caches writes reads done.items) core event (Ld addr)
+          ≡ Ok (state_from (slice_set units core moved) buffers caches writes (slice_set reads event what) (done.items ++ event ∷ []))
       load_taken old is addr entry entry_is what got = rw (buffer_seen buffers core old buffer_there is, ← entry_is, got, places_set) refl
 
       -- the row of a read-modify-write
       pub rmw_taken : (old : Buffer) → old ≡ slice_index_or buffers core old → old.entries ≡ [] → (addr : ℕ) → addr < length p.names
-          → (what : ℕ × Option ℕ) → moesi.copy_of caches core addr ≡ what → (caches' : moesi.State) → moesi.write caches core addr (value_written (event_of op what)) event ≡ Ok caches'
-          → (list new : Roomy ℕ) → list ≡ slice_index_or writes addr list → new ≡ record { items = list.items ++ event ∷ []; room = list.room }
-          → read_modify_written (held units buffers caches writes reads done.items) core event op addr
-          ≡ Ok (held (slice_set units core moved) buffers caches' (slice_set writes addr new) (slice_set reads event what) (done.items ++ event ∷ []))
+          → (what : ℕ × Option ℕ) → moesi.copy_of caches core addr ≡ what → (caches' : moesi.CacheState) → moesi.write caches core addr (value_written (event_of op what)) event ≡ Ok caches'
+          → (list new : BoundedItems ℕ) → list ≡ slice_index_or writes addr list → new ≡ record { items = list.items ++ event ∷ []; room = list.room }
+          → read_modify_written (state_from units buffers caches writes reads done.items) core event op addr
+          ≡ Ok (state_from (slice_set units core moved) buffers caches' (slice_set writes addr new) (slice_set reads event what) (done.items ++ event ∷ []))
       rmw_taken old is empty addr addressed what what_is caches' wrote list new list_is pushed =
           rw (
-            map-set (λ (b : Roomy ℕ). b.items) writes addr new,
+            map-set (λ (b : BoundedItems ℕ). b.items) writes addr new,
             pushed,
             buffer_seen buffers core old buffer_there is,
             empty,
@@ -192,21 +192,21 @@ module _ (p : Parts) (capacity : ℕ) (units : List Progress) (buffers : List Bu
           ) refl
 
       -- an event writes its address and is performed
-      module _ (addr : ℕ) (addressed : addr < length p.names) (list : Roomy ℕ) (list_is : list ≡ slice_index_or writes addr list) where
+      module _ (addr : ℕ) (addressed : addr < length p.names) (list : BoundedItems ℕ) (list_is : list ≡ slice_index_or writes addr list) where
         -- the address has a write list
         there : addr < length writes
         there = omega (arith, addressed, sound.writes_length)
 
         -- no longer than the performed list
         list_short : length list.items ≤ length done.items
-        list_short = omega (arith, ap (λ (l : Roomy ℕ). length l.items) list_is, sound.write_lengths addr list there)
+        list_short = omega (arith, ap (λ (l : BoundedItems ℕ). length l.items) list_is, sound.write_lengths addr list there)
 
         -- with room for every event
         list_room : list.room ≡ op_count p.cores
-        list_room = ap (λ (l : Roomy ℕ). l.room) list_is ∙ sound.write_rooms addr list there
+        list_room = ap (λ (l : BoundedItems ℕ). l.room) list_is ∙ sound.write_rooms addr list there
 
         -- the parts still fit together behind a read-modify-write
-        pub rmw_sound : (caches' : moesi.State) → caches'.cores ≡ caches.cores → length caches'.blocks ≡ length caches.blocks → (reads' : List (ℕ × Option ℕ)) → length reads' ≡ length reads → (list' new : Roomy ℕ)
+        pub rmw_sound : (caches' : moesi.CacheState) → caches'.cores ≡ caches.cores → length caches'.blocks ≡ length caches.blocks → (reads' : List (ℕ × Option ℕ)) → length reads' ≡ length reads → (list' new : BoundedItems ℕ)
             → list' ≡ record { items = list.items ++ event ∷ []; room = list.room } → new ≡ record { items = done.items ++ event ∷ []; room = done.room }
             → IsSound p capacity (slice_set units core moved) buffers caches' (slice_set writes addr list') reads' new
         rmw_sound caches' same_cores same_blocks reads' same list' new pushed is =
@@ -224,9 +224,9 @@ module _ (p : Parts) (capacity : ℕ) (units : List Progress) (buffers : List Bu
               place = base.place;
               capacities = base.capacities;
               entries = base.entries;
-              write_rooms = All-set (λ l. l.room ≡ op_count p.cores) writes addr list' (ap (λ (r : Roomy ℕ). r.room) pushed ∙ list_room) base.write_rooms;
+              write_rooms = All-set (λ l. l.room ≡ op_count p.cores) writes addr list' (ap (λ (r : BoundedItems ℕ). r.room) pushed ∙ list_room) base.write_rooms;
               write_lengths = All-set (λ l. length l.items ≤ length new.items) writes addr list'
-                  (omega (arith, list_short, ap (λ (r : Roomy ℕ). length r.items) pushed, length-append list.items (event ∷ []), ap (λ (r : Roomy ℕ). length r.items) is, length-append done.items (event ∷ [])))
+                  (omega (arith, list_short, ap (λ (r : BoundedItems ℕ). length r.items) pushed, length-append list.items (event ∷ []), ap (λ (r : BoundedItems ℕ). length r.items) is, length-append done.items (event ∷ [])))
                   base.write_lengths;
               performed_room = base.performed_room;
               counted = base.counted;
@@ -269,8 +269,8 @@ module _ (p : Parts) (capacity : ℕ) (units : List Progress) (buffers : List Bu
 
         -- the row of a store
         pub store_taken : entry.event ≡ event → length old.entries < old.capacity
-            → exec capacity (held units buffers caches writes reads done.items) core event (St entry.addr entry.value)
-            ≡ Ok (held (slice_set units core moved) (slice_set buffers core new) caches writes reads done.items)
+            → exec capacity (state_from units buffers caches writes reads done.items) core event (St entry.addr entry.value)
+            ≡ Ok (state_from (slice_set units core moved) (slice_set buffers core new) caches writes reads done.items)
         store_taken event_is room =
             let entry_is : entry ≡ record { addr = entry.addr; value = entry.value; event = event } = ap (λ (e : ℕ). record { addr = entry.addr; value = entry.value; event = e }) event_is in
             let free : length (slice_index_or (map (λ b. b.entries) buffers) core []) < capacity = omega (arith, room, capacity_is, ap (λ (l : List Entry). length l) (buffer_seen buffers core old buffer_there is)) in
@@ -295,12 +295,12 @@ module _ (p : Parts) (capacity : ℕ) (units : List Progress) (buffers : List Bu
   has_room = omega (arith, has_room_left some_unit unit_is_some, sound.performed_room)
 
   -- and so has each write list
-  pub list_has_room : (addr : ℕ) → addr < length p.names → (list : Roomy ℕ) → list ≡ slice_index_or writes addr list → length list.items < list.room
+  pub list_has_room : (addr : ℕ) → addr < length p.names → (list : BoundedItems ℕ) → list ≡ slice_index_or writes addr list → length list.items < list.room
   list_has_room addr addressed list list_is = omega (
     arith,
-    ap (λ (l : Roomy ℕ). l.room) list_is,
+    ap (λ (l : BoundedItems ℕ). l.room) list_is,
     sound.write_rooms addr list (omega (arith, addressed, sound.writes_length)),
-    ap (λ (l : Roomy ℕ). length l.items) list_is,
+    ap (λ (l : BoundedItems ℕ). length l.items) list_is,
     sound.write_lengths addr list (omega (arith, addressed, sound.writes_length)),
     has_room_left some_unit unit_is_some,
   )

@@ -10,7 +10,7 @@ use Rattle.litmus.specs.Parts.{IsWithin}
 use Rattle.write_buffer.specs.declared.entry.Entry.{Entry}
 use Rattle.moesi.specs.State as moesi
 use Rattle.moesi.specs.Laws.{IsTransaction}
-use Rattle.machine.specs.State.{State, place_of, buffer_of, copy_of, opening}
+use Rattle.machine.specs.State.{State, place_of, buffer_of, line_copy, opening}
 use Rattle.machine.specs.declared.step.Step.{Step}
 use Rattle.machine.specs.Step.{looked_up, rmw_value, with_caches, run}
 use Rattle.machine.specs.Orderly.{placed_op, is_st, IsOrderly, EveryStateIsOrderly}
@@ -78,7 +78,7 @@ module _ (p : List (List Op)) (n : ℕ) (s : State) (f : IsFitting p n s) where
   ]
 
   -- a drain keeps what fits
-  drain_fits : (caches : moesi.State) (c : ℕ) (x : Entry) (xs : List Entry) → c < length p → buffer_of s c ≡ x ∷ xs
+  drain_fits : (caches : moesi.CacheState) (c : ℕ) (x : Entry) (xs : List Entry) → c < length p → buffer_of s c ≡ x ∷ xs
       → moesi.write s.caches c x.addr x.value x.event ≡ Ok caches → IsFitting p n (drained_state s caches c x xs)
   drain_fits caches c x xs at is wrote =
       let inside : c < length s.buffers = omega (arith, at, f.in_order.steady.buffers) in
@@ -146,7 +146,7 @@ module _ (p : List (List Op)) (n : ℕ) (s : State) (f : IsFitting p n s) where
   }
 
   -- a read-modify-write keeps what fits
-  rmw_fits : (caches : moesi.State) (c b a : ℕ) (op : Op) → IsNext p s c b op → c < length p → IsRmw op (copy_of s c a) a → buffer_of s c ≡ []
+  rmw_fits : (caches : moesi.CacheState) (c b a : ℕ) (op : Op) → IsNext p s c b op → c < length p → IsRmw op (line_copy s c a) a → buffer_of s c ≡ []
       → moesi.write s.caches c a (rmw_value s c op a) b ≡ Ok caches → IsFitting p n (rmw_state s caches c b a)
   rmw_fits caches c b a op at core is empty wrote = record {
     in_order = (in_order_kept p s f.in_order).rmw caches c b a op at core is empty wrote;
@@ -157,7 +157,7 @@ module _ (p : List (List Op)) (n : ℕ) (s : State) (f : IsFitting p n s) where
   }
 
   -- a transaction keeps what fits
-  transact_fits : (caches : moesi.State) (c a : ℕ) → c < length p → a < length s.caches.blocks → IsTransaction s.caches c a caches → IsFitting p n (with_caches s caches)
+  transact_fits : (caches : moesi.CacheState) (c a : ℕ) → c < length p → a < length s.caches.blocks → IsTransaction s.caches c a caches → IsFitting p n (with_caches s caches)
   transact_fits caches c a core within made = record {
     in_order = (in_order_kept p s f.in_order).transact caches c a core within made;
     few = f.few;

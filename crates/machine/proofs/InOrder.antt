@@ -9,7 +9,7 @@ use Rattle.moesi.specs.State as moesi
 use Rattle.moesi.specs.Laws.{IsTransaction}
 use Rattle.moesi.specs.Coherent.{IsCoherent}
 use Rattle.moesi.proofs.Kept.{write_kept, write_current, transaction_kept, transaction_current}
-use Rattle.machine.specs.State.{State, buffer_of, copy_of, event_of}
+use Rattle.machine.specs.State.{State, buffer_of, line_copy, event_of}
 use Rattle.machine.specs.Step.{given, with_buffer, with_caches, forwarded_or_read, looked_up, rmw_value}
 use Rattle.machine.proofs.Cached.{written_large, transaction_large, written_read}
 use Rattle.machine.proofs.Seen.{seen, IsOrdered, IsNewest}
@@ -45,7 +45,7 @@ module _ (p : List (List Op)) (s : State) (g : IsInOrder p s) where
   core_within c at = omega (arith, at, g.steady.cores)
 
   -- a drain keeps the order
-  drain_in_order : (caches : moesi.State) (c : ℕ) (x : Entry) (xs : List Entry) → c < length p → buffer_of s c ≡ x ∷ xs
+  drain_in_order : (caches : moesi.CacheState) (c : ℕ) (x : Entry) (xs : List Entry) → c < length p → buffer_of s c ≡ x ∷ xs
       → moesi.write s.caches c x.addr x.value x.event ≡ Ok caches → IsInOrder p (drained_state s caches c x xs)
   drain_in_order caches c x xs at is wrote =
       let here : AreStores p c (x ∷ xs) = subst (λ (b : List Entry). AreStores p c b) is (g.steady.stores c) in
@@ -88,14 +88,14 @@ module _ (p : List (List Op)) (s : State) (g : IsInOrder p s) where
   }
 
   -- what a read-modify-write reads is what a load would get
-  rmw_read : (caches : moesi.State) (c b a value : ℕ) → buffer_of s c ≡ [] → moesi.write s.caches c a value b ≡ Ok caches → looked_up s c a ≡ Ok (copy_of s c a)
+  rmw_read : (caches : moesi.CacheState) (c b a value : ℕ) → buffer_of s c ≡ [] → moesi.write s.caches c a value b ≡ Ok caches → looked_up s c a ≡ Ok (line_copy s c a)
   rmw_read caches c b a value empty wrote = ap (λ (l : List Entry). forwarded_or_read (youngest l a) (moesi.read s.caches c a)) empty ∙ written_read s.caches caches c a value b wrote
 
   -- a read-modify-write keeps the order
-  rmw_in_order : (caches : moesi.State) (c b a : ℕ) (op : Op) → IsNext p s c b op → c < length p → IsRmw op (copy_of s c a) a → buffer_of s c ≡ []
+  rmw_in_order : (caches : moesi.CacheState) (c b a : ℕ) (op : Op) → IsNext p s c b op → c < length p → IsRmw op (line_copy s c a) a → buffer_of s c ≡ []
       → moesi.write s.caches c a (rmw_value s c op a) b ≡ Ok caches → IsInOrder p (rmw_state s caches c b a)
   rmw_in_order caches c b a op n at is empty wrote =
-      let what : ℕ × Option ℕ = copy_of s c a in
+      let what : ℕ × Option ℕ = line_copy s c a in
       let value : ℕ = rmw_value s c op a in
       let within : a < length s.caches.blocks = rmw_within p s g.steady c b a op n is in
       record {
@@ -109,7 +109,7 @@ module _ (p : List (List Op)) (s : State) (g : IsInOrder p s) where
       }
 
   -- a transaction keeps the order
-  transact_in_order : (caches : moesi.State) (c a : ℕ) → c < length p → a < length s.caches.blocks → IsTransaction s.caches c a caches → IsInOrder p (with_caches s caches)
+  transact_in_order : (caches : moesi.CacheState) (c a : ℕ) → c < length p → a < length s.caches.blocks → IsTransaction s.caches c a caches → IsInOrder p (with_caches s caches)
   transact_in_order caches c a at within made = record {
     steady = (steady_kept p s g.steady).transact caches c a at within made;
     ordered = record { kept = g.ordered.kept; values = g.ordered.values };

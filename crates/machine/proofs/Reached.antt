@@ -5,7 +5,7 @@ use Rattle.litmus.specs.declared.op.Op.{Op}
 use Rattle.machine.specs.declared.step.Step.{Step}
 use Rattle.machine.specs.declared.step.Step.TheVariants.{Exec}
 use Rattle.machine.specs.State.{State, opening}
-use Rattle.machine.specs.Held.{IsReached}
+use Rattle.machine.specs.Configuration.{IsReached}
 use Rattle.machine.specs.Step.{exec, taken, after, run, IsAt}
 use Rattle.machine.proofs.InOrder.{IsInOrder}
 use Rattle.machine.proofs.Complete.{run_in_order}

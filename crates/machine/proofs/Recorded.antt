@@ -20,8 +20,10 @@ pub complete_recording : (p : Parts) (s : State) → length p.cores ≤ MAX_CORE
     → IsData p.cores s → IsComplete p.cores s → IsRecording (recorded p.cores s)
 complete_recording p s cores events addresses d end = record {
   well_formed = complete_well_formed p.cores s d end;
-  few_cores = omega (arith, cores, cores_length 0 p.cores s.reads);
-  few_events = omega (arith, events, count_is p.cores s, placed_total 0 p.cores);
-  few_addresses = addresses;
-  addresses = complete_addresses p.cores s d end;
+  within = record {
+    few_cores = omega (arith, cores, cores_length 0 p.cores s.reads);
+    few_events = omega (arith, events, count_is p.cores s, placed_total 0 p.cores);
+    few_addresses = addresses;
+    addresses = complete_addresses p.cores s d end;
+  };
 }

@@ -14,7 +14,7 @@ use Rattle.machine.specs.declared.step.Step.{Step}
 use Rattle.machine.specs.declared.step.Step.TheVariants.{Exec, Drain, GetS, GetM, Put}
 use Rattle.machine.specs.declared.blocked.Blocked.{Blocked}
 use Rattle.machine.specs.declared.blocked.Blocked.TheVariants.{B4, B5, B7, B8}
-use Rattle.machine.specs.State.{State, place_of, buffer_of, copy_of, first_event, event_of}
+use Rattle.machine.specs.State.{State, place_of, buffer_of, line_copy, first_event, event_of}
 use Rattle.machine.specs.Step.{advanced, performed, given, written, with_buffer, with_caches, allowed, looked_up, read_modify_written, rmw_value, exec, exec_next, drained, has, taken, after, run}
 use Rattle.machine.proofs.Static.{op_reads, is_st, is_ld}
 use Rattle.machine.proofs.Executes.{IsNext}
@@ -33,8 +33,8 @@ abbrev pub fenced_state : State → ℕ → ℕ → State
 fenced_state s c b = advanced (performed s b) c
 
 -- the state after core c read its line of address a and wrote it, which left these caches
-abbrev pub rmw_state : State → moesi.State → ℕ → ℕ → ℕ → State
-rmw_state s caches c b a = advanced (performed (written (given s b (copy_of s c a)) caches a b) b) c
+abbrev pub rmw_state : State → moesi.CacheState → ℕ → ℕ → ℕ → State
+rmw_state s caches c b a = advanced (performed (written (given s b (line_copy s c a)) caches a b) b) c
 
 -- op reads address a and then writes it
 pub record IsRmw (op : Op) (d : ℕ × Option ℕ) (a : ℕ) : Type 0 where
@@ -45,14 +45,14 @@ pub record IsRmw (op : Op) (d : ℕ × Option ℕ) (a : ℕ) : Type 0 where
 
 -- what each row of the table keeps
 pub record IsKept (p : List (List Op)) (s : State) (P : State → Type 0) : Type 0 where
-  pub drain : (caches : moesi.State) (c : ℕ) (x : Entry) (xs : List Entry) → c < length p → buffer_of s c ≡ x ∷ xs
+  pub drain : (caches : moesi.CacheState) (c : ℕ) (x : Entry) (xs : List Entry) → c < length p → buffer_of s c ≡ x ∷ xs
       → moesi.write s.caches c x.addr x.value x.event ≡ Ok caches → P (drained_state s caches c x xs)
   pub store : (c b a v : ℕ) → IsNext p s c b (St a v) → c < length p → P (stored_state s c b a v)
   pub load : (c b a : ℕ) (what : ℕ × Option ℕ) → IsNext p s c b (Ld a) → looked_up s c a ≡ Ok what → P (loaded_state s c b what)
   pub fence : (c b : ℕ) → IsNext p s c b Fence → buffer_of s c ≡ [] → P (fenced_state s c b)
-  pub rmw : (caches : moesi.State) (c b a : ℕ) (op : Op) → IsNext p s c b op → c < length p → IsRmw op (copy_of s c a) a → buffer_of s c ≡ []
+  pub rmw : (caches : moesi.CacheState) (c b a : ℕ) (op : Op) → IsNext p s c b op → c < length p → IsRmw op (line_copy s c a) a → buffer_of s c ≡ []
       → moesi.write s.caches c a (rmw_value s c op a) b ≡ Ok caches → P (rmw_state s caches c b a)
-  pub transact : (caches : moesi.State) (c a : ℕ) → c < length p → a < length s.caches.blocks → IsTransaction s.caches c a caches → P (with_caches s caches)
+  pub transact : (caches : moesi.CacheState) (c a : ℕ) → c < length p → a < length s.caches.blocks → IsTransaction s.caches c a caches → P (with_caches s caches)
 
 -- a guarded step that is taken had its guard
 pub guarded : (b : Bool) (r : Result State Blocked) (e : Blocked) (t : State) → cond b r (Err e) ≡ Ok t → (b ≡ true) × (r ≡ Ok t)
@@ -78,14 +78,14 @@ has_both p s c a h = go (nat_lt c (length p)) refl h
 
 module _ (p : List (List Op)) (capacity : ℕ) (s : State) (P : State → Type 0) (kept : IsKept p s P) (one_each : length s.places ≡ length p) where
   -- a read-modify-write is one of the rows
-  rmw_kept : (c b a : ℕ) (op : Op) (t : State) → IsNext p s c b op → c < length p → IsRmw op (copy_of s c a) a → read_modify_written s c b op a ≡ Ok t → P t
+  rmw_kept : (c b a : ℕ) (op : Op) (t : State) → IsNext p s c b op → c < length p → IsRmw op (line_copy s c a) a → read_modify_written s c b op a ≡ Ok t → P t
   rmw_kept c b a op t n at is h =
       let g = guarded _ _ _ t h in
       let wrote = allowed_ok B5 _ (moesi.write s.caches c a (rmw_value s c op a) b) t g.1 in
       subst P wrote.2 (kept.rmw wrote.0 c b a op n at is (nil_from_length (buffer_of s c) (eqb-true _ _ g.0)) wrote.1)
 
   -- so is a transaction
-  transaction_kept : (c a : ℕ) (t : State) (r : Result moesi.State CacheError) → ((caches : moesi.State) → r ≡ Ok caches → IsTransaction s.caches c a caches)
+  transaction_kept : (c a : ℕ) (t : State) (r : Result moesi.CacheState CacheError) → ((caches : moesi.CacheState) → r ≡ Ok caches → IsTransaction s.caches c a caches)
       → cond (has p s c a) (allowed B7 (with_caches s) r) (Err B8) ≡ Ok t → P t
   transaction_kept c a t r is h =
       let g = guarded _ _ _ t h in

@@ -20,7 +20,7 @@ use Rattle.machine.specs.declared.script_fault.StepFault.{StepFault}
 use Rattle.machine.specs.declared.script_fault.StepFault.TheVariants.{S1, S4}
 use Rattle.machine.specs.declared.step.Step.{Step}
 use Rattle.machine.specs.ScriptLine.{ScriptLine, own_line, transaction_line, script_line_of, own_step, transaction_step}
-use Rattle.machine.specs.Script.{core_in, address_in, with_step, core_step, address_step, said_step, line_step, steps_of, IsStepOf}
+use Rattle.machine.specs.Script.{core_in, address_in, with_step, core_step, address_step, script_step, line_step, steps_of, IsStepOf}
 
 -- what every line keeps
 record IsScript (p : Parts) (steps : List Step) : Type 0 where
@@ -89,7 +89,7 @@ address_kept p s t step (Some c) (Some a) h of e = step_kept p s t (step c a) h 
 
 -- one line more
 said_kept : (p : Parts) (s t : List Step) (said : Option ScriptLine) → IsScript p s →
-    said_step p s said ≡ done t → IsScript p t
+    script_step p s said ≡ done t → IsScript p t
 said_kept p s t None h e = absurd cc
 said_kept p s t (Some (own_line own c)) h e =
     core_kept p s t (own_step own) (core_in p c) h

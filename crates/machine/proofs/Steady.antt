@@ -9,7 +9,7 @@ use Rattle.recorder.proofs.Orders.{times_append, cases_zero}
 use Rattle.write_buffer.specs.declared.entry.Entry.{Entry}
 use Rattle.moesi.specs.State as moesi
 use Rattle.moesi.specs.Laws.{IsTransaction}
-use Rattle.machine.specs.State.{State, place_of, buffer_of, copy_of, event_of}
+use Rattle.machine.specs.State.{State, place_of, buffer_of, line_copy, event_of}
 use Rattle.machine.specs.Step.{performed, given, written, with_buffer, with_caches, rmw_value}
 use Rattle.machine.proofs.Cached.{written_large, transaction_large}
 use Rattle.machine.proofs.Seen.{seen, IsCounted}
@@ -72,7 +72,7 @@ module _ (p : List (List Op)) (s : State) (g : IsSteady p s) where
   next_within c b op n = omega (arith, g.reads, next_event p s c b op n)
 
   -- a drain keeps it
-  drain_steady : (caches : moesi.State) (c : ℕ) (x : Entry) (xs : List Entry) → c < length p → buffer_of s c ≡ x ∷ xs
+  drain_steady : (caches : moesi.CacheState) (c : ℕ) (x : Entry) (xs : List Entry) → c < length p → buffer_of s c ≡ x ∷ xs
       → moesi.write s.caches c x.addr x.value x.event ≡ Ok caches → IsSteady p (drained_state s caches c x xs)
   drain_steady caches c x xs at is wrote =
       let large = written_large s.caches caches c x.addr x.value x.event wrote in
@@ -155,20 +155,20 @@ module _ (p : List (List Op)) (s : State) (g : IsSteady p s) where
       }
 
   -- what a read-modify-write writes, once it has read
-  pub rmw_writes : (c b a : ℕ) (op : Op) → IsNext p s c b op → IsRmw op (copy_of s c a) a → written_address (done_by p (given s b (copy_of s c a)) b) ≡ Some a
+  pub rmw_writes : (c b a : ℕ) (op : Op) → IsNext p s c b op → IsRmw op (line_copy s c a) a → written_address (done_by p (given s b (line_copy s c a)) b) ≡ Some a
   rmw_writes c b a op n is =
-      ap (λ (d : ℕ × Option ℕ). written_address (event_of (placed_op p b).1 d)) (get_or-set_same s.reads b (copy_of s c a) (0, None) (next_within c b op n))
-      ∙ (ap (λ (z : ℕ × Op). written_address (event_of z.1 (copy_of s c a))) (next_placed p s c b op n) ∙ is.address)
+      ap (λ (d : ℕ × Option ℕ). written_address (event_of (placed_op p b).1 d)) (get_or-set_same s.reads b (line_copy s c a) (0, None) (next_within c b op n))
+      ∙ (ap (λ (z : ℕ × Op). written_address (event_of z.1 (line_copy s c a))) (next_placed p s c b op n) ∙ is.address)
 
   -- its address is one of the program's
-  pub rmw_within : (c b a : ℕ) (op : Op) → IsNext p s c b op → IsRmw op (copy_of s c a) a → a < length s.caches.blocks
+  pub rmw_within : (c b a : ℕ) (op : Op) → IsNext p s c b op → IsRmw op (line_copy s c a) a → a < length s.caches.blocks
   rmw_within c b a op n is = g.reads_within b a (ap (λ (z : ℕ × Op). op_reads z.1) (next_placed p s c b op n) ∙ is.reads)
 
   -- a read-modify-write keeps it
-  rmw_steady : (caches : moesi.State) (c b a : ℕ) (op : Op) → IsNext p s c b op → IsRmw op (copy_of s c a) a
+  rmw_steady : (caches : moesi.CacheState) (c b a : ℕ) (op : Op) → IsNext p s c b op → IsRmw op (line_copy s c a) a
       → moesi.write s.caches c a (rmw_value s c op a) b ≡ Ok caches → IsSteady p (rmw_state s caches c b a)
   rmw_steady caches c b a op n is wrote =
-      let what : ℕ × Option ℕ = copy_of s c a in
+      let what : ℕ × Option ℕ = line_copy s c a in
       let large = written_large s.caches caches c a (rmw_value s c op a) b wrote in
       let writes : written_address (done_by p (given s b what) b) ≡ Some a = rmw_writes c b a op n is in
       let kept : AreListed p (performed (written (given s b what) caches a b) b) =
@@ -186,7 +186,7 @@ module _ (p : List (List Op)) (s : State) (g : IsSteady p s) where
       }
 
   -- a transaction keeps it
-  transact_steady : (caches : moesi.State) (c a : ℕ) → IsTransaction s.caches c a caches → IsSteady p (with_caches s caches)
+  transact_steady : (caches : moesi.CacheState) (c a : ℕ) → IsTransaction s.caches c a caches → IsSteady p (with_caches s caches)
   transact_steady caches c a made =
       let large = transaction_large s.caches caches c a made in
       record {

@@ -5,11 +5,11 @@ use Rattle.litmus.specs.declared.op.Op.{Op}
 use Rattle.machine.specs.declared.step.Step.{Step}
 use Rattle.machine.specs.declared.blocked.Blocked.{Blocked}
 use Rattle.machine.specs.State.{State}
-use Rattle.machine.specs.Held.{Held}
+use Rattle.machine.specs.Configuration.{Configuration}
 use Rattle.machine.specs.Step.{taken, after, run}
 
 -- whether it was blocked or not, a step leads to the state after it
-pub after_is : (old new : Held) (step : Step) (r : Result (Unit {0}) Blocked)
+pub after_is : (old new : Configuration) (step : Step) (r : Result (Unit {0}) Blocked)
     → OnOk r (taken old.program.cores old.capacity old.state step ≡ Ok new.state)
     → IfErr r (λ b. taken old.program.cores old.capacity old.state step ≡ Err b)
     → OnOk r (new ≡ record old { state = new.state }) → OnErr r (new ≡ old)

@@ -6,11 +6,11 @@ use Rattle.core_unit.specs.Progress.{Progress}
 use Rattle.moesi.specs.State as moesi
 use Rattle.machine.specs.declared.step.Step.TheVariants.{GetS, GetM, Put}
 use Rattle.machine.specs.Step.{has, taken}
-use Rattle.machine.specs.Roomy.{Roomy}
-use Rattle.machine.specs.Held.{IsSound, held}
+use Rattle.machine.specs.BoundedItems.{BoundedItems}
+use Rattle.machine.specs.Configuration.{IsSound, state_from}
 
-module _ (p : Parts) (capacity : ℕ) (units : List Progress) (buffers : List Buffer) (caches : moesi.State)
-    (writes : List (Roomy ℕ)) (reads : List (ℕ × Option ℕ)) (done : Roomy ℕ) (caches' : moesi.State) where
+module _ (p : Parts) (capacity : ℕ) (units : List Progress) (buffers : List Buffer) (caches : moesi.CacheState)
+    (writes : List (BoundedItems ℕ)) (reads : List (ℕ × Option ℕ)) (done : BoundedItems ℕ) (caches' : moesi.CacheState) where
   -- the parts still fit together
   pub transacted_sound : IsSound p capacity units buffers caches writes reads done → caches'.cores ≡ caches.cores → length caches'.blocks ≡ length caches.blocks
       → IsSound p capacity units buffers caches' writes reads done
@@ -33,18 +33,18 @@ module _ (p : Parts) (capacity : ℕ) (units : List Progress) (buffers : List Bu
     counted = sound.counted;
   }
 
-  module _ (core addr : ℕ) (there : has p.cores (held units buffers caches writes reads done.items) core addr ≡ true) where
+  module _ (core addr : ℕ) (there : has p.cores (state_from units buffers caches writes reads done.items) core addr ≡ true) where
     -- the row of GetS
     pub get_s_taken : moesi.get_s caches core addr ≡ Ok caches'
-        → taken p.cores capacity (held units buffers caches writes reads done.items) (GetS core addr) ≡ Ok (held units buffers caches' writes reads done.items)
+        → taken p.cores capacity (state_from units buffers caches writes reads done.items) (GetS core addr) ≡ Ok (state_from units buffers caches' writes reads done.items)
     get_s_taken made = rw (there, made) refl
 
     -- the row of GetM
     pub get_m_taken : moesi.get_m caches core addr ≡ Ok caches'
-        → taken p.cores capacity (held units buffers caches writes reads done.items) (GetM core addr) ≡ Ok (held units buffers caches' writes reads done.items)
+        → taken p.cores capacity (state_from units buffers caches writes reads done.items) (GetM core addr) ≡ Ok (state_from units buffers caches' writes reads done.items)
     get_m_taken made = rw (there, made) refl
 
     -- the row of Put
     pub put_taken : moesi.put caches core addr ≡ Ok caches'
-        → taken p.cores capacity (held units buffers caches writes reads done.items) (Put core addr) ≡ Ok (held units buffers caches' writes reads done.items)
+        → taken p.cores capacity (state_from units buffers caches writes reads done.items) (Put core addr) ≡ Ok (state_from units buffers caches' writes reads done.items)
     put_taken made = rw (there, made) refl

@@ -16,13 +16,13 @@ use Rattle.moesi.specs.State as moesi
 use Rattle.moesi.specs.declared.error.CacheError.{CacheError}
 use Rattle.moesi.specs.Coherent.{IsCoherent}
 use Rattle.moesi.proofs.Kept.{read_current}
-use Rattle.machine.specs.State.{State, buffer_of, current, event_of}
+use Rattle.machine.specs.State.{State, buffer_of, current_copy, event_of}
 use Rattle.machine.specs.Step.{performed, written, given, forwarded_or_read, looked_up}
 use Rattle.machine.proofs.Seen.{seen, IsNewest}
 use Rattle.machine.proofs.Static.{static_of, snapshot_of, placed_op, done_by}
 use Rattle.machine.proofs.Newest.{last_of, last_one, last_two, filter_same, newest_in_memory}
 use Rattle.machine.proofs.Drains.{AreStores}
-use Rattle.machine.proofs.Loads.{Says, not_equal, youngest_says, newest_in_buffer}
+use Rattle.machine.proofs.Loads.{IsYoungestOf, not_equal, youngest_says, newest_in_buffer}
 
 -- whether an address written, if any, is a
 pub is_address : Option ℕ → ℕ → Bool
@@ -75,7 +75,7 @@ pub record AreListed (p : List (List Op)) (s : State) : Type 0 where
 
 -- each address has the value of the last of its write list
 abbrev pub IsLatest : State → Type 0
-IsLatest s = (a : ℕ) → a < length s.caches.blocks → (current s a).1 ≡ last_of (get_or s.write_lists a [])
+IsLatest s = (a : ℕ) → a < length s.caches.blocks → (current_copy s a).1 ≡ last_of (get_or s.write_lists a [])
 
 -- what an event reads, before it is performed, changes no list
 pub listed_given : (p : List (List Op)) (s : State) (b : ℕ) (what : ℕ × Option ℕ) → times s.performed b ≡ 0 → AreListed p s → AreListed p (given s b what)
@@ -87,7 +87,7 @@ listed_given p s b what fresh listed = record {
 }
 
 -- to write and perform e keeps the lists
-pub listed_written : (p : List (List Op)) (s : State) (caches : moesi.State) (a e : ℕ) → length caches.blocks ≡ length s.caches.blocks → written_address (done_by p s e) ≡ Some a → a < length s.caches.blocks → AreListed p s → AreListed p (performed (written s caches a e) e)
+pub listed_written : (p : List (List Op)) (s : State) (caches : moesi.CacheState) (a e : ℕ) → length caches.blocks ≡ length s.caches.blocks → written_address (done_by p s e) ≡ Some a → a < length s.caches.blocks → AreListed p s → AreListed p (performed (written s caches a e) e)
 listed_written p s caches a e large writes at listed = record {
   cells = length-set s.write_lists a (get_or s.write_lists a [] ++ e ∷ []) ∙ (listed.cells ∙ sym large);
   lists = λ b inside. elim (cases_eq b a) [
@@ -115,14 +115,14 @@ listed_performed p s e none listed = record {
 }
 
 -- the address that e wrote has the value of e
-pub latest_written : (s : State) (caches : moesi.State) (a value e : ℕ) → a < length s.caches.blocks → length s.write_lists ≡ length s.caches.blocks → length caches.blocks ≡ length s.caches.blocks
-    → ((b : ℕ) → moesi.current caches b ≡ cond (b == a) (value, Some e) (current s b)) → IsLatest s → IsLatest (written s caches a e)
+pub latest_written : (s : State) (caches : moesi.CacheState) (a value e : ℕ) → a < length s.caches.blocks → length s.write_lists ≡ length s.caches.blocks → length caches.blocks ≡ length s.caches.blocks
+    → ((b : ℕ) → moesi.current caches b ≡ cond (b == a) (value, Some e) (current_copy s b)) → IsLatest s → IsLatest (written s caches a e)
 latest_written s caches a value e at cells large sets latest b inside = elim (cases_eq b a) [
   | inl here ↦ subst (λ (z : ℕ). (moesi.current caches z).1 ≡ last_of (get_or (slice_set s.write_lists a (get_or s.write_lists a [] ++ e ∷ [])) z [])) (sym here)
-      (ap (λ (z : ℕ × Option ℕ). z.1) (subst (λ (q : Bool). moesi.current caches a ≡ cond q (value, Some e) (current s a)) (eq-eqb a a refl) (sets a))
+      (ap (λ (z : ℕ × Option ℕ). z.1) (subst (λ (q : Bool). moesi.current caches a ≡ cond q (value, Some e) (current_copy s a)) (eq-eqb a a refl) (sets a))
       ∙ (sym (last_push (get_or s.write_lists a []) e) ∙ ap last_of (sym (get_or-set_same s.write_lists a (get_or s.write_lists a [] ++ e ∷ []) [] (omega (arith, at, cells))))))
   | inr other ↦
-      ap (λ (z : ℕ × Option ℕ). z.1) (subst (λ (q : Bool). moesi.current caches b ≡ cond q (value, Some e) (current s b)) (not_equal b a other) (sets b))
+      ap (λ (z : ℕ × Option ℕ). z.1) (subst (λ (q : Bool). moesi.current caches b ≡ cond q (value, Some e) (current_copy s b)) (not_equal b a other) (sets b))
       ∙ (latest b (omega (arith, inside, large)) ∙ ap last_of (sym (get_or-set_other s.write_lists a b (get_or s.write_lists a [] ++ e ∷ []) [] other)))
 ]
 
@@ -137,7 +137,7 @@ pub loaded_newest : (p : List (List Op)) (s : State) (c a : ℕ) (what : ℕ × 
     → looked_up s c a ≡ Ok what → IsNewest (static_of p s) (seen (snapshot_of p s) c) a what.1
 loaded_newest p s c a what at listed latest coherent stores once once_waiting apart = go (youngest (buffer_of s c) a) (youngest_says p s c (buffer_of s c) a stores once_waiting)
   where
-    go : (entry : Option Entry) → Says p s (buffer_of s c) a entry → forwarded_or_read entry (moesi.read s.caches c a) ≡ Ok what → IsNewest (static_of p s) (seen (snapshot_of p s) c) a what.1
+    go : (entry : Option Entry) → IsYoungestOf p s (buffer_of s c) a entry → forwarded_or_read entry (moesi.read s.caches c a) ≡ Ok what → IsNewest (static_of p s) (seen (snapshot_of p s) c) a what.1
     go None says is = subst (λ (o : Option ℕ). IsNewest (static_of p s) (seen (snapshot_of p s) c) a o)
         (sym (ap (λ (z : ℕ × Option ℕ). z.1) (read_current s.caches c a what coherent is) ∙ (latest a at ∙ ap last_of (listed.lists a at))))
         (newest_in_memory (static_of p s) (writes_to p s a) s.performed (map (λ (x : Entry). x.event) (buffer_of s c)) a

@@ -2,8 +2,8 @@ pub mod State
 pub mod Step
 pub mod Tso
 pub mod Orderly
-pub mod Roomy
-pub mod Held
+pub mod BoundedItems
+pub mod Configuration
 pub mod Made
 pub mod ScriptLine
 pub mod ScriptSaid

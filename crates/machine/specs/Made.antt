@@ -8,5 +8,6 @@ use Rattle.machine.specs.State.{first_event}
 -- each core is before its first operation, and there are so many events in all
 pub record AreUnits (p : List (List Op)) (units : List Progress) (total : ℕ) : Type 0 where
   pub one_each : length units ≡ length p
-  pub begun : (c : ℕ) (d : Progress) → c < length p → slice_index_or units c d ≡ record { first = first_event p c; place = 0 }
+  pub begun : (c : ℕ) (d : Progress) → c < length p → slice_index_or units c d
+      ≡ record { first = first_event p c; place = 0 }
   pub events : total ≡ op_count p

@@ -1,5 +1,6 @@
 -- What holds of every state that a run leads to.
-use Rattle.std.specs.Prelude.{◌≡◌, ◌<◌, ◌≤◌, ◌+◌, ◌&&◌, ℕ, Bool, true, false, List, [], ◌∷◌, ◌++◌, map, take, length, slice_index_or, sum, sum_by, count_by, All}
+use Rattle.std.specs.Prelude.{◌≡◌, ◌<◌, ◌≤◌, ◌+◌, ◌&&◌, ℕ, Bool, true, false, List, [], ◌∷◌, ◌++◌, map, take,
+    length, slice_index_or, sum, sum_by, count_by, All}
 use Rattle.litmus.specs.declared.op.Op.{Op}
 use Rattle.litmus.specs.declared.op.Op.TheVariants.{St, Ld, Fence, Swap, Add}
 use Rattle.litmus.specs.Parts.{IsWithin}
@@ -37,7 +38,8 @@ IsBefore p e f = (e < f) × (f < length (placed_from 0 p)) × ((placed_op p e).0
 
 -- event e is one of the program's, and its core has executed it
 abbrev pub IsExecuted : List (List Op) → State → ℕ → Type 0
-IsExecuted p s e = (e < length (placed_from 0 p)) × (e < first_event p (placed_op p e).0 + place_of s (placed_op p e).0)
+IsExecuted p s e = (e < length (placed_from 0 p))
+    × (e < first_event p (placed_op p e).0 + place_of s (placed_op p e).0)
 
 -- each waiting entry is the store of its event
 abbrev pub AreStores : List (List Op) → ℕ → List Entry → Type 0
@@ -67,9 +69,11 @@ pub record IsOrderly (p : List (List Op)) (n : ℕ) (s : State) : Type 0 where
   pub stores : (c : ℕ) → AreStores p c (buffer_of s c)
   pub few : (c : ℕ) → length (buffer_of s c) ≤ count_by is_st (take (place_of s c) (slice_index_or p c []))
   -- what is earlier on a core stands earlier, unless it is a plain store before a plain load
-  pub kept : (e f : ℕ) → IsBefore p e f → IsExecuted p s f → (is_st (placed_op p e).1 && is_ld (placed_op p f).1) ≡ false
+  pub kept : (e f : ℕ) → IsBefore p e f → IsExecuted p s f
+      → (is_st (placed_op p e).1 && is_ld (placed_op p f).1) ≡ false
       → Before (seen_by s (placed_op p f).0) e f
 
 -- every run leads to such a state
 abbrev pub EveryStateIsOrderly : List (List Op) → ℕ → ℕ → List Step → Type 0
-EveryStateIsOrderly p n capacity steps = All (λ ops. All (IsWithin n) ops) p → IsOrderly p n (run p capacity (opening p n) steps)
+EveryStateIsOrderly p n capacity steps = All (λ ops. All (IsWithin n) ops) p
+    → IsOrderly p n (run p capacity (opening p n) steps)

@@ -1,5 +1,6 @@
 -- What a whole step script gives: its steps, or the first line at fault with its number.
-use Rattle.std.specs.Prelude.{◌<◌, ◌++◌, ◌∷◌, [], ℕ, List, nat_lt, length, position, Option, None, Some, Result, Ok, Err, if◌then◌else◌}
+use Rattle.std.specs.Prelude.{◌<◌, ◌++◌, ◌∷◌, [], ℕ, List, nat_lt, length, position, Option, None, Some,
+    Result, Ok, Err, if◌then◌else◌}
 use Rattle.litmus.specs.declared.limits.TheConstants.{MAX_STEPS}
 use Rattle.litmus.specs.declared.name.Name.{Name}
 use Rattle.litmus.specs.Names.{name_eq}
@@ -9,7 +10,8 @@ use Rattle.machine.specs.declared.step.Step.{Step}
 use Rattle.machine.specs.declared.step.Step.TheVariants.{Exec, Drain, GetS, GetM, Put}
 use Rattle.machine.specs.declared.script_fault.StepFault.{StepFault}
 use Rattle.machine.specs.declared.script_fault.StepFault.TheVariants.{S1, S2, S3, S4}
-use Rattle.machine.specs.ScriptLine.{ScriptLine, own_line, transaction_line, script_line_of, own_step, transaction_step}
+use Rattle.machine.specs.ScriptLine.{ScriptLine, own_line, transaction_line, script_line_of, own_step,
+    transaction_step}
 
 -- the core of this number, if the program has it
 abbrev pub core_in : Parts → ℕ → Option ℕ
@@ -37,15 +39,15 @@ address_step done step (Some c) None = Err S3
 address_step done step (Some c) (Some a) = with_step done (step c a)
 
 -- what a line does to the steps before it
-abbrev pub said_step : Parts → List Step → Option ScriptLine → Result (List Step) StepFault
-said_step p done None = Err S1
-said_step p done (Some (own_line own c)) = core_step done (own_step own) (core_in p c)
-said_step p done (Some (transaction_line kind c name)) =
+abbrev pub script_step : Parts → List Step → Option ScriptLine → Result (List Step) StepFault
+script_step p done None = Err S1
+script_step p done (Some (own_line own c)) = core_step done (own_step own) (core_in p c)
+script_step p done (Some (transaction_line kind c name)) =
     address_step done (transaction_step kind) (core_in p c) (address_in p name)
 
 -- what the bytes of a line do to the steps before it
 abbrev pub line_step : Parts → List Step → List ℕ → Result (List Step) StepFault
-line_step p done line = said_step p done (script_line_of line)
+line_step p done line = script_step p done (script_line_of line)
 
 -- the steps of a script for the program, or its first line at fault
 abbrev pub steps_of : Parts → List ℕ → Reading (List Step) StepFault

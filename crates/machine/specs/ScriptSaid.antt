@@ -6,8 +6,8 @@ use Rattle.machine.specs.declared.script_line.Said.TheVariants.{Own, Transaction
 use Rattle.machine.specs.ScriptLine.{ScriptLine, own_line, transaction_line}
 
 -- a line as the code says it is this line
-abbrev pub Says : Said → ScriptLine → Type 0
-Says (Own own number) (own_line how c) = (own ≡ how) × IsValue number c
-Says (Transaction kind number name) (transaction_line how c other) = (kind ≡ how)
+abbrev pub SaysScriptLine : Said → ScriptLine → Type 0
+SaysScriptLine (Own own number) (own_line how c) = (own ≡ how) × IsValue number c
+SaysScriptLine (Transaction kind number name) (transaction_line how c other) = (kind ≡ how)
     × IsValue number c × (name ≡ other)
-Says said line = ⊥
+SaysScriptLine said line = ⊥

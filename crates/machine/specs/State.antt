@@ -1,5 +1,6 @@
 -- What a machine of store buffers and caches has reached, and the recording of it.
-use Rattle.std.specs.Prelude.{◌+◌, ◌%◌, ◌^◌, ◌≡◌, ℕ, Option, None, List, [], ◌∷◌, map, length, slice_index, slice_index_or, sum, take, replicate}
+use Rattle.std.specs.Prelude.{◌+◌, ◌%◌, ◌^◌, ◌≡◌, ℕ, Option, None, List, [], ◌∷◌, map, length, slice_index,
+    slice_index_or, sum, take, replicate}
 use Rattle.litmus.specs.declared.op.Op.{Op}
 use Rattle.litmus.specs.declared.op.Op.TheVariants.{St, Ld, Fence, Swap, Add}
 use Rattle.litmus.specs.Parts.{op_count}
@@ -16,7 +17,7 @@ pub record State : Type 0 where
   -- for each core its waiting stores, the oldest first
   pub buffers : List (List Entry)
   -- each core's line of each address, and memory
-  pub caches : moesi.State
+  pub caches : moesi.CacheState
   -- for each address the events that wrote it, first to last
   pub write_lists : List (List ℕ)
   -- for each event the value that it read, and its source
@@ -33,12 +34,12 @@ abbrev pub buffer_of : State → ℕ → List Entry
 buffer_of s c = slice_index_or s.buffers c []
 
 -- the value of an address, and the event that wrote it
-abbrev pub current : State → ℕ → ℕ × Option ℕ
-current s a = moesi.current s.caches a
+abbrev pub current_copy : State → ℕ → ℕ × Option ℕ
+current_copy s a = moesi.current s.caches a
 
 -- the data of core c's line of address a
-abbrev pub copy_of : State → ℕ → ℕ → ℕ × Option ℕ
-copy_of s c a = moesi.copy_of s.caches c a
+abbrev pub line_copy : State → ℕ → ℕ → ℕ × Option ℕ
+line_copy s c a = moesi.copy_of s.caches c a
 
 -- the number of the first event of core c
 abbrev pub first_event : List (List Op) → ℕ → ℕ
@@ -55,7 +56,8 @@ event_of (Add a v) d = R a d.0 d.1 ((d.0 + v) % 2 ^ 32)
 -- the events of one core, of which the first has number e
 abbrev pub events_from : ℕ → List Op → List (ℕ × Option ℕ) → List Event
 events_from e [] reads = []
-events_from e (op ∷ ops) reads = event_of op (slice_index_or reads e (0, None)) ∷ events_from (e + 1) ops reads
+events_from e (op ∷ ops) reads =
+    event_of op (slice_index_or reads e (0, None)) ∷ events_from (e + 1) ops reads
 
 -- the events of all cores, of which the first has number e
 abbrev pub cores_from : ℕ → List (List Op) → List (ℕ × Option ℕ) → List (List Event)
@@ -71,7 +73,7 @@ abbrev pub opening : List (List Op) → ℕ → State
 opening p n = record {
   places = replicate (length p) 0;
   buffers = replicate (length p) [];
-  caches = moesi.opening (length p) n;
+  caches = moesi.opening_caches (length p) n;
   write_lists = replicate n [];
   reads = replicate (op_count p) (0, None);
   performed = [];

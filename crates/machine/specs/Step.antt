@@ -1,5 +1,6 @@
 -- One step of the machine: the first guard that is false, else one effect.
-use Rattle.std.specs.Prelude.{◌≡◌, ◌+◌, ◌<◌, ◌==◌, ◌&&◌, ℕ, Bool, nat_lt, if◌then◌else◌, Option, Some, None, Result, Ok, Err, List, [], ◌∷◌, ◌++◌, length, slice_index_or, slice_set, slice_get}
+use Rattle.std.specs.Prelude.{◌≡◌, ◌+◌, ◌<◌, ◌==◌, ◌&&◌, ℕ, Bool, nat_lt, if◌then◌else◌, Option, Some, None,
+    Result, Ok, Err, List, [], ◌∷◌, ◌++◌, length, slice_index_or, slice_set, slice_get}
 use Rattle.litmus.specs.declared.op.Op.{Op}
 use Rattle.litmus.specs.declared.op.Op.TheVariants.{St, Ld, Fence, Swap, Add}
 use Rattle.write_buffer.specs.declared.entry.Entry.{Entry}
@@ -11,7 +12,7 @@ use Rattle.machine.specs.declared.blocked.Blocked.TheVariants.{B1, B2, B3, B4, B
 use Rattle.recorder.specs.Event.{value_written}
 use Rattle.moesi.specs.State as moesi
 use Rattle.moesi.specs.declared.error.CacheError.{CacheError}
-use Rattle.machine.specs.State.{State, place_of, buffer_of, copy_of, first_event, event_of}
+use Rattle.machine.specs.State.{State, place_of, buffer_of, line_copy, first_event, event_of}
 
 -- Effects, each on its part of the state
 
@@ -28,14 +29,14 @@ abbrev pub given : State → ℕ → ℕ × Option ℕ → State
 given s e what = record s { reads = slice_set s.reads e what }
 
 -- e wrote address a, which left these caches
-abbrev pub written : State → moesi.State → ℕ → ℕ → State
+abbrev pub written : State → moesi.CacheState → ℕ → ℕ → State
 written s caches a e = record s {
   caches = caches;
   write_lists = slice_set s.write_lists a (slice_index_or s.write_lists a [] ++ e ∷ []);
 }
 
 -- a transaction left these caches
-abbrev pub with_caches : State → moesi.State → State
+abbrev pub with_caches : State → moesi.CacheState → State
 with_caches s caches = record s { caches = caches }
 
 -- core c has these waiting stores
@@ -43,7 +44,8 @@ abbrev pub with_buffer : State → ℕ → List Entry → State
 with_buffer s c entries = record s { buffers = slice_set s.buffers c entries }
 
 -- the value and the event of an entry, or else what the line gives
-abbrev pub forwarded_or_read : Option Entry → Result (ℕ × Option ℕ) CacheError → Result (ℕ × Option ℕ) CacheError
+abbrev pub forwarded_or_read : Option Entry → Result (ℕ × Option ℕ) CacheError
+    → Result (ℕ × Option ℕ) CacheError
 forwarded_or_read None line = line
 forwarded_or_read (Some entry) line = Ok (entry.value, Some entry.event)
 
@@ -75,13 +77,14 @@ loaded s c e a = allowed B4 (λ what. advanced (performed (given s e what) e) c)
 
 -- the value that op writes, from what the line has
 abbrev pub rmw_value : State → ℕ → Op → ℕ → ℕ
-rmw_value s c op a = value_written (event_of op (copy_of s c a))
+rmw_value s c op a = value_written (event_of op (line_copy s c a))
 
--- core c reads address a and writes it at once, as op says, behind an empty buffer and in a line that is M or E
+-- core c reads address a and writes it at once, as op says, behind an empty buffer and in a line
+-- that is M or E
 abbrev pub read_modify_written : State → ℕ → ℕ → Op → ℕ → Result State Blocked
 read_modify_written s c e op a =
     if length (buffer_of s c) == 0
-    then allowed B5 (λ caches. advanced (performed (written (given s e (copy_of s c a)) caches a e) e) c)
+    then allowed B5 (λ caches. advanced (performed (written (given s e (line_copy s c a)) caches a e) e) c)
     (moesi.write s.caches c a (rmw_value s c op a) e)
     else Err B3
 
@@ -112,7 +115,8 @@ has p s c a = nat_lt c (length p) && nat_lt a (length s.caches.blocks)
 -- one step of the machine, or why it is blocked
 abbrev pub taken : List (List Op) → ℕ → State → Step → Result State Blocked
 taken p capacity s (Exec c) =
-    if nat_lt c (length p) then exec_next p capacity s c (slice_get (slice_index_or p c []) (place_of s c)) else Err B8
+    if nat_lt c (length p) then exec_next p capacity s c
+        (slice_get (slice_index_or p c []) (place_of s c)) else Err B8
 taken p capacity s (Drain c) = if nat_lt c (length p) then drained s c (buffer_of s c) else Err B8
 taken p capacity s (GetS c a) =
     if has p s c a then allowed B7 (with_caches s) (moesi.get_s s.caches c a) else Err B8

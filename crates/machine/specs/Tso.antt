@@ -11,7 +11,8 @@ use Rattle.machine.specs.Step.{run}
 abbrev pub EveryRunIsTso : List (List Op) → ℕ → ℕ → List Step → Type 0
 EveryRunIsTso p n capacity steps =
     All (λ ops. All (IsWithin n) ops) p → IsComplete p (run p capacity (opening p n) steps)
-    → IsTsoOrder (recorded p (run p capacity (opening p n) steps)) (run p capacity (opening p n) steps).performed
+    → IsTsoOrder (recorded p (run p capacity (opening p n) steps))
+        (run p capacity (opening p n) steps).performed
 
 -- where a run is complete, its recording is well formed
 abbrev pub EveryRunIsWellFormed : List (List Op) → ℕ → ℕ → List Step → Type 0

@@ -1,7 +1,7 @@
 //! A recording that is not yet written.
 
-use crate::bounded::Bounded;
-use crate::makes::rooms;
+use crate::bounded::BoundedList;
+use crate::makes::bounded_lists;
 use crate::record::{record_all, unwrap_all};
 use litmus::{EventId, Ops, OutOfMemory};
 use recorder::Event;
@@ -11,17 +11,17 @@ use std::marker::Model;
 /// The room for a recording: for each core's events, and for the write lists.
 #[derive(Drop)]
 pub(crate) struct Blank {
-    cores: Bounded<Vec<Event>>,
-    events: Vec<Bounded<Event>>,
+    cores: BoundedList<Vec<Event>>,
+    events: Vec<BoundedList<Event>>,
     room: usize,
-    writes: Bounded<Vec<EventId>>,
+    writes: BoundedList<Vec<EventId>>,
 }
 
 impl Model for Blank {
     ghost use Rattle.std.specs.Prelude.{◌≡◌, [], replicate};
-    ghost use Rattle.machine.specs.Held.{Rooms};
+    ghost use Rattle.machine.specs.Configuration.{BlankSize};
 
-    ghost Value = { Rooms };
+    ghost Value = { BlankSize };
 
     ghost view = { λ b. record {
       cores = b.cores.room;
@@ -36,7 +36,7 @@ impl Model for Blank {
 impl Blank {
     ghost use Rattle.std.specs.Prelude.{◌≡◌, ◌≤◌, length, map, IfOk};
     ghost use Rattle.litmus.specs.Parts.{op_count};
-    ghost use Rattle.machine.specs.Held.{Rooms};
+    ghost use Rattle.machine.specs.Configuration.{BlankSize};
     ghost use Rattle.machine.specs.State.{cores_from};
 
     /// Room for the recording of so many cores, events and addresses.
@@ -50,10 +50,10 @@ impl Blank {
             ≡ record { cores = cores; events = events; addresses = addresses }) }
     {
         Ok(Blank {
-            cores: Bounded::new(alloc, cores)?,
-            events: rooms(alloc, cores, events)?,
+            cores: BoundedList::new(alloc, cores)?,
+            events: bounded_lists(alloc, cores, events)?,
             room: events,
-            writes: Bounded::new(alloc, addresses)?,
+            writes: BoundedList::new(alloc, addresses)?,
         })
     }
 
@@ -63,7 +63,7 @@ impl Blank {
         self,
         program: &[Ops],
         reads: &[(u32, Option<EventId>)],
-        writes: Vec<Bounded<EventId>>,
+        writes: Vec<BoundedList<EventId>>,
     ) -> (Vec<Vec<Event>>, Vec<Vec<EventId>>)
         requires cores { self.cores ≡ length program.now }
         requires events { self.events ≡ length reads.now }

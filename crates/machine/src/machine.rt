@@ -1,9 +1,9 @@
 //! The machine: cores with store buffers and caches over one memory.
 
 use crate::blank::Blank;
-use crate::bounded::Bounded;
+use crate::bounded::BoundedList;
 use crate::fault::Fault;
-use crate::makes::{buffers_of, rooms, units_of};
+use crate::makes::{buffers_of, bounded_lists, units_of};
 use core_unit::CoreUnit;
 use litmus::{Addr, CoreId, EventId, Op, OutOfMemory, Program};
 use moesi::{Caches, Line};
@@ -24,9 +24,9 @@ pub struct Machine {
     pub(crate) units: Vec<CoreUnit>,
     pub(crate) buffers: Vec<WriteBuffer>,
     pub(crate) caches: Caches,
-    pub(crate) writes: Vec<Bounded<EventId>>,
+    pub(crate) writes: Vec<BoundedList<EventId>>,
     pub(crate) reads: Vec<(u32, Option<EventId>)>,
-    pub(crate) performed: Bounded<EventId>,
+    pub(crate) performed: BoundedList<EventId>,
     blank: Blank,
 }
 
@@ -38,15 +38,15 @@ pub struct Unfinished {
 }
 
 impl Model for Machine {
-    ghost use Rattle.machine.specs.Held.{Held, IsMachine, held};
+    ghost use Rattle.machine.specs.Configuration.{Configuration, IsMachine, state_from};
 
-    ghost Value = { Held };
+    ghost Value = { Configuration };
 
     ghost view = { λ m. record {
       program = m.program;
       capacity = m.capacity;
       fault = m.fault;
-      state = held m.units.items m.buffers.items m.caches m.writes.items m.reads.items
+      state = state_from m.units.items m.buffers.items m.caches m.writes.items m.reads.items
           m.performed.items;
     } };
 
@@ -55,11 +55,12 @@ impl Model for Machine {
 }
 
 impl Machine {
-    ghost use Rattle.std.specs.Prelude.{◌≡◌, ◌<◌, ◌↔◌, [], IsTrue, IfOk, OnOk, OnErr, IfErr, IfSome, length, slice_get, slice_index_or, option_map};
+    ghost use Rattle.std.specs.Prelude.{◌≡◌, ◌<◌, ◌↔◌, [], IsTrue, IfOk, OnOk, OnErr, IfErr, IfSome, length,
+        slice_get, slice_index_or, option_map};
     ghost use Rattle.recorder.specs.Tso.{IsTsoOrder};
     ghost use Rattle.moesi.specs.State.{line_of, memory_of};
     ghost use Rattle.machine.specs.State.{opening, place_of, buffer_of, IsDone};
-    ghost use Rattle.machine.specs.Held.{recording_of, next_event, IsAtEnd};
+    ghost use Rattle.machine.specs.Configuration.{recording_of, next_event, IsAtEnd};
     ghost use Rattle.write_buffer.specs.Buffer.{youngest};
 
     /// A machine at the start of a program, whose store buffers have room for `capacity` stores
@@ -84,9 +85,9 @@ impl Machine {
         let (units, events) = units_of(alloc, program.lists())?;
         let buffers = buffers_of(alloc, cores, capacity)?;
         let caches = Caches::new(alloc, cores, addresses)?;
-        let writes = rooms(alloc, addresses, events)?;
+        let writes = bounded_lists(alloc, addresses, events)?;
         let reads = vec![in alloc; (0, None); events]?;
-        let performed = Bounded::new(alloc, events)?;
+        let performed = BoundedList::new(alloc, events)?;
         let blank = Blank::new(alloc, cores, events, addresses)?;
         Ok(Machine {
             program,

@@ -4,23 +4,23 @@ ghost use Rattle.std.specs.Prelude.{◌≡◌, ◌≤◌, [], length, replicate,
 ghost use Rattle.litmus.specs.Parts.{op_count};
 ghost use Rattle.machine.specs.Made.{AreUnits};
 
-use crate::bounded::Bounded;
+use crate::bounded::BoundedList;
 use core_unit::CoreUnit;
 use litmus::{EventId, MAX_EVENTS, Ops, OutOfMemory};
 use std::alloc::Global;
 use write_buffer::WriteBuffer;
 
 /// So many empty lists, each with the same room.
-pub(crate) fn rooms<T: Drop>(
+pub(crate) fn bounded_lists<T: Drop>(
     alloc: Global,
     count: usize,
     room: usize,
-) -> Result<Vec<Bounded<T>>, OutOfMemory>
+) -> Result<Vec<BoundedList<T>>, OutOfMemory>
     ensures { IfOk result (λ v. v.items ≡ replicate count (record { items = []; room = room })) }
 {
     let mut lists = Vec::with_capacity(alloc, count)?;
     for _ in 0..count {
-        lists.push(Bounded::new(alloc, room)?)?;
+        lists.push(BoundedList::new(alloc, room)?)?;
     }
     Ok(lists)
 }

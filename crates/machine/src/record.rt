@@ -4,7 +4,7 @@ ghost use Rattle.std.specs.Prelude.{◌≡◌, ◌+◌, ◌≤◌, ◌++◌, [],
 ghost use Rattle.litmus.specs.Parts.{op_count};
 ghost use Rattle.machine.specs.State.{event_of, events_from, cores_from};
 
-use crate::bounded::Bounded;
+use crate::bounded::BoundedList;
 use litmus::{EventId, Op, Ops};
 use recorder::Event;
 
@@ -29,7 +29,7 @@ pub(crate) fn event_of(op: Op, read: (u32, Option<EventId>)) -> Event
 
 /// Adds the events of a core, whose first event is `first`.
 pub(crate) fn record_core(
-    events: &mut Bounded<Event>,
+    events: &mut BoundedList<Event>,
     ops: &[Op],
     reads: &[(u32, Option<EventId>)],
     first: usize,
@@ -48,8 +48,8 @@ pub(crate) fn record_core(
 
 /// The events of all cores, in lists that were made before.
 pub(crate) fn record_all(
-    mut lists: Bounded<Vec<Event>>,
-    mut events: Vec<Bounded<Event>>,
+    mut lists: BoundedList<Vec<Event>>,
+    mut events: Vec<BoundedList<Event>>,
     program: &[Ops],
     reads: &[(u32, Option<EventId>)],
 ) -> Vec<Vec<Event>>
@@ -75,8 +75,8 @@ pub(crate) fn record_all(
 
 /// The lists without their rooms, in a list that was made before.
 pub(crate) fn unwrap_all(
-    mut lists: Bounded<Vec<EventId>>,
-    writes: Vec<Bounded<EventId>>,
+    mut lists: BoundedList<Vec<EventId>>,
+    writes: Vec<BoundedList<EventId>>,
 ) -> Vec<Vec<EventId>>
     requires empty { lists.items ≡ [] }
     requires room { length writes.items ≤ lists.room }

@@ -9,7 +9,7 @@ impl Machine {
     ghost use Rattle.std.specs.Prelude.{◌≡◌, Ok, Err, IfOk, OnOk, OnErr, IfErr, length};
     ghost use Rattle.litmus.specs.Parts.{IsWithin};
     ghost use Rattle.machine.specs.declared.step.Step.TheVariants.{Exec};
-    ghost use Rattle.machine.specs.Held.{answer_of, state_behind, IsNextOf};
+    ghost use Rattle.machine.specs.Configuration.{answer_of, state_behind, IsNextOf};
 
     /// The next operation of a core, and the number of its event.
     fn next_op(&self, core: CoreId) -> Result<(Op, EventId), Blocked>

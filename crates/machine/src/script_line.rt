@@ -2,8 +2,9 @@
 
 ghost use Rattle.std.specs.Prelude.{◌≡◌};
 ghost use Rattle.litmus.specs.Reading.{SaysOption};
-ghost use Rattle.machine.specs.ScriptLine.{own_of, transaction_of, script_line_of, own_step, transaction_step};
-ghost use Rattle.machine.specs.ScriptSaid.{Says};
+ghost use Rattle.machine.specs.ScriptLine.{own_of, transaction_of, script_line_of, own_step,
+    transaction_step};
+ghost use Rattle.machine.specs.ScriptSaid.{SaysScriptLine};
 
 use crate::step::Step;
 use litmus::{Addr, CoreId, Name, Number, decimal, space_in};
@@ -32,7 +33,7 @@ pub enum Said {
 
 #[tactic(auto, unfolding(crate::specs::ScriptLine::own_of))]
 fn own_of(own: Own, rest: &[u8]) -> Option<Said>
-    ensures { SaysOption Says result (own_of own rest.now) }
+    ensures { SaysOption SaysScriptLine result (own_of own rest.now) }
 {
     let core = decimal(rest)?;
     Some(Said::Own(own, core))
@@ -40,7 +41,7 @@ fn own_of(own: Own, rest: &[u8]) -> Option<Said>
 
 #[tactic(auto, unfolding(crate::specs::ScriptLine::transaction_of))]
 fn transaction_of(kind: Transaction, rest: &[u8]) -> Option<Said>
-    ensures { SaysOption Says result (transaction_of kind rest.now) }
+    ensures { SaysOption SaysScriptLine result (transaction_of kind rest.now) }
 {
     let at = space_in(rest)?;
     let core = decimal(&rest[..at])?;
@@ -51,7 +52,7 @@ fn transaction_of(kind: Transaction, rest: &[u8]) -> Option<Said>
 /// What the line says, if it is in the grammar.
 #[tactic(auto, unfolding(crate::specs::ScriptLine::script_line_of))]
 pub fn script_line_of(line: &[u8]) -> Option<Said>
-    ensures { SaysOption Says result (script_line_of line.now) }
+    ensures { SaysOption SaysScriptLine result (script_line_of line.now) }
 {
     if let Some(rest) = line.strip_prefix(b"exec ".as_slice()) {
         return own_of(Own::Exec, rest);

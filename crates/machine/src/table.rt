@@ -15,7 +15,7 @@ impl Machine {
     ghost use Rattle.litmus.specs.declared.op.Op.TheVariants.{St, Ld, Fence};
     ghost use Rattle.machine.specs.declared.step.Step.TheVariants.{Drain};
     ghost use Rattle.machine.specs.Step.{read_modify_written};
-    ghost use Rattle.machine.specs.Held.{answer_of, exec_answer, IsNextOf};
+    ghost use Rattle.machine.specs.Configuration.{answer_of, exec_answer, IsNextOf};
 
     /// Puts a store at the back of its core's buffer.
     pub(crate) fn store(

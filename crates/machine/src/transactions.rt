@@ -7,7 +7,7 @@ use litmus::{Addr, CoreId};
 impl Machine {
     ghost use Rattle.std.specs.Prelude.{◌≡◌, ◌↔◌, IsTrue, Ok, Err, OnOk, OnErr, IfErr};
     ghost use Rattle.machine.specs.declared.step.Step.TheVariants.{GetS, GetM, Put};
-    ghost use Rattle.machine.specs.Held.{answer_of, has_line};
+    ghost use Rattle.machine.specs.Configuration.{answer_of, has_line};
 
     /// Whether there is such a core and such an address.
     fn has(&self, core: CoreId, addr: Addr) -> bool

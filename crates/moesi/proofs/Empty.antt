@@ -7,7 +7,7 @@ use Rattle.moesi.specs.declared.error.CacheError.{CacheError}
 use Rattle.moesi.specs.Lines.{is_valid, is_owned}
 use Rattle.moesi.specs.Block.{Block, cell_of, invalid, opening_block, has_copy}
 use Rattle.moesi.specs.Rows as row
-use Rattle.moesi.specs.State.{State, block_of, at_address, opening, write}
+use Rattle.moesi.specs.State.{CacheState, block_of, at_address, opening_caches, write}
 use Rattle.moesi.specs.Laws.{IsTransaction, HasEmptyLines}
 use Rattle.moesi.proofs.Settled.{lowered_valid, all_invalid}
 use Rattle.moesi.proofs.Kept.{taken_else, taken_then}
@@ -61,7 +61,7 @@ module _ (b : Block) (c : ℕ) (before : EmptyBlock b) (u : Block) where
   empty_write : (w : ℕ × Option ℕ) → row.write b c w ≡ Ok u → EmptyBlock u
   empty_write w h = subst EmptyBlock (taken_then _ _ _ u h).1 (turn_one b c _ b.memory before (λ g. cc (g)))
 
-module _ (s t : State) (c a : ℕ) (before : HasEmptyLines s) where
+module _ (s t : CacheState) (c a : ℕ) (before : HasEmptyLines s) where
   -- a row at one address leaves the others
   moved : (r : Result Block CacheError) → ((u : Block) → r ≡ Ok u → EmptyBlock u) → at_address s a r ≡ Ok t → HasEmptyLines t
   moved (Err e) new h = cc (h)
@@ -83,7 +83,7 @@ module _ (s t : State) (c a : ℕ) (before : HasEmptyLines s) where
   empty_written value event h = moved _ (λ u g. empty_write (block_of s a) c (λ d. before d a) u (value, Some event) g) h
 
 -- at first each line is in I, and empty
-pub empty_opening : (cores addresses : ℕ) → HasEmptyLines (opening cores addresses)
+pub empty_opening : (cores addresses : ℕ) → HasEmptyLines (opening_caches cores addresses)
 empty_opening cores addresses c a h = both addresses (opening_block cores) (empty_fill cores) a c h
   where
     empty_fill : (n : ℕ) (d : ℕ) → EmptyCell (slice_index_or (replicate n invalid) d invalid)

@@ -6,7 +6,7 @@ use Rattle.moesi.specs.declared.error.CacheError.{CacheError}
 use Rattle.moesi.specs.Lines.{is_owned}
 use Rattle.moesi.specs.Block.{Block, invalid, opening_block}
 use Rattle.moesi.specs.Rows as row
-use Rattle.moesi.specs.State.{State, opening, block_of, current, at_address, get_s, get_m, put, read, write}
+use Rattle.moesi.specs.State.{CacheState, opening_caches, block_of, current, at_address, get_s, get_m, put, read, write}
 use Rattle.moesi.specs.Coherent.{IsCoherent}
 use Rattle.moesi.specs.Laws.{IsTransaction}
 use Rattle.moesi.proofs.Settled.{IsSettled, settled_of, current_settled, coherent_settled, copy_is_current, all_invalid}
@@ -53,23 +53,23 @@ module _ (b : Block) (v : ℕ × Option ℕ) (s : IsSettled b v) (c : ℕ) (at :
       subst (λ (t : Block). IsRenewed b t w) k.1 (record { settled = settled_write b v s c at w k.0; lines = length-set b.lines c _ })
 
 -- all addresses agree, and at a it is w that is current
-pub record IsRenewedAt (s t : State) (a : ℕ) (w : ℕ × Option ℕ) : Type 0 where
+pub record IsRenewedAt (s t : CacheState) (a : ℕ) (w : ℕ × Option ℕ) : Type 0 where
   pub coherent : IsCoherent t
   pub here : current t a ≡ w
   pub elsewhere : (b : ℕ) → b ≢ a → current t b ≡ current s b
 
 -- a row that renews its block leaves the other addresses
-renewed_at : (s : State) (a : ℕ) (r : Result Block CacheError) (t : State) (w : ℕ × Option ℕ) → IsCoherent s → a < length s.blocks
+renewed_at : (s : CacheState) (a : ℕ) (r : Result Block CacheError) (t : CacheState) (w : ℕ × Option ℕ) → IsCoherent s → a < length s.blocks
     → ((u : Block) → r ≡ Ok u → IsRenewed (block_of s a) u w) → at_address s a r ≡ Ok t → IsRenewedAt s t a w
 renewed_at s a (Err e) t w k at new h = cc (h)
 renewed_at s a (Ok u) t w k at new h =
     let none : Block = record { lines = []; memory = (0, None) } in
     let n = new u refl in
-    let t0 : State = record { cores = s.cores; blocks = slice_set s.blocks a u } in
+    let t0 : CacheState = record { cores = s.cores; blocks = slice_set s.blocks a u } in
     let here : block_of t0 a ≡ u = get_or-set_same s.blocks a u none at in
     let there : (b : ℕ) → b ≢ a → block_of t0 b ≡ block_of s b = λ b ne. get_or-set_other s.blocks a b u none ne in
     let e : t0 ≡ t = cc (h) in
-    subst (λ (x : State). IsRenewedAt s x a w) e (record {
+    subst (λ (x : CacheState). IsRenewedAt s x a w) e (record {
       coherent = record {
         lines = λ b l. elim (cases_eq b a) [
           | inl ba ↦ ap (λ (i : ℕ). length (block_of t0 i).lines) ba ∙ (ap (λ (x : Block). length x.lines) here ∙ (n.lines ∙ k.lines a at))
@@ -84,7 +84,7 @@ renewed_at s a (Ok u) t w k at new h =
       elsewhere = λ b bn. rw (there b bn) refl;
     })
 
-module _ (s t : State) (c a : ℕ) (k : IsCoherent s) (core : c < s.cores) (at : a < length s.blocks) where
+module _ (s t : CacheState) (c a : ℕ) (k : IsCoherent s) (core : c < s.cores) (at : a < length s.blocks) where
   -- the address has a line for the core
   within : c < length (block_of s a).lines
   within = omega (arith, core, k.lines a at)
@@ -131,7 +131,7 @@ module _ (s t : State) (c a : ℕ) (k : IsCoherent s) (core : c < s.cores) (at :
       ]
 
 -- what is read is current
-pub read_current : (s : State) (c a : ℕ) (copy : ℕ × Option ℕ) → IsCoherent s → read s c a ≡ Ok copy → copy ≡ current s a
+pub read_current : (s : CacheState) (c a : ℕ) (copy : ℕ × Option ℕ) → IsCoherent s → read s c a ≡ Ok copy → copy ≡ current s a
 read_current s c a copy k h =
     let r = taken_then _ _ _ copy h in
     sym r.1 ∙ copy_is_current (block_of s a) (k.blocks a) c r.0
@@ -148,11 +148,11 @@ settled_opening cores =
     }
 
 -- at first all is coherent, and 0 is current
-pub opening_coherent : (cores addresses : ℕ) → IsCoherent (opening cores addresses) × ((a : ℕ) → current (opening cores addresses) a ≡ (0, None))
+pub opening_coherent : (cores addresses : ℕ) → IsCoherent (opening_caches cores addresses) × ((a : ℕ) → current (opening_caches cores addresses) a ≡ (0, None))
 opening_coherent cores addresses =
     let first : Block = opening_block cores in
     let none : Block = record { lines = []; memory = (0, None) } in
-    let each : (a : ℕ) → IsSettled (block_of (opening cores addresses) a) (0, None) =
+    let each : (a : ℕ) → IsSettled (block_of (opening_caches cores addresses) a) (0, None) =
     λ a. replicated addresses first none (λ b. IsSettled b (0, None)) (settled_opening cores) (settled_opening 0) a in (
       record {
         lines = λ a h. ap (λ (b : Block). length b.lines) (get_or-replicate addresses a first none (omega (arith, h, length-replicate addresses first))) ∙ length-replicate cores invalid;

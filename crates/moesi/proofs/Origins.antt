@@ -9,7 +9,7 @@ use Rattle.moesi.specs.declared.error.CacheError.{CacheError}
 use Rattle.moesi.specs.Lines.{is_valid, is_owned, supplies}
 use Rattle.moesi.specs.Block.{Block, cell_of, invalid, copy_where, supplied, HasBlock}
 use Rattle.moesi.specs.Rows as row
-use Rattle.moesi.specs.State.{State, block_of, at_address, Has, write}
+use Rattle.moesi.specs.State.{CacheState, block_of, at_address, Has, write}
 use Rattle.moesi.specs.Laws.{IsTransaction}
 use Rattle.moesi.proofs.Settled.{supplier_valid, lowered_valid}
 use Rattle.moesi.proofs.Kept.{taken_else, taken_then}
@@ -117,7 +117,7 @@ module _ (b : Block) (c : ℕ) (copy : ℕ × Option ℕ) (u : Block) (h : HasBl
       ]
 
 -- a row at one address leaves the others
-at_other : (s t : State) (a b : ℕ) (r : Result Block CacheError) (copy : ℕ × Option ℕ) → at_address s a r ≡ Ok t → Has t b copy
+at_other : (s t : CacheState) (a b : ℕ) (r : Result Block CacheError) (copy : ℕ × Option ℕ) → at_address s a r ≡ Ok t → Has t b copy
     → Has s b copy ⊎ ((u : Block) × (r ≡ Ok u) × (b ≡ a) × HasBlock u copy)
 at_other s t a b (Err e) copy k h = cc (k)
 at_other s t a b (Ok u) copy k h =
@@ -128,7 +128,7 @@ at_other s t a b (Ok u) copy k h =
       | inr q ↦ inr (u, refl, q.0, rw q.1 at g)
     ]
 
-module _ (s t : State) (c a b : ℕ) (copy : ℕ × Option ℕ) where
+module _ (s t : CacheState) (c a b : ℕ) (copy : ℕ × Option ℕ) where
   -- a row that makes no data at its address makes none
   moved : (r : Result Block CacheError) → at_address s a r ≡ Ok t → ((u : Block) → HasBlock u copy → r ≡ Ok u → Has s a copy) → Has t b copy → Has s b copy
   moved r k row h =

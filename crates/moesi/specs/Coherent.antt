@@ -3,7 +3,7 @@ use Rattle.std.specs.Prelude.{◌≡◌, ◌≢◌, ◌<◌, ℕ, IsTrue, IsFals
 use Rattle.moesi.specs.declared.line.Line.TheVariants.{O}
 use Rattle.moesi.specs.Lines.{is_valid, is_exclusive, is_owned}
 use Rattle.moesi.specs.Block.{Block, cell_of}
-use Rattle.moesi.specs.State.{State, block_of}
+use Rattle.moesi.specs.State.{CacheState, block_of}
 
 -- the lines of one address agree
 pub record IsCoherentBlock (b : Block) : Type 0 where
@@ -20,6 +20,6 @@ pub record IsCoherentBlock (b : Block) : Type 0 where
       → ((d : ℕ) → IsFalse (is_owned (cell_of b d).line)) → (cell_of b c).copy ≡ b.memory
 
 -- each address has a line for each core, and its lines agree
-pub record IsCoherent (s : State) : Type 0 where
+pub record IsCoherent (s : CacheState) : Type 0 where
   pub lines : (a : ℕ) → a < length s.blocks → length (block_of s a).lines ≡ s.cores
   pub blocks : (a : ℕ) → IsCoherentBlock (block_of s a)

@@ -1,64 +1,66 @@
 -- What holds of the caches whatever the calls.
-use Rattle.std.specs.Prelude.{◌≡◌, ◌<◌, ◌==◌, ◌⊎◌, ℕ, Option, if◌then◌else◌, IsTrue, IsFalse, Some, None, Ok, length}
+use Rattle.std.specs.Prelude.{◌≡◌, ◌<◌, ◌==◌, ◌⊎◌, ℕ, Option, if◌then◌else◌, IsTrue, IsFalse, Some, None, Ok,
+    length}
 use Rattle.moesi.specs.Lines.{is_valid}
-use Rattle.moesi.specs.State.{State, line_of, copy_of, current, opening, get_s, get_m, put, read, write, Has}
+use Rattle.moesi.specs.State.{CacheState, line_of, copy_of, current, opening_caches, get_s, get_m, put, read,
+    write, Has}
 use Rattle.moesi.specs.Coherent.{IsCoherent}
 
 -- core c made a transaction of address a
-abbrev pub IsTransaction : State → ℕ → ℕ → State → Type 0
+abbrev pub IsTransaction : CacheState → ℕ → ℕ → CacheState → Type 0
 IsTransaction s c a t = (get_s s c a ≡ Ok t) ⊎ ((get_m s c a ≡ Ok t) ⊎ (put s c a ≡ Ok t))
 
 -- at first all is coherent, and each address has 0 with no event
 abbrev pub OpeningIsCoherent : Type 0
-OpeningIsCoherent = (cores addresses : ℕ) → IsCoherent (opening cores addresses)
-    × ((a : ℕ) → current (opening cores addresses) a ≡ (0, None))
+OpeningIsCoherent = (cores addresses : ℕ) → IsCoherent (opening_caches cores addresses)
+    × ((a : ℕ) → current (opening_caches cores addresses) a ≡ (0, None))
 
 -- a valid line has the current data
 abbrev pub EveryCopyIsCurrent : Type 0
-EveryCopyIsCurrent = (s : State) (c a : ℕ) → IsCoherent s → IsTrue (is_valid (line_of s c a))
+EveryCopyIsCurrent = (s : CacheState) (c a : ℕ) → IsCoherent s → IsTrue (is_valid (line_of s c a))
     → copy_of s c a ≡ current s a
 
 -- what is read is current
 abbrev pub EveryReadIsCurrent : Type 0
-EveryReadIsCurrent = (s : State) (c a : ℕ) (copy : ℕ × Option ℕ) → IsCoherent s
+EveryReadIsCurrent = (s : CacheState) (c a : ℕ) (copy : ℕ × Option ℕ) → IsCoherent s
     → read s c a ≡ Ok copy → copy ≡ current s a
 
 -- no transaction changes what is current, at any address
 abbrev pub EveryTransactionKeepsCurrent : Type 0
-EveryTransactionKeepsCurrent = (s t : State) (c a b : ℕ) → IsCoherent s → c < s.cores
+EveryTransactionKeepsCurrent = (s t : CacheState) (c a b : ℕ) → IsCoherent s → c < s.cores
     → a < length s.blocks → IsTransaction s c a t → current t b ≡ current s b
 
 -- what is written is current, at its address alone
 abbrev pub EveryWriteSetsCurrent : Type 0
-EveryWriteSetsCurrent = (s t : State) (c a value event b : ℕ) → IsCoherent s → c < s.cores
+EveryWriteSetsCurrent = (s t : CacheState) (c a value event b : ℕ) → IsCoherent s → c < s.cores
     → a < length s.blocks → write s c a value event ≡ Ok t
     → current t b ≡ (if b == a then (value, Some event) else current s b)
 
 -- transactions and writes keep coherence
 abbrev pub EveryCallKeepsCoherence : Type 0
-EveryCallKeepsCoherence = (s t : State) (c a value event : ℕ) → IsCoherent s → c < s.cores
+EveryCallKeepsCoherence = (s t : CacheState) (c a value event : ℕ) → IsCoherent s → c < s.cores
     → a < length s.blocks → IsTransaction s c a t ⊎ (write s c a value event ≡ Ok t) → IsCoherent t
 
 -- no transaction makes up data
 abbrev pub EveryCopyWasThere : Type 0
-EveryCopyWasThere = (s t : State) (c a b : ℕ) (copy : ℕ × Option ℕ) → IsTransaction s c a t
+EveryCopyWasThere = (s t : CacheState) (c a b : ℕ) (copy : ℕ × Option ℕ) → IsTransaction s c a t
     → Has t b copy → Has s b copy
 
 -- a write adds what it writes, and nothing else
 abbrev pub EveryWriteAddsItself : Type 0
-EveryWriteAddsItself = (s t : State) (c a value event b : ℕ) (copy : ℕ × Option ℕ)
+EveryWriteAddsItself = (s t : CacheState) (c a value event b : ℕ) (copy : ℕ × Option ℕ)
     → write s c a value event ≡ Ok t → Has t b copy
     → Has s b copy ⊎ ((b ≡ a) × (copy ≡ (value, Some event)))
 
 -- a line in I has value 0 and no event
-abbrev pub HasEmptyLines : State → Type 0
+abbrev pub HasEmptyLines : CacheState → Type 0
 HasEmptyLines s = (c a : ℕ) → IsFalse (is_valid (line_of s c a)) → copy_of s c a ≡ (0, None)
 
 -- at first it is so
 abbrev pub OpeningHasEmptyLines : Type 0
-OpeningHasEmptyLines = (cores addresses : ℕ) → HasEmptyLines (opening cores addresses)
+OpeningHasEmptyLines = (cores addresses : ℕ) → HasEmptyLines (opening_caches cores addresses)
 
 -- transactions and writes keep it so
 abbrev pub EveryCallKeepsEmptyLines : Type 0
-EveryCallKeepsEmptyLines = (s t : State) (c a value event : ℕ) → HasEmptyLines s
+EveryCallKeepsEmptyLines = (s t : CacheState) (c a value event : ℕ) → HasEmptyLines s
     → IsTransaction s c a t ⊎ (write s c a value event ≡ Ok t) → HasEmptyLines t

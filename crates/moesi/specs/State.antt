@@ -1,67 +1,68 @@
 -- What the caches of all cores are, with memory, and what each call does to them.
-use Rattle.std.specs.Prelude.{ℕ, Option, Some, None, Result, Ok, Err, List, [], replicate, slice_index_or, slice_set}
+use Rattle.std.specs.Prelude.{ℕ, Option, Some, None, Result, Ok, Err, List, [], replicate, slice_index_or,
+    slice_set}
 use Rattle.moesi.specs.declared.line.Line.{Line}
 use Rattle.moesi.specs.declared.error.CacheError.{CacheError}
 use Rattle.moesi.specs.Block.{Block, cell_of, opening_block, current_of, HasBlock}
 use Rattle.moesi.specs.Rows as row
 
 -- the number of cores, and what there is of each address
-pub record State : Type 0 where
+pub record CacheState : Type 0 where
   pub cores : ℕ
   pub blocks : List Block
 
 -- an address that does not exist has no line
-abbrev pub block_of : State → ℕ → Block
+abbrev pub block_of : CacheState → ℕ → Block
 block_of s a = slice_index_or s.blocks a (record { lines = []; memory = (0, None) })
 
 -- the state of core c's line of address a
-abbrev pub line_of : State → ℕ → ℕ → Line
+abbrev pub line_of : CacheState → ℕ → ℕ → Line
 line_of s c a = (cell_of (block_of s a) c).line
 
 -- the data of core c's line of address a
-abbrev pub copy_of : State → ℕ → ℕ → ℕ × Option ℕ
+abbrev pub copy_of : CacheState → ℕ → ℕ → ℕ × Option ℕ
 copy_of s c a = (cell_of (block_of s a) c).copy
 
 -- memory's data of an address
-abbrev pub memory_of : State → ℕ → ℕ × Option ℕ
+abbrev pub memory_of : CacheState → ℕ → ℕ × Option ℕ
 memory_of s a = (block_of s a).memory
 
 -- the value of an address and its writer
-abbrev pub current : State → ℕ → ℕ × Option ℕ
+abbrev pub current : CacheState → ℕ → ℕ × Option ℕ
 current s a = current_of (block_of s a)
 
 -- memory or a valid line of the address has these data
-abbrev pub Has : State → ℕ → ℕ × Option ℕ → Type 0
+abbrev pub Has : CacheState → ℕ → ℕ × Option ℕ → Type 0
 Has s a copy = HasBlock (block_of s a) copy
 
 -- at first no line is valid, and memory is 0 with no event
-abbrev pub opening : ℕ → ℕ → State
-opening cores addresses = record {
+abbrev pub opening_caches : ℕ → ℕ → CacheState
+opening_caches cores addresses = record {
   cores = cores;
   blocks = replicate addresses (opening_block cores);
 }
 
 -- a row of the table, taken at address a
-abbrev pub at_address : State → ℕ → Result Block CacheError → Result State CacheError
+abbrev pub at_address : CacheState → ℕ → Result Block CacheError → Result CacheState CacheError
 at_address s a (Ok b) = Ok (record { cores = s.cores; blocks = slice_set s.blocks a b })
 at_address s a (Err e) = Err e
 
 -- GetS of core c at address a
-abbrev pub get_s : State → ℕ → ℕ → Result State CacheError
+abbrev pub get_s : CacheState → ℕ → ℕ → Result CacheState CacheError
 get_s s c a = at_address s a (row.get_s (block_of s a) c)
 
 -- GetM of core c at address a
-abbrev pub get_m : State → ℕ → ℕ → Result State CacheError
+abbrev pub get_m : CacheState → ℕ → ℕ → Result CacheState CacheError
 get_m s c a = at_address s a (row.get_m (block_of s a) c)
 
 -- Put of core c at address a
-abbrev pub put : State → ℕ → ℕ → Result State CacheError
+abbrev pub put : CacheState → ℕ → ℕ → Result CacheState CacheError
 put s c a = at_address s a (row.put (block_of s a) c)
 
 -- what core c reads at address a
-abbrev pub read : State → ℕ → ℕ → Result (ℕ × Option ℕ) CacheError
+abbrev pub read : CacheState → ℕ → ℕ → Result (ℕ × Option ℕ) CacheError
 read s c a = row.read (block_of s a) c
 
 -- core c writes a value and its event at address a
-abbrev pub write : State → ℕ → ℕ → ℕ → ℕ → Result State CacheError
+abbrev pub write : CacheState → ℕ → ℕ → ℕ → ℕ → Result CacheState CacheError
 write s c a value event = at_address s a (row.write (block_of s a) c (value, Some event))

@@ -20,9 +20,9 @@ pub struct Caches {
 impl Model for Caches {
     ghost use Rattle.std.specs.Prelude.{◌≡◌, length};
     ghost use Rattle.std.specs.List.{All};
-    ghost use Rattle.moesi.specs.State.{State};
+    ghost use Rattle.moesi.specs.State.{CacheState};
 
-    ghost Value = { State };
+    ghost Value = { CacheState };
 
     ghost view = { λ s. record { cores = s.cores; blocks = s.blocks.items } };
 
@@ -31,14 +31,15 @@ impl Model for Caches {
 
 impl Caches {
     ghost use Rattle.std.specs.Prelude.{◌≡◌, ◌<◌, Ok, Err, length, IfOk, OnOk, IfErr, OnErr};
-    ghost use Rattle.moesi.specs.State.{opening, line_of, memory_of};
+    ghost use Rattle.litmus.specs.declared.limits.TheConstants.{MAX_EVENTS};
+    ghost use Rattle.moesi.specs.State.{opening_caches, line_of, memory_of};
     ghost use Rattle.moesi.specs.State.{get_s, get_m, put, read, write};
     ghost use Rattle.moesi.specs.Coherent.{IsCoherent};
 
     /// Caches of so many cores where no line is valid, over so many addresses with value 0 and no
     /// event; out of memory where a growth was refused.
     pub fn new(alloc: Global, cores: usize, addresses: usize) -> Result<Caches, OutOfMemory>
-        ensures { IfOk result (λ s. s ≡ opening cores addresses) }
+        ensures { IfOk result (λ s. s ≡ opening_caches cores addresses) }
     {
         let mut blocks = Vec::with_capacity(alloc, addresses)?;
         for _ in 0..addresses {
@@ -119,8 +120,8 @@ impl Caches {
         self.blocks[addr as usize].read(core as usize)
     }
 
-    /// Writes a value and its event to a core's line, which becomes M. C4 where the line is neither
-    /// M nor E; then nothing changes.
+    /// Writes a value and its event, whose number is below `MAX_EVENTS`, to a core's line, which
+    /// becomes M. C4 where the line is neither M nor E; then nothing changes.
     pub fn write(
         &mut self,
         core: CoreId,
@@ -130,6 +131,7 @@ impl Caches {
     ) -> Result<(), CacheError>
         requires core { core < self.old.cores }
         requires address { addr < length self.old.blocks }
+        requires event { event < MAX_EVENTS }
         ensures ok { OnOk result (write self.old core addr value event ≡ Ok self.new) }
         ensures refused { IfErr result (λ e. write self.old core addr value event ≡ Err e) }
         ensures unchanged { OnErr result (self.new ≡ self.old) }

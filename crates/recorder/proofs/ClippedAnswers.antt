@@ -6,7 +6,7 @@ use Rattle.recorder.specs.declared.fault.RecError.TheVariants.{NotJson, Shape, V
 use Rattle.recorder.specs.Execution.{Execution}
 use Rattle.recorder.specs.Recording.{IsRecording}
 use Rattle.recorder.specs.Refusals.{IsRefusal}
-use Rattle.recorder.specs.Reading.{shape_in, Answers}
+use Rattle.recorder.specs.Reading.{shape_in, IsReadingResult}
 use Rattle.recorder.specs.Text.{IsReadAs}
 use Rattle.recorder.specs.Clipped.{clipped, clipped_shape}
 use Rattle.recorder.proofs.ClippedRecording.{recording_from}
@@ -21,7 +21,7 @@ shape_from (Some p) q is =
     (p.1, ap Some version, sym (ap (λ (f : ℕ × Execution). f.1) same))
 
 -- the first refusal is an answer
-refused : (bytes : List ℕ) (d : Data) (x : Execution) (e : RecError) → IsReadAs bytes d → shape_in d ≡ Some (1, x) → IsRefusal x e → Answers bytes (Err e)
+refused : (bytes : List ℕ) (d : Data) (x : Execution) (e : RecError) → IsReadAs bytes d → shape_in d ≡ Some (1, x) → IsRefusal x e → IsReadingResult bytes (Err e)
 refused bytes d x Limits reads shape is = (d, reads, (x, shape, is))
 refused bytes d x (Source e) reads shape is = (d, reads, (x, shape, is))
 refused bytes d x (Value e) reads shape is = (d, reads, (x, shape, is))
@@ -32,14 +32,14 @@ refused bytes d x Version reads shape is = absurd is
 refused bytes d x OutOfMemory reads shape is = absurd is
 
 -- and so is a recording
-read : (bytes : List ℕ) (d : Data) (x z : Execution) → IsReadAs bytes d → shape_in d ≡ Some (1, x) → z ≡ clipped x → IsRecording (clipped x) → Answers bytes (Ok z)
+read : (bytes : List ℕ) (d : Data) (x z : Execution) → IsReadAs bytes d → shape_in d ≡ Some (1, x) → z ≡ clipped x → IsRecording (clipped x) → IsReadingResult bytes (Ok z)
 read bytes d x z reads shape held is =
     let same : z ≡ x = held ∙ recording_from x is in
     (d, reads, subst (λ (y : Execution). shape_in d ≡ Some (1, y)) (sym same) shape, subst IsRecording (sym held) is)
 
 -- what the parts that are held give is an answer
 pub answers_from : (bytes : List ℕ) (d : Data) (q : ℕ × Execution) (r : Result Execution RecError) → IsReadAs bytes d → Some q ≡ option_map clipped_shape (shape_in d) → q.0 ≡ 1
-    → IsOk r ↔ IsRecording q.1 → IfOk r (λ z. z ≡ q.1) → IfErr r (λ e. IsRefusal q.1 e) → Answers bytes r
+    → IsOk r ↔ IsRecording q.1 → IfOk r (λ z. z ≡ q.1) → IfErr r (λ e. IsRefusal q.1 e) → IsReadingResult bytes r
 answers_from bytes d q (Ok z) reads is one exact ok err =
     let from = shape_from (shape_in d) q is in
     let shape : shape_in d ≡ Some (1, from.0) = from.1 ∙ ap (λ (n : ℕ). Some (n, from.0)) one in

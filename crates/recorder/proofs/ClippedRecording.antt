@@ -5,8 +5,8 @@ use Rattle.recorder.specs.declared.event.Event.{Event}
 use Rattle.recorder.specs.declared.event.Event.TheVariants.{L, S, R, F}
 use Rattle.recorder.specs.Event.{read_address, written_address, source}
 use Rattle.recorder.specs.Execution.{Execution, placed_from, event_at, write_list}
-use Rattle.recorder.specs.Recording.{IsRecording}
-use Rattle.recorder.specs.Refusals.{IsWithinLimits, HasSource}
+use Rattle.recorder.specs.Recording.{IsRecording, IsWithinLimits}
+use Rattle.recorder.specs.Refusals.{HasSource}
 use Rattle.recorder.specs.Clipped.{clip, clip_event, clipped}
 use Rattle.recorder.proofs.Events.{placed_here, placed_behind}
 use Rattle.recorder.proofs.Refused.{source_of_recording}
@@ -60,5 +60,5 @@ execution_fixed x events lists = rw (cores_fixed 0 x.cores events, lists_fixed x
 -- an execution whose clipped form is a recording was not clipped
 pub recording_from : (x : Execution) → IsRecording (clipped x) → clipped x ≡ x
 recording_from x is =
-    let within : IsWithinLimits x = within_from x (record { few_cores = is.few_cores; few_events = is.few_events; few_addresses = is.few_addresses; addresses = is.addresses }) in
+    let within : IsWithinLimits x = within_from x is.within in
     execution_fixed x (event_kept x within (λ e. source_from x within e (source_of_recording (clipped x) is e))) (λ a. (list_from x within a (is.well_formed.write_lists a)).0)

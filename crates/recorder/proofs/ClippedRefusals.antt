@@ -6,7 +6,9 @@ use Rattle.recorder.specs.declared.fault.RecError.TheVariants.{NotJson, Shape, V
 use Rattle.recorder.specs.Event.{value_read}
 use Rattle.recorder.specs.Execution.{Execution, event_at, write_list, source_of, Reads, Writes}
 use Rattle.recorder.specs.Order.{times}
-use Rattle.recorder.specs.Refusals.{IsWithinLimits, HasSource, HasValue, HasWriteList, IsValueOf, IsLeastWithout, IsRefusal}
+use Rattle.recorder.specs.Refusals.{HasSource, HasValue, HasWriteList, IsLeastWithout, IsRefusal}
+use Rattle.recorder.specs.Recording.{IsWithinLimits}
+use Rattle.recorder.specs.Tso.{IsValueOf}
 use Rattle.recorder.specs.Clipped.{clip, clipped}
 use Rattle.recorder.proofs.Orders.{times_here, times_there}
 use Rattle.recorder.proofs.Clipped.{small, unclipped, clipped_from, list_clipped, sources_clipped, values_read_clipped, values_written_clipped}

@@ -5,7 +5,8 @@ use Rattle.recorder.specs.declared.event.Event.{Event}
 use Rattle.recorder.specs.declared.event.Event.TheVariants.{L, S, R}
 use Rattle.recorder.specs.Event.{read_address, written_address, value_read, value_written}
 use Rattle.recorder.specs.Execution.{Execution, event_at, initial_value, source_of, Reads}
-use Rattle.recorder.specs.Refusals.{HasValue, IsValueOf}
+use Rattle.recorder.specs.Refusals.{HasValue}
+use Rattle.recorder.specs.Tso.{IsValueOf}
 use Rattle.recorder.specs.Order.{place, times}
 use Rattle.recorder.proofs.Orders.{place_here, place_there, times_here, times_there, times_nil, place_nil, place_in, cases_zero}
 use Rattle.recorder.proofs.Places.{at_place}

@@ -5,9 +5,9 @@ use Rattle.std.proofs.lemmas.List.{get_or_past}
 use Rattle.recorder.specs.Event.{value_read}
 use Rattle.recorder.specs.Execution.{Execution, event_count, event_at, write_list, source_of, Reads, Writes}
 use Rattle.recorder.specs.Order.{times}
-use Rattle.recorder.specs.Tso.{Gives}
-use Rattle.recorder.specs.Recording.{IsRecording}
-use Rattle.recorder.specs.Refusals.{IsWithinLimits, HasSource, HasValue, HasWriteList, IsValueOf, IsRefusal}
+use Rattle.recorder.specs.Tso.{Gives, IsValueOf}
+use Rattle.recorder.specs.Recording.{IsRecording, IsWithinLimits}
+use Rattle.recorder.specs.Refusals.{HasSource, HasValue, HasWriteList, IsRefusal}
 use Rattle.recorder.specs.declared.fault.RecError.{RecError}
 use Rattle.recorder.specs.declared.fault.RecError.TheVariants.{NotJson, Shape, Version, Limits, Source, Value, WriteList, OutOfMemory}
 use Rattle.recorder.proofs.Events.{Reads-event, Writes-event}
@@ -55,10 +55,7 @@ recording x within sources values lists = record {
     sources = λ e a reads. gives x a (source_of x e) (value_read (event_at x e)) (λ s from. sources e a s reads from) (values e a reads);
     write_lists = lists;
   };
-  few_cores = within.few_cores;
-  few_events = within.few_events;
-  few_addresses = within.few_addresses;
-  addresses = within.addresses;
+  within = within;
 }
 
 -- the other way round: a recording gives each read its source
@@ -72,7 +69,7 @@ value_of x a (Some s) value is = is.1
 
 -- what is refused is no recording
 pub refused : (x : Execution) (e : RecError) → IsRefusal x e → ¬ IsRecording x
-refused x Limits no_limits is = no_limits (record { few_cores = is.few_cores; few_events = is.few_events; few_addresses = is.few_addresses; addresses = is.addresses })
+refused x Limits no_limits is = no_limits is.within
 refused x (Source e) (within, least) is = least.0 (source_of_recording x is e)
 refused x (Value e) (within, sources, least) is = least.0 (λ a reads. value_of x a (source_of x e) (value_read (event_at x e)) (is.well_formed.sources e a reads))
 refused x (WriteList a) (within, sources, values, least) is = least.0 (is.well_formed.write_lists a)

@@ -1,4 +1,5 @@
--- What the readers hold of an execution: 16 bits of each number. Within the limits a greater number names nothing, and neither does the greatest of 16 bits.
+-- What the readers hold of an execution: 16 bits of each number. Within the limits a greater number
+-- names nothing, and neither does the greatest of 16 bits.
 use Rattle.std.specs.Prelude.{◌^◌, ◌-◌, ℕ, Option, option_map, map, nat_lt, if◌then◌else◌}
 use Rattle.serde_json.specs.Data.{Data}
 use Rattle.recorder.specs.declared.event.Event.{Event}

@@ -1,10 +1,12 @@
 -- Executions: events numbered core by core, program order, and the pairs of it that memory order keeps.
-use Rattle.std.specs.Prelude.{◌≡◌, ◌<◌, ◌+◌, ℕ, false, Option, Some, List, [], ◌∷◌, ◌++◌, map, length, slice_index_or, ◌&&◌}
+use Rattle.std.specs.Prelude.{◌≡◌, ◌<◌, ◌+◌, ℕ, false, Option, Some, List, [], ◌∷◌, ◌++◌, map, length,
+    slice_index_or, ◌&&◌}
 use Rattle.recorder.specs.declared.event.Event.{Event}
 use Rattle.recorder.specs.declared.event.Event.TheVariants.{F}
 use Rattle.recorder.specs.Event.{read_address, written_address, source, is_plain_store, is_plain_load}
 
--- what was recorded: the events of each core in program order, and for each address its writes in memory order
+-- what was recorded: the events of each core in program order, and for each address its writes in
+-- memory order
 pub record Execution : Type 0 where
   pub cores : List (List Event)
   pub write_lists : List (List ℕ)
@@ -50,6 +52,7 @@ source_of x e = source (event_at x e)
 abbrev pub ProgramOrder : Execution → ℕ → ℕ → Type 0
 ProgramOrder x e f = (e < f) × (f < event_count x) × (core_of x e ≡ core_of x f)
 
--- a pair in program order that is kept in memory order, preserved program order (ppo): every pair but a plain store before a plain load
+-- a pair in program order that is kept in memory order, preserved program order (ppo): every pair
+-- but a plain store before a plain load
 abbrev pub Kept : Execution → ℕ → ℕ → Type 0
 Kept x e f = ProgramOrder x e f × ((is_plain_store (event_at x e) && is_plain_load (event_at x f)) ≡ false)

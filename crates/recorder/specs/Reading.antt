@@ -1,11 +1,14 @@
--- What the bytes of a recording give, from what `serde_json` reads of them: an execution, or the first refusal.
-use Rattle.std.specs.Prelude.{◌≡◌, ◌≢◌, ◌^◌, ◌==◌, ◌&&◌, ℕ, suc, List, [], ◌∷◌, Option, None, Some, is_some, option_map, option_and_then, Result, Ok, Err, codes, nat_lt, bytes_eq, if◌then◌else◌, ⊤}
+-- What the bytes of a recording give, from what `serde_json` reads of them: an execution, or the
+-- first refusal.
+use Rattle.std.specs.Prelude.{◌≡◌, ◌≢◌, ◌^◌, ◌==◌, ◌&&◌, ℕ, suc, List, [], ◌∷◌, Option, None, Some, is_some,
+    option_map, option_and_then, Result, Ok, Err, codes, nat_lt, bytes_eq, if◌then◌else◌, ⊤}
 use Rattle.serde_json.specs.Data.{Data, Items, no_items, item, Members, no_members, member}
 use Rattle.serde_json.specs.Find.{get, as_null, as_number, as_u64, as_str, as_array, as_object}
 use Rattle.recorder.specs.declared.event.Event.{Event}
 use Rattle.recorder.specs.declared.event.Event.TheVariants.{L, S, R, F}
 use Rattle.recorder.specs.declared.fault.RecError.{RecError}
-use Rattle.recorder.specs.declared.fault.RecError.TheVariants.{NotJson, Shape, Version, Limits, Source, Value, WriteList, OutOfMemory}
+use Rattle.recorder.specs.declared.fault.RecError.TheVariants.{NotJson, Shape, Version, Limits, Source, Value,
+    WriteList, OutOfMemory}
 use Rattle.recorder.specs.Execution.{Execution}
 use Rattle.recorder.specs.Recording.{executed, IsRecording}
 use Rattle.recorder.specs.Refusals.{IsRefusal}
@@ -20,11 +23,11 @@ abbrev pub number_in : Data → Option ℕ
 number_in d = natural d
 
 -- a value of 32 bits
-abbrev pub word : ℕ → Option ℕ
-word n = if nat_lt n (2 ^ 32) then Some n else None
+abbrev pub value_word : ℕ → Option ℕ
+value_word n = if nat_lt n (2 ^ 32) then Some n else None
 
 abbrev pub value_in : Data → Option ℕ
-value_in d = option_and_then word (natural d)
+value_in d = option_and_then value_word (natural d)
 
 -- a source: null, or the number of an event
 abbrev pub source_in : Data → Option (Option ℕ)
@@ -50,14 +53,29 @@ at_key f k d = option_and_then f (get k d)
 -- an event of each kind, by the keys that it has
 unfoldable pub load_in : Data → Option Event
 load_in d =
-    option_and_then (λ a. option_and_then (λ r. option_map (λ s. L a r s) (at_key source_in (codes "s") d)) (at_key value_in (codes "r") d)) (at_key number_in (codes "a") d)
+    option_and_then (λ a.
+    option_and_then (λ r.
+    option_map (λ s. L a r s)
+    (at_key source_in (codes "s") d))
+    (at_key value_in (codes "r") d))
+    (at_key number_in (codes "a") d)
 
 unfoldable pub store_in : Data → Option Event
-store_in d = option_and_then (λ a. option_map (λ w. S a w) (at_key value_in (codes "w") d)) (at_key number_in (codes "a") d)
+store_in d =
+    option_and_then (λ a.
+    option_map (λ w. S a w)
+    (at_key value_in (codes "w") d))
+    (at_key number_in (codes "a") d)
 
 unfoldable pub rmw_in : Data → Option Event
 rmw_in d =
-    option_and_then (λ a. option_and_then (λ r. option_and_then (λ s. option_map (λ w. R a r s w) (at_key value_in (codes "w") d)) (at_key source_in (codes "s") d)) (at_key value_in (codes "r") d))
+    option_and_then (λ a.
+    option_and_then (λ r.
+    option_and_then (λ s.
+    option_map (λ w. R a r s w)
+    (at_key value_in (codes "w") d))
+    (at_key source_in (codes "s") d))
+    (at_key value_in (codes "r") d))
     (at_key number_in (codes "a") d)
 
 -- an event of a kind, in an object with so many keys
@@ -69,25 +87,36 @@ event_of k n d =
     else (if bytes_eq k (codes "F") && n == 1 then Some F else None)))
 
 unfoldable pub event_in : Data → Option Event
-event_in d = option_and_then (λ n. option_and_then (λ k. event_of k n d) (at_key as_str (codes "k") d)) (option_map count_members (as_object d))
+event_in d = option_and_then (λ n. option_and_then (λ k. event_of k n d) (at_key as_str (codes "k") d))
+    (option_map count_members (as_object d))
 
 -- the version and the execution of an object with exactly three keys
 unfoldable pub shape_of : Data → Option (ℕ × Execution)
 shape_of d =
-    option_and_then (λ version. option_and_then (λ cores. option_map (λ writes. (version, executed cores writes))
-    (at_key (list_in (list_in number_in)) (codes "writes") d)) (at_key (list_in (list_in event_in)) (codes "cores") d)) (at_key natural (codes "version") d)
+    option_and_then (λ version.
+    option_and_then (λ cores.
+    option_map (λ writes. (version, executed cores writes))
+    (at_key (list_in (list_in number_in)) (codes "writes") d))
+    (at_key (list_in (list_in event_in)) (codes "cores") d))
+    (at_key natural (codes "version") d)
 
 unfoldable pub shape_in : Data → Option (ℕ × Execution)
-shape_in d = option_and_then (λ n. if n == 3 then shape_of d else None) (option_map count_members (as_object d))
+shape_in d = option_and_then (λ n. if n == 3 then shape_of d else None)
+    (option_map count_members (as_object d))
 
 -- what a reader of these bytes may answer: the first refusal in this order; memory alone is left open
-abbrev pub Answers : List ℕ → Result Execution RecError → Type 0
-Answers bytes (Ok x) = (d : Data) × IsReadAs bytes d × (shape_in d ≡ Some (1, x)) × IsRecording x
-Answers bytes (Err NotJson) = (d : Data) → IsReadAs bytes d → ⊥
-Answers bytes (Err Shape) = (d : Data) × IsReadAs bytes d × (shape_in d ≡ None)
-Answers bytes (Err Version) = (d : Data) × IsReadAs bytes d × ((version : ℕ) × (x : Execution) × (shape_in d ≡ Some (version, x)) × (version ≢ 1))
-Answers bytes (Err Limits) = (d : Data) × IsReadAs bytes d × ((x : Execution) × (shape_in d ≡ Some (1, x)) × IsRefusal x Limits)
-Answers bytes (Err (Source e)) = (d : Data) × IsReadAs bytes d × ((x : Execution) × (shape_in d ≡ Some (1, x)) × IsRefusal x (Source e))
-Answers bytes (Err (Value e)) = (d : Data) × IsReadAs bytes d × ((x : Execution) × (shape_in d ≡ Some (1, x)) × IsRefusal x (Value e))
-Answers bytes (Err (WriteList a)) = (d : Data) × IsReadAs bytes d × ((x : Execution) × (shape_in d ≡ Some (1, x)) × IsRefusal x (WriteList a))
-Answers bytes (Err OutOfMemory) = ⊤
+abbrev pub IsReadingResult : List ℕ → Result Execution RecError → Type 0
+IsReadingResult bytes (Ok x) = (d : Data) × IsReadAs bytes d × (shape_in d ≡ Some (1, x)) × IsRecording x
+IsReadingResult bytes (Err NotJson) = (d : Data) → IsReadAs bytes d → ⊥
+IsReadingResult bytes (Err Shape) = (d : Data) × IsReadAs bytes d × (shape_in d ≡ None)
+IsReadingResult bytes (Err Version) = (d : Data) × IsReadAs bytes d
+    × ((version : ℕ) × (x : Execution) × (shape_in d ≡ Some (version, x)) × (version ≢ 1))
+IsReadingResult bytes (Err Limits) = (d : Data) × IsReadAs bytes d
+    × ((x : Execution) × (shape_in d ≡ Some (1, x)) × IsRefusal x Limits)
+IsReadingResult bytes (Err (Source e)) = (d : Data) × IsReadAs bytes d
+    × ((x : Execution) × (shape_in d ≡ Some (1, x)) × IsRefusal x (Source e))
+IsReadingResult bytes (Err (Value e)) = (d : Data) × IsReadAs bytes d
+    × ((x : Execution) × (shape_in d ≡ Some (1, x)) × IsRefusal x (Value e))
+IsReadingResult bytes (Err (WriteList a)) = (d : Data) × IsReadAs bytes d
+    × ((x : Execution) × (shape_in d ≡ Some (1, x)) × IsRefusal x (WriteList a))
+IsReadingResult bytes (Err OutOfMemory) = ⊤

@@ -9,10 +9,14 @@ use Rattle.recorder.specs.Tso.{IsWellFormed}
 abbrev pub executed : List (List Event) → List (List ℕ) → Execution
 executed events writes = record { cores = events; write_lists = writes }
 
--- it is well formed and within the limits, and each address that is used has a write list
-pub record IsRecording (x : Execution) : Type 0 where
-  pub well_formed : IsWellFormed x
+-- it is within the limits, and each address that is used has a write list
+pub record IsWithinLimits (x : Execution) : Type 0 where
   pub few_cores : length x.cores ≤ MAX_CORES
   pub few_events : event_count x ≤ MAX_EVENTS
   pub few_addresses : length x.write_lists ≤ MAX_ADDRESSES
   pub addresses : (e a : ℕ) → Reads x e a ⊎ Writes x e a → a < length x.write_lists
+
+-- it is well formed and within the limits
+pub record IsRecording (x : Execution) : Type 0 where
+  pub well_formed : IsWellFormed x
+  pub within : IsWithinLimits x

@@ -1,13 +1,20 @@
 -- What TSO allows: well-formed executions, and memory orders that explain them.
 use Rattle.std.specs.Prelude.{◌≡◌, ◌≢◌, ◌<◌, ◌⊎◌, ℕ, Option, Some, None, List}
 use Rattle.recorder.specs.Event.{value_read, value_written}
-use Rattle.recorder.specs.Execution.{Execution, event_count, event_at, write_list, initial_value, Reads, Writes, source_of, ProgramOrder, Kept}
+use Rattle.recorder.specs.Execution.{Execution, event_count, event_at, write_list, initial_value, Reads,
+    Writes, source_of, ProgramOrder, Kept}
 use Rattle.recorder.specs.Order.{Before, Enumerates}
 
--- the source is a write to the address with the value that was read, or none and the value is the initial one
+-- a value of address a is what the source wrote, or the initial value
+abbrev pub IsValueOf : Execution → ℕ → Option ℕ → ℕ → Type 0
+IsValueOf x a None value = value ≡ initial_value x a
+IsValueOf x a (Some w) value = value_written (event_at x w) ≡ value
+
+-- the source is a write to the address with the value that was read, or none and the value is the
+-- initial one
 abbrev pub Gives : Execution → ℕ → Option ℕ → ℕ → Type 0
-Gives x a None value = value ≡ initial_value x a
-Gives x a (Some w) value = Writes x w a × (value_written (event_at x w) ≡ value)
+Gives x a None value = IsValueOf x a None value
+Gives x a (Some w) value = Writes x w a × IsValueOf x a (Some w) value
 
 -- each value that was read has its source, and each write list has the writes of its address
 pub record IsWellFormed (x : Execution) : Type 0 where

@@ -31,7 +31,8 @@ pub enum Event {
 
 impl Event {
     ghost use Rattle.std.specs.Prelude.{◌≡◌, ◌↔◌, ◌<◌, ◌⊎◌, ◌&&◌, ℕ, IsTrue, Some, false};
-    ghost use Rattle.recorder.specs.Event.{read_address, written_address, source, value_read, value_written, is_plain_store, is_plain_load};
+    ghost use Rattle.recorder.specs.Event.{read_address, written_address, source, value_read, value_written,
+        is_plain_store, is_plain_load};
 
     /// The address that it reads.
     pub fn read_address(&self) -> Option<Addr>
@@ -65,7 +66,8 @@ impl Event {
 
     /// Whether each address that it reads or writes is below a number.
     pub(crate) fn uses_below(&self, count: usize) -> bool
-        ensures { IsTrue result ↔ ((a : ℕ) → (read_address self.now ≡ Some a) ⊎ (written_address self.now ≡ Some a) → a < count) }
+        ensures { IsTrue result ↔ ((a : ℕ) → (read_address self.now ≡ Some a)
+            ⊎ (written_address self.now ≡ Some a) → a < count) }
     {
         match self {
             Event::L { a, .. } | Event::S { a, .. } | Event::R { a, .. } => (*a as usize) < count,

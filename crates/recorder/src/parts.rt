@@ -6,12 +6,12 @@ use std::marker::Model;
 
 /// The events of each core, and the writes of each address.
 #[derive(Drop)]
-pub(crate) struct Parts {
+pub(crate) struct RecordingParts {
     cores: Vec<Vec<Event>>,
     writes: Vec<Vec<EventId>>,
 }
 
-impl Model for Parts {
+impl Model for RecordingParts {
     ghost use Rattle.std.specs.Prelude.{map};
     ghost use Rattle.recorder.specs.Execution.{Execution};
     ghost use Rattle.recorder.specs.Recording.{executed};
@@ -21,16 +21,17 @@ impl Model for Parts {
     ghost view = { λ p. executed (map (λ v. v.items) p.cores.items) (map (λ v. v.items) p.writes.items) };
 }
 
-impl Parts {
+impl RecordingParts {
     ghost use Rattle.std.specs.Prelude.{◌≡◌, ◌≤◌, ◌<◌, ◌↔◌, IsTrue, length, map, MatchOption};
     ghost use Rattle.recorder.specs.Event.{value_written, written_address};
-    ghost use Rattle.recorder.specs.Execution.{event_count, event_at, core_of, write_list, initial_value, Writes};
+    ghost use Rattle.recorder.specs.Execution.{event_count, event_at, core_of, write_list, initial_value,
+        Writes};
     ghost use Rattle.recorder.specs.Recording.{executed};
 
-    pub(crate) fn new(cores: Vec<Vec<Event>>, writes: Vec<Vec<EventId>>) -> Parts
+    pub(crate) fn new(cores: Vec<Vec<Event>>, writes: Vec<Vec<EventId>>) -> RecordingParts
         ensures { result ≡ executed (map (λ v. v.items) cores.items) (map (λ v. v.items) writes.items) }
     {
-        Parts { cores, writes }
+        RecordingParts { cores, writes }
     }
 
     pub(crate) fn cores(&self) -> &[Vec<Event>]
@@ -77,7 +78,8 @@ impl Parts {
     pub(crate) fn event(&self, number: EventId) -> Option<(CoreId, &Event)>
         requires { length self.now.cores ≤ MAX_CORES }
         ensures { MatchOption result (event_count self.now ≤ number)
-            (λ p. (number < event_count self.now) × (p.0 ≡ core_of self.now number) × (p.1.now ≡ event_at self.now number)) }
+            (λ p. (number < event_count self.now) × (p.0 ≡ core_of self.now number)
+                × (p.1.now ≡ event_at self.now number)) }
     {
         let mut rest = number as usize;
         for (core, events) in self.cores.iter().enumerate() {

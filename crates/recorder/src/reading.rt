@@ -3,7 +3,8 @@
 ghost use Rattle.std.specs.Prelude.{◌≡◌, IfOk, option_map, map, codes};
 ghost use Rattle.serde_json.specs.View.{view, items_view};
 ghost use Rattle.recorder.specs.Found.{found};
-ghost use Rattle.recorder.specs.Reading.{each, list_in, number_in, event_in, at_key, shape_of, shape_in, Answers};
+ghost use Rattle.recorder.specs.Reading.{each, list_in, number_in, event_in, at_key, shape_of, shape_in,
+    IsReadingResult};
 ghost use Rattle.recorder.specs.Clipped.{clip, clip_event, clipped_shape, clipped_number, clipped_event};
 
 use crate::event::Event;
@@ -67,7 +68,8 @@ fn writes_in(alloc: Global, value: &Value) -> Result<Option<Vec<EventId>>, Alloc
 }
 
 fn cores_in(alloc: Global, list: &[Value]) -> Result<Option<Vec<Vec<Event>>>, AllocError>
-    ensures { IfOk result (λ o. option_map (λ v. map (λ w. w.items) v.items) o ≡ each (list_in clipped_event) (items_view list.now)) }
+    ensures { IfOk result (λ o. option_map (λ v. map (λ w. w.items) v.items) o
+        ≡ each (list_in clipped_event) (items_view list.now)) }
 {
     let mut found = Vec::new(alloc);
     for value in list {
@@ -80,7 +82,8 @@ fn cores_in(alloc: Global, list: &[Value]) -> Result<Option<Vec<Vec<Event>>>, Al
 }
 
 fn lists_in(alloc: Global, list: &[Value]) -> Result<Option<Vec<Vec<EventId>>>, AllocError>
-    ensures { IfOk result (λ o. option_map (λ v. map (λ w. w.items) v.items) o ≡ each (list_in clipped_number) (items_view list.now)) }
+    ensures { IfOk result (λ o. option_map (λ v. map (λ w. w.items) v.items) o
+        ≡ each (list_in clipped_number) (items_view list.now)) }
 {
     let mut found = Vec::new(alloc);
     for value in list {
@@ -94,7 +97,9 @@ fn lists_in(alloc: Global, list: &[Value]) -> Result<Option<Vec<Vec<EventId>>>, 
 
 #[tactic(auto, using(crate::proofs::ClippedLists::cores_clipped))]
 fn cores_at(alloc: Global, value: &Value) -> Result<Option<Vec<Vec<Event>>>, AllocError>
-    ensures { IfOk result (λ o. option_map (λ v. map (λ w. w.items) v.items) o ≡ option_map (map (map clip_event)) (at_key (list_in (list_in event_in)) (codes "cores") (view value.now))) }
+    ensures { IfOk result (λ o. option_map (λ v. map (λ w. w.items) v.items) o
+        ≡ option_map (map (map clip_event))
+            (at_key (list_in (list_in event_in)) (codes "cores") (view value.now))) }
 {
     let Some(list) = value.get("cores").and_then(Value::as_array) else {
         return Ok(None);
@@ -104,7 +109,9 @@ fn cores_at(alloc: Global, value: &Value) -> Result<Option<Vec<Vec<Event>>>, All
 
 #[tactic(auto, using(crate::proofs::ClippedLists::writes_clipped))]
 fn lists_at(alloc: Global, value: &Value) -> Result<Option<Vec<Vec<EventId>>>, AllocError>
-    ensures { IfOk result (λ o. option_map (λ v. map (λ w. w.items) v.items) o ≡ option_map (map (map clip)) (at_key (list_in (list_in number_in)) (codes "writes") (view value.now))) }
+    ensures { IfOk result (λ o. option_map (λ v. map (λ w. w.items) v.items) o
+        ≡ option_map (map (map clip))
+            (at_key (list_in (list_in number_in)) (codes "writes") (view value.now))) }
 {
     let Some(list) = value.get("writes").and_then(Value::as_array) else {
         return Ok(None);
@@ -148,7 +155,7 @@ fn shape_in(alloc: Global, value: &Value) -> Result<Option<Found>, AllocError>
 /// The recording that the bytes give, or the first refusal: of the JSON, its shape, the version, and what
 /// `Recording::from_parts` refuses.
 pub fn read_recording(alloc: Global, bytes: &[u8]) -> Result<Recording, RecError>
-    ensures { Answers bytes.now result }
+    ensures { IsReadingResult bytes.now result }
 {
     let value = match Value::from_slice(alloc, bytes) {
         Ok(value) => value,

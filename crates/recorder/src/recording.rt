@@ -3,7 +3,7 @@
 use crate::copies::{copied_cores, copied_writes};
 use crate::event::Event;
 use crate::fault::RecError;
-use crate::parts::Parts;
+use crate::parts::RecordingParts;
 use litmus::{Addr, CoreId, EventId};
 use std::alloc::Global;
 use std::marker::Model;
@@ -11,7 +11,7 @@ use std::marker::Model;
 /// A recording: the events of each core in program order, and for each address its writes in memory order.
 #[derive(Drop)]
 pub struct Recording {
-    parts: Parts,
+    parts: RecordingParts,
 }
 
 impl Model for Recording {
@@ -26,7 +26,8 @@ impl Model for Recording {
 }
 
 impl Recording {
-    ghost use Rattle.std.specs.Prelude.{◌≡◌, ◌≤◌, ◌<◌, map, ◌↔◌, ◌⊎◌, MatchOption, length, IsOk, IsTrue, IfOk, IfErr};
+    ghost use Rattle.std.specs.Prelude.{◌≡◌, ◌≤◌, ◌<◌, map, ◌↔◌, ◌⊎◌, MatchOption, length, IsOk, IsTrue, IfOk,
+        IfErr};
     ghost use Rattle.recorder.specs.Execution.{event_count, event_at, core_of, write_list, Writes};
     ghost use Rattle.recorder.specs.Recording.{executed, IsRecording};
     ghost use Rattle.recorder.specs.Refusals.{IsRefusal};
@@ -38,21 +39,25 @@ impl Recording {
         ensures { result ≡ executed (map (λ v. v.items) cores.items) (map (λ v. v.items) writes.items) }
     {
         Recording {
-            parts: Parts::new(cores, writes),
+            parts: RecordingParts::new(cores, writes),
         }
     }
 
-    /// The recording of these events and write lists, or the first refusal: of the limits, of the least event without
-    /// its source, of the least event without the value of its source, of the least address without its write list.
+    /// The recording of these events and write lists, or the first refusal: of the limits, of the
+    /// least event without its source, of the least event without the value of its source, of the
+    /// least address without its write list.
     pub fn from_parts(
         cores: Vec<Vec<Event>>,
         writes: Vec<Vec<EventId>>,
     ) -> Result<Recording, RecError>
-        ensures exact { IsOk result ↔ IsRecording (executed (map (λ v. v.items) cores.items) (map (λ v. v.items) writes.items)) }
-        ensures ok { IfOk result (λ r. r ≡ executed (map (λ v. v.items) cores.items) (map (λ v. v.items) writes.items)) }
-        ensures err { IfErr result (λ e. IsRefusal (executed (map (λ v. v.items) cores.items) (map (λ v. v.items) writes.items)) e) }
+        ensures exact { IsOk result ↔ IsRecording
+            (executed (map (λ v. v.items) cores.items) (map (λ v. v.items) writes.items)) }
+        ensures ok { IfOk result (λ r. r
+            ≡ executed (map (λ v. v.items) cores.items) (map (λ v. v.items) writes.items)) }
+        ensures err { IfErr result
+            (λ e. IsRefusal (executed (map (λ v. v.items) cores.items) (map (λ v. v.items) writes.items)) e) }
     {
-        let parts = Parts::new(cores, writes);
+        let parts = RecordingParts::new(cores, writes);
         match parts.refusal() {
             Some(refusal) => Err(refusal),
             None => Ok(Recording { parts }),
@@ -66,7 +71,8 @@ impl Recording {
         cores: &[&[Event]],
         writes: &[&[EventId]],
     ) -> Result<Recording, RecError>
-        ensures ok { IfOk result (λ r. r ≡ executed (map (λ s. s.now) cores.now) (map (λ s. s.now) writes.now)) }
+        ensures ok { IfOk result (λ r. r
+            ≡ executed (map (λ s. s.now) cores.now) (map (λ s. s.now) writes.now)) }
         ensures err { IfErr result (λ e. (e ≡ OutOfMemory)
             ⊎ IsRefusal (executed (map (λ s. s.now) cores.now) (map (λ s. s.now) writes.now)) e) }
     {
@@ -106,7 +112,8 @@ impl Recording {
     /// The core and the event of a number; none past the last event.
     pub fn event(&self, number: EventId) -> Option<(CoreId, &Event)>
         ensures { MatchOption result (event_count self.now ≤ number)
-            (λ p. (number < event_count self.now) × (p.0 ≡ core_of self.now number) × (p.1.now ≡ event_at self.now number)) }
+            (λ p. (number < event_count self.now) × (p.0 ≡ core_of self.now number)
+                × (p.1.now ≡ event_at self.now number)) }
     {
         self.parts.event(number)
     }

@@ -1,21 +1,22 @@
 //! The first rule that parts of a recording break.
 
 use crate::fault::RecError;
-use crate::parts::Parts;
+use crate::parts::RecordingParts;
 use litmus::{Addr, EventId, MAX_ADDRESSES, MAX_CORES};
 
-impl Parts {
+impl RecordingParts {
     ghost use Rattle.std.specs.Prelude.{◌≡◌, ◌↔◌, ◌<◌, ◌≤◌, ◌⊎◌, ℕ, IsTrue, MatchOption, length};
     ghost use Rattle.litmus.specs.declared.limits.TheConstants.{MAX_CORES, MAX_EVENTS, MAX_ADDRESSES};
     ghost use Rattle.recorder.specs.Execution.{event_count, Reads, Writes};
-    ghost use Rattle.recorder.specs.Recording.{IsRecording};
-    ghost use Rattle.recorder.specs.Refusals.{IsWithinLimits, HasSource, HasValue, HasWriteList, IsLeastWithout, IsRefusal};
+    ghost use Rattle.recorder.specs.Recording.{IsRecording, IsWithinLimits};
+    ghost use Rattle.recorder.specs.Refusals.{HasSource, HasValue, HasWriteList, IsLeastWithout, IsRefusal};
 
     /// Whether each address that is used has a write list.
     fn has_all_lists(&self) -> bool
         requires few_cores { length self.now.cores ≤ MAX_CORES }
         requires few_events { event_count self.now ≤ MAX_EVENTS }
-        ensures { IsTrue result ↔ ((e a : ℕ) → Reads self.now e a ⊎ Writes self.now e a → a < length self.now.write_lists) }
+        ensures { IsTrue result ↔ ((e a : ℕ) → Reads self.now e a ⊎ Writes self.now e a
+            → a < length self.now.write_lists) }
     {
         for number in 0..self.len() as EventId {
             if !self.has_lists_of(number) {
@@ -45,7 +46,8 @@ impl Parts {
     fn first_without_source(&self) -> Option<EventId>
         requires few_cores { length self.now.cores ≤ MAX_CORES }
         requires few_events { event_count self.now ≤ MAX_EVENTS }
-        ensures { MatchOption result ((e : ℕ) → HasSource self.now e) (λ e. IsLeastWithout (HasSource self.now) e) }
+        ensures { MatchOption result ((e : ℕ) → HasSource self.now e)
+            (λ e. IsLeastWithout (HasSource self.now) e) }
     {
         for number in 0..self.len() as EventId {
             if !self.has_source(number) {
@@ -59,7 +61,8 @@ impl Parts {
     fn first_without_value(&self) -> Option<EventId>
         requires few_cores { length self.now.cores ≤ MAX_CORES }
         requires few_events { event_count self.now ≤ MAX_EVENTS }
-        ensures { MatchOption result ((e : ℕ) → HasValue self.now e) (λ e. IsLeastWithout (HasValue self.now) e) }
+        ensures { MatchOption result ((e : ℕ) → HasValue self.now e)
+            (λ e. IsLeastWithout (HasValue self.now) e) }
     {
         for number in 0..self.len() as EventId {
             if !self.has_value(number) {
@@ -72,7 +75,8 @@ impl Parts {
     /// The least address whose write list does not have each of its writes once and nothing else.
     fn first_without_list(&self) -> Option<Addr>
         requires { IsWithinLimits self.now }
-        ensures { MatchOption result ((a : ℕ) → HasWriteList self.now a) (λ a. IsLeastWithout (HasWriteList self.now) a) }
+        ensures { MatchOption result ((a : ℕ) → HasWriteList self.now a)
+            (λ a. IsLeastWithout (HasWriteList self.now) a) }
     {
         for address in 0..self.writes().len() as Addr {
             if !self.has_write_list(address) {

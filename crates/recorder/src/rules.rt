@@ -1,10 +1,10 @@
 //! The rules that parts of a recording may break.
 
 use crate::lists::place;
-use crate::parts::Parts;
+use crate::parts::RecordingParts;
 use litmus::{Addr, EventId};
 
-impl Parts {
+impl RecordingParts {
     ghost use Rattle.std.specs.Prelude.{◌≡◌, ◌↔◌, ◌<◌, ◌≤◌, ◌⊎◌, ℕ, IsTrue, MatchOption, length};
     ghost use Rattle.litmus.specs.declared.limits.TheConstants.{MAX_CORES, MAX_EVENTS};
     ghost use Rattle.recorder.specs.Execution.{event_count, write_list, Reads, Writes};
@@ -14,7 +14,8 @@ impl Parts {
     /// Whether each address that an event uses has a write list.
     pub(crate) fn has_lists_of(&self, number: EventId) -> bool
         requires { length self.now.cores ≤ MAX_CORES }
-        ensures { IsTrue result ↔ ((a : ℕ) → Reads self.now number a ⊎ Writes self.now number a → a < length self.now.write_lists) }
+        ensures { IsTrue result ↔ ((a : ℕ) → Reads self.now number a ⊎ Writes self.now number a
+            → a < length self.now.write_lists) }
     {
         match self.event(number) {
             Some((_, event)) => event.uses_below(self.writes().len()),
@@ -89,7 +90,8 @@ impl Parts {
     fn lists_each_write(&self, address: Addr) -> bool
         requires few_cores { length self.now.cores ≤ MAX_CORES }
         requires few_events { event_count self.now ≤ MAX_EVENTS }
-        ensures { IsTrue result ↔ ((e : ℕ) → Writes self.now e address → 0 < times (write_list self.now address) e) }
+        ensures { IsTrue result ↔ ((e : ℕ) → Writes self.now e address
+            → 0 < times (write_list self.now address) e) }
     {
         let list = self.write_list(address);
         for number in 0..self.len() as EventId {

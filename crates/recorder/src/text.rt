@@ -5,7 +5,7 @@ ghost use Rattle.serde_json.specs.Data.{depth};
 ghost use Rattle.serde_json.specs.Read.{read, max_depth};
 ghost use Rattle.serde_json.specs.View.{view};
 ghost use Rattle.serde_json.specs.Written.{compact_text, has_float};
-ghost use Rattle.recorder.specs.Reading.{Answers};
+ghost use Rattle.recorder.specs.Reading.{IsReadingResult};
 ghost use Rattle.recorder.specs.Text.{data_of, recording_text, IsReadAs};
 
 use crate::recording::Recording;
@@ -27,7 +27,7 @@ fn compact(alloc: Global, value: &Value) -> Result<String, AllocError>
 pub fn write_recording(alloc: Global, recording: &Recording) -> Result<Vec<u8>, OutOfMemory>
     ensures text { IfOk result (λ v. v.items ≡ recording_text recording.now) }
     ensures reads_back { IfOk result (λ v. IsReadAs v.items (data_of recording.now)) }
-    ensures again { IfOk result (λ v. Answers v.items (Ok recording.now)) }
+    ensures again { IfOk result (λ v. IsReadingResult v.items (Ok recording.now)) }
 {
     recording.sound();
     let value = value_of(alloc, recording)?;

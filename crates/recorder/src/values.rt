@@ -47,9 +47,11 @@ fn core_value(alloc: Global, events: &[Event]) -> Result<Value, AllocError>
 }
 
 fn cores_value(alloc: Global, cores: &[Vec<Event>]) -> Result<Value, AllocError>
-    ensures value { IfOk result (λ v. view v ≡ list_data (list_data event_data) (map (λ w. w.items) cores.now)) }
+    ensures value { IfOk result (λ v. view v
+        ≡ list_data (list_data event_data) (map (λ w. w.items) cores.now)) }
     ensures again { let lists = map (λ w. w.items) cores.now
-        in IfOk result (λ _. list_in (list_in event_in) (list_data (list_data event_data) lists) ≡ Some lists) }
+        in IfOk result (λ _. list_in (list_in event_in) (list_data (list_data event_data) lists)
+            ≡ Some lists) }
 {
     let mut values = Vec::with_capacity(alloc, cores.len())?;
     for events in cores {
@@ -60,7 +62,8 @@ fn cores_value(alloc: Global, cores: &[Vec<Event>]) -> Result<Value, AllocError>
 
 fn list_value(alloc: Global, writes: &[EventId]) -> Result<Value, AllocError>
     ensures value { IfOk result (λ v. view v ≡ list_data number_data writes.now) }
-    ensures again { IfOk result (λ _. list_in number_in (list_data number_data writes.now) ≡ Some writes.now) }
+    ensures again { IfOk result (λ _. list_in number_in (list_data number_data writes.now)
+        ≡ Some writes.now) }
 {
     let mut values = Vec::with_capacity(alloc, writes.len())?;
     for write in writes {
@@ -70,9 +73,11 @@ fn list_value(alloc: Global, writes: &[EventId]) -> Result<Value, AllocError>
 }
 
 fn lists_value(alloc: Global, lists: &[Vec<EventId>]) -> Result<Value, AllocError>
-    ensures value { IfOk result (λ v. view v ≡ list_data (list_data number_data) (map (λ w. w.items) lists.now)) }
+    ensures value { IfOk result (λ v. view v
+        ≡ list_data (list_data number_data) (map (λ w. w.items) lists.now)) }
     ensures again { let numbers = map (λ w. w.items) lists.now
-        in IfOk result (λ _. list_in (list_in number_in) (list_data (list_data number_data) numbers) ≡ Some numbers) }
+        in IfOk result (λ _. list_in (list_in number_in) (list_data (list_data number_data) numbers)
+            ≡ Some numbers) }
 {
     let mut values = Vec::with_capacity(alloc, lists.len())?;
     for writes in lists {

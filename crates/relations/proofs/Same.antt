@@ -79,7 +79,7 @@ certificate_into : (R S : ℕ → ℕ → Type 0) → Agree R S → (n : ℕ) (c
 certificate_into R S same n c rows h = record {
   cyclic = (cycles_agree R S same c).0 h.cyclic;
   one_each = h.one_each;
-  labelled = λ v low. labelling_into R S same _ n v _ (h.labelled v low);
+  labellings = λ v low. labelling_into R S same _ n v _ (h.labellings v low);
 }
 
 -- they have the same certificates

@@ -1,5 +1,6 @@
 -- Cycles of a relation on numbers, and the dictionary order of lists.
-use Rattle.std.specs.Prelude.{◌≡◌, ◌⊎◌, ◌<◌, ◌≤◌, ◌+◌, ℕ, zero, suc, List, [], ◌∷◌, length, slice_index, slice_index_or}
+use Rattle.std.specs.Prelude.{◌≡◌, ◌⊎◌, ◌<◌, ◌≤◌, ◌+◌, ℕ, zero, suc, List, [], ◌∷◌, length, slice_index,
+    slice_index_or}
 
 -- neighbours are related, and so are the last and `back`
 abbrev pub Leads : (ℕ → ℕ → Type 0) → ℕ → List ℕ → ℕ → Type 0
@@ -64,4 +65,4 @@ pub record IsLabelling (R : ℕ → ℕ → Type 0) (k n v : ℕ) (labels : List
 pub record IsCertificate (R : ℕ → ℕ → Type 0) (n : ℕ) (cycle : List ℕ) (rows : List (List ℕ)) : Type 0 where
   pub cyclic : IsCycle R cycle
   pub one_each : length rows ≡ n
-  pub labelled : (v : ℕ) → v < n → IsLabelling R (length cycle) n v (slice_index_or rows v [])
+  pub labellings : (v : ℕ) → v < n → IsLabelling R (length cycle) n v (slice_index_or rows v [])

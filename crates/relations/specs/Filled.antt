@@ -10,7 +10,8 @@ use Rattle.relations.specs.Relation.{Table}
 pub record IsFilled (x : Execution) (e : ℕ) (P : ℕ → Type 0) (old new : List (Option Reason)) : Type 0 where
   pub size : length new ≡ length old
   pub filled : (f : ℕ) → P f → IsReason x e f (slice_index_or new f None)
-  pub others : (f : ℕ) → IsReason x e f (slice_index_or new f None) ⊎ (slice_index_or new f None ≡ slice_index_or old f None)
+  pub others : (f : ℕ) → IsReason x e f (slice_index_or new f None)
+      ⊎ (slice_index_or new f None ≡ slice_index_or old f None)
 
 -- f is behind e on its core, or a write that e is before by write order or from-read
 abbrev pub IsOwnOrWrite : Execution → ℕ → ℕ → Type 0

@@ -38,8 +38,10 @@ LeastCyclesAgree R S = Agree R S → (c : List ℕ) → IsLeastCycle R c → IsL
 
 -- relations with the same pairs have the same distances
 abbrev pub ExactRowsAgree : (ℕ → ℕ → Type 0) → (ℕ → ℕ → Type 0) → Type 0
-ExactRowsAgree R S = Agree R S → (n k : ℕ) (rows : List (List ℕ)) → AreExactRows R n k rows → AreExactRows S n k rows
+ExactRowsAgree R S = Agree R S → (n k : ℕ) (rows : List (List ℕ)) → AreExactRows R n k rows
+    → AreExactRows S n k rows
 
 -- relations with the same pairs have the same certificates
 abbrev pub CertificatesAgree : (ℕ → ℕ → Type 0) → (ℕ → ℕ → Type 0) → Type 0
-CertificatesAgree R S = Agree R S → (n : ℕ) (c : List ℕ) (rows : List (List ℕ)) → IsCertificate R n c rows ↔ IsCertificate S n c rows
+CertificatesAgree R S = Agree R S → (n : ℕ) (c : List ℕ) (rows : List (List ℕ))
+    → IsCertificate R n c rows ↔ IsCertificate S n c rows

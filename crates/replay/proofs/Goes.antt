@@ -183,11 +183,11 @@ has_line : (p : List (List Op)) (s : State) (c a : ℕ) → c < length p → a <
 has_line p s c a core within = rw (lt-ltb c (length p) core, lt-ltb a (length s.caches.blocks) within) refl
 
 -- a core's new line is that line
-line_new : (s : moesi.State) (c a : ℕ) (u : Block) → a < length s.blocks → moesi.line_of (record { cores = s.cores; blocks = slice_set s.blocks a u }) c a ≡ (cell_of u c).line
+line_new : (s : moesi.CacheState) (c a : ℕ) (u : Block) → a < length s.blocks → moesi.line_of (record { cores = s.cores; blocks = slice_set s.blocks a u }) c a ≡ (cell_of u c).line
 line_new s c a u within = ap (λ (b : Block). (cell_of b c).line) (get_or-set_same s.blocks a u (record { lines = []; memory = (0, None) }) within)
 
 -- the steps lead from s to a state with these caches, and nothing else is changed
-abbrev pub Fetches : List (List Op) → ℕ → ℕ → State → List Step → moesi.State → Type 0
+abbrev pub Fetches : List (List Op) → ℕ → ℕ → State → List Step → moesi.CacheState → Type 0
 Fetches p n capacity s steps caches = Goes p capacity s steps (with_caches s caches) × IsGoing p n capacity (with_caches s caches) × (length caches.blocks ≡ length s.caches.blocks)
 
 -- a line of either kind is valid
@@ -201,16 +201,16 @@ module _ (p : List (List Op)) (n capacity : ℕ) (s : State) (f : IsGoing p n ca
   line_within = omega (arith, core, (f.on []).lines a (omega (arith, within, (f.on []).blocks)))
 
   -- a core that wants to write a line gets it
-  pub fetch_write : (caches : moesi.State) × Fetches p n capacity s (get_to_write s c a) caches × (is_exclusive (moesi.line_of caches c a) ≡ true)
+  pub fetch_write : (caches : moesi.CacheState) × Fetches p n capacity s (get_to_write s c a) caches × (is_exclusive (moesi.line_of caches c a) ≡ true)
   fetch_write = go (is_exclusive (moesi.line_of s.caches c a)) refl
     where
       go : (b : Bool) → is_exclusive (moesi.line_of s.caches c a) ≡ b
-          → (caches : moesi.State) × Fetches p n capacity s (cond b [] (GetM c a ∷ [])) caches × (is_exclusive (moesi.line_of caches c a) ≡ true)
+          → (caches : moesi.CacheState) × Fetches p n capacity s (cond b [] (GetM c a ∷ [])) caches × (is_exclusive (moesi.line_of caches c a) ≡ true)
       go true is = (s.caches, ((tt, refl), f, refl), is)
       go false is =
           let b : Block = moesi.block_of s.caches a in
           let u : Block = record { lines = slice_set (map row.invalidated b.lines) c (record { line = line.M; copy = supplied b }); memory = b.memory } in
-          let caches : moesi.State = record { cores = s.caches.cores; blocks = slice_set s.caches.blocks a u } in
+          let caches : moesi.CacheState = record { cores = s.caches.cores; blocks = slice_set s.caches.blocks a u } in
           let made : moesi.get_m s.caches c a ≡ Ok caches = rw is refl in
           let took : taken p capacity s (GetM c a) ≡ Ok (with_caches s caches) = rw (has_line p s c a core within, made) refl in (
             caches,
@@ -220,18 +220,18 @@ module _ (p : List (List Op)) (n capacity : ℕ) (s : State) (f : IsGoing p n ca
           )
 
   -- a core that wants to read a line gets it, unless a store of its own waits
-  pub fetch_read : (o : Option Entry) → (caches : moesi.State) × Fetches p n capacity s (get_to_read s c a o) caches × ((what : ℕ × Option ℕ) × (forwarded_or_read o (moesi.read caches c a) ≡ Ok what))
+  pub fetch_read : (o : Option Entry) → (caches : moesi.CacheState) × Fetches p n capacity s (get_to_read s c a o) caches × ((what : ℕ × Option ℕ) × (forwarded_or_read o (moesi.read caches c a) ≡ Ok what))
   fetch_read (Some entry) = (s.caches, ((tt, refl), f, refl), ((entry.value, Some entry.event), refl))
   fetch_read None = go (is_valid (moesi.line_of s.caches c a)) refl
     where
       go : (b : Bool) → is_valid (moesi.line_of s.caches c a) ≡ b
-          → (caches : moesi.State) × Fetches p n capacity s (cond b [] (GetS c a ∷ [])) caches × ((what : ℕ × Option ℕ) × (moesi.read caches c a ≡ Ok what))
+          → (caches : moesi.CacheState) × Fetches p n capacity s (cond b [] (GetS c a ∷ [])) caches × ((what : ℕ × Option ℕ) × (moesi.read caches c a ≡ Ok what))
       go true is = (s.caches, ((tt, refl), f, refl), (moesi.copy_of s.caches c a, rw is refl))
       go false is =
           let b : Block = moesi.block_of s.caches a in
           let y : Cell = record { line = cond (has_copy b) line.S line.E; copy = supplied b } in
           let u : Block = record { lines = slice_set (map row.shared b.lines) c y; memory = b.memory } in
-          let caches : moesi.State = record { cores = s.caches.cores; blocks = slice_set s.caches.blocks a u } in
+          let caches : moesi.CacheState = record { cores = s.caches.cores; blocks = slice_set s.caches.blocks a u } in
           let made : moesi.get_s s.caches c a ≡ Ok caches = rw is refl in
           let took : taken p capacity s (GetS c a) ≡ Ok (with_caches s caches) = rw (has_line p s c a core within, made) refl in
           let valid : is_valid (moesi.line_of caches c a) ≡ true = ap is_valid (line_new s.caches c a u within
@@ -242,7 +242,7 @@ module _ (p : List (List Op)) (n capacity : ℕ) (s : State) (f : IsGoing p n ca
           )
 
 -- a line that may be written takes what is written
-pub write_made : (s : moesi.State) (c a value event : ℕ) → is_exclusive (moesi.line_of s c a) ≡ true → (caches : moesi.State) × (moesi.write s c a value event ≡ Ok caches)
+pub write_made : (s : moesi.CacheState) (c a value event : ℕ) → is_exclusive (moesi.line_of s c a) ≡ true → (caches : moesi.CacheState) × (moesi.write s c a value event ≡ Ok caches)
 write_made s c a value event is =
     let b : Block = moesi.block_of s a in
     let u : Block = record { lines = slice_set b.lines c (record { line = line.M; copy = (value, Some event) }); memory = b.memory } in

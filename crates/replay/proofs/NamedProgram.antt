@@ -28,13 +28,13 @@ named_is_program x r numbered small =
     let count : length (address_names (length x.write_lists)) ≡ length x.write_lists = names_count (length x.write_lists) in
     let limit : MAX_ADDRESSES ≤ 10 ^ 7 = omega arith in
     record {
-      few_cores = omega (arith, r.few_cores, length-map x.cores (λ es. map op_of es));
-      few_ops = omega (arith, r.few_events, count_same x, placed_total 0 (program_of x));
-      few_names = omega (arith, r.few_addresses, count);
+      few_cores = omega (arith, r.within.few_cores, length-map x.cores (λ es. map op_of es));
+      few_ops = omega (arith, r.within.few_events, count_same x, placed_total 0 (program_of x));
+      few_names = omega (arith, r.within.few_addresses, count);
       values = small;
-      lawful = names_lawful (length x.write_lists) (omega (arith, limit, r.few_addresses));
-      distinct = names_distinct (length x.write_lists) (omega (arith, limit, r.few_addresses));
-      numbered = program_numbered x numbered r.addresses ∙ ap Some (sym count);
+      lawful = names_lawful (length x.write_lists) (omega (arith, limit, r.within.few_addresses));
+      distinct = names_distinct (length x.write_lists) (omega (arith, limit, r.within.few_addresses));
+      numbered = program_numbered x numbered r.within.addresses ∙ ap Some (sym count);
     }
 
 -- one name more
@@ -82,7 +82,7 @@ module _ (x : Execution) (lists : List (Vec Event Global)) (are : map (λ v. v.i
   pub is_numbered_end : length lists ≤ i → (n : ℕ) → n ≡ length x.write_lists → (IsTrue (nat_eq used n) → IsNumberedByFirstUse x) × (IsNumberedByFirstUse x → IsTrue (nat_eq used n))
   is_numbered_end past n is = (
     λ same. numbered_by_program x (all_used past ∙ ap Some (eqb-true used n same ∙ is)),
-    λ numbered. eq-eqb used n (same_Some _ _ (sym (all_used past) ∙ program_numbered x numbered r.addresses) ∙ sym is),
+    λ numbered. eq-eqb used n (same_Some _ _ (sym (all_used past) ∙ program_numbered x numbered r.within.addresses) ∙ sym is),
   )
 
   -- where an address is used before its turn they are not numbered
@@ -91,4 +91,4 @@ module _ (x : Execution) (lists : List (Vec Event Global)) (are : map (λ v. v.i
       let none : use_cores used (map list_ops (drop i lists)) ≡ None =
       ap (λ (l : List (Vec Event Global)). use_cores used (map list_ops l)) (drop-cons lists i d inside)
       ∙ ap (option_and_then (λ k. use_cores k (map list_ops (drop (suc i) lists)))) early in
-      let clash : None ≡ Some (length x.write_lists) = sym none ∙ (so_far ∙ (ap (use_cores 0) list_program ∙ program_numbered x numbered r.addresses)) in cc
+      let clash : None ≡ Some (length x.write_lists) = sym none ∙ (so_far ∙ (ap (use_cores 0) list_program ∙ program_numbered x numbered r.within.addresses)) in cc

@@ -67,7 +67,7 @@ recording_fits x r c other core i d inside =
     let op : get_or ops i Fence ≡ op_of (event_at x e) = ap (λ (z : ℕ × Op). z.1) (sym (placed_at 0 (program_of x) c i Fence here).0) ∙ ap (λ (z : ℕ × Op). z.1) (placed_is x e) in
     subst (λ (l : List Op). IsWithin (length x.write_lists) (get_or l i d)) (sym same)
     (subst (λ (o : Op). IsWithin (length x.write_lists) o) (sym (get_or_default ops i d Fence here ∙ op))
-    (op_fits (length x.write_lists) (event_at x e) (λ a is. r.addresses e a (inl is)) (λ a is. r.addresses e a (inr is))))
+    (op_fits (length x.write_lists) (event_at x e) (λ a is. r.within.addresses e a (inl is)) (λ a is. r.within.addresses e a (inr is))))
 
 -- The end
 

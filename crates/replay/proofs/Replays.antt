@@ -6,7 +6,7 @@ use Rattle.recorder.specs.Execution.{Execution, core_of, event_at}
 use Rattle.machine.specs.declared.step.Step.{Step}
 use Rattle.machine.specs.State.{State}
 use Rattle.machine.specs.Step.{taken, after, run}
-use Rattle.machine.specs.Held.{Held}
+use Rattle.machine.specs.Configuration.{Configuration}
 use Rattle.replay.specs.Program.{program_of}
 use Rattle.replay.specs.Steps.{executed_before, execute_to, perform, turn, order_steps}
 use Rattle.replay.specs.Replaying.{Replaying, with_steps}
@@ -55,17 +55,17 @@ turn_taken r s t c e ev first second =
 
 -- Orders
 
-module _ (x : Execution) (h : Held) (old new : Replaying) (e : ℕ) (same : old.machine ≡ record h { state = old.machine.state }) (cores : h.program.cores ≡ program_of x)
+module _ (x : Execution) (h : Configuration) (old new : Replaying) (e : ℕ) (same : old.machine ≡ record h { state = old.machine.state }) (cores : h.program.cores ≡ program_of x)
     (took : new ≡ with_steps old (turn old.machine.program.cores old.machine.capacity old.machine.state (core_of x e) e (event_at x e))) where
   -- the machine stays but for its state
   pub order_machine : new.machine ≡ record h { state = new.machine.state }
   order_machine =
-      ap (λ (r : Replaying). record r.machine { state = new.machine.state }) took ∙ ap (λ (m : Held). record m { state = new.machine.state }) same
+      ap (λ (r : Replaying). record r.machine { state = new.machine.state }) took ∙ ap (λ (m : Configuration). record m { state = new.machine.state }) same
 
   -- the steps of the event, of that program
   steps_is : turn old.machine.program.cores old.machine.capacity old.machine.state (core_of x e) e (event_at x e) ≡ turn (program_of x) h.capacity old.machine.state (core_of x e) e (event_at x e)
   steps_is =
-      ap (λ (m : Held). turn m.program.cores m.capacity old.machine.state (core_of x e) e (event_at x e)) same
+      ap (λ (m : Configuration). turn m.program.cores m.capacity old.machine.state (core_of x e) e (event_at x e)) same
       ∙ ap (λ (p : List (List Op)). turn p h.capacity old.machine.state (core_of x e) e (event_at x e)) cores
 
   -- and the state behind them
@@ -73,7 +73,7 @@ module _ (x : Execution) (h : Held) (old new : Replaying) (e : ℕ) (same : old.
   state_is =
       let steps : List Step = turn old.machine.program.cores old.machine.capacity old.machine.state (core_of x e) e (event_at x e) in
       ap (λ (r : Replaying). r.machine.state) took
-      ∙ (ap (λ (m : Held). run m.program.cores m.capacity old.machine.state steps) same
+      ∙ (ap (λ (m : Configuration). run m.program.cores m.capacity old.machine.state steps) same
       ∙ (ap (λ (p : List (List Op)). run p h.capacity old.machine.state steps) cores ∙ ap (λ (l : List Step). run (program_of x) h.capacity old.machine.state l) steps_is))
 
   -- so what is to come is less by this event

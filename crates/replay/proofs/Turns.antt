@@ -19,7 +19,7 @@ use Rattle.write_buffer.specs.Buffer.{youngest}
 use Rattle.machine.specs.declared.step.Step.{Step}
 use Rattle.machine.specs.declared.step.Step.TheVariants.{Exec, Drain}
 use Rattle.machine.specs.declared.blocked.Blocked.TheVariants.{B4}
-use Rattle.machine.specs.State.{State, place_of, buffer_of, copy_of, first_event}
+use Rattle.machine.specs.State.{State, place_of, buffer_of, line_copy, first_event}
 use Rattle.machine.specs.Step.{exec, taken, allowed, advanced, performed, given, written, with_buffer, with_caches, rmw_value}
 use Rattle.replay.specs.Program.{op_of, program_of}
 use Rattle.replay.specs.Steps.{execute_to, get_to_write, get_to_read}
@@ -39,11 +39,11 @@ store_no_load (Swap a v) h = refl
 store_no_load (Add a v) h = refl
 
 -- the state after core c's oldest store went to its line, which left these caches
-abbrev pub drained_state : State → moesi.State → ℕ → Entry → List Entry → State
+abbrev pub drained_state : State → moesi.CacheState → ℕ → Entry → List Entry → State
 drained_state s caches c y ys = performed (written (with_buffer s c ys) caches y.addr y.event) y.event
 
 -- the oldest store goes to its line
-drain_taken : (p : List (List Op)) (capacity : ℕ) (s : State) (caches : moesi.State) (c : ℕ) (y : Entry) (ys : List Entry) → c < length p → buffer_of s c ≡ y ∷ ys
+drain_taken : (p : List (List Op)) (capacity : ℕ) (s : State) (caches : moesi.CacheState) (c : ℕ) (y : Entry) (ys : List Entry) → c < length p → buffer_of s c ≡ y ∷ ys
     → moesi.write s.caches c y.addr y.value y.event ≡ Ok caches → taken p capacity s (Drain c) ≡ Ok (drained_state s caches c y ys)
 drain_taken p capacity s caches c y ys core is wrote = rw (lt-ltb c (length p) core, is, wrote) refl
 
@@ -219,7 +219,7 @@ module _ (x : Execution) (m : List ℕ) (tso : IsTsoOrder x m) (n capacity : ℕ
     sum_up = omega (arith, sum_by-set (λ (k : ℕ). k) s.places (core_of x e) (place_of s (core_of x e) + 1) 0 (omega (arith, core, (f.on []).places)))
 
     -- the core executes e, behind a transaction that left these caches
-    executed : (caches : moesi.State) (op : Op) (t : State) → IsGoing (program_of x) n capacity (with_caches s caches) → e ≡ first_event (program_of x) (core_of x e) + place_of s (core_of x e) → op_of (event_at x e) ≡ op
+    executed : (caches : moesi.CacheState) (op : Op) (t : State) → IsGoing (program_of x) n capacity (with_caches s caches) → e ≡ first_event (program_of x) (core_of x e) + place_of s (core_of x e) → op_of (event_at x e) ≡ op
         → exec capacity (with_caches s caches) (core_of x e) (first_event (program_of x) (core_of x e) + place_of s (core_of x e)) op ≡ Ok t
         → (taken (program_of x) capacity (with_caches s caches) (Exec (core_of x e)) ≡ Ok t) × IsGoing (program_of x) n capacity t
     executed caches op t fits next is did =
@@ -268,7 +268,7 @@ module _ (x : Execution) (m : List ℕ) (tso : IsTsoOrder x m) (n capacity : ℕ
           let got = fetch_write (program_of x) n capacity s f c a core (address_there (Swap a w) (ap op_of is)) in
           let u : State = with_caches s got.0 in
           let made = write_made got.0 c a (rmw_value u c (Swap a w) a) b got.2 in
-          let t : State = advanced (performed (written (given u b (copy_of u c a)) made.0 a b) b) c in
+          let t : State = advanced (performed (written (given u b (line_copy u c a)) made.0 a b) b) c in
           let did : exec capacity u c b (Swap a w) ≡ Ok t = rw (empty, made.1) refl in
           let took = executed got.0 (Swap a w) t got.1.1 next (ap op_of is) did in (
             t,

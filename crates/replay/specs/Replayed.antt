@@ -31,7 +31,8 @@ begun p = opening p.cores (length p.names)
 abbrev pub led_to : Parts → ℕ → List Step → State
 led_to p capacity steps = run p.cores capacity (begun p) steps
 
--- the steps are the program's, at most three an event, are all taken, come to the end, perform this order, and make this recording
+-- the steps are the program's, at most three an event, are all taken, come to the end, perform this
+-- order, and make this recording
 pub record IsReplay (x : Execution) (m : List ℕ) (p : Parts) (capacity : ℕ) (steps : List Step) : Type 0 where
   pub taken : AreTaken p.cores capacity (begun p) steps
   pub complete : IsComplete p.cores (led_to p capacity steps)
@@ -47,9 +48,12 @@ EveryOrderIsReplayed x m capacity = IsRecording x → IsTsoOrder x m → most_st
 
 -- a program without fault makes the recording in some run, with this capacity
 abbrev pub CanMake : ℕ → Execution → Type 0
-CanMake capacity x = (p : Parts) × (steps : List Step) × All (λ ops. All (IsWithin (length p.names)) ops) p.cores
+CanMake capacity x = (p : Parts) × (steps : List Step)
+    × All (λ ops. All (IsWithin (length p.names)) ops) p.cores
     × IsComplete p.cores (led_to p capacity steps) × (recorded p.cores (led_to p capacity steps) ≡ x)
 
--- with a capacity that holds the stores of a core, the machine makes exactly the recordings that have a TSO order
+-- with a capacity that holds the stores of a core, the machine makes exactly the recordings that
+-- have a TSO order
 abbrev pub MakesExactlyTso : Execution → ℕ → Type 0
-MakesExactlyTso x capacity = IsRecording x → most_stores x.cores ≤ capacity → CanMake capacity x ↔ ((m : List ℕ) × IsTsoOrder x m)
+MakesExactlyTso x capacity = IsRecording x → most_stores x.cores ≤ capacity
+    → CanMake capacity x ↔ ((m : List ℕ) × IsTsoOrder x m)

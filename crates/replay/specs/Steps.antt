@@ -1,5 +1,6 @@
 -- The steps that make a recording again, from a memory order of it.
-use Rattle.std.specs.Prelude.{◌+◌, ◌-◌, ℕ, if◌then◌else◌, Option, Some, None, List, [], ◌∷◌, ◌++◌, length, replicate}
+use Rattle.std.specs.Prelude.{◌+◌, ◌-◌, ℕ, if◌then◌else◌, Option, Some, None, List, [], ◌∷◌, ◌++◌, length,
+    replicate}
 use Rattle.litmus.specs.declared.op.Op.{Op}
 use Rattle.recorder.specs.declared.event.Event.{Event}
 use Rattle.recorder.specs.declared.event.Event.TheVariants.{L, S, R, F}
@@ -35,7 +36,8 @@ perform s c (L a r o) = get_to_read s c a (youngest (buffer_of s c) a) ++ Exec c
 perform s c (R a r o w) = get_to_write s c a ++ Exec c ∷ []
 perform s c F = Exec c ∷ []
 
--- the first event that its core has not executed when event e is performed: a plain store waits in its buffer by then
+-- the first event that its core has not executed when event e is performed: a plain store waits in
+-- its buffer by then
 abbrev pub executed_before : ℕ → Event → ℕ
 executed_before e (S a w) = e + 1
 executed_before e (L a r o) = e

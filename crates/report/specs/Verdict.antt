@@ -1,5 +1,6 @@
 -- The texts of verdicts.
-use Rattle.std.specs.Prelude.{◌≡◌, ◌++◌, ◌∷◌, ◌+◌, [], ℕ, zero, suc, List, Some, codes, decimal, length, slice_index, slice_index_or}
+use Rattle.std.specs.Prelude.{◌≡◌, ◌++◌, ◌∷◌, ◌+◌, [], ℕ, zero, suc, List, Some, codes, decimal, length,
+    slice_index, slice_index_or}
 use Rattle.std.specs.List.{flat_map}
 use Rattle.recorder.specs.Execution.{Execution}
 use Rattle.relations.specs.declared.reason.Reason.{Reason}
@@ -19,7 +20,8 @@ order_line order = codes "ordered:" ++ numbers_text order ++ 10 ∷ []
 
 -- the line of an overlook
 abbrev pub overlook_line : ℕ → ℕ → List ℕ
-overlook_line load store = codes "overlook: load " ++ decimal load ++ codes " store " ++ decimal store ++ 10 ∷ []
+overlook_line load store = codes "overlook: load " ++ decimal load ++ codes " store " ++ decimal store
+    ++ 10 ∷ []
 
 -- what is printed of a reason
 abbrev pub reason_name : Reason → List ℕ

@@ -4,7 +4,8 @@ ghost use Rattle.std.specs.Prelude.{◌≡◌, ◌++◌, ◌<◌, ℕ, List, OnO
 ghost use Rattle.relations.specs.Cycle.{IsCycle};
 ghost use Rattle.relations.specs.Forced.{Forced};
 ghost use Rattle.labels.specs.Certified.{lists_of};
-ghost use Rattle.report.specs.Verdict.{reason_name, pair_line, behind, labels_line, labels_text, IsPairLine, ArePairLines, IsCycleText};
+ghost use Rattle.report.specs.Verdict.{reason_name, pair_line, behind, labels_line, labels_text, IsPairLine,
+    ArePairLines, IsCycleText};
 
 use crate::numbers::{put_number, put_numbers};
 use labels::Certificate;
@@ -97,7 +98,8 @@ fn put_labels(out: &mut Vec<u8>, event: usize, labels: &[u16]) -> Result<(), Out
 
 /// Adds a line for each row of labels.
 fn put_rows(out: &mut Vec<u8>, rows: &[Vec<u16>]) -> Result<(), OutOfMemory>
-    ensures { OnOk result (out.new.items ≡ out.old.items ++ labels_text (lists_of rows.now) (length rows.now)) }
+    ensures { OnOk result (out.new.items ≡ out.old.items
+        ++ labels_text (lists_of rows.now) (length rows.now)) }
 {
     for event in 0..rows.len() {
         put_labels(out, event, &rows[event])?;

@@ -8,7 +8,8 @@ pub record GetsLabel (level : List Bool) (i label : ℕ) (before after : List �
   pub left : (e : ℕ) → (i ≤ e) ⊎ (is_in level e ≡ false) → slice_index after e ≡ slice_index before e
 
 -- what the events of the level below i are related to joined the next level
-pub record JoinsNext (R : ℕ → ℕ → Type 0) (level : List Bool) (i : ℕ) (waiting next : List Bool) : Type 0 where
+pub record JoinsNext (R : ℕ → ℕ
+    → Type 0) (level : List Bool) (i : ℕ) (waiting next : List Bool) : Type 0 where
   pub joined : (e f : ℕ) → e < i → is_in level e ≡ true → R e f → is_in next f ≡ true
   pub only : (f : ℕ) → is_in next f ≡ true
       → (is_in waiting f ≡ true) ⊎ ((e : ℕ) × (is_in level e ≡ true) × R e f)

@@ -1,4 +1,4 @@
 pub mod Bits
 pub mod Levels
 pub mod Cycles
-pub mod Labelled
+pub mod SourceRow

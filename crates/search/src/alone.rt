@@ -3,7 +3,7 @@
 ghost use Rattle.std.specs.Prelude.{ℕ, Option, IfOk};
 ghost use Rattle.std.specs.Arc.{arc_value};
 ghost use Rattle.relations.specs.Relation.{Table};
-ghost use Rattle.search.specs.Labelled.{AreJobsOf, AreShared, AreLeastRows};
+ghost use Rattle.search.specs.SourceRow.{AreJobsOf, AreShared, AreLeastRows};
 
 use crate::job::SourceJob;
 use crate::label_row::LabelRow;

@@ -19,7 +19,7 @@ pub struct SourceJob {
 impl Model for SourceJob {
     ghost use Rattle.std.specs.Prelude.{◌<◌, length};
     ghost use Rattle.std.specs.Arc.{arc_value};
-    ghost use Rattle.search.specs.Labelled.{Job, job_of};
+    ghost use Rattle.search.specs.SourceRow.{Job, job_of};
 
     ghost Value = { Job };
 
@@ -31,7 +31,7 @@ impl Model for SourceJob {
 impl SourceJob {
     ghost use Rattle.std.specs.Prelude.{◌≡◌, ◌<◌, ℕ, Option, length, IfOk};
     ghost use Rattle.std.specs.Arc.{arc_value};
-    ghost use Rattle.search.specs.Labelled.{job_of, AreLeastRows};
+    ghost use Rattle.search.specs.SourceRow.{job_of, AreLeastRows};
 
     /// A job for one event.
     pub(crate) fn new(relation: &Arc<Relation>, source: EventId) -> Result<SourceJob, OutOfMemory>

@@ -17,19 +17,19 @@ pub struct LabelRow {
 
 impl Model for LabelRow {
     ghost use Rattle.std.specs.Arc.{arc_value};
-    ghost use Rattle.search.specs.Labelled.{Labelled, labelled, IsLabelled};
+    ghost use Rattle.search.specs.SourceRow.{SourceRow, source_row, IsSourceRow};
 
-    ghost Value = { Labelled };
+    ghost Value = { SourceRow };
 
-    ghost view = { λ r. labelled (arc_value r.relation) r.source r.cap r.numbers.items };
+    ghost view = { λ r. source_row (arc_value r.relation) r.source r.cap r.numbers.items };
 
-    ghost invariant = { λ r. IsLabelled (labelled (arc_value r.relation) r.source r.cap r.numbers.items) };
+    ghost invariant = { λ r. IsSourceRow (source_row (arc_value r.relation) r.source r.cap r.numbers.items) };
 }
 
 impl LabelRow {
     ghost use Rattle.std.specs.Prelude.{◌≡◌, IfOk};
     ghost use Rattle.std.specs.Arc.{arc_value};
-    ghost use Rattle.search.specs.Labelled.{labelled, IsLabelled};
+    ghost use Rattle.search.specs.SourceRow.{source_row, IsSourceRow};
 
     /// A row of numbers that were found for a source under a cap.
     pub(crate) fn new(
@@ -38,9 +38,9 @@ impl LabelRow {
         cap: Option<u16>,
         numbers: Vec<u16>,
     ) -> Result<LabelRow, OutOfMemory>
-        requires { IsLabelled (labelled (arc_value relation.now) source cap numbers.items) }
+        requires { IsSourceRow (source_row (arc_value relation.now) source cap numbers.items) }
         ensures { IfOk result (λ row. row
-            ≡ labelled (arc_value relation.now) source cap numbers.items) }
+            ≡ source_row (arc_value relation.now) source cap numbers.items) }
     {
         Ok(LabelRow {
             relation: Arc::try_clone(relation)?,
@@ -52,7 +52,7 @@ impl LabelRow {
 
     /// What every row keeps. It does nothing.
     pub fn sound(&self)
-        ensures { IsLabelled self.now }
+        ensures { IsSourceRow self.now }
     {
         let _numbers = &self.numbers;
     }

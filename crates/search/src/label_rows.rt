@@ -7,7 +7,7 @@ ghost use Rattle.relations.specs.Relation.{Related};
 ghost use Rattle.relations.specs.Cycle.{AreExactRows};
 ghost use Rattle.labels.specs.Certified.{lists_of};
 ghost use Rattle.search.specs.Cycles.{IsLeastLength};
-ghost use Rattle.search.specs.Labelled.{AreLeastRows};
+ghost use Rattle.search.specs.SourceRow.{AreLeastRows};
 
 use crate::label_row::LabelRow;
 use litmus::OutOfMemory;

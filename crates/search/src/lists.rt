@@ -3,7 +3,7 @@
 ghost use Rattle.std.specs.Prelude.{◌≡◌, ℕ, Option, IfOk};
 ghost use Rattle.relations.specs.Relation.{Table};
 ghost use Rattle.labels.specs.Certified.{lists_of};
-ghost use Rattle.search.specs.Labelled.{AreLeastRows, numbers_of};
+ghost use Rattle.search.specs.SourceRow.{AreLeastRows, numbers_of};
 
 use crate::label_row::LabelRow;
 use litmus::OutOfMemory;

@@ -43,9 +43,9 @@ pub(crate) fn exact_row(
     let mut closing = cap;
     level.set(source as usize);
     for label in 0..cap {
-        let Some(_) = level.first_set() else {
+        if level.is_empty() {
             return Ok((labels, closing));
-        };
+        }
         if label + 1 == cap {
             let closes = take_last_level(rows, &level, label, source, labels.as_mut_slice());
             return Ok((labels, closing_with(closes, label, cap, closing)));

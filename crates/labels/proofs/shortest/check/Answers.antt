@@ -1,7 +1,7 @@
 use Rattle.std.proofs.Common.{◌≡◌, ℕ, List, length, Vec, Global, arith, ap, subst}
 use Rattle.relations.specs.Relation.{Related}
 use Rattle.relations.specs.Cycle.{IsCycle}
-use Rattle.labels.specs.Certified.{AreLabelled}
+use Rattle.labels.specs.Certified.{AreLabellings}
 use Rattle.labels.proofs.Certificates.{labelled_is_shortest}
 use Rattle.labels.proofs.shortest.check.Goals as goal
 
@@ -11,4 +11,4 @@ returns-then-is_cycle-clause-shortest c =
     let size : c.len-size.result ≡ length c.args.certificate.now.cycle.items = omega (arith, c.len-size.ensures, c.deref.ensures.len, ap (λ (cycle : List ℕ). length cycle) c.deref.ensures.value) in
     λ yes. labelled_is_shortest t c.args.certificate.now c.sound.ensures.within
     (subst (λ (cycle : List ℕ). IsCycle (Related t) cycle) c.deref.ensures.value (c.is_cycle.ensures.0 c.if-is_cycle.true))
-    (subst (λ (k : ℕ). AreLabelled t k c.args.certificate.now.rows.items) size (subst (λ (rows : List (Vec ℕ Global)). AreLabelled t c.len-size.result rows) c.deref-then-is_cycle.ensures.value (c.are_labelled.ensures.0 yes)))
+    (subst (λ (k : ℕ). AreLabellings t k c.args.certificate.now.rows.items) size (subst (λ (rows : List (Vec ℕ Global)). AreLabellings t c.len-size.result rows) c.deref-then-is_cycle.ensures.value (c.are_labellings.ensures.0 yes)))

@@ -4,12 +4,12 @@ use Rattle.std.proofs.lemmas.List.Sums.{sum_by_more, sum_by-take-le, get_or-le-s
 use Rattle.std.proofs.lemmas.List.Elements.{All-pop}
 use Rattle.recorder.specs.declared.event.Event.{Event}
 use Rattle.litmus.specs.declared.op.Op.{Op}
-use Rattle.machine.specs.Roomy.{Roomy}
+use Rattle.machine.specs.BoundedItems.{BoundedItems}
 use Rattle.machine.specs.State.{events_from, cores_from}
 use Rattle.machine.proofs.record.record_all.Goals as goal
 
 -- an empty list with this room
-abbrev Fresh : ℕ → Roomy Event → Type 0
+abbrev Fresh : ℕ → BoundedItems Event → Type 0
 Fresh n b = b ≡ record { items = []; room = n }
 
 module _ (reads : List (ℕ × Option ℕ)) where
@@ -28,8 +28,8 @@ record_core-requires-clause-room c =
     let popped = All-pop (Fresh (length c.args.reads.now)) c.loop-ops.events.items c.pop.new.self.items (Some c.in-Some.list) c.in-Some.ensures.items c.loop-ops.invariant.fresh in
     omega (
       arith,
-      ap (λ (b : Roomy Event). length b.items) popped.1,
-      ap (λ (b : Roomy Event). b.room) popped.1,
+      ap (λ (b : BoundedItems Event). length b.items) popped.1,
+      ap (λ (b : BoundedItems Event). b.room) popped.1,
       ap (λ (l : List Op). length l) c.as_slice.ensures,
       c.requires.fits,
       ap (λ (l : List Op). length l) c.ops-item.is,
@@ -53,20 +53,20 @@ loop-ops-preserved c =
     let popped = All-pop (Fresh (length c.args.reads.now)) c.loop-ops.events.items c.pop.new.self.items (Some c.in-Some.list) c.in-Some.ensures.items c.loop-ops.invariant.fresh in
     let size : length c.as_slice-in-loop-ops.result.now ≡ length c.ops-item.result = ap (λ (l : List Op). length l) c.as_slice-in-loop-ops.ensures in
     let list : c.into_items.result.items ≡ events_from c.loop-ops.first c.ops-item.result c.args.reads.now =
-    c.into_items.ensures ∙ (ap (λ (b : Roomy Event). b.items) c.record_core.ensures
-    ∙ (ap (λ (b : Roomy Event). b.items ++ events_from c.loop-ops.first c.as_slice.result.now c.args.reads.now) popped.1
+    c.into_items.ensures ∙ (ap (λ (b : BoundedItems Event). b.items) c.record_core.ensures
+    ∙ (ap (λ (b : BoundedItems Event). b.items ++ events_from c.loop-ops.first c.as_slice.result.now c.args.reads.now) popped.1
     ∙ ap (λ (l : List Op). events_from c.loop-ops.first l c.args.reads.now) c.as_slice.ensures)) in
     let next : suc c.loop-ops.ops-index ≡ c.loop-ops.ops-index + 1 = omega arith in
     let split : drop c.loop-ops.ops-index c.args.program.now ≡ c.ops-item.result ∷ drop (c.loop-ops.ops-index + 1) c.args.program.now =
     drop-cons c.args.program.now c.loop-ops.ops-index c.ops-item.result c.loop-ops-test.true
     ∙ (ap (λ (v : List Op). v ∷ drop (suc c.loop-ops.ops-index) c.args.program.now) (sym c.ops-item.is) ∙ ap (λ (n : ℕ). c.ops-item.result ∷ drop n c.args.program.now) next) in
     record {
-      room = ap (λ (b : Roomy (Vec Event Global)). b.room) c.push.ensures ∙ c.loop-ops.invariant.room;
+      room = ap (λ (b : BoundedItems (Vec Event Global)). b.room) c.push.ensures ∙ c.loop-ops.invariant.room;
       made = rw (c.push.ensures, size)
           (more c.args.reads.now c.loop-ops.lists.items c.into_items.result c.loop-ops.first c.ops-item.result (drop (c.loop-ops.ops-index + 1) c.args.program.now) _ list
           (subst (λ (xs : List (List Op)). map (λ (v : Vec Event Global). v.items) c.loop-ops.lists.items ++ cores_from c.loop-ops.first xs c.args.reads.now
           ≡ cores_from 0 c.args.program.now c.args.reads.now) split c.loop-ops.invariant.made));
-      size = omega (arith, ap (λ (b : Roomy (Vec Event Global)). length b.items) c.push.ensures, length-append c.loop-ops.lists.items (c.into_items.result ∷ []), c.loop-ops.invariant.size);
+      size = omega (arith, ap (λ (b : BoundedItems (Vec Event Global)). length b.items) c.push.ensures, length-append c.loop-ops.lists.items (c.into_items.result ∷ []), c.loop-ops.invariant.size);
       first = omega (
         arith,
         size,
@@ -74,6 +74,6 @@ loop-ops-preserved c =
         ap (λ (l : List Op). length l) c.ops-item.is,
         sum_by_more (λ (l : List Op). length l) c.args.program.now c.loop-ops.ops-index c.ops-item.result c.loop-ops-test.true,
       );
-      left = omega (arith, c.loop-ops.invariant.left, ap (λ (l : List (Roomy Event)). length l) c.in-Some.ensures.items, length-append c.pop.new.self.items (c.in-Some.list ∷ []));
+      left = omega (arith, c.loop-ops.invariant.left, ap (λ (l : List (BoundedItems Event)). length l) c.in-Some.ensures.items, length-append c.pop.new.self.items (c.in-Some.list ∷ []));
       fresh = popped.0;
     }

@@ -3,7 +3,7 @@ use Rattle.litmus.specs.Parts.{Parts}
 use Rattle.recorder.specs.Execution.{Execution}
 use Rattle.machine.specs.declared.step.Step.{Step}
 use Rattle.machine.specs.State.{opening}
-use Rattle.machine.specs.Held.{Held}
+use Rattle.machine.specs.Configuration.{Configuration}
 use Rattle.replay.specs.Program.{program_of}
 use Rattle.replay.specs.Stores.{most_stores}
 use Rattle.replay.specs.Steps.{order_steps, replay_steps}
@@ -15,7 +15,7 @@ use Rattle.replay.proofs.steps.replay_steps.Goals as goal
 
 pub steps_of-requires-clause-names : goal.steps_of-requires-clause-names
 steps_of-requires-clause-names c =
-    ap (λ (h : Held). length h.program.names) c.in_ok-machine.ensures ∙ (ap (λ (p : Parts). length p.names) c.in_ok-program.ensures ∙ names_count (length c.args.recording.now.write_lists))
+    ap (λ (h : Configuration). length h.program.names) c.in_ok-machine.ensures ∙ (ap (λ (p : Parts). length p.names) c.in_ok-program.ensures ∙ names_count (length c.args.recording.now.write_lists))
 
 pub returns-clause-steps : goal.returns-clause-steps
 returns-clause-steps c =
@@ -23,7 +23,7 @@ returns-clause-steps c =
     let m : List ℕ = c.args.order.now in
     ap (λ (r : Replaying). r.steps) c.replay.view_is
     ∙ (c.in_ok-replay.ensures.steps
-    ∙ (ap (λ (h : Held). order_steps x h.capacity h.state m) c.in_ok-machine.ensures
+    ∙ (ap (λ (h : Configuration). order_steps x h.capacity h.state m) c.in_ok-machine.ensures
     ∙ (ap (λ (k : ℕ). order_steps x k (opening c.in_ok-program.program.cores (length c.in_ok-program.program.names)) m) c.most_stores.ensures
     ∙ (ap (λ (p : Parts). order_steps x (most_stores x.cores) (opening p.cores (length p.names)) m) c.in_ok-program.ensures
     ∙ ap (λ (n : ℕ). order_steps x (most_stores x.cores) (opening (program_of x) n) m) (names_count (length x.write_lists))))))
@@ -34,7 +34,7 @@ returns-clause-replay c = λ capacity room.
     let m : List ℕ = c.args.order.now in
     let program : c.into_program.result ≡ named_program x =
     c.into_program.ensures ∙ (ap (λ (r : Replaying). r.machine.program) c.replay.view_is
-    ∙ (c.in_ok-replay.ensures.program ∙ (ap (λ (h : Held). h.program) c.in_ok-machine.ensures ∙ c.in_ok-program.ensures))) in
+    ∙ (c.in_ok-replay.ensures.program ∙ (ap (λ (h : Configuration). h.program) c.in_ok-machine.ensures ∙ c.in_ok-program.ensures))) in
     let steps : c.replay.inside.steps.items ≡ replay_steps x m = returns-clause-steps c in
     subst (λ (p : Parts). IsReplay x m p capacity c.replay.inside.steps.items) (sym program)
     (subst (λ (l : List Step). IsReplay x m (named_program x) capacity l) (sym steps) (c.every_order_is_replayed.ensures.replay x m capacity c.sound.ensures c.requires.order room))

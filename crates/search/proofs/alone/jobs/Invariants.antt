@@ -1,6 +1,6 @@
 use Rattle.std.proofs.Common.{◌≡◌, ◌<◌, ℕ, get_or, length}
 use Rattle.std.specs.Arc.{arc_value}
-use Rattle.search.specs.Labelled.{Job, job_of}
+use Rattle.search.specs.SourceRow.{Job, job_of}
 use Rattle.search.proofs.alone.jobs.Given as goal
 
 abbrev pub invariant-loop-source : goal.invariant-loop-source

@@ -4,7 +4,7 @@ use Rattle.relations.specs.Relation.{Table, Related}
 use Rattle.relations.specs.Cycle.{AreExactRows}
 use Rattle.labels.specs.Certified.{lists_of}
 use Rattle.search.specs.Cycles.{IsShortestLength}
-use Rattle.search.specs.Labelled.{Labelled, AreShared, AreLeastRows}
+use Rattle.search.specs.SourceRow.{SourceRow, AreShared, AreLeastRows}
 use Rattle.search.proofs.Labels.{none_least, some_least, some_exact}
 use Rattle.search.proofs.certified.shortest_cycle.Goals as goal
 
@@ -12,13 +12,13 @@ pub returns-in_default-clause-least : goal.returns-in_default-clause-least
 returns-in_default-clause-least c =
     let t = arc_value c.args.relation.now in
     let h : (cap : Option ℕ) × AreLeastRows t cap c.in_ok-rows.rows.items = c.in_ok-rows.ensures t (subst (λ (x : Table). AreShared x c.in_ok-jobs.jobs.items) c.in_ok-try_clone.ensures c.in_ok-jobs.ensures.shared) in
-    none_least t h.0 c.in_ok-rows.rows.items (c.in_default.ensures t h.0 (subst (λ (rows : List Labelled). AreLeastRows t h.0 rows) (sym c.deref.ensures.value) h.1)) h.1
+    none_least t h.0 c.in_ok-rows.rows.items (c.in_default.ensures t h.0 (subst (λ (rows : List SourceRow). AreLeastRows t h.0 rows) (sym c.deref.ensures.value) h.1)) h.1
 
 pub least_cycle-requires-clause-rows : goal.least_cycle-requires-clause-rows
 least_cycle-requires-clause-rows c =
     let t = arc_value c.args.relation.now in
     let h : (cap : Option ℕ) × AreLeastRows t cap c.in_ok-rows.rows.items = c.in_ok-rows.ensures t (subst (λ (x : Table). AreShared x c.in_ok-jobs.jobs.items) c.in_ok-try_clone.ensures c.in_ok-jobs.ensures.shared) in
-    let is : Some c.in-Some.size ≡ h.0 = c.in-Some.ensures t h.0 (subst (λ (rows : List Labelled). AreLeastRows t h.0 rows) (sym c.deref.ensures.value) h.1) in
+    let is : Some c.in-Some.size ≡ h.0 = c.in-Some.ensures t h.0 (subst (λ (rows : List SourceRow). AreLeastRows t h.0 rows) (sym c.deref.ensures.value) h.1) in
     let lists : lists_of c.deref-3.result.now ≡ lists_of c.in_ok-lists.lists.items = ap (λ (vs : List (Vec ℕ Global)). lists_of vs) c.deref-3.ensures.value in
     subst (λ (x : Table). AreExactRows (Related x) (length x) c.in-Some.size (lists_of c.deref-3.result.now)) (sym c.deref-2.ensures)
     (some_exact t h.0 c.in-Some.size c.in_ok-rows.rows.items (lists_of c.deref-3.result.now) is (lists ∙ c.in_ok-lists.ensures) h.1)
@@ -27,13 +27,13 @@ pub least_cycle-requires-clause-size : goal.least_cycle-requires-clause-size
 least_cycle-requires-clause-size c =
     let t = arc_value c.args.relation.now in
     let h : (cap : Option ℕ) × AreLeastRows t cap c.in_ok-rows.rows.items = c.in_ok-rows.ensures t (subst (λ (x : Table). AreShared x c.in_ok-jobs.jobs.items) c.in_ok-try_clone.ensures c.in_ok-jobs.ensures.shared) in
-    let is : Some c.in-Some.size ≡ h.0 = c.in-Some.ensures t h.0 (subst (λ (rows : List Labelled). AreLeastRows t h.0 rows) (sym c.deref.ensures.value) h.1) in
+    let is : Some c.in-Some.size ≡ h.0 = c.in-Some.ensures t h.0 (subst (λ (rows : List SourceRow). AreLeastRows t h.0 rows) (sym c.deref.ensures.value) h.1) in
     subst (λ (x : Table). IsShortestLength (Related x) c.in-Some.size) (sym c.deref-2.ensures) (some_least t h.0 c.in-Some.size c.in_ok-rows.rows.items is h.1)
 
 pub returns-clause-rows : goal.returns-clause-rows
 returns-clause-rows c =
     let t = arc_value c.args.relation.now in
     let h : (cap : Option ℕ) × AreLeastRows t cap c.in_ok-rows.rows.items = c.in_ok-rows.ensures t (subst (λ (x : Table). AreShared x c.in_ok-jobs.jobs.items) c.in_ok-try_clone.ensures c.in_ok-jobs.ensures.shared) in
-    let is : Some c.in-Some.size ≡ h.0 = c.in-Some.ensures t h.0 (subst (λ (rows : List Labelled). AreLeastRows t h.0 rows) (sym c.deref.ensures.value) h.1) in
+    let is : Some c.in-Some.size ≡ h.0 = c.in-Some.ensures t h.0 (subst (λ (rows : List SourceRow). AreLeastRows t h.0 rows) (sym c.deref.ensures.value) h.1) in
     subst (λ (k : ℕ). AreExactRows (Related t) (length t) k (lists_of c.in_ok-lists.lists.items)) (sym c.in_ok-cycle.ensures.size)
     (some_exact t h.0 c.in-Some.size c.in_ok-rows.rows.items (lists_of c.in_ok-lists.lists.items) is c.in_ok-lists.ensures h.1)

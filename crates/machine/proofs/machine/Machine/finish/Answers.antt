@@ -1,9 +1,9 @@
 use Rattle.std.proofs.Common.{arith, sym, subst, ◌≤◌, ℕ, length, map}
 use Rattle.std.proofs.lemmas.List.{length-map}
 use Rattle.litmus.specs.declared.limits.TheConstants.{MAX_ADDRESSES}
-use Rattle.machine.specs.Roomy.{Roomy}
+use Rattle.machine.specs.BoundedItems.{BoundedItems}
 use Rattle.machine.specs.State.{IsComplete}
-use Rattle.machine.specs.Held.{Held}
+use Rattle.machine.specs.Configuration.{Configuration}
 use Rattle.machine.proofs.InOrder.{IsInOrder}
 use Rattle.machine.proofs.Complete.{complete_is_tso}
 use Rattle.machine.proofs.Reached.{reached_data, reached_in_order}
@@ -14,9 +14,9 @@ pub new-requires : goal.new-requires
 new-requires c =
     let p = c.self.inside.program in
     let d = reached_data _ _ _ _ c.self.invariant.reached in
-    let end = subst (λ (h : Held). IsComplete h.program.cores h.state) (sym c.self.view_is) (c.is_complete.ensures.0 c.if-not-is_complete.false) in
-    let addresses : length (map (λ (l : Roomy ℕ). l.items) c.self.inside.writes.items) ≤ MAX_ADDRESSES =
-    omega (arith, length-map c.self.inside.writes.items (λ (l : Roomy ℕ). l.items), c.self.invariant.sound.writes_length, c.sound.ensures.lawful.few_names) in
+    let end = subst (λ (h : Configuration). IsComplete h.program.cores h.state) (sym c.self.view_is) (c.is_complete.ensures.0 c.if-not-is_complete.false) in
+    let addresses : length (map (λ (l : BoundedItems ℕ). l.items) c.self.inside.writes.items) ≤ MAX_ADDRESSES =
+    omega (arith, length-map c.self.inside.writes.items (λ (l : BoundedItems ℕ). l.items), c.self.invariant.sound.writes_length, c.sound.ensures.lawful.few_names) in
     rw (c.fill-cores.ensures.cores, c.fill-cores.ensures.writes, c.lists.ensures, c.as_slice.ensures.value)
     (complete_recording p _ c.sound.ensures.lawful.few_cores c.sound.ensures.few addresses d end)
 
@@ -24,4 +24,4 @@ pub returns-clause-tso : goal.returns-clause-tso
 returns-clause-tso c =
     let g = reached_in_order _ _ _ _ c.self.invariant.reached in
     let end = c.is_complete.ensures.0 c.if-not-is_complete.false in
-    complete_is_tso _ _ end (subst (λ (h : Held). IsInOrder h.program.cores h.state) c.self.view_is g)
+    complete_is_tso _ _ end (subst (λ (h : Configuration). IsInOrder h.program.cores h.state) c.self.view_is g)

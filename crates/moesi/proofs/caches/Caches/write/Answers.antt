@@ -1,7 +1,7 @@
 use Rattle.std.proofs.Common.{◌<◌, Some, length}
 use Rattle.moesi.specs.Block.{Block}
 use Rattle.moesi.specs.Rows as row
-use Rattle.moesi.specs.State.{State}
+use Rattle.moesi.specs.State.{CacheState}
 use Rattle.moesi.specs.Coherent.{IsCoherent}
 use Rattle.moesi.proofs.Kept.{write_kept}
 use Rattle.moesi.proofs.Answered.{answered}
@@ -9,7 +9,7 @@ use Rattle.moesi.proofs.caches.Caches.write.Goals as goal
 
 pub returns-clause-coherent : goal.returns-clause-coherent
 returns-clause-coherent c = λ k.
-    let s : State = record { cores = c.self.inside.cores; blocks = c.self.inside.blocks.items } in
+    let s : CacheState = record { cores = c.self.inside.cores; blocks = c.self.inside.blocks.items } in
     let k0 : IsCoherent s = rw c.self.view_is k in
     let core : c.args.core < s.cores = rw (← c.self.view_is) at c.requires.core in
     let at : c.args.addr < length s.blocks = rw (← c.self.view_is) at c.requires.address in

@@ -12,7 +12,7 @@ invariant_of-result c =
     let x = c.args.recording.now in
     let t = c.in_ok-filled.filled.items in
     let sets = c.in_ok-rows.successors.items in
-    let square = square_of_table x t c.sound.ensures.few_events (table_of_filled x t c.in_ok-filled.ensures) in
+    let square = square_of_table x t c.sound.ensures.within.few_events (table_of_filled x t c.in_ok-filled.ensures) in
     subst (λ (t : Table). IsSquare t × AreSetsOf t sets) (sym c.in_ok-rows.ensures.reasons) (square, sets_all t sets square c.in_ok-rows.ensures.sets)
 
 pub returns-clause-table : goal.returns-clause-table

@@ -1,0 +1,94 @@
+//! Bits of words.
+
+ghost use Rattle.std.specs.Prelude.{◌≡◌, ◌≢◌, ◌≤◌, ◌<◌, ◌*◌, ◌^◌, ◌/◌, ◌==◌, ◌||◌, ◌&&◌, ℕ, length, not,
+    slice_index};
+ghost use Rattle.std.specs.Int.{bit_at};
+ghost use Rattle.bitrow.specs.Bits.{bit_of, IsNextBit};
+
+/// Whether a bit is 1.
+pub(crate) fn test_bit(words: &[u64], i: usize) -> bool
+    requires { i / 64 < length words.now }
+    ensures { result ≡ bit_of words.now i }
+{
+    words[i / 64] >> (i % 64) & 1 == 1
+}
+
+/// Makes a bit 1.
+pub(crate) fn set_bit(words: &mut [u64], i: usize)
+    requires { i / 64 < length words.old }
+    ensures { (j : ℕ) → bit_of words.new j ≡ (bit_of words.old j || (j == i)) }
+{
+    words[i / 64] |= 1 << (i % 64);
+}
+
+/// The first word; 0 where there is none.
+pub(crate) fn first_word(words: &[u64]) -> u64
+    ensures { result ≡ slice_index words.now 0 }
+{
+    if words.is_empty() { 0 } else { words[0] }
+}
+
+/// A word with one bit 0.
+pub(crate) fn without_bit(word: u64, i: usize) -> u64
+    requires { i < 64 }
+    ensures cleared { bit_at result i ≡ 0 }
+    ensures others { (j : ℕ) → j < 64 → j ≢ i → bit_at result j ≡ bit_at word j }
+{
+    word & !(1 << i)
+}
+
+/// Makes a bit 0.
+pub(crate) fn clear_bit(words: &mut [u64], i: usize)
+    requires { i / 64 < length words.old }
+    ensures { (j : ℕ) → bit_of words.new j ≡ (bit_of words.old j && not (j == i)) }
+{
+    words[i / 64] &= !(1 << (i % 64));
+}
+
+/// Makes each bit 1 that is 1 in the other words.
+pub(crate) fn or_words(words: &mut [u64], other: &[u64])
+    requires { length other.now ≡ length words.old }
+    ensures { (j : ℕ) → bit_of words.new j ≡ (bit_of words.old j || bit_of other.now j) }
+{
+    for k in 0..words.len() {
+        words[k] |= other[k];
+    }
+}
+
+/// Makes each bit 0 that is 1 in the other words.
+pub(crate) fn and_not_words(words: &mut [u64], other: &[u64])
+    requires { length other.now ≡ length words.old }
+    ensures { (j : ℕ) → bit_of words.new j ≡ (bit_of words.old j && not (bit_of other.now j)) }
+{
+    for k in 0..words.len() {
+        words[k] &= !other[k];
+    }
+}
+
+/// The first bit that is 1 in the words from one on.
+pub(crate) fn next_word(words: &[u64], from: usize) -> Option<usize>
+    requires { length words.now ≤ 2 ^ 58 }
+    ensures { IsNextBit words.now (64 * from) result }
+{
+    for k in from..words.len() {
+        if words[k] != 0 {
+            return Some(64 * k + words[k].trailing_zeros() as usize);
+        }
+    }
+    None
+}
+
+/// The first bit that is 1, from a bit on.
+pub(crate) fn next_bit(words: &[u64], from: usize) -> Option<usize>
+    requires { length words.now ≤ 2 ^ 58 }
+    ensures { IsNextBit words.now from result }
+{
+    if from / 64 >= words.len() {
+        return None;
+    }
+    let rest = words[from / 64] >> (from % 64);
+    if rest != 0 {
+        return Some(from + rest.trailing_zeros() as usize);
+    }
+    next_word(words, from / 64 + 1)
+}
