@@ -1,6 +1,6 @@
 //! The numbers of a set in turn.
 
-use crate::bits::{first_word, next_word, without_bit};
+use crate::word_bits::{first_word, next_word, without_bit};
 use std::marker::Model;
 
 /// The numbers of a set in turn, the least first.

@@ -1,7 +1,7 @@
 //! Rows of bits.
 
-use crate::bits::{and_not_words, clear_bit, next_bit, or_words, set_bit, test_bit};
 use crate::numbers::Numbers;
+use crate::word_bits::{and_not_words, clear_bit, next_bit, or_words, set_bit, test_bit};
 use litmus::OutOfMemory;
 use std::alloc::Global;
 use std::marker::Model;

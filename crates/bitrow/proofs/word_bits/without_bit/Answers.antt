@@ -1,6 +1,6 @@
 use Rattle.std.proofs.Common.{w64}
 use Rattle.std.proofs.lemmas.Nat.Bits.{bit_at_clear_same, bit_at_clear_other}
-use Rattle.bitrow.proofs.bits.without_bit.Goals as goal
+use Rattle.bitrow.proofs.word_bits.without_bit.Goals as goal
 
 pub returns-clause-cleared : goal.returns-clause-cleared
 returns-clause-cleared c = bit_at_clear_same w64 c.args.word c.args.i c.requires

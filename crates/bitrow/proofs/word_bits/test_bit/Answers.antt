@@ -1,5 +1,5 @@
 use Rattle.bitrow.proofs.Bits.{test_is}
-use Rattle.bitrow.proofs.bits.test_bit.Goals as goal
+use Rattle.bitrow.proofs.word_bits.test_bit.Goals as goal
 
 pub returns : goal.returns
 returns c = test_is c.args.words.now c.args.i

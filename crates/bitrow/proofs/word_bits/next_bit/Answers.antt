@@ -1,6 +1,6 @@
 use Rattle.std.proofs.Common.{◌/◌, arith}
 use Rattle.bitrow.proofs.Bits.{past_words, lowest_within, lowest_is, behind_is}
-use Rattle.bitrow.proofs.bits.next_bit.Goals as goal
+use Rattle.bitrow.proofs.word_bits.next_bit.Goals as goal
 
 pub returns-then-from-words : goal.returns-then-from-words
 returns-then-from-words c = past_words c.args.words.now c.args.from (omega arith)
