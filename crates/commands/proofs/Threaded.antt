@@ -1,26 +1,26 @@
 -- What threads give is a run.
-use Rattle.std.proofs.Common.{◌≡◌, inl, inr, ℕ, List, Option, Ok, length, ap, subst, ◌∙◌}
+use Rattle.std.proofs.Common.{◌≡◌, inl, inr, ℕ, List, Option, Ok, subst, ◌∙◌}
 use Rattle.std.specs.Prelude.{string_bytes}
 use Rattle.command_line.specs.declared.options.LiveOptions.{LiveOptions}
 use Rattle.litmus.specs.Parts.{Parts}
 use Rattle.litmus.specs.Text.{reading}
-use Rattle.machine.specs.State.{State, IsComplete, opening}
-use Rattle.machine.specs.Step.{run}
+use Rattle.machine.specs.State.{IsComplete}
+use Rattle.machine.specs.Taken.{all_taken, begun}
 use Rattle.machine.specs.Configuration.{Configuration}
 use Rattle.live.specs.Trace.{Trace, IsEnded, IsTrace}
 use Rattle.live.specs.Driven.{IsGiven}
 use Rattle.commands.specs.declared.answer.Answer.{Answer}
 use Rattle.commands.specs.Inputs.{AreBytesOf}
-use Rattle.commands.specs.Run.{state_after, IsRunAnswer, IsLive}
+use Rattle.commands.specs.Run.{IsRunAnswer, IsLive}
 
 -- the answer of the machine that they leave is that of the run of its trace
 pub live_answer : (inputs : List ℕ → Option (List ℕ)) (o : LiveOptions) (text : List ℕ) (program : Parts) (t : Trace) (machine : Configuration) (answer : Answer)
     → AreBytesOf inputs (string_bytes o.program) text → reading text ≡ Ok program
     → IsGiven program o.buffer o.limit t → IsEnded t → IsTrace t → machine ≡ t.machine → IsRunAnswer machine.program machine.state answer → IsLive inputs o answer
 live_answer inputs o text program t machine answer bytes read given ended replay same is =
-    let state : t.machine.state ≡ state_after program o.buffer t.steps =
-    replay ∙ (ap (λ (q : Parts). run q.cores t.machine.capacity (opening q.cores (length q.names)) t.steps) given.program_is
-    ∙ ap (λ (n : ℕ). run program.cores n (opening program.cores (length program.names)) t.steps) given.capacity_is) in
+    let taken : all_taken program.cores o.buffer (begun program) t.steps ≡ Ok t.machine.state =
+    subst (λ (n : ℕ). all_taken program.cores n (begun program) t.steps ≡ Ok t.machine.state) given.capacity_is
+    (subst (λ (q : Parts). all_taken q.cores t.machine.capacity (begun q) t.steps ≡ Ok t.machine.state) given.program_is replay) in
     let here : IsRunAnswer t.machine.program t.machine.state answer = subst (λ (h : Configuration). IsRunAnswer h.program h.state answer) same is in
     record {
       program_text = text;
@@ -28,9 +28,11 @@ live_answer inputs o text program t machine answer bytes read given ended replay
       program = program;
       read = read;
       steps = t.steps;
+      state = t.machine.state;
+      taken = taken;
       ended = elim ended [
-        | inl end ↦ inl (subst (λ (s : State). IsComplete program.cores s) state (subst (λ (q : Parts). IsComplete q.cores t.machine.state) given.program_is end))
+        | inl end ↦ inl (subst (λ (q : Parts). IsComplete q.cores t.machine.state) given.program_is end)
         | inr full ↦ inr (full ∙ given.limit_is)
       ];
-      answered = subst (λ (s : State). IsRunAnswer program s answer) state (subst (λ (q : Parts). IsRunAnswer q t.machine.state answer) given.program_is here);
+      answered = subst (λ (q : Parts). IsRunAnswer q t.machine.state answer) given.program_is here;
     }

@@ -9,8 +9,9 @@ use Rattle.recorder.specs.Execution.{Execution}
 use Rattle.recorder.specs.Text.{recording_text}
 use Rattle.recorder.specs.Tso.{IsTsoOrder}
 use Rattle.machine.specs.declared.step.Step.{Step}
-use Rattle.machine.specs.State.{State, IsComplete, opening, recorded}
+use Rattle.machine.specs.State.{State, IsComplete, recorded}
 use Rattle.machine.specs.Step.{after, run, taken}
+use Rattle.machine.specs.Taken.{all_taken, begun}
 use Rattle.machine.specs.Script.{steps_of}
 use Rattle.live.specs.Trace.{Trace}
 use Rattle.judge.specs.Verdict.{IsOrderedVerdict}
@@ -21,7 +22,7 @@ use Rattle.commands.specs.Inputs.{AreBytesOf}
 
 -- the state of a program after a script, of which the steps that are blocked are skipped
 abbrev pub state_after : Parts → ℕ → List Step → State
-state_after p capacity script = run p.cores capacity (opening p.cores (length p.names)) script
+state_after p capacity script = run p.cores capacity (begun p) script
 
 -- a recording and the least order that TSO allows for it
 pub record IsOrderedAnswer (x : Execution) (answer : Answer) : Type 0 where
@@ -58,8 +59,10 @@ pub record IsLive (inputs : List ℕ → Option (List ℕ)) (o : LiveOptions) (a
   pub program : Parts
   pub read : reading program_text ≡ Ok program
   pub steps : List Step
-  pub ended : IsComplete program.cores (state_after program o.buffer steps) ⊎ (length steps ≡ o.limit)
-  pub answered : IsRunAnswer program (state_after program o.buffer steps) answer
+  pub state : State
+  pub taken : all_taken program.cores o.buffer (begun program) steps ≡ Ok state
+  pub ended : IsComplete program.cores state ⊎ (length steps ≡ o.limit)
+  pub answered : IsRunAnswer program state answer
 
 -- the machine's state after one step more
 abbrev pub state_with : Trace → Step → State

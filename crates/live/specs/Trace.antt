@@ -1,8 +1,7 @@
 -- A machine and the steps that led to it.
-use Rattle.std.specs.Prelude.{◌≡◌, ◌⊎◌, ℕ, List, length}
+use Rattle.std.specs.Prelude.{◌≡◌, ◌⊎◌, ℕ, List, length, Ok}
 use Rattle.machine.specs.declared.step.Step.{Step}
-use Rattle.machine.specs.State.{State, opening}
-use Rattle.machine.specs.Step.{run}
+use Rattle.machine.specs.Taken.{all_taken, begun}
 use Rattle.machine.specs.Configuration.{Configuration, IsAtEnd}
 
 -- a machine, the steps that it took, and how many it may take
@@ -11,13 +10,11 @@ pub record Trace : Type 0 where
   pub steps : List Step
   pub limit : ℕ
 
--- the state in which a machine's program begins
-abbrev pub opening_of : Configuration → State
-opening_of h = opening h.program.cores (length h.program.names)
-
--- the steps, from the opening state of the machine's program, lead to the machine's state
+-- from where the machine's program begins, each of the steps is taken, and they lead to the machine's state
 abbrev pub IsTrace : Trace → Type 0
-IsTrace t = t.machine.state ≡ run t.machine.program.cores t.machine.capacity (opening_of t.machine) t.steps
+IsTrace t =
+    all_taken t.machine.program.cores t.machine.capacity (begun t.machine.program) t.steps
+    ≡ Ok t.machine.state
 
 -- the machine is complete, or has taken all steps that it may take
 abbrev pub IsEnded : Trace → Type 0

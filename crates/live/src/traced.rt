@@ -32,13 +32,14 @@ impl Traced {
         length};
     ghost use Rattle.recorder.specs.Tso.{IsTsoOrder};
     ghost use Rattle.machine.specs.Configuration.{recording_of, IsAtEnd};
-    ghost use Rattle.live.specs.Trace.{Trace, IsTrace, IsEnded, opening_of};
+    ghost use Rattle.machine.specs.Taken.{begun};
+    ghost use Rattle.live.specs.Trace.{Trace, IsTrace, IsEnded};
     ghost use Rattle.live.specs.Advance.{advance_answer};
 
     /// A machine that has not yet taken a step, whose trace may have `limit` steps; the room for
     /// them is made here. An `Err` only where there is no memory.
     pub fn new(alloc: Global, machine: Machine, limit: usize) -> Result<Traced, OutOfMemory>
-        requires { machine.state ≡ opening_of machine }
+        requires { machine.state ≡ begun machine.program }
         ensures { IfOk result (λ t. t
             ≡ record { machine = machine; steps = []; limit = limit }) }
     {
@@ -50,7 +51,8 @@ impl Traced {
         })
     }
 
-    /// The steps that were taken, first to last. From the opening state they lead to the machine.
+    /// The steps that were taken, first to last. From the opening state each of them is taken, none is
+    /// blocked, and they lead to the machine.
     pub fn trace(&self) -> &[Step]
         ensures steps { result.now ≡ self.now.steps }
         ensures replay { IsTrace self.now }

@@ -1,5 +1,6 @@
 pub mod State
 pub mod Step
+pub mod Taken
 pub mod Tso
 pub mod Orderly
 pub mod BoundedItems

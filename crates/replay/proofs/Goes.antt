@@ -21,9 +21,28 @@ use Rattle.machine.specs.declared.blocked.Blocked.TheVariants.{B2, B8}
 use Rattle.machine.specs.State.{State, place_of, buffer_of, first_event}
 use Rattle.machine.specs.Step.{exec, exec_next, taken, after, run, advanced, with_buffer, with_caches, forwarded_or_read, has, IsAt}
 use Rattle.replay.specs.Steps.{get_to_write, get_to_read}
-use Rattle.replay.specs.Replayed.{AreTaken}
+use Rattle.machine.specs.Taken.{all_taken, unless_blocked}
 use Rattle.machine.specs.Orderly.{is_st}
 use Rattle.replay.proofs.Going.{IsGoing, goes_further, before_more, before_all}
+
+-- the step is taken
+abbrev pub IsTaken : List (List Op) → ℕ → State → Step → Type 0
+IsTaken p capacity s step = (t : State) × (taken p capacity s step ≡ Ok t)
+
+-- each step of the list is taken: none is blocked
+abbrev pub AreTaken : List (List Op) → ℕ → State → List Step → Type 0
+AreTaken p capacity s [] = Unit {0}
+AreTaken p capacity s (step ∷ steps) =
+    IsTaken p capacity s step × AreTaken p capacity (after s (taken p capacity s step)) steps
+
+-- so says the machine's word for them
+pub all_of : (p : List (List Op)) (capacity : ℕ) (steps : List Step) (s t : State) → AreTaken p capacity s steps
+    → run p capacity s steps ≡ t → all_taken p capacity s steps ≡ Ok t
+all_of p capacity [] s t are led = ap (λ (z : State). Ok z) led
+all_of p capacity (x ∷ xs) s t are led =
+    ap (λ (r : Result State Blocked). unless_blocked r (λ v. all_taken p capacity v xs)) are.0.1
+    ∙ subst (λ (r : Result State Blocked). all_taken p capacity (after s r) xs ≡ Ok t) are.0.1
+    (all_of p capacity xs (after s (taken p capacity s x)) t are.1 led)
 
 -- the steps are all taken, and lead from s to t
 abbrev pub Goes : List (List Op) → ℕ → State → List Step → State → Type 0

@@ -24,7 +24,7 @@ use Rattle.machine.specs.State.{State, place_of, buffer_of, first_event, opening
 use Rattle.replay.specs.Program.{op_of, program_of}
 use Rattle.replay.specs.Stores.{most_stores}
 use Rattle.replay.specs.Steps.{replay_steps}
-use Rattle.replay.specs.Replayed.{AreTaken, IsReplay, EveryOrderIsReplayed, led_to, MakesExactlyTso}
+use Rattle.replay.specs.Replayed.{IsReplay, EveryOrderIsReplayed, led_to, MakesExactlyTso}
 use Rattle.replay.specs.Program.{address_names, named_program}
 use Rattle.replay.proofs.AddressNames.{names_count}
 use Rattle.machine.specs.declared.blocked.Blocked.{Blocked}
@@ -37,7 +37,7 @@ use Rattle.machine.proofs.Static.{placed_total, placed_at}
 use Rattle.replay.proofs.Made.{placed_is, count_same, recorded_made}
 use Rattle.replay.proofs.Determined.{determined}
 use Rattle.replay.proofs.Going.{IsGoing, begun_going, goes_further, stores_same, waiting, waits_once}
-use Rattle.replay.proofs.Goes.{Goes, goes_more, guarded}
+use Rattle.replay.proofs.Goes.{AreTaken, Goes, all_of, goes_more, guarded}
 use Rattle.replay.proofs.Orders.{order_run}
 
 -- Room for the stores of a core
@@ -176,7 +176,7 @@ module _ (law : Laws) where
       let well : IsWellFormed (recorded p t) = subst (λ (z : State). IsWellFormed (recorded p z)) goes.1 (law.well_formed p n capacity steps fits there) in
       let begins : Goes p capacity (opening p (length names)) steps t = subst (λ (k : ℕ). Goes p capacity (opening p k) steps t) (sym named) goes in
       record {
-        taken = begins.0;
+        taken = all_of p capacity steps (opening p (length names)) t begins.0 begins.1 ∙ ap (λ (z : State). Ok z) (sym begins.1);
         complete = subst (λ (z : State). IsComplete p z) (sym begins.1) end;
         performed = ap (λ (z : State). z.performed) begins.1 ∙ ran.1.performed;
         recording = ap (λ (z : State). recorded p z) begins.1 ∙ recorded_it x m tso n t f ran.1.performed r refl well order;

@@ -1,31 +1,17 @@
 -- That steps replay a memory order: the machine takes them all, and makes the recording again.
-use Rattle.std.specs.Prelude.{◌≡◌, ◌≤◌, ◌*◌, ◌↔◌, ℕ, List, [], ◌∷◌, length, Ok, All}
-use Rattle.litmus.specs.declared.op.Op.{Op}
+use Rattle.std.specs.Prelude.{◌≡◌, ◌≤◌, ◌*◌, ◌↔◌, ℕ, List, length, Ok, All}
 use Rattle.litmus.specs.Parts.{Parts, IsWithin}
 use Rattle.recorder.specs.Execution.{Execution, event_count}
 use Rattle.recorder.specs.Recording.{IsRecording}
 use Rattle.recorder.specs.Tso.{IsTsoOrder}
 use Rattle.machine.specs.declared.step.Step.{Step}
-use Rattle.machine.specs.State.{State, opening, recorded, IsComplete}
-use Rattle.machine.specs.Step.{taken, after, run}
+use Rattle.machine.specs.State.{State, recorded, IsComplete}
+use Rattle.machine.specs.Step.{run}
+use Rattle.machine.specs.Taken.{all_taken, begun}
 use Rattle.machine.specs.Script.{IsStepOf}
 use Rattle.replay.specs.Stores.{most_stores}
 use Rattle.replay.specs.Steps.{replay_steps}
 use Rattle.replay.specs.Program.{named_program}
-
--- the step is taken
-abbrev pub IsTaken : List (List Op) → ℕ → State → Step → Type 0
-IsTaken p capacity s step = (t : State) × (taken p capacity s step ≡ Ok t)
-
--- each step of the list is taken: none is blocked
-abbrev pub AreTaken : List (List Op) → ℕ → State → List Step → Type 0
-AreTaken p capacity s [] = Unit {0}
-AreTaken p capacity s (step ∷ steps) =
-    IsTaken p capacity s step × AreTaken p capacity (after s (taken p capacity s step)) steps
-
--- the state in which a program begins
-abbrev pub begun : Parts → State
-begun p = opening p.cores (length p.names)
 
 -- the state that steps from the beginning lead to
 abbrev pub led_to : Parts → ℕ → List Step → State
@@ -34,7 +20,7 @@ led_to p capacity steps = run p.cores capacity (begun p) steps
 -- the steps are the program's, at most three an event, are all taken, come to the end, perform this
 -- order, and make this recording
 pub record IsReplay (x : Execution) (m : List ℕ) (p : Parts) (capacity : ℕ) (steps : List Step) : Type 0 where
-  pub taken : AreTaken p.cores capacity (begun p) steps
+  pub taken : all_taken p.cores capacity (begun p) steps ≡ Ok (led_to p capacity steps)
   pub complete : IsComplete p.cores (led_to p capacity steps)
   pub performed : (led_to p capacity steps).performed ≡ m
   pub recording : recorded p.cores (led_to p capacity steps) ≡ x

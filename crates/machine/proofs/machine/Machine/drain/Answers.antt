@@ -4,6 +4,11 @@ use Rattle.machine.proofs.Drained as drained
 use Rattle.machine.proofs.Reached.{reached_step}
 use Rattle.machine.proofs.machine.Machine.drain.Goals as goal
 
+pub write-requires-clause-event : goal.write-requires-clause-event
+write-requires-clause-event c =
+    let there : c.args.core < length c.self.inside.program.cores = omega (arith, c.cores.ensures.count, c.if-core-cores.false) in
+    (drained.entry_within _ _ _ _ _ _ _ _ c.self.invariant.sound c.args.core there c.index.result.now c.index.ensures c.in-Some.entry c.in-Some.ensures).1
+
 pub push-requires : goal.push-requires
 push-requires c =
     let there : c.args.core < length c.self.inside.program.cores = omega (arith, c.cores.ensures.count, c.if-core-cores.false) in

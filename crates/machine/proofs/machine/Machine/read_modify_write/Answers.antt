@@ -28,6 +28,11 @@ returns-in_default-write-clause-blocked c =
     let refused = subst (λ (v : ℕ). moesi.write c.self.inside.caches c.args.core c.args.addr v c.args.event ≡ Err c.in_default-write.field-0) value c.in_default-write.ensures.refused in
     subst (λ (h : Configuration). exec_answer h c.args.core c.args.op c.args.event ≡ Err B5) c.self.view_is (row ∙ executed.rmw_blocked _ _ _ _ _ _ _ _ c.self.invariant.sound c.args.core c.args.op c.args.event at c.index.result.now c.index.ensures empty c.args.addr c.in-Ok.read what _ refused)
 
+pub write-requires-clause-event : goal.write-requires-clause-event
+write-requires-clause-event c =
+    let at = subst (λ (h : Configuration). IsAt h.program.cores h.state c.args.core c.args.op c.args.event) (sym c.self.view_is) c.requires.at in
+    executed.number_few _ _ _ _ _ _ _ _ c.self.invariant.sound c.args.core c.args.op c.args.event at
+
 pub index_mut-requires : goal.index_mut-requires
 index_mut-requires c =
     let at = subst (λ (h : Configuration). IsAt h.program.cores h.state c.args.core c.args.op c.args.event) (sym c.self.view_is) c.requires.at in
