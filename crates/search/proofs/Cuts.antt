@@ -81,7 +81,7 @@ pub exact_certifies : (R : ℕ → ℕ → Type 0) (n k : ℕ) (rows : List (Lis
 exact_certifies R n k rows c within h is d = record {
   cyclic = h.cycle;
   one_each = d.one_each;
-  labelled = λ v at. record {
+  labellings = λ v at. record {
     one_each = (d.exact v at).one_each;
     start = omega (arith, ((d.exact v at).labels v at).least 0 refl);
     grows = λ e f r.

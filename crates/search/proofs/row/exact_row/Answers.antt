@@ -23,13 +23,13 @@ loop-label-init c =
       closed = record { below = omega arith; reached = inl refl; nearest = λ e r below. absurd (omega (arith, below)) };
     }
 
-pub returns-in_default-clause-exact : goal.returns-in_default-clause-exact
-returns-in_default-clause-exact c =
+pub returns-then-is_empty-clause-exact : goal.returns-then-is_empty-clause-exact
+returns-then-is_empty-clause-exact c =
     reached_exact (Marked c.args.rows.now) (length c.args.rows.now) c.args.cap c.args.source c.loop-label.label c.loop-label.labels.items c.loop-label.seen c.loop-label.level c.loop-label.next
-    (marked_within c.args.rows.now c.requires.square) c.requires.source (omega arith) (inr (λ e. c.in_default.ensures e (omega arith))) c.loop-label.invariant.reached
+    (marked_within c.args.rows.now c.requires.square) c.requires.source (omega arith) (inr (c.is_empty.ensures.0 c.if-is_empty.true)) c.loop-label.invariant.reached
 
-pub returns-in_default-clause-nearest : goal.returns-in_default-clause-nearest
-returns-in_default-clause-nearest c =
+pub returns-then-is_empty-clause-nearest : goal.returns-then-is_empty-clause-nearest
+returns-then-is_empty-clause-nearest c =
     closed_nearest (Marked c.args.rows.now) (length c.args.rows.now) c.args.cap c.args.source c.loop-label.label c.loop-label.closing c.loop-label.labels.items
     (marked_within c.args.rows.now c.requires.square) c.loop-label.invariant.reached.or_cap c.loop-label.invariant.closed
 
