@@ -8,9 +8,21 @@ use Rattle.machine.specs.Step.{taken, after, run}
 use Rattle.machine.specs.Taken.{all_taken, begun, unless_blocked}
 use Rattle.machine.specs.Configuration.{Configuration}
 
--- one answer, found twice
-same_state : {s t : State} → Ok {E = Blocked} s ≡ Ok t → s ≡ t
-same_state h = cc
+-- one state, found twice
+same_state : (r : Result State Blocked) (s t : State) → r ≡ Ok s → r ≡ Ok t → s ≡ t
+same_state r s t one two = cc
+
+-- what follows a step that was taken
+bound_more : (r : Result State Blocked) (f g : State → Result State Blocked) (t u : State)
+    → ((v : State) → f v ≡ Ok t → g v ≡ Ok u) → unless_blocked r f ≡ Ok t → unless_blocked r g ≡ Ok u
+bound_more (Ok v) f g t u next h = next v h
+bound_more (Err b) f g t u next h = absurd (let clash : (let r : Result State Blocked = Err b in r) ≡ Ok t = h in cc (clash))
+
+-- where what follows was reached, the step was taken
+bound_after : (r : Result State Blocked) (f : State → Result State Blocked) (s t : State)
+    → unless_blocked r f ≡ Ok t → f (after s r) ≡ Ok t
+bound_after (Ok v) f s t h = h
+bound_after (Err b) f s t h = absurd (let clash : (let r : Result State Blocked = Err b in r) ≡ Ok t = h in cc (clash))
 
 module _ (p : List (List Op)) (capacity : ℕ) where
   -- steps that are taken, and then one more
@@ -18,23 +30,17 @@ module _ (p : List (List Op)) (capacity : ℕ) where
       → taken p capacity t step ≡ Ok u → all_taken p capacity s (steps ++ step ∷ []) ≡ Ok u
   all_more s t u [] step led took =
       ap (λ (r : Result State Blocked). unless_blocked r (λ v. Ok v))
-      (ap (λ (v : State). taken p capacity v step) (same_state led) ∙ took)
-  all_more s t u (x ∷ xs) step led took = go (taken p capacity s x) led
-    where
-      go : (r : Result State Blocked) → unless_blocked r (λ v. all_taken p capacity v xs) ≡ Ok t
-          → unless_blocked r (λ v. all_taken p capacity v (xs ++ step ∷ [])) ≡ Ok u
-      go (Ok v) h = all_more v t u xs step h took
-      go (Err b) h = absurd cc
+      (ap (λ (v : State). taken p capacity v step) (same_state (Ok s) s t refl led) ∙ took)
+  all_more s t u (x ∷ xs) step led took =
+      bound_more (taken p capacity s x) (λ v. all_taken p capacity v xs) (λ v. all_taken p capacity v (xs ++ step ∷ [])) t u
+      (λ v h. all_more v t u xs step h took) led
 
   -- steps that are taken are a run
   pub taken_run : (s t : State) (steps : List Step) → all_taken p capacity s steps ≡ Ok t → run p capacity s steps ≡ t
-  taken_run s t [] led = same_state led
-  taken_run s t (x ∷ xs) led = go (taken p capacity s x) led
-    where
-      go : (r : Result State Blocked) → unless_blocked r (λ v. all_taken p capacity v xs) ≡ Ok t
-          → run p capacity (after s r) xs ≡ t
-      go (Ok v) h = taken_run v t xs h
-      go (Err b) h = absurd cc
+  taken_run s t [] led = same_state (Ok s) s t refl led
+  taken_run s t (x ∷ xs) led =
+      taken_run (after s (taken p capacity s x)) t xs
+      (bound_after (taken p capacity s x) (λ v. all_taken p capacity v xs) s t led)
 
 -- the steps lead to old, and one step more leads to new
 pub replay_more : (old new : Configuration) (steps : List Step) (step : Step)

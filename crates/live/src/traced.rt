@@ -28,8 +28,21 @@ impl Model for Traced {
 }
 
 impl Traced {
-    ghost use Rattle.std.specs.Prelude.{◌≡◌, ◌≤◌, ◌<◌, ◌↔◌, [], IsTrue, IfOk, IfErr, OnOk, OnErr, Ok, Err,
-        length};
+    ghost use Rattle.std.specs.Prelude.{
+      ◌≡◌,
+      ◌≤◌,
+      ◌<◌,
+      ◌↔◌,
+      [],
+      IsTrue,
+      IfOk,
+      IfErr,
+      OnOk,
+      OnErr,
+      Ok,
+      Err,
+      length,
+    };
     ghost use Rattle.recorder.specs.Tso.{IsTsoOrder};
     ghost use Rattle.machine.specs.Configuration.{recording_of, IsAtEnd};
     ghost use Rattle.machine.specs.Taken.{begun};
