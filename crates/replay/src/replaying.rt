@@ -72,7 +72,7 @@ impl Replay {
         requires address { addr < length self.old.machine.program.names }
         ensures { OnOk result (self.new ≡ with_steps self.old
             (get_to_read self.old.machine.state core addr
-                (youngest (buffer_of self.old.machine.state core) addr))) }
+            (youngest (buffer_of self.old.machine.state core) addr))) }
     {
         if self.machine.youngest(core, addr).is_some() {
             return Ok(());
