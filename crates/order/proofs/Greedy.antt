@@ -1,8 +1,10 @@
 -- The greedy order: each time the least event that has nothing open before it.
-use Rattle.std.proofs.Common.{◌≡◌, ◌≢◌, ◌<◌, ◌≤◌, inl, inr, ℕ, List, [], ◌∷◌, ◌++◌, get_or, length, arith, refl, sym, ap, ◌∙◌, subst}
+use Rattle.std.proofs.Common.{◌≡◌, ◌≢◌, ◌<◌, ◌≤◌, inl, inr, ℕ, List, [], ◌∷◌, ◌++◌, get_or, length, arith}
+use Rattle.std.proofs.Common.{refl, sym, ap, ◌∙◌, subst}
 use Rattle.std.proofs.lemmas.Bool.{cases_eq}
 use Rattle.recorder.specs.Order.{place, times, Before}
-use Rattle.recorder.proofs.Orders.{times_here, times_nil, times_append, place_here, place_append_right, cases_zero, before_in_left, left_before_right}
+use Rattle.recorder.proofs.Orders.{times_here, times_nil, times_append, place_here, place_append_right}
+use Rattle.recorder.proofs.Orders.{cases_zero, before_in_left, left_before_right}
 use Rattle.relations.specs.Relation.{Table, Related}
 use Rattle.relations.specs.Cycle.{ComesFirst, IsCycle}
 use Rattle.relations.specs.Respects.{Respects, IsLeastOrder}
@@ -32,20 +34,34 @@ greedy_none t = record {
 }
 
 -- an event that alone is counted is not placed
-pub free_is_fresh : (t : Table) (p : List ℕ) (counts : List ℕ) → IsOpen t p counts → (v : ℕ) → v < length t → get_or counts v 0 ≡ 1 → times p v ≡ 0
+pub free_is_fresh : (t : Table) (p : List ℕ) (counts : List ℕ) → IsOpen t p counts → (v : ℕ) → v < length t
+    → get_or counts v 0 ≡ 1 → times p v ≡ 0
 free_is_fresh t p counts o v less free = elim (cases_zero (times p v)) [
   | inl none ↦ none
   | inr some ↦ absurd (omega (arith, o.done v less some, free))
 ]
 
 -- and nothing is open before it
-free_waits : (t : Table) (p : List ℕ) (counts : List ℕ) → IsOpen t p counts → (v : ℕ) → v < length t → get_or counts v 0 ≡ 1 → waits t p (length t) v ≡ 0
-free_waits t p counts o v less free = omega (arith, o.waiting v less (free_is_fresh t p counts o v less free), free)
+free_waits : (t : Table) (p : List ℕ) (counts : List ℕ) → IsOpen t p counts → (v : ℕ) → v < length t
+    → get_or counts v 0 ≡ 1 → waits t p (length t) v ≡ 0
+free_waits t p counts o v less free = omega (
+  arith,
+  o.waiting v less (free_is_fresh t p counts o v less free),
+  free,
+)
 
 -- where an order goes on behind p with y, nothing is open before y
-goes_on_free : (t : Table) (p : List ℕ) (counts : List ℕ) → IsOpen t p counts → (y : ℕ) (ys : List ℕ) → Respects (Related t) (length t) (p ++ y ∷ ys)
+goes_on_free : (t : Table) (p : List ℕ) (counts : List ℕ) → IsOpen t p counts → (y : ℕ) (ys : List ℕ)
+    → Respects (Related t) (length t) (p ++ y ∷ ys)
     → (y < length t) × (get_or counts y 0 ≡ 1)
-goes_on_free t p counts o y ys r = (less, omega (arith, o.waiting y less fresh, waits_none t p (length t) y placed))
+goes_on_free t p counts o y ys r = (
+  less,
+  omega (
+    arith,
+    o.waiting y less fresh,
+    waits_none t p (length t) y placed,
+  ),
+)
   where
     there : 0 < times (p ++ y ∷ ys) y
     there = omega (arith, times_append p (y ∷ ys) y, times_here ys y y refl)
@@ -61,12 +77,14 @@ goes_on_free t p counts o y ys r = (less, omega (arith, o.waiting y less fresh, 
 
     placed : (d : ℕ) → d < length t → Related t d y → 0 < times p d
     placed d h related = elim (cases_zero (times p d)) [
-      | inl none ↦ absurd (let b : Before (p ++ y ∷ ys) d y = r.related d y related in omega (arith, b, at, place_append_right p (y ∷ ys) d none))
+      | inl none ↦ absurd (let b : Before (p ++ y ∷ ys) d y = r.related d y related in omega
+          (arith, b, at, place_append_right p (y ∷ ys) d none))
       | inr some ↦ some
     ]
 
 -- the least free event goes on
-pub greedy_more : (t : Table) (p : List ℕ) (counts : List ℕ) (v : ℕ) → IsWithin t → IsGreedy t p → IsOpen t p counts → length p < length t → v < length t → get_or counts v 0 ≡ 1
+pub greedy_more : (t : Table) (p : List ℕ) (counts : List ℕ) (v : ℕ) → IsWithin t → IsGreedy t p
+    → IsOpen t p counts → length p < length t → v < length t → get_or counts v 0 ≡ 1
     → ((e : ℕ) → e < length counts → get_or counts e 0 ≡ 1 → v ≤ e) → IsGreedy t (p ++ v ∷ [])
 greedy_more t p counts v inside g o long less free least = record {
   once = λ e. elim (cases_eq e v) [
@@ -78,12 +96,15 @@ greedy_more t p counts v inside g o long less free least = record {
     | inr other ↦ g.within e (omega (arith, h, times_other p v e other))
   ];
   ordered = λ e f r h. elim (cases_eq f v) [
-    | inl one ↦ left_before_right p (v ∷ []) e f (all_placed t p (length t) v none_open e (inside e f r).0 (subst (λ (k : ℕ). Related t e k) one r)) (ap (times p) one ∙ fresh)
+    | inl one ↦ left_before_right p (v ∷ []) e f
+        (all_placed t p (length t) v none_open e (inside e f r).0 (subst (λ (k : ℕ). Related t e k) one r))
+        (ap (times p) one ∙ fresh)
         (omega (arith, times_here [] v f (sym one)))
     | inr other ↦ before_in_left p (v ∷ []) e f (g.ordered e f r (omega (arith, h, times_other p v f other)))
   ];
   first = λ m r. first_more p v m (g.first m r) (omega (arith, length_total (length t) m r.total)) (λ y ys is.
-      let on : (y < length t) × (get_or counts y 0 ≡ 1) = goes_on_free t p counts o y ys (subst (λ (k : List ℕ). Respects (Related t) (length t) k) is r) in
+      let on : (y < length t) × (get_or counts y 0 ≡ 1) =
+      goes_on_free t p counts o y ys (subst (λ (k : List ℕ). Respects (Related t) (length t) k) is r) in
       least y (omega (arith, on.0, o.size)) on.1);
 }
   where
@@ -94,24 +115,34 @@ greedy_more t p counts v inside g o long less free least = record {
     none_open = free_waits t p counts o v less free
 
 -- where nothing is free and an event is left, there is a cycle
-pub greedy_cycle : (t : Table) (p : List ℕ) (counts : List ℕ) → IsGreedy t p → IsOpen t p counts → length p < length t → ((e : ℕ) → e < length counts → get_or counts e 0 ≢ 1) → (c : List ℕ) × IsCycle (Related t) c
+pub greedy_cycle : (t : Table) (p : List ℕ) (counts : List ℕ) → IsGreedy t p → IsOpen t p counts
+    → length p < length t → ((e : ℕ) → e < length counts → get_or counts e 0 ≢ 1)
+    → (c : List ℕ) × IsCycle (Related t) c
 greedy_cycle t p counts g o long none =
     let left : (e : ℕ) × (e < length t) × (times p e ≡ 0) = missing (length t) p g.within long in
-    let found = cycle_of (Related t) (λ e. (e < length t) × (times p e ≡ 0)) (length t) (λ e u. u.0) before left.0 (left.1, left.2) in
+    let found = cycle_of (Related t) (λ e. (e < length t) × (times p e ≡ 0)) (length t)
+    (λ e u. u.0) before left.0 (left.1, left.2) in
     (found.0, found.1)
   where
-    before : (e : ℕ) → (e < length t) × (times p e ≡ 0) → (d : ℕ) × ((d < length t) × (times p d ≡ 0)) × Related t d e
+    before : (e : ℕ) → (e < length t) × (times p e ≡ 0)
+        → (d : ℕ) × ((d < length t) × (times p d ≡ 0)) × Related t d e
     before e u = elim (cases_zero (waits t p (length t) e)) [
-      | inl zero_waits ↦ absurd (none e (omega (arith, u.0, o.size)) (omega (arith, o.waiting e u.0 u.1, zero_waits)))
-      | inr some ↦ let d : (d : ℕ) × (d < length t) × (times p d ≡ 0) × Related t d e = open_before t p (length t) e some in (d.0, (d.1, d.2), d.3)
+      | inl zero_waits ↦ absurd (none e (omega (arith, u.0, o.size))
+          (omega (arith, o.waiting e u.0 u.1, zero_waits)))
+      | inr some ↦ let d : (d : ℕ) × (d < length t) × (times p d ≡ 0)
+          × Related t d e = open_before t p (length t) e some in (d.0, (d.1, d.2), d.3)
     ]
 
 -- with all events it is the least order
-pub greedy_all : (t : Table) (p : List ℕ) → IsWithin t → IsGreedy t p → length p ≡ length t → IsLeastOrder (Related t) (length t) p
+pub greedy_all : (t : Table) (p : List ℕ) → IsWithin t → IsGreedy t p → length p ≡ length t
+    → IsLeastOrder (Related t) (length t) p
 greedy_all t p inside g size = record {
   respects = record {
     total = all_listed (length t) p g.once g.within size;
-    related = λ e f r. g.ordered e f r (omega (arith, (all_listed (length t) p g.once g.within size).once f (inside e f r).1));
+    related = λ e f r. g.ordered e f r (omega (
+      arith,
+      (all_listed (length t) p g.once g.within size).once f (inside e f r).1,
+    ));
   };
   least = g.first;
 }

@@ -1,6 +1,6 @@
 -- How many events at or before each are still open, while an order grows.
-use Rattle.std.specs.Prelude.{◌≡◌, ◌↔◌, ◌<◌, ◌+◌, ◌==◌, ◌&&◌, ℕ, zero, suc, Bool, true, false, List, length,
-    slice_index, is_some}
+use Rattle.std.specs.Prelude.{◌≡◌, ◌↔◌, ◌<◌, ◌+◌, ◌==◌, ◌&&◌, ℕ, zero, suc, Bool, true, false, List, length}
+use Rattle.std.specs.Prelude.{slice_index, is_some}
 use Rattle.bitrow.specs.Bits.{is_in}
 use Rattle.recorder.specs.Order.{times}
 use Rattle.relations.specs.Relation.{Table, reason_at}

@@ -27,8 +27,8 @@ impl Model for Waiting {
 }
 
 impl Waiting {
-    ghost use Rattle.std.specs.Prelude.{◌≡◌, ◌≢◌, ◌≤◌, ◌<◌, ◌-◌, ◌^◌, ℕ, [], IfOk, MatchOption, length,
-        slice_index, slice_set, is_some};
+    ghost use Rattle.std.specs.Prelude.{◌≡◌, ◌≢◌, ◌≤◌, ◌<◌, ◌-◌, ◌^◌, ℕ, [], IfOk, MatchOption, length};
+    ghost use Rattle.std.specs.Prelude.{slice_index, slice_set, is_some};
     ghost use Rattle.relations.specs.Relation.{reason_at};
     ghost use Rattle.order.specs.Open.{one_if, IsOpen, IsFreeSet};
 

@@ -1,5 +1,6 @@
 -- Events and write lists of a clipped execution.
-use Rattle.std.proofs.Common.{◌≡◌, ◌<◌, ◌+◌, ◌^◌, ◌-◌, inl, inr, ℕ, Option, Some, None, option_map, List, [], ◌∷◌, map, length, get_or, arith, refl, ap, ◌∙◌}
+use Rattle.std.proofs.Common.{◌≡◌, ◌<◌, ◌+◌, ◌^◌, ◌-◌, inl, inr, ℕ, Option, Some, None, option_map, List, []}
+use Rattle.std.proofs.Common.{◌∷◌, map, length, get_or, arith, refl, ap, ◌∙◌}
 use Rattle.std.proofs.Math.ListN.{get_or-map}
 use Rattle.std.proofs.lemmas.Bool.{cases_lt, lt-ltb, le-ltb}
 use Rattle.std.proofs.lemmas.List.{length-map, map-append}
@@ -26,7 +27,8 @@ small n h = rw (lt-ltb n (2 ^ 16) (omega arith)) refl
 pub unclipped : (n : ℕ) → clip n < 2 ^ 16 - 1 → clip n ≡ n
 unclipped n h = elim (cases_lt n (2 ^ 16)) [
   | inl below ↦ rw (lt-ltb n (2 ^ 16) below) refl
-  | inr past ↦ let most : clip n ≡ 2 ^ 16 - 1 = rw (le-ltb n (2 ^ 16) past) refl in absurd (omega (arith, h, most))
+  | inr past ↦ let most : clip n ≡ 2 ^ 16 - 1 =
+      rw (le-ltb n (2 ^ 16) past) refl in absurd (omega (arith, h, most))
 ]
 
 -- a clipped number comes from a number
@@ -74,19 +76,26 @@ abbrev clip_placed : ℕ × Event → ℕ × Event
 clip_placed p = (p.0, clip_event p.1)
 
 -- the events of one core are clipped
-core_clipped : (k : ℕ) (es : List Event) → map {B = ℕ × Event} (λ e. (k, e)) (map clip_event es) ≡ map clip_placed (map (λ e. (k, e)) es)
+core_clipped : (k : ℕ) (es : List Event) → map {B = ℕ × Event} (λ e. (k, e)) (map clip_event es)
+    ≡ map clip_placed (map (λ e. (k, e)) es)
 core_clipped k [] = refl
 core_clipped k (e ∷ es) = ap (λ (ps : List (ℕ × Event)). (k, clip_event e) ∷ ps) (core_clipped k es)
 
 -- the events of all cores are clipped
-placed_clipped : (k : ℕ) (cores : List (List Event)) → placed_from k (map (map clip_event) cores) ≡ map clip_placed (placed_from k cores)
+placed_clipped : (k : ℕ) (cores : List (List Event))
+    → placed_from k (map (map clip_event) cores) ≡ map clip_placed (placed_from k cores)
 placed_clipped k [] = refl
-placed_clipped k (es ∷ rest) = rw (core_clipped k es, placed_clipped (k + 1) rest, map-append clip_placed (map {B = ℕ × Event} (λ e. (k, e)) es) (placed_from (k + 1) rest)) refl
+placed_clipped k (es ∷ rest) = rw (
+  core_clipped k es,
+  placed_clipped (k + 1) rest,
+  map-append clip_placed (map {B = ℕ × Event} (λ e. (k, e)) es) (placed_from (k + 1) rest),
+) refl
 
 -- there are as many events
 pub count_clipped : (x : Execution) → event_count (clipped x) ≡ event_count x
 unfolding event_count
-count_clipped x = ap (λ (ps : List (ℕ × Event)). length ps) (placed_clipped 0 x.cores) ∙ length-map (placed_from 0 x.cores) clip_placed
+count_clipped x = ap (λ (ps : List (ℕ × Event)). length ps) (placed_clipped 0 x.cores)
+    ∙ length-map (placed_from 0 x.cores) clip_placed
 
 -- each event of a clipped execution is clipped
 pub event_clipped : (x : Execution) (e : ℕ) → event_at (clipped x) e ≡ clip_event (event_at x e)
@@ -101,11 +110,13 @@ unfolding write_list
 list_clipped x a = get_or-map (map clip) x.write_lists a []
 
 -- so is the address that event e reads
-pub reads_clipped : (x : Execution) (e : ℕ) → read_address (event_at (clipped x) e) ≡ option_map clip (read_address (event_at x e))
+pub reads_clipped : (x : Execution) (e : ℕ) → read_address (event_at (clipped x) e)
+    ≡ option_map clip (read_address (event_at x e))
 reads_clipped x e = ap read_address (event_clipped x e) ∙ read_clipped (event_at x e)
 
 -- the address that it writes
-pub writes_clipped : (x : Execution) (e : ℕ) → written_address (event_at (clipped x) e) ≡ option_map clip (written_address (event_at x e))
+pub writes_clipped : (x : Execution) (e : ℕ)
+    → written_address (event_at (clipped x) e) ≡ option_map clip (written_address (event_at x e))
 writes_clipped x e = ap written_address (event_clipped x e) ∙ written_clipped (event_at x e)
 
 -- and its source
@@ -113,9 +124,11 @@ pub sources_clipped : (x : Execution) (e : ℕ) → source_of (clipped x) e ≡ 
 sources_clipped x e = ap source (event_clipped x e) ∙ source_clipped (event_at x e)
 
 -- event e reads the value that it read
-pub values_read_clipped : (x : Execution) (e : ℕ) → value_read (event_at (clipped x) e) ≡ value_read (event_at x e)
+pub values_read_clipped : (x : Execution) (e : ℕ)
+    → value_read (event_at (clipped x) e) ≡ value_read (event_at x e)
 values_read_clipped x e = ap value_read (event_clipped x e) ∙ value_read_clipped (event_at x e)
 
 -- and writes the value that it wrote
-pub values_written_clipped : (x : Execution) (e : ℕ) → value_written (event_at (clipped x) e) ≡ value_written (event_at x e)
+pub values_written_clipped : (x : Execution) (e : ℕ)
+    → value_written (event_at (clipped x) e) ≡ value_written (event_at x e)
 values_written_clipped x e = ap value_written (event_clipped x e) ∙ value_written_clipped (event_at x e)

@@ -9,12 +9,14 @@ use Rattle.recorder.specs.Execution.{Execution}
 use Rattle.recorder.specs.Text.{number_data, list_data, source_data, event_data, data_of}
 
 -- items nest as deep as the deepest of them
-depth_in : {A : Type 0} (f : A → Data) (k : ℕ) → ((x : A) → depth (f x) ≤ k) → (xs : List A) → items_depth (items_of (map f xs)) ≤ k
+depth_in : {A : Type 0} (f : A → Data) (k : ℕ) → ((x : A) → depth (f x) ≤ k) → (xs : List A)
+    → items_depth (items_of (map f xs)) ≤ k
 depth_in f k most [] = omega arith
 depth_in f k most (x ∷ xs) = omega (arith, most x, depth_in f k most xs)
 
 -- a list nests one level more
-depth_list : {A : Type 0} (f : A → Data) (k : ℕ) → ((x : A) → depth (f x) ≤ k) → (xs : List A) → depth (list_data f xs) ≤ k + 1
+depth_list : {A : Type 0} (f : A → Data) (k : ℕ) → ((x : A) → depth (f x) ≤ k) → (xs : List A)
+    → depth (list_data f xs) ≤ k + 1
 depth_list f k most xs = omega (arith, depth_in f k most xs)
 
 -- a source does not nest
@@ -33,5 +35,6 @@ depth_event F = omega arith
 pub shallow : (x : Execution) → depth (data_of x) ≤ max_depth
 shallow x =
     let cores = depth_list (list_data event_data) 2 (depth_list event_data 1 depth_event) x.cores in
-    let writes = depth_list (list_data number_data) 1 (depth_list number_data 0 (λ n. omega arith)) x.write_lists in
+    let writes = depth_list (list_data number_data) 1
+    (depth_list number_data 0 (λ n. omega arith)) x.write_lists in
     omega (arith, cores, writes)

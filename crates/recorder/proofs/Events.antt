@@ -1,7 +1,9 @@
 -- Laws of the events of an execution.
-use Rattle.std.proofs.Common.{◌≡◌, ◌<◌, ◌≤◌, inl, inr, ℕ, ◌+◌, ◌-◌, Some, None, List, ◌∷◌, map, length, get_or, refl, sym, ap, ◌∙◌}
+use Rattle.std.proofs.Common.{◌≡◌, ◌<◌, ◌≤◌, inl, inr, ℕ, ◌+◌, ◌-◌, Some, None, List, ◌∷◌, map, length}
+use Rattle.std.proofs.Common.{get_or, refl, sym, ap, ◌∙◌}
 use Rattle.std.proofs.lemmas.Bool.{cases_lt}
-use Rattle.std.proofs.lemmas.List.{get_or_past, get_or_append_left, get_or-map, get_or-append_right, length-map}
+use Rattle.std.proofs.lemmas.List.{get_or_past, get_or_append_left, get_or-map, get_or-append_right}
+use Rattle.std.proofs.lemmas.List.{length-map}
 use Rattle.recorder.specs.declared.event.Event.{Event}
 use Rattle.recorder.specs.declared.event.Event.TheVariants.{L, S, R, F}
 use Rattle.recorder.specs.Event.{read_address, written_address, source}
@@ -38,10 +40,15 @@ pub source-Reads : (x : Execution) (e s : ℕ) → source_of x e ≡ Some s → 
 source-Reads x e s h = source_reads (event_at x e) s h
 
 -- what stands at i, where i is on the first core
-pub placed_here : (k : ℕ) (es : List Event) (rest : List (List Event)) (i : ℕ) (d : ℕ × Event) → i < length es → get_or (placed_from k (es ∷ rest)) i d ≡ (k, get_or es i d.1)
+pub placed_here : (k : ℕ) (es : List Event) (rest : List (List Event)) (i : ℕ) (d : ℕ × Event)
+    → i < length es → get_or (placed_from k (es ∷ rest)) i d ≡ (k, get_or es i d.1)
 placed_here k es rest i d h =
-    get_or_append_left (map (λ e. (k, e)) es) (placed_from (k + 1) rest) d i (rw length-map h) ∙ get_or-map (λ (e : Event). (k, e)) es i d.1 d h
+    get_or_append_left (map (λ e. (k, e)) es) (placed_from (k + 1) rest) d i (rw length-map h)
+    ∙ get_or-map (λ (e : Event). (k, e)) es i d.1 d h
 
 -- where it is behind the first core, it stands in the rest
-pub placed_behind : (k : ℕ) (es : List Event) (rest : List (List Event)) (i : ℕ) (d : ℕ × Event) → length es ≤ i → get_or (placed_from k (es ∷ rest)) i d ≡ get_or (placed_from (k + 1) rest) (i - length es) d
-placed_behind k es rest i d h = get_or-append_right (map (λ e. (k, e)) es) (placed_from (k + 1) rest) (length es) i d (length-map es (λ e. (k, e))) h
+pub placed_behind : (k : ℕ) (es : List Event) (rest : List (List Event)) (i : ℕ) (d : ℕ × Event)
+    → length es ≤ i → get_or (placed_from k (es ∷ rest)) i d
+    ≡ get_or (placed_from (k + 1) rest) (i - length es) d
+placed_behind k es rest i d h = get_or-append_right (map (λ e. (k, e)) es) (placed_from (k
+    + 1) rest) (length es) i d (length-map es (λ e. (k, e))) h

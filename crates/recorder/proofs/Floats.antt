@@ -9,7 +9,8 @@ use Rattle.recorder.specs.Execution.{Execution}
 use Rattle.recorder.specs.Text.{number_data, list_data, source_data, event_data, data_of}
 
 -- a list has no float where none of its items has
-no_float_in : {A : Type 0} (f : A → Data) → ((x : A) → has_float (f x) ≡ false) → (xs : List A) → items_have_float (items_of (map f xs)) ≡ false
+no_float_in : {A : Type 0} (f : A → Data) → ((x : A) → has_float (f x) ≡ false) → (xs : List A)
+    → items_have_float (items_of (map f xs)) ≡ false
 no_float_in f none [] = refl
 no_float_in f none (x ∷ xs) = rw (none x) (no_float_in f none xs)
 
@@ -28,6 +29,8 @@ no_float_event F = refl
 -- an execution has none
 pub no_float : (x : Execution) → has_float (data_of x) ≡ false
 no_float x =
-    let cores : has_float (list_data (list_data event_data) x.cores) ≡ false = no_float_in (list_data event_data) (no_float_in event_data no_float_event) x.cores in
-    let writes : has_float (list_data (list_data number_data) x.write_lists) ≡ false = no_float_in (list_data number_data) (no_float_in number_data (λ n. refl)) x.write_lists in
+    let cores : has_float (list_data (list_data event_data) x.cores) ≡ false =
+    no_float_in (list_data event_data) (no_float_in event_data no_float_event) x.cores in
+    let writes : has_float (list_data (list_data number_data) x.write_lists) ≡ false =
+    no_float_in (list_data number_data) (no_float_in number_data (λ n. refl)) x.write_lists in
     rw (cores, writes) refl

@@ -1,5 +1,6 @@
 -- Laws of places and times in a list.
-use Rattle.std.proofs.Common.{◌≡◌, ◌≢◌, ◌<◌, ◌≤◌, ◌+◌, ◌⊎◌, inl, inr, ℕ, List, [], ◌∷◌, ◌++◌, length, arith, refl, sym, length-append}
+use Rattle.std.proofs.Common.{◌≡◌, ◌≢◌, ◌<◌, ◌≤◌, ◌+◌, ◌⊎◌, inl, inr, ℕ, List, [], ◌∷◌, ◌++◌, length, arith}
+use Rattle.std.proofs.Common.{refl, sym, length-append}
 use Rattle.std.proofs.lemmas.Bool.{cases_eq, cases_lt}
 use Rattle.std.proofs.lemmas.Bool.Decides.{nat_tests}
 use Rattle.recorder.specs.Order.{place, times, Before}
@@ -39,7 +40,12 @@ pub place_in : (xs : List ℕ) (e : ℕ) → 0 < times xs e → place xs e < len
 place_in [] e h = omega (arith, times_nil e)
 place_in (x ∷ xs) e h = elim (cases_eq x e) [
   | inl same ↦ omega (arith, place_here xs x e same)
-  | inr other ↦ omega (arith, place_there xs x e other, times_there xs x e other, place_in xs e (omega (arith, times_there xs x e other)))
+  | inr other ↦ omega (
+    arith,
+    place_there xs x e other,
+    times_there xs x e other,
+    place_in xs e (omega (arith, times_there xs x e other)),
+  )
 ]
 
 -- and the other way round
@@ -47,7 +53,11 @@ pub times_in : (xs : List ℕ) (e : ℕ) → place xs e < length xs → 0 < time
 times_in [] e h = omega (arith, place_nil e)
 times_in (x ∷ xs) e h = elim (cases_eq x e) [
   | inl same ↦ omega (arith, times_here xs x e same)
-  | inr other ↦ omega (arith, times_there xs x e other, times_in xs e (omega (arith, place_there xs x e other)))
+  | inr other ↦ omega (
+    arith,
+    times_there xs x e other,
+    times_in xs e (omega (arith, place_there xs x e other)),
+  )
 ]
 
 -- two numbers have one place only if they are one
@@ -60,7 +70,8 @@ place_one (x ∷ xs) e f h l = elim (cases_eq x e) [
   ]
   | inr e_there ↦ elim (cases_eq x f) [
     | inl f_here ↦ absurd (omega (arith, place_there xs x e e_there, place_here xs x f f_here))
-    | inr f_there ↦ place_one xs e f (omega (arith, place_there xs x e e_there, place_there xs x f f_there)) (omega (arith, place_there xs x e e_there))
+    | inr f_there ↦ place_one xs e f (omega (arith, place_there xs x e e_there, place_there xs x f f_there))
+        (omega (arith, place_there xs x e e_there))
   ]
 ]
 
@@ -69,15 +80,25 @@ pub place_append_left : (xs ys : List ℕ) (e : ℕ) → 0 < times xs e → plac
 place_append_left [] ys e h = absurd (omega (arith, times_nil e))
 place_append_left (x ∷ xs) ys e h = elim (cases_eq x e) [
   | inl same ↦ omega (arith, place_here xs x e same, place_here (xs ++ ys) x e same)
-  | inr other ↦ omega (arith, place_there xs x e other, place_there (xs ++ ys) x e other, place_append_left xs ys e (omega (arith, times_there xs x e other)))
+  | inr other ↦ omega (
+    arith,
+    place_there xs x e other,
+    place_there (xs ++ ys) x e other,
+    place_append_left xs ys e (omega (arith, times_there xs x e other)),
+  )
 ]
 
 -- what does not has its place in the right part
-pub place_append_right : (xs ys : List ℕ) (e : ℕ) → times xs e ≡ 0 → place (xs ++ ys) e ≡ length xs + place ys e
+pub place_append_right : (xs ys : List ℕ) (e : ℕ) → times xs e ≡ 0
+    → place (xs ++ ys) e ≡ length xs + place ys e
 place_append_right [] ys e h = omega arith
 place_append_right (x ∷ xs) ys e h = elim (cases_eq x e) [
   | inl same ↦ absurd (omega (arith, times_here xs x e same))
-  | inr other ↦ omega (arith, place_there (xs ++ ys) x e other, place_append_right xs ys e (omega (arith, times_there xs x e other)))
+  | inr other ↦ omega (
+    arith,
+    place_there (xs ++ ys) x e other,
+    place_append_right xs ys e (omega (arith, times_there xs x e other)),
+  )
 ]
 
 -- a number stands as often as in both parts together
@@ -85,11 +106,17 @@ pub times_append : (xs ys : List ℕ) (e : ℕ) → times (xs ++ ys) e ≡ times
 times_append [] ys e = omega (arith, times_nil e)
 times_append (x ∷ xs) ys e = elim (cases_eq x e) [
   | inl same ↦ omega (arith, times_here xs x e same, times_here (xs ++ ys) x e same, times_append xs ys e)
-  | inr other ↦ omega (arith, times_there xs x e other, times_there (xs ++ ys) x e other, times_append xs ys e)
+  | inr other ↦ omega (
+    arith,
+    times_there xs x e other,
+    times_there (xs ++ ys) x e other,
+    times_append xs ys e,
+  )
 ]
 
 -- of two that stand in a list one stands before the other, or they are one
-pub compare_places : (xs : List ℕ) (e f : ℕ) → 0 < times xs e → 0 < times xs f → Before xs e f ⊎ ((e ≡ f) ⊎ Before xs f e)
+pub compare_places : (xs : List ℕ) (e f : ℕ) → 0 < times xs e → 0 < times xs f
+    → Before xs e f ⊎ ((e ≡ f) ⊎ Before xs f e)
 compare_places xs e f he hf =
     let le : place xs e < length xs = place_in xs e he in
     let lf : place xs f < length xs = place_in xs f hf in
@@ -98,7 +125,8 @@ compare_places xs e f he hf =
       | inr other ↦ either le lf other
     ]
   where
-    either : place xs e < length xs → place xs f < length xs → (place xs e ≡ place xs f → ⊥) → Before xs e f ⊎ ((e ≡ f) ⊎ Before xs f e)
+    either : place xs e < length xs → place xs f < length xs → (place xs e ≡ place xs f → ⊥)
+        → Before xs e f ⊎ ((e ≡ f) ⊎ Before xs f e)
     either le lf other = grind arith
 
 -- a number is 0, or above it
@@ -106,7 +134,8 @@ pub cases_zero : (n : ℕ) → (n ≡ 0) ⊎ (0 < n)
 cases_zero n = elim (cases_lt 0 n) [ inl more ↦ inr more | inr none ↦ inl (omega arith) ]
 
 -- what stands in the left part stands before what stands in the right part alone
-pub left_before_right : (u v : List ℕ) (e f : ℕ) → 0 < times u e → times u f ≡ 0 → 0 < times v f → Before (u ++ v) e f
+pub left_before_right : (u v : List ℕ) (e f : ℕ) → 0 < times u e → times u f ≡ 0 → 0 < times v f
+    → Before (u ++ v) e f
 left_before_right u v e f he none hf = (
   omega (arith, place_append_left u v e he, place_append_right u v f none, place_in u e he),
   omega (arith, place_append_right u v f none, length-append u v, place_in v f hf),
@@ -116,13 +145,18 @@ left_before_right u v e f he none hf = (
 pub before_in_left : (u v : List ℕ) (e f : ℕ) → Before u e f → Before (u ++ v) e f
 before_in_left u v e f h =
     let le : 0 < times u e = times_in u e (omega arith) in
-    let lf : 0 < times u f = times_in u f h.1 in
-    (omega (arith, place_append_left u v e le, place_append_left u v f lf, h), omega (arith, place_append_left u v f lf, length-append u v, h))
+    let lf : 0 < times u f = times_in u f h.1 in (
+      omega (arith, place_append_left u v e le, place_append_left u v f lf, h),
+      omega (arith, place_append_left u v f lf, length-append u v, h),
+    )
 
 -- a pair of the right part, where neither stands in the left one, is a pair of the whole
-pub before_in_right : (u v : List ℕ) (e f : ℕ) → times u e ≡ 0 → times u f ≡ 0 → Before v e f → Before (u ++ v) e f
-before_in_right u v e f ne nf h =
-    (omega (arith, place_append_right u v e ne, place_append_right u v f nf, h), omega (arith, place_append_right u v f nf, length-append u v, h))
+pub before_in_right : (u v : List ℕ) (e f : ℕ) → times u e ≡ 0 → times u f ≡ 0 → Before v e f
+    → Before (u ++ v) e f
+before_in_right u v e f ne nf h = (
+  omega (arith, place_append_right u v e ne, place_append_right u v f nf, h),
+  omega (arith, place_append_right u v f nf, length-append u v, h),
+)
 
 -- to put b between the two parts changes no pair of others
 pub inserted : (u v : List ℕ) (b e f : ℕ) → e ≢ b → f ≢ b → Before (u ++ v) e f → Before (u ++ b ∷ v) e f
@@ -132,7 +166,10 @@ inserted u v b e f eb fb h = elim (cases_zero (times u e)) [
     | inr f_left ↦ absurd (omega (arith, h, ep e_right, fl f_left, place_in u f f_left))
   ]
   | inr e_left ↦ elim (cases_zero (times u f)) [
-    | inl f_right ↦ (omega (arith, el e_left, fp f_right, place_in u e e_left), omega (arith, h, fp f_right, lengths))
+    | inl f_right ↦ (
+      omega (arith, el e_left, fp f_right, place_in u e e_left),
+      omega (arith, h, fp f_right, lengths),
+    )
     | inr f_left ↦ (omega (arith, h, el e_left, fl f_left), omega (arith, h, fl f_left, lengths))
   ]
 ]
@@ -141,10 +178,26 @@ inserted u v b e f eb fb h = elim (cases_zero (times u e)) [
     lengths = omega (arith, length-append u (b ∷ v), length-append u v)
 
     ep : times u e ≡ 0 → (place (u ++ b ∷ v) e ≡ place (u ++ v) e + 1) × (length u ≤ place (u ++ v) e)
-    ep none = (omega (arith, place_append_right u (b ∷ v) e none, place_append_right u v e none, place_there v b e (λ s. eb (sym s))), omega (arith, place_append_right u v e none))
+    ep none = (
+      omega (
+        arith,
+        place_append_right u (b ∷ v) e none,
+        place_append_right u v e none,
+        place_there v b e (λ s. eb (sym s)),
+      ),
+      omega (arith, place_append_right u v e none),
+    )
 
     fp : times u f ≡ 0 → (place (u ++ b ∷ v) f ≡ place (u ++ v) f + 1) × (length u ≤ place (u ++ v) f)
-    fp none = (omega (arith, place_append_right u (b ∷ v) f none, place_append_right u v f none, place_there v b f (λ s. fb (sym s))), omega (arith, place_append_right u v f none))
+    fp none = (
+      omega (
+        arith,
+        place_append_right u (b ∷ v) f none,
+        place_append_right u v f none,
+        place_there v b f (λ s. fb (sym s)),
+      ),
+      omega (arith, place_append_right u v f none),
+    )
 
     el : 0 < times u e → (place (u ++ b ∷ v) e ≡ place u e) × (place (u ++ v) e ≡ place u e)
     el left = (place_append_left u (b ∷ v) e left, place_append_left u v e left)
@@ -160,8 +213,14 @@ removed u v b e f eb fb h = elim (cases_zero (times u e)) [
     | inr f_left ↦ absurd (omega (arith, h, ep e_right, fl f_left, place_in u f f_left))
   ]
   | inr e_left ↦ elim (cases_zero (times u f)) [
-    | inl f_right ↦ (omega (arith, el e_left, fp f_right, place_in u e e_left), omega (arith, h, fp f_right, lengths))
-    | inr f_left ↦ (omega (arith, h, el e_left, fl f_left), omega (arith, h, fl f_left, lengths, place_in u f f_left, length-append u v))
+    | inl f_right ↦ (
+      omega (arith, el e_left, fp f_right, place_in u e e_left),
+      omega (arith, h, fp f_right, lengths),
+    )
+    | inr f_left ↦ (
+      omega (arith, h, el e_left, fl f_left),
+      omega (arith, h, fl f_left, lengths, place_in u f f_left, length-append u v),
+    )
   ]
 ]
   where
@@ -169,10 +228,26 @@ removed u v b e f eb fb h = elim (cases_zero (times u e)) [
     lengths = omega (arith, length-append u (b ∷ v), length-append u v)
 
     ep : times u e ≡ 0 → (place (u ++ b ∷ v) e ≡ place (u ++ v) e + 1) × (length u ≤ place (u ++ v) e)
-    ep none = (omega (arith, place_append_right u (b ∷ v) e none, place_append_right u v e none, place_there v b e (λ s. eb (sym s))), omega (arith, place_append_right u v e none))
+    ep none = (
+      omega (
+        arith,
+        place_append_right u (b ∷ v) e none,
+        place_append_right u v e none,
+        place_there v b e (λ s. eb (sym s)),
+      ),
+      omega (arith, place_append_right u v e none),
+    )
 
     fp : times u f ≡ 0 → (place (u ++ b ∷ v) f ≡ place (u ++ v) f + 1) × (length u ≤ place (u ++ v) f)
-    fp none = (omega (arith, place_append_right u (b ∷ v) f none, place_append_right u v f none, place_there v b f (λ s. fb (sym s))), omega (arith, place_append_right u v f none))
+    fp none = (
+      omega (
+        arith,
+        place_append_right u (b ∷ v) f none,
+        place_append_right u v f none,
+        place_there v b f (λ s. fb (sym s)),
+      ),
+      omega (arith, place_append_right u v f none),
+    )
 
     el : 0 < times u e → (place (u ++ b ∷ v) e ≡ place u e) × (place (u ++ v) e ≡ place u e)
     el left = (place_append_left u (b ∷ v) e left, place_append_left u v e left)

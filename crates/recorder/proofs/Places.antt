@@ -1,29 +1,38 @@
 -- Places, and the numbers that stand at them.
-use Rattle.std.proofs.Common.{◌≡◌, ◌≢◌, ◌<◌, ◌≤◌, ◌+◌, inl, inr, ℕ, zero, suc, List, [], ◌∷◌, drop, get_or, length, arith, ap, refl, subst, ◌∙◌, ◌-◌}
+use Rattle.std.proofs.Common.{◌≡◌, ◌≢◌, ◌<◌, ◌≤◌, ◌+◌, inl, inr, ℕ, zero, suc, List, [], ◌∷◌, drop, get_or}
+use Rattle.std.proofs.Common.{length, arith, ap, refl, subst, ◌∙◌, ◌-◌}
 use Rattle.std.proofs.lemmas.Bool.{cases_eq}
 use Rattle.std.proofs.lemmas.List.{drop_more, drop_all}
 use Rattle.recorder.specs.Order.{place, times, Before}
-use Rattle.recorder.proofs.Orders.{place_here, place_there, place_nil, times_here, times_there, times_nil, times_in}
+use Rattle.recorder.proofs.Orders.{place_here, place_there, place_nil, times_here, times_there, times_nil}
+use Rattle.recorder.proofs.Orders.{times_in}
 
 -- the first number of what is left of a list has place 0 in it
 pub place_found : (xs : List ℕ) (i e : ℕ) → i < length xs → get_or xs i 0 ≡ e → place (drop i xs) e ≡ 0
-place_found xs i e at is = ap (λ (ys : List ℕ). place ys e) (drop_more xs i 0 at) ∙ place_here (drop (i + 1) xs) (get_or xs i 0) e is
+place_found xs i e at is = ap (λ (ys : List ℕ). place ys e) (drop_more xs i 0 at)
+    ∙ place_here (drop (i + 1) xs) (get_or xs i 0) e is
 
 -- any other has its place behind it
-pub place_more : (xs : List ℕ) (i e : ℕ) → i < length xs → get_or xs i 0 ≢ e → place (drop i xs) e ≡ place (drop (i + 1) xs) e + 1
-place_more xs i e at is = ap (λ (ys : List ℕ). place ys e) (drop_more xs i 0 at) ∙ place_there (drop (i + 1) xs) (get_or xs i 0) e is
+pub place_more : (xs : List ℕ) (i e : ℕ) → i < length xs → get_or xs i 0 ≢ e
+    → place (drop i xs) e ≡ place (drop (i + 1) xs) e + 1
+place_more xs i e at is = ap (λ (ys : List ℕ). place ys e) (drop_more xs i 0 at)
+    ∙ place_there (drop (i + 1) xs) (get_or xs i 0) e is
 
 -- nothing is left past the end
 pub place_none : (xs : List ℕ) (i e : ℕ) → length xs ≤ i → place (drop i xs) e ≡ 0
 place_none xs i e at = ap (λ (ys : List ℕ). place ys e) (drop_all i xs at) ∙ place_nil e
 
 -- the first number of what is left stands once more than behind it
-pub times_found : (xs : List ℕ) (i e : ℕ) → i < length xs → get_or xs i 0 ≡ e → times (drop i xs) e ≡ times (drop (i + 1) xs) e + 1
-times_found xs i e at is = ap (λ (ys : List ℕ). times ys e) (drop_more xs i 0 at) ∙ times_here (drop (i + 1) xs) (get_or xs i 0) e is
+pub times_found : (xs : List ℕ) (i e : ℕ) → i < length xs → get_or xs i 0 ≡ e
+    → times (drop i xs) e ≡ times (drop (i + 1) xs) e + 1
+times_found xs i e at is = ap (λ (ys : List ℕ). times ys e) (drop_more xs i 0 at)
+    ∙ times_here (drop (i + 1) xs) (get_or xs i 0) e is
 
 -- any other stands as often
-pub times_more : (xs : List ℕ) (i e : ℕ) → i < length xs → get_or xs i 0 ≢ e → times (drop i xs) e ≡ times (drop (i + 1) xs) e
-times_more xs i e at is = ap (λ (ys : List ℕ). times ys e) (drop_more xs i 0 at) ∙ times_there (drop (i + 1) xs) (get_or xs i 0) e is
+pub times_more : (xs : List ℕ) (i e : ℕ) → i < length xs → get_or xs i 0 ≢ e
+    → times (drop i xs) e ≡ times (drop (i + 1) xs) e
+times_more xs i e at is = ap (λ (ys : List ℕ). times ys e) (drop_more xs i 0 at)
+    ∙ times_there (drop (i + 1) xs) (get_or xs i 0) e is
 
 -- nothing stands past the end
 pub times_none : (xs : List ℕ) (i e : ℕ) → length xs ≤ i → times (drop i xs) e ≡ 0
@@ -53,33 +62,47 @@ pub times_at : (xs : List ℕ) (i : ℕ) → i < length xs → 0 < times xs (get
 times_at xs i h = times_in xs (get_or xs i 0) (omega (arith, place_most xs i h))
 
 -- what stands once has its place
-pub place_at : (xs : List ℕ) (i : ℕ) → i < length xs → times xs (get_or xs i 0) ≤ 1 → place xs (get_or xs i 0) ≡ i
+pub place_at : (xs : List ℕ) (i : ℕ) → i < length xs → times xs (get_or xs i 0) ≤ 1
+    → place xs (get_or xs i 0) ≡ i
 place_at [] i h once = absurd (omega arith)
 place_at (x ∷ xs) zero h once = place_here xs x x refl
 place_at (x ∷ xs) (suc i) h once = elim (cases_eq x (get_or xs i 0)) [
   | inl one ↦ absurd (omega (arith, once, times_here xs x (get_or xs i 0) one, times_at xs i (omega arith)))
-  | inr other ↦ omega (arith, place_there xs x (get_or xs i 0) other, place_at xs i (omega arith) (omega (arith, once, times_there xs x (get_or xs i 0) other)))
+  | inr other ↦ omega (
+    arith,
+    place_there xs x (get_or xs i 0) other,
+    place_at xs i (omega arith) (omega (arith, once, times_there xs x (get_or xs i 0) other)),
+  )
 ]
 
 -- where each two neighbours stand in order, so do all
-pub neighbours : (m xs : List ℕ) → ((j : ℕ) → j + 1 < length xs → Before m (get_or xs j 0) (get_or xs (j + 1) 0)) → (d j k : ℕ) → k ≡ j + d + 1 → k < length xs → Before m (get_or xs j 0) (get_or xs k 0)
+pub neighbours : (m xs : List ℕ) → ((j : ℕ) → j + 1 < length xs
+    → Before m (get_or xs j 0) (get_or xs (j + 1) 0)) → (d j k : ℕ) → k ≡ j + d + 1 → k < length xs
+    → Before m (get_or xs j 0) (get_or xs k 0)
 neighbours m xs next zero j k is h =
     let one : j + 1 ≡ k = omega arith in
     subst (λ (i : ℕ). Before m (get_or xs j 0) (get_or xs i 0)) one (next j (omega arith))
 neighbours m xs next (suc d) j k is h =
-    let front : Before m (get_or xs j 0) (get_or xs (j + d + 1) 0) = neighbours m xs next d j (j + d + 1) refl (omega arith) in
+    let front : Before m (get_or xs j 0) (get_or xs (j + d + 1) 0) =
+    neighbours m xs next d j (j + d + 1) refl (omega arith) in
     let one : j + d + 1 + 1 ≡ k = omega arith in
-    let last : Before m (get_or xs (j + d + 1) 0) (get_or xs k 0) = subst (λ (i : ℕ). Before m (get_or xs (j + d + 1) 0) (get_or xs i 0)) one (next (j + d + 1) (omega arith)) in
+    let last : Before m (get_or xs (j + d + 1) 0) (get_or xs k 0) =
+    subst (λ (i : ℕ). Before m (get_or xs (j + d + 1) 0) (get_or xs i 0)) one
+    (next (j + d + 1) (omega arith)) in
     (omega arith, last.1)
 
 -- so pairs of the list are pairs of the order
-pub neighbours_stand : (m xs : List ℕ) → ((j : ℕ) → j + 1 < length xs → Before m (get_or xs j 0) (get_or xs (j + 1) 0)) → (e f : ℕ) → Before xs e f → Before m e f
+pub neighbours_stand : (m xs : List ℕ) → ((j : ℕ) → j + 1 < length xs
+    → Before m (get_or xs j 0) (get_or xs (j + 1) 0)) → (e f : ℕ) → Before xs e f → Before m e f
 neighbours_stand m xs next e f h =
-    let stand : Before m (get_or xs (place xs e) 0) (get_or xs (place xs f) 0) = neighbours m xs next (place xs f - (place xs e + 1)) (place xs e) (place xs f) (omega arith) h.1 in
-    subst (λ (v : ℕ). Before m v f) (at_place xs e (omega arith)) (subst (λ (v : ℕ). Before m (get_or xs (place xs e) 0) v) (at_place xs f h.1) stand)
+    let stand : Before m (get_or xs (place xs e) 0) (get_or xs (place xs f) 0) =
+    neighbours m xs next (place xs f - (place xs e + 1)) (place xs e) (place xs f) (omega arith) h.1 in
+    subst (λ (v : ℕ). Before m v f) (at_place xs e (omega arith))
+    (subst (λ (v : ℕ). Before m (get_or xs (place xs e) 0) v) (at_place xs f h.1) stand)
 
 -- neighbours in a list of different numbers stand in its order
-pub neighbours_before : (xs : List ℕ) → ((e : ℕ) → times xs e ≤ 1) → (i j : ℕ) → i < j → j < length xs → Before xs (get_or xs i 0) (get_or xs j 0)
+pub neighbours_before : (xs : List ℕ) → ((e : ℕ) → times xs e ≤ 1) → (i j : ℕ) → i < j → j < length xs
+    → Before xs (get_or xs i 0) (get_or xs j 0)
 neighbours_before xs once i j lt h =
     let first : place xs (get_or xs i 0) ≡ i = place_at xs i (omega arith) (once (get_or xs i 0)) in
     let second : place xs (get_or xs j 0) ≡ j = place_at xs j h (once (get_or xs j 0)) in

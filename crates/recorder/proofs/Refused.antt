@@ -1,5 +1,6 @@
 -- From the tests of single events and addresses to a recording.
-use Rattle.std.proofs.Common.{◌≡◌, ◌<◌, ◌≤◌, ◌⊎◌, inl, inr, ℕ, Option, Some, None, List, [], length, arith, refl, ap, subst, ◌∙◌}
+use Rattle.std.proofs.Common.{◌≡◌, ◌<◌, ◌≤◌, ◌⊎◌, inl, inr, ℕ, Option, Some, None, List, [], length, arith}
+use Rattle.std.proofs.Common.{refl, ap, subst, ◌∙◌}
 use Rattle.std.proofs.lemmas.Bool.{cases_lt}
 use Rattle.std.proofs.lemmas.List.{get_or_past}
 use Rattle.recorder.specs.Event.{value_read}
@@ -9,12 +10,14 @@ use Rattle.recorder.specs.Tso.{Gives, IsValueOf}
 use Rattle.recorder.specs.Recording.{IsRecording, IsWithinLimits}
 use Rattle.recorder.specs.Refusals.{HasSource, HasValue, HasWriteList, IsRefusal}
 use Rattle.recorder.specs.declared.fault.RecError.{RecError}
-use Rattle.recorder.specs.declared.fault.RecError.TheVariants.{NotJson, Shape, Version, Limits, Source, Value, WriteList, OutOfMemory}
+use Rattle.recorder.specs.declared.fault.RecError.TheVariants.{NotJson, Shape, Version, Limits, Source, Value}
+use Rattle.recorder.specs.declared.fault.RecError.TheVariants.{WriteList, OutOfMemory}
 use Rattle.recorder.proofs.Events.{Reads-event, Writes-event}
 use Rattle.recorder.proofs.Orders.{times_nil}
 
 -- what holds of each event that reads or writes holds of all numbers
-pub lists_all : (x : Execution) → ((e : ℕ) → e < event_count x → (a : ℕ) → Reads x e a ⊎ Writes x e a → a < length x.write_lists) → (e a : ℕ) → Reads x e a ⊎ Writes x e a → a < length x.write_lists
+pub lists_all : (x : Execution) → ((e : ℕ) → e < event_count x → (a : ℕ) → Reads x e a ⊎ Writes x e a
+    → a < length x.write_lists) → (e a : ℕ) → Reads x e a ⊎ Writes x e a → a < length x.write_lists
 lists_all x each e a uses = elim uses [
   | inl reads ↦ each e (Reads-event x e a reads) a (inl reads)
   | inr writes ↦ each e (Writes-event x e a writes) a (inr writes)
@@ -34,7 +37,8 @@ unfolding write_list
 no_list x a e past = ap (λ (ws : List ℕ). times ws e) (get_or_past x.write_lists a [] past) ∙ times_nil e
 
 -- and so it is with write lists
-pub write_lists_all : (x : Execution) → IsWithinLimits x → ((a : ℕ) → a < length x.write_lists → HasWriteList x a) → (a : ℕ) → HasWriteList x a
+pub write_lists_all : (x : Execution) → IsWithinLimits x
+    → ((a : ℕ) → a < length x.write_lists → HasWriteList x a) → (a : ℕ) → HasWriteList x a
 write_lists_all x within each a = elim (cases_lt a (length x.write_lists)) [
   | inl below ↦ each a below
   | inr past ↦ record {
@@ -44,15 +48,18 @@ write_lists_all x within each a = elim (cases_lt a (length x.write_lists)) [
 ]
 
 -- a source and its value give the value
-gives : (x : Execution) (a : ℕ) (o : Option ℕ) (value : ℕ) → ((s : ℕ) → o ≡ Some s → Writes x s a) → IsValueOf x a o value → Gives x a o value
+gives : (x : Execution) (a : ℕ) (o : Option ℕ) (value : ℕ) → ((s : ℕ) → o ≡ Some s → Writes x s a)
+    → IsValueOf x a o value → Gives x a o value
 gives x a None value source is = is
 gives x a (Some s) value source is = (source s refl, is)
 
 -- where nothing is refused it is a recording
-pub recording : (x : Execution) → IsWithinLimits x → ((e : ℕ) → HasSource x e) → ((e : ℕ) → HasValue x e) → ((a : ℕ) → HasWriteList x a) → IsRecording x
+pub recording : (x : Execution) → IsWithinLimits x → ((e : ℕ) → HasSource x e) → ((e : ℕ) → HasValue x e)
+    → ((a : ℕ) → HasWriteList x a) → IsRecording x
 recording x within sources values lists = record {
   well_formed = record {
-    sources = λ e a reads. gives x a (source_of x e) (value_read (event_at x e)) (λ s from. sources e a s reads from) (values e a reads);
+    sources = λ e a reads. gives x a (source_of x e) (value_read (event_at x e))
+        (λ s from. sources e a s reads from) (values e a reads);
     write_lists = lists;
   };
   within = within;
@@ -60,7 +67,9 @@ recording x within sources values lists = record {
 
 -- the other way round: a recording gives each read its source
 pub source_of_recording : (x : Execution) → IsRecording x → (e : ℕ) → HasSource x e
-source_of_recording x is e a s reads from = (subst (λ (o : Option ℕ). Gives x a o (value_read (event_at x e))) from (is.well_formed.sources e a reads)).0
+source_of_recording x is e a s reads from =
+    (subst (λ (o : Option ℕ). Gives x a o (value_read (event_at x e))) from
+    (is.well_formed.sources e a reads)).0
 
 -- and its value
 value_of : (x : Execution) (a : ℕ) (o : Option ℕ) (value : ℕ) → Gives x a o value → IsValueOf x a o value
@@ -71,7 +80,9 @@ value_of x a (Some s) value is = is.1
 pub refused : (x : Execution) (e : RecError) → IsRefusal x e → ¬ IsRecording x
 refused x Limits no_limits is = no_limits is.within
 refused x (Source e) (within, least) is = least.0 (source_of_recording x is e)
-refused x (Value e) (within, sources, least) is = least.0 (λ a reads. value_of x a (source_of x e) (value_read (event_at x e)) (is.well_formed.sources e a reads))
+refused x (Value e) (within, sources, least) is =
+    least.0 (λ a reads. value_of x a (source_of x e) (value_read (event_at x e))
+    (is.well_formed.sources e a reads))
 refused x (WriteList a) (within, sources, values, least) is = least.0 (is.well_formed.write_lists a)
 refused x NotJson wrong is = wrong
 refused x Shape wrong is = wrong

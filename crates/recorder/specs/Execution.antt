@@ -1,6 +1,6 @@
 -- Executions: events numbered core by core, program order, and the pairs of it that memory order keeps.
-use Rattle.std.specs.Prelude.{◌≡◌, ◌<◌, ◌+◌, ℕ, false, Option, Some, List, [], ◌∷◌, ◌++◌, map, length,
-    slice_index_or, ◌&&◌}
+use Rattle.std.specs.Prelude.{◌≡◌, ◌<◌, ◌+◌, ℕ, false, Option, Some, List, [], ◌∷◌, ◌++◌, map, length}
+use Rattle.std.specs.Prelude.{slice_index_or, ◌&&◌}
 use Rattle.recorder.specs.declared.event.Event.{Event}
 use Rattle.recorder.specs.declared.event.Event.TheVariants.{F}
 use Rattle.recorder.specs.Event.{read_address, written_address, source, is_plain_store, is_plain_load}

@@ -1,14 +1,15 @@
 -- What the bytes of a recording give, from what `serde_json` reads of them: an execution, or the
 -- first refusal.
-use Rattle.std.specs.Prelude.{◌≡◌, ◌≢◌, ◌^◌, ◌==◌, ◌&&◌, ℕ, suc, List, [], ◌∷◌, Option, None, Some, is_some,
-    option_map, option_and_then, Result, Ok, Err, codes, nat_lt, bytes_eq, if◌then◌else◌, ⊤}
+use Rattle.std.specs.Prelude.{◌≡◌, ◌≢◌, ◌^◌, ◌==◌, ◌&&◌, ℕ, suc, List, [], ◌∷◌, Option, None, Some, is_some}
+use Rattle.std.specs.Prelude.{option_map, option_and_then, Result, Ok, Err, codes, nat_lt, bytes_eq}
+use Rattle.std.specs.Prelude.{if◌then◌else◌, ⊤}
 use Rattle.serde_json.specs.Data.{Data, Items, no_items, item, Members, no_members, member}
 use Rattle.serde_json.specs.Find.{get, as_null, as_number, as_u64, as_str, as_array, as_object}
 use Rattle.recorder.specs.declared.event.Event.{Event}
 use Rattle.recorder.specs.declared.event.Event.TheVariants.{L, S, R, F}
 use Rattle.recorder.specs.declared.fault.RecError.{RecError}
-use Rattle.recorder.specs.declared.fault.RecError.TheVariants.{NotJson, Shape, Version, Limits, Source, Value,
-    WriteList, OutOfMemory}
+use Rattle.recorder.specs.declared.fault.RecError.TheVariants.{NotJson, Shape, Version, Limits, Source, Value}
+use Rattle.recorder.specs.declared.fault.RecError.TheVariants.{WriteList, OutOfMemory}
 use Rattle.recorder.specs.Execution.{Execution}
 use Rattle.recorder.specs.Recording.{executed, IsRecording}
 use Rattle.recorder.specs.Refusals.{IsRefusal}

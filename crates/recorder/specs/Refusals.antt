@@ -2,8 +2,8 @@
 -- event or address.
 use Rattle.std.specs.Prelude.{◌≡◌, ◌<◌, ℕ, Option, Some}
 use Rattle.recorder.specs.declared.fault.RecError.{RecError}
-use Rattle.recorder.specs.declared.fault.RecError.TheVariants.{NotJson, Shape, Version, Limits, Source, Value,
-    WriteList, OutOfMemory}
+use Rattle.recorder.specs.declared.fault.RecError.TheVariants.{NotJson, Shape, Version, Limits, Source, Value}
+use Rattle.recorder.specs.declared.fault.RecError.TheVariants.{WriteList, OutOfMemory}
 use Rattle.recorder.specs.Event.{value_read}
 use Rattle.recorder.specs.Execution.{Execution, event_at, write_list, Reads, Writes, source_of}
 use Rattle.recorder.specs.Order.{Enumerates}

@@ -1,8 +1,8 @@
 -- What TSO allows: well-formed executions, and memory orders that explain them.
 use Rattle.std.specs.Prelude.{◌≡◌, ◌≢◌, ◌<◌, ◌⊎◌, ℕ, Option, Some, None, List}
 use Rattle.recorder.specs.Event.{value_read, value_written}
-use Rattle.recorder.specs.Execution.{Execution, event_count, event_at, write_list, initial_value, Reads,
-    Writes, source_of, ProgramOrder, Kept}
+use Rattle.recorder.specs.Execution.{Execution, event_count, event_at, write_list, initial_value, Reads}
+use Rattle.recorder.specs.Execution.{Writes, source_of, ProgramOrder, Kept}
 use Rattle.recorder.specs.Order.{Before, Enumerates}
 
 -- a value of address a is what the source wrote, or the initial value

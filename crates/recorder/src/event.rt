@@ -31,8 +31,8 @@ pub enum Event {
 
 impl Event {
     ghost use Rattle.std.specs.Prelude.{◌≡◌, ◌↔◌, ◌<◌, ◌⊎◌, ◌&&◌, ℕ, IsTrue, Some, false};
-    ghost use Rattle.recorder.specs.Event.{read_address, written_address, source, value_read, value_written,
-        is_plain_store, is_plain_load};
+    ghost use Rattle.recorder.specs.Event.{read_address, written_address, source, value_read, value_written};
+    ghost use Rattle.recorder.specs.Event.{is_plain_store, is_plain_load};
 
     /// The address that it reads.
     pub fn read_address(&self) -> Option<Addr>

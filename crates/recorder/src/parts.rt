@@ -24,8 +24,8 @@ impl Model for RecordingParts {
 impl RecordingParts {
     ghost use Rattle.std.specs.Prelude.{◌≡◌, ◌≤◌, ◌<◌, ◌↔◌, IsTrue, length, map, MatchOption};
     ghost use Rattle.recorder.specs.Event.{value_written, written_address};
-    ghost use Rattle.recorder.specs.Execution.{event_count, event_at, core_of, write_list, initial_value,
-        Writes};
+    ghost use Rattle.recorder.specs.Execution.{event_count, event_at, core_of, write_list, initial_value};
+    ghost use Rattle.recorder.specs.Execution.{Writes};
     ghost use Rattle.recorder.specs.Recording.{executed};
 
     pub(crate) fn new(cores: Vec<Vec<Event>>, writes: Vec<Vec<EventId>>) -> RecordingParts
@@ -79,7 +79,7 @@ impl RecordingParts {
         requires { length self.now.cores ≤ MAX_CORES }
         ensures { MatchOption result (event_count self.now ≤ number)
             (λ p. (number < event_count self.now) × (p.0 ≡ core_of self.now number)
-                × (p.1.now ≡ event_at self.now number)) }
+            × (p.1.now ≡ event_at self.now number)) }
     {
         let mut rest = number as usize;
         for (core, events) in self.cores.iter().enumerate() {

@@ -3,8 +3,8 @@
 ghost use Rattle.std.specs.Prelude.{◌≡◌, IfOk, option_map, map, codes};
 ghost use Rattle.serde_json.specs.View.{view, items_view};
 ghost use Rattle.recorder.specs.Found.{found};
-ghost use Rattle.recorder.specs.Reading.{each, list_in, number_in, event_in, at_key, shape_of, shape_in,
-    IsReadingResult};
+ghost use Rattle.recorder.specs.Reading.{each, list_in, number_in, event_in, at_key, shape_of, shape_in};
+ghost use Rattle.recorder.specs.Reading.{IsReadingResult};
 ghost use Rattle.recorder.specs.Clipped.{clip, clip_event, clipped_shape, clipped_number, clipped_event};
 
 use crate::event::Event;
@@ -99,7 +99,7 @@ fn lists_in(alloc: Global, list: &[Value]) -> Result<Option<Vec<Vec<EventId>>>, 
 fn cores_at(alloc: Global, value: &Value) -> Result<Option<Vec<Vec<Event>>>, AllocError>
     ensures { IfOk result (λ o. option_map (λ v. map (λ w. w.items) v.items) o
         ≡ option_map (map (map clip_event))
-            (at_key (list_in (list_in event_in)) (codes "cores") (view value.now))) }
+        (at_key (list_in (list_in event_in)) (codes "cores") (view value.now))) }
 {
     let Some(list) = value.get("cores").and_then(Value::as_array) else {
         return Ok(None);
@@ -111,7 +111,7 @@ fn cores_at(alloc: Global, value: &Value) -> Result<Option<Vec<Vec<Event>>>, All
 fn lists_at(alloc: Global, value: &Value) -> Result<Option<Vec<Vec<EventId>>>, AllocError>
     ensures { IfOk result (λ o. option_map (λ v. map (λ w. w.items) v.items) o
         ≡ option_map (map (map clip))
-            (at_key (list_in (list_in number_in)) (codes "writes") (view value.now))) }
+        (at_key (list_in (list_in number_in)) (codes "writes") (view value.now))) }
 {
     let Some(list) = value.get("writes").and_then(Value::as_array) else {
         return Ok(None);

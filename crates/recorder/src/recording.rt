@@ -26,8 +26,8 @@ impl Model for Recording {
 }
 
 impl Recording {
-    ghost use Rattle.std.specs.Prelude.{◌≡◌, ◌≤◌, ◌<◌, map, ◌↔◌, ◌⊎◌, MatchOption, length, IsOk, IsTrue, IfOk,
-        IfErr};
+    ghost use Rattle.std.specs.Prelude.{◌≡◌, ◌≤◌, ◌<◌, map, ◌↔◌, ◌⊎◌, MatchOption, length, IsOk, IsTrue};
+    ghost use Rattle.std.specs.Prelude.{IfOk, IfErr};
     ghost use Rattle.recorder.specs.Execution.{event_count, event_at, core_of, write_list, Writes};
     ghost use Rattle.recorder.specs.Recording.{executed, IsRecording};
     ghost use Rattle.recorder.specs.Refusals.{IsRefusal};
@@ -113,7 +113,7 @@ impl Recording {
     pub fn event(&self, number: EventId) -> Option<(CoreId, &Event)>
         ensures { MatchOption result (event_count self.now ≤ number)
             (λ p. (number < event_count self.now) × (p.0 ≡ core_of self.now number)
-                × (p.1.now ≡ event_at self.now number)) }
+            × (p.1.now ≡ event_at self.now number)) }
     {
         self.parts.event(number)
     }

@@ -51,7 +51,7 @@ fn cores_value(alloc: Global, cores: &[Vec<Event>]) -> Result<Value, AllocError>
         ≡ list_data (list_data event_data) (map (λ w. w.items) cores.now)) }
     ensures again { let lists = map (λ w. w.items) cores.now
         in IfOk result (λ _. list_in (list_in event_in) (list_data (list_data event_data) lists)
-            ≡ Some lists) }
+        ≡ Some lists) }
 {
     let mut values = Vec::with_capacity(alloc, cores.len())?;
     for events in cores {
@@ -77,7 +77,7 @@ fn lists_value(alloc: Global, lists: &[Vec<EventId>]) -> Result<Value, AllocErro
         ≡ list_data (list_data number_data) (map (λ w. w.items) lists.now)) }
     ensures again { let numbers = map (λ w. w.items) lists.now
         in IfOk result (λ _. list_in (list_in number_in) (list_data (list_data number_data) numbers)
-            ≡ Some numbers) }
+        ≡ Some numbers) }
 {
     let mut values = Vec::with_capacity(alloc, lists.len())?;
     for writes in lists {

@@ -5,7 +5,8 @@ use Rattle.relations.specs.Cycle.{Leads}
 use Rattle.relations.specs.Laws.{OrderedIsAcyclic}
 
 -- along related neighbours places grow
-leads_before : (R : ℕ → ℕ → Type 0) (m : List ℕ) → ((e f : ℕ) → R e f → Before m e f) → (e : ℕ) (es : List ℕ) (back : ℕ) → Leads R e es back → place m e < place m back
+leads_before : (R : ℕ → ℕ → Type 0) (m : List ℕ) → ((e f : ℕ) → R e f → Before m e f)
+    → (e : ℕ) (es : List ℕ) (back : ℕ) → Leads R e es back → place m e < place m back
 leads_before R m order e [] back h = (order e back h).0
 leads_before R m order e (f ∷ fs) back h =
     let first : Before m e f = order e f h.0 in

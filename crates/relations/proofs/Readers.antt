@@ -1,5 +1,6 @@
 -- Rows as the events that read are put into them.
-use Rattle.std.proofs.Common.{◌≡◌, ◌<◌, ◌+◌, ◌⊎◌, inl, inr, ℕ, Option, Some, None, List, [], get_or, set, arith, sym, ap, subst, ◌∙◌, get_or-set_other, get_or-set_same, length-set}
+use Rattle.std.proofs.Common.{◌≡◌, ◌<◌, ◌+◌, ◌⊎◌, inl, inr, ℕ, Option, Some, None, List, [], get_or, set}
+use Rattle.std.proofs.Common.{arith, sym, ap, subst, ◌∙◌, get_or-set_other, get_or-set_same, length-set}
 use Rattle.std.proofs.lemmas.Bool.{cases_eq}
 use Rattle.std.proofs.lemmas.List.{get_or_default}
 use Rattle.recorder.specs.Execution.{Execution, event_count, source_of}
@@ -19,18 +20,27 @@ abbrev pub IsReached : Execution → ℕ → ℕ → ℕ → Type 0
 IsReached x n e f = IsOwnOrWrite x e f ⊎ ((source_of x f ≡ Some e) × (f < n))
 
 -- rows that are filled for more pairs are filled for fewer
-rows_fewer : (x : Execution) (P Q : ℕ → ℕ → Type 0) (rows : Table) → ((e f : ℕ) → Q e f → P e f) → AreFilled x P rows → AreFilled x Q rows
-rows_fewer x P Q rows fewer h = record { size = h.size; each = λ e at. filled_fewer x e (P e) (Q e) _ (get_or rows e []) (fewer e) (h.each e at) }
+rows_fewer : (x : Execution) (P Q : ℕ → ℕ → Type 0) (rows : Table) → ((e f : ℕ) → Q e f → P e f)
+    → AreFilled x P rows → AreFilled x Q rows
+rows_fewer x P Q rows fewer h =
+    record {
+      size = h.size;
+      each = λ e at. filled_fewer x e (P e) (Q e) _ (get_or rows e []) (fewer e)
+          (h.each e at);
+    }
 
 -- after the last event each forced pair is in its row
-pub every_reader : (x : Execution) (n : ℕ) (rows : Table) → IsWellFormed x → event_count x ≡ n → AreFilled x (IsReached x n) rows → AreFilled x (Forced x) rows
-every_reader x n rows wf all h = rows_fewer x (IsReached x n) (Forced x) rows (λ e f forced. elim (forced_split x e f forced.0 forced.1) [
-  | inl own ↦ inl own
-  | inr reads ↦ inr (reads, omega (arith, all, (source_writes x wf e f reads).0))
-]) h
+pub every_reader : (x : Execution) (n : ℕ) (rows : Table) → IsWellFormed x → event_count x ≡ n
+    → AreFilled x (IsReached x n) rows → AreFilled x (Forced x) rows
+every_reader x n rows wf all h =
+    rows_fewer x (IsReached x n) (Forced x) rows (λ e f forced. elim (forced_split x e f forced.0 forced.1) [
+      | inl own ↦ inl own
+      | inr reads ↦ inr (reads, omega (arith, all, (source_writes x wf e f reads).0))
+    ]) h
 
 -- an event without a source is in no row
-pub reader_of_none : (x : Execution) (n : ℕ) (rows : Table) → source_of x n ≡ None → AreFilled x (IsReached x n) rows → AreFilled x (IsReached x (n + 1)) rows
+pub reader_of_none : (x : Execution) (n : ℕ) (rows : Table) → source_of x n ≡ None
+    → AreFilled x (IsReached x n) rows → AreFilled x (IsReached x (n + 1)) rows
 reader_of_none x n rows none h = rows_fewer x (IsReached x n) (IsReached x (n + 1)) rows (λ e f q. elim q [
   | inl own ↦ inl own
   | inr reads ↦ elim (cases_eq f n) [
@@ -40,38 +50,54 @@ reader_of_none x n rows none h = rows_fewer x (IsReached x n) (IsReached x (n + 
 ]) h
 
 -- the source of a placed event is the source of its number
-pub source_placed : (x : Execution) (ps : List Placed) (n : ℕ) (d : Placed) (o : Option ℕ) → ArePlaced x ps → n < event_count x → (get_or ps n d).source ≡ o → source_of x n ≡ o
+pub source_placed : (x : Execution) (ps : List Placed) (n : ℕ) (d : Placed) (o : Option ℕ) → ArePlaced x ps
+    → n < event_count x → (get_or ps n d).source ≡ o → source_of x n ≡ o
 source_placed x ps n d o placed at is =
     let here = placed.each n d (omega (arith, placed.size)) in
     ap (source_of x) (sym here.1) ∙ (sym here.0.source ∙ is)
 
 -- the reason for one placed event before another is that for their numbers
-pub reason_placed : (x : Execution) (ps : List Placed) (e f : ℕ) (d k : Placed) (r : Option Reason) → ArePlaced x ps → e < event_count x → f < event_count x
-    → (IsPlaced x (get_or ps e d) → IsPlaced x (get_or ps f k) → IsReason x (get_or ps e d).number (get_or ps f k).number r) → IsReason x e f r
+pub reason_placed : (x : Execution) (ps : List Placed) (e f : ℕ) (d k : Placed) (r : Option Reason)
+    → ArePlaced x ps → e < event_count x → f < event_count x
+    → (IsPlaced x (get_or ps e d) → IsPlaced x (get_or ps f k)
+    → IsReason x (get_or ps e d).number (get_or ps f k).number r) → IsReason x e f r
 reason_placed x ps e f d k r placed he hf reason =
     let first = placed.each e d (omega (arith, placed.size)) in
     let second = placed.each f k (omega (arith, placed.size)) in
-    subst (λ (g : ℕ). IsReason x g f r) first.1 (subst (λ (g : ℕ). IsReason x (get_or ps e d).number g r) second.1 (reason first.0 second.0))
+    subst (λ (g : ℕ). IsReason x g f r) first.1 (subst
+    (λ (g : ℕ). IsReason x (get_or ps e d).number g r) second.1 (reason first.0 second.0))
 
 -- an event with a source is in the row of its source
-pub reader_of_some : (x : Execution) (n s : ℕ) (rows : Table) (r : Option Reason) (d : List (Option Reason)) → n < event_count x → s < event_count x → source_of x n ≡ Some s → IsReason x s n r → AreFilled x (IsReached x n) rows
+pub reader_of_some : (x : Execution) (n s : ℕ) (rows : Table) (r : Option Reason) (d : List (Option Reason))
+    → n < event_count x → s < event_count x → source_of x n ≡ Some s → IsReason x s n r
+    → AreFilled x (IsReached x n) rows
     → AreFilled x (IsReached x (n + 1)) (set rows s (set (get_or rows s d) n r))
 reader_of_some x n s rows r d within at is reason h = record {
   size = length-set rows s row ∙ h.size;
   each = λ e event. elim (cases_eq e s) [
     | inl one ↦
         subst (λ (g : ℕ). IsFilledRow x g (IsReached x (n + 1) g) (get_or (set rows s row) g [])) (sym one)
-        (subst (λ (v : List (Option Reason)). IsFilledRow x s (IsReached x (n + 1) s) v) (sym (get_or-set_same rows s row [] (omega (arith, h.size, at))))
-        (filled_more x s (IsReached x n s) (IsReached x (n + 1) s) _ (get_or rows s d) n r (omega (arith, within, row_size x (IsReached x n) rows h s d (omega (arith, h.size, at)))) reason (λ f q. elim q [
+        (subst (λ (v : List (Option Reason)). IsFilledRow x s (IsReached x (n + 1) s) v)
+        (sym (get_or-set_same rows s row [] (omega (arith, h.size, at))))
+        (filled_more x s (IsReached x n s) (IsReached x (n + 1) s) _ (get_or rows s d) n r
+        (omega (arith, within, row_size x (IsReached x n) rows h s d (omega (arith, h.size, at)))) reason
+        (λ f q. elim q [
           | inl own ↦ inl (inl own)
-          | inr reads ↦ elim (cases_eq f n) [ inl last ↦ inr last | inr earlier ↦ inl (inr (reads.0, omega arith)) ]
-        ]) (subst (λ (v : List (Option Reason)). IsFilledRow x s (IsReached x n s) v) (get_or_default rows s [] d (omega (arith, h.size, at))) (h.each s at))))
+          | inr reads ↦ elim (cases_eq f n) [
+            | inl last ↦ inr last
+            | inr earlier ↦ inl
+                (inr (reads.0, omega arith))
+          ]
+        ]) (subst (λ (v : List (Option Reason)). IsFilledRow x s (IsReached x n s) v)
+        (get_or_default rows s [] d (omega (arith, h.size, at))) (h.each s at))))
     | inr other ↦
-        subst (λ (v : List (Option Reason)). IsFilledRow x e (IsReached x (n + 1) e) v) (sym (get_or-set_other rows s e row [] other))
+        subst (λ (v : List (Option Reason)). IsFilledRow x e (IsReached x (n + 1) e) v)
+        (sym (get_or-set_other rows s e row [] other))
         (filled_fewer x e (IsReached x n e) (IsReached x (n + 1) e) _ (get_or rows e []) (λ f q. elim q [
           | inl own ↦ inl own
           | inr reads ↦ elim (cases_eq f n) [
-            | inl last ↦ absurd (other (let both : Some e ≡ Some s = sym reads.0 ∙ (ap (source_of x) last ∙ is) in cc))
+            | inl last ↦ absurd (other (let both : Some e ≡ Some s = sym reads.0
+                ∙ (ap (source_of x) last ∙ is) in cc))
             | inr earlier ↦ inr (reads.0, omega arith)
           ]
         ]) (h.each e event))

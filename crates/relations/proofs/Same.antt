@@ -1,10 +1,13 @@
 -- Relations with the same pairs have the same cycles, distances and first order.
 use Rattle.std.proofs.Common.{ℕ, zero, suc, List, [], ◌∷◌}
-use Rattle.relations.specs.Cycle.{Leads, IsCycle, IsShortest, Walk, IsCappedDistance, IsExactRow, IsLabelling, IsCertificate}
-use Rattle.relations.specs.Laws.{Agree, LeastOrdersAgree, CyclesAgree, LeastCyclesAgree, ExactRowsAgree, CertificatesAgree}
+use Rattle.relations.specs.Cycle.{Leads, IsCycle, IsShortest, Walk, IsCappedDistance, IsExactRow, IsLabelling}
+use Rattle.relations.specs.Cycle.{IsCertificate}
+use Rattle.relations.specs.Laws.{Agree, LeastOrdersAgree, CyclesAgree, LeastCyclesAgree, ExactRowsAgree}
+use Rattle.relations.specs.Laws.{CertificatesAgree}
 
 -- neighbours that are related in the one are related in the other
-leads_into : (R S : ℕ → ℕ → Type 0) → ((e f : ℕ) → R e f → S e f) → (e : ℕ) (es : List ℕ) (back : ℕ) → Leads R e es back → Leads S e es back
+leads_into : (R S : ℕ → ℕ → Type 0) → ((e f : ℕ) → R e f → S e f) → (e : ℕ) (es : List ℕ) (back : ℕ)
+    → Leads R e es back → Leads S e es back
 leads_into R S into e [] back h = into e back h
 leads_into R S into e (f ∷ fs) back h = (into e f h.0, leads_into R S into f fs back h.1)
 
@@ -15,13 +18,20 @@ cycle_into R S into (e ∷ es) h = leads_into R S into e es e h
 
 -- they have the same cycles
 pub cycles_agree : (R S : ℕ → ℕ → Type 0) → CyclesAgree R S
-cycles_agree R S same c = (cycle_into R S (λ e f r. (same e f).0 r) c, cycle_into S R (λ e f s. (same e f).1 s) c)
+cycles_agree R S same c = (
+  cycle_into R S (λ e f r. (same e f).0 r) c,
+  cycle_into S R (λ e f s. (same e f).1 s) c,
+)
 
 -- they have the same first order
 pub least_agree : (R S : ℕ → ℕ → Type 0) → LeastOrdersAgree R S
 least_agree R S same n m l = record {
   respects = record { total = l.respects.total; related = λ e f s. l.respects.related e f ((same e f).1 s) };
-  least = λ other r. l.least other (record { total = r.total; related = λ e f h. r.related e f ((same e f).0 h) });
+  least = λ other r. l.least other (record {
+    total = r.total;
+    related = λ e f h. r.related e f
+        ((same e f).0 h);
+  });
 }
 
 -- a shortest cycle of the one is one of the other
@@ -48,7 +58,8 @@ walk_into R S same zero e f w = w
 walk_into R S same (suc n) e f w = (w.0, (same e w.0).0 w.1, walk_into R S same n w.0 f w.2)
 
 -- a distance of the one is that of the other
-distance_into : (R S : ℕ → ℕ → Type 0) → Agree R S → (k e f n : ℕ) → IsCappedDistance R k e f n → IsCappedDistance S k e f n
+distance_into : (R S : ℕ → ℕ → Type 0) → Agree R S → (k e f n : ℕ) → IsCappedDistance R k e f n
+    → IsCappedDistance S k e f n
 distance_into R S same k e f n d = record {
   cap = d.cap;
   walk = λ low. walk_into R S same n e f (d.walk low);
@@ -66,7 +77,8 @@ exact_rows_agree R S same n k rows exact = record {
 }
 
 -- labels of the one are labels of the other
-labelling_into : (R S : ℕ → ℕ → Type 0) → Agree R S → (k n v : ℕ) (labels : List ℕ) → IsLabelling R k n v labels → IsLabelling S k n v labels
+labelling_into : (R S : ℕ → ℕ → Type 0) → Agree R S → (k n v : ℕ) (labels : List ℕ)
+    → IsLabelling R k n v labels → IsLabelling S k n v labels
 labelling_into R S same k n v labels l = record {
   one_each = l.one_each;
   start = l.start;
@@ -75,7 +87,8 @@ labelling_into R S same k n v labels l = record {
 }
 
 -- a certificate of the one is one of the other
-certificate_into : (R S : ℕ → ℕ → Type 0) → Agree R S → (n : ℕ) (c : List ℕ) (rows : List (List ℕ)) → IsCertificate R n c rows → IsCertificate S n c rows
+certificate_into : (R S : ℕ → ℕ → Type 0) → Agree R S → (n : ℕ) (c : List ℕ) (rows : List (List ℕ))
+    → IsCertificate R n c rows → IsCertificate S n c rows
 certificate_into R S same n c rows h = record {
   cyclic = (cycles_agree R S same c).0 h.cyclic;
   one_each = h.one_each;
@@ -84,4 +97,7 @@ certificate_into R S same n c rows h = record {
 
 -- they have the same certificates
 pub certificates_agree : (R S : ℕ → ℕ → Type 0) → CertificatesAgree R S
-certificates_agree R S same n c rows = (certificate_into R S same n c rows, certificate_into S R (turned R S same) n c rows)
+certificates_agree R S same n c rows = (
+  certificate_into R S same n c rows,
+  certificate_into S R (turned R S same) n c rows,
+)

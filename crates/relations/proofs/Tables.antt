@@ -1,7 +1,9 @@
 -- Placed events, rows and tables of reasons as they grow.
-use Rattle.std.proofs.Common.{◌≡◌, ◌<◌, ◌≤◌, inl, inr, ℕ, Option, None, List, [], ◌∷◌, ◌++◌, get_or, length, arith, sym, ap, ◌∙◌, subst, length-append, map, Vec, Global}
+use Rattle.std.proofs.Common.{◌≡◌, ◌<◌, ◌≤◌, inl, inr, ℕ, Option, None, List, [], ◌∷◌, ◌++◌, get_or, length}
+use Rattle.std.proofs.Common.{arith, sym, ap, ◌∙◌, subst, length-append, map, Vec, Global}
 use Rattle.std.proofs.lemmas.Bool.{cases_lt}
-use Rattle.std.proofs.lemmas.List.{get_or_push, get_or_append_left, get_or_default, get_or-map, length-map, length-replicate}
+use Rattle.std.proofs.lemmas.List.{get_or_push, get_or_append_left, get_or_default, get_or-map, length-map}
+use Rattle.std.proofs.lemmas.List.{length-replicate}
 use Rattle.std.specs.Prelude.{All}
 use Rattle.litmus.specs.declared.limits.TheConstants.{MAX_EVENTS}
 use Rattle.relations.specs.declared.reason.Reason.{Reason}
@@ -14,7 +16,9 @@ use Rattle.relations.proofs.Filled.{filled_reason}
 use Rattle.recorder.specs.Execution.{Execution, event_count}
 
 -- what holds of each item holds with one more
-each_more : {A : Type 0} (P : ℕ → A → Type 0) (xs : List A) (y d : A) → ((e : ℕ) → e < length xs → P e (get_or xs e d)) → P (length xs) y → (e : ℕ) → e < length (xs ++ y ∷ []) → P e (get_or (xs ++ y ∷ []) e d)
+each_more : {A : Type 0} (P : ℕ → A → Type 0) (xs : List A) (y d : A)
+    → ((e : ℕ) → e < length xs → P e (get_or xs e d)) → P (length xs) y → (e : ℕ) → e < length (xs ++ y ∷ [])
+    → P e (get_or (xs ++ y ∷ []) e d)
 each_more {A} P xs y d rest last e h = elim (cases_lt e (length xs)) [
   | inl before ↦ subst (λ (q : A). P e q) (sym (get_or_append_left xs (y ∷ []) d e before)) (rest e before)
   | inr here ↦
@@ -24,24 +28,33 @@ each_more {A} P xs y d rest last e h = elim (cases_lt e (length xs)) [
 
 -- the events as far as they go
 abbrev pub ArePlacedSoFar : Execution → List Placed → Type 0
-ArePlacedSoFar x ps = (e : ℕ) (d : Placed) → e < length ps → IsPlaced x (get_or ps e d) × ((get_or ps e d).number ≡ e)
+ArePlacedSoFar x ps = (e : ℕ) (d : Placed) → e < length ps
+    → IsPlaced x (get_or ps e d) × ((get_or ps e d).number ≡ e)
 
 -- one event more
-pub placed_more : (x : Execution) (ps : List Placed) (p : Placed) → ArePlacedSoFar x ps → IsPlaced x p → p.number ≡ length ps → ArePlacedSoFar x (ps ++ p ∷ [])
-placed_more x ps p rest last at e d h = each_more (λ e q. IsPlaced x q × (q.number ≡ e)) ps p d (λ e before. rest e d before) (last, at) e h
+pub placed_more : (x : Execution) (ps : List Placed) (p : Placed) → ArePlacedSoFar x ps → IsPlaced x p
+    → p.number ≡ length ps → ArePlacedSoFar x (ps ++ p ∷ [])
+placed_more x ps p rest last at e d h = each_more (λ e q. IsPlaced x q
+    × (q.number ≡ e)) ps p d (λ e before. rest e d before) (last, at) e h
 
 -- the rows as far as they go
 abbrev pub AreFilledSoFar : Execution → (ℕ → ℕ → Type 0) → Table → Type 0
 AreFilledSoFar x P rows = (e : ℕ) → e < length rows → IsFilledRow x e (P e) (get_or rows e [])
 
 -- one row more
-pub filled_rows_more : (x : Execution) (P : ℕ → ℕ → Type 0) (rows : Table) (row : List (Option Reason)) → AreFilledSoFar x P rows → IsFilledRow x (length rows) (P (length rows)) row → AreFilledSoFar x P (rows ++ row ∷ [])
-filled_rows_more x P rows row rest last e h = each_more (λ e r. IsFilledRow x e (P e) r) rows row [] rest last e h
+pub filled_rows_more : (x : Execution) (P : ℕ → ℕ → Type 0) (rows : Table) (row : List (Option Reason))
+    → AreFilledSoFar x P rows → IsFilledRow x (length rows) (P (length rows)) row
+    → AreFilledSoFar x P (rows ++ row ∷ [])
+filled_rows_more x P rows row rest last e h =
+    each_more (λ e r. IsFilledRow x e (P e) r) rows row [] rest last e h
 
 -- each row has a place for each event
-pub row_size : (x : Execution) (P : ℕ → ℕ → Type 0) (rows : Table) → AreFilled x P rows → All (λ row. length row ≡ event_count x) rows
+pub row_size : (x : Execution) (P : ℕ → ℕ → Type 0) (rows : Table) → AreFilled x P rows
+    → All (λ row. length row ≡ event_count x) rows
 row_size x P rows h e d at =
-    ap (λ (row : List (Option Reason)). length row) (get_or_default rows e d [] at) ∙ ((h.each e (omega (arith, h.size))).size ∙ length-replicate {A = Option Reason} (event_count x) None)
+    ap (λ (row : List (Option Reason)). length row) (get_or_default rows e d [] at)
+    ∙ ((h.each e (omega (arith, h.size))).size ∙ length-replicate {A = Option Reason}
+    (event_count x) None)
 
 -- rows with the reasons for each forced pair are the table
 pub table_of_filled : (x : Execution) (rows : Table) → AreFilled x (Forced x) rows → IsTableOf x rows
@@ -53,16 +66,24 @@ table_of_filled x rows h = record {
 
 -- the table of a recording is square
 pub square_of_table : (x : Execution) (t : Table) → event_count x ≤ MAX_EVENTS → IsTableOf x t → IsSquare t
-square_of_table x t few h = record { rows = subst (λ (n : ℕ). All (λ row. length row ≡ n) t) (sym h.size) h.rows; few = omega (arith, few, h.size) }
+square_of_table x t few h = record {
+  rows = subst (λ (n : ℕ). All (λ row. length row
+      ≡ n) t) (sym h.size) h.rows;
+  few = omega (arith, few, h.size);
+}
 
 -- the rows of a vector of vectors
 abbrev pub rows_of : List (Vec (Option Reason) Global) → Table
 rows_of vs = map (λ v. v.items) vs
 
 -- a row of a square is as long as there are rows
-pub square_row : (vs : List (Vec (Option Reason) Global)) (v : Vec (Option Reason) Global) (i : ℕ) → IsSquare (rows_of vs) → i < length vs → v ≡ get_or vs i v → length v.items ≡ length vs
+pub square_row : (vs : List (Vec (Option Reason) Global)) (v : Vec (Option Reason) Global) (i : ℕ)
+    → IsSquare (rows_of vs) → i < length vs → v ≡ get_or vs i v → length v.items ≡ length vs
 square_row vs v i square at read =
-    let here : get_or (rows_of vs) i [] ≡ v.items = get_or-map (λ (w : Vec (Option Reason) Global). w.items) vs i v [] at ∙ ap (λ (w : Vec (Option Reason) Global). w.items) (sym read) in
-    let size : length (rows_of vs) ≡ length vs = length-map vs (λ (w : Vec (Option Reason) Global). w.items) in
+    let here : get_or (rows_of vs) i [] ≡ v.items =
+    get_or-map (λ (w : Vec (Option Reason) Global). w.items) vs i v [] at
+    ∙ ap (λ (w : Vec (Option Reason) Global). w.items) (sym read) in
+    let size : length (rows_of vs) ≡ length vs =
+    length-map vs (λ (w : Vec (Option Reason) Global). w.items) in
     let long : length (get_or (rows_of vs) i []) ≡ length (rows_of vs) = square.rows i [] (omega arith) in
     ap (λ (row : List (Option Reason)). length row) (sym here) ∙ (long ∙ size)

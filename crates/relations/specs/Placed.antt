@@ -3,8 +3,8 @@ use Rattle.std.specs.Prelude.{◌≡◌, ◌<◌, ℕ, List, length, slice_index
 use Rattle.relations.specs.declared.placed.Placed.{Placed}
 use Rattle.relations.specs.Forced.{IsNewerFrom}
 use Rattle.recorder.specs.Event.{read_address, written_address}
-use Rattle.recorder.specs.Execution.{Execution, event_count, event_at, core_of, write_list, Reads, Writes,
-    source_of}
+use Rattle.recorder.specs.Execution.{Execution, event_count, event_at, core_of, write_list, Reads, Writes}
+use Rattle.recorder.specs.Execution.{source_of}
 use Rattle.recorder.specs.Order.{place}
 use Rattle.recorder.specs.Tso.{IsWellFormed}
 

@@ -3,8 +3,9 @@
 ghost use Rattle.recorder.specs.Execution.{Execution};
 ghost use Rattle.relations.specs.Forced.{Forced};
 ghost use Rattle.relations.specs.Relation.{Table, Related};
-ghost use Rattle.relations.specs.Laws.{EveryOrderRespects, EveryRespectingIsOrder, OrderedIsAcyclic,
-    LeastOrdersAgree, CyclesAgree, LeastCyclesAgree, ExactRowsAgree, CertificatesAgree};
+ghost use Rattle.relations.specs.Laws.{EveryOrderRespects, EveryRespectingIsOrder, OrderedIsAcyclic};
+ghost use Rattle.relations.specs.Laws.{LeastOrdersAgree, CyclesAgree, LeastCyclesAgree, ExactRowsAgree};
+ghost use Rattle.relations.specs.Laws.{CertificatesAgree};
 
 /// Every memory order of TSO has the forced pairs in order, and where no read overlooks a store of
 /// its own core, every order that has them in order is one of TSO.

@@ -1,6 +1,6 @@
 -- The texts of verdicts.
-use Rattle.std.specs.Prelude.{◌≡◌, ◌++◌, ◌∷◌, ◌+◌, [], ℕ, zero, suc, List, Some, codes, decimal, length,
-    slice_index, slice_index_or}
+use Rattle.std.specs.Prelude.{◌≡◌, ◌++◌, ◌∷◌, ◌+◌, [], ℕ, zero, suc, List, Some, codes, decimal, length}
+use Rattle.std.specs.Prelude.{slice_index, slice_index_or}
 use Rattle.std.specs.List.{flat_map}
 use Rattle.recorder.specs.Execution.{Execution}
 use Rattle.relations.specs.declared.reason.Reason.{Reason}

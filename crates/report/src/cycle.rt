@@ -4,8 +4,8 @@ ghost use Rattle.std.specs.Prelude.{◌≡◌, ◌++◌, ◌<◌, ℕ, List, OnO
 ghost use Rattle.relations.specs.Cycle.{IsCycle};
 ghost use Rattle.relations.specs.Forced.{Forced};
 ghost use Rattle.labels.specs.Certified.{lists_of};
-ghost use Rattle.report.specs.Verdict.{reason_name, pair_line, behind, labels_line, labels_text, IsPairLine,
-    ArePairLines, IsCycleText};
+ghost use Rattle.report.specs.Verdict.{reason_name, pair_line, behind, labels_line, labels_text, IsPairLine};
+ghost use Rattle.report.specs.Verdict.{ArePairLines, IsCycleText};
 
 use crate::numbers::{put_number, put_numbers};
 use labels::Certificate;

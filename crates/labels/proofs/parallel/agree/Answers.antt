@@ -16,5 +16,6 @@ pub returns : goal.returns
 returns g c =
     let ends = c.into_par_iter.ensures in
     let n = length c.args.relation.now in
-    each_pair n (λ v e. AgreesAt (Related c.args.relation.now) c.args.size v e (get_or (lists_of c.args.rows.now) v [])) c.all.result c.all.ensures.0
+    each_pair n (λ v e. AgreesAt (Related c.args.relation.now) c.args.size v e
+    (get_or (lists_of c.args.rows.now) v [])) c.all.result c.all.ensures.0
     (c.all.ensures.1 ∙ square_range n c.len-n.result _ _ c.len-n.ensures ends.0 ends.1) c.all.ensures.2

@@ -8,13 +8,20 @@ use Rattle.labels.proofs.shortest.are_labellings.Goals as goal
 
 pub returns-then-not-is_labelling : goal.returns-then-not-is_labelling
 returns-then-not-is_labelling c =
-    let is : get_or (lists_of c.args.rows.now) c.loop-v.v [] ≡ c.deref.result.now = row_seen c.args.rows.now c.loop-v.v c.index-rows-v.result (omega arith) c.index-rows-v.is ∙ sym c.deref.ensures.value in (
+    let is : get_or (lists_of c.args.rows.now) c.loop-v.v [] ≡ c.deref.result.now =
+    row_seen c.args.rows.now c.loop-v.v c.index-rows-v.result (omega arith) c.index-rows-v.is
+    ∙ sym c.deref.ensures.value in (
       λ h. cc,
       λ all. absurd (both_ways c.is_labelling.result c.if-not-is_labelling.true (c.is_labelling.ensures.1
-          (subst (λ (row : List ℕ). IsLabelling (Related c.args.relation.now) c.args.size (length c.args.relation.now) c.loop-v.v row) is (all.labellings c.loop-v.v (omega arith))))),
+          (subst (λ (row : List ℕ). IsLabelling (Related c.args.relation.now) c.args.size
+          (length c.args.relation.now) c.loop-v.v row) is (all.labellings c.loop-v.v (omega arith))))),
     )
 
 pub loop-v-preserved : goal.loop-v-preserved
 loop-v-preserved c =
-    let is : get_or (lists_of c.args.rows.now) c.loop-v.v [] ≡ c.deref.result.now = row_seen c.args.rows.now c.loop-v.v c.index-rows-v.result (omega arith) c.index-rows-v.is ∙ sym c.deref.ensures.value in
-    below_more _ _ c.loop-v.invariant (subst (λ (row : List ℕ). IsLabelling (Related c.args.relation.now) c.args.size (length c.args.relation.now) c.loop-v.v row) (sym is) (c.is_labelling.ensures.0 c.if-not-is_labelling.false))
+    let is : get_or (lists_of c.args.rows.now) c.loop-v.v [] ≡ c.deref.result.now =
+    row_seen c.args.rows.now c.loop-v.v c.index-rows-v.result (omega arith) c.index-rows-v.is
+    ∙ sym c.deref.ensures.value in
+    below_more _ _ c.loop-v.invariant (subst (λ (row : List ℕ). IsLabelling
+    (Related c.args.relation.now) c.args.size (length c.args.relation.now) c.loop-v.v row) (sym is)
+    (c.is_labelling.ensures.0 c.if-not-is_labelling.false))

@@ -1,4 +1,5 @@
-use Rattle.std.proofs.Common.{◌≡◌, ◌<◌, ◌≤◌, ◌+◌, ℕ, Bool, [], List, get_or, length, replicate, arith, ap, sym, subst, ◌∙◌}
+use Rattle.std.proofs.Common.{◌≡◌, ◌<◌, ◌≤◌, ◌+◌, ℕ, Bool, [], List, get_or, length, replicate, arith, ap}
+use Rattle.std.proofs.Common.{sym, subst, ◌∙◌}
 use Rattle.std.specs.Prelude.{is_some}
 use Rattle.std.proofs.lemmas.List.{with_items_is, get_or_default}
 use Rattle.relations.specs.Relation.{reason_at}
@@ -9,13 +10,23 @@ use Rattle.order.proofs.counts.count_all.Goals as goal
 
 pub loop-event-init : goal.loop-event-init
 loop-event-init c =
-    let ones : c.in_ok-counts.counts.items ≡ replicate (length c.args.relation.now) 1 = c.in_ok-counts.ensures.items_if_clones_equal (λ y h. h) ∙ ap (λ (n : ℕ). replicate n 1) c.len-len.ensures in
-    subst (λ (counts : List ℕ). AreCounts c.args.relation.now 0 counts) (sym ones) (counts_none c.args.relation.now)
+    let ones : c.in_ok-counts.counts.items ≡ replicate (length c.args.relation.now) 1 =
+    c.in_ok-counts.ensures.items_if_clones_equal (λ y h. h)
+    ∙ ap (λ (n : ℕ). replicate n 1) c.len-len.ensures in
+    subst (λ (counts : List ℕ). AreCounts c.args.relation.now 0 counts) (sym ones)
+    (counts_none c.args.relation.now)
 
 pub add_set-requires-clause-room : goal.add_set-requires-clause-room
 add_set-requires-clause-room c f h =
-    let few : get_or c.loop-event.counts.items f 0 ≤ c.loop-event.event + 1 = counts_most c.args.relation.now c.loop-event.event c.loop-event.counts.items c.loop-event.invariant f (omega arith) in
-    omega (arith, few, c.sound.ensures.square.few, ap (λ (counts : List ℕ). get_or counts f 0) c.deref_mut.ensures.value)
+    let few : get_or c.loop-event.counts.items f 0 ≤ c.loop-event.event + 1 =
+    counts_most c.args.relation.now c.loop-event.event c.loop-event.counts.items c.loop-event.invariant f
+    (omega arith) in
+    omega (
+      arith,
+      few,
+      c.sound.ensures.square.few,
+      ap (λ (counts : List ℕ). get_or counts f 0) c.deref_mut.ensures.value,
+    )
 
 pub loop-event-preserved : goal.loop-event-preserved
 loop-event-preserved c =
@@ -23,13 +34,22 @@ loop-event-preserved c =
     let d = c.loop-event.event in
     let new = c.add_set.new.counts in
     let old = c.deref_mut.result.now in
-    let were : AreCounts t d old = subst (λ (counts : List ℕ). AreCounts t d counts) (sym c.deref_mut.ensures.value) c.loop-event.invariant in
+    let were : AreCounts t d old =
+    subst (λ (counts : List ℕ). AreCounts t d counts)
+    (sym c.deref_mut.ensures.value) c.loop-event.invariant in
     let sets = c.successors-successors.result.now in
     let set = c.successors-successors.ensures.each d (omega (arith, c.loop-event-test.true)) in
-    let added : (f : ℕ) → f < length old → get_or new f 0 ≡ get_or old f 0 + one_if (is_some (reason_at t d f)) =
-    λ f at. c.add_set.ensures.more f at ∙ ap (λ (b : Bool). get_or old f 0 + one_if b) (ap (λ (s : List Bool). is_in s f) (c.index-successors-event.is ∙ get_or_default sets d c.index-successors-event.result [] (omega (arith, c.loop-event-test.true, c.successors-successors.ensures.one_each))) ∙ set.each f) in
-    subst (λ (counts : List ℕ). AreCounts t (d + 1) counts) (sym (with_items_is c.loop-event.counts new (omega arith)))
+    let added : (f : ℕ) → f < length old → get_or new f 0
+    ≡ get_or old f 0 + one_if (is_some (reason_at t d f)) =
+    λ f at. c.add_set.ensures.more f at ∙ ap (λ (b : Bool). get_or old f 0
+    + one_if b) (ap (λ (s : List Bool). is_in s f)
+    (c.index-successors-event.is ∙ get_or_default sets d c.index-successors-event.result []
+    (omega (arith, c.loop-event-test.true, c.successors-successors.ensures.one_each))) ∙ set.each f) in
+    subst (λ (counts : List ℕ). AreCounts t (d + 1) counts)
+    (sym (with_items_is c.loop-event.counts new (omega arith)))
     (counts_more t d old new were c.add_set.ensures.size added)
 
 pub returns : goal.returns
-returns c = counts_all c.args.relation.now c.loop-event.counts.items (subst (λ (d : ℕ). AreCounts c.args.relation.now d c.loop-event.counts.items) (omega arith) c.loop-event.invariant)
+returns c = counts_all c.args.relation.now c.loop-event.counts.items
+    (subst (λ (d : ℕ). AreCounts c.args.relation.now d c.loop-event.counts.items)
+    (omega arith) c.loop-event.invariant)

@@ -3,4 +3,5 @@ use Rattle.recorder.specs.Execution.{Kept}
 use Rattle.order.proofs.kept.keeps_behind.Given as goal
 
 abbrev pub invariant-loop-i : goal.invariant-loop-i
-invariant-loop-i l = (l.at < l.i) × ((i : ℕ) → l.at < i → i < l.i → ¬ Kept l.recording (slice_index l.order i) (slice_index l.order l.at))
+invariant-loop-i l = (l.at < l.i) × ((i : ℕ) → l.at < i → i < l.i
+    → ¬ Kept l.recording (slice_index l.order i) (slice_index l.order l.at))

@@ -5,8 +5,13 @@ use Rattle.order.proofs.kept.keeps_order.Goals as goal
 pub returns-then-not-keeps_behind : goal.returns-then-not-keeps_behind
 returns-then-not-keeps_behind c = (
   λ wrong. absurd (let no : false ≡ true = wrong in cc),
-  λ stand. c.if-not-keeps_behind.ensures.1 (λ i lt h. kept_fail c.args.recording.now c.args.order.now c.requires stand c.loop-at.at i lt h),
+  λ stand. c.if-not-keeps_behind.ensures.1
+      (λ i lt h. kept_fail c.args.recording.now c.args.order.now c.requires stand c.loop-at.at i lt h),
 )
 
 pub returns : goal.returns
-returns c = (λ _. kept_stand c.args.recording.now c.args.order.now c.requires (λ at i la lt li. c.loop-at.invariant at i (omega arith) lt li), λ _. refl)
+returns c = (
+  λ _. kept_stand c.args.recording.now c.args.order.now c.requires
+      (λ at i la lt li. c.loop-at.invariant at i (omega arith) lt li),
+  λ _. refl,
+)

@@ -4,4 +4,5 @@ use Rattle.order.proofs.Greedy.{IsGreedy}
 use Rattle.order.proofs.least.build.Given as goal
 
 abbrev pub invariant-loop-placed : goal.invariant-loop-placed
-invariant-loop-placed l = (length l.order.items ≡ l.placed) × IsGreedy l.relation l.order.items × IsOpen l.relation l.order.items l.waiting
+invariant-loop-placed l = (length l.order.items ≡ l.placed) × IsGreedy l.relation l.order.items
+    × IsOpen l.relation l.order.items l.waiting

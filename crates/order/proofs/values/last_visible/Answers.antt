@@ -6,11 +6,18 @@ use Rattle.order.proofs.values.last_visible.Goals as goal
 
 pub loop-i-preserved : goal.loop-i-preserved
 loop-i-preserved c = elim c.if-is_visible.branch [
-  | then-is_visible w ↦ subst (λ (s : Option ℕ). IsLastSoFar c.args.recording.now c.args.order.now (slice_index c.args.order.now c.args.at) c.args.address (c.loop-i.i + 1) s) (sym w.last-is)
-      (last_here c.args.recording.now c.args.order.now c.requires.total (slice_index c.args.order.now c.args.at) c.args.address c.loop-i.i (omega arith) (c.is_visible.ensures.0 w.if-is_visible.true))
-  | else-is_visible w ↦ subst (λ (s : Option ℕ). IsLastSoFar c.args.recording.now c.args.order.now (slice_index c.args.order.now c.args.at) c.args.address (c.loop-i.i + 1) s) (sym w.last-is)
-      (last_more c.args.recording.now c.args.order.now (slice_index c.args.order.now c.args.at) c.args.address c.loop-i.i (omega arith) (iff_false c.is_visible.ensures w.if-is_visible.false) c.loop-i.last c.loop-i.invariant)
+  | then-is_visible w ↦ subst (λ (s : Option ℕ). IsLastSoFar c.args.recording.now c.args.order.now
+      (slice_index c.args.order.now c.args.at) c.args.address (c.loop-i.i + 1) s) (sym w.last-is)
+      (last_here c.args.recording.now c.args.order.now c.requires.total
+      (slice_index c.args.order.now c.args.at) c.args.address c.loop-i.i (omega arith)
+      (c.is_visible.ensures.0 w.if-is_visible.true))
+  | else-is_visible w ↦ subst (λ (s : Option ℕ). IsLastSoFar c.args.recording.now c.args.order.now
+      (slice_index c.args.order.now c.args.at) c.args.address (c.loop-i.i + 1) s) (sym w.last-is)
+      (last_more c.args.recording.now c.args.order.now
+      (slice_index c.args.order.now c.args.at) c.args.address c.loop-i.i (omega arith)
+      (iff_false c.is_visible.ensures w.if-is_visible.false) c.loop-i.last c.loop-i.invariant)
 ]
 
 pub returns : goal.returns
-returns c = last_all c.args.recording.now c.args.order.now c.requires.total _ c.args.address c.loop-i.i (omega arith) c.loop-i.last c.loop-i.invariant
+returns c = last_all c.args.recording.now c.args.order.now c.requires.total _ c.args.address c.loop-i.i
+    (omega arith) c.loop-i.last c.loop-i.invariant

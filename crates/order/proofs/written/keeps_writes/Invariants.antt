@@ -4,4 +4,5 @@ use Rattle.recorder.specs.Execution.{write_list}
 use Rattle.order.proofs.written.keeps_writes.Given as goal
 
 abbrev pub invariant-loop-address : goal.invariant-loop-address
-invariant-loop-address l = (a e f : ℕ) → a < l.address → Before (write_list l.recording a) e f → Before l.order e f
+invariant-loop-address l = (a e f : ℕ) → a < l.address → Before (write_list l.recording a) e f
+    → Before l.order e f

@@ -23,4 +23,6 @@ loop-core-preserved c =
 
 pub returns : goal.returns
 returns c =
-    c.loop-core.invariant ∙ ap (λ (ls : List (Bor (List Event))). map (λ s. s.now) ls) (take_all c.loop-core.core-index c.args.cores.now c.loop-core-test.false)
+    c.loop-core.invariant
+    ∙ ap (λ (ls : List (Bor (List Event))). map (λ s. s.now) ls)
+    (take_all c.loop-core.core-index c.args.cores.now c.loop-core-test.false)

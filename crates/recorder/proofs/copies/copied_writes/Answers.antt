@@ -22,4 +22,6 @@ loop-list-preserved c =
 
 pub returns : goal.returns
 returns c =
-    c.loop-list.invariant ∙ ap (λ (ls : List (Bor (List ℕ))). map (λ s. s.now) ls) (take_all c.loop-list.list-index c.args.writes.now c.loop-list-test.false)
+    c.loop-list.invariant
+    ∙ ap (λ (ls : List (Bor (List ℕ))). map (λ s. s.now) ls)
+    (take_all c.loop-list.list-index c.args.writes.now c.loop-list-test.false)

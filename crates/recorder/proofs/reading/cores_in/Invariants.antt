@@ -7,4 +7,7 @@ use Rattle.recorder.proofs.reading.cores_in.Given as goal
 
 -- what was found, and what is left gives, is what all gives
 abbrev pub invariant-loop-value : goal.invariant-loop-value
-invariant-loop-value l = with_front (map (λ v. v.items) l.found.items) (each (list_in clipped_event) (items_view (drop l.value-index l.list))) ≡ each (list_in clipped_event) (items_view l.list)
+invariant-loop-value l =
+    with_front (map (λ v. v.items) l.found.items)
+    (each (list_in clipped_event) (items_view (drop l.value-index l.list)))
+    ≡ each (list_in clipped_event) (items_view l.list)

@@ -7,4 +7,6 @@ use Rattle.recorder.proofs.reading.numbers_in.Given as goal
 
 -- what was found, and what is left gives, is what all gives
 abbrev pub invariant-loop-value : goal.invariant-loop-value
-invariant-loop-value l = with_front l.found.items (each clipped_number (items_view (drop l.value-index l.list))) ≡ each clipped_number (items_view l.list)
+invariant-loop-value l =
+    with_front l.found.items (each clipped_number (items_view (drop l.value-index l.list)))
+    ≡ each clipped_number (items_view l.list)

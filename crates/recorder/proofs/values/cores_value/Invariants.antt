@@ -7,6 +7,8 @@ use Rattle.recorder.proofs.values.cores_value.Given as goal
 
 abbrev pub invariant-loop-events : goal.invariant-loop-events
 invariant-loop-events l = record {
-  values : map view l.values.items ≡ map (list_data event_data) (take l.events-index (map (λ v. v.items) l.cores));
-  again : AllAgain (list_in event_in) (list_data event_data) (take l.events-index (map (λ v. v.items) l.cores));
+  values : map view l.values.items
+      ≡ map (list_data event_data) (take l.events-index (map (λ v. v.items) l.cores));
+  again : AllAgain (list_in event_in) (list_data event_data)
+      (take l.events-index (map (λ v. v.items) l.cores));
 }

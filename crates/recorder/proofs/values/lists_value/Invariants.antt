@@ -7,6 +7,8 @@ use Rattle.recorder.proofs.values.lists_value.Given as goal
 
 abbrev pub invariant-loop-writes : goal.invariant-loop-writes
 invariant-loop-writes l = record {
-  values : map view l.values.items ≡ map (list_data number_data) (take l.writes-index (map (λ v. v.items) l.lists));
-  again : AllAgain (list_in number_in) (list_data number_data) (take l.writes-index (map (λ v. v.items) l.lists));
+  values : map view l.values.items
+      ≡ map (list_data number_data) (take l.writes-index (map (λ v. v.items) l.lists));
+  again : AllAgain (list_in number_in) (list_data number_data)
+      (take l.writes-index (map (λ v. v.items) l.lists));
 }

@@ -8,5 +8,7 @@ use Rattle.recorder.proofs.values.value_of.Goals as goal
 pub returns-in-Ok-json-6-clause-again : goal.returns-in-Ok-json-6-clause-again
 returns-in-Ok-json-6-clause-again c =
     shape_again c.args.recording.now
-    (subst (λ (xs : List (List Event)). list_in (list_in event_in) (list_data (list_data event_data) xs) ≡ Some xs) c.cores.ensures c.in_ok-cores.ensures.again)
-    (subst (λ (xs : List (List ℕ)). list_in (list_in number_in) (list_data (list_data number_data) xs) ≡ Some xs) c.writes.ensures c.in_ok-writes.ensures.again)
+    (subst (λ (xs : List (List Event)). list_in (list_in event_in) (list_data (list_data event_data) xs)
+    ≡ Some xs) c.cores.ensures c.in_ok-cores.ensures.again)
+    (subst (λ (xs : List (List ℕ)). list_in (list_in number_in) (list_data (list_data number_data) xs)
+    ≡ Some xs) c.writes.ensures c.in_ok-writes.ensures.again)

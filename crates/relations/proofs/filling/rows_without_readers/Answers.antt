@@ -11,7 +11,15 @@ loop-first-preserved c =
     let row = c.in_ok-row_without_readers.field-0 in
     let now : c.push.new.self.items ≡ rows ++ row ∷ [] = c.in_ok-push.ensures.items in
     let number = (c.requires.each c.loop-first.first-index _ c.loop-first-test.true).1 in
-    let last : IsFilledRow x (length rows) (IsOwnOrWrite x (length rows)) row = subst (λ (e : ℕ). IsFilledRow x e (IsOwnOrWrite x e) row) (number ∙ sym c.loop-first.invariant.0) c.in_ok-row_without_readers.ensures in (
-      omega (arith, ap (λ (t : Table). length t) now, length-append rows (row ∷ []), c.loop-first.invariant.0),
-      subst (λ (t : Table). AreFilledSoFar x (IsOwnOrWrite x) t) (sym now) (filled_rows_more x (IsOwnOrWrite x) rows row c.loop-first.invariant.1 last),
+    let last : IsFilledRow x (length rows) (IsOwnOrWrite x (length rows)) row =
+    subst (λ (e : ℕ). IsFilledRow x e (IsOwnOrWrite x e) row)
+    (number ∙ sym c.loop-first.invariant.0) c.in_ok-row_without_readers.ensures in (
+      omega (
+        arith,
+        ap (λ (t : Table). length t) now,
+        length-append rows (row ∷ []),
+        c.loop-first.invariant.0,
+      ),
+      subst (λ (t : Table). AreFilledSoFar x (IsOwnOrWrite x) t) (sym now)
+          (filled_rows_more x (IsOwnOrWrite x) rows row c.loop-first.invariant.1 last),
     )

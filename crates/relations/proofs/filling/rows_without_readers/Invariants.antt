@@ -4,4 +4,5 @@ use Rattle.relations.proofs.Tables.{AreFilledSoFar}
 use Rattle.relations.proofs.filling.rows_without_readers.Given as goal
 
 abbrev pub invariant-loop-first : goal.invariant-loop-first
-invariant-loop-first l = (length l.rows.items ≡ l.first-index) × AreFilledSoFar l.recording (IsOwnOrWrite l.recording) l.rows.items
+invariant-loop-first l = (length l.rows.items ≡ l.first-index)
+    × AreFilledSoFar l.recording (IsOwnOrWrite l.recording) l.rows.items

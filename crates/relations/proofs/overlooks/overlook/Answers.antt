@@ -10,7 +10,11 @@ returns-in-Some-clause-least c = record {
   least = λ k t o. elim (cases_lt k c.loop-load.load) [
     | inl less ↦ absurd (c.loop-load.invariant k t less o)
     | inr more ↦ elim (cases_eq c.loop-load.load k) [
-      | inl one ↦ inr (one, c.in-Some.ensures.1 t (subst (λ (l : ℕ). Overlooks c.args.recording.now l t) (sym one) o))
+      | inl one ↦ inr (
+        one,
+        c.in-Some.ensures.1 t (subst (λ (l : ℕ). Overlooks c.args.recording.now l t)
+            (sym one) o),
+      )
       | inr other ↦ inl (omega arith)
     ]
   ];
@@ -23,4 +27,6 @@ loop-load-preserved c = λ k s h o. elim (cases_eq k c.loop-load.load) [
 ]
 
 pub returns-clause-none : goal.returns-clause-none
-returns-clause-none c = λ l s o. c.loop-load.invariant l s (let own : l < event_count c.args.recording.now = o.3.1 in omega arith) o
+returns-clause-none c =
+    λ l s o. c.loop-load.invariant l s
+    (let own : l < event_count c.args.recording.now = o.3.1 in omega arith) o

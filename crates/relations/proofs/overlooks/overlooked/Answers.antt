@@ -12,11 +12,15 @@ loop-i-preserved c =
     let first = c.newer_from-first.result in
     let list = newer_list x c.sound.ensures.well_formed l c.in-Some.address ws c.source.result first c.in-Some.ensures c.write_list-list.ensures c.source.ensures c.newer_from-first.ensures in
     elim c.if-precedes.branch [
-      | then-precedes w ↦ subst (λ (s : Option ℕ). IsLeastSoFar x l ws first (c.loop-i.i + 1) s) (sym w.least-is)
+      | then-precedes w ↦ subst (λ (s : Option ℕ). IsLeastSoFar x l ws first (c.loop-i.i + 1) s)
+          (sym w.least-is)
           (least_here x l ws first c.loop-i.i c.loop-i.least w.lesser.result
-          (overlooked_at x l c.in-Some.address ws first c.loop-i.i list c.loop-i.auto.i c.loop-i-test.true (c.precedes.ensures.0 w.if-precedes.true)) w.lesser.ensures c.loop-i.invariant)
-      | else-precedes w ↦ subst (λ (s : Option ℕ). IsLeastSoFar x l ws first (c.loop-i.i + 1) s) (sym w.least-is)
-          (least_more x l ws first c.loop-i.i c.loop-i.least (iff_false c.precedes.ensures w.if-precedes.false) c.loop-i.invariant)
+          (overlooked_at x l c.in-Some.address ws first c.loop-i.i list c.loop-i.auto.i c.loop-i-test.true
+          (c.precedes.ensures.0 w.if-precedes.true)) w.lesser.ensures c.loop-i.invariant)
+      | else-precedes w ↦ subst (λ (s : Option ℕ). IsLeastSoFar x l ws first (c.loop-i.i + 1) s)
+          (sym w.least-is)
+          (least_more x l ws first c.loop-i.i c.loop-i.least
+          (iff_false c.precedes.ensures w.if-precedes.false) c.loop-i.invariant)
     ]
 
 pub returns : goal.returns

@@ -15,6 +15,12 @@ returns c =
     let list = newer_list x c.sound.ensures.well_formed l a ws c.source.result first c.in-Some.ensures c.write_list-list.ensures c.source.ensures c.newer_from.ensures in
     let writes = c.writes_to.ensures.0 c.if-not-writes_to.false in
     let there = place_in ws s (omega (arith, list.writes.once s writes)) in (
-      λ less. (a, list.reads, writes, c.precedes.ensures.0 c.if-not-precedes.false, (list.newer s there).1 (omega (arith, leb-true _ _ less, c.place.ensures))),
+      λ less. (
+        a,
+        list.reads,
+        writes,
+        c.precedes.ensures.0 c.if-not-precedes.false,
+        (list.newer s there).1 (omega (arith, leb-true _ _ less, c.place.ensures)),
+      ),
       λ over. le-leb _ _ (omega (arith, (place_overlooked x l a ws first s list over).0, c.place.ensures)),
     )

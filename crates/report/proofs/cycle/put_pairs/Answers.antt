@@ -9,7 +9,8 @@ pub put_pair-requires : goal.put_pair-requires
 put_pair-requires c =
     let x = c.args.recording.now in
     let cycle = c.args.cycle.now in
-    subst (λ (n : ℕ). Forced x (get_or cycle c.loop-i.i 0) n) (sym c.behind.ensures) (neighbours (Forced x) cycle c.requires c.loop-i.i (omega arith))
+    subst (λ (n : ℕ). Forced x (get_or cycle c.loop-i.i 0) n) (sym c.behind.ensures)
+    (neighbours (Forced x) cycle c.requires c.loop-i.i (omega arith))
 
 pub loop-i-preserved : goal.loop-i-preserved
 loop-i-preserved c =

@@ -8,7 +8,8 @@ invariant-loop-other l = record {
   row : l.others.row ≡ l.initial.others.row;
   within : l.others.from ≤ length l.self;
   size : length l.self ≡ length l.fn.self;
-  done : (f : ℕ) → f < l.others.from → get_or l.self f 0 ≡ get_or l.fn.self f 0 - one_if (is_in l.initial.others.row f);
+  done : (f : ℕ) → f < l.others.from → get_or l.self f 0
+      ≡ get_or l.fn.self f 0 - one_if (is_in l.initial.others.row f);
   kept : (f : ℕ) → l.others.from ≤ f → get_or l.self f 0 ≡ get_or l.fn.self f 0;
 }
 

@@ -4,4 +4,5 @@ use Rattle.recorder.proofs.Finds.{IsCounted}
 use Rattle.recorder.proofs.parts.RecordingParts.has_few_events.Given as goal
 
 abbrev pub invariant-loop-events : goal.invariant-loop-events
-invariant-loop-events l = record { counted : IsCounted l.self.cores l.events-index l.before; few : l.before ≤ MAX_EVENTS }
+invariant-loop-events l =
+    record { counted : IsCounted l.self.cores l.events-index l.before; few : l.before ≤ MAX_EVENTS }

@@ -7,6 +7,11 @@ pub returns : goal.returns
 returns c =
     let list = c.args.list.now in
     let number = c.args.number in (
-      λ t writes. times_in list number (omega (arith, c.place.ensures, ltb-true c.place.result (length list) t)),
-      λ stands. lt-ltb c.place.result (length list) (omega (arith, c.place.ensures, place_in list number (stands (c.if-not-writes_to.ensures.0 refl)))),
+      λ t writes. times_in list number (omega (
+        arith,
+        c.place.ensures,
+        ltb-true c.place.result (length list) t,
+      )),
+      λ stands. lt-ltb c.place.result (length list)
+          (omega (arith, c.place.ensures, place_in list number (stands (c.if-not-writes_to.ensures.0 refl)))),
     )

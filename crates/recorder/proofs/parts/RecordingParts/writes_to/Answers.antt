@@ -3,4 +3,8 @@ use Rattle.recorder.proofs.Events.{Writes-event}
 use Rattle.recorder.proofs.parts.RecordingParts.writes_to.Goals as goal
 
 pub returns-in-None : goal.returns-in-None
-returns-in-None c = (λ wrong. absurd cc, λ writes. absurd (omega (arith, c.in-None.ensures, Writes-event c.args.self.now c.args.number c.args.address writes)))
+returns-in-None c = (
+  λ wrong. absurd cc,
+  λ writes. absurd
+      (omega (arith, c.in-None.ensures, Writes-event c.args.self.now c.args.number c.args.address writes)),
+)

@@ -11,4 +11,6 @@ returns c =
     let x = c.args.recording.now in
     let e = c.args.self.now.number in
     let writes : ℕ → Type 0 = λ f. Holds x Wo e f ⊎ Holds x Fr e f in
-    filled_both x e (ProgramOrder x e) writes (IsOwnOrWrite x e) c.args.row.now c.fill_own_core.new.row c.fill_writes.new.row (λ f h. h) (c.fill_own_core.ensures x c.requires.placed c.requires.events) c.fill_writes.ensures
+    filled_both x e (ProgramOrder x e) writes
+    (IsOwnOrWrite x e) c.args.row.now c.fill_own_core.new.row c.fill_writes.new.row (λ f h. h)
+    (c.fill_own_core.ensures x c.requires.placed c.requires.events) c.fill_writes.ensures

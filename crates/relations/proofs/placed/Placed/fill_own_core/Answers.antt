@@ -1,4 +1,5 @@
-use Rattle.std.proofs.Common.{◌≡◌, ◌<◌, ◌+◌, inl, inr, ℕ, Option, List, length, length-set, arith, sym, ap, subst, ◌∙◌}
+use Rattle.std.proofs.Common.{◌≡◌, ◌<◌, ◌+◌, inl, inr, ℕ, Option, List, length, length-set, arith, sym, ap}
+use Rattle.std.proofs.Common.{subst, ◌∙◌}
 use Rattle.std.proofs.lemmas.Bool.{cases_lt}
 use Rattle.recorder.specs.Execution.{ProgramOrder, core_of}
 use Rattle.relations.specs.declared.reason.Reason.{Reason}
@@ -15,14 +16,22 @@ pub loop-f-preserved : goal.loop-f-preserved
 loop-f-preserved c =
     let i = c.loop-f.f in
     record {
-      size = ap (λ (row : List (Option Reason)). length row) c.put.ensures ∙ (length-set c.loop-f.row i c.reason_behind.result ∙ c.loop-f.invariant.size);
+      size = ap (λ (row : List (Option Reason)). length row) c.put.ensures
+          ∙ (length-set c.loop-f.row i c.reason_behind.result ∙ c.loop-f.invariant.size);
       filled = λ x hp hs.
           let e = c.args.self.now.number in
           let second = hs.each i _ c.loop-f-test.true in
-          subst (λ (row : List (Option Reason)). IsFilled x e (λ f. ProgramOrder x e f × (f < i + 1)) c.args.row.now row) (sym c.put.ensures)
-          (filled_more x e (λ f. ProgramOrder x e f × (f < i)) (λ f. ProgramOrder x e f × (f < i + 1)) c.args.row.now c.loop-f.row i c.reason_behind.result
+          subst (λ (row : List (Option Reason)). IsFilled x e
+          (λ f. ProgramOrder x e f × (f < i + 1)) c.args.row.now row) (sym c.put.ensures)
+          (filled_more x e (λ f. ProgramOrder x e f × (f < i))
+          (λ f. ProgramOrder x e f × (f < i + 1)) c.args.row.now c.loop-f.row i c.reason_behind.result
           (omega (arith, c.loop-f-test.true, c.loop-f.invariant.size, c.requires))
-          (subst (λ (g : ℕ). IsReason x e g c.reason_behind.result) second.1 (c.reason_behind.ensures x hp second.0 (omega (arith, second.1, c.loop-f.auto.f), second.0.within, sym hp.core ∙ (sym c.if-second-self.false ∙ second.0.core))))
+          (subst (λ (g : ℕ). IsReason x e g c.reason_behind.result) second.1
+          (c.reason_behind.ensures x hp second.0 (
+            omega (arith, second.1, c.loop-f.auto.f),
+            second.0.within,
+            sym hp.core ∙ (sym c.if-second-self.false ∙ second.0.core),
+          )))
           (λ f q. elim (cases_lt f i) [ inl before ↦ inl (q.0, before) | inr here ↦ inr (omega arith) ])
           (c.loop-f.invariant.filled x hp hs));
     }
@@ -32,6 +41,8 @@ returns-then-second-self c = λ x hp hs.
     let e = c.args.self.now.number in
     let i = c.loop-f.f in
     let second = hs.each i _ c.loop-f-test.true in
-    let apart : core_of x i ≡ core_of x e → ⊥ = λ one. c.if-second-self.true (second.0.core ∙ (ap (core_of x) second.1 ∙ (one ∙ sym hp.core))) in
+    let apart : core_of x i ≡ core_of x e → ⊥ = λ one. c.if-second-self.true (second.0.core
+    ∙ (ap (core_of x) second.1 ∙ (one ∙ sym hp.core))) in
     filled_fewer x e (λ f. ProgramOrder x e f × (f < i)) (ProgramOrder x e) c.args.row.now c.loop-f.row
-    (λ f own. (own, behind_past x e i f (omega (arith, c.loop-f.auto.f)) own apart)) (c.loop-f.invariant.filled x hp hs)
+    (λ f own. (own, behind_past x e i f (omega (arith, c.loop-f.auto.f)) own apart))
+    (c.loop-f.invariant.filled x hp hs)

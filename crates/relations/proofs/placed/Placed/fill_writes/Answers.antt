@@ -1,4 +1,5 @@
-use Rattle.std.proofs.Common.{◌≡◌, ◌<◌, ◌≤◌, ◌+◌, ◌⊎◌, inl, inr, ℕ, Some, Option, None, List, get_or, length, arith, sym, ap, subst, ◌∙◌}
+use Rattle.std.proofs.Common.{◌≡◌, ◌<◌, ◌≤◌, ◌+◌, ◌⊎◌, inl, inr, ℕ, Some, Option, None, List, get_or, length}
+use Rattle.std.proofs.Common.{arith, sym, ap, subst, ◌∙◌}
 use Rattle.std.proofs.lemmas.Bool.{cases_lt}
 use Rattle.recorder.specs.Event.{read_address, written_address}
 use Rattle.recorder.specs.Execution.{event_count, write_list}
@@ -20,21 +21,34 @@ returns-in_default c =
     (λ f h.
     let used = address_used x c.requires.placed.well_formed p.number f h in
     elim used.1 [
-      | inl reads ↦ let no : None ≡ Some used.0 = c.in_default.ensures.reads used.0 (ap read_address c.requires.placed.event ∙ reads) in absurd cc
-      | inr writes ↦ let no : None ≡ Some used.0 = c.in_default.ensures.writes used.0 (ap written_address c.requires.placed.event ∙ writes) in absurd cc
+      | inl reads ↦ let no : None ≡ Some used.0 =
+          c.in_default.ensures.reads used.0 (ap read_address c.requires.placed.event ∙ reads) in absurd cc
+      | inr writes ↦ let no : None ≡ Some used.0 =
+          c.in_default.ensures.writes used.0 (ap written_address c.requires.placed.event
+          ∙ writes) in absurd cc
     ])
 
 pub bounds-events-f : goal.bounds-events-f
 bounds-events-f c =
     let x = c.args.recording.now in
     let ws = c.write_list-list.result.now in
-    omega (arith, c.requires.events.size, listed_event x c.requires.placed.well_formed c.in-Some.address ws c.loop-i.i c.write_list-list.ensures c.loop-i-test.true)
+    omega (
+      arith,
+      c.requires.events.size,
+      listed_event x c.requires.placed.well_formed c.in-Some.address ws c.loop-i.i c.write_list-list.ensures c.loop-i-test.true,
+    )
 
 pub put-requires : goal.put-requires
 put-requires c =
     let x = c.args.recording.now in
     let ws = c.write_list-list.result.now in
-    omega (arith, c.requires.size, c.loop-i.invariant.size, c.requires.events.size, listed_event x c.requires.placed.well_formed c.in-Some.address ws c.loop-i.i c.write_list-list.ensures c.loop-i-test.true)
+    omega (
+      arith,
+      c.requires.size,
+      c.loop-i.invariant.size,
+      c.requires.events.size,
+      listed_event x c.requires.placed.well_formed c.in-Some.address ws c.loop-i.i c.write_list-list.ensures c.loop-i-test.true,
+    )
 
 pub loop-i-preserved : goal.loop-i-preserved
 loop-i-preserved c =
@@ -43,17 +57,22 @@ loop-i-preserved c =
     let ws = c.write_list-list.result.now in
     let i = c.loop-i.i in
     let f = get_or ws i 0 in
-    let within : f < event_count x = listed_event x c.requires.placed.well_formed c.in-Some.address ws i c.write_list-list.ensures c.loop-i-test.true in
+    let within : f < event_count x =
+    listed_event x c.requires.placed.well_formed c.in-Some.address ws i c.write_list-list.ensures c.loop-i-test.true in
     let second = c.requires.events.each f _ (omega (arith, c.requires.events.size)) in
     let at : ℕ → ℕ = place (write_list x c.in-Some.address) in
     let first = c.first_place-first.result in
-    subst (λ (row : List (Option Reason)). IsFilled x e (λ g. (first ≤ at g) × (at g < i + 1)) c.args.row.now row) (sym c.put.ensures)
-    (filled_more x e (λ g. (first ≤ at g) × (at g < i)) (λ g. (first ≤ at g) × (at g < i + 1)) c.args.row.now c.loop-i.row f c.reason.result
+    subst (λ (row : List (Option Reason)). IsFilled x e
+    (λ g. (first ≤ at g) × (at g < i + 1)) c.args.row.now row) (sym c.put.ensures)
+    (filled_more x e (λ g. (first ≤ at g) × (at g < i))
+    (λ g. (first ≤ at g) × (at g < i + 1)) c.args.row.now c.loop-i.row f c.reason.result
     (omega (arith, c.requires.size, c.loop-i.invariant.size, c.requires.events.size))
-    (subst (λ (g : ℕ). IsReason x e g c.reason.result) second.1 (c.reason.ensures x c.requires.placed second.0))
+    (subst (λ (g : ℕ). IsReason x e g c.reason.result) second.1
+    (c.reason.ensures x c.requires.placed second.0))
     (λ g q. elim (cases_lt (at g) i) [
       | inl before ↦ inl (q.0, before)
-      | inr here ↦ inr (stands_at x c.in-Some.address ws g i c.write_list-list.ensures (omega arith) c.loop-i-test.true)
+      | inr here ↦ inr (stands_at x c.in-Some.address ws g i c.write_list-list.ensures
+          (omega arith) c.loop-i-test.true)
     ])
     c.loop-i.invariant)
 
@@ -63,9 +82,18 @@ returns c =
     let p = c.args.self.now in
     let a = c.in-Some.address in
     let first = c.first_place-first.result in
-    filled_fewer x p.number (λ f. (first ≤ place (write_list x a) f) × (place (write_list x a) f < c.loop-i.i)) (λ f. Holds x Wo p.number f ⊎ Holds x Fr p.number f) c.args.row.now c.loop-i.row
+    filled_fewer x p.number (λ f. (first ≤ place (write_list x a) f)
+    × (place (write_list x a) f < c.loop-i.i)) (λ f. Holds x Wo p.number f
+    ⊎ Holds x Fr p.number f) c.args.row.now c.loop-i.row
     (λ f h.
     let later = later_place x p first a f c.requires.placed c.first_place-first.ensures.reads c.first_place-first.ensures.writes (λ b r. c.in-Some.ensures.reads b (ap read_address c.requires.placed.event ∙ r))
-    (λ b w. c.in-Some.ensures.writes b (ap written_address c.requires.placed.event ∙ w)) h in
-    (later.0, omega (arith, later.1, c.loop-i-test.false, ap (λ (ws : List ℕ). length ws) c.write_list-list.ensures)))
+    (λ b w. c.in-Some.ensures.writes b (ap written_address c.requires.placed.event ∙ w)) h in (
+      later.0,
+      omega (
+        arith,
+        later.1,
+        c.loop-i-test.false,
+        ap (λ (ws : List ℕ). length ws) c.write_list-list.ensures,
+      ),
+    ))
     c.loop-i.invariant

@@ -18,7 +18,8 @@ returns-then-self-other c = λ x hp hq.
         λ before. both_ways c.precedes.result (not-true c.precedes.result apart) (own.1 before),
         (read_pair x c.args.self.now c.args.other.now c.in-Some.address hp hq reads writes).0 c.if-self-other.true,
       ),
-      λ h. not_from_false c.precedes.result (false_from_ne_true c.precedes.result (λ before. h.4 (own.0 before))),
+      λ h. not_from_false c.precedes.result (false_from_ne_true c.precedes.result
+          (λ before. h.4 (own.0 before))),
     )
 
 pub returns-else-self-other : goal.returns-else-self-other
@@ -27,7 +28,12 @@ returns-else-self-other c = λ x hp hq.
     let writes = sym hq.writes ∙ c.writes_to.ensures.0 c.if-not-writes_to.false in (
       λ less. absurd (omega (arith, leb-true _ _ less)),
       λ h.
-          let one : h.0 ≡ c.in-Some.address = (let both : Some h.0 ≡ Some c.in-Some.address = sym h.1 ∙ reads in cc) in
-          let older = subst (λ (a : ℕ). IsOlder (write_list x a) (source_of x c.args.self.now.number) c.args.other.now.number) one h.5 in
-          absurd (omega (arith, (read_pair x c.args.self.now c.args.other.now c.in-Some.address hp hq reads writes).1 older)),
+          let one : h.0 ≡ c.in-Some.address = (let both : Some h.0 ≡ Some c.in-Some.address = sym h.1
+          ∙ reads in cc) in
+          let older = subst (λ (a : ℕ). IsOlder (write_list x a)
+          (source_of x c.args.self.now.number) c.args.other.now.number) one h.5 in
+          absurd (omega (
+            arith,
+            (read_pair x c.args.self.now c.args.other.now c.in-Some.address hp hq reads writes).1 older,
+          )),
     )

@@ -9,15 +9,19 @@ use Rattle.relations.proofs.placed.Placed.reason_behind.Goals as goal
 pub returns-then-keeps : goal.returns-then-keeps
 returns-then-keeps c = λ x hp hq own. (
   own,
-  subst (λ (e : Event). (is_plain_store e && is_plain_load (event_at x c.args.other.now.number)) ≡ false) hp.event
-      (subst (λ (f : Event). (is_plain_store c.args.self.now.event && is_plain_load f) ≡ false) hq.event (c.keeps.ensures.0 c.if-keeps.true)),
+  subst (λ (e : Event). (is_plain_store e && is_plain_load (event_at x c.args.other.now.number))
+      ≡ false) hp.event
+      (subst (λ (f : Event). (is_plain_store c.args.self.now.event && is_plain_load f) ≡ false) hq.event
+      (c.keeps.ensures.0 c.if-keeps.true)),
 )
 
 pub returns-else-keeps : goal.returns-else-keeps
 returns-else-keeps c = λ x hp hq own forced.
     unkept_none x hp.well_formed c.args.self.now.number c.args.other.now.number own
-    (true_from_ne_false (is_plain_store (event_at x c.args.self.now.number) && is_plain_load (event_at x c.args.other.now.number)) (λ kept.
+    (true_from_ne_false (is_plain_store (event_at x c.args.self.now.number) && is_plain_load
+    (event_at x c.args.other.now.number)) (λ kept.
     iff_false c.keeps.ensures c.if-keeps.false
     (subst (λ (e : Event). (is_plain_store e && is_plain_load c.args.other.now.event) ≡ false) (sym hp.event)
-    (subst (λ (f : Event). (is_plain_store (event_at x c.args.self.now.number) && is_plain_load f) ≡ false) (sym hq.event) kept))))
+    (subst (λ (f : Event). (is_plain_store (event_at x c.args.self.now.number) && is_plain_load f) ≡ false)
+    (sym hq.event) kept))))
     forced.0 forced.1
