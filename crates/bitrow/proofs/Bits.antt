@@ -1,15 +1,15 @@
 -- Bits of words: test, set, or, and-not, and the first.
-use Rattle.std.proofs.Common.{◌≡◌, ◌<◌, ◌≤◌, ◌+◌, ◌-◌, ◌*◌, ◌/◌, ◌%◌, ◌^◌, inl, inr, ℕ, zero, suc, Bool, true,
-    false, Option, Some, None, ◌||◌, ◌&&◌, not, List, length, get_or, set, min, max, arith, refl, sym, ap,
-    ◌∙◌, get_or-set_other, get_or-set_same}
+use Rattle.std.proofs.Common.{◌≡◌, ◌<◌, ◌≤◌, ◌+◌, ◌-◌, ◌*◌, ◌/◌, ◌%◌, ◌^◌, inl, inr, ℕ, zero, suc, Bool, true}
+use Rattle.std.proofs.Common.{false, Option, Some, None, ◌||◌, ◌&&◌, not, List, length, get_or, set, min, max}
+use Rattle.std.proofs.Common.{arith, refl, sym, ap, ◌∙◌, get_or-set_other, get_or-set_same}
 use Rattle.std.proofs.lemmas.Bool.{cases_eq, cases_lt, eq-eqb, ne_eqb}
 use Rattle.std.specs.Int.{bit_at, bit_not, trailing_zeros}
 use Rattle.std.proofs.Common.{w64}
 use Rattle.std.proofs.lemmas.List.{get_or_past}
 use Rattle.std.specs.Prelude.{◌==◌, bit_or, bit_and}
-use Rattle.std.proofs.lemmas.Nat.Bits.{bit_at_or, bit_at_and, bit_at-lt, bit_at-zero, bit_at_set_same,
-    bit_at_set_other, bit_at_clear_same, bit_at_clear_other, bit_at_not, shr_and_one, bit_at-trailing_zeros,
-    bit_at_above}
+use Rattle.std.proofs.lemmas.Nat.Bits.{bit_at_or, bit_at_and, bit_at-lt, bit_at-zero, bit_at_set_same}
+use Rattle.std.proofs.lemmas.Nat.Bits.{bit_at_set_other, bit_at_clear_same, bit_at_clear_other, bit_at_not}
+use Rattle.std.proofs.lemmas.Nat.Bits.{shr_and_one, bit_at-trailing_zeros, bit_at_above}
 use Rattle.std.proofs.lemmas.Nat.{shr-shr}
 use Rattle.std.proofs.Math.Nat.{div-le_self}
 use Rattle.bitrow.specs.Bits.{bit_of, IsNextBit}
@@ -41,9 +41,9 @@ pub or_bits : (before after other : List ℕ)
 unfolding bit_of
 or_bits before after other h j =
     ap (λ (w : ℕ). bit_at w (j % 64) == 1) (h (j / 64))
-        ∙ (ap (λ (b : ℕ). b == 1) (bit_at_or (get_or before (j / 64) 0) (get_or other (j / 64) 0) (j % 64))
+    ∙ (ap (λ (b : ℕ). b == 1) (bit_at_or (get_or before (j / 64) 0) (get_or other (j / 64) 0) (j % 64))
     ∙ test_or (bit_at (get_or before (j / 64) 0) (j % 64)) (bit_at (get_or other (j / 64) 0) (j % 64))
-        (bit_at-lt (get_or before (j / 64) 0) (j % 64)) (bit_at-lt (get_or other (j / 64) 0) (j % 64)))
+    (bit_at-lt (get_or before (j / 64) 0) (j % 64)) (bit_at-lt (get_or other (j / 64) 0) (j % 64)))
 
 -- nothing joined
 or_false : (b : Bool) → b ≡ (b || false)
@@ -80,7 +80,7 @@ or_all before after other n long same all h = or_bits before after other joined
 pub and_not_all : (before after other : List ℕ) (n : ℕ) → length after ≡ length before → length other
     ≡ length before → length before ≤ n → ((m : ℕ) → get_or other m 0 < 2 ^ 64)
     → ((m : ℕ) → m < n → get_or after m 0 ≡ bit_and (get_or before m 0) (bit_not w64 (get_or other m 0)))
-        → (j : ℕ) → bit_of after j ≡ (bit_of before j && not (bit_of other j))
+    → (j : ℕ) → bit_of after j ≡ (bit_of before j && not (bit_of other j))
 unfolding bit_of
 and_not_all before after other n long same all fits h j =
     let k : ℕ = j / 64 in
@@ -89,7 +89,7 @@ and_not_all before after other n long same all fits h j =
     let o : ℕ = get_or other k 0 in
     ap (λ (w : ℕ). bit_at w i == 1) (joined k) ∙ (ap (λ (x : ℕ). x == 1) (bit_at_and b (bit_not w64 o) i)
     ∙ (ap (λ (x : ℕ). min (bit_at b i) x == 1) (bit_at_not w64 o i (fits k) (omega arith)) ∙ test_and_not
-        (bit_at b i) (bit_at o i) (bit_at-lt b i) (bit_at-lt o i)))
+    (bit_at b i) (bit_at o i) (bit_at-lt b i) (bit_at-lt o i)))
   where
     joined : (k : ℕ) → get_or after k 0 ≡ bit_and (get_or before k 0) (bit_not w64 (get_or other k 0))
     joined k = elim (cases_lt k n) [
@@ -109,22 +109,22 @@ unfolding bit_of
 set_word words i word at is_word j = elim (cases_eq (j / 64) (i / 64)) [
   | inl here ↦
       let read : get_or (set words (i / 64) word) (j / 64) 0
-          ≡ bit_or (get_or words (i / 64) 0) (1 * 2 ^ (i % 64) % 2 ^ 64) =
-          ap (λ (k : ℕ). get_or (set words (i / 64) word) k 0) here
-          ∙ (get_or-set_same words (i / 64) word 0 at ∙ is_word) in
+      ≡ bit_or (get_or words (i / 64) 0) (1 * 2 ^ (i % 64) % 2 ^ 64) =
+      ap (λ (k : ℕ). get_or (set words (i / 64) word) k 0) here
+      ∙ (get_or-set_same words (i / 64) word 0 at ∙ is_word) in
       elim (cases_eq j i) [
         | inl is ↦
             ap (λ (w : ℕ). bit_at w (j % 64) == 1) read
-                ∙ (ap (λ (k : ℕ). bit_at (bit_or (get_or words (i / 64) 0) (1 * 2 ^ (i % 64) % 2 ^ 64))
-                (k % 64) == 1) is ∙ (ap (λ (x : ℕ). x == 1)
-                (bit_at_set_same w64 (get_or words (i / 64) 0) (i % 64) (omega arith))
+            ∙ (ap (λ (k : ℕ). bit_at (bit_or (get_or words (i / 64) 0) (1 * 2 ^ (i % 64) % 2 ^ 64))
+            (k % 64) == 1) is ∙ (ap (λ (x : ℕ). x == 1)
+            (bit_at_set_same w64 (get_or words (i / 64) 0) (i % 64) (omega arith))
             ∙ (or_true (bit_at (get_or words (j / 64) 0) (j % 64) == 1) ∙ ap
-                (λ (b : Bool). (bit_at (get_or words (j / 64) 0) (j % 64) == 1) || b) (sym (eq-eqb j i is)))))
+            (λ (b : Bool). (bit_at (get_or words (j / 64) 0) (j % 64) == 1) || b) (sym (eq-eqb j i is)))))
         | inr other ↦
             ap (λ (w : ℕ). bit_at w (j % 64) == 1) read
-                ∙ (ap (λ (x : ℕ). x == 1)
-                (bit_at_set_other w64 (get_or words (i / 64) 0) (i % 64) (omega arith) (j % 64)
-                (λ same. other (omega (arith, same, here))))
+            ∙ (ap (λ (x : ℕ). x == 1)
+            (bit_at_set_other w64 (get_or words (i / 64) 0) (i % 64) (omega arith) (j % 64)
+            (λ same. other (omega (arith, same, here))))
             ∙ (ap (λ (k : ℕ). bit_at (get_or words k 0) (j % 64) == 1) (sym here) ∙ kept other))
       ]
   | inr apart ↦ ap (λ (w : ℕ). bit_at w (j % 64) == 1)
@@ -162,22 +162,22 @@ clear_is words i at j = elim (cases_eq (j / 64) (i / 64)) [
   | inl here ↦
       let word : ℕ = bit_and (get_or words (i / 64) 0) (bit_not w64 (1 * 2 ^ (i % 64) % 2 ^ 64)) in
       let read : get_or (set words (i / 64) word) (j / 64) 0 ≡ word =
-          ap (λ (k : ℕ). get_or (set words (i / 64) word) k 0) here
-          ∙ get_or-set_same words (i / 64) word 0 at in
+      ap (λ (k : ℕ). get_or (set words (i / 64) word) k 0) here
+      ∙ get_or-set_same words (i / 64) word 0 at in
       elim (cases_eq j i) [
         | inl is ↦
             ap (λ (w : ℕ). bit_at w (j % 64) == 1) read
-                ∙ (ap (λ (k : ℕ). bit_at word (k % 64) == 1) is ∙
-                (ap (λ (x : ℕ). x == 1)
-                (bit_at_clear_same w64 (get_or words (i / 64) 0) (i % 64) (omega arith))
+            ∙ (ap (λ (k : ℕ). bit_at word (k % 64) == 1) is ∙
+            (ap (λ (x : ℕ). x == 1)
+            (bit_at_clear_same w64 (get_or words (i / 64) 0) (i % 64) (omega arith))
             ∙ (and_not_true (bit_at (get_or words (j / 64) 0) (j % 64) == 1) ∙ ap
-                (λ (b : Bool). (bit_at (get_or words (j / 64) 0) (j % 64) == 1) && not b)
-                (sym (eq-eqb j i is)))))
+            (λ (b : Bool). (bit_at (get_or words (j / 64) 0) (j % 64) == 1) && not b)
+            (sym (eq-eqb j i is)))))
         | inr other ↦
             ap (λ (w : ℕ). bit_at w (j % 64) == 1) read
-                ∙ (ap (λ (x : ℕ). x == 1)
-                (bit_at_clear_other w64 (get_or words (i / 64) 0) (i % 64) (omega arith) (j % 64)
-                (omega arith) (λ same. other (omega (arith, same, here))))
+            ∙ (ap (λ (x : ℕ). x == 1)
+            (bit_at_clear_other w64 (get_or words (i / 64) 0) (i % 64) (omega arith) (j % 64)
+            (omega arith) (λ same. other (omega (arith, same, here))))
             ∙ (ap (λ (k : ℕ). bit_at (get_or words k 0) (j % 64) == 1) (sym here) ∙ kept other))
       ]
   | inr apart ↦ ap (λ (w : ℕ). bit_at w (j % 64) == 1)
@@ -218,7 +218,7 @@ bit_in words k i j small is =
     let word : j / 64 ≡ k = omega (arith, is, small) in
     let place : j % 64 ≡ i = omega (arith, is, small) in
     ap (λ (m : ℕ). bit_at (get_or words m 0) (j % 64) == 1) word
-        ∙ ap (λ (t : ℕ). bit_at (get_or words k 0) t == 1) place
+    ∙ ap (λ (t : ℕ). bit_at (get_or words k 0) t == 1) place
 
 -- the lowest bit of the first word that is not 0
 pub first_is : (words : List ℕ) (from k : ℕ) → from ≤ k → 0 < get_or words k 0 → get_or words k 0 < 2 ^ 64
@@ -226,8 +226,8 @@ pub first_is : (words : List ℕ) (from k : ℕ) → from ≤ k → 0 < get_or w
     → IsNextBit words (64 * from) (Some (64 * k + trailing_zeros w64 (get_or words k 0)))
 first_is words from k le some fits zeros =
     let law : (trailing_zeros w64 (get_or words k 0) < 64)
-        × (bit_at (get_or words k 0) (trailing_zeros w64 (get_or words k 0)) ≡ 1)
-        × ((i : ℕ) → i < trailing_zeros w64 (get_or words k 0) → bit_at (get_or words k 0) i ≡ 0) =
+    × (bit_at (get_or words k 0) (trailing_zeros w64 (get_or words k 0)) ≡ 1)
+    × ((i : ℕ) → i < trailing_zeros w64 (get_or words k 0) → bit_at (get_or words k 0) i ≡ 0) =
     bit_at-trailing_zeros w64 (get_or words k 0) some fits in (
       omega (arith, le),
       bit_in words k (trailing_zeros w64 (get_or words k 0))
@@ -246,27 +246,30 @@ shifted w s i = ap (λ (x : ℕ). x % 2) (shr-shr w s i)
 -- it lies within the word
 within_word : (w i : ℕ) → w < 2 ^ 64 → bit_at w i ≡ 1 → i < 64
 within_word w i fits one =
-    elim (cases_lt i 64) [ inl small ↦ small | inr large ↦ absurd
-    (omega (arith, one, bit_at_above w 64 i fits large)) ]
+    elim (cases_lt i 64) [
+      | inl small ↦ small
+      | inr large ↦ absurd
+          (omega (arith, one, bit_at_above w 64 i fits large))
+    ]
 
 -- bit `from + i` as bit i of its word, shifted
 bit_from : (words : List ℕ) (from i j : ℕ) → from % 64 + i < 64 → j ≡ from + i → bit_of words j
     ≡ (bit_at (get_or words (from / 64) 0 / 2 ^ (from % 64)) i == 1)
 bit_from words from i j small is =
     bit_in words (from / 64) (from % 64 + i) j small (omega (arith, is))
-        ∙ ap (λ (b : ℕ). b == 1) (sym (shifted (get_or words (from / 64) 0) (from % 64) i))
+    ∙ ap (λ (b : ℕ). b == 1) (sym (shifted (get_or words (from / 64) 0) (from % 64) i))
 
 -- the lowest bit of the shifted word
 shifted_law : (words : List ℕ) (from : ℕ) → 0 < get_or words (from / 64) 0 / 2 ^ (from % 64)
     → get_or words (from / 64) 0 < 2 ^ 64
     → (trailing_zeros w64 (get_or words (from / 64) 0 / 2 ^ (from % 64)) < 64)
     × (bit_at (get_or words (from / 64) 0 / 2 ^ (from % 64))
-        (trailing_zeros w64 (get_or words (from / 64) 0 / 2 ^ (from % 64))) ≡ 1)
+    (trailing_zeros w64 (get_or words (from / 64) 0 / 2 ^ (from % 64))) ≡ 1)
     × ((i : ℕ) → i < trailing_zeros w64 (get_or words (from / 64) 0 / 2 ^ (from % 64)) → bit_at
-        (get_or words (from / 64) 0 / 2 ^ (from % 64)) i ≡ 0)
+    (get_or words (from / 64) 0 / 2 ^ (from % 64)) i ≡ 0)
 shifted_law words from some fits =
     bit_at-trailing_zeros w64 (get_or words (from / 64) 0 / 2 ^ (from % 64)) some
-        (omega (arith, div-le_self (get_or words (from / 64) 0) (2 ^ (from % 64)), fits))
+    (omega (arith, div-le_self (get_or words (from / 64) 0) (2 ^ (from % 64)), fits))
 
 -- no bit of its word from there on, where the shifted word is 0
 empty_here : (words : List ℕ) (from : ℕ) → get_or words (from / 64) 0 / 2 ^ (from % 64) ≡ 0 → (j : ℕ)
@@ -281,10 +284,10 @@ pub lowest_within : (words : List ℕ) (from : ℕ) → 0 < get_or words (from /
     → from % 64 + trailing_zeros w64 (get_or words (from / 64) 0 / 2 ^ (from % 64)) < 64
 lowest_within words from some fits =
     within_word (get_or words (from / 64) 0)
-        (from % 64 + trailing_zeros w64 (get_or words (from / 64) 0 / 2 ^ (from % 64))) fits
+    (from % 64 + trailing_zeros w64 (get_or words (from / 64) 0 / 2 ^ (from % 64))) fits
     (sym (shifted (get_or words (from / 64) 0) (from % 64)
-        (trailing_zeros w64 (get_or words (from / 64) 0 / 2 ^ (from % 64))))
-        ∙ (shifted_law words from some fits).1)
+    (trailing_zeros w64 (get_or words (from / 64) 0 / 2 ^ (from % 64))))
+    ∙ (shifted_law words from some fits).1)
 
 -- and is the first from there on
 pub lowest_is : (words : List ℕ) (from : ℕ) → 0 < get_or words (from / 64) 0 / 2 ^ (from % 64)

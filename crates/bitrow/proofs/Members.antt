@@ -1,6 +1,6 @@
 -- The list of a row's numbers, from its bits.
-use Rattle.std.proofs.Common.{◌≡◌, ◌<◌, ◌≤◌, ◌+◌, ◌/◌, inl, inr, ℕ, zero, suc, Bool, false, Some, None, ◌||◌,
-    ◌&&◌, not, List, length, get_or, arith, refl, sym, ap, subst, ◌∙◌}
+use Rattle.std.proofs.Common.{◌≡◌, ◌<◌, ◌≤◌, ◌+◌, ◌/◌, inl, inr, ℕ, zero, suc, Bool, false, Some, None, ◌||◌}
+use Rattle.std.proofs.Common.{◌&&◌, not, List, length, get_or, arith, refl, sym, ap, subst, ◌∙◌}
 use Rattle.std.proofs.lemmas.Bool.{cases_lt, ne_eqb}
 use Rattle.std.proofs.lemmas.List.{get_or_past, get_or-replicate, length-replicate}
 use Rattle.std.specs.Prelude.{◌==◌, replicate}
@@ -99,8 +99,11 @@ members_empty m n j = elim (cases_lt j n) [
 pub members_end : (words : List ℕ) (n from : ℕ) → IsNextBit words from None
     → IsNext (members words n) from None
 members_end words n from none j above =
-    elim (cases_lt j n) [ inl below ↦ members_at words n j below
-    ∙ none j above | inr past ↦ members_past words n j past ]
+    elim (cases_lt j n) [
+      | inl below ↦ members_at words n j below
+          ∙ none j above
+      | inr past ↦ members_past words n j past
+    ]
 
 -- the first bit from one on, where it is below the length
 pub members_next : (words : List ℕ) (n from i : ℕ) → i < n → IsNextBit words from (Some i)
@@ -128,7 +131,7 @@ row_set old now new after n e row seen same kept at h j =
     subst (λ (r : List Bool). is_in (members after n) j ≡ (is_in r j || (j == e))) seen
     (subst (λ (ws : List ℕ). is_in (members ws n) j ≡ (is_in (members old n) j || (j == e))) (sym kept)
     (members_set old new n e at
-        (λ i. subst (λ (ws : List ℕ). bit_of new i ≡ (bit_of ws i || (i == e))) same (h i)) j))
+    (λ i. subst (λ (ws : List ℕ). bit_of new i ≡ (bit_of ws i || (i == e))) same (h i)) j))
 
 -- one number fewer, as a call on the words leaves it
 pub row_clear : (old now new after : List ℕ) (n e : ℕ) (row : List Bool) → members old n ≡ row → now ≡ old
@@ -138,7 +141,7 @@ row_clear old now new after n e row seen same kept at h j =
     subst (λ (r : List Bool). is_in (members after n) j ≡ (is_in r j && not (j == e))) seen
     (subst (λ (ws : List ℕ). is_in (members ws n) j ≡ (is_in (members old n) j && not (j == e))) (sym kept)
     (members_clear old new n e at
-        (λ i. subst (λ (ws : List ℕ). bit_of new i ≡ (bit_of ws i && not (i == e))) same (h i)) j))
+    (λ i. subst (λ (ws : List ℕ). bit_of new i ≡ (bit_of ws i && not (i == e))) same (h i)) j))
 
 -- the numbers of both sets, as a call on the words leaves them
 pub row_or : (old now other lent new after : List ℕ) (n m : ℕ) (row set : List Bool) → members old n ≡ row
@@ -148,12 +151,12 @@ pub row_or : (old now other lent new after : List ℕ) (n m : ℕ) (row set : Li
 row_or old now other lent new after n m row set seen also size same second kept h j =
     subst (λ (r : List Bool). is_in (members after n) j ≡ (is_in r j || is_in set j)) seen
     (subst (λ (s : List Bool). is_in (members after n) j ≡ (is_in (members old n) j || is_in s j))
-        (ap (λ (k : ℕ). members other k) (sym size) ∙ also)
+    (ap (λ (k : ℕ). members other k) (sym size) ∙ also)
     (subst (λ (ws : List ℕ). is_in (members ws n) j ≡ (is_in (members old n) j || is_in (members other n) j))
-        (sym kept)
+    (sym kept)
     (members_or old other new n
-        (λ i. subst (λ (ws : List ℕ). bit_of new i ≡ (bit_of ws i || bit_of other i)) same
-        (subst (λ (ws : List ℕ). bit_of new i ≡ (bit_of now i || bit_of ws i)) second (h i))) j)))
+    (λ i. subst (λ (ws : List ℕ). bit_of new i ≡ (bit_of ws i || bit_of other i)) same
+    (subst (λ (ws : List ℕ). bit_of new i ≡ (bit_of now i || bit_of ws i)) second (h i))) j)))
 
 -- the numbers of one set that are not in the other, as a call on the words leaves them
 pub row_and_not : (old now other lent new after : List ℕ) (n m : ℕ) (row set : List Bool) → members old n
@@ -163,12 +166,12 @@ pub row_and_not : (old now other lent new after : List ℕ) (n m : ℕ) (row set
 row_and_not old now other lent new after n m row set seen also size same second kept h j =
     subst (λ (r : List Bool). is_in (members after n) j ≡ (is_in r j && not (is_in set j))) seen
     (subst (λ (s : List Bool). is_in (members after n) j ≡ (is_in (members old n) j && not (is_in s j)))
-        (ap (λ (k : ℕ). members other k) (sym size) ∙ also)
+    (ap (λ (k : ℕ). members other k) (sym size) ∙ also)
     (subst (λ (ws : List ℕ). is_in (members ws n) j ≡
-        (is_in (members old n) j && not (is_in (members other n) j))) (sym kept)
+    (is_in (members old n) j && not (is_in (members other n) j))) (sym kept)
     (members_and_not old other new n
-        (λ i. subst (λ (ws : List ℕ). bit_of new i ≡ (bit_of ws i && not (bit_of other i))) same
-        (subst (λ (ws : List ℕ). bit_of new i ≡ (bit_of now i && not (bit_of ws i))) second (h i))) j)))
+    (λ i. subst (λ (ws : List ℕ). bit_of new i ≡ (bit_of ws i && not (bit_of other i))) same
+    (subst (λ (ws : List ℕ). bit_of new i ≡ (bit_of now i && not (bit_of ws i))) second (h i))) j)))
 
 -- a set's length
 pub row_length : (words : List ℕ) (n : ℕ) (row : List Bool) → members words n ≡ row → length row ≡ n

@@ -1,6 +1,6 @@
 -- What is left of a word, and the first bit from there on.
-use Rattle.std.proofs.Common.{◌≡◌, ◌<◌, ◌≤◌, ◌+◌, ◌-◌, ◌*◌, ◌/◌, ◌%◌, ◌^◌, inl, inr, ℕ, true, false, Option,
-    Some, None, List, length, get_or, arith, refl, sym, ap, ◌∙◌}
+use Rattle.std.proofs.Common.{◌≡◌, ◌<◌, ◌≤◌, ◌+◌, ◌-◌, ◌*◌, ◌/◌, ◌%◌, ◌^◌, inl, inr, ℕ, true, false, Option}
+use Rattle.std.proofs.Common.{Some, None, List, length, get_or, arith, refl, sym, ap, ◌∙◌}
 use Rattle.std.proofs.Common.{w64}
 use Rattle.std.specs.Prelude.{◌==◌}
 use Rattle.std.specs.Int.{bit_at, trailing_zeros}
@@ -55,7 +55,7 @@ rest_next words k rest from h some fits =
 pub rest_behind : (words : List ℕ) (k rest from b after : ℕ) → IsRest words k rest from → b < 64
     → bit_at rest b ≡ 1 → ((i : ℕ) → i < b → bit_at rest i ≡ 0)
     → bit_at after b ≡ 0 → ((i : ℕ) → i < 64 → (i ≡ b → ⊥) → bit_at after i ≡ bit_at rest i)
-        → IsRest words k after (64 * k + b + 1)
+    → IsRest words k after (64 * k + b + 1)
 rest_behind words k rest from b after h small one low cleared others = record {
   within = h.within;
   begun = omega arith;
@@ -91,8 +91,8 @@ rest_none words k from next h = go next
 pub rest_of_word : (words : List ℕ) (m e after : ℕ) → IsNextBit words (64 * m) (Some e)
     → e / 64 < length words
     → bit_at after (e % 64) ≡ 0
-        → ((i : ℕ) → i < 64 → (i ≡ e % 64 → ⊥) → bit_at after i ≡ bit_at (get_or words (e / 64) 0) i)
-        → IsRest words (e / 64) after (e + 1)
+    → ((i : ℕ) → i < 64 → (i ≡ e % 64 → ⊥) → bit_at after i ≡ bit_at (get_or words (e / 64) 0) i)
+    → IsRest words (e / 64) after (e + 1)
 rest_of_word words m e after next at cleared others = record {
   within = omega (arith, at);
   begun = omega arith;
@@ -102,7 +102,7 @@ rest_of_word words m e after next at cleared others = record {
     | inr differs ↦ others i (omega (arith, less)) differs
         ∙ not_one (bit_at (get_or words (e / 64) 0) i) (bit_at-lt (get_or words (e / 64) 0) i)
         (sym (bit_in words (e / 64) i (64 * (e / 64) + i) (omega (arith, less)) refl) ∙ next.2
-            (64 * (e / 64) + i) (omega (arith, next.0)) (omega (arith, less, differs)))
+        (64 * (e / 64) + i) (omega (arith, next.0)) (omega (arith, less, differs)))
   ];
   left = λ i less above. others i less (λ is. omega (arith, is, above));
 }

@@ -1,6 +1,6 @@
 -- Numbers below a length as bits of words.
-use Rattle.std.specs.Prelude.{◌≡◌, ◌<◌, ◌≤◌, ◌+◌, ◌*◌, ◌/◌, ◌%◌, ◌^◌, ℕ, zero, suc, Bool, true, false, Option,
-    Some, None, List, [], ◌∷◌, ◌==◌, length, slice_index, slice_index_or}
+use Rattle.std.specs.Prelude.{◌≡◌, ◌<◌, ◌≤◌, ◌+◌, ◌*◌, ◌/◌, ◌%◌, ◌^◌, ℕ, zero, suc, Bool, true, false, Option}
+use Rattle.std.specs.Prelude.{Some, None, List, [], ◌∷◌, ◌==◌, length, slice_index, slice_index_or}
 use Rattle.std.specs.Int.{bit_at}
 
 -- as many words as it takes for n bits, which a usize counts

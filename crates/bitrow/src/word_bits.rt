@@ -1,7 +1,7 @@
 //! Bits of words.
 
-ghost use Rattle.std.specs.Prelude.{◌≡◌, ◌≢◌, ◌≤◌, ◌<◌, ◌*◌, ◌^◌, ◌/◌, ◌==◌, ◌||◌, ◌&&◌, ℕ, length, not,
-    slice_index};
+ghost use Rattle.std.specs.Prelude.{◌≡◌, ◌≢◌, ◌≤◌, ◌<◌, ◌*◌, ◌^◌, ◌/◌, ◌==◌, ◌||◌, ◌&&◌, ℕ, length, not};
+ghost use Rattle.std.specs.Prelude.{slice_index};
 ghost use Rattle.std.specs.Int.{bit_at};
 ghost use Rattle.bitrow.specs.Bits.{bit_of, IsNextBit};
 

@@ -6,9 +6,11 @@ pub returns-then-from-words : goal.returns-then-from-words
 returns-then-from-words c = past_words c.args.words.now c.args.from (omega arith)
 
 pub overflow_add-result : goal.overflow_add-result
-overflow_add-result c = omega (arith,
-    lowest_within c.args.words.now c.args.from (omega arith)
-    (omega (arith, c.type_inv.words (c.args.from / 64))))
+overflow_add-result c = omega (
+  arith,
+  lowest_within c.args.words.now c.args.from (omega arith)
+      (omega (arith, c.type_inv.words (c.args.from / 64))),
+)
 
 pub returns-then-rest-ne0 : goal.returns-then-rest-ne0
 returns-then-rest-ne0 c =

@@ -9,5 +9,5 @@ returns-clause-len c = members_length c.in_ok-words.words.items c.args.len
 pub returns-clause-empty : goal.returns-clause-empty
 returns-clause-empty c =
     subst (λ (ws : List ℕ). (j : ℕ) → is_in (members ws c.args.len) j ≡ false)
-        (sym (c.in_ok-words.ensures.items_if_clones_equal (λ y h. h)))
+    (sym (c.in_ok-words.ensures.items_if_clones_equal (λ y h. h)))
     (members_empty c.div_ceil.result c.args.len)

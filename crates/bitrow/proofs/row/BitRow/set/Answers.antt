@@ -7,7 +7,7 @@ use Rattle.bitrow.proofs.row.BitRow.set.Goals as goal
 pub set_bit-requires : goal.set_bit-requires
 set_bit-requires c =
     let size : length c.args.self.now ≡ c.self.inside.len =
-        row_length c.self.inside.words.items c.self.inside.len c.args.self.now c.self.view_is in
+    row_length c.self.inside.words.items c.self.inside.len c.args.self.now c.self.view_is in
     omega (arith, size, c.requires, c.self.invariant.enough, c.as_mut_slice.ensures.len)
 
 pub returns-clause-len : goal.returns-clause-len
@@ -18,9 +18,9 @@ returns-clause-len c =
 pub returns-clause-numbers : goal.returns-clause-numbers
 returns-clause-numbers c =
     let size : length c.args.self.now ≡ c.self.inside.len =
-        row_length c.self.inside.words.items c.self.inside.len c.args.self.now c.self.view_is in
+    row_length c.self.inside.words.items c.self.inside.len c.args.self.now c.self.view_is in
     row_set c.self.inside.words.items c.as_mut_slice.result.now c.set_bit.new.words
-        (with_items c.self.inside.words c.set_bit.new.words).items c.self.inside.len c.args.number c.args.self.now
+    (with_items c.self.inside.words c.set_bit.new.words).items c.self.inside.len c.args.number c.args.self.now
     c.self.view_is c.as_mut_slice.ensures.value
-        (with_items_is c.self.inside.words c.set_bit.new.words (omega arith))
-        (omega (arith, size, c.requires)) c.set_bit.ensures
+    (with_items_is c.self.inside.words c.set_bit.new.words (omega arith))
+    (omega (arith, size, c.requires)) c.set_bit.ensures
