@@ -52,3 +52,17 @@ fn an_owner_gives_its_line_away(rt: HostRuntime) -> Result<(), Fail> {
     assert_eq!(rt; caches.write(1, 0, 9, 2), Err(CacheError::C4));
     Ok(())
 }
+
+#[test]
+fn a_stale_line_keeps_its_old_data(rt: HostRuntime) -> Result<(), Fail> {
+    let mut caches = Caches::new(rt.alloc(), 3, 1)?;
+    assert!(rt; caches.get_s(0, 0).is_ok() && caches.get_s(1, 0).is_ok());
+    assert!(rt; are_three(&caches, S, S, I));
+    assert!(rt; caches.get_m_stale(0, 0).is_ok() && caches.write(0, 0, 7, 0).is_ok());
+    assert!(rt; are_three(&caches, M, S, I));
+    assert_eq!(rt; caches.get_m_stale(0, 0), Err(CacheError::C2));
+    assert!(rt; caches.get_s(2, 0).is_ok() && are_three(&caches, O, S, S));
+    assert_eq!(rt; caches.read(1, 0), Ok((0, None)));
+    assert_eq!(rt; caches.read(2, 0), Ok((7, Some(0))));
+    Ok(())
+}

@@ -4,11 +4,11 @@ use Rattle.std.proofs.Math.ListN.{get_or-map}
 use Rattle.moesi.specs.declared.line.Line.TheVariants.{S, E}
 use Rattle.moesi.specs.declared.cell.Cell.{Cell}
 use Rattle.moesi.specs.declared.error.CacheError.{CacheError}
-use Rattle.moesi.specs.Lines.{is_valid, is_owned}
+use Rattle.moesi.specs.Lines.{is_valid, is_owned, is_shared}
 use Rattle.moesi.specs.Block.{Block, cell_of, invalid, opening_block, has_copy}
 use Rattle.moesi.specs.Rows as row
 use Rattle.moesi.specs.State.{CacheState, block_of, at_address, opening_caches, write}
-use Rattle.moesi.specs.Laws.{IsTransaction, HasEmptyLines}
+use Rattle.moesi.specs.Laws.{IsTransaction, IsAnyTransaction, HasEmptyLines}
 use Rattle.moesi.proofs.Settled.{lowered_valid, all_invalid}
 use Rattle.moesi.proofs.Kept.{taken_else, taken_then}
 use Rattle.moesi.proofs.Origins.{set_cases, map_same}
@@ -42,6 +42,14 @@ valid_fill : (q : Bool) → is_valid (cond q S E) ≡ true
 valid_fill true = refl
 valid_fill false = refl
 
+-- a line that stays is as empty as it was
+stale_empty : (y : Cell) → EmptyCell y → EmptyCell (row.left_stale y)
+stale_empty y k = go (is_shared y.line)
+  where
+    go : (q : Bool) → EmptyCell (cond q y invalid)
+    go true = k
+    go false = λ g. refl
+
 module _ (b : Block) (c : ℕ) (before : EmptyBlock b) (u : Block) where
   -- GetS keeps lines in I empty
   empty_get_s : row.get_s b c ≡ Ok u → EmptyBlock u
@@ -52,6 +60,10 @@ module _ (b : Block) (c : ℕ) (before : EmptyBlock b) (u : Block) where
   -- GetM keeps them so
   empty_get_m : row.get_m b c ≡ Ok u → EmptyBlock u
   empty_get_m h = subst EmptyBlock (taken_else _ _ _ u h).1 (turn b row.invalidated c _ b.memory before (λ y k g. refl) refl (λ g. cc (g)))
+
+  -- the faulty GetM keeps them so
+  empty_get_m_stale : row.get_m_stale b c ≡ Ok u → EmptyBlock u
+  empty_get_m_stale h = subst EmptyBlock (taken_else _ _ _ u h).1 (turn b row.left_stale c _ b.memory before stale_empty refl (λ g. cc (g)))
 
   -- Put keeps them so
   empty_put : row.put b c ≡ Ok u → EmptyBlock u
@@ -77,6 +89,11 @@ module _ (s t : CacheState) (c a : ℕ) (before : HasEmptyLines s) where
   empty_transaction (inl h) = moved _ (λ u g. empty_get_s (block_of s a) c (λ d. before d a) u g) h
   empty_transaction (inr (inl h)) = moved _ (λ u g. empty_get_m (block_of s a) c (λ d. before d a) u g) h
   empty_transaction (inr (inr h)) = moved _ (λ u g. empty_put (block_of s a) c (λ d. before d a) u g) h
+
+  -- so does the faulty one
+  pub empty_any : IsAnyTransaction s c a t → HasEmptyLines t
+  empty_any (inl h) = empty_transaction h
+  empty_any (inr h) = moved _ (λ u g. empty_get_m_stale (block_of s a) c (λ d. before d a) u g) h
 
   -- writes keep them so
   pub empty_written : (value event : ℕ) → write s c a value event ≡ Ok t → HasEmptyLines t

@@ -1,16 +1,16 @@
 -- Where the copies come from.
-use Rattle.std.proofs.Common.{◌≡◌, ◌⊎◌, inl, inr, ℕ, suc, zero, true, Option, Some, None, Result, Ok, Err, List, [], ◌∷◌, map, slice_index_or, slice_set, refl, sym, ap, subst, ◌∙◌}
+use Rattle.std.proofs.Common.{◌≡◌, ◌⊎◌, inl, inr, ℕ, suc, zero, Bool, true, false, cond, Option, Some, None, Result, Ok, Err, List, [], ◌∷◌, map, slice_index_or, slice_set, refl, sym, ap, subst, ◌∙◌}
 use Rattle.std.proofs.Math.ListN.{get_or-map}
 use Rattle.std.proofs.lemmas.Bool.{cases_Bool, cond-true, cond-false}
 use Rattle.moesi.specs.declared.line.Line.{Line}
 use Rattle.moesi.specs.declared.line.Line.TheVariants.{M}
 use Rattle.moesi.specs.declared.cell.Cell.{Cell}
 use Rattle.moesi.specs.declared.error.CacheError.{CacheError}
-use Rattle.moesi.specs.Lines.{is_valid, is_owned, supplies}
+use Rattle.moesi.specs.Lines.{is_valid, is_owned, is_shared, supplies}
 use Rattle.moesi.specs.Block.{Block, cell_of, invalid, copy_where, supplied, HasBlock}
 use Rattle.moesi.specs.Rows as row
 use Rattle.moesi.specs.State.{CacheState, block_of, at_address, Has, write}
-use Rattle.moesi.specs.Laws.{IsTransaction}
+use Rattle.moesi.specs.Laws.{IsTransaction, IsAnyTransaction}
 use Rattle.moesi.proofs.Settled.{supplier_valid, lowered_valid}
 use Rattle.moesi.proofs.Kept.{taken_else, taken_then}
 
@@ -70,6 +70,15 @@ origin_one b c x m copy h =
     origin b (λ y. y) c x m copy (λ y g. (g, refl)) refl
     (subst (λ (ys : List Cell). HasBlock (record { lines = slice_set ys c x; memory = m }) copy) (sym (map_same b.lines)) h)
 
+-- a line that stays is as it was
+tame_stale : Tame row.left_stale
+unfolding Tame
+tame_stale y g = go (is_shared y.line) refl g
+  where
+    go : (q : Bool) → is_shared y.line ≡ q → is_valid (cond q y invalid).line ≡ true → (is_valid y.line ≡ true) × ((row.left_stale y).copy ≡ y.copy)
+    go true is k = (k, ap (λ (z : Cell). z.copy) (cond-true (is_shared y.line) y invalid is))
+    go false is k = cc (k)
+
 module _ (b : Block) (c : ℕ) (copy : ℕ × Option ℕ) (u : Block) (h : HasBlock u copy) where
   -- the requester's copy is what it is given, and memory stays
   given : (f : Cell → Cell) (line : Line) → Tame f → f invalid ≡ invalid → record { lines = slice_set (map f b.lines) c (record { line = line; copy = supplied b }); memory = b.memory } ≡ u → HasBlock b copy
@@ -91,6 +100,11 @@ module _ (b : Block) (c : ℕ) (copy : ℕ × Option ℕ) (u : Block) (h : HasBl
   has_get_m : row.get_m b c ≡ Ok u → HasBlock b copy
   unfolding Tame
   has_get_m e = given row.invalidated M (λ y g. cc (g)) refl (taken_else _ _ _ u e).1
+
+  -- the faulty GetM makes no data
+  has_get_m_stale : row.get_m_stale b c ≡ Ok u → HasBlock b copy
+  unfolding Tame
+  has_get_m_stale e = given row.left_stale M tame_stale refl (taken_else _ _ _ u e).1
 
   -- Put makes no data
   has_put : row.put b c ≡ Ok u → HasBlock b copy
@@ -142,6 +156,11 @@ module _ (s t : CacheState) (c a b : ℕ) (copy : ℕ × Option ℕ) where
   copy_was_there (inl k) = moved _ k (λ u h e. has_get_s (block_of s a) c copy u h e)
   copy_was_there (inr (inl k)) = moved _ k (λ u h e. has_get_m (block_of s a) c copy u h e)
   copy_was_there (inr (inr k)) = moved _ k (λ u h e. has_put (block_of s a) c copy u h e)
+
+  -- nor does the faulty one
+  pub any_copy_was_there : IsAnyTransaction s c a t → Has t b copy → Has s b copy
+  any_copy_was_there (inl k) = copy_was_there k
+  any_copy_was_there (inr k) = moved _ k (λ u h e. has_get_m_stale (block_of s a) c copy u h e)
 
   -- a write adds what it writes
   pub write_adds : (value event : ℕ) → write s c a value event ≡ Ok t → Has t b copy → Has s b copy ⊎ ((b ≡ a) × (copy ≡ (value, Some event)))

@@ -1,14 +1,43 @@
 -- What holds of the caches whatever the calls.
-use Rattle.std.specs.Prelude.{◌≡◌, ◌<◌, ◌==◌, ◌⊎◌, ℕ, Option, if◌then◌else◌, IsTrue, IsFalse, Some, None, Ok,
-    length}
+use Rattle.std.specs.Prelude.{
+  ◌≡◌,
+  ◌<◌,
+  ◌==◌,
+  ◌⊎◌,
+  ℕ,
+  Option,
+  if◌then◌else◌,
+  IsTrue,
+  IsFalse,
+  Some,
+  None,
+  Ok,
+  length,
+}
 use Rattle.moesi.specs.Lines.{is_valid}
-use Rattle.moesi.specs.State.{CacheState, line_of, copy_of, current, opening_caches, get_s, get_m, put, read,
-    write, Has}
+use Rattle.moesi.specs.State.{
+  CacheState,
+  line_of,
+  copy_of,
+  current,
+  opening_caches,
+  get_s,
+  get_m,
+  get_m_stale,
+  put,
+  read,
+  write,
+  Has,
+}
 use Rattle.moesi.specs.Coherent.{IsCoherent}
 
 -- core c made a transaction of address a
 abbrev pub IsTransaction : CacheState → ℕ → ℕ → CacheState → Type 0
 IsTransaction s c a t = (get_s s c a ≡ Ok t) ⊎ ((get_m s c a ≡ Ok t) ⊎ (put s c a ≡ Ok t))
+
+-- core c made a transaction of address a, which may be the faulty GetM
+abbrev pub IsAnyTransaction : CacheState → ℕ → ℕ → CacheState → Type 0
+IsAnyTransaction s c a t = IsTransaction s c a t ⊎ (get_m_stale s c a ≡ Ok t)
 
 -- at first all is coherent, and each address has 0 with no event
 abbrev pub OpeningIsCoherent : Type 0
@@ -41,9 +70,9 @@ abbrev pub EveryCallKeepsCoherence : Type 0
 EveryCallKeepsCoherence = (s t : CacheState) (c a value event : ℕ) → IsCoherent s → c < s.cores
     → a < length s.blocks → IsTransaction s c a t ⊎ (write s c a value event ≡ Ok t) → IsCoherent t
 
--- no transaction makes up data
+-- no transaction makes up data, faulty or not
 abbrev pub EveryCopyWasThere : Type 0
-EveryCopyWasThere = (s t : CacheState) (c a b : ℕ) (copy : ℕ × Option ℕ) → IsTransaction s c a t
+EveryCopyWasThere = (s t : CacheState) (c a b : ℕ) (copy : ℕ × Option ℕ) → IsAnyTransaction s c a t
     → Has t b copy → Has s b copy
 
 -- a write adds what it writes, and nothing else
@@ -63,4 +92,4 @@ OpeningHasEmptyLines = (cores addresses : ℕ) → HasEmptyLines (opening_caches
 -- transactions and writes keep it so
 abbrev pub EveryCallKeepsEmptyLines : Type 0
 EveryCallKeepsEmptyLines = (s t : CacheState) (c a value event : ℕ) → HasEmptyLines s
-    → IsTransaction s c a t ⊎ (write s c a value event ≡ Ok t) → HasEmptyLines t
+    → IsAnyTransaction s c a t ⊎ (write s c a value event ≡ Ok t) → HasEmptyLines t

@@ -35,6 +35,14 @@ supplies E = true
 supplies O = true
 supplies M = true
 
+-- the core has a copy that it may read alone, and that another core may own
+abbrev pub is_shared : Line → Bool
+is_shared I = false
+is_shared S = true
+is_shared E = false
+is_shared O = false
+is_shared M = false
+
 -- the line once another core shares it: M becomes O, E becomes S, the others stay
 abbrev pub lowered : Line → Line
 lowered I = I

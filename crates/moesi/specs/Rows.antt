@@ -4,7 +4,7 @@ use Rattle.moesi.specs.declared.line.Line.TheVariants.{S, E, M}
 use Rattle.moesi.specs.declared.cell.Cell.{Cell}
 use Rattle.moesi.specs.declared.error.CacheError.{CacheError}
 use Rattle.moesi.specs.declared.error.CacheError.TheVariants.{C1, C2, C3, C4}
-use Rattle.moesi.specs.Lines.{is_valid, is_exclusive, is_owned, lowered}
+use Rattle.moesi.specs.Lines.{is_valid, is_exclusive, is_owned, is_shared, lowered}
 use Rattle.moesi.specs.Block.{Block, cell_of, invalid, has_copy, supplied}
 
 -- a line that another core shares keeps its data
@@ -33,6 +33,20 @@ get_m b c =
     if is_exclusive (cell_of b c).line then Err C2
     else Ok (record {
       lines = slice_set (map invalidated b.lines) c (record { line = M; copy = supplied b });
+      memory = b.memory;
+    })
+
+-- a line that another core takes for itself with a fault: S stays as it is, with its old data
+abbrev pub left_stale : Cell → Cell
+left_stale x = if is_shared x.line then x else invalid
+
+-- the faulty GetM, which leaves others in S, allowed in I, S and O: the other others become I, the
+-- requester M
+abbrev pub get_m_stale : Block → ℕ → Result Block CacheError
+get_m_stale b c =
+    if is_exclusive (cell_of b c).line then Err C2
+    else Ok (record {
+      lines = slice_set (map left_stale b.lines) c (record { line = M; copy = supplied b });
       memory = b.memory;
     })
 

@@ -1,6 +1,18 @@
 -- What the caches of all cores are, with memory, and what each call does to them.
-use Rattle.std.specs.Prelude.{ℕ, Option, Some, None, Result, Ok, Err, List, [], replicate, slice_index_or,
-    slice_set}
+use Rattle.std.specs.Prelude.{
+  ℕ,
+  Option,
+  Some,
+  None,
+  Result,
+  Ok,
+  Err,
+  List,
+  [],
+  replicate,
+  slice_index_or,
+  slice_set,
+}
 use Rattle.moesi.specs.declared.line.Line.{Line}
 use Rattle.moesi.specs.declared.error.CacheError.{CacheError}
 use Rattle.moesi.specs.Block.{Block, cell_of, opening_block, current_of, HasBlock}
@@ -54,6 +66,10 @@ get_s s c a = at_address s a (row.get_s (block_of s a) c)
 -- GetM of core c at address a
 abbrev pub get_m : CacheState → ℕ → ℕ → Result CacheState CacheError
 get_m s c a = at_address s a (row.get_m (block_of s a) c)
+
+-- the faulty GetM of core c at address a
+abbrev pub get_m_stale : CacheState → ℕ → ℕ → Result CacheState CacheError
+get_m_stale s c a = at_address s a (row.get_m_stale (block_of s a) c)
 
 -- Put of core c at address a
 abbrev pub put : CacheState → ℕ → ℕ → Result CacheState CacheError

@@ -1,7 +1,7 @@
 //! One address in all caches and in memory.
 
 use crate::cell::{Cell, INVALID};
-use crate::cells::{any_valid, invalidate_all, share_all, supplied};
+use crate::cells::{any_valid, invalidate_all, invalidate_unshared, share_all, supplied};
 use crate::error::CacheError;
 use crate::line::Line;
 use litmus::{EventId, OutOfMemory};
@@ -26,7 +26,7 @@ impl Model for Block {
 impl Block {
     ghost use Rattle.std.specs.Prelude.{◌≡◌, ◌<◌, Ok, Err, length, IfOk, OnOk, IfErr, OnErr};
     ghost use Rattle.moesi.specs.Block.{cell_of, opening_block};
-    ghost use Rattle.moesi.specs.Rows.{get_s, get_m, put, read, write};
+    ghost use Rattle.moesi.specs.Rows.{get_s, get_m, get_m_stale, put, read, write};
 
     /// The block of so many cores, where no line is valid and memory is 0.
     pub(crate) fn new(alloc: Global, cores: usize) -> Result<Block, OutOfMemory>
@@ -86,6 +86,25 @@ impl Block {
         }
         let copy = supplied(&self.lines, self.memory);
         invalidate_all(&mut self.lines);
+        self.lines[core] = Cell {
+            line: Line::M,
+            copy,
+        };
+        Ok(())
+    }
+
+    /// The row of the faulty GetM; C2 where the core's line is M or E.
+    pub(crate) fn get_m_stale(&mut self, core: usize) -> Result<(), CacheError>
+        requires { core < length self.old.lines }
+        ensures ok { OnOk result (get_m_stale self.old core ≡ Ok self.new) }
+        ensures refused { IfErr result (λ e. get_m_stale self.old core ≡ Err e) }
+        ensures unchanged { OnErr result (self.new ≡ self.old) }
+    {
+        if self.lines[core].line.is_exclusive() {
+            return Err(CacheError::C2);
+        }
+        let copy = supplied(&self.lines, self.memory);
+        invalidate_unshared(&mut self.lines);
         self.lines[core] = Cell {
             line: Line::M,
             copy,

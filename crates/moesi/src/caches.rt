@@ -33,7 +33,7 @@ impl Caches {
     ghost use Rattle.std.specs.Prelude.{◌≡◌, ◌<◌, Ok, Err, length, IfOk, OnOk, IfErr, OnErr};
     ghost use Rattle.litmus.specs.declared.limits.TheConstants.{MAX_EVENTS};
     ghost use Rattle.moesi.specs.State.{opening_caches, line_of, memory_of};
-    ghost use Rattle.moesi.specs.State.{get_s, get_m, put, read, write};
+    ghost use Rattle.moesi.specs.State.{get_s, get_m, get_m_stale, put, read, write};
     ghost use Rattle.moesi.specs.Coherent.{IsCoherent};
 
     /// Caches of so many cores where no line is valid, over so many addresses with value 0 and no
@@ -94,6 +94,21 @@ impl Caches {
     {
         let block = &mut self.blocks[addr as usize];
         block.get_m(core as usize)
+    }
+
+    /// GetM with a fault: other lines in S stay as they are, with their old data, so that the caches
+    /// may be no longer coherent. C2 where the core's line is M or E; then nothing changes.
+    pub fn get_m_stale(&mut self, core: CoreId, addr: Addr) -> Result<(), CacheError>
+        requires core { core < self.old.cores }
+        requires address { addr < length self.old.blocks }
+        ensures ok { OnOk result (get_m_stale self.old core addr ≡ Ok self.new) }
+        ensures refused { IfErr result (λ e. get_m_stale self.old core addr ≡ Err e) }
+        ensures unchanged { OnErr result (self.new ≡ self.old) }
+        ensures cores { self.new.cores ≡ self.old.cores }
+        ensures addresses { length self.new.blocks ≡ length self.old.blocks }
+    {
+        let block = &mut self.blocks[addr as usize];
+        block.get_m_stale(core as usize)
     }
 
     /// Put: gives a core's line up. C3 where it is not valid; then nothing changes.

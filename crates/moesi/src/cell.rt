@@ -1,7 +1,7 @@
 //! One core's line with its data.
 
 ghost use Rattle.std.specs.Prelude.{◌≡◌};
-ghost use Rattle.moesi.specs.Rows.{shared};
+ghost use Rattle.moesi.specs.Rows.{shared, left_stale};
 
 use crate::line::Line;
 use litmus::EventId;
@@ -28,5 +28,12 @@ impl Cell {
             line: self.line.lowered(),
             copy: self.copy,
         }
+    }
+
+    /// The cell once another core takes the line for itself and leaves those in S as they are.
+    pub(crate) fn left_stale(self) -> Cell
+        ensures { result ≡ left_stale self }
+    {
+        if self.line.is_shared() { self } else { INVALID }
     }
 }

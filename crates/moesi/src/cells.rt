@@ -4,7 +4,7 @@ ghost use Rattle.std.specs.Prelude.{◌≡◌, map};
 ghost use Rattle.std.specs.List.{list_any};
 ghost use Rattle.moesi.specs.Lines.{is_valid, supplies};
 ghost use Rattle.moesi.specs.Block.{copy_where};
-ghost use Rattle.moesi.specs.Rows.{shared, invalidated};
+ghost use Rattle.moesi.specs.Rows.{shared, invalidated, left_stale};
 
 use crate::cell::{Cell, INVALID};
 use litmus::EventId;
@@ -43,5 +43,14 @@ pub(crate) fn invalidate_all(lines: &mut [Cell])
 {
     for x in lines.iter_mut() {
         *x = INVALID;
+    }
+}
+
+/// Makes each line I but those in S, which stay as they are.
+pub(crate) fn invalidate_unshared(lines: &mut [Cell])
+    ensures { lines.new ≡ map left_stale lines.old }
+{
+    for x in lines.iter_mut() {
+        *x = x.left_stale();
     }
 }

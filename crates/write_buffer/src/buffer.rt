@@ -24,8 +24,24 @@ impl Model for WriteBuffer {
 }
 
 impl WriteBuffer {
-    ghost use Rattle.std.specs.Prelude.{◌≡◌, ◌<◌, ◌↔◌, ◌++◌, ◌∷◌, [], IfOk, OnOk, IfErr, IfNone, IfSome, IsOk,
-        IsTrue, length, slice_get};
+    ghost use Rattle.std.specs.Prelude.{
+      ◌≡◌,
+      ◌<◌,
+      ◌-◌,
+      ◌↔◌,
+      ◌++◌,
+      ◌∷◌,
+      [],
+      IfOk,
+      OnOk,
+      IfErr,
+      IfNone,
+      IfSome,
+      IsOk,
+      IsTrue,
+      length,
+      slice_get,
+    };
     ghost use Rattle.write_buffer.specs.Buffer.{Buffer, youngest};
 
     /// An empty buffer for so many entries; out of memory where the growth was refused.
@@ -57,6 +73,13 @@ impl WriteBuffer {
         ensures { result ≡ slice_get self.now.entries 0 }
     {
         self.ring.front().copied()
+    }
+
+    /// The entry that was added last, of any address.
+    pub fn newest(&self) -> Option<Entry>
+        ensures { result ≡ slice_get self.now.entries (length self.now.entries - 1) }
+    {
+        self.ring.back().copied()
     }
 
     /// Removes the oldest entry and returns it.

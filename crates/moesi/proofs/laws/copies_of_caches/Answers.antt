@@ -1,10 +1,10 @@
 use Rattle.std.proofs.Common.{inl, inr}
-use Rattle.moesi.proofs.Empty.{empty_opening, empty_transaction, empty_written}
-use Rattle.moesi.proofs.Origins.{copy_was_there, write_adds}
+use Rattle.moesi.proofs.Empty.{empty_opening, empty_any, empty_written}
+use Rattle.moesi.proofs.Origins.{any_copy_was_there, write_adds}
 use Rattle.moesi.proofs.laws.copies_of_caches.Goals as goal
 
 pub returns-clause-transactions : goal.returns-clause-transactions
-returns-clause-transactions c = copy_was_there
+returns-clause-transactions c = any_copy_was_there
 
 pub returns-clause-writes : goal.returns-clause-writes
 returns-clause-writes c = λ s t d a value event b copy. write_adds s t d a b copy value event
@@ -12,7 +12,7 @@ returns-clause-writes c = λ s t d a value event b copy. write_adds s t d a b co
 pub returns-clause-empty : goal.returns-clause-empty
 returns-clause-empty c = λ s t d a value event k h.
     elim h [
-      | inl g ↦ empty_transaction s t d a k g
+      | inl g ↦ empty_any s t d a k g
       | inr g ↦ empty_written s t d a k value event g
     ]
 
