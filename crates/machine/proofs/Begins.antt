@@ -10,6 +10,7 @@ use Rattle.litmus.specs.Parts.{Parts, IsWithin, op_count}
 use Rattle.write_buffer.specs.Buffer.{Buffer}
 use Rattle.core_unit.specs.Progress.{Progress}
 use Rattle.machine.specs.BoundedItems.{BoundedItems}
+use Rattle.machine.specs.declared.fault.Fault.{Fault}
 use Rattle.machine.specs.State.{first_event, opening}
 use Rattle.machine.specs.Made.{AreUnits}
 use Rattle.moesi.specs.State as moesi
@@ -100,8 +101,8 @@ module _ (p : Parts) (capacity cores total n : ℕ) (units : List Progress) (cor
   }
 
   -- so they are a machine
-  pub is_machine : IsMachine p capacity units buffers caches writes reads done blank
-  is_machine = record {
+  pub is_machine : (fault : Fault) → IsMachine p capacity fault units buffers caches writes reads done blank
+  is_machine fault = record {
     sound = sound;
     reached = record { steps = []; leads = sym opening_held; operations = fits };
     blank_is = rw (blank_is, cores_is, are.events, n_is) refl;

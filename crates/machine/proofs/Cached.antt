@@ -7,7 +7,7 @@ use Rattle.moesi.specs.Lines.{is_valid, is_exclusive}
 use Rattle.moesi.specs.Block.{Block, opening_block, invalid, HasBlock}
 use Rattle.moesi.specs.Rows as row
 use Rattle.moesi.specs.State.{CacheState, block_of, line_of, copy_of, opening_caches, at_address, read, write, Has}
-use Rattle.moesi.specs.Laws.{IsTransaction}
+use Rattle.moesi.specs.Laws.{IsTransaction, IsAnyTransaction}
 use Rattle.moesi.proofs.Settled.{exclusive_valid, all_invalid}
 use Rattle.moesi.proofs.Kept.{taken_then}
 
@@ -35,6 +35,11 @@ pub transaction_large : (s t : CacheState) (c a : ℕ) → IsTransaction s c a t
 transaction_large s t c a (inl h) = at_address_large s t a _ h
 transaction_large s t c a (inr (inl h)) = at_address_large s t a _ h
 transaction_large s t c a (inr (inr h)) = at_address_large s t a _ h
+
+-- and a faulty one
+pub any_large : (s t : CacheState) (c a : ℕ) → IsAnyTransaction s c a t → IsAsLarge s t
+any_large s t c a (inl h) = transaction_large s t c a h
+any_large s t c a (inr h) = at_address_large s t a _ h
 
 -- what is read is a valid line's
 pub read_is : (s : CacheState) (c a : ℕ) (copy : ℕ × Option ℕ) → read s c a ≡ Ok copy → IsTrue (is_valid (line_of s c a)) × (copy_of s c a ≡ copy)

@@ -1,8 +1,8 @@
 -- Each value in a line, in memory, in a buffer or read is one that an executed write of its address wrote, so a complete state's recording is well formed.
-use Rattle.std.proofs.Common.{◌≡◌, ◌≢◌, ◌<◌, ◌≤◌, ◌+◌, ◌⊎◌, inl, inr, ℕ, Bool, true, cond, Option, Some, None, Ok, List, [], ◌∷◌, map, length, get_or, slice_set, arith, refl, sym, ap, subst, ◌∙◌, get_or-set_same, get_or-set_other}
+use Rattle.std.proofs.Common.{◌≡◌, ◌≢◌, ◌<◌, ◌≤◌, ◌+◌, ◌⊎◌, inl, inr, ℕ, Bool, true, cond, Option, Some, None, Ok, List, [], ◌∷◌, ◌++◌, map, length, get_or, slice_set, arith, refl, sym, ap, subst, ◌∙◌, get_or-set_same, get_or-set_other}
 use Rattle.std.specs.Prelude.{◌==◌}
 use Rattle.std.specs.List.{All, filter, sum_by}
-use Rattle.std.proofs.lemmas.List.{get_or_past}
+use Rattle.std.proofs.lemmas.List.{get_or_past, map-append}
 use Rattle.std.proofs.lemmas.Bool.{cases_eq, cases_lt, eq-eqb}
 use Rattle.litmus.specs.declared.op.Op.{Op}
 use Rattle.litmus.specs.declared.op.Op.TheVariants.{St, Ld, Fence, Swap, Add}
@@ -17,8 +17,10 @@ use Rattle.write_buffer.specs.declared.entry.Entry.{Entry}
 use Rattle.write_buffer.specs.Buffer.{youngest, or_else}
 use Rattle.machine.specs.declared.step.Step.{Step}
 use Rattle.moesi.specs.State as moesi
-use Rattle.moesi.specs.Laws.{IsTransaction}
-use Rattle.moesi.proofs.Origins.{copy_was_there, write_adds}
+use Rattle.moesi.specs.Laws.{IsAnyTransaction}
+use Rattle.moesi.proofs.Origins.{any_copy_was_there, write_adds}
+use Rattle.machine.specs.declared.fault.Fault.{Fault}
+use Rattle.machine.specs.Faults.{forwarded}
 use Rattle.machine.specs.State.{State, place_of, buffer_of, line_copy, event_of, recorded, opening, IsComplete}
 use Rattle.machine.specs.Step.{with_caches, forwarded_or_read, looked_up, rmw_value, run}
 use Rattle.machine.specs.Tso.{EveryRunIsWellFormed}
@@ -26,11 +28,12 @@ use Rattle.machine.proofs.Cached.{read_has, written_read, opening_has}
 use Rattle.machine.proofs.Static.{static_of, snapshot_of, placed_op, done_by, op_reads}
 use Rattle.machine.proofs.Newest.{bool_cases, times_filter, times_filter_no}
 use Rattle.machine.proofs.WriteLists.{writes_to, is_address_true, is_address_back, pair_one}
-use Rattle.machine.proofs.Drains.{AreStores, drained_state}
+use Rattle.machine.proofs.Drains.{AreStores, stores_out, drained_state}
+use Rattle.machine.proofs.Removed.{forwarded_youngest}
 use Rattle.machine.proofs.Loads.{not_equal}
 use Rattle.machine.proofs.Executes.{IsNext, next_placed}
 use Rattle.machine.proofs.Rows.{IsKept, IsRmw, stored_state, loaded_state, fenced_state, rmw_state, run_kept}
-use Rattle.machine.proofs.Steady.{IsSteady, next_within, steady_kept}
+use Rattle.machine.proofs.Steady.{IsSteady, next_within, drain_steady, store_steady, load_steady, fence_steady, rmw_steady, transact_steady}
 use Rattle.machine.proofs.Opening.{get_or_same, opening_steady}
 use Rattle.machine.proofs.Complete.{event_is, list_is, writes_is, reads_is, complete_listed}
 
@@ -104,13 +107,13 @@ module _ (p : List (List Op)) (s : State) (d : IsData p s) where
   waits_executed c x op there = subst (λ (k : ℕ). x.event < (snapshot_of p s).next k) (ap (λ (z : ℕ × Op). z.0) op) (executed_in c x.event there)
 
   -- what a load gets is given
-  loaded_given : (c a : ℕ) (what : ℕ × Option ℕ) → looked_up s c a ≡ Ok what → IsPairGiven p s a what
-  loaded_given c a what = go (youngest (buffer_of s c) a) refl
+  loaded_given : (f : Fault) (c a : ℕ) (what : ℕ × Option ℕ) → looked_up f s c a ≡ Ok what → IsPairGiven p s a what
+  loaded_given f c a what = go (forwarded f (buffer_of s c) a) refl
     where
-      go : (o : Option Entry) → youngest (buffer_of s c) a ≡ o → forwarded_or_read o (moesi.read s.caches c a) ≡ Ok what → IsPairGiven p s a what
+      go : (o : Option Entry) → forwarded f (buffer_of s c) a ≡ o → forwarded_or_read o (moesi.read s.caches c a) ≡ Ok what → IsPairGiven p s a what
       go None is got = d.copies a what (read_has s.caches c a what got)
       go (Some y) is got =
-          let at = youngest_is p c (buffer_of s c) a y (d.steady.stores c) is in
+          let at = youngest_is p c (buffer_of s c) a y (d.steady.stores c) (forwarded_youngest f (buffer_of s c) a y is) in
           subst (λ (z : ℕ × Option ℕ). IsPairGiven p s a z) (pair_one (y.value, Some y.event) what got)
           (written_given p s y.event c a y.value (St a y.value) at.0 (subst (λ (k : ℕ). y.event < (snapshot_of p s).next k) (ap (λ (z : ℕ × Op). z.0) at.0) (executed_in c y.event at.1)) refl refl)
 
@@ -124,15 +127,17 @@ module _ (p : List (List Op)) (s : State) (d : IsData p s) where
   ]
 
   -- a drain keeps the data
-  drain_data : (caches : moesi.CacheState) (c : ℕ) (x : Entry) (xs : List Entry) → c < length p → buffer_of s c ≡ x ∷ xs
-      → moesi.write s.caches c x.addr x.value x.event ≡ Ok caches → IsData p (drained_state s caches c x xs)
-  drain_data caches c x xs at is wrote =
-      let here : AreStores p c (x ∷ xs) = subst (λ (b : List Entry). AreStores p c b) is (d.steady.stores c) in
+  drain_data : (caches : moesi.CacheState) (c : ℕ) (x : Entry) (front back : List Entry) → c < length p → buffer_of s c ≡ front ++ x ∷ back
+      → moesi.write s.caches c x.addr x.value x.event ≡ Ok caches → IsData p (drained_state s caches c x (front ++ back))
+  drain_data caches c x front back at is wrote =
+      let here = stores_out p c front x back (subst (λ (b : List Entry). AreStores p c b) is (d.steady.stores c)) in
       let waits : 0 < times (map (λ (y : Entry). y.event) (buffer_of s c)) x.event =
-      subst (λ (b : List Entry). 0 < times (map (λ (y : Entry). y.event) b) x.event) (sym is) (omega (arith, times_here (map (λ (y : Entry). y.event) xs) x.event x.event refl)) in
+      subst (λ (b : List Entry). 0 < times (map (λ (y : Entry). y.event) b) x.event) (sym is)
+      (subst (λ (l : List ℕ). 0 < times l x.event) (sym (map-append (λ (y : Entry). y.event) front (x ∷ back)))
+      (omega (arith, times_append (map (λ (y : Entry). y.event) front) (x.event ∷ map (λ (y : Entry). y.event) back) x.event, times_here (map (λ (y : Entry). y.event) back) x.event x.event refl))) in
       let gave : IsGiven p s x.addr (Some x.event) x.value = written_given p s x.event c x.addr x.value (St x.addr x.value) here.0 (waits_executed c x here.0 waits) refl refl in
       record {
-        steady = (steady_kept p s d.steady).drain caches c x xs at is wrote;
+        steady = drain_steady p s d.steady caches c x front back at is wrote;
         copies = copies_given s caches c x.addr x.event x.value wrote gave d.copies;
         reads = d.reads;
       }
@@ -178,35 +183,35 @@ module _ (p : List (List Op)) (s : State) (d : IsData p s) where
   store_data c b a v n at =
       let keep : (k : ℕ) (o : Option ℕ) (w : ℕ) → IsGiven p s k o w → IsGiven p (stored_state s c b a v) k o w = go_on c b (St a v) n (stored_state s c b a v) refl (λ e other. refl) in
       record {
-        steady = (steady_kept p s d.steady).store c b a v n at;
+        steady = store_steady p s d.steady c b a v n at;
         copies = λ k copy h. keep k _ _ (d.copies k copy h);
         reads = λ e k r. keep k _ _ (d.reads e k r);
       }
 
   -- a fence keeps the data
-  fence_data : (c b : ℕ) → IsNext p s c b Fence → buffer_of s c ≡ [] → IsData p (fenced_state s c b)
-  fence_data c b n empty =
+  fence_data : (c b : ℕ) → IsNext p s c b Fence → IsData p (fenced_state s c b)
+  fence_data c b n =
       let keep : (k : ℕ) (o : Option ℕ) (w : ℕ) → IsGiven p s k o w → IsGiven p (fenced_state s c b) k o w = go_on c b Fence n (fenced_state s c b) refl (λ e other. refl) in
       record {
-        steady = (steady_kept p s d.steady).fence c b n empty;
+        steady = fence_steady p s d.steady c b n;
         copies = λ k copy h. keep k _ _ (d.copies k copy h);
         reads = λ e k r. keep k _ _ (d.reads e k r);
       }
 
   -- a load keeps the data
-  load_data : (c b a : ℕ) (what : ℕ × Option ℕ) → IsNext p s c b (Ld a) → looked_up s c a ≡ Ok what → IsData p (loaded_state s c b what)
-  load_data c b a what n got =
+  load_data : (f : Fault) (c b a : ℕ) (what : ℕ × Option ℕ) → IsNext p s c b (Ld a) → looked_up f s c a ≡ Ok what → IsData p (loaded_state s c b what)
+  load_data f c b a what n got =
       let t : State = loaded_state s c b what in
       record {
-        steady = (steady_kept p s d.steady).load c b a what n got;
+        steady = load_steady p s d.steady c b a what n;
         copies = λ k copy h. go_on c b (Ld a) n t refl (λ e other. get_or-set_other s.reads b e what (0, None) other) k _ _ (d.copies k copy h);
-        reads = read_given c b (Ld a) n t a what refl (loaded_given c a what got) refl refl;
+        reads = read_given c b (Ld a) n t a what refl (loaded_given f c a what got) refl refl;
       }
 
   -- a read-modify-write keeps the data
-  rmw_data : (caches : moesi.CacheState) (c b a : ℕ) (op : Op) → IsNext p s c b op → c < length p → IsRmw op (line_copy s c a) a → buffer_of s c ≡ []
+  rmw_data : (caches : moesi.CacheState) (c b a : ℕ) (op : Op) → IsNext p s c b op → IsRmw op (line_copy s c a) a
       → moesi.write s.caches c a (rmw_value s c op a) b ≡ Ok caches → IsData p (rmw_state s caches c b a)
-  rmw_data caches c b a op n at is empty wrote =
+  rmw_data caches c b a op n is wrote =
       let t : State = rmw_state s caches c b a in
       let what : ℕ × Option ℕ = line_copy s c a in
       let value : ℕ = rmw_value s c op a in
@@ -214,16 +219,16 @@ module _ (p : List (List Op)) (s : State) (d : IsData p s) where
       let gave : IsGiven p t a (Some b) value = written_given p t b c a value op (next_placed p s c b op n) (omega (arith, n.event, get_or-set_same s.places c (place_of s c + 1) 0 n.core))
       (ap (λ (z : ℕ × Option ℕ). written_address (event_of op z)) read ∙ is.address) (ap (λ (z : ℕ × Option ℕ). value_written (event_of op z)) read) in
       record {
-        steady = (steady_kept p s d.steady).rmw caches c b a op n at is empty wrote;
+        steady = rmw_steady p s d.steady caches c b a op n is wrote;
         copies = copies_given t caches c a b value wrote gave (λ k copy h. go_on c b op n t refl (λ e other. get_or-set_other s.reads b e what (0, None) other) k _ _ (d.copies k copy h));
         reads = read_given c b op n t a what is.reads (d.copies a what (read_has s.caches c a what (written_read s.caches caches c a value b wrote))) refl refl;
       }
 
   -- a transaction keeps the data
-  transact_data : (caches : moesi.CacheState) (c a : ℕ) → c < length p → a < length s.caches.blocks → IsTransaction s.caches c a caches → IsData p (with_caches s caches)
-  transact_data caches c a at within made = record {
-    steady = (steady_kept p s d.steady).transact caches c a at within made;
-    copies = λ k copy h. given_same k copy (d.copies k copy (copy_was_there s.caches caches c a k copy made h));
+  transact_data : (caches : moesi.CacheState) (c a : ℕ) → IsAnyTransaction s.caches c a caches → IsData p (with_caches s caches)
+  transact_data caches c a made = record {
+    steady = transact_steady p s d.steady caches c a made;
+    copies = λ k copy h. given_same k copy (d.copies k copy (any_copy_was_there s.caches caches c a k copy made h));
     reads = λ e k r. given_same k (get_or s.reads e (0, None)) (d.reads e k r);
   }
     where
@@ -231,15 +236,15 @@ module _ (p : List (List Op)) (s : State) (d : IsData p s) where
       given_same k (v, None) h = h
       given_same k (v, Some w) h = h
 
-  -- each row keeps the data
-  pub data_kept : IsKept p s (IsData p)
-  data_kept = record {
-    drain = drain_data;
+  -- each row keeps the data, under every fault
+  pub data_kept : (f : Fault) → IsKept p f s (IsData p)
+  data_kept f = record {
+    drain = λ caches c x front back at is first wrote. drain_data caches c x front back at is wrote;
     store = store_data;
-    load = load_data;
-    fence = fence_data;
-    rmw = rmw_data;
-    transact = transact_data;
+    load = load_data f;
+    fence = λ c b n empty. fence_data c b n;
+    rmw = λ caches c b a op n at is empty wrote. rmw_data caches c b a op n is wrote;
+    transact = λ caches c a at within made sound. transact_data caches c a made;
   }
 
 -- the opening state has only initial values
@@ -250,9 +255,9 @@ opening_data p n fits = record {
   reads = λ e a r. subst (λ (z : ℕ × Option ℕ). IsPairGiven p (opening p n) a z) (sym (get_or_same (sum_by (λ ops. length ops) p) e (0, None))) refl;
 }
 
--- every run has its data from executed writes
-pub run_data : (p : List (List Op)) (n capacity : ℕ) (steps : List Step) → All (λ ops. All (IsWithin n) ops) p → IsData p (run p capacity (opening p n) steps)
-run_data p n capacity steps fits = run_kept p capacity (IsData p) (λ s d. (data_kept p s d, d.steady.places)) steps (opening p n) (opening_data p n fits)
+-- every run has its data from executed writes, under every fault
+pub run_data : (p : List (List Op)) (n capacity : ℕ) (f : Fault) (steps : List Step) → All (λ ops. All (IsWithin n) ops) p → IsData p (run p capacity f (opening p n) steps)
+run_data p n capacity f steps fits = run_kept p capacity f (IsData p) (λ s d. (data_kept p s d f, d.steady.places)) steps (opening p n) (opening_data p n fits)
 
 -- Well-formedness
 
@@ -321,6 +326,6 @@ module _ (p : List (List Op)) (s : State) (d : IsData p s) (end : IsComplete p s
     | inr writes ↦ omega (arith, writes_inside e a (sym (writes_is p s e) ∙ writes), d.steady.listed.cells)
   ]
 
--- every complete run has a well-formed recording
-pub every_run_is_well_formed : (p : List (List Op)) (n capacity : ℕ) (steps : List Step) → EveryRunIsWellFormed p n capacity steps
-every_run_is_well_formed p n capacity steps fits end = complete_well_formed p (run p capacity (opening p n) steps) (run_data p n capacity steps fits) end
+-- every complete run has a well-formed recording, under every fault
+pub every_run_is_well_formed : (p : List (List Op)) (n capacity : ℕ) (f : Fault) (steps : List Step) → EveryRunIsWellFormed p n capacity f steps
+every_run_is_well_formed p n capacity f steps fits end = complete_well_formed p (run p capacity f (opening p n) steps) (run_data p n capacity f steps fits) end

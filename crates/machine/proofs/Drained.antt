@@ -1,10 +1,9 @@
 -- What a drain does to the parts of a machine.
-use Rattle.std.proofs.Common.{◌≡◌, ◌<◌, ◌≤◌, ◌+◌, ℕ, suc, Option, Some, None, Ok, Err, List, [], ◌∷◌, ◌++◌, length, slice_get, slice_index_or, slice_set, arith, refl, sym, ap, subst, ◌∙◌, length-set, length-append}
+use Rattle.std.proofs.Common.{◌≡◌, ◌<◌, ◌≤◌, ◌+◌, ℕ, Option, Some, Ok, Err, List, [], ◌∷◌, ◌++◌, length, slice_get, slice_index_or, slice_set, arith, refl, sym, ap, subst, ◌∙◌, length-set, length-append}
 use Rattle.std.specs.List.{All, sum_by}
 use Rattle.std.proofs.lemmas.List.Elements.{All-set, All-weaker}
 use Rattle.std.proofs.lemmas.List.Sums.{sum_by-set}
 use Rattle.std.proofs.lemmas.List.{map-set, length-map, get_or_default}
-use Rattle.std.specs.Prelude.{IfSome, IfNone}
 use Rattle.std.proofs.lemmas.Option.{slice_get_within, get_or_from_slice_get}
 use Rattle.std.proofs.lemmas.Bool.{lt-ltb}
 use Rattle.moesi.specs.State as moesi
@@ -14,26 +13,20 @@ use Rattle.litmus.specs.Parts.{Parts, op_count}
 use Rattle.write_buffer.specs.declared.entry.Entry.{Entry}
 use Rattle.write_buffer.specs.Buffer.{Buffer}
 use Rattle.core_unit.specs.Progress.{Progress}
+use Rattle.machine.specs.declared.fault.Fault.{Fault}
+use Rattle.machine.specs.Faults.{draining, without}
 use Rattle.machine.specs.declared.step.Step.TheVariants.{Drain}
-use Rattle.machine.specs.Step.{drained, taken}
+use Rattle.machine.specs.Step.{taken}
 use Rattle.machine.specs.BoundedItems.{BoundedItems}
 use Rattle.machine.specs.Configuration.{IsSound, IsEntry, state_from, places_of}
+use Rattle.machine.proofs.Removed.{length_without, all_without}
 use Rattle.machine.proofs.Executed.{places_within, buffer_seen, list_seen}
-
--- what leaves a buffer is its oldest entry
-popped_is : (old new : Buffer) (entry : Entry) (r : Option Entry) → Some entry ≡ slice_get old.entries 0
-    → IfSome r (λ x. old.entries ≡ x ∷ new.entries) → IfNone r ((old.entries ≡ []) × (new ≡ old)) → old.entries ≡ entry ∷ new.entries
-popped_is old new entry (Some x) first some none =
-    let one : Some entry ≡ Some x = first ∙ ap (λ (l : List Entry). slice_get l 0) some in
-    let same : x ≡ entry = cc (one) in
-    some ∙ ap (λ (y : Entry). y ∷ new.entries) same
-popped_is old new entry None first some none = absurd (let clash : Some entry ≡ None = first ∙ ap (λ (l : List Entry). slice_get l 0) none.0 in cc (clash))
 
 module _ (p : Parts) (capacity : ℕ) (units : List Progress) (buffers : List Buffer) (caches : moesi.CacheState)
     (writes : List (BoundedItems ℕ)) (reads : List (ℕ × Option ℕ)) (done : BoundedItems ℕ)
     (sound : IsSound p capacity units buffers caches writes reads done)
     (core : ℕ) (at : core < length p.cores) (old : Buffer) (is : old ≡ slice_index_or buffers core old)
-    (entry : Entry) (first : Some entry ≡ slice_get old.entries 0) where
+    (fault : Fault) (entry : Entry) (here : Some entry ≡ slice_get old.entries (draining fault old.entries)) where
   -- the core has a buffer
   buffer_there : core < length buffers
   buffer_there = omega (arith, at, sound.buffers_length)
@@ -42,45 +35,42 @@ module _ (p : Parts) (capacity : ℕ) (units : List Progress) (buffers : List Bu
   waiting_within : All (IsEntry (length p.names)) old.entries
   waiting_within = subst (λ (b : Buffer). All (IsEntry (length p.names)) b.entries) (sym is) (sound.entries core old buffer_there)
 
-  -- so has the oldest
+  -- so has the one that drains
   pub entry_within : IsEntry (length p.names) entry
-  entry_within = subst (IsEntry (length p.names)) (get_or_from_slice_get old.entries 0 entry entry (sym first)) (waiting_within 0 entry (slice_get_within old.entries 0 entry (sym first)))
+  entry_within = subst (IsEntry (length p.names)) (get_or_from_slice_get old.entries (draining fault old.entries) entry entry (sym here))
+      (waiting_within (draining fault old.entries) entry (slice_get_within old.entries (draining fault old.entries) entry (sym here)))
 
-  -- what leaves the buffer is that entry
-  pub popped : (now new : Buffer) → now ≡ slice_index_or buffers core now → (r : Option Entry)
-      → IfSome r (λ x. now.entries ≡ x ∷ new.entries) → IfNone r ((now.entries ≡ []) × (new ≡ now)) → now.entries ≡ entry ∷ new.entries
-  popped now new now_is r some none =
-      let same : old ≡ now = is ∙ (get_or_default buffers core old now buffer_there ∙ sym now_is) in
-      popped_is now new entry r (first ∙ ap (λ (b : Buffer). slice_get b.entries 0) same) some none
+  -- the buffer, borrowed again, is the same
+  pub same_buffer : (now : Buffer) → now ≡ slice_index_or buffers core now → old ≡ now
+  same_buffer now now_is = is ∙ (get_or_default buffers core old now buffer_there ∙ sym now_is)
 
   -- a drain that the caches refuse is blocked
   pub drain_blocked : (e : CacheError) → moesi.write caches core entry.addr entry.value entry.event ≡ Err e
-      → taken p.cores capacity (state_from units buffers caches writes reads done.items) (Drain core) ≡ Err B5
-  drain_blocked e refused = rw (lt-ltb core (length p.cores) at, buffer_seen buffers core old buffer_there is) (go old.entries first)
-    where
-      go : (l : List Entry) → Some entry ≡ slice_get l 0 → drained (state_from units buffers caches writes reads done.items) core l ≡ Err B5
-      go [] h = absurd (let clash : Some entry ≡ None = h in cc (clash))
-      go (x ∷ xs) h =
-          let same : entry ≡ x = let one : Some entry ≡ Some x = h in cc (one) in
-          rw (← same, refused) refl
+      → taken p.cores capacity fault (state_from units buffers caches writes reads done.items) (Drain core) ≡ Err B5
+  drain_blocked e refused = rw (lt-ltb core (length p.cores) at, buffer_seen buffers core old buffer_there is, ← here, refused) refl
 
 module _ (p : Parts) (capacity : ℕ) (units : List Progress) (buffers : List Buffer) (caches : moesi.CacheState)
     (writes : List (BoundedItems ℕ)) (reads : List (ℕ × Option ℕ)) (done : BoundedItems ℕ)
     (sound : IsSound p capacity units buffers caches writes reads done)
     (core : ℕ) (at : core < length p.cores) (old new : Buffer) (is : old ≡ slice_index_or buffers core old)
-    (entry : Entry) (popped : old.entries ≡ entry ∷ new.entries) (same : new.capacity ≡ old.capacity) where
+    (fault : Fault) (entry : Entry) (here : Some entry ≡ slice_get old.entries (draining fault old.entries))
+    (popped : new.entries ≡ without (draining fault old.entries) old.entries) (same : new.capacity ≡ old.capacity) where
   -- the core has a buffer
   there : core < length buffers
   there = omega (arith, at, sound.buffers_length)
 
   -- all waiting stores are as they should be
-  all_within : All (IsEntry (length p.names)) (entry ∷ new.entries)
-  all_within = subst (λ (xs : List Entry). All (IsEntry (length p.names)) xs) popped
-      (subst (λ (b : Buffer). All (IsEntry (length p.names)) b.entries) (sym is) (sound.entries core old there))
+  all_within : All (IsEntry (length p.names)) old.entries
+  all_within = subst (λ (b : Buffer). All (IsEntry (length p.names)) b.entries) (sym is) (sound.entries core old there)
+
+  -- so is the one that drains
+  one_within : IsEntry (length p.names) entry
+  one_within = subst (IsEntry (length p.names)) (get_or_from_slice_get old.entries (draining fault old.entries) entry entry (sym here))
+      (all_within (draining fault old.entries) entry (slice_get_within old.entries (draining fault old.entries) entry (sym here)))
 
   -- and so are those that stay
   rest_within : All (IsEntry (length p.names)) new.entries
-  rest_within k d h = all_within (suc k) d (omega (arith, h))
+  rest_within = subst (λ (l : List Entry). All (IsEntry (length p.names)) l) (sym popped) (all_without (IsEntry (length p.names)) old.entries (draining fault old.entries) all_within)
 
   -- one store less waits
   counted : sum_by (λ b. length b.entries) (slice_set buffers core new) + 1 ≡ sum_by (λ b. length b.entries) buffers
@@ -89,6 +79,7 @@ module _ (p : Parts) (capacity : ℕ) (units : List Progress) (buffers : List Bu
     sum_by-set (λ b. length b.entries) buffers core new old there,
     ap (λ (b : Buffer). length b.entries) (sym is),
     ap (λ (l : List Entry). length l) popped,
+    length_without old.entries (draining fault old.entries) entry (sym here),
   )
 
   -- one more can be performed
@@ -102,7 +93,7 @@ module _ (p : Parts) (capacity : ℕ) (units : List Progress) (buffers : List Bu
   module _ (list : BoundedItems ℕ) (list_is : list ≡ slice_index_or writes entry.addr list) where
     -- its address has a write list
     in_writes : entry.addr < length writes
-    in_writes = omega (arith, (all_within 0 entry (omega arith)).0, sound.writes_length)
+    in_writes = omega (arith, one_within.0, sound.writes_length)
 
     -- with room for every event
     list_room : list.room ≡ op_count p.cores
@@ -148,7 +139,7 @@ module _ (p : Parts) (capacity : ℕ) (units : List Progress) (buffers : List Bu
 
       -- the row of a drain
       pub drain_taken : (caches' : moesi.CacheState) → moesi.write caches core entry.addr entry.value entry.event ≡ Ok caches'
-          → taken p.cores capacity (state_from units buffers caches writes reads done.items) (Drain core)
+          → taken p.cores capacity fault (state_from units buffers caches writes reads done.items) (Drain core)
           ≡ Ok (state_from units (slice_set buffers core new) caches' (slice_set writes entry.addr list') reads done'.items)
       drain_taken caches' wrote = rw (
         lt-ltb core (length p.cores) at,
@@ -156,7 +147,9 @@ module _ (p : Parts) (capacity : ℕ) (units : List Progress) (buffers : List Bu
         map-set (λ (b : BoundedItems ℕ). b.items) writes entry.addr list',
         buffer_seen buffers core old there is,
         popped,
+        ← here,
         wrote,
+        buffer_seen buffers core old there is,
         list_seen writes entry.addr list in_writes list_is,
         pushed,
         done_is,

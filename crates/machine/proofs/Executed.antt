@@ -1,5 +1,5 @@
 -- What the execution of an operation does to the parts of a machine.
-use Rattle.std.proofs.Common.{◌≡◌, ◌<◌, ◌≤◌, ◌+◌, inl, inr, ℕ, suc, Option, Ok, Err, List, [], ◌∷◌, ◌++◌, length, map, slice_index, slice_index_or, slice_set, arith, refl, sym, ap, subst, ◌∙◌, length-set, length-append, get_or-set_same, get_or-set_other}
+use Rattle.std.proofs.Common.{◌≡◌, ◌<◌, ◌≤◌, ◌+◌, inl, inr, ℕ, true, suc, Option, Ok, Err, List, [], ◌∷◌, ◌++◌, length, map, slice_index, slice_index_or, slice_set, arith, refl, sym, ap, subst, ◌∙◌, length-set, length-append, get_or-set_same, get_or-set_other}
 use Rattle.std.specs.List.{All, sum, sum_by}
 use Rattle.std.proofs.lemmas.List.Elements.{All-set, All-weaker, All-push}
 use Rattle.std.proofs.lemmas.List.Sums.{sum_by-set, sum_by-cons}
@@ -11,12 +11,14 @@ use Rattle.litmus.specs.declared.op.Op.{Op}
 use Rattle.litmus.specs.declared.op.Op.TheVariants.{St, Ld, Fence}
 use Rattle.litmus.specs.Parts.{Parts, IsWithin, op_count}
 use Rattle.write_buffer.specs.declared.entry.Entry.{Entry}
-use Rattle.write_buffer.specs.Buffer.{Buffer, youngest}
+use Rattle.write_buffer.specs.Buffer.{Buffer}
 use Rattle.core_unit.specs.Progress.{Progress}
 use Rattle.recorder.specs.Event.{value_written}
 use Rattle.moesi.specs.declared.error.CacheError.{CacheError}
 use Rattle.machine.specs.declared.blocked.Blocked.TheVariants.{B5}
 use Rattle.moesi.specs.State as moesi
+use Rattle.machine.specs.declared.fault.Fault.{Fault}
+use Rattle.machine.specs.Faults.{forwarded, may_fence, may_rmw}
 use Rattle.machine.specs.State.{first_event, event_of}
 use Rattle.machine.specs.Step.{exec, read_modify_written, IsAt, forwarded_or_read}
 use Rattle.machine.specs.BoundedItems.{BoundedItems}
@@ -51,10 +53,10 @@ module _ (p : Parts) (capacity : ℕ) (units : List Progress) (buffers : List Bu
   buffer_there = omega (arith, at.core, sound.buffers_length)
 
   -- a read-modify-write that the caches refuse is blocked
-  pub rmw_blocked : (old : Buffer) → old ≡ slice_index_or buffers core old → old.entries ≡ [] → (addr : ℕ) (what : ℕ × Option ℕ) → moesi.copy_of caches core addr ≡ what
+  pub rmw_blocked : (fault : Fault) (old : Buffer) → old ≡ slice_index_or buffers core old → may_rmw fault old.entries ≡ true → (addr : ℕ) (what : ℕ × Option ℕ) → moesi.copy_of caches core addr ≡ what
       → (e : CacheError) → moesi.write caches core addr (value_written (event_of op what)) event ≡ Err e
-      → read_modify_written (state_from units buffers caches writes reads done.items) core event op addr ≡ Err B5
-  rmw_blocked old is empty addr what what_is e refused = rw (buffer_seen buffers core old buffer_there is, empty, what_is, refused) refl
+      → read_modify_written fault (state_from units buffers caches writes reads done.items) core event op addr ≡ Err B5
+  rmw_blocked fault old is may addr what what_is e refused = rw (buffer_seen buffers core old buffer_there is, may, what_is, refused) refl
 
   -- the core has an operation left
   below : slice_index (places_of units) core < length (slice_index_or p.cores core [])
@@ -161,30 +163,30 @@ module _ (p : Parts) (capacity : ℕ) (units : List Progress) (buffers : List Bu
           longer = ap (λ (r : BoundedItems ℕ). length r.items) is ∙ length-append done.items (event ∷ [])
 
       -- the row of a fence
-      pub fence_taken : (old : Buffer) → old ≡ slice_index_or buffers core old → old.entries ≡ []
-          → exec capacity (state_from units buffers caches writes reads done.items) core event Fence
+      pub fence_taken : (fault : Fault) (old : Buffer) → old ≡ slice_index_or buffers core old → may_fence fault old.entries ≡ true
+          → exec capacity fault (state_from units buffers caches writes reads done.items) core event Fence
           ≡ Ok (state_from (slice_set units core moved) buffers caches writes reads (done.items ++ event ∷ []))
-      fence_taken old is empty = rw (buffer_seen buffers core old buffer_there is, empty, places_set) refl
+      fence_taken fault old is may = rw (buffer_seen buffers core old buffer_there is, may, places_set) refl
 
       -- the row of a load
-      pub load_taken : (old : Buffer) → old ≡ slice_index_or buffers core old → (addr : ℕ) (entry : Option Entry) → entry ≡ youngest old.entries addr
+      pub load_taken : (fault : Fault) (old : Buffer) → old ≡ slice_index_or buffers core old → (addr : ℕ) (entry : Option Entry) → entry ≡ forwarded fault old.entries addr
           → (what : ℕ × Option ℕ) → forwarded_or_read entry (moesi.read caches core addr) ≡ Ok what
-          → exec capacity (state_from units buffers caches writes reads done.items) core event (Ld addr)
+          → exec capacity fault (state_from units buffers caches writes reads done.items) core event (Ld addr)
           ≡ Ok (state_from (slice_set units core moved) buffers caches writes (slice_set reads event what) (done.items ++ event ∷ []))
-      load_taken old is addr entry entry_is what got = rw (buffer_seen buffers core old buffer_there is, ← entry_is, got, places_set) refl
+      load_taken fault old is addr entry entry_is what got = rw (buffer_seen buffers core old buffer_there is, ← entry_is, got, places_set) refl
 
       -- the row of a read-modify-write
-      pub rmw_taken : (old : Buffer) → old ≡ slice_index_or buffers core old → old.entries ≡ [] → (addr : ℕ) → addr < length p.names
+      pub rmw_taken : (fault : Fault) (old : Buffer) → old ≡ slice_index_or buffers core old → may_rmw fault old.entries ≡ true → (addr : ℕ) → addr < length p.names
           → (what : ℕ × Option ℕ) → moesi.copy_of caches core addr ≡ what → (caches' : moesi.CacheState) → moesi.write caches core addr (value_written (event_of op what)) event ≡ Ok caches'
           → (list new : BoundedItems ℕ) → list ≡ slice_index_or writes addr list → new ≡ record { items = list.items ++ event ∷ []; room = list.room }
-          → read_modify_written (state_from units buffers caches writes reads done.items) core event op addr
+          → read_modify_written fault (state_from units buffers caches writes reads done.items) core event op addr
           ≡ Ok (state_from (slice_set units core moved) buffers caches' (slice_set writes addr new) (slice_set reads event what) (done.items ++ event ∷ []))
-      rmw_taken old is empty addr addressed what what_is caches' wrote list new list_is pushed =
+      rmw_taken fault old is may addr addressed what what_is caches' wrote list new list_is pushed =
           rw (
             map-set (λ (b : BoundedItems ℕ). b.items) writes addr new,
             pushed,
             buffer_seen buffers core old buffer_there is,
-            empty,
+            may,
             what_is,
             wrote,
             list_seen writes addr list (omega (arith, addressed, sound.writes_length)) list_is,
@@ -268,10 +270,10 @@ module _ (p : Parts) (capacity : ℕ) (units : List Progress) (buffers : List Bu
         }
 
         -- the row of a store
-        pub store_taken : entry.event ≡ event → length old.entries < old.capacity
-            → exec capacity (state_from units buffers caches writes reads done.items) core event (St entry.addr entry.value)
+        pub store_taken : (fault : Fault) → entry.event ≡ event → length old.entries < old.capacity
+            → exec capacity fault (state_from units buffers caches writes reads done.items) core event (St entry.addr entry.value)
             ≡ Ok (state_from (slice_set units core moved) (slice_set buffers core new) caches writes reads done.items)
-        store_taken event_is room =
+        store_taken fault event_is room =
             let entry_is : entry ≡ record { addr = entry.addr; value = entry.value; event = event } = ap (λ (e : ℕ). record { addr = entry.addr; value = entry.value; event = e }) event_is in
             let free : length (slice_index_or (map (λ b. b.entries) buffers) core []) < capacity = omega (arith, room, capacity_is, ap (λ (l : List Entry). length l) (buffer_seen buffers core old buffer_there is)) in
             rw (lt-ltb (length (slice_index_or (map (λ b. b.entries) buffers) core [])) capacity free, map-set (λ (b : Buffer). b.entries) buffers core new, pushed, buffer_seen buffers core old buffer_there is, places_set, ← entry_is) refl

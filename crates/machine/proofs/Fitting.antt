@@ -1,4 +1,4 @@
--- What every step keeps of the sizes of a state, so that every run leads to one that is orderly.
+-- What every step without fault keeps of the sizes of a state, so that every such run leads to one that is orderly.
 use Rattle.std.proofs.Common.{◌≡◌, ◌<◌, ◌≤◌, ◌+◌, inl, inr, ℕ, zero, suc, cond, Option, Ok, List, [], ◌∷◌, ◌++◌, take, length, get_or, slice_set, replicate, arith, refl, sym, ap, subst, ◌∙◌, get_or-set_same, get_or-set_other, length-set, length-append}
 use Rattle.std.specs.List.{All, sum, sum_by, count_by}
 use Rattle.std.proofs.lemmas.List.{length-replicate}
@@ -10,13 +10,14 @@ use Rattle.litmus.specs.Parts.{IsWithin}
 use Rattle.write_buffer.specs.declared.entry.Entry.{Entry}
 use Rattle.moesi.specs.State as moesi
 use Rattle.moesi.specs.Laws.{IsTransaction}
+use Rattle.machine.specs.declared.fault.Fault.TheVariants as fault
 use Rattle.machine.specs.State.{State, place_of, buffer_of, line_copy, opening}
 use Rattle.machine.specs.declared.step.Step.{Step}
 use Rattle.machine.specs.Step.{looked_up, rmw_value, with_caches, run}
 use Rattle.machine.specs.Orderly.{placed_op, is_st, IsOrderly, EveryStateIsOrderly}
 use Rattle.machine.proofs.Drains.{drained_state}
 use Rattle.machine.proofs.Executes.{IsNext}
-use Rattle.machine.proofs.Rows.{IsKept, IsRmw, stored_state, loaded_state, fenced_state, rmw_state, run_kept}
+use Rattle.machine.proofs.Rows.{IsKeptFaultless, IsRmw, stored_state, loaded_state, fenced_state, rmw_state, run_kept, faultless}
 use Rattle.machine.proofs.InOrder.{IsInOrder, in_order_kept}
 use Rattle.machine.proofs.Opening.{get_or_same, op_within, opening_in_order}
 
@@ -126,7 +127,7 @@ module _ (p : List (List Op)) (n : ℕ) (s : State) (f : IsFitting p n s) where
       }
 
   -- a load keeps what fits
-  load_fits : (c b a : ℕ) (what : ℕ × Option ℕ) → IsNext p s c b (Ld a) → looked_up s c a ≡ Ok what → IsFitting p n (loaded_state s c b what)
+  load_fits : (c b a : ℕ) (what : ℕ × Option ℕ) → IsNext p s c b (Ld a) → looked_up fault.None s c a ≡ Ok what → IsFitting p n (loaded_state s c b what)
   load_fits c b a what at got = record {
     in_order = (in_order_kept p s f.in_order).load c b a what at got;
     few = λ d. omega (arith, f.few d, few_up c b (Ld a) at d);
@@ -167,7 +168,7 @@ module _ (p : List (List Op)) (n : ℕ) (s : State) (f : IsFitting p n s) where
   }
 
   -- each row keeps what fits
-  fitting_kept : IsKept p s (IsFitting p n)
+  fitting_kept : IsKeptFaultless p s (IsFitting p n)
   fitting_kept = record {
     drain = drain_fits;
     store = store_fits;
@@ -215,8 +216,8 @@ orderly p n s within f = record {
   kept = λ e f' own done strong. f.in_order.ordered.kept e f' own done.1 strong;
 }
 
--- every run leads to such a state
+-- every run without fault leads to such a state
 pub every_state_is_orderly : (p : List (List Op)) (n capacity : ℕ) (steps : List Step) → EveryStateIsOrderly p n capacity steps
 every_state_is_orderly p n capacity steps fits =
-    orderly p n (run p capacity (opening p n) steps) (op_within p n fits)
-    (run_kept p capacity (IsFitting p n) (λ s f. (fitting_kept p n s f, f.in_order.steady.places)) steps (opening p n) (opening_fits p n fits))
+    orderly p n (run p capacity fault.None (opening p n) steps) (op_within p n fits)
+    (run_kept p capacity fault.None (IsFitting p n) (λ s f. (faultless p s (IsFitting p n) (fitting_kept p n s f), f.in_order.steady.places)) steps (opening p n) (opening_fits p n fits))

@@ -9,6 +9,7 @@ use Rattle.moesi.specs.State as moesi
 use Rattle.moesi.specs.Laws.{IsTransaction}
 use Rattle.moesi.specs.Coherent.{IsCoherent}
 use Rattle.moesi.proofs.Kept.{write_kept, write_current, transaction_kept, transaction_current}
+use Rattle.machine.specs.declared.fault.Fault.TheVariants as fault
 use Rattle.machine.specs.State.{State, buffer_of, line_copy, event_of}
 use Rattle.machine.specs.Step.{given, with_buffer, with_caches, forwarded_or_read, looked_up, rmw_value}
 use Rattle.machine.proofs.Cached.{written_large, transaction_large, written_read}
@@ -18,8 +19,8 @@ use Rattle.machine.proofs.Drains.{AreStores, drained_state, drain_ordered}
 use Rattle.machine.proofs.Executes.{IsNext, next_placed, perform_ordered, issue_ordered}
 use Rattle.machine.proofs.Loads.{some_one}
 use Rattle.machine.proofs.WriteLists.{IsLatest, latest_written, loaded_newest}
-use Rattle.machine.proofs.Rows.{IsKept, IsRmw, stored_state, loaded_state, fenced_state, rmw_state}
-use Rattle.machine.proofs.Steady.{IsSteady, once, waits_once, waiting_once, next_within, rmw_within, steady_kept}
+use Rattle.machine.proofs.Rows.{IsKeptFaultless, IsRmw, stored_state, loaded_state, fenced_state, rmw_state}
+use Rattle.machine.proofs.Steady.{IsSteady, once, waits_once, waiting_once, next_within, rmw_within, drain_steady, store_steady, load_steady, fence_steady, rmw_steady, transact_steady}
 
 -- what every step keeps without fault: TSO's order as each core sees it, that the caches are coherent, and that each address has its last write
 pub record IsInOrder (p : List (List Op)) (s : State) : Type 0 where
@@ -30,7 +31,7 @@ pub record IsInOrder (p : List (List Op)) (s : State) : Type 0 where
 
 module _ (p : List (List Op)) (s : State) (g : IsInOrder p s) where
   -- a load of core c gets the newest write that the core sees
-  newest : (c a : ℕ) (what : ℕ × Option ℕ) → a < length s.caches.blocks → looked_up s c a ≡ Ok what → IsNewest (static_of p s) (seen (snapshot_of p s) c) a what.1
+  newest : (c a : ℕ) (what : ℕ × Option ℕ) → a < length s.caches.blocks → looked_up fault.None s c a ≡ Ok what → IsNewest (static_of p s) (seen (snapshot_of p s) c) a what.1
   newest c a what at = loaded_newest p s c a what at g.steady.listed g.latest g.coherent (g.steady.stores c) (once p s g.steady) (waiting_once p s g.steady c)
       (λ e there. omega (arith, waits_once p s g.steady c e there, there))
 
@@ -51,7 +52,7 @@ module _ (p : List (List Op)) (s : State) (g : IsInOrder p s) where
       let here : AreStores p c (x ∷ xs) = subst (λ (b : List Entry). AreStores p c b) is (g.steady.stores c) in
       let within : x.addr < length s.caches.blocks = g.steady.writes_within x.event x.addr (0, None) (ap (λ (z : ℕ × Op). written_address (event_of z.1 (0, None))) here.0) in
       record {
-        steady = (steady_kept p s g.steady).drain caches c x xs at is wrote;
+        steady = drain_steady p s g.steady caches c x [] xs at is wrote;
         ordered = drain_ordered p s caches c x xs (omega (arith, at, g.steady.buffers)) is here g.steady.counted g.ordered;
         coherent = (write_kept s.caches caches c x.addr g.coherent (core_within c at) within x.value x.event wrote).coherent;
         latest = latest_written (with_buffer s c xs) caches x.addr x.value x.event within g.steady.listed.cells (written_large s.caches caches c x.addr x.value x.event wrote).blocks
@@ -61,16 +62,16 @@ module _ (p : List (List Op)) (s : State) (g : IsInOrder p s) where
   -- a store keeps the order
   store_in_order : (c b a v : ℕ) → IsNext p s c b (St a v) → c < length p → IsInOrder p (stored_state s c b a v)
   store_in_order c b a v n at = record {
-    steady = (steady_kept p s g.steady).store c b a v n at;
+    steady = store_steady p s g.steady c b a v n at;
     ordered = issue_ordered p s (stored_state s c b a v) c b (St a v) n refl refl refl refl (record { addr = a; value = v; event = b }) refl (omega (arith, at, g.steady.buffers)) refl refl g.steady.counted g.ordered;
     coherent = g.coherent;
     latest = g.latest;
   }
 
   -- a load keeps the order
-  load_in_order : (c b a : ℕ) (what : ℕ × Option ℕ) → IsNext p s c b (Ld a) → looked_up s c a ≡ Ok what → IsInOrder p (loaded_state s c b what)
+  load_in_order : (c b a : ℕ) (what : ℕ × Option ℕ) → IsNext p s c b (Ld a) → looked_up fault.None s c a ≡ Ok what → IsInOrder p (loaded_state s c b what)
   load_in_order c b a what n got = record {
-    steady = (steady_kept p s g.steady).load c b a what n got;
+    steady = load_steady p s g.steady c b a what n;
     ordered = perform_ordered p s (loaded_state s c b what) c b (Ld a) n refl refl refl (λ e other. get_or-set_other s.reads b e what (0, None) other) refl (inl refl)
         (newest_read c b a what (next_within p s g.steady c b (Ld a) n) (newest c a what (g.steady.reads_within b a (ap (λ (z : ℕ × Op). op_reads z.1) (next_placed p s c b (Ld a) n))) got))
         g.steady.counted g.ordered;
@@ -81,14 +82,14 @@ module _ (p : List (List Op)) (s : State) (g : IsInOrder p s) where
   -- a fence keeps the order
   fence_in_order : (c b : ℕ) → IsNext p s c b Fence → buffer_of s c ≡ [] → IsInOrder p (fenced_state s c b)
   fence_in_order c b n empty = record {
-    steady = (steady_kept p s g.steady).fence c b n empty;
+    steady = fence_steady p s g.steady c b n;
     ordered = perform_ordered p s (fenced_state s c b) c b Fence n refl refl refl (λ e other. refl) refl (inr empty) (λ k h. absurd cc) g.steady.counted g.ordered;
     coherent = g.coherent;
     latest = g.latest;
   }
 
   -- what a read-modify-write reads is what a load would get
-  rmw_read : (caches : moesi.CacheState) (c b a value : ℕ) → buffer_of s c ≡ [] → moesi.write s.caches c a value b ≡ Ok caches → looked_up s c a ≡ Ok (line_copy s c a)
+  rmw_read : (caches : moesi.CacheState) (c b a value : ℕ) → buffer_of s c ≡ [] → moesi.write s.caches c a value b ≡ Ok caches → looked_up fault.None s c a ≡ Ok (line_copy s c a)
   rmw_read caches c b a value empty wrote = ap (λ (l : List Entry). forwarded_or_read (youngest l a) (moesi.read s.caches c a)) empty ∙ written_read s.caches caches c a value b wrote
 
   -- a read-modify-write keeps the order
@@ -99,7 +100,7 @@ module _ (p : List (List Op)) (s : State) (g : IsInOrder p s) where
       let value : ℕ = rmw_value s c op a in
       let within : a < length s.caches.blocks = rmw_within p s g.steady c b a op n is in
       record {
-        steady = (steady_kept p s g.steady).rmw caches c b a op n at is empty wrote;
+        steady = rmw_steady p s g.steady caches c b a op n is wrote;
         ordered = perform_ordered p s (rmw_state s caches c b a) c b op n refl refl refl (λ e other. get_or-set_other s.reads b e what (0, None) other) is.store (inr empty)
             (λ k h. newest_read c b a what (next_within p s g.steady c b op n) (newest c a what within (rmw_read caches c b a value empty wrote)) k (sym is.reads ∙ h))
             g.steady.counted g.ordered;
@@ -111,15 +112,15 @@ module _ (p : List (List Op)) (s : State) (g : IsInOrder p s) where
   -- a transaction keeps the order
   transact_in_order : (caches : moesi.CacheState) (c a : ℕ) → c < length p → a < length s.caches.blocks → IsTransaction s.caches c a caches → IsInOrder p (with_caches s caches)
   transact_in_order caches c a at within made = record {
-    steady = (steady_kept p s g.steady).transact caches c a at within made;
+    steady = transact_steady p s g.steady caches c a (inl made);
     ordered = record { kept = g.ordered.kept; values = g.ordered.values };
     coherent = (transaction_kept s.caches caches c a g.coherent (core_within c at) within made).coherent;
     latest = λ b inside. ap (λ (z : ℕ × Option ℕ). z.1) (transaction_current s.caches caches c a g.coherent (core_within c at) within b made)
         ∙ g.latest b (omega (arith, inside, (transaction_large s.caches caches c a made).blocks));
   }
 
-  -- each row keeps the order
-  pub in_order_kept : IsKept p s (IsInOrder p)
+  -- each row keeps the order where there is no fault
+  pub in_order_kept : IsKeptFaultless p s (IsInOrder p)
   in_order_kept = record {
     drain = drain_in_order;
     store = store_in_order;

@@ -26,3 +26,5 @@ pub mod Ends
 pub mod ScriptText
 pub mod Recorded
 pub mod ScriptAgain
+pub mod Removed
+pub mod OneRow

@@ -1,24 +1,27 @@
 -- The rows of the table of steps, each as one change of the state.
-use Rattle.std.proofs.Common.{◌≡◌, ◌<◌, ◌+◌, ◌&&◌, inl, inr, ℕ, nat_lt, Bool, true, false, cond, Option, Some, None, Result, Ok, Err, List, [], ◌∷◌, ◌++◌, length, slice_get, slice_index_or, arith, refl, subst}
-use Rattle.std.proofs.lemmas.Bool.{eqb-true, ltb-true}
-use Rattle.std.proofs.lemmas.List.{nil_from_length}
+use Rattle.std.proofs.Common.{◌≡◌, ◌<◌, ◌+◌, ◌&&◌, inl, inr, ℕ, nat_lt, Bool, true, false, cond, Option, Some, None, Result, Ok, Err, List, [], ◌∷◌, ◌++◌, take, drop, length, slice_get, slice_index_or, arith, refl, sym, ap, subst, ◌∙◌}
+use Rattle.std.proofs.lemmas.Bool.{ltb-true}
 use Rattle.std.proofs.lemmas.Option.{slice_get_within, get_or_from_slice_get}
 use Rattle.litmus.specs.declared.op.Op.{Op}
 use Rattle.litmus.specs.declared.op.Op.TheVariants.{St, Ld, Fence, Swap, Add}
 use Rattle.recorder.specs.Event.{written_address}
 use Rattle.moesi.specs.State as moesi
-use Rattle.moesi.specs.Laws.{IsTransaction}
+use Rattle.moesi.specs.Laws.{IsTransaction, IsAnyTransaction}
 use Rattle.moesi.specs.declared.error.CacheError.{CacheError}
 use Rattle.write_buffer.specs.declared.entry.Entry.{Entry}
+use Rattle.machine.specs.declared.fault.Fault.{Fault}
+use Rattle.machine.specs.declared.fault.Fault.TheVariants as fault
 use Rattle.machine.specs.declared.step.Step.{Step}
 use Rattle.machine.specs.declared.step.Step.TheVariants.{Exec, Drain, GetS, GetM, Put}
 use Rattle.machine.specs.declared.blocked.Blocked.{Blocked}
 use Rattle.machine.specs.declared.blocked.Blocked.TheVariants.{B4, B5, B7, B8}
 use Rattle.machine.specs.State.{State, place_of, buffer_of, line_copy, first_event, event_of}
-use Rattle.machine.specs.Step.{advanced, performed, given, written, with_buffer, with_caches, allowed, looked_up, read_modify_written, rmw_value, exec, exec_next, drained, has, taken, after, run}
+use Rattle.machine.specs.Step.{advanced, performed, given, written, with_buffer, with_caches, allowed, looked_up, read_modify_written, rmw_value, exec, exec_next, drained_at, has, taken, after, run}
 use Rattle.machine.proofs.Static.{op_reads, is_st, is_ld}
 use Rattle.machine.proofs.Executes.{IsNext}
+use Rattle.machine.specs.Faults.{draining, get_m}
 use Rattle.machine.proofs.Drains.{drained_state}
+use Rattle.machine.proofs.Removed.{split_at, none_before, fence_behind, rmw_behind}
 
 -- the state after core c's store went to its buffer
 abbrev pub stored_state : State → ℕ → ℕ → ℕ → ℕ → State
@@ -43,16 +46,49 @@ pub record IsRmw (op : Op) (d : ℕ × Option ℕ) (a : ℕ) : Type 0 where
   pub reads : op_reads op ≡ Some a
   pub address : written_address (event_of op d) ≡ Some a
 
--- what each row of the table keeps
-pub record IsKept (p : List (List Op)) (s : State) (P : State → Type 0) : Type 0 where
+-- what each row of the table keeps under a fault; what a fault leaves out is known where there is none
+pub record IsKept (p : List (List Op)) (f : Fault) (s : State) (P : State → Type 0) : Type 0 where
+  pub drain : (caches : moesi.CacheState) (c : ℕ) (x : Entry) (front back : List Entry) → c < length p → buffer_of s c ≡ front ++ x ∷ back → (f ≡ fault.None → front ≡ [])
+      → moesi.write s.caches c x.addr x.value x.event ≡ Ok caches → P (drained_state s caches c x (front ++ back))
+  pub store : (c b a v : ℕ) → IsNext p s c b (St a v) → c < length p → P (stored_state s c b a v)
+  pub load : (c b a : ℕ) (what : ℕ × Option ℕ) → IsNext p s c b (Ld a) → looked_up f s c a ≡ Ok what → P (loaded_state s c b what)
+  pub fence : (c b : ℕ) → IsNext p s c b Fence → (f ≡ fault.None → buffer_of s c ≡ []) → P (fenced_state s c b)
+  pub rmw : (caches : moesi.CacheState) (c b a : ℕ) (op : Op) → IsNext p s c b op → c < length p → IsRmw op (line_copy s c a) a → (f ≡ fault.None → buffer_of s c ≡ [])
+      → moesi.write s.caches c a (rmw_value s c op a) b ≡ Ok caches → P (rmw_state s caches c b a)
+  pub transact : (caches : moesi.CacheState) (c a : ℕ) → c < length p → a < length s.caches.blocks → IsAnyTransaction s.caches c a caches → (f ≡ fault.None → IsTransaction s.caches c a caches)
+      → P (with_caches s caches)
+
+-- what each row of the table keeps where there is no fault
+pub record IsKeptFaultless (p : List (List Op)) (s : State) (P : State → Type 0) : Type 0 where
   pub drain : (caches : moesi.CacheState) (c : ℕ) (x : Entry) (xs : List Entry) → c < length p → buffer_of s c ≡ x ∷ xs
       → moesi.write s.caches c x.addr x.value x.event ≡ Ok caches → P (drained_state s caches c x xs)
   pub store : (c b a v : ℕ) → IsNext p s c b (St a v) → c < length p → P (stored_state s c b a v)
-  pub load : (c b a : ℕ) (what : ℕ × Option ℕ) → IsNext p s c b (Ld a) → looked_up s c a ≡ Ok what → P (loaded_state s c b what)
+  pub load : (c b a : ℕ) (what : ℕ × Option ℕ) → IsNext p s c b (Ld a) → looked_up fault.None s c a ≡ Ok what → P (loaded_state s c b what)
   pub fence : (c b : ℕ) → IsNext p s c b Fence → buffer_of s c ≡ [] → P (fenced_state s c b)
   pub rmw : (caches : moesi.CacheState) (c b a : ℕ) (op : Op) → IsNext p s c b op → c < length p → IsRmw op (line_copy s c a) a → buffer_of s c ≡ []
       → moesi.write s.caches c a (rmw_value s c op a) b ≡ Ok caches → P (rmw_state s caches c b a)
   pub transact : (caches : moesi.CacheState) (c a : ℕ) → c < length p → a < length s.caches.blocks → IsTransaction s.caches c a caches → P (with_caches s caches)
+
+-- it is kept under the fault None
+pub faultless : (p : List (List Op)) (s : State) (P : State → Type 0) → IsKeptFaultless p s P → IsKept p fault.None s P
+faultless p s P kept = record {
+  drain = λ caches c x front back at is first wrote. subst (λ (l : List Entry). P (drained_state s caches c x (l ++ back))) (sym (first refl))
+      (kept.drain caches c x back at (is ∙ ap (λ (l : List Entry). l ++ x ∷ back) (first refl)) wrote);
+  store = kept.store;
+  load = kept.load;
+  fence = λ c b n empty. kept.fence c b n (empty refl);
+  rmw = λ caches c b a op n at is empty wrote. kept.rmw caches c b a op n at is (empty refl) wrote;
+  transact = λ caches c a at within made sound. kept.transact caches c a at within (sound refl);
+}
+
+-- GetM is a transaction under every fault, and the one that keeps coherence where there is none
+pub get_m_any : (f : Fault) (m : moesi.CacheState) (c a : ℕ) (caches : moesi.CacheState) → get_m f m c a ≡ Ok caches → IsAnyTransaction m c a caches
+get_m_any fault.None m c a caches h = inl (inr (inl h))
+get_m_any fault.NoBypass m c a caches h = inl (inr (inl h))
+get_m_any fault.YoungestFirst m c a caches h = inl (inr (inl h))
+get_m_any fault.OpenFence m c a caches h = inl (inr (inl h))
+get_m_any fault.StaleShare m c a caches h = inr h
+get_m_any fault.EarlyRmw m c a caches h = inl (inr (inl h))
 
 -- a guarded step that is taken had its guard
 pub guarded : (b : Bool) (r : Result State Blocked) (e : Blocked) (t : State) → cond b r (Err e) ≡ Ok t → (b ≡ true) × (r ≡ Ok t)
@@ -76,41 +112,42 @@ has_both p s c a h = go (nat_lt c (length p)) refl h
     go true is k = (ltb-true c (length p) is, ltb-true a (length s.caches.blocks) k)
     go false is k = absurd cc
 
-module _ (p : List (List Op)) (capacity : ℕ) (s : State) (P : State → Type 0) (kept : IsKept p s P) (one_each : length s.places ≡ length p) where
+module _ (p : List (List Op)) (capacity : ℕ) (f : Fault) (s : State) (P : State → Type 0) (kept : IsKept p f s P) (one_each : length s.places ≡ length p) where
   -- a read-modify-write is one of the rows
-  rmw_kept : (c b a : ℕ) (op : Op) (t : State) → IsNext p s c b op → c < length p → IsRmw op (line_copy s c a) a → read_modify_written s c b op a ≡ Ok t → P t
+  rmw_kept : (c b a : ℕ) (op : Op) (t : State) → IsNext p s c b op → c < length p → IsRmw op (line_copy s c a) a → read_modify_written f s c b op a ≡ Ok t → P t
   rmw_kept c b a op t n at is h =
       let g = guarded _ _ _ t h in
       let wrote = allowed_ok B5 _ (moesi.write s.caches c a (rmw_value s c op a) b) t g.1 in
-      subst P wrote.2 (kept.rmw wrote.0 c b a op n at is (nil_from_length (buffer_of s c) (eqb-true _ _ g.0)) wrote.1)
+      subst P wrote.2 (kept.rmw wrote.0 c b a op n at is (rmw_behind f (buffer_of s c) g.0) wrote.1)
 
   -- so is a transaction
-  transaction_kept : (c a : ℕ) (t : State) (r : Result moesi.CacheState CacheError) → ((caches : moesi.CacheState) → r ≡ Ok caches → IsTransaction s.caches c a caches)
+  transaction_kept : (c a : ℕ) (t : State) (r : Result moesi.CacheState CacheError) → ((caches : moesi.CacheState) → r ≡ Ok caches → IsAnyTransaction s.caches c a caches × (f ≡ fault.None → IsTransaction s.caches c a caches))
       → cond (has p s c a) (allowed B7 (with_caches s) r) (Err B8) ≡ Ok t → P t
   transaction_kept c a t r is h =
       let g = guarded _ _ _ t h in
       let there = has_both p s c a g.0 in
       let made = allowed_ok B7 (with_caches s) r t g.1 in
-      subst P made.2 (kept.transact made.0 c a there.0 there.1 (is made.0 made.1))
+      let any = is made.0 made.1 in
+      subst P made.2 (kept.transact made.0 c a there.0 there.1 any.0 any.1)
 
   -- so is every execution
-  exec_kept : (c b : ℕ) (op : Op) (t : State) → IsNext p s c b op → c < length p → exec capacity s c b op ≡ Ok t → P t
+  exec_kept : (c b : ℕ) (op : Op) (t : State) → IsNext p s c b op → c < length p → exec capacity f s c b op ≡ Ok t → P t
   exec_kept c b (St a v) t n at h = subst P (ok_one _ t (guarded _ _ _ t h).1) (kept.store c b a v n at)
   exec_kept c b (Ld a) t n at h =
-      let got = allowed_ok B4 _ (looked_up s c a) t h in
+      let got = allowed_ok B4 _ (looked_up f s c a) t h in
       subst P got.2 (kept.load c b a got.0 n got.1)
-  exec_kept c b Fence t n at h = subst P (ok_one _ t (guarded _ _ _ t h).1) (kept.fence c b n (nil_from_length (buffer_of s c) (eqb-true _ _ (guarded _ _ _ t h).0)))
+  exec_kept c b Fence t n at h = subst P (ok_one _ t (guarded _ _ _ t h).1) (kept.fence c b n (fence_behind f (buffer_of s c) (guarded _ _ _ t h).0))
   exec_kept c b (Swap a v) t n at h = rmw_kept c b a (Swap a v) t n at (record { store = refl; load = refl; reads = refl; address = refl }) h
   exec_kept c b (Add a v) t n at h = rmw_kept c b a (Add a v) t n at (record { store = refl; load = refl; reads = refl; address = refl }) h
 
   -- a step that is taken is one of the rows
-  pub step_kept : (step : Step) (t : State) → taken p capacity s step ≡ Ok t → P t
+  pub step_kept : (step : Step) (t : State) → taken p capacity f s step ≡ Ok t → P t
   step_kept (Exec c) t h = go (slice_get (slice_index_or p c []) (place_of s c)) refl (guarded _ _ _ t h).1
     where
       at : c < length p
       at = ltb-true c (length p) (guarded _ _ _ t h).0
 
-      go : (o : Option Op) → slice_get (slice_index_or p c []) (place_of s c) ≡ o → exec_next p capacity s c o ≡ Ok t → P t
+      go : (o : Option Op) → slice_get (slice_index_or p c []) (place_of s c) ≡ o → exec_next p capacity f s c o ≡ Ok t → P t
       go None is h' = absurd cc
       go (Some op) is h' = exec_kept c (first_event p c + place_of s c) op t (record {
         event = refl;
@@ -118,26 +155,28 @@ module _ (p : List (List Op)) (capacity : ℕ) (s : State) (P : State → Type 0
         operation = get_or_from_slice_get (slice_index_or p c []) (place_of s c) op Fence is;
         core = omega (arith, at, one_each);
       }) at h'
-  step_kept (Drain c) t h = go (buffer_of s c) refl (guarded _ _ _ t h).1
+  step_kept (Drain c) t h = go (slice_get (buffer_of s c) (draining f (buffer_of s c))) refl (guarded _ _ _ t h).1
     where
       at : c < length p
       at = ltb-true c (length p) (guarded _ _ _ t h).0
 
-      go : (l : List Entry) → buffer_of s c ≡ l → drained s c l ≡ Ok t → P t
-      go [] is h' = absurd cc
-      go (x ∷ xs) is h' =
+      go : (o : Option Entry) → slice_get (buffer_of s c) (draining f (buffer_of s c)) ≡ o → drained_at s c (draining f (buffer_of s c)) o ≡ Ok t → P t
+      go None is h' = absurd cc
+      go (Some x) is h' =
+          let i : ℕ = draining f (buffer_of s c) in
           let wrote = allowed_ok B5 _ (moesi.write s.caches c x.addr x.value x.event) t h' in
-          subst P wrote.2 (kept.drain wrote.0 c x xs at is wrote.1)
-  step_kept (GetS c a) t h = transaction_kept c a t (moesi.get_s s.caches c a) (λ caches is. inl is) h
-  step_kept (GetM c a) t h = transaction_kept c a t (moesi.get_m s.caches c a) (λ caches is. inr (inl is)) h
-  step_kept (Put c a) t h = transaction_kept c a t (moesi.put s.caches c a) (λ caches is. inr (inr is)) h
+          subst P wrote.2 (kept.drain wrote.0 c x (take i (buffer_of s c)) (drop (i + 1) (buffer_of s c)) at (split_at (buffer_of s c) i x is) (none_before f (buffer_of s c)) wrote.1)
+  step_kept (GetS c a) t h = transaction_kept c a t (moesi.get_s s.caches c a) (λ caches is. (inl (inl is), λ none. inl is)) h
+  step_kept (GetM c a) t h = transaction_kept c a t (get_m f s.caches c a)
+      (λ caches is. (get_m_any f s.caches c a caches is, λ none. inr (inl (subst (λ (g : Fault). get_m g s.caches c a ≡ Ok caches) none is)))) h
+  step_kept (Put c a) t h = transaction_kept c a t (moesi.put s.caches c a) (λ caches is. (inl (inr (inr is)), λ none. inr (inr is))) h
 
 -- what each row keeps, every list of steps keeps
-pub run_kept : (p : List (List Op)) (capacity : ℕ) (P : State → Type 0) → ((s : State) → P s → IsKept p s P × (length s.places ≡ length p))
-    → (steps : List Step) (s : State) → P s → P (run p capacity s steps)
-run_kept p capacity P kept [] s h = h
-run_kept p capacity P kept (step ∷ steps) s h = go (λ t ht. run_kept p capacity P kept steps t ht) (taken p capacity s step) refl
+pub run_kept : (p : List (List Op)) (capacity : ℕ) (f : Fault) (P : State → Type 0) → ((s : State) → P s → IsKept p f s P × (length s.places ≡ length p))
+    → (steps : List Step) (s : State) → P s → P (run p capacity f s steps)
+run_kept p capacity f P kept [] s h = h
+run_kept p capacity f P kept (step ∷ steps) s h = go (λ t ht. run_kept p capacity f P kept steps t ht) (taken p capacity f s step) refl
   where
-    go : ((t : State) → P t → P (run p capacity t steps)) → (r : Result State Blocked) → taken p capacity s step ≡ r → P (run p capacity (after s r) steps)
-    go on (Ok t) is = on t (step_kept p capacity s P (kept s h).0 (kept s h).1 step t is)
+    go : ((t : State) → P t → P (run p capacity f t steps)) → (r : Result State Blocked) → taken p capacity f s step ≡ r → P (run p capacity f (after s r) steps)
+    go on (Ok t) is = on t (step_kept p capacity f s P (kept s h).0 (kept s h).1 step t is)
     go on (Err b) is = on s h

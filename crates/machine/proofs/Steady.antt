@@ -8,13 +8,14 @@ use Rattle.recorder.specs.Order.{times}
 use Rattle.recorder.proofs.Orders.{times_append, cases_zero}
 use Rattle.write_buffer.specs.declared.entry.Entry.{Entry}
 use Rattle.moesi.specs.State as moesi
-use Rattle.moesi.specs.Laws.{IsTransaction}
+use Rattle.moesi.specs.Laws.{IsAnyTransaction}
+use Rattle.machine.specs.declared.fault.Fault.{Fault}
 use Rattle.machine.specs.State.{State, place_of, buffer_of, line_copy, event_of}
 use Rattle.machine.specs.Step.{performed, given, written, with_buffer, with_caches, rmw_value}
-use Rattle.machine.proofs.Cached.{written_large, transaction_large}
+use Rattle.machine.proofs.Cached.{written_large, any_large}
 use Rattle.machine.proofs.Seen.{seen, IsCounted}
 use Rattle.machine.proofs.Static.{static_of, snapshot_of, placed_op, done_by, op_reads}
-use Rattle.machine.proofs.Drains.{AreStores, drained_state, drain_counted}
+use Rattle.machine.proofs.Drains.{AreStores, stores_out, drained_state, drain_counted}
 use Rattle.machine.proofs.Executes.{IsNext, next_placed, next_event, perform_counted, issue_counted}
 use Rattle.machine.proofs.WriteLists.{AreListed, listed_given, listed_written, listed_performed}
 use Rattle.machine.proofs.Rows.{IsKept, IsRmw, stored_state, loaded_state, fenced_state, rmw_state}
@@ -72,18 +73,20 @@ module _ (p : List (List Op)) (s : State) (g : IsSteady p s) where
   next_within c b op n = omega (arith, g.reads, next_event p s c b op n)
 
   -- a drain keeps it
-  drain_steady : (caches : moesi.CacheState) (c : ℕ) (x : Entry) (xs : List Entry) → c < length p → buffer_of s c ≡ x ∷ xs
-      → moesi.write s.caches c x.addr x.value x.event ≡ Ok caches → IsSteady p (drained_state s caches c x xs)
-  drain_steady caches c x xs at is wrote =
+  pub drain_steady : (caches : moesi.CacheState) (c : ℕ) (x : Entry) (front back : List Entry) → c < length p → buffer_of s c ≡ front ++ x ∷ back
+      → moesi.write s.caches c x.addr x.value x.event ≡ Ok caches → IsSteady p (drained_state s caches c x (front ++ back))
+  drain_steady caches c x front back at is wrote =
+      let xs : List Entry = front ++ back in
       let large = written_large s.caches caches c x.addr x.value x.event wrote in
-      let here : AreStores p c (x ∷ xs) = subst (λ (b : List Entry). AreStores p c b) is (g.stores c) in
+      let all : AreStores p c (front ++ x ∷ back) = subst (λ (b : List Entry). AreStores p c b) is (g.stores c) in
+      let here = stores_out p c front x back all in
       let inside : c < length s.buffers = omega (arith, at, g.buffers) in
       let writes : (d : ℕ × Option ℕ) → written_address (event_of (placed_op p x.event).1 d) ≡ Some x.addr = λ d. ap (λ (z : ℕ × Op). written_address (event_of z.1 d)) here.0 in
       let within : x.addr < length s.caches.blocks = g.writes_within x.event x.addr (0, None) (writes (0, None)) in
       let base : AreListed p (with_buffer s c xs) = record { cells = g.listed.cells; lists = g.listed.lists } in
       let kept : AreListed p (drained_state s caches c x xs) = listed_written p (with_buffer s c xs) caches x.addr x.event large.blocks (writes (get_or s.reads x.event (0, None))) within base in
       record {
-        counted = drain_counted p s caches c x xs inside is here g.counted;
+        counted = drain_counted p s caches c x front back inside is all g.counted;
         listed = kept;
         stores = λ d. elim (cases_eq d c) [
           | inl own ↦ subst (λ (z : ℕ). AreStores p z (get_or (slice_set s.buffers c xs) z [])) (sym own) (subst (λ (b : List Entry). AreStores p c b) (sym (get_or-set_same s.buffers c xs [] inside)) here.1)
@@ -98,7 +101,7 @@ module _ (p : List (List Op)) (s : State) (g : IsSteady p s) where
       }
 
   -- a store keeps it
-  store_steady : (c b a v : ℕ) → IsNext p s c b (St a v) → c < length p → IsSteady p (stored_state s c b a v)
+  pub store_steady : (c b a v : ℕ) → IsNext p s c b (St a v) → c < length p → IsSteady p (stored_state s c b a v)
   store_steady c b a v n at =
       let op : placed_op p b ≡ (c, St a v) = next_placed p s c b (St a v) n in
       let inside : c < length s.buffers = omega (arith, at, g.buffers) in
@@ -120,7 +123,7 @@ module _ (p : List (List Op)) (s : State) (g : IsSteady p s) where
       }
 
   -- a load keeps it
-  load_steady : (c b a : ℕ) (what : ℕ × Option ℕ) → IsNext p s c b (Ld a) → IsSteady p (loaded_state s c b what)
+  pub load_steady : (c b a : ℕ) (what : ℕ × Option ℕ) → IsNext p s c b (Ld a) → IsSteady p (loaded_state s c b what)
   load_steady c b a what n =
       let op : placed_op p b ≡ (c, Ld a) = next_placed p s c b (Ld a) n in
       let kept : AreListed p (performed (given s b what) b) =
@@ -138,8 +141,8 @@ module _ (p : List (List Op)) (s : State) (g : IsSteady p s) where
       }
 
   -- a fence keeps it
-  fence_steady : (c b : ℕ) → IsNext p s c b Fence → buffer_of s c ≡ [] → IsSteady p (fenced_state s c b)
-  fence_steady c b n empty =
+  pub fence_steady : (c b : ℕ) → IsNext p s c b Fence → IsSteady p (fenced_state s c b)
+  fence_steady c b n =
       let op : placed_op p b ≡ (c, Fence) = next_placed p s c b Fence n in
       let kept : AreListed p (performed s b) = listed_performed p s b (ap (λ (z : ℕ × Op). written_address (event_of z.1 (get_or s.reads b (0, None)))) op) g.listed in
       record {
@@ -165,7 +168,7 @@ module _ (p : List (List Op)) (s : State) (g : IsSteady p s) where
   rmw_within c b a op n is = g.reads_within b a (ap (λ (z : ℕ × Op). op_reads z.1) (next_placed p s c b op n) ∙ is.reads)
 
   -- a read-modify-write keeps it
-  rmw_steady : (caches : moesi.CacheState) (c b a : ℕ) (op : Op) → IsNext p s c b op → IsRmw op (line_copy s c a) a
+  pub rmw_steady : (caches : moesi.CacheState) (c b a : ℕ) (op : Op) → IsNext p s c b op → IsRmw op (line_copy s c a) a
       → moesi.write s.caches c a (rmw_value s c op a) b ≡ Ok caches → IsSteady p (rmw_state s caches c b a)
   rmw_steady caches c b a op n is wrote =
       let what : ℕ × Option ℕ = line_copy s c a in
@@ -186,9 +189,9 @@ module _ (p : List (List Op)) (s : State) (g : IsSteady p s) where
       }
 
   -- a transaction keeps it
-  transact_steady : (caches : moesi.CacheState) (c a : ℕ) → IsTransaction s.caches c a caches → IsSteady p (with_caches s caches)
+  pub transact_steady : (caches : moesi.CacheState) (c a : ℕ) → IsAnyTransaction s.caches c a caches → IsSteady p (with_caches s caches)
   transact_steady caches c a made =
-      let large = transaction_large s.caches caches c a made in
+      let large = any_large s.caches caches c a made in
       record {
         counted = record { listed = g.counted.listed; executed = g.counted.executed; waiting = g.counted.waiting };
         listed = record { cells = g.listed.cells ∙ sym large.blocks; lists = λ b inside. g.listed.lists b (omega (arith, inside, large.blocks)) };
@@ -201,13 +204,13 @@ module _ (p : List (List Op)) (s : State) (g : IsSteady p s) where
         reads_within = λ e k h. omega (arith, g.reads_within e k h, large.blocks);
       }
 
-  -- each row keeps it
-  pub steady_kept : IsKept p s (IsSteady p)
-  steady_kept = record {
-    drain = drain_steady;
+  -- each row keeps it, under every fault
+  pub steady_kept : (f : Fault) → IsKept p f s (IsSteady p)
+  steady_kept f = record {
+    drain = λ caches c x front back at is first wrote. drain_steady caches c x front back at is wrote;
     store = store_steady;
     load = λ c b a what n got. load_steady c b a what n;
-    fence = fence_steady;
+    fence = λ c b n empty. fence_steady c b n;
     rmw = λ caches c b a op n at is empty wrote. rmw_steady caches c b a op n is wrote;
-    transact = λ caches c a at within made. transact_steady caches c a made;
+    transact = λ caches c a at within made sound. transact_steady caches c a made;
   }

@@ -4,6 +4,8 @@ use Rattle.litmus.specs.Parts.{Parts}
 use Rattle.write_buffer.specs.Buffer.{Buffer}
 use Rattle.core_unit.specs.Progress.{Progress}
 use Rattle.moesi.specs.State as moesi
+use Rattle.machine.specs.declared.fault.Fault.{Fault}
+use Rattle.machine.specs.Faults.{get_m}
 use Rattle.machine.specs.declared.step.Step.TheVariants.{GetS, GetM, Put}
 use Rattle.machine.specs.Step.{has, taken}
 use Rattle.machine.specs.BoundedItems.{BoundedItems}
@@ -33,18 +35,18 @@ module _ (p : Parts) (capacity : ℕ) (units : List Progress) (buffers : List Bu
     counted = sound.counted;
   }
 
-  module _ (core addr : ℕ) (there : has p.cores (state_from units buffers caches writes reads done.items) core addr ≡ true) where
+  module _ (fault : Fault) (core addr : ℕ) (there : has p.cores (state_from units buffers caches writes reads done.items) core addr ≡ true) where
     -- the row of GetS
     pub get_s_taken : moesi.get_s caches core addr ≡ Ok caches'
-        → taken p.cores capacity (state_from units buffers caches writes reads done.items) (GetS core addr) ≡ Ok (state_from units buffers caches' writes reads done.items)
+        → taken p.cores capacity fault (state_from units buffers caches writes reads done.items) (GetS core addr) ≡ Ok (state_from units buffers caches' writes reads done.items)
     get_s_taken made = rw (there, made) refl
 
     -- the row of GetM
-    pub get_m_taken : moesi.get_m caches core addr ≡ Ok caches'
-        → taken p.cores capacity (state_from units buffers caches writes reads done.items) (GetM core addr) ≡ Ok (state_from units buffers caches' writes reads done.items)
+    pub get_m_taken : get_m fault caches core addr ≡ Ok caches'
+        → taken p.cores capacity fault (state_from units buffers caches writes reads done.items) (GetM core addr) ≡ Ok (state_from units buffers caches' writes reads done.items)
     get_m_taken made = rw (there, made) refl
 
     -- the row of Put
     pub put_taken : moesi.put caches core addr ≡ Ok caches'
-        → taken p.cores capacity (state_from units buffers caches writes reads done.items) (Put core addr) ≡ Ok (state_from units buffers caches' writes reads done.items)
+        → taken p.cores capacity fault (state_from units buffers caches writes reads done.items) (Put core addr) ≡ Ok (state_from units buffers caches' writes reads done.items)
     put_taken made = rw (there, made) refl

@@ -16,6 +16,7 @@ use Rattle.moesi.specs.State as moesi
 use Rattle.moesi.specs.declared.error.CacheError.{CacheError}
 use Rattle.moesi.specs.Coherent.{IsCoherent}
 use Rattle.moesi.proofs.Kept.{read_current}
+use Rattle.machine.specs.declared.fault.Fault.TheVariants as fault
 use Rattle.machine.specs.State.{State, buffer_of, current_copy, event_of}
 use Rattle.machine.specs.Step.{performed, written, given, forwarded_or_read, looked_up}
 use Rattle.machine.proofs.Seen.{seen, IsNewest}
@@ -134,7 +135,7 @@ pair_one d f h = cc
 pub loaded_newest : (p : List (List Op)) (s : State) (c a : ℕ) (what : ℕ × Option ℕ) → a < length s.caches.blocks → AreListed p s → IsLatest s → IsCoherent s.caches → AreStores p c (buffer_of s c)
     → ((e : ℕ) → times s.performed e ≤ 1) → ((e : ℕ) → times (map (λ (x : Entry). x.event) (buffer_of s c)) e ≤ 1)
     → ((e : ℕ) → 0 < times (map (λ (x : Entry). x.event) (buffer_of s c)) e → times s.performed e ≡ 0)
-    → looked_up s c a ≡ Ok what → IsNewest (static_of p s) (seen (snapshot_of p s) c) a what.1
+    → looked_up fault.None s c a ≡ Ok what → IsNewest (static_of p s) (seen (snapshot_of p s) c) a what.1
 loaded_newest p s c a what at listed latest coherent stores once once_waiting apart = go (youngest (buffer_of s c) a) (youngest_says p s c (buffer_of s c) a stores once_waiting)
   where
     go : (entry : Option Entry) → IsYoungestOf p s (buffer_of s c) a entry → forwarded_or_read entry (moesi.read s.caches c a) ≡ Ok what → IsNewest (static_of p s) (seen (snapshot_of p s) c) a what.1

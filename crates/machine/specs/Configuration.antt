@@ -1,6 +1,23 @@
 -- What a machine holds, how its parts fit together, and that it was reached by steps.
-use Rattle.std.specs.Prelude.{◌≡◌, ◌+◌, ◌<◌, ◌≤◌, ℕ, Bool, Option, Result, List, [], length, map, sum, sum_by,
-    slice_index, slice_index_or, All}
+use Rattle.std.specs.Prelude.{
+  ◌≡◌,
+  ◌+◌,
+  ◌<◌,
+  ◌≤◌,
+  ℕ,
+  Bool,
+  Option,
+  Result,
+  List,
+  [],
+  length,
+  map,
+  sum,
+  sum_by,
+  slice_index,
+  slice_index_or,
+  All,
+}
 use Rattle.litmus.specs.declared.limits.TheConstants.{MAX_EVENTS}
 use Rattle.litmus.specs.declared.op.Op.{Op}
 use Rattle.litmus.specs.Parts.{Parts, IsWithin, op_count}
@@ -66,9 +83,9 @@ pub record IsSound (p : Parts) (capacity : ℕ) (units : List Progress) (buffers
   pub counted : length performed.items + sum_by (λ b. length b.entries) buffers ≡ sum (places_of units)
 
 -- some list of steps leads from the opening state to this one, and each operation has one of the n addresses
-pub record IsReached (p : List (List Op)) (n capacity : ℕ) (s : State) : Type 0 where
+pub record IsReached (p : List (List Op)) (n capacity : ℕ) (fault : Fault) (s : State) : Type 0 where
   pub steps : List Step
-  pub leads : run p capacity (opening p n) steps ≡ s
+  pub leads : run p capacity fault (opening p n) steps ≡ s
   pub operations : All (λ ops. All (IsWithin n) ops) p
 
 -- the room that was made for the recording of a run
@@ -82,11 +99,11 @@ abbrev pub blank_size : Parts → BlankSize
 blank_size p = record { cores = length p.cores; events = op_count p.cores; addresses = length p.names }
 
 -- what every machine keeps
-pub record IsMachine (p : Parts) (capacity : ℕ) (units : List Progress) (buffers : List Buffer)
-    (caches : moesi.CacheState) (writes : List (BoundedItems ℕ)) (reads : List (ℕ × Option ℕ))
-    (performed : BoundedItems ℕ) (blank : BlankSize) : Type 0 where
+pub record IsMachine (p : Parts) (capacity : ℕ) (fault : Fault) (units : List Progress)
+    (buffers : List Buffer) (caches : moesi.CacheState) (writes : List (BoundedItems ℕ))
+    (reads : List (ℕ × Option ℕ)) (performed : BoundedItems ℕ) (blank : BlankSize) : Type 0 where
   pub sound : IsSound p capacity units buffers caches writes reads performed
-  pub reached : IsReached p.cores (length p.names) capacity
+  pub reached : IsReached p.cores (length p.names) capacity fault
       (state_from units buffers caches writes reads performed.items)
   pub blank_is : blank ≡ blank_size p
 
@@ -94,11 +111,11 @@ pub record IsMachine (p : Parts) (capacity : ℕ) (units : List Progress) (buffe
 
 -- what a machine answers to a step: the state that it leads to, or why it is blocked
 abbrev pub answer_of : Configuration → Step → Result State Blocked
-answer_of h step = taken h.program.cores h.capacity h.state step
+answer_of h step = taken h.program.cores h.capacity h.fault h.state step
 
 -- what it answers where core c executes the operation op as event e
 abbrev pub exec_answer : Configuration → ℕ → Op → ℕ → Result State Blocked
-exec_answer h c op e = exec h.capacity h.state c e op
+exec_answer h c op e = exec h.capacity h.fault h.state c e op
 
 -- core c is at its operation op, whose event is e
 abbrev pub IsNextOf : Configuration → ℕ → Op → ℕ → Type 0
@@ -106,7 +123,7 @@ IsNextOf h c op e = IsAt h.program.cores h.state c op e
 
 -- the state after a list of steps
 abbrev pub state_behind : Configuration → List Step → State
-state_behind h steps = run h.program.cores h.capacity h.state steps
+state_behind h steps = run h.program.cores h.capacity h.fault h.state steps
 
 -- the recording of what a machine has done
 abbrev pub recording_of : Configuration → Execution

@@ -1,8 +1,10 @@
 pub mod State
+pub mod Faults
 pub mod Step
 pub mod Taken
 pub mod Tso
 pub mod Orderly
+pub mod OneRow
 pub mod BoundedItems
 pub mod Configuration
 pub mod Made

@@ -1,6 +1,27 @@
--- What holds of every state that a run leads to.
-use Rattle.std.specs.Prelude.{◌≡◌, ◌<◌, ◌≤◌, ◌+◌, ◌&&◌, ℕ, Bool, true, false, List, [], ◌∷◌, ◌++◌, map, take,
-    length, slice_index_or, sum, sum_by, count_by, All}
+-- What holds of every state that a run without fault leads to.
+use Rattle.std.specs.Prelude.{
+  ◌≡◌,
+  ◌<◌,
+  ◌≤◌,
+  ◌+◌,
+  ◌&&◌,
+  ℕ,
+  Bool,
+  true,
+  false,
+  List,
+  [],
+  ◌∷◌,
+  ◌++◌,
+  map,
+  take,
+  length,
+  slice_index_or,
+  sum,
+  sum_by,
+  count_by,
+  All,
+}
 use Rattle.litmus.specs.declared.op.Op.{Op}
 use Rattle.litmus.specs.declared.op.Op.TheVariants.{St, Ld, Fence, Swap, Add}
 use Rattle.litmus.specs.Parts.{IsWithin}
@@ -8,6 +29,7 @@ use Rattle.recorder.specs.Execution.{placed_from}
 use Rattle.recorder.specs.Order.{times, Before}
 use Rattle.write_buffer.specs.declared.entry.Entry.{Entry}
 use Rattle.moesi.specs.State as moesi
+use Rattle.machine.specs.declared.fault.Fault.TheVariants as fault
 use Rattle.machine.specs.declared.step.Step.{Step}
 use Rattle.machine.specs.State.{State, place_of, buffer_of, first_event, opening}
 use Rattle.machine.specs.Step.{run}
@@ -73,7 +95,7 @@ pub record IsOrderly (p : List (List Op)) (n : ℕ) (s : State) : Type 0 where
       → (is_st (placed_op p e).1 && is_ld (placed_op p f).1) ≡ false
       → Before (seen_by s (placed_op p f).0) e f
 
--- every run leads to such a state
+-- every run without fault leads to such a state
 abbrev pub EveryStateIsOrderly : List (List Op) → ℕ → ℕ → List Step → Type 0
 EveryStateIsOrderly p n capacity steps = All (λ ops. All (IsWithin n) ops) p
-    → IsOrderly p n (run p capacity (opening p n) steps)
+    → IsOrderly p n (run p capacity fault.None (opening p n) steps)

@@ -1,16 +1,40 @@
--- One step of the machine: the first guard that is false, else one effect.
-use Rattle.std.specs.Prelude.{◌≡◌, ◌+◌, ◌<◌, ◌==◌, ◌&&◌, ℕ, Bool, nat_lt, if◌then◌else◌, Option, Some, None,
-    Result, Ok, Err, List, [], ◌∷◌, ◌++◌, length, slice_index_or, slice_set, slice_get}
+-- One step of the machine: the first guard that is false, else one effect. What a fault changes is
+-- told by its words.
+use Rattle.std.specs.Prelude.{
+  ◌≡◌,
+  ◌+◌,
+  ◌<◌,
+  ◌&&◌,
+  ℕ,
+  Bool,
+  nat_lt,
+  if◌then◌else◌,
+  Option,
+  Some,
+  None,
+  Result,
+  Ok,
+  Err,
+  List,
+  [],
+  ◌∷◌,
+  ◌++◌,
+  length,
+  slice_index_or,
+  slice_set,
+  slice_get,
+}
 use Rattle.litmus.specs.declared.op.Op.{Op}
 use Rattle.litmus.specs.declared.op.Op.TheVariants.{St, Ld, Fence, Swap, Add}
 use Rattle.write_buffer.specs.declared.entry.Entry.{Entry}
-use Rattle.write_buffer.specs.Buffer.{youngest}
 use Rattle.machine.specs.declared.step.Step.{Step}
 use Rattle.machine.specs.declared.step.Step.TheVariants.{Exec, Drain, GetS, GetM, Put}
 use Rattle.machine.specs.declared.blocked.Blocked.{Blocked}
 use Rattle.machine.specs.declared.blocked.Blocked.TheVariants.{B1, B2, B3, B4, B5, B6, B7, B8}
 use Rattle.recorder.specs.Event.{value_written}
 use Rattle.moesi.specs.State as moesi
+use Rattle.machine.specs.declared.fault.Fault.{Fault}
+use Rattle.machine.specs.Faults.{forwarded, draining, without, may_fence, may_rmw, get_m}
 use Rattle.moesi.specs.declared.error.CacheError.{CacheError}
 use Rattle.machine.specs.State.{State, place_of, buffer_of, line_copy, first_event, event_of}
 
@@ -50,8 +74,8 @@ forwarded_or_read None line = line
 forwarded_or_read (Some entry) line = Ok (entry.value, Some entry.event)
 
 -- what a load of address a by core c gets: from its own buffer, else from its line
-abbrev pub looked_up : State → ℕ → ℕ → Result (ℕ × Option ℕ) CacheError
-looked_up s c a = forwarded_or_read (youngest (buffer_of s c) a) (moesi.read s.caches c a)
+abbrev pub looked_up : Fault → State → ℕ → ℕ → Result (ℕ × Option ℕ) CacheError
+looked_up fault s c a = forwarded_or_read (forwarded fault (buffer_of s c) a) (moesi.read s.caches c a)
 
 -- The guards and the effects
 
@@ -68,12 +92,12 @@ stored capacity s c e a v =
     else Err B2
 
 -- core c fences: it waits for an empty buffer
-abbrev pub fenced : State → ℕ → ℕ → Result State Blocked
-fenced s c e = if length (buffer_of s c) == 0 then Ok (advanced (performed s e) c) else Err B3
+abbrev pub fenced : Fault → State → ℕ → ℕ → Result State Blocked
+fenced fault s c e = if may_fence fault (buffer_of s c) then Ok (advanced (performed s e) c) else Err B3
 
 -- core c loads address a: its line is valid, where no store of its own waits
-abbrev pub loaded : State → ℕ → ℕ → ℕ → Result State Blocked
-loaded s c e a = allowed B4 (λ what. advanced (performed (given s e what) e) c) (looked_up s c a)
+abbrev pub loaded : Fault → State → ℕ → ℕ → ℕ → Result State Blocked
+loaded fault s c e a = allowed B4 (λ what. advanced (performed (given s e what) e) c) (looked_up fault s c a)
 
 -- the value that op writes, from what the line has
 abbrev pub rmw_value : State → ℕ → Op → ℕ → ℕ
@@ -81,48 +105,55 @@ rmw_value s c op a = value_written (event_of op (line_copy s c a))
 
 -- core c reads address a and writes it at once, as op says, behind an empty buffer and in a line
 -- that is M or E
-abbrev pub read_modify_written : State → ℕ → ℕ → Op → ℕ → Result State Blocked
-read_modify_written s c e op a =
-    if length (buffer_of s c) == 0
+abbrev pub read_modify_written : Fault → State → ℕ → ℕ → Op → ℕ → Result State Blocked
+read_modify_written fault s c e op a =
+    if may_rmw fault (buffer_of s c)
     then allowed B5 (λ caches. advanced (performed (written (given s e (line_copy s c a)) caches a e) e) c)
     (moesi.write s.caches c a (rmw_value s c op a) e)
     else Err B3
 
 -- core c executes the operation op as event e
-abbrev pub exec : ℕ → State → ℕ → ℕ → Op → Result State Blocked
-exec capacity s c e (St a v) = stored capacity s c e a v
-exec capacity s c e (Ld a) = loaded s c e a
-exec capacity s c e Fence = fenced s c e
-exec capacity s c e (Swap a v) = read_modify_written s c e (Swap a v) a
-exec capacity s c e (Add a v) = read_modify_written s c e (Add a v) a
+abbrev pub exec : ℕ → Fault → State → ℕ → ℕ → Op → Result State Blocked
+exec capacity fault s c e (St a v) = stored capacity s c e a v
+exec capacity fault s c e (Ld a) = loaded fault s c e a
+exec capacity fault s c e Fence = fenced fault s c e
+exec capacity fault s c e (Swap a v) = read_modify_written fault s c e (Swap a v) a
+exec capacity fault s c e (Add a v) = read_modify_written fault s c e (Add a v) a
 
 -- the next operation of core c, where one is left
-abbrev pub exec_next : List (List Op) → ℕ → State → ℕ → Option Op → Result State Blocked
-exec_next p capacity s c None = Err B1
-exec_next p capacity s c (Some op) = exec capacity s c (first_event p c + place_of s c) op
+abbrev pub exec_next : List (List Op) → ℕ → Fault → State → ℕ → Option Op → Result State Blocked
+exec_next p capacity fault s c None = Err B1
+exec_next p capacity fault s c (Some op) = exec capacity fault s c (first_event p c + place_of s c) op
 
--- the oldest waiting store of core c goes to its line, which is M or E
-abbrev pub drained : State → ℕ → List Entry → Result State Blocked
-drained s c [] = Err B6
-drained s c (x ∷ xs) =
-    allowed B5 (λ caches. performed (written (with_buffer s c xs) caches x.addr x.event) x.event)
+-- the store x at place i of core c's buffer goes to its line, which is M or E
+abbrev pub drained_at : State → ℕ → ℕ → Option Entry → Result State Blocked
+drained_at s c i None = Err B6
+drained_at s c i (Some x) =
+    allowed B5 (λ caches. performed
+    (written (with_buffer s c (without i (buffer_of s c))) caches x.addr x.event) x.event)
     (moesi.write s.caches c x.addr x.value x.event)
+
+-- a waiting store of core c goes to its line
+abbrev pub drained : Fault → State → ℕ → Result State Blocked
+drained fault s c =
+    drained_at s c (draining fault (buffer_of s c))
+    (slice_get (buffer_of s c) (draining fault (buffer_of s c)))
 
 -- core c and address a are there
 abbrev pub has : List (List Op) → State → ℕ → ℕ → Bool
 has p s c a = nat_lt c (length p) && nat_lt a (length s.caches.blocks)
 
 -- one step of the machine, or why it is blocked
-abbrev pub taken : List (List Op) → ℕ → State → Step → Result State Blocked
-taken p capacity s (Exec c) =
-    if nat_lt c (length p) then exec_next p capacity s c
-        (slice_get (slice_index_or p c []) (place_of s c)) else Err B8
-taken p capacity s (Drain c) = if nat_lt c (length p) then drained s c (buffer_of s c) else Err B8
-taken p capacity s (GetS c a) =
+abbrev pub taken : List (List Op) → ℕ → Fault → State → Step → Result State Blocked
+taken p capacity fault s (Exec c) =
+    if nat_lt c (length p) then exec_next p capacity fault s c
+    (slice_get (slice_index_or p c []) (place_of s c)) else Err B8
+taken p capacity fault s (Drain c) = if nat_lt c (length p) then drained fault s c else Err B8
+taken p capacity fault s (GetS c a) =
     if has p s c a then allowed B7 (with_caches s) (moesi.get_s s.caches c a) else Err B8
-taken p capacity s (GetM c a) =
-    if has p s c a then allowed B7 (with_caches s) (moesi.get_m s.caches c a) else Err B8
-taken p capacity s (Put c a) =
+taken p capacity fault s (GetM c a) =
+    if has p s c a then allowed B7 (with_caches s) (get_m fault s.caches c a) else Err B8
+taken p capacity fault s (Put c a) =
     if has p s c a then allowed B7 (with_caches s) (moesi.put s.caches c a) else Err B8
 
 -- a blocked step leaves the state
@@ -131,9 +162,9 @@ after s (Ok t) = t
 after s (Err b) = s
 
 -- the state after a list of steps
-abbrev pub run : List (List Op) → ℕ → State → List Step → State
-run p capacity s [] = s
-run p capacity s (step ∷ steps) = run p capacity (after s (taken p capacity s step)) steps
+abbrev pub run : List (List Op) → ℕ → Fault → State → List Step → State
+run p capacity fault s [] = s
+run p capacity fault s (step ∷ steps) = run p capacity fault (after s (taken p capacity fault s step)) steps
 
 -- core c is there, its next operation is op, and the event of that has number e
 pub record IsAt (p : List (List Op)) (s : State) (c : ℕ) (op : Op) (e : ℕ) : Type 0 where

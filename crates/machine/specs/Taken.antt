@@ -2,6 +2,7 @@
 use Rattle.std.specs.Prelude.{ℕ, List, [], ◌∷◌, length, Result, Ok, Err}
 use Rattle.litmus.specs.declared.op.Op.{Op}
 use Rattle.litmus.specs.Parts.{Parts}
+use Rattle.machine.specs.declared.fault.Fault.{Fault}
 use Rattle.machine.specs.declared.step.Step.{Step}
 use Rattle.machine.specs.declared.blocked.Blocked.{Blocked}
 use Rattle.machine.specs.State.{State, opening}
@@ -17,7 +18,7 @@ unless_blocked (Ok s) rest = rest s
 unless_blocked (Err b) rest = Err b
 
 -- the state that steps lead to where each of them is taken, or why the first other one is blocked
-abbrev pub all_taken : List (List Op) → ℕ → State → List Step → Result State Blocked
-all_taken p capacity s [] = Ok s
-all_taken p capacity s (step ∷ steps) =
-    unless_blocked (taken p capacity s step) (λ t. all_taken p capacity t steps)
+abbrev pub all_taken : List (List Op) → ℕ → Fault → State → List Step → Result State Blocked
+all_taken p capacity fault s [] = Ok s
+all_taken p capacity fault s (step ∷ steps) =
+    unless_blocked (taken p capacity fault s step) (λ t. all_taken p capacity fault t steps)

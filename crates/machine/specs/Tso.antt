@@ -3,19 +3,22 @@ use Rattle.std.specs.Prelude.{ℕ, List, All}
 use Rattle.recorder.specs.Tso.{IsTsoOrder, IsWellFormed}
 use Rattle.litmus.specs.declared.op.Op.{Op}
 use Rattle.litmus.specs.Parts.{IsWithin}
+use Rattle.machine.specs.declared.fault.Fault.{Fault}
+use Rattle.machine.specs.declared.fault.Fault.TheVariants as fault
 use Rattle.machine.specs.declared.step.Step.{Step}
 use Rattle.machine.specs.State.{recorded, opening, IsComplete}
 use Rattle.machine.specs.Step.{run}
 
--- where a run is complete, the order of what it performed is one that TSO allows for its recording
+-- where a run without fault is complete, the order of what it performed is one that TSO allows for
+-- its recording
 abbrev pub EveryRunIsTso : List (List Op) → ℕ → ℕ → List Step → Type 0
 EveryRunIsTso p n capacity steps =
-    All (λ ops. All (IsWithin n) ops) p → IsComplete p (run p capacity (opening p n) steps)
-    → IsTsoOrder (recorded p (run p capacity (opening p n) steps))
-        (run p capacity (opening p n) steps).performed
+    All (λ ops. All (IsWithin n) ops) p → IsComplete p (run p capacity fault.None (opening p n) steps)
+    → IsTsoOrder (recorded p (run p capacity fault.None (opening p n) steps))
+    (run p capacity fault.None (opening p n) steps).performed
 
--- where a run is complete, its recording is well formed
-abbrev pub EveryRunIsWellFormed : List (List Op) → ℕ → ℕ → List Step → Type 0
-EveryRunIsWellFormed p n capacity steps =
-    All (λ ops. All (IsWithin n) ops) p → IsComplete p (run p capacity (opening p n) steps)
-    → IsWellFormed (recorded p (run p capacity (opening p n) steps))
+-- where a run under any fault is complete, its recording is well formed
+abbrev pub EveryRunIsWellFormed : List (List Op) → ℕ → ℕ → Fault → List Step → Type 0
+EveryRunIsWellFormed p n capacity fault steps =
+    All (λ ops. All (IsWithin n) ops) p → IsComplete p (run p capacity fault (opening p n) steps)
+    → IsWellFormed (recorded p (run p capacity fault (opening p n) steps))

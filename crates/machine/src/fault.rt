@@ -1,8 +1,100 @@
 //! Faults of the machine.
 
-/// What is wrong with a machine.
+use litmus::{Addr, CoreId};
+use moesi::{CacheError, Caches};
+use write_buffer::{Entry, WriteBuffer};
+
+/// What is wrong with a machine: each fault changes one row of the table of steps.
 #[derive(Clone, Copy, Debug, PartialEq, Eq)]
 pub enum Fault {
     /// Nothing: the machine is as TSO asks.
     None,
+    /// A load never looks in its core's buffer.
+    NoBypass,
+    /// The youngest store in a buffer drains first.
+    YoungestFirst,
+    /// A fence doesn't wait for an empty buffer.
+    OpenFence,
+    /// GetM leaves other lines in S as they are, with their old data.
+    StaleShare,
+    /// A read-modify-write doesn't wait for an empty buffer.
+    EarlyRmw,
+}
+
+impl Fault {
+    ghost use Rattle.std.specs.Prelude.{◌≡◌, ◌<◌, Ok, Err, length, slice_get, OnOk, OnErr, IfErr};
+    ghost use Rattle.machine.specs.Faults.{forwarded, draining, without, may_fence, may_rmw, get_m};
+
+    /// The store that a load of an address gets from its core's buffer.
+    pub(crate) fn forwarded(self, buffer: &WriteBuffer, addr: Addr) -> Option<Entry>
+        ensures { result ≡ forwarded self buffer.now.entries addr }
+    {
+        match self {
+            Fault::NoBypass => None,
+            _ => buffer.youngest(addr),
+        }
+    }
+
+    /// The store that leaves a buffer next.
+    pub(crate) fn draining(self, buffer: &WriteBuffer) -> Option<Entry>
+        ensures { result ≡ slice_get buffer.now.entries (draining self buffer.now.entries) }
+    {
+        match self {
+            Fault::YoungestFirst => buffer.newest(),
+            _ => buffer.oldest(),
+        }
+    }
+
+    /// Takes the store that leaves a buffer next out of it.
+    pub(crate) fn drain(self, buffer: &mut WriteBuffer)
+        ensures entries { buffer.new.entries
+            ≡ without (draining self buffer.old.entries) buffer.old.entries }
+        ensures capacity { buffer.new.capacity ≡ buffer.old.capacity }
+    {
+        let _drained = match self {
+            Fault::YoungestFirst => buffer.pop_youngest(),
+            _ => buffer.pop_oldest(),
+        };
+    }
+
+    /// Whether a fence may go on.
+    pub(crate) fn may_fence(self, buffer: &WriteBuffer) -> bool
+        ensures { result ≡ may_fence self buffer.now.entries }
+    {
+        match self {
+            Fault::OpenFence => true,
+            _ => buffer.is_empty(),
+        }
+    }
+
+    /// Whether a read-modify-write may go on.
+    pub(crate) fn may_rmw(self, buffer: &WriteBuffer) -> bool
+        ensures { result ≡ may_rmw self buffer.now.entries }
+    {
+        match self {
+            Fault::EarlyRmw => true,
+            _ => buffer.is_empty(),
+        }
+    }
+
+    /// GetM.
+    pub(crate) fn get_m(
+        self,
+        caches: &mut Caches,
+        core: CoreId,
+        addr: Addr,
+    ) -> Result<(), CacheError>
+        requires core { core < caches.old.cores }
+        requires address { addr < length caches.old.blocks }
+        ensures ok { OnOk result (get_m self caches.old core addr ≡ Ok caches.new) }
+        ensures refused { IfErr result (λ e. get_m self caches.old core addr ≡ Err e) }
+        ensures unchanged { OnErr result (caches.new ≡ caches.old) }
+        ensures cores { caches.new.cores ≡ caches.old.cores }
+        ensures addresses { length caches.new.blocks ≡ length caches.old.blocks }
+    {
+        match self {
+            Fault::StaleShare => caches.get_m_stale(core, addr),
+            _ => caches.get_m(core, addr),
+        }
+    }
 }

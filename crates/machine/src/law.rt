@@ -3,21 +3,31 @@
 ghost use Rattle.std.specs.Prelude.{ℕ, List};
 ghost use Rattle.litmus.specs.declared.op.Op.{Op};
 ghost use Rattle.machine.specs.declared.step.Step.{Step};
+ghost use Rattle.machine.specs.declared.fault.Fault.{Fault};
+ghost use Rattle.machine.specs.OneRow.{EveryFaultChangesOneRow};
 ghost use Rattle.machine.specs.Tso.{EveryRunIsTso, EveryRunIsWellFormed};
 ghost use Rattle.machine.specs.Orderly.{EveryStateIsOrderly};
 
-/// Where a run is complete, whatever its program, its capacity and its steps, the order of what it
-/// performed is one that TSO allows for its recording, which is well formed. It does nothing.
+/// Where a run without fault is complete, whatever its program, its capacity and its steps, the order
+/// of what it performed is one that TSO allows for its recording. Under every fault the recording of
+/// a complete run is well formed. It does nothing.
 pub fn every_run_is_tso()
     ensures tso { (program : List (List Op)) (addresses capacity : ℕ) (steps : List Step)
         → EveryRunIsTso program addresses capacity steps }
-    ensures well_formed { (program : List (List Op)) (addresses capacity : ℕ) (steps : List Step)
-        → EveryRunIsWellFormed program addresses capacity steps }
+    ensures well_formed { (program : List (List Op)) (addresses capacity : ℕ) (fault : Fault)
+        (steps : List Step)
+        → EveryRunIsWellFormed program addresses capacity fault steps }
 {}
 
-/// Whatever its program, its capacity and its steps, a run leads to a state in which what cores have
-/// executed was performed or waits as a store, in the order that TSO keeps. It does nothing.
+/// Whatever its program, its capacity and its steps, a run without fault leads to a state in which
+/// what cores have executed was performed or waits as a store, in the order that TSO keeps. It does nothing.
 pub fn every_state_is_orderly()
     ensures { (program : List (List Op)) (addresses capacity : ℕ) (steps : List Step)
         → EveryStateIsOrderly program addresses capacity steps }
+{}
+
+/// Each fault changes one row of the table of steps, and leaves the others as they are. It does
+/// nothing.
+pub fn faults_change_one_row()
+    ensures { EveryFaultChangesOneRow }
 {}

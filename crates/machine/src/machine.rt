@@ -3,7 +3,7 @@
 use crate::blank::Blank;
 use crate::bounded::BoundedList;
 use crate::fault::Fault;
-use crate::makes::{buffers_of, bounded_lists, units_of};
+use crate::makes::{bounded_lists, buffers_of, units_of};
 use core_unit::CoreUnit;
 use litmus::{Addr, CoreId, EventId, Op, OutOfMemory, Program};
 use moesi::{Caches, Line};
@@ -20,7 +20,7 @@ use write_buffer::{Entry, WriteBuffer};
 pub struct Machine {
     pub(crate) program: Program,
     pub(crate) capacity: usize,
-    fault: Fault,
+    pub(crate) fault: Fault,
     pub(crate) units: Vec<CoreUnit>,
     pub(crate) buffers: Vec<WriteBuffer>,
     pub(crate) caches: Caches,
@@ -50,15 +50,30 @@ impl Model for Machine {
           m.performed.items;
     } };
 
-    ghost invariant = { λ m. IsMachine m.program m.capacity m.units.items m.buffers.items
+    ghost invariant = { λ m. IsMachine m.program m.capacity m.fault m.units.items m.buffers.items
         m.caches m.writes.items m.reads.items m.performed m.blank };
 }
 
 impl Machine {
-    ghost use Rattle.std.specs.Prelude.{◌≡◌, ◌<◌, ◌↔◌, [], IsTrue, IfOk, OnOk, OnErr, IfErr, IfSome, length,
-        slice_get, slice_index_or, option_map};
+    ghost use Rattle.std.specs.Prelude.{
+      ◌≡◌,
+      ◌<◌,
+      ◌↔◌,
+      [],
+      IsTrue,
+      IfOk,
+      OnOk,
+      OnErr,
+      IfErr,
+      IfSome,
+      length,
+      slice_get,
+      slice_index_or,
+      option_map,
+    };
     ghost use Rattle.recorder.specs.Tso.{IsTsoOrder};
     ghost use Rattle.moesi.specs.State.{line_of, memory_of};
+    ghost use Rattle.machine.specs.declared.fault.Fault.TheVariants as fault;
     ghost use Rattle.machine.specs.State.{opening, place_of, buffer_of, IsDone};
     ghost use Rattle.machine.specs.Configuration.{recording_of, next_event, IsAtEnd};
     ghost use Rattle.write_buffer.specs.Buffer.{youngest};
@@ -227,8 +242,9 @@ impl Machine {
     pub fn finish(self) -> Result<Recording, Unfinished>
         ensures recording { IfOk result (λ r. r ≡ recording_of self) }
         ensures complete { OnOk result (IsAtEnd self) }
-        // The order of what was performed is one that TSO allows.
-        ensures tso { OnOk result (IsTsoOrder (recording_of self) self.state.performed) }
+        // Without fault, the order of what was performed is one that TSO allows.
+        ensures tso { OnOk result (self.fault ≡ fault.None
+            → IsTsoOrder (recording_of self) self.state.performed) }
         ensures unfinished { IfErr result (λ u. u.machine ≡ self) }
         ensures incomplete { OnErr result (IsAtEnd self → ⊥) }
     {

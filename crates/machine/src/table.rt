@@ -39,7 +39,7 @@ impl Machine {
         Ok(())
     }
 
-    /// Reads from the core's own buffer, or else from its line.
+    /// Reads from the core's own buffer, where the machine looks there, or else from its line.
     pub(crate) fn load(&mut self, core: CoreId, event: EventId, addr: Addr) -> Result<(), Blocked>
         requires { IsNextOf self.old core (Ld addr) event }
         ensures ok { OnOk result (exec_answer self.old core (Ld addr) event ≡ Ok self.new.state) }
@@ -47,7 +47,7 @@ impl Machine {
         ensures rest { OnOk result (self.new ≡ record self.old { state = self.new.state }) }
         ensures unchanged { OnErr result (self.new ≡ self.old) }
     {
-        let entry = self.buffers[core as usize].youngest(addr);
+        let entry = self.fault.forwarded(&self.buffers[core as usize], addr);
         let Ok(what) = forwarded_or_read(entry, self.caches.read(core, addr)) else {
             return Err(Blocked::B4);
         };
@@ -57,7 +57,7 @@ impl Machine {
         Ok(())
     }
 
-    /// Waits for an empty buffer.
+    /// Waits for an empty buffer, where the machine does.
     pub(crate) fn fence(&mut self, core: CoreId, event: EventId) -> Result<(), Blocked>
         requires { IsNextOf self.old core Fence event }
         ensures ok { OnOk result (exec_answer self.old core Fence event ≡ Ok self.new.state) }
@@ -65,8 +65,7 @@ impl Machine {
         ensures rest { OnOk result (self.new ≡ record self.old { state = self.new.state }) }
         ensures unchanged { OnErr result (self.new ≡ self.old) }
     {
-        let buffer = &self.buffers[core as usize];
-        if !buffer.is_empty() {
+        if !self.fault.may_fence(&self.buffers[core as usize]) {
             return Err(Blocked::B3);
         }
         self.performed.push(event);
@@ -74,7 +73,7 @@ impl Machine {
         Ok(())
     }
 
-    /// Reads the core's line and writes it at once, where the core's buffer is empty.
+    /// Reads the core's line and writes it at once, behind an empty buffer, where the machine waits for it.
     pub(crate) fn read_modify_write(
         &mut self,
         core: CoreId,
@@ -85,13 +84,13 @@ impl Machine {
         requires at { IsNextOf self.old core op event }
         requires address { addr < length self.old.program.names }
         requires row { exec_answer self.old core op event
-            ≡ read_modify_written self.old.state core event op addr }
+            ≡ read_modify_written self.old.fault self.old.state core event op addr }
         ensures ok { OnOk result (exec_answer self.old core op event ≡ Ok self.new.state) }
         ensures blocked { IfErr result (λ b. exec_answer self.old core op event ≡ Err b) }
         ensures rest { OnOk result (self.new ≡ record self.old { state = self.new.state }) }
         ensures unchanged { OnErr result (self.new ≡ self.old) }
     {
-        if !self.buffers[core as usize].is_empty() {
+        if !self.fault.may_rmw(&self.buffers[core as usize]) {
             return Err(Blocked::B3);
         }
         let Ok(read) = self.caches.read(core, addr) else {
@@ -108,7 +107,7 @@ impl Machine {
         Ok(())
     }
 
-    /// Writes the oldest store of a core's buffer to the core's line.
+    /// Writes the store that leaves a core's buffer next to the core's line.
     pub(crate) fn drain(&mut self, core: CoreId) -> Result<(), Blocked>
         ensures ok { OnOk result (answer_of self.old (Drain core) ≡ Ok self.new.state) }
         ensures blocked { IfErr result (λ b. answer_of self.old (Drain core) ≡ Err b) }
@@ -118,14 +117,14 @@ impl Machine {
         if core as usize >= self.program.cores() {
             return Err(Blocked::B8);
         }
-        let Some(entry) = self.buffers[core as usize].oldest() else {
+        let Some(entry) = self.fault.draining(&self.buffers[core as usize]) else {
             return Err(Blocked::B6);
         };
         let Entry { addr, value, event } = entry;
         let Ok(()) = self.caches.write(core, addr, value, event) else {
             return Err(Blocked::B5);
         };
-        let _written = self.buffers[core as usize].pop_oldest();
+        self.fault.drain(&mut self.buffers[core as usize]);
         self.writes[addr as usize].push(event);
         self.performed.push(event);
         Ok(())

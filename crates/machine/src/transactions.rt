@@ -42,7 +42,7 @@ impl Machine {
         if !self.has(core, addr) {
             return Err(Blocked::B8);
         }
-        let Ok(()) = self.caches.get_m(core, addr) else {
+        let Ok(()) = self.fault.get_m(&mut self.caches, core, addr) else {
             return Err(Blocked::B7);
         };
         Ok(())

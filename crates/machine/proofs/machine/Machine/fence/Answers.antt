@@ -1,4 +1,4 @@
-use Rattle.std.proofs.Common.{sym, refl, subst}
+use Rattle.std.proofs.Common.{sym, ◌∙◌, refl, subst}
 use Rattle.litmus.specs.declared.op.Op.TheVariants.{Fence}
 use Rattle.machine.specs.Configuration.{Configuration}
 use Rattle.machine.specs.Step.{IsAt}
@@ -26,11 +26,11 @@ invariant_of-self c =
     let at = subst (λ (h : Configuration). IsAt h.program.cores h.state c.args.core (Fence) c.args.event) (sym c.self.view_is) c.requires in
     record {
       sound = executed.performed_sound _ _ _ _ _ _ _ _ c.self.invariant.sound c.args.core (Fence) c.args.event at c.index_mut.result.now c.index_mut.ensures.value c.ops.result.now c.ops.ensures c.advance.new.self c.advance.ensures c.self.inside.reads.items refl c.push.new.self c.push.ensures;
-      reached = rw (c.push.ensures) (reached_exec _ _ _ _ _ c.args.core (Fence) c.args.event at c.self.invariant.reached (executed.fence_taken _ _ _ _ _ _ _ _ c.self.invariant.sound c.args.core (Fence) c.args.event at c.index_mut.result.now c.index_mut.ensures.value c.ops.result.now c.ops.ensures c.advance.new.self c.advance.ensures c.index-buffer.result.now c.index-buffer.ensures (c.is_empty.ensures.0 c.if-not-is_empty.false)));
+      reached = rw (c.push.ensures) (reached_exec _ _ _ _ _ _ c.args.core (Fence) c.args.event at c.self.invariant.reached (executed.fence_taken _ _ _ _ _ _ _ _ c.self.invariant.sound c.args.core (Fence) c.args.event at c.index_mut.result.now c.index_mut.ensures.value c.ops.result.now c.ops.ensures c.advance.new.self c.advance.ensures c.self.inside.fault c.index.result.now c.index.ensures (sym c.may_fence.ensures ∙ c.if-not-may_fence.false)));
       blank_is = c.self.invariant.blank_is;
     }
 
 pub returns-clause-ok : goal.returns-clause-ok
 returns-clause-ok c =
     let at = subst (λ (h : Configuration). IsAt h.program.cores h.state c.args.core (Fence) c.args.event) (sym c.self.view_is) c.requires in
-    rw (← c.self.view_is, c.push.ensures) (executed.fence_taken _ _ _ _ _ _ _ _ c.self.invariant.sound c.args.core (Fence) c.args.event at c.index_mut.result.now c.index_mut.ensures.value c.ops.result.now c.ops.ensures c.advance.new.self c.advance.ensures c.index-buffer.result.now c.index-buffer.ensures (c.is_empty.ensures.0 c.if-not-is_empty.false))
+    rw (← c.self.view_is, c.push.ensures) (executed.fence_taken _ _ _ _ _ _ _ _ c.self.invariant.sound c.args.core (Fence) c.args.event at c.index_mut.result.now c.index_mut.ensures.value c.ops.result.now c.ops.ensures c.advance.new.self c.advance.ensures c.self.inside.fault c.index.result.now c.index.ensures (sym c.may_fence.ensures ∙ c.if-not-may_fence.false))

@@ -1,4 +1,4 @@
-use Rattle.std.proofs.Common.{arith, sym, subst, ◌≤◌, ℕ, length, map}
+use Rattle.std.proofs.Common.{arith, sym, ap, ◌∙◌, subst, ◌≤◌, ℕ, length, map}
 use Rattle.std.proofs.lemmas.List.{length-map}
 use Rattle.litmus.specs.declared.limits.TheConstants.{MAX_ADDRESSES}
 use Rattle.machine.specs.BoundedItems.{BoundedItems}
@@ -13,7 +13,7 @@ use Rattle.machine.proofs.machine.Machine.finish.Goals as goal
 pub new-requires : goal.new-requires
 new-requires c =
     let p = c.self.inside.program in
-    let d = reached_data _ _ _ _ c.self.invariant.reached in
+    let d = reached_data _ _ _ _ _ c.self.invariant.reached in
     let end = subst (λ (h : Configuration). IsComplete h.program.cores h.state) (sym c.self.view_is) (c.is_complete.ensures.0 c.if-not-is_complete.false) in
     let addresses : length (map (λ (l : BoundedItems ℕ). l.items) c.self.inside.writes.items) ≤ MAX_ADDRESSES =
     omega (arith, length-map c.self.inside.writes.items (λ (l : BoundedItems ℕ). l.items), c.self.invariant.sound.writes_length, c.sound.ensures.lawful.few_names) in
@@ -21,7 +21,8 @@ new-requires c =
     (complete_recording p _ c.sound.ensures.lawful.few_cores c.sound.ensures.few addresses d end)
 
 pub returns-clause-tso : goal.returns-clause-tso
-returns-clause-tso c =
-    let g = reached_in_order _ _ _ _ c.self.invariant.reached in
+returns-clause-tso c = λ none.
     let end = c.is_complete.ensures.0 c.if-not-is_complete.false in
+    let fault_is = ap (λ (h : Configuration). h.fault) c.self.view_is ∙ none in
+    let g = reached_in_order _ _ _ _ _ fault_is c.self.invariant.reached in
     complete_is_tso _ _ end (subst (λ (h : Configuration). IsInOrder h.program.cores h.state) c.self.view_is g)

@@ -31,11 +31,11 @@ invariant_of-self c =
     let at = subst (λ (h : Configuration). IsAt h.program.cores h.state c.args.core (Ld c.args.addr) c.args.event) (sym c.self.view_is) c.requires in
     record {
       sound = executed.performed_sound _ _ _ _ _ _ _ _ c.self.invariant.sound c.args.core (Ld c.args.addr) c.args.event at c.index_mut-2.result.now c.index_mut-2.ensures.value c.ops.result.now c.ops.ensures c.advance.new.self c.advance.ensures _ (length-set c.self.inside.reads.items _ _) c.push.new.self c.push.ensures;
-      reached = rw (c.push.ensures) (reached_exec _ _ _ _ _ c.args.core (Ld c.args.addr) c.args.event at c.self.invariant.reached (executed.load_taken _ _ _ _ _ _ _ _ c.self.invariant.sound c.args.core (Ld c.args.addr) c.args.event at c.index_mut-2.result.now c.index_mut-2.ensures.value c.ops.result.now c.ops.ensures c.advance.new.self c.advance.ensures c.index.result.now c.index.ensures c.args.addr c.youngest-entry.result c.youngest-entry.ensures c.in-Ok.what (ap (forwarded_or_read c.youngest-entry.result) (sym c.read.ensures) ∙ sym c.in-Ok.ensures)));
+      reached = rw (c.push.ensures) (reached_exec _ _ _ _ _ _ c.args.core (Ld c.args.addr) c.args.event at c.self.invariant.reached (executed.load_taken _ _ _ _ _ _ _ _ c.self.invariant.sound c.args.core (Ld c.args.addr) c.args.event at c.index_mut-2.result.now c.index_mut-2.ensures.value c.ops.result.now c.ops.ensures c.advance.new.self c.advance.ensures c.self.inside.fault c.index.result.now c.index.ensures c.args.addr c.forwarded-entry.result c.forwarded-entry.ensures c.in-Ok.what (ap (forwarded_or_read c.forwarded-entry.result) (sym c.read.ensures) ∙ sym c.in-Ok.ensures)));
       blank_is = c.self.invariant.blank_is;
     }
 
 pub returns-clause-ok : goal.returns-clause-ok
 returns-clause-ok c =
     let at = subst (λ (h : Configuration). IsAt h.program.cores h.state c.args.core (Ld c.args.addr) c.args.event) (sym c.self.view_is) c.requires in
-    rw (← c.self.view_is, c.push.ensures) (executed.load_taken _ _ _ _ _ _ _ _ c.self.invariant.sound c.args.core (Ld c.args.addr) c.args.event at c.index_mut-2.result.now c.index_mut-2.ensures.value c.ops.result.now c.ops.ensures c.advance.new.self c.advance.ensures c.index.result.now c.index.ensures c.args.addr c.youngest-entry.result c.youngest-entry.ensures c.in-Ok.what (ap (forwarded_or_read c.youngest-entry.result) (sym c.read.ensures) ∙ sym c.in-Ok.ensures))
+    rw (← c.self.view_is, c.push.ensures) (executed.load_taken _ _ _ _ _ _ _ _ c.self.invariant.sound c.args.core (Ld c.args.addr) c.args.event at c.index_mut-2.result.now c.index_mut-2.ensures.value c.ops.result.now c.ops.ensures c.advance.new.self c.advance.ensures c.self.inside.fault c.index.result.now c.index.ensures c.args.addr c.forwarded-entry.result c.forwarded-entry.ensures c.in-Ok.what (ap (forwarded_or_read c.forwarded-entry.result) (sym c.read.ensures) ∙ sym c.in-Ok.ensures))
