@@ -1,6 +1,7 @@
 -- A trace stays one when a step is added, and a trace is a run.
 use Rattle.std.proofs.Common.{◌≡◌, ℕ, Result, Ok, Err, List, [], ◌∷◌, ◌++◌, refl, sym, ap, subst, ◌∙◌}
 use Rattle.litmus.specs.declared.op.Op.{Op}
+use Rattle.machine.specs.declared.fault.Fault.{Fault}
 use Rattle.machine.specs.declared.step.Step.{Step}
 use Rattle.machine.specs.declared.blocked.Blocked.{Blocked}
 use Rattle.machine.specs.State.{State}
@@ -24,29 +25,29 @@ bound_after : (r : Result State Blocked) (f : State → Result State Blocked) (s
 bound_after (Ok v) f s t h = h
 bound_after (Err b) f s t h = absurd (let clash : (let r : Result State Blocked = Err b in r) ≡ Ok t = h in cc (clash))
 
-module _ (p : List (List Op)) (capacity : ℕ) where
+module _ (p : List (List Op)) (capacity : ℕ) (fault : Fault) where
   -- steps that are taken, and then one more
-  all_more : (s t u : State) (steps : List Step) (step : Step) → all_taken p capacity s steps ≡ Ok t
-      → taken p capacity t step ≡ Ok u → all_taken p capacity s (steps ++ step ∷ []) ≡ Ok u
+  all_more : (s t u : State) (steps : List Step) (step : Step) → all_taken p capacity fault s steps ≡ Ok t
+      → taken p capacity fault t step ≡ Ok u → all_taken p capacity fault s (steps ++ step ∷ []) ≡ Ok u
   all_more s t u [] step led took =
       ap (λ (r : Result State Blocked). unless_blocked r (λ v. Ok v))
-      (ap (λ (v : State). taken p capacity v step) (same_state (Ok s) s t refl led) ∙ took)
+      (ap (λ (v : State). taken p capacity fault v step) (same_state (Ok s) s t refl led) ∙ took)
   all_more s t u (x ∷ xs) step led took =
-      bound_more (taken p capacity s x) (λ v. all_taken p capacity v xs) (λ v. all_taken p capacity v (xs ++ step ∷ [])) t u
+      bound_more (taken p capacity fault s x) (λ v. all_taken p capacity fault v xs) (λ v. all_taken p capacity fault v (xs ++ step ∷ [])) t u
       (λ v h. all_more v t u xs step h took) led
 
   -- steps that are taken are a run
-  pub taken_run : (s t : State) (steps : List Step) → all_taken p capacity s steps ≡ Ok t → run p capacity s steps ≡ t
+  pub taken_run : (s t : State) (steps : List Step) → all_taken p capacity fault s steps ≡ Ok t → run p capacity fault s steps ≡ t
   taken_run s t [] led = same_state (Ok s) s t refl led
   taken_run s t (x ∷ xs) led =
-      taken_run (after s (taken p capacity s x)) t xs
-      (bound_after (taken p capacity s x) (λ v. all_taken p capacity v xs) s t led)
+      taken_run (after s (taken p capacity fault s x)) t xs
+      (bound_after (taken p capacity fault s x) (λ v. all_taken p capacity fault v xs) s t led)
 
 -- the steps lead to old, and one step more leads to new
 pub replay_more : (old new : Configuration) (steps : List Step) (step : Step)
-    → all_taken old.program.cores old.capacity (begun old.program) steps ≡ Ok old.state
-    → taken old.program.cores old.capacity old.state step ≡ Ok new.state → new ≡ record old { state = new.state }
-    → all_taken new.program.cores new.capacity (begun new.program) (steps ++ step ∷ []) ≡ Ok new.state
+    → all_taken old.program.cores old.capacity old.fault (begun old.program) steps ≡ Ok old.state
+    → taken old.program.cores old.capacity old.fault old.state step ≡ Ok new.state → new ≡ record old { state = new.state }
+    → all_taken new.program.cores new.capacity new.fault (begun new.program) (steps ++ step ∷ []) ≡ Ok new.state
 replay_more old new steps step replay took rest =
-    ap (λ (h : Configuration). all_taken h.program.cores h.capacity (begun h.program) (steps ++ step ∷ [])) rest
-    ∙ all_more old.program.cores old.capacity (begun old.program) old.state new.state steps step replay took
+    ap (λ (h : Configuration). all_taken h.program.cores h.capacity h.fault (begun h.program) (steps ++ step ∷ [])) rest
+    ∙ all_more old.program.cores old.capacity old.fault (begun old.program) old.state new.state steps step replay took

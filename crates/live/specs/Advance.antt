@@ -18,5 +18,6 @@ step_answer t step (Err b) = Err (Blocked b)
 abbrev pub advance_answer : Trace → Step → Result Trace LiveError
 advance_answer t step =
     if nat_lt (length t.steps) t.limit
-    then step_answer t step (taken t.machine.program.cores t.machine.capacity t.machine.state step)
+    then step_answer t step
+    (taken t.machine.program.cores t.machine.capacity t.machine.fault t.machine.state step)
     else Err TraceFull

@@ -10,10 +10,11 @@ pub record Trace : Type 0 where
   pub steps : List Step
   pub limit : ℕ
 
--- from where the machine's program begins, each of the steps is taken, and they lead to the machine's state
+-- from where the machine's program begins, each of the steps is taken under the machine's fault, and they
+-- lead to the machine's state
 abbrev pub IsTrace : Trace → Type 0
 IsTrace t =
-    all_taken t.machine.program.cores t.machine.capacity (begun t.machine.program) t.steps
+    all_taken t.machine.program.cores t.machine.capacity t.machine.fault (begun t.machine.program) t.steps
     ≡ Ok t.machine.state
 
 -- the machine is complete, or has taken all steps that it may take

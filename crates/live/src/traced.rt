@@ -44,6 +44,7 @@ impl Traced {
       length,
     };
     ghost use Rattle.recorder.specs.Tso.{IsTsoOrder};
+    ghost use Rattle.machine.specs.declared.fault.Fault.TheVariants as fault;
     ghost use Rattle.machine.specs.Configuration.{recording_of, IsAtEnd};
     ghost use Rattle.machine.specs.Taken.{begun};
     ghost use Rattle.live.specs.Trace.{Trace, IsTrace, IsEnded};
@@ -99,8 +100,9 @@ impl Traced {
     pub fn sound(&self)
         ensures replay { IsTrace self.now }
         ensures within { length self.now.steps ≤ self.now.limit }
-        // Where it is complete, the order of what was performed is one that TSO allows.
-        ensures tso { IsAtEnd self.now.machine
+        // Where it has no fault and is complete, the order of what was performed is one that TSO
+        // allows.
+        ensures tso { self.now.machine.fault ≡ fault.None → IsAtEnd self.now.machine
             → IsTsoOrder (recording_of self.now.machine) self.now.machine.state.performed }
     {
         self.machine.program().sound();
