@@ -14,6 +14,7 @@ use Rattle.moesi.specs.Block.{Block, cell_of, invalid, has_copy, supplied}
 use Rattle.moesi.specs.Rows as row
 use Rattle.moesi.specs.State as moesi
 use Rattle.write_buffer.specs.declared.entry.Entry.{Entry}
+use Rattle.machine.specs.declared.fault.Fault.TheVariants as fault
 use Rattle.machine.specs.declared.step.Step.{Step}
 use Rattle.machine.specs.declared.step.Step.TheVariants.{Exec, Drain, GetS, GetM, Put}
 use Rattle.machine.specs.declared.blocked.Blocked.{Blocked}
@@ -27,43 +28,43 @@ use Rattle.replay.proofs.Going.{IsGoing, goes_further, before_more, before_all}
 
 -- the step is taken
 abbrev pub IsTaken : List (List Op) → ℕ → State → Step → Type 0
-IsTaken p capacity s step = (t : State) × (taken p capacity s step ≡ Ok t)
+IsTaken p capacity s step = (t : State) × (taken p capacity fault.None s step ≡ Ok t)
 
 -- each step of the list is taken: none is blocked
 abbrev pub AreTaken : List (List Op) → ℕ → State → List Step → Type 0
 AreTaken p capacity s [] = Unit {0}
 AreTaken p capacity s (step ∷ steps) =
-    IsTaken p capacity s step × AreTaken p capacity (after s (taken p capacity s step)) steps
+    IsTaken p capacity s step × AreTaken p capacity (after s (taken p capacity fault.None s step)) steps
 
 -- so says the machine's word for them
 pub all_of : (p : List (List Op)) (capacity : ℕ) (steps : List Step) (s t : State) → AreTaken p capacity s steps
-    → run p capacity s steps ≡ t → all_taken p capacity s steps ≡ Ok t
+    → run p capacity fault.None s steps ≡ t → all_taken p capacity fault.None s steps ≡ Ok t
 all_of p capacity [] s t are led = ap (λ (z : State). Ok z) led
 all_of p capacity (x ∷ xs) s t are led =
-    ap (λ (r : Result State Blocked). unless_blocked r (λ v. all_taken p capacity v xs)) are.0.1
-    ∙ subst (λ (r : Result State Blocked). all_taken p capacity (after s r) xs ≡ Ok t) are.0.1
-    (all_of p capacity xs (after s (taken p capacity s x)) t are.1 led)
+    ap (λ (r : Result State Blocked). unless_blocked r (λ v. all_taken p capacity fault.None v xs)) are.0.1
+    ∙ subst (λ (r : Result State Blocked). all_taken p capacity fault.None (after s r) xs ≡ Ok t) are.0.1
+    (all_of p capacity xs (after s (taken p capacity fault.None s x)) t are.1 led)
 
 -- the steps are all taken, and lead from s to t
 abbrev pub Goes : List (List Op) → ℕ → State → List Step → State → Type 0
-Goes p capacity s steps t = AreTaken p capacity s steps × (run p capacity s steps ≡ t)
+Goes p capacity s steps t = AreTaken p capacity s steps × (run p capacity fault.None s steps ≡ t)
 
 -- a step that is taken, before others
-pub goes_first : (p : List (List Op)) (capacity : ℕ) (s u t : State) (step : Step) (steps : List Step) → taken p capacity s step ≡ Ok u → Goes p capacity u steps t → Goes p capacity s (step ∷ steps) t
+pub goes_first : (p : List (List Op)) (capacity : ℕ) (s u t : State) (step : Step) (steps : List Step) → taken p capacity fault.None s step ≡ Ok u → Goes p capacity u steps t → Goes p capacity s (step ∷ steps) t
 goes_first p capacity s u t step steps took rest = (
   ((u, took), subst (λ (r : Result State Blocked). AreTaken p capacity (after s r) steps) (sym took) rest.0),
-  ap (λ (r : Result State Blocked). run p capacity (after s r) steps) took ∙ rest.1,
+  ap (λ (r : Result State Blocked). run p capacity fault.None (after s r) steps) took ∙ rest.1,
 )
 
 -- a single step
-pub goes_one : (p : List (List Op)) (capacity : ℕ) (s t : State) (step : Step) → taken p capacity s step ≡ Ok t → Goes p capacity s (step ∷ []) t
+pub goes_one : (p : List (List Op)) (capacity : ℕ) (s t : State) (step : Step) → taken p capacity fault.None s step ≡ Ok t → Goes p capacity s (step ∷ []) t
 goes_one p capacity s t step took = goes_first p capacity s t t step [] took (tt, refl)
 
 -- steps in two parts
 pub goes_on : (p : List (List Op)) (capacity : ℕ) (s t u : State) (xs ys : List Step) → Goes p capacity s xs t → Goes p capacity t ys u → Goes p capacity s (xs ++ ys) u
 goes_on p capacity s t u [] ys front back = subst (λ (z : State). Goes p capacity z ys u) (sym front.1) back
 goes_on p capacity s t u (x ∷ xs) ys front back =
-    let rest : Goes p capacity (after s (taken p capacity s x)) (xs ++ ys) u = goes_on p capacity (after s (taken p capacity s x)) t u xs ys (front.0.1, front.1) back in
+    let rest : Goes p capacity (after s (taken p capacity fault.None s x)) (xs ++ ys) u = goes_on p capacity (after s (taken p capacity fault.None s x)) t u xs ys (front.0.1, front.1) back in
     ((front.0.0, rest.0), rest.1)
 
 -- a guarded step that is taken had its guard
@@ -78,7 +79,7 @@ more_room k capacity larger r t h took =
     rw (lt-ltb k larger (omega (arith, h, ltb-true k capacity g.0))) g.1
 
 -- what is executed in small buffers is executed in larger ones
-exec_more : (capacity larger : ℕ) (s t : State) (c e : ℕ) (op : Op) → capacity ≤ larger → exec capacity s c e op ≡ Ok t → exec larger s c e op ≡ Ok t
+exec_more : (capacity larger : ℕ) (s t : State) (c e : ℕ) (op : Op) → capacity ≤ larger → exec capacity fault.None s c e op ≡ Ok t → exec larger fault.None s c e op ≡ Ok t
 exec_more capacity larger s t c e (St a v) h took = more_room (length (buffer_of s c)) capacity larger _ t h took
 exec_more capacity larger s t c e (Ld a) h took = took
 exec_more capacity larger s t c e Fence h took = took
@@ -86,7 +87,7 @@ exec_more capacity larger s t c e (Swap a v) h took = took
 exec_more capacity larger s t c e (Add a v) h took = took
 
 -- so is what comes next
-next_more : (p : List (List Op)) (capacity larger : ℕ) (s t : State) (c : ℕ) (o : Option Op) → capacity ≤ larger → exec_next p capacity s c o ≡ Ok t → exec_next p larger s c o ≡ Ok t
+next_more : (p : List (List Op)) (capacity larger : ℕ) (s t : State) (c : ℕ) (o : Option Op) → capacity ≤ larger → exec_next p capacity fault.None s c o ≡ Ok t → exec_next p larger fault.None s c o ≡ Ok t
 next_more p capacity larger s t c None h took = took
 next_more p capacity larger s t c (Some op) h took = exec_more capacity larger s t c (first_event p c + place_of s c) op h took
 
@@ -96,7 +97,7 @@ guard_more true r q t h took = h took
 guard_more false r q t h took = took
 
 -- a step that is taken with small buffers is taken with larger ones
-step_more : (p : List (List Op)) (capacity larger : ℕ) (s t : State) (step : Step) → capacity ≤ larger → taken p capacity s step ≡ Ok t → taken p larger s step ≡ Ok t
+step_more : (p : List (List Op)) (capacity larger : ℕ) (s t : State) (step : Step) → capacity ≤ larger → taken p capacity fault.None s step ≡ Ok t → taken p larger fault.None s step ≡ Ok t
 step_more p capacity larger s t (Exec c) h took =
     guard_more (nat_lt c (length p)) _ _ t (next_more p capacity larger s t c (slice_get (slice_index_or p c []) (place_of s c)) h) took
 step_more p capacity larger s t (Drain c) h took = took
@@ -108,7 +109,7 @@ step_more p capacity larger s t (Put c a) h took = took
 pub goes_more : (p : List (List Op)) (capacity larger : ℕ) → capacity ≤ larger → (steps : List Step) (s t : State) → Goes p capacity s steps t → Goes p larger s steps t
 goes_more p capacity larger h [] s t g = g
 goes_more p capacity larger h (step ∷ steps) s t g =
-    let took : taken p capacity s step ≡ Ok g.0.0.0 = g.0.0.1 in
+    let took : taken p capacity fault.None s step ≡ Ok g.0.0.0 = g.0.0.1 in
     let rest : Goes p capacity g.0.0.0 steps t = subst (λ (r : Result State Blocked). Goes p capacity (after s r) steps t) took (g.0.1, g.1) in
     goes_first p larger s g.0.0.0 t step steps (step_more p capacity larger s g.0.0.0 step h took) (goes_more p capacity larger h steps g.0.0.0 t rest)
 
@@ -129,7 +130,7 @@ is_at p s c core there = record {
 }
 
 -- the execution of a core's operation is a step
-pub at_taken : (p : List (List Op)) (capacity : ℕ) (s : State) (c : ℕ) (op : Op) (e : ℕ) → IsAt p s c op e → taken p capacity s (Exec c) ≡ exec capacity s c e op
+pub at_taken : (p : List (List Op)) (capacity : ℕ) (s : State) (c : ℕ) (op : Op) (e : ℕ) → IsAt p s c op e → taken p capacity fault.None s (Exec c) ≡ exec capacity fault.None s c e op
 at_taken p capacity s c op e at = rw (lt-ltb c (length p) at.core, at.operation, at.number) refl
 
 -- core c has executed j stores more
@@ -142,7 +143,7 @@ pub record HasStored (p : List (List Op)) (n capacity : ℕ) (s t : State) (c j 
 
 -- a core with room for all its stores executes one
 store_one : (p : List (List Op)) (n capacity : ℕ) (s : State) (c : ℕ) → IsGoing p n capacity s → c < length p → place_of s c < length (get_or p c []) → count_by is_st (get_or p c []) ≤ capacity
-    → is_st (get_or (get_or p c []) (place_of s c) Fence) ≡ true → (t : State) × (taken p capacity s (Exec c) ≡ Ok t) × HasStored p n capacity s t c 1
+    → is_st (get_or (get_or p c []) (place_of s c) Fence) ≡ true → (t : State) × (taken p capacity fault.None s (Exec c) ≡ Ok t) × HasStored p n capacity s t c 1
 store_one p n capacity s c f core there room store = go (store_is (get_or (get_or p c []) (place_of s c) Fence) store)
   where
     fewer : length (buffer_of s c) < capacity
@@ -158,12 +159,12 @@ store_one p n capacity s c f core there room store = go (store_is (get_or (get_o
     within : c < length s.places
     within = omega (arith, core, (f.on []).places)
 
-    go : (is : (a : ℕ) × (v : ℕ) × (get_or (get_or p c []) (place_of s c) Fence ≡ St a v)) → (t : State) × (taken p capacity s (Exec c) ≡ Ok t) × HasStored p n capacity s t c 1
+    go : (is : (a : ℕ) × (v : ℕ) × (get_or (get_or p c []) (place_of s c) Fence ≡ St a v)) → (t : State) × (taken p capacity fault.None s (Exec c) ≡ Ok t) × HasStored p n capacity s t c 1
     go (a, v, is) =
         let b : ℕ = first_event p c + place_of s c in
         let t : State = advanced (with_buffer s c (buffer_of s c ++ record { addr = a; value = v; event = b } ∷ [])) c in
-        let did : exec capacity s c b (St a v) ≡ Ok t = rw (lt-ltb (length (buffer_of s c)) capacity fewer) refl in
-        let took : taken p capacity s (Exec c) ≡ Ok t = at_taken p capacity s c (get_or (get_or p c []) (place_of s c) Fence) b (is_at p s c core there) ∙ (ap (exec capacity s c b) is ∙ did) in (
+        let did : exec capacity fault.None s c b (St a v) ≡ Ok t = rw (lt-ltb (length (buffer_of s c)) capacity fewer) refl in
+        let took : taken p capacity fault.None s (Exec c) ≡ Ok t = at_taken p capacity s c (get_or (get_or p c []) (place_of s c) Fence) b (is_at p s c core there) ∙ (ap (exec capacity fault.None s c b) is ∙ did) in (
           t,
           took,
           record {
@@ -231,7 +232,7 @@ module _ (p : List (List Op)) (n capacity : ℕ) (s : State) (f : IsGoing p n ca
           let u : Block = record { lines = slice_set (map row.invalidated b.lines) c (record { line = line.M; copy = supplied b }); memory = b.memory } in
           let caches : moesi.CacheState = record { cores = s.caches.cores; blocks = slice_set s.caches.blocks a u } in
           let made : moesi.get_m s.caches c a ≡ Ok caches = rw is refl in
-          let took : taken p capacity s (GetM c a) ≡ Ok (with_caches s caches) = rw (has_line p s c a core within, made) refl in (
+          let took : taken p capacity fault.None s (GetM c a) ≡ Ok (with_caches s caches) = rw (has_line p s c a core within, made) refl in (
             caches,
             (goes_one p capacity s (with_caches s caches) (GetM c a) took, goes_further p n capacity s (with_caches s caches) (GetM c a) f took, length-set s.caches.blocks a u),
             ap is_exclusive (line_new s.caches c a u within
@@ -252,7 +253,7 @@ module _ (p : List (List Op)) (n capacity : ℕ) (s : State) (f : IsGoing p n ca
           let u : Block = record { lines = slice_set (map row.shared b.lines) c y; memory = b.memory } in
           let caches : moesi.CacheState = record { cores = s.caches.cores; blocks = slice_set s.caches.blocks a u } in
           let made : moesi.get_s s.caches c a ≡ Ok caches = rw is refl in
-          let took : taken p capacity s (GetS c a) ≡ Ok (with_caches s caches) = rw (has_line p s c a core within, made) refl in
+          let took : taken p capacity fault.None s (GetS c a) ≡ Ok (with_caches s caches) = rw (has_line p s c a core within, made) refl in
           let valid : is_valid (moesi.line_of caches c a) ≡ true = ap is_valid (line_new s.caches c a u within
           ∙ ap (λ (z : Cell). z.line) (get_or-set_same (map row.shared b.lines) c y invalid (omega (arith, line_within, length-map b.lines row.shared)))) ∙ shared_valid (has_copy b) in (
             caches,

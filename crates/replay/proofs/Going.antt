@@ -11,6 +11,7 @@ use Rattle.recorder.specs.Event.{is_plain_store}
 use Rattle.recorder.specs.Order.{times}
 use Rattle.recorder.proofs.Orders.{times_nil, times_there, times_append}
 use Rattle.write_buffer.specs.declared.entry.Entry.{Entry}
+use Rattle.machine.specs.declared.fault.Fault.TheVariants as fault
 use Rattle.machine.specs.declared.step.Step.{Step}
 use Rattle.machine.specs.declared.blocked.Blocked.{Blocked}
 use Rattle.machine.specs.State.{State, buffer_of, opening}
@@ -21,15 +22,15 @@ use Rattle.replay.proofs.Made.{store_same}
 
 -- whatever steps go on from a state lead to one that is orderly
 pub record IsGoing (p : List (List Op)) (n capacity : ℕ) (s : State) : Type 0 where
-  pub on : (steps : List Step) → IsOrderly p n (run p capacity s steps)
+  pub on : (steps : List Step) → IsOrderly p n (run p capacity fault.None s steps)
 
 -- so it is at first
 pub begun_going : (p : List (List Op)) (n capacity : ℕ) → ((steps : List Step) → EveryStateIsOrderly p n capacity steps) → All (λ ops. All (IsWithin n) ops) p → IsGoing p n capacity (opening p n)
 begun_going p n capacity law fits = record { on = λ steps. law steps fits }
 
 -- and behind a step that is taken
-pub goes_further : (p : List (List Op)) (n capacity : ℕ) (s t : State) (step : Step) → IsGoing p n capacity s → taken p capacity s step ≡ Ok t → IsGoing p n capacity t
-goes_further p n capacity s t step f took = record { on = λ steps. subst (λ (r : Result State Blocked). IsOrderly p n (run p capacity (after s r) steps)) took (f.on (step ∷ steps)) }
+pub goes_further : (p : List (List Op)) (n capacity : ℕ) (s t : State) (step : Step) → IsGoing p n capacity s → taken p capacity fault.None s step ≡ Ok t → IsGoing p n capacity t
+goes_further p n capacity s t step f took = record { on = λ steps. subst (λ (r : Result State Blocked). IsOrderly p n (run p capacity fault.None (after s r) steps)) took (f.on (step ∷ steps)) }
 
 -- one operation more
 pub before_more : (i : ℕ) (ops : List Op) → i < length ops → count_by is_st (take (i + 1) ops) ≡ count_by is_st (take i ops) + cond (is_st (get_or ops i Fence)) 1 0

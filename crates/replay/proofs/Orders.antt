@@ -8,6 +8,7 @@ use Rattle.recorder.specs.declared.event.Event.TheVariants.{L, S, R, F}
 use Rattle.recorder.specs.Event.{is_plain_store}
 use Rattle.recorder.specs.Execution.{Execution, event_at, core_of}
 use Rattle.recorder.specs.Tso.{IsTsoOrder}
+use Rattle.machine.specs.declared.fault.Fault.TheVariants as fault
 use Rattle.machine.specs.declared.step.Step.{Step}
 use Rattle.machine.specs.declared.step.Step.TheVariants.{Exec}
 use Rattle.machine.specs.State.{State, place_of, first_event}
@@ -54,7 +55,7 @@ module _ (x : Execution) (m : List ℕ) (tso : IsTsoOrder x m) (n capacity : ℕ
 
   -- each event takes its turn
   event_turn : (s : State) (f : IsGoing (program_of x) n capacity s) (e : ℕ) (rest : List ℕ) (split : m ≡ s.performed ++ e ∷ rest)
-      → (t : State) × IsTurn (program_of x) n capacity s (turn (program_of x) capacity s (core_of x e) e (event_at x e)) e t
+      → (t : State) × IsTurn (program_of x) n capacity s (turn (program_of x) capacity fault.None s (core_of x e) e (event_at x e)) e t
   event_turn s f e rest split =
       let p : List (List Op) = program_of x in
       let c : ℕ = core_of x e in
@@ -69,10 +70,10 @@ module _ (x : Execution) (m : List ℕ) (tso : IsTsoOrder x m) (n capacity : ℕ
 
   -- the steps lead from s to t, which has performed the whole order
   pub record IsRun (s : State) (rest : List ℕ) (t : State) : Type 0 where
-    pub goes : Goes (program_of x) capacity s (order_steps x capacity s rest) t
+    pub goes : Goes (program_of x) capacity s (order_steps x capacity fault.None s rest) t
     pub fits : IsGoing (program_of x) n capacity t
     pub performed : t.performed ≡ m
-    pub few : length (order_steps x capacity s rest) + sum s.places ≤ sum t.places + 2 * length rest
+    pub few : length (order_steps x capacity fault.None s rest) + sum s.places ≤ sum t.places + 2 * length rest
 
   -- so does the order
   pub order_run : (rest : List ℕ) (s : State) → IsGoing (program_of x) n capacity s → m ≡ s.performed ++ rest → (t : State) × IsRun s rest t
@@ -81,9 +82,9 @@ module _ (x : Execution) (m : List ℕ) (tso : IsTsoOrder x m) (n capacity : ℕ
       let took = event_turn s f e rest split in
       let later : m ≡ took.0.performed ++ rest = split ∙ (sym (append_assoc s.performed (e ∷ []) rest) ∙ ap (λ (l : List ℕ). l ++ rest) (sym took.1.performed)) in
       let ran = order_run rest took.0 took.1.fits later in
-      let front : List Step = turn (program_of x) capacity s (core_of x e) e (event_at x e) in
-      let back : List Step = order_steps x capacity took.0 rest in
-      let same : front ++ back ≡ order_steps x capacity s (e ∷ rest) = ap (λ (z : State). front ++ order_steps x capacity z rest) (sym took.1.goes.1) in (
+      let front : List Step = turn (program_of x) capacity fault.None s (core_of x e) e (event_at x e) in
+      let back : List Step = order_steps x capacity fault.None took.0 rest in
+      let same : front ++ back ≡ order_steps x capacity fault.None s (e ∷ rest) = ap (λ (z : State). front ++ order_steps x capacity fault.None z rest) (sym took.1.goes.1) in (
         ran.0,
         record {
           goes = subst (λ (steps : List Step). Goes (program_of x) capacity s steps ran.0) same (goes_on (program_of x) capacity s took.0 ran.0 front back took.1.goes ran.1.goes);

@@ -18,6 +18,7 @@ use Rattle.recorder.specs.Recording.{IsRecording}
 use Rattle.recorder.specs.Tso.{IsTsoOrder, IsWellFormed}
 use Rattle.recorder.proofs.Orders.{times_here, times_append}
 use Rattle.write_buffer.specs.declared.entry.Entry.{Entry}
+use Rattle.machine.specs.declared.fault.Fault.TheVariants as fault
 use Rattle.machine.specs.declared.step.Step.{Step}
 use Rattle.machine.specs.Step.{taken, after, run, has}
 use Rattle.machine.specs.State.{State, place_of, buffer_of, first_event, opening, recorded, IsComplete}
@@ -135,7 +136,7 @@ line_within q s c a large there =
     (ltb-true c (length q.cores) both.0, omega (arith, ltb-true a (length s.caches.blocks) both.1, large))
 
 -- a step that is taken has a core and an address of the program
-step_within : (q : Parts) (capacity : ℕ) (s t : State) (step : Step) → length s.caches.blocks ≡ length q.names → taken q.cores capacity s step ≡ Ok t → IsStepOf q step
+step_within : (q : Parts) (capacity : ℕ) (s t : State) (step : Step) → length s.caches.blocks ≡ length q.names → taken q.cores capacity fault.None s step ≡ Ok t → IsStepOf q step
 step_within q capacity s t (Exec c) large took = ltb-true c (length q.cores) (guarded _ _ _ t took).0
 step_within q capacity s t (Drain c) large took = ltb-true c (length q.cores) (guarded _ _ _ t took).0
 step_within q capacity s t (GetS c a) large took = line_within q s c a large (guarded _ _ _ t took).0
@@ -151,10 +152,10 @@ steps_within q capacity (step ∷ steps) s f h =
     All-cons (IsStepOf q) step steps (step_within q capacity s h.0.0 step large h.0.1)
     (steps_within q capacity steps h.0.0 (goes_further q.cores (length q.names) capacity s h.0.0 step f h.0.1) rest)
 
--- what the machine's laws say of every run
+-- what the machine's laws say of every run without fault
 pub record Laws : Type 0 where
   pub tso : (p : List (List Op)) (n capacity : ℕ) (steps : List Step) → EveryRunIsTso p n capacity steps
-  pub well_formed : (p : List (List Op)) (n capacity : ℕ) (steps : List Step) → EveryRunIsWellFormed p n capacity steps
+  pub well_formed : (p : List (List Op)) (n capacity : ℕ) (steps : List Step) → EveryRunIsWellFormed p n capacity fault.None steps
   pub orderly : (p : List (List Op)) (n capacity : ℕ) (steps : List Step) → EveryStateIsOrderly p n capacity steps
 
 module _ (law : Laws) where
@@ -171,7 +172,7 @@ module _ (law : Laws) where
       let f : IsOrderly p n t = ran.1.fits.on [] in
       let goes : Goes p capacity (opening p n) steps t = goes_more p (most_stores x.cores) capacity room steps (opening p n) t ran.1.goes in
       let end : IsComplete p t = ended x m tso n t f ran.1.performed in
-      let there : IsComplete p (run p capacity (opening p n) steps) = subst (λ (z : State). IsComplete p z) (sym goes.1) end in
+      let there : IsComplete p (run p capacity fault.None (opening p n) steps) = subst (λ (z : State). IsComplete p z) (sym goes.1) end in
       let order : IsTsoOrder (recorded p t) t.performed = subst (λ (z : State). IsTsoOrder (recorded p z) z.performed) goes.1 (law.tso p n capacity steps fits there) in
       let well : IsWellFormed (recorded p t) = subst (λ (z : State). IsWellFormed (recorded p z)) goes.1 (law.well_formed p n capacity steps fits there) in
       let begins : Goes p capacity (opening p (length names)) steps t = subst (λ (k : ℕ). Goes p capacity (opening p k) steps t) (sym named) goes in

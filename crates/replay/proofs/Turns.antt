@@ -16,6 +16,7 @@ use Rattle.moesi.specs.State as moesi
 use Rattle.moesi.specs.Lines.{is_exclusive}
 use Rattle.write_buffer.specs.declared.entry.Entry.{Entry}
 use Rattle.write_buffer.specs.Buffer.{youngest}
+use Rattle.machine.specs.declared.fault.Fault.TheVariants as fault
 use Rattle.machine.specs.declared.step.Step.{Step}
 use Rattle.machine.specs.declared.step.Step.TheVariants.{Exec, Drain}
 use Rattle.machine.specs.declared.blocked.Blocked.TheVariants.{B4}
@@ -44,8 +45,8 @@ drained_state s caches c y ys = performed (written (with_buffer s c ys) caches y
 
 -- the oldest store goes to its line
 drain_taken : (p : List (List Op)) (capacity : ℕ) (s : State) (caches : moesi.CacheState) (c : ℕ) (y : Entry) (ys : List Entry) → c < length p → buffer_of s c ≡ y ∷ ys
-    → moesi.write s.caches c y.addr y.value y.event ≡ Ok caches → taken p capacity s (Drain c) ≡ Ok (drained_state s caches c y ys)
-drain_taken p capacity s caches c y ys core is wrote = rw (lt-ltb c (length p) core, is, wrote) refl
+    → moesi.write s.caches c y.addr y.value y.event ≡ Ok caches → taken p capacity fault.None s (Drain c) ≡ Ok (drained_state s caches c y ys)
+drain_taken p capacity s caches c y ys core is wrote = rw (lt-ltb c (length p) core, is, wrote, is) refl
 
 -- the steps lead from s to t, which has performed e more, and no more than two of them execute nothing
 pub record IsTurn (p : List (List Op)) (n capacity : ℕ) (s : State) (steps : List Step) (e : ℕ) (t : State) : Type 0 where
@@ -220,8 +221,8 @@ module _ (x : Execution) (m : List ℕ) (tso : IsTsoOrder x m) (n capacity : ℕ
 
     -- the core executes e, behind a transaction that left these caches
     executed : (caches : moesi.CacheState) (op : Op) (t : State) → IsGoing (program_of x) n capacity (with_caches s caches) → e ≡ first_event (program_of x) (core_of x e) + place_of s (core_of x e) → op_of (event_at x e) ≡ op
-        → exec capacity (with_caches s caches) (core_of x e) (first_event (program_of x) (core_of x e) + place_of s (core_of x e)) op ≡ Ok t
-        → (taken (program_of x) capacity (with_caches s caches) (Exec (core_of x e)) ≡ Ok t) × IsGoing (program_of x) n capacity t
+        → exec capacity fault.None (with_caches s caches) (core_of x e) (first_event (program_of x) (core_of x e) + place_of s (core_of x e)) op ≡ Ok t
+        → (taken (program_of x) capacity fault.None (with_caches s caches) (Exec (core_of x e)) ≡ Ok t) × IsGoing (program_of x) n capacity t
     executed caches op t fits next is did =
         let p : List (List Op) = program_of x in
         let u : State = with_caches s caches in
@@ -229,9 +230,9 @@ module _ (x : Execution) (m : List ℕ) (tso : IsTsoOrder x m) (n capacity : ℕ
         let inside : place_of s (core_of x e) < length (get_or p (core_of x e) []) = omega (arith, next, to) in
         let op_is : get_or (get_or p (core_of x e) []) (place_of s (core_of x e)) Fence ≡ op =
         (op_there (place_of s (core_of x e)) inside).0 ∙ (ap (λ (k : ℕ). op_of (event_at x k)) (sym next) ∙ is) in
-        let took : taken p capacity u (Exec (core_of x e)) ≡ Ok t =
+        let took : taken p capacity fault.None u (Exec (core_of x e)) ≡ Ok t =
         at_taken p capacity u (core_of x e) (get_or (get_or p (core_of x e) []) (place_of s (core_of x e)) Fence) b (is_at p u (core_of x e) core inside)
-        ∙ (ap (exec capacity u (core_of x e) b) op_is ∙ did) in
+        ∙ (ap (exec capacity fault.None u (core_of x e) b) op_is ∙ did) in
         (took, goes_further p n capacity u t (Exec (core_of x e)) fits took)
 
     -- what is performed is e
@@ -247,7 +248,7 @@ module _ (x : Execution) (m : List ℕ) (tso : IsTsoOrder x m) (n capacity : ℕ
           let next : e ≡ b = is_next ready (ap is_plain_store is) in
           let empty : buffer_of s c ≡ [] = is_emptied ready (ap is_plain_store is) (ap is_plain_load is) in
           let t : State = advanced (performed s b) c in
-          let did : exec capacity s c b Fence ≡ Ok t = rw empty refl in
+          let did : exec capacity fault.None s c b Fence ≡ Ok t = rw empty refl in
           let took = executed s.caches Fence t f next (ap op_of is) did in (
             t,
             record {
@@ -269,7 +270,7 @@ module _ (x : Execution) (m : List ℕ) (tso : IsTsoOrder x m) (n capacity : ℕ
           let u : State = with_caches s got.0 in
           let made = write_made got.0 c a (rmw_value u c (Swap a w) a) b got.2 in
           let t : State = advanced (performed (written (given u b (line_copy u c a)) made.0 a b) b) c in
-          let did : exec capacity u c b (Swap a w) ≡ Ok t = rw (empty, made.1) refl in
+          let did : exec capacity fault.None u c b (Swap a w) ≡ Ok t = rw (empty, made.1) refl in
           let took = executed got.0 (Swap a w) t got.1.1 next (ap op_of is) did in (
             t,
             record {
@@ -289,7 +290,7 @@ module _ (x : Execution) (m : List ℕ) (tso : IsTsoOrder x m) (n capacity : ℕ
           let got = fetch_read (program_of x) n capacity s f c a core (address_there (Ld a) (ap op_of is)) (youngest (buffer_of s c) a) in
           let u : State = with_caches s got.0 in
           let t : State = advanced (performed (given u b got.2.0) b) c in
-          let did : exec capacity u c b (Ld a) ≡ Ok t = ap (allowed B4 (λ what. advanced (performed (given u b what) b) c)) got.2.1 in
+          let did : exec capacity fault.None u c b (Ld a) ≡ Ok t = ap (allowed B4 (λ what. advanced (performed (given u b what) b) c)) got.2.1 in
           let took = executed got.0 (Ld a) t got.1.1 next (ap op_of is) did in (
             t,
             record {
@@ -316,7 +317,7 @@ module _ (x : Execution) (m : List ℕ) (tso : IsTsoOrder x m) (n capacity : ℕ
             let u : State = with_caches s got.0 in
             let made = write_made got.0 c y.addr y.value y.event (subst (λ (k : ℕ). is_exclusive (moesi.line_of got.0 c k) ≡ true) at got.2) in
             let t : State = drained_state u made.0 c y ys in
-            let took : taken p capacity u (Drain c) ≡ Ok t = drain_taken p capacity u made.0 c y ys core waits_first made.1 in (
+            let took : taken p capacity fault.None u (Drain c) ≡ Ok t = drain_taken p capacity u made.0 c y ys core waits_first made.1 in (
               t,
               record {
                 goes = goes_on p capacity s u t (get_to_write s c a) (Drain c ∷ []) got.1.0 (goes_one p capacity u t (Drain c) took);

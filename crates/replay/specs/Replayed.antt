@@ -4,6 +4,7 @@ use Rattle.litmus.specs.Parts.{Parts, IsWithin}
 use Rattle.recorder.specs.Execution.{Execution, event_count}
 use Rattle.recorder.specs.Recording.{IsRecording}
 use Rattle.recorder.specs.Tso.{IsTsoOrder}
+use Rattle.machine.specs.declared.fault.Fault.TheVariants as fault
 use Rattle.machine.specs.declared.step.Step.{Step}
 use Rattle.machine.specs.State.{State, recorded, IsComplete}
 use Rattle.machine.specs.Step.{run}
@@ -13,14 +14,14 @@ use Rattle.replay.specs.Stores.{most_stores}
 use Rattle.replay.specs.Steps.{replay_steps}
 use Rattle.replay.specs.Program.{named_program}
 
--- the state that steps from the beginning lead to
+-- the state that steps without fault lead to from the beginning
 abbrev pub led_to : Parts → ℕ → List Step → State
-led_to p capacity steps = run p.cores capacity (begun p) steps
+led_to p capacity steps = run p.cores capacity fault.None (begun p) steps
 
 -- the steps are the program's, at most three an event, are all taken, come to the end, perform this
 -- order, and make this recording
 pub record IsReplay (x : Execution) (m : List ℕ) (p : Parts) (capacity : ℕ) (steps : List Step) : Type 0 where
-  pub taken : all_taken p.cores capacity (begun p) steps ≡ Ok (led_to p capacity steps)
+  pub taken : all_taken p.cores capacity fault.None (begun p) steps ≡ Ok (led_to p capacity steps)
   pub complete : IsComplete p.cores (led_to p capacity steps)
   pub performed : (led_to p capacity steps).performed ≡ m
   pub recording : recorded p.cores (led_to p capacity steps) ≡ x

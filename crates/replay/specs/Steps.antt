@@ -22,6 +22,8 @@ use Rattle.write_buffer.specs.declared.entry.Entry.{Entry}
 use Rattle.write_buffer.specs.Buffer.{youngest}
 use Rattle.moesi.specs.Lines.{is_valid, is_exclusive}
 use Rattle.moesi.specs.State as moesi
+use Rattle.machine.specs.declared.fault.Fault.{Fault}
+use Rattle.machine.specs.declared.fault.Fault.TheVariants as fault
 use Rattle.machine.specs.declared.step.Step.{Step}
 use Rattle.machine.specs.declared.step.Step.TheVariants.{Exec, Drain, GetS, GetM}
 use Rattle.machine.specs.State.{State, place_of, buffer_of, first_event, opening}
@@ -58,18 +60,19 @@ executed_before e (R a r o w) = e
 executed_before e F = e
 
 -- the steps of event e of core c: the core executes what comes first, and performs it
-abbrev pub turn : List (List Op) → ℕ → State → ℕ → ℕ → Event → List Step
-turn p capacity s c e ev =
+abbrev pub turn : List (List Op) → ℕ → Fault → State → ℕ → ℕ → Event → List Step
+turn p capacity f s c e ev =
     let first = execute_to p s c (executed_before e ev) in
-    first ++ perform (run p capacity s first) c ev
+    first ++ perform (run p capacity f s first) c ev
 
 -- the steps of a list of events, each from the state that those before it lead to
-abbrev pub order_steps : Execution → ℕ → State → List ℕ → List Step
-order_steps x capacity s [] = []
-order_steps x capacity s (e ∷ m) =
-    let steps = turn (program_of x) capacity s (core_of x e) e (event_at x e) in
-    steps ++ order_steps x capacity (run (program_of x) capacity s steps) m
+abbrev pub order_steps : Execution → ℕ → Fault → State → List ℕ → List Step
+order_steps x capacity f s [] = []
+order_steps x capacity f s (e ∷ m) =
+    let steps = turn (program_of x) capacity f s (core_of x e) e (event_at x e) in
+    steps ++ order_steps x capacity f (run (program_of x) capacity f s steps) m
 
--- the steps that perform an order from the start, with the smallest buffers
+-- the steps that perform an order from the start, without fault and with the smallest buffers
 abbrev pub replay_steps : Execution → List ℕ → List Step
-replay_steps x m = order_steps x (most_stores x.cores) (opening (program_of x) (length x.write_lists)) m
+replay_steps x m =
+    order_steps x (most_stores x.cores) fault.None (opening (program_of x) (length x.write_lists)) m

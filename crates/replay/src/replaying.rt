@@ -119,7 +119,8 @@ impl Replay {
         requires addresses { (a : ℕ) → (read_address event ≡ Some a) ⊎ (written_address event ≡ Some a)
             → a < length self.old.machine.program.names }
         ensures { OnOk result (self.new ≡ with_steps self.old
-            (turn self.old.machine.program.cores self.old.machine.capacity self.old.machine.state core number event)) }
+            (turn self.old.machine.program.cores self.old.machine.capacity self.old.machine.fault
+            self.old.machine.state core number event)) }
     {
         self.execute_to(core, executed_before(number, event))?;
         self.perform(core, event)

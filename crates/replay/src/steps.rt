@@ -31,7 +31,7 @@ fn steps_of(
     requires names { length machine.program.names ≡ length recording.now.write_lists }
     requires events { (e : ℕ) → 0 < times order.now e → e < event_count recording.now }
     ensures steps { IfOk result (λ r. r.steps
-        ≡ order_steps recording.now machine.capacity machine.state order.now) }
+        ≡ order_steps recording.now machine.capacity machine.fault machine.state order.now) }
     ensures program { IfOk result (λ r. r.machine.program ≡ machine.program) }
 {
     recording.sound();

@@ -1,6 +1,7 @@
 use Rattle.std.proofs.Common.{◌≡◌, ◌∙◌, ℕ, List, ap, sym, subst, length}
 use Rattle.litmus.specs.Parts.{Parts}
 use Rattle.recorder.specs.Execution.{Execution}
+use Rattle.machine.specs.declared.fault.Fault.TheVariants as fault
 use Rattle.machine.specs.declared.step.Step.{Step}
 use Rattle.machine.specs.State.{opening}
 use Rattle.machine.specs.Configuration.{Configuration}
@@ -23,10 +24,10 @@ returns-clause-steps c =
     let m : List ℕ = c.args.order.now in
     ap (λ (r : Replaying). r.steps) c.replay.view_is
     ∙ (c.in_ok-replay.ensures.steps
-    ∙ (ap (λ (h : Configuration). order_steps x h.capacity h.state m) c.in_ok-machine.ensures
-    ∙ (ap (λ (k : ℕ). order_steps x k (opening c.in_ok-program.program.cores (length c.in_ok-program.program.names)) m) c.most_stores.ensures
-    ∙ (ap (λ (p : Parts). order_steps x (most_stores x.cores) (opening p.cores (length p.names)) m) c.in_ok-program.ensures
-    ∙ ap (λ (n : ℕ). order_steps x (most_stores x.cores) (opening (program_of x) n) m) (names_count (length x.write_lists))))))
+    ∙ (ap (λ (h : Configuration). order_steps x h.capacity h.fault h.state m) c.in_ok-machine.ensures
+    ∙ (ap (λ (k : ℕ). order_steps x k fault.None (opening c.in_ok-program.program.cores (length c.in_ok-program.program.names)) m) c.most_stores.ensures
+    ∙ (ap (λ (p : Parts). order_steps x (most_stores x.cores) fault.None (opening p.cores (length p.names)) m) c.in_ok-program.ensures
+    ∙ ap (λ (n : ℕ). order_steps x (most_stores x.cores) fault.None (opening (program_of x) n) m) (names_count (length x.write_lists))))))
 
 pub returns-clause-replay : goal.returns-clause-replay
 returns-clause-replay c = λ capacity room.

@@ -36,13 +36,13 @@ loop-number-preserved c =
     let i : ℕ = c.loop-number.number-index in
     let m : List ℕ = c.args.order.now in
     let e : ℕ = get_or m i 0 in
-    let took : new ≡ with_steps old (turn old.machine.program.cores old.machine.capacity old.machine.state (core_of x e) e (event_at x e)) =
+    let took : new ≡ with_steps old (turn old.machine.program.cores old.machine.capacity old.machine.fault old.machine.state (core_of x e) e (event_at x e)) =
     c.in_ok-turn.ensures
-    ∙ (ap (λ (k : ℕ). with_steps old (turn old.machine.program.cores old.machine.capacity old.machine.state k e c.in-Some.placed.1.now)) c.in-Some.ensures.1
-    ∙ ap (λ (ev : Event). with_steps old (turn old.machine.program.cores old.machine.capacity old.machine.state (core_of x e) e ev)) c.in-Some.ensures.2) in
+    ∙ (ap (λ (k : ℕ). with_steps old (turn old.machine.program.cores old.machine.capacity old.machine.fault old.machine.state k e c.in-Some.placed.1.now)) c.in-Some.ensures.1
+    ∙ ap (λ (ev : Event). with_steps old (turn old.machine.program.cores old.machine.capacity old.machine.fault old.machine.state (core_of x e) e ev)) c.in-Some.ensures.2) in
     let split : drop i m ≡ e ∷ drop (i + 1) m = drop-cons m i 0 c.loop-number-test.true ∙ ap (λ (k : ℕ). e ∷ drop k m) (let next : suc i ≡ i + 1 = omega arith in next) in
     record {
       machine = order_machine x c.args.machine old new e c.loop-number.invariant.machine c.requires.cores took;
-      steps = order_more x c.args.machine old new e c.loop-number.invariant.machine c.requires.cores took (drop (i + 1) m) (order_steps x c.args.machine.capacity c.args.machine.state m)
-          (subst (λ (l : List ℕ). old.steps ++ order_steps x c.args.machine.capacity old.machine.state l ≡ order_steps x c.args.machine.capacity c.args.machine.state m) split c.loop-number.invariant.steps);
+      steps = order_more x c.args.machine old new e c.loop-number.invariant.machine c.requires.cores took (drop (i + 1) m) (order_steps x c.args.machine.capacity c.args.machine.fault c.args.machine.state m)
+          (subst (λ (l : List ℕ). old.steps ++ order_steps x c.args.machine.capacity c.args.machine.fault old.machine.state l ≡ order_steps x c.args.machine.capacity c.args.machine.fault c.args.machine.state m) split c.loop-number.invariant.steps);
     }
