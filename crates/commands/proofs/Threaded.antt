@@ -4,6 +4,8 @@ use Rattle.std.specs.Prelude.{string_bytes}
 use Rattle.command_line.specs.declared.options.LiveOptions.{LiveOptions}
 use Rattle.litmus.specs.Parts.{Parts}
 use Rattle.litmus.specs.Text.{reading}
+use Rattle.machine.specs.declared.fault.Fault.{Fault}
+use Rattle.machine.specs.declared.fault.Fault.TheVariants.{None}
 use Rattle.machine.specs.State.{IsComplete}
 use Rattle.machine.specs.Taken.{all_taken, begun}
 use Rattle.machine.specs.Configuration.{Configuration}
@@ -18,9 +20,10 @@ pub live_answer : (inputs : List ℕ → Option (List ℕ)) (o : LiveOptions) (t
     → AreBytesOf inputs (string_bytes o.program) text → reading text ≡ Ok program
     → IsGiven program o.buffer o.limit t → IsEnded t → IsTrace t → machine ≡ t.machine → IsRunAnswer machine.program machine.state answer → IsLive inputs o answer
 live_answer inputs o text program t machine answer bytes read given ended replay same is =
-    let taken : all_taken program.cores o.buffer (begun program) t.steps ≡ Ok t.machine.state =
-    subst (λ (n : ℕ). all_taken program.cores n (begun program) t.steps ≡ Ok t.machine.state) given.capacity_is
-    (subst (λ (q : Parts). all_taken q.cores t.machine.capacity (begun q) t.steps ≡ Ok t.machine.state) given.program_is replay) in
+    let taken : all_taken program.cores o.buffer None (begun program) t.steps ≡ Ok t.machine.state =
+    subst (λ (f : Fault). all_taken program.cores o.buffer f (begun program) t.steps ≡ Ok t.machine.state) given.fault_is
+    (subst (λ (n : ℕ). all_taken program.cores n t.machine.fault (begun program) t.steps ≡ Ok t.machine.state) given.capacity_is
+    (subst (λ (q : Parts). all_taken q.cores t.machine.capacity t.machine.fault (begun q) t.steps ≡ Ok t.machine.state) given.program_is replay)) in
     let here : IsRunAnswer t.machine.program t.machine.state answer = subst (λ (h : Configuration). IsRunAnswer h.program h.state answer) same is in
     record {
       program_text = text;

@@ -13,14 +13,23 @@ use Rattle.commands.specs.declared.answer.Stop.{Stop}
 use Rattle.commands.specs.declared.answer.Stop.TheVariants.{Refused, Fault}
 use Rattle.commands.specs.declared.answer.TheConstants.{DONE, REFUSED}
 use Rattle.commands.specs.declared.fault.CommandFault.{CommandFault}
-use Rattle.commands.specs.declared.fault.CommandFault.TheVariants.{CommandLine, NoThread, Stranger,
-    WriteFailed}
+use Rattle.commands.specs.declared.fault.CommandFault.TheVariants.{
+  CommandLine,
+  NoThread,
+  Stranger,
+  WriteFailed,
+}
 use Rattle.commands.specs.declared.fault.CommandFault.TheVariants as fault
 use Rattle.command_line.specs.declared.options.Options.{Options}
 use Rattle.command_line.specs.declared.options.Options.TheVariants.{Run, Judge, Live, Replay}
 use Rattle.command_line.specs.declared.options.OptionFault.{OptionFault}
-use Rattle.command_line.specs.declared.options.OptionFault.TheVariants.{Clap, Limit, Buffer, NoValue,
-    OutOfMemory}
+use Rattle.command_line.specs.declared.options.OptionFault.TheVariants.{
+  Clap,
+  Limit,
+  Buffer,
+  NoValue,
+  OutOfMemory,
+}
 use Rattle.command_line.specs.Commands.{command_of}
 use Rattle.command_line.specs.declared.options.LiveOptions.{LiveOptions}
 use Rattle.command_line.specs.declared.options.RunOptions.{RunOptions}

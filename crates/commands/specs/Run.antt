@@ -1,6 +1,20 @@
 -- What a script makes of a program.
-use Rattle.std.specs.Prelude.{◌≡◌, ◌≤◌, ◌+◌, ◌⊎◌, ◌++◌, ◌∷◌, [], ℕ, List, Option, Ok, length, codes,
-    string_bytes}
+use Rattle.std.specs.Prelude.{
+  ◌≡◌,
+  ◌≤◌,
+  ◌+◌,
+  ◌⊎◌,
+  ◌++◌,
+  ◌∷◌,
+  [],
+  ℕ,
+  List,
+  Option,
+  Ok,
+  length,
+  codes,
+  string_bytes,
+}
 use Rattle.command_line.specs.declared.options.LiveOptions.{LiveOptions}
 use Rattle.command_line.specs.declared.options.RunOptions.{RunOptions}
 use Rattle.litmus.specs.Parts.{Parts}
@@ -8,6 +22,7 @@ use Rattle.litmus.specs.Text.{reading}
 use Rattle.recorder.specs.Execution.{Execution}
 use Rattle.recorder.specs.Text.{recording_text}
 use Rattle.recorder.specs.Tso.{IsTsoOrder}
+use Rattle.machine.specs.declared.fault.Fault.TheVariants as fault
 use Rattle.machine.specs.declared.step.Step.{Step}
 use Rattle.machine.specs.State.{State, IsComplete, recorded}
 use Rattle.machine.specs.Step.{after, run, taken}
@@ -20,9 +35,9 @@ use Rattle.commands.specs.declared.answer.Answer.{Answer}
 use Rattle.commands.specs.declared.answer.TheConstants.{DONE, UNFINISHED}
 use Rattle.commands.specs.Inputs.{AreBytesOf}
 
--- the state of a program after a script, of which the steps that are blocked are skipped
+-- the state of a program without fault after a script, of which the steps that are blocked are skipped
 abbrev pub state_after : Parts → ℕ → List Step → State
-state_after p capacity script = run p.cores capacity (begun p) script
+state_after p capacity script = run p.cores capacity fault.None (begun p) script
 
 -- a recording and the least order that TSO allows for it
 pub record IsOrderedAnswer (x : Execution) (answer : Answer) : Type 0 where
@@ -60,14 +75,15 @@ pub record IsLive (inputs : List ℕ → Option (List ℕ)) (o : LiveOptions) (a
   pub read : reading program_text ≡ Ok program
   pub steps : List Step
   pub state : State
-  pub taken : all_taken program.cores o.buffer (begun program) steps ≡ Ok state
+  pub taken : all_taken program.cores o.buffer fault.None (begun program) steps ≡ Ok state
   pub ended : IsComplete program.cores state ⊎ (length steps ≡ o.limit)
   pub answered : IsRunAnswer program state answer
 
 -- the machine's state after one step more
 abbrev pub state_with : Trace → Step → State
 state_with t step =
-    after t.machine.state (taken t.machine.program.cores t.machine.capacity t.machine.state step)
+    after t.machine.state
+    (taken t.machine.program.cores t.machine.capacity t.machine.fault t.machine.state step)
 
 -- one step more, if the machine doesn't block it
 pub record IsAdvance (old new : Trace) (step : Step) : Type 0 where

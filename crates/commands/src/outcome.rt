@@ -40,8 +40,10 @@ fn stepped(
     Ok(traced.into_machine())
 }
 
-/// The line of the recording of a complete machine and the verdict on it, or that it is unfinished.
+/// The line of the recording of a complete machine without fault and the verdict on it, or that it
+/// is unfinished.
 pub fn finished(alloc: Global, machine: Machine) -> Result<Answer, OutOfMemory>
+    requires { machine.fault ≡ Fault.None }
     ensures { IfOk result (IsRunAnswer machine.program machine.state) }
 {
     match machine.finish() {

@@ -22,5 +22,5 @@ returns c =
 pub returns-in-Ok : goal.returns-in-Ok
 returns-in-Ok c =
     let recording = c.in-Ok.ensures.recording in
-    IfOk-weaker c.verdict_behind.result _ _ (λ answer found. run_answer c.args.machine.program c.args.machine.state c.in_ok-text-in-Ok.text.items answer c.in-Ok.ensures.complete c.in-Ok.ensures.tso
+    IfOk-weaker c.verdict_behind.result _ _ (λ answer found. run_answer c.args.machine.program c.args.machine.state c.in_ok-text-in-Ok.text.items answer c.in-Ok.ensures.complete (c.in-Ok.ensures.tso c.requires)
     (c.in_ok-text-in-Ok.ensures.text ∙ ap recording_text recording) (subst (λ (x : Execution). IsVerdictAnswer x c.in_ok-text-in-Ok.text.items answer) recording found)) c.verdict_behind.ensures

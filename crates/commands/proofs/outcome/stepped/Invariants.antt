@@ -8,5 +8,5 @@ invariant-loop-step l = let machine = l.traced.machine in let first = l.initial.
   rest : machine ≡ record first { state = machine.state };
   limit : l.traced.limit ≡ l.initial.traced.limit;
   trace : length l.traced.steps ≤ l.step-index;
-  state : run first.program.cores first.capacity machine.state (drop l.step-index l.steps) ≡ run first.program.cores first.capacity first.state l.steps;
+  state : run first.program.cores first.capacity first.fault machine.state (drop l.step-index l.steps) ≡ run first.program.cores first.capacity first.fault first.state l.steps;
 }
