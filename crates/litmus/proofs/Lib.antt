@@ -11,3 +11,6 @@ pub mod OneText
 pub mod Again
 pub mod Parsing
 pub mod Soundness
+pub mod AddressNames
+pub mod Drawn
+pub mod NextWords

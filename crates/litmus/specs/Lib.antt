@@ -8,3 +8,6 @@ pub mod Reading
 pub mod Text
 pub mod Spelling
 pub mod Built
+pub mod AddressNames
+pub mod Shapes
+pub mod Random

@@ -38,13 +38,39 @@ pub struct Builder {
 }
 
 impl Builder {
-    ghost use Rattle.std.specs.Prelude.{◌≡◌, ◌≤◌, ◌<◌, ◌^◌, ℕ, Err, Ok, None, Result, OnOk, IfOk, IfErr,
-        length, nat_lt};
+    ghost use Rattle.std.specs.Prelude.{
+      ◌≡◌,
+      ◌≤◌,
+      ◌<◌,
+      ◌^◌,
+      ℕ,
+      Err,
+      Ok,
+      None,
+      Result,
+      OnOk,
+      IfOk,
+      IfErr,
+      length,
+      nat_lt,
+    };
     ghost use Rattle.litmus.specs.Parts.{Parts, op_count, addr_of};
     ghost use Rattle.litmus.specs.declared.fault.LineFault.{LineFault};
     ghost use Rattle.litmus.specs.declared.line_error.LineError.TheVariants.{OutOfMemory};
-    ghost use Rattle.litmus.specs.Steps.{empty, step, core_step, fence_step, load_step, write_step, op_fault,
-        at_name, names_with, name_number, with_op, write_op};
+    ghost use Rattle.litmus.specs.Steps.{
+      empty,
+      step,
+      core_step,
+      fence_step,
+      load_step,
+      write_step,
+      op_fault,
+      at_name,
+      names_with,
+      name_number,
+      with_op,
+      write_op,
+    };
     ghost use Rattle.litmus.specs.Numbers.{IsValue};
     ghost use Rattle.litmus.specs.Reading.{AnswersLine, seen_as};
     ghost use Rattle.litmus.specs.declared.line.Write.{Write};
@@ -67,7 +93,7 @@ impl Builder {
         if MAX_CORES <= self.cores.len() {
             return Err(LitmusError::AtLine(LineFault::L2, number));
         }
-        self.cores.push(Ops::new(alloc))?;
+        self.add_core(alloc)?;
         Ok(())
     }
 
@@ -90,8 +116,7 @@ impl Builder {
         ensures err { IfErr result (λ e. e ≡ OutOfMemory) }
         ensures names { self.new.names ≡ self.old.names }
     {
-        let last = self.cores.len() - 1;
-        self.cores[last].push(op)?;
+        self.add(op)?;
         Ok(())
     }
 

@@ -12,8 +12,11 @@ pub const MAX_ADDRESSES: usize = 16;
 /// The most stores that wait in a store buffer.
 pub const MAX_CAPACITY: usize = 256;
 
-/// The most steps of a script, and of a trace.
+/// The most steps of a script, and of a trace, and the most attempts of a random run.
 pub const MAX_STEPS: usize = 1_000_000;
+
+/// The most trials of a campaign.
+pub const MAX_TRIALS: usize = 65_536;
 
 /// The most workers that judge a recording together.
 pub const MAX_WORKERS: usize = 32;

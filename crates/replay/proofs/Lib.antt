@@ -6,6 +6,5 @@ pub mod Turns
 pub mod Orders
 pub mod Replayed
 pub mod Replays
-pub mod AddressNames
 pub mod FirstUse
 pub mod NamedProgram

@@ -7,7 +7,6 @@ use Rattle.litmus.specs.declared.limits.TheConstants.{MAX_ADDRESSES}
 use Rattle.litmus.specs.declared.name.Name.{Name}
 use Rattle.litmus.specs.declared.op.Op.{Op}
 use Rattle.litmus.specs.Parts.{Small, IsProgram, use_ops, use_cores}
-use Rattle.litmus.specs.Steps.{names_with}
 use Rattle.recorder.specs.declared.event.Event.{Event}
 use Rattle.recorder.specs.Event.{is_plain_store}
 use Rattle.recorder.specs.Execution.{Execution}
@@ -15,12 +14,13 @@ use Rattle.recorder.specs.Recording.{IsRecording}
 use Rattle.replay.specs.Program.{op_of, program_of}
 use Rattle.replay.specs.Stores.{most_stores}
 use Rattle.replay.specs.Numbered.{IsNumberedByFirstUse}
-use Rattle.replay.specs.Program.{address_name, address_names, named_program}
+use Rattle.litmus.specs.AddressNames.{address_names}
+use Rattle.replay.specs.Program.{named_program}
 use Rattle.machine.proofs.Static.{placed_total}
 use Rattle.replay.proofs.Made.{count_same}
 use Rattle.std.proofs.lemmas.Option.{same_Some}
 use Rattle.replay.proofs.FirstUse.{program_numbered, numbered_by_program}
-use Rattle.replay.proofs.AddressNames.{name_new, names_lawful, names_distinct, names_count}
+use Rattle.litmus.proofs.AddressNames.{names_lawful, names_distinct, names_count}
 
 -- the names and the operations of a recording are a program
 pub named_is_program : (x : Execution) → IsRecording x → IsNumberedByFirstUse x → AllByRecursion (AllByRecursion Small) (program_of x) → IsProgram (named_program x)
@@ -36,13 +36,6 @@ named_is_program x r numbered small =
       distinct = names_distinct (length x.write_lists) (omega (arith, limit, r.within.few_addresses));
       numbered = program_numbered x numbered r.within.addresses ∙ ap Some (sym count);
     }
-
--- one name more
-pub names_more : (n : ℕ) (old new : List Name) (name : Name) → n < 10 ^ 7 → old ≡ address_names n → name ≡ address_name n → new ≡ names_with old name → new ≡ address_names (n + 1)
-names_more n old new name small so_far this with_it =
-    let whole : names_with (address_names n) (address_name n) ≡ address_names n ++ address_name n ∷ [] = rw (name_new n small) refl in
-    with_it ∙ (ap (λ (l : List Name). names_with l name) so_far ∙ (ap (λ (m : Name). names_with (address_names n) m) this
-    ∙ (whole ∙ ap address_names (let e : suc n ≡ n + 1 = omega arith in e))))
 
 -- a core has room for one store at least
 most_least : (cores : List (List Event)) → 1 ≤ most_stores cores

@@ -2,7 +2,6 @@
 #![tactic(auto)]
 
 mod law;
-mod names;
 mod numbered;
 mod operations;
 mod program;

@@ -4,9 +4,8 @@ ghost use Rattle.std.specs.Prelude.{◌≡◌, IfOk};
 ghost use Rattle.replay.specs.Numbered.{IsNumberedByFirstUse};
 ghost use Rattle.replay.specs.Program.{named_program};
 
-use crate::names::address_names;
 use crate::operations::cores_of;
-use litmus::{OutOfMemory, Program};
+use litmus::{OutOfMemory, Program, address_names};
 use recorder::Recording;
 use std::alloc::Global;
 

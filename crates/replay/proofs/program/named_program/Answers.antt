@@ -4,7 +4,7 @@ use Rattle.litmus.specs.declared.name.Name.{Name}
 use Rattle.litmus.specs.declared.op.Op.{Op}
 use Rattle.litmus.specs.Parts.{Small, IsProgram, parts_of}
 use Rattle.replay.specs.Program.{program_of}
-use Rattle.replay.specs.Program.{address_names}
+use Rattle.litmus.specs.AddressNames.{address_names}
 use Rattle.replay.proofs.NamedProgram.{named_is_program}
 use Rattle.replay.proofs.program.named_program.Goals as goal
 

@@ -1,15 +1,18 @@
-//! The names of addresses.
+//! The names of addresses that no text names.
 
 ghost use Rattle.std.specs.Prelude.{◌≡◌, ◌≤◌, IfOk};
-ghost use Rattle.replay.specs.Program.{address_name, address_names};
+ghost use Rattle.litmus.specs.AddressNames.{address_name, address_names};
 
+use crate::ids::Addr;
+use crate::limits::MAX_ADDRESSES;
+use crate::memory::OutOfMemory;
+use crate::name::Name;
 use indexmap::IndexSet;
 use itoa::Buffer;
-use litmus::{Addr, MAX_ADDRESSES, Name, OutOfMemory};
 use std::alloc::Global;
 
 /// The name of an address: the letter a, and its number.
-fn address_name(alloc: Global, number: Addr) -> Result<Name, OutOfMemory>
+pub(crate) fn address_name(alloc: Global, number: Addr) -> Result<Name, OutOfMemory>
     ensures { IfOk result (λ name. name ≡ address_name number) }
 {
     let mut buffer = Buffer::new();
@@ -22,8 +25,8 @@ fn address_name(alloc: Global, number: Addr) -> Result<Name, OutOfMemory>
     }
 }
 
-/// The names of so many addresses.
-pub(crate) fn address_names(alloc: Global, count: usize) -> Result<IndexSet<Name>, OutOfMemory>
+/// The names of so many addresses: the letter a, and their numbers from 0.
+pub fn address_names(alloc: Global, count: usize) -> Result<IndexSet<Name>, OutOfMemory>
     requires { count ≤ MAX_ADDRESSES }
     ensures { IfOk result (λ names. names.keys ≡ address_names count) }
 {

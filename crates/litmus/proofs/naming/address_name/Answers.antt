@@ -1,8 +1,8 @@
 use Rattle.std.proofs.Common.{◌≡◌, ◌∙◌, ◌++◌, ◌∷◌, [], ℕ, List, Some, None, ap, sym, arith, codes, decimal}
 use Rattle.litmus.specs.Names.{name_of}
-use Rattle.replay.specs.Program.{address_name}
-use Rattle.replay.proofs.AddressNames.{name_is, some_name}
-use Rattle.replay.proofs.names.address_name.Goals as goal
+use Rattle.litmus.specs.AddressNames.{address_name}
+use Rattle.litmus.proofs.AddressNames.{name_is, some_name}
+use Rattle.litmus.proofs.naming.address_name.Goals as goal
 
 pub unreachable-requires : goal.unreachable-requires
 unreachable-requires c =

@@ -1,6 +1,6 @@
 use Rattle.std.proofs.Common.{◌≡◌}
-use Rattle.replay.specs.Program.{address_names}
-use Rattle.replay.proofs.names.address_names.Given as goal
+use Rattle.litmus.specs.AddressNames.{address_names}
+use Rattle.litmus.proofs.naming.address_names.Given as goal
 
 abbrev pub invariant-loop-number : goal.invariant-loop-number
 invariant-loop-number l = l.names.keys ≡ address_names l.number

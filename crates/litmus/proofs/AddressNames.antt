@@ -1,5 +1,5 @@
 -- The names of addresses are lawful, and differ.
-use Rattle.std.proofs.Common.{◌≡◌, ◌<◌, ◌≤◌, ◌^◌, ◌&&◌, ◌||◌, nat_lt, nat_le, ℕ, zero, suc, Bool, true, false, inl, inr, Some, List, [], ◌∷◌, ◌++◌, length, drop, codes, decimal, arith, refl, sym, ap, ◌∙◌, lt-ltb, le-leb, length-append}
+use Rattle.std.proofs.Common.{◌≡◌, ◌<◌, ◌≤◌, ◌+◌, ◌^◌, ◌&&◌, ◌||◌, nat_lt, nat_le, ℕ, zero, suc, Bool, true, false, inl, inr, Some, List, [], ◌∷◌, ◌++◌, length, drop, codes, decimal, arith, refl, sym, ap, ◌∙◌, lt-ltb, le-leb, length-append}
 use Rattle.std.proofs.lemmas.Bool.{cases_Bool, and_from}
 use Rattle.std.specs.List.{list_all, list_any, IsDistinct}
 use Rattle.std.proofs.lemmas.Fmt.{digits_decimal, length-decimal-le}
@@ -7,11 +7,12 @@ use Rattle.std.proofs.lemmas.Map.Keys.{IsDistinct-push}
 use Rattle.litmus.specs.declared.name.Name.{Name}
 use Rattle.litmus.specs.Names.{AreLawful, is_letter, is_letter_or_digit, is_name, name_eq, name_of, name_text}
 use Rattle.litmus.specs.Numbers.{is_digit, decimal_of}
+use Rattle.litmus.specs.Steps.{names_with}
 use Rattle.litmus.proofs.Decimals.{model, again}
 use Rattle.litmus.proofs.OnLists.{all_also}
 use Rattle.litmus.proofs.OneName.{name_only, name_again}
 use Rattle.litmus.proofs.ManyNames.{name_laws, same_name, all_push}
-use Rattle.replay.specs.Program.{address_name, address_names}
+use Rattle.litmus.specs.AddressNames.{address_name, address_names}
 use Rattle.std.proofs.lemmas.Option.{same_Some}
 
 -- a digit is a letter or a digit
@@ -89,6 +90,13 @@ names_distinct (suc n) small = IsDistinct-push name_laws (address_names n) (addr
 pub names_count : (n : ℕ) → length (address_names n) ≡ n
 names_count zero = refl
 names_count (suc n) = omega (arith, length-append (address_names n) (address_name n ∷ []), names_count n)
+
+-- one name more
+pub names_more : (n : ℕ) (old new : List Name) (name : Name) → n < 10 ^ 7 → old ≡ address_names n → name ≡ address_name n → new ≡ names_with old name → new ≡ address_names (n + 1)
+names_more n old new name small so_far this with_it =
+    let whole : names_with (address_names n) (address_name n) ≡ address_names n ++ address_name n ∷ [] = rw (name_new n small) refl in
+    with_it ∙ (ap (λ (l : List Name). names_with l name) so_far ∙ (ap (λ (m : Name). names_with (address_names n) m) this
+    ∙ (whole ∙ ap address_names (let e : suc n ≡ n + 1 = omega arith in e))))
 
 -- one name, found twice
 pub some_name : {a b : Name} → Some a ≡ Some b → a ≡ b
