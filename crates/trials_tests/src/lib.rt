@@ -1,0 +1,5 @@
+//! Tests of random programs and their trials.
+#![tactic(auto)]
+
+#[cfg(test)]
+mod programs;
