@@ -9,4 +9,4 @@ mod workers;
 pub use alone::judge_alone;
 pub use check::verify;
 pub use verdict::Verdict;
-pub use workers::judge;
+pub use workers::{judge, judge_gated};

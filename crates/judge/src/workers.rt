@@ -1,19 +1,71 @@
 //! The judge with workers.
 
-ghost use Rattle.std.specs.Prelude.{◌≤◌, IfOk};
-ghost use Rattle.judge.specs.Verdict.{IsVerdict, Verifies};
+ghost use Rattle.std.specs.Prelude.{◌≤◌, ℕ, List, IfOk};
+ghost use Rattle.std.specs.Arc.{arc_value};
+ghost use Rattle.relations.specs.Cycle.{IsCycle};
+ghost use Rattle.relations.specs.Relation.{Related};
+ghost use Rattle.judge.specs.Verdict.{IsVerdict, IsLeastCertificate, Verifies};
 
-use crate::alone::judge_alone;
 use crate::verdict::Verdict;
-use litmus::{MAX_WORKERS, OutOfMemory};
+use labels::Certificate;
+use litmus::{Gate, MAX_WORKERS, OpenGate, OutOfMemory};
+use order::build;
 use recorder::Recording;
+use relations::{Relation, forced_is_exact, ordered_is_acyclic, overlook, relation_is_forced};
+use search::shortest_cycle_by;
 use std::alloc::Global;
+use std::sync::{Arc, Wait};
 use std::thread::Threads;
 
-/// The verdict on a recording, as `judge_alone` gives it, from any number of workers, 1 to
-/// `MAX_WORKERS`; the calling thread does all the work, and waits for nobody. An error is want of memory.
-pub fn judge<R: Threads + Sync>(
-    _rt: &R,
+/// The certificate of a relation that has a cycle, from rows that workers make.
+fn least_certificate_by<R: Threads + Wait + Sync, G: Gate>(
+    rt: &R,
+    alloc: Global,
+    relation: &Arc<Relation>,
+    workers: usize,
+    gate: &G,
+) -> Result<Certificate, OutOfMemory>
+    requires cyclic { (c : List ℕ) × IsCycle (Related (arc_value relation.now)) c }
+    requires workers { (1 ≤ workers) × (workers ≤ MAX_WORKERS) }
+    ensures { IfOk result (IsLeastCertificate (arc_value relation.now)) }
+{
+    match shortest_cycle_by(rt, alloc, relation, workers, gate)? {
+        Some(certificate) => Ok(certificate),
+        None => unreachable!(),
+    }
+}
+
+/// The verdict on a recording, as `judge_alone` gives it, from 1 to `MAX_WORKERS` workers. Where
+/// there is a cycle and no overlook they make its rows, each between two calls of the gate. An
+/// error is want of memory.
+pub fn judge_gated<R: Threads + Wait + Sync, G: Gate>(
+    rt: &R,
+    alloc: Global,
+    recording: &Recording,
+    workers: usize,
+    gate: &G,
+) -> Result<Verdict, OutOfMemory>
+    requires workers { (1 ≤ workers) × (workers ≤ MAX_WORKERS) }
+    ensures verdict { IfOk result (IsVerdict recording.now) }
+    ensures verified { IfOk result (Verifies recording.now) }
+{
+    recording.sound();
+    forced_is_exact();
+    ordered_is_acyclic();
+    relation_is_forced();
+    if let Some((load, store)) = overlook(recording) {
+        return Ok(Verdict::Overlook { load, store });
+    }
+    let relation = Arc::new(alloc, Relation::of(alloc, recording)?)?;
+    match build(alloc, &relation)? {
+        Some(order) => Ok(Verdict::Ordered(order)),
+        None => Ok(Verdict::Cycle(least_certificate_by(rt, alloc, &relation, workers, gate)?)),
+    }
+}
+
+/// The same with a gate that does nothing.
+pub fn judge<R: Threads + Wait + Sync>(
+    rt: &R,
     alloc: Global,
     recording: &Recording,
     workers: usize,
@@ -22,6 +74,5 @@ pub fn judge<R: Threads + Sync>(
     ensures verdict { IfOk result (IsVerdict recording.now) }
     ensures verified { IfOk result (Verifies recording.now) }
 {
-    let _ = workers;
-    judge_alone(alloc, recording)
+    judge_gated(rt, alloc, recording, workers, &OpenGate)
 }

@@ -1,8 +1,9 @@
 //! Rows under a smaller cap.
 
-ghost use Rattle.std.specs.Prelude.{◌≡◌, ℕ, min, slice_index};
+ghost use Rattle.std.specs.Prelude.{◌≡◌, ℕ, Option, length, min, slice_index};
 ghost use Rattle.labels.specs.Certified.{lists_of};
 ghost use Rattle.search.specs.Cycles.{AreCut};
+ghost use Rattle.search.specs.Slots.{IsCutAt};
 
 /// Cuts each label of a row at the cap.
 fn cut_row(row: &mut [u16], cap: u16)
@@ -20,4 +21,16 @@ pub(crate) fn cut_rows(rows: &mut [Vec<u16>], cap: u16)
     for row in rows.iter_mut() {
         cut_row(row.as_mut_slice(), cap);
     }
+}
+
+/// Cuts the numbers of one row at the cap, if there is one.
+pub(crate) fn cut_at(numbers: Vec<u16>, cap: Option<u16>) -> Vec<u16>
+    ensures { IsCutAt cap numbers.items result.items }
+{
+    let Some(most) = cap else {
+        return numbers;
+    };
+    let mut cut = numbers;
+    cut_row(cut.as_mut_slice(), most);
+    cut
 }

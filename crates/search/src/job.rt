@@ -51,6 +51,14 @@ impl SourceJob {
         self.source
     }
 
+    /// The relation.
+    pub(crate) fn relation(&self) -> &Arc<Relation>
+        ensures value { arc_value result.now ≡ self.now.relation }
+        ensures source { self.now.source < length self.now.relation }
+    {
+        &self.relation
+    }
+
     /// The rows of all events of the relation.
     pub(crate) fn all_rows(&self, alloc: Global) -> Result<Vec<LabelRow>, OutOfMemory>
         ensures { IfOk result (λ rows. (cap : Option ℕ)

@@ -1,5 +1,6 @@
 //! Rows of labels.
 
+use crate::cut::cut_at;
 use litmus::{EventId, OutOfMemory};
 use relations::Relation;
 use std::marker::Model;
@@ -29,7 +30,9 @@ impl Model for LabelRow {
 impl LabelRow {
     ghost use Rattle.std.specs.Prelude.{◌≡◌, IfOk};
     ghost use Rattle.std.specs.Arc.{arc_value};
-    ghost use Rattle.search.specs.SourceRow.{source_row, IsSourceRow};
+    ghost use Rattle.relations.specs.Relation.{Related};
+    ghost use Rattle.search.specs.Cycles.{IsLeastLength};
+    ghost use Rattle.search.specs.SourceRow.{source_row, IsSourceRow, IsNamed};
 
     /// A row of numbers that were found for a source under a cap.
     pub(crate) fn new(
@@ -48,6 +51,44 @@ impl LabelRow {
             cap,
             numbers,
         })
+    }
+
+    /// A row of numbers that were found for a source under a cap, with a share of its relation.
+    pub(crate) fn of(
+        relation: Arc<Relation>,
+        source: EventId,
+        cap: Option<u16>,
+        numbers: Vec<u16>,
+    ) -> LabelRow
+        requires { IsSourceRow (source_row (arc_value relation) source cap numbers.items) }
+        ensures { result ≡ source_row (arc_value relation) source cap numbers.items }
+    {
+        LabelRow {
+            relation,
+            source,
+            cap,
+            numbers,
+        }
+    }
+
+    /// The row cut at the length of the shortest cycles; as it is where there is no cycle.
+    pub(crate) fn cut_to(self, cap: Option<u16>) -> LabelRow
+        requires { IsLeastLength (Related self.relation) cap }
+        ensures { IsNamed self.relation cap self.source result }
+    {
+        let LabelRow {
+            relation,
+            source,
+            numbers,
+            ..
+        } = self;
+        relation.sound();
+        LabelRow {
+            relation,
+            source,
+            cap,
+            numbers: cut_at(numbers, cap),
+        }
     }
 
     /// What every row keeps. It does nothing.

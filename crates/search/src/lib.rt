@@ -3,8 +3,12 @@
 #![tactic(auto)]
 
 mod alone;
+mod back;
 mod certified;
+mod collect;
+mod crew;
 mod cut;
+mod deal;
 mod distances;
 mod exact;
 mod job;
@@ -14,11 +18,17 @@ mod least;
 mod length;
 mod level;
 mod lists;
+mod room;
 mod row;
+mod slots;
+mod under;
+mod work;
 
 pub use alone::{jobs, run_alone};
-pub use certified::shortest_cycle;
+pub use certified::{shortest_cycle, shortest_cycle_by};
+pub use collect::run_jobs;
 pub use job::SourceJob;
 pub use label_row::LabelRow;
 pub use least::least_cycle;
 pub use lists::{into_lists, least_length};
+pub use under::row_under;

@@ -1,4 +1,4 @@
-use Rattle.std.proofs.Common.{◌≡◌, ◌<◌, ◌+◌, inl, inr, ℕ, Bool, true, ◌↔◌, IsTrue, List, length, get_or, refl, arith, sym, subst}
+use Rattle.std.proofs.Common.{◌≡◌, ◌<◌, ◌+◌, inl, inr, ℕ, Bool, true, ◌↔◌, IsTrue, List, length, vec_len, replicate, get_or, refl, arith, sym, subst}
 use Rattle.std.proofs.lemmas.List.{get_or-replicate}
 use Rattle.relations.specs.Cycle.{IsExactRow}
 use Rattle.search.specs.Bits.{Marked}
@@ -6,20 +6,22 @@ use Rattle.search.specs.Cycles.{IsNearest}
 use Rattle.search.specs.Levels.{Closes}
 use Rattle.search.proofs.Marks.{joins_one, one_alone, marked_within}
 use Rattle.search.proofs.Levels.{IsReached, reached_none, IsClosed, reached_more, closes_more, closes_by_next, reached_exact, nearest_more, last_exact, closed_nearest, written_back}
-use Rattle.search.proofs.row.exact_row.Goals as goal
+use Rattle.search.proofs.row.row_in.Goals as goal
 
 pub loop-label-init : goal.loop-label-init
 loop-label-init c =
     let n = length c.args.rows.now in
-    let caps : (e : ℕ) → e < n → get_or c.in_ok-labels.labels.items e 0 ≡ c.args.cap =
-    subst (λ (row : List ℕ). (e : ℕ) → e < n → get_or row e 0 ≡ c.args.cap) (sym (c.in_ok-labels.ensures.items_if_clones_equal (λ y h. h))) (λ e at. get_or-replicate n e c.args.cap 0 at) in
+    let room = c.requires.room in
+    let items : c.fill.new.self.items ≡ replicate (vec_len c.args.room.labels) c.args.cap = c.fill.ensures.items (λ y h. h) in
+    let caps : (e : ℕ) → e < n → get_or c.fill.new.self.items e 0 ≡ c.args.cap =
+    subst (λ (row : List ℕ). (e : ℕ) → e < n → get_or row e 0 ≡ c.args.cap) (sym items) (λ e at. get_or-replicate (vec_len c.args.room.labels) e c.args.cap 0 (omega (arith, at, room.labels))) in
     record {
-      seen_size = c.in_ok-seen.ensures.len;
-      level_size = omega (arith, c.set.ensures.len, c.in_ok-level.ensures.len);
-      next_size = c.in_ok-next.ensures.len;
-      reached = reached_none (Marked c.args.rows.now) n c.args.cap c.args.source c.in_ok-labels.labels.items c.in_ok-seen.seen c.set.new.self c.in_ok-next.next (omega (arith, c.in_ok-labels.ensures.len)) caps c.in_ok-seen.ensures.empty c.in_ok-next.ensures.empty
-          (joins_one c.in_ok-level.level c.set.new.self c.args.source c.args.source c.set.ensures.numbers refl)
-          (λ e is. one_alone c.in_ok-level.level c.set.new.self c.args.source e c.in_ok-level.ensures.empty c.set.ensures.numbers is);
+      seen_size = room.seen.size;
+      level_size = omega (arith, c.set.ensures.len, room.level.size);
+      next_size = room.next.size;
+      reached = reached_none (Marked c.args.rows.now) n c.args.cap c.args.source c.fill.new.self.items c.args.room.seen c.set.new.self c.args.room.next (omega (arith, room.labels, c.fill.ensures.len)) caps room.seen.empty room.next.empty
+          (joins_one c.args.room.level c.set.new.self c.args.source c.args.source c.set.ensures.numbers refl)
+          (λ e is. one_alone c.args.room.level c.set.new.self c.args.source e room.level.empty c.set.ensures.numbers is);
       closed = record { below = omega arith; reached = inl refl; nearest = λ e r below. absurd (omega (arith, below)) };
     }
 

@@ -1,0 +1,16 @@
+use Rattle.std.proofs.Common.{sym, ◌∙◌, ap, subst, refl, ℕ, length, arith}
+use Rattle.relations.specs.Relation.{Table}
+use Rattle.best.specs.Rule.{IsLength}
+use Rattle.best.proofs.Keeps.{lowers}
+use Rattle.best.proofs.seat.BestSeat.lower.Goals as goal
+
+pub fetch_min-requires : goal.fetch_min-requires
+fetch_min-requires c =
+    let h = c.args.self.now in
+    let t = c.deref.ensures in
+    let size = ap (λ b. b.shared.table_id.words) t ∙ h.size in
+    let key = ap (λ b. b.shared.key) t ∙ h.relation in (
+      h.seated ∙ sym (ap (λ b. b.shared.table_id) t),
+      omega (arith, size),
+      lowers _ _ _ _ _ (subst (λ (z : Table). IsLength z (length c.args.cycle.now)) (sym key) (c.args.cycle.now, c.requires.cycle, refl, c.requires.short)) c.requires.small,
+    )

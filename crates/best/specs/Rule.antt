@@ -1,0 +1,57 @@
+-- The rule of the shared bound: none or the length of a cycle, and never above a length that a seat knows.
+use Rattle.std.specs.Prelude.{◌≡◌, ◌≢◌, ◌⊎◌, ℕ, ◌≤◌, ◌<◌, true, false, List, [], ◌∷◌, ◌++◌, length, slice_index, Contains}
+use mathlib.Core.Option.{some}
+use lib.ListN.{get_elem?}
+use Rattle.atomic_table.specs.Table.{State, Me, Step}
+use Rattle.relations.specs.Relation.{Table, Related}
+use Rattle.relations.specs.Cycle.{IsCycle}
+use Rattle.best.specs.declared.rule.Known.{Known}
+
+-- some cycle, no longer than the number of events, has this length
+abbrev pub IsLength : Table → ℕ → Type 0
+IsLength t k = (c : List ℕ) × IsCycle (Related t) c × (length c ≡ k) × (k ≤ length t)
+
+-- the word that stands for none
+abbrev pub none_word : ℕ
+none_word = 18446744073709551615
+
+-- what a first seat knows
+abbrev pub newcomer : Table → Known
+newcomer t = record { live = true; relation = t; lengths = [] }
+
+-- what a seat carries that was merged into another
+abbrev pub gone : Known
+gone = record { live = false; relation = []; lengths = [] }
+
+-- what either of two seats knew
+abbrev pub joined : Known → Known → Known
+joined v w = record { live = v.live; relation = v.relation; lengths = v.lengths ++ w.lengths }
+
+-- one length more is known
+abbrev pub knows : Known → ℕ → Known
+knows v k = record { live = v.live; relation = v.relation; lengths = v.lengths ++ k ∷ [] }
+
+-- the word is at most each length that is known
+abbrev pub Bounded : Known → ℕ → Type 0
+Bounded v n = (k : ℕ) → Contains v.lengths k → (n ≤ k) × (k < 65536)
+
+-- the word between any two steps
+pub record LegalBest (t : Table) (s : State (Unit {0}) Known) : Type 0 where
+  pub size : length s.words ≡ 1
+  pub word : (slice_index s.words 0 ≡ none_word)
+      ⊎ (IsLength t (slice_index s.words 0) × (slice_index s.words 0 < 65536))
+  pub carried : (i : ℕ) (v : Known) → get_elem? s.views i ≡ some v → v.live ≡ true → v.relation ≡ t
+  pub bounded : (i : ℕ) (v : Known) → get_elem? s.views i ≡ some v → Bounded v (slice_index s.words 0)
+
+-- the seat knows the length that it lowered to
+abbrev pub LowerStep : Step (Unit {0}) → Me (Unit {0}) Known → ℕ → Me (Unit {0}) Known → Type 0
+LowerStep st m n m' = (m'.1 ≡ m.1) × (m'.0 ≡ knows m.0 st.first)
+
+-- the word was at most each known length; a length is that of a cycle, and known from then on
+abbrev pub Loads : Known → ℕ → Known → Type 0
+Loads v n w = Bounded v n × (n ≡ none_word → w ≡ v)
+    × (n ≢ none_word → (w ≡ knows v n) × IsLength v.relation n × (n < 65536))
+
+-- a load leaves the word
+abbrev pub ReadStep : Step (Unit {0}) → Me (Unit {0}) Known → ℕ → Me (Unit {0}) Known → Type 0
+ReadStep st m n m' = (m'.1 ≡ m.1) × Loads m.0 n m'.0

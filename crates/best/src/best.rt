@@ -1,0 +1,115 @@
+//! The calls of the shared bound.
+
+ghost use Rattle.std.specs.Prelude.{◌≡◌, ◌≤◌, ◌<◌, [], IfOk, length};
+ghost use Rattle.relations.specs.Relation.{Related};
+ghost use Rattle.relations.specs.Cycle.{IsCycle};
+ghost use Rattle.best.specs.Rule.{newcomer, knows, Loads};
+ghost use Rattle.best.specs.Seats.{IsSeatOf, Says, AreBeside, Unites, known_of};
+
+use crate::rule::{Beside, BestTable, Lowers, NONE, Reads};
+use crate::seat::{Best, BestSeat};
+use litmus::{EventId, OutOfMemory};
+use relations::Relation;
+use std::alloc::Global;
+use std::sync::Arc;
+
+impl Best {
+    /// A bound that is none, and a seat that knows no length.
+    pub fn open(alloc: Global, relation: &Relation) -> Result<(Best, BestSeat), OutOfMemory>
+        ensures seat { IfOk result (λ r. IsSeatOf r.0 r.1) }
+        ensures new { IfOk result (λ r. known_of r.1 ≡ newcomer relation.now) }
+    {
+        let (table, seat) = BestTable::of_words(alloc, &[NONE], relation)?;
+        let table = Arc::new(alloc, table)?;
+        let again = Arc::try_clone(&table)?;
+        Ok((Best { table: again }, BestSeat { table, seat }))
+    }
+
+    /// The bound becomes the cycle's length, if that is smaller.
+    pub fn lower(&self, seat: &mut BestSeat, relation: &Relation, cycle: &[EventId])
+        requires seat { IsSeatOf self.now seat.old }
+        requires relation { relation.now ≡ (known_of seat.old).relation }
+        requires cycle { IsCycle (Related relation.now) cycle.now }
+        requires short { length cycle.now ≤ length relation.now }
+        ensures seat { IsSeatOf self.now seat.new }
+        ensures new { known_of seat.new ≡ knows (known_of seat.old) (length cycle.now) }
+    {
+        relation.sound();
+        seat.lower(cycle);
+    }
+
+    /// None, only where the seat knows no length; or the length of a cycle, at most each that the
+    /// seat knows.
+    pub fn read(&self, seat: &mut BestSeat) -> Option<u16>
+        requires seat { IsSeatOf self.now seat.old }
+        ensures seat { IsSeatOf self.now seat.new }
+        ensures reads { Says (known_of seat.old) result (known_of seat.new) }
+    {
+        let found = seat.load();
+        if found == NONE {
+            None
+        } else {
+            Some(found as u16)
+        }
+    }
+}
+
+impl BestSeat {
+    fn lower(&mut self, cycle: &[EventId])
+        requires cycle { IsCycle (Related (known_of self.old).relation) cycle.now }
+        requires short { length cycle.now ≤ length (known_of self.old).relation }
+        requires small { length cycle.now < 65536 }
+        ensures same { self.new.seat.table_id ≡ self.old.seat.table_id }
+        ensures new { known_of self.new ≡ knows (known_of self.old) (length cycle.now) }
+    {
+        self.table
+            .shared
+            .fetch_min::<Lowers>(&mut self.seat, 0, cycle.len() as u64);
+    }
+
+    fn load(&mut self) -> u64
+        ensures same { self.new.seat.table_id ≡ self.old.seat.table_id }
+        ensures loads { Loads (known_of self.old) result (known_of self.new) }
+    {
+        self.table.shared.load::<Reads>(&mut self.seat, 0)
+    }
+
+    /// Another seat of the same bound, that knows the same.
+    pub fn split(&mut self) -> Result<BestSeat, OutOfMemory>
+        ensures old { AreBeside self.old self.new × (known_of self.new ≡ known_of self.old) }
+        ensures new { IfOk result (λ s. AreBeside self.old s × (known_of s ≡ known_of self.old)) }
+    {
+        let table = Arc::try_clone(&self.table)?;
+        let seat = self.table.shared.split_seat::<Beside>(&mut self.seat);
+        Ok(BestSeat { table, seat })
+    }
+
+    /// One seat for two of the same bound: it knows what either knew.
+    pub fn merge(self, other: BestSeat) -> BestSeat
+        requires { AreBeside self other }
+        ensures { AreBeside self result × Unites (known_of self) (known_of other) (known_of result) }
+    {
+        let BestSeat { table, mut seat } = self;
+        let BestSeat {
+            table: _,
+            seat: second,
+        } = other;
+        table.shared.join_seat::<Beside>(&mut seat, second);
+        BestSeat { table, seat }
+    }
+
+    /// Takes in another seat of the same bound, and knows what either knew.
+    pub fn absorb(&mut self, other: BestSeat)
+        requires { AreBeside self.old other }
+        ensures { AreBeside self.old self.new
+            × Unites (known_of self.old) (known_of other) (known_of self.new) }
+    {
+        let BestSeat {
+            table: _,
+            seat: second,
+        } = other;
+        self.table
+            .shared
+            .join_seat::<Beside>(&mut self.seat, second);
+    }
+}

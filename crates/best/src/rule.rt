@@ -1,0 +1,69 @@
+//! The rule of the word, and what its two kinds of step tell.
+
+use atomic_table::{Join, Play, Split, Table, TableRule};
+use relations::Relation;
+use std::alloc::Global;
+use std::collections::LinkedList;
+
+/// The word that stands for none: it is above every length.
+pub(crate) const NONE: u64 = u64::MAX;
+
+/// What a seat knows: lengths that the word is at most. No value of it is made.
+pub struct Known {
+    /// Whether the seat is still there, not merged into another.
+    pub live: bool,
+    /// The relation whose cycles are meant.
+    pub relation: Relation,
+    /// The lengths that it lowered to or read, or had from others.
+    pub lengths: LinkedList<u64>,
+}
+
+/// The word is none or the length of a cycle of the relation that all seats carry, and never above
+/// a length that a seat knows.
+pub struct BestRule;
+
+impl TableRule<(), Known, Relation> for BestRule {
+    ghost use Rattle.best.specs.Rule.{LegalBest, newcomer};
+
+    ghost holds = { LegalBest };
+
+    ghost first = { newcomer };
+}
+
+/// The step of `lower`.
+pub struct Lowers;
+
+impl Play<(), Known> for Lowers {
+    ghost use Rattle.best.specs.Rule.{LowerStep};
+
+    ghost then = { LowerStep };
+}
+
+/// The step of `read`.
+pub struct Reads;
+
+impl Play<(), Known> for Reads {
+    ghost use Rattle.best.specs.Rule.{ReadStep};
+
+    ghost then = { ReadStep };
+}
+
+/// A second seat knows the same, and two seats know what either knew.
+pub struct Beside;
+
+impl Split<Known> for Beside {
+    ghost left = { λ v. v };
+
+    ghost right = { λ v. v };
+}
+
+impl Join<Known> for Beside {
+    ghost use Rattle.best.specs.Rule.{joined, gone};
+
+    ghost both = { joined };
+
+    ghost spent = { gone };
+}
+
+/// The one word, with its rule.
+pub type BestTable = Table<(), Known, Relation, BestRule, Global>;

@@ -1,0 +1,26 @@
+//! The bound and its seats.
+
+ghost use Rattle.std.specs.Prelude.{◌≡◌, true, []};
+ghost use Rattle.std.specs.Arc.{arc_value};
+
+use crate::rule::{BestTable, Known};
+use atomic_table::Seat;
+use std::sync::Arc;
+
+/// The length of the shortest cycle that any of its seats has told it; none before the first.
+#[derive(Drop)]
+pub struct Best {
+    pub(crate) table: Arc<BestTable>,
+}
+
+/// A place at a bound, with what is known there.
+#[derive(Drop)]
+pub struct BestSeat {
+    pub(crate) table: Arc<BestTable>,
+    pub(crate) seat: Seat<(), Known>,
+    ghost seated: { seat.table_id ≡ (arc_value table).shared.table_id },
+    ghost empty: { seat.me.1 ≡ [] },
+    ghost live: { seat.me.0.live ≡ true },
+    ghost relation: { (arc_value table).shared.key ≡ seat.me.0.relation },
+    ghost size: { (arc_value table).shared.table_id.words ≡ 1 },
+}

@@ -1,0 +1,33 @@
+-- Rows that are collected by source.
+use Rattle.std.specs.Prelude.{◌≡◌, ◌<◌, ℕ, Option, Some, None, List, length, slice_index, slice_index_or, min, IfSome}
+use Rattle.relations.specs.Relation.{Table, Related}
+use Rattle.search.specs.SourceRow.{SourceRow}
+use Rattle.search.specs.Bound.{Covers}
+
+-- the row of v in the relation, through which no cycle is shorter than each of the known lengths
+pub record IsRowFrom (t : Table) (lengths : List ℕ) (v : ℕ) (row : SourceRow) : Type 0 where
+  pub shares : row.relation ≡ t
+  pub from : row.source ≡ v
+  pub covers : Covers (Related t) lengths v
+
+-- a place for the row of each event, filled by no other
+pub record AreSlots (t : Table) (lengths : List ℕ) (slots : List (Option SourceRow)) : Type 0 where
+  pub size : length slots ≡ length t
+  pub each : (v : ℕ) (d : Option SourceRow) → v < length t → IfSome (slice_index_or slots v d) (IsRowFrom t lengths v)
+
+-- the rows below i are there
+pub record AreFilled (t : Table) (lengths : List ℕ) (i : ℕ) (rows : List SourceRow) : Type 0 where
+  pub size : length rows ≡ i
+  pub each : (v : ℕ) (d : SourceRow) → v < i → IsRowFrom t lengths v (slice_index_or rows v d)
+
+-- each label cut at the cap, if there is one
+abbrev pub IsCutAt : Option ℕ → List ℕ → List ℕ → Type 0
+IsCutAt None before after = after ≡ before
+IsCutAt (Some k) before after = (length after ≡ length before)
+    × ((e : ℕ) → slice_index after e ≡ min (slice_index before e) k)
+
+-- a row of each event, under any caps
+pub record AreOfEach (t : Table) (rows : List SourceRow) : Type 0 where
+  pub size : length rows ≡ length t
+  pub shares : (v : ℕ) (d : SourceRow) → v < length t → (slice_index_or rows v d).relation ≡ t
+  pub from : (v : ℕ) (d : SourceRow) → v < length t → (slice_index_or rows v d).source ≡ v

@@ -1,0 +1,133 @@
+//! Jobs done by workers, and their rows collected.
+
+ghost use Rattle.std.specs.Prelude.{◌≡◌, ◌≤◌, ℕ, Option, All, IfOk, length};
+ghost use Rattle.std.specs.Arc.{arc_value};
+ghost use Rattle.litmus.specs.declared.limits.TheConstants.{MAX_WORKERS};
+ghost use Rattle.relations.specs.Relation.{Related};
+ghost use Rattle.best.specs.Seats.{IsSeatOf, known_of};
+ghost use Rattle.search.specs.Cycles.{IsLeastLength};
+ghost use Rattle.search.specs.SourceRow.{AreShared, AreLeastRows};
+ghost use Rattle.search.specs.Bound.{IsSeatFor, Keeps, KnowsShortest, lengths_of};
+ghost use Rattle.search.specs.Slots.{AreFilled, AreOfEach};
+
+use crate::crew::Crew;
+use crate::deal::dealt;
+use crate::job::SourceJob;
+use crate::label_row::LabelRow;
+use crate::slots::{empty_slots, filled, put_hauls};
+use crate::work::made_by;
+use best::{Best, BestSeat};
+use litmus::{Gate, OutOfMemory};
+use relations::Relation;
+use std::alloc::Global;
+use std::sync::{Arc, Wait};
+use std::thread::Threads;
+
+/// Cuts the rows of all events at the length of the shortest cycles, if there is one.
+fn cut_all(
+    alloc: Global,
+    relation: &Relation,
+    rows: Vec<LabelRow>,
+    cap: Option<u16>,
+) -> Result<Vec<LabelRow>, OutOfMemory>
+    requires least { IsLeastLength (Related relation.now) cap }
+    requires rows { AreOfEach relation.now rows.items }
+    ensures { IfOk result (λ all. AreLeastRows relation.now cap all.items) }
+{
+    let _ = relation;
+    let mut all = Vec::with_capacity(alloc, rows.len())?;
+    for row in rows {
+        let cut = row.cut_to(cap);
+        cut.sound();
+        all.push(cut)?;
+    }
+    Ok(all)
+}
+
+/// Cuts the rows of all events at what the bound has in the end.
+fn cut_by(
+    alloc: Global,
+    relation: &Relation,
+    rows: Vec<LabelRow>,
+    best: &Best,
+    seat: &mut BestSeat,
+) -> Result<Vec<LabelRow>, OutOfMemory>
+    requires seat { IsSeatFor best.now relation.now seat.old }
+    requires rows { AreFilled relation.now (lengths_of seat.old) (length relation.now) rows.items }
+    ensures seat { IsSeatFor best.now relation.now seat.new }
+    ensures kept { Keeps (lengths_of seat.old) (lengths_of seat.new) }
+    ensures rows { IfOk result (λ all. (cap : Option ℕ) × AreLeastRows relation.now cap all.items) }
+    ensures knows { KnowsShortest (Related relation.now) (lengths_of seat.new) }
+{
+    relation.sound();
+    let cap = best.read(seat);
+    cut_all(alloc, relation, rows, cap)
+}
+
+/// The rows of all events of the relation that the jobs share.
+fn collected<R: Threads + Wait + Sync, G: Gate>(
+    rt: &R,
+    alloc: Global,
+    relation: &Arc<Relation>,
+    jobs: Vec<SourceJob>,
+    best: &Best,
+    seat: &mut BestSeat,
+    workers: usize,
+    gate: &G,
+) -> Result<Vec<LabelRow>, OutOfMemory>
+    requires seat { IsSeatFor best.now (arc_value relation.now) seat.old }
+    requires jobs { All (λ job. job.relation ≡ arc_value relation.now) jobs.items }
+    requires workers { 1 ≤ workers }
+    ensures seat { IsSeatFor best.now (arc_value relation.now) seat.new }
+    ensures kept { Keeps (lengths_of seat.old) (lengths_of seat.new) }
+    ensures rows { IfOk result (λ all. (cap : Option ℕ)
+        × AreLeastRows (arc_value relation.now) cap all.items) }
+    ensures knows { IfOk result (λ _. KnowsShortest (Related (arc_value relation.now))
+        (lengths_of seat.new)) }
+{
+    let table: &Relation = relation;
+    let mut jobs = jobs;
+    let crews = dealt(alloc, table, best, seat, workers, &mut jobs)?;
+    let other = seat.split()?;
+    let mine = Crew {
+        worker: 0,
+        seat: other,
+        jobs,
+    };
+    let hauls = made_by(rt, alloc, mine, crews, best, table, gate)?;
+    let mut slots = empty_slots(alloc, table, seat)?;
+    put_hauls(table, best, seat, hauls, &mut slots);
+    let rows = filled(alloc, relation, slots, best, seat, gate)?;
+    cut_by(alloc, table, rows, best, seat)
+}
+
+/// The rows of jobs that share one relation and name each of its events, as `run_alone` gives
+/// them, made by workers that share the bound: the calling thread is worker 0, and one that is not
+/// started is done without. The gate is called round each source. Afterwards the seat knows the
+/// length of the shortest cycles, if there is a cycle; after an error, which is want of memory, it
+/// may know more than before.
+pub fn run_jobs<R: Threads + Wait + Sync, G: Gate>(
+    rt: &R,
+    alloc: Global,
+    jobs: Vec<SourceJob>,
+    best: &Best,
+    seat: &mut BestSeat,
+    workers: usize,
+    gate: &G,
+) -> Result<Vec<LabelRow>, OutOfMemory>
+    requires seat { IsSeatOf best.now seat.old }
+    requires jobs { AreShared (known_of seat.old).relation jobs.items }
+    requires workers { (1 ≤ workers) × (workers ≤ MAX_WORKERS) }
+    ensures seat { IsSeatFor best.now (known_of seat.old).relation seat.new }
+    ensures kept { Keeps (lengths_of seat.old) (lengths_of seat.new) }
+    ensures rows { IfOk result (λ rows. (cap : Option ℕ)
+        × AreLeastRows (known_of seat.old).relation cap rows.items) }
+    ensures knows { IfOk result (λ _. KnowsShortest (Related (known_of seat.old).relation)
+        (lengths_of seat.new)) }
+{
+    if jobs.is_empty() {
+        return Ok(Vec::new(alloc));
+    }
+    let relation = Arc::try_clone(jobs[0].relation())?;
+    collected(rt, alloc, &relation, jobs, best, seat, workers, gate)
+}

@@ -1,0 +1,158 @@
+//! Rows that are collected by source.
+
+ghost use Rattle.std.specs.Prelude.{◌≡◌, ℕ, ◌<◌, length, All, IfOk, IfSome};
+ghost use Rattle.std.specs.Arc.{arc_value};
+ghost use Rattle.search.specs.Bound.{IsSeatFor, Keeps, lengths_of};
+ghost use Rattle.search.specs.Crews.{IsRowFor, IsHaulFor};
+ghost use Rattle.search.specs.Slots.{AreSlots, AreFilled, IsRowFrom};
+
+use crate::crew::Haul;
+use crate::job::SourceJob;
+use crate::label_row::LabelRow;
+use crate::under::row_under;
+use best::{Best, BestSeat};
+use litmus::{EventId, Gate, OutOfMemory};
+use relations::Relation;
+use std::alloc::Global;
+use std::sync::Arc;
+
+/// A place for the row of each event, all of them empty.
+pub(crate) fn empty_slots(
+    alloc: Global,
+    relation: &Relation,
+    seat: &BestSeat,
+) -> Result<Vec<Option<LabelRow>>, OutOfMemory>
+    ensures { IfOk result (λ slots. AreSlots relation.now (lengths_of seat.now) slots.items) }
+{
+    let _ = seat;
+    let mut slots = Vec::with_capacity(alloc, relation.len())?;
+    for _ in 0..relation.len() {
+        slots.push(None)?;
+    }
+    Ok(slots)
+}
+
+/// Puts a row into its source's place. A row of a stranger, or one whose place is filled, is let
+/// go.
+fn put_row(relation: &Relation, seat: &BestSeat, row: LabelRow, slots: &mut Vec<Option<LabelRow>>)
+    requires row { IsRowFor relation.now (lengths_of seat.now) row }
+    requires slots { AreSlots relation.now (lengths_of seat.now) slots.old.items }
+    ensures { AreSlots relation.now (lengths_of seat.now) slots.new.items }
+{
+    let _ = relation;
+    let _ = seat;
+    let source = row.source() as usize;
+    if source < slots.len() && slots[source].is_none() {
+        slots[source] = Some(row);
+    }
+}
+
+/// Puts rows into their sources' places.
+fn put_rows(
+    relation: &Relation,
+    seat: &BestSeat,
+    rows: Vec<LabelRow>,
+    slots: &mut Vec<Option<LabelRow>>,
+)
+    requires rows { All (IsRowFor relation.now (lengths_of seat.now)) rows.items }
+    requires slots { AreSlots relation.now (lengths_of seat.now) slots.old.items }
+    ensures { AreSlots relation.now (lengths_of seat.now) slots.new.items }
+{
+    for row in rows {
+        put_row(relation, seat, row, slots);
+    }
+}
+
+/// Takes in what a crew brought: the seat comes to know what the crew's knew.
+fn put_haul(
+    relation: &Relation,
+    best: &Best,
+    seat: &mut BestSeat,
+    haul: Haul,
+    slots: &mut Vec<Option<LabelRow>>,
+)
+    requires seat { IsSeatFor best.now relation.now seat.old }
+    requires haul { IsHaulFor best.now relation.now haul }
+    requires slots { AreSlots relation.now (lengths_of seat.old) slots.old.items }
+    ensures seat { IsSeatFor best.now relation.now seat.new }
+    ensures kept { Keeps (lengths_of seat.old) (lengths_of seat.new) }
+    ensures slots { AreSlots relation.now (lengths_of seat.new) slots.new.items }
+{
+    let _ = best;
+    let Haul { seat: other, rows } = haul;
+    seat.absorb(other);
+    put_rows(relation, seat, rows, slots);
+}
+
+/// Takes in what all crews brought.
+pub(crate) fn put_hauls(
+    relation: &Relation,
+    best: &Best,
+    seat: &mut BestSeat,
+    hauls: Vec<Haul>,
+    slots: &mut Vec<Option<LabelRow>>,
+)
+    requires seat { IsSeatFor best.now relation.now seat.old }
+    requires hauls { All (IsHaulFor best.now relation.now) hauls.items }
+    requires slots { AreSlots relation.now (lengths_of seat.old) slots.old.items }
+    ensures seat { IsSeatFor best.now relation.now seat.new }
+    ensures kept { Keeps (lengths_of seat.old) (lengths_of seat.new) }
+    ensures slots { AreSlots relation.now (lengths_of seat.new) slots.new.items }
+{
+    for haul in hauls {
+        put_haul(relation, best, seat, haul, slots);
+    }
+}
+
+/// The row in a place, or else a row that is made here.
+fn row_or<G: Gate>(
+    alloc: Global,
+    relation: &Arc<Relation>,
+    source: EventId,
+    slot: Option<LabelRow>,
+    best: &Best,
+    seat: &mut BestSeat,
+    gate: &G,
+) -> Result<LabelRow, OutOfMemory>
+    requires source { source < length (arc_value relation.now) }
+    requires seat { IsSeatFor best.now (arc_value relation.now) seat.old }
+    requires slot { IfSome slot (IsRowFrom (arc_value relation.now) (lengths_of seat.old) source) }
+    ensures seat { IsSeatFor best.now (arc_value relation.now) seat.new }
+    ensures kept { Keeps (lengths_of seat.old) (lengths_of seat.new) }
+    ensures row { IfOk result (IsRowFrom (arc_value relation.now) (lengths_of seat.new) source) }
+{
+    if let Some(row) = slot {
+        return Ok(row);
+    }
+    let job = SourceJob::new(relation, source)?;
+    gate.begin(0, source as usize);
+    let made = row_under(alloc, &job, best, seat);
+    gate.done(0, source as usize);
+    made
+}
+
+/// The rows of all events, by event: those in the places, and the missing ones made here.
+pub(crate) fn filled<G: Gate>(
+    alloc: Global,
+    relation: &Arc<Relation>,
+    slots: Vec<Option<LabelRow>>,
+    best: &Best,
+    seat: &mut BestSeat,
+    gate: &G,
+) -> Result<Vec<LabelRow>, OutOfMemory>
+    requires seat { IsSeatFor best.now (arc_value relation.now) seat.old }
+    requires slots { AreSlots (arc_value relation.now) (lengths_of seat.old) slots.items }
+    ensures seat { IsSeatFor best.now (arc_value relation.now) seat.new }
+    ensures kept { Keeps (lengths_of seat.old) (lengths_of seat.new) }
+    ensures rows { IfOk result (λ rows. AreFilled (arc_value relation.now) (lengths_of seat.new)
+        (length (arc_value relation.now)) rows.items) }
+{
+    relation.sound();
+    let mut rows = Vec::with_capacity(alloc, slots.len())?;
+    let mut source = 0;
+    for slot in slots {
+        rows.push(row_or(alloc, relation, source, slot, best, seat, gate)?)?;
+        source += 1;
+    }
+    Ok(rows)
+}
