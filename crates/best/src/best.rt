@@ -33,6 +33,7 @@ impl Best {
         requires short { length cycle.now ≤ length relation.now }
         ensures seat { IsSeatOf self.now seat.new }
         ensures new { known_of seat.new ≡ knows (known_of seat.old) (length cycle.now) }
+        ensures relation { (known_of seat.new).relation ≡ (known_of seat.old).relation }
     {
         relation.sound();
         seat.lower(cycle);
@@ -44,6 +45,7 @@ impl Best {
         requires seat { IsSeatOf self.now seat.old }
         ensures seat { IsSeatOf self.now seat.new }
         ensures reads { Says (known_of seat.old) result (known_of seat.new) }
+        ensures relation { (known_of seat.new).relation ≡ (known_of seat.old).relation }
     {
         let found = seat.load();
         if found == NONE {

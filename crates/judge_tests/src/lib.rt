@@ -4,6 +4,8 @@
 #[cfg(test)]
 mod bits;
 #[cfg(test)]
+mod bound;
+#[cfg(test)]
 mod certificates;
 #[cfg(test)]
 mod forced;
@@ -13,3 +15,5 @@ mod orders;
 mod recordings;
 #[cfg(test)]
 mod verification;
+#[cfg(test)]
+mod workers;

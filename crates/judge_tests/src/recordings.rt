@@ -29,6 +29,23 @@ pub const Y0: Event = Event::L {
     s: None,
 };
 
+/// A store of 1 to z.
+pub const Z1: Event = Event::S { a: 2, w: 1 };
+
+/// A load of z that reads event 4.
+pub const READ_Z1: Event = Event::L {
+    a: 2,
+    r: 1,
+    s: Some(4),
+};
+
+/// A load of z that reads the initial value.
+pub const Z0: Event = Event::L {
+    a: 2,
+    r: 0,
+    s: None,
+};
+
 /// A load of x that reads event 0.
 pub const OWN_X1: Event = Event::L {
     a: 0,
@@ -80,6 +97,13 @@ pub const STORE_BUFFERING_FENCED: Parts = (
 pub const BYPASSING: Parts = (&[&[X1, OWN_X1, Y0], &[Y1, X2]], &[&[4, 0], &[3]]);
 
 pub const MESSAGE_PASSING: Parts = (&[&[X1, Y1], &[READ_Y1, X0]], &[&[0], &[1]]);
+
+/// Message passing, and a core that reads a store and then the value before it: the cycles `0 1 2 3`
+/// and `4 5 6`.
+pub const THREE_AND_FOUR: Parts = (
+    &[&[X1, Y1], &[READ_Y1, X0], &[Z1], &[READ_Z1, Z0]],
+    &[&[0], &[1], &[4]],
+);
 
 pub const OVERLOOKED_STORE: Parts = (&[&[X1, X0]], &[&[0]]);
 
