@@ -1,13 +1,18 @@
 //! The bound that workers share.
 
-ghost use Rattle.std.specs.Prelude.{◌≡◌, true, ◌∷◌, []};
+ghost use Rattle.std.specs.Prelude.{◌≡◌, true, ◌∷◌, [], IfOk};
+ghost use Rattle.std.specs.Arc.{arc_value};
 ghost use Rattle.relations.specs.Relation.{Related};
 ghost use Rattle.relations.specs.Cycle.{IsCycle};
+ghost use Rattle.best.specs.Seats.{IsSeatOf, known_of};
+ghost use Rattle.search.specs.SourceRow.{AreShared};
+ghost use Rattle.search.specs.Bound.{IsSeatFor};
 
 use crate::recordings::{THREE_AND_FOUR, related};
-use best::Best;
+use best::{Best, BestSeat};
 use relations::Relation;
-use search::{jobs, row_under};
+use search::{SourceJob, jobs, row_under};
+use std::alloc::Global;
 use std::sync::Arc;
 use std::test::Fail;
 
@@ -15,10 +20,7 @@ use std::test::Fail;
 fn is_first(relation: &Relation) -> bool
     ensures { result ≡ true → IsCycle (Related relation.now) (0 ∷ 1 ∷ 2 ∷ 3 ∷ []) }
 {
-    relation.forced(0, 1)
-        && relation.forced(1, 2)
-        && relation.forced(2, 3)
-        && relation.forced(3, 0)
+    relation.forced(0, 1) && relation.forced(1, 2) && relation.forced(2, 3) && relation.forced(3, 0)
 }
 
 /// Whether events 4 to 6 are a cycle.
@@ -49,26 +51,54 @@ fn seats_read_the_least_length(rt: HostRuntime) -> Result<(), Fail> {
     Ok(())
 }
 
+/// A bound for a relation, and its first seat.
+pub fn opened(alloc: Global, shared: &Arc<Relation>) -> Result<(Best, BestSeat), Fail>
+    ensures seat { IfOk result (λ r. IsSeatOf r.0 r.1) }
+    ensures relation { IfOk result (λ r. (known_of r.1).relation ≡ arc_value shared.now) }
+{
+    let relation: &Relation = shared;
+    Ok(Best::open(alloc, relation).ok().ok_or("out of memory")?)
+}
+
+/// A job for each event of a relation.
+pub fn jobs_of(alloc: Global, shared: &Arc<Relation>) -> Result<Vec<SourceJob>, Fail>
+    ensures { IfOk result (λ v. AreShared (arc_value shared.now) v.items) }
+{
+    let again = Arc::try_clone(shared)?;
+    match jobs(alloc, again) {
+        Ok(jobs) => Ok(jobs),
+        Err(_) => Err(Fail::from("out of memory")),
+    }
+}
+
+/// The cap of a job's row, and what the seat reads afterwards.
+fn cap_of(
+    alloc: Global,
+    job: &SourceJob,
+    best: &Best,
+    seat: &mut BestSeat,
+) -> Result<(Option<u16>, Option<u16>), Fail>
+    requires { IsSeatFor best.now job.now.relation seat.old }
+    ensures { IsSeatFor best.now job.now.relation seat.new }
+{
+    let made = row_under(alloc, job, best, seat);
+    let read = best.read(seat);
+    let row = made.ok().ok_or("out of memory")?;
+    Ok((row.cap(), read))
+}
+
 #[test]
 fn a_row_is_cut_at_what_another_found(rt: HostRuntime) -> Result<(), Fail> {
     let alloc = rt.alloc();
     let shared = Arc::new(alloc, related(alloc, THREE_AND_FOUR)?)?;
-    let table: &Relation = &shared;
-    let jobs = jobs(alloc, Arc::try_clone(&shared)?)
-        .ok()
-        .ok_or("out of memory")?;
-    let (best, mut seat) = Best::open(alloc, table).ok().ok_or("out of memory")?;
+    let jobs = jobs_of(alloc, &shared)?;
+    let (best, mut seat) = opened(alloc, &shared)?;
     if jobs.len() != 7 {
         return Err(Fail::from("a job for each event"));
     }
-    let later = row_under(alloc, &jobs[4], &best, &mut seat)
-        .ok()
-        .ok_or("out of memory")?;
-    assert_eq!(rt; later.cap(), None);
-    assert_eq!(rt; best.read(&mut seat), Some(3));
-    let first = row_under(alloc, &jobs[0], &best, &mut seat)
-        .ok()
-        .ok_or("out of memory")?;
-    assert_eq!(rt; first.cap(), Some(3));
+    let later = cap_of(alloc, &jobs[4], &best, &mut seat)?;
+    assert_eq!(rt; later, (None, Some(3)));
+    let first = cap_of(alloc, &jobs[0], &best, &mut seat)?;
+    assert_eq!(rt; first, (Some(3), Some(3)));
     Ok(())
 }

@@ -85,38 +85,38 @@ pub const SWAP_OF_ITSELF: Event = Event::R {
 };
 
 /// The events of each core, and the write list of each address.
-pub type Parts = (&'static [&'static [Event]], &'static [&'static [EventId]]);
+pub type EventLists = (&'static [&'static [Event]], &'static [&'static [EventId]]);
 
-pub const STORE_BUFFERING: Parts = (&[&[X1, Y0], &[Y1, X0]], &[&[0], &[2]]);
+pub const STORE_BUFFERING: EventLists = (&[&[X1, Y0], &[Y1, X0]], &[&[0], &[2]]);
 
-pub const STORE_BUFFERING_FENCED: Parts = (
+pub const STORE_BUFFERING_FENCED: EventLists = (
     &[&[X1, Event::F, Y0], &[Y1, Event::F, X0]],
     &[&[0], &[3]],
 );
 
-pub const BYPASSING: Parts = (&[&[X1, OWN_X1, Y0], &[Y1, X2]], &[&[4, 0], &[3]]);
+pub const BYPASSING: EventLists = (&[&[X1, OWN_X1, Y0], &[Y1, X2]], &[&[4, 0], &[3]]);
 
-pub const MESSAGE_PASSING: Parts = (&[&[X1, Y1], &[READ_Y1, X0]], &[&[0], &[1]]);
+pub const MESSAGE_PASSING: EventLists = (&[&[X1, Y1], &[READ_Y1, X0]], &[&[0], &[1]]);
 
 /// Message passing, and a core that reads a store and then the value before it: the cycles `0 1 2 3`
 /// and `4 5 6`.
-pub const THREE_AND_FOUR: Parts = (
+pub const THREE_AND_FOUR: EventLists = (
     &[&[X1, Y1], &[READ_Y1, X0], &[Z1], &[READ_Z1, Z0]],
     &[&[0], &[1], &[4]],
 );
 
-pub const OVERLOOKED_STORE: Parts = (&[&[X1, X0]], &[&[0]]);
+pub const OVERLOOKED_STORE: EventLists = (&[&[X1, X0]], &[&[0]]);
 
-pub const TWIN_SWAPS: Parts = (&[&[SWAP_X], &[SWAP_X]], &[&[0, 1]]);
+pub const TWIN_SWAPS: EventLists = (&[&[SWAP_X], &[SWAP_X]], &[&[0, 1]]);
 
-pub const SELF_SOURCE: Parts = (&[&[SWAP_OF_ITSELF]], &[&[0]]);
+pub const SELF_SOURCE: EventLists = (&[&[SWAP_OF_ITSELF]], &[&[0]]);
 
-pub const LOAD_AND_STORE: Parts = (&[&[X0, X1]], &[&[1]]);
+pub const LOAD_AND_STORE: EventLists = (&[&[X0, X1]], &[&[1]]);
 
-pub const TWO_CYCLES: Parts = (&[&[SWAP_X, SWAP_Y], &[SWAP_X, SWAP_Y]], &[&[0, 2], &[1, 3]]);
+pub const TWO_CYCLES: EventLists = (&[&[SWAP_X, SWAP_Y], &[SWAP_X, SWAP_Y]], &[&[0, 2], &[1, 3]]);
 
 /// The recording of some parts.
-pub fn recorded(alloc: Global, parts: Parts) -> Result<Recording, Fail> {
+pub fn recorded(alloc: Global, parts: EventLists) -> Result<Recording, Fail> {
     let (cores, writes) = parts;
     Ok(
         Recording::from_lists(alloc, cores, writes)
@@ -126,7 +126,7 @@ pub fn recorded(alloc: Global, parts: Parts) -> Result<Recording, Fail> {
 }
 
 /// The forced pairs of a recording.
-pub fn related(alloc: Global, parts: Parts) -> Result<Relation, Fail> {
+pub fn related(alloc: Global, parts: EventLists) -> Result<Relation, Fail> {
     let recording = recorded(alloc, parts)?;
     Ok(Relation::of(alloc, &recording).ok().ok_or("out of memory")?)
 }

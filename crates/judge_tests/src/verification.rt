@@ -1,7 +1,8 @@
 //! Verdicts that are checked.
 
 use crate::recordings::{
-    MESSAGE_PASSING, OVERLOOKED_STORE, Parts, STORE_BUFFERING, STORE_BUFFERING_FENCED, recorded,
+    EventLists, MESSAGE_PASSING, OVERLOOKED_STORE, STORE_BUFFERING, STORE_BUFFERING_FENCED,
+    recorded,
 };
 use judge::{Verdict, judge, judge_alone, verify};
 use labels::Certificate;
@@ -30,7 +31,7 @@ fn is_verified(alloc: Global, recording: &Recording, verdict: &Verdict) -> Resul
 #[test]
 fn verdicts_pass_their_check(rt: HostRuntime) -> Result<(), Fail> {
     let alloc = rt.alloc();
-    let rows: [(&str, Parts, &[EventId]); 4] = [
+    let rows: [(&str, EventLists, &[EventId]); 4] = [
         ("store_buffering", STORE_BUFFERING, &[1, 2, 3, 0]),
         (
             "store_buffering_fenced",

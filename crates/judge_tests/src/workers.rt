@@ -2,13 +2,15 @@
 
 ghost use Rattle.std.specs.Prelude.{◌≤◌};
 ghost use Rattle.litmus.specs.declared.limits.TheConstants.{MAX_WORKERS};
+ghost use Rattle.best.specs.Seats.{IsSeatOf, known_of};
+ghost use Rattle.search.specs.SourceRow.{AreShared};
 
+use crate::bound::{jobs_of, opened};
 use crate::recordings::{THREE_AND_FOUR, recorded, related};
-use best::Best;
+use best::{Best, BestSeat};
 use judge::{Verdict, judge_gated};
 use litmus::{Gate, OpenGate};
-use relations::Relation;
-use search::{jobs, least_length, run_jobs};
+use search::{SourceJob, least_length, run_jobs};
 use std::alloc::Global;
 use std::sync::atomic::{AtomicBool, AtomicU64, Ordering};
 use std::sync::{Arc, Wait};
@@ -34,7 +36,11 @@ struct Watch {
 
 /// The 8 bits of a piece.
 fn byte_of(word: u64, piece: usize) -> u64 {
-    if piece < PIECES { word >> (8 * piece) & 255 } else { 255 }
+    if piece < PIECES {
+        word >> (8 * piece) & 255
+    } else {
+        255
+    }
 }
 
 impl Watch {
@@ -111,6 +117,30 @@ impl Gate for Watch {
 }
 
 /// The length that workers leave in the seat, where it is the cap of the rows too.
+fn length_by<G: Gate>(
+    rt: &(impl Threads + Wait + Sync),
+    alloc: Global,
+    jobs: Vec<SourceJob>,
+    best: &Best,
+    seat: &mut BestSeat,
+    workers: usize,
+    gate: &G,
+) -> Result<Option<u16>, Fail>
+    requires seat { IsSeatOf best.now seat.old }
+    requires jobs { AreShared (known_of seat.old).relation jobs.items }
+    requires workers { (1 ≤ workers) × (workers ≤ MAX_WORKERS) }
+{
+    let rows = run_jobs(rt, alloc, jobs, best, seat, workers, gate)
+        .ok()
+        .ok_or("out of memory")?;
+    let read = best.read(seat);
+    Ok(if least_length(&rows) == read {
+        read
+    } else {
+        None
+    })
+}
+
 fn found_by<G: Gate>(
     rt: &(impl Threads + Wait + Sync),
     alloc: Global,
@@ -120,16 +150,9 @@ fn found_by<G: Gate>(
     requires { (1 ≤ workers) × (workers ≤ MAX_WORKERS) }
 {
     let shared = Arc::new(alloc, related(alloc, THREE_AND_FOUR)?)?;
-    let table: &Relation = &shared;
-    let jobs = jobs(alloc, Arc::try_clone(&shared)?)
-        .ok()
-        .ok_or("out of memory")?;
-    let (best, mut seat) = Best::open(alloc, table).ok().ok_or("out of memory")?;
-    let rows = run_jobs(rt, alloc, jobs, &best, &mut seat, workers, gate)
-        .ok()
-        .ok_or("out of memory")?;
-    let read = best.read(&mut seat);
-    Ok(if least_length(&rows) == read { read } else { None })
+    let jobs = jobs_of(alloc, &shared)?;
+    let (best, mut seat) = opened(alloc, &shared)?;
+    length_by(rt, alloc, jobs, &best, &mut seat, workers, gate)
 }
 
 #[test]
@@ -154,7 +177,7 @@ fn a_judge_waits_for_no_worker(rt: HostRuntime) -> Result<(), Fail> {
     let Verdict::Cycle(certificate) = verdict else {
         return Err(Fail::from("a cycle"));
     };
-    assert_eq!(rt; certificate.cycle.as_slice(), &[4, 5, 6]);
+    assert_eq!(rt; certificate.cycle.as_slice(), [4, 5, 6].as_slice());
     assert!(rt; watch.is_right());
     Ok(())
 }
