@@ -10,13 +10,30 @@ use recording::{Kind, recording};
 use std::time::{Duration, Instant};
 
 unsafe extern "C" {
-    fn verdicts_judge(text: *const u8, text_len: usize, out: *mut u8, out_len: usize) -> usize;
+    fn verdicts_judge(
+        text: *const u8,
+        text_len: usize,
+        out: *mut u8,
+        out_len: usize,
+        len: *mut usize,
+    ) -> u8;
 }
 
-/// The text of the verdict on a recording, at the front of `out`; 0 where there is none.
+/// Writes the text of the verdict on a recording to the front of `out`, and answers its length.
 fn judge(text: &str, out: &mut [u8]) -> usize {
-    // The library reads `text` and writes `out`, each within its length.
-    unsafe { verdicts_judge(text.as_ptr(), text.len(), out.as_mut_ptr(), out.len()) }
+    let mut len = 0;
+    // The library reads `text` and writes `out`, each within its length, and `len`.
+    let status = unsafe {
+        verdicts_judge(
+            text.as_ptr(),
+            text.len(),
+            out.as_mut_ptr(),
+            out.len(),
+            &mut len,
+        )
+    };
+    assert_eq!(status, 0, "no verdict");
+    len
 }
 
 /// The median of the times of so many calls, in milliseconds.
@@ -49,7 +66,10 @@ fn main() {
             let plain = median(1001, || {
                 std::hint::black_box(plain::judge(std::hint::black_box(&text)));
             });
-            println!("{events:6}  {:7}  {first:11}  {proved:.3} ms  {plain:.3} ms", kind.name());
+            println!(
+                "{events:6}  {:7}  {first:11}  {proved:.3} ms  {plain:.3} ms",
+                kind.name()
+            );
         }
     }
 }

@@ -1,5 +1,7 @@
--- What stands in front after a recording was judged.
-use Rattle.std.specs.Prelude.{◌≡◌, ◌≤◌, ℕ, List, Ok, length, take}
+-- What is known after the bytes of a recording were judged.
+use Rattle.std.specs.Prelude.{◌≡◌, ◌≢◌, ◌≤◌, ◌<◌, ◌++◌, ℕ, List, Ok, Err, drop, length}
+use Rattle.recorder.specs.declared.fault.RecError.{RecError}
+use Rattle.recorder.specs.declared.fault.RecError.TheVariants.{OutOfMemory}
 use Rattle.recorder.specs.Execution.{Execution}
 use Rattle.recorder.specs.Reading.{IsReadingResult}
 use Rattle.judge.specs.declared.verdict.Verdict.{Verdict}
@@ -12,9 +14,29 @@ pub record IsTextOfVerdict (x : Execution) (text : List ℕ) : Type 0 where
   pub found : IsVerdict x verdict
   pub printed : IsVerdictText x verdict text
 
--- the first n bytes are the text of the verdict on the recording that the text gives
-pub record IsJudgedText (text : List ℕ) (n : ℕ) (out : List ℕ) : Type 0 where
+-- the text of the verdict on the recording that the bytes give
+pub record IsTextOfBytes (bytes text : List ℕ) : Type 0 where
   pub recording : Execution
-  pub read : IsReadingResult text (Ok recording)
-  pub within : n ≤ length out
-  pub judged : IsTextOfVerdict recording (take n out)
+  pub read : IsReadingResult bytes (Ok recording)
+  pub judged : IsTextOfVerdict recording text
+
+-- the bytes give no recording, and not for want of memory
+pub record IsRefused (bytes : List ℕ) : Type 0 where
+  pub refusal : RecError
+  pub read : IsReadingResult bytes (Err refusal)
+  pub known : refusal ≢ OutOfMemory
+
+-- the text of the verdict, n bytes long, stands in front of what else the buffer had
+pub record IsWritten (bytes old new : List ℕ) (n : ℕ) : Type 0 where
+  pub text : List ℕ
+  pub judged : IsTextOfBytes bytes text
+  pub length_is : n ≡ length text
+  pub within : length text ≤ length old
+  pub written : new ≡ text ++ drop (length text) old
+
+-- the text of the verdict, n bytes long, has no room in the buffer
+pub record IsTooLong (bytes old : List ℕ) (n : ℕ) : Type 0 where
+  pub text : List ℕ
+  pub judged : IsTextOfBytes bytes text
+  pub length_is : n ≡ length text
+  pub longer : length old < length text

@@ -1,14 +1,23 @@
 //! Verdicts for programs in C or Rust: bytes in, bytes out.
 #![tactic(auto)]
 
-ghost use Rattle.std.specs.Prelude.{◌≡◌, ◌<◌, IfOk, length};
-ghost use Rattle.verdicts.specs.Judged.{IsJudgedText, IsTextOfVerdict};
+ghost use Rattle.std.specs.Prelude.{◌≡◌, ◌≢◌, ◌≤◌, ◌⊎◌, IfErr, IfOk};
+ghost use Rattle.verdicts.specs.Judged.{IsRefused, IsTextOfBytes, IsTextOfVerdict, IsTooLong, IsWritten};
 
 use judge::judge_alone;
 use litmus::OutOfMemory;
-use recorder::{Recording, read_recording};
+use recorder::{RecError, Recording, read_recording};
 use report::verdict_text;
 use std::alloc::Global;
+
+/// The text of the verdict was written.
+pub const WRITTEN: u8 = 0;
+/// The bytes are no recording.
+pub const REFUSED: u8 = 1;
+/// The text of the verdict is longer than the buffer.
+pub const TOO_LONG: u8 = 2;
+/// There is no memory.
+pub const OUT_OF_MEMORY: u8 = 3;
 
 /// The text of the verdict on a recording.
 fn text_of(alloc: Global, recording: &Recording) -> Result<Vec<u8>, OutOfMemory>
@@ -18,25 +27,61 @@ fn text_of(alloc: Global, recording: &Recording) -> Result<Vec<u8>, OutOfMemory>
     verdict_text(alloc, recording, &verdict)
 }
 
-/// Writes the text of the verdict on the recording that the bytes are to the front of `out`, and
-/// answers its length in bytes. The answer is 0, and `out` stays, where the bytes are refused, the
-/// text is longer than `out`, or there is no memory. It waits for nobody and starts no thread.
-#[unsafe(no_mangle)]
-pub extern "C" fn verdicts_judge(alloc: Global, recording: &[u8], out: &mut [u8]) -> usize
-    ensures text { 0 < result → IsJudgedText recording.now result out.new }
-    ensures unwritten { result ≡ 0 → out.new ≡ out.old }
+/// The status of bytes that were not read.
+fn unread(refusal: RecError) -> u8
+    ensures one { (result ≡ REFUSED) ⊎ (result ≡ OUT_OF_MEMORY) }
+    ensures refused { result ≡ REFUSED → refusal ≢ RecError.OutOfMemory }
 {
-    let Ok(recording) = read_recording(alloc, recording) else {
-        return 0;
+    match refusal {
+        RecError::OutOfMemory => OUT_OF_MEMORY,
+        _ => REFUSED,
+    }
+}
+
+/// The text of the verdict on the recording that the bytes give, or else `REFUSED` or `OUT_OF_MEMORY`.
+fn text_of_bytes(alloc: Global, bytes: &[u8]) -> Result<Vec<u8>, u8>
+    ensures ok { IfOk result (λ text. IsTextOfBytes bytes.now text.items) }
+    ensures one { IfErr result (λ status. (status ≡ REFUSED) ⊎ (status ≡ OUT_OF_MEMORY)) }
+    ensures refused { IfErr result (λ status. status ≡ REFUSED → IsRefused bytes.now) }
+{
+    match read_recording(alloc, bytes) {
+        Ok(recording) => match text_of(alloc, &recording) {
+            Ok(text) => Ok(text),
+            Err(_) => Err(OUT_OF_MEMORY),
+        },
+        Err(refusal) => Err(unread(refusal)),
+    }
+}
+
+/// Writes the text of the verdict on the recording that the bytes give to the front of `out`, of which
+/// the rest stays, and its length in bytes to `len`. The answer is 0 where it was written, 1 where the
+/// bytes are no recording, 2 where the text is longer than `out`, and 3 where there is no memory. Except
+/// at 0, `out` stays; at 1 and 3, `len` is 0. It waits for nobody and starts no thread.
+#[unsafe(no_mangle)]
+pub extern "C" fn verdicts_judge(
+    alloc: Global,
+    recording: &[u8],
+    out: &mut [u8],
+    len: &mut usize,
+) -> u8
+    ensures status { result ≤ OUT_OF_MEMORY }
+    ensures written { result ≡ WRITTEN → IsWritten recording.now out.old out.new len.new }
+    ensures refused { result ≡ REFUSED → IsRefused recording.now }
+    ensures too_long { result ≡ TOO_LONG → IsTooLong recording.now out.old len.new }
+    ensures unwritten { result ≢ WRITTEN → out.new ≡ out.old }
+    ensures no_length { (result ≡ REFUSED) ⊎ (result ≡ OUT_OF_MEMORY) → len.new ≡ 0 }
+{
+    *len = 0;
+    let text = match text_of_bytes(alloc, recording) {
+        Ok(text) => text,
+        Err(status) => return status,
     };
-    let Ok(text) = text_of(alloc, &recording) else {
-        return 0;
-    };
+    *len = text.len();
     if out.len() < text.len() {
-        return 0;
+        return TOO_LONG;
     }
     out[..text.len()].copy_from_slice(&text);
-    text.len()
+    WRITTEN
 }
 
 #[cfg(test)]
