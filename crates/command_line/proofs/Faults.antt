@@ -1,4 +1,4 @@
--- What clap says of words that it doesn't take, and what stands in those that it takes.
+-- What clap says of words that it doesn't take.
 use Rattle.std.proofs.Common.{◌≡◌, ◌≢◌, Bool, true, false, refl, sym, subst, inl, inr, List, Option, Result}
 use Rattle.std.proofs.Common.{Ok, Err, IfErr, IfOk, IsErrAnd}
 use Rattle.clap.specs.Words.{HasKind, IsAmong, Row, Text, fault_of, kind_of, takes}
@@ -6,11 +6,9 @@ use Rattle.clap.specs.declared.error.Error.{Error}
 use Rattle.clap.specs.declared.error.kind.ErrorKind.TheVariants as kinds
 use Rattle.command_line.specs.declared.options.Options.{Options}
 use Rattle.command_line.specs.declared.options.OptionFault.{OptionFault}
-use Rattle.command_line.specs.declared.options.OptionFault.TheVariants.{Clap, Limit, Buffer, NoValue}
-use Rattle.command_line.specs.declared.options.OptionFault.TheVariants.{OutOfMemory}
+use Rattle.command_line.specs.declared.options.OptionFault.TheVariants.{Clap, Limit, Buffer, OutOfMemory}
 use Rattle.command_line.specs.Commands.{AreFaultless, command_of, program_app}
 use Rattle.command_line.specs.Options.{IsCommandFault, IsFault, IsSaid}
-use Rattle.command_line.proofs.Taken.{no_value_is_lacking}
 
 -- what doesn't hold where a test passes, doesn't let it pass
 not_passed : {P : Type 0} (b : Bool) → (b ≡ true → P) → (P → ⊥) → b ≡ false
@@ -37,7 +35,6 @@ said_fault e (Clap x) words passes found said = (
 )
 said_fault e Limit words passes found said = absurd said
 said_fault e Buffer words passes found said = absurd said
-said_fault e (NoValue name) words passes found said = absurd said
 said_fault e OutOfMemory words passes found said = tt
 
 -- the same of an answer that is clap's error
@@ -53,7 +50,6 @@ command_fault : (f : OptionFault) (words : List Text) → AreFaultless words →
 command_fault (Clap error) words taken fault = absurd fault
 command_fault Limit words taken fault = (taken, fault)
 command_fault Buffer words taken fault = (taken, fault)
-command_fault (NoValue name) words taken fault = no_value_is_lacking name words taken fault
 command_fault OutOfMemory words taken fault = tt
 
 -- the same of an answer

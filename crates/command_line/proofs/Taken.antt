@@ -1,10 +1,9 @@
 -- Words that clap takes have each value that their command requires, and its numbers are numbers.
 use Rattle.std.proofs.Common.{◌≡◌, ◌∙◌, ◌++◌, ◌&&◌, ◌||◌, ℕ, Bool, cond, true, false, not, true≢false, refl}
-use Rattle.std.proofs.Common.{sym, ap, subst, inl, inr, arith, List, [], ◌∷◌, length, Option, Some, None}
+use Rattle.std.proofs.Common.{sym, ap, subst, arith, List, [], ◌∷◌, length, Option, Some, None}
 use Rattle.std.proofs.Common.{IfSome, is_some, codes}
 use Rattle.std.specs.Prelude.{⊤, IsSomeAnd, find, option_and_then, option_map, slice_get}
 use Rattle.std.specs.Option.{option_map_or}
-use Rattle.std.specs.Borrow.{Bor}
 use Rattle.std.specs.List.{list_any}
 use Rattle.std.specs.Str.{bytes_eq}
 use Rattle.std.proofs.lemmas.Slice.Eq.{bytes_eq-Decides}
@@ -27,11 +26,9 @@ use Rattle.clap.specs.declared.builder.value_parser.Reading.TheVariants.{AsWritt
 use Rattle.clap.specs.declared.builder.value_parser.ValueParser.TheVariants.{Unsigned}
 use Rattle.clap.specs.declared.parser.matches.ValueSource.TheVariants.{CommandLine}
 use Rattle.clap.specs.declared.error.kind.ErrorKind.TheVariants as kinds
-use Rattle.command_line.specs.declared.options.OptionFault.TheVariants.{NoValue}
 use Rattle.command_line.specs.Commands.{AreFaultless, buffer_rule, command_of, file_rule, judge_app, limit_rule}
 use Rattle.command_line.specs.Commands.{live_app, program_app, program_rule, replay_app, run_app, steps_rule}
-use Rattle.command_line.specs.Options.{HasNoNumber, IsCommandFault, IsFileFault, IsLiveFault, IsNoCommand}
-use Rattle.command_line.specs.Options.{IsRunFault}
+use Rattle.command_line.specs.Options.{HasEntries, HasLiveEntries, HasNumber, HasRunEntries, HasText}
 use Rattle.command_line.proofs.Walks.{Each, IsEntered, Keeps, each_found, faultless, found_is, no_kinds}
 use Rattle.command_line.proofs.Walks.{none_first, none_then}
 
@@ -123,23 +120,22 @@ number_fits id v passed = λ _. accepts-Accepts false (Unsigned 0 most) v
 -- ---- what the entries give
 
 -- the entry of a number is one
-number_entry : (id : Text) (rows : List Row) → is_number id ≡ true → AreFit rows → HasNoNumber id rows → ⊥
+number_entry : (id : Text) (rows : List Row) → is_number id ≡ true → AreFit rows → HasNumber id rows
 number_entry id rows number fit = go (find (λ r. bytes_eq r.id id) rows)
     (each_found IsFitRow (λ r. bytes_eq r.id id) rows fit)
   where
     read : (name : Text) (how : Reading) (values : List Text) → how ≡ AsWritten → FirstIsFit name values
-        → is_number name ≡ true
-        → IsSomeAnd (option_map (read_as how) (slice_get values 0)) (λ text. IsUnsignedIn 0 most text → ⊥) → ⊥
-    read name how [] written first numeric none = absurd first
-    read name how (v ∷ vs) written first numeric none = subst (λ x. IsUnsignedIn 0 most (read_as x v) → ⊥)
-        written none (first numeric)
+        → is_number name ≡ true → IfSome (option_map (read_as how) (slice_get values 0)) (IsUnsignedIn 0 most)
+    read name how [] written first numeric = absurd first
+    read name how (v ∷ vs) written first numeric = subst (λ x. IsUnsignedIn 0 most (read_as x v))
+        (sym written) (first numeric)
 
     go : (o : Option Row) → IfSome o (λ r. (bytes_eq r.id id ≡ true) × IsFitRow r)
-        → IsSomeAnd (option_and_then row_text o) (λ text. IsUnsignedIn 0 most text → ⊥) → ⊥
-    go None is none = absurd none
-    go (Some r) is none =
+        → IfSome (option_and_then row_text o) (IsUnsignedIn 0 most)
+    go None is = tt
+    go (Some r) is =
         let same : r.id ≡ id = (bytes_eq-Decides r.id id).0 is.0 in
-        read r.id r.reading r.values is.1.0 is.1.1 (ap is_number same ∙ number) none
+        read r.id r.reading r.values is.1.0 is.1.1 (ap is_number same ∙ number)
 
 -- what was given has a value
 given_entry : (id : Text) (rows : List Row) → AreFit rows → is_given id rows ≡ true → first_of id rows ≡ None
@@ -253,117 +249,97 @@ replay_keeps = (file_keeps, (help_keeps, tt))
 abbrev IsRead : Shape → List Text → Type 0
 IsRead s words = level_fault s [] nothing_held words false [] ≡ []
 
-run_fault : (name : Bor Text) (words : List Text) → IsRead (leaf run_app) words
-    → IsRunFault (NoValue name) (rows_after (leaf run_app).rules [] words) → ⊥
-run_fault name words read fault =
+-- its entries are what it requires
+run_entries : (words : List Text) → IsRead (leaf run_app) words
+    → HasRunEntries (rows_after (leaf run_app).rules [] words)
+run_entries words read =
     let is = faultless AreFit (leaf run_app) run_keeps (refl, (refl, (refl, (refl, tt)))) [] words false []
     read tt in
     let rows = rows_after (leaf run_app).rules [] words in
     let first = first_given program (steps ∷ buffer ∷ filled help_rule ∷ []) rows refl
     (wanted (leaf run_app) rows false is.check).1 in
     let second = first_given steps (buffer ∷ filled help_rule ∷ []) rows refl first.1 in
-    elim fault [
-      | inl none ↦ given_entry (codes "PROGRAM") rows is.rows first.0 none
-      | inr more ↦ elim more [
-        | inl none ↦ given_entry (codes "steps") rows is.rows second.0 none
-        | inr none ↦ number_entry (codes "buffer") rows refl is.rows none
-      ]
-    ]
+    record {
+      program = given_entry (codes "PROGRAM") rows is.rows first.0;
+      steps = given_entry (codes "steps") rows is.rows second.0;
+      buffer = number_entry (codes "buffer") rows refl is.rows;
+    }
 
-live_fault : (name : Bor Text) (words : List Text) → IsRead (leaf live_app) words
-    → IsLiveFault (NoValue name) (rows_after (leaf live_app).rules [] words) → ⊥
-live_fault name words read fault =
+live_entries : (words : List Text) → IsRead (leaf live_app) words
+    → HasLiveEntries (rows_after (leaf live_app).rules [] words)
+live_entries words read =
     let is = faultless AreFit (leaf live_app) live_keeps (refl, (refl, (refl, (refl, tt)))) [] words false []
     read tt in
     let rows = rows_after (leaf live_app).rules [] words in
     let first = first_given program (buffer ∷ limit ∷ filled help_rule ∷ []) rows refl
     (wanted (leaf live_app) rows false is.check).1 in
-    elim fault [
-      | inl none ↦ given_entry (codes "PROGRAM") rows is.rows first.0 none
-      | inr more ↦ elim more [
-        | inl none ↦ number_entry (codes "limit") rows refl is.rows none
-        | inr none ↦ number_entry (codes "buffer") rows refl is.rows none
-      ]
-    ]
+    record {
+      program = given_entry (codes "PROGRAM") rows is.rows first.0;
+      buffer = number_entry (codes "buffer") rows refl is.rows;
+      limit = number_entry (codes "limit") rows refl is.rows;
+    }
 
-judge_fault : (name : Bor Text) (words : List Text) → IsRead (leaf judge_app) words
-    → IsFileFault (NoValue name) (rows_after (leaf judge_app).rules [] words) → ⊥
-judge_fault name words read fault =
+judge_entry : (words : List Text) → IsRead (leaf judge_app) words
+    → HasText (codes "FILE") (rows_after (leaf judge_app).rules [] words)
+judge_entry words read =
     let is = faultless AreFit (leaf judge_app) judge_keeps (refl, (refl, tt)) [] words false [] read tt in
     let rows = rows_after (leaf judge_app).rules [] words in
     given_entry (codes "FILE") rows is.rows
     (first_given file (filled help_rule ∷ []) rows refl
-    (wanted (leaf judge_app) rows false is.check).1).0 fault
+    (wanted (leaf judge_app) rows false is.check).1).0
 
-replay_fault : (name : Bor Text) (words : List Text) → IsRead (leaf replay_app) words
-    → IsFileFault (NoValue name) (rows_after (leaf replay_app).rules [] words) → ⊥
-replay_fault name words read fault =
+replay_entry : (words : List Text) → IsRead (leaf replay_app) words
+    → HasText (codes "FILE") (rows_after (leaf replay_app).rules [] words)
+replay_entry words read =
     let is = faultless AreFit (leaf replay_app) replay_keeps (refl, (refl, tt)) [] words false [] read tt in
     let rows = rows_after (leaf replay_app).rules [] words in
     given_entry (codes "FILE") rows is.rows
     (first_given file (filled help_rule ∷ []) rows refl
-    (wanted (leaf replay_app) rows false is.check).1).0 fault
+    (wanted (leaf replay_app) rows false is.check).1).0
 
 -- ---- the command that the words name
 
-no_fault : (name : Bor Text) (command : Text) (rows : List Row) → (IsNoCommand command → ⊥)
-    → (command ≡ codes "run" → IsRunFault (NoValue name) rows → ⊥)
-    → (command ≡ codes "judge" → IsFileFault (NoValue name) rows → ⊥)
-    → (command ≡ codes "live" → IsLiveFault (NoValue name) rows → ⊥)
-    → (command ≡ codes "replay" → IsFileFault (NoValue name) rows → ⊥)
-    → IsCommandFault (NoValue name) (Some (command, rows)) → ⊥
-no_fault name command rows none run judge live replay fault = elim fault [
-  | inl h ↦ none h
-  | inr h ↦ elim h [
-    | inl f ↦ run f.0 f.1
-    | inr h ↦ elim h [
-      | inl f ↦ judge f.0 f.1
-      | inr h ↦ elim h [
-        | inl f ↦ live f.0 f.1
-        | inr f ↦ replay f.0 f.1
-      ]
-    ]
-  ]
-]
-
 -- the names of the commands differ in length
-differ : {X : Type 0} (a b : Text) (m n : ℕ) → length a ≡ m → length b ≡ n → (m ≡ n → ⊥) → a ≡ b → X → ⊥
-differ a b m n first second unequal same x = unequal (sym first ∙ ap length same ∙ second)
+differ : {X : Type 0} (a b : Text) (m n : ℕ) → length a ≡ m → length b ≡ n → (m ≡ n → ⊥) → a ≡ b → X
+differ a b m n first second unequal same = absurd (unequal (sym first ∙ ap length same ∙ second))
 
-run_entered : (name : Bor Text) (words : List Text) → IsRead (leaf run_app) words
-    → IsCommandFault (NoValue name) (Some (rows_at (leaf run_app) words)) → ⊥
-run_entered name words read = no_fault name (codes "run") (rows_after (leaf run_app).rules [] words)
-    (λ none. none.0 refl) (λ _ f. run_fault name words read f)
-    (differ (codes "run") (codes "judge") 3 5 refl refl (λ e. omega arith))
-    (differ (codes "run") (codes "live") 3 4 refl refl (λ e. omega arith))
-    (differ (codes "run") (codes "replay") 3 6 refl refl (λ e. omega arith))
+run_entered : (words : List Text) → IsRead (leaf run_app) words → HasEntries (rows_at (leaf run_app) words)
+run_entered words read = record {
+  known = λ none. none.0 refl;
+  run = λ _. run_entries words read;
+  judge = differ (codes "run") (codes "judge") 3 5 refl refl (λ e. omega arith);
+  live = differ (codes "run") (codes "live") 3 4 refl refl (λ e. omega arith);
+  replay = differ (codes "run") (codes "replay") 3 6 refl refl (λ e. omega arith);
+}
 
-judge_entered : (name : Bor Text) (words : List Text) → IsRead (leaf judge_app) words
-    → IsCommandFault (NoValue name) (Some (rows_at (leaf judge_app) words)) → ⊥
-judge_entered name words read = no_fault name (codes "judge") (rows_after (leaf judge_app).rules [] words)
-    (λ none. none.1 refl)
-    (differ (codes "judge") (codes "run") 5 3 refl refl (λ e. omega arith))
-    (λ _ f. judge_fault name words read f)
-    (differ (codes "judge") (codes "live") 5 4 refl refl (λ e. omega arith))
-    (differ (codes "judge") (codes "replay") 5 6 refl refl (λ e. omega arith))
+judge_entered : (words : List Text) → IsRead (leaf judge_app) words
+    → HasEntries (rows_at (leaf judge_app) words)
+judge_entered words read = record {
+  known = λ none. none.1 refl;
+  run = differ (codes "judge") (codes "run") 5 3 refl refl (λ e. omega arith);
+  judge = λ _. judge_entry words read;
+  live = differ (codes "judge") (codes "live") 5 4 refl refl (λ e. omega arith);
+  replay = differ (codes "judge") (codes "replay") 5 6 refl refl (λ e. omega arith);
+}
 
-live_entered : (name : Bor Text) (words : List Text) → IsRead (leaf live_app) words
-    → IsCommandFault (NoValue name) (Some (rows_at (leaf live_app) words)) → ⊥
-live_entered name words read = no_fault name (codes "live") (rows_after (leaf live_app).rules [] words)
-    (λ none. none.2 refl)
-    (differ (codes "live") (codes "run") 4 3 refl refl (λ e. omega arith))
-    (differ (codes "live") (codes "judge") 4 5 refl refl (λ e. omega arith))
-    (λ _ f. live_fault name words read f)
-    (differ (codes "live") (codes "replay") 4 6 refl refl (λ e. omega arith))
+live_entered : (words : List Text) → IsRead (leaf live_app) words → HasEntries (rows_at (leaf live_app) words)
+live_entered words read = record {
+  known = λ none. none.2 refl;
+  run = differ (codes "live") (codes "run") 4 3 refl refl (λ e. omega arith);
+  judge = differ (codes "live") (codes "judge") 4 5 refl refl (λ e. omega arith);
+  live = λ _. live_entries words read;
+  replay = differ (codes "live") (codes "replay") 4 6 refl refl (λ e. omega arith);
+}
 
-replay_entered : (name : Bor Text) (words : List Text) → IsRead (leaf replay_app) words
-    → IsCommandFault (NoValue name) (Some (rows_at (leaf replay_app) words)) → ⊥
-replay_entered name words read = no_fault name (codes "replay") (rows_after (leaf replay_app).rules [] words)
-    (λ none. none.3 refl)
-    (differ (codes "replay") (codes "run") 6 3 refl refl (λ e. omega arith))
-    (differ (codes "replay") (codes "judge") 6 5 refl refl (λ e. omega arith))
-    (differ (codes "replay") (codes "live") 6 4 refl refl (λ e. omega arith))
-    (λ _ f. replay_fault name words read f)
+replay_entered : (words : List Text) → IsRead (leaf replay_app) words
+    → HasEntries (rows_at (leaf replay_app) words)
+replay_entered words read = record {
+  known = λ none. none.3 refl;
+  run = differ (codes "replay") (codes "run") 6 3 refl refl (λ e. omega arith);
+  judge = differ (codes "replay") (codes "judge") 6 5 refl refl (λ e. omega arith);
+  live = differ (codes "replay") (codes "live") 6 4 refl refl (λ e. omega arith);
+  replay = λ _. replay_entry words read;
+}
 
 or_false : (b : Bool) → (b || false) ≡ true → b ≡ true
 or_false true is = refl
@@ -376,58 +352,54 @@ help_entered word answers entered =
     let is : codes "help" ≡ word = (bytes_eq-Decides (codes "help") word).0 (or_false _ answers) in
     true≢false (subst (λ w. (bytes_eq w (codes "help") && true) ≡ false) (sym is) entered)
 
--- what the entries of the command s lack, where the word names it
-abbrev LacksNothing : Bor Text → Text → List Text → Shape → Type 0
-LacksNothing name word words s = answers_to word (label_of s) ≡ true → IsRead s words
-    → IsCommandFault (NoValue name) (Some (rows_at s words)) → ⊥
+-- what the command s has, where the word names it
+abbrev IsWhole : Text → List Text → Shape → Type 0
+IsWhole word words s = answers_to word (label_of s) ≡ true → IsRead s words → HasEntries (rows_at s words)
 
-each_lacks_nothing : (name : Bor Text) (word : Text) (words : List Text)
-    → IsEntered (built program_app).top word → Each (LacksNothing name word words) (built program_app).subs
-each_lacks_nothing name word words entered = (
-  (λ _ read. run_entered name words read),
+each_is_whole : (word : Text) (words : List Text) → IsEntered (built program_app).top word
+    → Each (IsWhole word words) (built program_app).subs
+each_is_whole word words entered = (
+  (λ _ read. run_entered words read),
   (
-    (λ _ read. judge_entered name words read),
+    (λ _ read. judge_entered words read),
     (
-      (λ _ read. live_entered name words read),
+      (λ _ read. live_entered words read),
       (
-        (λ _ read. replay_entered name words read),
-        ((λ answers read fault. help_entered word answers entered), tt),
+        (λ _ read. replay_entered words read),
+        ((λ answers read. absurd (help_entered word answers entered)), tt),
       ),
     ),
   ),
 )
 
-found_lacks_nothing : (name : Bor Text) (word : Text) (words : List Text) (subs : List Shape)
-    → Each (LacksNothing name word words) subs
+found_is_whole : (word : Text) (words : List Text) (subs : List Shape) → Each (IsWhole word words) subs
     → option_map_or (λ s. level_fault s [] nothing_held words false [])
     (find (λ s. answers_to word (label_of s)) subs) [] ≡ []
-    → IfSome (option_map (λ s. rows_at s words) (find (λ s. answers_to word (label_of s)) subs))
-    (λ p. IsCommandFault (NoValue name) (Some p) → ⊥)
-found_lacks_nothing name word words subs each none =
+    → IfSome (option_map (λ s. rows_at s words) (find (λ s. answers_to word (label_of s)) subs)) HasEntries
+found_is_whole word words subs each none =
     go (find (λ s. answers_to word (label_of s)) subs)
-    (each_found (LacksNothing name word words) (λ s. answers_to word (label_of s)) subs each) none
+    (each_found (IsWhole word words) (λ s. answers_to word (label_of s)) subs each) none
   where
-    go : (o : Option Shape) → IfSome o (λ s. (answers_to word (label_of s) ≡ true)
-        × LacksNothing name word words s)
+    go : (o : Option Shape) → IfSome o (λ s. (answers_to word (label_of s) ≡ true) × IsWhole word words s)
         → option_map_or (λ s. level_fault s [] nothing_held words false []) o [] ≡ []
-        → IfSome (option_map (λ s. rows_at s words) o) (λ p. IsCommandFault (NoValue name) (Some p) → ⊥)
+        → IfSome (option_map (λ s. rows_at s words) o) HasEntries
     go None is none = tt
     go (Some s) is none = is.1 is.0 none
 
-entered_lacks_nothing : (name : Bor Text) (stop : Option (Text × List Text))
+entered_is_whole : (stop : Option (Text × List Text))
     → IfSome stop (λ p. IsEntered (built program_app).top p.0) → entered_fault (built program_app) stop ≡ []
-    → IfSome (entered (built program_app) stop) (λ p. IsCommandFault (NoValue name) (Some p) → ⊥)
-entered_lacks_nothing name None stops none = tt
-entered_lacks_nothing name (Some p) stops none = found_lacks_nothing name p.0 p.1 (built program_app).subs
-    (each_lacks_nothing name p.0 p.1 stops) none
+    → IfSome (entered (built program_app) stop) HasEntries
+entered_is_whole None stops none = tt
+entered_is_whole (Some p) stops none = found_is_whole p.0 p.1 (built program_app).subs
+    (each_is_whole p.0 p.1 stops) none
 
 has_command : (b : Bool) → (not b && true) ≡ false → b ≡ true
 has_command true is = refl
 has_command false is = absurd (true≢false is)
 
-pub no_value_is_lacking : (name : Bor Text) (words : List Text) → AreFaultless words
-    → IsCommandFault (NoValue name) (command_of words) → ⊥
-no_value_is_lacking name words taken =
+-- words that clap takes name a command, and have what it requires
+pub command_is_whole : (words : List Text) → AreFaultless words → IsSomeAnd (command_of words) HasEntries
+command_is_whole words taken =
     let app = built program_app in
     let stop = stop_after app.top.rules (names_of app) words in
     let top = faultless (λ _. ⊤) app.top ((λ again values rows none good. tt), tt) (refl, tt) (names_of app)
@@ -435,9 +407,8 @@ no_value_is_lacking name words taken =
     let rows = rows_after app.top.rules (names_of app) words in
     go (entered app stop) (has_command (is_some (entered app stop))
     (wanted app.top rows (is_some (entered app stop)) top.check).0)
-    (entered_lacks_nothing name stop top.stop top.below_none)
+    (entered_is_whole stop top.stop top.below_none)
   where
-    go : (o : Option (Text × List Row)) → is_some o ≡ true
-        → IfSome o (λ p. IsCommandFault (NoValue name) (Some p) → ⊥) → IsCommandFault (NoValue name) o → ⊥
-    go None some is fault = true≢false (sym some)
-    go (Some p) some is fault = is fault
+    go : (o : Option (Text × List Row)) → is_some o ≡ true → IfSome o HasEntries → IsSomeAnd o HasEntries
+    go None some is = absurd (true≢false (sym some))
+    go (Some p) some is = is

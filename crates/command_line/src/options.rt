@@ -1,9 +1,9 @@
 //! The options, from what `clap` reads of the words.
-ghost use Rattle.std.specs.Prelude.{◌≡◌, IfErr, IfNone, IfOk, IfSome, option_map};
+ghost use Rattle.std.specs.Prelude.{◌≡◌, IfErr, IfOk, Some, codes};
 ghost use Rattle.clap.specs.Words.{first_of, found_of, one_of, rows_of};
-ghost use Rattle.command_line.specs.Options.{AreFileOptions, AreLiveOptions, AreRunOptions, HasNoNumber};
-ghost use Rattle.command_line.specs.Options.{IsCapacity, IsCapacityFault, IsFileFault, IsLiveFault};
-ghost use Rattle.command_line.specs.Options.{IsRunFault, number_or};
+ghost use Rattle.command_line.specs.Options.{AreFileOptions, AreLiveOptions, AreRunOptions, HasLiveEntries};
+ghost use Rattle.command_line.specs.Options.{HasNumber, HasRunEntries, HasText, IsCapacity, IsCapacityFault};
+ghost use Rattle.command_line.specs.Options.{IsLiveFault, IsRunFault, number_or};
 
 use clap::ArgMatches;
 use clap::error::ErrorKind;
@@ -68,8 +68,6 @@ pub enum OptionFault {
     Limit,
     /// The buffer's capacity is not from 1 to `MAX_CAPACITY`.
     Buffer,
-    /// `clap` lacks a value that its command requires.
-    NoValue(&'static str),
     /// There is no memory.
     OutOfMemory,
 }
@@ -109,34 +107,36 @@ impl From<clap::Error> for OptionFault {
     }
 }
 
-/// The text of an argument or an option, where there is one.
-fn value<'a>(matches: &ArgMatches<'a>, id: &str) -> Option<&'a str>
-    ensures { option_map (λ s. s.now) result ≡ first_of id.now (rows_of (found_of matches.now)) }
+/// The text of an argument or an option.
+fn text<'a>(matches: &ArgMatches<'a>, id: &str) -> &'a str
+    requires { HasText id.now (rows_of (found_of matches.now)) }
+    ensures { first_of id.now (rows_of (found_of matches.now)) ≡ Some result.now }
 {
-    matches.get_str(id)
+    let Some(text) = matches.get_str(id) else {
+        unreachable!()
+    };
+    text
 }
 
-/// The number of an option, or its default where there is no entry. None where an entry is no number.
-fn number_or(matches: &ArgMatches<'_>, id: &str, default: u64) -> Option<u64>
-    ensures number { IfSome result (λ n. n ≡ number_or default
-        (one_of id.now (rows_of (found_of matches.now)))) }
-    ensures none { IfNone result (HasNoNumber id.now (rows_of (found_of matches.now))) }
+/// The number of an option, or its default where there is no entry.
+fn number_or(matches: &ArgMatches<'_>, id: &str, default: u64) -> u64
+    requires { HasNumber id.now (rows_of (found_of matches.now)) }
+    ensures { result ≡ number_or default (one_of id.now (rows_of (found_of matches.now))) }
 {
     match matches.try_get_one::<u64>(id) {
-        Ok(Some(n)) => Some(n),
-        Ok(None) => Some(default),
-        Err(_) => None,
+        Ok(Some(n)) => n,
+        Ok(None) => default,
+        Err(_) => unreachable!(),
     }
 }
 
 /// The capacity of a buffer that the entries ask for, or its default, within its limits.
 fn capacity(matches: &ArgMatches<'_>) -> Result<usize, OptionFault>
+    requires { HasNumber (codes "buffer") (rows_of (found_of matches.now)) }
     ensures ok { IfOk result (λ n. IsCapacity n (rows_of (found_of matches.now))) }
     ensures err { IfErr result (λ fault. IsCapacityFault fault (rows_of (found_of matches.now))) }
 {
-    let Some(buffer) = number_or(matches, "buffer", DEFAULT_BUFFER as u64) else {
-        return Err(OptionFault::NoValue("--buffer"));
-    };
+    let buffer = number_or(matches, "buffer", DEFAULT_BUFFER as u64);
     if buffer < 1 || (MAX_CAPACITY as u64) < buffer {
         return Err(OptionFault::Buffer);
     }
@@ -146,54 +146,42 @@ fn capacity(matches: &ArgMatches<'_>) -> Result<usize, OptionFault>
 /// The options of `run`: each is `clap`'s entry, else its default, and a capacity outside its limits
 /// is refused.
 pub fn run_options(alloc: Global, matches: &ArgMatches<'_>) -> Result<RunOptions, OptionFault>
+    requires { HasRunEntries (rows_of (found_of matches.now)) }
     ensures ok { IfOk result (λ o. AreRunOptions o (rows_of (found_of matches.now))) }
     ensures err { IfErr result (λ fault. IsRunFault fault (rows_of (found_of matches.now))) }
 {
-    let Some(program) = value(matches, "PROGRAM") else {
-        return Err(OptionFault::NoValue("PROGRAM"));
-    };
-    let Some(steps) = value(matches, "steps") else {
-        return Err(OptionFault::NoValue("--steps"));
-    };
     let buffer = capacity(matches)?;
     Ok(RunOptions {
-        program: String::from_str(alloc, program)?,
-        steps: String::from_str(alloc, steps)?,
+        program: String::from_str(alloc, text(matches, "PROGRAM"))?,
+        steps: String::from_str(alloc, text(matches, "steps"))?,
         buffer,
     })
 }
 
 /// The options of `judge` and of `replay`: the file is `clap`'s entry.
-pub fn file_options(alloc: Global, matches: &ArgMatches<'_>) -> Result<FileOptions, OptionFault>
-    ensures ok { IfOk result (λ o. AreFileOptions o (rows_of (found_of matches.now))) }
-    ensures err { IfErr result (λ fault. IsFileFault fault (rows_of (found_of matches.now))) }
+pub fn file_options(alloc: Global, matches: &ArgMatches<'_>) -> Result<FileOptions, AllocError>
+    requires { HasText (codes "FILE") (rows_of (found_of matches.now)) }
+    ensures { IfOk result (λ o. AreFileOptions o (rows_of (found_of matches.now))) }
 {
-    let Some(file) = value(matches, "FILE") else {
-        return Err(OptionFault::NoValue("FILE"));
-    };
     Ok(FileOptions {
-        file: String::from_str(alloc, file)?,
+        file: String::from_str(alloc, text(matches, "FILE"))?,
     })
 }
 
 /// The options of `live`: each is `clap`'s entry, else its default. A limit outside its own limits is
 /// refused before a capacity outside its limits.
 pub fn live_options(alloc: Global, matches: &ArgMatches<'_>) -> Result<LiveOptions, OptionFault>
+    requires { HasLiveEntries (rows_of (found_of matches.now)) }
     ensures ok { IfOk result (λ o. AreLiveOptions o (rows_of (found_of matches.now))) }
     ensures err { IfErr result (λ fault. IsLiveFault fault (rows_of (found_of matches.now))) }
 {
-    let Some(program) = value(matches, "PROGRAM") else {
-        return Err(OptionFault::NoValue("PROGRAM"));
-    };
-    let Some(limit) = number_or(matches, "limit", DEFAULT_LIMIT as u64) else {
-        return Err(OptionFault::NoValue("--limit"));
-    };
+    let limit = number_or(matches, "limit", DEFAULT_LIMIT as u64);
     if limit < 1 || (MAX_STEPS as u64) < limit {
         return Err(OptionFault::Limit);
     }
     let buffer = capacity(matches)?;
     Ok(LiveOptions {
-        program: String::from_str(alloc, program)?,
+        program: String::from_str(alloc, text(matches, "PROGRAM"))?,
         buffer,
         limit: limit as usize,
     })

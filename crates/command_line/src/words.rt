@@ -1,7 +1,7 @@
 //! The words of a command line.
-ghost use Rattle.std.specs.Prelude.{◌≡◌, IfErr, IfOk, map, option_map, string_bytes};
+ghost use Rattle.std.specs.Prelude.{◌≡◌, IfErr, IfOk, IsSomeAnd, map, option_map, string_bytes};
 ghost use Rattle.clap.specs.Words.{found_of, rows_of, subcommand_rows_of};
-ghost use Rattle.command_line.specs.Options.{AreOptions, IsCommandFault, IsFault};
+ghost use Rattle.command_line.specs.Options.{AreOptions, HasEntries, IsCommandFault, IsFault};
 ghost use Rattle.command_line.specs.Commands.{AreFaultless, command_of};
 
 use crate::command::{Texts, command};
@@ -18,11 +18,12 @@ fn entered<'m, 'a>(matches: &'m ArgMatches<'a>) -> Option<(&'a str, &'m ArgMatch
 }
 
 fn command_options(alloc: Global, matches: &ArgMatches<'_>) -> Result<Options, OptionFault>
+    requires { IsSomeAnd (subcommand_rows_of matches.now) HasEntries }
     ensures ok { IfOk result (λ o. AreOptions o (subcommand_rows_of matches.now)) }
     ensures err { IfErr result (λ fault. IsCommandFault fault (subcommand_rows_of matches.now)) }
 {
     let Some((name, entries)) = entered(matches) else {
-        return Err(OptionFault::NoValue("the command"));
+        unreachable!()
     };
     if name == "run" {
         let run = run_options(alloc, entries)?;
@@ -40,7 +41,7 @@ fn command_options(alloc: Global, matches: &ArgMatches<'_>) -> Result<Options, O
         let replay = file_options(alloc, entries)?;
         return Ok(Options::Replay(replay));
     }
-    Err(OptionFault::NoValue("the command"))
+    unreachable!()
 }
 
 /// The options that the words ask for. They come without the program's name.

@@ -1,5 +1,5 @@
 -- What the inputs of a command give.
-use Rattle.std.specs.Prelude.{◌≡◌, ℕ, List, Option, IfSome, ⊤, string_bytes}
+use Rattle.std.specs.Prelude.{◌≡◌, ℕ, List, Option, None, IfSome, ⊤, string_bytes}
 use Rattle.commands.specs.declared.fault.CommandFault.{CommandFault}
 use Rattle.commands.specs.declared.fault.CommandFault.TheVariants.{CannotOpen, ReadFailed, OutOfMemory}
 
@@ -7,9 +7,9 @@ use Rattle.commands.specs.declared.fault.CommandFault.TheVariants.{CannotOpen, R
 abbrev pub AreBytesOf : (List ℕ → Option (List ℕ)) → List ℕ → List ℕ → Type 0
 AreBytesOf inputs name bytes = IfSome (inputs name) (λ known. bytes ≡ known)
 
--- an input of such a name can't be read, or memory is wanting
-abbrev pub IsInputFault : (List ℕ → Type 0) → CommandFault → Type 0
-IsInputFault IsName (CannotOpen name) = IsName (string_bytes name)
-IsInputFault IsName ReadFailed = ⊤
-IsInputFault IsName OutOfMemory = ⊤
-IsInputFault IsName other = ⊥
+-- why the input of this name isn't read: its bytes are not known, or memory is wanting
+abbrev pub IsInputFault : (List ℕ → Option (List ℕ)) → List ℕ → CommandFault → Type 0
+IsInputFault inputs name (CannotOpen missing) = (string_bytes missing ≡ name) × (inputs name ≡ None)
+IsInputFault inputs name ReadFailed = inputs name ≡ None
+IsInputFault inputs name OutOfMemory = ⊤
+IsInputFault inputs name other = ⊥

@@ -32,4 +32,4 @@ pub record IsJudgedInput (inputs : List ℕ
 abbrev pub IsJudgeStop : (List ℕ → Option (List ℕ)) → FileOptions → Stop → Type 0
 IsJudgeStop inputs o (Refused line) = (bytes : List ℕ) × AreBytesOf inputs (string_bytes o.file) bytes
     × IsUnread bytes (Refused line)
-IsJudgeStop inputs o (Fault fault) = IsInputFault (λ name. name ≡ string_bytes o.file) fault
+IsJudgeStop inputs o (Fault fault) = IsInputFault inputs (string_bytes o.file) fault

@@ -13,23 +13,13 @@ use Rattle.commands.specs.declared.answer.Stop.{Stop}
 use Rattle.commands.specs.declared.answer.Stop.TheVariants.{Refused, Fault}
 use Rattle.commands.specs.declared.answer.TheConstants.{DONE, REFUSED}
 use Rattle.commands.specs.declared.fault.CommandFault.{CommandFault}
-use Rattle.commands.specs.declared.fault.CommandFault.TheVariants.{
-  CommandLine,
-  NoThread,
-  Stranger,
-  WriteFailed,
-}
+use Rattle.commands.specs.declared.fault.CommandFault.TheVariants.{CommandLine, NoThread, Stranger}
+use Rattle.commands.specs.declared.fault.CommandFault.TheVariants.{WriteFailed}
 use Rattle.commands.specs.declared.fault.CommandFault.TheVariants as fault
 use Rattle.command_line.specs.declared.options.Options.{Options}
 use Rattle.command_line.specs.declared.options.Options.TheVariants.{Run, Judge, Live, Replay}
 use Rattle.command_line.specs.declared.options.OptionFault.{OptionFault}
-use Rattle.command_line.specs.declared.options.OptionFault.TheVariants.{
-  Clap,
-  Limit,
-  Buffer,
-  NoValue,
-  OutOfMemory,
-}
+use Rattle.command_line.specs.declared.options.OptionFault.TheVariants.{Clap, Limit, Buffer, OutOfMemory}
 use Rattle.command_line.specs.Commands.{command_of}
 use Rattle.command_line.specs.declared.options.LiveOptions.{LiveOptions}
 use Rattle.command_line.specs.declared.options.RunOptions.{RunOptions}
@@ -56,12 +46,22 @@ pub record IsScriptRefused (inputs : List ℕ → Option (List ℕ)) (o : RunOpt
   pub given : AreBytesOf inputs (string_bytes o.steps) text
   pub refused : IsReadingStop step_fault_name (steps_of program text) stop
 
--- a line of refusal is that of the named program, or of the named script; a fault is one of reading them
+-- the named script isn't read for the named program, which is
+pub record IsScriptFault (inputs : List ℕ
+    → Option (List ℕ)) (o : RunOptions) (fault : CommandFault) : Type 0 where
+  pub program_text : List ℕ
+  pub program_given : AreBytesOf inputs (string_bytes o.program) program_text
+  pub program : Parts
+  pub read : reading program_text ≡ Ok program
+  pub unread : IsInputFault inputs (string_bytes o.steps) fault
+
+-- a line of refusal is that of the named program, or of the named script for it; a fault is one of
+-- reading them
 abbrev pub IsRunStop : (List ℕ → Option (List ℕ)) → RunOptions → Stop → Type 0
 IsRunStop inputs o (Refused line) = IsProgramRefused inputs (string_bytes o.program) (Refused line)
     ⊎ IsScriptRefused inputs o (Refused line)
 IsRunStop inputs o (Fault fault) =
-    IsInputFault (λ name. (name ≡ string_bytes o.program) ⊎ (name ≡ string_bytes o.steps)) fault
+    IsInputFault inputs (string_bytes o.program) fault ⊎ IsScriptFault inputs o fault
 
 -- the fault that an error of threads is; they have no other errors
 abbrev pub thread_fault : LiveError → CommandFault
@@ -74,7 +74,7 @@ abbrev pub IsLiveStop : (List ℕ → Option (List ℕ)) → LiveOptions → Sto
 IsLiveStop inputs o (Refused line) = IsProgramRefused inputs (string_bytes o.program) (Refused line)
 IsLiveStop inputs o (Fault NoThread) = ⊤
 IsLiveStop inputs o (Fault Stranger) = ⊤
-IsLiveStop inputs o (Fault fault) = IsInputFault (λ name. name ≡ string_bytes o.program) fault
+IsLiveStop inputs o (Fault fault) = IsInputFault inputs (string_bytes o.program) fault
 
 -- what a command answers to its options and inputs
 abbrev pub IsAnswerTo : (List ℕ → Option (List ℕ)) → Options → Answer → Type 0
@@ -99,19 +99,16 @@ abbrev pub IsHelp : OptionFault → Answer → Type 0
 IsHelp (Clap error) answer = (answer.status ≡ DONE) × (IsMistake error → ⊥)
 IsHelp Limit answer = ⊥
 IsHelp Buffer answer = ⊥
-IsHelp (NoValue name) answer = ⊥
 IsHelp OutOfMemory answer = ⊥
 
 -- without options a line of refusal is that of a limit or of a buffer's capacity, and a fault is
--- what clap says or lacks
+-- what clap says
 abbrev pub IsOptionStop : OptionFault → Stop → Type 0
 IsOptionStop (Clap error) (Refused line) = ⊥
 IsOptionStop Limit (Refused line) = string_bytes line ≡ codes "refused: K6" ++ 10 ∷ []
 IsOptionStop Buffer (Refused line) = string_bytes line ≡ codes "refused: K7" ++ 10 ∷ []
-IsOptionStop (NoValue name) (Refused line) = ⊥
 IsOptionStop OutOfMemory (Refused line) = ⊥
 IsOptionStop (Clap error) (Fault (CommandLine said)) = (said ≡ error) × IsMistake error
-IsOptionStop (NoValue name) (Fault (fault.NoValue said)) = said ≡ name
 IsOptionStop other (Fault fault.OutOfMemory) = ⊤
 IsOptionStop other (Fault fault) = ⊥
 

@@ -90,4 +90,4 @@ pub record IsReplayedInput (inputs : List ℕ
 abbrev pub IsReplayStop : (List ℕ → Option (List ℕ)) → FileOptions → Stop → Type 0
 IsReplayStop inputs o (Refused line) = (bytes : List ℕ) × AreBytesOf inputs (string_bytes o.file) bytes
     × IsUnreplayed bytes (Refused line)
-IsReplayStop inputs o (Fault fault) = IsInputFault (λ name. name ≡ string_bytes o.file) fault
+IsReplayStop inputs o (Fault fault) = IsInputFault inputs (string_bytes o.file) fault

@@ -17,9 +17,6 @@ pub enum CommandFault {
     /// A word of the command line is not UTF-8.
     #[error("tsotest: the command line is not text")]
     NotText,
-    /// `clap` accepted the words and lacks a value that its command requires.
-    #[error("tsotest: no value of {0}")]
-    NoValue(&'static str),
     /// No file of this name can be opened.
     #[error("tsotest: cannot open {0}")]
     CannotOpen(String),

@@ -38,7 +38,6 @@ fn without_options(alloc: Global, fault: OptionFault) -> Result<Answer, Stop>
         }
         OptionFault::Limit => Err(Stop::Refused(String::from_str(alloc, "refused: K6\n")?)),
         OptionFault::Buffer => Err(Stop::Refused(String::from_str(alloc, "refused: K7\n")?)),
-        OptionFault::NoValue(name) => Err(Stop::Fault(CommandFault::NoValue(name))),
         OptionFault::OutOfMemory => Err(Stop::Fault(CommandFault::OutOfMemory)),
     }
 }

@@ -1,6 +1,6 @@
 //! Where a command's inputs come from.
 
-use std::io::Read;
+use std::io;
 
 /// Why an input was not given.
 #[derive(Clone, Copy, Debug, PartialEq, Eq)]
@@ -11,13 +11,30 @@ pub enum InputFault {
     OutOfMemory,
 }
 
+/// The bytes of an opened input, which are read from the first to the last.
+pub trait InputBytes {
+    ghost use Rattle.std.specs.Prelude.{◌≡◌, ℕ, List, Option, None, IfErr};
+    ghost use Rattle.std.specs.Io.{ReadsAtMost};
+    ghost use Rattle.std.specs.Io.KnownBytes.{ReadConsumes};
+
+    /// The bytes that reads give from here on, where they are known.
+    ghost remaining: { Self → Option (List ℕ) } = { λ _. None };
+
+    /// Reads bytes to the front of `buf` and answers how many; none only behind the last, or with no room.
+    fn read(&mut self, buf: &mut [u8]) -> io::Result<usize>
+        ensures bound { ReadsAtMost result buf.new }
+        ensures bytes { ReadConsumes (remaining self.old) (remaining self.new) result buf.new }
+        // What is known can be read.
+        ensures unknown { IfErr result (λ _. remaining self.old ≡ None) };
+}
+
 /// Gives inputs by name.
 pub trait Place {
-    ghost use Rattle.std.specs.Prelude.{◌≡◌, ℕ, List, Option, None, IfOk};
+    ghost use Rattle.std.specs.Prelude.{◌≡◌, ℕ, List, Option, None, IfErr, IfOk};
     ghost use Rattle.std.specs.Io.KnownBytes.{Keeps};
 
     /// An opened input.
-    type Input: Read + Drop;
+    type Input: InputBytes + Drop;
 
     /// The bytes that the input of each name gives, where they are known.
     ghost bytes: { Self → List ℕ → Option (List ℕ) } = { λ _ _. None };
@@ -25,6 +42,9 @@ pub trait Place {
     /// The input of a name, opened.
     fn input(&mut self, name: &str) -> Result<Self::Input, InputFault>
         ensures given { IfOk result (λ input. Keeps (bytes self.old name.now) (Self.Input.remaining input)) }
+        // What is known can be opened, but for want of memory.
+        ensures fault { IfErr result (λ fault. fault ≡ InputFault.CannotOpen
+            → bytes self.old name.now ≡ None) }
         // To open an input changes none.
         ensures kept { bytes self.new ≡ bytes self.old };
 }

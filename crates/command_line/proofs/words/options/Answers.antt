@@ -1,8 +1,11 @@
-use Rattle.std.proofs.Common.{◌≡◌, ◌∙◌, ap, map, refl, string_bytes, subst, sym, true}
-use Rattle.clap.specs.Words.{App, HasKind, fault_of, is_simple, is_simple_and_free, subcommand_of}
+use Rattle.std.proofs.Common.{◌≡◌, ◌∙◌, List, Option, ap, map, refl, string_bytes, subst, sym, true}
+use Rattle.std.specs.Prelude.{IsSomeAnd}
+use Rattle.clap.specs.Words.{App, HasKind, Row, Text, fault_of, is_simple, is_simple_and_free, subcommand_of}
 use Rattle.clap.specs.Words.{subcommand_rows_of, takes}
 use Rattle.command_line.specs.Commands.{AreFaultless, program_app}
+use Rattle.command_line.specs.Options.{HasEntries}
 use Rattle.command_line.proofs.Faults.{err_fault, known_ok, taken_fault}
+use Rattle.command_line.proofs.Taken.{command_is_whole}
 use Rattle.command_line.proofs.words.options.Goals as goal
 
 -- clap's contract says all of this command line's words
@@ -21,6 +24,17 @@ returns-in_err-matches-clause-err c =
     (subst (λ (app : App). HasKind (fault_of app words) c.in_err-matches.field-0.0) c.in_ok-command.ensures
     found)
     c.from_residual-in_err-matches.ensures.1
+
+pub command_options-requires : goal.command_options-requires
+command_options-requires c =
+    let words = map (λ word. string_bytes word) c.args.words.now in
+    let none = c.in_ok-matches.ensures.kinds (ap is_simple_and_free c.in_ok-command.ensures ∙ free) in
+    let taken : AreFaultless words = ap (λ (app : App). fault_of app words) (sym c.in_ok-command.ensures)
+    ∙ none in
+    let rows = (c.in_ok-matches.ensures.matches (ap is_simple c.in_ok-command.ensures ∙ simple)).1 in
+    let command = ap (λ (app : App). subcommand_of app words) c.in_ok-command.ensures in
+    subst (λ (o : Option (Text × List Row)). IsSomeAnd o HasEntries) (sym (rows ∙ command))
+    (command_is_whole words taken)
 
 pub returns-clause-err : goal.returns-clause-err
 returns-clause-err c =
