@@ -119,7 +119,7 @@ impl Traced {
     }
 
     /// Takes a step and adds it to the trace. A full trace is answered first, then a blocked step;
-    /// both change nothing. It takes no memory.
+    /// both change nothing. It can't fail for want of memory.
     pub fn advance(&mut self, step: Step) -> Result<(), LiveError>
         ensures ok { OnOk result (advance_answer self.old step ≡ Ok self.new) }
         ensures refused { IfErr result (λ e. advance_answer self.old step ≡ Err e) }
