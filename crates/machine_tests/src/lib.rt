@@ -16,4 +16,6 @@ mod scripts;
 #[cfg(test)]
 mod threads;
 #[cfg(test)]
+mod told;
+#[cfg(test)]
 mod traces;

@@ -1,0 +1,174 @@
+//! What a gate is told, and who takes the steps.
+
+use litmus::{EventId, Gate, OpenGate, Program, parse};
+use live::drive;
+use machine::Step;
+use recorder::Event;
+use std::alloc::Global;
+use std::sync::Wait;
+use std::sync::atomic::{AtomicBool, AtomicU64, Ordering};
+use std::test::*;
+use std::thread;
+use std::thread::Threads;
+
+const LIMIT: usize = 100_000;
+
+/// Three cores, of which one has no operation.
+const THREE: &str = "core\nst x 1\nld y\nld x\ncore\ncore\nadd x 2\nst y 3\n";
+
+/// A core that writes, and one that reads.
+const WRITE_AND_READ: &str = "core\nswap x 1\ncore\nld x\n";
+
+fn program(alloc: Global, text: &str) -> Result<Program, Fail> {
+    Ok(parse(alloc, text.as_bytes()).ok().ok_or("a program")?)
+}
+
+/// Whether a flag is set within some time.
+fn comes(flag: &AtomicBool) -> bool {
+    for _ in 0..10_000_000 {
+        if flag.load(Ordering::SeqCst) {
+            return true;
+        }
+        thread::yield_now();
+    }
+    false
+}
+
+/// What was told of a core's first step: 0 nothing, 1 that it begins, 2 that it is done.
+#[derive(Drop)]
+struct Told {
+    cores: [AtomicU64; 3],
+    others: AtomicBool,
+}
+
+impl Told {
+    /// One call more of a core, which has to be the next one.
+    fn next(&self, worker: usize, piece: usize, before: u64, after: u64) {
+        match self.cores.get(piece) {
+            Some(told) if worker == piece && told.load(Ordering::SeqCst) == before => {
+                told.store(after, Ordering::SeqCst);
+            }
+            _ => self.others.store(true, Ordering::SeqCst),
+        }
+    }
+}
+
+impl Gate for Told {
+    fn begin(&self, worker: usize, piece: usize) {
+        self.next(worker, piece, 0, 1);
+    }
+
+    fn done(&self, worker: usize, piece: usize) {
+        self.next(worker, piece, 1, 2);
+    }
+}
+
+#[test]
+fn each_core_begins_once_and_is_done_once(rt: HostRuntime) -> Result<(), Fail> {
+    let gate = Told {
+        cores: [AtomicU64::new(0), AtomicU64::new(0), AtomicU64::new(0)],
+        others: AtomicBool::new(false),
+    };
+    let traced = drive(
+        &rt,
+        rt.alloc(),
+        program(rt.alloc(), THREE)?,
+        2,
+        LIMIT,
+        &gate,
+    )?;
+    assert!(rt; traced.machine().is_complete());
+    assert!(rt; !gate.others.load(Ordering::SeqCst));
+    for told in &gate.cores {
+        assert_eq!(rt; told.load(Ordering::SeqCst), 2);
+    }
+    Ok(())
+}
+
+/// Holds core 0 at one of its calls until core 1 has taken its first step, and core 1 until then.
+#[derive(Drop)]
+struct Between {
+    at_done: bool,
+    reached: AtomicBool,
+    passed: AtomicBool,
+    seen: AtomicBool,
+}
+
+impl Between {
+    fn hold(&self) {
+        self.reached.store(true, Ordering::SeqCst);
+        self.seen.store(comes(&self.passed), Ordering::SeqCst);
+    }
+}
+
+impl Gate for Between {
+    fn begin(&self, _worker: usize, piece: usize) {
+        if piece == 1 {
+            comes(&self.reached);
+        } else if !self.at_done {
+            self.hold();
+        }
+    }
+
+    fn done(&self, _worker: usize, piece: usize) {
+        if piece == 1 {
+            self.passed.store(true, Ordering::SeqCst);
+        } else if self.at_done {
+            self.hold();
+        }
+    }
+}
+
+/// What core 1 reads while core 0 is held at a call of the gate.
+fn read_between<R: Threads + Wait + Sync>(
+    rt: &R,
+    alloc: Global,
+    at_done: bool,
+) -> Result<Option<Event>, Fail> {
+    let gate = Between {
+        at_done,
+        reached: AtomicBool::new(false),
+        passed: AtomicBool::new(false),
+        seen: AtomicBool::new(false),
+    };
+    let program = program(alloc, WRITE_AND_READ)?;
+    let traced = drive(rt, alloc, program, 2, LIMIT, &gate)?;
+    if !gate.seen.load(Ordering::SeqCst) {
+        return Ok(None);
+    }
+    let Ok(recording) = traced.into_machine().finish() else {
+        return Ok(None);
+    };
+    Ok(recording.event(1).map(|(_, event)| *event))
+}
+
+#[test]
+fn a_gate_is_told_before_a_step_and_behind_it(rt: HostRuntime) -> Result<(), Fail> {
+    let source: Option<EventId> = Some(0);
+    assert_eq!(rt;
+        read_between(&rt, rt.alloc(), false)?,
+        Some(Event::L {
+            a: 0,
+            r: 0,
+            s: None
+        })
+    );
+    assert_eq!(rt;
+        read_between(&rt, rt.alloc(), true)?,
+        Some(Event::L {
+            a: 0,
+            r: 1,
+            s: source
+        })
+    );
+    Ok(())
+}
+
+#[test]
+fn a_store_wants_the_thread_for_caches_and_the_one_for_drains(rt: HostRuntime) -> Result<(), Fail> {
+    let program = program(rt.alloc(), "core\nst x 1\n")?;
+    let traced = drive(&rt, rt.alloc(), program, 1, LIMIT, &OpenGate)?;
+    let steps = [Step::Exec(0), Step::GetM(0, 0), Step::Drain(0)];
+    assert_eq!(rt; traced.trace(), steps.as_slice());
+    Ok(())
+}
