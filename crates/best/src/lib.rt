@@ -7,4 +7,3 @@ mod seat;
 
 pub use rule::{BestRule, BestTable, Known};
 pub use seat::{Best, BestSeat};
-

@@ -26,7 +26,8 @@ use Rattle.clap.specs.declared.builder.value_parser.Reading.TheVariants.{AsWritt
 use Rattle.clap.specs.declared.builder.value_parser.ValueParser.TheVariants.{Unsigned}
 use Rattle.clap.specs.declared.parser.matches.ValueSource.TheVariants.{CommandLine}
 use Rattle.clap.specs.declared.error.kind.ErrorKind.TheVariants as kinds
-use Rattle.command_line.specs.Commands.{AreFaultless, buffer_rule, command_of, file_rule, judge_app, limit_rule}
+use Rattle.command_line.specs.Commands.{AreFaultless, buffer_rule, command_of, file_rule, judge_app}
+use Rattle.command_line.specs.Commands.{limit_rule}
 use Rattle.command_line.specs.Commands.{live_app, program_app, program_rule, replay_app, run_app, steps_rule}
 use Rattle.command_line.specs.Options.{HasEntries, HasLiveEntries, HasNumber, HasRunEntries, HasText}
 use Rattle.command_line.proofs.Walks.{Each, IsEntered, Keeps, each_found, faultless, found_is, no_kinds}

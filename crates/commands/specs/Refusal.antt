@@ -1,35 +1,13 @@
 -- The lines of refused texts.
-use Rattle.std.specs.Prelude.{
-  ◌≡◌,
-  ◌++◌,
-  ◌∷◌,
-  [],
-  ℕ,
-  List,
-  Option,
-  Some,
-  None,
-  Result,
-  Ok,
-  Err,
-  codes,
-  decimal,
-  string_bytes,
-}
+use Rattle.std.specs.Prelude.{◌≡◌, ◌++◌, ◌∷◌, [], ℕ, List, Option, Some, None, Result, Ok, Err, codes}
+use Rattle.std.specs.Prelude.{decimal, string_bytes}
 use Rattle.litmus.specs.declared.fault.LineFault.{LineFault}
 use Rattle.litmus.specs.declared.fault.LineFault.TheVariants.{L1, L2, L3, L4, L5}
 use Rattle.machine.specs.declared.script_fault.StepFault.{StepFault}
 use Rattle.machine.specs.declared.script_fault.StepFault.TheVariants.{S1, S2, S3, S4}
 use Rattle.recorder.specs.declared.fault.RecError.{RecError}
-use Rattle.recorder.specs.declared.fault.RecError.TheVariants.{
-  NotJson,
-  Shape,
-  Version,
-  Limits,
-  Source,
-  Value,
-  WriteList,
-}
+use Rattle.recorder.specs.declared.fault.RecError.TheVariants.{NotJson, Shape, Version, Limits, Source, Value}
+use Rattle.recorder.specs.declared.fault.RecError.TheVariants.{WriteList}
 use Rattle.recorder.specs.declared.fault.RecError.TheVariants as rec
 use Rattle.commands.specs.declared.answer.Stop.{Stop}
 use Rattle.commands.specs.declared.answer.Stop.TheVariants.{Refused, Fault}

@@ -1,20 +1,6 @@
 -- What a script makes of a program.
-use Rattle.std.specs.Prelude.{
-  ◌≡◌,
-  ◌≤◌,
-  ◌+◌,
-  ◌⊎◌,
-  ◌++◌,
-  ◌∷◌,
-  [],
-  ℕ,
-  List,
-  Option,
-  Ok,
-  length,
-  codes,
-  string_bytes,
-}
+use Rattle.std.specs.Prelude.{◌≡◌, ◌≤◌, ◌+◌, ◌⊎◌, ◌++◌, ◌∷◌, [], ℕ, List, Option, Ok, length, codes}
+use Rattle.std.specs.Prelude.{string_bytes}
 use Rattle.command_line.specs.declared.options.LiveOptions.{LiveOptions}
 use Rattle.command_line.specs.declared.options.RunOptions.{RunOptions}
 use Rattle.litmus.specs.Parts.{Parts}

@@ -3,15 +3,8 @@ ghost use Rattle.std.specs.Prelude.{◌≡◌, IfErr, IfOk};
 ghost use Rattle.judge.specs.Verdict.{IsVerdict, Verifies};
 ghost use Rattle.recorder.specs.Tso.{IsTsoOrder};
 ghost use Rattle.replay.specs.Numbered.{IsNumberedByFirstUse};
-ghost use Rattle.commands.specs.Replay.{
-  IsReadBack,
-  IsReplayed,
-  IsReplayedInput,
-  IsReplayOf,
-  IsReplayStop,
-  IsUnreplayed,
-  replay_text,
-};
+ghost use Rattle.commands.specs.Replay.{IsReadBack, IsReplayed, IsReplayedInput, IsReplayOf, IsReplayStop};
+ghost use Rattle.commands.specs.Replay.{IsUnreplayed, replay_text};
 
 use crate::answer::{Answer, DONE, Stop};
 use crate::judge_command::{WORKERS, unread};

@@ -6,7 +6,8 @@ use Rattle.relations.specs.Relation.{Table, Related}
 use Rattle.relations.specs.Cycle.{IsCycle, IsLeastCycle, AreExactRows, IsCertificate}
 use Rattle.relations.specs.Respects.{IsLeastOrder}
 use Rattle.relations.specs.Verdict.{HasNoOrder}
-use Rattle.relations.specs.Laws.{Agree, EveryOrderRespects, OrderedIsAcyclic, LeastOrdersAgree, CyclesAgree, LeastCyclesAgree, ExactRowsAgree, CertificatesAgree}
+use Rattle.relations.specs.Laws.{Agree, EveryOrderRespects, OrderedIsAcyclic, LeastOrdersAgree, CyclesAgree}
+use Rattle.relations.specs.Laws.{LeastCyclesAgree, ExactRowsAgree, CertificatesAgree}
 use Rattle.recorder.specs.Tso.{IsWellFormed}
 use Rattle.labels.specs.Certified.{lists_of}
 use Rattle.labels.specs.declared.certificate.Certificate.{Certificate}

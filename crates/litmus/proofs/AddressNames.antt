@@ -1,5 +1,7 @@
 -- The names of addresses are lawful, and differ.
-use Rattle.std.proofs.Common.{◌≡◌, ◌<◌, ◌≤◌, ◌+◌, ◌^◌, ◌&&◌, ◌||◌, nat_lt, nat_le, ℕ, zero, suc, Bool, true, false, inl, inr, Some, List, [], ◌∷◌, ◌++◌, length, drop, codes, decimal, arith, refl, sym, ap, ◌∙◌, lt-ltb, le-leb, length-append}
+use Rattle.std.proofs.Common.{◌≡◌, ◌<◌, ◌≤◌, ◌+◌, ◌^◌, ◌&&◌, ◌||◌, nat_lt, nat_le, ℕ, zero, suc, Bool, true}
+use Rattle.std.proofs.Common.{false, inl, inr, Some, List, [], ◌∷◌, ◌++◌, length, drop, codes, decimal, arith}
+use Rattle.std.proofs.Common.{refl, sym, ap, ◌∙◌, lt-ltb, le-leb, length-append}
 use Rattle.std.proofs.lemmas.Bool.{cases_Bool, and_from}
 use Rattle.std.specs.List.{list_all, list_any, IsDistinct}
 use Rattle.std.proofs.lemmas.Fmt.{digits_decimal, length-decimal-le}

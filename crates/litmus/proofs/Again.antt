@@ -1,5 +1,7 @@
 -- The text of a program is read as it.
-use Rattle.std.proofs.Common.{◌≡◌, ℕ, ◌+◌, ◌<◌, ◌≤◌, ◌==◌, ◌^◌, nat_lt, List, [], ◌∷◌, ◌++◌, length, true, false, Some, None, Result, Ok, refl, arith, sym, ap, ◌∙◌, subst, inl, inr, codes}
+use Rattle.std.proofs.Common.{◌≡◌, ℕ, ◌+◌, ◌<◌, ◌≤◌, ◌==◌, ◌^◌, nat_lt, List, [], ◌∷◌, ◌++◌, length, true}
+use Rattle.std.proofs.Common.{false, Some, None, Result, Ok, refl, arith, sym, ap, ◌∙◌, subst, inl, inr}
+use Rattle.std.proofs.Common.{codes}
 use Rattle.std.specs.List.{AllByRecursion, IsDistinct, flat_map}
 use Rattle.std.proofs.lemmas.Bool.{lt-ltb, le-ltb}
 use Rattle.std.proofs.lemmas.List.{length-append, append-nil, append_assoc, get_or_append_left}
@@ -16,7 +18,8 @@ use Rattle.litmus.specs.declared.limits.TheConstants.{MAX_CORES, MAX_EVENTS, MAX
 use Rattle.litmus.specs.Names.{AreLawful, name_eq, name_of, name_text, no_name}
 use Rattle.litmus.specs.Lines.{core_line}
 use Rattle.litmus.specs.Parts.{Small, Parts, IsProgram, op_count, addr_of, use_addr, use_ops, use_cores}
-use Rattle.litmus.specs.Steps.{names_with, name_number, with_op, write_op, op_fault, core_step, fence_step, load_step, write_step, said_step, step}
+use Rattle.litmus.specs.Steps.{names_with, name_number, with_op, write_op, op_fault, core_step, fence_step}
+use Rattle.litmus.specs.Steps.{load_step, write_step, said_step, step}
 use Rattle.litmus.specs.Reading.{Reading, read_from}
 use Rattle.litmus.specs.Text.{reading}
 use Rattle.litmus.specs.Spelling.{spelling, core_text, op_text, op_line, name_at}

@@ -1,5 +1,8 @@
 -- What random words make keeps a program.
-use Rattle.std.proofs.Common.{◌≡◌, ℕ, zero, suc, ◌+◌, ◌-◌, ◌*◌, ◌/◌, ◌%◌, ◌<◌, ◌≤◌, ◌==◌, ◌^◌, ◌⊎◌, ◌||◌, ◌≢◌, ne_eqb, nat_lt, nat_eq, List, [], ◌∷◌, ◌++◌, map, length, set, get_or, take, drop, codes, decimal, Bool, true, false, cond, Some, inl, inr, refl, arith, sym, ap, ◌∙◌, subst, eqb-true}
+use Rattle.std.proofs.Common.{◌≡◌, ℕ, zero, suc, ◌+◌, ◌-◌, ◌*◌, ◌/◌, ◌%◌, ◌<◌, ◌≤◌, ◌==◌, ◌^◌, ◌⊎◌, ◌||◌, ◌≢◌}
+use Rattle.std.proofs.Common.{ne_eqb, nat_lt, nat_eq, List, [], ◌∷◌, ◌++◌, map, length, set, get_or, take}
+use Rattle.std.proofs.Common.{drop, codes, decimal, Bool, true, false, cond, Some, inl, inr, refl, arith, sym}
+use Rattle.std.proofs.Common.{ap, ◌∙◌, subst, eqb-true}
 use Rattle.std.specs.List.{AllByRecursion, IsDistinct, list_any}
 use Rattle.std.specs.Cmp.{nat_eq_equiv}
 use Rattle.std.proofs.lemmas.Bool.{cases_Bool, false≢true}

@@ -1,5 +1,7 @@
 -- After each line there is a program, and what was read so far is its text.
-use Rattle.std.proofs.Common.{◌≡◌, ℕ, ◌<◌, ◌≤◌, ◌==◌, ◌^◌, nat_lt, List, [], ◌∷◌, ◌++◌, length, Bool, true, false, cond, Option, Some, None, Result, Ok, Err, refl, arith, sym, ap, ◌∙◌, subst, codes}
+use Rattle.std.proofs.Common.{◌≡◌, ℕ, ◌<◌, ◌≤◌, ◌==◌, ◌^◌, nat_lt, List, [], ◌∷◌, ◌++◌, length, Bool, true}
+use Rattle.std.proofs.Common.{false, cond, Option, Some, None, Result, Ok, Err, refl, arith, sym, ap, ◌∙◌}
+use Rattle.std.proofs.Common.{subst, codes}
 use Rattle.std.specs.List.{AllByRecursion, IsDistinct, flat_map}
 use Rattle.std.proofs.lemmas.Bool.{ltb-true, ltb-false, eqb-false}
 use Rattle.std.proofs.lemmas.List.{length-append, append-nil}
@@ -15,11 +17,13 @@ use Rattle.litmus.specs.declared.limits.TheConstants.{MAX_CORES, MAX_EVENTS, MAX
 use Rattle.litmus.specs.Names.{AreLawful, name_eq, name_of, name_text}
 use Rattle.litmus.specs.Lines.{Line, core_line, fence_line, load_line, write_line, line_of}
 use Rattle.litmus.specs.Parts.{Small, Parts, IsProgram, op_count, addr_of, use_addr}
-use Rattle.litmus.specs.Steps.{names_with, name_number, with_op, write_op, op_fault, unless, core_step, fence_step, load_step, write_step, said_step, step}
+use Rattle.litmus.specs.Steps.{names_with, name_number, with_op, write_op, op_fault, unless, core_step}
+use Rattle.litmus.specs.Steps.{fence_step, load_step, write_step, said_step, step}
 use Rattle.litmus.specs.Spelling.{spelling, core_text, op_text, line_text, name_at}
 use Rattle.litmus.proofs.OneLine.{Reads, line_reads}
 use Rattle.litmus.proofs.ManyNames.{one_name, all_push}
-use Rattle.litmus.proofs.Cores.{Cores, last_core, with_op-is, count-append, use_with_op, use_cores-push, cores_kept, text_more, small_more}
+use Rattle.litmus.proofs.Cores.{Cores, last_core, with_op-is, count-append, use_with_op, use_cores-push}
+use Rattle.litmus.proofs.Cores.{cores_kept, text_more, small_more}
 
 -- a line that was read
 abbrev pub done : Parts → Result Parts LineFault

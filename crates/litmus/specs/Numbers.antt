@@ -1,30 +1,6 @@
 -- Decimal numbers, and what the code's words for them say.
-use Rattle.std.specs.Prelude.{
-  ◌≡◌,
-  ◌≤◌,
-  ◌^◌,
-  ℕ,
-  List,
-  [],
-  ◌∷◌,
-  ◌+◌,
-  ◌*◌,
-  ◌-◌,
-  ◌==◌,
-  ◌&&◌,
-  ◌||◌,
-  Bool,
-  not,
-  nat_lt,
-  nat_le,
-  slice_index,
-  length,
-  Option,
-  None,
-  Some,
-  if◌then◌else◌,
-  ⊤,
-}
+use Rattle.std.specs.Prelude.{◌≡◌, ◌≤◌, ◌^◌, ℕ, List, [], ◌∷◌, ◌+◌, ◌*◌, ◌-◌, ◌==◌, ◌&&◌, ◌||◌, Bool, not}
+use Rattle.std.specs.Prelude.{nat_lt, nat_le, slice_index, length, Option, None, Some, if◌then◌else◌, ⊤}
 use Rattle.std.specs.List.{list_all}
 use Rattle.litmus.specs.declared.number.Number.{Number}
 use Rattle.litmus.specs.declared.number.Number.TheVariants.{Value, TooLarge}

@@ -1,23 +1,6 @@
 -- What it is to read a text line by line, over the step that one line takes.
-use Rattle.std.specs.Prelude.{
-  ◌≡◌,
-  ℕ,
-  List,
-  [],
-  ◌∷◌,
-  ◌++◌,
-  ◌+◌,
-  ◌==◌,
-  length,
-  Option,
-  None,
-  Some,
-  Result,
-  Ok,
-  Err,
-  if◌then◌else◌,
-  ⊤,
-}
+use Rattle.std.specs.Prelude.{◌≡◌, ℕ, List, [], ◌∷◌, ◌++◌, ◌+◌, ◌==◌, length, Option, None, Some, Result, Ok}
+use Rattle.std.specs.Prelude.{Err, if◌then◌else◌, ⊤}
 use Rattle.litmus.specs.declared.line_error.LineError.{LineError}
 use Rattle.litmus.specs.declared.line_error.LineError.TheVariants.{AtLine, OutOfMemory}
 

@@ -1,25 +1,6 @@
 -- What a line does to what was read before it.
-use Rattle.std.specs.Prelude.{
-  ℕ,
-  List,
-  [],
-  ◌∷◌,
-  ◌++◌,
-  ◌-◌,
-  ◌^◌,
-  ◌==◌,
-  nat_lt,
-  length,
-  slice_set,
-  slice_index_or,
-  Option,
-  None,
-  Some,
-  Result,
-  Ok,
-  Err,
-  if◌then◌else◌,
-}
+use Rattle.std.specs.Prelude.{ℕ, List, [], ◌∷◌, ◌++◌, ◌-◌, ◌^◌, ◌==◌, nat_lt, length, slice_set}
+use Rattle.std.specs.Prelude.{slice_index_or, Option, None, Some, Result, Ok, Err, if◌then◌else◌}
 use Rattle.std.specs.List.{position_or_len}
 use Rattle.indexmap.specs.IndexSet.{insert_key}
 use Rattle.litmus.specs.declared.name.Name.{Name}

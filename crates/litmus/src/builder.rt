@@ -38,39 +38,13 @@ pub struct Builder {
 }
 
 impl Builder {
-    ghost use Rattle.std.specs.Prelude.{
-      ◌≡◌,
-      ◌≤◌,
-      ◌<◌,
-      ◌^◌,
-      ℕ,
-      Err,
-      Ok,
-      None,
-      Result,
-      OnOk,
-      IfOk,
-      IfErr,
-      length,
-      nat_lt,
-    };
+    ghost use Rattle.std.specs.Prelude.{◌≡◌, ◌≤◌, ◌<◌, ◌^◌, ℕ, Err, Ok, None, Result, OnOk, IfOk, IfErr};
+    ghost use Rattle.std.specs.Prelude.{length, nat_lt};
     ghost use Rattle.litmus.specs.Parts.{Parts, op_count, addr_of};
     ghost use Rattle.litmus.specs.declared.fault.LineFault.{LineFault};
     ghost use Rattle.litmus.specs.declared.line_error.LineError.TheVariants.{OutOfMemory};
-    ghost use Rattle.litmus.specs.Steps.{
-      empty,
-      step,
-      core_step,
-      fence_step,
-      load_step,
-      write_step,
-      op_fault,
-      at_name,
-      names_with,
-      name_number,
-      with_op,
-      write_op,
-    };
+    ghost use Rattle.litmus.specs.Steps.{empty, step, core_step, fence_step, load_step, write_step, op_fault};
+    ghost use Rattle.litmus.specs.Steps.{at_name, names_with, name_number, with_op, write_op};
     ghost use Rattle.litmus.specs.Numbers.{IsValue};
     ghost use Rattle.litmus.specs.Reading.{AnswersLine, seen_as};
     ghost use Rattle.litmus.specs.declared.line.Write.{Write};

@@ -3,16 +3,8 @@
 ghost use Rattle.std.specs.Prelude.{◌≡◌, ◌<◌, ◌^◌, IsTrue, IsSome, true, false};
 ghost use Rattle.std.specs.List.{AllByRecursion};
 ghost use Rattle.litmus.specs.Names.{AreLawful};
-ghost use Rattle.litmus.specs.Parts.{
-  IsProgram,
-  Small,
-  parts_of,
-  addr_of,
-  value_of,
-  use_addr,
-  use_ops,
-  use_cores,
-};
+ghost use Rattle.litmus.specs.Parts.{IsProgram, Small, parts_of, addr_of, value_of, use_addr, use_ops};
+ghost use Rattle.litmus.specs.Parts.{use_cores};
 
 use crate::builder::are_below;
 use crate::limits::{MAX_ADDRESSES, MAX_CORES, MAX_EVENTS};

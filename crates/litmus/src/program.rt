@@ -30,25 +30,8 @@ impl Model for Program {
 }
 
 impl Program {
-    ghost use Rattle.std.specs.Prelude.{
-      ◌≡◌,
-      ◌≢◌,
-      ◌<◌,
-      ◌≤◌,
-      ◌↔◌,
-      ℕ,
-      List,
-      Ok,
-      length,
-      slice_index_or,
-      [],
-      IsTrue,
-      IfOk,
-      IfSome,
-      IsSome,
-      None,
-      All,
-    };
+    ghost use Rattle.std.specs.Prelude.{◌≡◌, ◌≢◌, ◌<◌, ◌≤◌, ◌↔◌, ℕ, List, Ok, length, slice_index_or, []};
+    ghost use Rattle.std.specs.Prelude.{IsTrue, IfOk, IfSome, IsSome, None, All};
     ghost use Rattle.litmus.specs.Parts.{IsProgram, IsWithin, op_count, parts_of};
     ghost use Rattle.litmus.specs.Spelling.{spelling};
     ghost use Rattle.litmus.specs.Text.{reading};

@@ -5,15 +5,8 @@ ghost use Rattle.rand_core.specs.Steps.{first_words};
 ghost use Rattle.rand_xoshiro.specs.Xoshiro256.{plus_plus};
 ghost use Rattle.litmus.specs.Built.{state};
 ghost use Rattle.litmus.specs.Parts.{op_count};
-ghost use Rattle.litmus.specs.Random.{
-  IsDrawn,
-  after_words,
-  drawn_op,
-  program_of_words,
-  with_core,
-  with_word,
-  with_words,
-};
+ghost use Rattle.litmus.specs.Random.{IsDrawn, after_words, drawn_op, program_of_words, with_core, with_word};
+ghost use Rattle.litmus.specs.Random.{with_words};
 
 use crate::builder::Builder;
 use crate::ids::Addr;

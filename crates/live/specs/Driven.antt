@@ -3,13 +3,8 @@ use Rattle.std.specs.Prelude.{◌≡◌, ℕ, ⊤}
 use Rattle.litmus.specs.Parts.{Parts}
 use Rattle.machine.specs.declared.fault.Fault.TheVariants.{None}
 use Rattle.live.specs.declared.error.LiveError.{LiveError}
-use Rattle.live.specs.declared.error.LiveError.TheVariants.{
-  Blocked,
-  TraceFull,
-  NoThread,
-  Stranger,
-  OutOfMemory,
-}
+use Rattle.live.specs.declared.error.LiveError.TheVariants.{Blocked, TraceFull, NoThread, Stranger}
+use Rattle.live.specs.declared.error.LiveError.TheVariants.{OutOfMemory}
 use Rattle.live.specs.Trace.{Trace}
 
 -- a machine without a fault, of this program and this capacity, that may take so many steps

@@ -28,21 +28,8 @@ impl Model for Traced {
 }
 
 impl Traced {
-    ghost use Rattle.std.specs.Prelude.{
-      ◌≡◌,
-      ◌≤◌,
-      ◌<◌,
-      ◌↔◌,
-      [],
-      IsTrue,
-      IfOk,
-      IfErr,
-      OnOk,
-      OnErr,
-      Ok,
-      Err,
-      length,
-    };
+    ghost use Rattle.std.specs.Prelude.{◌≡◌, ◌≤◌, ◌<◌, ◌↔◌, [], IsTrue, IfOk, IfErr, OnOk, OnErr, Ok, Err};
+    ghost use Rattle.std.specs.Prelude.{length};
     ghost use Rattle.recorder.specs.Tso.{IsTsoOrder};
     ghost use Rattle.machine.specs.declared.fault.Fault.TheVariants as fault;
     ghost use Rattle.machine.specs.Configuration.{recording_of, IsAtEnd};

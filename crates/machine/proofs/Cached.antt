@@ -1,12 +1,15 @@
 -- What a step that the caches allow does to them.
-use Rattle.std.proofs.Common.{◌≡◌, inl, inr, ℕ, zero, suc, Bool, true, false, Option, Some, None, Result, Ok, Err, [], length, slice_index_or, slice_set, replicate, refl, sym, ap, ◌∙◌, length-set}
+use Rattle.std.proofs.Common.{◌≡◌, inl, inr, ℕ, zero, suc, Bool, true, false, Option, Some, None, Result, Ok}
+use Rattle.std.proofs.Common.{Err, [], length, slice_index_or, slice_set, replicate, refl, sym, ap, ◌∙◌}
+use Rattle.std.proofs.Common.{length-set}
 use Rattle.std.specs.Prelude.{IsTrue}
 use Rattle.moesi.specs.declared.error.CacheError.{CacheError}
 use Rattle.moesi.specs.declared.error.CacheError.TheVariants.{C4}
 use Rattle.moesi.specs.Lines.{is_valid, is_exclusive}
 use Rattle.moesi.specs.Block.{Block, opening_block, invalid, HasBlock}
 use Rattle.moesi.specs.Rows as row
-use Rattle.moesi.specs.State.{CacheState, block_of, line_of, copy_of, opening_caches, at_address, read, write, Has}
+use Rattle.moesi.specs.State.{CacheState, block_of, line_of, copy_of, opening_caches, at_address, read, write}
+use Rattle.moesi.specs.State.{Has}
 use Rattle.moesi.specs.Laws.{IsTransaction, IsAnyTransaction}
 use Rattle.moesi.proofs.Settled.{exclusive_valid, all_invalid}
 use Rattle.moesi.proofs.Kept.{taken_then}

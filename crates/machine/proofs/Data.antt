@@ -1,5 +1,7 @@
 -- Each value in a line, in memory, in a buffer or read is one that an executed write of its address wrote, so a complete state's recording is well formed.
-use Rattle.std.proofs.Common.{◌≡◌, ◌≢◌, ◌<◌, ◌≤◌, ◌+◌, ◌⊎◌, inl, inr, ℕ, Bool, true, cond, Option, Some, None, Ok, List, [], ◌∷◌, ◌++◌, map, length, get_or, slice_set, arith, refl, sym, ap, subst, ◌∙◌, get_or-set_same, get_or-set_other}
+use Rattle.std.proofs.Common.{◌≡◌, ◌≢◌, ◌<◌, ◌≤◌, ◌+◌, ◌⊎◌, inl, inr, ℕ, Bool, true, cond, Option, Some, None}
+use Rattle.std.proofs.Common.{Ok, List, [], ◌∷◌, ◌++◌, map, length, get_or, slice_set, arith, refl, sym, ap}
+use Rattle.std.proofs.Common.{subst, ◌∙◌, get_or-set_same, get_or-set_other}
 use Rattle.std.specs.Prelude.{◌==◌}
 use Rattle.std.specs.List.{All, filter, sum_by}
 use Rattle.std.proofs.lemmas.List.{get_or_past, map-append}
@@ -21,7 +23,8 @@ use Rattle.moesi.specs.Laws.{IsAnyTransaction}
 use Rattle.moesi.proofs.Origins.{any_copy_was_there, write_adds}
 use Rattle.machine.specs.declared.fault.Fault.{Fault}
 use Rattle.machine.specs.Faults.{forwarded}
-use Rattle.machine.specs.State.{State, place_of, buffer_of, line_copy, event_of, recorded, opening, IsComplete}
+use Rattle.machine.specs.State.{State, place_of, buffer_of, line_copy, event_of, recorded, opening}
+use Rattle.machine.specs.State.{IsComplete}
 use Rattle.machine.specs.Step.{with_caches, forwarded_or_read, looked_up, rmw_value, run}
 use Rattle.machine.specs.Tso.{EveryRunIsWellFormed}
 use Rattle.machine.proofs.Cached.{read_has, written_read, opening_has}
@@ -33,7 +36,8 @@ use Rattle.machine.proofs.Removed.{forwarded_youngest}
 use Rattle.machine.proofs.Loads.{not_equal}
 use Rattle.machine.proofs.Executes.{IsNext, next_placed}
 use Rattle.machine.proofs.Rows.{IsKept, IsRmw, stored_state, loaded_state, fenced_state, rmw_state, run_kept}
-use Rattle.machine.proofs.Steady.{IsSteady, next_within, drain_steady, store_steady, load_steady, fence_steady, rmw_steady, transact_steady}
+use Rattle.machine.proofs.Steady.{IsSteady, next_within, drain_steady, store_steady, load_steady}
+use Rattle.machine.proofs.Steady.{fence_steady, rmw_steady, transact_steady}
 use Rattle.machine.proofs.Opening.{get_or_same, opening_steady}
 use Rattle.machine.proofs.Complete.{event_is, list_is, writes_is, reads_is, complete_listed}
 

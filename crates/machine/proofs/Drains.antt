@@ -1,5 +1,6 @@
 -- A drain of the machine is a drain of event numbers.
-use Rattle.std.proofs.Common.{◌≡◌, ◌<◌, ℕ, List, [], ◌∷◌, ◌++◌, map, length, refl, ap, ◌∙◌, get_or-set_same, get_or-set_other}
+use Rattle.std.proofs.Common.{◌≡◌, ◌<◌, ℕ, List, [], ◌∷◌, ◌++◌, map, length, refl, ap, ◌∙◌, get_or-set_same}
+use Rattle.std.proofs.Common.{get_or-set_other}
 use Rattle.std.proofs.lemmas.List.{map-append}
 use Rattle.litmus.specs.declared.op.Op.{Op}
 use Rattle.litmus.specs.declared.op.Op.TheVariants.{St}

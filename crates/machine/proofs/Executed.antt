@@ -1,5 +1,7 @@
 -- What the execution of an operation does to the parts of a machine.
-use Rattle.std.proofs.Common.{◌≡◌, ◌<◌, ◌≤◌, ◌+◌, inl, inr, ℕ, true, suc, Option, Ok, Err, List, [], ◌∷◌, ◌++◌, length, map, slice_index, slice_index_or, slice_set, arith, refl, sym, ap, subst, ◌∙◌, length-set, length-append, get_or-set_same, get_or-set_other}
+use Rattle.std.proofs.Common.{◌≡◌, ◌<◌, ◌≤◌, ◌+◌, inl, inr, ℕ, true, suc, Option, Ok, Err, List, [], ◌∷◌}
+use Rattle.std.proofs.Common.{◌++◌, length, map, slice_index, slice_index_or, slice_set, arith, refl, sym, ap}
+use Rattle.std.proofs.Common.{subst, ◌∙◌, length-set, length-append, get_or-set_same, get_or-set_other}
 use Rattle.std.specs.List.{All, sum, sum_by}
 use Rattle.std.proofs.lemmas.List.Elements.{All-set, All-weaker, All-push}
 use Rattle.std.proofs.lemmas.List.Sums.{sum_by-set, sum_by-cons}

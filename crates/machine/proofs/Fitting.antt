@@ -1,5 +1,7 @@
 -- What every step without fault keeps of the sizes of a state, so that every such run leads to one that is orderly.
-use Rattle.std.proofs.Common.{◌≡◌, ◌<◌, ◌≤◌, ◌+◌, inl, inr, ℕ, zero, suc, cond, Option, Ok, List, [], ◌∷◌, ◌++◌, take, length, get_or, slice_set, replicate, arith, refl, sym, ap, subst, ◌∙◌, get_or-set_same, get_or-set_other, length-set, length-append}
+use Rattle.std.proofs.Common.{◌≡◌, ◌<◌, ◌≤◌, ◌+◌, inl, inr, ℕ, zero, suc, cond, Option, Ok, List, [], ◌∷◌}
+use Rattle.std.proofs.Common.{◌++◌, take, length, get_or, slice_set, replicate, arith, refl, sym, ap, subst}
+use Rattle.std.proofs.Common.{◌∙◌, get_or-set_same, get_or-set_other, length-set, length-append}
 use Rattle.std.specs.List.{All, sum, sum_by, count_by}
 use Rattle.std.proofs.lemmas.List.{length-replicate}
 use Rattle.std.proofs.lemmas.List.Sums.{sum_by-set, sum_by-cons}
@@ -17,7 +19,8 @@ use Rattle.machine.specs.Step.{looked_up, rmw_value, with_caches, run}
 use Rattle.machine.specs.Orderly.{placed_op, is_st, IsOrderly, EveryStateIsOrderly}
 use Rattle.machine.proofs.Drains.{drained_state}
 use Rattle.machine.proofs.Executes.{IsNext}
-use Rattle.machine.proofs.Rows.{IsKeptFaultless, IsRmw, stored_state, loaded_state, fenced_state, rmw_state, run_kept, faultless}
+use Rattle.machine.proofs.Rows.{IsKeptFaultless, IsRmw, stored_state, loaded_state, fenced_state, rmw_state}
+use Rattle.machine.proofs.Rows.{run_kept, faultless}
 use Rattle.machine.proofs.InOrder.{IsInOrder, in_order_kept}
 use Rattle.machine.proofs.Opening.{get_or_same, op_within, opening_in_order}
 

@@ -1,5 +1,6 @@
 -- What every step keeps where no fault is at work: the order that TSO asks for, and that memory has the last writes.
-use Rattle.std.proofs.Common.{◌≡◌, ◌<◌, inl, inr, ℕ, Option, Some, None, Ok, List, [], ◌∷◌, length, get_or, slice_set, arith, refl, sym, ap, subst, ◌∙◌, get_or-set_same, get_or-set_other}
+use Rattle.std.proofs.Common.{◌≡◌, ◌<◌, inl, inr, ℕ, Option, Some, None, Ok, List, [], ◌∷◌, length, get_or}
+use Rattle.std.proofs.Common.{slice_set, arith, refl, sym, ap, subst, ◌∙◌, get_or-set_same, get_or-set_other}
 use Rattle.litmus.specs.declared.op.Op.{Op}
 use Rattle.litmus.specs.declared.op.Op.TheVariants.{St, Ld, Fence}
 use Rattle.recorder.specs.Event.{written_address}
@@ -20,7 +21,9 @@ use Rattle.machine.proofs.Executes.{IsNext, next_placed, perform_ordered, issue_
 use Rattle.machine.proofs.Loads.{some_one}
 use Rattle.machine.proofs.WriteLists.{IsLatest, latest_written, loaded_newest}
 use Rattle.machine.proofs.Rows.{IsKeptFaultless, IsRmw, stored_state, loaded_state, fenced_state, rmw_state}
-use Rattle.machine.proofs.Steady.{IsSteady, once, waits_once, waiting_once, next_within, rmw_within, drain_steady, store_steady, load_steady, fence_steady, rmw_steady, transact_steady}
+use Rattle.machine.proofs.Steady.{IsSteady, once, waits_once, waiting_once, next_within, rmw_within}
+use Rattle.machine.proofs.Steady.{drain_steady, store_steady, load_steady, fence_steady, rmw_steady}
+use Rattle.machine.proofs.Steady.{transact_steady}
 
 -- what every step keeps without fault: TSO's order as each core sees it, that the caches are coherent, and that each address has its last write
 pub record IsInOrder (p : List (List Op)) (s : State) : Type 0 where

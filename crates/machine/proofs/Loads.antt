@@ -1,10 +1,12 @@
 -- What a load gets is the newest write that its core sees.
-use Rattle.std.proofs.Common.{◌≡◌, ◌≢◌, ◌<◌, ◌≤◌, ◌⊎◌, inl, inr, ℕ, Bool, false, cond, Option, Some, None, List, [], ◌∷◌, ◌++◌, map, get_or, arith, refl, sym, ap, subst, ◌∙◌}
+use Rattle.std.proofs.Common.{◌≡◌, ◌≢◌, ◌<◌, ◌≤◌, ◌⊎◌, inl, inr, ℕ, Bool, false, cond, Option, Some, None}
+use Rattle.std.proofs.Common.{List, [], ◌∷◌, ◌++◌, map, get_or, arith, refl, sym, ap, subst, ◌∙◌}
 use Rattle.std.specs.Prelude.{◌==◌}
 use Rattle.std.proofs.lemmas.Bool.{cases_eq, eq-eqb}
 use Rattle.std.proofs.lemmas.Bool.Decides.{nat_tests}
 use Rattle.recorder.specs.Order.{times, Before}
-use Rattle.recorder.proofs.Orders.{place_in, place_here, place_there, times_here, times_there, times_nil, times_append, cases_zero, before_in_right, left_before_right}
+use Rattle.recorder.proofs.Orders.{place_in, place_here, place_there, times_here, times_there, times_nil}
+use Rattle.recorder.proofs.Orders.{times_append, cases_zero, before_in_right, left_before_right}
 use Rattle.litmus.specs.declared.op.Op.{Op}
 use Rattle.write_buffer.specs.declared.entry.Entry.{Entry}
 use Rattle.write_buffer.specs.Buffer.{youngest, or_else}

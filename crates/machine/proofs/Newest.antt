@@ -1,9 +1,11 @@
 -- The write list of an address is what of the performed events writes it, so memory has the newest of them.
-use Rattle.std.proofs.Common.{◌≡◌, ◌≢◌, ◌<◌, ◌≤◌, ◌+◌, ◌⊎◌, inl, inr, ℕ, Bool, true, false, Option, Some, None, List, [], ◌∷◌, ◌++◌, arith, refl, sym, ap, subst, ◌∙◌}
+use Rattle.std.proofs.Common.{◌≡◌, ◌≢◌, ◌<◌, ◌≤◌, ◌+◌, ◌⊎◌, inl, inr, ℕ, Bool, true, false, Option, Some}
+use Rattle.std.proofs.Common.{None, List, [], ◌∷◌, ◌++◌, arith, refl, sym, ap, subst, ◌∙◌}
 use Rattle.std.specs.List.{filter}
 use Rattle.std.proofs.lemmas.Bool.{cases_eq}
 use Rattle.recorder.specs.Order.{place, times, Before}
-use Rattle.recorder.proofs.Orders.{place_in, times_in, place_here, place_there, place_nil, times_here, times_there, times_nil, times_append, cases_zero, before_in_left}
+use Rattle.recorder.proofs.Orders.{place_in, times_in, place_here, place_there, place_nil, times_here}
+use Rattle.recorder.proofs.Orders.{times_there, times_nil, times_append, cases_zero, before_in_left}
 use Rattle.machine.proofs.Seen.{Static, IsNewest}
 
 -- the last of a list

@@ -1,5 +1,6 @@
 -- Each fault changes one row of the table of steps.
-use Rattle.std.proofs.Common.{◌≡◌, ℕ, false, cond, Option, Some, None, Result, Err, List, [], refl, ap, slice_get, slice_index_or, nat_lt, length}
+use Rattle.std.proofs.Common.{◌≡◌, ℕ, false, cond, Option, Some, None, Result, Err, List, [], refl, ap}
+use Rattle.std.proofs.Common.{slice_get, slice_index_or, nat_lt, length}
 use Rattle.litmus.specs.declared.op.Op.{Op}
 use Rattle.litmus.specs.declared.op.Op.TheVariants.{St, Ld, Fence, Swap, Add}
 use Rattle.machine.specs.declared.fault.Fault.{Fault}

@@ -1,5 +1,7 @@
 -- The opening state keeps all that a step keeps, and where the events of a core stand.
-use Rattle.std.proofs.Common.{◌≡◌, ◌<◌, ◌≤◌, ◌+◌, ◌-◌, inl, inr, ℕ, suc, Option, Some, None, List, [], ◌∷◌, map, take, length, get_or, replicate, arith, refl, sym, ap, subst, ◌∙◌, length-append}
+use Rattle.std.proofs.Common.{◌≡◌, ◌<◌, ◌≤◌, ◌+◌, ◌-◌, inl, inr, ℕ, suc, Option, Some, None, List, [], ◌∷◌}
+use Rattle.std.proofs.Common.{map, take, length, get_or, replicate, arith, refl, sym, ap, subst, ◌∙◌}
+use Rattle.std.proofs.Common.{length-append}
 use Rattle.std.specs.List.{All, sum, sum_by}
 use Rattle.std.proofs.lemmas.List.{length-replicate, get_or-replicate, get_or_past}
 use Rattle.std.proofs.lemmas.List.Sums.{sum_by-cons}
@@ -15,7 +17,8 @@ use Rattle.litmus.specs.Parts.{IsWithin}
 use Rattle.recorder.specs.Event.{written_address}
 use Rattle.moesi.specs.Block.{Block, opening_block}
 use Rattle.moesi.proofs.Kept.{opening_coherent}
-use Rattle.machine.proofs.Static.{static_of, snapshot_of, placed_op, placed_at, placed_total, op_reads, tagged}
+use Rattle.machine.proofs.Static.{static_of, snapshot_of, placed_op, placed_at, placed_total, op_reads}
+use Rattle.machine.proofs.Static.{tagged}
 use Rattle.machine.proofs.Newest.{last_of, last_nil}
 use Rattle.machine.proofs.Drains.{AreStores}
 use Rattle.machine.proofs.Steady.{IsSteady}

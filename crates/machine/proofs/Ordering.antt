@@ -1,11 +1,17 @@
 -- How each kind of step keeps the order that TSO asks for, where no fault is at work.
-use Rattle.std.proofs.Common.{◌≡◌, ◌≢◌, ◌<◌, ◌+◌, ◌⊎◌, inl, inr, ℕ, Bool, true, false, ◌&&◌, Option, Some, None, List, [], ◌∷◌, ◌++◌, length, arith, refl, sym, ap, subst, ◌∙◌, append_assoc}
+use Rattle.std.proofs.Common.{◌≡◌, ◌≢◌, ◌<◌, ◌+◌, ◌⊎◌, inl, inr, ℕ, Bool, true, false, ◌&&◌, Option, Some}
+use Rattle.std.proofs.Common.{None, List, [], ◌∷◌, ◌++◌, length, arith, refl, sym, ap, subst, ◌∙◌}
+use Rattle.std.proofs.Common.{append_assoc}
 use Rattle.std.proofs.lemmas.List.{append-nil}
 use Rattle.std.proofs.lemmas.Bool.{cases_eq}
 use Rattle.recorder.specs.Order.{place, times, Before, Enumerates}
-use Rattle.recorder.proofs.Orders.{place_here, times_here, times_there, times_nil, times_append, place_append_right, cases_zero, left_before_right, inserted}
-use Rattle.machine.proofs.Seen.{Static, Snapshot, seen, Own, CanSee, IsLast, IsNewest, IsCounted, IsOrdered, performed_is_seen, not_seen, not_performed, seen_is_listed, last_seen, Grows, unmoved, moved, before_grown, is_last_grown}
-use Rattle.machine.proofs.Counting.{Counts, Issues, Performs, Drains, drain_waits, drain_core, drain_event, drain_once}
+use Rattle.recorder.proofs.Orders.{place_here, times_here, times_there, times_nil, times_append}
+use Rattle.recorder.proofs.Orders.{place_append_right, cases_zero, left_before_right, inserted}
+use Rattle.machine.proofs.Seen.{Static, Snapshot, seen, Own, CanSee, IsLast, IsNewest, IsCounted, IsOrdered}
+use Rattle.machine.proofs.Seen.{performed_is_seen, not_seen, not_performed, seen_is_listed, last_seen, Grows}
+use Rattle.machine.proofs.Seen.{unmoved, moved, before_grown, is_last_grown}
+use Rattle.machine.proofs.Counting.{Counts, Issues, Performs, Drains, drain_waits, drain_core, drain_event}
+use Rattle.machine.proofs.Counting.{drain_once}
 
 -- the step from s to t moves the event b, and the orders that cores see grow by b alone
 pub record Orders (p : Static) (s t : Snapshot) (b : ℕ) : Type 0 where

@@ -1,5 +1,6 @@
 -- What is known of a buffer that loses the entry at one place, and what each word of a fault says where there is none.
-use Rattle.std.proofs.Common.{◌≡◌, ◌+◌, ℕ, true, Some, List, [], ◌∷◌, ◌++◌, take, drop, length, slice_get, arith, refl, sym, ap, subst, ◌∙◌, add-one, drop-cons, length-append}
+use Rattle.std.proofs.Common.{◌≡◌, ◌+◌, ℕ, true, Some, List, [], ◌∷◌, ◌++◌, take, drop, length, slice_get}
+use Rattle.std.proofs.Common.{arith, refl, sym, ap, subst, ◌∙◌, add-one, drop-cons, length-append}
 use Rattle.std.specs.List.{All}
 use Rattle.std.proofs.lemmas.Bool.{eqb-true}
 use Rattle.std.proofs.lemmas.List.{take-append-drop, nil_from_length}

@@ -2,7 +2,8 @@
 use Rattle.std.proofs.Common.{◌≡◌, ◌≢◌, ◌<◌, ◌⊎◌, inl, inr, ℕ, Option, Some, None, arith, sym, ap, ◌∙◌}
 use Rattle.recorder.specs.Order.{times, Before}
 use Rattle.recorder.proofs.Orders.{times_in}
-use Rattle.machine.proofs.Seen.{Static, Snapshot, seen, Own, CanSee, IsLast, IsNewest, IsCounted, IsOrdered, performed_is_seen}
+use Rattle.machine.proofs.Seen.{Static, Snapshot, seen, Own, CanSee, IsLast, IsNewest, IsCounted, IsOrdered}
+use Rattle.machine.proofs.Seen.{performed_is_seen}
 
 -- the same events, with other writes
 abbrev pub with_writes : Static → (ℕ → Option ℕ) → Static

@@ -1,5 +1,7 @@
 -- The rows of the table of steps, each as one change of the state.
-use Rattle.std.proofs.Common.{◌≡◌, ◌<◌, ◌+◌, ◌&&◌, inl, inr, ℕ, nat_lt, Bool, true, false, cond, Option, Some, None, Result, Ok, Err, List, [], ◌∷◌, ◌++◌, take, drop, length, slice_get, slice_index_or, arith, refl, sym, ap, subst, ◌∙◌}
+use Rattle.std.proofs.Common.{◌≡◌, ◌<◌, ◌+◌, ◌&&◌, inl, inr, ℕ, nat_lt, Bool, true, false, cond, Option, Some}
+use Rattle.std.proofs.Common.{None, Result, Ok, Err, List, [], ◌∷◌, ◌++◌, take, drop, length, slice_get}
+use Rattle.std.proofs.Common.{slice_index_or, arith, refl, sym, ap, subst, ◌∙◌}
 use Rattle.std.proofs.lemmas.Bool.{ltb-true}
 use Rattle.std.proofs.lemmas.Option.{slice_get_within, get_or_from_slice_get}
 use Rattle.litmus.specs.declared.op.Op.{Op}
@@ -16,7 +18,9 @@ use Rattle.machine.specs.declared.step.Step.TheVariants.{Exec, Drain, GetS, GetM
 use Rattle.machine.specs.declared.blocked.Blocked.{Blocked}
 use Rattle.machine.specs.declared.blocked.Blocked.TheVariants.{B4, B5, B7, B8}
 use Rattle.machine.specs.State.{State, place_of, buffer_of, line_copy, first_event, event_of}
-use Rattle.machine.specs.Step.{advanced, performed, given, written, with_buffer, with_caches, allowed, looked_up, read_modify_written, rmw_value, exec, exec_next, drained_at, has, taken, after, run}
+use Rattle.machine.specs.Step.{advanced, performed, given, written, with_buffer, with_caches, allowed}
+use Rattle.machine.specs.Step.{looked_up, read_modify_written, rmw_value, exec, exec_next, drained_at, has}
+use Rattle.machine.specs.Step.{taken, after, run}
 use Rattle.machine.proofs.Static.{op_reads, is_st, is_ld}
 use Rattle.machine.proofs.Executes.{IsNext}
 use Rattle.machine.specs.Faults.{draining, get_m}

@@ -1,5 +1,6 @@
 -- What holds of the steps of a script.
-use Rattle.std.proofs.Common.{◌≡◌, ℕ, ◌<◌, ◌≤◌, nat_lt, List, [], ◌∷◌, ◌++◌, length, Option, Some, None, Result, Ok, Err, refl, arith, subst, inl, inr}
+use Rattle.std.proofs.Common.{◌≡◌, ℕ, ◌<◌, ◌≤◌, nat_lt, List, [], ◌∷◌, ◌++◌, length, Option, Some, None}
+use Rattle.std.proofs.Common.{Result, Ok, Err, refl, arith, subst, inl, inr}
 use Rattle.std.specs.Prelude.{All}
 use Rattle.std.specs.List.{position_or_len}
 use Rattle.std.proofs.lemmas.Bool.{ltb-true}
@@ -19,8 +20,10 @@ use Rattle.machine.specs.declared.script_line.Transaction.TheVariants.{GetS, Get
 use Rattle.machine.specs.declared.script_fault.StepFault.{StepFault}
 use Rattle.machine.specs.declared.script_fault.StepFault.TheVariants.{S1, S4}
 use Rattle.machine.specs.declared.step.Step.{Step}
-use Rattle.machine.specs.ScriptLine.{ScriptLine, own_line, transaction_line, script_line_of, own_step, transaction_step}
-use Rattle.machine.specs.Script.{core_in, address_in, with_step, core_step, address_step, script_step, line_step, steps_of, IsStepOf}
+use Rattle.machine.specs.ScriptLine.{ScriptLine, own_line, transaction_line, script_line_of, own_step}
+use Rattle.machine.specs.ScriptLine.{transaction_step}
+use Rattle.machine.specs.Script.{core_in, address_in, with_step, core_step, address_step, script_step}
+use Rattle.machine.specs.Script.{line_step, steps_of, IsStepOf}
 
 -- what every line keeps
 record IsScript (p : Parts) (steps : List Step) : Type 0 where

@@ -1,8 +1,10 @@
 -- Store buffers over one memory, seen as lists of event numbers: the order of events as each core sees it.
-use Rattle.std.proofs.Common.{◌≡◌, ◌≢◌, ◌<◌, ◌≤◌, ◌+◌, ◌⊎◌, inl, inr, ℕ, Bool, true, false, ◌&&◌, Option, Some, None, List, ◌∷◌, ◌++◌, arith, refl, sym, ap, subst}
+use Rattle.std.proofs.Common.{◌≡◌, ◌≢◌, ◌<◌, ◌≤◌, ◌+◌, ◌⊎◌, inl, inr, ℕ, Bool, true, false, ◌&&◌, Option}
+use Rattle.std.proofs.Common.{Some, None, List, ◌∷◌, ◌++◌, arith, refl, sym, ap, subst}
 use Rattle.std.proofs.lemmas.Bool.{cases_eq}
 use Rattle.recorder.specs.Order.{times, Before}
-use Rattle.recorder.proofs.Orders.{place_in, times_in, times_here, times_there, times_append, place_append_left, place_append_right, cases_zero, inserted, removed}
+use Rattle.recorder.proofs.Orders.{place_in, times_in, times_here, times_there, times_append}
+use Rattle.recorder.proofs.Orders.{place_append_left, place_append_right, cases_zero, inserted, removed}
 
 -- what is known of the events: their number, their cores, what they write and read, and which are plain stores or loads
 pub record Static : Type 0 where

@@ -1,5 +1,6 @@
 -- A step in code, as a step of the definition.
-use Rattle.std.proofs.Common.{◌≡◌, ◌<◌, ◌+◌, ℕ, Result, Ok, Err, List, drop, length, get_or, refl, add-one, drop-cons}
+use Rattle.std.proofs.Common.{◌≡◌, ◌<◌, ◌+◌, ℕ, Result, Ok, Err, List, drop, length, get_or, refl, add-one}
+use Rattle.std.proofs.Common.{drop-cons}
 use Rattle.std.specs.Prelude.{OnOk, OnErr, IfErr}
 use Rattle.litmus.specs.declared.op.Op.{Op}
 use Rattle.machine.specs.declared.fault.Fault.{Fault}

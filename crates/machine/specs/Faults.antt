@@ -1,32 +1,13 @@
 -- What each fault changes: one row of the table of steps, and nothing else.
-use Rattle.std.specs.Prelude.{
-  ◌==◌,
-  ◌+◌,
-  ◌-◌,
-  ◌++◌,
-  ℕ,
-  Bool,
-  true,
-  Option,
-  None,
-  Result,
-  List,
-  length,
-  take,
-  drop,
-}
+use Rattle.std.specs.Prelude.{◌==◌, ◌+◌, ◌-◌, ◌++◌, ℕ, Bool, true, Option, None, Result, List, length, take}
+use Rattle.std.specs.Prelude.{drop}
 use Rattle.write_buffer.specs.declared.entry.Entry.{Entry}
 use Rattle.write_buffer.specs.Buffer.{youngest}
 use Rattle.moesi.specs.State as moesi
 use Rattle.moesi.specs.declared.error.CacheError.{CacheError}
 use Rattle.machine.specs.declared.fault.Fault.{Fault}
-use Rattle.machine.specs.declared.fault.Fault.TheVariants.{
-  NoBypass,
-  YoungestFirst,
-  OpenFence,
-  StaleShare,
-  EarlyRmw,
-}
+use Rattle.machine.specs.declared.fault.Fault.TheVariants.{NoBypass, YoungestFirst, OpenFence, StaleShare}
+use Rattle.machine.specs.declared.fault.Fault.TheVariants.{EarlyRmw}
 
 -- the waiting store that a load of address a gets: the youngest to a; none with NoBypass
 abbrev pub forwarded : Fault → List Entry → ℕ → Option Entry

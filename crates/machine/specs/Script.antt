@@ -1,22 +1,6 @@
 -- What a whole step script gives: its steps, or the first line at fault with its number.
-use Rattle.std.specs.Prelude.{
-  ◌<◌,
-  ◌++◌,
-  ◌∷◌,
-  [],
-  ℕ,
-  List,
-  nat_lt,
-  length,
-  position,
-  Option,
-  None,
-  Some,
-  Result,
-  Ok,
-  Err,
-  if◌then◌else◌,
-}
+use Rattle.std.specs.Prelude.{◌<◌, ◌++◌, ◌∷◌, [], ℕ, List, nat_lt, length, position, Option, None, Some}
+use Rattle.std.specs.Prelude.{Result, Ok, Err, if◌then◌else◌}
 use Rattle.litmus.specs.declared.limits.TheConstants.{MAX_STEPS}
 use Rattle.litmus.specs.declared.name.Name.{Name}
 use Rattle.litmus.specs.Names.{name_eq}
@@ -26,14 +10,8 @@ use Rattle.machine.specs.declared.step.Step.{Step}
 use Rattle.machine.specs.declared.step.Step.TheVariants.{Exec, Drain, GetS, GetM, Put}
 use Rattle.machine.specs.declared.script_fault.StepFault.{StepFault}
 use Rattle.machine.specs.declared.script_fault.StepFault.TheVariants.{S1, S2, S3, S4}
-use Rattle.machine.specs.ScriptLine.{
-  ScriptLine,
-  own_line,
-  transaction_line,
-  script_line_of,
-  own_step,
-  transaction_step,
-}
+use Rattle.machine.specs.ScriptLine.{ScriptLine, own_line, transaction_line, script_line_of, own_step}
+use Rattle.machine.specs.ScriptLine.{transaction_step}
 
 -- the core of this number, if the program has it
 abbrev pub core_in : Parts → ℕ → Option ℕ

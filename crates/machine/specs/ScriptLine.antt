@@ -1,18 +1,6 @@
 -- What one line of a step script says.
-use Rattle.std.specs.Prelude.{
-  ℕ,
-  List,
-  ◌+◌,
-  position,
-  take,
-  drop,
-  codes,
-  Option,
-  None,
-  option_map,
-  option_and_then,
-  if◌then◌else◌,
-}
+use Rattle.std.specs.Prelude.{ℕ, List, ◌+◌, position, take, drop, codes, Option, None, option_map}
+use Rattle.std.specs.Prelude.{option_and_then, if◌then◌else◌}
 use Rattle.litmus.specs.declared.name.Name.{Name}
 use Rattle.litmus.specs.Names.{name_of}
 use Rattle.litmus.specs.Lines.{begins, is_space}

@@ -1,23 +1,6 @@
 -- What a machine of store buffers and caches has reached, and the recording of it.
-use Rattle.std.specs.Prelude.{
-  ◌+◌,
-  ◌%◌,
-  ◌^◌,
-  ◌≡◌,
-  ℕ,
-  Option,
-  None,
-  List,
-  [],
-  ◌∷◌,
-  map,
-  length,
-  slice_index,
-  slice_index_or,
-  sum,
-  take,
-  replicate,
-}
+use Rattle.std.specs.Prelude.{◌+◌, ◌%◌, ◌^◌, ◌≡◌, ℕ, Option, None, List, [], ◌∷◌, map, length, slice_index}
+use Rattle.std.specs.Prelude.{slice_index_or, sum, take, replicate}
 use Rattle.litmus.specs.declared.op.Op.{Op}
 use Rattle.litmus.specs.declared.op.Op.TheVariants.{St, Ld, Fence, Swap, Add}
 use Rattle.litmus.specs.Parts.{op_count}

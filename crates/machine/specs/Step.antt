@@ -1,29 +1,7 @@
 -- One step of the machine: the first guard that is false, else one effect. What a fault changes is
 -- told by its words.
-use Rattle.std.specs.Prelude.{
-  ◌≡◌,
-  ◌+◌,
-  ◌<◌,
-  ◌&&◌,
-  ℕ,
-  Bool,
-  nat_lt,
-  if◌then◌else◌,
-  Option,
-  Some,
-  None,
-  Result,
-  Ok,
-  Err,
-  List,
-  [],
-  ◌∷◌,
-  ◌++◌,
-  length,
-  slice_index_or,
-  slice_set,
-  slice_get,
-}
+use Rattle.std.specs.Prelude.{◌≡◌, ◌+◌, ◌<◌, ◌&&◌, ℕ, Bool, nat_lt, if◌then◌else◌, Option, Some, None, Result}
+use Rattle.std.specs.Prelude.{Ok, Err, List, [], ◌∷◌, ◌++◌, length, slice_index_or, slice_set, slice_get}
 use Rattle.litmus.specs.declared.op.Op.{Op}
 use Rattle.litmus.specs.declared.op.Op.TheVariants.{St, Ld, Fence, Swap, Add}
 use Rattle.write_buffer.specs.declared.entry.Entry.{Entry}

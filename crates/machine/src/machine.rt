@@ -55,22 +55,8 @@ impl Model for Machine {
 }
 
 impl Machine {
-    ghost use Rattle.std.specs.Prelude.{
-      ◌≡◌,
-      ◌<◌,
-      ◌↔◌,
-      [],
-      IsTrue,
-      IfOk,
-      OnOk,
-      OnErr,
-      IfErr,
-      IfSome,
-      length,
-      slice_get,
-      slice_index_or,
-      option_map,
-    };
+    ghost use Rattle.std.specs.Prelude.{◌≡◌, ◌<◌, ◌↔◌, [], IsTrue, IfOk, OnOk, OnErr, IfErr, IfSome, length};
+    ghost use Rattle.std.specs.Prelude.{slice_get, slice_index_or, option_map};
     ghost use Rattle.recorder.specs.Tso.{IsTsoOrder};
     ghost use Rattle.moesi.specs.State.{line_of, memory_of};
     ghost use Rattle.machine.specs.declared.fault.Fault.TheVariants as fault;

@@ -1,5 +1,6 @@
 -- What a call leaves where it was refused or taken.
-use Rattle.std.proofs.Common.{◌≡◌, ◌<◌, ℕ, Result, Ok, Err, List, length, slice_index_or, slice_set, sym, ap, subst, ◌∙◌, OnOk, OnErr}
+use Rattle.std.proofs.Common.{◌≡◌, ◌<◌, ℕ, Result, Ok, Err, List, length, slice_index_or, slice_set, sym, ap}
+use Rattle.std.proofs.Common.{subst, ◌∙◌, OnOk, OnErr}
 use Rattle.std.proofs.lemmas.List.{get_or_default, set-get_or}
 use Rattle.moesi.specs.declared.error.CacheError.{CacheError}
 use Rattle.moesi.specs.Block.{Block}

@@ -1,5 +1,7 @@
 -- A line in I has value 0 and no event.
-use Rattle.std.proofs.Common.{◌≡◌, inl, inr, ℕ, suc, zero, Bool, true, false, cond, Option, Some, None, Result, Ok, Err, List, [], map, replicate, slice_index_or, slice_set, refl, sym, ap, subst, ◌∙◌}
+use Rattle.std.proofs.Common.{◌≡◌, inl, inr, ℕ, suc, zero, Bool, true, false, cond, Option, Some, None}
+use Rattle.std.proofs.Common.{Result, Ok, Err, List, [], map, replicate, slice_index_or, slice_set, refl, sym}
+use Rattle.std.proofs.Common.{ap, subst, ◌∙◌}
 use Rattle.std.proofs.Math.ListN.{get_or-map}
 use Rattle.moesi.specs.declared.line.Line.TheVariants.{S, E}
 use Rattle.moesi.specs.declared.cell.Cell.{Cell}

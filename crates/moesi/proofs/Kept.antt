@@ -1,15 +1,20 @@
 -- Coherence and current data of all addresses, call by call.
-use Rattle.std.proofs.Common.{◌≡◌, ◌≢◌, ◌<◌, ◌==◌, inl, inr, ℕ, Bool, true, false, cond, Option, Some, None, Result, Ok, Err, [], length, map, slice_index_or, slice_set, replicate, suc, zero, arith, refl, sym, ap, subst, ◌∙◌, get_or-set_other, get_or-set_same, length-set}
+use Rattle.std.proofs.Common.{◌≡◌, ◌≢◌, ◌<◌, ◌==◌, inl, inr, ℕ, Bool, true, false, cond, Option, Some, None}
+use Rattle.std.proofs.Common.{Result, Ok, Err, [], length, map, slice_index_or, slice_set, replicate, suc}
+use Rattle.std.proofs.Common.{zero, arith, refl, sym, ap, subst, ◌∙◌, get_or-set_other, get_or-set_same}
+use Rattle.std.proofs.Common.{length-set}
 use Rattle.std.proofs.lemmas.Bool.{cases_eq, eq-eqb, ne_eqb}
 use Rattle.std.proofs.lemmas.List.{length-map, length-replicate, get_or-replicate}
 use Rattle.moesi.specs.declared.error.CacheError.{CacheError}
 use Rattle.moesi.specs.Lines.{is_owned}
 use Rattle.moesi.specs.Block.{Block, invalid, opening_block}
 use Rattle.moesi.specs.Rows as row
-use Rattle.moesi.specs.State.{CacheState, opening_caches, block_of, current, at_address, get_s, get_m, put, read, write}
+use Rattle.moesi.specs.State.{CacheState, opening_caches, block_of, current, at_address, get_s, get_m, put}
+use Rattle.moesi.specs.State.{read, write}
 use Rattle.moesi.specs.Coherent.{IsCoherent}
 use Rattle.moesi.specs.Laws.{IsTransaction}
-use Rattle.moesi.proofs.Settled.{IsSettled, settled_of, current_settled, coherent_settled, copy_is_current, all_invalid}
+use Rattle.moesi.proofs.Settled.{IsSettled, settled_of, current_settled, coherent_settled, copy_is_current}
+use Rattle.moesi.proofs.Settled.{all_invalid}
 use Rattle.moesi.proofs.Turned.{settled_get_s, settled_get_m, settled_put, settled_write}
 
 -- a row that was taken, where its guard refuses

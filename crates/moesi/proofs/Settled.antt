@@ -1,5 +1,6 @@
 -- What the lines of one address agree on.
-use Rattle.std.proofs.Common.{◌≡◌, ◌≢◌, ◌⊎◌, inl, inr, ℕ, suc, zero, Bool, true, false, Option, List, [], ◌∷◌, slice_index_or, replicate, refl, sym, ap, ◌∙◌}
+use Rattle.std.proofs.Common.{◌≡◌, ◌≢◌, ◌⊎◌, inl, inr, ℕ, suc, zero, Bool, true, false, Option, List, [], ◌∷◌}
+use Rattle.std.proofs.Common.{slice_index_or, replicate, refl, sym, ap, ◌∙◌}
 use Rattle.std.specs.List.{list_any}
 use Rattle.std.proofs.lemmas.Bool.{cond_both, cases_eq, or_parts}
 use Rattle.moesi.specs.declared.line.Line.{Line}

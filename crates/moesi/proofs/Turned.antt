@@ -1,5 +1,7 @@
 -- What a call does to the lines of one address, and that they agree afterwards.
-use Rattle.std.proofs.Common.{◌≡◌, ◌≢◌, ◌<◌, inl, inr, ℕ, Bool, true, false, cond, Option, length, map, slice_index_or, slice_set, arith, refl, sym, ap, ◌∙◌, get_or-set_other, get_or-set_same}
+use Rattle.std.proofs.Common.{◌≡◌, ◌≢◌, ◌<◌, inl, inr, ℕ, Bool, true, false, cond, Option, length, map}
+use Rattle.std.proofs.Common.{slice_index_or, slice_set, arith, refl, sym, ap, ◌∙◌, get_or-set_other}
+use Rattle.std.proofs.Common.{get_or-set_same}
 use Rattle.std.proofs.Math.ListN.{get_or-map}
 use Rattle.std.proofs.lemmas.Bool.{cond_both, cases_eq}
 use Rattle.std.proofs.lemmas.List.{length-map}
@@ -8,7 +10,8 @@ use Rattle.moesi.specs.declared.cell.Cell.{Cell}
 use Rattle.moesi.specs.Lines.{is_valid, is_exclusive, is_owned}
 use Rattle.moesi.specs.Block.{Block, cell_of, invalid, supplied, has_copy}
 use Rattle.moesi.specs.Rows.{shared, invalidated}
-use Rattle.moesi.proofs.Settled.{IsSettled, IsTurned, supplied_settled, no_copy, not_valid, exclusive_valid, lowered_exclusive, lowered_owned, lowered_valid}
+use Rattle.moesi.proofs.Settled.{IsSettled, IsTurned, supplied_settled, no_copy, not_valid, exclusive_valid}
+use Rattle.moesi.proofs.Settled.{lowered_exclusive, lowered_owned, lowered_valid}
 
 -- a row changes every line, and then one
 turned : (b : Block) (f : Cell → Cell) (c : ℕ) (x : Cell) (m : ℕ × Option ℕ) → f invalid ≡ invalid → c < length b.lines

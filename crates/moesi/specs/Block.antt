@@ -1,19 +1,6 @@
 -- What one address is: its line in each core's cache, and memory's data.
-use Rattle.std.specs.Prelude.{
-  ◌≡◌,
-  ◌⊎◌,
-  IsTrue,
-  ℕ,
-  Bool,
-  if◌then◌else◌,
-  Option,
-  None,
-  List,
-  [],
-  ◌∷◌,
-  replicate,
-  slice_index_or,
-}
+use Rattle.std.specs.Prelude.{◌≡◌, ◌⊎◌, IsTrue, ℕ, Bool, if◌then◌else◌, Option, None, List, [], ◌∷◌}
+use Rattle.std.specs.Prelude.{replicate, slice_index_or}
 use Rattle.std.specs.List.{list_any}
 use Rattle.moesi.specs.declared.line.Line.{Line}
 use Rattle.moesi.specs.declared.line.Line.TheVariants.{I}

@@ -1,34 +1,9 @@
 -- What holds of the caches whatever the calls.
-use Rattle.std.specs.Prelude.{
-  ◌≡◌,
-  ◌<◌,
-  ◌==◌,
-  ◌⊎◌,
-  ℕ,
-  Option,
-  if◌then◌else◌,
-  IsTrue,
-  IsFalse,
-  Some,
-  None,
-  Ok,
-  length,
-}
+use Rattle.std.specs.Prelude.{◌≡◌, ◌<◌, ◌==◌, ◌⊎◌, ℕ, Option, if◌then◌else◌, IsTrue, IsFalse, Some, None, Ok}
+use Rattle.std.specs.Prelude.{length}
 use Rattle.moesi.specs.Lines.{is_valid}
-use Rattle.moesi.specs.State.{
-  CacheState,
-  line_of,
-  copy_of,
-  current,
-  opening_caches,
-  get_s,
-  get_m,
-  get_m_stale,
-  put,
-  read,
-  write,
-  Has,
-}
+use Rattle.moesi.specs.State.{CacheState, line_of, copy_of, current, opening_caches, get_s, get_m}
+use Rattle.moesi.specs.State.{get_m_stale, put, read, write, Has}
 use Rattle.moesi.specs.Coherent.{IsCoherent}
 
 -- core c made a transaction of address a

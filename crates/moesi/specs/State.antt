@@ -1,18 +1,6 @@
 -- What the caches of all cores are, with memory, and what each call does to them.
-use Rattle.std.specs.Prelude.{
-  ℕ,
-  Option,
-  Some,
-  None,
-  Result,
-  Ok,
-  Err,
-  List,
-  [],
-  replicate,
-  slice_index_or,
-  slice_set,
-}
+use Rattle.std.specs.Prelude.{ℕ, Option, Some, None, Result, Ok, Err, List, [], replicate, slice_index_or}
+use Rattle.std.specs.Prelude.{slice_set}
 use Rattle.moesi.specs.declared.line.Line.{Line}
 use Rattle.moesi.specs.declared.error.CacheError.{CacheError}
 use Rattle.moesi.specs.Block.{Block, cell_of, opening_block, current_of, HasBlock}

@@ -1,16 +1,21 @@
 -- A well-formed execution is determined by its program and a TSO order of it.
-use Rattle.std.proofs.Common.{◌≡◌, ◌≢◌, ◌<◌, ◌≤◌, ◌+◌, ◌⊎◌, inl, inr, ℕ, zero, suc, ◌&&◌, Option, Some, None, List, [], ◌∷◌, map, take, length, get_or, arith, refl, sym, ap, subst, ◌∙◌, ext_get_or}
+use Rattle.std.proofs.Common.{◌≡◌, ◌≢◌, ◌<◌, ◌≤◌, ◌+◌, ◌⊎◌, inl, inr, ℕ, zero, suc, ◌&&◌, Option, Some, None}
+use Rattle.std.proofs.Common.{List, [], ◌∷◌, map, take, length, get_or, arith, refl, sym, ap, subst, ◌∙◌}
+use Rattle.std.proofs.Common.{ext_get_or}
 use Rattle.std.specs.List.{sum}
 use Rattle.std.proofs.lemmas.List.{length-map}
 use Rattle.std.proofs.lemmas.Bool.{cases_eq, cases_Bool, and_parts}
 use Rattle.std.proofs.Math.ListN as lists
 use Rattle.recorder.specs.declared.event.Event.{Event}
 use Rattle.recorder.specs.declared.event.Event.TheVariants.{F}
-use Rattle.recorder.specs.Event.{read_address, written_address, source, value_read, value_written, is_plain_store, is_plain_load}
-use Rattle.recorder.specs.Execution.{Execution, placed_from, event_at, write_list, Reads, Writes, source_of, ProgramOrder}
+use Rattle.recorder.specs.Event.{read_address, written_address, source, value_read, value_written}
+use Rattle.recorder.specs.Event.{is_plain_store, is_plain_load}
+use Rattle.recorder.specs.Execution.{Execution, placed_from, event_at, write_list, Reads, Writes, source_of}
+use Rattle.recorder.specs.Execution.{ProgramOrder}
 use Rattle.recorder.specs.Order.{place, times, Before, Enumerates}
 use Rattle.recorder.specs.Tso.{Gives, IsWellFormed, Visible, IsLastVisible, IsTsoOrder}
-use Rattle.recorder.proofs.Orders.{times_here, times_there, times_nil, times_in, cases_zero, left_before_right, before_in_right}
+use Rattle.recorder.proofs.Orders.{times_here, times_there, times_nil, times_in, cases_zero}
+use Rattle.recorder.proofs.Orders.{left_before_right, before_in_right}
 use Rattle.machine.specs.State.{event_of}
 use Rattle.replay.specs.Program.{op_of}
 use Rattle.machine.proofs.Static.{placed_at}

@@ -1,5 +1,8 @@
 -- Lists of steps of which none is blocked.
-use Rattle.std.proofs.Common.{◌≡◌, ◌<◌, ◌≤◌, ◌+◌, ℕ, nat_lt, zero, suc, Bool, true, false, cond, Option, Some, None, Result, Ok, Err, List, [], ◌∷◌, ◌++◌, map, length, get_or, slice_get, slice_index_or, slice_set, replicate, arith, refl, sym, ap, subst, ◌∙◌, get_or-set_same, length-set}
+use Rattle.std.proofs.Common.{◌≡◌, ◌<◌, ◌≤◌, ◌+◌, ℕ, nat_lt, zero, suc, Bool, true, false, cond, Option, Some}
+use Rattle.std.proofs.Common.{None, Result, Ok, Err, List, [], ◌∷◌, ◌++◌, map, length, get_or, slice_get}
+use Rattle.std.proofs.Common.{slice_index_or, slice_set, replicate, arith, refl, sym, ap, subst, ◌∙◌}
+use Rattle.std.proofs.Common.{get_or-set_same, length-set}
 use Rattle.std.specs.List.{sum, count_by}
 use Rattle.std.proofs.lemmas.Bool.{lt-ltb, ltb-true}
 use Rattle.std.proofs.lemmas.List.{length-map}
@@ -20,7 +23,8 @@ use Rattle.machine.specs.declared.step.Step.TheVariants.{Exec, Drain, GetS, GetM
 use Rattle.machine.specs.declared.blocked.Blocked.{Blocked}
 use Rattle.machine.specs.declared.blocked.Blocked.TheVariants.{B2, B8}
 use Rattle.machine.specs.State.{State, place_of, buffer_of, first_event}
-use Rattle.machine.specs.Step.{exec, exec_next, taken, after, run, advanced, with_buffer, with_caches, forwarded_or_read, has, IsAt}
+use Rattle.machine.specs.Step.{exec, exec_next, taken, after, run, advanced, with_buffer, with_caches}
+use Rattle.machine.specs.Step.{forwarded_or_read, has, IsAt}
 use Rattle.replay.specs.Steps.{get_to_write, get_to_read}
 use Rattle.machine.specs.Taken.{all_taken, unless_blocked}
 use Rattle.machine.specs.Orderly.{is_st}

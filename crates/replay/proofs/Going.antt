@@ -1,5 +1,6 @@
 -- Runs that go on, of which every state is orderly, and the stores that a core executes.
-use Rattle.std.proofs.Common.{◌≡◌, ◌<◌, ◌≤◌, ◌+◌, inl, inr, ℕ, zero, suc, Bool, true, cond, Result, Ok, List, [], ◌∷◌, map, take, length, get_or, arith, refl, sym, ap, subst, ◌∙◌}
+use Rattle.std.proofs.Common.{◌≡◌, ◌<◌, ◌≤◌, ◌+◌, inl, inr, ℕ, zero, suc, Bool, true, cond, Result, Ok, List}
+use Rattle.std.proofs.Common.{[], ◌∷◌, map, take, length, get_or, arith, refl, sym, ap, subst, ◌∙◌}
 use Rattle.std.specs.List.{All, count_by}
 use Rattle.std.proofs.lemmas.List.Sums.{sum_by-cons}
 use Rattle.std.proofs.lemmas.Bool.{cases_eq}
@@ -16,7 +17,8 @@ use Rattle.machine.specs.declared.step.Step.{Step}
 use Rattle.machine.specs.declared.blocked.Blocked.{Blocked}
 use Rattle.machine.specs.State.{State, buffer_of, opening}
 use Rattle.machine.specs.Step.{taken, after, run}
-use Rattle.machine.specs.Orderly.{placed_op, is_st, AreStores, seen_by, IsExecuted, IsOrderly, EveryStateIsOrderly}
+use Rattle.machine.specs.Orderly.{placed_op, is_st, AreStores, seen_by, IsExecuted, IsOrderly}
+use Rattle.machine.specs.Orderly.{EveryStateIsOrderly}
 use Rattle.replay.specs.Program.{op_of}
 use Rattle.replay.proofs.Made.{store_same}
 

@@ -1,5 +1,7 @@
 -- The program of a recording is lawful, and what its building makes.
-use Rattle.std.proofs.Common.{◌≡◌, ◌<◌, ◌≤◌, ◌+◌, ◌^◌, ℕ, suc, max, List, [], ◌∷◌, ◌++◌, map, length, Some, None, IsTrue, nat_eq, count_by, get_or, drop, arith, refl, sym, ap, ◌∙◌, Vec, Global, option_and_then, drop-cons, drop_of_length-le, eqb-true, eq-eqb}
+use Rattle.std.proofs.Common.{◌≡◌, ◌<◌, ◌≤◌, ◌+◌, ◌^◌, ℕ, suc, max, List, [], ◌∷◌, ◌++◌, map, length, Some}
+use Rattle.std.proofs.Common.{None, IsTrue, nat_eq, count_by, get_or, drop, arith, refl, sym, ap, ◌∙◌, Vec}
+use Rattle.std.proofs.Common.{Global, option_and_then, drop-cons, drop_of_length-le, eqb-true, eq-eqb}
 use Rattle.std.specs.List.{AllByRecursion}
 use Rattle.std.proofs.Math.Nat.{le-max_right, max-eq_left, max-eq_right}
 use Rattle.std.proofs.lemmas.List.{length-map}

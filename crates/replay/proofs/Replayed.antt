@@ -1,5 +1,6 @@
 -- Each TSO order of a recording is replayed.
-use Rattle.std.proofs.Common.{◌≡◌, ◌<◌, ◌≤◌, ◌+◌, inl, inr, ℕ, zero, suc, Some, List, [], ◌∷◌, map, length, get_or, arith, refl, sym, ap, subst, ◌∙◌, true, nat_lt, ltb-true, Result, Ok}
+use Rattle.std.proofs.Common.{◌≡◌, ◌<◌, ◌≤◌, ◌+◌, inl, inr, ℕ, zero, suc, Some, List, [], ◌∷◌, map, length}
+use Rattle.std.proofs.Common.{get_or, arith, refl, sym, ap, subst, ◌∙◌, true, nat_lt, ltb-true, Result, Ok}
 use Rattle.std.specs.List.{All, sum, sum_by, count_by}
 use Rattle.std.proofs.Math.Nat.{le-max_left, le-max_right}
 use Rattle.std.proofs.lemmas.List.{get_or_default, get_or_past}

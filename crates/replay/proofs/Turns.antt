@@ -1,5 +1,7 @@
 -- Where the order up to an event was performed, the steps of this event are taken, and perform it.
-use Rattle.std.proofs.Common.{◌≡◌, ◌<◌, ◌≤◌, ◌+◌, ◌-◌, ◌&&◌, inl, inr, ℕ, true, false, Option, Ok, List, [], ◌∷◌, ◌++◌, map, length, get_or, slice_set, arith, refl, sym, ap, subst, ◌∙◌, length-append}
+use Rattle.std.proofs.Common.{◌≡◌, ◌<◌, ◌≤◌, ◌+◌, ◌-◌, ◌&&◌, inl, inr, ℕ, true, false, Option, Ok, List, []}
+use Rattle.std.proofs.Common.{◌∷◌, ◌++◌, map, length, get_or, slice_set, arith, refl, sym, ap, subst, ◌∙◌}
+use Rattle.std.proofs.Common.{length-append}
 use Rattle.std.specs.List.{sum, count_by}
 use Rattle.std.proofs.lemmas.List.Sums.{sum_by-set}
 use Rattle.std.proofs.lemmas.Bool.{cases_eq, cases_lt, lt-ltb, cases_Bool, and_parts, and_right}
@@ -11,7 +13,8 @@ use Rattle.recorder.specs.Event.{is_plain_store, is_plain_load}
 use Rattle.recorder.specs.Execution.{Execution, placed_from, event_count, event_at, core_of}
 use Rattle.recorder.specs.Order.{times, Before}
 use Rattle.recorder.specs.Tso.{IsTsoOrder}
-use Rattle.recorder.proofs.Orders.{cases_zero, place_here, place_there, times_here, times_nil, times_append, place_append_right}
+use Rattle.recorder.proofs.Orders.{cases_zero, place_here, place_there, times_here, times_nil, times_append}
+use Rattle.recorder.proofs.Orders.{place_append_right}
 use Rattle.moesi.specs.State as moesi
 use Rattle.moesi.specs.Lines.{is_exclusive}
 use Rattle.write_buffer.specs.declared.entry.Entry.{Entry}
@@ -21,7 +24,8 @@ use Rattle.machine.specs.declared.step.Step.{Step}
 use Rattle.machine.specs.declared.step.Step.TheVariants.{Exec, Drain}
 use Rattle.machine.specs.declared.blocked.Blocked.TheVariants.{B4}
 use Rattle.machine.specs.State.{State, place_of, buffer_of, line_copy, first_event}
-use Rattle.machine.specs.Step.{exec, taken, allowed, advanced, performed, given, written, with_buffer, with_caches, rmw_value}
+use Rattle.machine.specs.Step.{exec, taken, allowed, advanced, performed, given, written, with_buffer}
+use Rattle.machine.specs.Step.{with_caches, rmw_value}
 use Rattle.replay.specs.Program.{op_of, program_of}
 use Rattle.replay.specs.Steps.{execute_to, get_to_write, get_to_read}
 use Rattle.machine.specs.Orderly.{placed_op, is_st, is_ld, AreStores, seen_by, IsOrderly}
@@ -29,7 +33,8 @@ use Rattle.machine.proofs.Static.{placed_at}
 use Rattle.machine.proofs.Opening.{event_behind, event_before}
 use Rattle.replay.proofs.Made.{store_same, placed_is, count_same, core_there}
 use Rattle.replay.proofs.Going.{IsGoing, goes_further, waiting, stores_wait, waits_once}
-use Rattle.replay.proofs.Goes.{Goes, goes_one, goes_on, is_at, at_taken, HasStored, store_all, fetch_write, fetch_read, write_made, few_write, few_read}
+use Rattle.replay.proofs.Goes.{Goes, goes_one, goes_on, is_at, at_taken, HasStored, store_all, fetch_write}
+use Rattle.replay.proofs.Goes.{fetch_read, write_made, few_write, few_read}
 
 -- a plain store is no plain load
 store_no_load : (op : Op) → is_st op ≡ true → is_ld op ≡ false

@@ -1,7 +1,9 @@
 -- The greedy choice of the least shortest cycle.
-use Rattle.std.proofs.Common.{◌≡◌, ◌<◌, ◌≤◌, ◌+◌, ◌-◌, inl, inr, ℕ, suc, List, [], ◌∷◌, ◌++◌, Some, None, length, get_or, arith, refl, sym, ap, subst, ◌∙◌, length-append}
+use Rattle.std.proofs.Common.{◌≡◌, ◌<◌, ◌≤◌, ◌+◌, ◌-◌, inl, inr, ℕ, suc, List, [], ◌∷◌, ◌++◌, Some, None}
+use Rattle.std.proofs.Common.{length, get_or, arith, refl, sym, ap, subst, ◌∙◌, length-append}
 use Rattle.std.proofs.lemmas.Bool.{cases_eq, cases_lt}
-use Rattle.relations.specs.Cycle.{Leads, IsCycle, IsShortest, ComesFirst, IsLeastCycle, Walk, IsCappedDistance, AreExactRows}
+use Rattle.relations.specs.Cycle.{Leads, IsCycle, IsShortest, ComesFirst, IsLeastCycle, Walk}
+use Rattle.relations.specs.Cycle.{IsCappedDistance, AreExactRows}
 use Rattle.relations.proofs.Dictionary.{first_more}
 use Rattle.search.specs.Cycles.{IsShortestLength, IsLeastWith, ClosesAt, GoesOn}
 use Rattle.search.proofs.Walks.{walk_more, walk_of, walk_of_path}

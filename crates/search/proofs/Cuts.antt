@@ -1,8 +1,11 @@
 -- Rows that are cut at the length of a shortest cycle.
-use Rattle.std.proofs.Common.{◌≡◌, ◌<◌, ◌≤◌, ◌+◌, ◌⊎◌, inl, inr, ℕ, suc, List, [], ◌∷◌, ◌++◌, length, get_or, set, take, drop, min, Vec, Global, arith, refl, sym, ap, subst, ◌∙◌, get_or-set_other, get_or-set_same, length-set}
+use Rattle.std.proofs.Common.{◌≡◌, ◌<◌, ◌≤◌, ◌+◌, ◌⊎◌, inl, inr, ℕ, suc, List, [], ◌∷◌, ◌++◌, length, get_or}
+use Rattle.std.proofs.Common.{set, take, drop, min, Vec, Global, arith, refl, sym, ap, subst, ◌∙◌}
+use Rattle.std.proofs.Common.{get_or-set_other, get_or-set_same, length-set}
 use Rattle.std.proofs.lemmas.Bool.{cases_eq, cases_lt}
 use Rattle.std.proofs.lemmas.List.{get_or_past, get_or_push, get_or_append_left, take-append-le, take_all}
-use Rattle.relations.specs.Cycle.{IsCycle, IsShortest, IsCertificate, IsCappedDistance, IsExactRow, AreExactRows, IsAcyclic}
+use Rattle.relations.specs.Cycle.{IsCycle, IsShortest, IsCertificate, IsCappedDistance, IsExactRow}
+use Rattle.relations.specs.Cycle.{AreExactRows, IsAcyclic}
 use Rattle.relations.proofs.Pigeonhole.{short_cycle}
 use Rattle.search.specs.Cycles.{IsCap, IsNearest, IsDistanceRow, AreDistanceRows, AreCut, IsShortestLength}
 use Rattle.search.proofs.Walks.{walk_more, walk_of, cut_distance}

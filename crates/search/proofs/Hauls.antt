@@ -1,5 +1,6 @@
 -- Rows that one seat knows of, while it learns more.
-use Rattle.std.proofs.Common.{◌≡◌, ◌≤◌, ◌∙◌, length, get_or, Contains, ℕ, Option, None, Some, Bool, true, false, List, [], ◌∷◌, ◌++◌, All, IfSome, sym, ap, subst}
+use Rattle.std.proofs.Common.{◌≡◌, ◌≤◌, ◌∙◌, length, get_or, Contains, ℕ, Option, None, Some, Bool, true}
+use Rattle.std.proofs.Common.{false, List, [], ◌∷◌, ◌++◌, All, IfSome, sym, ap, subst}
 use Rattle.std.specs.Bool.{if◌then◌else◌}
 use Rattle.std.proofs.lemmas.List.Elements.{All-push, All-rest, All-head}
 use Rattle.std.specs.declared.thread.PromisedHandle.{PromisedHandle}

@@ -1,5 +1,7 @@
 -- Rows that get their names one by one, and jobs that share a relation.
-use Rattle.std.proofs.Common.{◌≡◌, ◌<◌, ◌+◌, inl, inr, ℕ, Option, None, Some, List, [], ◌∷◌, ◌++◌, length, get_or, arith, refl, sym, ap, subst, ◌∙◌, length-append, append_assoc, Vec, Global}
+use Rattle.std.proofs.Common.{◌≡◌, ◌<◌, ◌+◌, inl, inr, ℕ, Option, None, Some, List, [], ◌∷◌, ◌++◌, length}
+use Rattle.std.proofs.Common.{get_or, arith, refl, sym, ap, subst, ◌∙◌, length-append, append_assoc, Vec}
+use Rattle.std.proofs.Common.{Global}
 use Rattle.std.specs.Option.{unwrap_or}
 use Rattle.std.specs.Prelude.{is_some, false, true}
 use Rattle.std.proofs.lemmas.Bool.{cases_eq}
@@ -9,7 +11,8 @@ use Rattle.relations.specs.Relation.{Table, Related}
 use Rattle.relations.specs.Cycle.{Leads, IsExactRow, AreExactRows, IsAcyclic}
 use Rattle.labels.specs.Certified.{lists_of}
 use Rattle.search.specs.Cycles.{IsLeastLength, IsShortestLength}
-use Rattle.search.specs.SourceRow.{SourceRow, IsCycleLength, IsSourceRow, IsNamed, AreLeastRows, numbers_of, Job, AreJobsOf, AreShared}
+use Rattle.search.specs.SourceRow.{SourceRow, IsCycleLength, IsSourceRow, IsNamed, AreLeastRows, numbers_of}
+use Rattle.search.specs.SourceRow.{Job, AreJobsOf, AreShared}
 
 -- the length of the shortest cycles is that of a cycle
 least_is_cycle : (R : ℕ → ℕ → Type 0) (cap : Option ℕ) → IsLeastLength R cap → IsCycleLength R cap

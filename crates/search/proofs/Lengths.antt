@@ -1,5 +1,6 @@
 -- The length of a shortest cycle, from rows of distances.
-use Rattle.std.proofs.Common.{◌≡◌, ◌<◌, ◌≤◌, ◌+◌, inl, inr, ℕ, List, [], ◌∷◌, length, get_or, ◌++◌, map, min, Vec, Global, arith, refl, sym, ap, subst, ◌∙◌}
+use Rattle.std.proofs.Common.{◌≡◌, ◌<◌, ◌≤◌, ◌+◌, inl, inr, ℕ, List, [], ◌∷◌, length, get_or, ◌++◌, map, min}
+use Rattle.std.proofs.Common.{Vec, Global, arith, refl, sym, ap, subst, ◌∙◌}
 use Rattle.std.proofs.lemmas.Bool.{cases_eq, cases_lt}
 use Rattle.relations.specs.Cycle.{Leads, IsCycle, Walk, IsAcyclic}
 use Rattle.relations.proofs.Pigeonhole.{short_cycle}

@@ -1,5 +1,6 @@
 -- What holds of a breadth-first search before each level, and that the row is exact at the end.
-use Rattle.std.proofs.Common.{◌≡◌, ◌<◌, ◌≤◌, ◌+◌, ◌⊎◌, inl, inr, ℕ, suc, Bool, true, false, ◌||◌, ◌&&◌, ◌↔◌, not, List, length, get_or, take, drop, ◌++◌, arith, refl, sym, subst, ◌∙◌}
+use Rattle.std.proofs.Common.{◌≡◌, ◌<◌, ◌≤◌, ◌+◌, ◌⊎◌, inl, inr, ℕ, suc, Bool, true, false, ◌||◌, ◌&&◌, ◌↔◌}
+use Rattle.std.proofs.Common.{not, List, length, get_or, take, drop, ◌++◌, arith, refl, sym, subst, ◌∙◌}
 use Rattle.std.proofs.lemmas.Bool.{cases_eq}
 use Rattle.std.proofs.lemmas.List.{take-append-le, take_all}
 use Rattle.relations.specs.Cycle.{Walk, IsExactRow}

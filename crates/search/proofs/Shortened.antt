@@ -1,5 +1,6 @@
 -- Rows of labels that are cut at the length of the shortest cycles.
-use Rattle.std.proofs.Common.{◌≡◌, ◌<◌, ◌≤◌, ◌+◌, ◌⊎◌, ◌∙◌, inl, inr, ℕ, Option, None, Some, List, [], ◌∷◌, ◌++◌, length, length-append, get_or, min, map, arith, refl, sym, ap, subst}
+use Rattle.std.proofs.Common.{◌≡◌, ◌<◌, ◌≤◌, ◌+◌, ◌⊎◌, ◌∙◌, inl, inr, ℕ, Option, None, Some, List, [], ◌∷◌}
+use Rattle.std.proofs.Common.{◌++◌, length, length-append, get_or, min, map, arith, refl, sym, ap, subst}
 use Rattle.std.specs.Option.{unwrap_or}
 use Rattle.std.proofs.lemmas.Bool.{cases_eq}
 use Rattle.std.proofs.lemmas.List.{get_or-map, length-map, get_or_push, get_or_append_left}
@@ -7,7 +8,8 @@ use Rattle.relations.specs.Relation.{Table, Related}
 use Rattle.relations.specs.Cycle.{IsCycle, IsShortest, IsCappedDistance, IsExactRow, AreExactRows}
 use Rattle.relations.proofs.Pigeonhole.{short_cycle}
 use Rattle.search.specs.Cycles.{IsLeastLength, IsShortestLength}
-use Rattle.search.specs.SourceRow.{SourceRow, source_row, IsCycleLength, IsSourceRow, IsNamed, AreLeastRows, numbers_of}
+use Rattle.search.specs.SourceRow.{SourceRow, source_row, IsCycleLength, IsSourceRow, IsNamed, AreLeastRows}
+use Rattle.search.specs.SourceRow.{numbers_of}
 use Rattle.search.specs.Slots.{IsCutAt}
 use Rattle.search.proofs.Walks.{cut_distance}
 

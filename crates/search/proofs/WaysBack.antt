@@ -1,5 +1,6 @@
 -- The way back from a source along falling labels.
-use Rattle.std.proofs.Common.{◌≡◌, ◌<◌, ◌≤◌, ◌+◌, ◌-◌, ◌⊎◌, inl, inr, ℕ, zero, suc, List, [], ◌∷◌, ◌++◌, Some, None, length, reverse, get_or, arith, refl, sym, ap, subst, ◌∙◌, length-append}
+use Rattle.std.proofs.Common.{◌≡◌, ◌<◌, ◌≤◌, ◌+◌, ◌-◌, ◌⊎◌, inl, inr, ℕ, zero, suc, List, [], ◌∷◌, ◌++◌, Some}
+use Rattle.std.proofs.Common.{None, length, reverse, get_or, arith, refl, sym, ap, subst, ◌∙◌, length-append}
 use Rattle.std.proofs.lemmas.List.{reverse-append, length-reverse}
 use Rattle.relations.specs.Cycle.{Leads, IsCycle, Walk, IsCappedDistance, IsExactRow}
 use Rattle.search.specs.Cycles.{IsLeastWith, ClosesAt}

@@ -1,6 +1,6 @@
 -- What is asked of rows of distances, and what the search for cycles gives.
-use Rattle.std.specs.Prelude.{◌≡◌, ◌⊎◌, ◌<◌, ◌≤◌, ℕ, Option, Some, None, List, [], length, slice_index,
-    slice_index_or, min}
+use Rattle.std.specs.Prelude.{◌≡◌, ◌⊎◌, ◌<◌, ◌≤◌, ℕ, Option, Some, None, List, [], length, slice_index}
+use Rattle.std.specs.Prelude.{slice_index_or, min}
 use Rattle.relations.specs.Cycle.{IsCycle, IsAcyclic, IsShortest, IsExactRow}
 
 -- the number of events, or the length of a cycle

@@ -1,5 +1,6 @@
 -- Rows that are collected by source.
-use Rattle.std.specs.Prelude.{◌≡◌, ◌<◌, ℕ, Option, Some, None, List, length, slice_index, slice_index_or, min, IfSome}
+use Rattle.std.specs.Prelude.{◌≡◌, ◌<◌, ℕ, Option, Some, None, List, length, slice_index, slice_index_or, min}
+use Rattle.std.specs.Prelude.{IfSome}
 use Rattle.relations.specs.Relation.{Table, Related}
 use Rattle.search.specs.SourceRow.{SourceRow}
 use Rattle.search.specs.Bound.{Covers}
@@ -13,7 +14,8 @@ pub record IsRowFrom (t : Table) (lengths : List ℕ) (v : ℕ) (row : SourceRow
 -- a place for the row of each event, filled by no other
 pub record AreSlots (t : Table) (lengths : List ℕ) (slots : List (Option SourceRow)) : Type 0 where
   pub size : length slots ≡ length t
-  pub each : (v : ℕ) (d : Option SourceRow) → v < length t → IfSome (slice_index_or slots v d) (IsRowFrom t lengths v)
+  pub each : (v : ℕ) (d : Option SourceRow) → v < length t
+      → IfSome (slice_index_or slots v d) (IsRowFrom t lengths v)
 
 -- the rows below i are there
 pub record AreFilled (t : Table) (lengths : List ℕ) (i : ℕ) (rows : List SourceRow) : Type 0 where

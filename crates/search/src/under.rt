@@ -1,6 +1,7 @@
 //! Rows under the shared bound.
 
-ghost use Rattle.std.specs.Prelude.{◌≡◌, ◌≤◌, ◌<◌, ◌+◌, ℕ, true, false, length, IfOk, IfErr, IfSome, MatchOption, Contains, vec_capacity, []};
+ghost use Rattle.std.specs.Prelude.{◌≡◌, ◌≤◌, ◌<◌, ◌+◌, ℕ, true, false, length, IfOk, IfErr, IfSome};
+ghost use Rattle.std.specs.Prelude.{MatchOption, Contains, vec_capacity, []};
 ghost use Rattle.std.specs.Option.{unwrap_or};
 ghost use Rattle.relations.specs.Relation.{Related};
 ghost use Rattle.relations.specs.Cycle.{IsExactRow};

@@ -1,5 +1,6 @@
 -- Going on by one entry.
-use Rattle.std.proofs.Common.{◌≡◌, ℕ, ◌+◌, ◌==◌, List, ◌∷◌, drop, slice_get, Option, Some, None, if◌then◌else◌, Bool, true, false, refl, ap, ◌∙◌, add-one, drop-cons}
+use Rattle.std.proofs.Common.{◌≡◌, ℕ, ◌+◌, ◌==◌, List, ◌∷◌, drop, slice_get, Option, Some, None}
+use Rattle.std.proofs.Common.{if◌then◌else◌, Bool, true, false, refl, ap, ◌∙◌, add-one, drop-cons}
 use Rattle.std.proofs.lemmas.Option.{slice_get_within, get_or_from_slice_get}
 use Rattle.write_buffer.specs.declared.entry.Entry.{Entry}
 use Rattle.write_buffer.specs.Buffer.{or_else, youngest}

@@ -24,24 +24,8 @@ impl Model for WriteBuffer {
 }
 
 impl WriteBuffer {
-    ghost use Rattle.std.specs.Prelude.{
-      ◌≡◌,
-      ◌<◌,
-      ◌-◌,
-      ◌↔◌,
-      ◌++◌,
-      ◌∷◌,
-      [],
-      IfOk,
-      OnOk,
-      IfErr,
-      IfNone,
-      IfSome,
-      IsOk,
-      IsTrue,
-      length,
-      slice_get,
-    };
+    ghost use Rattle.std.specs.Prelude.{◌≡◌, ◌<◌, ◌-◌, ◌↔◌, ◌++◌, ◌∷◌, [], IfOk, OnOk, IfErr, IfNone, IfSome};
+    ghost use Rattle.std.specs.Prelude.{IsOk, IsTrue, length, slice_get};
     ghost use Rattle.write_buffer.specs.Buffer.{Buffer, youngest};
 
     /// An empty buffer for so many entries; out of memory where the growth was refused.

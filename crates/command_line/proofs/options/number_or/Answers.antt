@@ -1,4 +1,5 @@
-use Rattle.std.proofs.Common.{◌≡◌, ℕ, Option, Some, None, Result, Ok, Err, IfSome, ap, refl, rules, subst, true≢false, sym}
+use Rattle.std.proofs.Common.{◌≡◌, ℕ, Option, Some, None, Result, Ok, Err, IfSome, ap, refl, rules, subst}
+use Rattle.std.proofs.Common.{true≢false, sym}
 use Rattle.std.specs.Prelude.{is_ok}
 use Rattle.std.specs.Str.Parse.{ExplainsUnsignedError, HasUnsignedDigitsIfOk, ParsesUnsigned}
 use Rattle.clap.specs.Words.{IsUnsignedIn, Text, TriesOne, found_of, one_text}

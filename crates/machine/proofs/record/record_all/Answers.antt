@@ -1,4 +1,5 @@
-use Rattle.std.proofs.Common.{arith, sym, ap, subst, ◌∙◌, ◌≡◌, ◌+◌, ◌++◌, ◌∷◌, [], length, map, drop, ℕ, suc, List, Option, Some, append_assoc, length-append, drop-cons, Vec, Global}
+use Rattle.std.proofs.Common.{arith, sym, ap, subst, ◌∙◌, ◌≡◌, ◌+◌, ◌++◌, ◌∷◌, [], length, map, drop, ℕ, suc}
+use Rattle.std.proofs.Common.{List, Option, Some, append_assoc, length-append, drop-cons, Vec, Global}
 use Rattle.std.proofs.lemmas.List.{map-append}
 use Rattle.std.proofs.lemmas.List.Sums.{sum_by_more, sum_by-take-le, get_or-le-sum_by}
 use Rattle.std.proofs.lemmas.List.Elements.{All-pop}

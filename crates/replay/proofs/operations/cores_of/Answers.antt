@@ -1,4 +1,5 @@
-use Rattle.std.proofs.Common.{◌≡◌, ◌∙◌, ◌++◌, [], map, drop, ap, sym, List, Vec, Global, append-nil, drop_of_length-le}
+use Rattle.std.proofs.Common.{◌≡◌, ◌∙◌, ◌++◌, [], map, drop, ap, sym, List, Vec, Global, append-nil}
+use Rattle.std.proofs.Common.{drop_of_length-le}
 use Rattle.litmus.specs.declared.op.Op.{Op}
 use Rattle.recorder.specs.declared.event.Event.{Event}
 use Rattle.replay.specs.Program.{op_of}

@@ -1,4 +1,5 @@
-use Rattle.std.proofs.Common.{◌<◌, ◌≡◌, ◌+◌, ◌++◌, ◌∷◌, ◌∙◌, ◌⊎◌, ℕ, suc, Some, List, ap, subst, sym, length, get_or, drop, drop-cons, arith}
+use Rattle.std.proofs.Common.{◌<◌, ◌≡◌, ◌+◌, ◌++◌, ◌∷◌, ◌∙◌, ◌⊎◌, ℕ, suc, Some, List, ap, subst, sym, length}
+use Rattle.std.proofs.Common.{get_or, drop, drop-cons, arith}
 use Rattle.litmus.specs.declared.op.Op.{Op}
 use Rattle.recorder.specs.declared.event.Event.{Event}
 use Rattle.recorder.specs.Execution.{Execution, core_of, event_at}

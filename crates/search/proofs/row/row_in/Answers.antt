@@ -1,11 +1,13 @@
-use Rattle.std.proofs.Common.{◌≡◌, ◌<◌, ◌+◌, inl, inr, ℕ, Bool, true, ◌↔◌, IsTrue, List, length, vec_len, replicate, get_or, refl, arith, sym, subst}
+use Rattle.std.proofs.Common.{◌≡◌, ◌<◌, ◌+◌, inl, inr, ℕ, Bool, true, ◌↔◌, IsTrue, List, length, vec_len}
+use Rattle.std.proofs.Common.{replicate, get_or, refl, arith, sym, subst}
 use Rattle.std.proofs.lemmas.List.{get_or-replicate}
 use Rattle.relations.specs.Cycle.{IsExactRow}
 use Rattle.search.specs.Bits.{Marked}
 use Rattle.search.specs.Cycles.{IsNearest}
 use Rattle.search.specs.Levels.{Closes}
 use Rattle.search.proofs.Marks.{joins_one, one_alone, marked_within}
-use Rattle.search.proofs.Levels.{IsReached, reached_none, IsClosed, reached_more, closes_more, closes_by_next, reached_exact, nearest_more, last_exact, closed_nearest, written_back}
+use Rattle.search.proofs.Levels.{IsReached, reached_none, IsClosed, reached_more, closes_more, closes_by_next}
+use Rattle.search.proofs.Levels.{reached_exact, nearest_more, last_exact, closed_nearest, written_back}
 use Rattle.search.proofs.row.row_in.Goals as goal
 
 pub loop-label-init : goal.loop-label-init

@@ -1,4 +1,5 @@
-use Rattle.std.proofs.Common.{◌≡◌, ◌<◌, ◌+◌, ◌∷◌, ◌++◌, [], ℕ, Option, List, None, get_or, IfSome, length, length-append, arith, sym, ap, subst}
+use Rattle.std.proofs.Common.{◌≡◌, ◌<◌, ◌+◌, ◌∷◌, ◌++◌, [], ℕ, Option, List, None, get_or, IfSome, length}
+use Rattle.std.proofs.Common.{length-append, arith, sym, ap, subst}
 use Rattle.search.specs.SourceRow.{SourceRow}
 use Rattle.search.specs.Bound.{lengths_of}
 use Rattle.search.specs.Slots.{IsRowFrom}
