@@ -1,0 +1,171 @@
+-- The words that a seat read one by one are those of a legal desk.
+use Rattle.std.proofs.Common.{true≢false, ◌≡◌, ◌≢◌, ◌⊎◌, ℕ, zero, suc, ◌+◌, ◌<◌, ◌≤◌, Bool, true, false, eqb, List, [], ◌∷◌, ◌++◌, length, get_or, sym, refl, ap, ◌∙◌, subst, inl, inr, ⊎_elim, arith, eq-eqb, ne_eqb, length-append}
+use Rattle.std.specs.Prelude.{Contains, slice_index}
+use Rattle.std.proofs.lemmas.List.{get_or_append_left, get_or_past}
+use Rattle.std.proofs.Math.Seq.{get_or-append_seam}
+use Rattle.std.proofs.lemmas.List.Elements.{Contains-append_left, Contains-push, Contains-push_cases}
+use Rattle.std.proofs.lemmas.Map.Made.{Contains-tail}
+use mathlib.Core.Logic.{dite}
+use mathlib.Core.Option.{some, some-injective, some-ne-none}
+use native.Mathlib.Decide.{ℕ_discrete, dec_le}
+use lib.ListN.{get_elem?}
+use Rattle.atomic_table.specs.Table.{State}
+use Rattle.trials.specs.Campaigns.{Plan}
+use Rattle.trials.specs.declared.board.View.{View}
+use Rattle.trials.specs.Codes.{IsCode}
+use Rattle.trials.specs.Board.{noticed, met, FitsAt, IsWord, Legal, Was, Closes}
+use Rattle.trials.specs.Looking.{Loads}
+
+-- w has the share of v, and has seen at least as much
+pub record Grown (v w : View) : Type 0 where
+  pub live : w.live ≡ v.live
+  pub campaign : w.campaign ≡ v.campaign
+  pub share : w.share ≡ v.share
+  pub filed : w.filed ≡ v.filed
+  pub seen : (q : ℕ) → Contains v.seen q → Contains w.seen q
+  pub read : (q : ℕ) → Contains v.read q → Contains w.read q
+
+pub grown_same : (v : View) → Grown v v
+grown_same v = record { live = refl; campaign = refl; share = refl; filed = refl; seen = λ q h. h; read = λ q h. h }
+
+grown_is : (v w x : View) → Grown v w → x ≡ w → Grown v x
+grown_is v w x g e = subst (Grown v) (sym e) g
+
+pub grown_loads : (v w x : View) (k n : ℕ) → Grown v w → Loads w k n x → Grown v x
+grown_loads v w x k n g l = dite (ℕ_discrete n 0)
+    (λ e. grown_is v w x g (l.1 e))
+    (λ full. dite (ℕ_discrete n 1)
+    (λ e. grown_is v (noticed w k) x record { live = g.live; campaign = g.campaign; share = g.share; filed = g.filed; seen = λ q h. Contains-append_left w.seen (k ∷ []) q (g.seen q h); read = g.read } (l.2 e))
+    (λ more. grown_is v (met w k) x record { live = g.live; campaign = g.campaign; share = g.share; filed = g.filed; seen = λ q h. Contains-append_left w.seen (k ∷ []) q (g.seen q h); read = λ q h. Contains-append_left w.read (k ∷ []) q (g.read q h) } (l.3 full more).0))
+
+grown_fits : (v w : View) (k n : ℕ) → Grown v w → FitsAt w k n → FitsAt v k n
+grown_fits v w k n g f =
+    let into : (xs ys : List ℕ) → ys ≡ xs → Contains xs k → Contains ys k = λ xs ys e h. subst (λ (z : List ℕ). Contains z k) (sym e) h in
+    let code : IsCode w.campaign k n → IsCode v.campaign k n = subst (λ (z : Plan). IsCode z k n) g.campaign in (
+      (λ h. f.0 (into _ _ g.share h)),
+      (λ h. let y = f.1 (into _ _ g.filed h) in (subst (λ (z : List ℕ). Contains z k) g.share y.0, code y.1)),
+      (λ h out. f.2 (into _ _ g.share h) (λ y. out (subst (λ (z : List ℕ). Contains z k) g.filed y))),
+      (λ h. f.3 (g.seen k h)),
+      (λ h. code (f.4 (g.read k h))),
+    )
+
+-- each word read so far fits the view, and so does 0 where there is no word
+pub record ReadSoFar (v : View) (ws : List ℕ) : Type 0 where
+  pub fits : (j : ℕ) → j < length ws → FitsAt v j (get_or ws j 0)
+  pub words : (j : ℕ) → j < length ws → IsWord v.campaign j (get_or ws j 0)
+  pub beyond : 0 < length ws → (j : ℕ) → v.campaign.trials ≤ j → FitsAt v j 0
+
+pub nothing_read : (v : View) → ReadSoFar v []
+nothing_read v = record { fits = λ j h. absurd (omega (arith, h)); words = λ j h. absurd (omega (arith, h)); beyond = λ h. absurd (omega (arith, h)) }
+
+pub one_more : (v w x : View) (ws : List ℕ) (n : ℕ) → Grown v w → Loads w (length ws) n x → ReadSoFar v ws → ReadSoFar v (ws ++ n ∷ [])
+one_more v w x ws n g l r =
+    let k : ℕ = length ws in
+    let s = l.0.0 in let i = l.0.1 in let legal = l.0.2 in let at = l.0.3 in let is = l.0.4 in
+    let last : get_or (ws ++ n ∷ []) k 0 ≡ n = get_or-append_seam ws n [] 0 in
+    let fit : FitsAt v k n = grown_fits v w k n g (subst (FitsAt w k) is (legal.fits i w at k)) in
+    let word : IsWord v.campaign k n = subst (λ (c : Plan). IsWord c k n) g.campaign (subst (IsWord w.campaign k) is (legal.words k)) in
+    let len = length-append ws (n ∷ []) in
+    record {
+      fits = λ j h. dite (ℕ_discrete j k)
+          (λ e. subst (λ (z : ℕ × ℕ). FitsAt v z.0 z.1) (λ t. (sym e t, sym (ap (λ (q : ℕ). get_or (ws ++ n ∷ []) q 0) e ∙ last) t)) fit)
+          (λ ne. let low : j < k = omega (arith, h, len, ne) in subst (FitsAt v j) (sym (get_or_append_left ws (n ∷ []) 0 j low)) (r.fits j low));
+      words = λ j h. dite (ℕ_discrete j k)
+          (λ e. subst (λ (z : ℕ × ℕ). IsWord v.campaign z.0 z.1) (λ t. (sym e t, sym (ap (λ (q : ℕ). get_or (ws ++ n ∷ []) q 0) e ∙ last) t)) word)
+          (λ ne. let low : j < k = omega (arith, h, len, ne) in subst (IsWord v.campaign j) (sym (get_or_append_left ws (n ∷ []) 0 j low)) (r.words j low));
+      beyond = λ _ j h.
+          let out : length s.words ≤ j = omega (arith, legal.size, ap (λ (c : Plan). c.trials) g.campaign, h) in
+          grown_fits v w j 0 g (subst (FitsAt w j) (get_or_past s.words j 0 out) (legal.fits i w at j));
+    }
+
+none_in : (k : ℕ) → Contains [] k → ⊥
+none_in k h = omega (arith, h.1)
+
+contains_dec : (xs : List ℕ) (k : ℕ) → Dec (Contains xs k)
+contains_dec [] k = no (none_in k)
+contains_dec (x ∷ xs) k = elim (ℕ_discrete x k) [
+  | yes e ↦ yes (0, omega arith, e)
+  | no ne ↦ elim (contains_dec xs k) [
+    | yes h ↦ yes (suc h.0, omega (arith, h.1), h.2)
+    | no out ↦ no (λ h. out (Contains-tail x xs k ne h))
+  ]
+]
+
+-- the numbers below n of which P holds
+pick : (P : ℕ → Type 0) → ((k : ℕ) → Dec (P k)) → (n : ℕ) → (l : List ℕ) × ((k : ℕ) → Contains l k → (k < n) × P k) × ((k : ℕ) → k < n → P k → Contains l k)
+pick P d zero = ([], (λ k h. absurd (none_in k h)), λ k h. absurd (omega (arith, h)))
+pick P d (suc n) = let r = pick P d n in elim (d n) [
+  | yes p ↦ (
+    r.0 ++ n ∷ [],
+    (λ k h. ⊎_elim (λ x. let y = r.1 k x in (omega (arith, y.0), y.1)) (λ (e : n ≡ k). (omega (arith, e), subst P e p)) (Contains-push_cases r.0 n k h)),
+    λ k lt pk. dite (ℕ_discrete k n) (λ e. subst (Contains (r.0 ++ n ∷ [])) (sym e) (Contains-push r.0 n)) (λ ne. Contains-append_left r.0 (n ∷ []) k (r.2 k (omega (arith, lt, ne)) pk)),
+  )
+  | no out ↦ (
+    r.0,
+    (λ k h. let y = r.1 k h in (omega (arith, y.0), y.1)),
+    λ k lt pk. dite (ℕ_discrete k n) (λ e. absurd (out (subst P e pk))) (λ ne. r.2 k (omega (arith, lt, ne)) pk),
+  )
+]
+
+-- claimed by another seat
+abbrev Theirs : View → List ℕ → ℕ → Type 0
+Theirs v ws k = (get_or ws k 0 ≢ 0) × (Contains v.share k → ⊥)
+
+-- and filed by it
+abbrev Done : View → List ℕ → ℕ → Type 0
+Done v ws k = Theirs v ws k × (get_or ws k 0 ≢ 1)
+
+theirs_dec : (v : View) (ws : List ℕ) (k : ℕ) → Dec (Theirs v ws k)
+theirs_dec v ws k = elim (ℕ_discrete (get_or ws k 0) 0) [
+  | yes e ↦ no (λ h. h.0 e)
+  | no ne ↦ elim (contains_dec v.share k) [ yes h ↦ no (λ t. t.1 h) | no out ↦ yes (ne, out) ]
+]
+
+done_dec : (v : View) (ws : List ℕ) (k : ℕ) → Dec (Done v ws k)
+done_dec v ws k = elim (theirs_dec v ws k) [
+  | no out ↦ no (λ h. out h.0)
+  | yes t ↦ elim (ℕ_discrete (get_or ws k 0) 1) [ yes e ↦ no (λ h. h.1 e) | no ne ↦ yes (t, ne) ]
+]
+
+two : (v w : View) (P : ℕ → View → Type 0) → P 0 v → P 1 w → (i : ℕ) (u : View) → get_elem? (v ∷ w ∷ []) i ≡ some u → P i u
+two v w P p q zero u e = subst (P 0) (some-injective v u e) p
+two v w P p q (suc zero) u e = subst (P 1) (some-injective w u e) q
+two v w P p q (suc (suc i)) u e = absurd (some-ne-none u (sym e))
+
+pub closing : (v : View) (ws : List ℕ) → v.live ≡ true → length ws ≡ v.campaign.trials → 0 < length ws → ReadSoFar v ws → Closes v ws
+closing v ws live size some_word r =
+    let n : ℕ = length ws in
+    let share = pick (Theirs v ws) (theirs_dec v ws) n in
+    let filed = pick (Done v ws) (done_dec v ws) n in
+    let other : View = record { live = true; campaign = v.campaign; share = share.0; filed = filed.0; seen = []; read = [] } in
+    let out : (k : ℕ) → n ≤ k → get_or ws k 0 ≡ 0 = λ k h. get_or_past ws k 0 h in
+    let word : (k : ℕ) → IsWord v.campaign k (get_or ws k 0) = λ k. elim (dec_le n k) [ yes h ↦ inl (out k h) | no h ↦ r.words k (omega (arith, h)) ] in
+    let mine : (k : ℕ) → FitsAt v k (get_or ws k 0) = λ k. elim (dec_le n k) [ yes h ↦ subst (FitsAt v k) (sym (out k h)) (r.beyond some_word k (omega (arith, h, size))) | no h ↦ r.fits k (omega (arith, h)) ] in
+    let below : (k : ℕ) → get_or ws k 0 ≢ 0 → k < n = λ k full. elim (dec_le n k) [ yes h ↦ absurd (full (out k h)) | no h ↦ omega (arith, h) ] in
+    let his : (k : ℕ) → FitsAt other k (get_or ws k 0) = λ k. (
+      (λ h. (share.1 k h).1.0),
+      (λ h. let d = filed.1 k h in (share.2 k d.0 d.1.0, ⊎_elim (λ e. absurd (d.1.0.0 e)) (λ y. ⊎_elim (λ e. absurd (d.1.1 e)) (λ e. e) y) (word k))),
+      (λ h not_filed. let t = share.1 k h in elim (ℕ_discrete (get_or ws k 0) 1) [ yes e ↦ e | no ne ↦ absurd (not_filed (filed.2 k t.0 (t.1, ne))) ]),
+      (λ h. absurd (none_in k h)),
+      (λ h. absurd (none_in k h)),
+    ) in
+    let each : (P : ℕ → View → Type 0) → P 0 v → P 1 other → (i : ℕ) (u : View) → get_elem? (v ∷ other ∷ []) i ≡ some u → P i u = two v other in (
+      record { words = ws; homes = []; views = v ∷ other ∷ [] },
+      0,
+      record {
+        size = size;
+        words = word;
+        carried = each (λ i u. u.live ≡ true → u.campaign ≡ v.campaign) (λ _. refl) (λ _. refl);
+        fits = each (λ i u. (k : ℕ) → FitsAt u k (get_or ws k 0)) mine his;
+        alone = λ i j a b ea eb. each (λ i a. (k : ℕ) → Contains a.share k → Contains b.share k → i ≡ j)
+            (each (λ j b. (k : ℕ) → Contains v.share k → Contains b.share k → 0 ≡ j) (λ k _ _. refl) (λ k h t. absurd ((share.1 k t).1.1 h)) j b eb)
+            (each (λ j b. (k : ℕ) → Contains other.share k → Contains b.share k → 1 ≡ j) (λ k t h. absurd ((share.1 k t).1.1 h)) (λ k _ _. refl) j b eb)
+            i a ea;
+        owned = λ k full. elim (contains_dec v.share k) [
+          | yes h ↦ (0, v, refl, h)
+          | no ne ↦ (1, other, refl, share.2 k (below k full) (full, ne))
+        ];
+      },
+      refl,
+      refl,
+    )

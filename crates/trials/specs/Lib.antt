@@ -1,0 +1,7 @@
+pub mod Campaigns
+pub mod Schedule
+pub mod Judged
+pub mod Codes
+pub mod Filing
+pub mod Board
+pub mod Looking

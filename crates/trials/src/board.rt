@@ -1,0 +1,82 @@
+//! The rule of the desk's words, and what each kind of step tells.
+
+use crate::campaign::Campaign;
+use atomic_table::{Join, Play, Split, Table, TableRule};
+use std::alloc::Global;
+use std::collections::LinkedList;
+
+/// What a seat knows. No value of it is made.
+pub struct View {
+    /// Whether it was not merged into another.
+    pub live: bool,
+    /// The campaign of its desk.
+    pub campaign: Campaign,
+    /// The trials that it claimed.
+    pub share: LinkedList<u64>,
+    /// Those of them that it filed.
+    pub filed: LinkedList<u64>,
+    /// The trials that it saw at least claimed.
+    pub seen: LinkedList<u64>,
+    /// The trials that it saw filed.
+    pub read: LinkedList<u64>,
+}
+
+/// A word is 0 where its trial is open, 1 where it is claimed, else its code.
+pub struct DeskRule;
+
+impl TableRule<(), View, Campaign> for DeskRule {
+    ghost use Rattle.trials.specs.Board.{Legal, newcomer};
+
+    ghost holds = { Legal };
+
+    ghost first = { newcomer };
+}
+
+/// The compare-exchange of a claim.
+pub struct Claims;
+
+impl Play<(), View> for Claims {
+    ghost use Rattle.trials.specs.Board.{ClaimStep};
+
+    ghost then = { ClaimStep };
+}
+
+/// The store of a filing.
+pub struct Files;
+
+impl Play<(), View> for Files {
+    ghost use Rattle.trials.specs.Board.{FileStep};
+
+    ghost then = { FileStep };
+}
+
+/// The load of a look.
+pub struct Looks;
+
+impl Play<(), View> for Looks {
+    ghost use Rattle.trials.specs.Board.{LookStep};
+
+    ghost then = { LookStep };
+}
+
+/// A second seat has an empty share and has seen the same.
+pub struct Beside;
+
+impl Split<View> for Beside {
+    ghost use Rattle.trials.specs.Board.{without_share};
+
+    ghost left = { λ v. v };
+
+    ghost right = { without_share };
+}
+
+impl Join<View> for Beside {
+    ghost use Rattle.trials.specs.Board.{joined, gone};
+
+    ghost both = { joined };
+
+    ghost spent = { gone };
+}
+
+/// The words of a desk, under their rule.
+pub type Board = Table<(), View, Campaign, DeskRule, Global>;

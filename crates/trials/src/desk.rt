@@ -1,0 +1,82 @@
+//! The calls of the desk.
+
+ghost use Rattle.std.specs.Prelude.{◌≡◌, ◌≢◌, ◌<◌, ℕ, Bool, true, false, [], ◌==◌, length, IfOk, MatchBool, Contains, replicate};
+ghost use Rattle.trials.specs.Board.{newcomer, claimed, noticed, completed, Closes, Was};
+ghost use Rattle.trials.specs.Looking.{IsSeatOf, Says};
+
+use crate::board::Board;
+use crate::campaign::Campaign;
+use crate::filed::Filed;
+use crate::seat::{Desk, DeskSeat, Look};
+use litmus::OutOfMemory;
+use std::alloc::Global;
+use std::sync::Arc;
+
+impl Desk {
+    /// All words are 0, and the seat has claimed and seen nothing.
+    pub fn open(alloc: Global, campaign: &Campaign) -> Result<(Desk, DeskSeat), OutOfMemory>
+        ensures { IfOk result (λ r. IsSeatOf r.0 r.1 × (r.1.seat.me.0 ≡ newcomer campaign.now)) }
+    {
+        campaign.sound();
+        let words = zeros(alloc, campaign.trials())?;
+        let (table, seat) = Board::of_words(alloc, words.as_slice(), campaign)?;
+        let table = Arc::new(alloc, table)?;
+        let again = Arc::try_clone(&table)?;
+        Ok((Desk { table: again }, DeskSeat { table, seat }))
+    }
+
+    /// True exactly where the word was 0 at its step.
+    pub fn claim(&self, seat: &mut DeskSeat, k: usize) -> bool
+        requires seat { IsSeatOf self.now seat.old }
+        requires trial { k < seat.old.seat.me.0.campaign.trials }
+        ensures seat { IsSeatOf self.now seat.new }
+        ensures step { (n : ℕ) × Was seat.old.seat.me.0 k n × (result ≡ (n == 0)) }
+        ensures new { MatchBool result (seat.new.seat.me.0 ≡ claimed seat.old.seat.me.0 k) (seat.new.seat.me.0 ≡ noticed seat.old.seat.me.0 k) }
+        ensures first { result ≡ true → (Contains seat.old.seat.me.0.seen k → ⊥) × (Contains seat.old.seat.me.0.share k → ⊥) }
+        ensures later { Contains seat.new.seat.me.0.seen k }
+    {
+        seat.claim(k)
+    }
+
+    /// Files a trial that this seat has claimed.
+    pub fn file(&self, seat: &mut DeskSeat, filed: &Filed)
+        requires seat { IsSeatOf self.now seat.old }
+        requires campaign { filed.now.campaign ≡ seat.old.seat.me.0.campaign }
+        requires trial { filed.now.trial < seat.old.seat.me.0.campaign.trials }
+        requires claimed { Contains seat.old.seat.me.0.share filed.now.trial }
+        requires open { Contains seat.old.seat.me.0.filed filed.now.trial → ⊥ }
+        ensures seat { IsSeatOf self.now seat.new }
+        ensures new { seat.new.seat.me.0 ≡ completed seat.old.seat.me.0 filed.now.trial }
+    {
+        seat.file(filed);
+    }
+
+    /// What the word of a trial says, at least what this seat has claimed, filed or seen.
+    pub fn look(&self, seat: &mut DeskSeat, k: usize) -> Look
+        requires seat { IsSeatOf self.now seat.old }
+        requires trial { k < seat.old.seat.me.0.campaign.trials }
+        ensures seat { IsSeatOf self.now seat.new }
+        ensures says { Says seat.old.seat.me.0 k result seat.new.seat.me.0 }
+    {
+        match seat.load(k) {
+            0 => Look::Open,
+            1 => Look::Claimed,
+            code => Look::Filed(code),
+        }
+    }
+
+    /// The words, which are those of a legal desk beside what the seat knows.
+    pub fn close(self, alloc: Global, seat: DeskSeat) -> Result<Vec<u64>, OutOfMemory>
+        requires { IsSeatOf self seat }
+        ensures { IfOk result (λ ws. Closes seat.seat.me.0 ws.items) }
+    {
+        drop(self);
+        seat.read_all(alloc)
+    }
+}
+
+fn zeros(alloc: Global, count: usize) -> Result<Vec<u64>, OutOfMemory>
+    ensures { IfOk result (λ v. v.items ≡ replicate count 0) }
+{
+    Ok(Vec::from_elem(alloc, 0u64, count)?)
+}
