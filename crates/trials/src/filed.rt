@@ -27,7 +27,7 @@ impl Filed {
     ghost use Rattle.trials.specs.Codes.{IsCode};
 
     /// The trial with this code.
-    pub fn new(campaign: &Campaign, trial: usize, code: u64) -> Filed
+    pub(crate) fn new(campaign: &Campaign, trial: usize, code: u64) -> Filed
         requires { IsCode campaign.now trial code }
         ensures { result ≡ record { campaign = campaign.now; trial = trial; code = code } }
     {

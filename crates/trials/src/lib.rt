@@ -1,16 +1,28 @@
-//! The desk at which workers claim and file the trials of a campaign.
+//! Random trials of the machine, by workers that share a desk.
 #![tactic(auto)]
 
 mod board;
 mod campaign;
+mod campaigning;
 mod code;
 mod desk;
 mod filed;
+mod judging;
+mod ledger;
+mod running;
+mod schedule;
 mod seat;
 mod steps;
+mod trying;
+mod workers;
 
 pub use board::{Board, DeskRule, View};
 pub use campaign::Campaign;
+pub use campaigning::{CampaignError, run_campaign};
 pub use code::{CYCLE, LOAD, ORDERED, OVERLOOK, UNFINISHED};
 pub use filed::Filed;
+pub use judging::run_and_judge;
+pub use ledger::Ledger;
+pub use running::run_seeded;
 pub use seat::{Desk, DeskSeat, Look};
+pub use trying::{reproduce, trial};

@@ -2,4 +2,10 @@
 #![tactic(auto)]
 
 #[cfg(test)]
+mod campaigns;
+#[cfg(test)]
 mod programs;
+#[cfg(test)]
+mod schedules;
+#[cfg(test)]
+mod words;

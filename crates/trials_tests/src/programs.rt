@@ -1,5 +1,6 @@
 //! Random programs, word by word.
 
+use crate::words::generator;
 use litmus::{
     MAX_ADDRESSES, MAX_CORES, MAX_EVENTS, OutOfMemory, Shape, ShapeError, generate, print,
 };
@@ -8,15 +9,6 @@ use rand_core::utils::NextWord;
 use rand_xoshiro::Xoshiro256PlusPlus;
 use std::alloc::Global;
 use std::test::Fail;
-
-// A generator whose next word is this one.
-fn generator(word: u64) -> Xoshiro256PlusPlus {
-    let [b0, b1, b2, b3, b4, b5, b6, b7] = word.rotate_right(23).to_le_bytes();
-    Xoshiro256PlusPlus::from_seed([
-        0, 0, 0, 0, 0, 0, 0, 0, 1, 0, 0, 0, 0, 0, 0, 0, 0, 0, 0, 0, 0, 0, 0, 0, b0, b1, b2, b3, b4,
-        b5, b6, b7,
-    ])
-}
 
 // Whether the random program of these sizes and this generator has the text.
 fn makes(

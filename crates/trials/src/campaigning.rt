@@ -1,0 +1,116 @@
+//! Campaigns run by workers.
+
+ghost use Rattle.std.specs.Prelude.{◌≡◌, ◌<◌, ◌≤◌, ℕ, List, IfOk};
+ghost use Rattle.trials.specs.Board.{Closes, IsWord};
+ghost use Rattle.trials.specs.Codes.{AreCodes, IsCode};
+ghost use Rattle.trials.specs.Counts.{IsLedger};
+ghost use Rattle.trials.specs.Looking.{IsSeatOf};
+ghost use Rattle.trials.specs.declared.board.View.{View};
+
+use crate::campaign::Campaign;
+use crate::ledger::Ledger;
+use crate::seat::{Desk, DeskSeat, Look};
+use crate::trying::trial;
+use crate::workers::work_all;
+use litmus::{Gate, MAX_WORKERS, OutOfMemory};
+use std::alloc::Global;
+use std::sync::Wait;
+use std::thread::Threads;
+
+/// Why a campaign has no ledger.
+#[derive(Clone, Copy, Debug, Drop, PartialEq, Eq)]
+pub enum CampaignError {
+    /// There was no memory.
+    OutOfMemory {
+        /// How many trials the workers had filed.
+        filed: usize,
+    },
+}
+
+/// How many trials are filed.
+fn filed_count(desk: &Desk, seat: &mut DeskSeat, trials: usize) -> usize
+    requires seat { IsSeatOf desk.now seat.old }
+    requires trials { trials ≡ seat.old.seat.me.0.campaign.trials }
+    ensures seat { IsSeatOf desk.now seat.new }
+    ensures campaign { seat.new.seat.me.0.campaign ≡ seat.old.seat.me.0.campaign }
+{
+    let mut filed = 0;
+    for k in 0..trials {
+        if let Look::Filed(_) = desk.look(seat, k) {
+            filed += 1;
+        }
+    }
+    filed
+}
+
+/// The code of a trial: its word, and where that is none, that of the trial made here.
+#[tactic(auto, using(crate::proofs::Completed::is_code))]
+fn filed_code(alloc: Global, campaign: &Campaign, k: usize, word: u64) -> Result<u64, OutOfMemory>
+    requires trial { k < campaign.now.trials }
+    requires word { IsWord campaign.now k word }
+    ensures { IfOk result (IsCode campaign.now k) }
+{
+    if word >= 2 {
+        return Ok(word);
+    }
+    let filed = trial(alloc, campaign, k)?;
+    Ok(filed.code())
+}
+
+/// The codes of all trials, from the words of a closed desk.
+fn complete(
+    alloc: Global,
+    campaign: &Campaign,
+    mut words: Vec<u64>,
+) -> Result<Vec<u64>, OutOfMemory>
+    requires { (v : View) × (v.campaign ≡ campaign.now) × Closes v words.items }
+    ensures { IfOk result (λ codes. AreCodes campaign.now codes.items) }
+{
+    for k in 0..words.len() {
+        let word = words[k];
+        words[k] = filed_code(alloc, campaign, k, word)?;
+    }
+    Ok(words)
+}
+
+/// The ledger of the codes of a desk that all workers have left.
+fn ledger_of(
+    alloc: Global,
+    campaign: &Campaign,
+    desk: Desk,
+    seat: DeskSeat,
+) -> Result<Ledger, OutOfMemory>
+    requires seat { IsSeatOf desk seat }
+    requires campaign { seat.seat.me.0.campaign ≡ campaign.now }
+    ensures { IfOk result (λ l. (codes : List ℕ) × AreCodes campaign.now codes × IsLedger codes l) }
+{
+    let words = desk.close(alloc, seat)?;
+    let codes = complete(alloc, campaign, words)?;
+    let ledger = Ledger::count(alloc, &codes)?;
+    Ok(ledger)
+}
+
+/// Runs the trials of a campaign by so many workers, 1 to `MAX_WORKERS`, of which the calling thread is
+/// worker 0 and another one that isn't started is done without. Workers claim trials in ascending order;
+/// the gate is told of each claim and of each filing. What they left out the calling thread computes. An
+/// `Err` is want of memory.
+pub fn run_campaign<R: Threads + Wait + Sync, G: Gate>(
+    rt: &R,
+    alloc: Global,
+    campaign: &Campaign,
+    workers: usize,
+    gate: &G,
+) -> Result<Ledger, CampaignError>
+    requires { (1 ≤ workers) × (workers ≤ MAX_WORKERS) }
+    ensures { IfOk result (λ l. (codes : List ℕ) × AreCodes campaign.now codes × IsLedger codes l) }
+{
+    let Ok((desk, seat)) = Desk::open(alloc, campaign) else {
+        return Err(CampaignError::OutOfMemory { filed: 0 });
+    };
+    let mut seat = work_all(rt, alloc, campaign, &desk, seat, workers, gate);
+    let filed = filed_count(&desk, &mut seat, campaign.trials());
+    match ledger_of(alloc, campaign, desk, seat) {
+        Ok(ledger) => Ok(ledger),
+        Err(_refused) => Err(CampaignError::OutOfMemory { filed }),
+    }
+}

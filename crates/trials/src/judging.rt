@@ -1,0 +1,62 @@
+//! What is judged of runs.
+
+ghost use Rattle.std.specs.Prelude.{◌≡◌, IfOk};
+ghost use Rattle.trials.specs.Codes.{end_code, verdict_code};
+ghost use Rattle.trials.specs.Judged.{begun, ran, IsEndVerdict};
+
+use crate::code::{CYCLE, LOAD, ORDERED, OVERLOOK, UNFINISHED};
+use judge::{Verdict, judge_alone};
+use litmus::{OutOfMemory, Program};
+use machine::{Fault, Machine, Step};
+use std::alloc::Global;
+
+/// The verdict on the recording of a machine; none exactly where it is not complete. An `Err` only where
+/// there is no memory.
+pub(crate) fn end_verdict(alloc: Global, machine: Machine) -> Result<Option<Verdict>, OutOfMemory>
+    ensures { IfOk result (IsEndVerdict machine) }
+{
+    match machine.finish() {
+        Ok(recording) => Ok(Some(judge_alone(alloc, &recording)?)),
+        Err(_unfinished) => Ok(None),
+    }
+}
+
+/// The verdict on the recording that a machine makes of a program by these steps, of which blocked ones
+/// are skipped; none exactly where the run is not complete. It waits for nobody, and an `Err` is want of
+/// memory.
+pub fn run_and_judge(
+    alloc: Global,
+    program: Program,
+    capacity: usize,
+    fault: Fault,
+    steps: &[Step],
+) -> Result<Option<Verdict>, OutOfMemory>
+    ensures { IfOk result (IsEndVerdict (ran (begun program capacity fault) steps.now)) }
+{
+    let mut machine = Machine::new(alloc, program, capacity, fault)?;
+    machine.run(steps);
+    end_verdict(alloc, machine)
+}
+
+/// The code of a verdict.
+fn verdict_code(verdict: &Verdict) -> u64
+    ensures { result ≡ verdict_code verdict.now }
+{
+    match verdict {
+        Verdict::Ordered(_) => ORDERED,
+        Verdict::Overlook { load, store } => {
+            OVERLOOK + LOAD * u64::from(*load) + u64::from(*store)
+        }
+        Verdict::Cycle(certificate) => CYCLE + certificate.cycle.len() as u64,
+    }
+}
+
+/// The code of a trial by what is judged of the machine in which it ends.
+pub(crate) fn end_code(verdict: Option<Verdict>) -> u64
+    ensures { result ≡ end_code verdict }
+{
+    match verdict {
+        Some(verdict) => verdict_code(&verdict),
+        None => UNFINISHED,
+    }
+}

@@ -1,0 +1,66 @@
+//! Trials.
+
+ghost use Rattle.std.specs.Prelude.{◌≡◌, ◌<◌, IfOk};
+ghost use Rattle.machine.specs.Configuration.{Configuration};
+ghost use Rattle.trials.specs.Codes.{EndsIn, generator, program_of_trial};
+ghost use Rattle.trials.specs.Judged.{IsEndRecording};
+
+use crate::campaign::Campaign;
+use crate::filed::Filed;
+use crate::judging::{end_code, end_verdict};
+use crate::running::run_seeded;
+use litmus::{OutOfMemory, Program, generate};
+use machine::Machine;
+use rand_core::SeedableRng;
+use rand_xoshiro::Xoshiro256PlusPlus;
+use recorder::Recording;
+use std::alloc::Global;
+
+/// The generator of a trial: seeded by the first seed and the number of the trial, modulo 2^64.
+fn generator(campaign: &Campaign, trial: usize) -> Xoshiro256PlusPlus
+    ensures { result ≡ generator campaign.now trial }
+{
+    Xoshiro256PlusPlus::seed_from_u64(campaign.base().wrapping_add(trial as u64))
+}
+
+/// The machine in which a trial ends: its generator's first words make the program, the later ones name
+/// the attempts. An `Err` only where there is no memory.
+fn machine_of(alloc: Global, campaign: &Campaign, trial: usize) -> Result<Machine, OutOfMemory>
+    ensures { IfOk result (λ m. EndsIn campaign.now trial m) }
+{
+    let mut rng = generator(campaign, trial);
+    let program = generate(alloc, campaign.shape(), &mut rng)?;
+    let mut machine = Machine::new(alloc, program, campaign.capacity(), campaign.fault())?;
+    run_seeded(&mut machine, &mut rng, campaign.attempts());
+    Ok(machine)
+}
+
+/// A trial of a campaign with its code. It waits for nobody, and an `Err` is want of memory.
+pub fn trial(alloc: Global, campaign: &Campaign, k: usize) -> Result<Filed, OutOfMemory>
+    requires { k < campaign.now.trials }
+    ensures { IfOk result (λ f. (f.campaign ≡ campaign.now) × (f.trial ≡ k)) }
+{
+    let machine = machine_of(alloc, campaign, k)?;
+    let code = end_code(end_verdict(alloc, machine)?);
+    Ok(Filed::new(campaign, k, code))
+}
+
+/// The program of a trial, and its recording; none exactly where its run is not complete. An `Err` only
+/// where there is no memory.
+pub fn reproduce(
+    alloc: Global,
+    campaign: &Campaign,
+    k: usize,
+) -> Result<(Program, Option<Recording>), OutOfMemory>
+    requires { k < campaign.now.trials }
+    ensures program { IfOk result (λ r. r.0 ≡ program_of_trial campaign.now k) }
+    ensures recording { IfOk result
+        (λ r. (h : Configuration) × EndsIn campaign.now k h × IsEndRecording h r.1) }
+{
+    let machine = machine_of(alloc, campaign, k)?;
+    let program = machine.program().copy(alloc)?;
+    match machine.finish() {
+        Ok(recording) => Ok((program, Some(recording))),
+        Err(_unfinished) => Ok((program, None)),
+    }
+}

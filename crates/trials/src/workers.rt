@@ -1,0 +1,149 @@
+//! Workers that claim trials one after another.
+
+ghost use Rattle.std.specs.Prelude.{◌≡◌, ◌<◌};
+ghost use Rattle.trials.specs.Looking.{IsSeatOf};
+
+use crate::campaign::Campaign;
+use crate::seat::{Desk, DeskSeat};
+use crate::trying::trial;
+use litmus::Gate;
+use std::alloc::Global;
+use std::sync::Wait;
+use std::thread;
+use std::thread::{Scope, Threads};
+
+/// Claims a trial, and files it where the word was open and there is memory.
+fn try_one<G: Gate>(
+    alloc: Global,
+    campaign: &Campaign,
+    desk: &Desk,
+    seat: &mut DeskSeat,
+    gate: &G,
+    worker: usize,
+    k: usize,
+)
+    requires seat { IsSeatOf desk.now seat.old }
+    requires campaign { seat.old.seat.me.0.campaign ≡ campaign.now }
+    requires trial { k < campaign.now.trials }
+    ensures seat { IsSeatOf desk.now seat.new }
+    ensures campaign { seat.new.seat.me.0.campaign ≡ campaign.now }
+{
+    if desk.claim(seat, k) {
+        gate.begin(worker, k);
+        if let Ok(filed) = trial(alloc, campaign, k) {
+            desk.file(seat, &filed);
+            gate.done(worker, k);
+        }
+    }
+}
+
+/// Takes trials in ascending order, one claim at a time.
+fn work<G: Gate>(
+    alloc: Global,
+    campaign: &Campaign,
+    desk: &Desk,
+    seat: &mut DeskSeat,
+    gate: &G,
+    worker: usize,
+)
+    requires seat { IsSeatOf desk.now seat.old }
+    requires campaign { seat.old.seat.me.0.campaign ≡ campaign.now }
+    ensures seat { IsSeatOf desk.now seat.new }
+    ensures campaign { seat.new.seat.me.0.campaign ≡ campaign.now }
+{
+    for k in 0..campaign.trials() {
+        try_one(alloc, campaign, desk, seat, gate, worker, k);
+    }
+}
+
+/// The same with a seat of its own, which it gives back.
+fn work_there<G: Gate>(
+    alloc: Global,
+    campaign: &Campaign,
+    desk: &Desk,
+    mut seat: DeskSeat,
+    gate: &G,
+    worker: usize,
+) -> DeskSeat
+    requires seat { IsSeatOf desk.now seat }
+    requires campaign { seat.seat.me.0.campaign ≡ campaign.now }
+    ensures seat { IsSeatOf desk.now result }
+    ensures campaign { result.seat.me.0.campaign ≡ campaign.now }
+{
+    work(alloc, campaign, desk, &mut seat, gate, worker);
+    seat
+}
+
+/// Starts a worker. One that has no seat or no thread is done without.
+fn start<'s, E, G: Gate>(
+    scope: &Scope<'s, E>,
+    alloc: Global,
+    campaign: &'s Campaign,
+    desk: &'s Desk,
+    seat: &mut DeskSeat,
+    gate: &'s G,
+    worker: usize,
+)
+    requires seat { IsSeatOf desk.now seat.old }
+    requires campaign { seat.old.seat.me.0.campaign ≡ campaign.now }
+    ensures seat { IsSeatOf desk.now seat.new }
+    ensures campaign { seat.new.seat.me.0.campaign ≡ campaign.now }
+{
+    let Ok(other) = seat.split() else {
+        return;
+    };
+    let there = move || -> DeskSeat
+        requires { IsSeatOf desk.now other × (other.seat.me.0.campaign ≡ campaign.now) }
+    { work_there(alloc, campaign, desk, other, gate, worker) };
+    let _ = scope.spawn(there);
+}
+
+/// Starts the workers but the first.
+fn start_all<'s, E, G: Gate>(
+    scope: &Scope<'s, E>,
+    alloc: Global,
+    campaign: &'s Campaign,
+    desk: &'s Desk,
+    seat: &mut DeskSeat,
+    gate: &'s G,
+    workers: usize,
+)
+    requires seat { IsSeatOf desk.now seat.old }
+    requires campaign { seat.old.seat.me.0.campaign ≡ campaign.now }
+    ensures seat { IsSeatOf desk.now seat.new }
+    ensures campaign { seat.new.seat.me.0.campaign ≡ campaign.now }
+{
+    for worker in 1..workers {
+        start(scope, alloc, campaign, desk, seat, gate, worker);
+    }
+}
+
+/// Has the trials taken by so many workers, of which the calling thread is worker 0.
+pub(crate) fn work_all<R: Threads + Wait + Sync, G: Gate>(
+    rt: &R,
+    alloc: Global,
+    campaign: &Campaign,
+    desk: &Desk,
+    seat: DeskSeat,
+    workers: usize,
+    gate: &G,
+) -> DeskSeat
+    requires seat { IsSeatOf desk.now seat }
+    requires campaign { seat.seat.me.0.campaign ≡ campaign.now }
+    ensures seat { IsSeatOf desk.now result }
+    ensures campaign { result.seat.me.0.campaign ≡ campaign.now }
+{
+    thread::scope(
+        thread::scope_env(),
+        rt,
+        |scope| -> DeskSeat
+            requires { IsSeatOf desk.now seat × (seat.seat.me.0.campaign ≡ campaign.now) }
+            ensures { IsSeatOf desk.entry.now result
+                × (result.seat.me.0.campaign ≡ campaign.entry.now) }
+        {
+            let mut mine = seat;
+            start_all(scope, alloc, campaign, desk, &mut mine, gate, workers);
+            work_there(alloc, campaign, desk, mine, gate, 0)
+        },
+    )
+}
