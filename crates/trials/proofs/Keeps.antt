@@ -1,21 +1,26 @@
 -- Each step keeps the desk legal.
-use Rattle.std.proofs.Common.{true≢false, ◌≡◌, ◌≢◌, ◌⊎◌, ℕ, zero, suc, ◌+◌, ◌%◌, ◌<◌, ◌≤◌, Bool, true, false, eqb, List, [], ◌∷◌, ◌++◌, length, get_or, set, sym, refl, ap, ◌∙◌, subst, inl, inr, ⊎_elim, arith, eq-eqb, ne_eqb}
+use Rattle.std.proofs.Common.{true≢false, ◌≡◌, ◌≢◌, ◌⊎◌, ℕ, zero, suc, ◌+◌, ◌%◌, ◌<◌, ◌≤◌, Bool, true, false}
+use Rattle.std.proofs.Common.{eqb, List, [], ◌∷◌, ◌++◌, length, get_or, set, sym, refl, ap, ◌∙◌, subst, inl}
+use Rattle.std.proofs.Common.{inr, ⊎_elim, arith, eq-eqb, ne_eqb}
 use Rattle.std.specs.Prelude.{Contains, MatchBool, Option, None, Some, slice_index}
 use Rattle.std.proofs.lemmas.List.{set-get_or, get_or-set_same, get_or-set_other, length-set}
-use Rattle.std.proofs.lemmas.List.Elements.{Contains-append_left, Contains-append_right, Contains-append_cases, Contains-push, Contains-push_cases}
+use Rattle.std.proofs.lemmas.List.Elements.{Contains-append_left, Contains-append_right}
+use Rattle.std.proofs.lemmas.List.Elements.{Contains-append_cases, Contains-push, Contains-push_cases}
 use mathlib.Core.Logic.{dite}
 use mathlib.Core.Option.{none, some, some-injective, some-ne-none}
 use native.Mathlib.Decide.{ℕ_discrete}
 use lib.ListN.{get_elem?}
 use prog.Atomic.{either}
 use Rattle.atomic_table.specs.Table.{State, Me, Step, step, keeps, stepped, Allows, Splits, Joins, opening}
-use Rattle.atomic_table.proofs.Lists.{at_set, at_snoc, at_last, at_longer, set_here, set_else, set_again, exchanged}
+use Rattle.atomic_table.proofs.Lists.{at_set, at_snoc, at_last, at_longer, set_here, set_else, set_again}
+use Rattle.atomic_table.proofs.Lists.{exchanged}
 use Rattle.trials.specs.Campaigns.{Plan}
 use Rattle.trials.specs.declared.board.View.{View}
 use Rattle.judge.specs.declared.verdict.Verdict.{Verdict}
 use Rattle.judge.specs.declared.verdict.Verdict.TheVariants.{Ordered, Overlook, Cycle}
 use Rattle.trials.specs.Codes.{IsCode, end_code}
-use Rattle.trials.specs.Board.{newcomer, gone, without_share, joined, claimed, noticed, met, completed, FitsAt, IsWord, Legal, Was, ClaimStep, FileStep, LookStep}
+use Rattle.trials.specs.Board.{newcomer, gone, without_share, joined, claimed, noticed, met, completed}
+use Rattle.trials.specs.Board.{FitsAt, IsWord, Legal, Was, ClaimStep, FileStep, LookStep}
 
 abbrev St : Type 0
 St = State (Unit {0}) View

@@ -6,7 +6,8 @@ use Rattle.litmus.specs.declared.shape_error.ShapeError.TheVariants.{K5, K6, K7}
 use Rattle.litmus.specs.Shapes.{Sizes, IsShape, is_outside}
 use Rattle.machine.specs.declared.fault.Fault.{Fault}
 
--- the shape of the programs, the first seed, how many trials there are, how many steps each attempts, and the machine
+-- the shape of the programs, the first seed, how many trials there are, how many steps each
+-- attempts, and the machine
 pub record Plan : Type 0 where
   pub shape : Sizes
   pub base : ℕ

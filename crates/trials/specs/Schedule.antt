@@ -1,22 +1,6 @@
 -- Random runs: the steps that words name, and where a run ends.
-use Rattle.std.specs.Prelude.{
-  ◌≡◌,
-  ◌⊎◌,
-  ◌<◌,
-  ◌≤◌,
-  ◌+◌,
-  ◌-◌,
-  ◌*◌,
-  ◌/◌,
-  ◌%◌,
-  ◌==◌,
-  ℕ,
-  List,
-  map,
-  length,
-  nat_lt,
-  if◌then◌else◌,
-}
+use Rattle.std.specs.Prelude.{◌≡◌, ◌⊎◌, ◌<◌, ◌≤◌, ◌+◌, ◌-◌, ◌*◌, ◌/◌, ◌%◌, ◌==◌, ℕ, List, map, length, nat_lt}
+use Rattle.std.specs.Prelude.{if◌then◌else◌}
 use Rattle.rand_core.specs.Steps.{first_words}
 use Rattle.rand_xoshiro.specs.Xoshiro256.{plus_plus}
 use Rattle.litmus.specs.Random.{after_words}
@@ -55,7 +39,8 @@ schedule h words = map (step_of_word (length h.program.cores) (length h.program.
 abbrev pub behind : Configuration → List ℕ → ℕ → Configuration
 behind h rng n = record h { state = state_behind h (schedule h (first_words plus_plus n rng)) }
 
--- a run of so many attempts at most ends here: at the first moment at which the machine is complete, or at the last attempt
+-- a run of so many attempts at most ends here: at the first moment at which the machine is
+-- complete, or at the last attempt
 pub record IsRandomRun (attempts : ℕ) (h : Configuration) (rng : List ℕ) (end : Configuration)
     (rest : List ℕ) : Type 0 where
   pub taken : ℕ

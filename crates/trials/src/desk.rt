@@ -1,6 +1,7 @@
 //! The calls of the desk.
 
-ghost use Rattle.std.specs.Prelude.{◌≡◌, ◌≢◌, ◌<◌, ℕ, Bool, true, false, [], ◌==◌, length, IfOk, MatchBool, Contains, replicate};
+ghost use Rattle.std.specs.Prelude.{◌≡◌, ◌≢◌, ◌<◌, ℕ, Bool, true, false, [], ◌==◌, length, IfOk, MatchBool};
+ghost use Rattle.std.specs.Prelude.{Contains, replicate};
 ghost use Rattle.trials.specs.Board.{newcomer, claimed, noticed, completed, Closes, Was};
 ghost use Rattle.trials.specs.Looking.{IsSeatOf, Says};
 
@@ -31,8 +32,10 @@ impl Desk {
         requires trial { k < seat.old.seat.me.0.campaign.trials }
         ensures seat { IsSeatOf self.now seat.new }
         ensures step { (n : ℕ) × Was seat.old.seat.me.0 k n × (result ≡ (n == 0)) }
-        ensures new { MatchBool result (seat.new.seat.me.0 ≡ claimed seat.old.seat.me.0 k) (seat.new.seat.me.0 ≡ noticed seat.old.seat.me.0 k) }
-        ensures first { result ≡ true → (Contains seat.old.seat.me.0.seen k → ⊥) × (Contains seat.old.seat.me.0.share k → ⊥) }
+        ensures new { MatchBool result (seat.new.seat.me.0 ≡ claimed seat.old.seat.me.0 k)
+            (seat.new.seat.me.0 ≡ noticed seat.old.seat.me.0 k) }
+        ensures first { result ≡ true → (Contains seat.old.seat.me.0.seen k → ⊥)
+            × (Contains seat.old.seat.me.0.share k → ⊥) }
         ensures later { Contains seat.new.seat.me.0.seen k }
     {
         seat.claim(k)

@@ -1,6 +1,7 @@
 //! The steps of a seat.
 
-ghost use Rattle.std.specs.Prelude.{◌≡◌, ◌≢◌, ◌<◌, ℕ, Bool, true, false, [], ◌==◌, length, IfOk, MatchBool, Contains, replicate};
+ghost use Rattle.std.specs.Prelude.{◌≡◌, ◌≢◌, ◌<◌, ℕ, Bool, true, false, [], ◌==◌, length, IfOk, MatchBool};
+ghost use Rattle.std.specs.Prelude.{Contains, replicate};
 ghost use Rattle.trials.specs.Board.{claimed, noticed, completed, without_share, joined, Closes, Was};
 ghost use Rattle.trials.specs.Looking.{Loads};
 
@@ -16,7 +17,8 @@ impl DeskSeat {
     pub(crate) fn claim(&mut self, k: usize) -> bool
         requires trial { k < self.old.seat.me.0.campaign.trials }
         ensures step { (n : ℕ) × Was self.old.seat.me.0 k n × (result ≡ (n == 0)) }
-        ensures new { MatchBool result (self.new.seat.me.0 ≡ claimed self.old.seat.me.0 k) (self.new.seat.me.0 ≡ noticed self.old.seat.me.0 k) }
+        ensures new { MatchBool result (self.new.seat.me.0 ≡ claimed self.old.seat.me.0 k)
+            (self.new.seat.me.0 ≡ noticed self.old.seat.me.0 k) }
         ensures same { self.new.seat.table_id ≡ self.old.seat.table_id }
     {
         let found = self
@@ -52,8 +54,10 @@ impl DeskSeat {
     /// A second seat, with an empty share, that has seen the same. An `Err` only where the desk's count of
     /// seats is full, which no run can reach.
     pub fn split(&mut self) -> Result<DeskSeat, OutOfMemory>
-        ensures old { (self.new.seat.table_id ≡ self.old.seat.table_id) × (self.new.seat.me.0 ≡ self.old.seat.me.0) }
-        ensures new { IfOk result (λ s. (s.seat.table_id ≡ self.old.seat.table_id) × (s.seat.me.0 ≡ without_share self.old.seat.me.0)) }
+        ensures old { (self.new.seat.table_id ≡ self.old.seat.table_id)
+            × (self.new.seat.me.0 ≡ self.old.seat.me.0) }
+        ensures new { IfOk result (λ s. (s.seat.table_id ≡ self.old.seat.table_id)
+            × (s.seat.me.0 ≡ without_share self.old.seat.me.0)) }
     {
         let table = Arc::try_clone(&self.table)?;
         let seat = self.table.shared.split_seat::<Beside>(&mut self.seat);
@@ -63,7 +67,8 @@ impl DeskSeat {
     /// One seat with both shares, which has seen all that either has; both are of one desk.
     pub fn merge(self, other: DeskSeat) -> DeskSeat
         requires { other.seat.table_id ≡ self.seat.table_id }
-        ensures { (result.seat.table_id ≡ self.seat.table_id) × (result.seat.me.0 ≡ joined self.seat.me.0 other.seat.me.0) }
+        ensures { (result.seat.table_id ≡ self.seat.table_id)
+            × (result.seat.me.0 ≡ joined self.seat.me.0 other.seat.me.0) }
     {
         let DeskSeat { table, mut seat } = self;
         let DeskSeat {
