@@ -6,3 +6,4 @@ pub mod Filing
 pub mod Board
 pub mod Looking
 pub mod Counts
+pub mod OneLedger
