@@ -1,5 +1,5 @@
 -- What is judged of a machine in which a run ends.
-use Rattle.std.specs.Prelude.{◌≡◌, ℕ, List, length, Option, None, Some}
+use Rattle.std.specs.Prelude.{◌≡◌, ℕ, List, length, Option, None, Some, ⊤}
 use Rattle.litmus.specs.Parts.{Parts}
 use Rattle.recorder.specs.Execution.{Execution}
 use Rattle.machine.specs.declared.fault.Fault.{Fault}
@@ -7,6 +7,7 @@ use Rattle.machine.specs.declared.step.Step.{Step}
 use Rattle.machine.specs.State.{opening}
 use Rattle.machine.specs.Configuration.{Configuration, IsAtEnd, recording_of, state_behind}
 use Rattle.judge.specs.declared.verdict.Verdict.{Verdict}
+use Rattle.judge.specs.declared.verdict.Verdict.TheVariants.{Ordered, Overlook, Cycle}
 use Rattle.judge.specs.Verdict.{IsVerdict}
 
 -- the machine in which a program begins
@@ -31,3 +32,10 @@ IsEndRecording h (Some x) = IsAtEnd h × (x ≡ recording_of h)
 abbrev pub IsEndVerdict : Configuration → Option Verdict → Type 0
 IsEndVerdict h None = IsAtEnd h → ⊥
 IsEndVerdict h (Some verdict) = IsAtEnd h × IsVerdict (recording_of h) verdict
+
+-- no violation: an order, or none where the machine is not complete
+abbrev pub IsLawful : Option Verdict → Type 0
+IsLawful None = ⊤
+IsLawful (Some (Ordered order)) = ⊤
+IsLawful (Some (Overlook load store)) = ⊥
+IsLawful (Some (Cycle certificate)) = ⊥

@@ -2,7 +2,8 @@
 
 ghost use Rattle.std.specs.Prelude.{◌≡◌, IfOk};
 ghost use Rattle.trials.specs.Codes.{end_code, verdict_code};
-ghost use Rattle.trials.specs.Judged.{begun, ran, IsEndVerdict};
+ghost use Rattle.machine.specs.declared.fault.Fault.TheVariants as faults;
+ghost use Rattle.trials.specs.Judged.{begun, ran, IsEndVerdict, IsLawful};
 
 use crate::code::{CYCLE, LOAD, ORDERED, OVERLOOK, UNFINISHED};
 use judge::{Verdict, judge_alone};
@@ -13,7 +14,8 @@ use std::alloc::Global;
 /// The verdict on the recording of a machine; none exactly where it is not complete. An `Err` only where
 /// there is no memory.
 pub(crate) fn end_verdict(alloc: Global, machine: Machine) -> Result<Option<Verdict>, OutOfMemory>
-    ensures { IfOk result (IsEndVerdict machine) }
+    ensures judged { IfOk result (IsEndVerdict machine) }
+    ensures lawful { IfOk result (λ verdict. machine.fault ≡ faults.None → IsLawful verdict) }
 {
     match machine.finish() {
         Ok(recording) => Ok(Some(judge_alone(alloc, &recording)?)),
@@ -22,8 +24,8 @@ pub(crate) fn end_verdict(alloc: Global, machine: Machine) -> Result<Option<Verd
 }
 
 /// The verdict on the recording that a machine makes of a program by these steps, of which blocked ones
-/// are skipped; none exactly where the run is not complete. It waits for nobody, and an `Err` is want of
-/// memory.
+/// are skipped; none exactly where the run is not complete. Without fault it is an order. It waits for
+/// nobody, and an `Err` is want of memory.
 pub fn run_and_judge(
     alloc: Global,
     program: Program,
@@ -31,7 +33,8 @@ pub fn run_and_judge(
     fault: Fault,
     steps: &[Step],
 ) -> Result<Option<Verdict>, OutOfMemory>
-    ensures { IfOk result (IsEndVerdict (ran (begun program capacity fault) steps.now)) }
+    ensures judged { IfOk result (IsEndVerdict (ran (begun program capacity fault) steps.now)) }
+    ensures lawful { IfOk result (λ verdict. fault ≡ faults.None → IsLawful verdict) }
 {
     let mut machine = Machine::new(alloc, program, capacity, fault)?;
     machine.run(steps);
