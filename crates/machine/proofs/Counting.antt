@@ -3,7 +3,7 @@ use Rattle.std.proofs.Common.{◌≡◌, ◌≢◌, ◌<◌, ◌≤◌, ◌+◌,
 use Rattle.std.proofs.Common.{refl, sym, ap, subst, ◌∙◌}
 use Rattle.std.proofs.lemmas.Bool.{cases_eq}
 use Rattle.recorder.specs.Order.{times}
-use Rattle.recorder.proofs.Orders.{times_here, times_there, times_nil, times_append}
+use Rattle.recorder.specs.OrderLaws.{times_here, times_there, times_nil, times_append}
 use Rattle.machine.proofs.Seen.{Static, Snapshot, seen, IsCounted, not_seen}
 
 -- the step from s to t moves the event b

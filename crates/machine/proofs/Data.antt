@@ -13,8 +13,8 @@ use Rattle.recorder.specs.Event.{written_address, source, value_read, value_writ
 use Rattle.recorder.specs.Execution.{event_at, write_list, Reads, Writes}
 use Rattle.recorder.specs.Order.{times}
 use Rattle.recorder.specs.Tso.{Gives, IsWellFormed}
-use Rattle.recorder.proofs.Orders.{times_nil, times_here, times_append}
-use Rattle.recorder.proofs.Events.{Writes-event}
+use Rattle.recorder.specs.OrderLaws.{times_nil, times_here, times_append}
+use Rattle.recorder.specs.EventLaws.{Writes-event}
 use Rattle.write_buffer.specs.declared.entry.Entry.{Entry}
 use Rattle.write_buffer.specs.Buffer.{youngest, or_else}
 use Rattle.machine.specs.declared.step.Step.{Step}

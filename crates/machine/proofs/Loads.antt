@@ -5,8 +5,8 @@ use Rattle.std.specs.Prelude.{◌==◌}
 use Rattle.std.proofs.lemmas.Bool.{cases_eq, eq-eqb}
 use Rattle.std.proofs.lemmas.Bool.Decides.{nat_tests}
 use Rattle.recorder.specs.Order.{times, Before}
-use Rattle.recorder.proofs.Orders.{place_in, place_here, place_there, times_here, times_there, times_nil}
-use Rattle.recorder.proofs.Orders.{times_append, cases_zero, before_in_right, left_before_right}
+use Rattle.recorder.specs.OrderLaws.{place_in, place_here, place_there, times_here, times_there, times_nil}
+use Rattle.recorder.specs.OrderLaws.{times_append, cases_times, before_in_right, left_before_right}
 use Rattle.litmus.specs.declared.op.Op.{Op}
 use Rattle.write_buffer.specs.declared.entry.Entry.{Entry}
 use Rattle.write_buffer.specs.Buffer.{youngest, or_else}
@@ -82,7 +82,7 @@ pub newest_in_buffer : (p : List (List Op)) (s : State) (m : List ℕ) (b : List
 newest_in_buffer p s m b a y apart says = (
   omega (arith, says.0, times_append m (map (λ (x : Entry). x.event) b) y.event),
   says.1,
-  λ w there wa. elim (cases_zero (times m w)) [
+  λ w there wa. elim (cases_times m w) [
     | inl none ↦ elim (says.2 w (omega (arith, there, none, times_append m (map (λ (x : Entry). x.event) b) w)) wa) [
       | inl one ↦ inl one
       | inr before ↦ inr (before_in_right m (map (λ (x : Entry). x.event) b) w y.event none (apart y.event says.0) before)

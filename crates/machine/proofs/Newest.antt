@@ -4,8 +4,8 @@ use Rattle.std.proofs.Common.{None, List, [], ◌∷◌, ◌++◌, arith, refl, 
 use Rattle.std.specs.List.{filter}
 use Rattle.std.proofs.lemmas.Bool.{cases_eq}
 use Rattle.recorder.specs.Order.{place, times, Before}
-use Rattle.recorder.proofs.Orders.{place_in, times_in, place_here, place_there, place_nil, times_here}
-use Rattle.recorder.proofs.Orders.{times_there, times_nil, times_append, cases_zero, before_in_left}
+use Rattle.recorder.specs.OrderLaws.{place_in, times_in, place_here, place_there, place_nil, times_here}
+use Rattle.recorder.specs.OrderLaws.{times_there, times_nil, times_append, cases_times, before_in_left}
 use Rattle.machine.proofs.Seen.{Static, IsNewest}
 
 -- the last of a list
@@ -123,7 +123,7 @@ last_none : (l : List ℕ) → last_of l ≡ None → (w : ℕ) → times l w �
 unfolding last_of
 last_none [] is w = times_nil w
 last_none (x ∷ []) is w = absurd cc
-last_none (x ∷ (y ∷ ys)) is w = elim (cases_zero (times (y ∷ ys) y)) [
+last_none (x ∷ (y ∷ ys)) is w = elim (cases_times (y ∷ ys) y) [
   | inl none ↦ absurd (omega (arith, none, times_here ys y y refl))
   | inr some ↦ absurd (omega (arith, some, last_none (y ∷ ys) is y))
 ]
@@ -134,7 +134,7 @@ pub newest_in_memory : (p : Static) (q : ℕ → Bool) (m buffer : List ℕ) (a 
 newest_in_memory p q m buffer a holds back once none = go (last_of (filter q m)) refl
   where
     in_list : (w : ℕ) → 0 < times (m ++ buffer) w → p.writes w ≡ Some a → 0 < times (filter q m) w
-    in_list w there writes = elim (cases_zero (times buffer w)) [
+    in_list w there writes = elim (cases_times buffer w) [
       | inl not_waiting ↦ omega (arith, there, times_append m buffer w, not_waiting, times_filter q m w (back w writes))
       | inr waiting ↦ absurd (none w waiting writes)
     ]

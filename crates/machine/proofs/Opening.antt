@@ -8,7 +8,7 @@ use Rattle.std.proofs.lemmas.List.Sums.{sum_by-cons}
 use Rattle.std.proofs.lemmas.Bool.{cases_lt}
 use Rattle.recorder.specs.Execution.{placed_from}
 use Rattle.recorder.specs.Order.{times}
-use Rattle.recorder.proofs.Orders.{times_nil}
+use Rattle.recorder.specs.OrderLaws.{times_nil}
 use Rattle.litmus.specs.declared.op.Op.{Op}
 use Rattle.litmus.specs.declared.op.Op.TheVariants.{St, Ld, Fence, Swap, Add}
 use Rattle.write_buffer.specs.declared.entry.Entry.{Entry}

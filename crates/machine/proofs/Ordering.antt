@@ -5,8 +5,8 @@ use Rattle.std.proofs.Common.{append_assoc}
 use Rattle.std.proofs.lemmas.List.{append-nil}
 use Rattle.std.proofs.lemmas.Bool.{cases_eq}
 use Rattle.recorder.specs.Order.{place, times, Before, Enumerates}
-use Rattle.recorder.proofs.Orders.{place_here, times_here, times_there, times_nil, times_append}
-use Rattle.recorder.proofs.Orders.{place_append_right, cases_zero, left_before_right, inserted}
+use Rattle.recorder.specs.OrderLaws.{place_here, times_here, times_there, times_nil, times_append}
+use Rattle.recorder.specs.OrderLaws.{place_append_right, cases_times, left_before_right, inserted}
 use Rattle.machine.proofs.Seen.{Static, Snapshot, seen, Own, CanSee, IsLast, IsNewest, IsCounted, IsOrdered}
 use Rattle.machine.proofs.Seen.{performed_is_seen, not_seen, not_performed, seen_is_listed, last_seen, Grows}
 use Rattle.machine.proofs.Seen.{unmoved, moved, before_grown, is_last_grown}
@@ -125,7 +125,7 @@ perform_orders p s t b counted i f = record {
     left_first e there = left_before_right s.performed (b ∷ s.buffer (p.core b)) e b there b_not_left (omega (arith, times_here (s.buffer (p.core b)) b b refl))
 
     last : (e : ℕ) → Own p e b → (p.store e && p.load b) ≡ false → Before (seen t (p.core b)) e b
-    last e own strong = subst (λ (o : List ℕ). Before o e b) (sym (seen_now (p.core b))) (left_first e (elim (cases_zero (times (s.buffer (p.core b)) e)) [
+    last e own strong = subst (λ (o : List ℕ). Before o e b) (sym (seen_now (p.core b))) (left_first e (elim (cases_times (s.buffer (p.core b)) e) [
       | inl none ↦ omega (arith, none, earlier e own, times_append s.performed (s.buffer (p.core b)) e)
       | inr waits ↦ elim f.allowed [
         | inl load ↦ absurd (let clash : true ≡ false = sym (ap (λ (x : Bool). x && p.load b) (counted.waiting (p.core b) e waits).1 ∙ load) ∙ strong in cc)
@@ -138,7 +138,7 @@ perform_orders p s t b counted i f = record {
       | inl before ↦
           let here : place (s.performed ++ b ∷ s.buffer (p.core b)) b ≡ length s.performed + 0 =
           omega (arith, place_append_right s.performed (b ∷ s.buffer (p.core b)) b b_not_left, place_here (s.buffer (p.core b)) b b refl) in
-          elim (cases_zero (times s.performed w)) [
+          elim (cases_times s.performed w) [
             | inl none ↦ absurd (omega (arith, before, here, place_append_right s.performed (b ∷ s.buffer (p.core b)) w none))
             | inr there ↦ performed_is_seen s (p.core b) w there
           ]
@@ -149,7 +149,7 @@ perform_orders p s t b counted i f = record {
     seen_visible a w writes there = (
       writes,
       (λ wb. omega (arith, there, fresh (p.core b), ap (times (seen s (p.core b))) wb)),
-      elim (cases_zero (times s.performed w)) [
+      elim (cases_times s.performed w) [
         | inl none ↦
             let waits : 0 < times (s.buffer (p.core b)) w = omega (arith, there, none, times_append s.performed (s.buffer (p.core b)) w) in
             let core : p.core w ≡ p.core b = (counted.waiting (p.core b) w waits).0 in
@@ -200,7 +200,7 @@ drain_orders p s t c b counted ordered i = record {
     not_left = omega (arith, subst (λ (z : ℕ). times (seen s z) b ≡ 1) core (drain_once p s t c b [] counted i), times_append s.performed (s.buffer c) b, drain_waits p s t c b [] counted i)
 
     fresh : (d : ℕ) → d ≢ c → times (seen s d) b ≡ 0
-    fresh d other = elim (cases_zero (times (s.buffer d) b)) [
+    fresh d other = elim (cases_times (s.buffer d) b) [
       | inl none ↦ omega (arith, none, not_left, times_append s.performed (s.buffer d) b)
       | inr some ↦ absurd (other (sym (counted.waiting d b some).0 ∙ core))
     ]

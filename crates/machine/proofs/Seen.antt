@@ -3,8 +3,8 @@ use Rattle.std.proofs.Common.{◌≡◌, ◌≢◌, ◌<◌, ◌≤◌, ◌+◌,
 use Rattle.std.proofs.Common.{Some, None, List, ◌∷◌, ◌++◌, arith, refl, sym, ap, subst}
 use Rattle.std.proofs.lemmas.Bool.{cases_eq}
 use Rattle.recorder.specs.Order.{times, Before}
-use Rattle.recorder.proofs.Orders.{place_in, times_in, times_here, times_there, times_append}
-use Rattle.recorder.proofs.Orders.{place_append_left, place_append_right, cases_zero, inserted, removed}
+use Rattle.recorder.specs.OrderLaws.{place_in, times_in, times_here, times_there, times_append}
+use Rattle.recorder.specs.OrderLaws.{place_append_left, place_append_right, cases_times, inserted, removed}
 
 -- what is known of the events: their number, their cores, what they write and read, and which are plain stores or loads
 pub record Static : Type 0 where
@@ -61,7 +61,7 @@ performed_is_seen s d e h = omega (arith, times_append s.performed (s.buffer d) 
 
 -- what is not executed is seen nowhere
 pub not_seen : (p : Static) (s : Snapshot) → IsCounted p s → (b d : ℕ) → s.next (p.core b) ≤ b → times (seen s d) b ≡ 0
-not_seen p s counted b d new = elim (cases_zero (times (seen s d) b)) [
+not_seen p s counted b d new = elim (cases_times (seen s d) b) [
   | inl none ↦ none
   | inr some ↦ absurd (omega (arith, (counted.executed d b some).1))
 ]

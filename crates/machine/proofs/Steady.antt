@@ -7,7 +7,7 @@ use Rattle.litmus.specs.declared.op.Op.{Op}
 use Rattle.litmus.specs.declared.op.Op.TheVariants.{St, Ld, Fence}
 use Rattle.recorder.specs.Event.{written_address}
 use Rattle.recorder.specs.Order.{times}
-use Rattle.recorder.proofs.Orders.{times_append, cases_zero}
+use Rattle.recorder.specs.OrderLaws.{times_append, cases_times}
 use Rattle.write_buffer.specs.declared.entry.Entry.{Entry}
 use Rattle.moesi.specs.State as moesi
 use Rattle.moesi.specs.Laws.{IsAnyTransaction}
@@ -42,7 +42,7 @@ stores_push p c (y ∷ ys) x h is = (h.0, stores_push p c ys x h.1 is)
 module _ (p : List (List Op)) (s : State) (g : IsSteady p s) where
   -- an event is performed at most once
   pub once : (e : ℕ) → times s.performed e ≤ 1
-  once e = elim (cases_zero (times s.performed e)) [
+  once e = elim (cases_times s.performed e) [
     | inl none ↦ omega (arith, none)
     | inr there ↦
         let was : (e < (static_of p s).count) × (e < (snapshot_of p s).next ((static_of p s).core e)) = g.counted.executed 0 e (omega (arith, there, times_append s.performed (map (λ (x : Entry). x.event) (buffer_of s 0)) e)) in
@@ -59,11 +59,11 @@ module _ (p : List (List Op)) (s : State) (g : IsSteady p s) where
 
   -- nothing waits twice
   pub waiting_once : (c e : ℕ) → times (map (λ (x : Entry). x.event) (buffer_of s c)) e ≤ 1
-  waiting_once c e = elim (cases_zero (times (map (λ (x : Entry). x.event) (buffer_of s c)) e)) [ inl none ↦ omega (arith, none) | inr there ↦ omega (arith, waits_once c e there) ]
+  waiting_once c e = elim (cases_times (map (λ (x : Entry). x.event) (buffer_of s c)) e) [ inl none ↦ omega (arith, none) | inr there ↦ omega (arith, waits_once c e there) ]
 
   -- a core's next event was not performed
   pub next_fresh : (c b : ℕ) (op : Op) → IsNext p s c b op → times s.performed b ≡ 0
-  next_fresh c b op n = elim (cases_zero (times s.performed b)) [
+  next_fresh c b op n = elim (cases_times s.performed b) [
     | inl none ↦ none
     | inr there ↦
         let done : b < (snapshot_of p s).next ((static_of p s).core b) = (g.counted.executed 0 b (omega (arith, there, times_append s.performed (map (λ (x : Entry). x.event) (buffer_of s 0)) b))).1 in

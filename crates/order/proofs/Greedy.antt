@@ -1,15 +1,16 @@
 -- The greedy order: each time the least event that has nothing open before it.
 use Rattle.std.proofs.Common.{◌≡◌, ◌≢◌, ◌<◌, ◌≤◌, inl, inr, ℕ, List, [], ◌∷◌, ◌++◌, get_or, length, arith}
 use Rattle.std.proofs.Common.{refl, sym, ap, ◌∙◌, subst}
-use Rattle.std.proofs.lemmas.Bool.{cases_eq}
+use Rattle.std.proofs.lemmas.Bool.{cases_eq, cases_lt}
 use Rattle.recorder.specs.Order.{place, times, Before}
-use Rattle.recorder.proofs.Orders.{times_here, times_nil, times_append, place_here, place_append_right}
-use Rattle.recorder.proofs.Orders.{cases_zero, before_in_left, left_before_right}
+use Rattle.recorder.specs.OrderLaws.{times_here, times_nil, times_append, place_here, place_append_right}
+use Rattle.recorder.specs.OrderLaws.{cases_times, before_in_left, left_before_right}
 use Rattle.relations.specs.Relation.{Table, Related}
 use Rattle.relations.specs.Cycle.{ComesFirst, IsCycle}
 use Rattle.relations.specs.Respects.{Respects, IsLeastOrder}
-use Rattle.relations.proofs.Dictionary.{first_more}
-use Rattle.relations.proofs.Pigeonhole.{length_total, missing, all_listed, cycle_of}
+use Rattle.relations.specs.CycleLaws.{first_more}
+use Rattle.recorder.specs.EnumerationLaws.{length_total, missing, all_listed}
+use Rattle.relations.specs.CycleLaws.{cycle_of}
 use Rattle.order.specs.Open.{waits, IsOpen}
 use Rattle.order.proofs.Waits.{waits_none, all_placed, open_before, times_other, times_own}
 
@@ -36,7 +37,7 @@ greedy_none t = record {
 -- an event that alone is counted is not placed
 pub free_is_fresh : (t : Table) (p : List ℕ) (counts : List ℕ) → IsOpen t p counts → (v : ℕ) → v < length t
     → get_or counts v 0 ≡ 1 → times p v ≡ 0
-free_is_fresh t p counts o v less free = elim (cases_zero (times p v)) [
+free_is_fresh t p counts o v less free = elim (cases_times p v) [
   | inl none ↦ none
   | inr some ↦ absurd (omega (arith, o.done v less some, free))
 ]
@@ -76,7 +77,7 @@ goes_on_free t p counts o y ys r = (
     at = omega (arith, place_append_right p (y ∷ ys) y fresh, place_here ys y y refl)
 
     placed : (d : ℕ) → d < length t → Related t d y → 0 < times p d
-    placed d h related = elim (cases_zero (times p d)) [
+    placed d h related = elim (cases_times p d) [
       | inl none ↦ absurd (let b : Before (p ++ y ∷ ys) d y = r.related d y related in omega
           (arith, b, at, place_append_right p (y ∷ ys) d none))
       | inr some ↦ some
@@ -126,10 +127,10 @@ greedy_cycle t p counts g o long none =
   where
     before : (e : ℕ) → (e < length t) × (times p e ≡ 0)
         → (d : ℕ) × ((d < length t) × (times p d ≡ 0)) × Related t d e
-    before e u = elim (cases_zero (waits t p (length t) e)) [
-      | inl zero_waits ↦ absurd (none e (omega (arith, u.0, o.size))
+    before e u = elim (cases_lt 0 (waits t p (length t) e)) [
+      | inr zero_waits ↦ absurd (none e (omega (arith, u.0, o.size))
           (omega (arith, o.waiting e u.0 u.1, zero_waits)))
-      | inr some ↦ let d : (d : ℕ) × (d < length t) × (times p d ≡ 0)
+      | inl some ↦ let d : (d : ℕ) × (d < length t) × (times p d ≡ 0)
           × Related t d e = open_before t p (length t) e some in (d.0, (d.1, d.2), d.3)
     ]
 

@@ -5,9 +5,9 @@ use Rattle.std.proofs.lemmas.Bool.{cases_eq}
 use Rattle.recorder.specs.Order.{place}
 use Rattle.recorder.specs.Execution.{Execution, Writes, ProgramOrder}
 use Rattle.recorder.specs.Tso.{Visible, IsLastVisible}
-use Rattle.recorder.proofs.Orders.{place_one}
-use Rattle.recorder.proofs.Events.{Writes-event}
-use Rattle.recorder.proofs.Places.{at_place}
+use Rattle.recorder.specs.OrderLaws.{place_one}
+use Rattle.recorder.specs.EventLaws.{Writes-event}
+use Rattle.recorder.specs.PlaceLaws.{at_place}
 use Rattle.order.proofs.Enumerated.{IsTotal, own_place, in_place}
 
 -- a write at one place is visible to a read at another if it stands earlier or is before it on its core

@@ -6,7 +6,7 @@ use Rattle.std.specs.Prelude.{is_some}
 use Rattle.std.proofs.lemmas.Bool.{cases_eq, cases_Bool, eq-eqb, ne_eqb}
 use Rattle.std.proofs.lemmas.List.{length-replicate, get_or-replicate}
 use Rattle.recorder.specs.Order.{times}
-use Rattle.recorder.proofs.Orders.{times_here, times_there, times_nil, times_append, cases_zero}
+use Rattle.recorder.specs.OrderLaws.{times_here, times_there, times_nil, times_append, cases_times}
 use Rattle.relations.specs.Relation.{Table, reason_at, Related}
 use Rattle.order.specs.Open.{waits, one_if, IsOpen}
 
@@ -76,7 +76,7 @@ all_placed t p (suc n) e h d less r = go (all_placed t p n e) (ap (λ (k : ℕ).
     go : (waits t p n e ≡ 0 → (k : ℕ) → k < n → Related t k e → 0 < times p k) → waits t p (n + 1) e ≡ 0
         → 0 < times p d
     go below none = elim (related_or_not t n e) [
-      | inl holds ↦ elim (cases_zero (times p n)) [
+      | inl holds ↦ elim (cases_times p n) [
         | inl unplaced ↦ absurd (omega (arith, waits_counts t p n e holds unplaced))
         | inr placed ↦ rest (λ _. placed) none
       ]
@@ -102,7 +102,7 @@ open_before t p (suc n) e h = go (open_before t p n e) (subst (λ (k : ℕ). 0 <
     go : (0 < waits t p n e → (d : ℕ) × (d < n) × (times p d ≡ 0) × Related t d e) → 0 < waits t p (n + 1) e
         → (d : ℕ) × (d < suc n) × (times p d ≡ 0) × Related t d e
     go below some = elim (related_or_not t n e) [
-      | inl holds ↦ elim (cases_zero (times p n)) [
+      | inl holds ↦ elim (cases_times p n) [
         | inl unplaced ↦ (n, omega arith, unplaced, holds)
         | inr placed ↦ rest (below (omega (arith, some, waits_skips t p n e (λ _. placed))))
       ]
@@ -140,7 +140,7 @@ waits_same t p v (suc n) e h =
       | inl holds ↦ elim (cases_eq n v) [
         | inl here ↦ absurd (let b : suc n ≤ v = h (subst
             (λ (k : ℕ). Related t k e) here holds) in omega arith)
-        | inr other ↦ elim (cases_zero (times p n)) [
+        | inr other ↦ elim (cases_times p n) [
           | inl unplaced ↦ omega (
             arith,
             same,
@@ -174,7 +174,7 @@ waits_less t p v (suc n) e r none less =
     step : n ≢ v → waits t (p ++ v ∷ []) n e + 1 ≡ waits t p n e
         → waits t (p ++ v ∷ []) (n + 1) e + 1 ≡ waits t p (n + 1) e
     step other fewer = elim (related_or_not t n e) [
-      | inl holds ↦ elim (cases_zero (times p n)) [
+      | inl holds ↦ elim (cases_times p n) [
         | inl unplaced ↦ omega (
           arith,
           fewer,
@@ -265,7 +265,7 @@ waits_most t p (suc n) e = go (waits_most t p n e)
 
     go : waits t p n e ≤ n → waits t p (suc n) e ≤ suc n
     go most = elim (related_or_not t n e) [
-      | inl holds ↦ elim (cases_zero (times p n)) [
+      | inl holds ↦ elim (cases_times p n) [
         | inl unplaced ↦ omega (arith, most, one, waits_counts t p n e holds unplaced)
         | inr placed ↦ omega (arith, most, one, waits_skips t p n e (λ _. placed))
       ]

@@ -6,7 +6,7 @@ use Rattle.recorder.specs.Event.{read_address, written_address}
 use Rattle.recorder.specs.Execution.{Execution, event_at, Reads, Writes}
 use Rattle.recorder.specs.Recording.{IsWithinLimits}
 use Rattle.recorder.specs.Clipped.{clip, clip_event, clipped}
-use Rattle.recorder.proofs.Events.{Writes-event}
+use Rattle.recorder.specs.EventLaws.{Writes-event}
 use Rattle.recorder.proofs.Clipped.{events_fit, addresses_fit, small, unclipped, clipped_from, count_clipped}
 use Rattle.recorder.proofs.Clipped.{reads_clipped, writes_clipped}
 

@@ -9,7 +9,7 @@ use Rattle.recorder.specs.Execution.{Execution, placed_from, event_at, write_lis
 use Rattle.recorder.specs.Recording.{IsRecording, IsWithinLimits}
 use Rattle.recorder.specs.Refusals.{HasSource}
 use Rattle.recorder.specs.Clipped.{clip, clip_event, clipped}
-use Rattle.recorder.proofs.Events.{placed_here, placed_behind}
+use Rattle.recorder.specs.EventLaws.{placed_here, placed_behind}
 use Rattle.recorder.proofs.Refused.{source_of_recording}
 use Rattle.recorder.proofs.Clipped.{sources_clipped}
 use Rattle.recorder.proofs.ClippedLimits.{within_from, fits}

@@ -12,7 +12,7 @@ use Rattle.recorder.specs.Refusals.{HasSource, HasValue, HasWriteList, IsLeastWi
 use Rattle.recorder.specs.Recording.{IsWithinLimits}
 use Rattle.recorder.specs.Tso.{IsValueOf}
 use Rattle.recorder.specs.Clipped.{clip, clipped}
-use Rattle.recorder.proofs.Orders.{times_here, times_there}
+use Rattle.recorder.specs.OrderLaws.{times_here, times_there}
 use Rattle.recorder.proofs.Clipped.{small, unclipped, clipped_from, list_clipped, sources_clipped}
 use Rattle.recorder.proofs.Clipped.{values_read_clipped, values_written_clipped}
 use Rattle.recorder.proofs.ClippedLimits.{within_from, within_to, reads_to, reads_from, writes_to}

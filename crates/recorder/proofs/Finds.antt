@@ -5,7 +5,7 @@ use Rattle.std.proofs.lemmas.List.{get_or_past, drop_more, drop_all, length-map,
 use Rattle.recorder.specs.declared.event.Event.{Event}
 use Rattle.recorder.specs.declared.event.Event.TheVariants.{F}
 use Rattle.recorder.specs.Execution.{Execution, placed_from, event_count, event_at, core_of}
-use Rattle.recorder.proofs.Events.{placed_here, placed_behind}
+use Rattle.recorder.specs.EventLaws.{placed_here, placed_behind}
 
 -- number is rest events behind the first event of core i
 pub record IsBehind (cores : List (List Event)) (i rest number : ℕ) : Type 0 where

@@ -1,5 +1,3 @@
-pub mod Orders
-pub mod Events
 pub mod Finds
 pub mod Places
 pub mod Floats

@@ -10,9 +10,9 @@ use Rattle.recorder.specs.Execution.{Execution, event_at, initial_value, source_
 use Rattle.recorder.specs.Refusals.{HasValue}
 use Rattle.recorder.specs.Tso.{IsValueOf}
 use Rattle.recorder.specs.Order.{place, times}
-use Rattle.recorder.proofs.Orders.{place_here, place_there, times_here, times_there, times_nil, place_nil}
-use Rattle.recorder.proofs.Orders.{place_in, cases_zero}
-use Rattle.recorder.proofs.Places.{at_place}
+use Rattle.recorder.specs.OrderLaws.{place_here, place_there, times_here, times_there, times_nil, place_nil}
+use Rattle.recorder.specs.OrderLaws.{place_in, cases_times}
+use Rattle.recorder.specs.PlaceLaws.{at_place}
 
 -- each address that is read or written is below n
 abbrev pub UsesBelow : Option ℕ → Option ℕ → ℕ → Type 0
@@ -99,7 +99,7 @@ places_behind x xs places j at =
 pub times_once : (xs : List ℕ) → ArePlaces xs → (e : ℕ) → times xs e ≤ 1
 times_once [] places e = omega (arith, times_nil e)
 times_once (x ∷ xs) places e = elim (cases_eq x e) [
-  | inl same ↦ elim (cases_zero (times xs e)) [
+  | inl same ↦ elim (cases_times xs e) [
     | inl none ↦ omega (arith, times_here xs x e same, none)
     | inr more ↦ absurd (other_behind x xs places (place xs e) (place_in xs e more)
         (same ∙ sym (at_place xs e (place_in xs e more))))

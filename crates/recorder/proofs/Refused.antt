@@ -12,8 +12,8 @@ use Rattle.recorder.specs.Refusals.{HasSource, HasValue, HasWriteList, IsRefusal
 use Rattle.recorder.specs.declared.fault.RecError.{RecError}
 use Rattle.recorder.specs.declared.fault.RecError.TheVariants.{NotJson, Shape, Version, Limits, Source, Value}
 use Rattle.recorder.specs.declared.fault.RecError.TheVariants.{WriteList, OutOfMemory}
-use Rattle.recorder.proofs.Events.{Reads-event, Writes-event}
-use Rattle.recorder.proofs.Orders.{times_nil}
+use Rattle.recorder.specs.EventLaws.{Reads-event, Writes-event}
+use Rattle.recorder.specs.OrderLaws.{times_nil}
 
 -- what holds of each event that reads or writes holds of all numbers
 pub lists_all : (x : Execution) → ((e : ℕ) → e < event_count x → (a : ℕ) → Reads x e a ⊎ Writes x e a

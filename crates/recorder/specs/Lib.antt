@@ -1,6 +1,10 @@
 pub mod Event
 pub mod Execution
+pub mod EventLaws
 pub mod Order
+pub mod OrderLaws
+pub mod PlaceLaws
+pub mod EnumerationLaws
 pub mod Tso
 pub mod Recording
 pub mod Text

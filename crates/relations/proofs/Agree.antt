@@ -6,7 +6,7 @@ use Rattle.std.proofs.lemmas.Bool.{cases_lt}
 use Rattle.std.proofs.lemmas.List.{get_or_past}
 use Rattle.recorder.specs.Execution.{Execution, event_count}
 use Rattle.recorder.specs.Tso.{IsWellFormed}
-use Rattle.recorder.proofs.Events.{Reads-event, Writes-event}
+use Rattle.recorder.specs.EventLaws.{Reads-event, Writes-event}
 use Rattle.relations.specs.declared.reason.Reason.{Reason}
 use Rattle.relations.specs.declared.reason.Reason.TheVariants.{Po, Wo, Rf, Fr}
 use Rattle.relations.specs.Forced.{Holds, Forced, IsReason}

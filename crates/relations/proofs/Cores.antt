@@ -6,7 +6,7 @@ use Rattle.std.proofs.lemmas.List.{length-map}
 use Rattle.recorder.specs.declared.event.Event.{Event}
 use Rattle.recorder.specs.declared.event.Event.TheVariants.{F}
 use Rattle.recorder.specs.Execution.{Execution, placed_from, event_count, core_of, ProgramOrder}
-use Rattle.recorder.proofs.Events.{placed_here, placed_behind}
+use Rattle.recorder.specs.EventLaws.{placed_here, placed_behind}
 
 -- how many events there are from a core on
 count_from : (k : ℕ) (es : List Event) (rest : List (List Event))

@@ -7,8 +7,8 @@ use Rattle.recorder.specs.Execution.{source_of, ProgramOrder}
 use Rattle.recorder.specs.Order.{place, times, Before, Enumerates}
 use Rattle.recorder.specs.Tso.{Gives, IsWellFormed, Visible, IsLastVisible, IsTsoOrder}
 use Rattle.recorder.specs.Event.{value_read}
-use Rattle.recorder.proofs.Orders.{compare_places}
-use Rattle.recorder.proofs.Events.{Reads-event, Writes-event, source-Reads}
+use Rattle.recorder.specs.OrderLaws.{compare_places}
+use Rattle.recorder.specs.EventLaws.{Reads-event, Writes-event, source-Reads}
 use Rattle.relations.specs.declared.reason.Reason.{Reason}
 use Rattle.relations.specs.declared.reason.Reason.TheVariants.{Po, Wo, Rf, Fr}
 use Rattle.relations.specs.Forced.{IsOlder, Holds, Overlooks}

@@ -9,6 +9,4 @@ pub mod Pairs
 pub mod Same
 pub mod Filled
 pub mod Cores
-pub mod Pigeonhole
-pub mod Dictionary
 pub mod Readers

@@ -7,8 +7,8 @@ use Rattle.recorder.specs.Event.{read_address}
 use Rattle.recorder.specs.Execution.{Execution, event_at, write_list, Reads, Writes, source_of, ProgramOrder}
 use Rattle.recorder.specs.Order.{place, Enumerates}
 use Rattle.recorder.specs.Tso.{IsWellFormed}
-use Rattle.recorder.proofs.Orders.{place_nil, place_here, place_there, place_in}
-use Rattle.recorder.proofs.Places.{at_place, times_at, place_at}
+use Rattle.recorder.specs.OrderLaws.{place_nil, place_here, place_there, place_in}
+use Rattle.recorder.specs.PlaceLaws.{at_place, times_at, place_at}
 use Rattle.relations.specs.Forced.{IsOlder, Overlooks, IsNewerFrom}
 
 -- a place is within the list, or its length

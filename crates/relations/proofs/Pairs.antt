@@ -3,7 +3,7 @@ use Rattle.std.proofs.Common.{◌≡◌, ◌<◌, ◌≤◌, ◌↔◌, ◌⊎�
 use Rattle.std.specs.Prelude.{is_some, IsSome}
 use Rattle.recorder.specs.Execution.{Execution, write_list, Reads, Writes, source_of}
 use Rattle.recorder.specs.Order.{place, Before}
-use Rattle.recorder.proofs.Orders.{place_in}
+use Rattle.recorder.specs.OrderLaws.{place_in}
 use Rattle.relations.specs.declared.placed.Placed.{Placed}
 use Rattle.relations.specs.declared.reason.Reason.TheVariants.{Wo, Fr}
 use Rattle.relations.specs.Forced.{IsOlder, Holds}

@@ -4,6 +4,7 @@ pub mod Filled
 pub mod Relation
 pub mod Sets
 pub mod Cycle
+pub mod CycleLaws
 pub mod Respects
 pub mod Verdict
 pub mod Laws

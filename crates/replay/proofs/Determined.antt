@@ -14,8 +14,8 @@ use Rattle.recorder.specs.Execution.{Execution, placed_from, event_at, write_lis
 use Rattle.recorder.specs.Execution.{ProgramOrder}
 use Rattle.recorder.specs.Order.{place, times, Before, Enumerates}
 use Rattle.recorder.specs.Tso.{Gives, IsWellFormed, Visible, IsLastVisible, IsTsoOrder}
-use Rattle.recorder.proofs.Orders.{times_here, times_there, times_nil, times_in, cases_zero}
-use Rattle.recorder.proofs.Orders.{left_before_right, before_in_right}
+use Rattle.recorder.specs.OrderLaws.{times_here, times_there, times_nil, times_in, cases_times}
+use Rattle.recorder.specs.OrderLaws.{left_before_right, before_in_right}
 use Rattle.machine.specs.State.{event_of}
 use Rattle.replay.specs.Program.{op_of}
 use Rattle.machine.proofs.Static.{placed_at}
@@ -152,14 +152,14 @@ module _ (x y : Execution) (m : List ℕ) (made : IsMade x y) (well : IsWellForm
       let left : Enumerates (λ e. Writes y e a) (write_list y a) = well_other.write_lists a in
       let right : Enumerates (λ e. Writes x e a) (write_list x a) = well.write_lists a in
       sorted_one m (write_list y a) (write_list x a)
-      (λ e. elim (cases_zero (times (write_list y a) e)) [
-        | inl none ↦ elim (cases_zero (times (write_list x a) e)) [
+      (λ e. elim (cases_times (write_list y a) e) [
+        | inl none ↦ elim (cases_times (write_list x a) e) [
           | inl also ↦ omega (arith, none, also)
           | inr there ↦ absurd (omega (arith, none, left.once e (ap written_address (same_events e) ∙ right.nothing_else e there)))
         ]
         | inr there ↦ let wrote : Writes y e a = left.nothing_else e there in omega (arith, left.once e wrote, right.once e (ap written_address (sym (same_events e)) ∙ wrote))
       ])
-      (λ e. elim (cases_zero (times (write_list y a) e)) [ inl none ↦ omega (arith, none) | inr there ↦ omega (arith, left.once e (left.nothing_else e there)) ])
+      (λ e. elim (cases_times (write_list y a) e) [ inl none ↦ omega (arith, none) | inr there ↦ omega (arith, left.once e (left.nothing_else e there)) ])
       (λ e f b. tso_other.write_order a e f b) (λ e f b. tso.write_order a e f b)
 
 -- the length of a core

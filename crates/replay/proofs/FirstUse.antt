@@ -16,7 +16,7 @@ use Rattle.replay.specs.Numbered.{Uses, IsNumberedByFirstUse}
 use Rattle.replay.proofs.Made.{placed_is, count_same}
 use Rattle.litmus.proofs.ManyNames.{use_old, use_new}
 use Rattle.litmus.proofs.OnLists.{bind_some}
-use Rattle.recorder.proofs.Events.{Reads-event, Writes-event}
+use Rattle.recorder.specs.EventLaws.{Reads-event, Writes-event}
 use Rattle.std.proofs.lemmas.Option.{same_Some}
 use Rattle.std.proofs.lemmas.Bool.Decides.{nat_tests}
 

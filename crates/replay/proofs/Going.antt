@@ -10,7 +10,7 @@ use Rattle.litmus.specs.Parts.{IsWithin}
 use Rattle.recorder.specs.declared.event.Event.{Event}
 use Rattle.recorder.specs.Event.{is_plain_store}
 use Rattle.recorder.specs.Order.{times}
-use Rattle.recorder.proofs.Orders.{times_nil, times_there, times_append}
+use Rattle.recorder.specs.OrderLaws.{times_nil, times_there, times_append}
 use Rattle.write_buffer.specs.declared.entry.Entry.{Entry}
 use Rattle.machine.specs.declared.fault.Fault.TheVariants as fault
 use Rattle.machine.specs.declared.step.Step.{Step}

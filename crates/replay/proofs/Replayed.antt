@@ -17,7 +17,7 @@ use Rattle.recorder.specs.Execution.{Execution, placed_from, event_at}
 use Rattle.recorder.specs.Order.{times}
 use Rattle.recorder.specs.Recording.{IsRecording}
 use Rattle.recorder.specs.Tso.{IsTsoOrder, IsWellFormed}
-use Rattle.recorder.proofs.Orders.{times_here, times_append}
+use Rattle.recorder.specs.OrderLaws.{times_here, times_append}
 use Rattle.write_buffer.specs.declared.entry.Entry.{Entry}
 use Rattle.machine.specs.declared.fault.Fault.TheVariants as fault
 use Rattle.machine.specs.declared.step.Step.{Step}

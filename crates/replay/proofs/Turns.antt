@@ -13,8 +13,8 @@ use Rattle.recorder.specs.Event.{is_plain_store, is_plain_load}
 use Rattle.recorder.specs.Execution.{Execution, placed_from, event_count, event_at, core_of}
 use Rattle.recorder.specs.Order.{times, Before}
 use Rattle.recorder.specs.Tso.{IsTsoOrder}
-use Rattle.recorder.proofs.Orders.{cases_zero, place_here, place_there, times_here, times_nil, times_append}
-use Rattle.recorder.proofs.Orders.{place_append_right}
+use Rattle.recorder.specs.OrderLaws.{cases_times, place_here, place_there, times_here, times_nil, times_append}
+use Rattle.recorder.specs.OrderLaws.{place_append_right}
 use Rattle.moesi.specs.State as moesi
 use Rattle.moesi.specs.Lines.{is_exclusive}
 use Rattle.write_buffer.specs.declared.entry.Entry.{Entry}
@@ -111,7 +111,7 @@ module _ (x : Execution) (m : List ℕ) (tso : IsTsoOrder x m) (n capacity : ℕ
 
     -- what its core has not executed is not performed
     new : (w : ℕ) → core_of x w ≡ core_of x e → first_event (program_of x) (core_of x e) + place_of s (core_of x e) ≤ w → times s.performed w ≡ 0
-    new w own behind_all = elim (cases_zero (times s.performed w)) [
+    new w own behind_all = elim (cases_times s.performed w) [
       | inl none ↦ none
       | inr there ↦
           let done = (f.on []).executed (core_of x e) w (omega (arith, there, times_append s.performed (waiting s (core_of x e)) w)) in

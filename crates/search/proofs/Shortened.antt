@@ -6,7 +6,7 @@ use Rattle.std.proofs.lemmas.Bool.{cases_eq}
 use Rattle.std.proofs.lemmas.List.{get_or-map, length-map, get_or_push, get_or_append_left}
 use Rattle.relations.specs.Relation.{Table, Related}
 use Rattle.relations.specs.Cycle.{IsCycle, IsShortest, IsCappedDistance, IsExactRow, AreExactRows}
-use Rattle.relations.proofs.Pigeonhole.{short_cycle}
+use Rattle.relations.specs.CycleLaws.{short_cycle}
 use Rattle.search.specs.Cycles.{IsLeastLength, IsShortestLength}
 use Rattle.search.specs.SourceRow.{SourceRow, source_row, IsCycleLength, IsSourceRow, IsNamed, AreLeastRows}
 use Rattle.search.specs.SourceRow.{numbers_of}

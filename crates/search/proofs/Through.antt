@@ -6,9 +6,9 @@ use Rattle.std.specs.Option.{unwrap_or}
 use Rattle.std.proofs.lemmas.Bool.{cases_eq, cases_lt}
 use Rattle.std.proofs.lemmas.List.{get_or_append_left}
 use Rattle.recorder.specs.Order.{times}
-use Rattle.recorder.proofs.Orders.{times_here, times_there, times_nil, cases_zero}
+use Rattle.recorder.specs.OrderLaws.{times_here, times_there, times_nil, cases_times}
 use Rattle.relations.specs.Cycle.{Leads, IsCycle, Walk, IsExactRow, IsShortest}
-use Rattle.relations.proofs.Pigeonhole.{distinct_below}
+use Rattle.recorder.specs.EnumerationLaws.{distinct_below}
 use Rattle.search.specs.Cycles.{IsNearest}
 use Rattle.search.specs.Bound.{Covers}
 use Rattle.search.proofs.Lengths.{last_step}
@@ -45,7 +45,7 @@ simple : (R : ℕ → ℕ → Type 0) (e : ℕ) (es : List ℕ) (back : ℕ) →
 simple R e [] back h = ([], h, λ x. elim (cases_eq e x) [ inl same ↦ omega (arith, times_here [] e x same, times_nil x) | inr other ↦ omega (arith, times_there [] e x other, times_nil x) ])
 simple R e (f ∷ fs) back h =
     let s : (ds : List ℕ) × Leads R f ds back × ((x : ℕ) → times (f ∷ ds) x ≤ 1) = simple R f fs back h.1 in
-    elim (cases_zero (times (f ∷ s.0) e)) [
+    elim (cases_times (f ∷ s.0) e) [
       | inl fresh ↦ (
         f ∷ s.0,
         (h.0, s.1),

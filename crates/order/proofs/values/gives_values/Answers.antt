@@ -2,8 +2,8 @@ use Rattle.std.proofs.Common.{refl, arith, ◌<◌, ℕ, length, subst, sym}
 use Rattle.recorder.specs.Order.{place}
 use Rattle.recorder.specs.Execution.{Reads, source_of}
 use Rattle.recorder.specs.Tso.{IsLastVisible}
-use Rattle.recorder.proofs.Events.{Reads-event}
-use Rattle.recorder.proofs.Places.{at_place}
+use Rattle.recorder.specs.EventLaws.{Reads-event}
+use Rattle.recorder.specs.PlaceLaws.{at_place}
 use Rattle.order.proofs.Enumerated.{in_place}
 use Rattle.order.proofs.values.gives_values.Goals as goal
 

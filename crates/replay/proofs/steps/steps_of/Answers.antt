@@ -4,7 +4,7 @@ use Rattle.litmus.specs.declared.op.Op.{Op}
 use Rattle.recorder.specs.declared.event.Event.{Event}
 use Rattle.recorder.specs.Execution.{Execution, core_of, event_at}
 use Rattle.recorder.specs.Event.{read_address, written_address}
-use Rattle.recorder.proofs.Places.{times_at}
+use Rattle.recorder.specs.PlaceLaws.{times_at}
 use Rattle.machine.specs.Configuration.{Configuration}
 use Rattle.replay.specs.Steps.{turn, order_steps}
 use Rattle.replay.specs.Replaying.{Replaying, with_steps}

@@ -1,13 +1,14 @@
 use Rattle.std.proofs.Common.{arith, refl, inl, inr, length}
 use Rattle.recorder.specs.Execution.{event_at}
-use Rattle.recorder.proofs.Events.{Reads-event, Writes-event}
+use Rattle.recorder.specs.EventLaws.{Reads-event, Writes-event}
 use Rattle.recorder.proofs.Obeys.{uses_same}
 use Rattle.recorder.proofs.parts.RecordingParts.has_lists_of.Goals as goal
 
 pub returns-in-Some : goal.returns-in-Some
 returns-in-Some c = uses_same c.in-Some.event.now (event_at c.args.self.now c.args.number)
     (length c.writes.result.now)
-    (length c.args.self.now.write_lists) c.uses_below.result c.in-Some.ensures.2 c.writes.ensures.count c.uses_below.ensures
+    (length c.args.self.now.write_lists)
+    c.uses_below.result c.in-Some.ensures.2 c.writes.ensures.count c.uses_below.ensures
 
 pub returns-in-None : goal.returns-in-None
 returns-in-None c = (

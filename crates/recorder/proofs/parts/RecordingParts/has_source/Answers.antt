@@ -1,5 +1,5 @@
 use Rattle.std.proofs.Common.{arith, refl}
-use Rattle.recorder.proofs.Events.{Reads-event}
+use Rattle.recorder.specs.EventLaws.{Reads-event}
 use Rattle.recorder.proofs.parts.RecordingParts.has_source.Goals as goal
 
 pub returns-in_default : goal.returns-in_default

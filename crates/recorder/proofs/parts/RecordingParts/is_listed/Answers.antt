@@ -1,6 +1,6 @@
 use Rattle.std.proofs.Common.{arith, length, refl}
 use Rattle.std.proofs.lemmas.Bool.{ltb-true, lt-ltb}
-use Rattle.recorder.proofs.Orders.{place_in, times_in}
+use Rattle.recorder.specs.OrderLaws.{place_in, times_in}
 use Rattle.recorder.proofs.parts.RecordingParts.is_listed.Goals as goal
 
 pub returns : goal.returns

@@ -1,5 +1,5 @@
 use Rattle.std.proofs.Common.{arith, refl}
-use Rattle.recorder.proofs.Events.{Writes-event}
+use Rattle.recorder.specs.EventLaws.{Writes-event}
 use Rattle.recorder.proofs.parts.RecordingParts.lists_each_write.Goals as goal
 
 pub returns : goal.returns

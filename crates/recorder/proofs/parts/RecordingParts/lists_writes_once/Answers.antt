@@ -1,7 +1,7 @@
 use Rattle.std.proofs.Common.{◌≡◌, ◌<◌, ◌∙◌, ℕ, List, arith, refl, get_or, sym, subst}
 use Rattle.recorder.specs.Execution.{Writes, write_list}
 use Rattle.recorder.specs.Order.{times}
-use Rattle.recorder.proofs.Places.{times_at, place_at}
+use Rattle.recorder.specs.PlaceLaws.{times_at, place_at}
 use Rattle.recorder.proofs.Obeys.{lists_once}
 use Rattle.recorder.proofs.parts.RecordingParts.lists_writes_once.Goals as goal
 

@@ -1,5 +1,5 @@
 use Rattle.std.proofs.Common.{arith}
-use Rattle.recorder.proofs.Events.{Writes-event}
+use Rattle.recorder.specs.EventLaws.{Writes-event}
 use Rattle.recorder.proofs.parts.RecordingParts.writes_to.Goals as goal
 
 pub returns-in-None : goal.returns-in-None

@@ -1,6 +1,6 @@
 use Rattle.std.proofs.Common.{sym, ap}
 use Rattle.recorder.specs.Event.{read_address}
-use Rattle.recorder.proofs.Events.{event_past}
+use Rattle.recorder.specs.EventLaws.{event_past}
 use Rattle.recorder.proofs.recording.Recording.read_address.Goals as goal
 
 pub returns-in-None : goal.returns-in-None

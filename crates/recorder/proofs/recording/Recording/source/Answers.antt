@@ -1,6 +1,6 @@
 use Rattle.std.proofs.Common.{sym, ap}
 use Rattle.recorder.specs.Event.{source}
-use Rattle.recorder.proofs.Events.{event_past}
+use Rattle.recorder.specs.EventLaws.{event_past}
 use Rattle.recorder.proofs.recording.Recording.source.Goals as goal
 
 pub returns-in-None : goal.returns-in-None

@@ -1,65 +1,31 @@
--- Where each member of a set of numbers has one before it, there is a cycle.
-use Rattle.std.proofs.Common.{◌≡◌, ◌<◌, ◌≤◌, ◌+◌, ◌⊎◌, inl, inr, ℕ, zero, suc, List, [], ◌∷◌, length, arith}
-use Rattle.std.proofs.Common.{refl, sym, ap, subst}
+-- Laws of cycles, and of the dictionary order.
+use Rattle.std.proofs.Common.{◌≡◌, ◌<◌, ◌≤◌, ◌+◌, ◌⊎◌, inl, inr, ℕ, zero, suc, List, [], ◌∷◌, ◌++◌, length}
+use Rattle.std.proofs.Common.{arith, refl, sym, ap, subst, ◌∙◌}
 use Rattle.std.proofs.lemmas.Bool.{cases_eq}
-use Rattle.recorder.specs.Order.{times, Enumerates}
-use Rattle.recorder.proofs.Orders.{times_here, times_there, times_nil, cases_zero}
-use Rattle.relations.specs.Cycle.{Leads, IsCycle}
+use Rattle.recorder.specs.Order.{times}
+use Rattle.recorder.specs.OrderLaws.{times_here, times_there, times_nil, cases_times}
+use Rattle.recorder.specs.EnumerationLaws.{distinct_below}
+use Rattle.relations.specs.Cycle.{Leads, IsCycle, ComesFirst}
 
--- how many members below n
-below : ℕ → List ℕ → ℕ
-below zero xs = 0
-below (suc n) xs = times xs n + below n xs
-
--- none in no list
-below_nil : (n : ℕ) → below n [] ≡ 0
-unfolding below
-below_nil zero = refl
-below_nil (suc n) = omega (arith, times_nil n, below_nil n)
-
--- one past n more
-below_past : (n x : ℕ) (xs : List ℕ) → n ≤ x → below n (x ∷ xs) ≡ below n xs
-unfolding below
-below_past zero x xs h = refl
-below_past (suc n) x xs h = omega (
-  arith,
-  times_there xs x n (λ s. omega arith),
-  below_past n x xs (omega arith),
-)
-
--- one below n more
-below_cons : (n x : ℕ) (xs : List ℕ) → x < n → below n (x ∷ xs) ≡ below n xs + 1
-unfolding below
-below_cons zero x xs h = absurd (omega arith)
-below_cons (suc n) x xs h = elim (cases_eq x n) [
-  | inl last ↦ omega (arith, times_here xs x n last, below_past n x xs (omega arith))
-  | inr other ↦ omega (arith, times_there xs x n other, below_cons n x xs (omega arith))
+-- p comes first as far as it goes; where m goes on behind p, it goes on with x or more. So p with x
+-- comes first
+pub first_more : (p : List ℕ) (x : ℕ) (m : List ℕ) → ComesFirst p m → length p < length m
+    → ((y : ℕ) (ys : List ℕ) → m ≡ p ++ y ∷ ys → x ≤ y) → ComesFirst (p ++ x ∷ []) m
+first_more [] x [] first long least = absurd (omega arith)
+first_more [] x (y ∷ ys) first long least = elim (cases_eq x y) [
+  | inl one ↦ inr (one, tt)
+  | inr other ↦ inl (omega (arith, least y ys refl))
 ]
-
--- where all are below n, as many as the list has
-below_all : (n : ℕ) (xs : List ℕ) → ((e : ℕ) → 0 < times xs e → e < n) → below n xs ≡ length xs
-below_all n [] h = below_nil n
-below_all n (x ∷ xs) h =
-    omega (
-      arith,
-      below_cons n x xs (h x (omega (arith, times_here xs x x refl))),
-      below_all n xs (λ e there. h e (elim (cases_eq x e) [
-        | inl same ↦ omega
-            (arith, times_here xs x e same)
-        | inr other ↦ omega (arith, times_there xs x e other, there)
-      ])),
-    )
-
--- n at most, where none stands twice
-below_most : (n : ℕ) (xs : List ℕ) → ((e : ℕ) → times xs e ≤ 1) → below n xs ≤ n
-unfolding below
-below_most zero xs h = omega arith
-below_most (suc n) xs h = omega (arith, h n, below_most n xs h)
-
--- a list of distinct numbers below n has no more than n
-pub distinct_below : (n : ℕ) (xs : List ℕ) → ((e : ℕ) → times xs e ≤ 1) → ((e : ℕ) → 0 < times xs e → e < n)
-    → length xs ≤ n
-distinct_below n xs once within = omega (arith, below_all n xs within, below_most n xs once)
+first_more (z ∷ p) x [] first long least = elim first [ ]
+first_more (z ∷ p) x (y ∷ ys) first long least = elim first [
+  | inl smaller ↦ inl smaller
+  | inr rest ↦ inr (
+    rest.0,
+    first_more p x ys rest.1 (omega arith)
+        (λ v vs is. least v vs (ap (λ (t : List ℕ). y ∷ t) is
+        ∙ ap (λ (h : ℕ). h ∷ (p ++ v ∷ vs)) (sym rest.0))),
+  )
+]
 
 -- neighbours are related
 Chain : (ℕ → ℕ → Type 0) → ℕ → List ℕ → Type 0
@@ -92,7 +58,7 @@ walk_back R U n within before zero e p u chain once inside count =
     absurd (omega (arith, count, distinct_below n (e ∷ p) once inside))
 walk_back R U n within before (suc fuel) e p u chain once inside count =
     let more : (d : ℕ) × U d × R d e = before e u in
-    elim (cases_zero (times (e ∷ p) more.0)) [
+    elim (cases_times (e ∷ p) more.0) [
       | inl fresh ↦ walk_back R U n within before fuel more.0 (e ∷ p) more.1 (more.2, chain)
           (λ f. elim (cases_eq more.0 f) [
             | inl same ↦ omega
@@ -130,56 +96,6 @@ cycle_of R U n within before e u = walk_back R U n within before n e [] u tt
           (omega (arith, there, times_there [] e f other, times_nil f))
     ])
     (omega arith)
-
--- where each number below n is a member once, they are n
-below_each : (n : ℕ) (xs : List ℕ) → ((e : ℕ) → e < n → times xs e ≡ 1) → below n xs ≡ n
-unfolding below
-below_each zero xs each = refl
-below_each (suc n) xs each = omega (
-  arith,
-  each n (omega arith),
-  below_each n xs (λ e h. each e (omega arith)),
-)
-
--- a list of the numbers below n has n of them
-pub length_total : (n : ℕ) (xs : List ℕ) → Enumerates (λ e. e < n) xs → length xs ≡ n
-length_total n xs total = omega (arith, below_all n xs total.nothing_else, below_each n xs total.once)
-
--- fewer than n members leave a number out
-find_missing : (n : ℕ) (xs : List ℕ) → below n xs < n → (e : ℕ) × (e < n) × (times xs e ≡ 0)
-unfolding below
-find_missing zero xs h = absurd (omega arith)
-find_missing (suc n) xs h = elim (cases_zero (times xs n)) [
-  | inl none ↦ (n, omega arith, none)
-  | inr some ↦ let rest : (e : ℕ) × (e < n) × (times xs e ≡ 0) =
-      find_missing n xs (omega arith) in (rest.0, (let b : rest.0 < n = rest.1 in omega arith), rest.2)
-]
-
--- a list of fewer than n numbers, all below n, misses one
-pub missing : (n : ℕ) (xs : List ℕ) → ((e : ℕ) → 0 < times xs e → e < n) → length xs < n
-    → (e : ℕ) × (e < n) × (times xs e ≡ 0)
-missing n xs within h = find_missing n xs (omega (arith, below_all n xs within))
-
--- where a number is left out, distinct members are fewer
-below_less : (n : ℕ) (xs : List ℕ) → ((e : ℕ) → times xs e ≤ 1) → (e : ℕ) → e < n → times xs e ≡ 0
-    → below n xs < n
-unfolding below
-below_less zero xs once e h none = absurd (omega arith)
-below_less (suc n) xs once e h none = elim (cases_eq e n) [
-  | inl one ↦ omega (arith, below_most n xs once, ap (times xs) one, none)
-  | inr other ↦ omega (arith, once n, below_less n xs once e (omega arith) none)
-]
-
--- n distinct numbers below n are all of them
-pub all_listed : (n : ℕ) (xs : List ℕ) → ((e : ℕ) → times xs e ≤ 1) → ((e : ℕ) → 0 < times xs e → e < n)
-    → length xs ≡ n → Enumerates (λ e. e < n) xs
-all_listed n xs once within size = record {
-  once = λ e h. elim (cases_zero (times xs e)) [
-    | inl none ↦ absurd (omega (arith, below_all n xs within, below_less n xs once e h none))
-    | inr some ↦ omega (arith, once e)
-  ];
-  nothing_else = within;
-}
 
 -- what stands on the way from e to back has one before it, and it is e or on the way itself
 before_on : (R : ℕ → ℕ → Type 0) (e : ℕ) (es : List ℕ) (back x : ℕ) → Leads R e es back

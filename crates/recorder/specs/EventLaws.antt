@@ -50,5 +50,6 @@ placed_here k es rest i d h =
 pub placed_behind : (k : ℕ) (es : List Event) (rest : List (List Event)) (i : ℕ) (d : ℕ × Event)
     → length es ≤ i → get_or (placed_from k (es ∷ rest)) i d
     ≡ get_or (placed_from (k + 1) rest) (i - length es) d
-placed_behind k es rest i d h = get_or-append_right (map (λ e. (k, e)) es) (placed_from (k
-    + 1) rest) (length es) i d (length-map es (λ e. (k, e))) h
+placed_behind k es rest i d h =
+    get_or-append_right (map (λ e. (k, e)) es) (placed_from (k + 1) rest) (length es) i d
+    (length-map es (λ e. (k, e))) h

@@ -129,9 +129,9 @@ compare_places xs e f he hf =
         → Before xs e f ⊎ ((e ≡ f) ⊎ Before xs f e)
     either le lf other = grind arith
 
--- a number is 0, or above it
-pub cases_zero : (n : ℕ) → (n ≡ 0) ⊎ (0 < n)
-cases_zero n = elim (cases_lt 0 n) [ inl more ↦ inr more | inr none ↦ inl (omega arith) ]
+-- a number stands in a list, or not
+pub cases_times : (xs : List ℕ) (e : ℕ) → (times xs e ≡ 0) ⊎ (0 < times xs e)
+cases_times xs e = elim (cases_lt 0 (times xs e)) [ inl there ↦ inr there | inr none ↦ inl (omega arith) ]
 
 -- what stands in the left part stands before what stands in the right part alone
 pub left_before_right : (u v : List ℕ) (e f : ℕ) → 0 < times u e → times u f ≡ 0 → 0 < times v f
@@ -158,99 +158,80 @@ before_in_right u v e f ne nf h = (
   omega (arith, place_append_right u v f nf, length-append u v, h),
 )
 
+-- with b put between the two parts, what stood in the right part moves by one
+moved : (u v : List ℕ) (b e : ℕ) → e ≢ b → times u e ≡ 0
+    → (place (u ++ b ∷ v) e ≡ place (u ++ v) e + 1) × (length u ≤ place (u ++ v) e)
+moved u v b e other none = (
+  omega (
+    arith,
+    place_append_right u (b ∷ v) e none,
+    place_append_right u v e none,
+    place_there v b e (λ s. other (sym s)),
+  ),
+  omega (arith, place_append_right u v e none),
+)
+
+-- what stands in the left part stays
+stayed : (u v : List ℕ) (b e : ℕ) → 0 < times u e
+    → (place (u ++ b ∷ v) e ≡ place u e) × (place (u ++ v) e ≡ place u e)
+stayed u v b e left = (place_append_left u (b ∷ v) e left, place_append_left u v e left)
+
+-- the list is longer by one
+longer : (u v : List ℕ) (b : ℕ) → length (u ++ b ∷ v) ≡ length (u ++ v) + 1
+longer u v b = omega (arith, length-append u (b ∷ v), length-append u v)
+
 -- to put b between the two parts changes no pair of others
 pub inserted : (u v : List ℕ) (b e f : ℕ) → e ≢ b → f ≢ b → Before (u ++ v) e f → Before (u ++ b ∷ v) e f
-inserted u v b e f eb fb h = elim (cases_zero (times u e)) [
-  | inl e_right ↦ elim (cases_zero (times u f)) [
-    | inl f_right ↦ (omega (arith, h, ep e_right, fp f_right), omega (arith, h, fp f_right, lengths))
-    | inr f_left ↦ absurd (omega (arith, h, ep e_right, fl f_left, place_in u f f_left))
-  ]
-  | inr e_left ↦ elim (cases_zero (times u f)) [
-    | inl f_right ↦ (
-      omega (arith, el e_left, fp f_right, place_in u e e_left),
-      omega (arith, h, fp f_right, lengths),
+inserted u v b e f eb fb h = elim (cases_times u e) [
+  | inl none ↦ elim (cases_times u f) [
+    | inl f_none ↦ (
+      omega (arith, h, moved u v b e eb none, moved u v b f fb f_none),
+      omega (arith, h, moved u v b f fb f_none, longer u v b),
     )
-    | inr f_left ↦ (omega (arith, h, el e_left, fl f_left), omega (arith, h, fl f_left, lengths))
+    | inr f_left ↦ absurd (omega (
+      arith,
+      h,
+      moved u v b e eb none,
+      stayed u v b f f_left,
+      place_in u f f_left,
+    ))
+  ]
+  | inr left ↦ elim (cases_times u f) [
+    | inl f_none ↦ (
+      omega (arith, stayed u v b e left, moved u v b f fb f_none, place_in u e left),
+      omega (arith, h, moved u v b f fb f_none, longer u v b),
+    )
+    | inr f_left ↦ (
+      omega (arith, h, stayed u v b e left, stayed u v b f f_left),
+      omega (arith, h, stayed u v b f f_left, longer u v b),
+    )
   ]
 ]
-  where
-    lengths : length (u ++ b ∷ v) ≡ length (u ++ v) + 1
-    lengths = omega (arith, length-append u (b ∷ v), length-append u v)
-
-    ep : times u e ≡ 0 → (place (u ++ b ∷ v) e ≡ place (u ++ v) e + 1) × (length u ≤ place (u ++ v) e)
-    ep none = (
-      omega (
-        arith,
-        place_append_right u (b ∷ v) e none,
-        place_append_right u v e none,
-        place_there v b e (λ s. eb (sym s)),
-      ),
-      omega (arith, place_append_right u v e none),
-    )
-
-    fp : times u f ≡ 0 → (place (u ++ b ∷ v) f ≡ place (u ++ v) f + 1) × (length u ≤ place (u ++ v) f)
-    fp none = (
-      omega (
-        arith,
-        place_append_right u (b ∷ v) f none,
-        place_append_right u v f none,
-        place_there v b f (λ s. fb (sym s)),
-      ),
-      omega (arith, place_append_right u v f none),
-    )
-
-    el : 0 < times u e → (place (u ++ b ∷ v) e ≡ place u e) × (place (u ++ v) e ≡ place u e)
-    el left = (place_append_left u (b ∷ v) e left, place_append_left u v e left)
-
-    fl : 0 < times u f → (place (u ++ b ∷ v) f ≡ place u f) × (place (u ++ v) f ≡ place u f)
-    fl left = (place_append_left u (b ∷ v) f left, place_append_left u v f left)
 
 -- and the other way round
 pub removed : (u v : List ℕ) (b e f : ℕ) → e ≢ b → f ≢ b → Before (u ++ b ∷ v) e f → Before (u ++ v) e f
-removed u v b e f eb fb h = elim (cases_zero (times u e)) [
-  | inl e_right ↦ elim (cases_zero (times u f)) [
-    | inl f_right ↦ (omega (arith, h, ep e_right, fp f_right), omega (arith, h, fp f_right, lengths))
-    | inr f_left ↦ absurd (omega (arith, h, ep e_right, fl f_left, place_in u f f_left))
+removed u v b e f eb fb h = elim (cases_times u e) [
+  | inl none ↦ elim (cases_times u f) [
+    | inl f_none ↦ (
+      omega (arith, h, moved u v b e eb none, moved u v b f fb f_none),
+      omega (arith, h, moved u v b f fb f_none, longer u v b),
+    )
+    | inr f_left ↦ absurd (omega (
+      arith,
+      h,
+      moved u v b e eb none,
+      stayed u v b f f_left,
+      place_in u f f_left,
+    ))
   ]
-  | inr e_left ↦ elim (cases_zero (times u f)) [
-    | inl f_right ↦ (
-      omega (arith, el e_left, fp f_right, place_in u e e_left),
-      omega (arith, h, fp f_right, lengths),
+  | inr left ↦ elim (cases_times u f) [
+    | inl f_none ↦ (
+      omega (arith, stayed u v b e left, moved u v b f fb f_none, place_in u e left),
+      omega (arith, h, moved u v b f fb f_none, longer u v b),
     )
     | inr f_left ↦ (
-      omega (arith, h, el e_left, fl f_left),
-      omega (arith, h, fl f_left, lengths, place_in u f f_left, length-append u v),
+      omega (arith, h, stayed u v b e left, stayed u v b f f_left),
+      omega (arith, h, stayed u v b f f_left, place_in u f f_left, length-append u v),
     )
   ]
 ]
-  where
-    lengths : length (u ++ b ∷ v) ≡ length (u ++ v) + 1
-    lengths = omega (arith, length-append u (b ∷ v), length-append u v)
-
-    ep : times u e ≡ 0 → (place (u ++ b ∷ v) e ≡ place (u ++ v) e + 1) × (length u ≤ place (u ++ v) e)
-    ep none = (
-      omega (
-        arith,
-        place_append_right u (b ∷ v) e none,
-        place_append_right u v e none,
-        place_there v b e (λ s. eb (sym s)),
-      ),
-      omega (arith, place_append_right u v e none),
-    )
-
-    fp : times u f ≡ 0 → (place (u ++ b ∷ v) f ≡ place (u ++ v) f + 1) × (length u ≤ place (u ++ v) f)
-    fp none = (
-      omega (
-        arith,
-        place_append_right u (b ∷ v) f none,
-        place_append_right u v f none,
-        place_there v b f (λ s. fb (sym s)),
-      ),
-      omega (arith, place_append_right u v f none),
-    )
-
-    el : 0 < times u e → (place (u ++ b ∷ v) e ≡ place u e) × (place (u ++ v) e ≡ place u e)
-    el left = (place_append_left u (b ∷ v) e left, place_append_left u v e left)
-
-    fl : 0 < times u f → (place (u ++ b ∷ v) f ≡ place u f) × (place (u ++ v) f ≡ place u f)
-    fl left = (place_append_left u (b ∷ v) f left, place_append_left u v f left)
