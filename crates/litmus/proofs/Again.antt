@@ -25,7 +25,8 @@ use Rattle.litmus.specs.Text.{reading}
 use Rattle.litmus.specs.Spelling.{spelling, core_text, op_text, op_line, name_at}
 use Rattle.litmus.proofs.OnLists.{bind_some}
 use Rattle.litmus.proofs.OneLine.{IsNamed, Fits}
-use Rattle.litmus.proofs.ManyNames.{all_at, at_place, not_before, is_new}
+use Rattle.std.proofs.lemmas.List.Elements.{All-from_recursion}
+use Rattle.litmus.specs.NameListLaws.{at_place, not_before, is_new}
 use Rattle.litmus.proofs.Cores.{Cores, with_op-is, count-append, ops_grow, cores_grow, use_below}
 use Rattle.litmus.proofs.OneText.{said_again, Cut, IsUsed, used_so}
 
@@ -161,7 +162,7 @@ load_next all p back a n h parts none used le =
       back = c.back;
       parts = c.parts;
       long = c.long;
-      named = all_at (λ (m : Name). name_of (name_text m) ≡ Some m) all a no_name h.lawful within;
+      named = All-from_recursion (λ (m : Name). name_of (name_text m) ≡ Some m) all h.lawful a no_name within;
       fits = tt;
       step_is = load_so p (name_at all a) c.more a none c.next c.number
           (few_test all c.more c.back c.parts h.few);
@@ -190,7 +191,7 @@ write_next all p back write a value n h parts none used le small =
       back = c.back;
       parts = c.parts;
       long = c.long;
-      named = all_at (λ (m : Name). name_of (name_text m) ≡ Some m) all a no_name h.lawful within;
+      named = All-from_recursion (λ (m : Name). name_of (name_text m) ≡ Some m) all h.lawful a no_name within;
       step_is = write_so p write (name_at all a) value c.more a none c.next c.number
           (few_test all c.more c.back c.parts h.few) (lt-ltb value (2 ^ 32) small);
     }
@@ -343,11 +344,13 @@ cores_read all h (ops ∷ cores) names back front k n parts used le few room sma
     let first = said_again k p q core_line (flat_map (op_text all) ops ++ rest) tt tt
     (core_so p (omega (arith, few))) in
     let inner = ops_read all h ops names back front [] rest (k + 1) b.0 parts b.1
-    (omega (arith, grows, le)) (omega (arith, room, sum_by-cons (λ (os : List Op). length os) ops cores)) small.0 in
+    (omega (arith, grows, le)) (omega (arith, room, sum_by-cons (λ (os : List Op). length os) ops cores))
+    small.0 in
     let later = cores_read all h cores inner.more inner.back (front ++ ops ∷ []) inner.line n
     inner.parts (rw inner.long b.2) le
     (omega (arith, few, length-append front (ops ∷ [])))
-    (omega (arith, room, count-append front ops, sum_by-cons (λ (os : List Op). length os) ops cores)) small.1 in
+    (omega (arith, room, count-append front ops, sum_by-cons (λ (os : List Op). length os) ops cores))
+    small.1 in
     let start : (core_text all ops) ++ rest
     ≡ (codes "core" ++ 10 ∷ []) ++ (flat_map (op_text all) ops ++ rest) =
     append_assoc (codes "core" ++ 10 ∷ []) (flat_map (op_text all) ops) rest in

@@ -1,16 +1,12 @@
 pub mod Values
-pub mod Reading
 pub mod OnLists
-pub mod Decimals
-pub mod OneName
-pub mod OneLine
 pub mod ManyNames
+pub mod OneLine
 pub mod Cores
 pub mod OneStep
 pub mod OneText
 pub mod Again
 pub mod Parsing
 pub mod Soundness
-pub mod AddressNames
 pub mod Drawn
 pub mod NextWords

@@ -21,7 +21,7 @@ use Rattle.litmus.specs.Steps.{names_with, name_number, with_op, write_op, op_fa
 use Rattle.litmus.specs.Steps.{fence_step, load_step, write_step, said_step, step}
 use Rattle.litmus.specs.Spelling.{spelling, core_text, op_text, line_text, name_at}
 use Rattle.litmus.proofs.OneLine.{Reads, line_reads}
-use Rattle.litmus.proofs.ManyNames.{one_name, all_push}
+use Rattle.litmus.specs.NameListLaws.{one_name, all_push}
 use Rattle.litmus.proofs.Cores.{Cores, last_core, with_op-is, count-append, use_with_op, use_cores-push}
 use Rattle.litmus.proofs.Cores.{cores_kept, text_more, small_more}
 

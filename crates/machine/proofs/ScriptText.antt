@@ -11,8 +11,8 @@ use Rattle.litmus.specs.declared.limits.TheConstants.{MAX_STEPS}
 use Rattle.litmus.specs.declared.name.Name.{Name}
 use Rattle.litmus.specs.Names.{name_eq}
 use Rattle.litmus.specs.Parts.{Parts}
-use Rattle.litmus.proofs.OnLists.{cases_of}
-use Rattle.litmus.proofs.Reading.{kept}
+use Rattle.litmus.specs.TestLaws.{cases_of}
+use Rattle.litmus.specs.ReadingLaws.{kept}
 use Rattle.machine.specs.declared.script_line.Own.{Own}
 use Rattle.machine.specs.declared.script_line.Own.TheVariants.{Exec, Drain}
 use Rattle.machine.specs.declared.script_line.Transaction.{Transaction}

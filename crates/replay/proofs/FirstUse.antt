@@ -14,8 +14,7 @@ use Rattle.recorder.specs.Execution.{Execution, placed_from, event_count, event_
 use Rattle.replay.specs.Program.{op_of, program_of}
 use Rattle.replay.specs.Numbered.{Uses, IsNumberedByFirstUse}
 use Rattle.replay.proofs.Made.{placed_is, count_same}
-use Rattle.litmus.proofs.ManyNames.{use_old, use_new}
-use Rattle.litmus.proofs.OnLists.{bind_some}
+use Rattle.litmus.specs.PartLaws.{use_old, use_new}
 use Rattle.recorder.specs.EventLaws.{Reads-event, Writes-event}
 use Rattle.std.proofs.lemmas.Option.{same_Some}
 use Rattle.std.proofs.lemmas.Bool.Decides.{nat_tests}
@@ -213,7 +212,9 @@ module _ (x : Execution) where
       }
   numbers_on (op ∷ l) j k stands so_far to =
       let first : op ≡ op_of (event_at x j) = stands_first op l j stands in
-      let next = bind_some (use_addr k (addr_of op)) (λ i. use_ops i l) (length x.write_lists) to in
+      let next : (i : ℕ) × (use_addr k (addr_of op) ≡ Some i) × (use_ops i l ≡ Some (length x.write_lists)) =
+      option_and_then_some (λ i. use_ops i l) (use_addr k (addr_of op)) (length x.write_lists) to
+      (λ i one more. (i, one, more)) in
       let rest : Numbers (j + 1) = numbers_on l (j + 1) next.0 (stands_rest op l j stands) (used_more op j k first so_far next.0 (addr_of op) refl next.1) next.2 in
       record {
         used = rest.used;

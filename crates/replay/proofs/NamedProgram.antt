@@ -22,7 +22,7 @@ use Rattle.machine.proofs.Static.{placed_total}
 use Rattle.replay.proofs.Made.{count_same}
 use Rattle.std.proofs.lemmas.Option.{same_Some}
 use Rattle.replay.proofs.FirstUse.{program_numbered, numbered_by_program}
-use Rattle.litmus.proofs.AddressNames.{names_lawful, names_distinct, names_count}
+use Rattle.litmus.specs.AddressNameLaws.{names_lawful, names_distinct, names_count}
 
 -- the names and the operations of a recording are a program
 pub named_is_program : (x : Execution) → IsRecording x → IsNumberedByFirstUse x → AllByRecursion (AllByRecursion Small) (program_of x) → IsProgram (named_program x)

@@ -29,7 +29,7 @@ use Rattle.replay.specs.Steps.{replay_steps}
 use Rattle.replay.specs.Replayed.{IsReplay, EveryOrderIsReplayed, led_to, MakesExactlyTso}
 use Rattle.litmus.specs.AddressNames.{address_names}
 use Rattle.replay.specs.Program.{named_program}
-use Rattle.litmus.proofs.AddressNames.{names_count}
+use Rattle.litmus.specs.AddressNameLaws.{names_count}
 use Rattle.machine.specs.declared.blocked.Blocked.{Blocked}
 use Rattle.machine.specs.declared.step.Step.TheVariants.{Exec, Drain, GetS, GetM, Put}
 use Rattle.machine.specs.Script.{IsStepOf}

@@ -1,5 +1,5 @@
 use Rattle.std.proofs.lemmas.Slice.Eq.{slice_eq-Decides}
-use Rattle.litmus.proofs.ManyNames.{name_decides}
+use Rattle.litmus.specs.NameLaws.{name_decides}
 use Rattle.litmus.proofs.same.are_same_names.Goals as goal
 
 pub returns : goal.returns

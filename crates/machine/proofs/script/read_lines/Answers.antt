@@ -1,4 +1,4 @@
-use Rattle.litmus.proofs.Reading.{byte_read, line_read}
+use Rattle.litmus.specs.ReadingLaws.{byte_read, line_read}
 use Rattle.machine.specs.declared.script_fault.StepFault.TheVariants.{S1}
 use Rattle.machine.specs.Script.{line_step}
 use Rattle.machine.proofs.script.read_lines.Goals as goal

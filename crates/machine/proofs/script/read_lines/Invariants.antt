@@ -1,4 +1,4 @@
-use Rattle.litmus.proofs.Reading.{ReadsOn}
+use Rattle.litmus.specs.ReadingLaws.{ReadsOn}
 use Rattle.machine.specs.declared.script_fault.StepFault.TheVariants.{S1}
 use Rattle.machine.specs.Script.{line_step, steps_of}
 use Rattle.machine.proofs.script.read_lines.Given as goal

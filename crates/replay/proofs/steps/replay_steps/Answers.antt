@@ -11,7 +11,7 @@ use Rattle.replay.specs.Steps.{order_steps, replay_steps}
 use Rattle.replay.specs.Program.{named_program}
 use Rattle.replay.specs.Replaying.{Replaying}
 use Rattle.replay.specs.Replayed.{IsReplay}
-use Rattle.litmus.proofs.AddressNames.{names_count}
+use Rattle.litmus.specs.AddressNameLaws.{names_count}
 use Rattle.replay.proofs.steps.replay_steps.Goals as goal
 
 pub steps_of-requires-clause-names : goal.steps_of-requires-clause-names
