@@ -11,8 +11,9 @@ use Rattle.moesi.specs.Rows as row
 use Rattle.moesi.specs.State.{CacheState, block_of, line_of, copy_of, opening_caches, at_address, read, write}
 use Rattle.moesi.specs.State.{Has}
 use Rattle.moesi.specs.Laws.{IsTransaction, IsAnyTransaction}
-use Rattle.moesi.proofs.Settled.{exclusive_valid, all_invalid}
-use Rattle.moesi.proofs.Kept.{taken_then}
+use Rattle.moesi.specs.LineLaws.{exclusive_valid}
+use Rattle.moesi.specs.BlockLaws.{all_invalid}
+use Rattle.moesi.specs.RowLaws.{taken_then}
 
 -- there are as many cores and addresses as before
 pub record IsAsLarge (s t : CacheState) : Type 0 where

@@ -20,7 +20,7 @@ use Rattle.write_buffer.specs.Buffer.{youngest, or_else}
 use Rattle.machine.specs.declared.step.Step.{Step}
 use Rattle.moesi.specs.State as moesi
 use Rattle.moesi.specs.Laws.{IsAnyTransaction}
-use Rattle.moesi.proofs.Origins.{any_copy_was_there, write_adds}
+use Rattle.moesi.specs.OriginLaws.{any_copy_was_there, write_adds}
 use Rattle.machine.specs.declared.fault.Fault.{Fault}
 use Rattle.machine.specs.Faults.{forwarded}
 use Rattle.machine.specs.State.{State, place_of, buffer_of, line_copy, event_of, recorded, opening}

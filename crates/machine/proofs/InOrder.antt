@@ -9,7 +9,7 @@ use Rattle.write_buffer.specs.Buffer.{youngest}
 use Rattle.moesi.specs.State as moesi
 use Rattle.moesi.specs.Laws.{IsTransaction}
 use Rattle.moesi.specs.Coherent.{IsCoherent}
-use Rattle.moesi.proofs.Kept.{write_kept, write_current, transaction_kept, transaction_current}
+use Rattle.moesi.specs.CacheLaws.{write_kept, write_current, transaction_kept, transaction_current}
 use Rattle.machine.specs.declared.fault.Fault.TheVariants as fault
 use Rattle.machine.specs.State.{State, buffer_of, line_copy, event_of}
 use Rattle.machine.specs.Step.{given, with_buffer, with_caches, forwarded_or_read, looked_up, rmw_value}

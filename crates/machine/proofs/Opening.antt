@@ -16,7 +16,7 @@ use Rattle.machine.specs.State.{State, first_event, opening, event_of}
 use Rattle.litmus.specs.Parts.{IsWithin}
 use Rattle.recorder.specs.Event.{written_address}
 use Rattle.moesi.specs.Block.{Block, opening_block}
-use Rattle.moesi.proofs.Kept.{opening_coherent}
+use Rattle.moesi.specs.CacheLaws.{opening_coherent}
 use Rattle.machine.proofs.Static.{static_of, snapshot_of, placed_op, placed_at, placed_total, op_reads}
 use Rattle.machine.proofs.Static.{tagged}
 use Rattle.machine.proofs.Newest.{last_of, last_nil}

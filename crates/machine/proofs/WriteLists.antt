@@ -17,7 +17,7 @@ use Rattle.write_buffer.specs.Buffer.{youngest}
 use Rattle.moesi.specs.State as moesi
 use Rattle.moesi.specs.declared.error.CacheError.{CacheError}
 use Rattle.moesi.specs.Coherent.{IsCoherent}
-use Rattle.moesi.proofs.Kept.{read_current}
+use Rattle.moesi.specs.CacheLaws.{read_current}
 use Rattle.machine.specs.declared.fault.Fault.TheVariants as fault
 use Rattle.machine.specs.State.{State, buffer_of, current_copy, event_of}
 use Rattle.machine.specs.Step.{performed, written, given, forwarded_or_read, looked_up}

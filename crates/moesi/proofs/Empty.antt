@@ -11,9 +11,10 @@ use Rattle.moesi.specs.Block.{Block, cell_of, invalid, opening_block, has_copy}
 use Rattle.moesi.specs.Rows as row
 use Rattle.moesi.specs.State.{CacheState, block_of, at_address, opening_caches, write}
 use Rattle.moesi.specs.Laws.{IsTransaction, IsAnyTransaction, HasEmptyLines}
-use Rattle.moesi.proofs.Settled.{lowered_valid, all_invalid}
-use Rattle.moesi.proofs.Kept.{taken_else, taken_then}
-use Rattle.moesi.proofs.Origins.{set_cases, map_same}
+use Rattle.moesi.specs.LineLaws.{lowered_valid}
+use Rattle.moesi.specs.BlockLaws.{all_invalid}
+use Rattle.moesi.specs.RowLaws.{taken_else, taken_then}
+use Rattle.moesi.specs.OriginLaws.{set_cases, map_same}
 
 -- a cell in I has value 0 and no event
 abbrev EmptyCell : Cell → Type 0
@@ -24,7 +25,8 @@ abbrev EmptyBlock : Block → Type 0
 EmptyBlock b = (c : ℕ) → EmptyCell (cell_of b c)
 
 -- a row that changes every line, and then one
-turn : (b : Block) (f : Cell → Cell) (c : ℕ) (x : Cell) (m : ℕ × Option ℕ) → EmptyBlock b → ((y : Cell) → EmptyCell y → EmptyCell (f y)) → f invalid ≡ invalid → EmptyCell x
+turn : (b : Block) (f : Cell → Cell) (c : ℕ) (x : Cell) (m : ℕ × Option ℕ) → EmptyBlock b
+    → ((y : Cell) → EmptyCell y → EmptyCell (f y)) → f invalid ≡ invalid → EmptyCell x
     → EmptyBlock (record { lines = slice_set (map f b.lines) c x; memory = m })
 turn b f c x m before kept still new e =
     let mapped : slice_index_or (map f b.lines) e invalid ≡ f (cell_of b e) =
@@ -35,9 +37,11 @@ turn b f c x m before kept still new e =
     ]
 
 -- a row that changes one line alone
-turn_one : (b : Block) (c : ℕ) (x : Cell) (m : ℕ × Option ℕ) → EmptyBlock b → EmptyCell x → EmptyBlock (record { lines = slice_set b.lines c x; memory = m })
+turn_one : (b : Block) (c : ℕ) (x : Cell) (m : ℕ × Option ℕ) → EmptyBlock b → EmptyCell x
+    → EmptyBlock (record { lines = slice_set b.lines c x; memory = m })
 turn_one b c x m before new =
-    subst (λ (ys : List Cell). EmptyBlock (record { lines = slice_set ys c x; memory = m })) (map_same b.lines) (turn b (λ y. y) c x m before (λ y h. h) refl new)
+    subst (λ (ys : List Cell). EmptyBlock (record { lines = slice_set ys c x; memory = m }))
+    (map_same b.lines) (turn b (λ y. y) c x m before (λ y h. h) refl new)
 
 -- the line that GetS gives is valid
 valid_fill : (q : Bool) → is_valid (cond q S E) ≡ true
@@ -57,19 +61,27 @@ module _ (b : Block) (c : ℕ) (before : EmptyBlock b) (u : Block) where
   empty_get_s : row.get_s b c ≡ Ok u → EmptyBlock u
   empty_get_s h =
       subst EmptyBlock (taken_else _ _ _ u h).1
-      (turn b row.shared c _ b.memory before (λ y k g. k (sym (lowered_valid y.line) ∙ g)) refl (λ g. cc (g, valid_fill (has_copy b))))
+      (turn b row.shared c _ b.memory before (λ y k g. k (sym (lowered_valid y.line) ∙ g)) refl
+      (λ g. cc (g, valid_fill (has_copy b))))
 
   -- GetM keeps them so
   empty_get_m : row.get_m b c ≡ Ok u → EmptyBlock u
-  empty_get_m h = subst EmptyBlock (taken_else _ _ _ u h).1 (turn b row.invalidated c _ b.memory before (λ y k g. refl) refl (λ g. cc (g)))
+  empty_get_m h =
+      subst EmptyBlock (taken_else _ _ _ u h).1
+      (turn b row.invalidated c _ b.memory before (λ y k g. refl) refl (λ g. cc (g)))
 
   -- the faulty GetM keeps them so
   empty_get_m_stale : row.get_m_stale b c ≡ Ok u → EmptyBlock u
-  empty_get_m_stale h = subst EmptyBlock (taken_else _ _ _ u h).1 (turn b row.left_stale c _ b.memory before stale_empty refl (λ g. cc (g)))
+  empty_get_m_stale h =
+      subst EmptyBlock (taken_else _ _ _ u h).1
+      (turn b row.left_stale c _ b.memory before stale_empty refl (λ g. cc (g)))
 
   -- Put keeps them so
   empty_put : row.put b c ≡ Ok u → EmptyBlock u
-  empty_put h = subst EmptyBlock (taken_then _ _ _ u h).1 (turn_one b c invalid (cond (is_owned (cell_of b c).line) (cell_of b c).copy b.memory) before (λ g. refl))
+  empty_put h =
+      subst EmptyBlock (taken_then _ _ _ u h).1
+      (turn_one b c invalid (cond (is_owned (cell_of b c).line) (cell_of b c).copy b.memory) before
+      (λ g. refl))
 
   -- a write keeps them so
   empty_write : (w : ℕ × Option ℕ) → row.write b c w ≡ Ok u → EmptyBlock u
@@ -77,11 +89,13 @@ module _ (b : Block) (c : ℕ) (before : EmptyBlock b) (u : Block) where
 
 module _ (s t : CacheState) (c a : ℕ) (before : HasEmptyLines s) where
   -- a row at one address leaves the others
-  moved : (r : Result Block CacheError) → ((u : Block) → r ≡ Ok u → EmptyBlock u) → at_address s a r ≡ Ok t → HasEmptyLines t
+  moved : (r : Result Block CacheError) → ((u : Block) → r ≡ Ok u → EmptyBlock u) → at_address s a r ≡ Ok t
+      → HasEmptyLines t
   moved (Err e) new h = cc (h)
   moved (Ok u) new h =
       let e : record { cores = s.cores; blocks = slice_set s.blocks a u } ≡ t = cc (h) in
-      subst HasEmptyLines e (λ d b. elim (set_cases s.blocks a u b (record { lines = []; memory = (0, None) })) [
+      subst HasEmptyLines e (λ d b. elim (set_cases s.blocks a u b
+      (record { lines = []; memory = (0, None) })) [
         | inl q ↦ subst (λ (k : Block). EmptyCell (cell_of k d)) (sym q) (before d b)
         | inr q ↦ subst (λ (k : Block). EmptyCell (cell_of k d)) (sym q.1) (new u refl d)
       ])
@@ -99,7 +113,8 @@ module _ (s t : CacheState) (c a : ℕ) (before : HasEmptyLines s) where
 
   -- writes keep them so
   pub empty_written : (value event : ℕ) → write s c a value event ≡ Ok t → HasEmptyLines t
-  empty_written value event h = moved _ (λ u g. empty_write (block_of s a) c (λ d. before d a) u (value, Some event) g) h
+  empty_written value event h =
+      moved _ (λ u g. empty_write (block_of s a) c (λ d. before d a) u (value, Some event) g) h
 
 -- at first each line is in I, and empty
 pub empty_opening : (cores addresses : ℕ) → HasEmptyLines (opening_caches cores addresses)
@@ -108,7 +123,8 @@ empty_opening cores addresses c a h = both addresses (opening_block cores) (empt
     empty_fill : (n : ℕ) (d : ℕ) → EmptyCell (slice_index_or (replicate n invalid) d invalid)
     empty_fill n d g = rw (all_invalid n d) refl
 
-    both : (n : ℕ) (b : Block) → EmptyBlock b → (i : ℕ) → EmptyBlock (slice_index_or (replicate n b) i (record { lines = []; memory = (0, None) }))
+    both : (n : ℕ) (b : Block) → EmptyBlock b → (i : ℕ)
+        → EmptyBlock (slice_index_or (replicate n b) i (record { lines = []; memory = (0, None) }))
     both zero b p i = λ d g. refl
     both (suc n) b p zero = p
     both (suc n) b p (suc i) = both n b p i

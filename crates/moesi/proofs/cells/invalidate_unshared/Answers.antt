@@ -8,4 +8,5 @@ pub loop-x-preserved : goal.loop-x-preserved
 loop-x-preserved c =
     let within : c.loop-x.x-index < length c.loop-x.lines = omega (arith, c.loop-x.auto.lines) in
     rw c.left_stale.ensures
-    (map_over_more left_stale c.args.lines.now c.loop-x.lines c.loop-x.x-index _ (omega arith) c.loop-x.invariant (get_or_default c.loop-x.lines c.loop-x.x-index _ _ within))
+    (map_over_more left_stale c.args.lines.now c.loop-x.lines c.loop-x.x-index _ (omega arith)
+    c.loop-x.invariant (get_or_default c.loop-x.lines c.loop-x.x-index _ _ within))

@@ -1,13 +1,13 @@
 use Rattle.std.proofs.Common.{inl, inr}
+use Rattle.moesi.specs.OriginLaws.{every_copy_was_there, every_write_adds_itself}
 use Rattle.moesi.proofs.Empty.{empty_opening, empty_any, empty_written}
-use Rattle.moesi.proofs.Origins.{any_copy_was_there, write_adds}
 use Rattle.moesi.proofs.laws.copies_of_caches.Goals as goal
 
 pub returns-clause-transactions : goal.returns-clause-transactions
-returns-clause-transactions c = any_copy_was_there
+returns-clause-transactions c = every_copy_was_there
 
 pub returns-clause-writes : goal.returns-clause-writes
-returns-clause-writes c = λ s t d a value event b copy. write_adds s t d a b copy value event
+returns-clause-writes c = every_write_adds_itself
 
 pub returns-clause-empty : goal.returns-clause-empty
 returns-clause-empty c = λ s t d a value event k h.

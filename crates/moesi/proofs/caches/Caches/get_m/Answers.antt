@@ -3,7 +3,7 @@ use Rattle.moesi.specs.Block.{Block}
 use Rattle.moesi.specs.Rows as row
 use Rattle.moesi.specs.State.{CacheState}
 use Rattle.moesi.specs.Coherent.{IsCoherent}
-use Rattle.moesi.proofs.Kept.{get_m_kept}
+use Rattle.moesi.specs.CacheLaws.{get_m_kept}
 use Rattle.moesi.proofs.Answered.{answered}
 use Rattle.moesi.proofs.caches.Caches.get_m.Goals as goal
 
@@ -13,5 +13,7 @@ returns-clause-coherent c = λ k.
     let k0 : IsCoherent s = rw c.self.view_is k in
     let core : c.args.core < s.cores = rw (← c.self.view_is) at c.requires.core in
     let at : c.args.addr < length s.blocks = rw (← c.self.view_is) at c.requires.address in
-    answered IsCoherent s.cores s.blocks c.args.addr c.index_mut-block.result.now c.get_m.new.self c.get_m.result (λ (b : Block). row.get_m b c.args.core)
-    c.index_mut-block.ensures.value at c.get_m.ensures.ok c.get_m.ensures.unchanged k0 (λ t h. (get_m_kept s t c.args.core c.args.addr k0 core at h).coherent)
+    answered IsCoherent s.cores s.blocks c.args.addr c.index_mut-block.result.now c.get_m.new.self
+    c.get_m.result (λ (b : Block). row.get_m b c.args.core)
+    c.index_mut-block.ensures.value at c.get_m.ensures.ok c.get_m.ensures.unchanged k0
+    (λ t h. (get_m_kept s t c.args.core c.args.addr k0 core at h).coherent)

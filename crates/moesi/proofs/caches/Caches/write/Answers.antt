@@ -3,7 +3,7 @@ use Rattle.moesi.specs.Block.{Block}
 use Rattle.moesi.specs.Rows as row
 use Rattle.moesi.specs.State.{CacheState}
 use Rattle.moesi.specs.Coherent.{IsCoherent}
-use Rattle.moesi.proofs.Kept.{write_kept}
+use Rattle.moesi.specs.CacheLaws.{write_kept}
 use Rattle.moesi.proofs.Answered.{answered}
 use Rattle.moesi.proofs.caches.Caches.write.Goals as goal
 
@@ -13,5 +13,7 @@ returns-clause-coherent c = λ k.
     let k0 : IsCoherent s = rw c.self.view_is k in
     let core : c.args.core < s.cores = rw (← c.self.view_is) at c.requires.core in
     let at : c.args.addr < length s.blocks = rw (← c.self.view_is) at c.requires.address in
-    answered IsCoherent s.cores s.blocks c.args.addr c.index_mut-block.result.now c.write.new.self c.write.result (λ (b : Block). row.write b c.args.core (c.args.value, Some c.args.event))
-    c.index_mut-block.ensures.value at c.write.ensures.ok c.write.ensures.unchanged k0 (λ t h. (write_kept s t c.args.core c.args.addr k0 core at c.args.value c.args.event h).coherent)
+    answered IsCoherent s.cores s.blocks c.args.addr c.index_mut-block.result.now c.write.new.self
+    c.write.result (λ (b : Block). row.write b c.args.core (c.args.value, Some c.args.event))
+    c.index_mut-block.ensures.value at c.write.ensures.ok c.write.ensures.unchanged k0
+    (λ t h. (write_kept s t c.args.core c.args.addr k0 core at c.args.value c.args.event h).coherent)

@@ -1,27 +1,43 @@
--- What a call does to the lines of one address, and that they agree afterwards.
+-- Laws of the rows of the table: when they are taken, and that the lines of the address agree afterwards.
 use Rattle.std.proofs.Common.{◌≡◌, ◌≢◌, ◌<◌, inl, inr, ℕ, Bool, true, false, cond, Option, length, map}
 use Rattle.std.proofs.Common.{slice_index_or, slice_set, arith, refl, sym, ap, ◌∙◌, get_or-set_other}
-use Rattle.std.proofs.Common.{get_or-set_same}
+use Rattle.std.proofs.Common.{get_or-set_same, Ok, Err}
 use Rattle.std.proofs.Math.ListN.{get_or-map}
 use Rattle.std.proofs.lemmas.Bool.{cond_both, cases_eq}
 use Rattle.std.proofs.lemmas.List.{length-map}
 use Rattle.moesi.specs.declared.line.Line.TheVariants.{S, E, M}
 use Rattle.moesi.specs.declared.cell.Cell.{Cell}
+use Rattle.moesi.specs.declared.error.CacheError.{CacheError}
 use Rattle.moesi.specs.Lines.{is_valid, is_exclusive, is_owned}
 use Rattle.moesi.specs.Block.{Block, cell_of, invalid, supplied, has_copy}
 use Rattle.moesi.specs.Rows.{shared, invalidated}
-use Rattle.moesi.proofs.Settled.{IsSettled, IsTurned, supplied_settled, no_copy, not_valid, exclusive_valid}
-use Rattle.moesi.proofs.Settled.{lowered_exclusive, lowered_owned, lowered_valid}
+use Rattle.moesi.specs.BlockLaws.{IsSettled, IsTurned, supplied_settled, no_copy}
+use Rattle.moesi.specs.LineLaws.{not_valid, exclusive_valid}
+use Rattle.moesi.specs.LineLaws.{lowered_exclusive, lowered_owned, lowered_valid}
+
+-- a row that was taken, where its guard refuses
+pub taken_else : {A : Type 0} (q : Bool) (e : CacheError) (r t : A) → cond q (Err e) (Ok r) ≡ Ok t
+    → (q ≡ false) × (r ≡ t)
+taken_else true e r t h = cc (h)
+taken_else false e r t h = (refl, cc (h))
+
+-- the same where the guard allows
+pub taken_then : {A : Type 0} (q : Bool) (e : CacheError) (r t : A) → cond q (Ok r) (Err e) ≡ Ok t
+    → (q ≡ true) × (r ≡ t)
+taken_then true e r t h = (refl, cc (h))
+taken_then false e r t h = cc (h)
 
 -- a row changes every line, and then one
-turned : (b : Block) (f : Cell → Cell) (c : ℕ) (x : Cell) (m : ℕ × Option ℕ) → f invalid ≡ invalid → c < length b.lines
+turned : (b : Block) (f : Cell → Cell) (c : ℕ) (x : Cell) (m : ℕ × Option ℕ) → f invalid ≡ invalid
+    → c < length b.lines
     → IsTurned b (record { lines = slice_set (map f b.lines) c x; memory = m }) f c x
 turned b f c x m still at =
     let within : c < length (map f b.lines) = omega (arith, length-map b.lines f) in
     record {
       own = get_or-set_same (map f b.lines) c x invalid within;
       others = λ d ne. get_or-set_other (map f b.lines) c d x invalid ne
-          ∙ (ap (λ (w : Cell). slice_index_or (map f b.lines) d w) (sym still) ∙ get_or-map f b.lines d invalid);
+          ∙ (ap (λ (w : Cell). slice_index_or (map f b.lines) d w) (sym still)
+          ∙ get_or-map f b.lines d invalid);
     }
 
 -- or one line alone
@@ -36,13 +52,16 @@ set_one b c x m at = record {
 record Fits (b : Block) (f : Cell → Cell) (c : ℕ) (x : Cell) (w : ℕ × Option ℕ) : Type 0 where
   own_single : is_exclusive x.line ≡ true → (d : ℕ) → d ≢ c → is_valid (f (cell_of b d)).line ≡ false
   their_single : (d : ℕ) → d ≢ c → is_exclusive (f (cell_of b d)).line ≡ true → is_valid x.line ≡ false
-  both_single : (d e : ℕ) → d ≢ c → e ≢ c → d ≢ e → is_exclusive (f (cell_of b d)).line ≡ true → is_valid (f (cell_of b e)).line ≡ false
+  both_single : (d e : ℕ) → d ≢ c → e ≢ c → d ≢ e → is_exclusive (f (cell_of b d)).line ≡ true
+      → is_valid (f (cell_of b e)).line ≡ false
   own_owned : is_owned x.line ≡ true → (d : ℕ) → d ≢ c → is_owned (f (cell_of b d)).line ≡ false
-  both_owned : (d e : ℕ) → d ≢ c → e ≢ c → is_owned (f (cell_of b d)).line ≡ true → is_owned (f (cell_of b e)).line ≡ true → d ≡ e
+  both_owned : (d e : ℕ) → d ≢ c → e ≢ c → is_owned (f (cell_of b d)).line ≡ true
+      → is_owned (f (cell_of b e)).line ≡ true → d ≡ e
   own_copy : is_valid x.line ≡ true → x.copy ≡ w
   their_copy : (d : ℕ) → d ≢ c → is_valid (f (cell_of b d)).line ≡ true → (f (cell_of b d)).copy ≡ w
 
-module _ (b t : Block) (f : Cell → Cell) (c : ℕ) (x : Cell) (w : ℕ × Option ℕ) (turn : IsTurned b t f c x) (fits : Fits b f c x w) where
+module _ (b t : Block) (f : Cell → Cell) (c : ℕ) (x : Cell) (w : ℕ × Option ℕ) (turn : IsTurned b t f c x)
+    (fits : Fits b f c x w) where
   -- the line of the core
   line_own : (d : ℕ) → d ≡ c → cell_of t d ≡ x
   line_own d e = ap (λ (i : ℕ). cell_of t i) e ∙ turn.own
@@ -51,7 +70,8 @@ module _ (b t : Block) (f : Cell → Cell) (c : ℕ) (x : Cell) (w : ℕ × Opti
   single : (d e : ℕ) → is_exclusive (cell_of t d).line ≡ true → d ≢ e → is_valid (cell_of t e).line ≡ false
   single d e h ne =
       elim (cases_eq d c) [
-        | inl dc ↦ rw (turn.others e (λ ec. ne (dc ∙ sym ec))) (fits.own_single (rw (line_own d dc) at h) e (λ ec. ne (dc ∙ sym ec)))
+        | inl dc ↦ rw (turn.others e (λ ec. ne (dc ∙ sym ec)))
+            (fits.own_single (rw (line_own d dc) at h) e (λ ec. ne (dc ∙ sym ec)))
         | inr dn ↦ elim (cases_eq e c) [
           | inl ec ↦ rw (line_own e ec) (fits.their_single d dn (rw (turn.others d dn) at h))
           | inr en ↦ rw (turn.others e en) (fits.both_single d e dn en ne (rw (turn.others d dn) at h))
@@ -92,20 +112,27 @@ module _ (b t : Block) (f : Cell → Cell) (c : ℕ) (x : Cell) (w : ℕ × Opti
 
 module _ (b : Block) (v : ℕ × Option ℕ) (s : IsSettled b v) (c : ℕ) (at : c < length b.lines) where
   -- where the others are as they were, and the asking core's line was not owned or is not now
-  pub none_owned : (t : Block) (f : Cell → Cell) (x : Cell) → IsTurned b t f c x → ((y : Cell) → is_owned (f y).line ≡ is_owned y.line) → is_owned (cell_of b c).line ≡ false
+  pub none_owned : (t : Block) (f : Cell → Cell) (x : Cell) → IsTurned b t f c x
+      → ((y : Cell) → is_owned (f y).line ≡ is_owned y.line) → is_owned (cell_of b c).line ≡ false
       → ((d : ℕ) → is_owned (cell_of t d).line ≡ false) → (d : ℕ) → is_owned (cell_of b d).line ≡ false
   none_owned t f x turn same own none d =
       elim (cases_eq d c) [
         | inl dc ↦ ap (λ (i : ℕ). is_owned (cell_of b i).line) dc ∙ own
-        | inr dn ↦ sym (same (cell_of b d)) ∙ (ap (λ (y : Cell). is_owned y.line) (sym (turn.others d dn)) ∙ none d)
+        | inr dn ↦ sym (same (cell_of b d)) ∙
+            (ap (λ (y : Cell). is_owned y.line) (sym (turn.others d dn)) ∙ none d)
       ]
 
   -- after GetS the lines agree on what was current
   pub settled_get_s : is_valid (cell_of b c).line ≡ false
-      → IsSettled (record { lines = slice_set (map shared b.lines) c (record { line = cond (has_copy b) S E; copy = supplied b }); memory = b.memory }) v
+      → IsSettled (record {
+        lines =
+            slice_set (map shared b.lines) c (record { line = cond (has_copy b) S E; copy = supplied b });
+        memory = b.memory;
+      }) v
   settled_get_s free =
       let x : Cell = record { line = cond (has_copy b) S E; copy = supplied b } in
-      let turn : IsTurned b (record { lines = slice_set (map shared b.lines) c x; memory = b.memory }) shared c x = turned b shared c x b.memory refl at in
+      let turn : IsTurned b (record { lines = slice_set (map shared b.lines) c x; memory = b.memory })
+      shared c x = turned b shared c x b.memory refl at in
       settled b _ shared c x v turn
       (record {
         own_single = λ h d ne. lowered_valid _ ∙ no_copy b.lines (alone (has_copy b) h) d;
@@ -127,10 +154,15 @@ module _ (b : Block) (v : ℕ × Option ℕ) (s : IsSettled b v) (c : ℕ) (at :
       not_owned false = refl
 
   -- after GetM they do
-  pub settled_get_m : IsSettled (record { lines = slice_set (map invalidated b.lines) c (record { line = M; copy = supplied b }); memory = b.memory }) v
+  pub settled_get_m : IsSettled (record {
+    lines =
+        slice_set (map invalidated b.lines) c (record { line = M; copy = supplied b });
+    memory = b.memory;
+  }) v
   settled_get_m =
       let x : Cell = record { line = M; copy = supplied b } in
-      let turn : IsTurned b (record { lines = slice_set (map invalidated b.lines) c x; memory = b.memory }) invalidated c x = turned b invalidated c x b.memory refl at in
+      let turn : IsTurned b (record { lines = slice_set (map invalidated b.lines) c x; memory = b.memory })
+      invalidated c x = turned b invalidated c x b.memory refl at in
       settled b _ invalidated c x v turn
       (record {
         own_single = λ h d ne. refl;
@@ -145,10 +177,15 @@ module _ (b : Block) (v : ℕ × Option ℕ) (s : IsSettled b v) (c : ℕ) (at :
 
   -- after Put they do
   pub settled_put : is_valid (cell_of b c).line ≡ true
-      → IsSettled (record { lines = slice_set b.lines c invalid; memory = cond (is_owned (cell_of b c).line) (cell_of b c).copy b.memory }) v
+      → IsSettled (record {
+        lines = slice_set b.lines c invalid;
+        memory =
+            cond (is_owned (cell_of b c).line) (cell_of b c).copy b.memory;
+      }) v
   settled_put held =
       let m : ℕ × Option ℕ = cond (is_owned (cell_of b c).line) (cell_of b c).copy b.memory in
-      let turn : IsTurned b (record { lines = slice_set b.lines c invalid; memory = m }) (λ y. y) c invalid = set_one b c invalid m at in
+      let turn : IsTurned b (record { lines = slice_set b.lines c invalid; memory = m }) (λ y. y) c invalid =
+      set_one b c invalid m at in
       settled b _ (λ y. y) c invalid v turn
       (record {
         own_single = λ h d ne. cc (h);
@@ -159,16 +196,20 @@ module _ (b : Block) (v : ℕ × Option ℕ) (s : IsSettled b v) (c : ℕ) (at :
         own_copy = λ h. cc (h);
         their_copy = λ d ne h. s.copies d h;
       })
-      (λ none. cond_both (is_owned (cell_of b c).line) (cell_of b c).copy b.memory (λ w. w ≡ v) (λ e. s.copies c held)
+      (λ none. cond_both (is_owned (cell_of b c).line) (cell_of b c).copy b.memory (λ w. w ≡ v)
+      (λ e. s.copies c held)
       (λ e. s.clean (none_owned _ (λ y. y) invalid turn (λ y. refl) e none)))
 
   -- after a write they agree on what was written
   pub settled_write : (w : ℕ × Option ℕ) → is_exclusive (cell_of b c).line ≡ true
-      → IsSettled (record { lines = slice_set b.lines c (record { line = M; copy = w }); memory = b.memory }) w
+      → IsSettled (record { lines = slice_set b.lines c (record { line = M; copy = w }); memory = b.memory })
+      w
   settled_write w held =
       let x : Cell = record { line = M; copy = w } in
-      let turn : IsTurned b (record { lines = slice_set b.lines c x; memory = b.memory }) (λ y. y) c x = set_one b c x b.memory at in
-      let free : (d : ℕ) → d ≢ c → is_valid (cell_of b d).line ≡ false = λ d ne. s.single c d held (λ e. ne (sym e)) in
+      let turn : IsTurned b (record { lines = slice_set b.lines c x; memory = b.memory }) (λ y. y) c x =
+      set_one b c x b.memory at in
+      let free : (d : ℕ) → d ≢ c → is_valid (cell_of b d).line ≡ false =
+      λ d ne. s.single c d held (λ e. ne (sym e)) in
       settled b _ (λ y. y) c x w turn
       (record {
         own_single = λ h d ne. free d ne;

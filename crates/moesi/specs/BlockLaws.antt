@@ -1,85 +1,19 @@
--- What the lines of one address agree on.
-use Rattle.std.proofs.Common.{◌≡◌, ◌≢◌, ◌⊎◌, inl, inr, ℕ, suc, zero, Bool, true, false, Option, List, [], ◌∷◌}
+-- Laws of the lines of one address, and of what they agree on.
+use Rattle.std.proofs.Common.{◌≡◌, ◌≢◌, inl, inr, ℕ, suc, zero, Bool, true, false, Option, List, [], ◌∷◌}
 use Rattle.std.proofs.Common.{slice_index_or, replicate, refl, sym, ap, ◌∙◌}
 use Rattle.std.specs.List.{list_any}
 use Rattle.std.proofs.lemmas.Bool.{cond_both, cases_eq, or_parts}
 use Rattle.moesi.specs.declared.line.Line.{Line}
-use Rattle.moesi.specs.declared.line.Line.TheVariants.{I, S, E, O, M}
+use Rattle.moesi.specs.declared.line.Line.TheVariants.{I}
 use Rattle.moesi.specs.declared.cell.Cell.{Cell}
-use Rattle.moesi.specs.Lines.{is_valid, is_exclusive, is_owned, supplies, lowered}
+use Rattle.moesi.specs.Lines.{is_valid, is_exclusive, is_owned, supplies}
 use Rattle.moesi.specs.Block.{Block, cell_of, invalid, copy_where, supplied, current_of}
 use Rattle.moesi.specs.Coherent.{IsCoherentBlock}
-
--- Lines
-
--- a line that supplies data is valid
-pub supplier_valid : (l : Line) → supplies l ≡ true → is_valid l ≡ true
-supplier_valid I h = h
-supplier_valid S h = refl
-supplier_valid E h = refl
-supplier_valid O h = refl
-supplier_valid M h = refl
-
--- a line that supplies none is not owned
-pub not_supplier : (l : Line) → supplies l ≡ false → is_owned l ≡ false
-not_supplier I h = refl
-not_supplier S h = refl
-not_supplier E h = refl
-not_supplier O h = h
-not_supplier M h = h
-
--- a line that is not valid is not owned
-pub not_valid : (l : Line) → is_valid l ≡ false → is_owned l ≡ false
-not_valid I h = refl
-not_valid S h = refl
-not_valid E h = refl
-not_valid O h = h
-not_valid M h = h
-
--- an exclusive line is valid
-pub exclusive_valid : (l : Line) → is_exclusive l ≡ true → is_valid l ≡ true
-exclusive_valid I h = h
-exclusive_valid S h = refl
-exclusive_valid E h = refl
-exclusive_valid O h = refl
-exclusive_valid M h = refl
-
--- an owned line is O, or exclusive
-pub owned_cases : (l : Line) → is_owned l ≡ true → (l ≡ O) ⊎ (is_exclusive l ≡ true)
-owned_cases I h = inr h
-owned_cases S h = inr h
-owned_cases E h = inr refl
-owned_cases O h = inl refl
-owned_cases M h = inr refl
-
--- a shared line is not exclusive
-pub lowered_exclusive : (l : Line) → is_exclusive (lowered l) ≡ false
-lowered_exclusive I = refl
-lowered_exclusive S = refl
-lowered_exclusive E = refl
-lowered_exclusive O = refl
-lowered_exclusive M = refl
-
--- sharing leaves a line owned, or not
-pub lowered_owned : (l : Line) → is_owned (lowered l) ≡ is_owned l
-lowered_owned I = refl
-lowered_owned S = refl
-lowered_owned E = refl
-lowered_owned O = refl
-lowered_owned M = refl
-
--- sharing leaves a line valid, or not
-pub lowered_valid : (l : Line) → is_valid (lowered l) ≡ is_valid l
-lowered_valid I = refl
-lowered_valid S = refl
-lowered_valid E = refl
-lowered_valid O = refl
-lowered_valid M = refl
-
--- Copies
+use Rattle.moesi.specs.LineLaws.{not_supplier, not_valid, owned_cases, supplier_valid}
 
 -- no line is of a kind where the first is not and none behind it
-none_of : (kind : Line → Bool) (x : Cell) (xs : List Cell) → kind x.line ≡ false → ((c : ℕ) → kind (slice_index_or xs c invalid).line ≡ false)
+none_of : (kind : Line → Bool) (x : Cell) (xs : List Cell) → kind x.line ≡ false
+    → ((c : ℕ) → kind (slice_index_or xs c invalid).line ≡ false)
     → (c : ℕ) → kind (slice_index_or (x ∷ xs) c invalid).line ≡ false
 none_of kind x xs e h zero = e
 none_of kind x xs e h (suc c) = h c
@@ -101,14 +35,16 @@ all_invalid (suc n) zero = refl
 all_invalid (suc n) (suc c) = all_invalid n c
 
 -- without a copy each line is not valid
-pub no_copy : (xs : List Cell) → list_any (λ x. is_valid x.line) xs ≡ false → (c : ℕ) → is_valid (slice_index_or xs c invalid).line ≡ false
+pub no_copy : (xs : List Cell) → list_any (λ x. is_valid x.line) xs ≡ false → (c : ℕ)
+    → is_valid (slice_index_or xs c invalid).line ≡ false
 no_copy [] h c = refl
 no_copy (x ∷ xs) h zero = (or_parts _ _ h).0
 no_copy (x ∷ xs) h (suc c) = no_copy xs (or_parts _ _ h).1 c
 
 -- the lines of one address agree, and v is current
 pub record IsSettled (b : Block) (v : ℕ × Option ℕ) : Type 0 where
-  pub single : (c d : ℕ) → is_exclusive (cell_of b c).line ≡ true → c ≢ d → is_valid (cell_of b d).line ≡ false
+  pub single : (c d : ℕ) → is_exclusive (cell_of b c).line ≡ true → c ≢ d
+      → is_valid (cell_of b d).line ≡ false
   pub owned : (c d : ℕ) → is_owned (cell_of b c).line ≡ true → is_owned (cell_of b d).line ≡ true → c ≡ d
   pub copies : (c : ℕ) → is_valid (cell_of b c).line ≡ true → (cell_of b c).copy ≡ v
   pub clean : ((c : ℕ) → is_owned (cell_of b c).line ≡ false) → b.memory ≡ v
@@ -116,11 +52,14 @@ pub record IsSettled (b : Block) (v : ℕ × Option ℕ) : Type 0 where
 module _ (b : Block) (k : IsCoherentBlock b) where
   -- a valid line has the current data
   pub copy_is_current : (c : ℕ) → is_valid (cell_of b c).line ≡ true → (cell_of b c).copy ≡ current_of b
-  copy_is_current c h = sym (copy_where-is is_valid b.lines b.memory (cell_of b c).copy refl (λ d g. k.copies d c g h) (λ none. cc (h, none c)))
+  copy_is_current c h =
+      sym (copy_where-is is_valid b.lines b.memory (cell_of b c).copy refl (λ d g. k.copies d c g h)
+      (λ none. cc (h, none c)))
 
   -- without an owner memory has the current data
   memory_is_current : ((c : ℕ) → is_owned (cell_of b c).line ≡ false) → b.memory ≡ current_of b
-  memory_is_current none = sym (copy_where-is is_valid b.lines b.memory b.memory refl (λ d h. k.clean d h none) (λ _. refl))
+  memory_is_current none =
+      sym (copy_where-is is_valid b.lines b.memory b.memory refl (λ d h. k.clean d h none) (λ _. refl))
 
   -- at most one line is owned
   one_owned : (c d : ℕ) → is_owned (cell_of b c).line ≡ true → is_owned (cell_of b d).line ≡ true → c ≡ d
@@ -139,17 +78,20 @@ module _ (b : Block) (k : IsCoherentBlock b) where
 
   -- coherent lines agree on what is current
   pub settled_of : IsSettled b (current_of b)
-  settled_of = record { single = k.single; owned = one_owned; copies = copy_is_current; clean = memory_is_current }
+  settled_of =
+      record { single = k.single; owned = one_owned; copies = copy_is_current; clean = memory_is_current }
 
 module _ (b : Block) (v : ℕ × Option ℕ) (s : IsSettled b v) where
   -- a core that asks is given what is current
   pub supplied_settled : supplied b ≡ v
   supplied_settled =
-      copy_where-is supplies b.lines b.memory v refl (λ d h. s.copies d (supplier_valid _ h)) (λ none. s.clean (λ d. not_supplier _ (none d)))
+      copy_where-is supplies b.lines b.memory v refl (λ d h. s.copies d (supplier_valid _ h))
+      (λ none. s.clean (λ d. not_supplier _ (none d)))
 
   -- what the lines agree on is current
   pub current_settled : current_of b ≡ v
-  current_settled = copy_where-is is_valid b.lines b.memory v refl s.copies (λ none. s.clean (λ d. not_valid _ (none d)))
+  current_settled =
+      copy_where-is is_valid b.lines b.memory v refl s.copies (λ none. s.clean (λ d. not_valid _ (none d)))
 
   -- lines that agree are coherent
   pub coherent_settled : IsCoherentBlock b

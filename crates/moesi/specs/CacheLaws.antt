@@ -1,0 +1,225 @@
+-- Laws of the caches: coherence and current data of all addresses, call by call.
+use Rattle.std.proofs.Common.{◌≡◌, ◌≢◌, ◌<◌, ◌==◌, inl, inr, ℕ, true, cond, Option, Some, None}
+use Rattle.std.proofs.Common.{Result, Ok, Err, [], length, map, slice_index_or, slice_set, replicate, suc}
+use Rattle.std.proofs.Common.{zero, arith, refl, sym, ap, subst, ◌∙◌, get_or-set_other, get_or-set_same}
+use Rattle.std.proofs.Common.{length-set}
+use Rattle.std.proofs.lemmas.Bool.{cases_eq, eq-eqb, ne_eqb}
+use Rattle.std.proofs.lemmas.List.{length-map, length-replicate, get_or-replicate}
+use Rattle.moesi.specs.declared.error.CacheError.{CacheError}
+use Rattle.moesi.specs.Lines.{is_owned}
+use Rattle.moesi.specs.Block.{Block, invalid, opening_block}
+use Rattle.moesi.specs.Rows as row
+use Rattle.moesi.specs.State.{CacheState, opening_caches, block_of, current, at_address, get_s, get_m, put}
+use Rattle.moesi.specs.State.{read, write}
+use Rattle.moesi.specs.Coherent.{IsCoherent}
+use Rattle.moesi.specs.Laws.{IsTransaction, OpeningIsCoherent, EveryCallKeepsCoherence, EveryCopyIsCurrent}
+use Rattle.moesi.specs.Laws.{EveryReadIsCurrent, EveryTransactionKeepsCurrent, EveryWriteSetsCurrent}
+use Rattle.moesi.specs.RowLaws.{taken_else, taken_then}
+use Rattle.moesi.specs.BlockLaws.{IsSettled, settled_of, current_settled, coherent_settled, copy_is_current}
+use Rattle.moesi.specs.BlockLaws.{all_invalid}
+use Rattle.moesi.specs.RowLaws.{settled_get_s, settled_get_m, settled_put, settled_write}
+
+-- a block becomes u, with its lines in number, and w is current there
+record IsRenewed (b u : Block) (w : ℕ × Option ℕ) : Type 0 where
+  settled : IsSettled u w
+  lines : length u.lines ≡ length b.lines
+
+module _ (b : Block) (v : ℕ × Option ℕ) (s : IsSettled b v) (c : ℕ) (at : c < length b.lines) (u : Block)
+  where
+    -- GetS renews its block
+    renewed_get_s : row.get_s b c ≡ Ok u → IsRenewed b u v
+    renewed_get_s h =
+        let k = taken_else _ _ _ u h in
+        subst (λ (t : Block). IsRenewed b t v) k.1
+        (record {
+          settled = settled_get_s b v s c at k.0;
+          lines =
+              length-set (map row.shared b.lines) c _ ∙ length-map b.lines row.shared;
+        })
+
+    -- GetM renews its block
+    renewed_get_m : row.get_m b c ≡ Ok u → IsRenewed b u v
+    renewed_get_m h =
+        let k = taken_else _ _ _ u h in
+        subst (λ (t : Block). IsRenewed b t v) k.1
+        (record {
+          settled = settled_get_m b v s c at;
+          lines =
+              length-set (map row.invalidated b.lines) c _ ∙ length-map b.lines row.invalidated;
+        })
+
+    -- Put renews its block
+    renewed_put : row.put b c ≡ Ok u → IsRenewed b u v
+    renewed_put h =
+        let k = taken_then _ _ _ u h in
+        subst (λ (t : Block). IsRenewed b t v) k.1
+        (record { settled = settled_put b v s c at k.0; lines = length-set b.lines c invalid })
+
+    -- a write renews its block with its own data
+    renewed_write : (w : ℕ × Option ℕ) → row.write b c w ≡ Ok u → IsRenewed b u w
+    renewed_write w h =
+        let k = taken_then _ _ _ u h in
+        subst (λ (t : Block). IsRenewed b t w) k.1
+        (record { settled = settled_write b v s c at w k.0; lines = length-set b.lines c _ })
+
+-- all addresses agree, and at a it is w that is current
+pub record IsRenewedAt (s t : CacheState) (a : ℕ) (w : ℕ × Option ℕ) : Type 0 where
+  pub coherent : IsCoherent t
+  pub here : current t a ≡ w
+  pub elsewhere : (b : ℕ) → b ≢ a → current t b ≡ current s b
+
+-- a row that renews its block leaves the other addresses
+renewed_at : (s : CacheState) (a : ℕ) (r : Result Block CacheError) (t : CacheState) (w : ℕ × Option ℕ)
+    → IsCoherent s → a < length s.blocks
+    → ((u : Block) → r ≡ Ok u → IsRenewed (block_of s a) u w) → at_address s a r ≡ Ok t → IsRenewedAt s t a w
+renewed_at s a (Err e) t w k at new h = cc (h)
+renewed_at s a (Ok u) t w k at new h =
+    let none : Block = record { lines = []; memory = (0, None) } in
+    let n = new u refl in
+    let t0 : CacheState = record { cores = s.cores; blocks = slice_set s.blocks a u } in
+    let here : block_of t0 a ≡ u = get_or-set_same s.blocks a u none at in
+    let there : (b : ℕ) → b ≢ a → block_of t0 b ≡ block_of s b =
+    λ b ne. get_or-set_other s.blocks a b u none ne in
+    let e : t0 ≡ t = cc (h) in
+    subst (λ (x : CacheState). IsRenewedAt s x a w) e (record {
+      coherent = record {
+        lines = λ b l. elim (cases_eq b a) [
+          | inl ba ↦ ap (λ (i : ℕ). length (block_of t0 i).lines) ba
+              ∙ (ap (λ (x : Block). length x.lines) here ∙ (n.lines ∙ k.lines a at))
+          | inr bn ↦ ap (λ (x : Block). length x.lines) (there b bn)
+              ∙ k.lines b (omega (arith, l, length-set s.blocks a u))
+        ];
+        blocks = λ b. elim (cases_eq b a) [
+          | inl ba ↦ rw (ba, here) (coherent_settled u w n.settled)
+          | inr bn ↦ rw (there b bn) (k.blocks b)
+        ];
+      };
+      here = rw here (current_settled u w n.settled);
+      elsewhere = λ b bn. rw (there b bn) refl;
+    })
+
+module _ (s t : CacheState) (c a : ℕ) (k : IsCoherent s) (core : c < s.cores) (at : a < length s.blocks) where
+  -- the address has a line for the core
+  within : c < length (block_of s a).lines
+  within = omega (arith, core, k.lines a at)
+
+  -- the address agrees on what is current
+  now : IsSettled (block_of s a) (current s a)
+  now = settled_of (block_of s a) (k.blocks a)
+
+  -- GetS keeps all coherent, and what is current
+  pub get_s_kept : get_s s c a ≡ Ok t → IsRenewedAt s t a (current s a)
+  get_s_kept h =
+      renewed_at s a _ t (current s a) k at
+      (λ u g. renewed_get_s (block_of s a) (current s a) now c within u g) h
+
+  -- GetM does
+  pub get_m_kept : get_m s c a ≡ Ok t → IsRenewedAt s t a (current s a)
+  get_m_kept h =
+      renewed_at s a _ t (current s a) k at
+      (λ u g. renewed_get_m (block_of s a) (current s a) now c within u g) h
+
+  -- Put does
+  pub put_kept : put s c a ≡ Ok t → IsRenewedAt s t a (current s a)
+  put_kept h =
+      renewed_at s a _ t (current s a) k at (λ u g. renewed_put (block_of s a) (current s a) now c within u g)
+      h
+
+  -- a write keeps all coherent, and is current
+  pub write_kept : (value event : ℕ) → write s c a value event ≡ Ok t → IsRenewedAt s t a (value, Some event)
+  write_kept value event h =
+      renewed_at s a _ t (value, Some event) k at
+      (λ u g. renewed_write (block_of s a) (current s a) now c within u (value, Some event) g) h
+
+  -- each transaction keeps all coherent, and what is current
+  pub transaction_kept : IsTransaction s c a t → IsRenewedAt s t a (current s a)
+  transaction_kept (inl h) = get_s_kept h
+  transaction_kept (inr (inl h)) = get_m_kept h
+  transaction_kept (inr (inr h)) = put_kept h
+
+  -- no transaction changes what is current
+  pub transaction_current : (b : ℕ) → IsTransaction s c a t → current t b ≡ current s b
+  transaction_current b h =
+      let r = transaction_kept h in
+      elim (cases_eq b a) [ inl e ↦ rw e r.here | inr ne ↦ r.elsewhere b ne ]
+
+  -- a write changes what is current at its address alone
+  pub write_current : (value event b : ℕ) → write s c a value event ≡ Ok t
+      → current t b ≡ cond (b == a) (value, Some event) (current s b)
+  write_current value event b h =
+      let r = write_kept value event h in
+      elim (cases_eq b a) [
+        | inl e ↦ rw (eq-eqb b a e) (rw e r.here)
+        | inr ne ↦ rw (ne_eqb b a ne) (r.elsewhere b ne)
+      ]
+
+-- what is read is current
+pub read_current : (s : CacheState) (c a : ℕ) (copy : ℕ × Option ℕ) → IsCoherent s → read s c a ≡ Ok copy
+    → copy ≡ current s a
+read_current s c a copy k h =
+    let r = taken_then _ _ _ copy h in
+    sym r.1 ∙ copy_is_current (block_of s a) (k.blocks a) c r.0
+
+-- a block where no line is valid
+settled_opening : (cores : ℕ) → IsSettled (opening_block cores) (0, None)
+settled_opening cores =
+    let none : (c : ℕ) → slice_index_or (replicate cores invalid) c invalid ≡ invalid = all_invalid cores in
+    record {
+      single = λ c d h ne. rw (none d) refl;
+      owned = λ c d h g. let off : is_owned invalid.line ≡ true = rw (none c) at h in cc (off);
+      copies = λ c h. rw (none c) refl;
+      clean = λ h. refl;
+    }
+
+-- at first all is coherent, and 0 is current
+pub opening_coherent : (cores addresses : ℕ)
+    → IsCoherent (opening_caches cores addresses)
+    × ((a : ℕ) → current (opening_caches cores addresses) a ≡ (0, None))
+opening_coherent cores addresses =
+    let first : Block = opening_block cores in
+    let none : Block = record { lines = []; memory = (0, None) } in
+    let each : (a : ℕ) → IsSettled (block_of (opening_caches cores addresses) a) (0, None) =
+    λ a. replicated addresses first none (λ b. IsSettled b (0, None)) (settled_opening cores)
+    (settled_opening 0) a in (
+      record {
+        lines = λ a h. ap (λ (b : Block). length b.lines)
+            (get_or-replicate addresses a first none (omega (arith, h, length-replicate addresses first)))
+            ∙ length-replicate cores invalid;
+        blocks = λ a. coherent_settled _ (0, None) (each a);
+      },
+      λ a. current_settled _ (0, None) (each a),
+    )
+  where
+    replicated : (n : ℕ) (x d : Block) (P : Block → Type 0) → P x → P d → (a : ℕ)
+        → P (slice_index_or (replicate n x) a d)
+    replicated zero x d P p q a = q
+    replicated (suc n) x d P p q zero = p
+    replicated (suc n) x d P p q (suc a) = replicated n x d P p q a
+
+-- the laws of `Laws`: the opening
+pub opening_is_coherent : OpeningIsCoherent
+opening_is_coherent = opening_coherent
+
+-- transactions and writes
+pub every_call_keeps_coherence : EveryCallKeepsCoherence
+every_call_keeps_coherence s t c a value event k core at (inl made) =
+    (transaction_kept s t c a k core at made).coherent
+every_call_keeps_coherence s t c a value event k core at (inr wrote) =
+    (write_kept s t c a k core at value event wrote).coherent
+
+-- valid lines
+pub every_copy_is_current : EveryCopyIsCurrent
+every_copy_is_current s c a k h = copy_is_current (block_of s a) (k.blocks a) c h
+
+-- reads
+pub every_read_is_current : EveryReadIsCurrent
+every_read_is_current = read_current
+
+-- transactions
+pub every_transaction_keeps_current : EveryTransactionKeepsCurrent
+every_transaction_keeps_current s t c a b k core at made = transaction_current s t c a k core at b made
+
+-- writes
+pub every_write_sets_current : EveryWriteSetsCurrent
+every_write_sets_current s t c a value event b k core at wrote =
+    write_current s t c a k core at value event b wrote
