@@ -21,7 +21,8 @@ pub record IsAsLarge (s t : CacheState) : Type 0 where
   pub blocks : length t.blocks ≡ length s.blocks
 
 -- a row at one address keeps their number
-at_address_large : (s t : CacheState) (a : ℕ) (r : Result Block CacheError) → at_address s a r ≡ Ok t → IsAsLarge s t
+at_address_large : (s t : CacheState) (a : ℕ) (r : Result Block CacheError) → at_address s a r ≡ Ok t
+    → IsAsLarge s t
 at_address_large s t a (Err e) h = cc (h)
 at_address_large s t a (Ok b) h =
     let one : record { cores = s.cores; blocks = slice_set s.blocks a b } ≡ t = cc (h) in
@@ -46,7 +47,8 @@ any_large s t c a (inl h) = transaction_large s t c a h
 any_large s t c a (inr h) = at_address_large s t a _ h
 
 -- what is read is a valid line's
-pub read_is : (s : CacheState) (c a : ℕ) (copy : ℕ × Option ℕ) → read s c a ≡ Ok copy → IsTrue (is_valid (line_of s c a)) × (copy_of s c a ≡ copy)
+pub read_is : (s : CacheState) (c a : ℕ) (copy : ℕ × Option ℕ) → read s c a ≡ Ok copy
+    → IsTrue (is_valid (line_of s c a)) × (copy_of s c a ≡ copy)
 read_is s c a copy h = taken_then _ _ _ copy h
 
 -- what is read is there
@@ -56,43 +58,53 @@ read_has s c a copy h =
     inr (c, r.0, r.1)
 
 -- a row that changes an address was allowed
-at_one : (s t : CacheState) (a : ℕ) (r : Result Block CacheError) → at_address s a r ≡ Ok t → (u : Block) × (r ≡ Ok u)
+at_one : (s t : CacheState) (a : ℕ) (r : Result Block CacheError) → at_address s a r ≡ Ok t
+    → (u : Block) × (r ≡ Ok u)
 at_one s t a (Ok u) h = (u, refl)
 at_one s t a (Err e) h = cc (h)
 
 -- a line that may be written
-written_exclusive : (s t : CacheState) (c a value event : ℕ) → write s c a value event ≡ Ok t → is_exclusive (line_of s c a) ≡ true
+written_exclusive : (s t : CacheState) (c a value event : ℕ) → write s c a value event ≡ Ok t
+    → is_exclusive (line_of s c a) ≡ true
 written_exclusive s t c a value event h =
     let wrote = at_one s t a (row.write (block_of s a) c (value, Some event)) h in
     (taken_then _ _ _ wrote.0 wrote.1).0
 
 -- a line that may be written may be read
-pub written_read : (s t : CacheState) (c a value event : ℕ) → write s c a value event ≡ Ok t → read s c a ≡ Ok (copy_of s c a)
-written_read s t c a value event h = rw (exclusive_valid (line_of s c a) (written_exclusive s t c a value event h)) refl
+pub written_read : (s t : CacheState) (c a value event : ℕ) → write s c a value event ≡ Ok t
+    → read s c a ≡ Ok (copy_of s c a)
+written_read s t c a value event h =
+    rw (exclusive_valid (line_of s c a) (written_exclusive s t c a value event h)) refl
 
 -- a line that may not be read may not be written
-pub unread_unwritten : (s : CacheState) (c a value event : ℕ) (e : CacheError) → read s c a ≡ Err e → write s c a value event ≡ Err C4
+pub unread_unwritten : (s : CacheState) (c a value event : ℕ) (e : CacheError) → read s c a ≡ Err e
+    → write s c a value event ≡ Err C4
 unread_unwritten s c a value event e h = go (is_exclusive (line_of s c a)) refl
   where
     valid : is_exclusive (line_of s c a) ≡ true → read s c a ≡ Ok (copy_of s c a)
     valid k = rw (exclusive_valid (line_of s c a) k) refl
 
     go : (b : Bool) → is_exclusive (line_of s c a) ≡ b → write s c a value event ≡ Err C4
-    go true is = absurd (let clash : (let r : Result (ℕ × Option ℕ) CacheError = Ok (copy_of s c a) in r) ≡ Err e = sym (valid is) ∙ h in cc)
+    go true is =
+        absurd (let clash : (let r : Result (ℕ × Option ℕ) CacheError = Ok (copy_of s c a) in r) ≡ Err e =
+        sym (valid is) ∙ h in cc)
     go false is = rw is refl
 
 -- at first 0 with no event is there, and nothing else
-pub opening_has : (cores addresses a : ℕ) (copy : ℕ × Option ℕ) → Has (opening_caches cores addresses) a copy → copy ≡ (0, None)
+pub opening_has : (cores addresses a : ℕ) (copy : ℕ × Option ℕ) → Has (opening_caches cores addresses) a copy
+    → copy ≡ (0, None)
 opening_has cores addresses a copy h = replicated addresses a h
   where
     none : Block
     none = record { lines = []; memory = (0, None) }
 
-    has_none : (n : ℕ) → HasBlock (record { lines = replicate n invalid; memory = (0, None) }) copy → copy ≡ (0, None)
+    has_none : (n : ℕ) → HasBlock (record { lines = replicate n invalid; memory = (0, None) }) copy
+        → copy ≡ (0, None)
     has_none n (inl m) = sym m
     has_none n (inr k) = let off : is_valid invalid.line ≡ true = rw (all_invalid n k.0) at k.1 in cc (off)
 
-    replicated : (n i : ℕ) → HasBlock (slice_index_or (replicate n (opening_block cores)) i none) copy → copy ≡ (0, None)
+    replicated : (n i : ℕ) → HasBlock (slice_index_or (replicate n (opening_block cores)) i none) copy
+        → copy ≡ (0, None)
     replicated zero i k = has_none 0 k
     replicated (suc n) zero k = has_none cores k
     replicated (suc n) (suc i) k = replicated n i k

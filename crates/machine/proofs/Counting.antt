@@ -22,19 +22,25 @@ counted_kept p s t b counted step = record { listed = listed; executed = execute
     listed : (e : ℕ) → e < p.count → e < t.next (p.core e) → times (seen t (p.core e)) e ≡ 1
     listed e event done = elim (cases_eq e b) [
       | inl same ↦ subst (λ (z : ℕ). times (seen t (p.core z)) z ≡ 1) (sym same) step.b_once
-      | inr other ↦ omega (arith, step.others (p.core e) e other, counted.listed e event (step.next e other done))
+      | inr other ↦ omega (
+        arith,
+        step.others (p.core e) e other,
+        counted.listed e event (step.next e other done),
+      )
     ]
 
     executed : (c e : ℕ) → 0 < times (seen t c) e → (e < p.count) × (e < t.next (p.core e))
     executed c e there = elim (cases_eq e b) [
       | inl same ↦ subst (λ (z : ℕ). (z < p.count) × (z < t.next (p.core z))) (sym same) step.b_event
       | inr other ↦
-          let was : (e < p.count) × (e < s.next (p.core e)) = counted.executed c e (omega (arith, step.others c e other, there)) in
+          let was : (e < p.count) × (e < s.next (p.core e)) =
+          counted.executed c e (omega (arith, step.others c e other, there)) in
           (was.0, omega (arith, was.1, step.next_grows (p.core e)))
     ]
 
 -- where core's next event is executed, no other event is executed with it
-next_step : (p : Static) (s t : Snapshot) (b : ℕ) → s.next (p.core b) ≡ b → t.next (p.core b) ≡ b + 1 → ((d : ℕ) → d ≢ p.core b → t.next d ≡ s.next d)
+next_step : (p : Static) (s t : Snapshot) (b : ℕ) → s.next (p.core b) ≡ b → t.next (p.core b) ≡ b + 1
+    → ((d : ℕ) → d ≢ p.core b → t.next d ≡ s.next d)
     → ((e : ℕ) → e ≢ b → e < t.next (p.core e) → e < s.next (p.core e))
 next_step p s t b old new others e eb done = elim (cases_eq (p.core e) (p.core b)) [
   | inl one ↦
@@ -44,7 +50,8 @@ next_step p s t b old new others e eb done = elim (cases_eq (p.core e) (p.core b
 ]
 
 -- no core goes back
-next_up : (p : Static) (s t : Snapshot) (b : ℕ) → s.next (p.core b) ≡ b → t.next (p.core b) ≡ b + 1 → ((d : ℕ) → d ≢ p.core b → t.next d ≡ s.next d) → (c : ℕ) → s.next c ≤ t.next c
+next_up : (p : Static) (s t : Snapshot) (b : ℕ) → s.next (p.core b) ≡ b → t.next (p.core b) ≡ b + 1
+    → ((d : ℕ) → d ≢ p.core b → t.next d ≡ s.next d) → (c : ℕ) → s.next c ≤ t.next c
 next_up p s t b old new others c = elim (cases_eq c (p.core b)) [
   | inl one ↦ subst (λ (z : ℕ). s.next z ≤ t.next z) (sym one) (omega (arith, old, new))
   | inr other ↦ omega (arith, others c other)
@@ -106,15 +113,25 @@ issue_counts p s t b counted i = record {
     waiting d e there = elim (cases_eq e b) [
       | inl is_b ↦ elim (cases_eq d (p.core b)) [
         | inl own ↦ (ap p.core is_b ∙ sym own, ap p.store is_b ∙ i.store)
-        | inr other ↦ counted.waiting d e (omega (arith, there, ap (λ (q : List ℕ). times q e) (i.others d other)))
+        | inr other ↦ counted.waiting d e (omega
+            (arith, there, ap (λ (q : List ℕ). times q e) (i.others d other)))
       ]
       | inr old ↦ elim (cases_eq d (p.core b)) [
         | inl own ↦
-            let at_own : 0 < times (t.buffer (p.core b)) e = subst (λ (z : ℕ). 0 < times (t.buffer z) e) own there in
+            let at_own : 0 < times (t.buffer (p.core b)) e =
+            subst (λ (z : ℕ). 0 < times (t.buffer z) e) own there in
             let was : (p.core e ≡ p.core b) × (p.store e ≡ true) = counted.waiting (p.core b) e
-            (omega (arith, at_own, ap (λ (q : List ℕ). times q e) i.buffer, times_append (s.buffer (p.core b)) (b ∷ []) e, times_there [] b e (λ z. old (sym z)), times_nil e)) in
+            (omega (
+              arith,
+              at_own,
+              ap (λ (q : List ℕ). times q e) i.buffer,
+              times_append (s.buffer (p.core b)) (b ∷ []) e,
+              times_there [] b e (λ z. old (sym z)),
+              times_nil e,
+            )) in
             (was.0 ∙ sym own, was.1)
-        | inr other ↦ counted.waiting d e (omega (arith, there, ap (λ (q : List ℕ). times q e) (i.others d other)))
+        | inr other ↦ counted.waiting d e (omega
+            (arith, there, ap (λ (q : List ℕ). times q e) (i.others d other)))
       ]
     ]
 
@@ -134,9 +151,16 @@ perform_counts p s t b counted i = record {
   others = λ d e eb. omega (arith, seen_more d e, times_there [] b e (λ z. eb (sym z)), times_nil e);
   next = next_step p s t b i.next_was i.next i.next_others;
   next_grows = next_up p s t b i.next_was i.next i.next_others;
-  waiting = λ d e there. counted.waiting d e (omega (arith, there, ap (λ (q : List ℕ). times q e) (i.buffer d)));
+  waiting = λ d e there. counted.waiting d e
+      (omega (arith, there, ap (λ (q : List ℕ). times q e) (i.buffer d)));
   b_event = (i.event, omega (arith, i.next));
-  b_once = omega (arith, seen_more (p.core b) b, not_seen p s counted b (p.core b) (omega (arith, i.next_was)), times_here [] b b refl, times_nil b);
+  b_once = omega (
+    arith,
+    seen_more (p.core b) b,
+    not_seen p s counted b (p.core b) (omega (arith, i.next_was)),
+    times_here [] b b refl,
+    times_nil b,
+  );
 }
   where
     seen_more : (d e : ℕ) → times (seen t d) e ≡ times (seen s d) e + times (b ∷ []) e
@@ -160,9 +184,11 @@ pub record Drains (p : Static) (s t : Snapshot) (c b : ℕ) (front : List ℕ) :
   pub source : (e : ℕ) → t.source e ≡ s.source e
   pub reads : p.reads b ≡ None
 
-module _ (p : Static) (s t : Snapshot) (c b : ℕ) (front : List ℕ) (counted : IsCounted p s) (i : Drains p s t c b front) where
+module _ (p : Static) (s t : Snapshot) (c b : ℕ) (front : List ℕ) (counted : IsCounted p s)
+    (i : Drains p s t c b front) where
   -- how often an event stands in core c's order, before and after
-  times_was : (e : ℕ) → times (seen s c) e ≡ times s.performed e + times front e + times (b ∷ []) e + times i.back e
+  times_was : (e : ℕ) → times (seen s c) e
+      ≡ times s.performed e + times front e + times (b ∷ []) e + times i.back e
   times_was e = omega (
     arith,
     times_append s.performed (s.buffer c) e,
@@ -189,7 +215,13 @@ module _ (p : Static) (s t : Snapshot) (c b : ℕ) (front : List ℕ) (counted :
 
   -- it waited
   pub drain_waits : 0 < times (s.buffer c) b
-  drain_waits = omega (arith, ap (λ (q : List ℕ). times q b) i.was, times_append front (b ∷ i.back) b, times_here i.back b b refl)
+  drain_waits =
+      omega (
+        arith,
+        ap (λ (q : List ℕ). times q b) i.was,
+        times_append front (b ∷ i.back) b,
+        times_here i.back b b refl,
+      )
 
   -- it is of that core
   pub drain_core : p.core b ≡ c
@@ -237,5 +269,6 @@ module _ (p : Static) (s t : Snapshot) (c b : ℕ) (front : List ℕ) (counted :
       | inr other ↦ counted.waiting d e (omega (arith, h, ap (λ (q : List ℕ). times q e) (i.others d other)))
     ];
     b_event = (drain_event.0, omega (arith, drain_event.1, i.next (p.core b)));
-    b_once = subst (λ (z : ℕ). times (seen t z) b ≡ 1) (sym drain_core) (omega (arith, times_is b, subst (λ (z : ℕ). times (seen s z) b ≡ 1) drain_core drain_once));
+    b_once = subst (λ (z : ℕ). times (seen t z) b ≡ 1) (sym drain_core)
+        (omega (arith, times_is b, subst (λ (z : ℕ). times (seen s z) b ≡ 1) drain_core drain_once));
   }

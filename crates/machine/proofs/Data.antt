@@ -1,4 +1,5 @@
--- Each value in a line, in memory, in a buffer or read is one that an executed write of its address wrote, so a complete state's recording is well formed.
+-- Each value in a line, in memory, in a buffer or read is one that an executed write of its address
+-- wrote, so a complete state's recording is well formed.
 use Rattle.std.proofs.Common.{◌≡◌, ◌≢◌, ◌<◌, ◌≤◌, ◌+◌, ◌⊎◌, inl, inr, ℕ, Bool, true, cond, Option, Some, None}
 use Rattle.std.proofs.Common.{Ok, List, [], ◌∷◌, ◌++◌, map, length, get_or, slice_set, arith, refl, sym, ap}
 use Rattle.std.proofs.Common.{subst, ◌∙◌, get_or-set_same, get_or-set_other}
@@ -20,7 +21,7 @@ use Rattle.write_buffer.specs.Buffer.{youngest, or_else}
 use Rattle.machine.specs.declared.step.Step.{Step}
 use Rattle.moesi.specs.State as moesi
 use Rattle.moesi.specs.Laws.{IsAnyTransaction}
-use Rattle.moesi.specs.OriginLaws.{any_copy_was_there, write_adds}
+use Rattle.moesi.specs.OriginLaws.{every_copy_was_there, every_write_adds_itself}
 use Rattle.machine.specs.declared.fault.Fault.{Fault}
 use Rattle.machine.specs.Faults.{forwarded}
 use Rattle.machine.specs.State.{State, place_of, buffer_of, line_copy, event_of, recorded, opening}
@@ -39,12 +40,15 @@ use Rattle.machine.proofs.Rows.{IsKept, IsRmw, stored_state, loaded_state, fence
 use Rattle.machine.proofs.Steady.{IsSteady, next_within, drain_steady, store_steady, load_steady}
 use Rattle.machine.proofs.Steady.{fence_steady, rmw_steady, transact_steady}
 use Rattle.machine.proofs.Opening.{get_or_same, opening_steady}
-use Rattle.machine.proofs.Complete.{event_is, list_is, writes_is, reads_is, complete_listed}
+use Rattle.machine.specs.RecordedLaws.{event_is}
+use Rattle.machine.proofs.Complete.{list_is, writes_is, reads_is, complete_listed}
 
 -- the value is the initial one, or the source is an executed write of it to the address
 abbrev pub IsGiven : List (List Op) → State → ℕ → Option ℕ → ℕ → Type 0
 IsGiven p s a None v = v ≡ 0
-IsGiven p s a (Some w) v = (w < (snapshot_of p s).next ((static_of p s).core w)) × (written_address (done_by p s w) ≡ Some a) × (value_written (done_by p s w) ≡ v)
+IsGiven p s a (Some w) v =
+    (w < (snapshot_of p s).next ((static_of p s).core w)) × (written_address (done_by p s w) ≡ Some a)
+    × (value_written (done_by p s w) ≡ v)
 
 -- a pair of a value and its source is given
 abbrev pub IsPairGiven : List (List Op) → State → ℕ → ℕ × Option ℕ → Type 0
@@ -57,19 +61,30 @@ pub record IsData (p : List (List Op)) (s : State) : Type 0 where
   pub reads : (e a : ℕ) → op_reads (placed_op p e).1 ≡ Some a → IsPairGiven p s a (get_or s.reads e (0, None))
 
 -- an event that is executed now changes nothing that others gave
-given_kept : (p : List (List Op)) (s t : State) (b : ℕ) → (snapshot_of p s).next ((static_of p s).core b) ≡ b → ((e : ℕ) → e ≢ b → get_or t.reads e (0, None) ≡ get_or s.reads e (0, None))
-    → ((c : ℕ) → place_of s c ≤ place_of t c) → (a : ℕ) (o : Option ℕ) (v : ℕ) → IsGiven p s a o v → IsGiven p t a o v
+given_kept : (p : List (List Op)) (s t : State) (b : ℕ) → (snapshot_of p s).next ((static_of p s).core b) ≡ b
+    → ((e : ℕ) → e ≢ b → get_or t.reads e (0, None) ≡ get_or s.reads e (0, None))
+    → ((c : ℕ) → place_of s c ≤ place_of t c) → (a : ℕ) (o : Option ℕ) (v : ℕ) → IsGiven p s a o v
+    → IsGiven p t a o v
 given_kept p s t b new same up a None v h = h
 given_kept p s t b new same up a (Some w) v h =
-    let other : w ≢ b = λ is. omega (arith, h.0, ap (λ (e : ℕ). (snapshot_of p s).next ((static_of p s).core e)) is, new, is) in
-    let does : done_by p t w ≡ done_by p s w = ap (event_of (placed_op p w).1) (same w other) in
-    (omega (arith, h.0, up ((static_of p s).core w)), ap written_address does ∙ h.1, ap value_written does ∙ h.2)
+    let other : w ≢ b =
+    λ is. omega (arith, h.0, ap (λ (e : ℕ). (snapshot_of p s).next ((static_of p s).core e)) is, new, is)
+    in
+    let does : done_by p t w ≡ done_by p s w = ap (event_of (placed_op p w).1) (same w other) in (
+      omega (arith, h.0, up ((static_of p s).core w)),
+      ap written_address does ∙ h.1,
+      ap value_written does
+          ∙ h.2,
+    )
 
 -- an event that wrote, executed as far as t goes
-written_given : (p : List (List Op)) (t : State) (w c a v : ℕ) (op : Op) → placed_op p w ≡ (c, op) → w < (snapshot_of p t).next c
-    → written_address (event_of op (get_or t.reads w (0, None))) ≡ Some a → value_written (event_of op (get_or t.reads w (0, None))) ≡ v → IsGiven p t a (Some w) v
+written_given : (p : List (List Op)) (t : State) (w c a v : ℕ) (op : Op) → placed_op p w ≡ (c, op)
+    → w < (snapshot_of p t).next c
+    → written_address (event_of op (get_or t.reads w (0, None))) ≡ Some a
+    → value_written (event_of op (get_or t.reads w (0, None))) ≡ v → IsGiven p t a (Some w) v
 written_given p t w c a v op is executed address value =
-    let does : done_by p t w ≡ event_of op (get_or t.reads w (0, None)) = ap (λ (z : ℕ × Op). event_of z.1 (get_or t.reads w (0, None))) is in (
+    let does : done_by p t w ≡ event_of op (get_or t.reads w (0, None)) =
+    ap (λ (z : ℕ × Op). event_of z.1 (get_or t.reads w (0, None))) is in (
       subst (λ (k : ℕ). w < (snapshot_of p t).next k) (sym (ap (λ (z : ℕ × Op). z.0) is)) executed,
       ap written_address does ∙ address,
       ap value_written does ∙ value,
@@ -80,66 +95,104 @@ some_entry : {u v : Entry} → Some u ≡ Some v → u ≡ v
 some_entry h = cc
 
 -- the youngest entry of an address is a store to it that waits
-youngest_is : (p : List (List Op)) (c : ℕ) (b : List Entry) (a : ℕ) (y : Entry) → AreStores p c b → youngest b a ≡ Some y
+youngest_is : (p : List (List Op)) (c : ℕ) (b : List Entry) (a : ℕ) (y : Entry) → AreStores p c b
+    → youngest b a ≡ Some y
     → (placed_op p y.event ≡ (c, St a y.value)) × (0 < times (map (λ (x : Entry). x.event) b) y.event)
 youngest_is p c [] a y stores is = absurd cc
-youngest_is p c (x ∷ xs) a y stores is = go (λ later. youngest_is p c xs a y stores.1 later) (youngest xs a) refl is
+youngest_is p c (x ∷ xs) a y stores is =
+    go (λ later. youngest_is p c xs a y stores.1 later) (youngest xs a) refl is
   where
-    more : 0 < times (map (λ (z : Entry). z.event) xs) y.event → 0 < times (map (λ (z : Entry). z.event) (x ∷ xs)) y.event
+    more : 0 < times (map (λ (z : Entry). z.event) xs) y.event
+        → 0 < times (map (λ (z : Entry). z.event) (x ∷ xs)) y.event
     more h = omega (arith, h, times_append (x.event ∷ []) (map (λ (z : Entry). z.event) xs) y.event)
 
-    go : (youngest xs a ≡ Some y → (placed_op p y.event ≡ (c, St a y.value)) × (0 < times (map (λ (z : Entry). z.event) xs) y.event))
-        → (found : Option Entry) → youngest xs a ≡ found → or_else found (cond (x.addr == a) (Some x) None) ≡ Some y
-        → (placed_op p y.event ≡ (c, St a y.value)) × (0 < times (map (λ (z : Entry). z.event) (x ∷ xs)) y.event)
+    go : (youngest xs a ≡ Some y → (placed_op p y.event ≡ (c, St a y.value))
+        × (0 < times (map (λ (z : Entry). z.event) xs) y.event))
+        → (found : Option Entry) → youngest xs a ≡ found
+        → or_else found (cond (x.addr == a) (Some x) None) ≡ Some y
+        → (placed_op p y.event ≡ (c, St a y.value))
+        × (0 < times (map (λ (z : Entry). z.event) (x ∷ xs)) y.event)
     go later (Some z) at one = ((later (at ∙ one)).0, more (later (at ∙ one)).1)
     go later None at one = elim (cases_eq x.addr a) [
       | inl here ↦
-          let same_as : x ≡ y = some_entry (subst (λ (t : Bool). cond t (Some x) None ≡ Some y) (eq-eqb x.addr a here) one) in (
-            subst (λ (z : Entry). placed_op p z.event ≡ (c, St a z.value)) same_as (stores.0 ∙ ap (λ (k : ℕ). (c, St k x.value)) here),
-            omega (arith, times_here (map (λ (z : Entry). z.event) xs) x.event y.event (ap (λ (z : Entry). z.event) same_as)),
+          let same_as : x ≡ y =
+          some_entry (subst (λ (t : Bool). cond t (Some x) None ≡ Some y) (eq-eqb x.addr a here) one) in (
+            subst (λ (z : Entry). placed_op p z.event ≡ (c, St a z.value)) same_as
+                (stores.0 ∙ ap (λ (k : ℕ). (c, St k x.value)) here),
+            omega (
+              arith,
+              times_here (map (λ (z : Entry). z.event) xs) x.event y.event
+                  (ap (λ (z : Entry). z.event) same_as),
+            ),
           )
-      | inr other ↦ absurd (let clash : None ≡ Some y = subst (λ (t : Bool). cond t (Some x) None ≡ Some y) (not_equal x.addr a other) one in cc)
+      | inr other ↦ absurd (let clash : None ≡ Some y =
+          subst (λ (t : Bool). cond t (Some x) None ≡ Some y) (not_equal x.addr a other) one in cc)
     ]
 
 module _ (p : List (List Op)) (s : State) (d : IsData p s) where
   -- what waits was executed
-  executed_in : (c e : ℕ) → 0 < times (map (λ (x : Entry). x.event) (buffer_of s c)) e → e < (snapshot_of p s).next ((static_of p s).core e)
-  executed_in c e there = (d.steady.counted.executed c e (omega (arith, there, times_append s.performed (map (λ (x : Entry). x.event) (buffer_of s c)) e))).1
+  executed_in : (c e : ℕ) → 0 < times (map (λ (x : Entry). x.event) (buffer_of s c)) e
+      → e < (snapshot_of p s).next ((static_of p s).core e)
+  executed_in c e there =
+      (d.steady.counted.executed c e (omega
+      (arith, there, times_append s.performed (map (λ (x : Entry). x.event) (buffer_of s c)) e))).1
 
   -- a waiting store was executed as far as its core goes
-  waits_executed : (c : ℕ) (x : Entry) → placed_op p x.event ≡ (c, St x.addr x.value) → 0 < times (map (λ (y : Entry). y.event) (buffer_of s c)) x.event → x.event < (snapshot_of p s).next c
-  waits_executed c x op there = subst (λ (k : ℕ). x.event < (snapshot_of p s).next k) (ap (λ (z : ℕ × Op). z.0) op) (executed_in c x.event there)
+  waits_executed : (c : ℕ) (x : Entry) → placed_op p x.event ≡ (c, St x.addr x.value)
+      → 0 < times (map (λ (y : Entry). y.event) (buffer_of s c)) x.event → x.event < (snapshot_of p s).next c
+  waits_executed c x op there =
+      subst (λ (k : ℕ). x.event < (snapshot_of p s).next k) (ap (λ (z : ℕ × Op). z.0) op)
+      (executed_in c x.event there)
 
   -- what a load gets is given
-  loaded_given : (f : Fault) (c a : ℕ) (what : ℕ × Option ℕ) → looked_up f s c a ≡ Ok what → IsPairGiven p s a what
+  loaded_given : (f : Fault) (c a : ℕ) (what : ℕ × Option ℕ) → looked_up f s c a ≡ Ok what
+      → IsPairGiven p s a what
   loaded_given f c a what = go (forwarded f (buffer_of s c) a) refl
     where
-      go : (o : Option Entry) → forwarded f (buffer_of s c) a ≡ o → forwarded_or_read o (moesi.read s.caches c a) ≡ Ok what → IsPairGiven p s a what
+      go : (o : Option Entry) → forwarded f (buffer_of s c) a ≡ o
+          → forwarded_or_read o (moesi.read s.caches c a) ≡ Ok what → IsPairGiven p s a what
       go None is got = d.copies a what (read_has s.caches c a what got)
       go (Some y) is got =
-          let at = youngest_is p c (buffer_of s c) a y (d.steady.stores c) (forwarded_youngest f (buffer_of s c) a y is) in
+          let at = youngest_is p c (buffer_of s c) a y (d.steady.stores c)
+          (forwarded_youngest f (buffer_of s c) a y is) in
           subst (λ (z : ℕ × Option ℕ). IsPairGiven p s a z) (pair_one (y.value, Some y.event) what got)
-          (written_given p s y.event c a y.value (St a y.value) at.0 (subst (λ (k : ℕ). y.event < (snapshot_of p s).next k) (ap (λ (z : ℕ × Op). z.0) at.0) (executed_in c y.event at.1)) refl refl)
+          (written_given p s y.event c a y.value (St a y.value) at.0
+          (subst (λ (k : ℕ). y.event < (snapshot_of p s).next k) (ap (λ (z : ℕ × Op). z.0) at.0)
+          (executed_in c y.event at.1)) refl refl)
 
   -- caches where one address was written by an event that gave its value
-  copies_given : (t : State) (caches : moesi.CacheState) (c a b v : ℕ) → moesi.write s.caches c a v b ≡ Ok caches → IsGiven p t a (Some b) v
+  copies_given : (t : State) (caches : moesi.CacheState) (c a b v : ℕ)
+      → moesi.write s.caches c a v b ≡ Ok caches → IsGiven p t a (Some b) v
       → ((k : ℕ) (copy : ℕ × Option ℕ) → moesi.Has s.caches k copy → IsPairGiven p t k copy)
       → (k : ℕ) (copy : ℕ × Option ℕ) → moesi.Has caches k copy → IsPairGiven p t k copy
-  copies_given t caches c a b v wrote gave old k copy h = elim (write_adds s.caches caches c a k copy v b wrote h) [
-    | inl was ↦ old k copy was
-    | inr new ↦ subst (λ (z : ℕ). IsPairGiven p t z copy) (sym new.0) (subst (λ (z : ℕ × Option ℕ). IsPairGiven p t a z) (sym new.1) gave)
-  ]
+  copies_given t caches c a b v wrote gave old k copy h =
+      elim (every_write_adds_itself s.caches caches c a v b k copy wrote h) [
+        | inl was ↦ old k copy was
+        | inr new ↦ subst (λ (z : ℕ). IsPairGiven p t z copy) (sym new.0)
+            (subst (λ (z : ℕ × Option ℕ). IsPairGiven p t a z) (sym new.1) gave)
+      ]
 
   -- a drain keeps the data
-  drain_data : (caches : moesi.CacheState) (c : ℕ) (x : Entry) (front back : List Entry) → c < length p → buffer_of s c ≡ front ++ x ∷ back
-      → moesi.write s.caches c x.addr x.value x.event ≡ Ok caches → IsData p (drained_state s caches c x (front ++ back))
+  drain_data : (caches : moesi.CacheState) (c : ℕ) (x : Entry) (front back : List Entry) → c < length p
+      → buffer_of s c ≡ front ++ x ∷ back
+      → moesi.write s.caches c x.addr x.value x.event ≡ Ok caches
+      → IsData p (drained_state s caches c x (front ++ back))
   drain_data caches c x front back at is wrote =
-      let here = stores_out p c front x back (subst (λ (b : List Entry). AreStores p c b) is (d.steady.stores c)) in
+      let here = stores_out p c front x back
+      (subst (λ (b : List Entry). AreStores p c b) is (d.steady.stores c)) in
       let waits : 0 < times (map (λ (y : Entry). y.event) (buffer_of s c)) x.event =
       subst (λ (b : List Entry). 0 < times (map (λ (y : Entry). y.event) b) x.event) (sym is)
-      (subst (λ (l : List ℕ). 0 < times l x.event) (sym (map-append (λ (y : Entry). y.event) front (x ∷ back)))
-      (omega (arith, times_append (map (λ (y : Entry). y.event) front) (x.event ∷ map (λ (y : Entry). y.event) back) x.event, times_here (map (λ (y : Entry). y.event) back) x.event x.event refl))) in
-      let gave : IsGiven p s x.addr (Some x.event) x.value = written_given p s x.event c x.addr x.value (St x.addr x.value) here.0 (waits_executed c x here.0 waits) refl refl in
+      (subst (λ (l : List ℕ). 0 < times l x.event)
+      (sym (map-append (λ (y : Entry). y.event) front (x ∷ back)))
+      (omega (
+        arith,
+        times_append (map (λ (y : Entry). y.event) front)
+            (x.event ∷ map (λ (y : Entry). y.event) back) x.event,
+        times_here (map (λ (y : Entry). y.event) back) x.event x.event refl,
+      ))) in
+      let gave : IsGiven p s x.addr (Some x.event) x.value =
+      written_given p s x.event c x.addr x.value (St x.addr x.value) here.0
+      (waits_executed c x here.0 waits) refl refl in
       record {
         steady = drain_steady p s d.steady caches c x front back at is wrote;
         copies = copies_given s caches c x.addr x.event x.value wrote gave d.copies;
@@ -154,14 +207,18 @@ module _ (p : List (List Op)) (s : State) (d : IsData p s) where
     -- no core goes back
     up : (k : ℕ) → place_of s k ≤ get_or (slice_set s.places c (place_of s c + 1)) k 0
     up k = elim (cases_eq k c) [
-      | inl same ↦ subst (λ (z : ℕ). get_or s.places z 0 ≤ get_or (slice_set s.places c (place_of s c + 1)) z 0) (sym same) (omega (arith, get_or-set_same s.places c (place_of s c + 1) 0 n.core))
+      | inl same ↦ subst (λ (z : ℕ). get_or s.places z 0 ≤ get_or (slice_set s.places c (place_of s c + 1))
+          z 0) (sym same) (omega (arith, get_or-set_same s.places c (place_of s c + 1) 0 n.core))
       | inr other ↦ omega (arith, get_or-set_other s.places c k (place_of s c + 1) 0 other)
     ]
 
     -- what was given before core c goes on is given behind it
-    go_on : (t : State) → t.places ≡ slice_set s.places c (place_of s c + 1) → ((e : ℕ) → e ≢ b → get_or t.reads e (0, None) ≡ get_or s.reads e (0, None))
+    go_on : (t : State) → t.places ≡ slice_set s.places c (place_of s c + 1)
+        → ((e : ℕ) → e ≢ b → get_or t.reads e (0, None) ≡ get_or s.reads e (0, None))
         → (a : ℕ) (o : Option ℕ) (v : ℕ) → IsGiven p s a o v → IsGiven p t a o v
-    go_on t places reads = given_kept p s t b new reads (λ k. subst (λ (l : List ℕ). place_of s k ≤ get_or l k 0) (sym places) (up k))
+    go_on t places reads =
+        given_kept p s t b new reads (λ k. subst (λ (l : List ℕ). place_of s k ≤ get_or l k 0) (sym places)
+        (up k))
 
     -- what events read where b has read a pair that was given
     read_given : (t : State) (a : ℕ) (what : ℕ × Option ℕ) → op_reads op ≡ Some a → IsPairGiven p s a what
@@ -169,23 +226,30 @@ module _ (p : List (List Op)) (s : State) (d : IsData p s) where
         → (e k : ℕ) → op_reads (placed_op p e).1 ≡ Some k → IsPairGiven p t k (get_or t.reads e (0, None))
     read_given t a what reads_a was places reads e k r =
         let keep : (k : ℕ) (o : Option ℕ) (v : ℕ) → IsGiven p s k o v → IsGiven p t k o v =
-        go_on t places (λ f other. ap (λ (l : List (ℕ × Option ℕ)). get_or l f (0, None)) reads ∙ get_or-set_other s.reads b f what (0, None) other) in
+        go_on t places (λ f other. ap (λ (l : List (ℕ × Option ℕ)). get_or l f (0, None)) reads
+        ∙ get_or-set_other s.reads b f what (0, None) other) in
         elim (cases_eq e b) [
           | inl is_b ↦
-              let one : a ≡ k = let h : Some a ≡ Some k = sym reads_a ∙ (sym (ap (λ (z : ℕ × Op). op_reads z.1) (next_placed p s c b op n)) ∙ (ap (λ (z : ℕ). op_reads (placed_op p z).1) (sym is_b) ∙ r)) in cc in
+              let one : a ≡ k = let h : Some a ≡ Some k =
+              sym reads_a ∙ (sym (ap (λ (z : ℕ × Op). op_reads z.1) (next_placed p s c b op n))
+              ∙ (ap (λ (z : ℕ). op_reads (placed_op p z).1) (sym is_b) ∙ r)) in cc in
               subst (λ (z : ℕ). IsPairGiven p t k (get_or t.reads z (0, None))) (sym is_b)
               (subst (λ (l : List (ℕ × Option ℕ)). IsPairGiven p t k (get_or l b (0, None))) (sym reads)
-              (subst (λ (z : ℕ × Option ℕ). IsPairGiven p t k z) (sym (get_or-set_same s.reads b what (0, None) (next_within p s d.steady c b op n)))
+              (subst (λ (z : ℕ × Option ℕ). IsPairGiven p t k z)
+              (sym (get_or-set_same s.reads b what (0, None) (next_within p s d.steady c b op n)))
               (subst (λ (z : ℕ). IsPairGiven p t z what) one (keep a what.1 what.0 was))))
           | inr other ↦
               subst (λ (l : List (ℕ × Option ℕ)). IsPairGiven p t k (get_or l e (0, None))) (sym reads)
-              (subst (λ (z : ℕ × Option ℕ). IsPairGiven p t k z) (sym (get_or-set_other s.reads b e what (0, None) other)) (keep k _ _ (d.reads e k r)))
+              (subst (λ (z : ℕ × Option ℕ). IsPairGiven p t k z)
+              (sym (get_or-set_other s.reads b e what (0, None) other)) (keep k _ _ (d.reads e k r)))
         ]
 
   -- a store keeps the data
   store_data : (c b a v : ℕ) → IsNext p s c b (St a v) → c < length p → IsData p (stored_state s c b a v)
   store_data c b a v n at =
-      let keep : (k : ℕ) (o : Option ℕ) (w : ℕ) → IsGiven p s k o w → IsGiven p (stored_state s c b a v) k o w = go_on c b (St a v) n (stored_state s c b a v) refl (λ e other. refl) in
+      let keep : (k : ℕ) (o : Option ℕ) (w : ℕ) → IsGiven p s k o w
+      → IsGiven p (stored_state s c b a v) k o w =
+      go_on c b (St a v) n (stored_state s c b a v) refl (λ e other. refl) in
       record {
         steady = store_steady p s d.steady c b a v n at;
         copies = λ k copy h. keep k _ _ (d.copies k copy h);
@@ -195,7 +259,8 @@ module _ (p : List (List Op)) (s : State) (d : IsData p s) where
   -- a fence keeps the data
   fence_data : (c b : ℕ) → IsNext p s c b Fence → IsData p (fenced_state s c b)
   fence_data c b n =
-      let keep : (k : ℕ) (o : Option ℕ) (w : ℕ) → IsGiven p s k o w → IsGiven p (fenced_state s c b) k o w = go_on c b Fence n (fenced_state s c b) refl (λ e other. refl) in
+      let keep : (k : ℕ) (o : Option ℕ) (w : ℕ) → IsGiven p s k o w → IsGiven p (fenced_state s c b) k o w =
+      go_on c b Fence n (fenced_state s c b) refl (λ e other. refl) in
       record {
         steady = fence_steady p s d.steady c b n;
         copies = λ k copy h. keep k _ _ (d.copies k copy h);
@@ -203,40 +268,54 @@ module _ (p : List (List Op)) (s : State) (d : IsData p s) where
       }
 
   -- a load keeps the data
-  load_data : (f : Fault) (c b a : ℕ) (what : ℕ × Option ℕ) → IsNext p s c b (Ld a) → looked_up f s c a ≡ Ok what → IsData p (loaded_state s c b what)
+  load_data : (f : Fault) (c b a : ℕ) (what : ℕ × Option ℕ) → IsNext p s c b (Ld a)
+      → looked_up f s c a ≡ Ok what → IsData p (loaded_state s c b what)
   load_data f c b a what n got =
       let t : State = loaded_state s c b what in
       record {
         steady = load_steady p s d.steady c b a what n;
-        copies = λ k copy h. go_on c b (Ld a) n t refl (λ e other. get_or-set_other s.reads b e what (0, None) other) k _ _ (d.copies k copy h);
+        copies = λ k copy h. go_on c b (Ld a) n t refl
+            (λ e other. get_or-set_other s.reads b e what (0, None) other) k _ _ (d.copies k copy h);
         reads = read_given c b (Ld a) n t a what refl (loaded_given f c a what got) refl refl;
       }
 
   -- a read-modify-write keeps the data
-  rmw_data : (caches : moesi.CacheState) (c b a : ℕ) (op : Op) → IsNext p s c b op → IsRmw op (line_copy s c a) a
+  rmw_data : (caches : moesi.CacheState) (c b a : ℕ) (op : Op) → IsNext p s c b op
+      → IsRmw op (line_copy s c a) a
       → moesi.write s.caches c a (rmw_value s c op a) b ≡ Ok caches → IsData p (rmw_state s caches c b a)
   rmw_data caches c b a op n is wrote =
       let t : State = rmw_state s caches c b a in
       let what : ℕ × Option ℕ = line_copy s c a in
       let value : ℕ = rmw_value s c op a in
-      let read : get_or t.reads b (0, None) ≡ what = get_or-set_same s.reads b what (0, None) (next_within p s d.steady c b op n) in
-      let gave : IsGiven p t a (Some b) value = written_given p t b c a value op (next_placed p s c b op n) (omega (arith, n.event, get_or-set_same s.places c (place_of s c + 1) 0 n.core))
-      (ap (λ (z : ℕ × Option ℕ). written_address (event_of op z)) read ∙ is.address) (ap (λ (z : ℕ × Option ℕ). value_written (event_of op z)) read) in
+      let read : get_or t.reads b (0, None) ≡ what =
+      get_or-set_same s.reads b what (0, None) (next_within p s d.steady c b op n) in
+      let gave : IsGiven p t a (Some b) value =
+      written_given p t b c a value op (next_placed p s c b op n)
+      (omega (arith, n.event, get_or-set_same s.places c (place_of s c + 1) 0 n.core))
+      (ap (λ (z : ℕ × Option ℕ). written_address (event_of op z)) read ∙ is.address)
+      (ap (λ (z : ℕ × Option ℕ). value_written (event_of op z)) read) in
       record {
         steady = rmw_steady p s d.steady caches c b a op n is wrote;
-        copies = copies_given t caches c a b value wrote gave (λ k copy h. go_on c b op n t refl (λ e other. get_or-set_other s.reads b e what (0, None) other) k _ _ (d.copies k copy h));
-        reads = read_given c b op n t a what is.reads (d.copies a what (read_has s.caches c a what (written_read s.caches caches c a value b wrote))) refl refl;
+        copies = copies_given t caches c a b value wrote gave
+            (λ k copy h. go_on c b op n t refl (λ e other. get_or-set_other s.reads b e what (0, None) other)
+            k _ _ (d.copies k copy h));
+        reads = read_given c b op n t a what is.reads
+            (d.copies a what (read_has s.caches c a what (written_read s.caches caches c a value b wrote)))
+            refl refl;
       }
 
   -- a transaction keeps the data
-  transact_data : (caches : moesi.CacheState) (c a : ℕ) → IsAnyTransaction s.caches c a caches → IsData p (with_caches s caches)
+  transact_data : (caches : moesi.CacheState) (c a : ℕ) → IsAnyTransaction s.caches c a caches
+      → IsData p (with_caches s caches)
   transact_data caches c a made = record {
     steady = transact_steady p s d.steady caches c a made;
-    copies = λ k copy h. given_same k copy (d.copies k copy (any_copy_was_there s.caches caches c a k copy made h));
+    copies = λ k copy h. given_same k copy
+        (d.copies k copy (every_copy_was_there s.caches caches c a k copy made h));
     reads = λ e k r. given_same k (get_or s.reads e (0, None)) (d.reads e k r);
   }
     where
-      given_same : (k : ℕ) (copy : ℕ × Option ℕ) → IsPairGiven p s k copy → IsPairGiven p (with_caches s caches) k copy
+      given_same : (k : ℕ) (copy : ℕ × Option ℕ) → IsPairGiven p s k copy
+          → IsPairGiven p (with_caches s caches) k copy
       given_same k (v, None) h = h
       given_same k (v, Some w) h = h
 
@@ -255,18 +334,24 @@ module _ (p : List (List Op)) (s : State) (d : IsData p s) where
 opening_data : (p : List (List Op)) (n : ℕ) → All (λ ops. All (IsWithin n) ops) p → IsData p (opening p n)
 opening_data p n fits = record {
   steady = opening_steady p n fits;
-  copies = λ a copy h. subst (λ (z : ℕ × Option ℕ). IsPairGiven p (opening p n) a z) (sym (opening_has (length p) n a copy h)) refl;
-  reads = λ e a r. subst (λ (z : ℕ × Option ℕ). IsPairGiven p (opening p n) a z) (sym (get_or_same (sum_by (λ ops. length ops) p) e (0, None))) refl;
+  copies = λ a copy h. subst (λ (z : ℕ × Option ℕ). IsPairGiven p (opening p n) a z)
+      (sym (opening_has (length p) n a copy h)) refl;
+  reads = λ e a r. subst (λ (z : ℕ × Option ℕ). IsPairGiven p (opening p n) a z)
+      (sym (get_or_same (sum_by (λ ops. length ops) p) e (0, None))) refl;
 }
 
 -- every run has its data from executed writes, under every fault
-pub run_data : (p : List (List Op)) (n capacity : ℕ) (f : Fault) (steps : List Step) → All (λ ops. All (IsWithin n) ops) p → IsData p (run p capacity f (opening p n) steps)
-run_data p n capacity f steps fits = run_kept p capacity f (IsData p) (λ s d. (data_kept p s d f, d.steady.places)) steps (opening p n) (opening_data p n fits)
+pub run_data : (p : List (List Op)) (n capacity : ℕ) (f : Fault) (steps : List Step)
+    → All (λ ops. All (IsWithin n) ops) p → IsData p (run p capacity f (opening p n) steps)
+run_data p n capacity f steps fits =
+    run_kept p capacity f (IsData p) (λ s d. (data_kept p s d f, d.steady.places)) steps (opening p n)
+    (opening_data p n fits)
 
 -- Well-formedness
 
 -- an event read what it was given
-value_same : (op : Op) (d : ℕ × Option ℕ) (a : ℕ) → op_reads op ≡ Some a → (source (event_of op d) ≡ d.1) × (value_read (event_of op d) ≡ d.0)
+value_same : (op : Op) (d : ℕ × Option ℕ) (a : ℕ) → op_reads op ≡ Some a
+    → (source (event_of op d) ≡ d.1) × (value_read (event_of op d) ≡ d.0)
 value_same (St b v) d a h = absurd cc
 value_same (Ld b) d a h = (refl, refl)
 value_same Fence d a h = absurd cc
@@ -274,22 +359,29 @@ value_same (Swap b v) d a h = (refl, refl)
 value_same (Add b v) d a h = (refl, refl)
 
 -- what is given is what the recording asks of a source
-gives : (p : List (List Op)) (s : State) (a : ℕ) (o : Option ℕ) (v : ℕ) → IsGiven p s a o v → Gives (recorded p s) a o v
+gives : (p : List (List Op)) (s : State) (a : ℕ) (o : Option ℕ) (v : ℕ) → IsGiven p s a o v
+    → Gives (recorded p s) a o v
 gives p s a None v h = h
-gives p s a (Some w) v h = (ap written_address (event_is p s w) ∙ h.1, ap value_written (event_is p s w) ∙ h.2)
+gives p s a (Some w) v h =
+    (ap written_address (event_is p s w) ∙ h.1, ap value_written (event_is p s w) ∙ h.2)
 
 module _ (p : List (List Op)) (s : State) (d : IsData p s) (end : IsComplete p s) where
   -- what stands in a write list writes its address
   passes : (a e : ℕ) → 0 < times (filter (writes_to p s a) s.performed) e → writes_to p s a e ≡ true
-  passes a e there = elim (bool_cases (writes_to p s a e)) [ inl is ↦ is | inr fails ↦ absurd (omega (arith, there, times_filter_no (writes_to p s a) s.performed e fails)) ]
+  passes a e there = elim (bool_cases (writes_to p s a e)) [
+    | inl is ↦ is
+    | inr fails ↦ absurd (omega (arith, there, times_filter_no (writes_to p s a) s.performed e fails))
+  ]
 
   -- the write list of an address of the program
-  list_at : (a : ℕ) → a < length s.caches.blocks → write_list (recorded p s) a ≡ filter (writes_to p s a) s.performed
+  list_at : (a : ℕ) → a < length s.caches.blocks
+      → write_list (recorded p s) a ≡ filter (writes_to p s a) s.performed
   list_at a inside = list_is p s a ∙ d.steady.listed.lists a inside
 
   -- there is no other write list
   list_past : (a : ℕ) → length s.caches.blocks ≤ a → write_list (recorded p s) a ≡ []
-  list_past a past = list_is p s a ∙ get_or_past s.write_lists a [] (omega (arith, past, d.steady.listed.cells))
+  list_past a past =
+      list_is p s a ∙ get_or_past s.write_lists a [] (omega (arith, past, d.steady.listed.cells))
 
   -- events write addresses of the program
   writes_inside : (e a : ℕ) → (static_of p s).writes e ≡ Some a → a < length s.caches.blocks
@@ -307,8 +399,13 @@ module _ (p : List (List Op)) (s : State) (d : IsData p s) (end : IsComplete p s
   nothing_else : (a e : ℕ) → 0 < times (write_list (recorded p s) a) e → Writes (recorded p s) e a
   nothing_else a e there = elim (cases_lt a (length s.caches.blocks)) [
     | inl inside ↦ writes_is p s e
-        ∙ is_address_true ((static_of p s).writes e) a (passes a e (subst (λ (l : List ℕ). 0 < times l e) (list_at a inside) there))
-    | inr past ↦ absurd (omega (arith, subst (λ (l : List ℕ). 0 < times l e) (list_past a past) there, times_nil e))
+        ∙ is_address_true ((static_of p s).writes e) a
+        (passes a e (subst (λ (l : List ℕ). 0 < times l e) (list_at a inside) there))
+    | inr past ↦ absurd (omega (
+      arith,
+      subst (λ (l : List ℕ). 0 < times l e) (list_past a past) there,
+      times_nil e,
+    ))
   ]
 
   -- the recording of a complete state is well formed
@@ -317,19 +414,29 @@ module _ (p : List (List Op)) (s : State) (d : IsData p s) (end : IsComplete p s
     sources = λ e a reads.
         let op : op_reads (placed_op p e).1 ≡ Some a = sym (reads_is p s e) ∙ reads in
         let same = value_same (placed_op p e).1 (get_or s.reads e (0, None)) a op in
-        subst (λ (o : Option ℕ). Gives (recorded p s) a o (value_read (event_at (recorded p s) e))) (sym (ap source (event_is p s e) ∙ same.0))
-        (subst (λ (v : ℕ). Gives (recorded p s) a (get_or s.reads e (0, None)).1 v) (sym (ap value_read (event_is p s e) ∙ same.1))
+        subst (λ (o : Option ℕ). Gives (recorded p s) a o (value_read (event_at (recorded p s) e)))
+        (sym (ap source (event_is p s e) ∙ same.0))
+        (subst (λ (v : ℕ). Gives (recorded p s) a (get_or s.reads e (0, None)).1 v)
+        (sym (ap value_read (event_is p s e) ∙ same.1))
         (gives p s a (get_or s.reads e (0, None)).1 (get_or s.reads e (0, None)).0 (d.reads e a op)));
-    write_lists = λ a. record { once = λ e writes. once a e writes; nothing_else = λ e there. nothing_else a e there };
+    write_lists =
+        λ a. record { once = λ e writes. once a e writes; nothing_else = λ e there. nothing_else a e there };
   }
 
   -- each address that an event of the recording uses has a write list
-  pub complete_addresses : (e a : ℕ) → Reads (recorded p s) e a ⊎ Writes (recorded p s) e a → a < length s.write_lists
+  pub complete_addresses : (e a : ℕ) → Reads (recorded p s) e a ⊎ Writes (recorded p s) e a
+      → a < length s.write_lists
   complete_addresses e a used = elim used [
-    | inl reads ↦ omega (arith, d.steady.reads_within e a (sym (reads_is p s e) ∙ reads), d.steady.listed.cells)
+    | inl reads ↦ omega (
+      arith,
+      d.steady.reads_within e a (sym (reads_is p s e) ∙ reads),
+      d.steady.listed.cells,
+    )
     | inr writes ↦ omega (arith, writes_inside e a (sym (writes_is p s e) ∙ writes), d.steady.listed.cells)
   ]
 
 -- every complete run has a well-formed recording, under every fault
-pub every_run_is_well_formed : (p : List (List Op)) (n capacity : ℕ) (f : Fault) (steps : List Step) → EveryRunIsWellFormed p n capacity f steps
-every_run_is_well_formed p n capacity f steps fits end = complete_well_formed p (run p capacity f (opening p n) steps) (run_data p n capacity f steps fits) end
+pub every_run_is_well_formed : (p : List (List Op)) (n capacity : ℕ) (f : Fault) (steps : List Step)
+    → EveryRunIsWellFormed p n capacity f steps
+every_run_is_well_formed p n capacity f steps fits end =
+    complete_well_formed p (run p capacity f (opening p n) steps) (run_data p n capacity f steps fits) end

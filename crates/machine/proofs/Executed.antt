@@ -25,27 +25,45 @@ use Rattle.machine.specs.State.{first_event, event_of}
 use Rattle.machine.specs.Step.{exec, read_modify_written, IsAt, forwarded_or_read}
 use Rattle.machine.specs.BoundedItems.{BoundedItems}
 use Rattle.machine.specs.Configuration.{IsSound, IsEntry, state_from, places_of}
-use Rattle.machine.proofs.Static.{placed_at, placed_total, first_within}
+use Rattle.recorder.specs.PlacedLaws.{placed_at, placed_total}
+use Rattle.machine.proofs.Static.{first_within}
 
 -- each core is within its operations, so all together are
-pub places_within : (places : List ℕ) (program : List (List Op)) → length places ≡ length program → ((c : ℕ) → slice_index places c ≤ length (slice_index_or program c [])) → sum places ≤ sum_by (λ ops. length ops) program
+pub places_within : (places : List ℕ) (program : List (List Op)) → length places ≡ length program
+    → ((c : ℕ) → slice_index places c ≤ length (slice_index_or program c []))
+    → sum places ≤ sum_by (λ ops. length ops) program
 places_within [] [] l h = omega arith
 places_within [] (ops ∷ program) l h = omega arith
 places_within (x ∷ places) [] l h = absurd (omega (arith, l))
-places_within (x ∷ places) (ops ∷ program) l h = omega (arith, sum_by-cons (λ (y : ℕ). y) x places, sum_by-cons (λ (os : List Op). length os) ops program, h 0, places_within places program (omega (arith, l)) (λ c. h (suc c)))
+places_within (x ∷ places) (ops ∷ program) l h =
+    omega (
+      arith,
+      sum_by-cons (λ (y : ℕ). y) x places,
+      sum_by-cons (λ (os : List Op). length os) ops program,
+      h 0,
+      places_within places program (omega (arith, l)) (λ c. h (suc c)),
+    )
 
 -- a buffer and a write list as what they hold
-pub buffer_seen : (buffers : List Buffer) (core : ℕ) (old : Buffer) → core < length buffers → old ≡ slice_index_or buffers core old → slice_index_or (map (λ b. b.entries) buffers) core [] ≡ old.entries
-buffer_seen buffers core old at is = get_or-map (λ (b : Buffer). b.entries) buffers core old [] at ∙ ap (λ (b : Buffer). b.entries) (sym is)
+pub buffer_seen : (buffers : List Buffer) (core : ℕ) (old : Buffer) → core < length buffers
+    → old ≡ slice_index_or buffers core old
+    → slice_index_or (map (λ b. b.entries) buffers) core [] ≡ old.entries
+buffer_seen buffers core old at is =
+    get_or-map (λ (b : Buffer). b.entries) buffers core old [] at ∙ ap (λ (b : Buffer). b.entries) (sym is)
 
 -- a write list as what it holds
-pub list_seen : (writes : List (BoundedItems ℕ)) (a : ℕ) (old : BoundedItems ℕ) → a < length writes → old ≡ slice_index_or writes a old → slice_index_or (map (λ b. b.items) writes) a [] ≡ old.items
-list_seen writes a old at is = get_or-map (λ (b : BoundedItems ℕ). b.items) writes a old [] at ∙ ap (λ (b : BoundedItems ℕ). b.items) (sym is)
+pub list_seen : (writes : List (BoundedItems ℕ)) (a : ℕ) (old : BoundedItems ℕ) → a < length writes
+    → old ≡ slice_index_or writes a old → slice_index_or (map (λ b. b.items) writes) a [] ≡ old.items
+list_seen writes a old at is =
+    get_or-map (λ (b : BoundedItems ℕ). b.items) writes a old [] at
+    ∙ ap (λ (b : BoundedItems ℕ). b.items) (sym is)
 
-module _ (p : Parts) (capacity : ℕ) (units : List Progress) (buffers : List Buffer) (caches : moesi.CacheState)
+module _ (p : Parts) (capacity : ℕ) (units : List Progress) (buffers : List Buffer)
+    (caches : moesi.CacheState)
     (writes : List (BoundedItems ℕ)) (reads : List (ℕ × Option ℕ)) (done : BoundedItems ℕ)
     (sound : IsSound p capacity units buffers caches writes reads done)
-    (core : ℕ) (op : Op) (event : ℕ) (at : IsAt p.cores (state_from units buffers caches writes reads done.items) core op event) where
+    (core : ℕ) (op : Op) (event : ℕ) (at : IsAt p.cores
+    (state_from units buffers caches writes reads done.items) core op event) where
   -- the core has a unit
   pub unit_there : core < length units
   unit_there = omega (arith, at.core, sound.units_length)
@@ -55,18 +73,30 @@ module _ (p : Parts) (capacity : ℕ) (units : List Progress) (buffers : List Bu
   buffer_there = omega (arith, at.core, sound.buffers_length)
 
   -- a read-modify-write that the caches refuse is blocked
-  pub rmw_blocked : (fault : Fault) (old : Buffer) → old ≡ slice_index_or buffers core old → may_rmw fault old.entries ≡ true → (addr : ℕ) (what : ℕ × Option ℕ) → moesi.copy_of caches core addr ≡ what
+  pub rmw_blocked : (fault : Fault) (old : Buffer) → old ≡ slice_index_or buffers core old
+      → may_rmw fault old.entries ≡ true → (addr : ℕ) (what : ℕ × Option ℕ)
+      → moesi.copy_of caches core addr ≡ what
       → (e : CacheError) → moesi.write caches core addr (value_written (event_of op what)) event ≡ Err e
-      → read_modify_written fault (state_from units buffers caches writes reads done.items) core event op addr ≡ Err B5
-  rmw_blocked fault old is may addr what what_is e refused = rw (buffer_seen buffers core old buffer_there is, may, what_is, refused) refl
+      → read_modify_written fault (state_from units buffers caches writes reads done.items) core event op addr
+      ≡ Err B5
+  rmw_blocked fault old is may addr what what_is e refused =
+      rw (buffer_seen buffers core old buffer_there is, may, what_is, refused) refl
 
   -- the core has an operation left
   below : slice_index (places_of units) core < length (slice_index_or p.cores core [])
-  below = slice_get_within (slice_index_or p.cores core []) (slice_index (places_of units) core) op at.operation
+  below = slice_get_within (slice_index_or p.cores core []) (slice_index (places_of units) core)
+      op at.operation
 
   -- the event's number is among those of the program
   pub number : event < length reads
-  number = omega (arith, at.number, (placed_at 0 p.cores core (slice_index (places_of units) core) Fence below).1, placed_total 0 p.cores, sound.events)
+  number = omega (
+    arith,
+    at.number,
+    (placed_at 0 p.cores core (slice_index (places_of units) core)
+        Fence below).1,
+    placed_total 0 p.cores,
+    sound.events,
+  )
 
   -- and within the limit
   pub number_few : event < MAX_EVENTS
@@ -74,14 +104,18 @@ module _ (p : Parts) (capacity : ℕ) (units : List Progress) (buffers : List Bu
 
   -- its address is one of the program's
   pub within : IsWithin (length p.names) op
-  within = subst (λ (o : Op). IsWithin (length p.names) o) (get_or_from_slice_get (slice_index_or p.cores core []) (slice_index (places_of units) core) op Fence at.operation)
+  within = subst (λ (o : Op). IsWithin (length p.names) o)
+      (get_or_from_slice_get (slice_index_or p.cores core []) (slice_index (places_of units) core)
+      op Fence at.operation)
       (sound.operations core [] at.core (slice_index (places_of units) core) Fence below)
 
   -- the core's unit, before and after it goes on
-  module _ (unit : Progress) (unit_is : unit ≡ slice_index_or units core unit) (ops : List Op) (ops_is : ops ≡ slice_index_or p.cores core []) where
+  module _ (unit : Progress) (unit_is : unit ≡ slice_index_or units core unit) (ops : List Op)
+      (ops_is : ops ≡ slice_index_or p.cores core []) where
     -- the unit's place is the state's
     place_at : unit.place ≡ slice_index (places_of units) core
-    place_at = ap (λ (u : Progress). u.place) unit_is ∙ sym (get_or-map (λ (u : Progress). u.place) units core unit 0 unit_there)
+    place_at = ap (λ (u : Progress). u.place) unit_is
+        ∙ sym (get_or-map (λ (u : Progress). u.place) units core unit 0 unit_there)
 
     -- the unit's first event is the core's
     first_at : unit.first ≡ first_event p.cores core
@@ -93,13 +127,21 @@ module _ (p : Parts) (capacity : ℕ) (units : List Progress) (buffers : List Bu
 
     -- all events of the core are within the limit
     pub few : unit.first + length ops ≤ MAX_EVENTS
-    few = omega (arith, first_at, ap (λ (os : List Op). length os) ops_is, first_within p.cores core at.core, sound.few)
+    few = omega (
+      arith,
+      first_at,
+      ap (λ (os : List Op). length os) ops_is,
+      first_within p.cores core at.core,
+      sound.few,
+    )
 
     module _ (moved : Progress) (moved_is : moved ≡ record unit { place = unit.place + 1 }) where
       -- the state's places, where the unit went on
-      pub places_set : places_of (slice_set units core moved) ≡ slice_set (places_of units) core (slice_index (places_of units) core + 1)
+      pub places_set : places_of (slice_set units core moved)
+          ≡ slice_set (places_of units) core (slice_index (places_of units) core + 1)
       places_set = map-set (λ (u : Progress). u.place) units core moved
-          ∙ ap (λ (n : ℕ). slice_set (places_of units) core n) (ap (λ (u : Progress). u.place) moved_is ∙ ap (λ (n : ℕ). n + 1) place_at)
+          ∙ ap (λ (n : ℕ). slice_set (places_of units) core n)
+          (ap (λ (u : Progress). u.place) moved_is ∙ ap (λ (n : ℕ). n + 1) place_at)
 
       -- the core has a place
       place_there : core < length (places_of units)
@@ -110,24 +152,48 @@ module _ (p : Parts) (capacity : ℕ) (units : List Progress) (buffers : List Bu
       units_up = length-set units core moved ∙ sound.units_length
 
       -- their first events stay
-      first_up : (c : ℕ) (d : Progress) → c < length p.cores → (slice_index_or (slice_set units core moved) c d).first ≡ first_event p.cores c
+      first_up : (c : ℕ) (d : Progress) → c < length p.cores
+          → (slice_index_or (slice_set units core moved) c d).first ≡ first_event p.cores c
       first_up c d inside = elim (cases_eq c core) [
-        | inl same ↦ subst (λ (k : ℕ). (slice_index_or (slice_set units core moved) k d).first ≡ first_event p.cores k) (sym same)
-            (ap (λ (u : Progress). u.first) (get_or-set_same units core moved d unit_there ∙ moved_is) ∙ first_at)
-        | inr other ↦ ap (λ (u : Progress). u.first) (get_or-set_other units core c moved d other) ∙ sound.first c d inside
+        | inl same ↦ subst (λ (k : ℕ). (slice_index_or (slice_set units core moved) k d).first
+            ≡ first_event p.cores k) (sym same)
+            (ap (λ (u : Progress). u.first) (get_or-set_same units core moved d unit_there ∙ moved_is)
+            ∙ first_at)
+        | inr other ↦ ap (λ (u : Progress). u.first) (get_or-set_other units core c moved d other)
+            ∙ sound.first c d inside
       ]
 
       -- each core is within its operations
-      place_up : (c : ℕ) → slice_index (places_of (slice_set units core moved)) c ≤ length (slice_index_or p.cores c [])
-      place_up c = subst (λ (l : List ℕ). slice_index l c ≤ length (slice_index_or p.cores c [])) (sym places_set) (elim (cases_eq c core) [
-        | inl same ↦ subst (λ (d : ℕ). slice_index (slice_set (places_of units) core (slice_index (places_of units) core + 1)) d ≤ length (slice_index_or p.cores d [])) (sym same)
-            (omega (arith, get_or-set_same (places_of units) core (slice_index (places_of units) core + 1) 0 place_there, below))
-        | inr other ↦ omega (arith, get_or-set_other (places_of units) core c (slice_index (places_of units) core + 1) 0 other, sound.place c)
-      ])
+      place_up : (c : ℕ) → slice_index (places_of (slice_set units core moved)) c ≤ length
+          (slice_index_or p.cores c [])
+      place_up c =
+          subst (λ (l : List ℕ). slice_index l c ≤ length (slice_index_or p.cores c [])) (sym places_set)
+          (elim (cases_eq c core) [
+            | inl same ↦ subst (λ (d : ℕ). slice_index
+                (slice_set (places_of units) core (slice_index (places_of units) core + 1)) d ≤ length
+                (slice_index_or p.cores d [])) (sym same)
+                (omega (
+                  arith,
+                  get_or-set_same (places_of units) core (slice_index (places_of units) core + 1)
+                      0 place_there,
+                  below,
+                ))
+            | inr other ↦ omega (
+              arith,
+              get_or-set_other (places_of units) core c
+                  (slice_index (places_of units) core + 1) 0 other,
+              sound.place c,
+            )
+          ])
 
       -- one more operation was executed
       sum_up : sum (places_of (slice_set units core moved)) ≡ sum (places_of units) + 1
-      sum_up = ap (λ (l : List ℕ). sum l) places_set ∙ omega (arith, sum_by-set (λ (x : ℕ). x) (places_of units) core (slice_index (places_of units) core + 1) 0 place_there)
+      sum_up = ap (λ (l : List ℕ). sum l) places_set
+          ∙ omega (
+            arith,
+            sum_by-set (λ (x : ℕ). x) (places_of units) core
+                (slice_index (places_of units) core + 1) 0 place_there,
+          )
 
       -- one more than what was performed and waits has room
       room_left : length done.items + sum_by (λ b. length b.entries) buffers < op_count p.cores
@@ -135,11 +201,13 @@ module _ (p : Parts) (capacity : ℕ) (units : List Progress) (buffers : List Bu
         arith,
         sound.counted,
         sum_up,
-        places_within (places_of (slice_set units core moved)) p.cores (length-map (slice_set units core moved) (λ (u : Progress). u.place) ∙ units_up) place_up,
+        places_within (places_of (slice_set units core moved)) p.cores
+            (length-map (slice_set units core moved) (λ (u : Progress). u.place) ∙ units_up) place_up,
       )
 
       -- an event is performed; the reads are others of the same number
-      pub performed_sound : (reads' : List (ℕ × Option ℕ)) → length reads' ≡ length reads → (new : BoundedItems ℕ) → new ≡ record { items = done.items ++ event ∷ []; room = done.room }
+      pub performed_sound : (reads' : List (ℕ × Option ℕ)) → length reads' ≡ length reads
+          → (new : BoundedItems ℕ) → new ≡ record { items = done.items ++ event ∷ []; room = done.room }
           → IsSound p capacity (slice_set units core moved) buffers caches writes reads' new
       performed_sound reads' same new is = record {
         operations = sound.operations;
@@ -155,7 +223,8 @@ module _ (p : Parts) (capacity : ℕ) (units : List Progress) (buffers : List Bu
         capacities = sound.capacities;
         entries = sound.entries;
         write_rooms = sound.write_rooms;
-        write_lengths = All-weaker (λ l. length l.items ≤ length done.items) (λ l. length l.items ≤ length new.items)
+        write_lengths =
+            All-weaker (λ l. length l.items ≤ length done.items) (λ l. length l.items ≤ length new.items)
             (λ l h. omega (arith, h, longer)) writes sound.write_lengths;
         performed_room = ap (λ (r : BoundedItems ℕ). r.room) is ∙ sound.performed_room;
         counted = omega (arith, longer, sum_up, sound.counted);
@@ -165,24 +234,34 @@ module _ (p : Parts) (capacity : ℕ) (units : List Progress) (buffers : List Bu
           longer = ap (λ (r : BoundedItems ℕ). length r.items) is ∙ length-append done.items (event ∷ [])
 
       -- the row of a fence
-      pub fence_taken : (fault : Fault) (old : Buffer) → old ≡ slice_index_or buffers core old → may_fence fault old.entries ≡ true
+      pub fence_taken : (fault : Fault) (old : Buffer) → old ≡ slice_index_or buffers core old
+          → may_fence fault old.entries ≡ true
           → exec capacity fault (state_from units buffers caches writes reads done.items) core event Fence
-          ≡ Ok (state_from (slice_set units core moved) buffers caches writes reads (done.items ++ event ∷ []))
+          ≡ Ok (state_from (slice_set units core moved) buffers caches writes reads
+          (done.items ++ event ∷ []))
       fence_taken fault old is may = rw (buffer_seen buffers core old buffer_there is, may, places_set) refl
 
       -- the row of a load
-      pub load_taken : (fault : Fault) (old : Buffer) → old ≡ slice_index_or buffers core old → (addr : ℕ) (entry : Option Entry) → entry ≡ forwarded fault old.entries addr
+      pub load_taken : (fault : Fault) (old : Buffer) → old ≡ slice_index_or buffers core old
+          → (addr : ℕ) (entry : Option Entry) → entry ≡ forwarded fault old.entries addr
           → (what : ℕ × Option ℕ) → forwarded_or_read entry (moesi.read caches core addr) ≡ Ok what
           → exec capacity fault (state_from units buffers caches writes reads done.items) core event (Ld addr)
-          ≡ Ok (state_from (slice_set units core moved) buffers caches writes (slice_set reads event what) (done.items ++ event ∷ []))
-      load_taken fault old is addr entry entry_is what got = rw (buffer_seen buffers core old buffer_there is, ← entry_is, got, places_set) refl
+          ≡ Ok (state_from (slice_set units core moved) buffers caches writes (slice_set reads event what)
+          (done.items ++ event ∷ []))
+      load_taken fault old is addr entry entry_is what got =
+          rw (buffer_seen buffers core old buffer_there is, ← entry_is, got, places_set) refl
 
       -- the row of a read-modify-write
-      pub rmw_taken : (fault : Fault) (old : Buffer) → old ≡ slice_index_or buffers core old → may_rmw fault old.entries ≡ true → (addr : ℕ) → addr < length p.names
-          → (what : ℕ × Option ℕ) → moesi.copy_of caches core addr ≡ what → (caches' : moesi.CacheState) → moesi.write caches core addr (value_written (event_of op what)) event ≡ Ok caches'
-          → (list new : BoundedItems ℕ) → list ≡ slice_index_or writes addr list → new ≡ record { items = list.items ++ event ∷ []; room = list.room }
-          → read_modify_written fault (state_from units buffers caches writes reads done.items) core event op addr
-          ≡ Ok (state_from (slice_set units core moved) buffers caches' (slice_set writes addr new) (slice_set reads event what) (done.items ++ event ∷ []))
+      pub rmw_taken : (fault : Fault) (old : Buffer) → old ≡ slice_index_or buffers core old
+          → may_rmw fault old.entries ≡ true → (addr : ℕ) → addr < length p.names
+          → (what : ℕ × Option ℕ) → moesi.copy_of caches core addr ≡ what → (caches' : moesi.CacheState)
+          → moesi.write caches core addr (value_written (event_of op what)) event ≡ Ok caches'
+          → (list new : BoundedItems ℕ) → list ≡ slice_index_or writes addr list
+          → new ≡ record { items = list.items ++ event ∷ []; room = list.room }
+          → read_modify_written fault (state_from units buffers caches writes reads done.items)
+          core event op addr
+          ≡ Ok (state_from (slice_set units core moved) buffers caches' (slice_set writes addr new)
+          (slice_set reads event what) (done.items ++ event ∷ []))
       rmw_taken fault old is may addr addressed what what_is caches' wrote list new list_is pushed =
           rw (
             map-set (λ (b : BoundedItems ℕ). b.items) writes addr new,
@@ -196,25 +275,36 @@ module _ (p : Parts) (capacity : ℕ) (units : List Progress) (buffers : List Bu
           ) refl
 
       -- an event writes its address and is performed
-      module _ (addr : ℕ) (addressed : addr < length p.names) (list : BoundedItems ℕ) (list_is : list ≡ slice_index_or writes addr list) where
+      module _ (addr : ℕ) (addressed : addr < length p.names) (list : BoundedItems ℕ)
+          (list_is : list ≡ slice_index_or writes addr list) where
         -- the address has a write list
         there : addr < length writes
         there = omega (arith, addressed, sound.writes_length)
 
         -- no longer than the performed list
         list_short : length list.items ≤ length done.items
-        list_short = omega (arith, ap (λ (l : BoundedItems ℕ). length l.items) list_is, sound.write_lengths addr list there)
+        list_short =
+            omega (
+              arith,
+              ap (λ (l : BoundedItems ℕ). length l.items) list_is,
+              sound.write_lengths addr list there,
+            )
 
         -- with room for every event
         list_room : list.room ≡ op_count p.cores
         list_room = ap (λ (l : BoundedItems ℕ). l.room) list_is ∙ sound.write_rooms addr list there
 
         -- the parts still fit together behind a read-modify-write
-        pub rmw_sound : (caches' : moesi.CacheState) → caches'.cores ≡ caches.cores → length caches'.blocks ≡ length caches.blocks → (reads' : List (ℕ × Option ℕ)) → length reads' ≡ length reads → (list' new : BoundedItems ℕ)
-            → list' ≡ record { items = list.items ++ event ∷ []; room = list.room } → new ≡ record { items = done.items ++ event ∷ []; room = done.room }
-            → IsSound p capacity (slice_set units core moved) buffers caches' (slice_set writes addr list') reads' new
+        pub rmw_sound : (caches' : moesi.CacheState) → caches'.cores ≡ caches.cores
+            → length caches'.blocks ≡ length caches.blocks → (reads' : List (ℕ × Option ℕ))
+            → length reads' ≡ length reads → (list' new : BoundedItems ℕ)
+            → list' ≡ record { items = list.items ++ event ∷ []; room = list.room }
+            → new ≡ record { items = done.items ++ event ∷ []; room = done.room }
+            → IsSound p capacity (slice_set units core moved) buffers caches' (slice_set writes addr list')
+            reads' new
         rmw_sound caches' same_cores same_blocks reads' same list' new pushed is =
-            let base : IsSound p capacity (slice_set units core moved) buffers caches writes reads' new = performed_sound reads' same new is in
+            let base : IsSound p capacity (slice_set units core moved) buffers caches writes reads' new =
+            performed_sound reads' same new is in
             record {
               operations = base.operations;
               few = base.few;
@@ -228,16 +318,26 @@ module _ (p : Parts) (capacity : ℕ) (units : List Progress) (buffers : List Bu
               place = base.place;
               capacities = base.capacities;
               entries = base.entries;
-              write_rooms = All-set (λ l. l.room ≡ op_count p.cores) writes addr list' (ap (λ (r : BoundedItems ℕ). r.room) pushed ∙ list_room) base.write_rooms;
+              write_rooms =
+                  All-set (λ l. l.room ≡ op_count p.cores) writes addr list'
+                  (ap (λ (r : BoundedItems ℕ). r.room) pushed ∙ list_room) base.write_rooms;
               write_lengths = All-set (λ l. length l.items ≤ length new.items) writes addr list'
-                  (omega (arith, list_short, ap (λ (r : BoundedItems ℕ). length r.items) pushed, length-append list.items (event ∷ []), ap (λ (r : BoundedItems ℕ). length r.items) is, length-append done.items (event ∷ [])))
+                  (omega (
+                    arith,
+                    list_short,
+                    ap (λ (r : BoundedItems ℕ). length r.items) pushed,
+                    length-append list.items (event ∷ []),
+                    ap (λ (r : BoundedItems ℕ). length r.items) is,
+                    length-append done.items (event ∷ []),
+                  ))
                   base.write_lengths;
               performed_room = base.performed_room;
               counted = base.counted;
             }
 
       -- a store goes to the back of the buffer
-      module _ (old new : Buffer) (is : old ≡ slice_index_or buffers core old) (entry : Entry) (pushed : new ≡ record old { entries = old.entries ++ entry ∷ [] })
+      module _ (old new : Buffer) (is : old ≡ slice_index_or buffers core old) (entry : Entry)
+          (pushed : new ≡ record old { entries = old.entries ++ entry ∷ [] })
           (addressed : IsEntry (length p.names) entry) where
         -- the buffer grows by one
         longer : length new.entries ≡ length old.entries + 1
@@ -248,7 +348,8 @@ module _ (p : Parts) (capacity : ℕ) (units : List Progress) (buffers : List Bu
         capacity_is = ap (λ (b : Buffer). b.capacity) is ∙ sound.capacities core old buffer_there
 
         -- the parts still fit together behind a store
-        pub stored_sound : IsSound p capacity (slice_set units core moved) (slice_set buffers core new) caches writes reads done
+        pub stored_sound : IsSound p capacity (slice_set units core moved) (slice_set buffers core new)
+            caches writes reads done
         stored_sound = record {
           operations = sound.operations;
           few = sound.few;
@@ -260,31 +361,61 @@ module _ (p : Parts) (capacity : ℕ) (units : List Progress) (buffers : List Bu
           events = sound.events;
           first = first_up;
           place = place_up;
-          capacities = All-set (λ b. b.capacity ≡ capacity) buffers core new (ap (λ (b : Buffer). b.capacity) pushed ∙ capacity_is) sound.capacities;
+          capacities =
+              All-set (λ b. b.capacity ≡ capacity) buffers core new
+              (ap (λ (b : Buffer). b.capacity) pushed ∙ capacity_is) sound.capacities;
           entries = All-set (λ b. All (IsEntry (length p.names)) b.entries) buffers core new
               (subst (λ (b : Buffer). All (IsEntry (length p.names)) b.entries) (sym pushed)
-              (All-push (IsEntry (length p.names)) old.entries entry (subst (λ (b : Buffer). All (IsEntry (length p.names)) b.entries) (sym is) (sound.entries core old buffer_there)) addressed))
+              (All-push (IsEntry (length p.names)) old.entries entry
+              (subst (λ (b : Buffer). All (IsEntry (length p.names)) b.entries) (sym is)
+              (sound.entries core old buffer_there)) addressed))
               sound.entries;
           write_rooms = sound.write_rooms;
           write_lengths = sound.write_lengths;
           performed_room = sound.performed_room;
-          counted = omega (arith, sum_by-set (λ b. length b.entries) buffers core new old buffer_there, ap (λ (b : Buffer). length b.entries) is, longer, sum_up, sound.counted);
+          counted = omega (
+            arith,
+            sum_by-set (λ b. length b.entries) buffers core new old buffer_there,
+            ap (λ (b : Buffer). length b.entries) is,
+            longer,
+            sum_up,
+            sound.counted,
+          );
         }
 
         -- the row of a store
         pub store_taken : (fault : Fault) → entry.event ≡ event → length old.entries < old.capacity
-            → exec capacity fault (state_from units buffers caches writes reads done.items) core event (St entry.addr entry.value)
-            ≡ Ok (state_from (slice_set units core moved) (slice_set buffers core new) caches writes reads done.items)
+            → exec capacity fault (state_from units buffers caches writes reads done.items) core event
+            (St entry.addr entry.value)
+            ≡ Ok (state_from (slice_set units core moved) (slice_set buffers core new)
+            caches writes reads done.items)
         store_taken fault event_is room =
-            let entry_is : entry ≡ record { addr = entry.addr; value = entry.value; event = event } = ap (λ (e : ℕ). record { addr = entry.addr; value = entry.value; event = e }) event_is in
-            let free : length (slice_index_or (map (λ b. b.entries) buffers) core []) < capacity = omega (arith, room, capacity_is, ap (λ (l : List Entry). length l) (buffer_seen buffers core old buffer_there is)) in
-            rw (lt-ltb (length (slice_index_or (map (λ b. b.entries) buffers) core [])) capacity free, map-set (λ (b : Buffer). b.entries) buffers core new, pushed, buffer_seen buffers core old buffer_there is, places_set, ← entry_is) refl
+            let entry_is : entry ≡ record { addr = entry.addr; value = entry.value; event = event } =
+            ap (λ (e : ℕ). record { addr = entry.addr; value = entry.value; event = e }) event_is in
+            let free : length (slice_index_or (map (λ b. b.entries) buffers) core []) < capacity =
+            omega (
+              arith,
+              room,
+              capacity_is,
+              ap (λ (l : List Entry). length l)
+                  (buffer_seen buffers core old buffer_there is),
+            ) in
+            rw (
+              lt-ltb (length (slice_index_or (map (λ b. b.entries) buffers) core [])) capacity free,
+              map-set (λ (b : Buffer). b.entries) buffers core new,
+              pushed,
+              buffer_seen buffers core old buffer_there is,
+              places_set,
+              ← entry_is,
+            ) refl
 
   -- what was performed has room for one more, and so has each write list
   module _ (unit : Progress) (unit_is : unit ≡ slice_index_or units core unit) where
     -- there is room, whatever unit is looked at
     has_room_left : length done.items + sum_by (λ b. length b.entries) buffers < op_count p.cores
-    has_room_left = room_left unit unit_is (slice_index_or p.cores core []) refl (record unit { place = unit.place + 1 }) refl
+    has_room_left =
+        room_left unit unit_is (slice_index_or p.cores core []) refl (record unit { place = unit.place + 1 })
+        refl
 
   -- the core's unit
   abbrev some_unit : Progress
@@ -299,7 +430,8 @@ module _ (p : Parts) (capacity : ℕ) (units : List Progress) (buffers : List Bu
   has_room = omega (arith, has_room_left some_unit unit_is_some, sound.performed_room)
 
   -- and so has each write list
-  pub list_has_room : (addr : ℕ) → addr < length p.names → (list : BoundedItems ℕ) → list ≡ slice_index_or writes addr list → length list.items < list.room
+  pub list_has_room : (addr : ℕ) → addr < length p.names → (list : BoundedItems ℕ)
+      → list ≡ slice_index_or writes addr list → length list.items < list.room
   list_has_room addr addressed list list_is = omega (
     arith,
     ap (λ (l : BoundedItems ℕ). l.room) list_is,

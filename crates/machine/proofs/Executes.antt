@@ -12,7 +12,8 @@ use Rattle.machine.proofs.Seen.{IsCounted, IsOrdered, seen, IsNewest}
 use Rattle.machine.proofs.Counting.{counted_kept, Issues, issue_counts, Performs, perform_counts}
 use Rattle.machine.proofs.Ordering.{ordered_kept, issue_orders, perform_orders}
 use Rattle.machine.proofs.Rewritten.{counted_rewritten, ordered_rewritten, newest_rewritten}
-use Rattle.machine.proofs.Static.{static_of, snapshot_of, placed_op, placed_at, op_reads, is_st, is_ld}
+use Rattle.recorder.specs.PlacedLaws.{placed_at}
+use Rattle.machine.proofs.Static.{static_of, snapshot_of, placed_op, op_reads, is_st, is_ld}
 
 -- core c is at the operation op, whose event is b
 pub record IsNext (p : List (List Op)) (s : State) (c b : ℕ) (op : Op) : Type 0 where
@@ -22,38 +23,49 @@ pub record IsNext (p : List (List Op)) (s : State) (c b : ℕ) (op : Op) : Type 
   pub core : c < length s.places
 
 -- the event of a core's next operation is that operation's
-pub next_placed : (p : List (List Op)) (s : State) (c b : ℕ) (op : Op) → IsNext p s c b op → placed_op p b ≡ (c, op)
+pub next_placed : (p : List (List Op)) (s : State) (c b : ℕ) (op : Op) → IsNext p s c b op
+    → placed_op p b ≡ (c, op)
 next_placed p s c b op n =
-    ap (placed_op p) n.event ∙ ((placed_at 0 p c (place_of s c) Fence n.there).0 ∙ (ap (λ (k : ℕ). (k, get_or (get_or p c []) (place_of s c) Fence)) (omega arith) ∙ ap (λ (o : Op). (c, o)) n.operation))
+    ap (placed_op p) n.event ∙ ((placed_at 0 p c (place_of s c) Fence n.there).0
+    ∙ (ap (λ (k : ℕ). (k, get_or (get_or p c []) (place_of s c) Fence)) (omega arith)
+    ∙ ap (λ (o : Op). (c, o)) n.operation))
 
 -- and it is one of the program's
-pub next_event : (p : List (List Op)) (s : State) (c b : ℕ) (op : Op) → IsNext p s c b op → b < (static_of p s).count
+pub next_event : (p : List (List Op)) (s : State) (c b : ℕ) (op : Op) → IsNext p s c b op
+    → b < (static_of p s).count
 next_event p s c b op n = omega (arith, n.event, (placed_at 0 p c (place_of s c) Fence n.there).1)
 
-module _ (p : List (List Op)) (s t : State) (c b : ℕ) (op : Op) (n : IsNext p s c b op) (places : t.places ≡ slice_set s.places c (place_of s c + 1)) where
+module _ (p : List (List Op)) (s t : State) (c b : ℕ) (op : Op) (n : IsNext p s c b op)
+    (places : t.places ≡ slice_set s.places c (place_of s c + 1)) where
   -- and of that core
   core_is : (static_of p s).core b ≡ c
   core_is = ap (λ (z : ℕ × Op). z.0) (next_placed p s c b op n)
 
   -- the core goes on by one
   next_new : (snapshot_of p t).next ((static_of p s).core b) ≡ b + 1
-  next_new = ap (snapshot_of p t).next core_is ∙ (ap (λ (ps : List ℕ). first_event p c + get_or ps c 0) places ∙ omega (arith, n.event, get_or-set_same s.places c (place_of s c + 1) 0 n.core))
+  next_new = ap (snapshot_of p t).next core_is
+      ∙ (ap (λ (ps : List ℕ). first_event p c + get_or ps c 0) places
+      ∙ omega (arith, n.event, get_or-set_same s.places c (place_of s c + 1) 0 n.core))
 
   -- the others stay
   next_other : (d : ℕ) → d ≢ (static_of p s).core b → (snapshot_of p t).next d ≡ (snapshot_of p s).next d
   next_other d other = ap (λ (ps : List ℕ). first_event p d + get_or ps d 0) places
-      ∙ ap (λ (i : ℕ). first_event p d + i) (get_or-set_other s.places c d (place_of s c + 1) 0 (λ same. other (same ∙ sym core_is)))
+      ∙ ap (λ (i : ℕ). first_event p d + i)
+      (get_or-set_other s.places c d (place_of s c + 1) 0 (λ same. other (same ∙ sym core_is)))
 
   -- the event was the next of its core
   next_old : (snapshot_of p s).next ((static_of p s).core b) ≡ b
   next_old = ap (snapshot_of p s).next core_is ∙ sym n.event
 
   -- no other event writes anything else
-  writes_same : ((e : ℕ) → e ≢ b → get_or t.reads e (0, None) ≡ get_or s.reads e (0, None)) → (e : ℕ) → e ≢ b → (static_of p t).writes e ≡ (static_of p s).writes e
-  writes_same reads e other = ap (λ (d : ℕ × Option ℕ). written_address (event_of (placed_op p e).1 d)) (reads e other)
+  writes_same : ((e : ℕ) → e ≢ b → get_or t.reads e (0, None) ≡ get_or s.reads e (0, None)) → (e : ℕ) → e ≢ b
+      → (static_of p t).writes e ≡ (static_of p s).writes e
+  writes_same reads e other =
+      ap (λ (d : ℕ × Option ℕ). written_address (event_of (placed_op p e).1 d)) (reads e other)
 
   -- an operation that is performed at once
-  module _ (performed : t.performed ≡ s.performed ++ b ∷ []) (buffers : t.buffers ≡ s.buffers) (reads : (e : ℕ) → e ≢ b → get_or t.reads e (0, None) ≡ get_or s.reads e (0, None)) where
+  module _ (performed : t.performed ≡ s.performed ++ b ∷ []) (buffers : t.buffers ≡ s.buffers)
+      (reads : (e : ℕ) → e ≢ b → get_or t.reads e (0, None) ≡ get_or s.reads e (0, None)) where
     -- the execution performs the event
     performs : Performs (static_of p t) (snapshot_of p s) (snapshot_of p t) b
     performs = record {
@@ -67,19 +79,26 @@ module _ (p : List (List Op)) (s t : State) (c b : ℕ) (op : Op) (n : IsNext p 
     }
 
     -- so it keeps the count
-    pub perform_counted : IsCounted (static_of p s) (snapshot_of p s) → IsCounted (static_of p t) (snapshot_of p t)
+    pub perform_counted : IsCounted (static_of p s) (snapshot_of p s)
+        → IsCounted (static_of p t) (snapshot_of p t)
     perform_counted counted =
-        let same : IsCounted (static_of p t) (snapshot_of p s) = counted_rewritten (static_of p s) (snapshot_of p s) (static_of p t).writes counted in
-        counted_kept (static_of p t) (snapshot_of p s) (snapshot_of p t) b same (perform_counts (static_of p t) (snapshot_of p s) (snapshot_of p t) b same performs)
+        let same : IsCounted (static_of p t) (snapshot_of p s) =
+        counted_rewritten (static_of p s) (snapshot_of p s) (static_of p t).writes counted in
+        counted_kept (static_of p t) (snapshot_of p s) (snapshot_of p t) b same
+        (perform_counts (static_of p t) (snapshot_of p s) (snapshot_of p t) b same performs)
 
     -- and the order, where the event is allowed and reads the newest write
     pub perform_ordered : is_st op ≡ false → ((is_ld op ≡ true) ⊎ (buffer_of s c ≡ []))
-        → ((a : ℕ) → op_reads op ≡ Some a → IsNewest (static_of p s) (seen (snapshot_of p s) c) a (get_or t.reads b (0, None)).1)
-        → IsCounted (static_of p s) (snapshot_of p s) → IsOrdered (static_of p s) (snapshot_of p s) → IsOrdered (static_of p t) (snapshot_of p t)
+        → ((a : ℕ) → op_reads op ≡ Some a → IsNewest (static_of p s) (seen (snapshot_of p s) c) a
+        (get_or t.reads b (0, None)).1)
+        → IsCounted (static_of p s) (snapshot_of p s) → IsOrdered (static_of p s) (snapshot_of p s)
+        → IsOrdered (static_of p t) (snapshot_of p t)
     perform_ordered plain allowed newest counted ordered =
-        let same : IsCounted (static_of p t) (snapshot_of p s) = counted_rewritten (static_of p s) (snapshot_of p s) (static_of p t).writes counted in
+        let same : IsCounted (static_of p t) (snapshot_of p s) =
+        counted_rewritten (static_of p s) (snapshot_of p s) (static_of p t).writes counted in
         ordered_kept (static_of p t) (snapshot_of p s) (snapshot_of p t) b same
-        (ordered_rewritten (static_of p s) (snapshot_of p s) (static_of p t).writes b counted next_old (writes_same reads) ordered)
+        (ordered_rewritten (static_of p s) (snapshot_of p s) (static_of p t).writes b counted next_old
+        (writes_same reads) ordered)
         (perform_counts (static_of p t) (snapshot_of p s) (snapshot_of p t) b same performs)
         (perform_orders (static_of p t) (snapshot_of p s) (snapshot_of p t) b same performs (record {
           store = ap (λ (z : ℕ × Op). is_st z.1) (next_placed p s c b op n) ∙ plain;
@@ -87,48 +106,63 @@ module _ (p : List (List Op)) (s t : State) (c b : ℕ) (op : Op) (n : IsNext p 
             | inl load ↦ inl (ap (λ (z : ℕ × Op). is_ld z.1) (next_placed p s c b op n) ∙ load)
             | inr empty ↦ inr (ap (snapshot_of p s).buffer core_is ∙ ap (map (λ (x : Entry). x.event)) empty)
           ];
-          newest = λ a is. subst (λ (d : ℕ). IsNewest (static_of p t) (seen (snapshot_of p s) d) a (get_or t.reads b (0, None)).1) (sym core_is)
-              (newest_rewritten (static_of p s) (snapshot_of p s) (static_of p t).writes b counted next_old (writes_same reads) c a (get_or t.reads b (0, None)).1
+          newest = λ a is. subst (λ (d : ℕ). IsNewest (static_of p t) (seen (snapshot_of p s) d) a
+              (get_or t.reads b (0, None)).1) (sym core_is)
+              (newest_rewritten (static_of p s) (snapshot_of p s) (static_of p t).writes b counted next_old
+              (writes_same reads) c a (get_or t.reads b (0, None)).1
               (newest a (sym (ap (λ (z : ℕ × Op). op_reads z.1) (next_placed p s c b op n)) ∙ is)));
         }))
 
   -- a store that goes to the buffer
-  module _ (store : is_st op ≡ true) (none : op_reads op ≡ None) (performed : t.performed ≡ s.performed) (entry : Entry) (is : entry.event ≡ b) (at : c < length s.buffers)
-      (buffers : t.buffers ≡ slice_set s.buffers c (buffer_of s c ++ entry ∷ [])) (reads : t.reads ≡ s.reads) where
-    -- the execution puts the store into the buffer
-    issues : Issues (static_of p t) (snapshot_of p s) (snapshot_of p t) b
-    issues = record {
-      event = next_event p s c b op n;
-      store = ap (λ (z : ℕ × Op). is_st z.1) (next_placed p s c b op n) ∙ store;
-      reads = ap (λ (z : ℕ × Op). op_reads z.1) (next_placed p s c b op n) ∙ none;
-      next_was = next_old;
-      performed = performed;
-      buffer = ap (snapshot_of p t).buffer core_is ∙ (ap (λ (bs : List (List Entry)). map (λ (x : Entry). x.event) (get_or bs c [])) buffers
-          ∙ (ap (map (λ (x : Entry). x.event)) (get_or-set_same s.buffers c (buffer_of s c ++ entry ∷ []) [] at)
-          ∙ (map-append (λ (x : Entry). x.event) (buffer_of s c) (entry ∷ []) ∙ (ap (λ (e : ℕ). map (λ (x : Entry). x.event) (buffer_of s c) ++ e ∷ []) is
-          ∙ ap (λ (d : ℕ). map (λ (x : Entry). x.event) (buffer_of s d) ++ b ∷ []) (sym core_is)))));
-      others = λ d other. ap (λ (bs : List (List Entry)). map (λ (x : Entry). x.event) (get_or bs d [])) buffers
-          ∙ ap (map (λ (x : Entry). x.event)) (get_or-set_other s.buffers c d (buffer_of s c ++ entry ∷ []) [] (λ same. other (same ∙ sym core_is)));
-      next = next_new;
-      next_others = next_other;
-      source = λ e other. ap (λ (rs : List (ℕ × Option ℕ)). (get_or rs e (0, None)).1) reads;
-    }
+  module _ (store : is_st op ≡ true) (none : op_reads op ≡ None) (performed : t.performed ≡ s.performed)
+      (entry : Entry) (is : entry.event ≡ b) (at : c < length s.buffers)
+      (buffers : t.buffers ≡ slice_set s.buffers c (buffer_of s c ++ entry ∷ [])) (reads : t.reads ≡ s.reads)
+    where
+      -- the execution puts the store into the buffer
+      issues : Issues (static_of p t) (snapshot_of p s) (snapshot_of p t) b
+      issues = record {
+        event = next_event p s c b op n;
+        store = ap (λ (z : ℕ × Op). is_st z.1) (next_placed p s c b op n) ∙ store;
+        reads = ap (λ (z : ℕ × Op). op_reads z.1) (next_placed p s c b op n) ∙ none;
+        next_was = next_old;
+        performed = performed;
+        buffer = ap (snapshot_of p t).buffer core_is
+            ∙ (ap (λ (bs : List (List Entry)). map (λ (x : Entry). x.event) (get_or bs c [])) buffers
+            ∙ (ap (map (λ (x : Entry). x.event))
+            (get_or-set_same s.buffers c (buffer_of s c ++ entry ∷ []) [] at)
+            ∙ (map-append (λ (x : Entry). x.event) (buffer_of s c) (entry ∷ [])
+            ∙ (ap (λ (e : ℕ). map (λ (x : Entry). x.event) (buffer_of s c) ++ e ∷ []) is
+            ∙ ap (λ (d : ℕ). map (λ (x : Entry). x.event) (buffer_of s d) ++ b ∷ []) (sym core_is)))));
+        others = λ d other. ap (λ (bs : List (List Entry)). map (λ (x : Entry). x.event) (get_or bs d []))
+            buffers
+            ∙ ap (map (λ (x : Entry). x.event))
+            (get_or-set_other s.buffers c d (buffer_of s c ++ entry ∷ []) [] (λ same. other (same ∙ sym core_is)));
+        next = next_new;
+        next_others = next_other;
+        source = λ e other. ap (λ (rs : List (ℕ × Option ℕ)). (get_or rs e (0, None)).1) reads;
+      }
 
-    -- nothing is read
-    reads_same : (e : ℕ) → e ≢ b → get_or t.reads e (0, None) ≡ get_or s.reads e (0, None)
-    reads_same e other = ap (λ (rs : List (ℕ × Option ℕ)). get_or rs e (0, None)) reads
+      -- nothing is read
+      reads_same : (e : ℕ) → e ≢ b → get_or t.reads e (0, None) ≡ get_or s.reads e (0, None)
+      reads_same e other = ap (λ (rs : List (ℕ × Option ℕ)). get_or rs e (0, None)) reads
 
-    -- so it keeps the count
-    pub issue_counted : IsCounted (static_of p s) (snapshot_of p s) → IsCounted (static_of p t) (snapshot_of p t)
-    issue_counted counted =
-        let same : IsCounted (static_of p t) (snapshot_of p s) = counted_rewritten (static_of p s) (snapshot_of p s) (static_of p t).writes counted in
-        counted_kept (static_of p t) (snapshot_of p s) (snapshot_of p t) b same (issue_counts (static_of p t) (snapshot_of p s) (snapshot_of p t) b same issues)
+      -- so it keeps the count
+      pub issue_counted : IsCounted (static_of p s) (snapshot_of p s)
+          → IsCounted (static_of p t) (snapshot_of p t)
+      issue_counted counted =
+          let same : IsCounted (static_of p t) (snapshot_of p s) =
+          counted_rewritten (static_of p s) (snapshot_of p s) (static_of p t).writes counted in
+          counted_kept (static_of p t) (snapshot_of p s) (snapshot_of p t) b same
+          (issue_counts (static_of p t) (snapshot_of p s) (snapshot_of p t) b same issues)
 
-    -- and the order
-    pub issue_ordered : IsCounted (static_of p s) (snapshot_of p s) → IsOrdered (static_of p s) (snapshot_of p s) → IsOrdered (static_of p t) (snapshot_of p t)
-    issue_ordered counted ordered =
-        let same : IsCounted (static_of p t) (snapshot_of p s) = counted_rewritten (static_of p s) (snapshot_of p s) (static_of p t).writes counted in
-        ordered_kept (static_of p t) (snapshot_of p s) (snapshot_of p t) b same
-        (ordered_rewritten (static_of p s) (snapshot_of p s) (static_of p t).writes b counted next_old (writes_same reads_same) ordered)
-        (issue_counts (static_of p t) (snapshot_of p s) (snapshot_of p t) b same issues)
-        (issue_orders (static_of p t) (snapshot_of p s) (snapshot_of p t) b same issues)
+      -- and the order
+      pub issue_ordered : IsCounted (static_of p s) (snapshot_of p s)
+          → IsOrdered (static_of p s) (snapshot_of p s) → IsOrdered (static_of p t) (snapshot_of p t)
+      issue_ordered counted ordered =
+          let same : IsCounted (static_of p t) (snapshot_of p s) =
+          counted_rewritten (static_of p s) (snapshot_of p s) (static_of p t).writes counted in
+          ordered_kept (static_of p t) (snapshot_of p s) (snapshot_of p t) b same
+          (ordered_rewritten (static_of p s) (snapshot_of p s) (static_of p t).writes b counted next_old
+          (writes_same reads_same) ordered)
+          (issue_counts (static_of p t) (snapshot_of p s) (snapshot_of p t) b same issues)
+          (issue_orders (static_of p t) (snapshot_of p s) (snapshot_of p t) b same issues)

@@ -18,9 +18,12 @@ use Rattle.machine.proofs.Drains.{AreStores}
 
 -- what the buffer says of an address: nothing, or its last store
 abbrev pub IsYoungestOf : List (List Op) → State → List Entry → ℕ → Option Entry → Type 0
-IsYoungestOf p s b a None = (w : ℕ) → 0 < times (map (λ (x : Entry). x.event) b) w → ¬ (written_address (done_by p s w) ≡ Some a)
-IsYoungestOf p s b a (Some y) = (0 < times (map (λ (x : Entry). x.event) b) y.event) × (written_address (done_by p s y.event) ≡ Some a)
-    × ((w : ℕ) → 0 < times (map (λ (x : Entry). x.event) b) w → written_address (done_by p s w) ≡ Some a → (w ≡ y.event) ⊎ Before (map (λ (x : Entry). x.event) b) w y.event)
+IsYoungestOf p s b a None = (w : ℕ) → 0 < times (map (λ (x : Entry). x.event) b) w
+    → ¬ (written_address (done_by p s w) ≡ Some a)
+IsYoungestOf p s b a (Some y) =
+    (0 < times (map (λ (x : Entry). x.event) b) y.event) × (written_address (done_by p s y.event) ≡ Some a)
+    × ((w : ℕ) → 0 < times (map (λ (x : Entry). x.event) b) w → written_address (done_by p s w) ≡ Some a
+    → (w ≡ y.event) ⊎ Before (map (λ (x : Entry). x.event) b) w y.event)
 
 -- a test of two different numbers
 pub not_equal : (a b : ℕ) → (a ≡ b → ⊥) → (a == b) ≡ false
@@ -31,62 +34,107 @@ pub some_one : {a b : ℕ} → Some a ≡ Some b → a ≡ b
 some_one h = cc
 
 -- the youngest entry of an address is its last store
-pub youngest_says : (p : List (List Op)) (s : State) (c : ℕ) (b : List Entry) (a : ℕ) → AreStores p c b → ((e : ℕ) → times (map (λ (x : Entry). x.event) b) e ≤ 1) → IsYoungestOf p s b a (youngest b a)
+pub youngest_says : (p : List (List Op)) (s : State) (c : ℕ) (b : List Entry) (a : ℕ) → AreStores p c b
+    → ((e : ℕ) → times (map (λ (x : Entry). x.event) b) e ≤ 1) → IsYoungestOf p s b a (youngest b a)
 youngest_says p s c [] a stores once = λ w there. absurd (omega (arith, there, times_nil w))
-youngest_says p s c (x ∷ xs) a stores once = go (youngest xs a) (youngest_says p s c xs a stores.1 (λ e. elim (cases_eq x.event e) [
-  | inl here ↦ omega (arith, once e, times_here (map (λ (y : Entry). y.event) xs) x.event e here)
-  | inr other ↦ omega (arith, once e, times_there (map (λ (y : Entry). y.event) xs) x.event e other)
-]))
+youngest_says p s c (x ∷ xs) a stores once =
+    go (youngest xs a) (youngest_says p s c xs a stores.1 (λ e. elim (cases_eq x.event e) [
+      | inl here ↦ omega (arith, once e, times_here (map (λ (y : Entry). y.event) xs) x.event e here)
+      | inr other ↦ omega (arith, once e, times_there (map (λ (y : Entry). y.event) xs) x.event e other)
+    ]))
   where
     writes : written_address (done_by p s x.event) ≡ Some x.addr
     writes = ap (λ (z : ℕ × Op). written_address (event_of z.1 (get_or s.reads x.event (0, None)))) stores.0
 
-    go : (found : Option Entry) → IsYoungestOf p s xs a found → IsYoungestOf p s (x ∷ xs) a (or_else found (cond (x.addr == a) (Some x) None))
+    go : (found : Option Entry) → IsYoungestOf p s xs a found
+        → IsYoungestOf p s (x ∷ xs) a (or_else found (cond (x.addr == a) (Some x) None))
     go (Some y) says =
-        let apart : x.event ≢ y.event = λ one. omega (arith, once y.event, times_here (map (λ (z : Entry). z.event) xs) x.event y.event one, says.0) in (
+        let apart : x.event ≢ y.event =
+        λ one. omega (
+          arith,
+          once y.event,
+          times_here (map (λ (z : Entry). z.event) xs)
+              x.event y.event one,
+          says.0,
+        ) in (
           omega (arith, says.0, times_there (map (λ (z : Entry). z.event) xs) x.event y.event apart),
           says.1,
           λ w there wa. elim (cases_eq x.event w) [
             | inl here ↦ inr (
-              omega (arith, place_here (map (λ (z : Entry). z.event) xs) x.event w here, place_there (map (λ (z : Entry). z.event) xs) x.event y.event apart),
-              omega (arith, place_there (map (λ (z : Entry). z.event) xs) x.event y.event apart, place_in (map (λ (z : Entry). z.event) xs) y.event says.0),
+              omega (
+                arith,
+                place_here (map (λ (z : Entry). z.event) xs) x.event w here,
+                place_there (map (λ (z : Entry). z.event) xs) x.event y.event apart,
+              ),
+              omega (
+                arith,
+                place_there (map (λ (z : Entry). z.event) xs) x.event y.event apart,
+                place_in (map (λ (z : Entry). z.event) xs) y.event says.0,
+              ),
             )
-            | inr behind ↦ elim (says.2 w (omega (arith, there, times_there (map (λ (z : Entry). z.event) xs) x.event w behind)) wa) [
-              | inl one ↦ inl one
-              | inr before ↦ inr (
-                omega (arith, before, place_there (map (λ (z : Entry). z.event) xs) x.event w behind, place_there (map (λ (z : Entry). z.event) xs) x.event y.event apart),
-                omega (arith, before, place_there (map (λ (z : Entry). z.event) xs) x.event y.event apart),
-              )
-            ]
+            | inr behind ↦ elim (says.2 w (omega
+                (arith, there, times_there (map (λ (z : Entry). z.event) xs) x.event w behind)) wa) [
+                  | inl one ↦ inl one
+                  | inr before ↦ inr (
+                    omega (
+                      arith,
+                      before,
+                      place_there (map (λ (z : Entry). z.event) xs) x.event w behind,
+                      place_there (map (λ (z : Entry). z.event) xs) x.event y.event apart,
+                    ),
+                    omega (
+                      arith,
+                      before,
+                      place_there (map (λ (z : Entry). z.event) xs) x.event y.event apart,
+                    ),
+                  )
+                ]
           ],
         )
     go None says = elim (cases_eq x.addr a) [
-      | inl is ↦ subst (λ (t : Bool). IsYoungestOf p s (x ∷ xs) a (cond t (Some x) None)) (sym (eq-eqb x.addr a is)) (
-        omega (arith, times_here (map (λ (z : Entry). z.event) xs) x.event x.event refl),
-        writes ∙ ap Some is,
-        λ w there wa. elim (cases_eq x.event w) [
-          | inl here ↦ inl (sym here)
-          | inr behind ↦ absurd (says w (omega (arith, there, times_there (map (λ (z : Entry). z.event) xs) x.event w behind)) wa)
-        ],
-      )
-      | inr isnt ↦ subst (λ (t : Bool). IsYoungestOf p s (x ∷ xs) a (cond t (Some x) None)) (sym (not_equal x.addr a isnt))
+      | inl is ↦ subst (λ (t : Bool). IsYoungestOf p s (x ∷ xs) a (cond t (Some x) None))
+          (sym (eq-eqb x.addr a is)) (
+            omega (arith, times_here (map (λ (z : Entry). z.event) xs) x.event x.event refl),
+            writes ∙ ap Some is,
+            λ w there wa. elim (cases_eq x.event w) [
+              | inl here ↦ inl (sym here)
+              | inr behind ↦ absurd (says w (omega
+                  (arith, there, times_there (map (λ (z : Entry). z.event) xs) x.event w behind)) wa)
+            ],
+          )
+      | inr isnt ↦ subst (λ (t : Bool). IsYoungestOf p s (x ∷ xs) a (cond t (Some x) None))
+          (sym (not_equal x.addr a isnt))
           (λ w there wa. elim (cases_eq x.event w) [
-            | inl here ↦ isnt (some_one (sym writes ∙ (ap (λ (e : ℕ). written_address (done_by p s e)) here ∙ wa)))
-            | inr behind ↦ says w (omega (arith, there, times_there (map (λ (z : Entry). z.event) xs) x.event w behind)) wa
+            | inl here ↦ isnt (some_one (sym writes
+                ∙ (ap (λ (e : ℕ). written_address (done_by p s e)) here ∙ wa)))
+            | inr behind ↦ says w (omega (
+              arith,
+              there,
+              times_there (map (λ (z : Entry). z.event) xs) x.event w behind,
+            )) wa
           ])
     ]
 
 -- a store of the own buffer is newer than all that was performed
-pub newest_in_buffer : (p : List (List Op)) (s : State) (m : List ℕ) (b : List Entry) (a : ℕ) (y : Entry) → ((e : ℕ) → 0 < times (map (λ (x : Entry). x.event) b) e → times m e ≡ 0)
-    → IsYoungestOf p s b a (Some y) → IsNewest (static_of p s) (m ++ map (λ (x : Entry). x.event) b) a (Some y.event)
+pub newest_in_buffer : (p : List (List Op)) (s : State) (m : List ℕ) (b : List Entry) (a : ℕ) (y : Entry)
+    → ((e : ℕ) → 0 < times (map (λ (x : Entry). x.event) b) e → times m e ≡ 0)
+    → IsYoungestOf p s b a (Some y) → IsNewest (static_of p s) (m ++ map (λ (x : Entry). x.event) b) a
+    (Some y.event)
 newest_in_buffer p s m b a y apart says = (
   omega (arith, says.0, times_append m (map (λ (x : Entry). x.event) b) y.event),
   says.1,
   λ w there wa. elim (cases_times m w) [
-    | inl none ↦ elim (says.2 w (omega (arith, there, none, times_append m (map (λ (x : Entry). x.event) b) w)) wa) [
+    | inl none ↦ elim (says.2 w (omega (
+      arith,
+      there,
+      none,
+      times_append m (map (λ (x : Entry). x.event) b) w,
+    )) wa) [
       | inl one ↦ inl one
-      | inr before ↦ inr (before_in_right m (map (λ (x : Entry). x.event) b) w y.event none (apart y.event says.0) before)
+      | inr before ↦ inr (before_in_right m (map (λ (x : Entry). x.event) b) w y.event none
+          (apart y.event says.0) before)
     ]
-    | inr there_left ↦ inr (left_before_right m (map (λ (x : Entry). x.event) b) w y.event there_left (apart y.event says.0) says.0)
+    | inr there_left ↦ inr (left_before_right m (map (λ (x : Entry). x.event) b) w y.event there_left
+        (apart y.event says.0) says.0)
   ],
 )

@@ -1,10 +1,8 @@
 -- The opening state keeps all that a step keeps, and where the events of a core stand.
-use Rattle.std.proofs.Common.{◌≡◌, ◌<◌, ◌≤◌, ◌+◌, ◌-◌, inl, inr, ℕ, suc, Option, Some, None, List, [], ◌∷◌}
-use Rattle.std.proofs.Common.{map, take, length, get_or, replicate, arith, refl, sym, ap, subst, ◌∙◌}
-use Rattle.std.proofs.Common.{length-append}
-use Rattle.std.specs.List.{All, sum, sum_by}
+use Rattle.std.proofs.Common.{◌≡◌, ◌<◌, inl, inr, ℕ, Option, Some, None, List, []}
+use Rattle.std.proofs.Common.{map, length, get_or, replicate, arith, refl, sym, ap, subst, ◌∙◌}
+use Rattle.std.specs.List.{All, sum_by}
 use Rattle.std.proofs.lemmas.List.{length-replicate, get_or-replicate, get_or_past}
-use Rattle.std.proofs.lemmas.List.Sums.{sum_by-cons}
 use Rattle.std.proofs.lemmas.Bool.{cases_lt}
 use Rattle.recorder.specs.Execution.{placed_from}
 use Rattle.recorder.specs.Order.{times}
@@ -12,53 +10,18 @@ use Rattle.recorder.specs.OrderLaws.{times_nil}
 use Rattle.litmus.specs.declared.op.Op.{Op}
 use Rattle.litmus.specs.declared.op.Op.TheVariants.{St, Ld, Fence, Swap, Add}
 use Rattle.write_buffer.specs.declared.entry.Entry.{Entry}
-use Rattle.machine.specs.State.{State, first_event, opening, event_of}
+use Rattle.machine.specs.State.{opening, event_of}
 use Rattle.litmus.specs.Parts.{IsWithin}
 use Rattle.recorder.specs.Event.{written_address}
 use Rattle.moesi.specs.Block.{Block, opening_block}
-use Rattle.moesi.specs.CacheLaws.{opening_coherent}
-use Rattle.machine.proofs.Static.{static_of, snapshot_of, placed_op, placed_at, placed_total, op_reads}
-use Rattle.machine.proofs.Static.{tagged}
+use Rattle.moesi.specs.CacheLaws.{opening_is_coherent}
+use Rattle.recorder.specs.PlacedLaws.{located, placed_total}
+use Rattle.machine.specs.PlaceLaws.{event_behind, event_op}
+use Rattle.machine.proofs.Static.{static_of, snapshot_of, placed_op, op_reads}
 use Rattle.machine.proofs.Newest.{last_of, last_nil}
 use Rattle.machine.proofs.Drains.{AreStores}
 use Rattle.machine.proofs.Steady.{IsSteady}
 use Rattle.machine.proofs.InOrder.{IsInOrder}
-
--- event e is the operation j of core i
-pub located : {A : Type 0} (k : ℕ) (cores : List (List A)) (e : ℕ) → e < length (placed_from k cores)
-    → (i : ℕ) × (j : ℕ) × (i < length cores) × (j < length (get_or cores i [])) × (sum (take i (map (λ es. length es) cores)) + j ≡ e)
-located k [] e h = absurd (omega arith)
-located k (es ∷ rest) e h = elim (cases_lt e (length es)) [
-  | inl here ↦ (0, e, omega arith, here, omega arith)
-  | inr behind ↦
-      let at = located (k + 1) rest (e - length es) (omega (arith, h, behind, length-append (map (λ x. (k, x)) es) (placed_from (k + 1) rest), tagged k es)) in
-      (suc at.0, at.1, omega (arith, at.2), at.3, omega (arith, behind, at.4, sum_by-cons (λ (n : ℕ). n) (length es) (take at.0 (map (λ fs. length fs) rest))))
-]
-
-module _ (p : List (List Op)) (s : State) (e : ℕ) (event : e < (static_of p s).count) where
-  -- the core of event e
-  core : ℕ
-  core = (located 0 p e event).0
-
-  -- it is the one that the numbers say
-  pub event_core : (static_of p s).core e ≡ (located 0 p e event).0
-  event_core =
-      let at = located 0 p e event in
-      ap (λ (n : ℕ). (placed_op p n).0) (sym at.4) ∙ (ap (λ (z : ℕ × Op). z.0) (placed_at 0 p at.0 at.1 Fence at.3).0 ∙ omega arith)
-
-  -- and e is its operation there
-  pub event_op : (placed_op p e).1 ≡ get_or (get_or p (located 0 p e event).0 []) (located 0 p e event).1 Fence
-  event_op =
-      let at = located 0 p e event in
-      ap (λ (n : ℕ). (placed_op p n).1) (sym at.4) ∙ ap (λ (z : ℕ × Op). z.1) (placed_at 0 p at.0 at.1 Fence at.3).0
-
-  -- it comes after the first of its core, and before the end
-  pub event_behind : first_event p ((static_of p s).core e) ≤ e
-  event_behind = subst (λ (c : ℕ). first_event p c ≤ e) (sym event_core) (omega (arith, (located 0 p e event).4))
-
-  -- it comes before the end of its core
-  pub event_before : e < first_event p ((static_of p s).core e) + length (get_or p ((static_of p s).core e) [])
-  event_before = subst (λ (c : ℕ). e < first_event p c + length (get_or p c [])) (sym event_core) (omega (arith, (located 0 p e event).4, (located 0 p e event).3))
 
 -- a list of one item has it everywhere
 pub get_or_same : {A : Type 0} (n i : ℕ) (x : A) → get_or (replicate n x) i x ≡ x
@@ -68,7 +31,8 @@ get_or_same n i x = elim (cases_lt i n) [
 ]
 
 -- an event writes the address of its operation, which is within the program's
-pub address_within : (n : ℕ) (o : Op) (a : ℕ) (d : ℕ × Option ℕ) → IsWithin n o → written_address (event_of o d) ≡ Some a → a < n
+pub address_within : (n : ℕ) (o : Op) (a : ℕ) (d : ℕ × Option ℕ) → IsWithin n o
+    → written_address (event_of o d) ≡ Some a → a < n
 address_within n (St b v) a d h is = omega (arith, h, let one : b ≡ a = cc in one)
 address_within n (Ld b) a d h is = absurd cc
 address_within n Fence a d h is = absurd cc
@@ -77,20 +41,32 @@ address_within n (Add b v) a d h is = omega (arith, h, let one : b ≡ a = cc in
 
 module _ (p : List (List Op)) (n : ℕ) (fits : All (λ ops. All (IsWithin n) ops) p) where
   -- nothing was executed
-  nothing_executed : (e : ℕ) → e < (static_of p (opening p n)).count → ¬ (e < (snapshot_of p (opening p n)).next ((static_of p (opening p n)).core e))
-  nothing_executed e event done = omega (arith, done, event_behind p (opening p n) e event, get_or_same {A = ℕ} (length p) ((static_of p (opening p n)).core e) 0)
+  nothing_executed : (e : ℕ) → e < (static_of p (opening p n)).count
+      → ¬ (e < (snapshot_of p (opening p n)).next ((static_of p (opening p n)).core e))
+  nothing_executed e event done =
+      omega (
+        arith,
+        done,
+        event_behind p e event,
+        get_or_same {A = ℕ} (length p) ((static_of p (opening p n)).core e) 0,
+      )
 
   -- nothing waits
-  nothing_waits : (c e : ℕ) → times (map (λ (x : Entry). x.event) (get_or (replicate (length p) []) c [])) e ≡ 0
-  nothing_waits c e = ap (λ (b : List Entry). times (map (λ (x : Entry). x.event) b) e) (get_or_same (length p) c []) ∙ times_nil e
+  nothing_waits : (c e : ℕ) → times (map (λ (x : Entry). x.event) (get_or (replicate (length p) []) c [])) e
+      ≡ 0
+  nothing_waits c e =
+      ap (λ (b : List Entry). times (map (λ (x : Entry). x.event) b) e) (get_or_same (length p) c [])
+      ∙ times_nil e
 
   -- each operation has an address of the program
   pub op_within : (e : ℕ) → IsWithin n (placed_op p e).1
   op_within e = elim (cases_lt e (length (placed_from 0 p))) [
     | inl event ↦
         let at = located 0 p e event in
-        subst (λ (o : Op). IsWithin n o) (sym (event_op p (opening p n) e event)) (fits at.0 [] at.2 at.1 Fence at.3)
-    | inr past ↦ subst (λ (z : ℕ × Op). IsWithin n z.1) (sym (get_or_past (placed_from 0 p) e (0, Fence) past)) tt
+        subst (λ (o : Op). IsWithin n o) (sym (event_op p e event))
+        (fits at.0 [] at.2 at.1 Fence at.3)
+    | inr past ↦ subst (λ (z : ℕ × Op). IsWithin n z.1)
+        (sym (get_or_past (placed_from 0 p) e (0, Fence) past)) tt
   ]
 
   -- so has each read
@@ -118,8 +94,18 @@ module _ (p : List (List Op)) (n : ℕ) (fits : All (λ ops. All (IsWithin n) op
     cores = (let same : length p ≡ length p = refl in same);
     buffers = length-replicate (length p) [];
     reads = length-replicate (sum_by (λ ops. length ops) p) (0, None) ∙ sym (placed_total 0 p);
-    writes_within = λ e a d is. omega (arith, address_within n (placed_op p e).1 a d (op_within e) is, length-replicate {A = Block} n (opening_block (length p)));
-    reads_within = λ e a is. omega (arith, reads_within (placed_op p e).1 a (op_within e) is, length-replicate {A = Block} n (opening_block (length p)));
+    writes_within =
+        λ e a d is. omega (
+          arith,
+          address_within n (placed_op p e).1 a d (op_within e) is,
+          length-replicate {A = Block} n (opening_block (length p)),
+        );
+    reads_within =
+        λ e a is. omega (
+          arith,
+          reads_within (placed_op p e).1 a (op_within e) is,
+          length-replicate {A = Block} n (opening_block (length p)),
+        );
   }
 
   -- and in order
@@ -130,6 +116,7 @@ module _ (p : List (List Op)) (n : ℕ) (fits : All (λ ops. All (IsWithin n) op
       kept = λ e f own done strong. absurd (nothing_executed f own.1 done);
       values = λ e a reads there. absurd (omega (arith, there, times_nil e));
     };
-    coherent = (opening_coherent (length p) n).0;
-    latest = λ a inside. ap (λ (z : ℕ × Option ℕ). z.1) ((opening_coherent (length p) n).1 a) ∙ (sym last_nil ∙ ap last_of (sym (get_or_same n a [])));
+    coherent = (opening_is_coherent (length p) n).0;
+    latest = λ a inside. ap (λ (z : ℕ × Option ℕ). z.1) ((opening_is_coherent (length p) n).1 a)
+        ∙ (sym last_nil ∙ ap last_of (sym (get_or_same n a [])));
   }

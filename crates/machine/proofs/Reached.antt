@@ -9,37 +9,42 @@ use Rattle.machine.specs.declared.step.Step.TheVariants.{Exec}
 use Rattle.machine.specs.State.{State, opening}
 use Rattle.machine.specs.Configuration.{IsReached}
 use Rattle.machine.specs.Step.{exec, taken, after, run, IsAt}
+use Rattle.machine.specs.RunLaws.{run_append}
 use Rattle.machine.proofs.InOrder.{IsInOrder}
 use Rattle.machine.proofs.Complete.{run_in_order}
 use Rattle.machine.proofs.Data.{IsData, run_data}
 
--- steps in two parts
-pub run_append : (p : List (List Op)) (capacity : ℕ) (f : Fault) (s : State) (xs ys : List Step) → run p capacity f s (xs ++ ys) ≡ run p capacity f (run p capacity f s xs) ys
-run_append p capacity f s [] ys = refl
-run_append p capacity f s (x ∷ xs) ys = run_append p capacity f (after s (taken p capacity f s x)) xs ys
-
 -- one step more
-pub reached_step : (p : List (List Op)) (n capacity : ℕ) (f : Fault) (s t : State) (step : Step) → IsReached p n capacity f s → taken p capacity f s step ≡ Ok t → IsReached p n capacity f t
+pub reached_step : (p : List (List Op)) (n capacity : ℕ) (f : Fault) (s t : State) (step : Step)
+    → IsReached p n capacity f s → taken p capacity f s step ≡ Ok t → IsReached p n capacity f t
 reached_step p n capacity f s t step r took = record {
   steps = r.steps ++ step ∷ [];
-  leads = run_append p capacity f (opening p n) r.steps (step ∷ []) ∙ (ap (λ (z : State). after z (taken p capacity f z step)) r.leads ∙ ap (after s) took);
+  leads = run_append p capacity f (opening p n) r.steps (step ∷ [])
+      ∙ (ap (λ (z : State). after z (taken p capacity f z step)) r.leads ∙ ap (after s) took);
   operations = r.operations;
 }
 
 -- the execution of a core's operation is a step
-pub at_taken : (p : List (List Op)) (capacity : ℕ) (f : Fault) (s : State) (c : ℕ) (op : Op) (e : ℕ) → IsAt p s c op e → taken p capacity f s (Exec c) ≡ exec capacity f s c e op
+pub at_taken : (p : List (List Op)) (capacity : ℕ) (f : Fault) (s : State) (c : ℕ) (op : Op) (e : ℕ)
+    → IsAt p s c op e → taken p capacity f s (Exec c) ≡ exec capacity f s c e op
 at_taken p capacity f s c op e at = rw (lt-ltb c (length p) at.core, at.operation, at.number) refl
 
 -- an execution leads on
-pub reached_exec : (p : List (List Op)) (n capacity : ℕ) (f : Fault) (s t : State) (c : ℕ) (op : Op) (e : ℕ) → IsAt p s c op e → IsReached p n capacity f s
+pub reached_exec : (p : List (List Op)) (n capacity : ℕ) (f : Fault) (s t : State) (c : ℕ) (op : Op) (e : ℕ)
+    → IsAt p s c op e → IsReached p n capacity f s
     → exec capacity f s c e op ≡ Ok t → IsReached p n capacity f t
-reached_exec p n capacity f s t c op e at r took = reached_step p n capacity f s t (Exec c) r (at_taken p capacity f s c op e at ∙ took)
+reached_exec p n capacity f s t c op e at r took =
+    reached_step p n capacity f s t (Exec c) r (at_taken p capacity f s c op e at ∙ took)
 
 -- a state that is reached without fault is in order
-pub reached_in_order : (p : List (List Op)) (n capacity : ℕ) (f : Fault) (s : State) → f ≡ fault.None → IsReached p n capacity f s → IsInOrder p s
+pub reached_in_order : (p : List (List Op)) (n capacity : ℕ) (f : Fault) (s : State) → f ≡ fault.None
+    → IsReached p n capacity f s → IsInOrder p s
 reached_in_order p n capacity f s none r = subst (λ (z : State). IsInOrder p z) r.leads
-    (subst (λ (g : Fault). IsInOrder p (run p capacity g (opening p n) r.steps)) (sym none) (run_in_order p n capacity r.steps r.operations))
+    (subst (λ (g : Fault). IsInOrder p (run p capacity g (opening p n) r.steps)) (sym none)
+    (run_in_order p n capacity r.steps r.operations))
 
 -- a reached state has its data from executed writes, under every fault
-pub reached_data : (p : List (List Op)) (n capacity : ℕ) (f : Fault) (s : State) → IsReached p n capacity f s → IsData p s
-reached_data p n capacity f s r = subst (λ (z : State). IsData p z) r.leads (run_data p n capacity f r.steps r.operations)
+pub reached_data : (p : List (List Op)) (n capacity : ℕ) (f : Fault) (s : State) → IsReached p n capacity f s
+    → IsData p s
+reached_data p n capacity f s r =
+    subst (λ (z : State). IsData p z) r.leads (run_data p n capacity f r.steps r.operations)

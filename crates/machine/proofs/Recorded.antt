@@ -6,17 +6,19 @@ use Rattle.litmus.specs.declared.op.Op.{Op}
 use Rattle.litmus.specs.Parts.{Parts}
 use Rattle.recorder.specs.Recording.{IsRecording}
 use Rattle.machine.specs.State.{State, cores_from, recorded, IsComplete}
-use Rattle.machine.proofs.Static.{placed_total}
-use Rattle.machine.proofs.Complete.{count_is}
+use Rattle.recorder.specs.PlacedLaws.{placed_total}
+use Rattle.machine.specs.RecordedLaws.{count_is}
 use Rattle.machine.proofs.Data.{IsData, complete_well_formed, complete_addresses}
 
 -- a recording has the cores of its program
-cores_length : (e : ℕ) (p : List (List Op)) (reads : List (ℕ × Option ℕ)) → length (cores_from e p reads) ≡ length p
+cores_length : (e : ℕ) (p : List (List Op)) (reads : List (ℕ × Option ℕ))
+    → length (cores_from e p reads) ≡ length p
 cores_length e [] reads = refl
 cores_length e (ops ∷ p) reads = ap suc (cores_length (e + length ops) p reads)
 
 -- the recording of a complete state is a recording
-pub complete_recording : (p : Parts) (s : State) → length p.cores ≤ MAX_CORES → sum_by (λ ops. length ops) p.cores ≤ MAX_EVENTS → length s.write_lists ≤ MAX_ADDRESSES
+pub complete_recording : (p : Parts) (s : State) → length p.cores ≤ MAX_CORES
+    → sum_by (λ ops. length ops) p.cores ≤ MAX_EVENTS → length s.write_lists ≤ MAX_ADDRESSES
     → IsData p.cores s → IsComplete p.cores s → IsRecording (recorded p.cores s)
 complete_recording p s cores events addresses d end = record {
   well_formed = complete_well_formed p.cores s d end;

@@ -6,7 +6,8 @@ use Rattle.recorder.specs.Order.{times, Before}
 use Rattle.recorder.specs.OrderLaws.{place_in, times_in, times_here, times_there, times_append}
 use Rattle.recorder.specs.OrderLaws.{place_append_left, place_append_right, cases_times, inserted, removed}
 
--- what is known of the events: their number, their cores, what they write and read, and which are plain stores or loads
+-- what is known of the events: their number, their cores, what they write and read, and which are plain
+-- stores or loads
 pub record Static : Type 0 where
   pub count : ℕ
   pub core : ℕ → ℕ
@@ -42,25 +43,32 @@ IsLast p o e a (Some s) = CanSee p o e a s × ((w : ℕ) → CanSee p o e a w �
 -- the last write to a in an order, or none
 abbrev pub IsNewest : Static → List ℕ → ℕ → Option ℕ → Type 0
 IsNewest p o a None = (w : ℕ) → 0 < times o w → ¬ (p.writes w ≡ Some a)
-IsNewest p o a (Some s) = (0 < times o s) × (p.writes s ≡ Some a) × ((w : ℕ) → 0 < times o w → p.writes w ≡ Some a → (w ≡ s) ⊎ Before o w s)
+IsNewest p o a (Some s) =
+    (0 < times o s) × (p.writes s ≡ Some a)
+    × ((w : ℕ) → 0 < times o w → p.writes w ≡ Some a → (w ≡ s) ⊎ Before o w s)
 
--- what counts: an executed event stands once in its core's order, nothing else stands there, and plain stores alone wait
+-- what counts: an executed event stands once in its core's order, nothing else stands there, and plain
+-- stores alone wait
 pub record IsCounted (p : Static) (s : Snapshot) : Type 0 where
   pub listed : (e : ℕ) → e < p.count → e < s.next (p.core e) → times (seen s (p.core e)) e ≡ 1
   pub executed : (c e : ℕ) → 0 < times (seen s c) e → (e < p.count) × (e < s.next (p.core e))
   pub waiting : (c e : ℕ) → 0 < times (s.buffer c) e → (p.core e ≡ c) × (p.store e ≡ true)
 
--- what orders: each core's order keeps what TSO keeps, and each performed read has the last write that it can see
+-- what orders: each core's order keeps what TSO keeps, and each performed read has the last write that
+-- it can see
 pub record IsOrdered (p : Static) (s : Snapshot) : Type 0 where
-  pub kept : (e f : ℕ) → Own p e f → f < s.next (p.core f) → (p.store e && p.load f) ≡ false → Before (seen s (p.core f)) e f
-  pub values : (e a : ℕ) → p.reads e ≡ Some a → 0 < times s.performed e → IsLast p (seen s (p.core e)) e a (s.source e)
+  pub kept : (e f : ℕ) → Own p e f → f < s.next (p.core f) → (p.store e && p.load f) ≡ false
+      → Before (seen s (p.core f)) e f
+  pub values : (e a : ℕ) → p.reads e ≡ Some a → 0 < times s.performed e
+      → IsLast p (seen s (p.core e)) e a (s.source e)
 
 -- what was performed is seen by every core
 pub performed_is_seen : (s : Snapshot) (d e : ℕ) → 0 < times s.performed e → 0 < times (seen s d) e
 performed_is_seen s d e h = omega (arith, times_append s.performed (s.buffer d) e)
 
 -- what is not executed is seen nowhere
-pub not_seen : (p : Static) (s : Snapshot) → IsCounted p s → (b d : ℕ) → s.next (p.core b) ≤ b → times (seen s d) b ≡ 0
+pub not_seen : (p : Static) (s : Snapshot) → IsCounted p s → (b d : ℕ) → s.next (p.core b) ≤ b
+    → times (seen s d) b ≡ 0
 not_seen p s counted b d new = elim (cases_times (seen s d) b) [
   | inl none ↦ none
   | inr some ↦ absurd (omega (arith, (counted.executed d b some).1))
@@ -71,47 +79,77 @@ pub not_performed : (s : Snapshot) (d b : ℕ) → times (seen s d) b ≡ 0 → 
 not_performed s d b none = omega (arith, times_append s.performed (s.buffer d) b)
 
 -- what an executed read sees is executed
-pub seen_is_listed : (p : Static) (s : Snapshot) → IsCounted p s → (e a w : ℕ) → e < s.next (p.core e) → CanSee p (seen s (p.core e)) e a w → 0 < times (seen s (p.core e)) w
+pub seen_is_listed : (p : Static) (s : Snapshot) → IsCounted p s → (e a w : ℕ) → e < s.next (p.core e)
+    → CanSee p (seen s (p.core e)) e a w → 0 < times (seen s (p.core e)) w
 seen_is_listed p s counted e a w executed h = elim h.2 [
   | inl before ↦ times_in (seen s (p.core e)) w (omega (arith, before))
   | inr own ↦
-      let one : times (seen s (p.core w)) w ≡ 1 = counted.listed w (omega (arith, own)) (subst (λ (c : ℕ). w < s.next c) (sym own.2) (omega (arith, own.0, executed))) in
+      let one : times (seen s (p.core w)) w ≡ 1 =
+      counted.listed w (omega (arith, own))
+      (subst (λ (c : ℕ). w < s.next c) (sym own.2) (omega (arith, own.0, executed))) in
       subst (λ (c : ℕ). 0 < times (seen s c) w) own.2 (omega (arith, one))
 ]
 
 -- a source is a write that can be seen
-pub last_seen : (p : Static) (o : List ℕ) (e a : ℕ) (s : Option ℕ) (w : ℕ) → s ≡ Some w → IsLast p o e a s → CanSee p o e a w
+pub last_seen : (p : Static) (o : List ℕ) (e a : ℕ) (s : Option ℕ) (w : ℕ) → s ≡ Some w → IsLast p o e a s
+    → CanSee p o e a w
 last_seen p o e a s w is h = (subst (λ (z : Option ℕ). IsLast p o e a z) is h).0
 
 -- What an event does not change: b goes between two parts of an order, and e was there before
 
 -- what e could see it still sees
-can_see_same : (p : Static) (u v : List ℕ) (b e a w : ℕ) → e ≢ b → w ≢ b → CanSee p (u ++ v) e a w → CanSee p (u ++ b ∷ v) e a w
-can_see_same p u v b e a w eb wb h = (h.0, h.1, elim h.2 [ inl before ↦ inl (inserted u v b w e wb eb before) | inr own ↦ inr own ])
+can_see_same : (p : Static) (u v : List ℕ) (b e a w : ℕ) → e ≢ b → w ≢ b → CanSee p (u ++ v) e a w
+    → CanSee p (u ++ b ∷ v) e a w
+can_see_same p u v b e a w eb wb h = (
+  h.0,
+  h.1,
+  elim h.2 [
+    | inl before ↦ inl (inserted u v b w e wb eb before)
+    | inr own ↦ inr own
+  ],
+)
 
 -- what e sees it could see
-can_see_back : (p : Static) (u v : List ℕ) (b e a w : ℕ) → e ≢ b → w ≢ b → CanSee p (u ++ b ∷ v) e a w → CanSee p (u ++ v) e a w
-can_see_back p u v b e a w eb wb h = (h.0, h.1, elim h.2 [ inl before ↦ inl (removed u v b w e wb eb before) | inr own ↦ inr own ])
+can_see_back : (p : Static) (u v : List ℕ) (b e a w : ℕ) → e ≢ b → w ≢ b → CanSee p (u ++ b ∷ v) e a w
+    → CanSee p (u ++ v) e a w
+can_see_back p u v b e a w eb wb h = (
+  h.0,
+  h.1,
+  elim h.2 [
+    | inl before ↦ inl (removed u v b w e wb eb before)
+    | inr own ↦ inr own
+  ],
+)
 
 -- e stands in the left part, and b is not earlier on its core: so e does not see b
-b_unseen : (p : Static) (u v : List ℕ) (b e a : ℕ) → e ≢ b → times (u ++ v) b ≡ 0 → 0 < times u e → ¬ Own p b e → ¬ CanSee p (u ++ b ∷ v) e a b
+b_unseen : (p : Static) (u v : List ℕ) (b e a : ℕ) → e ≢ b → times (u ++ v) b ≡ 0 → 0 < times u e
+    → ¬ Own p b e → ¬ CanSee p (u ++ b ∷ v) e a b
 b_unseen p u v b e a eb fresh e_left not_own h = elim h.2 [
-  | inl before ↦ omega (arith, before, place_append_left u (b ∷ v) e e_left, place_append_right u (b ∷ v) b (omega (arith, fresh, times_append u v b)), place_in u e e_left)
+  | inl before ↦ omega (
+    arith,
+    before,
+    place_append_left u (b ∷ v) e e_left,
+    place_append_right u (b ∷ v) b (omega (arith, fresh, times_append u v b)),
+    place_in u e e_left,
+  )
   | inr own ↦ not_own own
 ]
 
 -- its last write stays
-is_last_same : (p : Static) (u v : List ℕ) (b e a : ℕ) → e ≢ b → times (u ++ v) b ≡ 0 → 0 < times u e → ¬ Own p b e
+is_last_same : (p : Static) (u v : List ℕ) (b e a : ℕ) → e ≢ b → times (u ++ v) b ≡ 0 → 0 < times u e
+    → ¬ Own p b e
     → (o : Option ℕ) → ((s : ℕ) → o ≡ Some s → s ≢ b) → IsLast p (u ++ v) e a o → IsLast p (u ++ b ∷ v) e a o
 is_last_same p u v b e a eb fresh e_left not_own None others h = λ w seen. elim (cases_eq w b) [
-  | inl same ↦ b_unseen p u v b e a eb fresh e_left not_own (subst (λ (z : ℕ). CanSee p (u ++ b ∷ v) e a z) same seen)
+  | inl same ↦ b_unseen p u v b e a eb fresh e_left not_own
+      (subst (λ (z : ℕ). CanSee p (u ++ b ∷ v) e a z) same seen)
   | inr other ↦ h w (can_see_back p u v b e a w eb other seen)
 ]
 is_last_same p u v b e a eb fresh e_left not_own (Some s) others h =
     let sb : s ≢ b = others s refl in (
       can_see_same p u v b e a s eb sb h.0,
       λ w seen. elim (cases_eq w b) [
-        | inl same ↦ absurd (b_unseen p u v b e a eb fresh e_left not_own (subst (λ (z : ℕ). CanSee p (u ++ b ∷ v) e a z) same seen))
+        | inl same ↦ absurd (b_unseen p u v b e a eb fresh e_left not_own
+            (subst (λ (z : ℕ). CanSee p (u ++ b ∷ v) e a z) same seen))
         | inr other ↦ elim (h.1 w (can_see_back p u v b e a w eb other seen)) [
           | inl is ↦ inl is
           | inr before ↦ inr (inserted u v b w s other sb before)
@@ -119,27 +157,33 @@ is_last_same p u v b e a eb fresh e_left not_own (Some s) others h =
       ],
     )
 
--- core d sees the order as before, or with b put in behind all that was performed, where it was not, and where no performed read of d is later on its core
+-- core d sees the order as before, or with b put in behind all that was performed, where it was not, and
+-- where no performed read of d is later on its core
 pub data Grows (p : Static) (b : ℕ) (performed : List ℕ) (d : ℕ) : List ℕ → List ℕ → Type 0 where
   unmoved : {o : List ℕ} → Grows p b performed d o o
   moved : (u v : List ℕ) → times (u ++ v) b ≡ 0 → ((e : ℕ) → 0 < times performed e → 0 < times u e)
-      → ((e : ℕ) → 0 < times performed e → p.core e ≡ d → ¬ Own p b e) → Grows p b performed d (u ++ v) (u ++ b ∷ v)
+      → ((e : ℕ) → 0 < times performed e → p.core e ≡ d → ¬ Own p b e)
+      → Grows p b performed d (u ++ v) (u ++ b ∷ v)
 
 -- the others stay in order
-pub before_grown : (p : Static) (d : ℕ) {b : ℕ} {performed o o' : List ℕ} → Grows p b performed d o o' → (e f : ℕ) → e ≢ b → f ≢ b → Before o e f → Before o' e f
+pub before_grown : (p : Static) (d : ℕ) {b : ℕ} {performed o o' : List ℕ} → Grows p b performed d o o'
+    → (e f : ℕ) → e ≢ b → f ≢ b → Before o e f → Before o' e f
 before_grown p d unmoved e f eb fb h = h
 before_grown p d (moved u v fresh left hidden) e f eb fb h = inserted u v _ e f eb fb h
 
 -- and their last writes stay
-pub is_last_grown : (p : Static) {b : ℕ} {performed o o' : List ℕ} (e a : ℕ) → Grows p b performed (p.core e) o o' → e ≢ b → 0 < times performed e
+pub is_last_grown : (p : Static) {b : ℕ} {performed o o' : List ℕ} (e a : ℕ)
+    → Grows p b performed (p.core e) o o' → e ≢ b → 0 < times performed e
     → (s : Option ℕ) → ((w : ℕ) → s ≡ Some w → 0 < times o w) → IsLast p o e a s → IsLast p o' e a s
 is_last_grown p e a unmoved eb there s old h = h
 is_last_grown p {b} e a (moved u v fresh left hidden) eb there s old h =
-    is_last_same p u v b e a eb fresh (left e there) (hidden e there refl) s (λ w is wb. omega (arith, old w is, fresh, ap (times (u ++ v)) wb)) h
+    is_last_same p u v b e a eb fresh (left e there) (hidden e there refl) s
+    (λ w is wb. omega (arith, old w is, fresh, ap (times (u ++ v)) wb)) h
 
 -- b more in the middle of a list
 pub times_inserted : (u v : List ℕ) (b e : ℕ) → e ≢ b → times (u ++ b ∷ v) e ≡ times (u ++ v) e
-times_inserted u v b e eb = omega (arith, times_append u (b ∷ v) e, times_append u v e, times_there v b e (λ s. eb (sym s)))
+times_inserted u v b e eb =
+    omega (arith, times_append u (b ∷ v) e, times_append u v e, times_there v b e (λ s. eb (sym s)))
 
 -- b itself stands once more
 pub times_inserted_here : (u v : List ℕ) (b : ℕ) → times (u ++ b ∷ v) b ≡ times (u ++ v) b + 1

@@ -1,4 +1,5 @@
--- Write lists are what was performed, memory has the last of each, and so a load gets the newest write that its core sees.
+-- Write lists are what was performed, memory has the last of each, and so a load gets the newest write
+-- that its core sees.
 use Rattle.std.proofs.Common.{◌≡◌, ◌<◌, ◌≤◌, inl, inr, ℕ, Bool, true, false, cond, Result, Ok, Option, Some}
 use Rattle.std.proofs.Common.{None, List, [], ◌∷◌, ◌++◌, map, length, get_or, slice_set, arith, refl, sym, ap}
 use Rattle.std.proofs.Common.{subst, ◌∙◌, get_or-set_same, get_or-set_other, length-set}
@@ -17,7 +18,7 @@ use Rattle.write_buffer.specs.Buffer.{youngest}
 use Rattle.moesi.specs.State as moesi
 use Rattle.moesi.specs.declared.error.CacheError.{CacheError}
 use Rattle.moesi.specs.Coherent.{IsCoherent}
-use Rattle.moesi.specs.CacheLaws.{read_current}
+use Rattle.moesi.specs.CacheLaws.{every_read_is_current}
 use Rattle.machine.specs.declared.fault.Fault.TheVariants as fault
 use Rattle.machine.specs.State.{State, buffer_of, current_copy, event_of}
 use Rattle.machine.specs.Step.{performed, written, given, forwarded_or_read, looked_up}
@@ -74,59 +75,86 @@ last_push (x ∷ (y ∷ ys)) e = last_two x (y ∷ ys) e ∙ last_push (y ∷ ys
 -- each write list is what of the performed events writes its address
 pub record AreListed (p : List (List Op)) (s : State) : Type 0 where
   pub cells : length s.write_lists ≡ length s.caches.blocks
-  pub lists : (a : ℕ) → a < length s.caches.blocks → get_or s.write_lists a [] ≡ filter (writes_to p s a) s.performed
+  pub lists : (a : ℕ) → a < length s.caches.blocks
+      → get_or s.write_lists a [] ≡ filter (writes_to p s a) s.performed
 
 -- each address has the value of the last of its write list
 abbrev pub IsLatest : State → Type 0
 IsLatest s = (a : ℕ) → a < length s.caches.blocks → (current_copy s a).1 ≡ last_of (get_or s.write_lists a [])
 
 -- what an event reads, before it is performed, changes no list
-pub listed_given : (p : List (List Op)) (s : State) (b : ℕ) (what : ℕ × Option ℕ) → times s.performed b ≡ 0 → AreListed p s → AreListed p (given s b what)
+pub listed_given : (p : List (List Op)) (s : State) (b : ℕ) (what : ℕ × Option ℕ) → times s.performed b ≡ 0
+    → AreListed p s → AreListed p (given s b what)
 listed_given p s b what fresh listed = record {
   cells = listed.cells;
-  lists = λ a inside. listed.lists a inside ∙ filter_same (writes_to p s a) (writes_to p (given s b what) a) s.performed (λ e there.
+  lists = λ a inside. listed.lists a inside
+      ∙ filter_same (writes_to p s a) (writes_to p (given s b what) a) s.performed (λ e there.
       ap (λ (d : ℕ × Option ℕ). is_address (written_address (event_of (placed_op p e).1 d)) a)
-      (sym (get_or-set_other s.reads b e what (0, None) (λ is. omega (arith, there, fresh, ap (times s.performed) is)))));
+      (sym (get_or-set_other s.reads b e what (0, None)
+      (λ is. omega (arith, there, fresh, ap (times s.performed) is)))));
 }
 
 -- to write and perform e keeps the lists
-pub listed_written : (p : List (List Op)) (s : State) (caches : moesi.CacheState) (a e : ℕ) → length caches.blocks ≡ length s.caches.blocks → written_address (done_by p s e) ≡ Some a → a < length s.caches.blocks → AreListed p s → AreListed p (performed (written s caches a e) e)
+pub listed_written : (p : List (List Op)) (s : State) (caches : moesi.CacheState) (a e : ℕ)
+    → length caches.blocks ≡ length s.caches.blocks → written_address (done_by p s e) ≡ Some a
+    → a < length s.caches.blocks → AreListed p s → AreListed p (performed (written s caches a e) e)
 listed_written p s caches a e large writes at listed = record {
   cells = length-set s.write_lists a (get_or s.write_lists a [] ++ e ∷ []) ∙ (listed.cells ∙ sym large);
   lists = λ b inside. elim (cases_eq b a) [
-    | inl here ↦ subst (λ (z : ℕ). get_or (slice_set s.write_lists a (get_or s.write_lists a [] ++ e ∷ [])) z [] ≡ filter (writes_to p s z) (s.performed ++ e ∷ [])) (sym here)
-        (get_or-set_same s.write_lists a (get_or s.write_lists a [] ++ e ∷ []) [] (omega (arith, at, listed.cells))
+    | inl here ↦ subst (λ (z : ℕ). get_or (slice_set s.write_lists a (get_or s.write_lists a [] ++ e ∷ []))
+        z [] ≡ filter (writes_to p s z) (s.performed ++ e ∷ [])) (sym here)
+        (get_or-set_same s.write_lists a (get_or s.write_lists a [] ++ e ∷ []) []
+        (omega (arith, at, listed.cells))
         ∙ (ap (λ (l : List ℕ). l ++ e ∷ []) (listed.lists a at)
-        ∙ (ap (λ (l : List ℕ). filter (writes_to p s a) s.performed ++ l) (sym (filter_one_yes (writes_to p s a) e (is_address_back (written_address (done_by p s e)) a writes)))
+        ∙ (ap (λ (l : List ℕ). filter (writes_to p s a) s.performed ++ l)
+        (sym (filter_one_yes (writes_to p s a) e
+        (is_address_back (written_address (done_by p s e)) a writes)))
         ∙ sym (filter-append (writes_to p s a) s.performed (e ∷ [])))))
     | inr other ↦
         get_or-set_other s.write_lists a b (get_or s.write_lists a [] ++ e ∷ []) [] other
         ∙ (listed.lists b (omega (arith, inside, large))
         ∙ (sym (append-nil (filter (writes_to p s b) s.performed))
-        ∙ (ap (λ (l : List ℕ). filter (writes_to p s b) s.performed ++ l) (sym (filter_one_no (writes_to p s b) e (ap (λ (z : Option ℕ). is_address z b) writes ∙ is_address_other a b (λ same_as. other (sym same_as)))))
+        ∙ (ap (λ (l : List ℕ). filter (writes_to p s b) s.performed ++ l)
+        (sym (filter_one_no (writes_to p s b) e
+        (ap (λ (z : Option ℕ). is_address z b) writes
+        ∙ is_address_other a b (λ same_as. other (sym same_as)))))
         ∙ sym (filter-append (writes_to p s b) s.performed (e ∷ [])))))
   ];
 }
 
 -- to perform e, which writes nothing, keeps the lists
-pub listed_performed : (p : List (List Op)) (s : State) (e : ℕ) → written_address (done_by p s e) ≡ None → AreListed p s → AreListed p (performed s e)
+pub listed_performed : (p : List (List Op)) (s : State) (e : ℕ) → written_address (done_by p s e) ≡ None
+    → AreListed p s → AreListed p (performed s e)
 listed_performed p s e none listed = record {
   cells = listed.cells;
   lists = λ a inside. listed.lists a inside ∙ (sym (append-nil (filter (writes_to p s a) s.performed))
-      ∙ (ap (λ (l : List ℕ). filter (writes_to p s a) s.performed ++ l) (sym (filter_one_no (writes_to p s a) e (ap (λ (z : Option ℕ). is_address z a) none ∙ is_address_none a)))
+      ∙ (ap (λ (l : List ℕ). filter (writes_to p s a) s.performed ++ l)
+      (sym (filter_one_no (writes_to p s a) e
+      (ap (λ (z : Option ℕ). is_address z a) none ∙ is_address_none a)))
       ∙ sym (filter-append (writes_to p s a) s.performed (e ∷ []))));
 }
 
 -- the address that e wrote has the value of e
-pub latest_written : (s : State) (caches : moesi.CacheState) (a value e : ℕ) → a < length s.caches.blocks → length s.write_lists ≡ length s.caches.blocks → length caches.blocks ≡ length s.caches.blocks
-    → ((b : ℕ) → moesi.current caches b ≡ cond (b == a) (value, Some e) (current_copy s b)) → IsLatest s → IsLatest (written s caches a e)
+pub latest_written : (s : State) (caches : moesi.CacheState) (a value e : ℕ) → a < length s.caches.blocks
+    → length s.write_lists ≡ length s.caches.blocks → length caches.blocks ≡ length s.caches.blocks
+    → ((b : ℕ) → moesi.current caches b ≡ cond (b == a) (value, Some e) (current_copy s b)) → IsLatest s
+    → IsLatest (written s caches a e)
 latest_written s caches a value e at cells large sets latest b inside = elim (cases_eq b a) [
-  | inl here ↦ subst (λ (z : ℕ). (moesi.current caches z).1 ≡ last_of (get_or (slice_set s.write_lists a (get_or s.write_lists a [] ++ e ∷ [])) z [])) (sym here)
-      (ap (λ (z : ℕ × Option ℕ). z.1) (subst (λ (q : Bool). moesi.current caches a ≡ cond q (value, Some e) (current_copy s a)) (eq-eqb a a refl) (sets a))
-      ∙ (sym (last_push (get_or s.write_lists a []) e) ∙ ap last_of (sym (get_or-set_same s.write_lists a (get_or s.write_lists a [] ++ e ∷ []) [] (omega (arith, at, cells))))))
+  | inl here ↦ subst (λ (z : ℕ). (moesi.current caches z).1
+      ≡ last_of (get_or (slice_set s.write_lists a (get_or s.write_lists a [] ++ e ∷ [])) z [])) (sym here)
+      (ap (λ (z : ℕ × Option ℕ). z.1) (subst
+      (λ (q : Bool). moesi.current caches a ≡ cond q (value, Some e) (current_copy s a)) (eq-eqb a a refl)
+      (sets a))
+      ∙ (sym (last_push (get_or s.write_lists a []) e)
+      ∙ ap last_of (sym (get_or-set_same s.write_lists a (get_or s.write_lists a [] ++ e ∷ []) []
+      (omega (arith, at, cells))))))
   | inr other ↦
-      ap (λ (z : ℕ × Option ℕ). z.1) (subst (λ (q : Bool). moesi.current caches b ≡ cond q (value, Some e) (current_copy s b)) (not_equal b a other) (sets b))
-      ∙ (latest b (omega (arith, inside, large)) ∙ ap last_of (sym (get_or-set_other s.write_lists a b (get_or s.write_lists a [] ++ e ∷ []) [] other)))
+      ap (λ (z : ℕ × Option ℕ). z.1) (subst
+      (λ (q : Bool). moesi.current caches b ≡ cond q (value, Some e) (current_copy s b))
+      (not_equal b a other) (sets b))
+      ∙ (latest b (omega (arith, inside, large))
+      ∙ ap last_of (sym (get_or-set_other s.write_lists a b (get_or s.write_lists a [] ++ e ∷ [])
+      [] other)))
 ]
 
 -- one pair, answered twice
@@ -134,16 +162,27 @@ pub pair_one : (d f : ℕ × Option ℕ) → (let r : Result (ℕ × Option ℕ)
 pair_one d f h = cc
 
 -- what a load of core c gets is the newest write that c sees
-pub loaded_newest : (p : List (List Op)) (s : State) (c a : ℕ) (what : ℕ × Option ℕ) → a < length s.caches.blocks → AreListed p s → IsLatest s → IsCoherent s.caches → AreStores p c (buffer_of s c)
-    → ((e : ℕ) → times s.performed e ≤ 1) → ((e : ℕ) → times (map (λ (x : Entry). x.event) (buffer_of s c)) e ≤ 1)
+pub loaded_newest : (p : List (List Op)) (s : State) (c a : ℕ) (what : ℕ × Option ℕ)
+    → a < length s.caches.blocks → AreListed p s → IsLatest s → IsCoherent s.caches
+    → AreStores p c (buffer_of s c)
+    → ((e : ℕ) → times s.performed e ≤ 1)
+    → ((e : ℕ) → times (map (λ (x : Entry). x.event) (buffer_of s c)) e ≤ 1)
     → ((e : ℕ) → 0 < times (map (λ (x : Entry). x.event) (buffer_of s c)) e → times s.performed e ≡ 0)
     → looked_up fault.None s c a ≡ Ok what → IsNewest (static_of p s) (seen (snapshot_of p s) c) a what.1
-loaded_newest p s c a what at listed latest coherent stores once once_waiting apart = go (youngest (buffer_of s c) a) (youngest_says p s c (buffer_of s c) a stores once_waiting)
+loaded_newest p s c a what at listed latest coherent stores once once_waiting apart =
+    go (youngest (buffer_of s c) a) (youngest_says p s c (buffer_of s c) a stores once_waiting)
   where
-    go : (entry : Option Entry) → IsYoungestOf p s (buffer_of s c) a entry → forwarded_or_read entry (moesi.read s.caches c a) ≡ Ok what → IsNewest (static_of p s) (seen (snapshot_of p s) c) a what.1
+    go : (entry : Option Entry) → IsYoungestOf p s (buffer_of s c) a entry
+        → forwarded_or_read entry (moesi.read s.caches c a) ≡ Ok what
+        → IsNewest (static_of p s) (seen (snapshot_of p s) c) a what.1
     go None says is = subst (λ (o : Option ℕ). IsNewest (static_of p s) (seen (snapshot_of p s) c) a o)
-        (sym (ap (λ (z : ℕ × Option ℕ). z.1) (read_current s.caches c a what coherent is) ∙ (latest a at ∙ ap last_of (listed.lists a at))))
-        (newest_in_memory (static_of p s) (writes_to p s a) s.performed (map (λ (x : Entry). x.event) (buffer_of s c)) a
-        (λ e h. is_address_true (written_address (done_by p s e)) a h) (λ e h. is_address_back (written_address (done_by p s e)) a h) once says)
-    go (Some y) says is = subst (λ (z : ℕ × Option ℕ). IsNewest (static_of p s) (seen (snapshot_of p s) c) a z.1) (pair_one (y.value, Some y.event) what is)
+        (sym (ap (λ (z : ℕ × Option ℕ). z.1) (every_read_is_current s.caches c a what coherent is)
+        ∙ (latest a at ∙ ap last_of (listed.lists a at))))
+        (newest_in_memory (static_of p s) (writes_to p s a) s.performed
+        (map (λ (x : Entry). x.event) (buffer_of s c)) a
+        (λ e h. is_address_true (written_address (done_by p s e)) a h)
+        (λ e h. is_address_back (written_address (done_by p s e)) a h) once says)
+    go (Some y) says is =
+        subst (λ (z : ℕ × Option ℕ). IsNewest (static_of p s) (seen (snapshot_of p s) c) a z.1)
+        (pair_one (y.value, Some y.event) what is)
         (newest_in_buffer p s s.performed (buffer_of s c) a y apart says)

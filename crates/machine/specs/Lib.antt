@@ -1,9 +1,12 @@
 pub mod State
+pub mod RecordedLaws
 pub mod Faults
 pub mod Step
+pub mod RunLaws
 pub mod Taken
 pub mod Tso
 pub mod Orderly
+pub mod PlaceLaws
 pub mod OneRow
 pub mod BoundedItems
 pub mod Configuration

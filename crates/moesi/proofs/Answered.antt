@@ -6,7 +6,8 @@ use Rattle.moesi.specs.declared.error.CacheError.{CacheError}
 use Rattle.moesi.specs.Block.{Block}
 use Rattle.moesi.specs.State.{CacheState, block_of, at_address}
 
--- a block b that became u by a row, or stayed: what holds of the state before and wherever the row leads holds after
+-- a block b that became u by a row, or stayed: what holds of the state before and wherever the row leads
+-- holds after
 pub answered : {A : Type 0} (P : CacheState → Type 0) (cores : ℕ) (blocks : List Block) (a : ℕ) (b u : Block)
     (result : Result A CacheError) (step : Block → Result Block CacheError)
     → b ≡ slice_index_or blocks a b → a < length blocks

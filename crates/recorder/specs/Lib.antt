@@ -1,6 +1,7 @@
 pub mod Event
 pub mod Execution
 pub mod EventLaws
+pub mod PlacedLaws
 pub mod Order
 pub mod OrderLaws
 pub mod PlaceLaws

@@ -1,0 +1,39 @@
+-- Laws of where the events of a program stand on their cores.
+use Rattle.std.proofs.Common.{◌≡◌, ◌<◌, ◌≤◌, ◌+◌, ℕ, List, [], length, get_or, arith, sym, ap, subst, ◌∙◌}
+use Rattle.litmus.specs.declared.op.Op.{Op}
+use Rattle.litmus.specs.declared.op.Op.TheVariants.{Fence}
+use Rattle.recorder.specs.Execution.{placed_from}
+use Rattle.recorder.specs.PlacedLaws.{placed_at, located}
+use Rattle.machine.specs.State.{first_event}
+use Rattle.machine.specs.Orderly.{placed_op}
+
+module _ (p : List (List Op)) (e : ℕ) (event : e < length (placed_from 0 p)) where
+  -- the core of event e
+  core : ℕ
+  core = (located 0 p e event).0
+
+  -- it is the one that the numbers say
+  pub event_core : (placed_op p e).0 ≡ (located 0 p e event).0
+  event_core =
+      let at = located 0 p e event in
+      ap (λ (n : ℕ). (placed_op p n).0) (sym at.4)
+      ∙ (ap (λ (z : ℕ × Op). z.0) (placed_at 0 p at.0 at.1 Fence at.3).0 ∙ omega arith)
+
+  -- and e is its operation there
+  pub event_op : (placed_op p e).1 ≡ get_or (get_or p (located 0 p e event).0 [])
+      (located 0 p e event).1 Fence
+  event_op =
+      let at = located 0 p e event in
+      ap (λ (n : ℕ). (placed_op p n).1) (sym at.4)
+      ∙ ap (λ (z : ℕ × Op). z.1) (placed_at 0 p at.0 at.1 Fence at.3).0
+
+  -- it comes after the first of its core, and before the end
+  pub event_behind : first_event p ((placed_op p e).0) ≤ e
+  event_behind =
+      subst (λ (c : ℕ). first_event p c ≤ e) (sym event_core) (omega (arith, (located 0 p e event).4))
+
+  -- it comes before the end of its core
+  pub event_before : e < first_event p ((placed_op p e).0) + length (get_or p ((placed_op p e).0) [])
+  event_before =
+      subst (λ (c : ℕ). e < first_event p c + length (get_or p c [])) (sym event_core)
+      (omega (arith, (located 0 p e event).4, (located 0 p e event).3))
