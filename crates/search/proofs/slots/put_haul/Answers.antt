@@ -1,3 +1,4 @@
+use Rattle.std.proofs.Common.{◌≡◌}
 use Rattle.best.specs.Seats.{known_of}
 use Rattle.search.specs.Bound.{lengths_of}
 use Rattle.search.proofs.Hauls.{rows_kept}
