@@ -16,11 +16,12 @@ use Rattle.replay.specs.Numbered.{Uses, IsNumberedByFirstUse}
 use Rattle.replay.proofs.Made.{placed_is, count_same}
 use Rattle.litmus.specs.PartLaws.{use_old, use_new}
 use Rattle.recorder.specs.EventLaws.{Reads-event, Writes-event}
-use Rattle.std.proofs.lemmas.Option.{same_Some}
+use Rattle.std.proofs.lemmas.Option.{option_and_then_some, same_Some}
 use Rattle.std.proofs.lemmas.Bool.Decides.{nat_tests}
 
 -- an operation uses the address of its event
-uses_address : (ev : Event) (a : ℕ) → (read_address ev ≡ Some a) ⊎ (written_address ev ≡ Some a) → addr_of (op_of ev) ≡ Some a
+uses_address : (ev : Event) (a : ℕ) → (read_address ev ≡ Some a) ⊎ (written_address ev ≡ Some a)
+    → addr_of (op_of ev) ≡ Some a
 uses_address (L b r s) a (inl h) = h
 uses_address (L b r s) a (inr h) = absurd cc
 uses_address (S b w) a (inl h) = absurd cc
@@ -31,7 +32,8 @@ uses_address F a (inl h) = absurd cc
 uses_address F a (inr h) = absurd cc
 
 -- and no other
-address_used : (ev : Event) (a : ℕ) → addr_of (op_of ev) ≡ Some a → (read_address ev ≡ Some a) ⊎ (written_address ev ≡ Some a)
+address_used : (ev : Event) (a : ℕ) → addr_of (op_of ev) ≡ Some a
+    → (read_address ev ≡ Some a) ⊎ (written_address ev ≡ Some a)
 address_used (L b r s) a h = inl h
 address_used (S b w) a h = inr h
 address_used (R b r s w) a h = inl h
@@ -43,11 +45,14 @@ flat [] = []
 flat (ops ∷ rest) = ops ++ flat rest
 
 -- addresses used after one list and then another
-use_both : (m : ℕ) (xs ys : List Op) → use_ops m (xs ++ ys) ≡ option_and_then (λ k. use_ops k ys) (use_ops m xs)
+use_both : (m : ℕ) (xs ys : List Op)
+    → use_ops m (xs ++ ys) ≡ option_and_then (λ k. use_ops k ys) (use_ops m xs)
 use_both m [] ys = refl
 use_both m (op ∷ xs) ys = go (λ k. use_both k xs ys) (use_addr m (addr_of op))
   where
-    go : ((k : ℕ) → use_ops k (xs ++ ys) ≡ option_and_then (λ i. use_ops i ys) (use_ops k xs)) → (o : Option ℕ) → option_and_then (λ k. use_ops k (xs ++ ys)) o ≡ option_and_then (λ k. use_ops k ys) (option_and_then (λ k. use_ops k xs) o)
+    go : ((k : ℕ) → use_ops k (xs ++ ys) ≡ option_and_then (λ i. use_ops i ys) (use_ops k xs))
+        → (o : Option ℕ) → option_and_then (λ k. use_ops k (xs ++ ys)) o
+        ≡ option_and_then (λ k. use_ops k ys) (option_and_then (λ k. use_ops k xs) o)
     go more None = refl
     go more (Some k) = more k
 
@@ -57,7 +62,8 @@ unfolding flat
 use_flat m [] = refl
 use_flat m (ops ∷ cores) = go (λ k. use_flat k cores) (use_ops m ops) ∙ sym (use_both m ops (flat cores))
   where
-    go : ((k : ℕ) → use_cores k cores ≡ use_ops k (flat cores)) → (o : Option ℕ) → option_and_then (λ k. use_cores k cores) o ≡ option_and_then (λ k. use_ops k (flat cores)) o
+    go : ((k : ℕ) → use_cores k cores ≡ use_ops k (flat cores)) → (o : Option ℕ)
+        → option_and_then (λ k. use_cores k cores) o ≡ option_and_then (λ k. use_ops k (flat cores)) o
     go more None = refl
     go more (Some k) = more k
 
@@ -72,7 +78,8 @@ unfolding flat
 flat_placed k [] = refl
 flat_placed k (ops ∷ cores) =
     map-append (λ (z : ℕ × Op). z.1) (map (λ (op : Op). (k, op)) ops) (placed_from (k + 1) cores)
-    ∙ (ap (λ (l : List Op). l ++ map (λ (z : ℕ × Op). z.1) (placed_from (k + 1) cores)) (untagged k ops) ∙ ap (λ (l : List Op). ops ++ l) (flat_placed (k + 1) cores))
+    ∙ (ap (λ (l : List Op). l ++ map (λ (z : ℕ × Op). z.1) (placed_from (k + 1) cores)) (untagged k ops)
+    ∙ ap (λ (l : List Op). ops ++ l) (flat_placed (k + 1) cores))
 
 -- an address that is used too early
 use_late : (k a : ℕ) → k < a → use_addr k (Some a) ≡ None
@@ -86,16 +93,22 @@ module _ (x : Execution) where
 
   -- after no event none is used
   used_none : AreUsed 0 0
-  used_none = record { used = λ a less. absurd (omega (arith, less)); within = λ f a earlier uses. absurd (omega (arith, earlier)) }
+  used_none = record {
+    used = λ a less. absurd (omega (arith, less));
+    within =
+        λ f a earlier uses. absurd (omega (arith, earlier));
+  }
 
   module _ (op : Op) (j k : ℕ) (op_is : op ≡ op_of (event_at x j)) (so_far : AreUsed j k) where
     -- an event whose operation has no address uses none
     none : (a : ℕ) → addr_of op ≡ None → ¬ Uses x j a
-    none a is uses = let clash : None ≡ Some a = sym is ∙ (ap addr_of op_is ∙ uses_address (event_at x j) a uses) in cc
+    none a is uses = let clash : None ≡ Some a =
+        sym is ∙ (ap addr_of op_is ∙ uses_address (event_at x j) a uses) in cc
 
     -- it uses no other address
     only : (a b : ℕ) → addr_of op ≡ Some a → Uses x j b → b ≡ a
-    only a b is uses = let one : Some a ≡ Some b = sym is ∙ (ap addr_of op_is ∙ uses_address (event_at x j) b uses) in cc
+    only a b is uses = let one : Some a ≡ Some b =
+        sym is ∙ (ap addr_of op_is ∙ uses_address (event_at x j) b uses) in cc
 
     -- and it uses that
     here : (a : ℕ) → addr_of op ≡ Some a → Uses x j a
@@ -126,22 +139,30 @@ module _ (x : Execution) where
         | inl late ↦ absurd (let clash : None ≡ Some next = sym (use_late k a late) ∙ to in cc)
         | inr not_late ↦
             let this_one : a ≡ k = omega (arith, new, not_late) in
-            let same : k + 1 ≡ next = same_Some _ _ (sym (use_new k) ∙ (ap (λ (b : ℕ). use_addr k (Some b)) (sym this_one) ∙ to)) in
+            let same : k + 1 ≡ next =
+            same_Some _ _ (sym (use_new k) ∙ (ap (λ (b : ℕ). use_addr k (Some b)) (sym this_one) ∙ to)) in
             subst (λ (n : ℕ). AreUsed (j + 1) n) same (record {
               used = λ b less. elim (cases_lt b k) [
                 | inl before ↦ let f = so_far.used b before in (f.0, omega (arith, f.1), f.2)
-                | inr last_one ↦ (j, omega arith, subst (λ (z : ℕ). Uses x j z) (omega (arith, this_one, less, last_one)) (here a is))
+                | inr last_one ↦ (
+                  j,
+                  omega arith,
+                  subst (λ (z : ℕ). Uses x j z)
+                      (omega (arith, this_one, less, last_one)) (here a is),
+                )
               ];
               within = λ f b earlier uses. elim (cases_eq f j) [
                 | inl this ↦ omega (arith, this_one, only a b is (subst (λ (e : ℕ). Uses x e b) this uses))
-                | inr other ↦ let was : b < k = so_far.within f b (omega (arith, earlier, other)) uses in omega (arith, was)
+                | inr other ↦ let was : b < k = so_far.within f b (omega (arith, earlier, other)) uses in
+                    omega (arith, was)
               ];
             })
       ]
     ]
 
     -- where addresses are numbered by first use, the event's is among those used, or the next
-    used_next : IsNumberedByFirstUse x → (o : Option ℕ) → addr_of op ≡ o → (next : ℕ) × (use_addr k o ≡ Some next)
+    used_next : IsNumberedByFirstUse x → (o : Option ℕ) → addr_of op ≡ o
+        → (next : ℕ) × (use_addr k o ≡ Some next)
     used_next numbered None is = (k, refl)
     used_next numbered (Some a) is = elim (cases_lt a k) [
       | inl old ↦ (k, use_old k a old)
@@ -156,11 +177,13 @@ module _ (x : Execution) where
     ]
 
     -- an address that is used in its turn has all smaller ones before it
-    used_first : (next : ℕ) → use_addr k (addr_of op) ≡ Some next → (a b : ℕ) → Uses x j a → b < a → (f : ℕ) × (f < j) × Uses x f b
+    used_first : (next : ℕ) → use_addr k (addr_of op) ≡ Some next → (a b : ℕ) → Uses x j a → b < a
+        → (f : ℕ) × (f < j) × Uses x f b
     used_first next to a b uses less = elim (cases_lt k a) [
       | inl late ↦
           let addr : addr_of op ≡ Some a = ap addr_of op_is ∙ uses_address (event_at x j) a uses in
-          absurd (let clash : None ≡ Some next = sym (use_late k a late) ∙ (ap (use_addr k) (sym addr) ∙ to) in cc)
+          absurd (let clash : None ≡ Some next =
+          sym (use_late k a late) ∙ (ap (use_addr k) (sym addr) ∙ to) in cc)
       | inr in_turn ↦ so_far.used b (omega (arith, less, in_turn))
     ]
 
@@ -171,23 +194,27 @@ module _ (x : Execution) where
 
   -- the first of them
   stands_first : (op : Op) (l : List Op) (j : ℕ) → Stands (op ∷ l) j → op ≡ op_of (event_at x j)
-  stands_first op l j s = s.ops 0 (omega arith) ∙ ap (λ (e : ℕ). op_of (event_at x e)) (let e : j + 0 ≡ j = omega arith in e)
+  stands_first op l j s =
+      s.ops 0 (omega arith) ∙ ap (λ (e : ℕ). op_of (event_at x e)) (let e : j + 0 ≡ j = omega arith in e)
 
   -- and the others
   stands_rest : (op : Op) (l : List Op) (j : ℕ) → Stands (op ∷ l) j → Stands l (j + 1)
   stands_rest op l j s = record {
-    ops = λ i inside. s.ops (suc i) (omega (arith, inside)) ∙ ap (λ (e : ℕ). op_of (event_at x e)) (let e : j + suc i ≡ j + 1 + i = omega arith in e);
+    ops = λ i inside. s.ops (suc i) (omega (arith, inside))
+        ∙ ap (λ (e : ℕ). op_of (event_at x e)) (let e : j + suc i ≡ j + 1 + i = omega arith in e);
     last = λ e a uses. omega (arith, s.last e a uses);
   }
 
   -- where addresses are numbered by first use, all are used at the end
-  numbered_on : IsNumberedByFirstUse x → ((e a : ℕ) → Uses x e a → a < length x.write_lists) → (l : List Op) (j k : ℕ) → Stands l j → AreUsed j k → use_ops k l ≡ Some (length x.write_lists)
+  numbered_on : IsNumberedByFirstUse x → ((e a : ℕ) → Uses x e a → a < length x.write_lists)
+      → (l : List Op) (j k : ℕ) → Stands l j → AreUsed j k → use_ops k l ≡ Some (length x.write_lists)
   numbered_on numbered addresses [] j k stands so_far = ap Some (elim (cases_lt k (length x.write_lists)) [
     | inl less ↦
         let e = numbered.used k less in
         absurd (omega (arith, so_far.within e.0 k (omega (arith, stands.last e.0 k e.1)) e.1))
     | inr not_less ↦ elim (cases_lt (length x.write_lists) k) [
-      | inl more ↦ let e = so_far.used (length x.write_lists) more in absurd (omega (arith, addresses e.0 (length x.write_lists) e.2))
+      | inl more ↦ let e = so_far.used (length x.write_lists) more in
+          absurd (omega (arith, addresses e.0 (length x.write_lists) e.2))
       | inr not_more ↦ omega (arith, not_less, not_more)
     ]
   ])
@@ -195,7 +222,8 @@ module _ (x : Execution) where
       let first : op ≡ op_of (event_at x j) = stands_first op l j stands in
       let next = used_next op j k first so_far numbered (addr_of op) refl in
       ap (option_and_then (λ i. use_ops i l)) next.1
-      ∙ numbered_on numbered addresses l (j + 1) next.0 (stands_rest op l j stands) (used_more op j k first so_far next.0 (addr_of op) refl next.1)
+      ∙ numbered_on numbered addresses l (j + 1) next.0 (stands_rest op l j stands)
+      (used_more op j k first so_far next.0 (addr_of op) refl next.1)
 
   -- the other way round: from event j on each address has all smaller ones before it, and all are used
   record Numbers (j : ℕ) : Type 0 where
@@ -203,7 +231,8 @@ module _ (x : Execution) where
     in_order : (e a b : ℕ) → j ≤ e → Uses x e a → b < a → (f : ℕ) × (f < e) × Uses x f b
 
   -- where the count comes out right
-  numbers_on : (l : List Op) (j k : ℕ) → Stands l j → AreUsed j k → use_ops k l ≡ Some (length x.write_lists) → Numbers j
+  numbers_on : (l : List Op) (j k : ℕ) → Stands l j → AreUsed j k → use_ops k l ≡ Some (length x.write_lists)
+      → Numbers j
   numbers_on [] j k stands so_far to =
       let same : k ≡ length x.write_lists = same_Some _ _ to in
       record {
@@ -215,11 +244,15 @@ module _ (x : Execution) where
       let next : (i : ℕ) × (use_addr k (addr_of op) ≡ Some i) × (use_ops i l ≡ Some (length x.write_lists)) =
       option_and_then_some (λ i. use_ops i l) (use_addr k (addr_of op)) (length x.write_lists) to
       (λ i one more. (i, one, more)) in
-      let rest : Numbers (j + 1) = numbers_on l (j + 1) next.0 (stands_rest op l j stands) (used_more op j k first so_far next.0 (addr_of op) refl next.1) next.2 in
+      let rest : Numbers (j + 1) =
+      numbers_on l (j + 1) next.0 (stands_rest op l j stands)
+      (used_more op j k first so_far next.0 (addr_of op) refl next.1) next.2 in
       record {
         used = rest.used;
         in_order = λ e a b late uses less. elim (cases_eq e j) [
-          | inl this ↦ subst (λ (d : ℕ). (f : ℕ) × (f < d) × Uses x f b) (sym this) (used_first op j k first so_far next.0 next.1 a b (subst (λ (d : ℕ). Uses x d a) this uses) less)
+          | inl this ↦ subst (λ (d : ℕ). (f : ℕ) × (f < d) × Uses x f b) (sym this)
+              (used_first op j k first so_far next.0 next.1 a b (subst (λ (d : ℕ). Uses x d a) this uses)
+              less)
           | inr other ↦ rest.in_order e a b (omega (arith, late, other)) uses less
         ];
       }
@@ -228,21 +261,31 @@ module _ (x : Execution) where
   all_stand : Stands (flat (program_of x)) 0
   all_stand =
       let l : List Op = flat (program_of x) in
-      let as_placed : map (λ (z : ℕ × Op). z.1) (placed_from 0 (program_of x)) ≡ l = flat_placed 0 (program_of x) in
-      let long : length l ≡ event_count x = ap (λ (q : List Op). length q) (sym as_placed) ∙ (length-map (placed_from 0 (program_of x)) (λ (z : ℕ × Op). z.1) ∙ count_same x) in
+      let as_placed : map (λ (z : ℕ × Op). z.1) (placed_from 0 (program_of x)) ≡ l =
+      flat_placed 0 (program_of x) in
+      let long : length l ≡ event_count x =
+      ap (λ (q : List Op). length q) (sym as_placed)
+      ∙ (length-map (placed_from 0 (program_of x)) (λ (z : ℕ × Op). z.1) ∙ count_same x) in
       record {
         ops = λ i inside. ap (λ (q : List Op). get_or q i Fence) (sym as_placed)
             ∙ (lists.get_or-map (λ (z : ℕ × Op). z.1) (placed_from 0 (program_of x)) i (0, Fence)
-            ∙ (ap (λ (z : ℕ × Op). z.1) (placed_is x i) ∙ ap (λ (e : ℕ). op_of (event_at x e)) (let e : i ≡ 0 + i = omega arith in e)));
-        last = λ e a uses. let event : e < event_count x = elim uses [ inl reads ↦ Reads-event x e a reads | inr writes ↦ Writes-event x e a writes ] in omega (arith, long, event);
+            ∙ (ap (λ (z : ℕ × Op). z.1) (placed_is x i)
+            ∙ ap (λ (e : ℕ). op_of (event_at x e)) (let e : i ≡ 0 + i = omega arith in e)));
+        last = λ e a uses. let event : e < event_count x = elim uses [
+          | inl reads ↦ Reads-event x e a reads
+          | inr writes ↦ Writes-event x e a writes
+        ] in omega (arith, long, event);
       }
 
   -- addresses that are numbered by first use are those of a lawful program
-  pub program_numbered : IsNumberedByFirstUse x → ((e a : ℕ) → Uses x e a → a < length x.write_lists) → use_cores 0 (program_of x) ≡ Some (length x.write_lists)
-  program_numbered numbered addresses = use_flat 0 (program_of x) ∙ numbered_on numbered addresses (flat (program_of x)) 0 0 all_stand used_none
+  pub program_numbered : IsNumberedByFirstUse x → ((e a : ℕ) → Uses x e a → a < length x.write_lists)
+      → use_cores 0 (program_of x) ≡ Some (length x.write_lists)
+  program_numbered numbered addresses =
+      use_flat 0 (program_of x) ∙ numbered_on numbered addresses (flat (program_of x)) 0 0 all_stand used_none
 
   -- and the other way round
   pub numbered_by_program : use_cores 0 (program_of x) ≡ Some (length x.write_lists) → IsNumberedByFirstUse x
   numbered_by_program to =
-      let all : Numbers 0 = numbers_on (flat (program_of x)) 0 0 all_stand used_none (sym (use_flat 0 (program_of x)) ∙ to) in
+      let all : Numbers 0 =
+      numbers_on (flat (program_of x)) 0 0 all_stand used_none (sym (use_flat 0 (program_of x)) ∙ to) in
       record { used = all.used; in_order = λ e a b uses less. all.in_order e a b (omega arith) uses less }

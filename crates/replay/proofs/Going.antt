@@ -27,18 +27,29 @@ pub record IsGoing (p : List (List Op)) (n capacity : ℕ) (s : State) : Type 0 
   pub on : (steps : List Step) → IsOrderly p n (run p capacity fault.None s steps)
 
 -- so it is at first
-pub begun_going : (p : List (List Op)) (n capacity : ℕ) → ((steps : List Step) → EveryStateIsOrderly p n capacity steps) → All (λ ops. All (IsWithin n) ops) p → IsGoing p n capacity (opening p n)
+pub begun_going : (p : List (List Op)) (n capacity : ℕ)
+    → ((steps : List Step) → EveryStateIsOrderly p n capacity steps) → All (λ ops. All (IsWithin n) ops) p
+    → IsGoing p n capacity (opening p n)
 begun_going p n capacity law fits = record { on = λ steps. law steps fits }
 
 -- and behind a step that is taken
-pub goes_further : (p : List (List Op)) (n capacity : ℕ) (s t : State) (step : Step) → IsGoing p n capacity s → taken p capacity fault.None s step ≡ Ok t → IsGoing p n capacity t
-goes_further p n capacity s t step f took = record { on = λ steps. subst (λ (r : Result State Blocked). IsOrderly p n (run p capacity fault.None (after s r) steps)) took (f.on (step ∷ steps)) }
+pub goes_further : (p : List (List Op)) (n capacity : ℕ) (s t : State) (step : Step) → IsGoing p n capacity s
+    → taken p capacity fault.None s step ≡ Ok t → IsGoing p n capacity t
+goes_further p n capacity s t step f took =
+    record {
+      on =
+          λ steps. subst
+          (λ (r : Result State Blocked). IsOrderly p n (run p capacity fault.None (after s r) steps))
+          took (f.on (step ∷ steps));
+    }
 
 -- one operation more
-pub before_more : (i : ℕ) (ops : List Op) → i < length ops → count_by is_st (take (i + 1) ops) ≡ count_by is_st (take i ops) + cond (is_st (get_or ops i Fence)) 1 0
+pub before_more : (i : ℕ) (ops : List Op) → i < length ops
+    → count_by is_st (take (i + 1) ops) ≡ count_by is_st (take i ops) + cond (is_st (get_or ops i Fence)) 1 0
 before_more i [] h = absurd (omega (arith, h))
 before_more zero (op ∷ ops) h =
-    ap (λ (k : ℕ). count_by is_st (take k (op ∷ ops))) (let e : 0 + 1 ≡ suc 0 = omega arith in e) ∙ omega (arith, sum_by-cons {X = Op} (λ o. cond (is_st o) 1 0) op (take 0 ops))
+    ap (λ (k : ℕ). count_by is_st (take k (op ∷ ops))) (let e : 0 + 1 ≡ suc 0 = omega arith in e)
+    ∙ omega (arith, sum_by-cons {X = Op} (λ o. cond (is_st o) 1 0) op (take 0 ops))
 before_more (suc i) (op ∷ ops) h =
     ap (λ (k : ℕ). count_by is_st (take k (op ∷ ops))) (let e : suc i + 1 ≡ suc (i + 1) = omega arith in e)
     ∙ omega (
@@ -53,7 +64,12 @@ pub before_all : (i : ℕ) (ops : List Op) → count_by is_st (take i ops) ≤ c
 before_all zero ops = omega arith
 before_all (suc i) [] = omega arith
 before_all (suc i) (op ∷ ops) =
-    omega (arith, before_all i ops, sum_by-cons {X = Op} (λ o. cond (is_st o) 1 0) op (take i ops), sum_by-cons {X = Op} (λ o. cond (is_st o) 1 0) op ops)
+    omega (
+      arith,
+      before_all i ops,
+      sum_by-cons {X = Op} (λ o. cond (is_st o) 1 0) op (take i ops),
+      sum_by-cons {X = Op} (λ o. cond (is_st o) 1 0) op ops,
+    )
 
 -- a core has as many plain stores as its operations
 pub stores_same : (es : List Event) → count_by is_st (map op_of es) ≡ count_by is_plain_store es
@@ -71,19 +87,24 @@ abbrev pub waiting : State → ℕ → List ℕ
 waiting s c = map (λ (y : Entry). y.event) (buffer_of s c)
 
 -- what waits is a plain store of its core
-pub stores_wait : (p : List (List Op)) (c e : ℕ) (b : List Entry) → AreStores p c b → 0 < times (map (λ (y : Entry). y.event) b) e → ((placed_op p e).0 ≡ c) × (is_st (placed_op p e).1 ≡ true)
+pub stores_wait : (p : List (List Op)) (c e : ℕ) (b : List Entry) → AreStores p c b
+    → 0 < times (map (λ (y : Entry). y.event) b) e
+    → ((placed_op p e).0 ≡ c) × (is_st (placed_op p e).1 ≡ true)
 stores_wait p c e [] h there = absurd (omega (arith, there, times_nil e))
 stores_wait p c e (y ∷ ys) h there = elim (cases_eq y.event e) [
   | inl one ↦
       let at : placed_op p e ≡ (c, St y.addr y.value) = ap (placed_op p) (sym one) ∙ h.0 in
       (ap (λ (z : ℕ × Op). z.0) at, ap (λ (z : ℕ × Op). is_st z.1) at)
-  | inr other ↦ stores_wait p c e ys h.1 (omega (arith, there, times_there (map (λ (z : Entry). z.event) ys) y.event e other))
+  | inr other ↦ stores_wait p c e ys h.1
+      (omega (arith, there, times_there (map (λ (z : Entry). z.event) ys) y.event e other))
 ]
 
 -- it was not performed, and waits once
-pub waits_once : (p : List (List Op)) (n : ℕ) (s : State) → IsOrderly p n s → (c e : ℕ) → 0 < times (waiting s c) e → times s.performed e + times (waiting s c) e ≡ 1
+pub waits_once : (p : List (List Op)) (n : ℕ) (s : State) → IsOrderly p n s → (c e : ℕ)
+    → 0 < times (waiting s c) e → times s.performed e + times (waiting s c) e ≡ 1
 waits_once p n s o c e there =
     let core : (placed_op p e).0 ≡ c = (stores_wait p c e (buffer_of s c) (o.stores c) there).0 in
-    let was : IsExecuted p s e = o.executed c e (omega (arith, there, times_append s.performed (waiting s c) e)) in
+    let was : IsExecuted p s e =
+    o.executed c e (omega (arith, there, times_append s.performed (waiting s c) e)) in
     let one : times (seen_by s c) e ≡ 1 = subst (λ (d : ℕ). times (seen_by s d) e ≡ 1) core (o.once e was) in
     omega (arith, one, times_append s.performed (waiting s c) e)

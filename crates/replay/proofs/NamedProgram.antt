@@ -1,12 +1,11 @@
 -- The program of a recording is lawful, and what its building makes.
-use Rattle.std.proofs.Common.{◌≡◌, ◌<◌, ◌≤◌, ◌+◌, ◌^◌, ℕ, suc, max, List, [], ◌∷◌, ◌++◌, map, length, Some}
+use Rattle.std.proofs.Common.{◌≡◌, ◌<◌, ◌≤◌, ◌^◌, ℕ, suc, max, List, [], ◌∷◌, map, length, Some}
 use Rattle.std.proofs.Common.{None, IsTrue, nat_eq, count_by, get_or, drop, arith, refl, sym, ap, ◌∙◌, Vec}
 use Rattle.std.proofs.Common.{Global, option_and_then, drop-cons, drop_of_length-le, eqb-true, eq-eqb}
 use Rattle.std.specs.List.{AllByRecursion}
 use Rattle.std.proofs.Math.Nat.{le-max_right, max-eq_left, max-eq_right}
 use Rattle.std.proofs.lemmas.List.{length-map}
 use Rattle.litmus.specs.declared.limits.TheConstants.{MAX_ADDRESSES}
-use Rattle.litmus.specs.declared.name.Name.{Name}
 use Rattle.litmus.specs.declared.op.Op.{Op}
 use Rattle.litmus.specs.Parts.{Small, IsProgram, use_ops, use_cores}
 use Rattle.recorder.specs.declared.event.Event.{Event}
@@ -18,16 +17,18 @@ use Rattle.replay.specs.Stores.{most_stores}
 use Rattle.replay.specs.Numbered.{IsNumberedByFirstUse}
 use Rattle.litmus.specs.AddressNames.{address_names}
 use Rattle.replay.specs.Program.{named_program}
-use Rattle.machine.proofs.Static.{placed_total}
+use Rattle.recorder.specs.PlacedLaws.{placed_total}
 use Rattle.replay.proofs.Made.{count_same}
 use Rattle.std.proofs.lemmas.Option.{same_Some}
 use Rattle.replay.proofs.FirstUse.{program_numbered, numbered_by_program}
 use Rattle.litmus.specs.AddressNameLaws.{names_lawful, names_distinct, names_count}
 
 -- the names and the operations of a recording are a program
-pub named_is_program : (x : Execution) → IsRecording x → IsNumberedByFirstUse x → AllByRecursion (AllByRecursion Small) (program_of x) → IsProgram (named_program x)
+pub named_is_program : (x : Execution) → IsRecording x → IsNumberedByFirstUse x
+    → AllByRecursion (AllByRecursion Small) (program_of x) → IsProgram (named_program x)
 named_is_program x r numbered small =
-    let count : length (address_names (length x.write_lists)) ≡ length x.write_lists = names_count (length x.write_lists) in
+    let count : length (address_names (length x.write_lists)) ≡ length x.write_lists =
+    names_count (length x.write_lists) in
     let limit : MAX_ADDRESSES ≤ 10 ^ 7 = omega arith in
     record {
       few_cores = omega (arith, r.within.few_cores, length-map x.cores (λ es. map op_of es));
@@ -42,7 +43,8 @@ named_is_program x r numbered small =
 -- a core has room for one store at least
 most_least : (cores : List (List Event)) → 1 ≤ most_stores cores
 most_least [] = omega arith
-most_least (es ∷ rest) = omega (arith, most_least rest, le-max_right (count_by is_plain_store es) (most_stores rest))
+most_least (es ∷ rest) =
+    omega (arith, most_least rest, le-max_right (count_by is_plain_store es) (most_stores rest))
 
 -- so nothing less than one counts
 pub most_of_one : (cores : List (List Event)) → max 1 (most_stores cores) ≡ most_stores cores
@@ -53,7 +55,8 @@ pub most_one : (n : ℕ) → 1 ≤ n → max n 1 ≡ n
 most_one n h = max-eq_left h
 
 -- the operations of each core, in two steps
-pub program_lists : (lists : List (Vec Event Global)) → map (λ v. map op_of v.items) lists ≡ map (λ es. map op_of es) (map (λ v. v.items) lists)
+pub program_lists : (lists : List (Vec Event Global))
+    → map (λ v. map op_of v.items) lists ≡ map (λ es. map op_of es) (map (λ v. v.items) lists)
 program_lists [] = refl
 program_lists (v ∷ lists) = ap (λ (l : List (List Op)). map op_of v.items ∷ l) (program_lists lists)
 
@@ -63,7 +66,8 @@ program_lists (v ∷ lists) = ap (λ (l : List (List Op)). map op_of v.items ∷
 abbrev pub list_ops : Vec Event Global → List Op
 list_ops v = map op_of v.items
 
-module _ (x : Execution) (lists : List (Vec Event Global)) (are : map (λ v. v.items) lists ≡ x.cores) (r : IsRecording x) (used i : ℕ)
+module _ (x : Execution) (lists : List (Vec Event Global)) (are : map (λ v. v.items) lists ≡ x.cores)
+    (r : IsRecording x) (used i : ℕ)
     (so_far : use_cores used (map list_ops (drop i lists)) ≡ use_cores 0 (map list_ops lists)) where
   -- they are the program's
   list_program : map list_ops lists ≡ program_of x
@@ -71,19 +75,27 @@ module _ (x : Execution) (lists : List (Vec Event Global)) (are : map (λ v. v.i
 
   -- at the end the count is that of the program
   all_used : length lists ≤ i → use_cores 0 (program_of x) ≡ Some used
-  all_used past = ap (use_cores 0) (sym list_program) ∙ (sym so_far ∙ ap (λ (l : List (Vec Event Global)). use_cores used (map list_ops l)) (drop_of_length-le lists past))
+  all_used past =
+      ap (use_cores 0) (sym list_program) ∙
+      (sym so_far ∙ ap (λ (l : List (Vec Event Global)). use_cores used (map list_ops l))
+      (drop_of_length-le lists past))
 
   -- so the numbers are compared
-  pub is_numbered_end : length lists ≤ i → (n : ℕ) → n ≡ length x.write_lists → (IsTrue (nat_eq used n) → IsNumberedByFirstUse x) × (IsNumberedByFirstUse x → IsTrue (nat_eq used n))
+  pub is_numbered_end : length lists ≤ i → (n : ℕ) → n ≡ length x.write_lists
+      → (IsTrue (nat_eq used n) → IsNumberedByFirstUse x) × (IsNumberedByFirstUse x → IsTrue (nat_eq used n))
   is_numbered_end past n is = (
     λ same. numbered_by_program x (all_used past ∙ ap Some (eqb-true used n same ∙ is)),
-    λ numbered. eq-eqb used n (same_Some _ _ (sym (all_used past) ∙ program_numbered x numbered r.within.addresses) ∙ sym is),
+    λ numbered. eq-eqb used n (same_Some _ _
+        (sym (all_used past) ∙ program_numbered x numbered r.within.addresses) ∙ sym is),
   )
 
   -- where an address is used before its turn they are not numbered
-  pub is_not_numbered : (d : Vec Event Global) → i < length lists → use_ops used (map op_of (get_or lists i d).items) ≡ None → ¬ IsNumberedByFirstUse x
+  pub is_not_numbered : (d : Vec Event Global) → i < length lists
+      → use_ops used (map op_of (get_or lists i d).items) ≡ None → ¬ IsNumberedByFirstUse x
   is_not_numbered d inside early numbered =
       let none : use_cores used (map list_ops (drop i lists)) ≡ None =
       ap (λ (l : List (Vec Event Global)). use_cores used (map list_ops l)) (drop-cons lists i d inside)
       ∙ ap (option_and_then (λ k. use_cores k (map list_ops (drop (suc i) lists)))) early in
-      let clash : None ≡ Some (length x.write_lists) = sym none ∙ (so_far ∙ (ap (use_cores 0) list_program ∙ program_numbered x numbered r.within.addresses)) in cc
+      let clash : None ≡ Some (length x.write_lists) =
+      sym none ∙ (so_far ∙ (ap (use_cores 0) list_program
+      ∙ program_numbered x numbered r.within.addresses)) in cc

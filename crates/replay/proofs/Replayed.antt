@@ -36,7 +36,7 @@ use Rattle.machine.specs.Script.{IsStepOf}
 use Rattle.machine.specs.Tso.{EveryRunIsTso, EveryRunIsWellFormed}
 use Rattle.std.proofs.lemmas.List.Elements.{All-nil, All-cons}
 use Rattle.machine.specs.Orderly.{placed_op, is_st, IsOrderly, EveryStateIsOrderly}
-use Rattle.machine.proofs.Static.{placed_total, placed_at}
+use Rattle.recorder.specs.PlacedLaws.{placed_total, placed_at}
 use Rattle.replay.proofs.Made.{placed_is, count_same, recorded_made}
 use Rattle.replay.proofs.Determined.{determined}
 use Rattle.replay.proofs.Going.{IsGoing, begun_going, goes_further, stores_same, waiting, waits_once}
@@ -46,48 +46,71 @@ use Rattle.replay.proofs.Orders.{order_run}
 -- Room for the stores of a core
 
 -- none has more than the greatest number
-stores_most : (cores : List (List Event)) (c : ℕ) → count_by is_st (get_or (map (λ es. map op_of es) cores) c []) ≤ most_stores cores
+stores_most : (cores : List (List Event)) (c : ℕ)
+    → count_by is_st (get_or (map (λ es. map op_of es) cores) c []) ≤ most_stores cores
 stores_most [] c = omega (arith, stores_same [])
-stores_most (es ∷ rest) zero = omega (arith, stores_same es, le-max_left (count_by is_plain_store es) (most_stores rest))
-stores_most (es ∷ rest) (suc c) = omega (arith, stores_most rest c, le-max_right (count_by is_plain_store es) (most_stores rest))
+stores_most (es ∷ rest) zero =
+    omega (arith, stores_same es, le-max_left (count_by is_plain_store es) (most_stores rest))
+stores_most (es ∷ rest) (suc c) =
+    omega (arith, stores_most rest c, le-max_right (count_by is_plain_store es) (most_stores rest))
 
 -- The addresses of a recording's operations
 
 -- an operation has the address of its event
-op_fits : (n : ℕ) (ev : Event) → ((a : ℕ) → read_address ev ≡ Some a → a < n) → ((a : ℕ) → written_address ev ≡ Some a → a < n) → IsWithin n (op_of ev)
+op_fits : (n : ℕ) (ev : Event) → ((a : ℕ) → read_address ev ≡ Some a → a < n)
+    → ((a : ℕ) → written_address ev ≡ Some a → a < n) → IsWithin n (op_of ev)
 op_fits n (L a r s) reads writes = reads a refl
 op_fits n (S a w) reads writes = writes a refl
 op_fits n (R a r s w) reads writes = reads a refl
 op_fits n F reads writes = tt
 
 -- the operations of a recording have addresses with write lists
-recording_fits : (x : Execution) → IsRecording x → All (λ ops. All (IsWithin (length x.write_lists)) ops) (program_of x)
+recording_fits : (x : Execution) → IsRecording x
+    → All (λ ops. All (IsWithin (length x.write_lists)) ops) (program_of x)
 recording_fits x r c other core i d inside =
     let ops : List Op = get_or (program_of x) c [] in
     let same : get_or (program_of x) c other ≡ ops = get_or_default (program_of x) c other [] core in
     let here : i < length ops = omega (arith, inside, ap (λ (l : List Op). length l) same) in
     let e : ℕ = first_event (program_of x) c + i in
-    let op : get_or ops i Fence ≡ op_of (event_at x e) = ap (λ (z : ℕ × Op). z.1) (sym (placed_at 0 (program_of x) c i Fence here).0) ∙ ap (λ (z : ℕ × Op). z.1) (placed_is x e) in
+    let op : get_or ops i Fence ≡ op_of (event_at x e) =
+    ap (λ (z : ℕ × Op). z.1) (sym (placed_at 0 (program_of x) c i Fence here).0)
+    ∙ ap (λ (z : ℕ × Op). z.1) (placed_is x e) in
     subst (λ (l : List Op). IsWithin (length x.write_lists) (get_or l i d)) (sym same)
     (subst (λ (o : Op). IsWithin (length x.write_lists) o) (sym (get_or_default ops i d Fence here ∙ op))
-    (op_fits (length x.write_lists) (event_at x e) (λ a is. r.within.addresses e a (inl is)) (λ a is. r.within.addresses e a (inr is))))
+    (op_fits (length x.write_lists) (event_at x e) (λ a is. r.within.addresses e a (inl is))
+    (λ a is. r.within.addresses e a (inr is))))
 
 -- The end
 
 -- each core is within its operations, so all together are
-places_within : (places : List ℕ) (p : List (List Op)) → length places ≡ length p → ((c : ℕ) → get_or places c 0 ≤ length (get_or p c [])) → sum places ≤ sum_by (λ ops. length ops) p
+places_within : (places : List ℕ) (p : List (List Op)) → length places ≡ length p
+    → ((c : ℕ) → get_or places c 0 ≤ length (get_or p c [])) → sum places ≤ sum_by (λ ops. length ops) p
 places_within [] [] l h = omega arith
 places_within [] (ops ∷ p) l h = omega arith
 places_within (i ∷ places) [] l h = absurd (omega (arith, l))
 places_within (i ∷ places) (ops ∷ p) l h =
-    omega (arith, sum_by-cons (λ (k : ℕ). k) i places, sum_by-cons (λ (os : List Op). length os) ops p, h 0, places_within places p (omega (arith, l)) (λ c. h (suc c)))
+    omega (
+      arith,
+      sum_by-cons (λ (k : ℕ). k) i places,
+      sum_by-cons (λ (os : List Op). length os) ops p,
+      h 0,
+      places_within places p (omega (arith, l)) (λ c. h (suc c)),
+    )
 
 -- empty buffers count nothing
-nothing_waits : (bs : List (List Entry)) → ((c : ℕ) → get_or bs c [] ≡ []) → sum_by (λ (b : List Entry). length b) bs ≡ 0
+nothing_waits : (bs : List (List Entry)) → ((c : ℕ) → get_or bs c [] ≡ [])
+    → sum_by (λ (b : List Entry). length b) bs ≡ 0
 nothing_waits [] h = refl
-nothing_waits (b ∷ bs) h = omega (arith, ap (λ (l : List Entry). length l) (h 0), nothing_waits bs (λ c. h (suc c)), sum_by-cons (λ (l : List Entry). length l) b bs)
+nothing_waits (b ∷ bs) h =
+    omega (
+      arith,
+      ap (λ (l : List Entry). length l) (h 0),
+      nothing_waits bs (λ c. h (suc c)),
+      sum_by-cons (λ (l : List Entry). length l) b bs,
+    )
 
-module _ (x : Execution) (m : List ℕ) (tso : IsTsoOrder x m) (n : ℕ) (t : State) (f : IsOrderly (program_of x) n t) (whole : t.performed ≡ m) where
+module _ (x : Execution) (m : List ℕ) (tso : IsTsoOrder x m) (n : ℕ) (t : State)
+    (f : IsOrderly (program_of x) n t) (whole : t.performed ≡ m) where
   -- each event is performed
   each : (e : ℕ) → e < length (placed_from 0 (program_of x)) → times t.performed e ≡ 1
   each e event = ap (λ (l : List ℕ). times l e) whole ∙ tso.total.once e (omega (arith, event, count_same x))
@@ -100,7 +123,11 @@ module _ (x : Execution) (m : List ℕ) (tso : IsTsoOrder x m) (n : ℕ) (t : St
         let at = placed_at 0 (program_of x) c (place_of t c) Fence left in
         let e : ℕ = first_event (program_of x) c + place_of t c in
         let own : (placed_op (program_of x) e).0 ≡ c = ap (λ (z : ℕ × Op). z.0) at.0 ∙ omega arith in
-        let done = f.executed 0 e (omega (arith, each e at.1, times_append t.performed (map (λ (y : Entry). y.event) (buffer_of t 0)) e)) in
+        let done = f.executed 0 e (omega (
+          arith,
+          each e at.1,
+          times_append t.performed (map (λ (y : Entry). y.event) (buffer_of t 0)) e,
+        )) in
         absurd (omega (arith, subst (λ (d : ℕ). e < first_event (program_of x) d + place_of t d) own done.1))
   ]
 
@@ -111,9 +138,11 @@ module _ (x : Execution) (m : List ℕ) (tso : IsTsoOrder x m) (n : ℕ) (t : St
       go : (b : List Entry) → buffer_of t c ≡ b → buffer_of t c ≡ []
       go [] is = is
       go (y ∷ ys) is =
-          let there : 0 < times (waiting t c) y.event = subst (λ (b : List Entry). 0 < times (map (λ (z : Entry). z.event) b) y.event) (sym is)
+          let there : 0 < times (waiting t c) y.event =
+          subst (λ (b : List Entry). 0 < times (map (λ (z : Entry). z.event) b) y.event) (sym is)
           (omega (arith, times_here (map (λ (z : Entry). z.event) ys) y.event y.event refl)) in
-          let done = f.executed c y.event (omega (arith, there, times_append t.performed (waiting t c) y.event)) in
+          let done = f.executed c y.event (omega
+          (arith, there, times_append t.performed (waiting t c) y.event)) in
           absurd (omega (arith, there, each y.event done.0, waits_once (program_of x) n t f c y.event there))
 
   -- so the run is complete
@@ -121,24 +150,29 @@ module _ (x : Execution) (m : List ℕ) (tso : IsTsoOrder x m) (n : ℕ) (t : St
   ended c = elim (cases_lt c (length (program_of x))) [
     | inl core ↦ (all_executed c core, all_drained c)
     | inr past ↦ (
-      get_or_past t.places c 0 (omega (arith, past, f.places)) ∙ ap (λ (ops : List Op). length ops) (sym (get_or_past (program_of x) c [] past)),
+      get_or_past t.places c 0 (omega (arith, past, f.places))
+          ∙ ap (λ (ops : List Op). length ops) (sym (get_or_past (program_of x) c [] past)),
       all_drained c,
     )
   ]
 
   -- and made this recording
-  recorded_it : IsRecording x → n ≡ length x.write_lists → IsWellFormed (recorded (program_of x) t) → IsTsoOrder (recorded (program_of x) t) t.performed → recorded (program_of x) t ≡ x
+  recorded_it : IsRecording x → n ≡ length x.write_lists → IsWellFormed (recorded (program_of x) t)
+      → IsTsoOrder (recorded (program_of x) t) t.performed → recorded (program_of x) t ≡ x
   recorded_it r n_is well order =
-      determined x (recorded (program_of x) t) m (recorded_made x t (f.lists ∙ n_is)) r.well_formed well tso (subst (λ (l : List ℕ). IsTsoOrder (recorded (program_of x) t) l) whole order)
+      determined x (recorded (program_of x) t) m (recorded_made x t (f.lists ∙ n_is)) r.well_formed well tso
+      (subst (λ (l : List ℕ). IsTsoOrder (recorded (program_of x) t) l) whole order)
 
 -- a core and an address that are there
-line_within : (q : Parts) (s : State) (c a : ℕ) → length s.caches.blocks ≡ length q.names → has q.cores s c a ≡ true → (c < length q.cores) × (a < length q.names)
+line_within : (q : Parts) (s : State) (c a : ℕ) → length s.caches.blocks ≡ length q.names
+    → has q.cores s c a ≡ true → (c < length q.cores) × (a < length q.names)
 line_within q s c a large there =
     let both = and_parts (nat_lt c (length q.cores)) (nat_lt a (length s.caches.blocks)) there in
     (ltb-true c (length q.cores) both.0, omega (arith, ltb-true a (length s.caches.blocks) both.1, large))
 
 -- a step that is taken has a core and an address of the program
-step_within : (q : Parts) (capacity : ℕ) (s t : State) (step : Step) → length s.caches.blocks ≡ length q.names → taken q.cores capacity fault.None s step ≡ Ok t → IsStepOf q step
+step_within : (q : Parts) (capacity : ℕ) (s t : State) (step : Step) → length s.caches.blocks ≡ length q.names
+    → taken q.cores capacity fault.None s step ≡ Ok t → IsStepOf q step
 step_within q capacity s t (Exec c) large took = ltb-true c (length q.cores) (guarded _ _ _ t took).0
 step_within q capacity s t (Drain c) large took = ltb-true c (length q.cores) (guarded _ _ _ t took).0
 step_within q capacity s t (GetS c a) large took = line_within q s c a large (guarded _ _ _ t took).0
@@ -146,45 +180,62 @@ step_within q capacity s t (GetM c a) large took = line_within q s c a large (gu
 step_within q capacity s t (Put c a) large took = line_within q s c a large (guarded _ _ _ t took).0
 
 -- so have all
-steps_within : (q : Parts) (capacity : ℕ) (steps : List Step) (s : State) → IsGoing q.cores (length q.names) capacity s → AreTaken q.cores capacity s steps → All (IsStepOf q) steps
+steps_within : (q : Parts) (capacity : ℕ) (steps : List Step) (s : State)
+    → IsGoing q.cores (length q.names) capacity s → AreTaken q.cores capacity s steps → All (IsStepOf q) steps
 steps_within q capacity [] s f h = All-nil (IsStepOf q)
 steps_within q capacity (step ∷ steps) s f h =
     let large : length s.caches.blocks ≡ length q.names = (f.on []).blocks in
-    let rest : AreTaken q.cores capacity h.0.0 steps = subst (λ (r : Result State Blocked). AreTaken q.cores capacity (after s r) steps) h.0.1 h.1 in
+    let rest : AreTaken q.cores capacity h.0.0 steps =
+    subst (λ (r : Result State Blocked). AreTaken q.cores capacity (after s r) steps) h.0.1 h.1 in
     All-cons (IsStepOf q) step steps (step_within q capacity s h.0.0 step large h.0.1)
-    (steps_within q capacity steps h.0.0 (goes_further q.cores (length q.names) capacity s h.0.0 step f h.0.1) rest)
+    (steps_within q capacity steps h.0.0 (goes_further q.cores (length q.names) capacity s h.0.0 step f h.0.1)
+    rest)
 
 -- what the machine's laws say of every run without fault
 pub record Laws : Type 0 where
   pub tso : (p : List (List Op)) (n capacity : ℕ) (steps : List Step) → EveryRunIsTso p n capacity steps
-  pub well_formed : (p : List (List Op)) (n capacity : ℕ) (steps : List Step) → EveryRunIsWellFormed p n capacity fault.None steps
-  pub orderly : (p : List (List Op)) (n capacity : ℕ) (steps : List Step) → EveryStateIsOrderly p n capacity steps
+  pub well_formed : (p : List (List Op)) (n capacity : ℕ) (steps : List Step)
+      → EveryRunIsWellFormed p n capacity fault.None steps
+  pub orderly : (p : List (List Op)) (n capacity : ℕ) (steps : List Step)
+      → EveryStateIsOrderly p n capacity steps
 
 module _ (law : Laws) where
   -- the steps replay the order, on a program of so many addresses
-  steps_replay : (x : Execution) (m : List ℕ) (capacity : ℕ) (names : List Name) → length names ≡ length x.write_lists → IsRecording x → IsTsoOrder x m → most_stores x.cores ≤ capacity
+  steps_replay : (x : Execution) (m : List ℕ) (capacity : ℕ) (names : List Name)
+      → length names ≡ length x.write_lists → IsRecording x → IsTsoOrder x m → most_stores x.cores ≤ capacity
       → IsReplay x m (parts_of names (program_of x)) capacity (replay_steps x m)
   steps_replay x m capacity names named r tso room =
       let p : List (List Op) = program_of x in
       let n : ℕ = length x.write_lists in
       let steps : List Step = replay_steps x m in
       let fits : All (λ ops. All (IsWithin n) ops) p = recording_fits x r in
-      let ran = order_run x m tso n (most_stores x.cores) (stores_most x.cores) m (opening p n) (begun_going p n (most_stores x.cores) (law.orderly p n (most_stores x.cores)) fits) refl in
+      let ran = order_run x m tso n (most_stores x.cores) (stores_most x.cores) m (opening p n)
+      (begun_going p n (most_stores x.cores) (law.orderly p n (most_stores x.cores)) fits) refl in
       let t : State = ran.0 in
       let f : IsOrderly p n t = ran.1.fits.on [] in
-      let goes : Goes p capacity (opening p n) steps t = goes_more p (most_stores x.cores) capacity room steps (opening p n) t ran.1.goes in
+      let goes : Goes p capacity (opening p n) steps t =
+      goes_more p (most_stores x.cores) capacity room steps (opening p n) t ran.1.goes in
       let end : IsComplete p t = ended x m tso n t f ran.1.performed in
-      let there : IsComplete p (run p capacity fault.None (opening p n) steps) = subst (λ (z : State). IsComplete p z) (sym goes.1) end in
-      let order : IsTsoOrder (recorded p t) t.performed = subst (λ (z : State). IsTsoOrder (recorded p z) z.performed) goes.1 (law.tso p n capacity steps fits there) in
-      let well : IsWellFormed (recorded p t) = subst (λ (z : State). IsWellFormed (recorded p z)) goes.1 (law.well_formed p n capacity steps fits there) in
-      let begins : Goes p capacity (opening p (length names)) steps t = subst (λ (k : ℕ). Goes p capacity (opening p k) steps t) (sym named) goes in
+      let there : IsComplete p (run p capacity fault.None (opening p n) steps) =
+      subst (λ (z : State). IsComplete p z) (sym goes.1) end in
+      let order : IsTsoOrder (recorded p t) t.performed =
+      subst (λ (z : State). IsTsoOrder (recorded p z) z.performed) goes.1
+      (law.tso p n capacity steps fits there) in
+      let well : IsWellFormed (recorded p t) =
+      subst (λ (z : State). IsWellFormed (recorded p z)) goes.1
+      (law.well_formed p n capacity steps fits there) in
+      let begins : Goes p capacity (opening p (length names)) steps t =
+      subst (λ (k : ℕ). Goes p capacity (opening p k) steps t) (sym named) goes in
       record {
-        taken = all_of p capacity steps (opening p (length names)) t begins.0 begins.1 ∙ ap (λ (z : State). Ok z) (sym begins.1);
+        taken = all_of p capacity steps (opening p (length names)) t begins.0 begins.1
+            ∙ ap (λ (z : State). Ok z) (sym begins.1);
         complete = subst (λ (z : State). IsComplete p z) (sym begins.1) end;
         performed = ap (λ (z : State). z.performed) begins.1 ∙ ran.1.performed;
-        recording = ap (λ (z : State). recorded p z) begins.1 ∙ recorded_it x m tso n t f ran.1.performed r refl well order;
+        recording = ap (λ (z : State). recorded p z) begins.1
+            ∙ recorded_it x m tso n t f ran.1.performed r refl well order;
         within = steps_within (parts_of names p) capacity steps (opening p (length names))
-            (begun_going p (length names) capacity (law.orderly p (length names) capacity) (subst (λ (k : ℕ). All (λ ops. All (IsWithin k) ops) p) (sym named) fits)) begins.0;
+            (begun_going p (length names) capacity (law.orderly p (length names) capacity)
+            (subst (λ (k : ℕ). All (λ ops. All (IsWithin k) ops) p) (sym named) fits)) begins.0;
         few = omega (
           arith,
           ran.1.few,
@@ -198,18 +249,25 @@ module _ (law : Laws) where
       }
 
   -- each TSO order of a recording is replayed
-  pub every_order_is_replayed : (x : Execution) (m : List ℕ) (capacity : ℕ) → EveryOrderIsReplayed x m capacity
-  every_order_is_replayed x m capacity = steps_replay x m capacity (address_names (length x.write_lists)) (names_count (length x.write_lists))
+  pub every_order_is_replayed : (x : Execution) (m : List ℕ) (capacity : ℕ)
+      → EveryOrderIsReplayed x m capacity
+  every_order_is_replayed x m capacity =
+      steps_replay x m capacity (address_names (length x.write_lists)) (names_count (length x.write_lists))
 
   -- the machine makes exactly the recordings that have a TSO order
   pub makes_exactly_tso : (x : Execution) (capacity : ℕ) → MakesExactlyTso x capacity
   makes_exactly_tso x capacity r room = (
     λ made.
-        let order : List ℕ = (led_to made.0 capacity made.1).performed in
-        (order, subst (λ (y : Execution). IsTsoOrder y order) made.4 (law.tso made.0.cores (length made.0.names) capacity made.1 made.2 made.3)),
+        let order : List ℕ = (led_to made.0 capacity made.1).performed in (
+          order,
+          subst (λ (y : Execution). IsTsoOrder y order) made.4
+              (law.tso made.0.cores (length made.0.names) capacity made.1 made.2 made.3),
+        ),
     λ allowed.
         let p : Parts = named_program x in
         let replay = every_order_is_replayed x allowed.0 capacity r allowed.1 room in
-        let fits : All (λ ops. All (IsWithin (length p.names)) ops) p.cores = subst (λ (n : ℕ). All (λ ops. All (IsWithin n) ops) p.cores) (sym (names_count (length x.write_lists))) (recording_fits x r) in
+        let fits : All (λ ops. All (IsWithin (length p.names)) ops) p.cores =
+        subst (λ (n : ℕ). All (λ ops. All (IsWithin n) ops) p.cores)
+        (sym (names_count (length x.write_lists))) (recording_fits x r) in
         (p, replay_steps x allowed.0, fits, replay.complete, replay.recording),
   )

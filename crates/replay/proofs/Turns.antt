@@ -13,7 +13,8 @@ use Rattle.recorder.specs.Event.{is_plain_store, is_plain_load}
 use Rattle.recorder.specs.Execution.{Execution, placed_from, event_count, event_at, core_of}
 use Rattle.recorder.specs.Order.{times, Before}
 use Rattle.recorder.specs.Tso.{IsTsoOrder}
-use Rattle.recorder.specs.OrderLaws.{cases_times, place_here, place_there, times_here, times_nil, times_append}
+use Rattle.recorder.specs.OrderLaws.{cases_times, place_here, place_there, times_here, times_nil}
+use Rattle.recorder.specs.OrderLaws.{times_append}
 use Rattle.recorder.specs.OrderLaws.{place_append_right}
 use Rattle.moesi.specs.State as moesi
 use Rattle.moesi.specs.Lines.{is_exclusive}
@@ -29,8 +30,8 @@ use Rattle.machine.specs.Step.{with_caches, rmw_value}
 use Rattle.replay.specs.Program.{op_of, program_of}
 use Rattle.replay.specs.Steps.{execute_to, get_to_write, get_to_read}
 use Rattle.machine.specs.Orderly.{placed_op, is_st, is_ld, AreStores, seen_by, IsOrderly}
-use Rattle.machine.proofs.Static.{placed_at}
-use Rattle.machine.proofs.Opening.{event_behind, event_before}
+use Rattle.recorder.specs.PlacedLaws.{placed_at}
+use Rattle.machine.specs.PlaceLaws.{event_behind, event_before}
 use Rattle.replay.proofs.Made.{store_same, placed_is, count_same, core_there}
 use Rattle.replay.proofs.Going.{IsGoing, goes_further, waiting, stores_wait, waits_once}
 use Rattle.replay.proofs.Goes.{Goes, goes_one, goes_on, is_at, at_taken, HasStored, store_all, fetch_write}
@@ -49,35 +50,60 @@ abbrev pub drained_state : State → moesi.CacheState → ℕ → Entry → List
 drained_state s caches c y ys = performed (written (with_buffer s c ys) caches y.addr y.event) y.event
 
 -- the oldest store goes to its line
-drain_taken : (p : List (List Op)) (capacity : ℕ) (s : State) (caches : moesi.CacheState) (c : ℕ) (y : Entry) (ys : List Entry) → c < length p → buffer_of s c ≡ y ∷ ys
-    → moesi.write s.caches c y.addr y.value y.event ≡ Ok caches → taken p capacity fault.None s (Drain c) ≡ Ok (drained_state s caches c y ys)
+drain_taken : (p : List (List Op)) (capacity : ℕ) (s : State) (caches : moesi.CacheState) (c : ℕ) (y : Entry)
+    (ys : List Entry) → c < length p → buffer_of s c ≡ y ∷ ys
+    → moesi.write s.caches c y.addr y.value y.event ≡ Ok caches
+    → taken p capacity fault.None s (Drain c) ≡ Ok (drained_state s caches c y ys)
 drain_taken p capacity s caches c y ys core is wrote = rw (lt-ltb c (length p) core, is, wrote, is) refl
 
 -- the steps lead from s to t, which has performed e more, and no more than two of them execute nothing
-pub record IsTurn (p : List (List Op)) (n capacity : ℕ) (s : State) (steps : List Step) (e : ℕ) (t : State) : Type 0 where
+pub record IsTurn (p : List (List Op)) (n capacity : ℕ) (s : State) (steps : List Step) (e : ℕ)
+    (t : State) : Type 0 where
   pub goes : Goes p capacity s steps t
   pub fits : IsGoing p n capacity t
   pub performed : t.performed ≡ s.performed ++ e ∷ []
   pub few : length steps + sum s.places ≤ sum t.places + 2
 
-module _ (x : Execution) (m : List ℕ) (tso : IsTsoOrder x m) (n capacity : ℕ) (room : (c : ℕ) → count_by is_st (get_or (program_of x) c []) ≤ capacity) where
-  module _ (s : State) (f : IsGoing (program_of x) n capacity s) (e : ℕ) (rest : List ℕ) (split : m ≡ s.performed ++ e ∷ rest) where
+module _ (x : Execution) (m : List ℕ) (tso : IsTsoOrder x m) (n capacity : ℕ) (room : (c : ℕ)
+    → count_by is_st (get_or (program_of x) c []) ≤ capacity) where
+  module _ (s : State) (f : IsGoing (program_of x) n capacity s) (e : ℕ) (rest : List ℕ)
+      (split : m ≡ s.performed ++ e ∷ rest) where
     -- e is an event
     event : e < event_count x
-    event = tso.total.nothing_else e (omega (arith, ap (λ (l : List ℕ). times l e) split, times_append s.performed (e ∷ rest) e, times_here rest e e refl))
+    event = tso.total.nothing_else e (omega (
+      arith,
+      ap (λ (l : List ℕ). times l e) split,
+      times_append s.performed (e ∷ rest) e,
+      times_here rest e e refl,
+    ))
 
     -- and is not performed
     fresh : times s.performed e ≡ 0
-    fresh = omega (arith, tso.total.once e event, ap (λ (l : List ℕ). times l e) split, times_append s.performed (e ∷ rest) e, times_here rest e e refl)
+    fresh = omega (
+      arith,
+      tso.total.once e event,
+      ap (λ (l : List ℕ). times l e) split,
+      times_append s.performed (e ∷ rest) e,
+      times_here rest e e refl,
+    )
 
     -- what is earlier on its core and not performed is a plain store, and e a plain load
-    behind : (w : ℕ) → w < e → core_of x w ≡ core_of x e → times s.performed w ≡ 0 → (is_plain_store (event_at x w) && is_plain_load (event_at x e)) ≡ true
-    behind w earlier core new = elim (cases_Bool (is_plain_store (event_at x w) && is_plain_load (event_at x e))) [
-      | inl is ↦ is
-      | inr strong ↦
-          let before : Before (s.performed ++ e ∷ rest) w e = subst (λ (l : List ℕ). Before l w e) split (tso.kept w e ((earlier, event, core), strong)) in
-          absurd (omega (arith, before, place_append_right s.performed (e ∷ rest) w new, place_append_right s.performed (e ∷ rest) e fresh, place_here rest e e refl))
-    ]
+    behind : (w : ℕ) → w < e → core_of x w ≡ core_of x e → times s.performed w ≡ 0
+        → (is_plain_store (event_at x w) && is_plain_load (event_at x e)) ≡ true
+    behind w earlier core new =
+        elim (cases_Bool (is_plain_store (event_at x w) && is_plain_load (event_at x e))) [
+          | inl is ↦ is
+          | inr strong ↦
+              let before : Before (s.performed ++ e ∷ rest) w e =
+              subst (λ (l : List ℕ). Before l w e) split (tso.kept w e ((earlier, event, core), strong)) in
+              absurd (omega (
+                arith,
+                before,
+                place_append_right s.performed (e ∷ rest) w new,
+                place_append_right s.performed (e ∷ rest) e fresh,
+                place_here rest e e refl,
+              ))
+        ]
 
     -- it is one of the program's
     counted : e < length (placed_from 0 (program_of x))
@@ -89,11 +115,13 @@ module _ (x : Execution) (m : List ℕ) (tso : IsTsoOrder x m) (n capacity : ℕ
 
     -- it stands behind the first of its core
     from : first_event (program_of x) (core_of x e) ≤ e
-    from = subst (λ (c : ℕ). first_event (program_of x) c ≤ e) (core_same e) (event_behind (program_of x) s e counted)
+    from = subst (λ (c : ℕ). first_event (program_of x) c ≤ e) (core_same e)
+        (event_behind (program_of x) e counted)
 
     -- and before the end
     to : e < first_event (program_of x) (core_of x e) + length (get_or (program_of x) (core_of x e) [])
-    to = subst (λ (c : ℕ). e < first_event (program_of x) c + length (get_or (program_of x) c [])) (core_same e) (event_before (program_of x) s e counted)
+    to = subst (λ (c : ℕ). e < first_event (program_of x) c + length (get_or (program_of x) c []))
+        (core_same e) (event_before (program_of x) e counted)
 
     -- so its core is there
     core : core_of x e < length (program_of x)
@@ -101,7 +129,9 @@ module _ (x : Execution) (m : List ℕ) (tso : IsTsoOrder x m) (n capacity : ℕ
 
     -- the operation i of the core is that of its event i
     op_there : (i : ℕ) → i < length (get_or (program_of x) (core_of x e) [])
-        → (get_or (get_or (program_of x) (core_of x e) []) i Fence ≡ op_of (event_at x (first_event (program_of x) (core_of x e) + i))) × (core_of x (first_event (program_of x) (core_of x e) + i) ≡ core_of x e)
+        → (get_or (get_or (program_of x) (core_of x e) []) i Fence
+        ≡ op_of (event_at x (first_event (program_of x) (core_of x e) + i)))
+        × (core_of x (first_event (program_of x) (core_of x e) + i) ≡ core_of x e)
     op_there i inside =
         let at = (placed_at 0 (program_of x) (core_of x e) i Fence inside).0 in
         let is = placed_is x (first_event (program_of x) (core_of x e) + i) in (
@@ -110,43 +140,61 @@ module _ (x : Execution) (m : List ℕ) (tso : IsTsoOrder x m) (n capacity : ℕ
         )
 
     -- what its core has not executed is not performed
-    new : (w : ℕ) → core_of x w ≡ core_of x e → first_event (program_of x) (core_of x e) + place_of s (core_of x e) ≤ w → times s.performed w ≡ 0
+    new : (w : ℕ) → core_of x w ≡ core_of x e
+        → first_event (program_of x) (core_of x e) + place_of s (core_of x e) ≤ w → times s.performed w ≡ 0
     new w own behind_all = elim (cases_times s.performed w) [
       | inl none ↦ none
       | inr there ↦
-          let done = (f.on []).executed (core_of x e) w (omega (arith, there, times_append s.performed (waiting s (core_of x e)) w)) in
-          absurd (omega (arith, behind_all, subst (λ (c : ℕ). w < first_event (program_of x) c + place_of s c) (core_same w ∙ own) done.1))
+          let done = (f.on []).executed (core_of x e) w
+          (omega (arith, there, times_append s.performed (waiting s (core_of x e)) w)) in
+          absurd (omega (
+            arith,
+            behind_all,
+            subst (λ (c : ℕ). w < first_event (program_of x) c + place_of s c)
+                (core_same w ∙ own) done.1,
+          ))
     ]
 
     -- what its core executes before it are plain stores
-    stores_first : (i : ℕ) → place_of s (core_of x e) ≤ i → first_event (program_of x) (core_of x e) + i < e → is_st (get_or (get_or (program_of x) (core_of x e) []) i Fence) ≡ true
+    stores_first : (i : ℕ) → place_of s (core_of x e) ≤ i → first_event (program_of x) (core_of x e) + i < e
+        → is_st (get_or (get_or (program_of x) (core_of x e) []) i Fence) ≡ true
     stores_first i next earlier =
         let w : ℕ = first_event (program_of x) (core_of x e) + i in
         let at = op_there i (omega (arith, earlier, to)) in
-        let both : (is_plain_store (event_at x w) && is_plain_load (event_at x e)) ≡ true = behind w earlier at.1 (new w at.1 (omega (arith, next))) in
-        ap is_st at.0 ∙ (store_same (event_at x w) ∙ (and_parts (is_plain_store (event_at x w)) (is_plain_load (event_at x e)) both).0)
+        let both : (is_plain_store (event_at x w) && is_plain_load (event_at x e)) ≡ true =
+        behind w earlier at.1 (new w at.1 (omega (arith, next))) in
+        ap is_st at.0 ∙ (store_same (event_at x w)
+        ∙ (and_parts (is_plain_store (event_at x w)) (is_plain_load (event_at x e)) both).0)
 
     -- its core executes them, and itself if it is a plain store
     pub caught_up : (far : ℕ) → far ≤ e + 1 → (e < far → is_plain_store (event_at x e) ≡ true)
         → (t : State) × Goes (program_of x) capacity s (execute_to (program_of x) s (core_of x e) far) t
-        × HasStored (program_of x) n capacity s t (core_of x e) (far - (first_event (program_of x) (core_of x e) + place_of s (core_of x e)))
-    caught_up far short store = store_all (program_of x) n capacity (core_of x e) (far - (first_event (program_of x) (core_of x e) + place_of s (core_of x e))) s f core
+        × HasStored (program_of x) n capacity s t (core_of x e)
+        (far - (first_event (program_of x) (core_of x e) + place_of s (core_of x e)))
+    caught_up far short store =
+        store_all (program_of x) n capacity (core_of x e)
+        (far - (first_event (program_of x) (core_of x e) + place_of s (core_of x e))) s f core
         (omega (arith, from, to, short, (f.on []).within (core_of x e))) (room (core_of x e))
         (λ i next earlier. elim (cases_lt (first_event (program_of x) (core_of x e) + i) e) [
           | inl before ↦ stores_first i next before
           | inr not_before ↦
-              let here : first_event (program_of x) (core_of x e) + i ≡ e = omega (arith, not_before, next, earlier, short) in
+              let here : first_event (program_of x) (core_of x e) + i ≡ e =
+              omega (arith, not_before, next, earlier, short) in
               ap is_st ((op_there i (omega (arith, here, to))).0 ∙ ap (λ (k : ℕ). op_of (event_at x k)) here)
               ∙ (store_same (event_at x e) ∙ store (omega (arith, here, next, earlier)))
         ])
 
     -- what waits on its core is a plain store of it, executed and not performed
     waits : (w : ℕ) → 0 < times (waiting s (core_of x e)) w
-        → (core_of x w ≡ core_of x e) × (is_plain_store (event_at x w) ≡ true) × (w < first_event (program_of x) (core_of x e) + place_of s (core_of x e)) × (times s.performed w ≡ 0)
+        → (core_of x w ≡ core_of x e) × (is_plain_store (event_at x w) ≡ true)
+        × (w < first_event (program_of x) (core_of x e) + place_of s (core_of x e))
+        × (times s.performed w ≡ 0)
     waits w there =
         let o : IsOrderly (program_of x) n s = f.on [] in
-        let was = stores_wait (program_of x) (core_of x e) w (buffer_of s (core_of x e)) (o.stores (core_of x e)) there in
-        let done = o.executed (core_of x e) w (omega (arith, there, times_append s.performed (waiting s (core_of x e)) w)) in (
+        let was = stores_wait (program_of x) (core_of x e) w (buffer_of s (core_of x e))
+        (o.stores (core_of x e)) there in
+        let done = o.executed (core_of x e) w
+        (omega (arith, there, times_append s.performed (waiting s (core_of x e)) w)) in (
           sym (core_same w) ∙ was.0,
           sym (store_same (event_at x w)) ∙ (sym (ap (λ (z : ℕ × Op). is_st z.1) (placed_is x w)) ∙ was.1),
           subst (λ (c : ℕ). w < first_event (program_of x) c + place_of s c) was.0 done.1,
@@ -154,99 +202,152 @@ module _ (x : Execution) (m : List ℕ) (tso : IsTsoOrder x m) (n capacity : ℕ
         )
 
     -- if it is executed it waits
-    waits_itself : e < first_event (program_of x) (core_of x e) + place_of s (core_of x e) → 0 < times (waiting s (core_of x e)) e
+    waits_itself : e < first_event (program_of x) (core_of x e) + place_of s (core_of x e)
+        → 0 < times (waiting s (core_of x e)) e
     waits_itself done =
         let one : times (seen_by s (core_of x e)) e ≡ 1 =
         subst (λ (c : ℕ). times (seen_by s c) e ≡ 1) (core_same e)
-        ((f.on []).once e (counted, subst (λ (c : ℕ). e < first_event (program_of x) c + place_of s c) (sym (core_same e)) done)) in
+        ((f.on []).once e (
+          counted,
+          subst (λ (c : ℕ). e < first_event (program_of x) c + place_of s c)
+              (sym (core_same e)) done,
+        )) in
         omega (arith, one, fresh, times_append s.performed (waiting s (core_of x e)) e)
 
     module _ (ready : e ≤ first_event (program_of x) (core_of x e) + place_of s (core_of x e)) where
       -- if it is no plain store it is next
-      is_next : is_plain_store (event_at x e) ≡ false → e ≡ first_event (program_of x) (core_of x e) + place_of s (core_of x e)
-      is_next plain = elim (cases_lt e (first_event (program_of x) (core_of x e) + place_of s (core_of x e))) [
-        | inl done ↦ absurd (let clash : true ≡ false = sym (waits e (waits_itself done)).1 ∙ plain in cc)
-        | inr not_yet ↦ omega (arith, ready, not_yet)
-      ]
+      is_next : is_plain_store (event_at x e) ≡ false
+          → e ≡ first_event (program_of x) (core_of x e) + place_of s (core_of x e)
+      is_next plain =
+          elim (cases_lt e (first_event (program_of x) (core_of x e) + place_of s (core_of x e))) [
+            | inl done ↦ absurd (let clash : true ≡ false = sym (waits e (waits_itself done)).1 ∙ plain in cc)
+            | inr not_yet ↦ omega (arith, ready, not_yet)
+          ]
 
       -- where it is no plain load either, nothing waits
-      is_emptied : is_plain_store (event_at x e) ≡ false → is_plain_load (event_at x e) ≡ false → buffer_of s (core_of x e) ≡ []
+      is_emptied : is_plain_store (event_at x e) ≡ false → is_plain_load (event_at x e) ≡ false
+          → buffer_of s (core_of x e) ≡ []
       is_emptied plain strong = go (buffer_of s (core_of x e)) refl
         where
           go : (b : List Entry) → buffer_of s (core_of x e) ≡ b → buffer_of s (core_of x e) ≡ []
           go [] is = is
           go (y ∷ ys) is =
-              let there : 0 < times (waiting s (core_of x e)) y.event = subst (λ (b : List Entry). 0 < times (map (λ (z : Entry). z.event) b) y.event) (sym is)
+              let there : 0 < times (waiting s (core_of x e)) y.event =
+              subst (λ (b : List Entry). 0 < times (map (λ (z : Entry). z.event) b) y.event) (sym is)
               (omega (arith, times_here (map (λ (z : Entry). z.event) ys) y.event y.event refl)) in
               let own = waits y.event there in
               let both = behind y.event (omega (arith, own.2, is_next plain)) own.0 own.3 in
-              absurd (let clash : true ≡ false = sym ((and_parts (is_plain_store (event_at x y.event)) (is_plain_load (event_at x e)) both).1) ∙ strong in cc)
+              absurd (let clash : true ≡ false =
+              sym ((and_parts (is_plain_store (event_at x y.event)) (is_plain_load (event_at x e))
+              both).1) ∙ strong in cc)
 
     -- where it is a plain store that is executed, it is the oldest that waits
-    oldest : is_plain_store (event_at x e) ≡ true → is_plain_load (event_at x e) ≡ false → e < first_event (program_of x) (core_of x e) + place_of s (core_of x e)
+    oldest : is_plain_store (event_at x e) ≡ true → is_plain_load (event_at x e) ≡ false
+        → e < first_event (program_of x) (core_of x e) + place_of s (core_of x e)
         → (y : Entry) × (ys : List Entry) × (buffer_of s (core_of x e) ≡ y ∷ ys) × (y.event ≡ e)
     oldest store strong done = go (buffer_of s (core_of x e)) refl
       where
         itself : 0 < times (waiting s (core_of x e)) e
         itself = waits_itself done
 
-        go : (b : List Entry) → buffer_of s (core_of x e) ≡ b → (y : Entry) × (ys : List Entry) × (buffer_of s (core_of x e) ≡ y ∷ ys) × (y.event ≡ e)
-        go [] is = absurd (omega (arith, subst (λ (b : List Entry). 0 < times (map (λ (z : Entry). z.event) b) e) is itself, times_nil e))
+        go : (b : List Entry) → buffer_of s (core_of x e) ≡ b
+            → (y : Entry) × (ys : List Entry) × (buffer_of s (core_of x e) ≡ y ∷ ys) × (y.event ≡ e)
+        go [] is = absurd (omega (
+          arith,
+          subst
+              (λ (b : List Entry). 0 < times (map (λ (z : Entry). z.event) b) e) is itself,
+          times_nil e,
+        ))
         go (y ∷ ys) is =
             let w : ℕ = y.event in
             let back : List ℕ = map (λ (z : Entry). z.event) ys in
-            let there : 0 < times (waiting s (core_of x e)) w = subst (λ (b : List Entry). 0 < times (map (λ (z : Entry). z.event) b) w) (sym is) (omega (arith, times_here back w w refl)) in
+            let there : 0 < times (waiting s (core_of x e)) w =
+            subst (λ (b : List Entry). 0 < times (map (λ (z : Entry). z.event) b) w) (sym is)
+            (omega (arith, times_here back w w refl)) in
             let own = waits w there in
             elim (cases_eq w e) [
               | inl one ↦ (y, ys, is, one)
               | inr other ↦ elim (cases_lt w e) [
                 | inl less ↦
                     let both = behind w less own.0 own.3 in
-                    absurd (let clash : true ≡ false = sym ((and_parts (is_plain_store (event_at x w)) (is_plain_load (event_at x e)) both).1) ∙ strong in cc)
+                    absurd (let clash : true ≡ false =
+                    sym ((and_parts (is_plain_store (event_at x w)) (is_plain_load (event_at x e))
+                    both).1) ∙ strong in cc)
                 | inr more ↦
                     let same : (placed_op (program_of x) w).0 ≡ core_of x e = core_same w ∙ own.0 in
-                    let st : is_st (placed_op (program_of x) w).1 ≡ true = ap (λ (z : ℕ × Op). is_st z.1) (placed_is x w) ∙ (store_same (event_at x w) ∙ own.1) in
-                    let executed = (f.on []).executed (core_of x e) w (omega (arith, there, times_append s.performed (waiting s (core_of x e)) w)) in
-                    let kept : Before (seen_by s (placed_op (program_of x) w).0) e w = (f.on []).kept e w (omega (arith, more, other), executed.0, core_same e ∙ sym same) executed
-                    (and_right (is_st (placed_op (program_of x) e).1) (is_ld (placed_op (program_of x) w).1) (store_no_load (placed_op (program_of x) w).1 st)) in
-                    let here : Before (s.performed ++ w ∷ back) e w = subst (λ (b : List Entry). Before (s.performed ++ map (λ (z : Entry). z.event) b) e w) is
+                    let st : is_st (placed_op (program_of x) w).1 ≡ true =
+                    ap (λ (z : ℕ × Op). is_st z.1) (placed_is x w)
+                    ∙ (store_same (event_at x w) ∙ own.1) in
+                    let executed =
+                    (f.on []).executed (core_of x e) w (omega
+                    (arith, there, times_append s.performed (waiting s (core_of x e)) w)) in
+                    let kept : Before (seen_by s (placed_op (program_of x) w).0) e w =
+                    (f.on []).kept e w (omega (arith, more, other), executed.0, core_same e ∙ sym same)
+                    executed
+                    (and_right (is_st (placed_op (program_of x) e).1) (is_ld (placed_op (program_of x) w).1)
+                    (store_no_load (placed_op (program_of x) w).1 st)) in
+                    let here : Before (s.performed ++ w ∷ back) e w =
+                    subst (λ (b : List Entry). Before (s.performed ++ map (λ (z : Entry). z.event) b) e w)
+                    is
                     (subst (λ (c : ℕ). Before (s.performed ++ waiting s c) e w) same kept) in
-                    absurd (omega (arith, here, place_append_right s.performed (w ∷ back) e fresh, place_append_right s.performed (w ∷ back) w own.3, place_here back w w refl, place_there back w e other))
+                    absurd (omega (
+                      arith,
+                      here,
+                      place_append_right s.performed (w ∷ back) e fresh,
+                      place_append_right s.performed (w ∷ back) w own.3,
+                      place_here back w w refl,
+                      place_there back w e other,
+                    ))
               ]
             ]
 
     -- the address of its operation is there
     address_there : (op : Op) → op_of (event_at x e) ≡ op → IsWithin (length s.caches.blocks) op
     address_there op is = subst (λ (k : ℕ). IsWithin k op) (sym (f.on []).blocks)
-        (subst (λ (o : Op). IsWithin n o) (ap (λ (z : ℕ × Op). z.1) (placed_is x e) ∙ is) ((f.on []).addresses e))
+        (subst (λ (o : Op). IsWithin n o) (ap (λ (z : ℕ × Op). z.1) (placed_is x e) ∙ is)
+        ((f.on []).addresses e))
 
     -- a core that goes on by one operation adds one to all places
     sum_up : sum (slice_set s.places (core_of x e) (place_of s (core_of x e) + 1)) ≡ sum s.places + 1
-    sum_up = omega (arith, sum_by-set (λ (k : ℕ). k) s.places (core_of x e) (place_of s (core_of x e) + 1) 0 (omega (arith, core, (f.on []).places)))
+    sum_up = omega (
+      arith,
+      sum_by-set (λ (k : ℕ). k) s.places (core_of x e) (place_of s (core_of x e) + 1) 0
+          (omega (arith, core, (f.on []).places)),
+    )
 
     -- the core executes e, behind a transaction that left these caches
-    executed : (caches : moesi.CacheState) (op : Op) (t : State) → IsGoing (program_of x) n capacity (with_caches s caches) → e ≡ first_event (program_of x) (core_of x e) + place_of s (core_of x e) → op_of (event_at x e) ≡ op
-        → exec capacity fault.None (with_caches s caches) (core_of x e) (first_event (program_of x) (core_of x e) + place_of s (core_of x e)) op ≡ Ok t
-        → (taken (program_of x) capacity fault.None (with_caches s caches) (Exec (core_of x e)) ≡ Ok t) × IsGoing (program_of x) n capacity t
+    executed : (caches : moesi.CacheState) (op : Op) (t : State)
+        → IsGoing (program_of x) n capacity (with_caches s caches)
+        → e ≡ first_event (program_of x) (core_of x e) + place_of s (core_of x e) → op_of (event_at x e) ≡ op
+        → exec capacity fault.None (with_caches s caches) (core_of x e)
+        (first_event (program_of x) (core_of x e) + place_of s (core_of x e)) op ≡ Ok t
+        → (taken (program_of x) capacity fault.None (with_caches s caches) (Exec (core_of x e)) ≡ Ok t)
+        × IsGoing (program_of x) n capacity t
     executed caches op t fits next is did =
         let p : List (List Op) = program_of x in
         let u : State = with_caches s caches in
         let b : ℕ = first_event p (core_of x e) + place_of s (core_of x e) in
-        let inside : place_of s (core_of x e) < length (get_or p (core_of x e) []) = omega (arith, next, to) in
+        let inside : place_of s (core_of x e) < length (get_or p (core_of x e) []) =
+        omega (arith, next, to) in
         let op_is : get_or (get_or p (core_of x e) []) (place_of s (core_of x e)) Fence ≡ op =
-        (op_there (place_of s (core_of x e)) inside).0 ∙ (ap (λ (k : ℕ). op_of (event_at x k)) (sym next) ∙ is) in
+        (op_there (place_of s (core_of x e)) inside).0
+        ∙ (ap (λ (k : ℕ). op_of (event_at x k)) (sym next) ∙ is) in
         let took : taken p capacity fault.None u (Exec (core_of x e)) ≡ Ok t =
-        at_taken p capacity u (core_of x e) (get_or (get_or p (core_of x e) []) (place_of s (core_of x e)) Fence) b (is_at p u (core_of x e) core inside)
+        at_taken p capacity u (core_of x e) (get_or (get_or p (core_of x e) []) (place_of s (core_of x e))
+        Fence) b (is_at p u (core_of x e) core inside)
         ∙ (ap (exec capacity fault.None u (core_of x e) b) op_is ∙ did) in
         (took, goes_further p n capacity u t (Exec (core_of x e)) fits took)
 
     -- what is performed is e
-    performed_it : e ≡ first_event (program_of x) (core_of x e) + place_of s (core_of x e) → s.performed ++ (first_event (program_of x) (core_of x e) + place_of s (core_of x e)) ∷ [] ≡ s.performed ++ e ∷ []
+    performed_it : e ≡ first_event (program_of x) (core_of x e) + place_of s (core_of x e)
+        → s.performed ++ (first_event (program_of x) (core_of x e) + place_of s (core_of x e)) ∷ []
+        ≡ s.performed ++ e ∷ []
     performed_it next = ap (λ (k : ℕ). s.performed ++ k ∷ []) (sym next)
 
     module _ (ready : e ≤ first_event (program_of x) (core_of x e) + place_of s (core_of x e)) where
       -- a fence takes its turn
-      pub fence_turn : event_at x e ≡ F → (t : State) × IsTurn (program_of x) n capacity s (Exec (core_of x e) ∷ []) e t
+      pub fence_turn : event_at x e ≡ F → (t : State)
+          × IsTurn (program_of x) n capacity s (Exec (core_of x e) ∷ []) e t
       fence_turn is =
           let c : ℕ = core_of x e in
           let b : ℕ = first_event (program_of x) c + place_of s c in
@@ -265,13 +366,16 @@ module _ (x : Execution) (m : List ℕ) (tso : IsTsoOrder x m) (n capacity : ℕ
           )
 
       -- a read-modify-write takes its turn
-      pub rmw_turn : (a r w : ℕ) (o : Option ℕ) → event_at x e ≡ R a r o w → (t : State) × IsTurn (program_of x) n capacity s (get_to_write s (core_of x e) a ++ Exec (core_of x e) ∷ []) e t
+      pub rmw_turn : (a r w : ℕ) (o : Option ℕ) → event_at x e ≡ R a r o w
+          → (t : State) × IsTurn (program_of x) n capacity s
+          (get_to_write s (core_of x e) a ++ Exec (core_of x e) ∷ []) e t
       rmw_turn a r w o is =
           let c : ℕ = core_of x e in
           let b : ℕ = first_event (program_of x) c + place_of s c in
           let next : e ≡ b = is_next ready (ap is_plain_store is) in
           let empty : buffer_of s c ≡ [] = is_emptied ready (ap is_plain_store is) (ap is_plain_load is) in
-          let got = fetch_write (program_of x) n capacity s f c a core (address_there (Swap a w) (ap op_of is)) in
+          let got = fetch_write (program_of x) n capacity s f c a core
+          (address_there (Swap a w) (ap op_of is)) in
           let u : State = with_caches s got.0 in
           let made = write_made got.0 c a (rmw_value u c (Swap a w) a) b got.2 in
           let t : State = advanced (performed (written (given u b (line_copy u c a)) made.0 a b) b) c in
@@ -279,7 +383,8 @@ module _ (x : Execution) (m : List ℕ) (tso : IsTsoOrder x m) (n capacity : ℕ
           let took = executed got.0 (Swap a w) t got.1.1 next (ap op_of is) did in (
             t,
             record {
-              goes = goes_on (program_of x) capacity s u t (get_to_write s c a) (Exec c ∷ []) got.1.0 (goes_one (program_of x) capacity u t (Exec c) took.0);
+              goes = goes_on (program_of x) capacity s u t (get_to_write s c a) (Exec c ∷ []) got.1.0
+                  (goes_one (program_of x) capacity u t (Exec c) took.0);
               fits = took.1;
               performed = performed_it next;
               few = omega (arith, sum_up, few_write s c a, length-append (get_to_write s c a) (Exec c ∷ []));
@@ -287,45 +392,66 @@ module _ (x : Execution) (m : List ℕ) (tso : IsTsoOrder x m) (n capacity : ℕ
           )
 
       -- a load takes its turn
-      pub load_turn : (a r : ℕ) (o : Option ℕ) → event_at x e ≡ L a r o → (t : State) × IsTurn (program_of x) n capacity s (get_to_read s (core_of x e) a (youngest (buffer_of s (core_of x e)) a) ++ Exec (core_of x e) ∷ []) e t
+      pub load_turn : (a r : ℕ) (o : Option ℕ) → event_at x e ≡ L a r o
+          → (t : State) × IsTurn (program_of x) n capacity s
+          (get_to_read s (core_of x e) a (youngest (buffer_of s (core_of x e)) a) ++ Exec (core_of x e) ∷ [])
+          e t
       load_turn a r o is =
           let c : ℕ = core_of x e in
           let b : ℕ = first_event (program_of x) c + place_of s c in
           let next : e ≡ b = is_next ready (ap is_plain_store is) in
-          let got = fetch_read (program_of x) n capacity s f c a core (address_there (Ld a) (ap op_of is)) (youngest (buffer_of s c) a) in
+          let got = fetch_read (program_of x) n capacity s f c a core (address_there (Ld a) (ap op_of is))
+          (youngest (buffer_of s c) a) in
           let u : State = with_caches s got.0 in
           let t : State = advanced (performed (given u b got.2.0) b) c in
-          let did : exec capacity fault.None u c b (Ld a) ≡ Ok t = ap (allowed B4 (λ what. advanced (performed (given u b what) b) c)) got.2.1 in
+          let did : exec capacity fault.None u c b (Ld a) ≡ Ok t =
+          ap (allowed B4 (λ what. advanced (performed (given u b what) b) c)) got.2.1 in
           let took = executed got.0 (Ld a) t got.1.1 next (ap op_of is) did in (
             t,
             record {
-              goes = goes_on (program_of x) capacity s u t (get_to_read s c a (youngest (buffer_of s c) a)) (Exec c ∷ []) got.1.0 (goes_one (program_of x) capacity u t (Exec c) took.0);
+              goes = goes_on (program_of x) capacity s u t (get_to_read s c a (youngest (buffer_of s c) a))
+                  (Exec c ∷ []) got.1.0 (goes_one (program_of x) capacity u t (Exec c) took.0);
               fits = took.1;
               performed = performed_it next;
-              few = omega (arith, sum_up, few_read s c a (youngest (buffer_of s c) a), length-append (get_to_read s c a (youngest (buffer_of s c) a)) (Exec c ∷ []));
+              few = omega (
+                arith,
+                sum_up,
+                few_read s c a (youngest (buffer_of s c) a),
+                length-append (get_to_read s c a (youngest (buffer_of s c) a)) (Exec c ∷ []),
+              );
             },
           )
 
     -- a store that is executed takes its turn
-    pub drain_turn : (a w : ℕ) → event_at x e ≡ S a w → e < first_event (program_of x) (core_of x e) + place_of s (core_of x e)
-        → (t : State) × IsTurn (program_of x) n capacity s (get_to_write s (core_of x e) a ++ Drain (core_of x e) ∷ []) e t
+    pub drain_turn : (a w : ℕ) → event_at x e ≡ S a w
+        → e < first_event (program_of x) (core_of x e) + place_of s (core_of x e)
+        → (t : State) × IsTurn (program_of x) n capacity s
+        (get_to_write s (core_of x e) a ++ Drain (core_of x e) ∷ []) e t
     drain_turn a w is done = go (oldest (ap is_plain_store is) (ap is_plain_load is) done)
       where
-        go : (o : (y : Entry) × (ys : List Entry) × (buffer_of s (core_of x e) ≡ y ∷ ys) × (y.event ≡ e)) → (t : State) × IsTurn (program_of x) n capacity s (get_to_write s (core_of x e) a ++ Drain (core_of x e) ∷ []) e t
+        go : (o : (y : Entry) × (ys : List Entry) × (buffer_of s (core_of x e) ≡ y ∷ ys) × (y.event ≡ e))
+            → (t : State) × IsTurn (program_of x) n capacity s
+            (get_to_write s (core_of x e) a ++ Drain (core_of x e) ∷ []) e t
         go (y, ys, waits_first, one) =
             let p : List (List Op) = program_of x in
             let c : ℕ = core_of x e in
-            let entry : AreStores p c (y ∷ ys) = subst (λ (b : List Entry). AreStores p c b) waits_first ((f.on []).stores c) in
-            let op : St a w ≡ St y.addr y.value = sym (ap op_of is) ∙ (sym (ap (λ (z : ℕ × Op). z.1) (placed_is x e)) ∙ (ap (λ (k : ℕ). (placed_op p k).1) (sym one) ∙ ap (λ (z : ℕ × Op). z.1) entry.0)) in
+            let entry : AreStores p c (y ∷ ys) =
+            subst (λ (b : List Entry). AreStores p c b) waits_first ((f.on []).stores c) in
+            let op : St a w ≡ St y.addr y.value =
+            sym (ap op_of is) ∙ (sym (ap (λ (z : ℕ × Op). z.1) (placed_is x e))
+            ∙ (ap (λ (k : ℕ). (placed_op p k).1) (sym one) ∙ ap (λ (z : ℕ × Op). z.1) entry.0)) in
             let at : a ≡ y.addr = cc in
             let got = fetch_write p n capacity s f c a core (address_there (St a w) (ap op_of is)) in
             let u : State = with_caches s got.0 in
-            let made = write_made got.0 c y.addr y.value y.event (subst (λ (k : ℕ). is_exclusive (moesi.line_of got.0 c k) ≡ true) at got.2) in
+            let made = write_made got.0 c y.addr y.value y.event
+            (subst (λ (k : ℕ). is_exclusive (moesi.line_of got.0 c k) ≡ true) at got.2) in
             let t : State = drained_state u made.0 c y ys in
-            let took : taken p capacity fault.None u (Drain c) ≡ Ok t = drain_taken p capacity u made.0 c y ys core waits_first made.1 in (
+            let took : taken p capacity fault.None u (Drain c) ≡ Ok t =
+            drain_taken p capacity u made.0 c y ys core waits_first made.1 in (
               t,
               record {
-                goes = goes_on p capacity s u t (get_to_write s c a) (Drain c ∷ []) got.1.0 (goes_one p capacity u t (Drain c) took);
+                goes = goes_on p capacity s u t (get_to_write s c a) (Drain c ∷ []) got.1.0
+                    (goes_one p capacity u t (Drain c) took);
                 fits = goes_further p n capacity u t (Drain c) got.1.1 took;
                 performed = ap (λ (k : ℕ). s.performed ++ k ∷ []) one;
                 few = omega (arith, few_write s c a, length-append (get_to_write s c a) (Drain c ∷ []));

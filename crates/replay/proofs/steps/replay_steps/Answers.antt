@@ -16,7 +16,9 @@ use Rattle.replay.proofs.steps.replay_steps.Goals as goal
 
 pub steps_of-requires-clause-names : goal.steps_of-requires-clause-names
 steps_of-requires-clause-names c =
-    ap (λ (h : Configuration). length h.program.names) c.in_ok-machine.ensures ∙ (ap (λ (p : Parts). length p.names) c.in_ok-program.ensures ∙ names_count (length c.args.recording.now.write_lists))
+    ap (λ (h : Configuration). length h.program.names) c.in_ok-machine.ensures
+    ∙ (ap (λ (p : Parts). length p.names) c.in_ok-program.ensures
+    ∙ names_count (length c.args.recording.now.write_lists))
 
 pub returns-clause-steps : goal.returns-clause-steps
 returns-clause-steps c =
@@ -25,9 +27,13 @@ returns-clause-steps c =
     ap (λ (r : Replaying). r.steps) c.replay.view_is
     ∙ (c.in_ok-replay.ensures.steps
     ∙ (ap (λ (h : Configuration). order_steps x h.capacity h.fault h.state m) c.in_ok-machine.ensures
-    ∙ (ap (λ (k : ℕ). order_steps x k fault.None (opening c.in_ok-program.program.cores (length c.in_ok-program.program.names)) m) c.most_stores.ensures
-    ∙ (ap (λ (p : Parts). order_steps x (most_stores x.cores) fault.None (opening p.cores (length p.names)) m) c.in_ok-program.ensures
-    ∙ ap (λ (n : ℕ). order_steps x (most_stores x.cores) fault.None (opening (program_of x) n) m) (names_count (length x.write_lists))))))
+    ∙ (ap (λ (k : ℕ). order_steps x k fault.None
+    (opening c.in_ok-program.program.cores (length c.in_ok-program.program.names)) m)
+    c.most_stores.ensures
+    ∙ (ap (λ (p : Parts). order_steps x (most_stores x.cores) fault.None (opening p.cores (length p.names)) m)
+    c.in_ok-program.ensures
+    ∙ ap (λ (n : ℕ). order_steps x (most_stores x.cores) fault.None (opening (program_of x) n) m)
+    (names_count (length x.write_lists))))))
 
 pub returns-clause-replay : goal.returns-clause-replay
 returns-clause-replay c = λ capacity room.
@@ -35,7 +41,9 @@ returns-clause-replay c = λ capacity room.
     let m : List ℕ = c.args.order.now in
     let program : c.into_program.result ≡ named_program x =
     c.into_program.ensures ∙ (ap (λ (r : Replaying). r.machine.program) c.replay.view_is
-    ∙ (c.in_ok-replay.ensures.program ∙ (ap (λ (h : Configuration). h.program) c.in_ok-machine.ensures ∙ c.in_ok-program.ensures))) in
+    ∙ (c.in_ok-replay.ensures.program ∙ (ap (λ (h : Configuration). h.program) c.in_ok-machine.ensures
+    ∙ c.in_ok-program.ensures))) in
     let steps : c.replay.inside.steps.items ≡ replay_steps x m = returns-clause-steps c in
     subst (λ (p : Parts). IsReplay x m p capacity c.replay.inside.steps.items) (sym program)
-    (subst (λ (l : List Step). IsReplay x m (named_program x) capacity l) (sym steps) (c.every_order_is_replayed.ensures.replay x m capacity c.sound.ensures c.requires.order room))
+    (subst (λ (l : List Step). IsReplay x m (named_program x) capacity l) (sym steps)
+    (c.every_order_is_replayed.ensures.replay x m capacity c.sound.ensures c.requires.order room))
