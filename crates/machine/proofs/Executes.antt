@@ -136,7 +136,8 @@ module _ (p : List (List Op)) (s t : State) (c b : ℕ) (op : Op) (n : IsNext p 
         others = λ d other. ap (λ (bs : List (List Entry)). map (λ (x : Entry). x.event) (get_or bs d []))
             buffers
             ∙ ap (map (λ (x : Entry). x.event))
-            (get_or-set_other s.buffers c d (buffer_of s c ++ entry ∷ []) [] (λ same. other (same ∙ sym core_is)));
+            (get_or-set_other s.buffers c d (buffer_of s c ++ entry ∷ []) []
+            (λ same. other (same ∙ sym core_is)));
         next = next_new;
         next_others = next_other;
         source = λ e other. ap (λ (rs : List (ℕ × Option ℕ)). (get_or rs e (0, None)).1) reads;
