@@ -24,7 +24,7 @@ const PIECES: usize = 7;
 /// Notes who begins and is done with each piece, and holds the worker that begins first until
 /// another is done with a piece.
 #[derive(Drop)]
-struct Watch {
+pub struct Watch {
     /// For each piece 8 bits: its worker's number plus 1, from when it began.
     begun: AtomicU64,
     /// The same, from when it was done.
@@ -44,7 +44,7 @@ fn byte_of(word: u64, piece: usize) -> u64 {
 }
 
 impl Watch {
-    fn new() -> Watch {
+    pub fn new() -> Watch {
         Watch {
             begun: AtomicU64::new(0),
             done: AtomicU64::new(0),
@@ -76,7 +76,7 @@ impl Watch {
     }
 
     /// Whether each piece was begun and done once, by one of two workers.
-    fn is_right(&self) -> bool {
+    pub fn is_right(&self) -> bool {
         let begun = self.begun.load(Ordering::SeqCst);
         for piece in 0..PIECES {
             let by = byte_of(begun, piece);

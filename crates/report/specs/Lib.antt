@@ -1,1 +1,5 @@
+pub mod Answer
+pub mod Devices
+pub mod Refusal
 pub mod Verdict
+pub mod Campaign

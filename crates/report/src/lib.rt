@@ -1,8 +1,23 @@
-//! The texts of verdicts.
+//! The texts of verdicts and of campaigns, and the answer to a recording's bytes.
 #![tactic(auto)]
 
+mod answering;
+mod campaign;
 mod cycle;
+mod devices;
+mod memory;
 mod numbers;
+mod outcomes;
+mod passing;
+mod refusal;
+mod stream;
 mod verdict;
 
+pub use answering::answer;
+pub use campaign::campaign_text;
+pub use devices::{Failed, Sink, Source};
+pub use memory::{MemorySink, MemorySource};
+pub use outcomes::{Outcome, ReportError};
+pub use refusal::recording_line;
+pub use stream::Device;
 pub use verdict::verdict_text;

@@ -55,7 +55,7 @@ impl Campaign {
     ghost use Rattle.trials.specs.Campaigns.{IsPlan, plan_of};
 
     /// The campaign of 1 to `MAX_TRIALS` trials, each of 1 to `MAX_STEPS` attempts, on machines with a
-    /// capacity of 1 to `MAX_CAPACITY`; else the first refusal, K5 to K7. It takes no memory.
+    /// capacity of 1 to `MAX_CAPACITY`; else the first refusal, K5 to K7. It can't fail for want of memory.
     pub fn new(
         shape: Shape,
         base: u64,

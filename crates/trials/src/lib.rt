@@ -27,4 +27,4 @@ pub use law::a_campaign_has_one_ledger;
 pub use ledger::Ledger;
 pub use running::run_seeded;
 pub use seat::{Desk, DeskSeat, Look};
-pub use trying::{reproduce, trial};
+pub use trying::{reproduce, run_trial, trial};

@@ -25,10 +25,11 @@ fn generator(campaign: &Campaign, trial: usize) -> Xoshiro256PlusPlus
 
 /// The machine in which a trial ends: its generator's first words make the program, the later ones name
 /// the attempts. An `Err` only where there is no memory.
-fn machine_of(alloc: Global, campaign: &Campaign, trial: usize) -> Result<Machine, OutOfMemory>
-    ensures { IfOk result (λ m. EndsIn campaign.now trial m) }
+pub fn run_trial(alloc: Global, campaign: &Campaign, k: usize) -> Result<Machine, OutOfMemory>
+    requires { k < campaign.now.trials }
+    ensures { IfOk result (EndsIn campaign.now k) }
 {
-    let mut rng = generator(campaign, trial);
+    let mut rng = generator(campaign, k);
     let program = generate(alloc, campaign.shape(), &mut rng)?;
     let mut machine = Machine::new(alloc, program, campaign.capacity(), campaign.fault())?;
     run_seeded(&mut machine, &mut rng, campaign.attempts());
@@ -40,7 +41,7 @@ pub fn trial(alloc: Global, campaign: &Campaign, k: usize) -> Result<Filed, OutO
     requires { k < campaign.now.trials }
     ensures { IfOk result (λ f. (f.campaign ≡ campaign.now) × (f.trial ≡ k)) }
 {
-    let machine = machine_of(alloc, campaign, k)?;
+    let machine = run_trial(alloc, campaign, k)?;
     let code = end_code(end_verdict(alloc, machine)?);
     Ok(Filed::new(campaign, k, code))
 }
@@ -57,7 +58,7 @@ pub fn reproduce(
     ensures recording { IfOk result
         (λ r. (h : Configuration) × EndsIn campaign.now k h × IsEndRecording h r.1) }
 {
-    let machine = machine_of(alloc, campaign, k)?;
+    let machine = run_trial(alloc, campaign, k)?;
     let program = machine.program().copy(alloc)?;
     match machine.finish() {
         Ok(recording) => Ok((program, Some(recording))),

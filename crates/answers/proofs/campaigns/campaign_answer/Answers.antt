@@ -1,0 +1,11 @@
+use Rattle.answers.proofs.campaigns.campaign_answer.Goals as goal
+
+pub returns : goal.returns
+returns g c = record {
+  codes = c.in-Ok.ensures.0;
+  all = c.in-Ok.ensures.1;
+  ledger = c.in-Ok.ledger;
+  counted = c.in-Ok.ensures.2;
+  status = c.status_of-status.ensures;
+  text = c.in_ok-text.ensures;
+}

@@ -1,0 +1,3 @@
+pub mod Verdict
+pub mod Run
+pub mod Campaign

@@ -1,0 +1,12 @@
+//! What commands answer of values: what is printed on standard output, and the exit status.
+#![tactic(auto)]
+
+mod answer;
+mod campaigns;
+mod runs;
+mod verdict;
+
+pub use answer::{Answer, DONE, FAULT, REFUSED, UNFINISHED, VIOLATION};
+pub use campaigns::{campaign_answer, shown_answer};
+pub use runs::{finished, script_answer, seeded_answer};
+pub use verdict::{judged_answer, verdict_behind};

@@ -1,0 +1,64 @@
+//! What is answered of runs.
+
+ghost use Rattle.std.specs.Prelude.{IfOk};
+ghost use Rattle.answers.specs.Run.{IsRunAnswer, IsSeededAnswer, state_after};
+
+use crate::answer::{Answer, UNFINISHED};
+use crate::verdict::verdict_behind;
+use judge::judge_alone;
+use litmus::{OutOfMemory, Program};
+use machine::{Fault, Machine, Step};
+use rand_core::SeedableRng;
+use rand_xoshiro::Xoshiro256PlusPlus;
+use recorder::write_recording;
+use std::alloc::Global;
+use trials::run_seeded;
+
+/// The line of the recording of a complete machine and the verdict on it, or that it is unfinished. An
+/// error is want of memory.
+pub fn finished(alloc: Global, machine: Machine) -> Result<Answer, OutOfMemory>
+    ensures { IfOk result (IsRunAnswer machine.fault machine.program machine.state) }
+{
+    match machine.finish() {
+        Ok(recording) => {
+            let text = write_recording(alloc, &recording)?;
+            let verdict = judge_alone(alloc, &recording)?;
+            verdict_behind(alloc, text, &recording, &verdict)
+        }
+        Err(_unfinished) => Ok(Answer::of(alloc, UNFINISHED, "unfinished\n")?),
+    }
+}
+
+/// The answer of a program that is run by a script, of which blocked steps are skipped. An error is want
+/// of memory.
+pub fn script_answer(
+    alloc: Global,
+    program: Program,
+    capacity: usize,
+    fault: Fault,
+    steps: &[Step],
+) -> Result<Answer, OutOfMemory>
+    ensures { IfOk result (IsRunAnswer fault program (state_after program capacity fault steps.now)) }
+{
+    let mut machine = Machine::new(alloc, program, capacity, fault)?;
+    machine.run(steps);
+    finished(alloc, machine)
+}
+
+/// The answer of a program whose steps are named by the words of a generator with this seed, so many
+/// attempts at most. An error is want of memory.
+pub fn seeded_answer(
+    alloc: Global,
+    program: Program,
+    capacity: usize,
+    fault: Fault,
+    seed: u64,
+    attempts: usize,
+) -> Result<Answer, OutOfMemory>
+    ensures { IfOk result (IsSeededAnswer program capacity fault seed attempts) }
+{
+    let mut machine = Machine::new(alloc, program, capacity, fault)?;
+    let mut rng = Xoshiro256PlusPlus::seed_from_u64(seed);
+    run_seeded(&mut machine, &mut rng, attempts);
+    finished(alloc, machine)
+}
