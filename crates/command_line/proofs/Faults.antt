@@ -6,7 +6,7 @@ use Rattle.clap.specs.declared.error.Error.{Error}
 use Rattle.clap.specs.declared.error.kind.ErrorKind.TheVariants as kinds
 use Rattle.command_line.specs.declared.options.Options.{Options}
 use Rattle.command_line.specs.declared.options.OptionFault.{OptionFault}
-use Rattle.command_line.specs.declared.options.OptionFault.TheVariants.{Clap, Limit, Buffer, OutOfMemory}
+use Rattle.command_line.specs.declared.options.OptionFault.TheVariants.{Clap, Refused, OutOfMemory}
 use Rattle.command_line.specs.Commands.{AreFaultless, command_of, program_app}
 use Rattle.command_line.specs.Options.{IsCommandFault, IsFault, IsSaid}
 
@@ -33,8 +33,7 @@ said_fault e (Clap x) words passes found said = (
       (λ (y : Error). IsAmong (kind_of y) (fault_of program_app words)) (sym said.0)
       (among e words said.1 found),
 )
-said_fault e Limit words passes found said = absurd said
-said_fault e Buffer words passes found said = absurd said
+said_fault e (Refused refusal) words passes found said = absurd said
 said_fault e OutOfMemory words passes found said = tt
 
 -- the same of an answer that is clap's error
@@ -45,11 +44,10 @@ err_fault (Ok o) e words passes found said = tt
 err_fault (Err f) e words passes found said = said_fault e f words passes found said
 
 -- a fault of the command that clap reads of words that it takes
-command_fault : (f : OptionFault) (words : List Text) → AreFaultless words → IsCommandFault f (command_of words)
-    → IsFault f words
+command_fault : (f : OptionFault) (words : List Text) → AreFaultless words
+    → IsCommandFault f (command_of words) → IsFault f words
 command_fault (Clap error) words taken fault = absurd fault
-command_fault Limit words taken fault = (taken, fault)
-command_fault Buffer words taken fault = (taken, fault)
+command_fault (Refused refusal) words taken fault = (taken, fault)
 command_fault OutOfMemory words taken fault = tt
 
 -- the same of an answer

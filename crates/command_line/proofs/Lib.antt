@@ -1,3 +1,5 @@
 pub mod Faults
 pub mod Walks
 pub mod Taken
+pub mod Unrefused
+pub mod Locals

@@ -1,6 +1,6 @@
 -- Words that clap takes have each value that their command requires, and its numbers are numbers.
 use Rattle.std.proofs.Common.{◌≡◌, ◌∙◌, ◌++◌, ◌&&◌, ◌||◌, ℕ, Bool, cond, true, false, not, true≢false, refl}
-use Rattle.std.proofs.Common.{sym, ap, subst, arith, List, [], ◌∷◌, length, Option, Some, None}
+use Rattle.std.proofs.Common.{sym, ap, subst, List, [], ◌∷◌, length, Option, Some, None}
 use Rattle.std.proofs.Common.{IfSome, is_some, codes}
 use Rattle.std.specs.Prelude.{⊤, IsSomeAnd, find, option_and_then, option_map, slice_get}
 use Rattle.std.specs.Option.{option_map_or}
@@ -26,10 +26,12 @@ use Rattle.clap.specs.declared.builder.value_parser.Reading.TheVariants.{AsWritt
 use Rattle.clap.specs.declared.builder.value_parser.ValueParser.TheVariants.{Unsigned}
 use Rattle.clap.specs.declared.parser.matches.ValueSource.TheVariants.{CommandLine}
 use Rattle.clap.specs.declared.error.kind.ErrorKind.TheVariants as kinds
-use Rattle.command_line.specs.Commands.{AreFaultless, buffer_rule, command_of, file_rule, judge_app}
-use Rattle.command_line.specs.Commands.{limit_rule}
-use Rattle.command_line.specs.Commands.{live_app, program_app, program_rule, replay_app, run_app, steps_rule}
-use Rattle.command_line.specs.Options.{HasEntries, HasLiveEntries, HasNumber, HasRunEntries, HasText}
+use Rattle.command_line.specs.Commands.{AreFaultless, command_of, file_rule, judge_app, live_app}
+use Rattle.command_line.specs.Commands.{number_rule, program_app, program_rule, replay_app, run_app}
+use Rattle.command_line.specs.Commands.{size_rule, text_rule, trials_app}
+use Rattle.command_line.specs.Entries.{HasNumber, HasText}
+use Rattle.command_line.specs.Options.{HasEntries, HasJudgeEntries, HasLiveEntries, HasRunEntries}
+use Rattle.command_line.specs.Options.{HasTrialsEntries}
 use Rattle.command_line.proofs.Walks.{Each, IsEntered, Keeps, each_found, faultless, found_is, no_kinds}
 use Rattle.command_line.proofs.Walks.{none_first, none_then}
 
@@ -40,7 +42,9 @@ most = 18446744073709551615
 
 -- the options whose entries are numbers
 abbrev is_number : Text → Bool
-is_number id = bytes_eq id (codes "buffer") || bytes_eq id (codes "limit")
+is_number id = list_any (bytes_eq id) (codes "cores" ∷ codes "ops" ∷ codes "addresses" ∷ codes "seed"
+    ∷ codes "trials" ∷ codes "attempts" ∷ codes "limit" ∷ codes "buffer" ∷ codes "workers"
+    ∷ codes "show" ∷ [])
 
 abbrev IsFit : Text → Text → Type 0
 IsFit id text = is_number id ≡ true → IsUnsignedIn 0 most text
@@ -200,48 +204,88 @@ above = with_leaf_noted (marked_built program_app.top)
 abbrev leaf : App → Shape
 leaf app = built_leaf (inherited above app.top)
 
--- the arguments that take a value
+-- PROGRAM, FILE, and options that take a text or a number
 abbrev program : Rule
 program = with_index 1 (filled program_rule)
-
-abbrev steps : Rule
-steps = with_index 2 (filled steps_rule)
-
-abbrev buffer : Rule
-buffer = with_index 2 (filled buffer_rule)
-
-abbrev limit : Rule
-limit = with_index 2 (filled limit_rule)
 
 abbrev file : Rule
 file = with_index 1 (filled file_rule)
 
+abbrev text : ℕ → Text → Rule
+text n id = with_index n (filled (text_rule id))
+
+abbrev number : ℕ → Text → Rule
+number n id = with_index n (filled (number_rule id))
+
+abbrev size : ℕ → Text → Rule
+size n id = with_index n (filled (size_rule id))
+
 program_keeps : Keeps AreFit program
 program_keeps = set_keeps program refl refl refl (λ v _. any_fits program.id v refl)
 
-steps_keeps : Keeps AreFit steps
-steps_keeps = set_keeps steps refl refl refl (λ v _. any_fits steps.id v refl)
-
-buffer_keeps : Keeps AreFit buffer
-buffer_keeps = set_keeps buffer refl refl refl (number_fits buffer.id)
-
-limit_keeps : Keeps AreFit limit
-limit_keeps = set_keeps limit refl refl refl (number_fits limit.id)
-
 file_keeps : Keeps AreFit file
 file_keeps = set_keeps file refl refl refl (λ v _. any_fits file.id v refl)
+
+text_keeps : (n : ℕ) (id : Text) → is_number id ≡ false → Keeps AreFit (text n id)
+text_keeps n id none = set_keeps (text n id) refl refl refl (λ v _. any_fits id v none)
+
+number_keeps : (n : ℕ) (id : Text) → Keeps AreFit (number n id)
+number_keeps n id = set_keeps (number n id) refl refl refl (number_fits id)
+
+size_keeps : (n : ℕ) (id : Text) → Keeps AreFit (size n id)
+size_keeps n id = set_keeps (size n id) refl refl refl (number_fits id)
 
 help_keeps : Keeps AreFit (filled help_rule)
 help_keeps = λ again values rows none fit. fit
 
 run_keeps : Each (Keeps AreFit) (leaf run_app).rules
-run_keeps = (program_keeps, (steps_keeps, (buffer_keeps, (help_keeps, tt))))
-
-live_keeps : Each (Keeps AreFit) (leaf live_app).rules
-live_keeps = (program_keeps, (buffer_keeps, (limit_keeps, (help_keeps, tt))))
+run_keeps = (
+  program_keeps,
+  (
+    text_keeps 2 (codes "steps") refl,
+    (
+      number_keeps 2 (codes "seed"),
+      (
+        number_keeps 2 (codes "attempts"),
+        (number_keeps 2 (codes "buffer"), (text_keeps 2 (codes "fault") refl, (help_keeps, tt))),
+      ),
+    ),
+  ),
+)
 
 judge_keeps : Each (Keeps AreFit) (leaf judge_app).rules
-judge_keeps = (file_keeps, (help_keeps, tt))
+judge_keeps = (file_keeps, (number_keeps 2 (codes "workers"), (help_keeps, tt)))
+
+shown_keeps : Each (Keeps AreFit) (number 1 (codes "workers") ∷ number 1 (codes "show")
+    ∷ filled help_rule ∷ [])
+shown_keeps = (number_keeps 1 (codes "workers"), (number_keeps 1 (codes "show"), (help_keeps, tt)))
+
+trials_keeps : Each (Keeps AreFit) (leaf trials_app).rules
+trials_keeps = (
+  size_keeps 1 (codes "cores"),
+  (
+    size_keeps 1 (codes "ops"),
+    (
+      size_keeps 1 (codes "addresses"),
+      (
+        number_keeps 1 (codes "seed"),
+        (
+          number_keeps 1 (codes "trials"),
+          (
+            number_keeps 1 (codes "attempts"),
+            (number_keeps 1 (codes "buffer"), (text_keeps 1 (codes "fault") refl, shown_keeps)),
+          ),
+        ),
+      ),
+    ),
+  ),
+)
+
+live_keeps : Each (Keeps AreFit) (leaf live_app).rules
+live_keeps = (
+  program_keeps,
+  (number_keeps 2 (codes "buffer"), (number_keeps 2 (codes "limit"), (help_keeps, tt))),
+)
 
 replay_keeps : Each (Keeps AreFit) (leaf replay_app).rules
 replay_keeps = (file_keeps, (help_keeps, tt))
@@ -254,16 +298,49 @@ IsRead s words = level_fault s [] nothing_held words false [] ≡ []
 run_entries : (words : List Text) → IsRead (leaf run_app) words
     → HasRunEntries (rows_after (leaf run_app).rules [] words)
 run_entries words read =
-    let is = faultless AreFit (leaf run_app) run_keeps (refl, (refl, (refl, (refl, tt)))) [] words false []
-    read tt in
+    let is = faultless AreFit (leaf run_app) run_keeps
+    (refl, (refl, (refl, (refl, (refl, (refl, (refl, tt))))))) [] words false [] read tt in
     let rows = rows_after (leaf run_app).rules [] words in
-    let first = first_given program (steps ∷ buffer ∷ filled help_rule ∷ []) rows refl
-    (wanted (leaf run_app) rows false is.check).1 in
-    let second = first_given steps (buffer ∷ filled help_rule ∷ []) rows refl first.1 in
+    let first = first_given program (text 2 (codes "steps") ∷ number 2 (codes "seed")
+    ∷ number 2 (codes "attempts") ∷ number 2 (codes "buffer") ∷ text 2 (codes "fault")
+    ∷ filled help_rule ∷ []) rows refl (wanted (leaf run_app) rows false is.check).1 in
     record {
       program = given_entry (codes "PROGRAM") rows is.rows first.0;
-      steps = given_entry (codes "steps") rows is.rows second.0;
+      seed = number_entry (codes "seed") rows refl is.rows;
+      attempts = number_entry (codes "attempts") rows refl is.rows;
       buffer = number_entry (codes "buffer") rows refl is.rows;
+    }
+
+judge_entries : (words : List Text) → IsRead (leaf judge_app) words
+    → HasJudgeEntries (rows_after (leaf judge_app).rules [] words)
+judge_entries words read =
+    let is = faultless AreFit (leaf judge_app) judge_keeps (refl, (refl, (refl, tt))) [] words false [] read
+    tt in
+    let rows = rows_after (leaf judge_app).rules [] words in
+    let first = first_given file (number 2 (codes "workers") ∷ filled help_rule ∷ []) rows refl
+    (wanted (leaf judge_app) rows false is.check).1 in
+    record {
+      file = given_entry (codes "FILE") rows is.rows first.0;
+      workers = number_entry (codes "workers") rows refl is.rows;
+    }
+
+trials_entries : (words : List Text) → IsRead (leaf trials_app) words
+    → HasTrialsEntries (rows_after (leaf trials_app).rules [] words)
+trials_entries words read =
+    let is = faultless AreFit (leaf trials_app) trials_keeps
+    (refl, (refl, (refl, (refl, (refl, (refl, (refl, (refl, (refl, (refl, (refl, tt))))))))))) [] words false
+    [] read tt in
+    let rows = rows_after (leaf trials_app).rules [] words in
+    record {
+      cores = number_entry (codes "cores") rows refl is.rows;
+      ops = number_entry (codes "ops") rows refl is.rows;
+      addresses = number_entry (codes "addresses") rows refl is.rows;
+      seed = number_entry (codes "seed") rows refl is.rows;
+      trials = number_entry (codes "trials") rows refl is.rows;
+      attempts = number_entry (codes "attempts") rows refl is.rows;
+      buffer = number_entry (codes "buffer") rows refl is.rows;
+      workers = number_entry (codes "workers") rows refl is.rows;
+      show = number_entry (codes "show") rows refl is.rows;
     }
 
 live_entries : (words : List Text) → IsRead (leaf live_app) words
@@ -272,22 +349,13 @@ live_entries words read =
     let is = faultless AreFit (leaf live_app) live_keeps (refl, (refl, (refl, (refl, tt)))) [] words false []
     read tt in
     let rows = rows_after (leaf live_app).rules [] words in
-    let first = first_given program (buffer ∷ limit ∷ filled help_rule ∷ []) rows refl
-    (wanted (leaf live_app) rows false is.check).1 in
+    let first = first_given program (number 2 (codes "buffer") ∷ number 2 (codes "limit") ∷ filled help_rule
+    ∷ []) rows refl (wanted (leaf live_app) rows false is.check).1 in
     record {
       program = given_entry (codes "PROGRAM") rows is.rows first.0;
       buffer = number_entry (codes "buffer") rows refl is.rows;
       limit = number_entry (codes "limit") rows refl is.rows;
     }
-
-judge_entry : (words : List Text) → IsRead (leaf judge_app) words
-    → HasText (codes "FILE") (rows_after (leaf judge_app).rules [] words)
-judge_entry words read =
-    let is = faultless AreFit (leaf judge_app) judge_keeps (refl, (refl, tt)) [] words false [] read tt in
-    let rows = rows_after (leaf judge_app).rules [] words in
-    given_entry (codes "FILE") rows is.rows
-    (first_given file (filled help_rule ∷ []) rows refl
-    (wanted (leaf judge_app) rows false is.check).1).0
 
 replay_entry : (words : List Text) → IsRead (leaf replay_app) words
     → HasText (codes "FILE") (rows_after (leaf replay_app).rules [] words)
@@ -300,45 +368,62 @@ replay_entry words read =
 
 -- ---- the command that the words name
 
--- the names of the commands differ in length
-differ : {X : Type 0} (a b : Text) (m n : ℕ) → length a ≡ m → length b ≡ n → (m ≡ n → ⊥) → a ≡ b → X
-differ a b m n first second unequal same = absurd (unequal (sym first ∙ ap length same ∙ second))
+-- the names of the commands differ
+differ : {X : Type 0} (a b : Text) → bytes_eq a b ≡ false → a ≡ b → X
+differ a b unequal same = absurd (true≢false (sym ((bytes_eq-Decides a b).1 same) ∙ unequal))
 
-run_entered : (words : List Text) → IsRead (leaf run_app) words → HasEntries (rows_at (leaf run_app) words)
+run_entered : (words : List Text) → IsRead (leaf run_app) words
+    → HasEntries (rows_at (leaf run_app) words)
 run_entered words read = record {
   known = λ none. none.0 refl;
   run = λ _. run_entries words read;
-  judge = differ (codes "run") (codes "judge") 3 5 refl refl (λ e. omega arith);
-  live = differ (codes "run") (codes "live") 3 4 refl refl (λ e. omega arith);
-  replay = differ (codes "run") (codes "replay") 3 6 refl refl (λ e. omega arith);
+  judge = differ (codes "run") (codes "judge") refl;
+  trials = differ (codes "run") (codes "trials") refl;
+  live = differ (codes "run") (codes "live") refl;
+  replay = differ (codes "run") (codes "replay") refl;
 }
 
 judge_entered : (words : List Text) → IsRead (leaf judge_app) words
     → HasEntries (rows_at (leaf judge_app) words)
 judge_entered words read = record {
   known = λ none. none.1 refl;
-  run = differ (codes "judge") (codes "run") 5 3 refl refl (λ e. omega arith);
-  judge = λ _. judge_entry words read;
-  live = differ (codes "judge") (codes "live") 5 4 refl refl (λ e. omega arith);
-  replay = differ (codes "judge") (codes "replay") 5 6 refl refl (λ e. omega arith);
+  run = differ (codes "judge") (codes "run") refl;
+  judge = λ _. judge_entries words read;
+  trials = differ (codes "judge") (codes "trials") refl;
+  live = differ (codes "judge") (codes "live") refl;
+  replay = differ (codes "judge") (codes "replay") refl;
 }
 
-live_entered : (words : List Text) → IsRead (leaf live_app) words → HasEntries (rows_at (leaf live_app) words)
-live_entered words read = record {
+trials_entered : (words : List Text) → IsRead (leaf trials_app) words
+    → HasEntries (rows_at (leaf trials_app) words)
+trials_entered words read = record {
   known = λ none. none.2 refl;
-  run = differ (codes "live") (codes "run") 4 3 refl refl (λ e. omega arith);
-  judge = differ (codes "live") (codes "judge") 4 5 refl refl (λ e. omega arith);
+  run = differ (codes "trials") (codes "run") refl;
+  judge = differ (codes "trials") (codes "judge") refl;
+  trials = λ _. trials_entries words read;
+  live = differ (codes "trials") (codes "live") refl;
+  replay = differ (codes "trials") (codes "replay") refl;
+}
+
+live_entered : (words : List Text) → IsRead (leaf live_app) words
+    → HasEntries (rows_at (leaf live_app) words)
+live_entered words read = record {
+  known = λ none. none.3 refl;
+  run = differ (codes "live") (codes "run") refl;
+  judge = differ (codes "live") (codes "judge") refl;
+  trials = differ (codes "live") (codes "trials") refl;
   live = λ _. live_entries words read;
-  replay = differ (codes "live") (codes "replay") 4 6 refl refl (λ e. omega arith);
+  replay = differ (codes "live") (codes "replay") refl;
 }
 
 replay_entered : (words : List Text) → IsRead (leaf replay_app) words
     → HasEntries (rows_at (leaf replay_app) words)
 replay_entered words read = record {
-  known = λ none. none.3 refl;
-  run = differ (codes "replay") (codes "run") 6 3 refl refl (λ e. omega arith);
-  judge = differ (codes "replay") (codes "judge") 6 5 refl refl (λ e. omega arith);
-  live = differ (codes "replay") (codes "live") 6 4 refl refl (λ e. omega arith);
+  known = λ none. none.4 refl;
+  run = differ (codes "replay") (codes "run") refl;
+  judge = differ (codes "replay") (codes "judge") refl;
+  trials = differ (codes "replay") (codes "trials") refl;
+  live = differ (codes "replay") (codes "live") refl;
   replay = λ _. replay_entry words read;
 }
 
@@ -364,10 +449,13 @@ each_is_whole word words entered = (
   (
     (λ _ read. judge_entered words read),
     (
-      (λ _ read. live_entered words read),
+      (λ _ read. trials_entered words read),
       (
-        (λ _ read. replay_entered words read),
-        ((λ answers read. absurd (help_entered word answers entered)), tt),
+        (λ _ read. live_entered words read),
+        (
+          (λ _ read. replay_entered words read),
+          ((λ answers read. absurd (help_entered word answers entered)), tt),
+        ),
       ),
     ),
   ),

@@ -9,46 +9,64 @@ use Rattle.clap.specs.declared.builder.value_parser.ValueParser.TheVariants.{Uns
 abbrev pub program_rule : Rule
 program_rule = record (new_rule (codes "PROGRAM")) { required = true; action = Some Set }
 
--- --steps FILE
-abbrev pub steps_rule : Rule
-steps_rule = record (new_rule (codes "steps")) {
-  long = Some (codes "steps");
-  value_names = 1;
-  required = true;
-  action = Some Set;
-}
-
--- --buffer N, a number of at most 64 bits
-abbrev pub buffer_rule : Rule
-buffer_rule = record (new_rule (codes "buffer")) {
-  long = Some (codes "buffer");
-  value_names = 1;
-  parser = Some (Unsigned 0 18446744073709551615);
-}
-
--- run PROGRAM --steps FILE [--buffer N]
-abbrev pub run_app : App
-run_app = with_rule (with_rule (with_rule (new_app (codes "run")) program_rule) steps_rule) buffer_rule
-
 -- FILE
 abbrev pub file_rule : Rule
 file_rule = record (new_rule (codes "FILE")) { required = true; action = Some Set }
 
--- judge FILE
-abbrev pub judge_app : App
-judge_app = with_rule (new_app (codes "judge")) file_rule
+-- --ID TEXT
+abbrev pub text_rule : Text → Rule
+text_rule id = record (new_rule id) { long = Some id; value_names = 1; action = Some Set }
 
--- --limit N, a number of at most 64 bits
-abbrev pub limit_rule : Rule
-limit_rule = record (new_rule (codes "limit")) {
-  long = Some (codes "limit");
+-- --ID N, a number of at most 64 bits
+abbrev pub number_rule : Text → Rule
+number_rule id = record (new_rule id) {
+  long = Some id;
   value_names = 1;
   parser = Some (Unsigned 0 18446744073709551615);
 }
 
+-- --ID N, a number of at most 64 bits that has to be given
+abbrev pub size_rule : Text → Rule
+size_rule id = record (number_rule id) { required = true }
+
+-- [--attempts N] [--buffer N] [--fault NAME]
+abbrev pub with_run_rules : App → App
+with_run_rules app = with_rule (with_rule (with_rule app (number_rule (codes "attempts")))
+    (number_rule (codes "buffer"))) (text_rule (codes "fault"))
+
+-- run PROGRAM [--steps FILE] [--seed N] [--attempts N] [--buffer N] [--fault NAME]
+abbrev pub run_app : App
+run_app = with_run_rules (with_rule (with_rule (with_rule (new_app (codes "run")) program_rule)
+    (text_rule (codes "steps"))) (number_rule (codes "seed")))
+
+-- judge FILE [--workers N]
+abbrev pub judge_app : App
+judge_app = with_rule (with_rule (new_app (codes "judge")) file_rule) (number_rule (codes "workers"))
+
+-- --cores N --ops N --addresses N
+abbrev pub with_size_rules : App → App
+with_size_rules app = with_rule (with_rule (with_rule app (size_rule (codes "cores")))
+    (size_rule (codes "ops"))) (size_rule (codes "addresses"))
+
+-- [--seed N] [--trials N]
+abbrev pub with_trial_rules : App → App
+with_trial_rules app = with_rule (with_rule app (number_rule (codes "seed"))) (number_rule (codes "trials"))
+
+-- [--workers N] [--show K]
+abbrev pub with_answer_rules : App → App
+with_answer_rules app = with_rule (with_rule app (number_rule (codes "workers")))
+    (number_rule (codes "show"))
+
+-- trials --cores N --ops N --addresses N [--seed N] [--trials N] [--attempts N] [--buffer N]
+-- [--fault NAME] [--workers N] [--show K]
+abbrev pub trials_app : App
+trials_app = with_answer_rules (with_run_rules (with_trial_rules (with_size_rules
+    (new_app (codes "trials")))))
+
 -- live PROGRAM [--buffer N] [--limit N]
 abbrev pub live_app : App
-live_app = with_rule (with_rule (with_rule (new_app (codes "live")) program_rule) buffer_rule) limit_rule
+live_app = with_rule (with_rule (with_rule (new_app (codes "live")) program_rule)
+    (number_rule (codes "buffer"))) (number_rule (codes "limit"))
 
 -- replay FILE
 abbrev pub replay_app : App
@@ -62,8 +80,8 @@ bare_app =
 
 -- the program with its commands; its name is not among the words
 abbrev pub program_app : App
-program_app = with_subcommand (with_subcommand
-    (with_subcommand (with_subcommand bare_app run_app.top) judge_app.top) live_app.top) replay_app.top
+program_app = with_subcommand (with_subcommand (with_subcommand (with_subcommand
+    (with_subcommand bare_app run_app.top) judge_app.top) trials_app.top) live_app.top) replay_app.top
 
 -- clap finds no fault in the words
 abbrev pub AreFaultless : List Text → Type 0

@@ -1,13 +1,25 @@
--- The texts of the help that name limits.
+-- The texts of the help that name limits and defaults.
 use Rattle.std.specs.Prelude.{◌≡◌, ◌++◌, ℕ, List, Option, codes, decimal, option_map}
 use Rattle.clap.specs.declared.builder.arg.Arg.{Arg}
-use Rattle.litmus.specs.declared.limits.TheConstants.{MAX_CAPACITY, MAX_STEPS}
-use Rattle.command_line.specs.declared.options.TheConstants.{DEFAULT_BUFFER, DEFAULT_LIMIT}
+use Rattle.litmus.specs.declared.limits.TheConstants.{MAX_ADDRESSES, MAX_CAPACITY, MAX_CORES, MAX_EVENTS}
+use Rattle.litmus.specs.declared.limits.TheConstants.{MAX_STEPS, MAX_TRIALS, MAX_WORKERS}
+use Rattle.command_line.specs.declared.options.TheConstants.{DEFAULT_ATTEMPTS, DEFAULT_BUFFER, DEFAULT_LIMIT}
+use Rattle.command_line.specs.declared.options.TheConstants.{DEFAULT_SEED, DEFAULT_TRIALS, DEFAULT_WORKERS}
 
 -- --steps
 abbrev pub steps_text : List ℕ
 steps_text = codes "The script: a file of at most " ++ decimal MAX_STEPS
-    ++ codes " lines, or - for standard input"
+    ++ codes " lines, or - for standard input; without it steps are random"
+
+-- --seed
+abbrev pub seed_text : List ℕ
+seed_text = codes "The seed of what is random, any number of 64 bits [default: "
+    ++ decimal DEFAULT_SEED ++ codes "]"
+
+-- --attempts
+abbrev pub attempts_text : List ℕ
+attempts_text = codes "Random steps that a run attempts, from 1 to " ++ decimal MAX_STEPS
+    ++ codes " [default: " ++ decimal DEFAULT_ATTEMPTS ++ codes "]"
 
 -- --buffer
 abbrev pub buffer_text : List ℕ
@@ -19,11 +31,53 @@ abbrev pub limit_text : List ℕ
 limit_text = codes "Steps that may be taken, from 1 to " ++ decimal MAX_STEPS
     ++ codes " [default: " ++ decimal DEFAULT_LIMIT ++ codes "]"
 
--- the texts of the three options name the limits of this program
-pub record AreHelpTexts (steps buffer limit : List ℕ) : Type 0 where
+-- --workers
+abbrev pub workers_text : List ℕ
+workers_text = codes "Threads that share the work, from 1 to " ++ decimal MAX_WORKERS
+    ++ codes " [default: " ++ decimal DEFAULT_WORKERS ++ codes "]"
+
+-- --cores
+abbrev pub cores_text : List ℕ
+cores_text = codes "Cores of each program, from 1 to " ++ decimal MAX_CORES
+
+-- --ops
+abbrev pub ops_text : List ℕ
+ops_text = codes "Operations of each core, from 1 to " ++ decimal MAX_EVENTS ++ codes ", and at most "
+    ++ decimal MAX_EVENTS ++ codes " over all cores"
+
+-- --addresses
+abbrev pub addresses_text : List ℕ
+addresses_text = codes "Addresses that operations are drawn from, from 1 to " ++ decimal MAX_ADDRESSES
+
+-- --trials
+abbrev pub trials_text : List ℕ
+trials_text = codes "Programs that are made and run, from 1 to " ++ decimal MAX_TRIALS
+    ++ codes " [default: " ++ decimal DEFAULT_TRIALS ++ codes "]"
+
+-- --fault
+abbrev pub fault_text : List ℕ
+fault_text =
+    codes "A fault: none, no-bypass, youngest-first, open-fence, stale-share, early-rmw [default: none]"
+
+-- --show
+abbrev pub show_text : List ℕ
+show_text = codes "Shows trial K, from 0 and below the number of trials, instead of the counts"
+
+-- the texts that run and live name limits by
+pub record AreRunTexts (steps seed attempts buffer limit : List ℕ) : Type 0 where
   pub steps_is : steps ≡ steps_text
+  pub seed_is : seed ≡ seed_text
+  pub attempts_is : attempts ≡ attempts_text
   pub buffer_is : buffer ≡ buffer_text
   pub limit_is : limit ≡ limit_text
+
+-- the texts that trials names its further limits by
+pub record AreTrialsTexts (cores ops addresses trials workers : List ℕ) : Type 0 where
+  pub cores_is : cores ≡ cores_text
+  pub ops_is : ops ≡ ops_text
+  pub addresses_is : addresses ≡ addresses_text
+  pub trials_is : trials ≡ trials_text
+  pub workers_is : workers ≡ workers_text
 
 -- what the help says of an argument
 abbrev pub help_of : Arg → Option (List ℕ)

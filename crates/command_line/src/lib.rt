@@ -2,7 +2,16 @@
 #![tactic(auto)]
 
 mod command;
+mod entries;
+mod named;
 mod options;
+mod pages;
+mod refusals;
+mod rules;
 pub mod words;
 
-pub use options::{FileOptions, LiveOptions, OptionFault, Options, RunOptions};
+pub use options::{
+    DEFAULT_ATTEMPTS, DEFAULT_BUFFER, DEFAULT_FAULT, DEFAULT_LIMIT, DEFAULT_SEED, DEFAULT_TRIALS,
+    DEFAULT_WORKERS, FileOptions, JudgeOptions, LiveOptions, OptionFault, OptionRefusal, Options,
+    RunOptions, TrialsOptions,
+};

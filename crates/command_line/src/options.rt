@@ -1,14 +1,18 @@
-//! The options, from what `clap` reads of the words.
-ghost use Rattle.std.specs.Prelude.{◌≡◌, IfErr, IfOk, Some, codes};
-ghost use Rattle.clap.specs.Words.{first_of, found_of, one_of, rows_of};
-ghost use Rattle.command_line.specs.Options.{AreFileOptions, AreLiveOptions, AreRunOptions, HasLiveEntries};
-ghost use Rattle.command_line.specs.Options.{HasNumber, HasRunEntries, HasText, IsCapacity, IsCapacityFault};
-ghost use Rattle.command_line.specs.Options.{IsLiveFault, IsRunFault, number_or};
+//! The options of each command, and why there are none.
 
-use clap::ArgMatches;
 use clap::error::ErrorKind;
-use litmus::{MAX_CAPACITY, MAX_STEPS};
-use std::alloc::{AllocError, AllocFailed, Global};
+use litmus::ShapeError;
+use machine::Fault;
+use std::alloc::{AllocError, AllocFailed};
+
+/// The seed where no option says it.
+pub const DEFAULT_SEED: u64 = 0;
+
+/// How many trials a campaign has where no option says it.
+pub const DEFAULT_TRIALS: usize = 64;
+
+/// How many steps a random run attempts where no option says it.
+pub const DEFAULT_ATTEMPTS: usize = 100_000;
 
 /// How many stores a buffer holds where no option says it.
 pub const DEFAULT_BUFFER: usize = 8;
@@ -16,31 +20,81 @@ pub const DEFAULT_BUFFER: usize = 8;
 /// How many steps threads may take where no option says it.
 pub const DEFAULT_LIMIT: usize = 100_000;
 
+/// How many workers there are where no option says it.
+pub const DEFAULT_WORKERS: usize = 1;
+
+/// What is wrong with the machine where no option says it.
+pub const DEFAULT_FAULT: Fault = Fault::None;
+
 /// What the command line asks for.
 #[derive(Debug, Drop)]
 pub enum Options {
     /// `run`.
     Run(RunOptions),
     /// `judge`.
-    Judge(FileOptions),
+    Judge(JudgeOptions),
+    /// `trials`.
+    Trials(TrialsOptions),
     /// `live`.
     Live(LiveOptions),
     /// `replay`.
     Replay(FileOptions),
 }
 
-/// What `run` is asked: the names of the program and of the script, and the capacity of each buffer.
+/// What `run` is asked: the names of the program and of the script, and the machine and the steps of
+/// a random run.
 #[derive(Debug, Drop)]
 pub struct RunOptions {
     /// The name of the program.
     pub program: String,
-    /// The name of the script.
-    pub steps: String,
+    /// The name of the script; none asks for random steps.
+    pub steps: Option<String>,
+    /// The seed of random steps.
+    pub seed: u64,
+    /// How many random steps are attempted, 1 to `MAX_STEPS`.
+    pub attempts: usize,
     /// How many stores a buffer holds, 1 to `MAX_CAPACITY`.
     pub buffer: usize,
+    /// What is wrong with the machine.
+    pub fault: Fault,
 }
 
-/// What `judge` and `replay` are asked: the name of the recording.
+/// What `judge` is asked: the name of the recording, and how many workers judge it.
+#[derive(Debug, Drop)]
+pub struct JudgeOptions {
+    /// The name of the recording.
+    pub file: String,
+    /// How many workers judge it, 1 to `MAX_WORKERS`.
+    pub workers: usize,
+}
+
+/// What `trials` is asked: the sizes of the programs, the trials and their runs, the workers, and the
+/// trial that is shown.
+#[derive(Debug, Drop)]
+pub struct TrialsOptions {
+    /// How many cores a program has, 1 to `MAX_CORES`.
+    pub cores: usize,
+    /// How many operations a core has, 1 to `MAX_EVENTS`; over all cores at most `MAX_EVENTS`.
+    pub ops: usize,
+    /// How many addresses operations are drawn from, 1 to `MAX_ADDRESSES`.
+    pub addresses: usize,
+    /// The seed of the first trial.
+    pub seed: u64,
+    /// How many trials there are, 1 to `MAX_TRIALS`.
+    pub trials: usize,
+    /// How many steps a trial attempts, 1 to `MAX_STEPS`.
+    pub attempts: usize,
+    /// How many stores a buffer holds, 1 to `MAX_CAPACITY`.
+    pub buffer: usize,
+    /// What is wrong with the machine.
+    pub fault: Fault,
+    /// How many workers share the trials, 1 to `MAX_WORKERS`.
+    pub workers: usize,
+    /// The trial that is shown instead of the counts, below `trials`.
+    pub show: Option<usize>,
+}
+
+/// What `replay` is asked: the name of the recording.
 #[derive(Debug, Drop)]
 pub struct FileOptions {
     /// The name of the recording.
@@ -59,15 +113,28 @@ pub struct LiveOptions {
     pub limit: usize,
 }
 
+/// Why the entries of words that `clap` takes are refused. Where several apply, the first in this order
+/// is answered.
+#[derive(Clone, Copy, Debug, Drop, PartialEq, Eq)]
+pub enum OptionRefusal {
+    /// K1 to K7: the sizes of programs, the number of trials, of attempts (of `live` the limit), or the
+    /// buffer's capacity.
+    Shape(ShapeError),
+    /// K8: the number of workers is not from 1 to `MAX_WORKERS`.
+    Workers,
+    /// K9: the fault's name is none of the six.
+    Fault,
+    /// K10: the trial to show is not below the number of trials.
+    Show,
+}
+
 /// Why the words gave no options.
 #[derive(Debug, Drop)]
 pub enum OptionFault {
     /// What `clap` says: a fault of the command line, or the help that was asked for.
     Clap(clap::Error),
-    /// The limit of steps is not from 1 to `MAX_STEPS`.
-    Limit,
-    /// The buffer's capacity is not from 1 to `MAX_CAPACITY`.
-    Buffer,
+    /// `clap` takes the words, and this is the first refusal of their entries.
+    Refused(OptionRefusal),
     /// There is no memory.
     OutOfMemory,
 }
@@ -105,84 +172,4 @@ impl From<clap::Error> for OptionFault {
         }
         OptionFault::Clap(error)
     }
-}
-
-/// The text of an argument or an option.
-fn text<'a>(matches: &ArgMatches<'a>, id: &str) -> &'a str
-    requires { HasText id.now (rows_of (found_of matches.now)) }
-    ensures { first_of id.now (rows_of (found_of matches.now)) ≡ Some result.now }
-{
-    let Some(text) = matches.get_str(id) else {
-        unreachable!()
-    };
-    text
-}
-
-/// The number of an option, or its default where there is no entry.
-fn number_or(matches: &ArgMatches<'_>, id: &str, default: u64) -> u64
-    requires { HasNumber id.now (rows_of (found_of matches.now)) }
-    ensures { result ≡ number_or default (one_of id.now (rows_of (found_of matches.now))) }
-{
-    match matches.try_get_one::<u64>(id) {
-        Ok(Some(n)) => n,
-        Ok(None) => default,
-        Err(_) => unreachable!(),
-    }
-}
-
-/// The capacity of a buffer that the entries ask for, or its default, within its limits.
-fn capacity(matches: &ArgMatches<'_>) -> Result<usize, OptionFault>
-    requires { HasNumber (codes "buffer") (rows_of (found_of matches.now)) }
-    ensures ok { IfOk result (λ n. IsCapacity n (rows_of (found_of matches.now))) }
-    ensures err { IfErr result (λ fault. IsCapacityFault fault (rows_of (found_of matches.now))) }
-{
-    let buffer = number_or(matches, "buffer", DEFAULT_BUFFER as u64);
-    if buffer < 1 || (MAX_CAPACITY as u64) < buffer {
-        return Err(OptionFault::Buffer);
-    }
-    Ok(buffer as usize)
-}
-
-/// The options of `run`: each is `clap`'s entry, else its default, and a capacity outside its limits
-/// is refused.
-pub fn run_options(alloc: Global, matches: &ArgMatches<'_>) -> Result<RunOptions, OptionFault>
-    requires { HasRunEntries (rows_of (found_of matches.now)) }
-    ensures ok { IfOk result (λ o. AreRunOptions o (rows_of (found_of matches.now))) }
-    ensures err { IfErr result (λ fault. IsRunFault fault (rows_of (found_of matches.now))) }
-{
-    let buffer = capacity(matches)?;
-    Ok(RunOptions {
-        program: String::from_str(alloc, text(matches, "PROGRAM"))?,
-        steps: String::from_str(alloc, text(matches, "steps"))?,
-        buffer,
-    })
-}
-
-/// The options of `judge` and of `replay`: the file is `clap`'s entry.
-pub fn file_options(alloc: Global, matches: &ArgMatches<'_>) -> Result<FileOptions, AllocError>
-    requires { HasText (codes "FILE") (rows_of (found_of matches.now)) }
-    ensures { IfOk result (λ o. AreFileOptions o (rows_of (found_of matches.now))) }
-{
-    Ok(FileOptions {
-        file: String::from_str(alloc, text(matches, "FILE"))?,
-    })
-}
-
-/// The options of `live`: each is `clap`'s entry, else its default. A limit outside its own limits is
-/// refused before a capacity outside its limits.
-pub fn live_options(alloc: Global, matches: &ArgMatches<'_>) -> Result<LiveOptions, OptionFault>
-    requires { HasLiveEntries (rows_of (found_of matches.now)) }
-    ensures ok { IfOk result (λ o. AreLiveOptions o (rows_of (found_of matches.now))) }
-    ensures err { IfErr result (λ fault. IsLiveFault fault (rows_of (found_of matches.now))) }
-{
-    let limit = number_or(matches, "limit", DEFAULT_LIMIT as u64);
-    if limit < 1 || (MAX_STEPS as u64) < limit {
-        return Err(OptionFault::Limit);
-    }
-    let buffer = capacity(matches)?;
-    Ok(LiveOptions {
-        program: String::from_str(alloc, text(matches, "PROGRAM"))?,
-        buffer,
-        limit: limit as usize,
-    })
 }

@@ -1,11 +1,14 @@
 //! The words of a command line.
 ghost use Rattle.std.specs.Prelude.{◌≡◌, IfErr, IfOk, IsSomeAnd, map, option_map, string_bytes};
 ghost use Rattle.clap.specs.Words.{found_of, rows_of, subcommand_rows_of};
-ghost use Rattle.command_line.specs.Options.{AreOptions, HasEntries, IsCommandFault, IsFault};
 ghost use Rattle.command_line.specs.Commands.{AreFaultless, command_of};
+ghost use Rattle.command_line.specs.Options.{AreOptions, HasEntries, IsCommandFault, IsFault};
 
-use crate::command::{Texts, command};
-use crate::options::{OptionFault, Options, file_options, live_options, run_options};
+use crate::command::command;
+use crate::named::named_options;
+use crate::options::{OptionFault, Options};
+use crate::refusals::refusal_of;
+use crate::rules::Texts;
 use clap::ArgMatches;
 use std::alloc::Global;
 
@@ -25,23 +28,11 @@ fn command_options(alloc: Global, matches: &ArgMatches<'_>) -> Result<Options, O
     let Some((name, entries)) = entered(matches) else {
         unreachable!()
     };
-    if name == "run" {
-        let run = run_options(alloc, entries)?;
-        return Ok(Options::Run(run));
+    if let Some(refusal) = refusal_of(name, entries) {
+        return Err(OptionFault::Refused(refusal));
     }
-    if name == "judge" {
-        let judge = file_options(alloc, entries)?;
-        return Ok(Options::Judge(judge));
-    }
-    if name == "live" {
-        let live = live_options(alloc, entries)?;
-        return Ok(Options::Live(live));
-    }
-    if name == "replay" {
-        let replay = file_options(alloc, entries)?;
-        return Ok(Options::Replay(replay));
-    }
-    unreachable!()
+    let options = named_options(alloc, name, entries)?;
+    Ok(options)
 }
 
 /// The options that the words ask for. They come without the program's name.

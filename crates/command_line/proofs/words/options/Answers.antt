@@ -1,9 +1,9 @@
-use Rattle.std.proofs.Common.{◌≡◌, ◌∙◌, List, Option, ap, map, refl, string_bytes, subst, sym, true}
+use Rattle.std.proofs.Common.{◌≡◌, ◌∙◌, IfOk, List, Option, ap, map, refl, string_bytes, subst, sym, true}
 use Rattle.std.specs.Prelude.{IsSomeAnd}
 use Rattle.clap.specs.Words.{App, HasKind, Row, Text, fault_of, is_simple, is_simple_and_free, subcommand_of}
 use Rattle.clap.specs.Words.{subcommand_rows_of, takes}
 use Rattle.command_line.specs.Commands.{AreFaultless, program_app}
-use Rattle.command_line.specs.Options.{HasEntries}
+use Rattle.command_line.specs.Options.{AreOptions, HasEntries}
 use Rattle.command_line.proofs.Faults.{err_fault, known_ok, taken_fault}
 use Rattle.command_line.proofs.Taken.{command_is_whole}
 use Rattle.command_line.proofs.words.options.Goals as goal
@@ -35,6 +35,14 @@ command_options-requires c =
     let command = ap (λ (app : App). subcommand_of app words) c.in_ok-command.ensures in
     subst (λ (o : Option (Text × List Row)). IsSomeAnd o HasEntries) (sym (rows ∙ command))
     (command_is_whole words taken)
+
+pub returns-clause-ok : goal.returns-clause-ok
+returns-clause-ok c =
+    let words = map (λ word. string_bytes word) c.args.words.now in
+    let rows = (c.in_ok-matches.ensures.matches (ap is_simple c.in_ok-command.ensures ∙ simple)).1 in
+    let command = ap (λ (app : App). subcommand_of app words) c.in_ok-command.ensures in
+    subst (λ (o : Option (Text × List Row)). IfOk c.command_options.result (λ x. AreOptions x o))
+    (rows ∙ command) c.command_options.ensures.ok
 
 pub returns-clause-err : goal.returns-clause-err
 returns-clause-err c =

@@ -1,0 +1,10 @@
+use Rattle.std.proofs.Common.{refl}
+use Rattle.std.proofs.lemmas.Result.{IfOk-weaker}
+use Rattle.command_line.proofs.Locals.{local_kept}
+use Rattle.command_line.proofs.command.with_trial_args.Goals as goal
+
+pub returns-clause-local : goal.returns-clause-local
+returns-clause-local c =
+    let first = local_kept _ _ _ _ c.in_ok-arg.ensures.globals c.seed_arg-seed.ensures.local refl in
+    IfOk-weaker c.arg-2.result _ _ (λ new adds. local_kept _ _ _ _ adds.globals
+    c.trials_arg-trials.ensures.local first) c.arg-2.ensures

@@ -1,0 +1,163 @@
+//! What the pages of the help say of the program and of each command.
+
+/// The program in one line.
+pub const ABOUT: &str = "Runs multiprocessor programs under total store order (TSO)";
+
+/// What stands below the commands of the program.
+pub const STATUSES: &str = "Exit status:
+  0  TSO allows the recording; of `trials`, every recording
+  1  a fault of the command line, a file, memory or a thread, as standard error says
+  2  the recording is a violation of TSO; of `trials`, at least one is
+  3  a text, a number or a name was refused, as the line `refused: ..` says
+  4  the run is unfinished; of `trials`, at least one is, and none is a violation
+
+Examples:
+  tsotest judge recording.json
+  tsotest replay recording.json
+  tsotest run store_buffering.litmus
+  tsotest run store_buffering.litmus --steps store_buffering.steps
+  tsotest trials --cores 2 --ops 8 --addresses 2 --trials 1000";
+
+/// `run` in one line.
+pub const RUN_ABOUT: &str =
+    "Runs a litmus program by a script or by random steps and judges its recording";
+
+/// What `run` does.
+pub const RUN_MORE: &str =
+    "Runs a litmus program by a script or by random steps, prints its recording and judges it.
+
+Each core has a store buffer and a MOESI cache in front of one memory. A script has a line
+for each step: `exec C` executes the next operation of core C, and `drain C` writes the
+oldest store of its buffer to its cache. `gets C NAME` gets core C a line of an address that
+it may read, `getm C NAME` the only line, which it may write, and `put C NAME` gives it up.
+A step that is blocked is skipped. Without a script each step is drawn at random, until the
+program is complete or the attempts are used up; blocked steps count. The same seed draws
+the same steps. With a script, seed and attempts are not used.
+
+The recording is one line of JSON: what each operation read and wrote, and for each address
+its writes in memory order. Behind it stands the verdict, as `judge` prints it; of a run
+that is not complete only `unfinished` is printed.
+
+A machine may be wrong in one way, and may then record a violation: with `no-bypass` loads
+don't look in their core's buffer, with `youngest-first` the youngest store drains first,
+with `open-fence` fences and with `early-rmw` read-modify-writes don't wait for an empty
+buffer, and with `stale-share` other cores keep old copies of a line that is written.";
+
+/// How `run` ends.
+pub const RUN_STATUSES: &str = "Exit status:
+  0  the run is complete, and TSO allows its recording
+  1  a fault of the command line, a file or memory, as standard error says
+  2  the run is complete, and its recording is a violation of TSO: only with a fault
+  3  a text, a number or a fault's name was refused, as the line `refused: ..` says
+  4  the run is unfinished: an operation or a buffered store is left
+
+Example:
+  tsotest run store_buffering.litmus --steps store_buffering.steps";
+
+/// `judge` in one line.
+pub const JUDGE_ABOUT: &str =
+    "Judges a recording: the least order that TSO allows, or why there is none";
+
+/// What `judge` does.
+pub const JUDGE_MORE: &str = "Judges a recording.
+
+`ordered:` and the numbers of the events are the first memory order, in dictionary order,
+that TSO allows for the recording. `overlook: load L store S` names the least read that
+comes after a store of its address on the same core and gives an older value, with the
+least such store. `cycle of K` and its lines name the first shortest cycle of pairs of
+events that every memory order has in order, each with its reason: Po (program order), Wo
+(write order), Rf (reads-from) or Fr (from-read). The label lines show that no cycle is
+shorter. In the last two cases TSO allows no order. The answer does not depend on the
+number of workers.";
+
+/// How `judge` ends.
+pub const JUDGE_STATUSES: &str = "Exit status:
+  0  TSO allows the recording
+  1  a fault of the command line, a file or memory, as standard error says
+  2  the recording is a violation of TSO
+  3  the recording or a number was refused, as the line `refused: ..` says
+
+Example:
+  tsotest judge recording.json";
+
+/// `trials` in one line.
+pub const TRIALS_ABOUT: &str =
+    "Makes random programs, runs each by random steps and counts the verdicts";
+
+/// What `trials` does.
+pub const TRIALS_MORE: &str =
+    "Makes random programs, runs each by random steps, judges the recordings and counts.
+
+Trial k, from 0, draws its program and then its steps from the seed plus k. It prints, in
+this order, a line each: `trials T`, how many there were; `ordered N`, how many recordings
+TSO allows; `unfinished N`, how many runs used up their attempts; `overlook N`, how many
+have a load that overlooks a store of its own core; for each length K that occurs, in
+ascending order, `cycle K: N`, how many have a shortest cycle of K events; and `first
+violation: trial k`, or `first violation: none`. The counts do not depend on the number of
+workers.
+
+To look at a violation, give the same options and `--show K` with its number: then, instead
+of the counts, the trial's program is printed, an empty line, its recording and its verdict,
+as by `run`, and the exit status is that of `run`.";
+
+/// How `trials` ends.
+pub const TRIALS_STATUSES: &str = "Exit status:
+  0  no trial is a violation, and none is unfinished
+  1  a fault of the command line or memory, as standard error says
+  2  at least one trial is a violation of TSO: only with a fault
+  3  a number or a fault's name was refused, as the line `refused: ..` says
+  4  no trial is a violation, and at least one is unfinished
+
+Examples:
+  tsotest trials --cores 2 --ops 8 --addresses 2 --fault stale-share
+  tsotest trials --cores 2 --ops 8 --addresses 2 --fault stale-share --show 0";
+
+/// `live` in one line.
+pub const LIVE_ABOUT: &str = "Runs a litmus program by threads and judges its recording";
+
+/// What `live` does.
+pub const LIVE_MORE: &str = "Runs a litmus program by threads, prints its recording and judges it.
+
+The machine is that of `run`. A thread for each core, one for the store buffers and one for
+the caches take its steps under one lock, until the program is complete or the limit of
+steps is reached. Two runs may differ.";
+
+/// How `live` ends.
+pub const LIVE_STATUSES: &str = "Exit status:
+  0  the run is complete, and TSO allows its recording
+  1  a fault of the command line, a file, memory or a thread, as standard error says
+  3  a text or a number was refused, as the line `refused: ..` says
+  4  the run is unfinished: the limit of steps was reached before its end
+
+Example:
+  tsotest live store_buffering.litmus";
+
+/// `replay` in one line.
+pub const REPLAY_ABOUT: &str = "Gives a program and a script whose run makes a recording again";
+
+/// What `replay` does.
+pub const REPLAY_MORE: &str = "Gives a program and a script whose run makes a recording again.
+
+The line `buffer N` says how many stores a buffer has to hold. Behind an empty line stands a
+litmus program, which names its addresses a0, a1 and so on, and behind another empty line a
+script. The run performs the first memory order, in dictionary order, that TSO allows for
+the recording. A violation is answered as by `judge`. The recording's addresses have to be
+numbered in the order of their first use, and each has to be used.";
+
+/// How `replay` ends.
+pub const REPLAY_STATUSES: &str = "Exit status:
+  0  TSO allows the recording
+  1  a fault of the command line, a file or memory, as standard error says
+  2  the recording is a violation of TSO
+  3  the recording was refused, as the line `refused: ..` says
+
+Example:
+  tsotest replay recording.json";
+
+/// What the help says of `--fault`.
+pub const FAULT_TEXT: &str =
+    "A fault: none, no-bypass, youngest-first, open-fence, stale-share, early-rmw [default: none]";
+
+/// What the help says of `--show`.
+pub const SHOW_TEXT: &str =
+    "Shows trial K, from 0 and below the number of trials, instead of the counts";
