@@ -3,9 +3,9 @@ use Rattle.std.proofs.Common.{◌≡◌, inl, inr, refl, ℕ, List, Option, Resu
 use Rattle.std.specs.Prelude.{string_bytes}
 use Rattle.command_line.specs.declared.options.FileOptions.{FileOptions}
 use Rattle.recorder.specs.declared.fault.RecError.TheVariants as rec
-use Rattle.commands.specs.declared.answer.Answer.{Answer}
-use Rattle.commands.specs.declared.answer.Stop.{Stop}
-use Rattle.commands.specs.declared.answer.Stop.TheVariants.{Refused, Fault}
+use Rattle.answers.specs.declared.answer.Answer.{Answer}
+use Rattle.commands.specs.declared.stop.Stop.{Stop}
+use Rattle.commands.specs.declared.stop.Stop.TheVariants.{Refused, Fault}
 use Rattle.commands.specs.declared.fault.CommandFault.TheVariants as fault
 use Rattle.commands.specs.Inputs.{AreBytesOf}
 use Rattle.commands.specs.Replay.{IsReplayStop, IsUnreplayed}

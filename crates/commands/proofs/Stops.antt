@@ -1,19 +1,19 @@
 -- Why commands stop, from why their parts do.
 use Rattle.std.proofs.Common.{ℕ, List, Option, Result, Ok, Err, IfErr}
 use Rattle.std.specs.Prelude.{string_bytes}
-use Rattle.command_line.specs.declared.options.FileOptions.{FileOptions}
+use Rattle.command_line.specs.declared.options.JudgeOptions.{JudgeOptions}
 use Rattle.command_line.specs.declared.options.LiveOptions.{LiveOptions}
 use Rattle.live.specs.declared.error.LiveError.{LiveError}
 use Rattle.live.specs.declared.error.LiveError.TheVariants as live
-use Rattle.commands.specs.declared.answer.Answer.{Answer}
-use Rattle.commands.specs.declared.answer.Stop.{Stop}
-use Rattle.commands.specs.declared.answer.Stop.TheVariants.{Refused, Fault}
+use Rattle.answers.specs.declared.answer.Answer.{Answer}
+use Rattle.commands.specs.declared.stop.Stop.{Stop}
+use Rattle.commands.specs.declared.stop.Stop.TheVariants.{Refused, Fault}
 use Rattle.commands.specs.Inputs.{AreBytesOf}
 use Rattle.commands.specs.Judge.{IsJudgeStop, IsUnread}
 use Rattle.commands.specs.Perform.{IsLiveStop, thread_fault}
 
 -- the bytes of the named input are no recording
-pub judge_stop : (inputs : List ℕ → Option (List ℕ)) (o : FileOptions) (bytes : List ℕ) (r : Result Answer Stop) → AreBytesOf inputs (string_bytes o.file) bytes
+pub judge_stop : (inputs : List ℕ → Option (List ℕ)) (o : JudgeOptions) (bytes : List ℕ) (r : Result Answer Stop) → AreBytesOf inputs (string_bytes o.file) bytes
     → IfErr r (IsUnread bytes) → IfErr r (IsJudgeStop inputs o)
 judge_stop inputs o bytes (Ok answer) given is = tt
 judge_stop inputs o bytes (Err (Refused line)) given is = (bytes, given, is)

@@ -11,20 +11,25 @@ use Rattle.machine.specs.Taken.{all_taken, begun}
 use Rattle.machine.specs.Configuration.{Configuration}
 use Rattle.live.specs.Trace.{Trace, IsEnded, IsTrace}
 use Rattle.live.specs.Driven.{IsGiven}
-use Rattle.commands.specs.declared.answer.Answer.{Answer}
+use Rattle.answers.specs.declared.answer.Answer.{Answer}
 use Rattle.commands.specs.Inputs.{AreBytesOf}
-use Rattle.commands.specs.Run.{IsRunAnswer, IsLive}
+use Rattle.answers.specs.Run.{IsRunAnswer}
+use Rattle.commands.specs.Run.{IsLive}
 
 -- the answer of the machine that they leave is that of the run of its trace
 pub live_answer : (inputs : List ℕ → Option (List ℕ)) (o : LiveOptions) (text : List ℕ) (program : Parts) (t : Trace) (machine : Configuration) (answer : Answer)
     → AreBytesOf inputs (string_bytes o.program) text → reading text ≡ Ok program
-    → IsGiven program o.buffer o.limit t → IsEnded t → IsTrace t → machine ≡ t.machine → IsRunAnswer machine.program machine.state answer → IsLive inputs o answer
+    → IsGiven program o.buffer o.limit t → IsEnded t → IsTrace t → machine ≡ t.machine
+    → IsRunAnswer machine.fault machine.program machine.state answer → IsLive inputs o answer
 live_answer inputs o text program t machine answer bytes read given ended replay same is =
     let taken : all_taken program.cores o.buffer None (begun program) t.steps ≡ Ok t.machine.state =
     subst (λ (f : Fault). all_taken program.cores o.buffer f (begun program) t.steps ≡ Ok t.machine.state) given.fault_is
     (subst (λ (n : ℕ). all_taken program.cores n t.machine.fault (begun program) t.steps ≡ Ok t.machine.state) given.capacity_is
     (subst (λ (q : Parts). all_taken q.cores t.machine.capacity t.machine.fault (begun q) t.steps ≡ Ok t.machine.state) given.program_is replay)) in
-    let here : IsRunAnswer t.machine.program t.machine.state answer = subst (λ (h : Configuration). IsRunAnswer h.program h.state answer) same is in
+    let here : IsRunAnswer t.machine.fault t.machine.program t.machine.state answer =
+    subst (λ (h : Configuration). IsRunAnswer h.fault h.program h.state answer) same is in
+    let faultless : IsRunAnswer None t.machine.program t.machine.state answer =
+    subst (λ (f : Fault). IsRunAnswer f t.machine.program t.machine.state answer) given.fault_is here in
     record {
       program_text = text;
       given = bytes;
@@ -37,5 +42,5 @@ live_answer inputs o text program t machine answer bytes read given ended replay
         | inl end ↦ inl (subst (λ (q : Parts). IsComplete q.cores t.machine.state) given.program_is end)
         | inr full ↦ inr (full ∙ given.limit_is)
       ];
-      answered = subst (λ (q : Parts). IsRunAnswer q t.machine.state answer) given.program_is here;
+      answered = subst (λ (q : Parts). IsRunAnswer None q t.machine.state answer) given.program_is faultless;
     }

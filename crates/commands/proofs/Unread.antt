@@ -1,9 +1,9 @@
 -- Why a recording was not read.
 use Rattle.std.proofs.Common.{◌≡◌, ℕ, List, Result, Ok, Err, IfErr, IsErrAnd, refl}
 use Rattle.recorder.specs.declared.fault.RecError.TheVariants as rec
-use Rattle.commands.specs.declared.answer.Answer.{Answer}
-use Rattle.commands.specs.declared.answer.Stop.{Stop}
-use Rattle.commands.specs.declared.answer.Stop.TheVariants.{Fault}
+use Rattle.answers.specs.declared.answer.Answer.{Answer}
+use Rattle.commands.specs.declared.stop.Stop.{Stop}
+use Rattle.commands.specs.declared.stop.Stop.TheVariants.{Fault}
 use Rattle.commands.specs.declared.fault.CommandFault.TheVariants.{OutOfMemory}
 use Rattle.commands.specs.Judge.{IsUnread}
 

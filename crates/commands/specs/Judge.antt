@@ -1,15 +1,15 @@
 -- What is answered to the bytes of a recording.
 use Rattle.std.specs.Prelude.{◌≡◌, [], ℕ, List, Option, Ok, Err, string_bytes}
-use Rattle.command_line.specs.declared.options.FileOptions.{FileOptions}
+use Rattle.command_line.specs.declared.options.JudgeOptions.{JudgeOptions}
 use Rattle.recorder.specs.declared.fault.RecError.{RecError}
 use Rattle.recorder.specs.Execution.{Execution}
 use Rattle.recorder.specs.Reading.{IsReadingResult}
-use Rattle.commands.specs.declared.answer.Answer.{Answer}
-use Rattle.commands.specs.declared.answer.Stop.{Stop}
-use Rattle.commands.specs.declared.answer.Stop.TheVariants.{Refused, Fault}
+use Rattle.answers.specs.declared.answer.Answer.{Answer}
+use Rattle.commands.specs.declared.stop.Stop.{Stop}
+use Rattle.commands.specs.declared.stop.Stop.TheVariants.{Refused, Fault}
 use Rattle.commands.specs.Inputs.{AreBytesOf, IsInputFault}
 use Rattle.commands.specs.Refusal.{IsRefusedAs}
-use Rattle.commands.specs.Verdict.{IsVerdictAnswer}
+use Rattle.answers.specs.Verdict.{IsVerdictAnswer}
 
 -- the verdict on the recording that the bytes give
 pub record IsJudged (bytes : List ℕ) (answer : Answer) : Type 0 where
@@ -23,13 +23,13 @@ IsUnread bytes stop = (fault : RecError) × IsReadingResult bytes (Err fault) ×
 
 -- the verdict on the recording of the named input
 pub record IsJudgedInput (inputs : List ℕ
-    → Option (List ℕ)) (o : FileOptions) (answer : Answer) : Type 0 where
+    → Option (List ℕ)) (o : JudgeOptions) (answer : Answer) : Type 0 where
   pub bytes : List ℕ
   pub given : AreBytesOf inputs (string_bytes o.file) bytes
   pub judged : IsJudged bytes answer
 
 -- a line of refusal is that of the named input; a fault is one of reading it
-abbrev pub IsJudgeStop : (List ℕ → Option (List ℕ)) → FileOptions → Stop → Type 0
+abbrev pub IsJudgeStop : (List ℕ → Option (List ℕ)) → JudgeOptions → Stop → Type 0
 IsJudgeStop inputs o (Refused line) = (bytes : List ℕ) × AreBytesOf inputs (string_bytes o.file) bytes
     × IsUnread bytes (Refused line)
 IsJudgeStop inputs o (Fault fault) = IsInputFault inputs (string_bytes o.file) fault

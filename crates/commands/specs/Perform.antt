@@ -1,5 +1,6 @@
 -- What the words of a command line are answered.
-use Rattle.std.specs.Prelude.{◌≡◌, ◌≢◌, ◌⊎◌, ◌++◌, ◌∷◌, [], ℕ, List, Option, Ok, ⊤, codes, string_bytes}
+use Rattle.std.specs.Prelude.{◌≡◌, ◌≢◌, ◌⊎◌, ◌++◌, ◌∷◌, [], ℕ, List, Option, Some, None, Ok, ⊤, codes}
+use Rattle.std.specs.Prelude.{option_map, string_bytes}
 use Rattle.clap.specs.Words.{Text, kind_of}
 use Rattle.clap.specs.declared.error.Error.{Error}
 use Rattle.clap.specs.declared.error.kind.ErrorKind.TheVariants.{DisplayHelp, DisplayVersion}
@@ -8,18 +9,19 @@ use Rattle.live.specs.declared.error.LiveError.{LiveError}
 use Rattle.live.specs.declared.error.LiveError.TheVariants as live
 use Rattle.litmus.specs.Text.{reading}
 use Rattle.machine.specs.Script.{steps_of}
-use Rattle.commands.specs.declared.answer.Answer.{Answer}
-use Rattle.commands.specs.declared.answer.Stop.{Stop}
-use Rattle.commands.specs.declared.answer.Stop.TheVariants.{Refused, Fault}
-use Rattle.commands.specs.declared.answer.TheConstants.{DONE, REFUSED}
+use Rattle.answers.specs.declared.answer.Answer.{Answer}
+use Rattle.commands.specs.declared.stop.Stop.{Stop}
+use Rattle.commands.specs.declared.stop.Stop.TheVariants.{Refused, Fault}
+use Rattle.answers.specs.declared.answer.TheConstants.{DONE, REFUSED}
 use Rattle.commands.specs.declared.fault.CommandFault.{CommandFault}
 use Rattle.commands.specs.declared.fault.CommandFault.TheVariants.{CommandLine, NoThread, Stranger}
 use Rattle.commands.specs.declared.fault.CommandFault.TheVariants.{WriteFailed}
 use Rattle.commands.specs.declared.fault.CommandFault.TheVariants as fault
 use Rattle.command_line.specs.declared.options.Options.{Options}
-use Rattle.command_line.specs.declared.options.Options.TheVariants.{Run, Judge, Live, Replay}
+use Rattle.command_line.specs.declared.options.Options.TheVariants.{Run, Judge, Trials, Live, Replay}
 use Rattle.command_line.specs.declared.options.OptionFault.{OptionFault}
-use Rattle.command_line.specs.declared.options.OptionFault.TheVariants.{Clap, Limit, Buffer, OutOfMemory}
+use Rattle.command_line.specs.declared.options.OptionFault.TheVariants.{Clap, OutOfMemory}
+use Rattle.command_line.specs.declared.options.OptionFault.TheVariants as refused
 use Rattle.command_line.specs.Commands.{command_of}
 use Rattle.command_line.specs.declared.options.LiveOptions.{LiveOptions}
 use Rattle.command_line.specs.declared.options.RunOptions.{RunOptions}
@@ -27,8 +29,9 @@ use Rattle.commands.specs.Inputs.{AreBytesOf, IsInputFault}
 use Rattle.commands.specs.Judge.{IsJudgedInput, IsJudgeStop}
 use Rattle.commands.specs.Replay.{IsReplayedInput, IsReplayStop}
 use Rattle.command_line.specs.Options.{AreOptions, IsFault}
-use Rattle.commands.specs.Refusal.{IsReadingStop, line_fault_name, step_fault_name}
+use Rattle.commands.specs.Refusal.{IsReadingStop, line_fault_name, option_line, step_fault_name}
 use Rattle.commands.specs.Run.{IsRun, IsLive}
+use Rattle.commands.specs.Trials.{IsTrials}
 
 -- the named program is refused
 pub record IsProgramRefused (inputs : List ℕ → Option (List ℕ)) (name : List ℕ) (stop : Stop) : Type 0 where
@@ -36,32 +39,35 @@ pub record IsProgramRefused (inputs : List ℕ → Option (List ℕ)) (name : Li
   pub given : AreBytesOf inputs name text
   pub refused : IsReadingStop line_fault_name (reading text) stop
 
--- the named script is refused for the named program
-pub record IsScriptRefused (inputs : List ℕ → Option (List ℕ)) (o : RunOptions) (stop : Stop) : Type 0 where
-  pub program_text : List ℕ
-  pub program_given : AreBytesOf inputs (string_bytes o.program) program_text
-  pub program : Parts
-  pub read : reading program_text ≡ Ok program
+-- the script of this name is refused for the program, or isn't read
+abbrev pub IsScriptStop : (List ℕ → Option (List ℕ)) → Parts → List ℕ → Stop → Type 0
+IsScriptStop inputs program name (Refused line) = (text : List ℕ) × AreBytesOf inputs name text
+    × IsReadingStop step_fault_name (steps_of program text) (Refused line)
+IsScriptStop inputs program name (Fault fault) = IsInputFault inputs name fault
+
+-- the script of this name stops the named program, which is read
+pub record IsStoppedByScript (inputs : List ℕ → Option (List ℕ)) (o : RunOptions) (name : List ℕ) (stop : Stop)
+    : Type 0 where
   pub text : List ℕ
-  pub given : AreBytesOf inputs (string_bytes o.steps) text
-  pub refused : IsReadingStop step_fault_name (steps_of program text) stop
-
--- the named script isn't read for the named program, which is
-pub record IsScriptFault (inputs : List ℕ
-    → Option (List ℕ)) (o : RunOptions) (fault : CommandFault) : Type 0 where
-  pub program_text : List ℕ
-  pub program_given : AreBytesOf inputs (string_bytes o.program) program_text
+  pub given : AreBytesOf inputs (string_bytes o.program) text
   pub program : Parts
-  pub read : reading program_text ≡ Ok program
-  pub unread : IsInputFault inputs (string_bytes o.steps) fault
+  pub read : reading text ≡ Ok program
+  pub stops : IsScriptStop inputs program name stop
 
--- a line of refusal is that of the named program, or of the named script for it; a fault is one of
--- reading them
+-- the named program is refused or isn't read
+abbrev pub IsProgramStop : (List ℕ → Option (List ℕ)) → List ℕ → Stop → Type 0
+IsProgramStop inputs name (Refused line) = IsProgramRefused inputs name (Refused line)
+IsProgramStop inputs name (Fault fault) = IsInputFault inputs name fault
+
+-- why a run stops: its program does, or the script where one is named
+abbrev pub IsRunStopBy : (List ℕ → Option (List ℕ)) → RunOptions → Option (List ℕ) → Stop → Type 0
+IsRunStopBy inputs o (Some name) stop = IsProgramStop inputs (string_bytes o.program) stop
+    ⊎ IsStoppedByScript inputs o name stop
+IsRunStopBy inputs o None stop = IsProgramStop inputs (string_bytes o.program) stop
+
+-- why a run stops
 abbrev pub IsRunStop : (List ℕ → Option (List ℕ)) → RunOptions → Stop → Type 0
-IsRunStop inputs o (Refused line) = IsProgramRefused inputs (string_bytes o.program) (Refused line)
-    ⊎ IsScriptRefused inputs o (Refused line)
-IsRunStop inputs o (Fault fault) =
-    IsInputFault inputs (string_bytes o.program) fault ⊎ IsScriptFault inputs o fault
+IsRunStop inputs o stop = IsRunStopBy inputs o (option_map string_bytes o.steps) stop
 
 -- the fault that an error of threads is; they have no other errors
 abbrev pub thread_fault : LiveError → CommandFault
@@ -80,6 +86,7 @@ IsLiveStop inputs o (Fault fault) = IsInputFault inputs (string_bytes o.program)
 abbrev pub IsAnswerTo : (List ℕ → Option (List ℕ)) → Options → Answer → Type 0
 IsAnswerTo inputs (Run o) answer = IsRun inputs o answer
 IsAnswerTo inputs (Judge o) answer = IsJudgedInput inputs o answer
+IsAnswerTo inputs (Trials o) answer = IsTrials o answer
 IsAnswerTo inputs (Live o) answer = IsLive inputs o answer
 IsAnswerTo inputs (Replay o) answer = IsReplayedInput inputs o answer
 
@@ -87,6 +94,7 @@ IsAnswerTo inputs (Replay o) answer = IsReplayedInput inputs o answer
 abbrev pub IsCommandStop : (List ℕ → Option (List ℕ)) → Options → Stop → Type 0
 IsCommandStop inputs (Run o) stop = IsRunStop inputs o stop
 IsCommandStop inputs (Judge o) stop = IsJudgeStop inputs o stop
+IsCommandStop inputs (Trials o) stop = stop ≡ Fault fault.OutOfMemory
 IsCommandStop inputs (Live o) stop = IsLiveStop inputs o stop
 IsCommandStop inputs (Replay o) stop = IsReplayStop inputs o stop
 
@@ -97,16 +105,13 @@ IsMistake error = (kind_of error ≢ DisplayHelp) × (kind_of error ≢ DisplayV
 -- without options the answer is the help that was asked for
 abbrev pub IsHelp : OptionFault → Answer → Type 0
 IsHelp (Clap error) answer = (answer.status ≡ DONE) × (IsMistake error → ⊥)
-IsHelp Limit answer = ⊥
-IsHelp Buffer answer = ⊥
+IsHelp (refused.Refused refusal) answer = ⊥
 IsHelp OutOfMemory answer = ⊥
 
--- without options a line of refusal is that of a limit or of a buffer's capacity, and a fault is
--- what clap says
+-- without options a line of refusal is that of the options, and a fault is what clap says
 abbrev pub IsOptionStop : OptionFault → Stop → Type 0
 IsOptionStop (Clap error) (Refused line) = ⊥
-IsOptionStop Limit (Refused line) = string_bytes line ≡ codes "refused: K6" ++ 10 ∷ []
-IsOptionStop Buffer (Refused line) = string_bytes line ≡ codes "refused: K7" ++ 10 ∷ []
+IsOptionStop (refused.Refused refusal) (Refused line) = string_bytes line ≡ option_line refusal
 IsOptionStop OutOfMemory (Refused line) = ⊥
 IsOptionStop (Clap error) (Fault (CommandLine said)) = (said ≡ error) × IsMistake error
 IsOptionStop other (Fault fault.OutOfMemory) = ⊤

@@ -1,16 +1,18 @@
 -- The lines of refused texts.
-use Rattle.std.specs.Prelude.{◌≡◌, ◌++◌, ◌∷◌, [], ℕ, List, Option, Some, None, Result, Ok, Err, codes}
+use Rattle.std.specs.Prelude.{◌≡◌, ◌++◌, ◌∷◌, [], ℕ, List, Some, Result, Ok, Err, codes}
 use Rattle.std.specs.Prelude.{decimal, string_bytes}
 use Rattle.litmus.specs.declared.fault.LineFault.{LineFault}
 use Rattle.litmus.specs.declared.fault.LineFault.TheVariants.{L1, L2, L3, L4, L5}
 use Rattle.machine.specs.declared.script_fault.StepFault.{StepFault}
 use Rattle.machine.specs.declared.script_fault.StepFault.TheVariants.{S1, S2, S3, S4}
 use Rattle.recorder.specs.declared.fault.RecError.{RecError}
-use Rattle.recorder.specs.declared.fault.RecError.TheVariants.{NotJson, Shape, Version, Limits, Source, Value}
-use Rattle.recorder.specs.declared.fault.RecError.TheVariants.{WriteList}
-use Rattle.recorder.specs.declared.fault.RecError.TheVariants as rec
-use Rattle.commands.specs.declared.answer.Stop.{Stop}
-use Rattle.commands.specs.declared.answer.Stop.TheVariants.{Refused, Fault}
+use Rattle.litmus.specs.declared.shape_error.ShapeError.{ShapeError}
+use Rattle.litmus.specs.declared.shape_error.ShapeError.TheVariants.{K1, K2, K3, K4, K5, K6, K7}
+use Rattle.command_line.specs.declared.options.OptionRefusal.{OptionRefusal}
+use Rattle.command_line.specs.declared.options.OptionRefusal.TheVariants as refused
+use Rattle.report.specs.Refusal.{recording_line}
+use Rattle.commands.specs.declared.stop.Stop.{Stop}
+use Rattle.commands.specs.declared.stop.Stop.TheVariants.{Refused, Fault}
 use Rattle.commands.specs.declared.fault.CommandFault.TheVariants.{OutOfMemory}
 
 -- what is printed for a fault of a program's line
@@ -38,20 +40,26 @@ IsReadingStop name (Ok x) (Refused line) = ⊥
 IsReadingStop name (Err fault) (Refused line) = string_bytes line ≡ refusal_line (name fault.0) fault.1
 IsReadingStop name reading (Fault fault) = fault ≡ OutOfMemory
 
--- the line that is printed of a refused recording
-abbrev pub refused_as : List ℕ → Option (List ℕ)
-refused_as name = Some (codes "refused: " ++ name ++ 10 ∷ [])
+-- the name of the refusal of a shape or a plan
+abbrev pub shape_error_name : ShapeError → List ℕ
+shape_error_name K1 = codes "K1"
+shape_error_name K2 = codes "K2"
+shape_error_name K3 = codes "K3"
+shape_error_name K4 = codes "K4"
+shape_error_name K5 = codes "K5"
+shape_error_name K6 = codes "K6"
+shape_error_name K7 = codes "K7"
 
--- the line that is printed for each refusal of a recording; want of memory is none
-abbrev pub recording_line : RecError → Option (List ℕ)
-recording_line NotJson = refused_as (codes "N1")
-recording_line Shape = refused_as (codes "N2")
-recording_line Version = refused_as (codes "N3")
-recording_line Limits = refused_as (codes "N4")
-recording_line (Source e) = refused_as (codes "N5 event " ++ decimal e)
-recording_line (Value e) = refused_as (codes "N6 event " ++ decimal e)
-recording_line (WriteList a) = refused_as (codes "N7 address " ++ decimal a)
-recording_line rec.OutOfMemory = None
+-- the name of the refusal of options
+abbrev pub option_refusal_name : OptionRefusal → List ℕ
+option_refusal_name (refused.Shape error) = shape_error_name error
+option_refusal_name refused.Workers = codes "K8"
+option_refusal_name refused.Fault = codes "K9"
+option_refusal_name refused.Show = codes "K10"
+
+-- the line that is printed of refused options
+abbrev pub option_line : OptionRefusal → List ℕ
+option_line refusal = codes "refused: " ++ option_refusal_name refusal ++ 10 ∷ []
 
 -- the stop is that of a refused recording, or memory is wanting
 abbrev pub IsRefusedAs : RecError → Stop → Type 0

@@ -14,14 +14,14 @@ use Rattle.replay.specs.Replayed.{IsReplay}
 use Rattle.replay.specs.Steps.{replay_steps}
 use Rattle.replay.specs.Stores.{most_stores}
 use Rattle.judge.specs.Verdict.{IsOrderedVerdict}
-use Rattle.commands.specs.declared.answer.Answer.{Answer}
-use Rattle.commands.specs.declared.answer.Stop.{Stop}
-use Rattle.commands.specs.declared.answer.Stop.TheVariants.{Refused, Fault}
-use Rattle.commands.specs.declared.answer.TheConstants.{DONE, VIOLATION}
+use Rattle.answers.specs.declared.answer.Answer.{Answer}
+use Rattle.commands.specs.declared.stop.Stop.{Stop}
+use Rattle.commands.specs.declared.stop.Stop.TheVariants.{Refused, Fault}
+use Rattle.answers.specs.declared.answer.TheConstants.{DONE, VIOLATION}
 use Rattle.commands.specs.declared.fault.CommandFault.TheVariants.{OutOfMemory}
 use Rattle.commands.specs.Inputs.{AreBytesOf, IsInputFault}
 use Rattle.commands.specs.Judge.{IsUnread}
-use Rattle.commands.specs.Verdict.{IsVerdictAnswer}
+use Rattle.answers.specs.Verdict.{IsVerdictAnswer}
 
 -- the capacity, the program and the script that replay an order, as they are printed
 abbrev pub replay_text : Execution → List ℕ → List ℕ

@@ -1,23 +1,20 @@
 //! The command `judge`.
-ghost use Rattle.std.specs.Prelude.{IfErr, IfOk};
+ghost use Rattle.std.specs.Prelude.{◌≤◌, IfErr, IfOk};
 ghost use Rattle.commands.specs.Judge.{IsJudgeStop, IsJudged, IsJudgedInput, IsUnread};
 ghost use Rattle.commands.specs.Refusal.{IsRefusedAs};
 
-use crate::answer::{Answer, Stop};
 use crate::fault::CommandFault;
 use crate::place::Place;
 use crate::reading::text_at;
-use crate::refusal::recording_line;
-use crate::verdict::verdict_behind;
-use command_line::FileOptions;
-use judge::judge;
+use crate::stop::Stop;
+use answers::{Answer, judged_answer};
+use command_line::JudgeOptions;
+use litmus::MAX_WORKERS;
 use recorder::{RecError, read_recording};
+use report::recording_line;
 use std::alloc::{AllocError, Global};
 use std::sync::Wait;
 use std::thread::Threads;
-
-/// How many workers judge a recording.
-pub const WORKERS: usize = 1;
 
 /// Why the bytes are no recording, as it is printed.
 pub fn unread(alloc: Global, refusal: RecError) -> Result<Stop, AllocError>
@@ -29,16 +26,19 @@ pub fn unread(alloc: Global, refusal: RecError) -> Result<Stop, AllocError>
     }
 }
 
-/// The verdict on the recording that the bytes are, or the line of their refusal.
-pub fn judged<R: Threads + Wait + Sync>(rt: &R, alloc: Global, bytes: &[u8]) -> Result<Answer, Stop>
+/// The verdict on the recording that the bytes are, by so many workers, or the line of their refusal.
+fn judged<R: Threads + Wait + Sync>(
+    rt: &R,
+    alloc: Global,
+    bytes: &[u8],
+    workers: usize,
+) -> Result<Answer, Stop>
+    requires { (1 ≤ workers) × (workers ≤ MAX_WORKERS) }
     ensures ok { IfOk result (IsJudged bytes.now) }
     ensures err { IfErr result (IsUnread bytes.now) }
 {
     match read_recording(alloc, bytes) {
-        Ok(recording) => {
-            let verdict = judge(rt, alloc, &recording, WORKERS)?;
-            Ok(verdict_behind(alloc, Vec::new(alloc), &recording, &verdict)?)
-        }
+        Ok(recording) => Ok(judged_answer(rt, alloc, &recording, workers)?),
         Err(refusal) => Err(unread(alloc, refusal)?),
     }
 }
@@ -47,12 +47,13 @@ pub fn judged<R: Threads + Wait + Sync>(rt: &R, alloc: Global, bytes: &[u8]) -> 
 pub fn judge_command<R: Threads + Wait + Sync, P: Place>(
     rt: &R,
     alloc: Global,
-    options: &FileOptions,
+    options: &JudgeOptions,
     place: &mut P,
 ) -> Result<Answer, Stop>
+    requires { (1 ≤ options.now.workers) × (options.now.workers ≤ MAX_WORKERS) }
     ensures ok { IfOk result (IsJudgedInput (P.bytes place.old) options.now) }
     ensures err { IfErr result (IsJudgeStop (P.bytes place.old) options.now) }
 {
     let bytes = text_at(alloc, place, options.file.as_str())?;
-    judged(rt, alloc, bytes.as_slice())
+    judged(rt, alloc, bytes.as_slice(), options.workers)
 }

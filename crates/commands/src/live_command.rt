@@ -4,12 +4,12 @@ ghost use Rattle.live.specs.Driven.{IsDriveError};
 ghost use Rattle.commands.specs.Perform.{IsLiveStop, thread_fault};
 ghost use Rattle.commands.specs.Run.{IsLive};
 
-use crate::answer::{Answer, Stop};
 use crate::fault::CommandFault;
-use crate::outcome::finished;
 use crate::place::Place;
 use crate::reading::text_at;
 use crate::run_command::program_of;
+use crate::stop::Stop;
+use answers::{Answer, finished};
 use command_line::LiveOptions;
 use litmus::OpenGate;
 use live::{LiveError, drive};

@@ -1,17 +1,20 @@
 //! From the words of a command line to what is printed.
 ghost use Rattle.std.specs.Prelude.{◌≡◌, ◌≢◌, IfErr, IfOk, OnOk, map, string_bytes};
 ghost use Rattle.std.specs.Io.KnownBytes.{Appends};
-ghost use Rattle.commands.specs.declared.answer.Answer.{Answer};
-ghost use Rattle.commands.specs.declared.answer.Stop.{Stop};
+ghost use Rattle.answers.specs.declared.answer.Answer.{Answer};
+ghost use Rattle.commands.specs.declared.stop.Stop.{Stop};
 ghost use Rattle.commands.specs.Perform.{IsAnswered, IsFaultOf, IsHelp, IsPrinted, IsOptionStop, IsStop};
 
-use crate::answer::{Answer, DONE, REFUSED, Stop};
 use crate::fault::CommandFault;
 use crate::judge_command::judge_command;
 use crate::live_command::live_command;
 use crate::place::Place;
+use crate::refusal::option_line;
 use crate::replay_command::replay_command;
 use crate::run_command::run_command;
+use crate::stop::Stop;
+use crate::trials_command::trials_command;
+use answers::{Answer, DONE, REFUSED};
 use command_line::words::options;
 use command_line::{OptionFault, Options};
 use std::alloc::Global;
@@ -36,8 +39,7 @@ fn without_options(alloc: Global, fault: OptionFault) -> Result<Answer, Stop>
                 text: text.into_bytes(),
             })
         }
-        OptionFault::Limit => Err(Stop::Refused(String::from_str(alloc, "refused: K6\n")?)),
-        OptionFault::Buffer => Err(Stop::Refused(String::from_str(alloc, "refused: K7\n")?)),
+        OptionFault::Refused(refusal) => Err(Stop::Refused(option_line(alloc, refusal)?)),
         OptionFault::OutOfMemory => Err(Stop::Fault(CommandFault::OutOfMemory)),
     }
 }
@@ -55,8 +57,9 @@ fn answered<R: Threads + Wait + Sync, P: Place>(
     match options(alloc, words) {
         Ok(Options::Run(run)) => run_command(alloc, &run, place),
         Ok(Options::Judge(options)) => judge_command(rt, alloc, &options, place),
+        Ok(Options::Trials(trials)) => trials_command(rt, alloc, &trials),
         Ok(Options::Live(live)) => live_command(rt, alloc, &live, place),
-        Ok(Options::Replay(options)) => replay_command(rt, alloc, &options, place),
+        Ok(Options::Replay(options)) => replay_command(alloc, &options, place),
         Err(fault) => without_options(alloc, fault),
     }
 }

@@ -1,10 +1,11 @@
 //! The lines of refused texts.
-ghost use Rattle.std.specs.Prelude.{◌≡◌, IfOk, option_map, string_bytes};
-ghost use Rattle.commands.specs.Refusal.{line_fault_name, recording_line, refusal_line, step_fault_name};
+ghost use Rattle.std.specs.Prelude.{◌≡◌, IfOk, string_bytes};
+ghost use Rattle.commands.specs.Refusal.{line_fault_name, option_line, option_refusal_name};
+ghost use Rattle.commands.specs.Refusal.{refusal_line, shape_error_name, step_fault_name};
 
-use litmus::LineFault;
+use command_line::OptionRefusal;
+use litmus::{LineFault, ShapeError};
 use machine::StepFault;
-use recorder::RecError;
 use std::alloc::{AllocError, Global};
 
 /// What is printed for a fault of a program's line.
@@ -39,19 +40,37 @@ pub fn refusal_line(alloc: Global, name: &str, line: usize) -> Result<String, Al
     format!(in alloc; "refused: {name} line {line}\n")
 }
 
-/// The line that is printed for a refused recording; none for want of memory.
-pub fn recording_line(alloc: Global, refusal: RecError) -> Result<Option<String>, AllocError>
-    ensures { IfOk result (λ line. option_map string_bytes line ≡ recording_line refusal) }
+/// What is printed for a refusal of a shape or a plan.
+fn shape_error_name(error: ShapeError) -> &'static str
+    ensures { result.now ≡ shape_error_name error }
 {
-    let line = match refusal {
-        RecError::NotJson => String::from_str(alloc, "refused: N1\n")?,
-        RecError::Shape => String::from_str(alloc, "refused: N2\n")?,
-        RecError::Version => String::from_str(alloc, "refused: N3\n")?,
-        RecError::Limits => String::from_str(alloc, "refused: N4\n")?,
-        RecError::Source(event) => format!(in alloc; "refused: N5 event {event}\n")?,
-        RecError::Value(event) => format!(in alloc; "refused: N6 event {event}\n")?,
-        RecError::WriteList(address) => format!(in alloc; "refused: N7 address {address}\n")?,
-        RecError::OutOfMemory => return Ok(None),
-    };
-    Ok(Some(line))
+    match error {
+        ShapeError::K1 => "K1",
+        ShapeError::K2 => "K2",
+        ShapeError::K3 => "K3",
+        ShapeError::K4 => "K4",
+        ShapeError::K5 => "K5",
+        ShapeError::K6 => "K6",
+        ShapeError::K7 => "K7",
+    }
+}
+
+/// What is printed for a refusal of options.
+fn option_refusal_name(refusal: OptionRefusal) -> &'static str
+    ensures { result.now ≡ option_refusal_name refusal }
+{
+    match refusal {
+        OptionRefusal::Shape(error) => shape_error_name(error),
+        OptionRefusal::Workers => "K8",
+        OptionRefusal::Fault => "K9",
+        OptionRefusal::Show => "K10",
+    }
+}
+
+/// The line that is printed for refused options.
+pub fn option_line(alloc: Global, refusal: OptionRefusal) -> Result<String, AllocError>
+    ensures { IfOk result (λ text. string_bytes text ≡ option_line refusal) }
+{
+    let name = option_refusal_name(refusal);
+    format!(in alloc; "refused: {name}\n")
 }

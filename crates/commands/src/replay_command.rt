@@ -6,21 +6,19 @@ ghost use Rattle.replay.specs.Numbered.{IsNumberedByFirstUse};
 ghost use Rattle.commands.specs.Replay.{IsReadBack, IsReplayed, IsReplayedInput, IsReplayOf, IsReplayStop};
 ghost use Rattle.commands.specs.Replay.{IsUnreplayed, replay_text};
 
-use crate::answer::{Answer, DONE, Stop};
-use crate::judge_command::{WORKERS, unread};
+use crate::judge_command::unread;
 use crate::place::Place;
 use crate::reading::text_at;
-use crate::verdict::verdict_behind;
+use crate::stop::Stop;
+use answers::{Answer, DONE, verdict_behind};
 use command_line::FileOptions;
 use itoa::Buffer;
-use judge::{Verdict, judge};
+use judge::{Verdict, judge_alone};
 use litmus::{EventId, OutOfMemory, has_one_text, print};
 use machine::steps_text;
 use recorder::{Recording, read_recording};
 use replay::{every_order_is_replayed, is_numbered, most_stores, replay_steps};
 use std::alloc::Global;
-use std::sync::Wait;
-use std::thread::Threads;
 
 /// The capacity, the program and the script that replay a TSO order.
 fn replay_text(
@@ -72,11 +70,7 @@ fn replay_of(alloc: Global, recording: &Recording, verdict: &Verdict) -> Result<
 
 /// The replay of the recording that the bytes are, or the verdict on it where it is a violation, or
 /// the line of their refusal.
-pub fn replayed<R: Threads + Wait + Sync>(
-    rt: &R,
-    alloc: Global,
-    bytes: &[u8],
-) -> Result<Answer, Stop>
+fn replayed(alloc: Global, bytes: &[u8]) -> Result<Answer, Stop>
     ensures ok { IfOk result (IsReplayed bytes.now) }
     ensures err { IfErr result (IsUnreplayed bytes.now) }
 {
@@ -85,7 +79,7 @@ pub fn replayed<R: Threads + Wait + Sync>(
             if !is_numbered(&recording) {
                 return Err(Stop::Refused(String::from_str(alloc, "refused: N8\n")?));
             }
-            let verdict = judge(rt, alloc, &recording, WORKERS)?;
+            let verdict = judge_alone(alloc, &recording)?;
             Ok(replay_of(alloc, &recording, &verdict)?)
         }
         Err(refusal) => Err(unread(alloc, refusal)?),
@@ -93,8 +87,7 @@ pub fn replayed<R: Threads + Wait + Sync>(
 }
 
 /// Replays the recording of a named input.
-pub fn replay_command<R: Threads + Wait + Sync, P: Place>(
-    rt: &R,
+pub fn replay_command<P: Place>(
     alloc: Global,
     options: &FileOptions,
     place: &mut P,
@@ -103,5 +96,5 @@ pub fn replay_command<R: Threads + Wait + Sync, P: Place>(
     ensures err { IfErr result (IsReplayStop (P.bytes place.old) options.now) }
 {
     let bytes = text_at(alloc, place, options.file.as_str())?;
-    replayed(rt, alloc, bytes.as_slice())
+    replayed(alloc, bytes.as_slice())
 }

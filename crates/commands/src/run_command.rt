@@ -3,15 +3,15 @@ ghost use Rattle.std.specs.Prelude.{◌≡◌, IfErr, IfOk, Ok};
 ghost use Rattle.litmus.specs.Text.{reading};
 ghost use Rattle.machine.specs.Script.{steps_of};
 ghost use Rattle.commands.specs.Refusal.{IsReadingStop, line_fault_name, step_fault_name};
-ghost use Rattle.commands.specs.Perform.{IsRunStop};
-ghost use Rattle.commands.specs.Run.{IsRun};
+ghost use Rattle.commands.specs.Perform.{IsRunStop, IsScriptStop};
+ghost use Rattle.commands.specs.Run.{IsRun, IsScriptAnswer};
 
-use crate::answer::{Answer, Stop};
 use crate::fault::CommandFault;
-use crate::outcome::outcome;
 use crate::place::Place;
 use crate::reading::text_at;
 use crate::refusal::{line_fault_name, refusal_line, step_fault_name};
+use crate::stop::Stop;
+use answers::{Answer, script_answer, seeded_answer};
 use command_line::RunOptions;
 use litmus::{LitmusError, Program, parse};
 use machine::{Step, StepsError, parse_steps};
@@ -49,7 +49,30 @@ fn steps_of(alloc: Global, text: &[u8], program: &Program) -> Result<Vec<Step>, 
     }
 }
 
-/// Runs the named program by the named script; the program is read before the script is opened.
+/// The answer of a program that is run by the script of this name.
+fn script_run<P: Place>(
+    alloc: Global,
+    program: Program,
+    options: &RunOptions,
+    name: &str,
+    place: &mut P,
+) -> Result<Answer, Stop>
+    ensures ok { IfOk result (IsScriptAnswer (P.bytes place.old) options.now program name.now) }
+    ensures err { IfErr result (IsScriptStop (P.bytes place.old) program name.now) }
+{
+    let text = text_at(alloc, place, name)?;
+    let steps = steps_of(alloc, text.as_slice(), &program)?;
+    Ok(script_answer(
+        alloc,
+        program,
+        options.buffer,
+        options.fault,
+        steps.as_slice(),
+    )?)
+}
+
+/// Runs the named program by the named script, or else by random steps; the program is read before the
+/// script is opened.
 pub fn run_command<P: Place>(
     alloc: Global,
     options: &RunOptions,
@@ -60,7 +83,15 @@ pub fn run_command<P: Place>(
 {
     let text = text_at(alloc, place, options.program.as_str())?;
     let program = program_of(alloc, text.as_slice())?;
-    let text = text_at(alloc, place, options.steps.as_str())?;
-    let steps = steps_of(alloc, text.as_slice(), &program)?;
-    Ok(outcome(alloc, program, options.buffer, steps.as_slice())?)
+    match &options.steps {
+        Some(name) => script_run(alloc, program, options, name.as_str(), place),
+        None => Ok(seeded_answer(
+            alloc,
+            program,
+            options.buffer,
+            options.fault,
+            options.seed,
+            options.attempts,
+        )?),
+    }
 }

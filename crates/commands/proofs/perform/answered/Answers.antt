@@ -1,6 +1,8 @@
 use Rattle.std.proofs.Common.{map, sym}
 use Rattle.std.specs.Prelude.{string_bytes}
-use Rattle.command_line.specs.declared.options.Options.TheVariants.{Run, Judge, Live, Replay}
+use Rattle.command_line.specs.declared.options.Options.TheVariants.{Run, Judge, Trials, Live, Replay}
+use Rattle.command_line.specs.Commands.{command_of}
+use Rattle.commands.proofs.Asked.{trials_rows}
 use Rattle.commands.proofs.Printed.{answer_of_words, stop_of_words}
 use Rattle.commands.proofs.perform.answered.Goals as goal
 
@@ -27,3 +29,14 @@ returns-in-Ok-Replay-clause-ok g c = answer_of_words (g.P.Place.bytes c.args.pla
 
 pub returns-in-Ok-Replay-clause-err : goal.returns-in-Ok-Replay-clause-err
 returns-in-Ok-Replay-clause-err g c = stop_of_words (g.P.Place.bytes c.args.place.now) c.replay_command.result (Replay c.in-Ok-Replay.options) (map string_bytes c.args.words.now) (rw (sym c.in-Ok-Replay.field-0-is) c.in-Ok-Replay.ensures.ok) c.replay_command.ensures.err
+
+pub returns-in-Ok-Trials-clause-ok : goal.returns-in-Ok-Trials-clause-ok
+returns-in-Ok-Trials-clause-ok g c = answer_of_words (g.P.Place.bytes c.args.place.now) c.trials_command.result (Trials c.in-Ok-Trials.trials) (map string_bytes c.args.words.now) (rw (sym c.in-Ok-Trials.field-0-is) c.in-Ok-Trials.ensures.ok) c.trials_command.ensures.ok
+
+pub returns-in-Ok-Trials-clause-err : goal.returns-in-Ok-Trials-clause-err
+returns-in-Ok-Trials-clause-err g c = stop_of_words (g.P.Place.bytes c.args.place.now) c.trials_command.result (Trials c.in-Ok-Trials.trials) (map string_bytes c.args.words.now) (rw (sym c.in-Ok-Trials.field-0-is) c.in-Ok-Trials.ensures.ok) c.trials_command.ensures.err
+
+pub trials_command-requires-after_bounds : goal.trials_command-requires-after_bounds
+trials_command-requires-after_bounds g c κs within =
+    trials_rows c.in-Ok-Trials.trials (command_of (map string_bytes c.args.words.now))
+    (rw (sym c.in-Ok-Trials.field-0-is) c.in-Ok-Trials.ensures.ok)

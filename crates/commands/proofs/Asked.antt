@@ -1,0 +1,28 @@
+-- What options ask for.
+use Rattle.std.proofs.Common.{◌≡◌, ap, sym, subst, ℕ, List, Option, Some, None, Ok, map}
+use Rattle.std.specs.Prelude.{option_map, string_bytes}
+use Rattle.clap.specs.Words.{Row, Text}
+use Rattle.answers.specs.declared.answer.Answer.{Answer}
+use Rattle.answers.specs.Run.{IsSeededAnswer}
+use Rattle.command_line.specs.declared.options.Options.TheVariants.{Trials}
+use Rattle.command_line.specs.declared.options.RunOptions.{RunOptions}
+use Rattle.command_line.specs.declared.options.TrialsOptions.{TrialsOptions}
+use Rattle.command_line.specs.Options.{AreOptions, AreTrialsOptions}
+use Rattle.litmus.specs.Parts.{Parts}
+use Rattle.litmus.specs.Text.{reading}
+use Rattle.commands.specs.Inputs.{AreBytesOf}
+use Rattle.commands.specs.Run.{IsRun, IsRunBy}
+
+-- options of trials are those of some entries
+pub trials_rows : (o : TrialsOptions) (command : Option (Text × List Row)) → AreOptions (Trials o) command
+    → (rows : List Row) × AreTrialsOptions o rows
+trials_rows o None are = absurd are
+trials_rows o (Some command) are = (command.1, are.1)
+
+-- without a script the run is a random one
+pub seeded_run : (inputs : List ℕ → Option (List ℕ)) (o : RunOptions) (text : List ℕ) (program : Parts)
+    (answer : Answer) → AreBytesOf inputs (string_bytes o.program) text → reading text ≡ Ok program
+    → IsSeededAnswer program o.buffer o.fault o.seed o.attempts answer → o.steps ≡ None → IsRun inputs o answer
+seeded_run inputs o text program answer given read is none =
+    subst (λ (steps : Option (List ℕ)). IsRunBy inputs o steps answer) (sym (ap (λ steps. option_map string_bytes steps) none))
+    (record { program_text = text; program_given = given; program = program; read = read; answered = is })

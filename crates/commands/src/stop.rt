@@ -1,0 +1,61 @@
+//! Why a command stops.
+
+use crate::fault::CommandFault;
+use litmus::OutOfMemory;
+use std::alloc::{AllocError, AllocFailed};
+
+/// Why a command stops before its usual answer.
+#[derive(Debug, Drop)]
+pub enum Stop {
+    /// A text or a number is refused: the line to print.
+    Refused(String),
+    /// A fault: the program ends with status `FAULT`.
+    Fault(CommandFault),
+}
+
+impl From<CommandFault> for Stop {
+    ghost use Rattle.std.specs.Prelude.{◌≡◌};
+    ghost use Rattle.commands.specs.declared.stop.Stop.TheVariants.{Fault};
+
+    ghost from_gives = { λ fault stop. stop ≡ Fault fault };
+
+    fn from(fault: CommandFault) -> Stop {
+        Stop::Fault(fault)
+    }
+}
+
+impl From<OutOfMemory> for Stop {
+    ghost use Rattle.std.specs.Prelude.{◌≡◌};
+    ghost use Rattle.commands.specs.declared.stop.Stop.TheVariants.{Fault};
+    ghost use Rattle.commands.specs.declared.fault.CommandFault.TheVariants.{OutOfMemory};
+
+    ghost from_gives = { λ _ stop. stop ≡ Fault OutOfMemory };
+
+    fn from(_refused: OutOfMemory) -> Stop {
+        Stop::Fault(CommandFault::OutOfMemory)
+    }
+}
+
+impl From<AllocError> for Stop {
+    ghost use Rattle.std.specs.Prelude.{◌≡◌};
+    ghost use Rattle.commands.specs.declared.stop.Stop.TheVariants.{Fault};
+    ghost use Rattle.commands.specs.declared.fault.CommandFault.TheVariants.{OutOfMemory};
+
+    ghost from_gives = { λ _ stop. stop ≡ Fault OutOfMemory };
+
+    fn from(_refused: AllocError) -> Stop {
+        Stop::Fault(CommandFault::OutOfMemory)
+    }
+}
+
+impl<T: Drop> From<AllocFailed<T>> for Stop {
+    ghost use Rattle.std.specs.Prelude.{◌≡◌};
+    ghost use Rattle.commands.specs.declared.stop.Stop.TheVariants.{Fault};
+    ghost use Rattle.commands.specs.declared.fault.CommandFault.TheVariants.{OutOfMemory};
+
+    ghost from_gives = { λ _ stop. stop ≡ Fault OutOfMemory };
+
+    fn from(_refused: AllocFailed<T>) -> Stop {
+        Stop::Fault(CommandFault::OutOfMemory)
+    }
+}

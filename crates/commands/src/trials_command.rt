@@ -1,0 +1,54 @@
+//! The command `trials`.
+ghost use Rattle.std.specs.Prelude.{◌≡◌, ◌≤◌, ◌<◌, IfErr, IfOk, List};
+ghost use Rattle.clap.specs.Words.{Row};
+ghost use Rattle.command_line.specs.Options.{AreTrialsOptions};
+ghost use Rattle.commands.specs.declared.fault.CommandFault.TheVariants.{OutOfMemory};
+ghost use Rattle.commands.specs.declared.stop.Stop.TheVariants.{Fault};
+ghost use Rattle.commands.specs.Trials.{IsTrials, plan_asked};
+
+use crate::stop::Stop;
+use answers::{Answer, campaign_answer, shown_answer};
+use command_line::TrialsOptions;
+use litmus::{OpenGate, Shape};
+use std::alloc::Global;
+use std::sync::Wait;
+use std::thread::Threads;
+use trials::Campaign;
+
+/// The campaign that the options ask for.
+fn campaign_of(options: &TrialsOptions) -> Campaign
+    requires { (rows : List Row) × AreTrialsOptions options.now rows }
+    ensures { result ≡ plan_asked options.now }
+{
+    let Ok(shape) = Shape::new(options.cores, options.ops, options.addresses) else {
+        unreachable!()
+    };
+    let Ok(campaign) = Campaign::new(
+        shape,
+        options.seed,
+        options.trials,
+        options.attempts,
+        options.buffer,
+        options.fault,
+    ) else {
+        unreachable!()
+    };
+    campaign
+}
+
+/// Runs the trials of a campaign and counts their codes, or shows one of them.
+pub fn trials_command<R: Threads + Wait + Sync>(
+    rt: &R,
+    alloc: Global,
+    options: &TrialsOptions,
+) -> Result<Answer, Stop>
+    requires { (rows : List Row) × AreTrialsOptions options.now rows }
+    ensures ok { IfOk result (IsTrials options.now) }
+    ensures err { IfErr result (λ stop. stop ≡ Fault OutOfMemory) }
+{
+    let campaign = campaign_of(options);
+    match options.show {
+        Some(k) => Ok(shown_answer(alloc, &campaign, k)?),
+        None => Ok(campaign_answer(rt, alloc, &campaign, options.workers, &OpenGate)?),
+    }
+}
