@@ -75,7 +75,8 @@ fn agree(rt: &(impl Threads + Sync), relation: &Relation, size: usize, rows: &[V
     )
 }
 
-/// As `check`, by threads: its items are the pairs of a row and an event. No memory.
+/// As `check`, by threads: its items are the pairs of a row and an event. It
+/// can't fail for want of memory.
 pub fn check_par(rt: &(impl Threads + Sync), relation: &Relation, certificate: &Certificate) -> bool
     ensures exact { IsTrue result ↔ Certifies relation.now certificate.now }
     ensures shortest { IsTrue result → IsShortest (Related relation.now) certificate.now.cycle.items }

@@ -38,7 +38,7 @@ impl Program {
 
     /// The program of these names and operations. None exactly where no text is of these names and
     /// operations: where a limit is passed, a name is unused, or the names aren't in order of first
-    /// use. It takes no memory.
+    /// use. It can't fail for want of memory.
     pub fn new(names: IndexSet<Name>, cores: Vec<Ops>) -> Option<Program>
         ensures some { IfSome result (λ p. p ≡ parts_of names.keys cores.items) }
 

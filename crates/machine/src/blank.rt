@@ -57,8 +57,8 @@ impl Blank {
         })
     }
 
-    /// The events of a program's operations from what they read, and the write lists. It takes no
-    /// memory.
+    /// The events of a program's operations from what they read, and the write lists. It can't
+    /// fail for want of memory.
     pub(crate) fn fill(
         self,
         program: &[Ops],

@@ -65,8 +65,8 @@ impl Machine {
     ghost use Rattle.write_buffer.specs.Buffer.{youngest};
 
     /// A machine at the start of a program, whose store buffers have room for `capacity` stores
-    /// each. All memory that a run and its `finish` need is taken here; an `Err` only where there
-    /// is none.
+    /// each. What a run and its `finish` will hold is reserved here, so that they can't fail for want
+    /// of memory; an `Err` only where there is no memory.
     pub fn new(
         alloc: Global,
         program: Program,
@@ -224,7 +224,8 @@ impl Machine {
         true
     }
 
-    /// The recording of a machine that is complete; else the machine as it is. It takes no memory.
+    /// The recording of a machine that is complete; else the machine as it is. It can't fail
+    /// for want of memory.
     pub fn finish(self) -> Result<Recording, Unfinished>
         ensures recording { IfOk result (λ r. r ≡ recording_of self) }
         ensures complete { OnOk result (IsAtEnd self) }

@@ -10,7 +10,8 @@ use std::marker::Model;
 /// The caches of some cores over one memory, with a line for each core and address, and atomic
 /// transactions. States and transactions are those of MOESI (Nagarajan, Sorin, Hill and Wood, A
 /// Primer on Memory Consistency and Cache Coherence, second edition, chapters 6 to 8). Data are a
-/// value and the event that wrote it, or none where nothing was written. Only `new` takes memory.
+/// value and the event that wrote it, or none where nothing was written. Only `new` can fail
+/// for want of memory.
 #[derive(Drop)]
 pub struct Caches {
     blocks: Vec<Block>,
