@@ -15,7 +15,7 @@ use Rattle.judge.specs.declared.verdict.Verdict.{Verdict}
 use Rattle.judge.specs.declared.verdict.Verdict.TheVariants.{Ordered, Overlook, Cycle}
 use Rattle.judge.specs.Verdict.{IsVerdict}
 use Rattle.report.specs.Verdict.{IsVerdictText}
-use Rattle.trials.specs.Judged.{begun}
+use Rattle.trials.specs.Judged.{begun_machine}
 use Rattle.trials.specs.Schedule.{IsRandomRun}
 use Rattle.answers.specs.declared.answer.Answer.{Answer}
 use Rattle.answers.specs.declared.answer.TheConstants.{DONE, UNFINISHED}
@@ -86,13 +86,13 @@ random_answer attempts h end rng rest answer run is =
 
 -- so its answer is that of the program
 pub seeded_answer : (p : Parts) (capacity : ℕ) (fault : Fault) (seed attempts : ℕ) (h end : Configuration)
-    (rng rest : List ℕ) (answer : Answer) → h ≡ begun p capacity fault
+    (rng rest : List ℕ) (answer : Answer) → h ≡ begun_machine p capacity fault
     → rng ≡ of_seed (splitmix_seed 32 seed) → IsRandomRun attempts h rng end rest
     → IsRunAnswer end.fault end.program end.state answer
     → IsSeededAnswer p capacity fault seed attempts answer
 seeded_answer p capacity fault seed attempts h end rng rest answer start seeded run is =
-    let here : IsRandomRun attempts (begun p capacity fault) (of_seed (splitmix_seed 32 seed)) end rest =
-    subst (λ (g : List ℕ). IsRandomRun attempts (begun p capacity fault) g end rest) seeded
+    let here : IsRandomRun attempts (begun_machine p capacity fault) (of_seed (splitmix_seed 32 seed)) end rest =
+    subst (λ (g : List ℕ). IsRandomRun attempts (begun_machine p capacity fault) g end rest) seeded
     (subst (λ (m : Configuration). IsRandomRun attempts m rng end rest) start run) in
     record {
       end = end;

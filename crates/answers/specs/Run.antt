@@ -13,7 +13,7 @@ use Rattle.machine.specs.Configuration.{Configuration, state_behind}
 use Rattle.machine.specs.State.{State, IsComplete, recorded}
 use Rattle.judge.specs.Verdict.{IsOrderedVerdict}
 use Rattle.report.specs.Verdict.{order_line}
-use Rattle.trials.specs.Judged.{begun}
+use Rattle.trials.specs.Judged.{begun_machine}
 use Rattle.trials.specs.Schedule.{IsRandomRun}
 use Rattle.answers.specs.declared.answer.Answer.{Answer}
 use Rattle.answers.specs.declared.answer.TheConstants.{DONE, UNFINISHED}
@@ -48,12 +48,12 @@ pub record IsRunAnswer (fault : Fault) (p : Parts) (s : State) (answer : Answer)
 
 -- the state of a program after a script, of which the steps that are blocked are skipped
 abbrev pub state_after : Parts → ℕ → Fault → List Step → State
-state_after p capacity fault script = state_behind (begun p capacity fault) script
+state_after p capacity fault script = state_behind (begun_machine p capacity fault) script
 
 -- the answer of a random run of a program, whose steps the words of a seeded generator name
 pub record IsSeededAnswer (p : Parts) (capacity : ℕ) (fault : Fault) (seed attempts : ℕ) (answer : Answer)
     : Type 0 where
   pub end : Configuration
   pub rest : List ℕ
-  pub run : IsRandomRun attempts (begun p capacity fault) (of_seed (splitmix_seed 32 seed)) end rest
+  pub run : IsRandomRun attempts (begun_machine p capacity fault) (of_seed (splitmix_seed 32 seed)) end rest
   pub answered : IsRunAnswer fault p end.state answer

@@ -14,7 +14,7 @@ use Rattle.atomic_table.proofs.Lists.{at_set, at_snoc, set_else, set_again}
 use Rattle.best.specs.declared.rule.Known.{Known}
 use Rattle.relations.specs.Relation.{Table, Related}
 use Rattle.relations.specs.Cycle.{IsCycle}
-use Rattle.best.specs.Rule.{IsLength, none_word, newcomer, gone, joined, knows, Bounded, LegalBest, LowerStep}
+use Rattle.best.specs.Rule.{IsLength, none_word, first_bound, spent_bound, joined_bounds, knows, Bounded, LegalBest, LowerStep}
 use Rattle.best.specs.Rule.{ReadStep}
 
 none_in : {X : Type 0} (x : X) → Contains [] x → ⊥
@@ -77,7 +77,7 @@ reads c slots id me live s r _ at _ = let n : ℕ = get_or s.words 0 0 in let b 
       (refl, (b, (λ e. absurd (miss e)), λ _. (refl, subst (λ (z : Table). IsLength z n) (sym (of live)) is.0, is.1))),
     ))
 
-pub begins : (c : Table) → LegalBest c (opening (none_word ∷ []) [] (newcomer c))
+pub begins : (c : Table) → LegalBest c (opening (none_word ∷ []) [] (first_bound c))
 begins c = record {
   size = refl;
   word = inl refl;
@@ -85,8 +85,8 @@ begins c = record {
   bounded = λ i v e k h. absurd (none_in k (subst (λ (x : Known). Contains x.lengths k) (sym (only i v e)) h));
 }
   where
-    only : (i : ℕ) (v : Known) → get_elem? (newcomer c ∷ []) i ≡ some v → newcomer c ≡ v
-    only zero v e = some-injective (newcomer c) v e
+    only : (i : ℕ) (v : Known) → get_elem? (first_bound c ∷ []) i ≡ some v → first_bound c ≡ v
+    only zero v e = some-injective (first_bound c) v e
     only (suc i) v e = absurd (some-ne-none v (sym e))
 
 pub splits : (c : Table) (id : ℕ) (v : Known) → Splits (LegalBest c) id v v v
@@ -97,12 +97,12 @@ splits c id v s r at = subst (λ (vs : List Known). LegalBest c record { words =
   bounded = λ i u e. ⊎_elim (λ x. r.bounded i u x) (λ x. subst (λ (y : Known). Bounded y (get_or s.words 0 0)) x (r.bounded id v at)) (at_snoc s.views v u i e);
 }
 
-pub joins : (c : Table) (id : ℕ) (v : Known) (other : ℕ) (w : Known) → Joins (LegalBest c) id v other w (joined v w) gone
+pub joins : (c : Table) (id : ℕ) (v : Known) (other : ℕ) (w : Known) → Joins (LegalBest c) id v other w (joined_bounds v w) spent_bound
 joins c id v other w s r at ne at' =
-    let mid = set s.views id (joined v w) in
-    let there : get_elem? s.views other ≡ some w = sym (set_else s.views id other (joined v w) ne) ∙ at' in
-    let kinds : (P : Known → Type 0) → P (joined v w) → P gone → ((j : ℕ) (u : Known) → get_elem? s.views j ≡ some u → P u) → (j : ℕ) (u : Known) → get_elem? (set mid other gone) j ≡ some u → P u
-    = λ P p q o. each_set (λ _ u. P u) mid other gone q (λ j u _ e. each_set (λ _ u. P u) s.views id (joined v w) p (λ j u _ e. o j u e) j u e) in
+    let mid = set s.views id (joined_bounds v w) in
+    let there : get_elem? s.views other ≡ some w = sym (set_else s.views id other (joined_bounds v w) ne) ∙ at' in
+    let kinds : (P : Known → Type 0) → P (joined_bounds v w) → P spent_bound → ((j : ℕ) (u : Known) → get_elem? s.views j ≡ some u → P u) → (j : ℕ) (u : Known) → get_elem? (set mid other spent_bound) j ≡ some u → P u
+    = λ P p q o. each_set (λ _ u. P u) mid other spent_bound q (λ j u _ e. each_set (λ _ u. P u) s.views id (joined_bounds v w) p (λ j u _ e. o j u e) j u e) in
     record {
       size = r.size;
       word = r.word;

@@ -17,16 +17,16 @@ abbrev pub none_word : ℕ
 none_word = 18446744073709551615
 
 -- what a first seat knows
-abbrev pub newcomer : Table → Known
-newcomer t = record { live = true; relation = t; lengths = [] }
+abbrev pub first_bound : Table → Known
+first_bound t = record { live = true; relation = t; lengths = [] }
 
 -- what a seat carries that was merged into another
-abbrev pub gone : Known
-gone = record { live = false; relation = []; lengths = [] }
+abbrev pub spent_bound : Known
+spent_bound = record { live = false; relation = []; lengths = [] }
 
 -- what either of two seats knew
-abbrev pub joined : Known → Known → Known
-joined v w = record { live = v.live; relation = v.relation; lengths = v.lengths ++ w.lengths }
+abbrev pub joined_bounds : Known → Known → Known
+joined_bounds v w = record { live = v.live; relation = v.relation; lengths = v.lengths ++ w.lengths }
 
 -- one length more is known
 abbrev pub knows : Known → ℕ → Known
@@ -49,10 +49,10 @@ abbrev pub LowerStep : Step (Unit {0}) → Me (Unit {0}) Known → ℕ → Me (U
 LowerStep st m n m' = (m'.1 ≡ m.1) × (m'.0 ≡ knows m.0 st.first)
 
 -- the word was at most each known length; a length is that of a cycle, and known from then on
-abbrev pub Loads : Known → ℕ → Known → Type 0
-Loads v n w = Bounded v n × (n ≡ none_word → w ≡ v)
+abbrev pub LoadsBound : Known → ℕ → Known → Type 0
+LoadsBound v n w = Bounded v n × (n ≡ none_word → w ≡ v)
     × (n ≢ none_word → (w ≡ knows v n) × IsLength v.relation n × (n < 65536))
 
 -- a load leaves the word
 abbrev pub ReadStep : Step (Unit {0}) → Me (Unit {0}) Known → ℕ → Me (Unit {0}) Known → Type 0
-ReadStep st m n m' = (m'.1 ≡ m.1) × Loads m.0 n m'.0
+ReadStep st m n m' = (m'.1 ≡ m.1) × LoadsBound m.0 n m'.0

@@ -3,8 +3,8 @@
 ghost use Rattle.std.specs.Prelude.{◌≡◌, ◌≤◌, ◌<◌, [], IfOk, length};
 ghost use Rattle.relations.specs.Relation.{Related};
 ghost use Rattle.relations.specs.Cycle.{IsCycle};
-ghost use Rattle.best.specs.Rule.{newcomer, knows, Loads};
-ghost use Rattle.best.specs.Seats.{IsSeatOf, Says, AreBeside, Unites, known_of};
+ghost use Rattle.best.specs.Rule.{first_bound, knows, LoadsBound};
+ghost use Rattle.best.specs.Seats.{IsBestSeatOf, IsBoundRead, AreBeside, Unites, known_of};
 
 use crate::rule::{Beside, BestTable, Lowers, NONE, Reads};
 use crate::seat::{Best, BestSeat};
@@ -16,8 +16,8 @@ use std::sync::Arc;
 impl Best {
     /// A bound that is none, and a seat that knows no length.
     pub fn open(alloc: Global, relation: &Relation) -> Result<(Best, BestSeat), OutOfMemory>
-        ensures seat { IfOk result (λ r. IsSeatOf r.0 r.1) }
-        ensures new { IfOk result (λ r. known_of r.1 ≡ newcomer relation.now) }
+        ensures seat { IfOk result (λ r. IsBestSeatOf r.0 r.1) }
+        ensures new { IfOk result (λ r. known_of r.1 ≡ first_bound relation.now) }
     {
         let (table, seat) = BestTable::of_words(alloc, &[NONE], relation)?;
         let table = Arc::new(alloc, table)?;
@@ -27,11 +27,11 @@ impl Best {
 
     /// The bound becomes the cycle's length, if that is smaller.
     pub fn lower(&self, seat: &mut BestSeat, relation: &Relation, cycle: &[EventId])
-        requires seat { IsSeatOf self.now seat.old }
+        requires seat { IsBestSeatOf self.now seat.old }
         requires relation { relation.now ≡ (known_of seat.old).relation }
         requires cycle { IsCycle (Related relation.now) cycle.now }
         requires short { length cycle.now ≤ length relation.now }
-        ensures seat { IsSeatOf self.now seat.new }
+        ensures seat { IsBestSeatOf self.now seat.new }
         ensures new { known_of seat.new ≡ knows (known_of seat.old) (length cycle.now) }
         ensures relation { (known_of seat.new).relation ≡ (known_of seat.old).relation }
     {
@@ -42,9 +42,9 @@ impl Best {
     /// None, only where the seat knows no length; or the length of a cycle, at most each that the
     /// seat knows.
     pub fn read(&self, seat: &mut BestSeat) -> Option<u16>
-        requires seat { IsSeatOf self.now seat.old }
-        ensures seat { IsSeatOf self.now seat.new }
-        ensures reads { Says (known_of seat.old) result (known_of seat.new) }
+        requires seat { IsBestSeatOf self.now seat.old }
+        ensures seat { IsBestSeatOf self.now seat.new }
+        ensures reads { IsBoundRead (known_of seat.old) result (known_of seat.new) }
         ensures relation { (known_of seat.new).relation ≡ (known_of seat.old).relation }
     {
         let found = seat.load();
@@ -71,7 +71,7 @@ impl BestSeat {
 
     fn load(&mut self) -> u64
         ensures same { self.new.seat.table_id ≡ self.old.seat.table_id }
-        ensures loads { Loads (known_of self.old) result (known_of self.new) }
+        ensures loads { LoadsBound (known_of self.old) result (known_of self.new) }
     {
         self.table.shared.load::<Reads>(&mut self.seat, 0)
     }

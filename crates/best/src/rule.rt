@@ -23,11 +23,11 @@ pub struct Known {
 pub struct BestRule;
 
 impl TableRule<(), Known, Relation> for BestRule {
-    ghost use Rattle.best.specs.Rule.{LegalBest, newcomer};
+    ghost use Rattle.best.specs.Rule.{LegalBest, first_bound};
 
     ghost holds = { LegalBest };
 
-    ghost first = { newcomer };
+    ghost first = { first_bound };
 }
 
 /// The step of `lower`.
@@ -58,11 +58,11 @@ impl Split<Known> for Beside {
 }
 
 impl Join<Known> for Beside {
-    ghost use Rattle.best.specs.Rule.{joined, gone};
+    ghost use Rattle.best.specs.Rule.{joined_bounds, spent_bound};
 
-    ghost both = { joined };
+    ghost both = { joined_bounds };
 
-    ghost spent = { gone };
+    ghost spent = { spent_bound };
 }
 
 /// The one word, with its rule.

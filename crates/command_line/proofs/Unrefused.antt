@@ -10,7 +10,7 @@ use Rattle.litmus.specs.declared.shape_error.ShapeError.TheVariants.{K1, K2, K3,
 use Rattle.litmus.specs.Shapes.{Sizes, is_outside, shape_of}
 use Rattle.command_line.specs.declared.options.OptionRefusal.{OptionRefusal}
 use Rattle.command_line.specs.declared.options.OptionRefusal.TheVariants as refused
-use Rattle.command_line.specs.Options.{IsWithin}
+use Rattle.command_line.specs.Options.{IsInRange}
 use Rattle.command_line.specs.Refusals.{refusal_in, refusal_of_show, refusal_outside}
 
 -- of two that have no refusal together neither has one
@@ -30,7 +30,7 @@ passed false r none = absurd (true≢false (ap is_some none))
 
 -- a number that is not refused is within its limits
 pub within : (limit asked n : ℕ) (r : OptionRefusal) → n ≡ asked → refusal_outside limit r asked ≡ None
-    → IsWithin limit asked n
+    → IsInRange limit asked n
 within limit asked n r is none =
     let inside : is_outside limit n ≡ false = subst (λ x. is_outside limit x ≡ false) (sym is)
     (failed (is_outside limit asked) r none) in

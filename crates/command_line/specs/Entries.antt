@@ -11,12 +11,12 @@ use Rattle.command_line.specs.declared.options.TheConstants.{DEFAULT_BUFFER, DEF
 use Rattle.command_line.specs.declared.options.TheConstants.{DEFAULT_WORKERS}
 
 -- the number that a text writes
-abbrev pub written : Text → ℕ
-written text = digits_value 10 (without_leading_plus text)
+abbrev pub number_written : Text → ℕ
+number_written text = digits_value 10 (without_leading_plus text)
 
 -- the number that an entry's text writes, or else the default
 abbrev pub number_or : ℕ → Option Text → ℕ
-number_or default entry = unwrap_or (option_map written entry) default
+number_or default entry = unwrap_or (option_map number_written entry) default
 
 -- the entry, where there is one, is a number of 64 bits
 abbrev pub HasNumber : Text → List Row → Type 0
@@ -64,7 +64,7 @@ workers_of rows = number_or DEFAULT_WORKERS (one_of (codes "workers") rows)
 
 -- --show
 abbrev pub show_of : List Row → Option ℕ
-show_of rows = option_map written (one_of (codes "show") rows)
+show_of rows = option_map number_written (one_of (codes "show") rows)
 
 -- the fault of a name
 abbrev pub fault_named : Text → Option Fault

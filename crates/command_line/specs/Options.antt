@@ -23,7 +23,7 @@ use Rattle.command_line.specs.Refusals.{campaign_refusal, judge_refusal, live_re
 use Rattle.command_line.specs.Refusals.{run_refusal}
 
 -- n is the number that is asked for, from 1 to the limit
-pub record IsWithin (limit asked n : ℕ) : Type 0 where
+pub record IsInRange (limit asked n : ℕ) : Type 0 where
   pub is_asked : n ≡ asked
   pub least : 1 ≤ n
   pub most : n ≤ limit
@@ -41,8 +41,8 @@ pub record AreRunOptions (o : RunOptions) (rows : List Row) : Type 0 where
   pub program : first_of (codes "PROGRAM") rows ≡ Some (string_bytes o.program)
   pub steps : first_of (codes "steps") rows ≡ option_map string_bytes o.steps
   pub seed : o.seed ≡ seed_of rows
-  pub attempts : IsWithin MAX_STEPS (attempts_of rows) o.attempts
-  pub buffer : IsWithin MAX_CAPACITY (capacity_of rows) o.buffer
+  pub attempts : IsInRange MAX_STEPS (attempts_of rows) o.attempts
+  pub buffer : IsInRange MAX_CAPACITY (capacity_of rows) o.buffer
   pub fault : machine_fault_of rows ≡ Some o.fault
   pub unrefused : run_refusal rows ≡ None
 
@@ -54,7 +54,7 @@ pub record HasJudgeEntries (rows : List Row) : Type 0 where
 -- each option of judge is its entry, or else its default; none is refused
 pub record AreJudgeOptions (o : JudgeOptions) (rows : List Row) : Type 0 where
   pub file : first_of (codes "FILE") rows ≡ Some (string_bytes o.file)
-  pub workers : IsWithin MAX_WORKERS (workers_of rows) o.workers
+  pub workers : IsInRange MAX_WORKERS (workers_of rows) o.workers
   pub unrefused : judge_refusal rows ≡ None
 
 -- the entries of trials are what it requires
@@ -77,11 +77,11 @@ pub record AreTrialsOptions (o : TrialsOptions) (rows : List Row) : Type 0 where
   pub shape : shape_of o.cores o.ops o.addresses
       ≡ Ok (record { cores = o.cores; ops = o.ops; addresses = o.addresses })
   pub seed : o.seed ≡ seed_of rows
-  pub trials : IsWithin MAX_TRIALS (trials_of rows) o.trials
-  pub attempts : IsWithin MAX_STEPS (attempts_of rows) o.attempts
-  pub buffer : IsWithin MAX_CAPACITY (capacity_of rows) o.buffer
+  pub trials : IsInRange MAX_TRIALS (trials_of rows) o.trials
+  pub attempts : IsInRange MAX_STEPS (attempts_of rows) o.attempts
+  pub buffer : IsInRange MAX_CAPACITY (capacity_of rows) o.buffer
   pub fault : machine_fault_of rows ≡ Some o.fault
-  pub workers : IsWithin MAX_WORKERS (workers_of rows) o.workers
+  pub workers : IsInRange MAX_WORKERS (workers_of rows) o.workers
   pub show : o.show ≡ show_of rows
   pub shown : IfSome o.show (λ k. k < o.trials)
   pub unrefused : campaign_refusal rows ≡ None
@@ -95,8 +95,8 @@ pub record HasLiveEntries (rows : List Row) : Type 0 where
 -- each option of live is its entry, or else its default; none is refused
 pub record AreLiveOptions (o : LiveOptions) (rows : List Row) : Type 0 where
   pub program : first_of (codes "PROGRAM") rows ≡ Some (string_bytes o.program)
-  pub buffer : IsWithin MAX_CAPACITY (capacity_of rows) o.buffer
-  pub limit : IsWithin MAX_STEPS (limit_of rows) o.limit
+  pub buffer : IsInRange MAX_CAPACITY (capacity_of rows) o.buffer
+  pub limit : IsInRange MAX_STEPS (limit_of rows) o.limit
   pub unrefused : live_refusal rows ≡ None
 
 -- the file is its entry

@@ -2,7 +2,7 @@
 ghost use Rattle.std.specs.Prelude.{◌≡◌, Some, codes, option_map};
 ghost use Rattle.clap.specs.Words.{first_of, found_of, one_of, rows_of};
 ghost use Rattle.command_line.specs.Entries.{HasNumber, HasText, fault_named, machine_fault_of, number_or};
-ghost use Rattle.command_line.specs.Entries.{show_of, written};
+ghost use Rattle.command_line.specs.Entries.{number_written, show_of};
 
 use crate::options::DEFAULT_FAULT;
 use clap::ArgMatches;
@@ -29,7 +29,7 @@ pub fn maybe_text<'a>(matches: &ArgMatches<'a>, id: &str) -> Option<&'a str>
 /// The number of an option, where there is an entry.
 pub fn number(matches: &ArgMatches<'_>, id: &str) -> Option<u64>
     requires { HasNumber id.now (rows_of (found_of matches.now)) }
-    ensures { result ≡ option_map written (one_of id.now (rows_of (found_of matches.now))) }
+    ensures { result ≡ option_map number_written (one_of id.now (rows_of (found_of matches.now))) }
 {
     match matches.try_get_one::<u64>(id) {
         Ok(Some(n)) => Some(n),

@@ -4,7 +4,7 @@ ghost use Rattle.std.specs.Prelude.{◌≡◌, true, ◌∷◌, [], IfOk};
 ghost use Rattle.std.specs.Arc.{arc_value};
 ghost use Rattle.relations.specs.Relation.{Related};
 ghost use Rattle.relations.specs.Cycle.{IsCycle};
-ghost use Rattle.best.specs.Seats.{IsSeatOf, known_of};
+ghost use Rattle.best.specs.Seats.{IsBestSeatOf, known_of};
 ghost use Rattle.search.specs.SourceRow.{AreShared};
 ghost use Rattle.search.specs.Bound.{IsSeatFor};
 
@@ -53,7 +53,7 @@ fn seats_read_the_least_length(rt: HostRuntime) -> Result<(), Fail> {
 
 /// A bound for a relation, and its first seat.
 pub fn opened(alloc: Global, shared: &Arc<Relation>) -> Result<(Best, BestSeat), Fail>
-    ensures seat { IfOk result (λ r. IsSeatOf r.0 r.1) }
+    ensures seat { IfOk result (λ r. IsBestSeatOf r.0 r.1) }
     ensures relation { IfOk result (λ r. (known_of r.1).relation ≡ arc_value shared.now) }
 {
     let relation: &Relation = shared;

@@ -2,7 +2,7 @@
 
 ghost use Rattle.std.specs.Prelude.{◌≤◌};
 ghost use Rattle.litmus.specs.declared.limits.TheConstants.{MAX_WORKERS};
-ghost use Rattle.best.specs.Seats.{IsSeatOf, known_of};
+ghost use Rattle.best.specs.Seats.{IsBestSeatOf, known_of};
 ghost use Rattle.search.specs.SourceRow.{AreShared};
 
 use crate::bound::{jobs_of, opened};
@@ -126,7 +126,7 @@ fn length_by<G: Gate>(
     workers: usize,
     gate: &G,
 ) -> Result<Option<u16>, Fail>
-    requires seat { IsSeatOf best.now seat.old }
+    requires seat { IsBestSeatOf best.now seat.old }
     requires jobs { AreShared (known_of seat.old).relation jobs.items }
     requires workers { (1 ≤ workers) × (workers ≤ MAX_WORKERS) }
 {

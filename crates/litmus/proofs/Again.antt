@@ -26,7 +26,7 @@ use Rattle.litmus.specs.Spelling.{spelling, core_text, op_text, op_line, name_at
 use Rattle.litmus.proofs.OnLists.{bind_some}
 use Rattle.litmus.proofs.OneLine.{IsNamed, Fits}
 use Rattle.std.proofs.lemmas.List.Elements.{All-from_recursion}
-use Rattle.litmus.specs.NameListLaws.{at_place, not_before, is_new}
+use Rattle.litmus.specs.NameListLaws.{name_at_place, not_before, is_new}
 use Rattle.litmus.proofs.Cores.{Cores, with_op-is, count-append, ops_grow, cores_grow, use_below}
 use Rattle.litmus.proofs.OneText.{said_again, Cut, IsUsed, used_so}
 
@@ -48,7 +48,7 @@ distinct_front (x ∷ xs) back d =
 cut_old : (front back : List Name) (a : ℕ) → IsDistinct name_eq (front ++ back) → a < length front →
     Cut (front ++ back) front (length front) (name_at (front ++ back) a) a
 cut_old front back a d lt =
-    let at = at_place front a (distinct_front front back d) lt in
+    let at = name_at_place front a (distinct_front front back d) lt in
     rw (get_or_append_left front back no_name a lt)
     (record {
       more = front;

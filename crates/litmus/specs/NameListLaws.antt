@@ -55,7 +55,7 @@ is_new (x ∷ xs) name e = by (is_new xs name) (name_eq name x) refl
         let later = go rest in rw (other, later, one_more (length xs)) refl
 
 -- what is known of the names when one more was named
-pub record Names (old : List Name) (name : Name) (new : List Name) : Type 0 where
+pub record IsOneMoreName (old : List Name) (name : Name) (new : List Name) : Type 0 where
   pub extra : List Name
   pub kept : new ≡ old ++ extra
   pub used : use_addr (length old) (Some (name_number old name)) ≡ Some (length new)
@@ -65,10 +65,10 @@ pub record Names (old : List Name) (name : Name) (new : List Name) : Type 0 wher
 
 -- one more name among lawful and distinct names
 pub one_name : (old : List Name) (name : Name) → AreLawful old → IsDistinct name_eq old →
-    name_of (name_text name) ≡ Some name → Names old name (names_with old name)
+    name_of (name_text name) ≡ Some name → IsOneMoreName old name (names_with old name)
 one_name old name lawful distinct named = by (list_any (name_eq name) old) refl
   where
-    by : (b : Bool) → list_any (name_eq name) old ≡ b → Names old name (names_with old name)
+    by : (b : Bool) → list_any (name_eq name) old ≡ b → IsOneMoreName old name (names_with old name)
     by true e =
         let h = is_there old name e in
         rw e (record {
@@ -100,14 +100,14 @@ differ_at x xs i h lt = name_laws.symm (name_at xs i) x
     ∙ All-from_recursion (λ y. name_eq x y ≡ false) xs h i no_name lt
 
 -- each name is found at its place
-pub at_place : (names : List Name) (i : ℕ) → IsDistinct name_eq names → i < length names →
+pub name_at_place : (names : List Name) (i : ℕ) → IsDistinct name_eq names → i < length names →
     (list_any (name_eq (name_at names i)) names ≡ true) × (name_number names (name_at names i) ≡ i)
-at_place [] i d lt = absurd (omega (arith, lt))
-at_place (x ∷ xs) zero d lt = rw (name_laws.refl x) (refl, refl)
-at_place (x ∷ xs) (suc i) d lt =
+name_at_place [] i d lt = absurd (omega (arith, lt))
+name_at_place (x ∷ xs) zero d lt = rw (name_laws.refl x) (refl, refl)
+name_at_place (x ∷ xs) (suc i) d lt =
     let within : i < length xs = omega (arith, lt) in
     let other = differ_at x xs i (IsDistinct-head name_eq x xs d) within in
-    let later = at_place xs i (IsDistinct-tail name_eq x xs d) within in
+    let later = name_at_place xs i (IsDistinct-tail name_eq x xs d) within in
     rw other (later.0, rw (later.1, one_more i) refl)
 
 -- a name is not among those before it

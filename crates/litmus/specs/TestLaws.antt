@@ -33,9 +33,9 @@ first_behind p (x ∷ xs) ys all first =
     let later = first_behind p xs ys both.1 first in rw both.0 (omega (arith, later))
 
 -- the place of the first that passes, behind those that don't
-pub place_of : (p : ℕ → Bool) (xs ys : List ℕ) (y : ℕ) → list_all (λ b. not (p b)) xs ≡ true → p y
+pub first_place : (p : ℕ → Bool) (xs ys : List ℕ) (y : ℕ) → list_all (λ b. not (p b)) xs ≡ true → p y
     ≡ true → position p (xs ++ y ∷ ys) ≡ Some (length xs)
-place_of p xs ys y all here =
+first_place p xs ys y all here =
     let first : position_or_len p (y ∷ ys) ≡ 0 = rw here refl in
     let at = first_behind p xs (y ∷ ys) all first in
     let within : length xs < length (xs ++ y ∷ ys) = omega (arith, length-append xs (y ∷ ys)) in

@@ -23,7 +23,7 @@ use Rattle.machine.specs.Step.{looked_up, read_modify_written, rmw_value, exec, 
 use Rattle.machine.specs.Step.{taken, after, run}
 use Rattle.machine.proofs.Static.{op_reads, is_st, is_ld}
 use Rattle.machine.proofs.Executes.{IsNext}
-use Rattle.machine.specs.Faults.{draining, get_m}
+use Rattle.machine.specs.Faults.{draining, get_m_under}
 use Rattle.machine.proofs.Drains.{drained_state}
 use Rattle.machine.proofs.Removed.{split_at, none_before, fence_behind, rmw_behind}
 
@@ -86,7 +86,7 @@ faultless p s P kept = record {
 }
 
 -- GetM is a transaction under every fault, and the one that keeps coherence where there is none
-pub get_m_any : (f : Fault) (m : moesi.CacheState) (c a : ℕ) (caches : moesi.CacheState) → get_m f m c a ≡ Ok caches → IsAnyTransaction m c a caches
+pub get_m_any : (f : Fault) (m : moesi.CacheState) (c a : ℕ) (caches : moesi.CacheState) → get_m_under f m c a ≡ Ok caches → IsAnyTransaction m c a caches
 get_m_any fault.None m c a caches h = inl (inr (inl h))
 get_m_any fault.NoBypass m c a caches h = inl (inr (inl h))
 get_m_any fault.YoungestFirst m c a caches h = inl (inr (inl h))
@@ -171,8 +171,8 @@ module _ (p : List (List Op)) (capacity : ℕ) (f : Fault) (s : State) (P : Stat
           let wrote = allowed_ok B5 _ (moesi.write s.caches c x.addr x.value x.event) t h' in
           subst P wrote.2 (kept.drain wrote.0 c x (take i (buffer_of s c)) (drop (i + 1) (buffer_of s c)) at (split_at (buffer_of s c) i x is) (none_before f (buffer_of s c)) wrote.1)
   step_kept (GetS c a) t h = transaction_kept c a t (moesi.get_s s.caches c a) (λ caches is. (inl (inl is), λ none. inl is)) h
-  step_kept (GetM c a) t h = transaction_kept c a t (get_m f s.caches c a)
-      (λ caches is. (get_m_any f s.caches c a caches is, λ none. inr (inl (subst (λ (g : Fault). get_m g s.caches c a ≡ Ok caches) none is)))) h
+  step_kept (GetM c a) t h = transaction_kept c a t (get_m_under f s.caches c a)
+      (λ caches is. (get_m_any f s.caches c a caches is, λ none. inr (inl (subst (λ (g : Fault). get_m_under g s.caches c a ≡ Ok caches) none is)))) h
   step_kept (Put c a) t h = transaction_kept c a t (moesi.put s.caches c a) (λ caches is. (inl (inr (inr is)), λ none. inr (inr is))) h
 
 -- what each row keeps, every list of steps keeps

@@ -5,7 +5,7 @@ use Rattle.write_buffer.specs.Buffer.{Buffer}
 use Rattle.core_unit.specs.Progress.{Progress}
 use Rattle.moesi.specs.State as moesi
 use Rattle.machine.specs.declared.fault.Fault.{Fault}
-use Rattle.machine.specs.Faults.{get_m}
+use Rattle.machine.specs.Faults.{get_m_under}
 use Rattle.machine.specs.declared.step.Step.TheVariants.{GetS, GetM, Put}
 use Rattle.machine.specs.Step.{has, taken}
 use Rattle.machine.specs.BoundedItems.{BoundedItems}
@@ -42,7 +42,7 @@ module _ (p : Parts) (capacity : ℕ) (units : List Progress) (buffers : List Bu
     get_s_taken made = rw (there, made) refl
 
     -- the row of GetM
-    pub get_m_taken : get_m fault caches core addr ≡ Ok caches'
+    pub get_m_taken : get_m_under fault caches core addr ≡ Ok caches'
         → taken p.cores capacity fault (state_from units buffers caches writes reads done.items) (GetM core addr) ≡ Ok (state_from units buffers caches' writes reads done.items)
     get_m_taken made = rw (there, made) refl
 

@@ -30,9 +30,9 @@ may_rmw EarlyRmw entries = true
 may_rmw fault entries = length entries == 0
 
 -- what GetM of core c at address a does: others become I; those in S stay with StaleShare
-abbrev pub get_m : Fault → moesi.CacheState → ℕ → ℕ → Result moesi.CacheState CacheError
-get_m StaleShare caches c a = moesi.get_m_stale caches c a
-get_m fault caches c a = moesi.get_m caches c a
+abbrev pub get_m_under : Fault → moesi.CacheState → ℕ → ℕ → Result moesi.CacheState CacheError
+get_m_under StaleShare caches c a = moesi.get_m_stale caches c a
+get_m_under fault caches c a = moesi.get_m caches c a
 
 -- the entries but the one at place i
 abbrev pub without : ℕ → List Entry → List Entry

@@ -12,7 +12,7 @@ use Rattle.machine.specs.declared.blocked.Blocked.TheVariants.{B1, B2, B3, B4, B
 use Rattle.recorder.specs.Event.{value_written}
 use Rattle.moesi.specs.State as moesi
 use Rattle.machine.specs.declared.fault.Fault.{Fault}
-use Rattle.machine.specs.Faults.{forwarded, draining, without, may_fence, may_rmw, get_m}
+use Rattle.machine.specs.Faults.{forwarded, draining, without, may_fence, may_rmw, get_m_under}
 use Rattle.moesi.specs.declared.error.CacheError.{CacheError}
 use Rattle.machine.specs.State.{State, place_of, buffer_of, line_copy, first_event, event_of}
 
@@ -130,7 +130,7 @@ taken p capacity fault s (Drain c) = if nat_lt c (length p) then drained fault s
 taken p capacity fault s (GetS c a) =
     if has p s c a then allowed B7 (with_caches s) (moesi.get_s s.caches c a) else Err B8
 taken p capacity fault s (GetM c a) =
-    if has p s c a then allowed B7 (with_caches s) (get_m fault s.caches c a) else Err B8
+    if has p s c a then allowed B7 (with_caches s) (get_m_under fault s.caches c a) else Err B8
 taken p capacity fault s (Put c a) =
     if has p s c a then allowed B7 (with_caches s) (moesi.put s.caches c a) else Err B8
 

@@ -23,7 +23,7 @@ pub enum Fault {
 
 impl Fault {
     ghost use Rattle.std.specs.Prelude.{◌≡◌, ◌<◌, Ok, Err, length, slice_get, OnOk, OnErr, IfErr};
-    ghost use Rattle.machine.specs.Faults.{forwarded, draining, without, may_fence, may_rmw, get_m};
+    ghost use Rattle.machine.specs.Faults.{forwarded, draining, without, may_fence, may_rmw, get_m_under};
 
     /// The store that a load of an address gets from its core's buffer.
     pub(crate) fn forwarded(self, buffer: &WriteBuffer, addr: Addr) -> Option<Entry>
@@ -86,8 +86,8 @@ impl Fault {
     ) -> Result<(), CacheError>
         requires core { core < caches.old.cores }
         requires address { addr < length caches.old.blocks }
-        ensures ok { OnOk result (get_m self caches.old core addr ≡ Ok caches.new) }
-        ensures refused { IfErr result (λ e. get_m self caches.old core addr ≡ Err e) }
+        ensures ok { OnOk result (get_m_under self caches.old core addr ≡ Ok caches.new) }
+        ensures refused { IfErr result (λ e. get_m_under self caches.old core addr ≡ Err e) }
         ensures unchanged { OnErr result (caches.new ≡ caches.old) }
         ensures cores { caches.new.cores ≡ caches.old.cores }
         ensures addresses { length caches.new.blocks ≡ length caches.old.blocks }

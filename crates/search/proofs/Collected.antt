@@ -8,13 +8,13 @@ use Rattle.std.proofs.lemmas.List.Elements.{Contains-append_left, Contains-appen
 use Rattle.relations.specs.Relation.{Table, Related}
 use Rattle.relations.specs.Cycle.{IsCycle, IsAcyclic, IsShortest}
 use Rattle.best.specs.declared.rule.Known.{Known}
-use Rattle.best.specs.Rule.{IsLength, joined}
-use Rattle.best.specs.Seats.{Says, Unites}
+use Rattle.best.specs.Rule.{IsLength, joined_bounds}
+use Rattle.best.specs.Seats.{IsBoundRead, Unites}
 use Rattle.search.specs.Cycles.{IsLeastLength, IsShortestLength}
 use Rattle.search.specs.SourceRow.{SourceRow}
 use Rattle.search.specs.Bound.{Covers, Keeps, KnowsShortest}
 use Rattle.search.specs.Crews.{IsRowFor}
-use Rattle.search.specs.Slots.{IsRowFrom, AreSlots, AreFilled}
+use Rattle.search.specs.Slots.{IsRowFrom, AreSlots, AreSlotsFilled}
 use Rattle.search.proofs.Hauls.{covers_kept, rows_kept}
 use Rattle.search.proofs.Known.{read_within, knows_it}
 
@@ -55,7 +55,7 @@ none_more t lengths i slots long before v d below = elim (cases_eq v i) [
 ]
 
 -- one row more
-pub filled_more : (t : Table) (before after : List ℕ) (i : ℕ) (rows more : List SourceRow) (row : SourceRow) → Keeps before after → AreFilled t before i rows → IsRowFrom t after i row → more ≡ rows ++ row ∷ [] → AreFilled t after (i + 1) more
+pub filled_more : (t : Table) (before after : List ℕ) (i : ℕ) (rows more : List SourceRow) (row : SourceRow) → Keeps before after → AreSlotsFilled t before i rows → IsRowFrom t after i row → more ≡ rows ++ row ∷ [] → AreSlotsFilled t after (i + 1) more
 filled_more t before after i rows more row keeps h new is = record {
   size = omega (arith, ap (λ (rs : List SourceRow). length rs) is, length-append rows (row ∷ []), h.size);
   each = λ v d below. subst (λ (rs : List SourceRow). IsRowFrom t after v (get_or rs v d)) (sym is) (elim (cases_eq v i) [
@@ -64,7 +64,7 @@ filled_more t before after i rows more row keeps h new is = record {
   ]);
 }
 
-module _ (t : Table) (v w : Known) (rows : List SourceRow) (of : v.relation ≡ t) (within : (e f : ℕ) → Related t e f → (e < length t) × (f < length t)) (h : AreFilled t v.lengths (length t) rows) where
+module _ (t : Table) (v w : Known) (rows : List SourceRow) (of : v.relation ≡ t) (within : (e f : ℕ) → Related t e f → (e < length t) × (f < length t)) (h : AreSlotsFilled t v.lengths (length t) rows) where
   -- each cycle has a known length at most its own
   cycle_covered : (c : List ℕ) → IsCycle (Related t) c → (k : ℕ) × Contains v.lengths k × (k ≤ length c)
   cycle_covered [] cycle = elim cycle [ ]
@@ -78,7 +78,7 @@ module _ (t : Table) (v w : Known) (rows : List SourceRow) (of : v.relation ≡ 
       first_within e (f ∷ fs) r = (within e f r.0).0
 
   -- so what is read then is the length of the shortest cycles, or there is none
-  pub read_least : (o : Option ℕ) → Says v o w → IsLeastLength (Related t) o
+  pub read_least : (o : Option ℕ) → IsBoundRead v o w → IsLeastLength (Related t) o
   read_least None says = λ c cycle. let k : (k : ℕ) × Contains v.lengths k × (k ≤ length c) = cycle_covered c cycle in says.1 k.0 k.1
   read_least (Some n) says =
       let is : IsLength t n = subst (λ (x : Table). IsLength x n) of says.1 in (
@@ -91,7 +91,7 @@ module _ (t : Table) (v w : Known) (rows : List SourceRow) (of : v.relation ≡ 
       )
 
 -- and it is known
-pub least_known : (t : Table) (v w : Known) (o : Option ℕ) → Says v o w → IsLeastLength (Related t) o → KnowsShortest (Related t) w.lengths
+pub least_known : (t : Table) (v w : Known) (o : Option ℕ) → IsBoundRead v o w → IsLeastLength (Related t) o → KnowsShortest (Related t) w.lengths
 least_known t v w None says least k short = absurd (least short.0 short.1.cycle)
 least_known t v w (Some n) says least k short =
     let a : (c : List ℕ) × IsShortest (Related t) c × (length c ≡ n) = least in

@@ -4,7 +4,7 @@ use Rattle.relations.specs.Relation.{Table}
 use Rattle.relations.specs.Cycle.{IsCycle}
 use Rattle.best.specs.declared.seat.Best.{Best}
 use Rattle.best.specs.declared.seat.BestSeat.{BestSeat}
-use Rattle.best.specs.Seats.{IsSeatOf, known_of}
+use Rattle.best.specs.Seats.{IsBestSeatOf, known_of}
 use Rattle.search.specs.Cycles.{IsShortestLength}
 
 -- for each cycle through v a length that is known and at most its own
@@ -18,8 +18,8 @@ AtMost None k = ⊥
 AtMost (Some n) k = n ≤ k
 
 -- at most each known length
-abbrev pub IsWithin : List ℕ → Option ℕ → Type 0
-IsWithin lengths cap = (k : ℕ) → Contains lengths k → AtMost cap k
+abbrev pub IsCapWithin : List ℕ → Option ℕ → Type 0
+IsCapWithin lengths cap = (k : ℕ) → Contains lengths k → AtMost cap k
 
 -- what was known is known
 abbrev pub Keeps : List ℕ → List ℕ → Type 0
@@ -35,4 +35,4 @@ lengths_of s = (known_of s).lengths
 
 -- a seat of the bound, for the cycles of this relation
 abbrev pub IsSeatFor : Best → Table → BestSeat → Type 0
-IsSeatFor b t s = IsSeatOf b s × ((known_of s).relation ≡ t)
+IsSeatFor b t s = IsBestSeatOf b s × ((known_of s).relation ≡ t)

@@ -2,7 +2,7 @@
 use Rattle.std.specs.Prelude.{◌≡◌, ℕ, List, All}
 use Rattle.relations.specs.Relation.{Table, Related}
 use Rattle.best.specs.declared.seat.Best.{Best}
-use Rattle.best.specs.Seats.{IsSeatOf, AreBeside, known_of}
+use Rattle.best.specs.Seats.{IsBestSeatOf, AreBeside, known_of}
 use Rattle.search.specs.SourceRow.{SourceRow, Job}
 use Rattle.search.specs.Bound.{Covers, IsSeatFor, lengths_of}
 use Rattle.search.specs.declared.crew.Crew.{Crew}
@@ -15,7 +15,7 @@ pub record IsRowFor (t : Table) (lengths : List ℕ) (row : SourceRow) : Type 0 
 
 -- jobs of the relation that the crew's seat, of this bound, carries
 abbrev pub IsCrew : Best → Crew → Type 0
-IsCrew b c = IsSeatOf b c.seat × All (λ job. job.relation ≡ (known_of c.seat).relation) c.jobs.items
+IsCrew b c = IsBestSeatOf b c.seat × All (λ job. job.relation ≡ (known_of c.seat).relation) c.jobs.items
 
 -- rows of the crew's relation, with a seat beside the crew's that knows of their cycles
 abbrev pub IsHaulOf : Crew → Haul → Type 0

@@ -18,7 +18,7 @@ pub record AreSlots (t : Table) (lengths : List ℕ) (slots : List (Option Sourc
       → IfSome (slice_index_or slots v d) (IsRowFrom t lengths v)
 
 -- the rows below i are there
-pub record AreFilled (t : Table) (lengths : List ℕ) (i : ℕ) (rows : List SourceRow) : Type 0 where
+pub record AreSlotsFilled (t : Table) (lengths : List ℕ) (i : ℕ) (rows : List SourceRow) : Type 0 where
   pub size : length rows ≡ i
   pub each : (v : ℕ) (d : SourceRow) → v < i → IsRowFrom t lengths v (slice_index_or rows v d)
 

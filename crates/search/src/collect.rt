@@ -4,11 +4,11 @@ ghost use Rattle.std.specs.Prelude.{◌≡◌, ◌≤◌, ℕ, Option, All, IfOk
 ghost use Rattle.std.specs.Arc.{arc_value};
 ghost use Rattle.litmus.specs.declared.limits.TheConstants.{MAX_WORKERS};
 ghost use Rattle.relations.specs.Relation.{Related};
-ghost use Rattle.best.specs.Seats.{IsSeatOf, known_of};
+ghost use Rattle.best.specs.Seats.{IsBestSeatOf, known_of};
 ghost use Rattle.search.specs.Cycles.{IsLeastLength};
 ghost use Rattle.search.specs.SourceRow.{AreShared, AreLeastRows};
 ghost use Rattle.search.specs.Bound.{IsSeatFor, Keeps, KnowsShortest, lengths_of};
-ghost use Rattle.search.specs.Slots.{AreFilled, AreOfEach};
+ghost use Rattle.search.specs.Slots.{AreSlotsFilled, AreOfEach};
 
 use crate::crew::Crew;
 use crate::deal::dealt;
@@ -53,7 +53,7 @@ fn cut_by(
     seat: &mut BestSeat,
 ) -> Result<Vec<LabelRow>, OutOfMemory>
     requires seat { IsSeatFor best.now relation.now seat.old }
-    requires rows { AreFilled relation.now (lengths_of seat.old) (length relation.now) rows.items }
+    requires rows { AreSlotsFilled relation.now (lengths_of seat.old) (length relation.now) rows.items }
     ensures seat { IsSeatFor best.now relation.now seat.new }
     ensures kept { Keeps (lengths_of seat.old) (lengths_of seat.new) }
     ensures rows { IfOk result (λ all. (cap : Option ℕ) × AreLeastRows relation.now cap all.items) }
@@ -115,7 +115,7 @@ pub fn run_jobs<R: Threads + Wait + Sync, G: Gate>(
     workers: usize,
     gate: &G,
 ) -> Result<Vec<LabelRow>, OutOfMemory>
-    requires seat { IsSeatOf best.now seat.old }
+    requires seat { IsBestSeatOf best.now seat.old }
     requires jobs { AreShared (known_of seat.old).relation jobs.items }
     requires workers { (1 ≤ workers) × (workers ≤ MAX_WORKERS) }
     ensures seat { IsSeatFor best.now (known_of seat.old).relation seat.new }

@@ -4,7 +4,7 @@ ghost use Rattle.std.specs.Prelude.{◌≡◌, ℕ, ◌<◌, length, All, IfOk, 
 ghost use Rattle.std.specs.Arc.{arc_value};
 ghost use Rattle.search.specs.Bound.{IsSeatFor, Keeps, lengths_of};
 ghost use Rattle.search.specs.Crews.{IsRowFor, IsHaulFor};
-ghost use Rattle.search.specs.Slots.{AreSlots, AreFilled, IsRowFrom};
+ghost use Rattle.search.specs.Slots.{AreSlots, AreSlotsFilled, IsRowFrom};
 
 use crate::crew::Haul;
 use crate::job::SourceJob;
@@ -144,7 +144,7 @@ pub(crate) fn filled<G: Gate>(
     requires slots { AreSlots (arc_value relation.now) (lengths_of seat.old) slots.items }
     ensures seat { IsSeatFor best.now (arc_value relation.now) seat.new }
     ensures kept { Keeps (lengths_of seat.old) (lengths_of seat.new) }
-    ensures rows { IfOk result (λ rows. AreFilled (arc_value relation.now) (lengths_of seat.new)
+    ensures rows { IfOk result (λ rows. AreSlotsFilled (arc_value relation.now) (lengths_of seat.new)
         (length (arc_value relation.now)) rows.items) }
 {
     relation.sound();

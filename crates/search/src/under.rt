@@ -7,7 +7,7 @@ ghost use Rattle.relations.specs.Relation.{Related};
 ghost use Rattle.relations.specs.Cycle.{IsExactRow};
 ghost use Rattle.search.specs.Cycles.{IsNearest};
 ghost use Rattle.search.specs.Fresh.{IsFresh};
-ghost use Rattle.search.specs.Bound.{Covers, IsWithin, Keeps, IsSeatFor, lengths_of};
+ghost use Rattle.search.specs.Bound.{Covers, IsCapWithin, Keeps, IsSeatFor, lengths_of};
 
 use crate::back::cycle_back;
 use crate::job::SourceJob;
@@ -94,7 +94,7 @@ pub fn row_under(
     ensures kept { Keeps (lengths_of seat.old) (lengths_of seat.new) }
     ensures relation { IfOk result (λ row. row.relation ≡ job.now.relation) }
     ensures source { IfOk result (λ row. row.source ≡ job.now.source) }
-    ensures cap { IfOk result (λ row. IsWithin (lengths_of seat.old) row.cap) }
+    ensures cap { IfOk result (λ row. IsCapWithin (lengths_of seat.old) row.cap) }
     ensures covers { IfOk result (λ _. Covers (Related job.now.relation) (lengths_of seat.new)
         job.now.source) }
     ensures unchanged { IfErr result (λ _. seat.new ≡ seat.old) }

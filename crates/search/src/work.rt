@@ -1,7 +1,7 @@
 //! The work of crews, on threads and here.
 
 ghost use Rattle.std.specs.Prelude.{◌≡◌, All, IfOk, IfSome};
-ghost use Rattle.best.specs.Seats.{IsSeatOf, known_of};
+ghost use Rattle.best.specs.Seats.{IsBestSeatOf, known_of};
 ghost use Rattle.search.specs.Bound.{IsSeatFor, lengths_of};
 ghost use Rattle.search.specs.Crews.{IsRowFor, IsCrew, IsHaulOf, IsCrewFor, IsHaulFor};
 ghost use Rattle.search.specs.Started.{IsStarted};

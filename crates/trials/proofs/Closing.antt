@@ -15,8 +15,8 @@ use Rattle.atomic_table.specs.Table.{State}
 use Rattle.trials.specs.Campaigns.{Plan}
 use Rattle.trials.specs.declared.board.View.{View}
 use Rattle.trials.specs.Codes.{IsCode}
-use Rattle.trials.specs.Board.{noticed, met, FitsAt, IsWord, Legal, Was, Closes}
-use Rattle.trials.specs.Looking.{Loads}
+use Rattle.trials.specs.Board.{noticed, met, FitsAt, IsWord, Legal, Was, AreDeskWords}
+use Rattle.trials.specs.Looking.{LoadsWord}
 
 -- w has the share of v, and has seen at least as much
 pub record Grown (v w : View) : Type 0 where
@@ -33,7 +33,7 @@ grown_same v = record { live = refl; campaign = refl; share = refl; filed = refl
 grown_is : (v w x : View) → Grown v w → x ≡ w → Grown v x
 grown_is v w x g e = subst (Grown v) (sym e) g
 
-pub grown_loads : (v w x : View) (k n : ℕ) → Grown v w → Loads w k n x → Grown v x
+pub grown_loads : (v w x : View) (k n : ℕ) → Grown v w → LoadsWord w k n x → Grown v x
 grown_loads v w x k n g l = dite (ℕ_discrete n 0)
     (λ e. grown_is v w x g (l.1 e))
     (λ full. dite (ℕ_discrete n 1)
@@ -60,7 +60,7 @@ pub record ReadSoFar (v : View) (ws : List ℕ) : Type 0 where
 pub nothing_read : (v : View) → ReadSoFar v []
 nothing_read v = record { fits = λ j h. absurd (omega (arith, h)); words = λ j h. absurd (omega (arith, h)); beyond = λ h. absurd (omega (arith, h)) }
 
-pub one_more : (v w x : View) (ws : List ℕ) (n : ℕ) → Grown v w → Loads w (length ws) n x → ReadSoFar v ws → ReadSoFar v (ws ++ n ∷ [])
+pub one_more : (v w x : View) (ws : List ℕ) (n : ℕ) → Grown v w → LoadsWord w (length ws) n x → ReadSoFar v ws → ReadSoFar v (ws ++ n ∷ [])
 one_more v w x ws n g l r =
     let k : ℕ = length ws in
     let s = l.0.0 in let i = l.0.1 in let legal = l.0.2 in let at = l.0.3 in let is = l.0.4 in
@@ -134,7 +134,7 @@ two v w P p q zero u e = subst (P 0) (some-injective v u e) p
 two v w P p q (suc zero) u e = subst (P 1) (some-injective w u e) q
 two v w P p q (suc (suc i)) u e = absurd (some-ne-none u (sym e))
 
-pub closing : (v : View) (ws : List ℕ) → v.live ≡ true → length ws ≡ v.campaign.trials → 0 < length ws → ReadSoFar v ws → Closes v ws
+pub closing : (v : View) (ws : List ℕ) → v.live ≡ true → length ws ≡ v.campaign.trials → 0 < length ws → ReadSoFar v ws → AreDeskWords v ws
 closing v ws live size some_word r =
     let n : ℕ = length ws in
     let share = pick (Theirs v ws) (theirs_dec v ws) n in

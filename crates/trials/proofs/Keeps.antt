@@ -19,7 +19,7 @@ use Rattle.trials.specs.declared.board.View.{View}
 use Rattle.judge.specs.declared.verdict.Verdict.{Verdict}
 use Rattle.judge.specs.declared.verdict.Verdict.TheVariants.{Ordered, Overlook, Cycle}
 use Rattle.trials.specs.Codes.{IsCode, end_code}
-use Rattle.trials.specs.Board.{newcomer, gone, without_share, joined, claimed, noticed, met, completed}
+use Rattle.trials.specs.Board.{first_view, spent_view, without_share, joined_views, claimed, noticed, met, completed}
 use Rattle.trials.specs.Board.{FitsAt, IsWord, Legal, Was, ClaimStep, FileStep, LookStep}
 
 abbrev St : Type 0
@@ -219,7 +219,7 @@ files c slots id k n me low live has unfiled is s r _ at _ =
       (refl, refl),
     )
 
-pub begins : (c : Plan) (words : List ℕ) → length words ≡ c.trials → ((k : ℕ) → get_or words k 0 ≡ 0) → Legal c (opening words [] (newcomer c))
+pub begins : (c : Plan) (words : List ℕ) → length words ≡ c.trials → ((k : ℕ) → get_or words k 0 ≡ 0) → Legal c (opening words [] (first_view c))
 begins c words size zeros = record {
   size = size;
   words = λ k. inl (zeros k);
@@ -229,8 +229,8 @@ begins c words size zeros = record {
   owned = λ k full. absurd (full (zeros k));
 }
   where
-    only : (i : ℕ) (v : View) → get_elem? (newcomer c ∷ []) i ≡ some v → newcomer c ≡ v
-    only zero v e = some-injective (newcomer c) v e
+    only : (i : ℕ) (v : View) → get_elem? (first_view c ∷ []) i ≡ some v → first_view c ≡ v
+    only zero v e = some-injective (first_view c) v e
     only (suc i) v e = absurd (some-ne-none v (sym e))
 
 pub splits : (c : Plan) (id : ℕ) (v : View) → v.live ≡ true → Splits (Legal c) id v v (without_share v)
@@ -246,7 +246,7 @@ splits c id v live s r at = subst (λ (vs : List View). Legal c record { words =
   owned = λ k full. let o = r.owned k full in (o.0, o.1, at_longer s.views (without_share v ∷ []) o.0 o.1 o.2, o.3);
 }
 
-joined_fits : (v w : View) (k n : ℕ) → w.campaign ≡ v.campaign → FitsAt v k n → FitsAt w k n → FitsAt (joined v w) k n
+joined_fits : (v w : View) (k n : ℕ) → w.campaign ≡ v.campaign → FitsAt v k n → FitsAt w k n → FitsAt (joined_views v w) k n
 joined_fits v w k n same f g = (
   (λ h. ⊎_elim (λ x. f.0 x) (λ x. g.0 x) (Contains-append_cases v.share w.share k h)),
   (λ h. ⊎_elim
@@ -258,28 +258,28 @@ joined_fits v w k n same f g = (
   (λ h. ⊎_elim (λ x. f.4 x) (λ x. subst (λ (z : Plan). IsCode z k n) same (g.4 x)) (Contains-append_cases v.read w.read k h)),
 )
 
-gone_fits : (k n : ℕ) → FitsAt gone k n
+gone_fits : (k n : ℕ) → FitsAt spent_view k n
 gone_fits k n = ((λ h. absurd (none_in k h)), (λ h. absurd (none_in k h)), (λ h. absurd (none_in k h)), (λ h. absurd (none_in k h)), λ h. absurd (none_in k h))
 
 off : false ≡ true → ⊥
 off e = true≢false (sym e)
 
-pub joins : (c : Plan) (id : ℕ) (v : View) (other : ℕ) (w : View) → v.live ≡ true → w.live ≡ true → Joins (Legal c) id v other w (joined v w) gone
+pub joins : (c : Plan) (id : ℕ) (v : View) (other : ℕ) (w : View) → v.live ≡ true → w.live ≡ true → Joins (Legal c) id v other w (joined_views v w) spent_view
 joins c id v other w lv lw s r at ne at' =
-    let both = joined v w in
+    let both = joined_views v w in
     let mid = set s.views id both in
     let there : get_elem? s.views other ≡ some w = sym (set_else s.views id other both ne) ∙ at' in
     let same : w.campaign ≡ v.campaign = r.carried other w there lw ∙ sym (r.carried id v at lv) in
-    let here : get_elem? (set mid other gone) id ≡ some both = set_else mid other id gone (λ e. ne (sym e)) ∙ set_here s.views id both (in_length s.views id v at) in
+    let here : get_elem? (set mid other spent_view) id ≡ some both = set_else mid other id spent_view (λ e. ne (sym e)) ∙ set_here s.views id both (in_length s.views id v at) in
     -- a view is the joined one, an old one, or nothing
-    let kinds : (P : ℕ → View → Type 0) → P id both → P other gone → ((j : ℕ) (u : View) → j ≢ id → j ≢ other → get_elem? s.views j ≡ some u → P j u) → (j : ℕ) (u : View) → get_elem? (set mid other gone) j ≡ some u → P j u
-    = λ P p q o. each_set P mid other gone q (λ j u nj e. each_set (λ j u. j ≢ other → P j u) s.views id both (λ _. p) (λ j u ni e no. o j u ni no e) j u e nj) in
+    let kinds : (P : ℕ → View → Type 0) → P id both → P other spent_view → ((j : ℕ) (u : View) → j ≢ id → j ≢ other → get_elem? s.views j ≡ some u → P j u) → (j : ℕ) (u : View) → get_elem? (set mid other spent_view) j ≡ some u → P j u
+    = λ P p q o. each_set P mid other spent_view q (λ j u nj e. each_set (λ j u. j ≢ other → P j u) s.views id both (λ _. p) (λ j u ni e no. o j u ni no e) j u e nj) in
     record {
       size = r.size;
       words = r.words;
       carried = kinds (λ j u. u.live ≡ true → u.campaign ≡ c) (λ _. r.carried id v at lv) (λ l. absurd (off l)) (λ j u _ _ e. r.carried j u e);
       fits = kinds (λ j u. (k : ℕ) → FitsAt u k (get_or s.words k 0)) (λ k. joined_fits v w k _ same (r.fits id v at k) (r.fits other w there k)) (λ k. gone_fits k _) (λ j u _ _ e. r.fits j u e);
-      alone = λ i j a b ea. kinds (λ i a. (j : ℕ) (b : View) → get_elem? (set mid other gone) j ≡ some b → (k : ℕ) → Contains a.share k → Contains b.share k → i ≡ j)
+      alone = λ i j a b ea. kinds (λ i a. (j : ℕ) (b : View) → get_elem? (set mid other spent_view) j ≡ some b → (k : ℕ) → Contains a.share k → Contains b.share k → i ≡ j)
           (kinds (λ j b. (k : ℕ) → Contains both.share k → Contains b.share k → id ≡ j)
           (λ _ _ _. refl) (λ k _ h. absurd (none_in k h))
           (λ j b ni no e k h hb. ⊎_elim (λ x. absurd (ni (r.alone j id b v e at k hb x))) (λ x. absurd (no (r.alone j other b w e there k hb x))) (Contains-append_cases v.share w.share k h)))
@@ -293,7 +293,7 @@ joins c id v other w lv lw s r at ne at' =
           (λ is. (id, both, here, Contains-append_left v.share w.share k (subst (λ (x : View). Contains x.share k) (some-injective o.1 v (sym o.2 ∙ ap (get_elem? s.views) is ∙ at)) o.3)))
           (λ ni. dite (ℕ_discrete o.0 other)
           (λ is. (id, both, here, Contains-append_right v.share w.share k (subst (λ (x : View). Contains x.share k) (some-injective o.1 w (sym o.2 ∙ ap (get_elem? s.views) is ∙ there)) o.3)))
-          (λ no. (o.0, o.1, set_else mid other o.0 gone no ∙ set_else s.views id o.0 both ni ∙ o.2, o.3)));
+          (λ no. (o.0, o.1, set_else mid other o.0 spent_view no ∙ set_else s.views id o.0 both ni ∙ o.2, o.3)));
     }
 
 -- after a claim the trial was seen at least claimed, whatever it answered

@@ -15,7 +15,7 @@ use Rattle.trials.specs.Codes.{IsCode, AreCodes, verdict_code, end_code}
 use Rattle.trials.specs.Counts.{IsLedger}
 use Rattle.trials.specs.Judged.{IsEndVerdict}
 use Rattle.trials.specs.OneLedger.{IsSameLedger}
-use Rattle.trials.specs.Schedule.{IsRandomRun, behind}
+use Rattle.trials.specs.Schedule.{IsRandomRun, configuration_behind}
 
 module _ (attempts : ℕ) (h : Configuration) (rng : List ℕ) where
   -- no run ends before another
@@ -37,7 +37,7 @@ module _ (attempts : ℕ) (h : Configuration) (rng : List ℕ) where
 
   -- and end in one machine
   one_end : (e f : Configuration) (r s : List ℕ) → IsRandomRun attempts h rng e r → IsRandomRun attempts h rng f s → e ≡ f
-  one_end e f r s x y = x.leads ∙ (ap (behind h rng) (one_length e f r s x y) ∙ sym y.leads)
+  one_end e f r s x y = x.leads ∙ (ap (configuration_behind h rng) (one_length e f r s x y) ∙ sym y.leads)
 
 -- the least overlook is one
 one_overlook : (x : Execution) (l s k t : ℕ) → IsLeastOverlook x l s → IsLeastOverlook x k t → (l ≡ k) × (s ≡ t)

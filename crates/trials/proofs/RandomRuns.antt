@@ -10,7 +10,7 @@ use Rattle.machine.specs.Configuration.{Configuration, state_behind}
 use Rattle.machine.specs.State.{State}
 use Rattle.machine.specs.Step.{run}
 use Rattle.machine.specs.RunLaws.{run_append}
-use Rattle.trials.specs.Schedule.{behind, schedule, step_of_word}
+use Rattle.trials.specs.Schedule.{configuration_behind, schedule, step_of_word}
 
 -- one word more
 pub words_more : (n : ℕ) (s : List ℕ)
@@ -27,8 +27,8 @@ after_more (suc n) s = let e : suc n + 1 ≡ suc (n + 1) = omega arith in rw e (
 
 -- the machine behind one attempt more
 pub behind_more : (h : Configuration) (s : List ℕ) (n : ℕ) →
-    behind h s (n + 1) ≡ (let one : Configuration = record (behind h s n) {
-      state = state_behind (behind h s n)
+    configuration_behind h s (n + 1) ≡ (let one : Configuration = record (configuration_behind h s n) {
+      state = state_behind (configuration_behind h s n)
           (step_of_word (length h.program.cores) (length h.program.names)
           (plus_plus (after_words n s)).0 ∷ []);
     } in one)

@@ -18,8 +18,8 @@ abbrev pub Mine : Type 0
 Mine = Me (Unit {0}) View
 
 -- the first seat: nothing claimed, nothing seen
-abbrev pub newcomer : Plan → View
-newcomer p = record { live = true; campaign = p; share = []; filed = []; seen = []; read = [] }
+abbrev pub first_view : Plan → View
+first_view p = record { live = true; campaign = p; share = []; filed = []; seen = []; read = [] }
 
 -- a plan that no seat carries
 abbrev pub no_plan : Plan
@@ -33,16 +33,16 @@ no_plan = record {
 }
 
 -- a seat that was merged into another
-abbrev pub gone : View
-gone = record { live = false; campaign = no_plan; share = []; filed = []; seen = []; read = [] }
+abbrev pub spent_view : View
+spent_view = record { live = false; campaign = no_plan; share = []; filed = []; seen = []; read = [] }
 
 -- the same seen, nothing claimed
 abbrev pub without_share : View → View
 without_share v = record v { share = []; filed = [] }
 
 -- both shares, and all that either has seen
-abbrev pub joined : View → View → View
-joined v w = record v {
+abbrev pub joined_views : View → View → View
+joined_views v w = record v {
   share = v.share ++ w.share;
   filed = v.filed ++ w.filed;
   seen = v.seen ++ w.seen;
@@ -111,5 +111,5 @@ LookStep st m n m' = Was m.0 st.word n × (m'.1 ≡ m.1) × (n ≡ 0 → m'.0 �
     × (n ≢ 0 → n ≢ 1 → (m'.0 ≡ met m.0 st.word) × IsCode m.0.campaign st.word n)
 
 -- these words are those of a legal desk, in which a seat has this view
-abbrev pub Closes : View → List ℕ → Type 0
-Closes v ws = (s : DeskState) × (i : ℕ) × Legal v.campaign s × (get_elem? s.views i ≡ some v) × (s.words ≡ ws)
+abbrev pub AreDeskWords : View → List ℕ → Type 0
+AreDeskWords v ws = (s : DeskState) × (i : ℕ) × Legal v.campaign s × (get_elem? s.views i ≡ some v) × (s.words ≡ ws)

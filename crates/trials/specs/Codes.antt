@@ -10,7 +10,7 @@ use Rattle.judge.specs.declared.verdict.Verdict.{Verdict}
 use Rattle.judge.specs.declared.verdict.Verdict.TheVariants.{Ordered, Overlook, Cycle}
 use Rattle.trials.specs.declared.code.TheConstants.{UNFINISHED, ORDERED, CYCLE, OVERLOOK, LOAD}
 use Rattle.trials.specs.Campaigns.{Plan}
-use Rattle.trials.specs.Judged.{IsEndVerdict, begun}
+use Rattle.trials.specs.Judged.{IsEndVerdict, begun_machine}
 use Rattle.trials.specs.Schedule.{IsRandomRun}
 
 -- the generator of trial k
@@ -28,7 +28,7 @@ program_of_trial p k = program_of_words p.shape (first_words plus_plus (event_wo
 -- trial k ends in this machine
 abbrev pub EndsIn : Plan → ℕ → Configuration → Type 0
 EndsIn p k h = (rest : List ℕ) × IsRandomRun p.attempts
-    (begun (program_of_trial p k) p.capacity p.fault) (after_words (event_words p) (generator p k)) h rest
+    (begun_machine (program_of_trial p k) p.capacity p.fault) (after_words (event_words p) (generator p k)) h rest
 
 -- the code of a verdict: an order, its load and store, or the length of its cycle
 abbrev pub verdict_code : Verdict → ℕ

@@ -11,8 +11,8 @@ use Rattle.judge.specs.declared.verdict.Verdict.TheVariants.{Ordered, Overlook, 
 use Rattle.judge.specs.Verdict.{IsVerdict}
 
 -- the machine in which a program begins
-abbrev pub begun : Parts → ℕ → Fault → Configuration
-begun program capacity fault = record {
+abbrev pub begun_machine : Parts → ℕ → Fault → Configuration
+begun_machine program capacity fault = record {
   program = program;
   capacity = capacity;
   fault = fault;

@@ -10,16 +10,16 @@ use Rattle.trials.specs.Codes.{IsCode}
 use Rattle.trials.specs.Board.{noticed, met, Was}
 
 -- the seat is of the desk
-abbrev pub IsSeatOf : Desk → DeskSeat → Type 0
-IsSeatOf d s = s.seat.table_id ≡ (arc_value d.table).shared.table_id
+abbrev pub IsDeskSeatOf : Desk → DeskSeat → Type 0
+IsDeskSeatOf d s = s.seat.table_id ≡ (arc_value d.table).shared.table_id
 
 -- at least what was claimed, filed or seen; and that is seen from then on
-abbrev pub Says : View → ℕ → Look → View → Type 0
-Says v k Open w = (w ≡ v) × (Contains v.share k → ⊥) × (Contains v.seen k → ⊥)
-Says v k Claimed w = (w ≡ noticed v k) × (Contains v.filed k → ⊥) × (Contains v.read k → ⊥)
-Says v k (Filed code) w = (w ≡ met v k) × IsCode v.campaign k code
+abbrev pub IsLook : View → ℕ → Look → View → Type 0
+IsLook v k Open w = (w ≡ v) × (Contains v.share k → ⊥) × (Contains v.seen k → ⊥)
+IsLook v k Claimed w = (w ≡ noticed v k) × (Contains v.filed k → ⊥) × (Contains v.read k → ⊥)
+IsLook v k (Filed code) w = (w ≡ met v k) × IsCode v.campaign k code
 
 -- the same of the word
-abbrev pub Loads : View → ℕ → ℕ → View → Type 0
-Loads v k n w = Was v k n × (n ≡ 0 → w ≡ v) × (n ≡ 1 → w ≡ noticed v k)
+abbrev pub LoadsWord : View → ℕ → ℕ → View → Type 0
+LoadsWord v k n w = Was v k n × (n ≡ 0 → w ≡ v) × (n ≡ 1 → w ≡ noticed v k)
     × (n ≢ 0 → n ≢ 1 → (w ≡ met v k) × IsCode v.campaign k n)

@@ -36,8 +36,8 @@ abbrev pub schedule : Configuration → List ℕ → List Step
 schedule h words = map (step_of_word (length h.program.cores) (length h.program.names)) words
 
 -- the machine after the steps that the next n words of a generator name
-abbrev pub behind : Configuration → List ℕ → ℕ → Configuration
-behind h rng n = record h { state = state_behind h (schedule h (first_words plus_plus n rng)) }
+abbrev pub configuration_behind : Configuration → List ℕ → ℕ → Configuration
+configuration_behind h rng n = record h { state = state_behind h (schedule h (first_words plus_plus n rng)) }
 
 -- a run of so many attempts at most ends here: at the first moment at which the machine is
 -- complete, or at the last attempt
@@ -45,7 +45,7 @@ pub record IsRandomRun (attempts : ℕ) (h : Configuration) (rng : List ℕ) (en
     (rest : List ℕ) : Type 0 where
   pub taken : ℕ
   pub within : taken ≤ attempts
-  pub leads : end ≡ behind h rng taken
+  pub leads : end ≡ configuration_behind h rng taken
   pub words : rest ≡ after_words taken rng
   pub ended : IsAtEnd end ⊎ (taken ≡ attempts)
-  pub before : (n : ℕ) → n < taken → ¬ IsAtEnd (behind h rng n)
+  pub before : (n : ℕ) → n < taken → ¬ IsAtEnd (configuration_behind h rng n)

@@ -25,11 +25,11 @@ pub struct View {
 pub struct DeskRule;
 
 impl TableRule<(), View, Campaign> for DeskRule {
-    ghost use Rattle.trials.specs.Board.{Legal, newcomer};
+    ghost use Rattle.trials.specs.Board.{Legal, first_view};
 
     ghost holds = { Legal };
 
-    ghost first = { newcomer };
+    ghost first = { first_view };
 }
 
 /// The compare-exchange of a claim.
@@ -71,11 +71,11 @@ impl Split<View> for Beside {
 }
 
 impl Join<View> for Beside {
-    ghost use Rattle.trials.specs.Board.{joined, gone};
+    ghost use Rattle.trials.specs.Board.{joined_views, spent_view};
 
-    ghost both = { joined };
+    ghost both = { joined_views };
 
-    ghost spent = { gone };
+    ghost spent = { spent_view };
 }
 
 /// The words of a desk, under their rule.

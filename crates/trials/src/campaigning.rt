@@ -1,10 +1,10 @@
 //! Campaigns run by workers.
 
 ghost use Rattle.std.specs.Prelude.{◌≡◌, ◌<◌, ◌≤◌, ℕ, List, IfOk};
-ghost use Rattle.trials.specs.Board.{Closes, IsWord};
+ghost use Rattle.trials.specs.Board.{AreDeskWords, IsWord};
 ghost use Rattle.trials.specs.Codes.{AreCodes, IsCode};
 ghost use Rattle.trials.specs.Counts.{IsLedger};
-ghost use Rattle.trials.specs.Looking.{IsSeatOf};
+ghost use Rattle.trials.specs.Looking.{IsDeskSeatOf};
 ghost use Rattle.trials.specs.declared.board.View.{View};
 
 use crate::campaign::Campaign;
@@ -29,9 +29,9 @@ pub enum CampaignError {
 
 /// How many trials are filed.
 fn filed_count(desk: &Desk, seat: &mut DeskSeat, trials: usize) -> usize
-    requires seat { IsSeatOf desk.now seat.old }
+    requires seat { IsDeskSeatOf desk.now seat.old }
     requires trials { trials ≡ seat.old.seat.me.0.campaign.trials }
-    ensures seat { IsSeatOf desk.now seat.new }
+    ensures seat { IsDeskSeatOf desk.now seat.new }
     ensures campaign { seat.new.seat.me.0.campaign ≡ seat.old.seat.me.0.campaign }
 {
     let mut filed = 0;
@@ -63,7 +63,7 @@ fn complete(
     campaign: &Campaign,
     mut words: Vec<u64>,
 ) -> Result<Vec<u64>, OutOfMemory>
-    requires { (v : View) × (v.campaign ≡ campaign.now) × Closes v words.items }
+    requires { (v : View) × (v.campaign ≡ campaign.now) × AreDeskWords v words.items }
     ensures { IfOk result (λ codes. AreCodes campaign.now codes.items) }
 {
     for k in 0..words.len() {
@@ -80,7 +80,7 @@ fn ledger_of(
     desk: Desk,
     seat: DeskSeat,
 ) -> Result<Ledger, OutOfMemory>
-    requires seat { IsSeatOf desk seat }
+    requires seat { IsDeskSeatOf desk seat }
     requires campaign { seat.seat.me.0.campaign ≡ campaign.now }
     ensures { IfOk result (λ l. (codes : List ℕ) × AreCodes campaign.now codes × IsLedger codes l) }
 {

@@ -2,8 +2,8 @@
 
 ghost use Rattle.std.specs.Prelude.{◌≡◌, ◌≢◌, ◌<◌, ℕ, Bool, true, false, [], ◌==◌, length, IfOk, MatchBool};
 ghost use Rattle.std.specs.Prelude.{Contains, replicate};
-ghost use Rattle.trials.specs.Board.{newcomer, claimed, noticed, completed, Closes, Was};
-ghost use Rattle.trials.specs.Looking.{IsSeatOf, Says};
+ghost use Rattle.trials.specs.Board.{first_view, claimed, noticed, completed, AreDeskWords, Was};
+ghost use Rattle.trials.specs.Looking.{IsDeskSeatOf, IsLook};
 
 use crate::board::Board;
 use crate::campaign::Campaign;
@@ -16,7 +16,7 @@ use std::sync::Arc;
 impl Desk {
     /// All words are 0, and the seat has claimed and seen nothing.
     pub fn open(alloc: Global, campaign: &Campaign) -> Result<(Desk, DeskSeat), OutOfMemory>
-        ensures { IfOk result (λ r. IsSeatOf r.0 r.1 × (r.1.seat.me.0 ≡ newcomer campaign.now)) }
+        ensures { IfOk result (λ r. IsDeskSeatOf r.0 r.1 × (r.1.seat.me.0 ≡ first_view campaign.now)) }
     {
         campaign.sound();
         let words = zeros(alloc, campaign.trials())?;
@@ -28,9 +28,9 @@ impl Desk {
 
     /// True exactly where the word was 0 at its step.
     pub fn claim(&self, seat: &mut DeskSeat, k: usize) -> bool
-        requires seat { IsSeatOf self.now seat.old }
+        requires seat { IsDeskSeatOf self.now seat.old }
         requires trial { k < seat.old.seat.me.0.campaign.trials }
-        ensures seat { IsSeatOf self.now seat.new }
+        ensures seat { IsDeskSeatOf self.now seat.new }
         ensures step { (n : ℕ) × Was seat.old.seat.me.0 k n × (result ≡ (n == 0)) }
         ensures new { MatchBool result (seat.new.seat.me.0 ≡ claimed seat.old.seat.me.0 k)
             (seat.new.seat.me.0 ≡ noticed seat.old.seat.me.0 k) }
@@ -43,12 +43,12 @@ impl Desk {
 
     /// Files a trial that this seat has claimed.
     pub fn file(&self, seat: &mut DeskSeat, filed: &Filed)
-        requires seat { IsSeatOf self.now seat.old }
+        requires seat { IsDeskSeatOf self.now seat.old }
         requires campaign { filed.now.campaign ≡ seat.old.seat.me.0.campaign }
         requires trial { filed.now.trial < seat.old.seat.me.0.campaign.trials }
         requires claimed { Contains seat.old.seat.me.0.share filed.now.trial }
         requires open { Contains seat.old.seat.me.0.filed filed.now.trial → ⊥ }
-        ensures seat { IsSeatOf self.now seat.new }
+        ensures seat { IsDeskSeatOf self.now seat.new }
         ensures new { seat.new.seat.me.0 ≡ completed seat.old.seat.me.0 filed.now.trial }
     {
         seat.file(filed);
@@ -56,10 +56,10 @@ impl Desk {
 
     /// What the word of a trial says, at least what this seat has claimed, filed or seen.
     pub fn look(&self, seat: &mut DeskSeat, k: usize) -> Look
-        requires seat { IsSeatOf self.now seat.old }
+        requires seat { IsDeskSeatOf self.now seat.old }
         requires trial { k < seat.old.seat.me.0.campaign.trials }
-        ensures seat { IsSeatOf self.now seat.new }
-        ensures says { Says seat.old.seat.me.0 k result seat.new.seat.me.0 }
+        ensures seat { IsDeskSeatOf self.now seat.new }
+        ensures says { IsLook seat.old.seat.me.0 k result seat.new.seat.me.0 }
     {
         match seat.load(k) {
             0 => Look::Open,
@@ -70,8 +70,8 @@ impl Desk {
 
     /// The words, which are those of a legal desk beside what the seat knows.
     pub fn close(self, alloc: Global, seat: DeskSeat) -> Result<Vec<u64>, OutOfMemory>
-        requires { IsSeatOf self seat }
-        ensures { IfOk result (λ ws. Closes seat.seat.me.0 ws.items) }
+        requires { IsDeskSeatOf self seat }
+        ensures { IfOk result (λ ws. AreDeskWords seat.seat.me.0 ws.items) }
     {
         drop(self);
         seat.read_all(alloc)

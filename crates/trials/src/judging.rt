@@ -3,7 +3,7 @@
 ghost use Rattle.std.specs.Prelude.{◌≡◌, IfOk};
 ghost use Rattle.trials.specs.Codes.{end_code, verdict_code};
 ghost use Rattle.machine.specs.declared.fault.Fault.TheVariants as faults;
-ghost use Rattle.trials.specs.Judged.{begun, ran, IsEndVerdict, IsLawful};
+ghost use Rattle.trials.specs.Judged.{begun_machine, ran, IsEndVerdict, IsLawful};
 
 use crate::code::{CYCLE, LOAD, ORDERED, OVERLOOK, UNFINISHED};
 use judge::{Verdict, judge_alone};
@@ -33,7 +33,7 @@ pub fn run_and_judge(
     fault: Fault,
     steps: &[Step],
 ) -> Result<Option<Verdict>, OutOfMemory>
-    ensures judged { IfOk result (IsEndVerdict (ran (begun program capacity fault) steps.now)) }
+    ensures judged { IfOk result (IsEndVerdict (ran (begun_machine program capacity fault) steps.now)) }
     ensures lawful { IfOk result (λ verdict. fault ≡ faults.None → IsLawful verdict) }
 {
     let mut machine = Machine::new(alloc, program, capacity, fault)?;

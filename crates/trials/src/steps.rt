@@ -2,8 +2,8 @@
 
 ghost use Rattle.std.specs.Prelude.{◌≡◌, ◌≢◌, ◌<◌, ℕ, Bool, true, false, [], ◌==◌, length, IfOk, MatchBool};
 ghost use Rattle.std.specs.Prelude.{Contains, replicate};
-ghost use Rattle.trials.specs.Board.{claimed, noticed, completed, without_share, joined, Closes, Was};
-ghost use Rattle.trials.specs.Looking.{Loads};
+ghost use Rattle.trials.specs.Board.{claimed, noticed, completed, without_share, joined_views, AreDeskWords, Was};
+ghost use Rattle.trials.specs.Looking.{LoadsWord};
 
 use crate::board::{Beside, Claims, Files, Looks};
 use crate::filed::Filed;
@@ -46,7 +46,7 @@ impl DeskSeat {
     pub(crate) fn load(&mut self, k: usize) -> u64
         requires trial { k < self.old.seat.me.0.campaign.trials }
         ensures same { self.new.seat.table_id ≡ self.old.seat.table_id }
-        ensures says { Loads self.old.seat.me.0 k result self.new.seat.me.0 }
+        ensures says { LoadsWord self.old.seat.me.0 k result self.new.seat.me.0 }
     {
         self.table.shared.load::<Looks>(&mut self.seat, k)
     }
@@ -68,7 +68,7 @@ impl DeskSeat {
     pub fn merge(self, other: DeskSeat) -> DeskSeat
         requires { other.seat.table_id ≡ self.seat.table_id }
         ensures { (result.seat.table_id ≡ self.seat.table_id)
-            × (result.seat.me.0 ≡ joined self.seat.me.0 other.seat.me.0) }
+            × (result.seat.me.0 ≡ joined_views self.seat.me.0 other.seat.me.0) }
     {
         let DeskSeat { table, mut seat } = self;
         let DeskSeat {
@@ -81,7 +81,7 @@ impl DeskSeat {
 
     /// The words, one after another.
     pub(crate) fn read_all(self, alloc: Global) -> Result<Vec<u64>, OutOfMemory>
-        ensures { IfOk result (λ ws. Closes self.seat.me.0 ws.items) }
+        ensures { IfOk result (λ ws. AreDeskWords self.seat.me.0 ws.items) }
     {
         let mut seat = self;
         let count = seat.table.word_count();

@@ -1,7 +1,7 @@
 //! Workers that claim trials one after another.
 
 ghost use Rattle.std.specs.Prelude.{◌≡◌, ◌<◌};
-ghost use Rattle.trials.specs.Looking.{IsSeatOf};
+ghost use Rattle.trials.specs.Looking.{IsDeskSeatOf};
 
 use crate::campaign::Campaign;
 use crate::seat::{Desk, DeskSeat};
@@ -22,10 +22,10 @@ fn try_one<G: Gate>(
     worker: usize,
     k: usize,
 )
-    requires seat { IsSeatOf desk.now seat.old }
+    requires seat { IsDeskSeatOf desk.now seat.old }
     requires campaign { seat.old.seat.me.0.campaign ≡ campaign.now }
     requires trial { k < campaign.now.trials }
-    ensures seat { IsSeatOf desk.now seat.new }
+    ensures seat { IsDeskSeatOf desk.now seat.new }
     ensures campaign { seat.new.seat.me.0.campaign ≡ campaign.now }
 {
     if desk.claim(seat, k) {
@@ -46,9 +46,9 @@ fn work<G: Gate>(
     gate: &G,
     worker: usize,
 )
-    requires seat { IsSeatOf desk.now seat.old }
+    requires seat { IsDeskSeatOf desk.now seat.old }
     requires campaign { seat.old.seat.me.0.campaign ≡ campaign.now }
-    ensures seat { IsSeatOf desk.now seat.new }
+    ensures seat { IsDeskSeatOf desk.now seat.new }
     ensures campaign { seat.new.seat.me.0.campaign ≡ campaign.now }
 {
     for k in 0..campaign.trials() {
@@ -65,9 +65,9 @@ fn work_there<G: Gate>(
     gate: &G,
     worker: usize,
 ) -> DeskSeat
-    requires seat { IsSeatOf desk.now seat }
+    requires seat { IsDeskSeatOf desk.now seat }
     requires campaign { seat.seat.me.0.campaign ≡ campaign.now }
-    ensures seat { IsSeatOf desk.now result }
+    ensures seat { IsDeskSeatOf desk.now result }
     ensures campaign { result.seat.me.0.campaign ≡ campaign.now }
 {
     work(alloc, campaign, desk, &mut seat, gate, worker);
@@ -84,16 +84,16 @@ fn start<'s, E, G: Gate>(
     gate: &'s G,
     worker: usize,
 )
-    requires seat { IsSeatOf desk.now seat.old }
+    requires seat { IsDeskSeatOf desk.now seat.old }
     requires campaign { seat.old.seat.me.0.campaign ≡ campaign.now }
-    ensures seat { IsSeatOf desk.now seat.new }
+    ensures seat { IsDeskSeatOf desk.now seat.new }
     ensures campaign { seat.new.seat.me.0.campaign ≡ campaign.now }
 {
     let Ok(other) = seat.split() else {
         return;
     };
     let there = move || -> DeskSeat
-        requires { IsSeatOf desk.now other × (other.seat.me.0.campaign ≡ campaign.now) }
+        requires { IsDeskSeatOf desk.now other × (other.seat.me.0.campaign ≡ campaign.now) }
     { work_there(alloc, campaign, desk, other, gate, worker) };
     let _ = scope.spawn(there);
 }
@@ -108,9 +108,9 @@ fn start_all<'s, E, G: Gate>(
     gate: &'s G,
     workers: usize,
 )
-    requires seat { IsSeatOf desk.now seat.old }
+    requires seat { IsDeskSeatOf desk.now seat.old }
     requires campaign { seat.old.seat.me.0.campaign ≡ campaign.now }
-    ensures seat { IsSeatOf desk.now seat.new }
+    ensures seat { IsDeskSeatOf desk.now seat.new }
     ensures campaign { seat.new.seat.me.0.campaign ≡ campaign.now }
 {
     for worker in 1..workers {
@@ -128,17 +128,17 @@ pub(crate) fn work_all<R: Threads + Wait + Sync, G: Gate>(
     workers: usize,
     gate: &G,
 ) -> DeskSeat
-    requires seat { IsSeatOf desk.now seat }
+    requires seat { IsDeskSeatOf desk.now seat }
     requires campaign { seat.seat.me.0.campaign ≡ campaign.now }
-    ensures seat { IsSeatOf desk.now result }
+    ensures seat { IsDeskSeatOf desk.now result }
     ensures campaign { result.seat.me.0.campaign ≡ campaign.now }
 {
     thread::scope(
         thread::scope_env(),
         rt,
         |scope| -> DeskSeat
-            requires { IsSeatOf desk.now seat × (seat.seat.me.0.campaign ≡ campaign.now) }
-            ensures { IsSeatOf desk.entry.now result
+            requires { IsDeskSeatOf desk.now seat × (seat.seat.me.0.campaign ≡ campaign.now) }
+            ensures { IsDeskSeatOf desk.entry.now result
                 × (result.seat.me.0.campaign ≡ campaign.entry.now) }
         {
             let mut mine = seat;

@@ -4,7 +4,7 @@ use Rattle.std.specs.Arc.{arc_value}
 use Rattle.std.specs.Vec.Iter.{into_iter_items}
 use Rattle.search.specs.SourceRow.{SourceRow}
 use Rattle.search.specs.Bound.{lengths_of}
-use Rattle.search.specs.Slots.{IsRowFrom, AreFilled}
+use Rattle.search.specs.Slots.{IsRowFrom, AreSlotsFilled}
 use Rattle.search.proofs.Collected.{drop_head, slot_kept, filled_more}
 use Rattle.search.proofs.slots.filled.Goals as goal
 
@@ -35,4 +35,4 @@ returns-clause-rows g c =
     let t = arc_value c.args.relation.now in
     let inv = c.loop-slot.invariant in
     let all : c.loop-slot.source ≡ length t = omega (arith, inv.4, c.requires.slots.size, c.in-None.ensures.steps.0) in
-    subst (λ (k : ℕ). AreFilled t (lengths_of c.loop-slot.seat) k c.loop-slot.rows.items) all inv.2
+    subst (λ (k : ℕ). AreSlotsFilled t (lengths_of c.loop-slot.seat) k c.loop-slot.rows.items) all inv.2

@@ -1,11 +1,11 @@
 use Rattle.std.proofs.Common.{◌≡◌, ◌≤◌}
-use Rattle.trials.specs.Looking.{IsSeatOf}
+use Rattle.trials.specs.Looking.{IsDeskSeatOf}
 use Rattle.trials.proofs.campaigning.filed_count.Given as goal
 
 abbrev pub invariant-loop-k : goal.invariant-loop-k
 invariant-loop-k l =
     record {
-      seat : IsSeatOf l.desk l.seat;
+      seat : IsDeskSeatOf l.desk l.seat;
       campaign : l.seat.seat.me.0.campaign ≡ l.initial.seat.seat.me.0.campaign;
       few : l.filed ≤ l.k;
     }

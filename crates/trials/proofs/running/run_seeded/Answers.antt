@@ -9,7 +9,7 @@ use Rattle.litmus.specs.Random.{after_words}
 use Rattle.machine.specs.declared.step.Step.{Step}
 use Rattle.machine.specs.Configuration.{Configuration, IsAtEnd}
 use Rattle.trials.specs.Judged.{ran}
-use Rattle.trials.specs.Schedule.{behind, step_of_word}
+use Rattle.trials.specs.Schedule.{configuration_behind, step_of_word}
 use Rattle.trials.proofs.RandomRuns.{after_more, behind_more}
 use Rattle.trials.proofs.running.run_seeded.Goals as goal
 
@@ -39,9 +39,9 @@ attempts-preserved c =
     ∙ ap (λ (w : ℕ). step_of_word (length m.program.cores) (length m.program.names) w) word)) in
     record {
       leads = c.run.ensures ∙ (ap (λ (x : Configuration). ran x (c.step_of_word-step.result ∷ [])) h.leads
-          ∙ (ap (λ (s : Step). ran (behind m g n) (s ∷ [])) named ∙ sym (behind_more m g n)));
+          ∙ (ap (λ (s : Step). ran (configuration_behind m g n) (s ∷ [])) named ∙ sym (behind_more m g n)));
       words = ap (λ (x : ℕ × List ℕ). x.1) c.next_word.ensures ∙ (ap (λ (r : List ℕ). (plus_plus r).1) h.words ∙ sym (after_more n g));
-      before = below_more (λ (k : ℕ). IsAtEnd (behind m g k) → ⊥) n h.before
+      before = below_more (λ (k : ℕ). IsAtEnd (configuration_behind m g k) → ⊥) n h.before
           (λ end. absurd (let clash : true ≡ false = sym (c.is_complete.ensures.1 (subst IsAtEnd (sym h.leads) end)) ∙ c.if-is_complete.false in cc));
       within = omega (arith, c.attempts-test.true);
     }

@@ -1,15 +1,15 @@
 use Rattle.std.proofs.Common.{◌≡◌, ◌<◌, ◌≤◌, ℕ}
 use Rattle.litmus.specs.Random.{after_words}
 use Rattle.machine.specs.Configuration.{IsAtEnd}
-use Rattle.trials.specs.Schedule.{behind}
+use Rattle.trials.specs.Schedule.{configuration_behind}
 use Rattle.trials.proofs.running.run_seeded.Given as goal
 
 -- so many attempts were made, and the machine was never complete before one
 abbrev pub invariant-attempts : goal.invariant-attempts
 invariant-attempts l =
     record {
-      leads : l.machine ≡ behind l.initial.machine l.initial.rng l._taken;
+      leads : l.machine ≡ configuration_behind l.initial.machine l.initial.rng l._taken;
       words : l.rng ≡ after_words l._taken l.initial.rng;
-      before : (n : ℕ) → n < l._taken → ¬ IsAtEnd (behind l.initial.machine l.initial.rng n);
+      before : (n : ℕ) → n < l._taken → ¬ IsAtEnd (configuration_behind l.initial.machine l.initial.rng n);
       within : l._taken ≤ l.attempts;
     }

@@ -1,6 +1,6 @@
 use Rattle.std.proofs.Common.{◌≡◌}
-use Rattle.trials.specs.Looking.{IsSeatOf}
+use Rattle.trials.specs.Looking.{IsDeskSeatOf}
 use Rattle.trials.proofs.workers.work.Given as goal
 
 abbrev pub invariant-loop-k : goal.invariant-loop-k
-invariant-loop-k g l = IsSeatOf l.desk l.seat × (l.seat.seat.me.0.campaign ≡ l.campaign)
+invariant-loop-k g l = IsDeskSeatOf l.desk l.seat × (l.seat.seat.me.0.campaign ≡ l.campaign)

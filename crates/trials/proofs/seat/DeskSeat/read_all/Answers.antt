@@ -1,5 +1,5 @@
 use Rattle.std.proofs.Common.{◌≡◌, ◌∙◌, ◌++◌, ◌∷◌, [], ℕ, List, sym, ap, subst, length, length-append, arith}
-use Rattle.trials.specs.Looking.{Loads}
+use Rattle.trials.specs.Looking.{LoadsWord}
 use Rattle.trials.proofs.Closing.{ReadSoFar, grown_loads, one_more, closing}
 use Rattle.trials.proofs.seat.DeskSeat.read_all.Goals as goal
 
@@ -11,7 +11,7 @@ loop-k-preserved c =
     let inv = c.loop-k.invariant in
     let items = c.in_ok-push.ensures.items in
     let ws = c.loop-k.words.items in
-    let says = subst (λ (k : ℕ). Loads w k c.load.result x) (sym inv.0) c.load.ensures.says in (
+    let says = subst (λ (k : ℕ). LoadsWord w k c.load.result x) (sym inv.0) c.load.ensures.says in (
       ap (λ (xs : List ℕ). length xs) items ∙ omega (arith, inv.0, length-append ws (c.load.result ∷ [])),
       grown_loads v w x (length ws) c.load.result inv.1 says,
       subst (ReadSoFar v) (sym items) (one_more v w x ws c.load.result inv.1 says inv.2),
