@@ -8,7 +8,7 @@ use std::thread;
 use trials::{Campaign, Ledger, run_campaign};
 
 // The campaign of these cores, operations, addresses, trials and attempts, on machines with this fault.
-fn campaign(
+pub fn campaign(
     shape: (usize, usize, usize),
     trials: usize,
     attempts: usize,

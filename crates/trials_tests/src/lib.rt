@@ -4,7 +4,11 @@
 #[cfg(test)]
 mod campaigns;
 #[cfg(test)]
+mod desks;
+#[cfg(test)]
 mod programs;
+#[cfg(test)]
+mod reproduced;
 #[cfg(test)]
 mod schedules;
 #[cfg(test)]
