@@ -39,7 +39,8 @@ IsAnswerText bytes Refused text = IsRefusedText bytes text
 IsAnswerText bytes outcome text = IsJudgedText bytes outcome text
 
 -- the answer to the bytes that were read was written, whole
-pub record IsWholeAnswer (left_before left_after written_before written_after : Option (List ℕ)) (outcome : Outcome) : Type 0 where
+pub record IsWholeAnswer (left_before left_after written_before written_after : Option (List ℕ))
+    (outcome : Outcome) : Type 0 where
   pub bytes : List ℕ
   pub read : Consumes left_before left_after bytes
   pub text : List ℕ
@@ -47,7 +48,8 @@ pub record IsWholeAnswer (left_before left_after written_before written_after : 
   pub written : Appends written_before written_after text
 
 -- the first bytes of the answer to the bytes that were read were written
-pub record IsAnswerBegun (left_before left_after written_before written_after : Option (List ℕ)) : Type 0 where
+pub record IsAnswerBegun (left_before left_after written_before written_after : Option (List ℕ))
+    : Type 0 where
   pub outcome : Outcome
   pub bytes : List ℕ
   pub read : Consumes left_before left_after bytes
