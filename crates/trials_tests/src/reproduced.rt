@@ -44,7 +44,7 @@ fn is_reproduced(alloc: Global, plan: &Campaign, k: usize) -> Result<bool, Fail>
 #[test]
 fn a_trial_is_reproduced(rt: HostRuntime) -> Result<(), Fail> {
     let alloc = rt.alloc();
-    let plan = campaign((2, 4, 2), 64, 40, Fault::YoungestFirst)?;
+    let plan = campaign((2, 4, 2), 64, 200, Fault::YoungestFirst)?;
     'trials: for k in 0..plan.trials() {
         assert!(rt; is_reproduced(alloc, &plan, k)?);
     }
