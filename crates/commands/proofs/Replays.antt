@@ -11,12 +11,14 @@ use Rattle.commands.specs.Inputs.{AreBytesOf}
 use Rattle.commands.specs.Replay.{IsReplayStop, IsUnreplayed}
 
 -- want of memory may come of any bytes
-pub no_memory : (r : Result Answer Stop) (bytes : List ℕ) → IsErrAnd r (λ stop. stop ≡ Fault fault.OutOfMemory) → IfErr r (IsUnreplayed bytes)
+pub no_memory : (r : Result Answer Stop) (bytes : List ℕ)
+    → IsErrAnd r (λ stop. stop ≡ Fault fault.OutOfMemory) → IfErr r (IsUnreplayed bytes)
 no_memory (Ok answer) bytes wanting = tt
 no_memory (Err stop) bytes wanting = rw wanting (inl (rec.OutOfMemory, tt, refl))
 
 -- the bytes of the named input are not replayed
-pub replay_stop : (inputs : List ℕ → Option (List ℕ)) (o : FileOptions) (bytes : List ℕ) (r : Result Answer Stop) → AreBytesOf inputs (string_bytes o.file) bytes
+pub replay_stop : (inputs : List ℕ → Option (List ℕ)) (o : FileOptions) (bytes : List ℕ)
+    (r : Result Answer Stop) → AreBytesOf inputs (string_bytes o.file) bytes
     → IfErr r (IsUnreplayed bytes) → IfErr r (IsReplayStop inputs o)
 replay_stop inputs o bytes (Ok answer) given is = tt
 replay_stop inputs o bytes (Err (Refused line)) given is = (bytes, given, is)

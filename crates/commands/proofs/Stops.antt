@@ -13,14 +13,16 @@ use Rattle.commands.specs.Judge.{IsJudgeStop, IsUnread}
 use Rattle.commands.specs.Perform.{IsLiveStop, thread_fault}
 
 -- the bytes of the named input are no recording
-pub judge_stop : (inputs : List ℕ → Option (List ℕ)) (o : JudgeOptions) (bytes : List ℕ) (r : Result Answer Stop) → AreBytesOf inputs (string_bytes o.file) bytes
+pub judge_stop : (inputs : List ℕ → Option (List ℕ)) (o : JudgeOptions) (bytes : List ℕ)
+    (r : Result Answer Stop) → AreBytesOf inputs (string_bytes o.file) bytes
     → IfErr r (IsUnread bytes) → IfErr r (IsJudgeStop inputs o)
 judge_stop inputs o bytes (Ok answer) given is = tt
 judge_stop inputs o bytes (Err (Refused line)) given is = (bytes, given, is)
 judge_stop inputs o bytes (Err (Fault fault)) given is = rw is.2 tt
 
 -- threads left no machine
-pub thread_stop : (inputs : List ℕ → Option (List ℕ)) (o : LiveOptions) (error : LiveError) → IsLiveStop inputs o (Fault (thread_fault error))
+pub thread_stop : (inputs : List ℕ → Option (List ℕ)) (o : LiveOptions) (error : LiveError)
+    → IsLiveStop inputs o (Fault (thread_fault error))
 thread_stop inputs o live.NoThread = tt
 thread_stop inputs o live.Stranger = tt
 thread_stop inputs o live.OutOfMemory = tt

@@ -17,15 +17,19 @@ use Rattle.answers.specs.Run.{IsRunAnswer}
 use Rattle.commands.specs.Run.{IsLive}
 
 -- the answer of the machine that they leave is that of the run of its trace
-pub live_answer : (inputs : List ℕ → Option (List ℕ)) (o : LiveOptions) (text : List ℕ) (program : Parts) (t : Trace) (machine : Configuration) (answer : Answer)
+pub live_answer : (inputs : List ℕ → Option (List ℕ)) (o : LiveOptions) (text : List ℕ) (program : Parts)
+    (t : Trace) (machine : Configuration) (answer : Answer)
     → AreBytesOf inputs (string_bytes o.program) text → reading text ≡ Ok program
     → IsGiven program o.buffer o.limit t → IsEnded t → IsTrace t → machine ≡ t.machine
     → IsRunAnswer machine.fault machine.program machine.state answer → IsLive inputs o answer
 live_answer inputs o text program t machine answer bytes read given ended replay same is =
     let taken : all_taken program.cores o.buffer None (begun program) t.steps ≡ Ok t.machine.state =
-    subst (λ (f : Fault). all_taken program.cores o.buffer f (begun program) t.steps ≡ Ok t.machine.state) given.fault_is
-    (subst (λ (n : ℕ). all_taken program.cores n t.machine.fault (begun program) t.steps ≡ Ok t.machine.state) given.capacity_is
-    (subst (λ (q : Parts). all_taken q.cores t.machine.capacity t.machine.fault (begun q) t.steps ≡ Ok t.machine.state) given.program_is replay)) in
+    subst (λ (f : Fault). all_taken program.cores o.buffer f (begun program) t.steps ≡ Ok t.machine.state)
+        given.fault_is
+    (subst (λ (n : ℕ). all_taken program.cores n t.machine.fault (begun program) t.steps ≡ Ok t.machine.state)
+      given.capacity_is
+    (subst (λ (q : Parts). all_taken q.cores t.machine.capacity t.machine.fault (begun q) t.steps
+      ≡ Ok t.machine.state) given.program_is replay)) in
     let here : IsRunAnswer t.machine.fault t.machine.program t.machine.state answer =
     subst (λ (h : Configuration). IsRunAnswer h.fault h.program h.state answer) same is in
     let faultless : IsRunAnswer None t.machine.program t.machine.state answer =

@@ -8,6 +8,7 @@ use Rattle.commands.specs.declared.fault.CommandFault.TheVariants.{OutOfMemory}
 use Rattle.commands.specs.Judge.{IsUnread}
 
 -- want of memory may come of any bytes
-pub no_memory : (r : Result Answer Stop) (bytes : List ℕ) → IsErrAnd r (λ stop. stop ≡ Fault OutOfMemory) → IfErr r (IsUnread bytes)
+pub no_memory : (r : Result Answer Stop) (bytes : List ℕ) → IsErrAnd r (λ stop. stop ≡ Fault OutOfMemory)
+    → IfErr r (IsUnread bytes)
 no_memory (Ok answer) bytes wanting = tt
 no_memory (Err stop) bytes wanting = rw wanting (rec.OutOfMemory, tt, refl)

@@ -46,7 +46,8 @@ IsScriptStop inputs program name (Refused line) = (text : List ℕ) × AreBytesO
 IsScriptStop inputs program name (Fault fault) = IsInputFault inputs name fault
 
 -- the script of this name stops the named program, which is read
-pub record IsStoppedByScript (inputs : List ℕ → Option (List ℕ)) (o : RunOptions) (name : List ℕ) (stop : Stop)
+pub record IsStoppedByScript (inputs : List ℕ → Option (List ℕ)) (o : RunOptions) (name : List ℕ)
+    (stop : Stop)
     : Type 0 where
   pub text : List ℕ
   pub given : AreBytesOf inputs (string_bytes o.program) text

@@ -17,13 +17,15 @@ same_state r s t one two = cc
 bound_more : (r : Result State Blocked) (f g : State → Result State Blocked) (t u : State)
     → ((v : State) → f v ≡ Ok t → g v ≡ Ok u) → unless_blocked r f ≡ Ok t → unless_blocked r g ≡ Ok u
 bound_more (Ok v) f g t u next h = next v h
-bound_more (Err b) f g t u next h = absurd (let clash : (let r : Result State Blocked = Err b in r) ≡ Ok t = h in cc (clash))
+bound_more (Err b) f g t u next h = absurd (let clash : (let r : Result State Blocked = Err b in r) ≡ Ok t =
+    h in cc (clash))
 
 -- where what follows was reached, the step was taken
 bound_after : (r : Result State Blocked) (f : State → Result State Blocked) (s t : State)
     → unless_blocked r f ≡ Ok t → f (after s r) ≡ Ok t
 bound_after (Ok v) f s t h = h
-bound_after (Err b) f s t h = absurd (let clash : (let r : Result State Blocked = Err b in r) ≡ Ok t = h in cc (clash))
+bound_after (Err b) f s t h = absurd (let clash : (let r : Result State Blocked = Err b in r) ≡ Ok t = h in
+    cc (clash))
 
 module _ (p : List (List Op)) (capacity : ℕ) (fault : Fault) where
   -- steps that are taken, and then one more
@@ -33,11 +35,13 @@ module _ (p : List (List Op)) (capacity : ℕ) (fault : Fault) where
       ap (λ (r : Result State Blocked). unless_blocked r (λ v. Ok v))
       (ap (λ (v : State). taken p capacity fault v step) (same_state (Ok s) s t refl led) ∙ took)
   all_more s t u (x ∷ xs) step led took =
-      bound_more (taken p capacity fault s x) (λ v. all_taken p capacity fault v xs) (λ v. all_taken p capacity fault v (xs ++ step ∷ [])) t u
+      bound_more (taken p capacity fault s x) (λ v. all_taken p capacity fault v xs)
+          (λ v. all_taken p capacity fault v (xs ++ step ∷ [])) t u
       (λ v h. all_more v t u xs step h took) led
 
   -- steps that are taken are a run
-  pub taken_run : (s t : State) (steps : List Step) → all_taken p capacity fault s steps ≡ Ok t → run p capacity fault s steps ≡ t
+  pub taken_run : (s t : State) (steps : List Step) → all_taken p capacity fault s steps ≡ Ok t
+      → run p capacity fault s steps ≡ t
   taken_run s t [] led = same_state (Ok s) s t refl led
   taken_run s t (x ∷ xs) led =
       taken_run (after s (taken p capacity fault s x)) t xs
@@ -46,8 +50,12 @@ module _ (p : List (List Op)) (capacity : ℕ) (fault : Fault) where
 -- the steps lead to old, and one step more leads to new
 pub replay_more : (old new : Configuration) (steps : List Step) (step : Step)
     → all_taken old.program.cores old.capacity old.fault (begun old.program) steps ≡ Ok old.state
-    → taken old.program.cores old.capacity old.fault old.state step ≡ Ok new.state → new ≡ record old { state = new.state }
-    → all_taken new.program.cores new.capacity new.fault (begun new.program) (steps ++ step ∷ []) ≡ Ok new.state
+    → taken old.program.cores old.capacity old.fault old.state step ≡ Ok new.state
+      → new ≡ record old { state = new.state }
+    → all_taken new.program.cores new.capacity new.fault (begun new.program) (steps ++ step ∷ [])
+      ≡ Ok new.state
 replay_more old new steps step replay took rest =
-    ap (λ (h : Configuration). all_taken h.program.cores h.capacity h.fault (begun h.program) (steps ++ step ∷ [])) rest
-    ∙ all_more old.program.cores old.capacity old.fault (begun old.program) old.state new.state steps step replay took
+    ap (λ (h : Configuration). all_taken h.program.cores h.capacity h.fault (begun h.program)
+        (steps ++ step ∷ [])) rest
+    ∙ all_more old.program.cores old.capacity old.fault (begun old.program) old.state new.state steps step
+      replay took

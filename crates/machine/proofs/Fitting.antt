@@ -31,18 +31,22 @@ stores_before (suc n) [] = 0
 stores_before (suc n) (op ∷ ops) = cond (is_st op) 1 0 + stores_before n ops
 
 -- one operation more
-before_more : (i : ℕ) (ops : List Op) → i < length ops → stores_before (i + 1) ops ≡ stores_before i ops + cond (is_st (get_or ops i Fence)) 1 0
+before_more : (i : ℕ) (ops : List Op) → i < length ops → stores_before (i + 1) ops ≡ stores_before i ops +
+    cond (is_st (get_or ops i Fence)) 1 0
 unfolding stores_before
 before_more i [] h = absurd (omega (arith, h))
 before_more zero (op ∷ ops) h = omega arith
-before_more (suc i) (op ∷ ops) h = omega (arith, before_more i ops (omega (arith, h)), ap (λ (k : ℕ). stores_before k (op ∷ ops)) (let e : suc i + 1 ≡ suc (i + 1) = omega arith in e))
+before_more (suc i) (op ∷ ops) h = omega
+    (arith, before_more i ops (omega (arith, h)), ap (λ (k : ℕ). stores_before k (op ∷ ops))
+    (let e : suc i + 1 ≡ suc (i + 1) = omega arith in e))
 
 -- they are counted so
 before_is : (i : ℕ) (ops : List Op) → stores_before i ops ≡ count_by is_st (take i ops)
 unfolding stores_before
 before_is zero ops = refl
 before_is (suc i) [] = refl
-before_is (suc i) (op ∷ ops) = omega (arith, before_is i ops, sum_by-cons {X = Op} (λ o. cond (is_st o) 1 0) op (take i ops))
+before_is (suc i) (op ∷ ops) = omega (arith, before_is i ops, sum_by-cons {X = Op}
+    (λ o. cond (is_st o) 1 0) op (take i ops))
 
 -- what fits: no core waits for more stores than it executed, none is past its end, and each executed event was performed or waits
 pub record IsFitting (p : List (List Op)) (n : ℕ) (s : State) : Type 0 where
@@ -58,44 +62,58 @@ pushed xs x = length-append xs (x ∷ [])
 
 module _ (p : List (List Op)) (n : ℕ) (s : State) (f : IsFitting p n s) where
   -- one core goes on by one operation
-  place_up : (c b : ℕ) (op : Op) → IsNext p s c b op → (d : ℕ) → get_or (slice_set s.places c (place_of s c + 1)) d 0 ≤ length (get_or p d [])
+  place_up : (c b : ℕ) (op : Op) → IsNext p s c b op → (d : ℕ)
+      → get_or (slice_set s.places c (place_of s c + 1)) d 0 ≤ length (get_or p d [])
   place_up c b op at d = elim (cases_eq d c) [
-    | inl own ↦ subst (λ (z : ℕ). get_or (slice_set s.places c (place_of s c + 1)) z 0 ≤ length (get_or p z [])) (sym own)
+    | inl own ↦ subst (λ (z : ℕ). get_or (slice_set s.places c (place_of s c + 1)) z 0 ≤ length
+      (get_or p z [])) (sym own)
         (omega (arith, get_or-set_same s.places c (place_of s c + 1) 0 at.core, at.there))
     | inr other ↦ omega (arith, get_or-set_other s.places c d (place_of s c + 1) 0 other, f.places d)
   ]
 
   -- all places together too
-  sum_up : (c b : ℕ) (op : Op) → IsNext p s c b op → sum (slice_set s.places c (place_of s c + 1)) ≡ sum s.places + 1
+  sum_up : (c b : ℕ) (op : Op) → IsNext p s c b op → sum (slice_set s.places c (place_of s c + 1))
+      ≡ sum s.places + 1
   sum_up c b op at = omega (arith, sum_by-set (λ (x : ℕ). x) s.places c (place_of s c + 1) 0 at.core)
 
   -- a core that goes on has executed no fewer stores
-  few_up : (c b : ℕ) (op : Op) → IsNext p s c b op → (d : ℕ) → stores_before (place_of s d) (get_or p d []) ≤ stores_before (get_or (slice_set s.places c (place_of s c + 1)) d 0) (get_or p d [])
+  few_up : (c b : ℕ) (op : Op) → IsNext p s c b op → (d : ℕ) → stores_before (place_of s d)
+      (get_or p d []) ≤ stores_before (get_or (slice_set s.places c (place_of s c + 1)) d 0) (get_or p d [])
   few_up c b op at d = elim (cases_eq d c) [
-    | inl own ↦ subst (λ (z : ℕ). stores_before (place_of s z) (get_or p z []) ≤ stores_before (get_or (slice_set s.places c (place_of s c + 1)) z 0) (get_or p z [])) (sym own)
+    | inl own ↦ subst (λ (z : ℕ). stores_before (place_of s z) (get_or p z []) ≤ stores_before
+      (get_or (slice_set s.places c (place_of s c + 1)) z 0) (get_or p z [])) (sym own)
         (omega (
           arith,
-          ap (λ (i : ℕ). stores_before i (get_or p c [])) (get_or-set_same s.places c (place_of s c + 1) 0 at.core),
+          ap (λ (i : ℕ). stores_before i (get_or p c []))
+              (get_or-set_same s.places c (place_of s c + 1) 0 at.core),
           before_more (place_of s c) (get_or p c []) at.there,
         ))
-    | inr other ↦ omega (arith, ap (λ (i : ℕ). stores_before i (get_or p d [])) (get_or-set_other s.places c d (place_of s c + 1) 0 other))
+    | inr other ↦ omega (arith, ap (λ (i : ℕ). stores_before i (get_or p d []))
+      (get_or-set_other s.places c d (place_of s c + 1) 0 other))
   ]
 
   -- a drain keeps what fits
-  drain_fits : (caches : moesi.CacheState) (c : ℕ) (x : Entry) (xs : List Entry) → c < length p → buffer_of s c ≡ x ∷ xs
-      → moesi.write s.caches c x.addr x.value x.event ≡ Ok caches → IsFitting p n (drained_state s caches c x xs)
+  drain_fits : (caches : moesi.CacheState) (c : ℕ) (x : Entry) (xs : List Entry) → c < length p
+      → buffer_of s c ≡ x ∷ xs
+      → moesi.write s.caches c x.addr x.value x.event ≡ Ok caches
+        → IsFitting p n (drained_state s caches c x xs)
   drain_fits caches c x xs at is wrote =
       let inside : c < length s.buffers = omega (arith, at, f.in_order.steady.buffers) in
       record {
         in_order = (in_order_kept p s f.in_order).drain caches c x xs at is wrote;
         few = λ d. elim (cases_eq d c) [
-          | inl own ↦ subst (λ (z : ℕ). length (get_or (slice_set s.buffers c xs) z []) ≤ stores_before (place_of s z) (get_or p z [])) (sym own)
-              (omega (arith, ap (λ (l : List Entry). length l) (get_or-set_same s.buffers c xs [] inside), ap (λ (l : List Entry). length l) is, f.few c))
-          | inr other ↦ omega (arith, ap (λ (l : List Entry). length l) (get_or-set_other s.buffers c d xs [] other), f.few d)
+          | inl own ↦ subst (λ (z : ℕ). length (get_or (slice_set s.buffers c xs) z []) ≤ stores_before
+            (place_of s z) (get_or p z [])) (sym own)
+              (omega (arith, ap (λ (l : List Entry). length l) (get_or-set_same s.buffers c xs [] inside),
+                ap (λ (l : List Entry). length l) is, f.few c))
+          | inr other ↦ omega (arith, ap (λ (l : List Entry). length l)
+            (get_or-set_other s.buffers c d xs [] other), f.few d)
         ];
         places = f.places;
         lists = length-set s.write_lists x.addr (get_or s.write_lists x.addr [] ++ x.event ∷ []) ∙ f.lists;
-        counted = omega (arith, f.counted, pushed s.performed x.event, sum_by-set (λ (b : List Entry). length b) s.buffers c xs [] inside, ap (λ (l : List Entry). length l) is);
+        counted = omega (arith, f.counted, pushed s.performed x.event,
+            sum_by-set (λ (b : List Entry). length b) s.buffers c xs [] inside,
+            ap (λ (l : List Entry). length l) is);
       }
 
   -- a store keeps what fits
@@ -106,17 +124,20 @@ module _ (p : List (List Op)) (n : ℕ) (s : State) (f : IsFitting p n s) where
       record {
         in_order = (in_order_kept p s f.in_order).store c b a v at core;
         few = λ d. elim (cases_eq d c) [
-          | inl own ↦ subst (λ (z : ℕ). length (get_or (slice_set s.buffers c more) z []) ≤ stores_before (get_or (slice_set s.places c (place_of s c + 1)) z 0) (get_or p z [])) (sym own)
+          | inl own ↦ subst (λ (z : ℕ). length (get_or (slice_set s.buffers c more) z []) ≤ stores_before
+            (get_or (slice_set s.places c (place_of s c + 1)) z 0) (get_or p z [])) (sym own)
               (omega (
                 arith,
                 ap (λ (l : List Entry). length l) (get_or-set_same s.buffers c more [] inside),
                 pushed (buffer_of s c) (record { addr = a; value = v; event = b }),
-                ap (λ (i : ℕ). stores_before i (get_or p c [])) (get_or-set_same s.places c (place_of s c + 1) 0 at.core),
+                ap (λ (i : ℕ). stores_before i (get_or p c []))
+                    (get_or-set_same s.places c (place_of s c + 1) 0 at.core),
                 before_more (place_of s c) (get_or p c []) at.there,
                 ap {B = ℕ} (λ (o : Op). cond (is_st o) 1 0) at.operation,
                 f.few c,
               ))
-          | inr other ↦ omega (arith, ap (λ (l : List Entry). length l) (get_or-set_other s.buffers c d more [] other), f.few d, few_up c b (St a v) at d)
+          | inr other ↦ omega (arith, ap (λ (l : List Entry). length l)
+            (get_or-set_other s.buffers c d more [] other), f.few d, few_up c b (St a v) at d)
         ];
         places = place_up c b (St a v) at;
         lists = f.lists;
@@ -130,7 +151,8 @@ module _ (p : List (List Op)) (n : ℕ) (s : State) (f : IsFitting p n s) where
       }
 
   -- a load keeps what fits
-  load_fits : (c b a : ℕ) (what : ℕ × Option ℕ) → IsNext p s c b (Ld a) → looked_up fault.None s c a ≡ Ok what → IsFitting p n (loaded_state s c b what)
+  load_fits : (c b a : ℕ) (what : ℕ × Option ℕ) → IsNext p s c b (Ld a) → looked_up fault.None s c a ≡ Ok what
+      → IsFitting p n (loaded_state s c b what)
   load_fits c b a what at got = record {
     in_order = (in_order_kept p s f.in_order).load c b a what at got;
     few = λ d. omega (arith, f.few d, few_up c b (Ld a) at d);
@@ -150,7 +172,8 @@ module _ (p : List (List Op)) (n : ℕ) (s : State) (f : IsFitting p n s) where
   }
 
   -- a read-modify-write keeps what fits
-  rmw_fits : (caches : moesi.CacheState) (c b a : ℕ) (op : Op) → IsNext p s c b op → c < length p → IsRmw op (line_copy s c a) a → buffer_of s c ≡ []
+  rmw_fits : (caches : moesi.CacheState) (c b a : ℕ) (op : Op) → IsNext p s c b op → c < length p
+      → IsRmw op (line_copy s c a) a → buffer_of s c ≡ []
       → moesi.write s.caches c a (rmw_value s c op a) b ≡ Ok caches → IsFitting p n (rmw_state s caches c b a)
   rmw_fits caches c b a op at core is empty wrote = record {
     in_order = (in_order_kept p s f.in_order).rmw caches c b a op at core is empty wrote;
@@ -161,7 +184,8 @@ module _ (p : List (List Op)) (n : ℕ) (s : State) (f : IsFitting p n s) where
   }
 
   -- a transaction keeps what fits
-  transact_fits : (caches : moesi.CacheState) (c a : ℕ) → c < length p → a < length s.caches.blocks → IsTransaction s.caches c a caches → IsFitting p n (with_caches s caches)
+  transact_fits : (caches : moesi.CacheState) (c a : ℕ) → c < length p → a < length s.caches.blocks
+      → IsTransaction s.caches c a caches → IsFitting p n (with_caches s caches)
   transact_fits caches c a core within made = record {
     in_order = (in_order_kept p s f.in_order).transact caches c a core within made;
     few = f.few;
@@ -192,7 +216,8 @@ wait_none zero = refl
 wait_none (suc n) = omega (arith, sum_by-cons (λ (b : List Entry). length b) [] (replicate n []), wait_none n)
 
 -- the opening state fits
-opening_fits : (p : List (List Op)) (n : ℕ) → All (λ ops. All (IsWithin n) ops) p → IsFitting p n (opening p n)
+opening_fits : (p : List (List Op)) (n : ℕ) → All (λ ops. All (IsWithin n) ops) p
+    → IsFitting p n (opening p n)
 opening_fits p n fits = record {
   in_order = opening_in_order p n fits;
   few = λ c. omega (arith, ap (λ (l : List Entry). length l) (get_or_same {A = List Entry} (length p) c []));
@@ -202,14 +227,16 @@ opening_fits p n fits = record {
 }
 
 -- a state that fits is orderly
-orderly : (p : List (List Op)) (n : ℕ) (s : State) → ((e : ℕ) → IsWithin n (placed_op p e).1) → IsFitting p n s → IsOrderly p n s
+orderly : (p : List (List Op)) (n : ℕ) (s : State) → ((e : ℕ) → IsWithin n (placed_op p e).1)
+    → IsFitting p n s → IsOrderly p n s
 orderly p n s within f = record {
   places = f.in_order.steady.places;
   within = f.places;
   buffers = f.in_order.steady.buffers;
   lists = f.lists;
   blocks = omega (arith, f.lists, f.in_order.steady.listed.cells);
-  lines = λ a inside. omega (arith, f.in_order.coherent.lines a (omega (arith, inside, f.lists, f.in_order.steady.listed.cells)), f.in_order.steady.cores);
+  lines = λ a inside. omega (arith, f.in_order.coherent.lines a
+      (omega (arith, inside, f.lists, f.in_order.steady.listed.cells)), f.in_order.steady.cores);
   addresses = within;
   counted = f.counted;
   once = λ e done. f.in_order.steady.counted.listed e done.0 done.1;
@@ -220,7 +247,10 @@ orderly p n s within f = record {
 }
 
 -- every run without fault leads to such a state
-pub every_state_is_orderly : (p : List (List Op)) (n capacity : ℕ) (steps : List Step) → EveryStateIsOrderly p n capacity steps
+pub every_state_is_orderly : (p : List (List Op)) (n capacity : ℕ) (steps : List Step)
+    → EveryStateIsOrderly p n capacity steps
 every_state_is_orderly p n capacity steps fits =
     orderly p n (run p capacity fault.None (opening p n) steps) (op_within p n fits)
-    (run_kept p capacity fault.None (IsFitting p n) (λ s f. (faultless p s (IsFitting p n) (fitting_kept p n s f), f.in_order.steady.places)) steps (opening p n) (opening_fits p n fits))
+    (run_kept p capacity fault.None (IsFitting p n)
+      (λ s f. (faultless p s (IsFitting p n) (fitting_kept p n s f), f.in_order.steady.places)) steps
+      (opening p n) (opening_fits p n fits))

@@ -13,7 +13,8 @@ use Rattle.machine.specs.OneRow.{changes, EveryFaultChangesOneRow}
 use Rattle.machine.specs.Step.{exec, exec_next}
 
 -- an operation whose row the fault leaves
-exec_same : (capacity : ℕ) (f : Fault) (s : State) (c e : ℕ) (op : Op) → changes f (Exec c) (Some op) ≡ false → exec capacity f s c e op ≡ exec capacity fault.None s c e op
+exec_same : (capacity : ℕ) (f : Fault) (s : State) (c e : ℕ) (op : Op) → changes f (Exec c) (Some op) ≡ false
+    → exec capacity f s c e op ≡ exec capacity fault.None s c e op
 exec_same capacity fault.None s c e (St a v) h = refl
 exec_same capacity fault.NoBypass s c e (St a v) h = refl
 exec_same capacity fault.YoungestFirst s c e (St a v) h = refl
@@ -46,13 +47,15 @@ exec_same capacity fault.StaleShare s c e (Add a v) h = refl
 exec_same capacity fault.EarlyRmw s c e (Add a v) h = absurd cc
 
 -- the next operation, where one is left
-next_same : (p : List (List Op)) (capacity : ℕ) (f : Fault) (s : State) (c : ℕ) (o : Option Op) → changes f (Exec c) o ≡ false → exec_next p capacity f s c o ≡ exec_next p capacity fault.None s c o
+next_same : (p : List (List Op)) (capacity : ℕ) (f : Fault) (s : State) (c : ℕ) (o : Option Op)
+    → changes f (Exec c) o ≡ false → exec_next p capacity f s c o ≡ exec_next p capacity fault.None s c o
 next_same p capacity f s c None h = refl
 next_same p capacity f s c (Some op) h = exec_same capacity f s c _ op h
 
 -- a step whose row the fault leaves
 pub one_row : EveryFaultChangesOneRow
-one_row p capacity f s (Exec c) h = ap (λ (r : Result State Blocked). cond (nat_lt c (length p)) r (Err B8)) (next_same p capacity f s c (slice_get (slice_index_or p c []) (place_of s c)) h)
+one_row p capacity f s (Exec c) h = ap (λ (r : Result State Blocked). cond (nat_lt c (length p)) r (Err B8))
+    (next_same p capacity f s c (slice_get (slice_index_or p c []) (place_of s c)) h)
 one_row p capacity f s (GetS c a) h = refl
 one_row p capacity f s (Put c a) h = refl
 one_row p capacity fault.None s (Drain c) h = refl

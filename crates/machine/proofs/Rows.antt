@@ -29,7 +29,8 @@ use Rattle.machine.proofs.Removed.{split_at, none_before, fence_behind, rmw_behi
 
 -- the state after core c's store went to its buffer
 abbrev pub stored_state : State → ℕ → ℕ → ℕ → ℕ → State
-stored_state s c b a v = advanced (with_buffer s c (buffer_of s c ++ record { addr = a; value = v; event = b } ∷ [])) c
+stored_state s c b a v = advanced (with_buffer s c
+    (buffer_of s c ++ record { addr = a; value = v; event = b } ∷ [])) c
 
 -- the state after core c's load got this
 abbrev pub loaded_state : State → ℕ → ℕ → ℕ × Option ℕ → State
@@ -52,31 +53,43 @@ pub record IsRmw (op : Op) (d : ℕ × Option ℕ) (a : ℕ) : Type 0 where
 
 -- what each row of the table keeps under a fault; what a fault leaves out is known where there is none
 pub record IsKept (p : List (List Op)) (f : Fault) (s : State) (P : State → Type 0) : Type 0 where
-  pub drain : (caches : moesi.CacheState) (c : ℕ) (x : Entry) (front back : List Entry) → c < length p → buffer_of s c ≡ front ++ x ∷ back → (f ≡ fault.None → front ≡ [])
-      → moesi.write s.caches c x.addr x.value x.event ≡ Ok caches → P (drained_state s caches c x (front ++ back))
+  pub drain : (caches : moesi.CacheState) (c : ℕ) (x : Entry) (front back : List Entry) → c < length p
+      → buffer_of s c ≡ front ++ x ∷ back → (f ≡ fault.None → front ≡ [])
+      → moesi.write s.caches c x.addr x.value x.event ≡ Ok caches
+        → P (drained_state s caches c x (front ++ back))
   pub store : (c b a v : ℕ) → IsNext p s c b (St a v) → c < length p → P (stored_state s c b a v)
-  pub load : (c b a : ℕ) (what : ℕ × Option ℕ) → IsNext p s c b (Ld a) → looked_up f s c a ≡ Ok what → P (loaded_state s c b what)
-  pub fence : (c b : ℕ) → IsNext p s c b Fence → (f ≡ fault.None → buffer_of s c ≡ []) → P (fenced_state s c b)
-  pub rmw : (caches : moesi.CacheState) (c b a : ℕ) (op : Op) → IsNext p s c b op → c < length p → IsRmw op (line_copy s c a) a → (f ≡ fault.None → buffer_of s c ≡ [])
+  pub load : (c b a : ℕ) (what : ℕ × Option ℕ) → IsNext p s c b (Ld a) → looked_up f s c a ≡ Ok what
+      → P (loaded_state s c b what)
+  pub fence : (c b : ℕ) → IsNext p s c b Fence → (f ≡ fault.None → buffer_of s c ≡ [])
+      → P (fenced_state s c b)
+  pub rmw : (caches : moesi.CacheState) (c b a : ℕ) (op : Op) → IsNext p s c b op → c < length p
+      → IsRmw op (line_copy s c a) a → (f ≡ fault.None → buffer_of s c ≡ [])
       → moesi.write s.caches c a (rmw_value s c op a) b ≡ Ok caches → P (rmw_state s caches c b a)
-  pub transact : (caches : moesi.CacheState) (c a : ℕ) → c < length p → a < length s.caches.blocks → IsAnyTransaction s.caches c a caches → (f ≡ fault.None → IsTransaction s.caches c a caches)
+  pub transact : (caches : moesi.CacheState) (c a : ℕ) → c < length p → a < length s.caches.blocks
+      → IsAnyTransaction s.caches c a caches → (f ≡ fault.None → IsTransaction s.caches c a caches)
       → P (with_caches s caches)
 
 -- what each row of the table keeps where there is no fault
 pub record IsKeptFaultless (p : List (List Op)) (s : State) (P : State → Type 0) : Type 0 where
-  pub drain : (caches : moesi.CacheState) (c : ℕ) (x : Entry) (xs : List Entry) → c < length p → buffer_of s c ≡ x ∷ xs
+  pub drain : (caches : moesi.CacheState) (c : ℕ) (x : Entry) (xs : List Entry) → c < length p
+      → buffer_of s c ≡ x ∷ xs
       → moesi.write s.caches c x.addr x.value x.event ≡ Ok caches → P (drained_state s caches c x xs)
   pub store : (c b a v : ℕ) → IsNext p s c b (St a v) → c < length p → P (stored_state s c b a v)
-  pub load : (c b a : ℕ) (what : ℕ × Option ℕ) → IsNext p s c b (Ld a) → looked_up fault.None s c a ≡ Ok what → P (loaded_state s c b what)
+  pub load : (c b a : ℕ) (what : ℕ × Option ℕ) → IsNext p s c b (Ld a) → looked_up fault.None s c a ≡ Ok what
+      → P (loaded_state s c b what)
   pub fence : (c b : ℕ) → IsNext p s c b Fence → buffer_of s c ≡ [] → P (fenced_state s c b)
-  pub rmw : (caches : moesi.CacheState) (c b a : ℕ) (op : Op) → IsNext p s c b op → c < length p → IsRmw op (line_copy s c a) a → buffer_of s c ≡ []
+  pub rmw : (caches : moesi.CacheState) (c b a : ℕ) (op : Op) → IsNext p s c b op → c < length p
+      → IsRmw op (line_copy s c a) a → buffer_of s c ≡ []
       → moesi.write s.caches c a (rmw_value s c op a) b ≡ Ok caches → P (rmw_state s caches c b a)
-  pub transact : (caches : moesi.CacheState) (c a : ℕ) → c < length p → a < length s.caches.blocks → IsTransaction s.caches c a caches → P (with_caches s caches)
+  pub transact : (caches : moesi.CacheState) (c a : ℕ) → c < length p → a < length s.caches.blocks
+      → IsTransaction s.caches c a caches → P (with_caches s caches)
 
 -- it is kept under the fault None
-pub faultless : (p : List (List Op)) (s : State) (P : State → Type 0) → IsKeptFaultless p s P → IsKept p fault.None s P
+pub faultless : (p : List (List Op)) (s : State) (P : State → Type 0) → IsKeptFaultless p s P
+    → IsKept p fault.None s P
 faultless p s P kept = record {
-  drain = λ caches c x front back at is first wrote. subst (λ (l : List Entry). P (drained_state s caches c x (l ++ back))) (sym (first refl))
+  drain = λ caches c x front back at is first wrote. subst
+      (λ (l : List Entry). P (drained_state s caches c x (l ++ back))) (sym (first refl))
       (kept.drain caches c x back at (is ∙ ap (λ (l : List Entry). l ++ x ∷ back) (first refl)) wrote);
   store = kept.store;
   load = kept.load;
@@ -86,7 +99,8 @@ faultless p s P kept = record {
 }
 
 -- GetM is a transaction under every fault, and the one that keeps coherence where there is none
-pub get_m_any : (f : Fault) (m : moesi.CacheState) (c a : ℕ) (caches : moesi.CacheState) → get_m_under f m c a ≡ Ok caches → IsAnyTransaction m c a caches
+pub get_m_any : (f : Fault) (m : moesi.CacheState) (c a : ℕ) (caches : moesi.CacheState)
+    → get_m_under f m c a ≡ Ok caches → IsAnyTransaction m c a caches
 get_m_any fault.None m c a caches h = inl (inr (inl h))
 get_m_any fault.NoBypass m c a caches h = inl (inr (inl h))
 get_m_any fault.YoungestFirst m c a caches h = inl (inr (inl h))
@@ -95,7 +109,8 @@ get_m_any fault.StaleShare m c a caches h = inr h
 get_m_any fault.EarlyRmw m c a caches h = inl (inr (inl h))
 
 -- a guarded step that is taken had its guard
-pub guarded : (b : Bool) (r : Result State Blocked) (e : Blocked) (t : State) → cond b r (Err e) ≡ Ok t → (b ≡ true) × (r ≡ Ok t)
+pub guarded : (b : Bool) (r : Result State Blocked) (e : Blocked) (t : State) → cond b r (Err e) ≡ Ok t
+    → (b ≡ true) × (r ≡ Ok t)
 guarded true r e t h = (refl, h)
 guarded false r e t h = absurd cc
 
@@ -104,28 +119,35 @@ pub ok_one : (s t : State) → (let r : Result State Blocked = Ok s in r) ≡ Ok
 ok_one s t h = cc
 
 -- what had its effect was allowed
-pub allowed_ok : {A : Type 0} (b : Blocked) (effect : A → State) (r : Result A CacheError) (t : State) → allowed b effect r ≡ Ok t → (x : A) × (r ≡ Ok x) × (effect x ≡ t)
+pub allowed_ok : {A : Type 0} (b : Blocked) (effect : A → State) (r : Result A CacheError) (t : State)
+    → allowed b effect r ≡ Ok t → (x : A) × (r ≡ Ok x) × (effect x ≡ t)
 allowed_ok b effect (Ok x) t h = (x, refl, ok_one (effect x) t h)
 allowed_ok b effect (Err e) t h = absurd cc
 
 -- a core and an address that are there
-pub has_both : (p : List (List Op)) (s : State) (c a : ℕ) → has p s c a ≡ true → (c < length p) × (a < length s.caches.blocks)
+pub has_both : (p : List (List Op)) (s : State) (c a : ℕ) → has p s c a ≡ true → (c < length p)
+    × (a < length s.caches.blocks)
 has_both p s c a h = go (nat_lt c (length p)) refl h
   where
-    go : (b : Bool) → nat_lt c (length p) ≡ b → (b && nat_lt a (length s.caches.blocks)) ≡ true → (c < length p) × (a < length s.caches.blocks)
+    go : (b : Bool) → nat_lt c (length p) ≡ b → (b && nat_lt a (length s.caches.blocks)) ≡ true
+        → (c < length p) × (a < length s.caches.blocks)
     go true is k = (ltb-true c (length p) is, ltb-true a (length s.caches.blocks) k)
     go false is k = absurd cc
 
-module _ (p : List (List Op)) (capacity : ℕ) (f : Fault) (s : State) (P : State → Type 0) (kept : IsKept p f s P) (one_each : length s.places ≡ length p) where
+module _ (p : List (List Op)) (capacity : ℕ) (f : Fault) (s : State) (P : State → Type 0)
+    (kept : IsKept p f s P) (one_each : length s.places ≡ length p) where
   -- a read-modify-write is one of the rows
-  rmw_kept : (c b a : ℕ) (op : Op) (t : State) → IsNext p s c b op → c < length p → IsRmw op (line_copy s c a) a → read_modify_written f s c b op a ≡ Ok t → P t
+  rmw_kept : (c b a : ℕ) (op : Op) (t : State) → IsNext p s c b op → c < length p
+      → IsRmw op (line_copy s c a) a → read_modify_written f s c b op a ≡ Ok t → P t
   rmw_kept c b a op t n at is h =
       let g = guarded _ _ _ t h in
       let wrote = allowed_ok B5 _ (moesi.write s.caches c a (rmw_value s c op a) b) t g.1 in
       subst P wrote.2 (kept.rmw wrote.0 c b a op n at is (rmw_behind f (buffer_of s c) g.0) wrote.1)
 
   -- so is a transaction
-  transaction_kept : (c a : ℕ) (t : State) (r : Result moesi.CacheState CacheError) → ((caches : moesi.CacheState) → r ≡ Ok caches → IsAnyTransaction s.caches c a caches × (f ≡ fault.None → IsTransaction s.caches c a caches))
+  transaction_kept : (c a : ℕ) (t : State) (r : Result moesi.CacheState CacheError)
+      → ((caches : moesi.CacheState) → r ≡ Ok caches → IsAnyTransaction s.caches c a caches
+      × (f ≡ fault.None → IsTransaction s.caches c a caches))
       → cond (has p s c a) (allowed B7 (with_caches s) r) (Err B8) ≡ Ok t → P t
   transaction_kept c a t r is h =
       let g = guarded _ _ _ t h in
@@ -135,14 +157,18 @@ module _ (p : List (List Op)) (capacity : ℕ) (f : Fault) (s : State) (P : Stat
       subst P made.2 (kept.transact made.0 c a there.0 there.1 any.0 any.1)
 
   -- so is every execution
-  exec_kept : (c b : ℕ) (op : Op) (t : State) → IsNext p s c b op → c < length p → exec capacity f s c b op ≡ Ok t → P t
+  exec_kept : (c b : ℕ) (op : Op) (t : State) → IsNext p s c b op → c < length p → exec capacity f s c b op
+      ≡ Ok t → P t
   exec_kept c b (St a v) t n at h = subst P (ok_one _ t (guarded _ _ _ t h).1) (kept.store c b a v n at)
   exec_kept c b (Ld a) t n at h =
       let got = allowed_ok B4 _ (looked_up f s c a) t h in
       subst P got.2 (kept.load c b a got.0 n got.1)
-  exec_kept c b Fence t n at h = subst P (ok_one _ t (guarded _ _ _ t h).1) (kept.fence c b n (fence_behind f (buffer_of s c) (guarded _ _ _ t h).0))
-  exec_kept c b (Swap a v) t n at h = rmw_kept c b a (Swap a v) t n at (record { store = refl; load = refl; reads = refl; address = refl }) h
-  exec_kept c b (Add a v) t n at h = rmw_kept c b a (Add a v) t n at (record { store = refl; load = refl; reads = refl; address = refl }) h
+  exec_kept c b Fence t n at h = subst P (ok_one _ t (guarded _ _ _ t h).1)
+      (kept.fence c b n (fence_behind f (buffer_of s c) (guarded _ _ _ t h).0))
+  exec_kept c b (Swap a v) t n at h = rmw_kept c b a (Swap a v) t n at
+      (record { store = refl; load = refl; reads = refl; address = refl }) h
+  exec_kept c b (Add a v) t n at h = rmw_kept c b a (Add a v) t n at
+      (record { store = refl; load = refl; reads = refl; address = refl }) h
 
   -- a step that is taken is one of the rows
   pub step_kept : (step : Step) (t : State) → taken p capacity f s step ≡ Ok t → P t
@@ -151,7 +177,8 @@ module _ (p : List (List Op)) (capacity : ℕ) (f : Fault) (s : State) (P : Stat
       at : c < length p
       at = ltb-true c (length p) (guarded _ _ _ t h).0
 
-      go : (o : Option Op) → slice_get (slice_index_or p c []) (place_of s c) ≡ o → exec_next p capacity f s c o ≡ Ok t → P t
+      go : (o : Option Op) → slice_get (slice_index_or p c []) (place_of s c) ≡ o
+          → exec_next p capacity f s c o ≡ Ok t → P t
       go None is h' = absurd cc
       go (Some op) is h' = exec_kept c (first_event p c + place_of s c) op t (record {
         event = refl;
@@ -159,28 +186,37 @@ module _ (p : List (List Op)) (capacity : ℕ) (f : Fault) (s : State) (P : Stat
         operation = get_or_from_slice_get (slice_index_or p c []) (place_of s c) op Fence is;
         core = omega (arith, at, one_each);
       }) at h'
-  step_kept (Drain c) t h = go (slice_get (buffer_of s c) (draining f (buffer_of s c))) refl (guarded _ _ _ t h).1
+  step_kept (Drain c) t h = go (slice_get (buffer_of s c) (draining f (buffer_of s c))) refl
+      (guarded _ _ _ t h).1
     where
       at : c < length p
       at = ltb-true c (length p) (guarded _ _ _ t h).0
 
-      go : (o : Option Entry) → slice_get (buffer_of s c) (draining f (buffer_of s c)) ≡ o → drained_at s c (draining f (buffer_of s c)) o ≡ Ok t → P t
+      go : (o : Option Entry) → slice_get (buffer_of s c) (draining f (buffer_of s c)) ≡ o
+          → drained_at s c (draining f (buffer_of s c)) o ≡ Ok t → P t
       go None is h' = absurd cc
       go (Some x) is h' =
           let i : ℕ = draining f (buffer_of s c) in
           let wrote = allowed_ok B5 _ (moesi.write s.caches c x.addr x.value x.event) t h' in
-          subst P wrote.2 (kept.drain wrote.0 c x (take i (buffer_of s c)) (drop (i + 1) (buffer_of s c)) at (split_at (buffer_of s c) i x is) (none_before f (buffer_of s c)) wrote.1)
-  step_kept (GetS c a) t h = transaction_kept c a t (moesi.get_s s.caches c a) (λ caches is. (inl (inl is), λ none. inl is)) h
+          subst P wrote.2 (kept.drain wrote.0 c x (take i (buffer_of s c)) (drop (i + 1) (buffer_of s c)) at
+              (split_at (buffer_of s c) i x is) (none_before f (buffer_of s c)) wrote.1)
+  step_kept (GetS c a) t h = transaction_kept c a t (moesi.get_s s.caches c a)
+      (λ caches is. (inl (inl is), λ none. inl is)) h
   step_kept (GetM c a) t h = transaction_kept c a t (get_m_under f s.caches c a)
-      (λ caches is. (get_m_any f s.caches c a caches is, λ none. inr (inl (subst (λ (g : Fault). get_m_under g s.caches c a ≡ Ok caches) none is)))) h
-  step_kept (Put c a) t h = transaction_kept c a t (moesi.put s.caches c a) (λ caches is. (inl (inr (inr is)), λ none. inr (inr is))) h
+      (λ caches is. (get_m_any f s.caches c a caches is,
+        λ none. inr (inl (subst (λ (g : Fault). get_m_under g s.caches c a ≡ Ok caches) none is)))) h
+  step_kept (Put c a) t h = transaction_kept c a t (moesi.put s.caches c a)
+      (λ caches is. (inl (inr (inr is)), λ none. inr (inr is))) h
 
 -- what each row keeps, every list of steps keeps
-pub run_kept : (p : List (List Op)) (capacity : ℕ) (f : Fault) (P : State → Type 0) → ((s : State) → P s → IsKept p f s P × (length s.places ≡ length p))
+pub run_kept : (p : List (List Op)) (capacity : ℕ) (f : Fault) (P : State → Type 0)
+    → ((s : State) → P s → IsKept p f s P × (length s.places ≡ length p))
     → (steps : List Step) (s : State) → P s → P (run p capacity f s steps)
 run_kept p capacity f P kept [] s h = h
-run_kept p capacity f P kept (step ∷ steps) s h = go (λ t ht. run_kept p capacity f P kept steps t ht) (taken p capacity f s step) refl
+run_kept p capacity f P kept (step ∷ steps) s h = go (λ t ht. run_kept p capacity f P kept steps t ht)
+    (taken p capacity f s step) refl
   where
-    go : ((t : State) → P t → P (run p capacity f t steps)) → (r : Result State Blocked) → taken p capacity f s step ≡ r → P (run p capacity f (after s r) steps)
+    go : ((t : State) → P t → P (run p capacity f t steps)) → (r : Result State Blocked)
+        → taken p capacity f s step ≡ r → P (run p capacity f (after s r) steps)
     go on (Ok t) is = on t (step_kept p capacity f s P (kept s h).0 (kept s h).1 step t is)
     go on (Err b) is = on s h

@@ -11,10 +11,13 @@ use Rattle.machine.specs.Step.{has, taken}
 use Rattle.machine.specs.BoundedItems.{BoundedItems}
 use Rattle.machine.specs.Configuration.{IsSound, state_from}
 
-module _ (p : Parts) (capacity : ℕ) (units : List Progress) (buffers : List Buffer) (caches : moesi.CacheState)
-    (writes : List (BoundedItems ℕ)) (reads : List (ℕ × Option ℕ)) (done : BoundedItems ℕ) (caches' : moesi.CacheState) where
+module _ (p : Parts) (capacity : ℕ) (units : List Progress) (buffers : List Buffer)
+    (caches : moesi.CacheState)
+    (writes : List (BoundedItems ℕ)) (reads : List (ℕ × Option ℕ)) (done : BoundedItems ℕ)
+      (caches' : moesi.CacheState) where
   -- the parts still fit together
-  pub transacted_sound : IsSound p capacity units buffers caches writes reads done → caches'.cores ≡ caches.cores → length caches'.blocks ≡ length caches.blocks
+  pub transacted_sound : IsSound p capacity units buffers caches writes reads done
+      → caches'.cores ≡ caches.cores → length caches'.blocks ≡ length caches.blocks
       → IsSound p capacity units buffers caches' writes reads done
   transacted_sound sound same_cores same_blocks = record {
     operations = sound.operations;
@@ -35,18 +38,22 @@ module _ (p : Parts) (capacity : ℕ) (units : List Progress) (buffers : List Bu
     counted = sound.counted;
   }
 
-  module _ (fault : Fault) (core addr : ℕ) (there : has p.cores (state_from units buffers caches writes reads done.items) core addr ≡ true) where
+  module _ (fault : Fault) (core addr : ℕ)
+      (there : has p.cores (state_from units buffers caches writes reads done.items) core addr ≡ true) where
     -- the row of GetS
     pub get_s_taken : moesi.get_s caches core addr ≡ Ok caches'
-        → taken p.cores capacity fault (state_from units buffers caches writes reads done.items) (GetS core addr) ≡ Ok (state_from units buffers caches' writes reads done.items)
+        → taken p.cores capacity fault (state_from units buffers caches writes reads done.items)
+          (GetS core addr) ≡ Ok (state_from units buffers caches' writes reads done.items)
     get_s_taken made = rw (there, made) refl
 
     -- the row of GetM
     pub get_m_taken : get_m_under fault caches core addr ≡ Ok caches'
-        → taken p.cores capacity fault (state_from units buffers caches writes reads done.items) (GetM core addr) ≡ Ok (state_from units buffers caches' writes reads done.items)
+        → taken p.cores capacity fault (state_from units buffers caches writes reads done.items)
+          (GetM core addr) ≡ Ok (state_from units buffers caches' writes reads done.items)
     get_m_taken made = rw (there, made) refl
 
     -- the row of Put
     pub put_taken : moesi.put caches core addr ≡ Ok caches'
-        → taken p.cores capacity fault (state_from units buffers caches writes reads done.items) (Put core addr) ≡ Ok (state_from units buffers caches' writes reads done.items)
+        → taken p.cores capacity fault (state_from units buffers caches writes reads done.items)
+          (Put core addr) ≡ Ok (state_from units buffers caches' writes reads done.items)
     put_taken made = rw (there, made) refl

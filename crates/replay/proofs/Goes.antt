@@ -41,7 +41,8 @@ AreTaken p capacity s (step ∷ steps) =
     IsTaken p capacity s step × AreTaken p capacity (after s (taken p capacity fault.None s step)) steps
 
 -- so says the machine's word for them
-pub all_of : (p : List (List Op)) (capacity : ℕ) (steps : List Step) (s t : State) → AreTaken p capacity s steps
+pub all_of : (p : List (List Op)) (capacity : ℕ) (steps : List Step) (s t : State)
+    → AreTaken p capacity s steps
     → run p capacity fault.None s steps ≡ t → all_taken p capacity fault.None s steps ≡ Ok t
 all_of p capacity [] s t are led = ap (λ (z : State). Ok z) led
 all_of p capacity (x ∷ xs) s t are led =
@@ -54,68 +55,86 @@ abbrev pub Goes : List (List Op) → ℕ → State → List Step → State → T
 Goes p capacity s steps t = AreTaken p capacity s steps × (run p capacity fault.None s steps ≡ t)
 
 -- a step that is taken, before others
-pub goes_first : (p : List (List Op)) (capacity : ℕ) (s u t : State) (step : Step) (steps : List Step) → taken p capacity fault.None s step ≡ Ok u → Goes p capacity u steps t → Goes p capacity s (step ∷ steps) t
+pub goes_first : (p : List (List Op)) (capacity : ℕ) (s u t : State) (step : Step) (steps : List Step)
+    → taken p capacity fault.None s step ≡ Ok u → Goes p capacity u steps t
+    → Goes p capacity s (step ∷ steps) t
 goes_first p capacity s u t step steps took rest = (
   ((u, took), subst (λ (r : Result State Blocked). AreTaken p capacity (after s r) steps) (sym took) rest.0),
   ap (λ (r : Result State Blocked). run p capacity fault.None (after s r) steps) took ∙ rest.1,
 )
 
 -- a single step
-pub goes_one : (p : List (List Op)) (capacity : ℕ) (s t : State) (step : Step) → taken p capacity fault.None s step ≡ Ok t → Goes p capacity s (step ∷ []) t
+pub goes_one : (p : List (List Op)) (capacity : ℕ) (s t : State) (step : Step)
+    → taken p capacity fault.None s step ≡ Ok t → Goes p capacity s (step ∷ []) t
 goes_one p capacity s t step took = goes_first p capacity s t t step [] took (tt, refl)
 
 -- steps in two parts
-pub goes_on : (p : List (List Op)) (capacity : ℕ) (s t u : State) (xs ys : List Step) → Goes p capacity s xs t → Goes p capacity t ys u → Goes p capacity s (xs ++ ys) u
+pub goes_on : (p : List (List Op)) (capacity : ℕ) (s t u : State) (xs ys : List Step) → Goes p capacity s xs t
+    → Goes p capacity t ys u → Goes p capacity s (xs ++ ys) u
 goes_on p capacity s t u [] ys front back = subst (λ (z : State). Goes p capacity z ys u) (sym front.1) back
 goes_on p capacity s t u (x ∷ xs) ys front back =
-    let rest : Goes p capacity (after s (taken p capacity fault.None s x)) (xs ++ ys) u = goes_on p capacity (after s (taken p capacity fault.None s x)) t u xs ys (front.0.1, front.1) back in
+    let rest : Goes p capacity (after s (taken p capacity fault.None s x)) (xs ++ ys) u = goes_on p capacity
+        (after s (taken p capacity fault.None s x)) t u xs ys (front.0.1, front.1) back in
     ((front.0.0, rest.0), rest.1)
 
 -- a guarded step that is taken had its guard
-pub guarded : (b : Bool) (r : Result State Blocked) (e : Blocked) (t : State) → cond b r (Err e) ≡ Ok t → (b ≡ true) × (r ≡ Ok t)
+pub guarded : (b : Bool) (r : Result State Blocked) (e : Blocked) (t : State) → cond b r (Err e) ≡ Ok t
+    → (b ≡ true) × (r ≡ Ok t)
 guarded true r e t h = (refl, h)
 guarded false r e t h = absurd cc
 
 -- a test that only grows
-more_room : (k capacity larger : ℕ) (r t : State) → capacity ≤ larger → cond (nat_lt k capacity) (Ok r) (Err B2) ≡ Ok t → cond (nat_lt k larger) (Ok r) (Err B2) ≡ Ok t
+more_room : (k capacity larger : ℕ) (r t : State) → capacity ≤ larger → cond (nat_lt k capacity) (Ok r)
+    (Err B2) ≡ Ok t → cond (nat_lt k larger) (Ok r) (Err B2) ≡ Ok t
 more_room k capacity larger r t h took =
     let g = guarded (nat_lt k capacity) (Ok r) B2 t took in
     rw (lt-ltb k larger (omega (arith, h, ltb-true k capacity g.0))) g.1
 
 -- what is executed in small buffers is executed in larger ones
-exec_more : (capacity larger : ℕ) (s t : State) (c e : ℕ) (op : Op) → capacity ≤ larger → exec capacity fault.None s c e op ≡ Ok t → exec larger fault.None s c e op ≡ Ok t
-exec_more capacity larger s t c e (St a v) h took = more_room (length (buffer_of s c)) capacity larger _ t h took
+exec_more : (capacity larger : ℕ) (s t : State) (c e : ℕ) (op : Op) → capacity ≤ larger
+    → exec capacity fault.None s c e op ≡ Ok t → exec larger fault.None s c e op ≡ Ok t
+exec_more capacity larger s t c e (St a v) h took = more_room (length (buffer_of s c)) capacity larger _ t h
+    took
 exec_more capacity larger s t c e (Ld a) h took = took
 exec_more capacity larger s t c e Fence h took = took
 exec_more capacity larger s t c e (Swap a v) h took = took
 exec_more capacity larger s t c e (Add a v) h took = took
 
 -- so is what comes next
-next_more : (p : List (List Op)) (capacity larger : ℕ) (s t : State) (c : ℕ) (o : Option Op) → capacity ≤ larger → exec_next p capacity fault.None s c o ≡ Ok t → exec_next p larger fault.None s c o ≡ Ok t
+next_more : (p : List (List Op)) (capacity larger : ℕ) (s t : State) (c : ℕ) (o : Option Op)
+    → capacity ≤ larger → exec_next p capacity fault.None s c o ≡ Ok t → exec_next p larger fault.None s c o
+    ≡ Ok t
 next_more p capacity larger s t c None h took = took
-next_more p capacity larger s t c (Some op) h took = exec_more capacity larger s t c (first_event p c + place_of s c) op h took
+next_more p capacity larger s t c (Some op) h took = exec_more capacity larger s t c
+    (first_event p c + place_of s c) op h took
 
 -- so is what is guarded
-guard_more : (b : Bool) (r q : Result State Blocked) (t : State) → (r ≡ Ok t → q ≡ Ok t) → cond b r (Err B8) ≡ Ok t → cond b q (Err B8) ≡ Ok t
+guard_more : (b : Bool) (r q : Result State Blocked) (t : State) → (r ≡ Ok t → q ≡ Ok t)
+    → cond b r (Err B8) ≡ Ok t → cond b q (Err B8) ≡ Ok t
 guard_more true r q t h took = h took
 guard_more false r q t h took = took
 
 -- a step that is taken with small buffers is taken with larger ones
-step_more : (p : List (List Op)) (capacity larger : ℕ) (s t : State) (step : Step) → capacity ≤ larger → taken p capacity fault.None s step ≡ Ok t → taken p larger fault.None s step ≡ Ok t
+step_more : (p : List (List Op)) (capacity larger : ℕ) (s t : State) (step : Step) → capacity ≤ larger
+    → taken p capacity fault.None s step ≡ Ok t → taken p larger fault.None s step ≡ Ok t
 step_more p capacity larger s t (Exec c) h took =
-    guard_more (nat_lt c (length p)) _ _ t (next_more p capacity larger s t c (slice_get (slice_index_or p c []) (place_of s c)) h) took
+    guard_more (nat_lt c (length p)) _ _ t
+        (next_more p capacity larger s t c (slice_get (slice_index_or p c []) (place_of s c)) h) took
 step_more p capacity larger s t (Drain c) h took = took
 step_more p capacity larger s t (GetS c a) h took = took
 step_more p capacity larger s t (GetM c a) h took = took
 step_more p capacity larger s t (Put c a) h took = took
 
 -- steps that are taken with small buffers are taken with larger ones, and lead to the same state
-pub goes_more : (p : List (List Op)) (capacity larger : ℕ) → capacity ≤ larger → (steps : List Step) (s t : State) → Goes p capacity s steps t → Goes p larger s steps t
+pub goes_more : (p : List (List Op)) (capacity larger : ℕ) → capacity ≤ larger → (steps : List Step)
+    (s t : State) → Goes p capacity s steps t → Goes p larger s steps t
 goes_more p capacity larger h [] s t g = g
 goes_more p capacity larger h (step ∷ steps) s t g =
     let took : taken p capacity fault.None s step ≡ Ok g.0.0.0 = g.0.0.1 in
-    let rest : Goes p capacity g.0.0.0 steps t = subst (λ (r : Result State Blocked). Goes p capacity (after s r) steps t) took (g.0.1, g.1) in
-    goes_first p larger s g.0.0.0 t step steps (step_more p capacity larger s g.0.0.0 step h took) (goes_more p capacity larger h steps g.0.0.0 t rest)
+    let rest : Goes p capacity g.0.0.0 steps t =
+        subst (λ (r : Result State Blocked). Goes p capacity (after s r) steps t) took (g.0.1, g.1) in
+    goes_first p larger s g.0.0.0 t step steps (step_more p capacity larger s g.0.0.0 step h took)
+        (goes_more p capacity larger h steps g.0.0.0 t rest)
 
 -- a plain store has an address and a value
 store_is : (op : Op) → is_st op ≡ true → (a : ℕ) × (v : ℕ) × (op ≡ St a v)
@@ -126,7 +145,8 @@ store_is (Swap a v) h = absurd cc
 store_is (Add a v) h = absurd cc
 
 -- where core c is, if it has not come to its end
-pub is_at : (p : List (List Op)) (s : State) (c : ℕ) → c < length p → place_of s c < length (get_or p c []) → IsAt p s c (get_or (get_or p c []) (place_of s c) Fence) (first_event p c + place_of s c)
+pub is_at : (p : List (List Op)) (s : State) (c : ℕ) → c < length p → place_of s c < length (get_or p c [])
+    → IsAt p s c (get_or (get_or p c []) (place_of s c) Fence) (first_event p c + place_of s c)
 is_at p s c core there = record {
   core = core;
   operation = slice_get-get_or (get_or p c []) (place_of s c) Fence there;
@@ -134,7 +154,8 @@ is_at p s c core there = record {
 }
 
 -- the execution of a core's operation is a step
-pub at_taken : (p : List (List Op)) (capacity : ℕ) (s : State) (c : ℕ) (op : Op) (e : ℕ) → IsAt p s c op e → taken p capacity fault.None s (Exec c) ≡ exec capacity fault.None s c e op
+pub at_taken : (p : List (List Op)) (capacity : ℕ) (s : State) (c : ℕ) (op : Op) (e : ℕ) → IsAt p s c op e
+    → taken p capacity fault.None s (Exec c) ≡ exec capacity fault.None s c e op
 at_taken p capacity s c op e at = rw (lt-ltb c (length p) at.core, at.operation, at.number) refl
 
 -- core c has executed j stores more
@@ -146,9 +167,12 @@ pub record HasStored (p : List (List Op)) (n capacity : ℕ) (s t : State) (c j 
   pub sum : sum t.places ≡ sum s.places + j
 
 -- a core with room for all its stores executes one
-store_one : (p : List (List Op)) (n capacity : ℕ) (s : State) (c : ℕ) → IsGoing p n capacity s → c < length p → place_of s c < length (get_or p c []) → count_by is_st (get_or p c []) ≤ capacity
-    → is_st (get_or (get_or p c []) (place_of s c) Fence) ≡ true → (t : State) × (taken p capacity fault.None s (Exec c) ≡ Ok t) × HasStored p n capacity s t c 1
-store_one p n capacity s c f core there room store = go (store_is (get_or (get_or p c []) (place_of s c) Fence) store)
+store_one : (p : List (List Op)) (n capacity : ℕ) (s : State) (c : ℕ) → IsGoing p n capacity s → c < length p
+    → place_of s c < length (get_or p c []) → count_by is_st (get_or p c []) ≤ capacity
+    → is_st (get_or (get_or p c []) (place_of s c) Fence) ≡ true → (t : State)
+      × (taken p capacity fault.None s (Exec c) ≡ Ok t) × HasStored p n capacity s t c 1
+store_one p n capacity s c f core there room store =
+    go (store_is (get_or (get_or p c []) (place_of s c) Fence) store)
   where
     fewer : length (buffer_of s c) < capacity
     fewer = omega (
@@ -163,12 +187,17 @@ store_one p n capacity s c f core there room store = go (store_is (get_or (get_o
     within : c < length s.places
     within = omega (arith, core, (f.on []).places)
 
-    go : (is : (a : ℕ) × (v : ℕ) × (get_or (get_or p c []) (place_of s c) Fence ≡ St a v)) → (t : State) × (taken p capacity fault.None s (Exec c) ≡ Ok t) × HasStored p n capacity s t c 1
+    go : (is : (a : ℕ) × (v : ℕ) × (get_or (get_or p c []) (place_of s c) Fence ≡ St a v)) → (t : State)
+        × (taken p capacity fault.None s (Exec c) ≡ Ok t) × HasStored p n capacity s t c 1
     go (a, v, is) =
         let b : ℕ = first_event p c + place_of s c in
-        let t : State = advanced (with_buffer s c (buffer_of s c ++ record { addr = a; value = v; event = b } ∷ [])) c in
-        let did : exec capacity fault.None s c b (St a v) ≡ Ok t = rw (lt-ltb (length (buffer_of s c)) capacity fewer) refl in
-        let took : taken p capacity fault.None s (Exec c) ≡ Ok t = at_taken p capacity s c (get_or (get_or p c []) (place_of s c) Fence) b (is_at p s c core there) ∙ (ap (exec capacity fault.None s c b) is ∙ did) in (
+        let t : State = advanced (with_buffer s c
+            (buffer_of s c ++ record { addr = a; value = v; event = b } ∷ [])) c in
+        let did : exec capacity fault.None s c b (St a v) ≡ Ok t =
+            rw (lt-ltb (length (buffer_of s c)) capacity fewer) refl in
+        let took : taken p capacity fault.None s (Exec c) ≡ Ok t = at_taken p capacity s c
+            (get_or (get_or p c []) (place_of s c) Fence) b (is_at p s c core there)
+            ∙ (ap (exec capacity fault.None s c b) is ∙ did) in (
           t,
           took,
           record {
@@ -181,7 +210,8 @@ store_one p n capacity s c f core there room store = go (store_is (get_or (get_o
         )
 
 -- one store, and then more
-stored_more : (p : List (List Op)) (n capacity : ℕ) (s u t : State) (c j : ℕ) → HasStored p n capacity s u c 1 → HasStored p n capacity u t c j → HasStored p n capacity s t c (suc j)
+stored_more : (p : List (List Op)) (n capacity : ℕ) (s u t : State) (c j : ℕ) → HasStored p n capacity s u c 1
+    → HasStored p n capacity u t c j → HasStored p n capacity s t c (suc j)
 stored_more p n capacity s u t c j one rest = record {
   fits = rest.fits;
   performed = rest.performed ∙ one.performed;
@@ -191,85 +221,113 @@ stored_more p n capacity s u t c j one rest = record {
 }
 
 -- and any number of them
-pub store_all : (p : List (List Op)) (n capacity c j : ℕ) (s : State) → IsGoing p n capacity s → c < length p → place_of s c + j ≤ length (get_or p c []) → count_by is_st (get_or p c []) ≤ capacity
+pub store_all : (p : List (List Op)) (n capacity c j : ℕ) (s : State) → IsGoing p n capacity s → c < length p
+    → place_of s c + j ≤ length (get_or p c []) → count_by is_st (get_or p c []) ≤ capacity
     → ((i : ℕ) → place_of s c ≤ i → i < place_of s c + j → is_st (get_or (get_or p c []) i Fence) ≡ true)
     → (t : State) × Goes p capacity s (replicate j (Exec c)) t × HasStored p n capacity s t c j
-store_all p n capacity c zero s f core there room stores = (s, (tt, refl), record { fits = f; performed = refl; place = omega arith; caches = refl; sum = omega arith })
+store_all p n capacity c zero s f core there room stores =
+    (s, (tt, refl), record { fits = f; performed = refl; place = omega arith; caches = refl; sum =
+    omega arith })
 store_all p n capacity c (suc j) s f core there room stores =
-    let one = store_one p n capacity s c f core (omega (arith, there)) room (stores (place_of s c) (omega arith) (omega arith)) in
-    let rest = store_all p n capacity c j one.0 one.2.fits core (omega (arith, one.2.place, there)) room (λ i from to. stores i (omega (arith, one.2.place, from)) (omega (arith, one.2.place, to))) in
-    (rest.0, goes_first p capacity s one.0 rest.0 (Exec c) (replicate j (Exec c)) one.1 rest.1, stored_more p n capacity s one.0 rest.0 c j one.2 rest.2)
+    let one = store_one p n capacity s c f core (omega (arith, there)) room
+        (stores (place_of s c) (omega arith) (omega arith)) in
+    let rest = store_all p n capacity c j one.0 one.2.fits core (omega (arith, one.2.place, there)) room
+        (λ i from to. stores i (omega (arith, one.2.place, from)) (omega (arith, one.2.place, to))) in
+    (rest.0, goes_first p capacity s one.0 rest.0 (Exec c) (replicate j (Exec c)) one.1 rest.1,
+      stored_more p n capacity s one.0 rest.0 c j one.2 rest.2)
 
 -- Lines
 
 -- a core and an address that are there
-has_line : (p : List (List Op)) (s : State) (c a : ℕ) → c < length p → a < length s.caches.blocks → has p s c a ≡ true
+has_line : (p : List (List Op)) (s : State) (c a : ℕ) → c < length p → a < length s.caches.blocks
+    → has p s c a ≡ true
 has_line p s c a core within = rw (lt-ltb c (length p) core, lt-ltb a (length s.caches.blocks) within) refl
 
 -- a core's new line is that line
-line_new : (s : moesi.CacheState) (c a : ℕ) (u : Block) → a < length s.blocks → moesi.line_of (record { cores = s.cores; blocks = slice_set s.blocks a u }) c a ≡ (cell_of u c).line
-line_new s c a u within = ap (λ (b : Block). (cell_of b c).line) (get_or-set_same s.blocks a u (record { lines = []; memory = (0, None) }) within)
+line_new : (s : moesi.CacheState) (c a : ℕ) (u : Block) → a < length s.blocks
+    → moesi.line_of (record { cores = s.cores; blocks = slice_set s.blocks a u }) c a ≡ (cell_of u c).line
+line_new s c a u within = ap (λ (b : Block). (cell_of b c).line)
+    (get_or-set_same s.blocks a u (record { lines = []; memory = (0, None) }) within)
 
 -- the steps lead from s to a state with these caches, and nothing else is changed
 abbrev pub Fetches : List (List Op) → ℕ → ℕ → State → List Step → moesi.CacheState → Type 0
-Fetches p n capacity s steps caches = Goes p capacity s steps (with_caches s caches) × IsGoing p n capacity (with_caches s caches) × (length caches.blocks ≡ length s.caches.blocks)
+Fetches p n capacity s steps caches = Goes p capacity s steps (with_caches s caches) × IsGoing p n capacity
+    (with_caches s caches) × (length caches.blocks ≡ length s.caches.blocks)
 
 -- a line of either kind is valid
 shared_valid : (q : Bool) → is_valid (cond q line.S line.E) ≡ true
 shared_valid true = refl
 shared_valid false = refl
 
-module _ (p : List (List Op)) (n capacity : ℕ) (s : State) (f : IsGoing p n capacity s) (c a : ℕ) (core : c < length p) (within : a < length s.caches.blocks) where
+module _ (p : List (List Op)) (n capacity : ℕ) (s : State) (f : IsGoing p n capacity s) (c a : ℕ)
+    (core : c < length p) (within : a < length s.caches.blocks) where
   -- the address has a line for the core
   line_within : c < length (moesi.block_of s.caches a).lines
   line_within = omega (arith, core, (f.on []).lines a (omega (arith, within, (f.on []).blocks)))
 
   -- a core that wants to write a line gets it
-  pub fetch_write : (caches : moesi.CacheState) × Fetches p n capacity s (get_to_write s c a) caches × (is_exclusive (moesi.line_of caches c a) ≡ true)
+  pub fetch_write : (caches : moesi.CacheState) × Fetches p n capacity s (get_to_write s c a) caches
+      × (is_exclusive (moesi.line_of caches c a) ≡ true)
   fetch_write = go (is_exclusive (moesi.line_of s.caches c a)) refl
     where
       go : (b : Bool) → is_exclusive (moesi.line_of s.caches c a) ≡ b
-          → (caches : moesi.CacheState) × Fetches p n capacity s (cond b [] (GetM c a ∷ [])) caches × (is_exclusive (moesi.line_of caches c a) ≡ true)
+          → (caches : moesi.CacheState) × Fetches p n capacity s (cond b [] (GetM c a ∷ [])) caches
+            × (is_exclusive (moesi.line_of caches c a) ≡ true)
       go true is = (s.caches, ((tt, refl), f, refl), is)
       go false is =
           let b : Block = moesi.block_of s.caches a in
-          let u : Block = record { lines = slice_set (map row.invalidated b.lines) c (record { line = line.M; copy = supplied b }); memory = b.memory } in
-          let caches : moesi.CacheState = record { cores = s.caches.cores; blocks = slice_set s.caches.blocks a u } in
+          let u : Block = record { lines = slice_set (map row.invalidated b.lines) c
+              (record { line = line.M; copy = supplied b }); memory = b.memory } in
+          let caches : moesi.CacheState = record { cores = s.caches.cores; blocks =
+              slice_set s.caches.blocks a u } in
           let made : moesi.get_m s.caches c a ≡ Ok caches = rw is refl in
-          let took : taken p capacity fault.None s (GetM c a) ≡ Ok (with_caches s caches) = rw (has_line p s c a core within, made) refl in (
+          let took : taken p capacity fault.None s (GetM c a) ≡ Ok (with_caches s caches) =
+              rw (has_line p s c a core within, made) refl in (
             caches,
-            (goes_one p capacity s (with_caches s caches) (GetM c a) took, goes_further p n capacity s (with_caches s caches) (GetM c a) f took, length-set s.caches.blocks a u),
+            (goes_one p capacity s (with_caches s caches) (GetM c a) took, goes_further p n capacity s
+              (with_caches s caches) (GetM c a) f took, length-set s.caches.blocks a u),
             ap is_exclusive (line_new s.caches c a u within
-                ∙ ap (λ (y : Cell). y.line) (get_or-set_same (map row.invalidated b.lines) c (record { line = line.M; copy = supplied b }) invalid (omega (arith, line_within, length-map b.lines row.invalidated)))),
+                ∙ ap (λ (y : Cell). y.line) (get_or-set_same (map row.invalidated b.lines) c
+                  (record { line = line.M; copy = supplied b }) invalid
+                  (omega (arith, line_within, length-map b.lines row.invalidated)))),
           )
 
   -- a core that wants to read a line gets it, unless a store of its own waits
-  pub fetch_read : (o : Option Entry) → (caches : moesi.CacheState) × Fetches p n capacity s (get_to_read s c a o) caches × ((what : ℕ × Option ℕ) × (forwarded_or_read o (moesi.read caches c a) ≡ Ok what))
+  pub fetch_read : (o : Option Entry) → (caches : moesi.CacheState) × Fetches p n capacity s
+      (get_to_read s c a o) caches × ((what : ℕ × Option ℕ)
+      × (forwarded_or_read o (moesi.read caches c a) ≡ Ok what))
   fetch_read (Some entry) = (s.caches, ((tt, refl), f, refl), ((entry.value, Some entry.event), refl))
   fetch_read None = go (is_valid (moesi.line_of s.caches c a)) refl
     where
       go : (b : Bool) → is_valid (moesi.line_of s.caches c a) ≡ b
-          → (caches : moesi.CacheState) × Fetches p n capacity s (cond b [] (GetS c a ∷ [])) caches × ((what : ℕ × Option ℕ) × (moesi.read caches c a ≡ Ok what))
+          → (caches : moesi.CacheState) × Fetches p n capacity s (cond b [] (GetS c a ∷ [])) caches
+            × ((what : ℕ × Option ℕ) × (moesi.read caches c a ≡ Ok what))
       go true is = (s.caches, ((tt, refl), f, refl), (moesi.copy_of s.caches c a, rw is refl))
       go false is =
           let b : Block = moesi.block_of s.caches a in
           let y : Cell = record { line = cond (has_copy b) line.S line.E; copy = supplied b } in
           let u : Block = record { lines = slice_set (map row.shared b.lines) c y; memory = b.memory } in
-          let caches : moesi.CacheState = record { cores = s.caches.cores; blocks = slice_set s.caches.blocks a u } in
+          let caches : moesi.CacheState = record { cores = s.caches.cores; blocks =
+              slice_set s.caches.blocks a u } in
           let made : moesi.get_s s.caches c a ≡ Ok caches = rw is refl in
-          let took : taken p capacity fault.None s (GetS c a) ≡ Ok (with_caches s caches) = rw (has_line p s c a core within, made) refl in
+          let took : taken p capacity fault.None s (GetS c a) ≡ Ok (with_caches s caches) =
+              rw (has_line p s c a core within, made) refl in
           let valid : is_valid (moesi.line_of caches c a) ≡ true = ap is_valid (line_new s.caches c a u within
-          ∙ ap (λ (z : Cell). z.line) (get_or-set_same (map row.shared b.lines) c y invalid (omega (arith, line_within, length-map b.lines row.shared)))) ∙ shared_valid (has_copy b) in (
+          ∙ ap (λ (z : Cell). z.line) (get_or-set_same (map row.shared b.lines) c y invalid
+            (omega (arith, line_within, length-map b.lines row.shared)))) ∙ shared_valid (has_copy b) in (
             caches,
-            (goes_one p capacity s (with_caches s caches) (GetS c a) took, goes_further p n capacity s (with_caches s caches) (GetS c a) f took, length-set s.caches.blocks a u),
+            (goes_one p capacity s (with_caches s caches) (GetS c a) took, goes_further p n capacity s
+              (with_caches s caches) (GetS c a) f took, length-set s.caches.blocks a u),
             (moesi.copy_of caches c a, rw valid refl),
           )
 
 -- a line that may be written takes what is written
-pub write_made : (s : moesi.CacheState) (c a value event : ℕ) → is_exclusive (moesi.line_of s c a) ≡ true → (caches : moesi.CacheState) × (moesi.write s c a value event ≡ Ok caches)
+pub write_made : (s : moesi.CacheState) (c a value event : ℕ) → is_exclusive (moesi.line_of s c a) ≡ true
+    → (caches : moesi.CacheState) × (moesi.write s c a value event ≡ Ok caches)
 write_made s c a value event is =
     let b : Block = moesi.block_of s a in
-    let u : Block = record { lines = slice_set b.lines c (record { line = line.M; copy = (value, Some event) }); memory = b.memory } in
+    let u : Block = record { lines = slice_set b.lines c
+        (record { line = line.M; copy = (value, Some event) }); memory = b.memory } in
     (record { cores = s.cores; blocks = slice_set s.blocks a u }, rw is refl)
 
 -- at most one step gets a line

@@ -36,7 +36,8 @@ pub Consumes-then : (u v w : Option (List ℕ)) (a b : List ℕ) → Consumes u 
 Consumes-then None v w a b x y = tt
 Consumes-then (Some xs) None w a b x y = absurd x
 Consumes-then (Some xs) (Some ys) None a b x y = y
-Consumes-then (Some xs) (Some ys) (Some zs) a b x y = x ∙ ap (λ (t : List ℕ). a ++ t) y ∙ sym (append_assoc a b zs)
+Consumes-then (Some xs) (Some ys) (Some zs) a b x y = x ∙ ap (λ (t : List ℕ). a ++ t) y
+    ∙ sym (append_assoc a b zs)
 
 -- the first bytes, and then the first of the rest
 pub take_rest-more : (text : List ℕ) (at n : ℕ)

@@ -19,7 +19,8 @@ use Rattle.search.proofs.Hauls.{covers_kept, rows_kept}
 use Rattle.search.proofs.Known.{read_within, knows_it}
 
 -- what stands behind the first i
-pub drop_head : {X : Type 0} (i : ℕ) (xs : List X) (x : X) (ys : List X) → drop i xs ≡ x ∷ ys → (i < length xs) × ((d : X) → get_or xs i d ≡ x) × (ys ≡ drop (suc i) xs)
+pub drop_head : {X : Type 0} (i : ℕ) (xs : List X) (x : X) (ys : List X) → drop i xs ≡ x ∷ ys
+    → (i < length xs) × ((d : X) → get_or xs i d ≡ x) × (ys ≡ drop (suc i) xs)
 drop_head zero [] x ys h = absurd (omega (arith, ap (λ l. length l) h))
 drop_head zero (a ∷ as_) x ys h = (omega arith, (λ d. ap (λ l. get_or l 0 d) h), ap (λ l. drop 1 l) (sym h))
 drop_head (suc i) [] x ys h = absurd (omega (arith, ap (λ l. length l) h))
@@ -27,48 +28,72 @@ drop_head (suc i) (a ∷ as_) x ys h = let r = drop_head i as_ x ys h in (omega 
 
 -- two seats in one know what the first knew
 pub unites_left : (v w u : Known) → Unites v w u → Keeps v.lengths u.lengths
-unites_left v w u is k h = subst (λ (x : Known). Contains x.lengths k) (sym is) (Contains-append_left v.lengths w.lengths k h)
+unites_left v w u is k h = subst (λ (x : Known). Contains x.lengths k) (sym is)
+    (Contains-append_left v.lengths w.lengths k h)
 
 -- and what the second knew
 pub unites_right : (v w u : Known) → Unites v w u → Keeps w.lengths u.lengths
-unites_right v w u is k h = subst (λ (x : Known). Contains x.lengths k) (sym is) (Contains-append_right v.lengths w.lengths k h)
+unites_right v w u is k h = subst (λ (x : Known). Contains x.lengths k) (sym is)
+    (Contains-append_right v.lengths w.lengths k h)
 
 -- the row of a source stays one
-pub row_kept : (t : Table) (before after : List ℕ) (v : ℕ) (row : SourceRow) → Keeps before after → IsRowFrom t before v row → IsRowFrom t after v row
-row_kept t before after v row keeps h = record { shares = h.shares; from = h.from; covers = covers_kept (Related t) before after v keeps h.covers }
+pub row_kept : (t : Table) (before after : List ℕ) (v : ℕ) (row : SourceRow) → Keeps before after
+    → IsRowFrom t before v row → IsRowFrom t after v row
+row_kept t before after v row keeps h =
+    record { shares = h.shares; from = h.from; covers = covers_kept (Related t) before after v keeps h.covers
+    }
 
 -- and so in its place
-pub slot_kept : (t : Table) (before after : List ℕ) (v : ℕ) (slot : Option SourceRow) → Keeps before after → IfSome slot (IsRowFrom t before v) → IfSome slot (IsRowFrom t after v)
+pub slot_kept : (t : Table) (before after : List ℕ) (v : ℕ) (slot : Option SourceRow) → Keeps before after
+    → IfSome slot (IsRowFrom t before v) → IfSome slot (IsRowFrom t after v)
 slot_kept t before after v None keeps h = tt
 slot_kept t before after v (Some row) keeps h = row_kept t before after v row keeps h
 
 -- and in all places
-pub slots_kept : (t : Table) (before after : List ℕ) (slots : List (Option SourceRow)) → Keeps before after → AreSlots t before slots → AreSlots t after slots
-slots_kept t before after slots keeps h = record { size = h.size; each = λ v d at. slot_kept t before after v (get_or slots v d) keeps (h.each v d at) }
+pub slots_kept : (t : Table) (before after : List ℕ) (slots : List (Option SourceRow)) → Keeps before after
+    → AreSlots t before slots → AreSlots t after slots
+slots_kept t before after slots keeps h =
+    record { size = h.size; each = λ v d at. slot_kept t before after v (get_or slots v d) keeps
+    (h.each v d at) }
 
 -- one empty place more
-pub none_more : (t : Table) (lengths : List ℕ) (i : ℕ) (slots : List (Option SourceRow)) → length slots ≡ i → ((v : ℕ) (d : Option SourceRow) → v < i → IfSome (get_or slots v d) (IsRowFrom t lengths v))
-    → (v : ℕ) (d : Option SourceRow) → v < i + 1 → IfSome (get_or (slots ++ None ∷ []) v d) (IsRowFrom t lengths v)
+pub none_more : (t : Table) (lengths : List ℕ) (i : ℕ) (slots : List (Option SourceRow)) → length slots ≡ i
+    → ((v : ℕ) (d : Option SourceRow) → v < i → IfSome (get_or slots v d) (IsRowFrom t lengths v))
+    → (v : ℕ) (d : Option SourceRow) → v < i + 1 → IfSome (get_or (slots ++ None ∷ []) v d)
+      (IsRowFrom t lengths v)
 none_more t lengths i slots long before v d below = elim (cases_eq v i) [
-  | inl is ↦ subst (λ (o : Option SourceRow). IfSome o (IsRowFrom t lengths v)) (sym (get_or_push slots None d v (long ∙ sym is))) tt
-  | inr other ↦ subst (λ (o : Option SourceRow). IfSome o (IsRowFrom t lengths v)) (sym (get_or_append_left slots (None ∷ []) d v (omega (arith, long, below, other)))) (before v d (omega (arith, below, other)))
+  | inl is ↦ subst (λ (o : Option SourceRow). IfSome o (IsRowFrom t lengths v))
+    (sym (get_or_push slots None d v (long ∙ sym is))) tt
+  | inr other ↦ subst (λ (o : Option SourceRow). IfSome o (IsRowFrom t lengths v))
+    (sym (get_or_append_left slots (None ∷ []) d v (omega (arith, long, below, other))))
+    (before v d (omega (arith, below, other)))
 ]
 
 -- one row more
-pub filled_more : (t : Table) (before after : List ℕ) (i : ℕ) (rows more : List SourceRow) (row : SourceRow) → Keeps before after → AreSlotsFilled t before i rows → IsRowFrom t after i row → more ≡ rows ++ row ∷ [] → AreSlotsFilled t after (i + 1) more
+pub filled_more : (t : Table) (before after : List ℕ) (i : ℕ) (rows more : List SourceRow) (row : SourceRow)
+    → Keeps before after → AreSlotsFilled t before i rows → IsRowFrom t after i row → more ≡ rows ++ row ∷ []
+    → AreSlotsFilled t after (i + 1) more
 filled_more t before after i rows more row keeps h new is = record {
   size = omega (arith, ap (λ (rs : List SourceRow). length rs) is, length-append rows (row ∷ []), h.size);
-  each = λ v d below. subst (λ (rs : List SourceRow). IsRowFrom t after v (get_or rs v d)) (sym is) (elim (cases_eq v i) [
-    | inl same ↦ subst (λ (r : SourceRow). IsRowFrom t after v r) (sym (get_or_push rows row d v (h.size ∙ sym same))) (subst (λ (x : ℕ). IsRowFrom t after x row) (sym same) new)
-    | inr other ↦ subst (λ (r : SourceRow). IsRowFrom t after v r) (sym (get_or_append_left rows (row ∷ []) d v (omega (arith, h.size, below, other)))) (row_kept t before after v (get_or rows v d) keeps (h.each v d (omega (arith, below, other))))
+  each = λ v d below. subst (λ (rs : List SourceRow). IsRowFrom t after v (get_or rs v d)) (sym is)
+      (elim (cases_eq v i) [
+    | inl same ↦ subst (λ (r : SourceRow). IsRowFrom t after v r)
+      (sym (get_or_push rows row d v (h.size ∙ sym same)))
+      (subst (λ (x : ℕ). IsRowFrom t after x row) (sym same) new)
+    | inr other ↦ subst (λ (r : SourceRow). IsRowFrom t after v r)
+      (sym (get_or_append_left rows (row ∷ []) d v (omega (arith, h.size, below, other))))
+      (row_kept t before after v (get_or rows v d) keeps (h.each v d (omega (arith, below, other))))
   ]);
 }
 
-module _ (t : Table) (v w : Known) (rows : List SourceRow) (of : v.relation ≡ t) (within : (e f : ℕ) → Related t e f → (e < length t) × (f < length t)) (h : AreSlotsFilled t v.lengths (length t) rows) where
+module _ (t : Table) (v w : Known) (rows : List SourceRow) (of : v.relation ≡ t)
+    (within : (e f : ℕ) → Related t e f → (e < length t) × (f < length t))
+    (h : AreSlotsFilled t v.lengths (length t) rows) where
   -- each cycle has a known length at most its own
   cycle_covered : (c : List ℕ) → IsCycle (Related t) c → (k : ℕ) × Contains v.lengths k × (k ≤ length c)
   cycle_covered [] cycle = elim cycle [ ]
-  cycle_covered (e ∷ es) cycle = (h.each e nobody (first_within e es cycle)).covers (e ∷ es) cycle (0, omega arith, refl)
+  cycle_covered (e ∷ es) cycle = (h.each e nobody (first_within e es cycle)).covers (e ∷ es) cycle
+      (0, omega arith, refl)
     where
       nobody : SourceRow
       nobody = record { relation = t; source = 0; cap = None; numbers = [] }
@@ -79,21 +104,26 @@ module _ (t : Table) (v w : Known) (rows : List SourceRow) (of : v.relation ≡ 
 
   -- so what is read then is the length of the shortest cycles, or there is none
   pub read_least : (o : Option ℕ) → IsBoundRead v o w → IsLeastLength (Related t) o
-  read_least None says = λ c cycle. let k : (k : ℕ) × Contains v.lengths k × (k ≤ length c) = cycle_covered c cycle in says.1 k.0 k.1
+  read_least None says = λ c cycle. let k : (k : ℕ) × Contains v.lengths k × (k ≤ length c) =
+      cycle_covered c cycle in says.1 k.0 k.1
   read_least (Some n) says =
       let is : IsLength t n = subst (λ (x : Table). IsLength x n) of says.1 in (
         is.0,
         record {
           cycle = is.1;
-          shortest = λ c cycle. let k : (k : ℕ) × Contains v.lengths k × (k ≤ length c) = cycle_covered c cycle in omega (arith, is.2, says.2 k.0 k.1, k.2);
+          shortest = λ c cycle. let k : (k : ℕ) × Contains v.lengths k × (k ≤ length c) =
+              cycle_covered c cycle in omega (arith, is.2, says.2 k.0 k.1, k.2);
         },
         is.2,
       )
 
 -- and it is known
-pub least_known : (t : Table) (v w : Known) (o : Option ℕ) → IsBoundRead v o w → IsLeastLength (Related t) o → KnowsShortest (Related t) w.lengths
+pub least_known : (t : Table) (v w : Known) (o : Option ℕ) → IsBoundRead v o w → IsLeastLength (Related t) o
+    → KnowsShortest (Related t) w.lengths
 least_known t v w None says least k short = absurd (least short.0 short.1.cycle)
 least_known t v w (Some n) says least k short =
     let a : (c : List ℕ) × IsShortest (Related t) c × (length c ≡ n) = least in
     let b : (c : List ℕ) × IsShortest (Related t) c × (length c ≡ k) = short in
-    subst (λ (x : ℕ). Contains w.lengths x) (omega (arith, a.2, b.2, a.1.shortest b.0 b.1.cycle, b.1.shortest a.0 a.1.cycle)) (knows_it v w n says.0)
+    subst (λ (x : ℕ). Contains w.lengths x)
+        (omega (arith, a.2, b.2, a.1.shortest b.0 b.1.cycle, b.1.shortest a.0 a.1.cycle))
+        (knows_it v w n says.0)

@@ -16,22 +16,30 @@ use Rattle.search.specs.declared.crew.HaulOf.{HaulOf}
 use Rattle.search.specs.Crews.{IsRowFor, IsCrew, IsCrewFor, IsHaulOf, IsHaulFor}
 
 -- what is covered stays so
-pub covers_kept : (R : ℕ → ℕ → Type 0) (before after : List ℕ) (v : ℕ) → Keeps before after → Covers R before v → Covers R after v
-covers_kept R before after v keeps h c cycle on = let k : (k : ℕ) × Contains before k × (k ≤ length c) = h c cycle on in (k.0, keeps k.0 k.1, k.2)
+pub covers_kept : (R : ℕ → ℕ → Type 0) (before after : List ℕ) (v : ℕ) → Keeps before after
+    → Covers R before v → Covers R after v
+covers_kept R before after v keeps h c cycle on = let k : (k : ℕ) × Contains before k × (k ≤ length c) =
+    h c cycle on in (k.0, keeps k.0 k.1, k.2)
 
 -- and so for rows
-pub rows_kept : (t : Table) (before after : List ℕ) (rows : List SourceRow) → Keeps before after → All (IsRowFor t before) rows → All (IsRowFor t after) rows
-rows_kept t before after rows keeps h = λ k d at. let r : IsRowFor t before (get_or rows k d) = h k d at in record { shares = r.shares; covers = covers_kept (Related t) before after (get_or rows k d).source keeps r.covers }
+pub rows_kept : (t : Table) (before after : List ℕ) (rows : List SourceRow) → Keeps before after
+    → All (IsRowFor t before) rows → All (IsRowFor t after) rows
+rows_kept t before after rows keeps h = λ k d at. let r : IsRowFor t before (get_or rows k d) = h k d at in
+    record { shares = r.shares; covers = covers_kept (Related t) before after (get_or rows k d).source keeps
+    r.covers }
 
 -- an item that may have been pushed
-pub perhaps_pushed : {X : Type 0} (P : X → Type 0) (b : Bool) (xs ys : List X) (x : X) → ys ≡ (if b then xs ++ x ∷ [] else xs) → All P xs → P x → All P ys
+pub perhaps_pushed : {X : Type 0} (P : X → Type 0) (b : Bool) (xs ys : List X) (x : X)
+    → ys ≡ (if b then xs ++ x ∷ [] else xs) → All P xs → P x → All P ys
 perhaps_pushed P true xs ys x is all one = subst (All P) (sym is) (All-push P xs x all one)
 perhaps_pushed P false xs ys x is all one = subst (All P) (sym is) all
 
 -- a crew for a relation is one for what its seat carries
 pub crew_of : (b : Best) (t : Table) (c : Crew) → IsCrewFor b t c → IsCrew b c
-crew_of b t c h = (h.0.0, subst (λ (r : Table). All (λ (job : Job). job.relation ≡ r) c.jobs.items) (sym h.0.1) h.1)
+crew_of b t c h = (h.0.0, subst (λ (r : Table). All (λ (job : Job). job.relation ≡ r) c.jobs.items)
+    (sym h.0.1) h.1)
 
 -- and its haul is one for the relation
 pub haul_for : (b : Best) (t : Table) (c : Crew) (h : Haul) → IsCrewFor b t c → IsHaulOf c h → IsHaulFor b t h
-haul_for b t c h crew haul = ((haul.0 ∙ crew.0.0, haul.1 ∙ crew.0.1), subst (λ (r : Table). All (IsRowFor r (lengths_of h.seat)) h.rows.items) crew.0.1 haul.2)
+haul_for b t c h crew haul = ((haul.0 ∙ crew.0.0, haul.1 ∙ crew.0.1),
+    subst (λ (r : Table). All (IsRowFor r (lengths_of h.seat)) h.rows.items) crew.0.1 haul.2)

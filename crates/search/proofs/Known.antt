@@ -16,7 +16,8 @@ in_snoc lengths k = Contains-append_right lengths (k ∷ []) k (0, omega arith, 
 
 -- one length more
 pub knows_keeps : (v w : Known) (k : ℕ) → w ≡ knows v k → Keeps v.lengths w.lengths
-knows_keeps v w k is q h = subst (λ (x : Known). Contains x.lengths q) (sym is) (Contains-append_left v.lengths (k ∷ []) q h)
+knows_keeps v w k is q h = subst (λ (x : Known). Contains x.lengths q) (sym is)
+    (Contains-append_left v.lengths (k ∷ []) q h)
 
 -- and it is known
 pub knows_it : (v w : Known) (k : ℕ) → w ≡ knows v k → Contains w.lengths k
@@ -43,11 +44,14 @@ read_within v w None h = h.1
 read_within v w (Some n) h = h.2
 
 -- it is the length of a cycle
-pub read_cycle : (t : Table) (v w : Known) (o : Option ℕ) → v.relation ≡ t → IsBoundRead v o w → IsCycleLength (Related t) o
+pub read_cycle : (t : Table) (v w : Known) (o : Option ℕ) → v.relation ≡ t → IsBoundRead v o w
+    → IsCycleLength (Related t) o
 read_cycle t v w None of h = tt
-read_cycle t v w (Some n) of h = let is : IsLength t n = subst (λ (x : Table). IsLength x n) of h.1 in (is.0, is.1, is.2)
+read_cycle t v w (Some n) of h = let is : IsLength t n = subst (λ (x : Table). IsLength x n) of h.1 in
+    (is.0, is.1, is.2)
 
 -- of no more than all events
-pub read_few : (t : Table) (v w : Known) (o : Option ℕ) → v.relation ≡ t → IsBoundRead v o w → unwrap_or o (length t) ≤ length t
+pub read_few : (t : Table) (v w : Known) (o : Option ℕ) → v.relation ≡ t → IsBoundRead v o w
+    → unwrap_or o (length t) ≤ length t
 read_few t v w None of h = omega arith
 read_few t v w (Some n) of h = let is : IsLength t n = subst (λ (x : Table). IsLength x n) of h.1 in is.3

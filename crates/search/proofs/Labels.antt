@@ -20,34 +20,48 @@ least_is_cycle R None least = tt
 least_is_cycle R (Some k) least = (least.0, least.1.cycle, least.2)
 
 -- what stands behind the front
-behind_front : (front : List (List ℕ)) (one : List ℕ) (rest : List (List ℕ)) → get_or (front ++ one ∷ rest) (length front) [] ≡ one
+behind_front : (front : List (List ℕ)) (one : List ℕ) (rest : List (List ℕ)) → get_or (front ++ one ∷ rest)
+    (length front) [] ≡ one
 behind_front [] one rest = refl
 behind_front (x ∷ front) one rest = behind_front front one rest
 
 -- the next row is one of labels
-pub labelled_next : (t : Table) (cap : Option ℕ) (i : ℕ) (front : List (List ℕ)) (one : List ℕ) (rest rows : List (List ℕ)) → length front ≡ i → front ++ one ∷ rest ≡ rows → IsLeastLength (Related t) cap
-    → AreExactRows (Related t) (length t) (unwrap_or cap (length t)) rows → IsSourceRow (record { relation = t; source = i; cap = cap; numbers = one })
+pub labelled_next : (t : Table) (cap : Option ℕ) (i : ℕ) (front : List (List ℕ)) (one : List ℕ)
+    (rest rows : List (List ℕ)) → length front ≡ i → front ++ one ∷ rest ≡ rows
+    → IsLeastLength (Related t) cap
+    → AreExactRows (Related t) (length t) (unwrap_or cap (length t)) rows
+      → IsSourceRow (record { relation = t; source = i; cap = cap; numbers = one })
 labelled_next t cap i front one rest rows size split least exact =
-    let within : i < length t = omega (arith, size, exact.one_each, ap (λ (all : List (List ℕ)). length all) split, length-append front (one ∷ rest)) in
-    let read : get_or rows i [] ≡ one = ap (λ (all : List (List ℕ)). get_or all i []) (sym split) ∙ (ap (λ (k : ℕ). get_or (front ++ one ∷ rest) k []) (sym size) ∙ behind_front front one rest) in
+    let within : i < length t = omega (arith, size, exact.one_each,
+        ap (λ (all : List (List ℕ)). length all) split, length-append front (one ∷ rest)) in
+    let read : get_or rows i [] ≡ one = ap (λ (all : List (List ℕ)). get_or all i []) (sym split)
+        ∙ (ap (λ (k : ℕ). get_or (front ++ one ∷ rest) k []) (sym size) ∙ behind_front front one rest) in
     record {
       within = within;
       cycle = least_is_cycle (Related t) cap least;
-      exact = subst (λ (row : List ℕ). IsExactRow (Related t) (length t) (unwrap_or cap (length t)) i row) read (exact.exact i within);
+      exact = subst (λ (row : List ℕ). IsExactRow (Related t) (length t) (unwrap_or cap (length t)) i row)
+          read (exact.exact i within);
     }
 
 -- one row goes from the rest to the front
-pub split_more : (all : List SourceRow) (row : SourceRow) (one : List ℕ) (rest rows : List (List ℕ)) → row.numbers ≡ one → numbers_of all ++ one ∷ rest ≡ rows → numbers_of (all ++ row ∷ []) ++ rest ≡ rows
+pub split_more : (all : List SourceRow) (row : SourceRow) (one : List ℕ) (rest rows : List (List ℕ))
+    → row.numbers ≡ one → numbers_of all ++ one ∷ rest ≡ rows → numbers_of (all ++ row ∷ []) ++ rest ≡ rows
 split_more all row one rest rows is split =
     ap (λ (front : List (List ℕ)). front ++ rest) (map-append (λ (l : SourceRow). l.numbers) all (row ∷ []))
-    ∙ (append_assoc (numbers_of all) (row.numbers ∷ []) rest ∙ (ap (λ (x : List ℕ). numbers_of all ++ x ∷ rest) is ∙ split))
+    ∙ (append_assoc (numbers_of all) (row.numbers ∷ []) rest
+      ∙ (ap (λ (x : List ℕ). numbers_of all ++ x ∷ rest) is ∙ split))
 
 -- and has its name
-pub named_more : (t : Table) (cap : Option ℕ) (i : ℕ) (all : List SourceRow) (row : SourceRow) → length all ≡ i → IsNamed t cap i row → ((v : ℕ) (d : SourceRow) → v < i → IsNamed t cap v (get_or all v d))
+pub named_more : (t : Table) (cap : Option ℕ) (i : ℕ) (all : List SourceRow) (row : SourceRow)
+    → length all ≡ i → IsNamed t cap i row
+    → ((v : ℕ) (d : SourceRow) → v < i → IsNamed t cap v (get_or all v d))
     → (v : ℕ) (d : SourceRow) → v < i + 1 → IsNamed t cap v (get_or (all ++ row ∷ []) v d)
 named_more t cap i all row long new before v d below = elim (cases_eq v i) [
-  | inl is ↦ subst (λ (x : ℕ). IsNamed t cap x (get_or (all ++ row ∷ []) x d)) (sym is) (subst (λ (l : SourceRow). IsNamed t cap i l) (sym (get_or_push all row d i long)) new)
-  | inr other ↦ subst (λ (l : SourceRow). IsNamed t cap v l) (sym (get_or_append_left all (row ∷ []) d v (omega (arith, long, below, other)))) (before v d (omega (arith, below, other)))
+  | inl is ↦ subst (λ (x : ℕ). IsNamed t cap x (get_or (all ++ row ∷ []) x d)) (sym is)
+    (subst (λ (l : SourceRow). IsNamed t cap i l) (sym (get_or_push all row d i long)) new)
+  | inr other ↦ subst (λ (l : SourceRow). IsNamed t cap v l)
+    (sym (get_or_append_left all (row ∷ []) d v (omega (arith, long, below, other))))
+    (before v d (omega (arith, below, other)))
 ]
 
 -- a relation of no events has no cycle
@@ -56,10 +70,12 @@ empty_acyclic t none [] cycle = cycle
 empty_acyclic t none (e ∷ es) cycle = leads_none es cycle
   where
     reason_none : (f : ℕ) → get_or (get_or t e []) f None ≡ None
-    reason_none f = ap (λ (row : List (Option Reason)). get_or row f None) (get_or_past t e [] (omega (arith, none))) ∙ get_or_past {X = Option Reason} [] f None (omega arith)
+    reason_none f = ap (λ (row : List (Option Reason)). get_or row f None)
+        (get_or_past t e [] (omega (arith, none))) ∙ get_or_past {X = Option Reason} [] f None (omega arith)
 
     unrelated : (f : ℕ) → Related t e f → ⊥
-    unrelated f r = let wrong : false ≡ true = sym (ap (λ (o : Option Reason). is_some o) (reason_none f)) ∙ r in cc
+    unrelated f r = let wrong : false ≡ true = sym (ap (λ (o : Option Reason). is_some o) (reason_none f))
+        ∙ r in cc
 
     leads_none : (es : List ℕ) → Leads (Related t) e es e → ⊥
     leads_none [] h = unrelated e h
@@ -76,7 +92,8 @@ least_none t jobs none h = record {
     no_events : length t ≡ 0
     no_events = elim (cases_eq (length t) 0) [
       | inl is ↦ is
-      | inr more ↦ let some : (i : ℕ) × (i < length jobs) × ((d : Job) → (get_or jobs i d).source ≡ 0) = h.named 0 (omega (arith, more)) in absurd (omega (arith, some.1, none))
+      | inr more ↦ let some : (i : ℕ) × (i < length jobs) × ((d : Job) → (get_or jobs i d).source ≡ 0) =
+        h.named 0 (omega (arith, more)) in absurd (omega (arith, some.1, none))
     ]
 
 -- the jobs of a relation share it
@@ -87,29 +104,43 @@ jobs_share t jobs h = record {
 }
 
 -- one row gives its numbers
-pub lists_more : (lists : List (Vec ℕ Global)) (last : Vec ℕ Global) (one : List ℕ) (rest all : List (List ℕ)) → last.items ≡ one → lists_of lists ++ one ∷ rest ≡ all → lists_of (lists ++ last ∷ []) ++ rest ≡ all
+pub lists_more : (lists : List (Vec ℕ Global)) (last : Vec ℕ Global) (one : List ℕ) (rest all : List (List ℕ))
+    → last.items ≡ one → lists_of lists ++ one ∷ rest ≡ all → lists_of (lists ++ last ∷ []) ++ rest ≡ all
 lists_more lists last one rest all is split =
-    ap (λ (front : List (List ℕ)). front ++ rest) (map-append (λ (v : Vec ℕ Global). v.items) lists (last ∷ []))
-    ∙ (append_assoc (lists_of lists) (last.items ∷ []) rest ∙ (ap (λ (x : List ℕ). lists_of lists ++ x ∷ rest) is ∙ split))
+    ap (λ (front : List (List ℕ)). front ++ rest)
+        (map-append (λ (v : Vec ℕ Global). v.items) lists (last ∷ []))
+    ∙ (append_assoc (lists_of lists) (last.items ∷ []) rest
+      ∙ (ap (λ (x : List ℕ). lists_of lists ++ x ∷ rest) is ∙ split))
 
 -- without rows there is no length
-pub no_cap : (t : Table) (cap : Option ℕ) (rows : List SourceRow) → length rows ≡ 0 → AreLeastRows t cap rows → None ≡ cap
+pub no_cap : (t : Table) (cap : Option ℕ) (rows : List SourceRow) → length rows ≡ 0 → AreLeastRows t cap rows
+    → None ≡ cap
 no_cap t None rows none h = refl
-no_cap t (Some k) rows none h = absurd (empty_acyclic t (omega (arith, none, h.exact.one_each, length-map rows (λ (l : SourceRow). l.numbers))) h.least.0 h.least.1.cycle)
+no_cap t (Some k) rows none h = absurd
+    (empty_acyclic t (omega (arith, none, h.exact.one_each, length-map rows (λ (l : SourceRow). l.numbers)))
+    h.least.0 h.least.1.cycle)
 
 -- the first row is cut at the length
-pub first_cap : (t : Table) (cap : Option ℕ) (rows : List SourceRow) (d : SourceRow) → 0 < length rows → AreLeastRows t cap rows → (get_or rows 0 d).cap ≡ cap
-first_cap t cap rows d some h = (h.named 0 d (omega (arith, some, h.exact.one_each, length-map rows (λ (l : SourceRow). l.numbers)))).cut
+pub first_cap : (t : Table) (cap : Option ℕ) (rows : List SourceRow) (d : SourceRow) → 0 < length rows
+    → AreLeastRows t cap rows → (get_or rows 0 d).cap ≡ cap
+first_cap t cap rows d some h = (h.named 0 d
+    (omega (arith, some, h.exact.one_each, length-map rows (λ (l : SourceRow). l.numbers)))).cut
 
 -- rows without a length say that there is no cycle
-pub none_least : (t : Table) (cap : Option ℕ) (rows : List SourceRow) → None ≡ cap → AreLeastRows t cap rows → IsAcyclic (Related t)
+pub none_least : (t : Table) (cap : Option ℕ) (rows : List SourceRow) → None ≡ cap → AreLeastRows t cap rows
+    → IsAcyclic (Related t)
 none_least t cap rows is h = subst (λ (o : Option ℕ). IsLeastLength (Related t) o) (sym is) h.least
 
 -- rows with one say that it is that of the shortest cycles
-pub some_least : (t : Table) (cap : Option ℕ) (k : ℕ) (rows : List SourceRow) → Some k ≡ cap → AreLeastRows t cap rows → IsShortestLength (Related t) k
+pub some_least : (t : Table) (cap : Option ℕ) (k : ℕ) (rows : List SourceRow) → Some k ≡ cap
+    → AreLeastRows t cap rows → IsShortestLength (Related t) k
 some_least t cap k rows is h = subst (λ (o : Option ℕ). IsLeastLength (Related t) o) (sym is) h.least
 
 -- and their numbers are exact under it
-pub some_exact : (t : Table) (cap : Option ℕ) (k : ℕ) (rows : List SourceRow) (lists : List (List ℕ)) → Some k ≡ cap → lists ≡ numbers_of rows → AreLeastRows t cap rows → AreExactRows (Related t) (length t) k lists
+pub some_exact : (t : Table) (cap : Option ℕ) (k : ℕ) (rows : List SourceRow) (lists : List (List ℕ))
+    → Some k ≡ cap → lists ≡ numbers_of rows → AreLeastRows t cap rows → AreExactRows (Related t)
+    (length t) k lists
 some_exact t cap k rows lists is same h =
-    subst (λ (ls : List (List ℕ)). AreExactRows (Related t) (length t) k ls) (sym same) (subst (λ (o : Option ℕ). AreExactRows (Related t) (length t) (unwrap_or o (length t)) (numbers_of rows)) (sym is) h.exact)
+    subst (λ (ls : List (List ℕ)). AreExactRows (Related t) (length t) k ls) (sym same)
+        (subst (λ (o : Option ℕ). AreExactRows (Related t) (length t) (unwrap_or o (length t))
+        (numbers_of rows)) (sym is) h.exact)

@@ -41,7 +41,8 @@ true_and true true h = absurd (not_both false h refl)
 true_and false b h = absurd (not_both false h refl)
 
 -- the events with a label below the next one were seen, and those of the level get it
-pub record IsReached (R : ℕ → ℕ → Type 0) (n k v label : ℕ) (labels : List ℕ) (seen level next : List Bool) : Type 0 where
+pub record IsReached (R : ℕ → ℕ → Type 0) (n k v label : ℕ) (labels : List ℕ)
+    (seen level next : List Bool) : Type 0 where
   pub one_each : length labels ≡ n
   pub seen_below : (e : ℕ) → e < n → is_in seen e ≡ true → get_or labels e 0 < label
   pub below_seen : (e : ℕ) → e < n → get_or labels e 0 < label → is_in seen e ≡ true
@@ -52,7 +53,8 @@ pub record IsReached (R : ℕ → ℕ → Type 0) (n k v label : ℕ) (labels : 
   pub start : 0 < label → get_or labels v 0 ≡ 0
   pub first : label ≡ 0 → is_in level v ≡ true
   pub grows : (e f : ℕ) → R e f → get_or labels e 0 < label
-      → (get_or labels f 0 ≤ get_or labels e 0 + 1) ⊎ ((is_in level f ≡ true) × (get_or labels e 0 + 1 ≡ label))
+      → (get_or labels f 0 ≤ get_or labels e 0 + 1) ⊎
+        ((is_in level f ≡ true) × (get_or labels e 0 + 1 ≡ label))
   pub empty : (e : ℕ) → is_in next e ≡ false
 
 -- the least label below the next one of the events that are related to v, or else the cap
@@ -62,8 +64,11 @@ pub record IsClosed (R : ℕ → ℕ → Type 0) (k v label : ℕ) (labels : Lis
   pub nearest : (e : ℕ) → R e v → get_or labels e 0 < label → closing ≤ get_or labels e 0
 
 -- labels that begin at 0 and grow by one at most are exact, where walks have their lengths
-exact_of : (R : ℕ → ℕ → Type 0) (n k v : ℕ) (labels : List ℕ) → length labels ≡ n → ((e : ℕ) → e < n → get_or labels e 0 ≤ k) → ((e : ℕ) → e < n → get_or labels e 0 < k → Walk R (get_or labels e 0) v e)
-    → get_or labels v 0 ≡ 0 → ((e f : ℕ) → R e f → get_or labels f 0 ≤ get_or labels e 0 + 1) → IsExactRow R n k v labels
+exact_of : (R : ℕ → ℕ → Type 0) (n k v : ℕ) (labels : List ℕ) → length labels ≡ n
+    → ((e : ℕ) → e < n → get_or labels e 0 ≤ k)
+    → ((e : ℕ) → e < n → get_or labels e 0 < k → Walk R (get_or labels e 0) v e)
+    → get_or labels v 0 ≡ 0 → ((e f : ℕ) → R e f → get_or labels f 0 ≤ get_or labels e 0 + 1)
+      → IsExactRow R n k v labels
 exact_of R n k v labels size capped walked begins grows = record {
   one_each = size;
   labels = λ e at. record {
@@ -74,16 +79,21 @@ exact_of R n k v labels size capped walked begins grows = record {
 }
 
 -- what closes is the nearest, once each label is below the next one or the cap
-pub closed_nearest : (R : ℕ → ℕ → Type 0) (n k v label closing : ℕ) (labels : List ℕ) → ((e f : ℕ) → R e f → (e < n) × (f < n)) → ((e : ℕ) → e < n → (get_or labels e 0 < label) ⊎ (get_or labels e 0 ≡ k))
+pub closed_nearest : (R : ℕ → ℕ → Type 0) (n k v label closing : ℕ) (labels : List ℕ)
+    → ((e f : ℕ) → R e f → (e < n) × (f < n))
+    → ((e : ℕ) → e < n → (get_or labels e 0 < label) ⊎ (get_or labels e 0 ≡ k))
     → IsClosed R k v label labels closing → IsNearest R v labels k closing
 closed_nearest R n k v label closing labels within or_cap c = record {
   below = c.below;
   reached = c.reached;
-  nearest = λ e r. elim (or_cap e (within e v r).0) [ inl small ↦ c.nearest e r small | inr full ↦ omega (arith, full, c.below) ];
+  nearest = λ e r. elim (or_cap e (within e v r).0) [ inl small ↦ c.nearest e r small | inr full ↦ omega
+      (arith, full, c.below) ];
 }
 
-module _ (R : ℕ → ℕ → Type 0) (n k v label : ℕ) (within : (e f : ℕ) → R e f → (e < n) × (f < n)) (labels after : List ℕ) (seen level next : List Bool)
-    (less : label < k) (v_in : v < n) (size : length after ≡ length labels) (h : IsReached R n k v label labels seen level next) (t : GetsLabel level n label labels after) where
+module _ (R : ℕ → ℕ → Type 0) (n k v label : ℕ) (within : (e f : ℕ) → R e f → (e < n) × (f < n))
+    (labels after : List ℕ) (seen level next : List Bool)
+    (less : label < k) (v_in : v < n) (size : length after ≡ length labels)
+      (h : IsReached R n k v label labels seen level next) (t : GetsLabel level n label labels after) where
   -- an event of the level has the cap until it is taken
   cap_of_level : (e : ℕ) → e < n → is_in level e ≡ true → get_or labels e 0 ≡ k
   cap_of_level e at is = elim (h.or_cap e at) [
@@ -92,7 +102,8 @@ module _ (R : ℕ → ℕ → Type 0) (n k v label : ℕ) (within : (e f : ℕ) 
   ]
 
   -- an event has the label, or the one that it had
-  now_has : (e : ℕ) → e < n → ((is_in level e ≡ true) × (get_or after e 0 ≡ label)) ⊎ ((is_in level e ≡ false) × (get_or after e 0 ≡ get_or labels e 0))
+  now_has : (e : ℕ) → e < n → ((is_in level e ≡ true) × (get_or after e 0 ≡ label)) ⊎
+      ((is_in level e ≡ false) × (get_or after e 0 ≡ get_or labels e 0))
   now_has e at = elim (cases_bool (is_in level e)) [
     | inl is ↦ inl (is, t.labelled e at is)
     | inr other ↦ inr (other, t.left e (inr other))
@@ -102,7 +113,8 @@ module _ (R : ℕ → ℕ → Type 0) (n k v label : ℕ) (within : (e f : ℕ) 
   or_cap_now : (e : ℕ) → e < n → (get_or after e 0 < label + 1) ⊎ (get_or after e 0 ≡ k)
   or_cap_now e at = elim (now_has e at) [
     | inl new ↦ inl (omega (arith, new.1))
-    | inr same ↦ elim (h.or_cap e at) [ inl small ↦ inl (omega (arith, small, same.1)) | inr full ↦ inr (same.1 ∙ full) ]
+    | inr same ↦ elim (h.or_cap e at) [ inl small ↦ inl (omega (arith, small, same.1)) | inr full ↦ inr
+      (same.1 ∙ full) ]
   ]
 
   -- a walk has its length
@@ -120,7 +132,8 @@ module _ (R : ℕ → ℕ → Type 0) (n k v label : ℕ) (within : (e f : ℕ) 
   start_now = elim (now_has v v_in) [
     | inl new ↦ elim (cases_eq label 0) [
       | inl zero_yet ↦ new.1 ∙ zero_yet
-      | inr later ↦ absurd (not_both (is_in seen v) (h.below_seen v v_in (omega (arith, h.start (omega (arith, later)), later))) (h.level_fresh v new.0))
+      | inr later ↦ absurd (not_both (is_in seen v)
+        (h.below_seen v v_in (omega (arith, h.start (omega (arith, later)), later))) (h.level_fresh v new.0))
     ]
     | inr same ↦ elim (cases_eq label 0) [
       | inl zero_yet ↦ absurd (not_both (is_in level v) (h.first zero_yet) same.0)
@@ -129,7 +142,8 @@ module _ (R : ℕ → ℕ → Type 0) (n k v label : ℕ) (within : (e f : ℕ) 
   ]
 
   -- labels grow by one at most from an event that had its own
-  grows_kept : (e f : ℕ) → R e f → get_or after e 0 ≡ get_or labels e 0 → get_or after e 0 < label + 1 → get_or after f 0 ≤ get_or after e 0 + 1
+  grows_kept : (e f : ℕ) → R e f → get_or after e 0 ≡ get_or labels e 0 → get_or after e 0 < label + 1
+      → get_or after f 0 ≤ get_or after e 0 + 1
   grows_kept e f r same below =
       let f_in : f < n = (within e f r).1 in
       elim (h.or_cap e (within e f r).0) [
@@ -148,10 +162,12 @@ module _ (R : ℕ → ℕ → Type 0) (n k v label : ℕ) (within : (e f : ℕ) 
 
   -- where the next label is the cap, the row is exact
   pub last_exact : label + 1 ≡ k → IsExactRow R n k v after
-  last_exact last = exact_of R n k v after (size ∙ h.one_each) capped (λ e at small. walk_now e at (omega (arith, small, last))) start_now grows
+  last_exact last = exact_of R n k v after (size ∙ h.one_each) capped
+      (λ e at small. walk_now e at (omega (arith, small, last))) start_now grows
     where
       capped : (e : ℕ) → e < n → get_or after e 0 ≤ k
-      capped e at = elim (or_cap_now e at) [ inl below ↦ omega (arith, below, last) | inr full ↦ omega (arith, full) ]
+      capped e at = elim (or_cap_now e at) [ inl below ↦ omega (arith, below, last) | inr full ↦ omega
+          (arith, full) ]
 
       grows : (e f : ℕ) → R e f → get_or after f 0 ≤ get_or after e 0 + 1
       grows e f r = elim (or_cap_now e (within e f r).0) [
@@ -163,11 +179,13 @@ module _ (R : ℕ → ℕ → Type 0) (n k v label : ℕ) (within : (e f : ℕ) 
       ]
 
   -- where nothing closed, no event that is related to v has a label below this one
-  none_closed : (closing : ℕ) → closing ≡ k → IsClosed R k v label labels closing → (e : ℕ) → R e v → get_or labels e 0 < label → ⊥
+  none_closed : (closing : ℕ) → closing ≡ k → IsClosed R k v label labels closing → (e : ℕ) → R e v
+      → get_or labels e 0 < label → ⊥
   none_closed closing none c e r below = absurd (omega (arith, c.nearest e r below, none, less, below))
 
   -- this level closes
-  closes_here : (closing_more e : ℕ) → closing_more ≡ label → is_in level e ≡ true → R e v → ((f : ℕ) → R f v → get_or labels f 0 < label → ⊥) → IsClosed R k v (label + 1) after closing_more
+  closes_here : (closing_more e : ℕ) → closing_more ≡ label → is_in level e ≡ true → R e v
+      → ((f : ℕ) → R f v → get_or labels f 0 < label → ⊥) → IsClosed R k v (label + 1) after closing_more
   closes_here closing_more e same here last none = record {
     below = omega (arith, same, less);
     reached = inr (e, last, t.labelled e (within e v last).0 here ∙ sym same);
@@ -181,7 +199,8 @@ module _ (R : ℕ → ℕ → Type 0) (n k v label : ℕ) (within : (e f : ℕ) 
   }
 
   -- nor does this level
-  closes_nothing : ((e : ℕ) → R e v → get_or labels e 0 < label → ⊥) → ((e : ℕ) → is_in level e ≡ true → R e v → ⊥) → IsClosed R k v (label + 1) after k
+  closes_nothing : ((e : ℕ) → R e v → get_or labels e 0 < label → ⊥)
+      → ((e : ℕ) → is_in level e ≡ true → R e v → ⊥) → IsClosed R k v (label + 1) after k
   closes_nothing none apart = record {
     below = omega arith;
     reached = inl refl;
@@ -195,12 +214,14 @@ module _ (R : ℕ → ℕ → Type 0) (n k v label : ℕ) (within : (e f : ℕ) 
   }
 
   -- a level before this one closed
-  closes_still : (closing : ℕ) → (closing ≡ k → ⊥) → IsClosed R k v label labels closing → IsClosed R k v (label + 1) after closing
+  closes_still : (closing : ℕ) → (closing ≡ k → ⊥) → IsClosed R k v label labels closing
+      → IsClosed R k v (label + 1) after closing
   closes_still closing some c = elim c.reached [
     | inl none ↦ absurd (some none)
     | inr at ↦
         let at_in : at.0 < n = (within at.0 v at.1).0 in
-        let early : closing < label = elim (h.or_cap at.0 at_in) [ inl small ↦ omega (arith, small, at.2) | inr full ↦ absurd (some (sym at.2 ∙ full)) ] in
+        let early : closing < label = elim (h.or_cap at.0 at_in)
+            [ inl small ↦ omega (arith, small, at.2) | inr full ↦ absurd (some (sym at.2 ∙ full)) ] in
         record {
           below = c.below;
           reached = elim (now_has at.0 at_in) [
@@ -218,21 +239,30 @@ module _ (R : ℕ → ℕ → Type 0) (n k v label : ℕ) (within : (e f : ℕ) 
   ]
 
   -- what closes, with this level
-  pub closes_more : (P : Type 0) (closing closing_more : ℕ) → P ↔ Closes R level v → IsClosed R k v label labels closing → IsClosing P label k closing closing_more → IsClosed R k v (label + 1) after closing_more
+  pub closes_more : (P : Type 0) (closing closing_more : ℕ) → P ↔ Closes R level v
+      → IsClosed R k v label labels closing → IsClosing P label k closing closing_more
+      → IsClosed R k v (label + 1) after closing_more
   closes_more P closing closing_more same c step = elim step [
-    | inl found ↦ let at = same.0 found.1 in closes_here closing_more at.0 found.2 at.1 at.2 (none_closed closing found.0 c)
-    | inr missed ↦ subst (λ (x : ℕ). IsClosed R k v (label + 1) after x) (sym missed.1) (elim (cases_eq closing k) [
-      | inl none ↦ subst (λ (x : ℕ). IsClosed R k v (label + 1) after x) (sym none) (closes_nothing (none_closed closing none c) (λ e here r. missed.0 none (same.1 (e, here, r))))
+    | inl found ↦ let at = same.0 found.1 in closes_here closing_more at.0 found.2 at.1 at.2
+      (none_closed closing found.0 c)
+    | inr missed ↦ subst (λ (x : ℕ). IsClosed R k v (label + 1) after x) (sym missed.1)
+      (elim (cases_eq closing k) [
+      | inl none ↦ subst (λ (x : ℕ). IsClosed R k v (label + 1) after x) (sym none)
+        (closes_nothing (none_closed closing none c) (λ e here r. missed.0 none (same.1 (e, here, r))))
       | inr some ↦ closes_still closing some c
     ])
   ]
 
   -- what closes, with this level, is the nearest if no more labels are given
-  pub nearest_more : (P : Type 0) (closing closing_more : ℕ) → P ↔ Closes R level v → IsClosed R k v label labels closing → IsClosing P label k closing closing_more → IsNearest R v after k closing_more
-  nearest_more P closing closing_more same c step = closed_nearest R n k v (label + 1) closing_more after within or_cap_now (closes_more P closing closing_more same c step)
+  pub nearest_more : (P : Type 0) (closing closing_more : ℕ) → P ↔ Closes R level v
+      → IsClosed R k v label labels closing → IsClosing P label k closing closing_more
+      → IsNearest R v after k closing_more
+  nearest_more P closing closing_more same c step = closed_nearest R n k v (label + 1) closing_more after
+      within or_cap_now (closes_more P closing closing_more same c step)
 
   -- a level closes where v is in the next one
-  pub closes_by_next : (more : List Bool) → JoinsNext R level n next more → (is_in more v ≡ true) ↔ Closes R level v
+  pub closes_by_next : (more : List Bool) → JoinsNext R level n next more
+      → (is_in more v ≡ true) ↔ Closes R level v
   closes_by_next more x = (
     λ is. elim (x.only v is) [
       | inl old ↦ absurd (not_both (is_in next v) old (h.empty v))
@@ -241,7 +271,9 @@ module _ (R : ℕ → ℕ → Type 0) (n k v label : ℕ) (within : (e f : ℕ) 
     λ at. x.joined at.0 v (within at.0 v at.2).0 at.1 at.2,
   )
 
-  module _ (more seen_more level_more emptied : List Bool) (x : JoinsNext R level n next more) (sees : (e : ℕ) → is_in seen_more e ≡ (is_in seen e || is_in level e)) (goes : (e : ℕ) → is_in level_more e ≡ (is_in more e && not (is_in seen_more e)))
+  module _ (more seen_more level_more emptied : List Bool) (x : JoinsNext R level n next more)
+      (sees : (e : ℕ) → is_in seen_more e ≡ (is_in seen e || is_in level e))
+      (goes : (e : ℕ) → is_in level_more e ≡ (is_in more e && not (is_in seen_more e)))
       (drops : (e : ℕ) → is_in emptied e ≡ (is_in level e && not (is_in seen_more e))) where
     -- what was seen, or is taken, is seen
     seen_now : (e : ℕ) → (is_in seen e ≡ true) ⊎ (is_in level e ≡ true) → is_in seen_more e ≡ true
@@ -252,7 +284,8 @@ module _ (R : ℕ → ℕ → Type 0) (n k v label : ℕ) (within : (e f : ℕ) 
     fresh_now e is = true_and (is_in more e) (is_in seen_more e) (sym (goes e) ∙ is)
 
     -- labels grow by one at most, but into the next level
-    grows_now : (e f : ℕ) → R e f → get_or after e 0 < label + 1 → (get_or after f 0 ≤ get_or after e 0 + 1) ⊎ ((is_in level_more f ≡ true) × (get_or after e 0 + 1 ≡ label + 1))
+    grows_now : (e f : ℕ) → R e f → get_or after e 0 < label + 1 → (get_or after f 0 ≤ get_or after e 0 + 1) ⊎
+        ((is_in level_more f ≡ true) × (get_or after e 0 + 1 ≡ label + 1))
     grows_now e f r below =
         let e_in : e < n = (within e f r).0 in
         let f_in : f < n = (within e f r).1 in
@@ -266,7 +299,8 @@ module _ (R : ℕ → ℕ → Type 0) (n k v label : ℕ) (within : (e f : ℕ) 
               ]
               | inr here ↦ inl (omega (arith, t.labelled f f_in here, new.1))
             ]
-            | inr fresh ↦ inr (goes f ∙ and_true (is_in more f) (is_in seen_more f) (x.joined e f e_in new.0 r) fresh, omega (arith, new.1))
+            | inr fresh ↦ inr (goes f ∙ and_true (is_in more f) (is_in seen_more f)
+              (x.joined e f e_in new.0 r) fresh, omega (arith, new.1))
           ]
         ]
 
@@ -275,7 +309,8 @@ module _ (R : ℕ → ℕ → Type 0) (n k v label : ℕ) (within : (e f : ℕ) 
     emptied_now e = elim (cases_bool (is_in emptied e)) [
       | inr none ↦ none
       | inl is ↦
-          let at : (is_in level e ≡ true) × (is_in seen_more e ≡ false) = true_and (is_in level e) (is_in seen_more e) (sym (drops e) ∙ is) in
+          let at : (is_in level e ≡ true) × (is_in seen_more e ≡ false) = true_and (is_in level e)
+              (is_in seen_more e) (sym (drops e) ∙ is) in
           absurd (not_both (is_in seen_more e) (seen_now e (inr at.0)) at.1)
     ]
 
@@ -301,7 +336,8 @@ module _ (R : ℕ → ℕ → Type 0) (n k v label : ℕ) (within : (e f : ℕ) 
       walk = walk_now;
       level_walk = λ e is. elim (x.only e (fresh_now e is).0) [
         | inl old ↦ absurd (not_both (is_in next e) old (h.empty e))
-        | inr new ↦ walk_of R (suc label) (label + 1) v e (omega arith) (walk_more R label v new.0 e (h.level_walk new.0 new.1) new.2)
+        | inr new ↦ walk_of R (suc label) (label + 1) v e (omega arith)
+          (walk_more R label v new.0 e (h.level_walk new.0 new.1) new.2)
       ];
       level_fresh = λ e is. (fresh_now e is).1;
       start = λ _. start_now;
@@ -311,8 +347,10 @@ module _ (R : ℕ → ℕ → Type 0) (n k v label : ℕ) (within : (e f : ℕ) 
     }
 
 -- before the first level
-pub reached_none : (R : ℕ → ℕ → Type 0) (n k v : ℕ) (labels : List ℕ) (seen level next : List Bool) → length labels ≡ n → ((e : ℕ) → e < n → get_or labels e 0 ≡ k)
-    → ((e : ℕ) → is_in seen e ≡ false) → ((e : ℕ) → is_in next e ≡ false) → is_in level v ≡ true → ((e : ℕ) → is_in level e ≡ true → v ≡ e) → IsReached R n k v 0 labels seen level next
+pub reached_none : (R : ℕ → ℕ → Type 0) (n k v : ℕ) (labels : List ℕ) (seen level next : List Bool)
+    → length labels ≡ n → ((e : ℕ) → e < n → get_or labels e 0 ≡ k)
+    → ((e : ℕ) → is_in seen e ≡ false) → ((e : ℕ) → is_in next e ≡ false) → is_in level v ≡ true
+      → ((e : ℕ) → is_in level e ≡ true → v ≡ e) → IsReached R n k v 0 labels seen level next
 reached_none R n k v labels seen level next size caps unseen empty here only = record {
   one_each = size;
   seen_below = λ e at is. absurd (not_both (is_in seen e) is (unseen e));
@@ -328,15 +366,20 @@ reached_none R n k v labels seen level next size caps unseen empty here only = r
 }
 
 -- at the cap, or where the level is empty, the row is exact
-pub reached_exact : (R : ℕ → ℕ → Type 0) (n k v label : ℕ) (labels : List ℕ) (seen level next : List Bool) → ((e f : ℕ) → R e f → (e < n) × (f < n)) → v < n → label ≤ k
-    → (label ≡ k) ⊎ ((e : ℕ) → is_in level e ≡ false) → IsReached R n k v label labels seen level next → IsExactRow R n k v labels
-reached_exact R n k v label labels seen level next within v_in most ended h = exact_of R n k v labels h.one_each capped walked begins grows
+pub reached_exact : (R : ℕ → ℕ → Type 0) (n k v label : ℕ) (labels : List ℕ) (seen level next : List Bool)
+    → ((e f : ℕ) → R e f → (e < n) × (f < n)) → v < n → label ≤ k
+    → (label ≡ k) ⊎ ((e : ℕ) → is_in level e ≡ false) → IsReached R n k v label labels seen level next
+      → IsExactRow R n k v labels
+reached_exact R n k v label labels seen level next within v_in most ended h =
+    exact_of R n k v labels h.one_each capped walked begins grows
   where
     capped : (e : ℕ) → e < n → get_or labels e 0 ≤ k
-    capped e at = elim (h.or_cap e at) [ inl below ↦ omega (arith, below, most) | inr full ↦ omega (arith, full) ]
+    capped e at = elim (h.or_cap e at) [ inl below ↦ omega (arith, below, most) | inr full ↦ omega
+        (arith, full) ]
 
     walked : (e : ℕ) → e < n → get_or labels e 0 < k → Walk R (get_or labels e 0) v e
-    walked e at small = elim (h.or_cap e at) [ inl below ↦ h.walk e at below | inr full ↦ absurd (omega (arith, full, small)) ]
+    walked e at small = elim (h.or_cap e at) [ inl below ↦ h.walk e at below | inr full ↦ absurd
+        (omega (arith, full, small)) ]
 
     begins : get_or labels v 0 ≡ 0
     begins = elim (cases_eq label 0) [
@@ -361,4 +404,5 @@ reached_exact R n k v label labels seen level next within v_in most ended h = ex
 
 -- a vector's list after a call on its slice
 pub written_back : (n : ℕ) (new old : List ℕ) → length new ≡ n → take n (new ++ drop (length new) old) ≡ new
-written_back n new old long = take-append-le n new (drop (length new) old) (omega (arith, long)) ∙ take_all n new (omega (arith, long))
+written_back n new old long = take-append-le n new (drop (length new) old) (omega (arith, long))
+    ∙ take_all n new (omega (arith, long))

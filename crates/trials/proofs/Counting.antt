@@ -13,9 +13,11 @@ pub some_counted : (l : List (ℕ × ℕ)) (n c : ℕ) → c ≢ 0 → l ++ (n, 
 some_counted l n c e = let some : (c == 0) ≡ false = ne_eqb c 0 e in rw some refl
 
 -- the lengths below one more
-pub cycles_more : (codes : List ℕ) (n count : ℕ) (old new : List (ℕ × ℕ)) → old ≡ cycles_below codes n → count ≡ count_by (is_cycle_of n) codes → new ≡ old ++ counted n count
+pub cycles_more : (codes : List ℕ) (n count : ℕ) (old new : List (ℕ × ℕ)) → old ≡ cycles_below codes n
+    → count ≡ count_by (is_cycle_of n) codes → new ≡ old ++ counted n count
     → new ≡ cycles_below codes (n + 1)
 unfolding cycles_below
 cycles_more codes n count old new so_far is with_it =
     let e : n + 1 ≡ suc n = omega arith in
-    rw e (with_it ∙ (ap (λ (l : List (ℕ × ℕ)). l ++ counted n count) so_far ∙ ap (λ (c : ℕ). cycles_below codes n ++ counted n c) is))
+    rw e (with_it ∙ (ap (λ (l : List (ℕ × ℕ)). l ++ counted n count) so_far
+        ∙ ap (λ (c : ℕ). cycles_below codes n ++ counted n c) is))

@@ -112,4 +112,5 @@ LookStep st m n m' = Was m.0 st.word n × (m'.1 ≡ m.1) × (n ≡ 0 → m'.0 �
 
 -- these words are those of a legal desk, in which a seat has this view
 abbrev pub AreDeskWords : View → List ℕ → Type 0
-AreDeskWords v ws = (s : DeskState) × (i : ℕ) × Legal v.campaign s × (get_elem? s.views i ≡ some v) × (s.words ≡ ws)
+AreDeskWords v ws = (s : DeskState) × (i : ℕ) × Legal v.campaign s × (get_elem? s.views i ≡ some v)
+    × (s.words ≡ ws)

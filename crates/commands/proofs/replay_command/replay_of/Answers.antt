@@ -9,12 +9,16 @@ pub returns-in_ok-text-in-Ordered : goal.returns-in_ok-text-in-Ordered
 returns-in_ok-text-in-Ordered c =
     let x : Execution = c.args.recording.now in
     let m : List ℕ = c.in-Ordered.order.items in
-    let least : IsOrderedVerdict x m = subst (λ (v : Verdict). IsVerdict x v) c.in-Ordered.is c.requires.found in
+    let least : IsOrderedVerdict x m = subst (λ (v : Verdict). IsVerdict x v) c.in-Ordered.is
+        c.requires.found in
     inl (record {
       order = m;
       least = least;
       status = refl;
-      text = c.in_ok-text-in-Ordered.ensures.text ∙ ap (λ (l : List ℕ). replay_text x l) c.deref.ensures.value;
-      read = subst (λ (l : List ℕ). IsReadBack x l) c.deref.ensures.value c.in_ok-text-in-Ordered.ensures.read;
-      replay = λ capacity room. c.every_order_is_replayed.ensures.replay x m capacity c.sound.ensures least.order room;
+      text = c.in_ok-text-in-Ordered.ensures.text
+          ∙ ap (λ (l : List ℕ). replay_text x l) c.deref.ensures.value;
+      read = subst (λ (l : List ℕ). IsReadBack x l) c.deref.ensures.value
+          c.in_ok-text-in-Ordered.ensures.read;
+      replay = λ capacity room. c.every_order_is_replayed.ensures.replay x m capacity c.sound.ensures
+          least.order room;
     })

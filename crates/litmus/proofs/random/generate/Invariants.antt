@@ -11,9 +11,12 @@ use Rattle.litmus.proofs.random.generate.Given as goal
 abbrev pub invariant-loop-core : goal.invariant-loop-core
 invariant-loop-core l =
     record {
-      made : with_cores l.shape (l.shape.cores - l.core) (state l.builder) (first_words plus_plus ((l.shape.cores - l.core) * l.shape.ops) l.rng)
-          ≡ with_cores l.shape l.shape.cores empty (first_words plus_plus (l.shape.cores * l.shape.ops) l.initial.rng);
-      after : after_words ((l.shape.cores - l.core) * l.shape.ops) l.rng ≡ after_words (l.shape.cores * l.shape.ops) l.initial.rng;
+      made : with_cores l.shape (l.shape.cores - l.core) (state l.builder)
+          (first_words plus_plus ((l.shape.cores - l.core) * l.shape.ops) l.rng)
+          ≡ with_cores l.shape l.shape.cores empty
+              (first_words plus_plus (l.shape.cores * l.shape.ops) l.initial.rng);
+      after : after_words ((l.shape.cores - l.core) * l.shape.ops) l.rng ≡ after_words
+          (l.shape.cores * l.shape.ops) l.initial.rng;
       drawn : IsDrawn l.shape.addresses (state l.builder);
       count : op_count l.builder.cores.items ≡ l.core * l.shape.ops;
       cores : length l.builder.cores.items ≡ l.core;

@@ -8,14 +8,20 @@ use Rattle.machine.proofs.makes.units_of.Goals as goal
 
 pub loop-ops-preserved : goal.loop-ops-preserved
 loop-ops-preserved c =
-    let pushed = c.in_ok-push.ensures.items ∙ ap (λ (u : Progress). c.loop-ops.units.items ++ u ∷ []) c.new.ensures in
+    let pushed = c.in_ok-push.ensures.items ∙ ap (λ (u : Progress). c.loop-ops.units.items ++ u ∷ [])
+        c.new.ensures in
     record {
-      one_each = omega (arith, c.loop-ops.invariant.one_each, ap (λ (l : List Progress). length l) pushed, length-append c.loop-ops.units.items (record { first = c.loop-ops.next; place = 0 } ∷ []));
+      one_each = omega (arith, c.loop-ops.invariant.one_each, ap (λ (l : List Progress). length l) pushed,
+          length-append c.loop-ops.units.items (record { first = c.loop-ops.next; place = 0 } ∷ []));
       next = omega (
         arith,
         c.loop-ops.invariant.next,
         first_more c.args.program.now c.loop-ops.ops-index c.loop-ops-test.true,
-        ap (λ (l : List Op). length l) (c.as_slice.ensures ∙ get_or_read c.args.program.now c.loop-ops.ops-index c.ops-item.result c.loop-ops-test.true c.ops-item.is []),
+        ap (λ (l : List Op). length l) (c.as_slice.ensures
+            ∙ get_or_read c.args.program.now c.loop-ops.ops-index c.ops-item.result c.loop-ops-test.true
+            c.ops-item.is []),
       );
-      begun = unit_more c.args.program.now c.loop-ops.units.items c.push.new.self.items c.loop-ops.ops-index c.loop-ops.next c.loop-ops.invariant.one_each c.loop-ops.invariant.next c.loop-ops.invariant.begun pushed;
+      begun = unit_more c.args.program.now c.loop-ops.units.items c.push.new.self.items c.loop-ops.ops-index
+          c.loop-ops.next c.loop-ops.invariant.one_each c.loop-ops.invariant.next c.loop-ops.invariant.begun
+          pushed;
     }

@@ -7,5 +7,6 @@ abbrev pub invariant-loop-ops : goal.invariant-loop-ops
 invariant-loop-ops l = record {
   one_each : length l.units.items ≡ l.ops-index;
   next : l.next ≡ first_event l.program l.ops-index;
-  begun : (c : ℕ) (d : Progress) → c < l.ops-index → get_or l.units.items c d ≡ record { first = first_event l.program c; place = 0 };
+  begun : (c : ℕ) (d : Progress) → c < l.ops-index → get_or l.units.items c d
+      ≡ record { first = first_event l.program c; place = 0 };
 }

@@ -6,7 +6,8 @@ use Rattle.machine.proofs.record.record_all.Given as goal
 abbrev pub invariant-loop-ops : goal.invariant-loop-ops
 invariant-loop-ops l = record {
   room : l.lists.room ≡ l.initial.lists.room;
-  made : map (λ v. v.items) l.lists.items ++ cores_from l.first (drop l.ops-index l.program) l.reads ≡ cores_from 0 l.program l.reads;
+  made : map (λ v. v.items) l.lists.items ++ cores_from l.first (drop l.ops-index l.program) l.reads
+      ≡ cores_from 0 l.program l.reads;
   size : length l.lists.items ≡ l.ops-index;
   first : l.first ≡ sum_by (λ ops. length ops) (take l.ops-index l.program);
   left : length l.events.items + l.ops-index ≡ length l.program;

@@ -17,7 +17,8 @@ place-requires-clause-event c = omega (arith, c.in-Some.ensures.0, c.loop-placed
 
 pub returns-in_default-clause-cycle : goal.returns-in_default-clause-cycle
 returns-in_default-clause-cycle c = (
-  λ _. greedy_cycle c.args.relation.now c.loop-placed.order.items c.loop-placed.waiting c.loop-placed.invariant.1 c.loop-placed.invariant.2 (omega arith) c.in_default.ensures,
+  λ _. greedy_cycle c.args.relation.now c.loop-placed.order.items c.loop-placed.waiting
+      c.loop-placed.invariant.1 c.loop-placed.invariant.2 (omega arith) c.in_default.ensures,
   λ _. refl,
 )
 
@@ -31,7 +32,8 @@ returns-clause-cycle c = (
   λ wrong. absurd (true≢false wrong),
   λ cycle. absurd (c.ordered_is_acyclic.ensures.related c.args.relation.now
       (length c.args.relation.now) c.loop-placed.order.items
-      (greedy_all c.args.relation.now c.loop-placed.order.items c.sound.ensures.within c.loop-placed.invariant.1 (omega arith)).respects cycle.0 cycle.1),
+      (greedy_all c.args.relation.now c.loop-placed.order.items c.sound.ensures.within
+        c.loop-placed.invariant.1 (omega arith)).respects cycle.0 cycle.1),
 )
 
 pub loop-placed-init : goal.loop-placed-init
@@ -60,5 +62,6 @@ loop-placed-preserved c =
           (omega arith) less c.in-Some.ensures.1 c.in-Some.ensures.2),
       subst (λ (m : List ℕ). IsOpen t m new) (sym now)
           (open_more t p v old new less
-          (free_is_fresh t p old c.loop-placed.invariant.2 v less c.in-Some.ensures.1) c.loop-placed.invariant.2 released),
+          (free_is_fresh t p old c.loop-placed.invariant.2 v less c.in-Some.ensures.1)
+            c.loop-placed.invariant.2 released),
     )

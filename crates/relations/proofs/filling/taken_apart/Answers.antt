@@ -22,5 +22,6 @@ loop-row-preserved c =
           ++ row ∷ []) c.into_parts-of_row.ensures.reasons));
       sets = subst (λ (ss : List (List Bool)). AreSetsOfRows (c.loop-row.yielded ++ c.in-Some.row ∷ []) ss)
           (sym sets)
-          (sets_more c.loop-row.yielded c.loop-row.sets.items c.in-Some.row set c.loop-row.invariant.sets c.into_parts-of_row.ensures.set);
+          (sets_more c.loop-row.yielded c.loop-row.sets.items c.in-Some.row set c.loop-row.invariant.sets
+            c.into_parts-of_row.ensures.set);
     }

@@ -4,4 +4,5 @@ use Rattle.replay.specs.Program.{op_of}
 use Rattle.replay.proofs.numbered.is_numbered.Given as goal
 
 abbrev pub invariant-loop-events : goal.invariant-loop-events
-invariant-loop-events l = use_cores l.used (map (λ v. map op_of v.items) (drop l.events-index l.lists)) ≡ use_cores 0 (map (λ v. map op_of v.items) l.lists)
+invariant-loop-events l = use_cores l.used (map (λ v. map op_of v.items) (drop l.events-index l.lists))
+    ≡ use_cores 0 (map (λ v. map op_of v.items) l.lists)

@@ -6,6 +6,7 @@ use Rattle.replay.proofs.operations.cores_of.Given as goal
 
 abbrev pub invariant-loop-events : goal.invariant-loop-events
 invariant-loop-events l = record {
-  cores : l.cores.items ++ map (λ v. map op_of v.items) (drop l.events-index l.lists) ≡ map (λ v. map op_of v.items) l.lists;
+  cores : l.cores.items ++ map (λ v. map op_of v.items) (drop l.events-index l.lists) ≡ map
+      (λ v. map op_of v.items) l.lists;
   small : AllByRecursion (AllByRecursion Small) l.cores.items;
 }

@@ -5,5 +5,6 @@ use Rattle.replay.proofs.stores.most_stores.Given as goal
 abbrev pub invariant-loop-events : goal.invariant-loop-events
 invariant-loop-events l = record {
   least : 1 ≤ l.most;
-  greatest : max l.most (most_stores (map (λ v. v.items) (drop l.events-index l.lists))) ≡ most_stores (map (λ v. v.items) l.lists);
+  greatest : max l.most (most_stores (map (λ v. v.items) (drop l.events-index l.lists))) ≡ most_stores
+      (map (λ v. v.items) l.lists);
 }

@@ -3,4 +3,5 @@ use Rattle.relations.specs.Relation.{Related}
 use Rattle.search.proofs.back.event_before.Given as goal
 
 abbrev pub invariant-loop-before : goal.invariant-loop-before
-invariant-loop-before l = (e : ℕ) → e < l.before → Related l.relation e l.event → ¬ (get_or l.row e 0 ≡ l.label)
+invariant-loop-before l = (e : ℕ) → e < l.before → Related l.relation e l.event
+    → ¬ (get_or l.row e 0 ≡ l.label)

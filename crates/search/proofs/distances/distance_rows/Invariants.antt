@@ -9,6 +9,7 @@ invariant-loop-source l = record {
   cap : IsCap (Related l.relation) (length l.relation) l.cap;
   less : l.least ≤ l.cap;
   one_each : length (lists_of l.rows.items) ≡ l.source;
-  distances : (v : ℕ) → v < l.source → IsDistanceRow (Related l.relation) (length l.relation) v (get_or (lists_of l.rows.items) v []);
+  distances : (v : ℕ) → v < l.source → IsDistanceRow (Related l.relation) (length l.relation) v
+      (get_or (lists_of l.rows.items) v []);
   closing : IsLeastClosing (Related l.relation) (length l.relation) (lists_of l.rows.items) l.source l.least;
 }

@@ -9,5 +9,6 @@ abbrev pub invariant-loop-numbers : goal.invariant-loop-numbers
 invariant-loop-numbers l = record {
   size : length l.all.items ≡ l.source;
   split : numbers_of l.all.items ++ lists_of (into_iter_items l.numbers-iterator) ≡ lists_of l.fn.rows.items;
-  named : (v : ℕ) (d : SourceRow) → v < l.source → IsNamed (arc_value l.relation) l.cap v (get_or l.all.items v d);
+  named : (v : ℕ) (d : SourceRow) → v < l.source → IsNamed (arc_value l.relation) l.cap v
+      (get_or l.all.items v d);
 }

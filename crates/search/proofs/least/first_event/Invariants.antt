@@ -5,4 +5,5 @@ use Rattle.search.specs.Cycles.{ClosesAt}
 use Rattle.search.proofs.least.first_event.Given as goal
 
 abbrev pub invariant-loop-v : goal.invariant-loop-v
-invariant-loop-v l = (v : ℕ) → v < l.v → ¬ ClosesAt (Related l.relation) v (get_or (lists_of l.rows) v []) l.label
+invariant-loop-v l = (v : ℕ) → v < l.v → ¬ ClosesAt (Related l.relation) v (get_or (lists_of l.rows) v [])
+    l.label

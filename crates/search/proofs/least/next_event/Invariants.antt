@@ -5,4 +5,5 @@ use Rattle.search.specs.Cycles.{GoesOn}
 use Rattle.search.proofs.least.next_event.Given as goal
 
 abbrev pub invariant-loop-next : goal.invariant-loop-next
-invariant-loop-next l = (f : ℕ) → f < l.next → ¬ GoesOn (Related l.relation) (lists_of l.rows) l.last l.v l.left f
+invariant-loop-next l = (f : ℕ) → f < l.next → ¬ GoesOn (Related l.relation)
+    (lists_of l.rows) l.last l.v l.left f

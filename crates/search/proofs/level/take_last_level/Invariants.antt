@@ -9,7 +9,8 @@ invariant-loop-event l = record {
   row : l.events.row ≡ l.level;
   within : l.events.from ≤ length l.rows;
   labels : GetsLabel l.level l.events.from l.label l.fn.labels l.labels;
-  closes : IsTrue l.closes ↔ ((e : ℕ) × (e < l.events.from) × (is_in l.level e ≡ true) × Marked l.rows e l.source);
+  closes : IsTrue l.closes ↔ ((e : ℕ) × (e < l.events.from) × (is_in l.level e ≡ true)
+      × Marked l.rows e l.source);
 }
 
 abbrev pub decreases-loop-event : goal.decreases-loop-event

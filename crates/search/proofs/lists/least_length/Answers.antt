@@ -7,4 +7,5 @@ pub returns-then-rows-eq0 : goal.returns-then-rows-eq0
 returns-then-rows-eq0 c = λ t cap h. no_cap t cap c.args.rows.now (omega arith) h
 
 pub returns : goal.returns
-returns c = λ t cap h. c.cap.ensures ∙ (ap (λ (l : SourceRow). l.cap) c.index-rows-0.is ∙ first_cap t cap c.args.rows.now c.index-rows-0.result (omega arith) h)
+returns c = λ t cap h. c.cap.ensures ∙ (ap (λ (l : SourceRow). l.cap) c.index-rows-0.is
+    ∙ first_cap t cap c.args.rows.now c.index-rows-0.result (omega arith) h)

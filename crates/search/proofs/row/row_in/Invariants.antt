@@ -8,6 +8,7 @@ invariant-loop-label l = record {
   seen_size : length l.seen ≡ length l.rows;
   level_size : length l.level ≡ length l.rows;
   next_size : length l.next ≡ length l.rows;
-  reached : IsReached (Marked l.rows) (length l.rows) l.cap l.source l.label l.labels.items l.seen l.level l.next;
+  reached : IsReached (Marked l.rows) (length l.rows) l.cap l.source l.label l.labels.items l.seen l.level
+      l.next;
   closed : IsClosed (Marked l.rows) l.cap l.source l.label l.labels.items l.closing;
 }

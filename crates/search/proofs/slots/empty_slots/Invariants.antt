@@ -7,4 +7,5 @@ use Rattle.search.proofs.slots.empty_slots.Given as goal
 abbrev pub invariant-loop : goal.invariant-loop
 invariant-loop l =
     (length l.slots.items ≡ l.counter)
-    × ((v : ℕ) (d : Option SourceRow) → v < l.counter → IfSome (get_or l.slots.items v d) (IsRowFrom l.relation (lengths_of l.seat) v))
+    × ((v : ℕ) (d : Option SourceRow) → v < l.counter → IfSome (get_or l.slots.items v d)
+      (IsRowFrom l.relation (lengths_of l.seat) v))

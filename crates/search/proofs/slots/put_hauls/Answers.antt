@@ -9,5 +9,6 @@ loop-haul-preserved c = (
   c.put_haul.ensures.seat,
   (λ k h. c.put_haul.ensures.kept k (c.loop-haul.invariant.1 k h)),
   c.put_haul.ensures.slots,
-  All-rest (IsHaulFor c.args.best.now c.args.relation.now) c.in-Some.haul (into_iter_items c.next.new.self) (into_iter_items c.loop-haul.haul-iterator) c.in-Some.ensures.steps.0 c.loop-haul.invariant.3,
+  All-rest (IsHaulFor c.args.best.now c.args.relation.now) c.in-Some.haul (into_iter_items c.next.new.self)
+      (into_iter_items c.loop-haul.haul-iterator) c.in-Some.ensures.steps.0 c.loop-haul.invariant.3,
 )

@@ -11,7 +11,10 @@ returns-clause-rows g c =
     let after = lengths_of c.row_under-made.new.seat in
     let row : IsRowFor t after c.in-Ok.row = record {
       shares = c.in-Ok.ensures.relation;
-      covers = subst (λ (v : ℕ). Covers (Related t) after v) (sym c.in-Ok.ensures.source) c.in-Ok.ensures.covers;
+      covers = subst (λ (v : ℕ). Covers (Related t) after v)
+          (sym c.in-Ok.ensures.source) c.in-Ok.ensures.covers;
     } in
-    perhaps_pushed (IsRowFor t after) _ c.args.rows.now.items c.push-kept.new.self.items c.in-Ok.row c.push-kept.ensures.items
-    (rows_kept t (lengths_of c.args.seat.now) after c.args.rows.now.items c.row_under-made.ensures.kept c.requires.rows) row
+    perhaps_pushed (IsRowFor t after) _ c.args.rows.now.items c.push-kept.new.self.items c.in-Ok.row
+        c.push-kept.ensures.items
+    (rows_kept t (lengths_of c.args.seat.now) after c.args.rows.now.items c.row_under-made.ensures.kept
+      c.requires.rows) row

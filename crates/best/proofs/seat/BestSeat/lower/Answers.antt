@@ -12,5 +12,6 @@ fetch_min-requires c =
     let key = ap (λ b. b.shared.key) t ∙ h.relation in (
       h.seated ∙ sym (ap (λ b. b.shared.table_id) t),
       omega (arith, size),
-      lowers _ _ _ _ _ (subst (λ (z : Table). IsLength z (length c.args.cycle.now)) (sym key) (c.args.cycle.now, c.requires.cycle, refl, c.requires.short)) c.requires.small,
+      lowers _ _ _ _ _ (subst (λ (z : Table). IsLength z (length c.args.cycle.now)) (sym key)
+          (c.args.cycle.now, c.requires.cycle, refl, c.requires.short)) c.requires.small,
     )

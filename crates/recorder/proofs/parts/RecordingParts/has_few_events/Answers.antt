@@ -13,7 +13,9 @@ returns-then-len-before c =
     let cores : c.args.self.now.cores ≡ map (λ v. v.items) c.deref-events-items.result.now =
     ap (λ (x : Execution). x.cores) (sym c.self.view_is)
     ∙ ap (map (λ (v : Vec Event Global). v.items)) (sym c.deref-events-items.ensures.value) in
-    let next = counted_more c.deref-events-items.result.now c.args.self.now.cores c.loop-events.events-index c.loop-events.before c.events-item.result cores c.loop-events-test.true c.events-item.is c.loop-events.invariant.counted in
+    let next = counted_more c.deref-events-items.result.now c.args.self.now.cores c.loop-events.events-index
+        c.loop-events.before c.events-item.result cores c.loop-events-test.true c.events-item.is
+        c.loop-events.invariant.counted in
     let within = counted_within c.args.self.now (c.loop-events.events-index + 1)
     (c.loop-events.before + length c.events-item.result.items) next in (
       λ wrong. absurd cc,
@@ -37,7 +39,9 @@ loop-events-preserved c =
     omega (arith, c.len-before.ensures, c.events-item.result.ok.0) in
     record {
       counted = subst (λ (n : ℕ). IsCounted c.args.self.now.cores (c.loop-events.events-index + 1) n) count
-          (counted_more c.deref-events-items.result.now c.args.self.now.cores c.loop-events.events-index c.loop-events.before c.events-item.result cores c.loop-events-test.true c.events-item.is c.loop-events.invariant.counted);
+          (counted_more c.deref-events-items.result.now c.args.self.now.cores c.loop-events.events-index
+            c.loop-events.before c.events-item.result cores c.loop-events-test.true c.events-item.is
+            c.loop-events.invariant.counted);
       few = omega (
         arith,
         c.loop-events.invariant.few,

@@ -14,14 +14,18 @@ loop-events-preserved c =
     ≡ c.loop-events.count + c.len-count.result =
     omega (arith, c.len-count.ensures, c.events-item.result.ok.0) in
     subst (λ (n : ℕ). IsCounted c.args.self.now.cores (c.loop-events.events-index + 1) n) count
-    (counted_more c.deref-events-items.result.now c.args.self.now.cores c.loop-events.events-index c.loop-events.count c.events-item.result cores c.loop-events-test.true c.events-item.is c.loop-events.invariant)
+    (counted_more c.deref-events-items.result.now c.args.self.now.cores c.loop-events.events-index
+      c.loop-events.count c.events-item.result cores c.loop-events-test.true c.events-item.is
+      c.loop-events.invariant)
 
 pub overflow_add-count : goal.overflow_add-count
 overflow_add-count c =
     let cores : c.args.self.now.cores ≡ map (λ v. v.items) c.deref-events-items.result.now =
     ap (λ (x : Execution). x.cores) (sym c.self.view_is)
     ∙ ap (map (λ (v : Vec Event Global). v.items)) (sym c.deref-events-items.ensures.value) in
-    let next = counted_more c.deref-events-items.result.now c.args.self.now.cores c.loop-events.events-index c.loop-events.count c.events-item.result cores c.loop-events-test.true c.events-item.is c.loop-events.invariant in
+    let next = counted_more c.deref-events-items.result.now c.args.self.now.cores c.loop-events.events-index
+        c.loop-events.count c.events-item.result cores c.loop-events-test.true c.events-item.is
+        c.loop-events.invariant in
     omega (
       arith,
       c.requires,

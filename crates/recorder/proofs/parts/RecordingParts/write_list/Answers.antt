@@ -17,4 +17,5 @@ returns c =
     let lists : c.args.self.now.write_lists ≡ map (λ v. v.items) c.self.inside.writes.items =
     ap (λ (x : Execution). x.write_lists) (sym c.self.view_is) in
     c.as_slice.ensures.value
-    ∙ sym (list_seen c.self.inside.writes.items c.args.self.now.write_lists c.args.address c.index.result.now lists (omega (arith, c.if-address-len.false, c.len.ensures, c.self.inside.writes.ok.0)) c.index.ensures)
+    ∙ sym (list_seen c.self.inside.writes.items c.args.self.now.write_lists c.args.address c.index.result.now
+      lists (omega (arith, c.if-address-len.false, c.len.ensures, c.self.inside.writes.ok.0)) c.index.ensures)

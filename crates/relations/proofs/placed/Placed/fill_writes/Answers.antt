@@ -35,7 +35,8 @@ bounds-events-f c =
     omega (
       arith,
       c.requires.events.size,
-      listed_event x c.requires.placed.well_formed c.in-Some.address ws c.loop-i.i c.write_list-list.ensures c.loop-i-test.true,
+      listed_event x c.requires.placed.well_formed c.in-Some.address ws c.loop-i.i c.write_list-list.ensures
+          c.loop-i-test.true,
     )
 
 pub put-requires : goal.put-requires
@@ -47,7 +48,8 @@ put-requires c =
       c.requires.size,
       c.loop-i.invariant.size,
       c.requires.events.size,
-      listed_event x c.requires.placed.well_formed c.in-Some.address ws c.loop-i.i c.write_list-list.ensures c.loop-i-test.true,
+      listed_event x c.requires.placed.well_formed c.in-Some.address ws c.loop-i.i c.write_list-list.ensures
+          c.loop-i-test.true,
     )
 
 pub loop-i-preserved : goal.loop-i-preserved
@@ -58,7 +60,8 @@ loop-i-preserved c =
     let i = c.loop-i.i in
     let f = get_or ws i 0 in
     let within : f < event_count x =
-    listed_event x c.requires.placed.well_formed c.in-Some.address ws i c.write_list-list.ensures c.loop-i-test.true in
+    listed_event x c.requires.placed.well_formed c.in-Some.address ws i c.write_list-list.ensures
+        c.loop-i-test.true in
     let second = c.requires.events.each f _ (omega (arith, c.requires.events.size)) in
     let at : ℕ → ℕ = place (write_list x c.in-Some.address) in
     let first = c.first_place-first.result in
@@ -86,7 +89,9 @@ returns c =
     × (place (write_list x a) f < c.loop-i.i)) (λ f. Holds x Wo p.number f
     ⊎ Holds x Fr p.number f) c.args.row.now c.loop-i.row
     (λ f h.
-    let later = later_place x p first a f c.requires.placed c.first_place-first.ensures.reads c.first_place-first.ensures.writes (λ b r. c.in-Some.ensures.reads b (ap read_address c.requires.placed.event ∙ r))
+    let later = later_place x p first a f c.requires.placed c.first_place-first.ensures.reads
+        c.first_place-first.ensures.writes (λ b r. c.in-Some.ensures.reads b
+        (ap read_address c.requires.placed.event ∙ r))
     (λ b w. c.in-Some.ensures.writes b (ap written_address c.requires.placed.event ∙ w)) h in (
       later.0,
       omega (

@@ -5,10 +5,16 @@ use Rattle.replay.proofs.Replays.{turn_taken, ok_then}
 use Rattle.replay.proofs.replaying.Replay.turn.Goals as goal
 
 pub perform-requires-clause-addresses : goal.perform-requires-clause-addresses
-perform-requires-clause-addresses c = λ a uses. subst (λ (r : Replaying). a < length r.machine.program.names) (sym c.in_ok-execute_to.ensures) (c.requires.addresses a uses)
+perform-requires-clause-addresses c = λ a uses. subst (λ (r : Replaying). a < length r.machine.program.names)
+    (sym c.in_ok-execute_to.ensures) (c.requires.addresses a uses)
 
 pub returns : goal.returns
 returns c =
-    let first : c.execute_to.new.self ≡ with_steps c.args.self.now (execute_to c.args.self.now.machine.program.cores c.args.self.now.machine.state c.args.core (executed_before c.args.number c.args.event)) =
-    c.in_ok-execute_to.ensures ∙ ap (λ (k : ℕ). with_steps c.args.self.now (execute_to c.args.self.now.machine.program.cores c.args.self.now.machine.state c.args.core k)) c.executed_before.ensures in
-    ok_then c.perform.result (turn_taken c.args.self.now c.execute_to.new.self c.perform.new.self c.args.core c.args.number c.args.event first) c.perform.ensures
+    let first : c.execute_to.new.self ≡ with_steps c.args.self.now
+        (execute_to c.args.self.now.machine.program.cores c.args.self.now.machine.state c.args.core
+        (executed_before c.args.number c.args.event)) =
+    c.in_ok-execute_to.ensures ∙ ap (λ (k : ℕ). with_steps c.args.self.now
+        (execute_to c.args.self.now.machine.program.cores c.args.self.now.machine.state c.args.core k))
+        c.executed_before.ensures in
+    ok_then c.perform.result (turn_taken c.args.self.now c.execute_to.new.self c.perform.new.self c.args.core
+        c.args.number c.args.event first) c.perform.ensures
