@@ -92,7 +92,7 @@ pub seeded_answer : (p : Parts) (capacity : ℕ) (fault : Fault) (seed attempts 
     → IsSeededAnswer p capacity fault seed attempts answer
 seeded_answer p capacity fault seed attempts h end rng rest answer start seeded run is =
     let here : IsRandomRun attempts (begun_machine p capacity fault) (of_seed (splitmix_seed 32 seed)) end
-        rest =
+    rest =
     subst (λ (g : List ℕ). IsRandomRun attempts (begun_machine p capacity fault) g end rest) seeded
     (subst (λ (m : Configuration). IsRandomRun attempts m rng end rest) start run) in
     record {

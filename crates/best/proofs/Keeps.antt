@@ -14,7 +14,8 @@ use Rattle.atomic_table.proofs.Lists.{at_set, at_snoc, set_else, set_again}
 use Rattle.best.specs.declared.rule.Known.{Known}
 use Rattle.relations.specs.Relation.{Table, Related}
 use Rattle.relations.specs.Cycle.{IsCycle}
-use Rattle.best.specs.Rule.{IsLength, none_word, first_bound, spent_bound, joined_bounds, knows, Bounded, LegalBest, LowerStep}
+use Rattle.best.specs.Rule.{IsLength, none_word, first_bound, spent_bound, joined_bounds, knows, Bounded}
+use Rattle.best.specs.Rule.{LegalBest, LowerStep}
 use Rattle.best.specs.Rule.{ReadStep}
 
 none_in : {X : Type 0} (x : X) → Contains [] x → ⊥
@@ -53,7 +54,7 @@ moved c s r id n w less ok of mine c' =
       bounded = subst (λ (z : ℕ). (i : ℕ) (v : Known) → get_elem? (set s.views id w) i ≡ some v → Bounded v z)
           (sym is)
           (each_set (λ j u. Bounded u n) s.views id w mine
-            (λ j u _ e. lower_bounded u _ n (r.bounded j u e) less));
+          (λ j u _ e. lower_bounded u _ n (r.bounded j u e) less));
     }
 
 pub lowers : (c : Table) (slots id k : ℕ) (me : Me (Unit {0}) Known) → IsLength c k → k < 65536
@@ -75,8 +76,13 @@ pub reads : (c : Table) (slots id : ℕ) (me : Me (Unit {0}) Known) → me.0.liv
     → Allows (LegalBest c) slots id me 0 (λ n. n) (ReadStep (step slots 0 0 0 none) me)
 reads c slots id me live s r _ at _ = let n : ℕ = get_or s.words 0 0 in let b = r.bounded id me.0 at in
     let of = r.carried id me.0 at in dite (ℕ_discrete n none_word)
-    (λ hit. (me.0, keeps, tt, moved c s r id n me.0 (omega arith) r.word of b me.1,
-      (refl, (b, (λ _. refl), λ not. absurd (not hit)))))
+    (λ hit. (
+      me.0,
+      keeps,
+      tt,
+      moved c s r id n me.0 (omega arith) r.word of b me.1,
+      (refl, (b, (λ _. refl), λ not. absurd (not hit))),
+    ))
     (λ miss.
     let is : IsLength c n × (n < 65536) = ⊎_elim (λ e. absurd (miss e)) (λ x. x) r.word in (
       knows me.0 n,
@@ -84,8 +90,18 @@ reads c slots id me live s r _ at _ = let n : ℕ = get_or s.words 0 0 in let b 
       tt,
       moved c s r id n (knows me.0 n) (omega arith) r.word of
           (knows_bounded me.0 n n n b (omega arith) (omega arith) is.1) me.1,
-      (refl, (b, (λ e. absurd (miss e)), λ _. (refl, subst (λ (z : Table). IsLength z n) (sym (of live)) is.0,
-        is.1))),
+      (
+        refl,
+        (
+          b,
+          (λ e. absurd (miss e)),
+          λ _. (
+            refl,
+            subst (λ (z : Table). IsLength z n) (sym (of live)) is.0,
+            is.1,
+          ),
+        ),
+      ),
     ))
 
 pub begins : (c : Table) → LegalBest c (opening (none_word ∷ []) [] (first_bound c))
@@ -102,8 +118,12 @@ begins c = record {
     only (suc i) v e = absurd (some-ne-none v (sym e))
 
 pub splits : (c : Table) (id : ℕ) (v : Known) → Splits (LegalBest c) id v v v
-splits c id v s r at = subst (λ (vs : List Known). LegalBest c record { words = s.words; homes =
-    s.homes; views = vs ++ v ∷ [] }) (sym (set_again s.views id v at)) record {
+splits c id v s r at = subst (λ (vs : List Known). LegalBest c record {
+  words = s.words;
+  homes =
+      s.homes;
+  views = vs ++ v ∷ [];
+}) (sym (set_again s.views id v at)) record {
   size = r.size;
   word = r.word;
   carried = λ i u e l. ⊎_elim (λ x. r.carried i u x l)
@@ -119,12 +139,12 @@ pub joins : (c : Table) (id : ℕ) (v : Known) (other : ℕ) (w : Known) → Joi
 joins c id v other w s r at ne at' =
     let mid = set s.views id (joined_bounds v w) in
     let there : get_elem? s.views other ≡ some w = sym (set_else s.views id other (joined_bounds v w) ne)
-        ∙ at' in
+    ∙ at' in
     let kinds : (P : Known → Type 0) → P (joined_bounds v w) → P spent_bound
-        → ((j : ℕ) (u : Known) → get_elem? s.views j ≡ some u → P u) → (j : ℕ) (u : Known)
-        → get_elem? (set mid other spent_bound) j ≡ some u → P u
+    → ((j : ℕ) (u : Known) → get_elem? s.views j ≡ some u → P u) → (j : ℕ) (u : Known)
+    → get_elem? (set mid other spent_bound) j ≡ some u → P u
     = λ P p q o. each_set (λ _ u. P u) mid other spent_bound q
-        (λ j u _ e. each_set (λ _ u. P u) s.views id (joined_bounds v w) p (λ j u _ e. o j u e) j u e) in
+    (λ j u _ e. each_set (λ _ u. P u) s.views id (joined_bounds v w) p (λ j u _ e. o j u e) j u e) in
     record {
       size = r.size;
       word = r.word;

@@ -23,8 +23,8 @@ trials_rows o (Some command) are = (command.1, are.1)
 pub seeded_run : (inputs : List ℕ → Option (List ℕ)) (o : RunOptions) (text : List ℕ) (program : Parts)
     (answer : Answer) → AreBytesOf inputs (string_bytes o.program) text → reading text ≡ Ok program
     → IsSeededAnswer program o.buffer o.fault o.seed o.attempts answer → o.steps ≡ None
-      → IsRun inputs o answer
+    → IsRun inputs o answer
 seeded_run inputs o text program answer given read is none =
     subst (λ (steps : Option (List ℕ)). IsRunBy inputs o steps answer)
-        (sym (ap (λ steps. option_map string_bytes steps) none))
+    (sym (ap (λ steps. option_map string_bytes steps) none))
     (record { program_text = text; program_given = given; program = program; read = read; answered = is })

@@ -25,11 +25,11 @@ pub live_answer : (inputs : List ℕ → Option (List ℕ)) (o : LiveOptions) (t
 live_answer inputs o text program t machine answer bytes read given ended replay same is =
     let taken : all_taken program.cores o.buffer None (begun program) t.steps ≡ Ok t.machine.state =
     subst (λ (f : Fault). all_taken program.cores o.buffer f (begun program) t.steps ≡ Ok t.machine.state)
-        given.fault_is
+    given.fault_is
     (subst (λ (n : ℕ). all_taken program.cores n t.machine.fault (begun program) t.steps ≡ Ok t.machine.state)
-      given.capacity_is
+    given.capacity_is
     (subst (λ (q : Parts). all_taken q.cores t.machine.capacity t.machine.fault (begun q) t.steps
-      ≡ Ok t.machine.state) given.program_is replay)) in
+    ≡ Ok t.machine.state) given.program_is replay)) in
     let here : IsRunAnswer t.machine.fault t.machine.program t.machine.state answer =
     subst (λ (h : Configuration). IsRunAnswer h.fault h.program h.state answer) same is in
     let faultless : IsRunAnswer None t.machine.program t.machine.state answer =

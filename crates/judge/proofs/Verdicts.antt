@@ -20,7 +20,7 @@ module _ (x : Execution) (t : Table) (related : Agree (Related t) (Forced x))
       → IsLeastOrder (Related s) (length s) m → IsLeastOrder (Forced x) (event_count x) m
   least_order agree s same m least =
       let here : IsLeastOrder (Related t) (length t) m =
-          subst (λ (u : Table). IsLeastOrder (Related u) (length u) m) same least in
+      subst (λ (u : Table). IsLeastOrder (Related u) (length u) m) same least in
       agree related (event_count x) m (subst (λ (n : ℕ). IsLeastOrder (Related t) n m) size here)
 
   -- the certificate of the same table
@@ -39,7 +39,7 @@ module _ (x : Execution) (t : Table) (related : Agree (Related t) (Forced x))
   exact_rows agree s same c least =
       agree related (event_count x) (length c.cycle.items) (lists_of c.rows.items)
       (subst (λ (n : ℕ). AreExactRows (Related t) n (length c.cycle.items) (lists_of c.rows.items)) size
-        (same_certificate s same c least).exact)
+      (same_certificate s same c least).exact)
 
   -- the certificate
   pub certificate : CertificatesAgree (Related t) (Forced x) → (s : Table) → s ≡ t → (c : Certificate)
@@ -48,7 +48,7 @@ module _ (x : Execution) (t : Table) (related : Agree (Related t) (Forced x))
   certificate agree s same c least =
       (agree related (event_count x) c.cycle.items (lists_of c.rows.items)).0
       (subst (λ (n : ℕ). IsCertificate (Related t) n c.cycle.items (lists_of c.rows.items)) size
-        (same_certificate s same c least).certified)
+      (same_certificate s same c least).certified)
 
 -- where the forced pairs have a cycle, there is no order
 pub no_order : (x : Execution) → IsWellFormed x → EveryOrderRespects x → OrderedIsAcyclic (Forced x)

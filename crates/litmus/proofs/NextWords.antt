@@ -51,7 +51,7 @@ after_both (suc a) b s = let e : suc a + b ≡ suc (a + b) = omega arith in
 pub cores_turn : (z : Sizes) (p : Parts) (s : List ℕ) (k j m l : ℕ) → k ≡ suc j → m ≡ z.ops + l
     → with_cores z k p (first_words plus_plus m s)
     ≡ with_cores z j (with_words z.addresses (with_core p) (first_words plus_plus z.ops s))
-        (first_words plus_plus l (after_words z.ops s))
+    (first_words plus_plus l (after_words z.ops s))
 cores_turn z p s k j m l e f = rw (e, f) (rw (take_words z.ops l s, drop_words z.ops l s) refl)
 
 -- the state behind them

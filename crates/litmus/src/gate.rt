@@ -7,6 +7,10 @@ pub trait Gate: Sync {
 
     /// The worker is done with the piece.
     fn done(&self, worker: usize, piece: usize);
+
+    /// The worker found in the piece what is looked for: in a trial, a violation. At most once in a
+    /// piece, before it is done.
+    fn found(&self, _worker: usize, _piece: usize) {}
 }
 
 /// A gate that does nothing.

@@ -36,7 +36,7 @@ module _ (p : List (List Op)) (capacity : ℕ) (fault : Fault) where
       (ap (λ (v : State). taken p capacity fault v step) (same_state (Ok s) s t refl led) ∙ took)
   all_more s t u (x ∷ xs) step led took =
       bound_more (taken p capacity fault s x) (λ v. all_taken p capacity fault v xs)
-          (λ v. all_taken p capacity fault v (xs ++ step ∷ [])) t u
+      (λ v. all_taken p capacity fault v (xs ++ step ∷ [])) t u
       (λ v h. all_more v t u xs step h took) led
 
   -- steps that are taken are a run
@@ -51,11 +51,11 @@ module _ (p : List (List Op)) (capacity : ℕ) (fault : Fault) where
 pub replay_more : (old new : Configuration) (steps : List Step) (step : Step)
     → all_taken old.program.cores old.capacity old.fault (begun old.program) steps ≡ Ok old.state
     → taken old.program.cores old.capacity old.fault old.state step ≡ Ok new.state
-      → new ≡ record old { state = new.state }
+    → new ≡ record old { state = new.state }
     → all_taken new.program.cores new.capacity new.fault (begun new.program) (steps ++ step ∷ [])
-      ≡ Ok new.state
+    ≡ Ok new.state
 replay_more old new steps step replay took rest =
     ap (λ (h : Configuration). all_taken h.program.cores h.capacity h.fault (begun h.program)
-        (steps ++ step ∷ [])) rest
+    (steps ++ step ∷ [])) rest
     ∙ all_more old.program.cores old.capacity old.fault (begun old.program) old.state new.state steps step
-      replay took
+    replay took

@@ -45,17 +45,17 @@ places_none [] (suc n) l h = absurd (omega (arith, l))
 places_none (u ∷ units) zero l h = absurd (omega (arith, l))
 places_none (u ∷ units) (suc n) l h =
     ap (λ (k : ℕ). k ∷ places_of units) (h 0 u (omega arith)) ∙ ap (λ (ks : List ℕ). 0 ∷ ks)
-        (places_none units n (omega (arith, l)) (λ c d inside. h (suc c) d (omega (arith, inside))))
+    (places_none units n (omega (arith, l)) (λ c d inside. h (suc c) d (omega (arith, inside))))
 
 module _ (p : Parts) (capacity cores total n : ℕ) (units : List Progress) (cores_is : cores ≡ length p.cores)
     (n_is : n ≡ length p.names) (are : AreUnits p.cores units total)
     (fits : All (λ ops. All (IsWithin (length p.names)) ops) p.cores) (few : op_count p.cores ≤ MAX_EVENTS)
     (buffers : List Buffer) (caches : moesi.CacheState) (reads : List (ℕ × Option ℕ))
-      (writes : List (BoundedItems ℕ)) (done : BoundedItems ℕ) (blank : BlankSize)
+    (writes : List (BoundedItems ℕ)) (done : BoundedItems ℕ) (blank : BlankSize)
     (buffers_are : buffers ≡ replicate cores (record { entries = []; capacity = capacity }))
-      (caches_are : caches ≡ moesi.opening_caches cores n)
+    (caches_are : caches ≡ moesi.opening_caches cores n)
     (writes_are : writes ≡ replicate n (record { items = []; room = total }))
-      (reads_are : reads ≡ replicate total (0, None)) (done_is : done ≡ record { items = []; room = total })
+    (reads_are : reads ≡ replicate total (0, None)) (done_is : done ≡ record { items = []; room = total })
     (blank_is : blank ≡ record { cores = cores; events = total; addresses = n }) where
   -- each unit is at the start of its core
   units_begun : (c : ℕ) (d : Progress) → c < length p.cores → slice_index_or units c d
@@ -100,22 +100,26 @@ module _ (p : Parts) (capacity cores total n : ℕ) (units : List Progress) (cor
     events = ap (λ (m : List (ℕ × Option ℕ)). length m) reads_are
         ∙ (length-replicate total (0, None) ∙ are.events);
     first = λ c d inside. ap (λ (u : Progress). u.first) (are.begun c d inside);
-    place = λ c. omega (arith, ap (λ (l : List ℕ). get_or l c 0) places_are, get_or_same {A = ℕ}
-        (length p.cores) c 0);
+    place = λ c. omega (
+      arith,
+      ap (λ (l : List ℕ). get_or l c 0) places_are,
+      get_or_same {A = ℕ}
+          (length p.cores) c 0,
+    );
     capacities = subst (λ (l : List Buffer). All (λ b. b.capacity ≡ capacity) l) (sym buffers_are)
         (all_same (λ (b : Buffer). b.capacity ≡ capacity) cores (record { entries = []; capacity = capacity })
         refl);
     entries = subst (λ (l : List Buffer). All (λ b. All (IsEntry (length p.names)) b.entries) l)
         (sym buffers_are)
         (all_same (λ (b : Buffer). All (IsEntry (length p.names)) b.entries) cores
-          (record { entries = []; capacity = capacity }) (λ k d h. absurd (omega (arith, h))));
+        (record { entries = []; capacity = capacity }) (λ k d h. absurd (omega (arith, h))));
     write_rooms = subst (λ (l : List (BoundedItems ℕ)). All (λ b. b.room ≡ op_count p.cores) l)
         (sym writes_are) (all_same (λ (b : BoundedItems ℕ). b.room ≡ op_count p.cores) n
         (record { items = []; room = total }) are.events);
     write_lengths = subst (λ (l : List (BoundedItems ℕ)). All (λ b. length b.items ≤ length done.items) l)
         (sym writes_are)
         (all_same (λ (b : BoundedItems ℕ). length b.items ≤ length done.items) n
-          (record { items = []; room = total }) (omega arith));
+        (record { items = []; room = total }) (omega arith));
     performed_room = ap (λ (r : BoundedItems ℕ). r.room) done_is ∙ are.events;
     counted = omega (
       arith,
@@ -140,15 +144,15 @@ pub unit_more : (p : List (List Op)) (units units' : List Progress) (i next : �
     → next ≡ first_event p i
     → ((c : ℕ) (d : Progress) → c < i → get_or units c d ≡ record { first = first_event p c; place = 0 })
     → units' ≡ units ++ record { first = next; place = 0 } ∷ [] → (c : ℕ) (d : Progress) → c < i + 1
-      → get_or units' c d ≡ record { first = first_event p c; place = 0 }
+    → get_or units' c d ≡ record { first = first_event p c; place = 0 }
 unit_more p units units' i next long next_is begun is c d inside = ap (λ (l : List Progress). get_or l c d) is
     ∙ (elim (cases_lt c i) [
-  | inl before ↦ get_or_append_left units (record { first = next; place = 0 } ∷ []) d c
-    (omega (arith, before, long)) ∙ begun c d before
-  | inr behind ↦
-      let last : c ≡ i = omega (arith, inside, behind) in
-      get_or-append_right units (record { first = next; place = 0 } ∷ []) i c d long behind
-      ∙ (ap (λ (n : ℕ). get_or (record { first = next; place = 0 } ∷ []) n d)
-        (let e : c - i ≡ 0 = omega (arith, last) in e)
-      ∙ ap (λ (n : ℕ). record { first = n; place = 0 }) (next_is ∙ ap (first_event p) (sym last)))
-])
+      | inl before ↦ get_or_append_left units (record { first = next; place = 0 } ∷ []) d c
+          (omega (arith, before, long)) ∙ begun c d before
+      | inr behind ↦
+          let last : c ≡ i = omega (arith, inside, behind) in
+          get_or-append_right units (record { first = next; place = 0 } ∷ []) i c d long behind
+          ∙ (ap (λ (n : ℕ). get_or (record { first = next; place = 0 } ∷ []) n d)
+          (let e : c - i ≡ 0 = omega (arith, last) in e)
+          ∙ ap (λ (n : ℕ). record { first = n; place = 0 }) (next_is ∙ ap (first_event p) (sym last)))
+    ])

@@ -30,7 +30,7 @@ module _ (p : Parts) (capacity : ℕ) (units : List Progress) (buffers : List Bu
     (sound : IsSound p capacity units buffers caches writes reads done)
     (core : ℕ) (at : core < length p.cores) (old : Buffer) (is : old ≡ slice_index_or buffers core old)
     (fault : Fault) (entry : Entry) (here : Some entry ≡ slice_get old.entries
-      (draining fault old.entries)) where
+    (draining fault old.entries)) where
   -- the core has a buffer
   buffer_there : core < length buffers
   buffer_there = omega (arith, at, sound.buffers_length)
@@ -45,7 +45,7 @@ module _ (p : Parts) (capacity : ℕ) (units : List Progress) (buffers : List Bu
   entry_within = subst (IsEntry (length p.names))
       (get_or_from_slice_get old.entries (draining fault old.entries) entry entry (sym here))
       (waiting_within (draining fault old.entries) entry
-        (slice_get_within old.entries (draining fault old.entries) entry (sym here)))
+      (slice_get_within old.entries (draining fault old.entries) entry (sym here)))
 
   -- the buffer, borrowed again, is the same
   pub same_buffer : (now : Buffer) → now ≡ slice_index_or buffers core now → old ≡ now
@@ -54,9 +54,13 @@ module _ (p : Parts) (capacity : ℕ) (units : List Progress) (buffers : List Bu
   -- a drain that the caches refuse is blocked
   pub drain_blocked : (e : CacheError) → moesi.write caches core entry.addr entry.value entry.event ≡ Err e
       → taken p.cores capacity fault (state_from units buffers caches writes reads done.items) (Drain core)
-        ≡ Err B5
-  drain_blocked e refused = rw (lt-ltb core (length p.cores) at, buffer_seen buffers core old buffer_there is,
-      ← here, refused) refl
+      ≡ Err B5
+  drain_blocked e refused = rw (
+    lt-ltb core (length p.cores) at,
+    buffer_seen buffers core old buffer_there is,
+    ← here,
+    refused,
+  ) refl
 
 module _ (p : Parts) (capacity : ℕ) (units : List Progress) (buffers : List Buffer)
     (caches : moesi.CacheState)
@@ -65,7 +69,7 @@ module _ (p : Parts) (capacity : ℕ) (units : List Progress) (buffers : List Bu
     (core : ℕ) (at : core < length p.cores) (old new : Buffer) (is : old ≡ slice_index_or buffers core old)
     (fault : Fault) (entry : Entry) (here : Some entry ≡ slice_get old.entries (draining fault old.entries))
     (popped : new.entries ≡ without (draining fault old.entries) old.entries)
-      (same : new.capacity ≡ old.capacity) where
+    (same : new.capacity ≡ old.capacity) where
   -- the core has a buffer
   there : core < length buffers
   there = omega (arith, at, sound.buffers_length)
@@ -80,7 +84,7 @@ module _ (p : Parts) (capacity : ℕ) (units : List Progress) (buffers : List Bu
   one_within = subst (IsEntry (length p.names))
       (get_or_from_slice_get old.entries (draining fault old.entries) entry entry (sym here))
       (all_within (draining fault old.entries) entry
-        (slice_get_within old.entries (draining fault old.entries) entry (sym here)))
+      (slice_get_within old.entries (draining fault old.entries) entry (sym here)))
 
   -- and so are those that stay
   rest_within : All (IsEntry (length p.names)) new.entries
@@ -100,8 +104,13 @@ module _ (p : Parts) (capacity : ℕ) (units : List Progress) (buffers : List Bu
 
   -- one more can be performed
   room_left : length done.items < op_count p.cores
-  room_left = omega (arith, counted, sound.counted, places_within (places_of units) p.cores
-      (length-map units (λ (u : Progress). u.place) ∙ sound.units_length) sound.place)
+  room_left = omega (
+    arith,
+    counted,
+    sound.counted,
+    places_within (places_of units) p.cores
+        (length-map units (λ (u : Progress). u.place) ∙ sound.units_length) sound.place,
+  )
 
   -- the performed list has room for it
   pub has_room : length done.items < done.room
@@ -118,8 +127,11 @@ module _ (p : Parts) (capacity : ℕ) (units : List Progress) (buffers : List Bu
 
     -- and no longer than the performed list
     list_short : length list.items ≤ length done.items
-    list_short = omega (arith, ap (λ (l : BoundedItems ℕ). length l.items) list_is,
-        sound.write_lengths entry.addr list in_writes)
+    list_short = omega (
+      arith,
+      ap (λ (l : BoundedItems ℕ). length l.items) list_is,
+      sound.write_lengths entry.addr list in_writes,
+    )
 
     -- so it has room for one more
     pub list_has_room : length list.items < list.room
@@ -127,8 +139,11 @@ module _ (p : Parts) (capacity : ℕ) (units : List Progress) (buffers : List Bu
 
     module _ (list' : BoundedItems ℕ) (pushed : list'
         ≡ record { items = list.items ++ entry.event ∷ []; room = list.room })
-        (done' : BoundedItems ℕ) (done_is : done' ≡ record { items = done.items ++ entry.event ∷ []; room =
-          done.room }) where
+        (done' : BoundedItems ℕ) (done_is : done' ≡ record {
+          items = done.items ++ entry.event ∷ [];
+          room =
+              done.room;
+        }) where
       -- the performed list grows by one
       longer : length done'.items ≡ length done.items + 1
       longer = ap (λ (r : BoundedItems ℕ). length r.items) done_is ∙ length-append done.items
@@ -138,7 +153,7 @@ module _ (p : Parts) (capacity : ℕ) (units : List Progress) (buffers : List Bu
       pub drained_sound : (caches' : moesi.CacheState) → caches'.cores ≡ caches.cores
           → length caches'.blocks ≡ length caches.blocks
           → IsSound p capacity units (slice_set buffers core new) caches' (slice_set writes entry.addr list')
-            reads done'
+          reads done'
       drained_sound caches' same_cores same_blocks = record {
         operations = sound.operations;
         few = sound.few;
@@ -157,10 +172,15 @@ module _ (p : Parts) (capacity : ℕ) (units : List Progress) (buffers : List Bu
         write_rooms = All-set (λ l. l.room ≡ op_count p.cores) writes entry.addr list'
             (ap (λ (r : BoundedItems ℕ). r.room) pushed ∙ list_room) sound.write_rooms;
         write_lengths = All-set (λ l. length l.items ≤ length done'.items) writes entry.addr list'
-            (omega (arith, list_short, longer, ap (λ (r : BoundedItems ℕ). length r.items) pushed,
-              length-append list.items (entry.event ∷ [])))
+            (omega (
+              arith,
+              list_short,
+              longer,
+              ap (λ (r : BoundedItems ℕ). length r.items) pushed,
+              length-append list.items (entry.event ∷ []),
+            ))
             (All-weaker (λ l. length l.items ≤ length done.items) (λ l. length l.items ≤ length done'.items)
-              (λ l h. omega (arith, h, longer)) writes sound.write_lengths);
+            (λ l h. omega (arith, h, longer)) writes sound.write_lengths);
         performed_room = ap (λ (r : BoundedItems ℕ). r.room) done_is ∙ sound.performed_room;
         counted = omega (arith, counted, longer, sound.counted);
       }
@@ -169,9 +189,9 @@ module _ (p : Parts) (capacity : ℕ) (units : List Progress) (buffers : List Bu
       pub drain_taken : (caches' : moesi.CacheState)
           → moesi.write caches core entry.addr entry.value entry.event ≡ Ok caches'
           → taken p.cores capacity fault (state_from units buffers caches writes reads done.items)
-            (Drain core)
+          (Drain core)
           ≡ Ok (state_from units (slice_set buffers core new) caches' (slice_set writes entry.addr list')
-              reads done'.items)
+          reads done'.items)
       drain_taken caches' wrote = rw (
         lt-ltb core (length p.cores) at,
         map-set (λ (b : Buffer). b.entries) buffers core new,

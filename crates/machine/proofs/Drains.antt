@@ -32,7 +32,7 @@ pub drains : (p : List (List Op)) (s : State) (caches : moesi.CacheState) (c : �
     (front back : List Entry) → c < length s.buffers → buffer_of s c ≡ front ++ x ∷ back
     → AreStores p c (front ++ x ∷ back)
     → Drains (static_of p s) (snapshot_of p s) (snapshot_of p (drained_state s caches c x (front ++ back))) c
-      x.event (map (λ (y : Entry). y.event) front)
+    x.event (map (λ (y : Entry). y.event) front)
 drains p s caches c x front back at is stores = record {
   back = map (λ (y : Entry). y.event) back;
   performed = refl;
@@ -51,25 +51,25 @@ pub drain_counted : (p : List (List Op)) (s : State) (caches : moesi.CacheState)
     (front back : List Entry) → c < length s.buffers → buffer_of s c ≡ front ++ x ∷ back
     → AreStores p c (front ++ x ∷ back)
     → IsCounted (static_of p s) (snapshot_of p s)
-      → IsCounted (static_of p (drained_state s caches c x (front ++ back)))
-      (snapshot_of p (drained_state s caches c x (front ++ back)))
+    → IsCounted (static_of p (drained_state s caches c x (front ++ back)))
+    (snapshot_of p (drained_state s caches c x (front ++ back)))
 drain_counted p s caches c x front back at is stores counted =
     counted_kept (static_of p s) (snapshot_of p s)
-        (snapshot_of p (drained_state s caches c x (front ++ back))) x.event counted
+    (snapshot_of p (drained_state s caches c x (front ++ back))) x.event counted
     (drain_counts (static_of p s) (snapshot_of p s)
-      (snapshot_of p (drained_state s caches c x (front ++ back))) c x.event
-      (map (λ (y : Entry). y.event) front) counted (drains p s caches c x front back at is stores))
+    (snapshot_of p (drained_state s caches c x (front ++ back))) c x.event
+    (map (λ (y : Entry). y.event) front) counted (drains p s caches c x front back at is stores))
 
 -- a drain of the oldest store keeps the order
 pub drain_ordered : (p : List (List Op)) (s : State) (caches : moesi.CacheState) (c : ℕ) (x : Entry)
     (xs : List Entry) → c < length s.buffers → buffer_of s c ≡ x ∷ xs → AreStores p c (x ∷ xs)
     → IsCounted (static_of p s) (snapshot_of p s) → IsOrdered (static_of p s) (snapshot_of p s)
-      → IsOrdered (static_of p (drained_state s caches c x xs))
-      (snapshot_of p (drained_state s caches c x xs))
+    → IsOrdered (static_of p (drained_state s caches c x xs))
+    (snapshot_of p (drained_state s caches c x xs))
 drain_ordered p s caches c x xs at is stores counted ordered =
     ordered_kept (static_of p s) (snapshot_of p s) (snapshot_of p (drained_state s caches c x xs)) x.event
-        counted ordered
+    counted ordered
     (drain_counts (static_of p s) (snapshot_of p s) (snapshot_of p (drained_state s caches c x xs)) c x.event
-      [] counted (drains p s caches c x [] xs at is stores))
+    [] counted (drains p s caches c x [] xs at is stores))
     (drain_orders (static_of p s) (snapshot_of p s) (snapshot_of p (drained_state s caches c x xs)) c x.event
-      counted ordered (drains p s caches c x [] xs at is stores))
+    counted ordered (drains p s caches c x [] xs at is stores))

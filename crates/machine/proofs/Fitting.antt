@@ -1,4 +1,5 @@
--- What every step without fault keeps of the sizes of a state, so that every such run leads to one that is orderly.
+-- What every step without fault keeps of the sizes of a state, so that every such run leads to one that is
+-- orderly.
 use Rattle.std.proofs.Common.{◌≡◌, ◌<◌, ◌≤◌, ◌+◌, inl, inr, ℕ, zero, suc, cond, Option, Ok, List, [], ◌∷◌}
 use Rattle.std.proofs.Common.{◌++◌, take, length, get_or, slice_set, replicate, arith, refl, sym, ap, subst}
 use Rattle.std.proofs.Common.{◌∙◌, get_or-set_same, get_or-set_other, length-set, length-append}
@@ -36,19 +37,27 @@ before_more : (i : ℕ) (ops : List Op) → i < length ops → stores_before (i 
 unfolding stores_before
 before_more i [] h = absurd (omega (arith, h))
 before_more zero (op ∷ ops) h = omega arith
-before_more (suc i) (op ∷ ops) h = omega
-    (arith, before_more i ops (omega (arith, h)), ap (λ (k : ℕ). stores_before k (op ∷ ops))
-    (let e : suc i + 1 ≡ suc (i + 1) = omega arith in e))
+before_more (suc i) (op ∷ ops) h = omega (
+  arith,
+  before_more i ops (omega (arith, h)),
+  ap (λ (k : ℕ). stores_before k (op ∷ ops))
+      (let e : suc i + 1 ≡ suc (i + 1) = omega arith in e),
+)
 
 -- they are counted so
 before_is : (i : ℕ) (ops : List Op) → stores_before i ops ≡ count_by is_st (take i ops)
 unfolding stores_before
 before_is zero ops = refl
 before_is (suc i) [] = refl
-before_is (suc i) (op ∷ ops) = omega (arith, before_is i ops, sum_by-cons {X = Op}
-    (λ o. cond (is_st o) 1 0) op (take i ops))
+before_is (suc i) (op ∷ ops) = omega (
+  arith,
+  before_is i ops,
+  sum_by-cons {X = Op}
+      (λ o. cond (is_st o) 1 0) op (take i ops),
+)
 
--- what fits: no core waits for more stores than it executed, none is past its end, and each executed event was performed or waits
+-- what fits: no core waits for more stores than it executed, none is past its end, and each executed event
+-- was performed or waits
 pub record IsFitting (p : List (List Op)) (n : ℕ) (s : State) : Type 0 where
   pub in_order : IsInOrder p s
   pub few : (c : ℕ) → length (buffer_of s c) ≤ stores_before (place_of s c) (get_or p c [])
@@ -66,7 +75,7 @@ module _ (p : List (List Op)) (n : ℕ) (s : State) (f : IsFitting p n s) where
       → get_or (slice_set s.places c (place_of s c + 1)) d 0 ≤ length (get_or p d [])
   place_up c b op at d = elim (cases_eq d c) [
     | inl own ↦ subst (λ (z : ℕ). get_or (slice_set s.places c (place_of s c + 1)) z 0 ≤ length
-      (get_or p z [])) (sym own)
+        (get_or p z [])) (sym own)
         (omega (arith, get_or-set_same s.places c (place_of s c + 1) 0 at.core, at.there))
     | inr other ↦ omega (arith, get_or-set_other s.places c d (place_of s c + 1) 0 other, f.places d)
   ]
@@ -81,39 +90,54 @@ module _ (p : List (List Op)) (n : ℕ) (s : State) (f : IsFitting p n s) where
       (get_or p d []) ≤ stores_before (get_or (slice_set s.places c (place_of s c + 1)) d 0) (get_or p d [])
   few_up c b op at d = elim (cases_eq d c) [
     | inl own ↦ subst (λ (z : ℕ). stores_before (place_of s z) (get_or p z []) ≤ stores_before
-      (get_or (slice_set s.places c (place_of s c + 1)) z 0) (get_or p z [])) (sym own)
+        (get_or (slice_set s.places c (place_of s c + 1)) z 0) (get_or p z [])) (sym own)
         (omega (
           arith,
           ap (λ (i : ℕ). stores_before i (get_or p c []))
               (get_or-set_same s.places c (place_of s c + 1) 0 at.core),
           before_more (place_of s c) (get_or p c []) at.there,
         ))
-    | inr other ↦ omega (arith, ap (λ (i : ℕ). stores_before i (get_or p d []))
-      (get_or-set_other s.places c d (place_of s c + 1) 0 other))
+    | inr other ↦ omega (
+      arith,
+      ap (λ (i : ℕ). stores_before i (get_or p d []))
+          (get_or-set_other s.places c d (place_of s c + 1) 0 other),
+    )
   ]
 
   -- a drain keeps what fits
   drain_fits : (caches : moesi.CacheState) (c : ℕ) (x : Entry) (xs : List Entry) → c < length p
       → buffer_of s c ≡ x ∷ xs
       → moesi.write s.caches c x.addr x.value x.event ≡ Ok caches
-        → IsFitting p n (drained_state s caches c x xs)
+      → IsFitting p n (drained_state s caches c x xs)
   drain_fits caches c x xs at is wrote =
       let inside : c < length s.buffers = omega (arith, at, f.in_order.steady.buffers) in
       record {
         in_order = (in_order_kept p s f.in_order).drain caches c x xs at is wrote;
         few = λ d. elim (cases_eq d c) [
           | inl own ↦ subst (λ (z : ℕ). length (get_or (slice_set s.buffers c xs) z []) ≤ stores_before
-            (place_of s z) (get_or p z [])) (sym own)
-              (omega (arith, ap (λ (l : List Entry). length l) (get_or-set_same s.buffers c xs [] inside),
-                ap (λ (l : List Entry). length l) is, f.few c))
-          | inr other ↦ omega (arith, ap (λ (l : List Entry). length l)
-            (get_or-set_other s.buffers c d xs [] other), f.few d)
+              (place_of s z) (get_or p z [])) (sym own)
+              (omega (
+                arith,
+                ap (λ (l : List Entry). length l) (get_or-set_same s.buffers c xs [] inside),
+                ap (λ (l : List Entry). length l) is,
+                f.few c,
+              ))
+          | inr other ↦ omega (
+            arith,
+            ap (λ (l : List Entry). length l)
+                (get_or-set_other s.buffers c d xs [] other),
+            f.few d,
+          )
         ];
         places = f.places;
         lists = length-set s.write_lists x.addr (get_or s.write_lists x.addr [] ++ x.event ∷ []) ∙ f.lists;
-        counted = omega (arith, f.counted, pushed s.performed x.event,
-            sum_by-set (λ (b : List Entry). length b) s.buffers c xs [] inside,
-            ap (λ (l : List Entry). length l) is);
+        counted = omega (
+          arith,
+          f.counted,
+          pushed s.performed x.event,
+          sum_by-set (λ (b : List Entry). length b) s.buffers c xs [] inside,
+          ap (λ (l : List Entry). length l) is,
+        );
       }
 
   -- a store keeps what fits
@@ -125,7 +149,7 @@ module _ (p : List (List Op)) (n : ℕ) (s : State) (f : IsFitting p n s) where
         in_order = (in_order_kept p s f.in_order).store c b a v at core;
         few = λ d. elim (cases_eq d c) [
           | inl own ↦ subst (λ (z : ℕ). length (get_or (slice_set s.buffers c more) z []) ≤ stores_before
-            (get_or (slice_set s.places c (place_of s c + 1)) z 0) (get_or p z [])) (sym own)
+              (get_or (slice_set s.places c (place_of s c + 1)) z 0) (get_or p z [])) (sym own)
               (omega (
                 arith,
                 ap (λ (l : List Entry). length l) (get_or-set_same s.buffers c more [] inside),
@@ -136,8 +160,13 @@ module _ (p : List (List Op)) (n : ℕ) (s : State) (f : IsFitting p n s) where
                 ap {B = ℕ} (λ (o : Op). cond (is_st o) 1 0) at.operation,
                 f.few c,
               ))
-          | inr other ↦ omega (arith, ap (λ (l : List Entry). length l)
-            (get_or-set_other s.buffers c d more [] other), f.few d, few_up c b (St a v) at d)
+          | inr other ↦ omega (
+            arith,
+            ap (λ (l : List Entry). length l)
+                (get_or-set_other s.buffers c d more [] other),
+            f.few d,
+            few_up c b (St a v) at d,
+          )
         ];
         places = place_up c b (St a v) at;
         lists = f.lists;
@@ -235,8 +264,12 @@ orderly p n s within f = record {
   buffers = f.in_order.steady.buffers;
   lists = f.lists;
   blocks = omega (arith, f.lists, f.in_order.steady.listed.cells);
-  lines = λ a inside. omega (arith, f.in_order.coherent.lines a
-      (omega (arith, inside, f.lists, f.in_order.steady.listed.cells)), f.in_order.steady.cores);
+  lines = λ a inside. omega (
+    arith,
+    f.in_order.coherent.lines a
+        (omega (arith, inside, f.lists, f.in_order.steady.listed.cells)),
+    f.in_order.steady.cores,
+  );
   addresses = within;
   counted = f.counted;
   once = λ e done. f.in_order.steady.counted.listed e done.0 done.1;
@@ -252,5 +285,5 @@ pub every_state_is_orderly : (p : List (List Op)) (n capacity : ℕ) (steps : Li
 every_state_is_orderly p n capacity steps fits =
     orderly p n (run p capacity fault.None (opening p n) steps) (op_within p n fits)
     (run_kept p capacity fault.None (IsFitting p n)
-      (λ s f. (faultless p s (IsFitting p n) (fitting_kept p n s f), f.in_order.steady.places)) steps
-      (opening p n) (opening_fits p n fits))
+    (λ s f. (faultless p s (IsFitting p n) (fitting_kept p n s f), f.in_order.steady.places)) steps
+    (opening p n) (opening_fits p n fits))

@@ -1,4 +1,5 @@
--- What is known of a buffer that loses the entry at one place, and what each word of a fault says where there is none.
+-- What is known of a buffer that loses the entry at one place, and what each word of a fault says where
+-- there is none.
 use Rattle.std.proofs.Common.{◌≡◌, ◌+◌, ℕ, true, Some, List, [], ◌∷◌, ◌++◌, take, drop, length, slice_get}
 use Rattle.std.proofs.Common.{arith, refl, sym, ap, subst, ◌∙◌, add-one, drop-cons, length-append}
 use Rattle.std.specs.List.{All}
@@ -14,8 +15,11 @@ use Rattle.machine.specs.Faults.{forwarded, draining, without, may_fence, may_rm
 
 -- the entries from a place on begin with the one there
 drop_front : (xs : List Entry) (i : ℕ) (x : Entry) → slice_get xs i ≡ Some x → drop i xs ≡ x ∷ drop (i + 1) xs
-drop_front xs i x here = rw (drop-cons xs i x (slice_get_within xs i x here),
-    get_or_from_slice_get xs i x x here, add-one) refl
+drop_front xs i x here = rw (
+  drop-cons xs i x (slice_get_within xs i x here),
+  get_or_from_slice_get xs i x x here,
+  add-one,
+) refl
 
 -- the entry at a place stands between those before it and those behind it
 pub split_at : (xs : List Entry) (i : ℕ) (x : Entry) → slice_get xs i ≡ Some x → xs ≡ take i xs ++ x ∷ drop

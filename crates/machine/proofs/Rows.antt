@@ -56,7 +56,7 @@ pub record IsKept (p : List (List Op)) (f : Fault) (s : State) (P : State → Ty
   pub drain : (caches : moesi.CacheState) (c : ℕ) (x : Entry) (front back : List Entry) → c < length p
       → buffer_of s c ≡ front ++ x ∷ back → (f ≡ fault.None → front ≡ [])
       → moesi.write s.caches c x.addr x.value x.event ≡ Ok caches
-        → P (drained_state s caches c x (front ++ back))
+      → P (drained_state s caches c x (front ++ back))
   pub store : (c b a v : ℕ) → IsNext p s c b (St a v) → c < length p → P (stored_state s c b a v)
   pub load : (c b a : ℕ) (what : ℕ × Option ℕ) → IsNext p s c b (Ld a) → looked_up f s c a ≡ Ok what
       → P (loaded_state s c b what)
@@ -199,12 +199,14 @@ module _ (p : List (List Op)) (capacity : ℕ) (f : Fault) (s : State) (P : Stat
           let i : ℕ = draining f (buffer_of s c) in
           let wrote = allowed_ok B5 _ (moesi.write s.caches c x.addr x.value x.event) t h' in
           subst P wrote.2 (kept.drain wrote.0 c x (take i (buffer_of s c)) (drop (i + 1) (buffer_of s c)) at
-              (split_at (buffer_of s c) i x is) (none_before f (buffer_of s c)) wrote.1)
+          (split_at (buffer_of s c) i x is) (none_before f (buffer_of s c)) wrote.1)
   step_kept (GetS c a) t h = transaction_kept c a t (moesi.get_s s.caches c a)
       (λ caches is. (inl (inl is), λ none. inl is)) h
   step_kept (GetM c a) t h = transaction_kept c a t (get_m_under f s.caches c a)
-      (λ caches is. (get_m_any f s.caches c a caches is,
-        λ none. inr (inl (subst (λ (g : Fault). get_m_under g s.caches c a ≡ Ok caches) none is)))) h
+      (λ caches is. (
+        get_m_any f s.caches c a caches is,
+        λ none. inr (inl (subst (λ (g : Fault). get_m_under g s.caches c a ≡ Ok caches) none is)),
+      )) h
   step_kept (Put c a) t h = transaction_kept c a t (moesi.put s.caches c a)
       (λ caches is. (inl (inr (inr is)), λ none. inr (inr is))) h
 

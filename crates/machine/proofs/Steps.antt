@@ -15,8 +15,10 @@ pub after_is : (old new : Configuration) (step : Step) (r : Result (Unit {0}) Bl
     → OnOk r (taken old.program.cores old.capacity old.fault old.state step ≡ Ok new.state)
     → IfErr r (λ b. taken old.program.cores old.capacity old.fault old.state step ≡ Err b)
     → OnOk r (new ≡ record old { state = new.state }) → OnErr r (new ≡ old)
-    → new ≡ record old { state = after old.state
-      (taken old.program.cores old.capacity old.fault old.state step) }
+    → new ≡ record old {
+      state = after old.state
+          (taken old.program.cores old.capacity old.fault old.state step);
+    }
 after_is old new step (Ok u) took blocked rest same = rw took rest
 after_is old new step (Err b) took blocked rest same = rw blocked same
 
@@ -24,5 +26,5 @@ after_is old new step (Err b) took blocked rest same = rw blocked same
 pub run_more : (p : List (List Op)) (capacity : ℕ) (f : Fault) (s : State) (steps : List Step) (i : ℕ)
     (d : Step) → i < length steps
     → run p capacity f (after s (taken p capacity f s (get_or steps i d))) (drop (i + 1) steps)
-      ≡ run p capacity f s (drop i steps)
+    ≡ run p capacity f s (drop i steps)
 run_more p capacity f s steps i d inside = rw (drop-cons steps i d inside, add-one) refl

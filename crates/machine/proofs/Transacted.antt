@@ -14,7 +14,7 @@ use Rattle.machine.specs.Configuration.{IsSound, state_from}
 module _ (p : Parts) (capacity : ℕ) (units : List Progress) (buffers : List Buffer)
     (caches : moesi.CacheState)
     (writes : List (BoundedItems ℕ)) (reads : List (ℕ × Option ℕ)) (done : BoundedItems ℕ)
-      (caches' : moesi.CacheState) where
+    (caches' : moesi.CacheState) where
   -- the parts still fit together
   pub transacted_sound : IsSound p capacity units buffers caches writes reads done
       → caches'.cores ≡ caches.cores → length caches'.blocks ≡ length caches.blocks
@@ -43,17 +43,17 @@ module _ (p : Parts) (capacity : ℕ) (units : List Progress) (buffers : List Bu
     -- the row of GetS
     pub get_s_taken : moesi.get_s caches core addr ≡ Ok caches'
         → taken p.cores capacity fault (state_from units buffers caches writes reads done.items)
-          (GetS core addr) ≡ Ok (state_from units buffers caches' writes reads done.items)
+        (GetS core addr) ≡ Ok (state_from units buffers caches' writes reads done.items)
     get_s_taken made = rw (there, made) refl
 
     -- the row of GetM
     pub get_m_taken : get_m_under fault caches core addr ≡ Ok caches'
         → taken p.cores capacity fault (state_from units buffers caches writes reads done.items)
-          (GetM core addr) ≡ Ok (state_from units buffers caches' writes reads done.items)
+        (GetM core addr) ≡ Ok (state_from units buffers caches' writes reads done.items)
     get_m_taken made = rw (there, made) refl
 
     -- the row of Put
     pub put_taken : moesi.put caches core addr ≡ Ok caches'
         → taken p.cores capacity fault (state_from units buffers caches writes reads done.items)
-          (Put core addr) ≡ Ok (state_from units buffers caches' writes reads done.items)
+        (Put core addr) ≡ Ok (state_from units buffers caches' writes reads done.items)
     put_taken made = rw (there, made) refl

@@ -74,7 +74,7 @@ pub goes_on : (p : List (List Op)) (capacity : ℕ) (s t u : State) (xs ys : Lis
 goes_on p capacity s t u [] ys front back = subst (λ (z : State). Goes p capacity z ys u) (sym front.1) back
 goes_on p capacity s t u (x ∷ xs) ys front back =
     let rest : Goes p capacity (after s (taken p capacity fault.None s x)) (xs ++ ys) u = goes_on p capacity
-        (after s (taken p capacity fault.None s x)) t u xs ys (front.0.1, front.1) back in
+    (after s (taken p capacity fault.None s x)) t u xs ys (front.0.1, front.1) back in
     ((front.0.0, rest.0), rest.1)
 
 -- a guarded step that is taken had its guard
@@ -119,7 +119,7 @@ step_more : (p : List (List Op)) (capacity larger : ℕ) (s t : State) (step : S
     → taken p capacity fault.None s step ≡ Ok t → taken p larger fault.None s step ≡ Ok t
 step_more p capacity larger s t (Exec c) h took =
     guard_more (nat_lt c (length p)) _ _ t
-        (next_more p capacity larger s t c (slice_get (slice_index_or p c []) (place_of s c)) h) took
+    (next_more p capacity larger s t c (slice_get (slice_index_or p c []) (place_of s c)) h) took
 step_more p capacity larger s t (Drain c) h took = took
 step_more p capacity larger s t (GetS c a) h took = took
 step_more p capacity larger s t (GetM c a) h took = took
@@ -132,9 +132,9 @@ goes_more p capacity larger h [] s t g = g
 goes_more p capacity larger h (step ∷ steps) s t g =
     let took : taken p capacity fault.None s step ≡ Ok g.0.0.0 = g.0.0.1 in
     let rest : Goes p capacity g.0.0.0 steps t =
-        subst (λ (r : Result State Blocked). Goes p capacity (after s r) steps t) took (g.0.1, g.1) in
+    subst (λ (r : Result State Blocked). Goes p capacity (after s r) steps t) took (g.0.1, g.1) in
     goes_first p larger s g.0.0.0 t step steps (step_more p capacity larger s g.0.0.0 step h took)
-        (goes_more p capacity larger h steps g.0.0.0 t rest)
+    (goes_more p capacity larger h steps g.0.0.0 t rest)
 
 -- a plain store has an address and a value
 store_is : (op : Op) → is_st op ≡ true → (a : ℕ) × (v : ℕ) × (op ≡ St a v)
@@ -170,7 +170,7 @@ pub record HasStored (p : List (List Op)) (n capacity : ℕ) (s t : State) (c j 
 store_one : (p : List (List Op)) (n capacity : ℕ) (s : State) (c : ℕ) → IsGoing p n capacity s → c < length p
     → place_of s c < length (get_or p c []) → count_by is_st (get_or p c []) ≤ capacity
     → is_st (get_or (get_or p c []) (place_of s c) Fence) ≡ true → (t : State)
-      × (taken p capacity fault.None s (Exec c) ≡ Ok t) × HasStored p n capacity s t c 1
+    × (taken p capacity fault.None s (Exec c) ≡ Ok t) × HasStored p n capacity s t c 1
 store_one p n capacity s c f core there room store =
     go (store_is (get_or (get_or p c []) (place_of s c) Fence) store)
   where
@@ -192,12 +192,12 @@ store_one p n capacity s c f core there room store =
     go (a, v, is) =
         let b : ℕ = first_event p c + place_of s c in
         let t : State = advanced (with_buffer s c
-            (buffer_of s c ++ record { addr = a; value = v; event = b } ∷ [])) c in
+        (buffer_of s c ++ record { addr = a; value = v; event = b } ∷ [])) c in
         let did : exec capacity fault.None s c b (St a v) ≡ Ok t =
-            rw (lt-ltb (length (buffer_of s c)) capacity fewer) refl in
+        rw (lt-ltb (length (buffer_of s c)) capacity fewer) refl in
         let took : taken p capacity fault.None s (Exec c) ≡ Ok t = at_taken p capacity s c
-            (get_or (get_or p c []) (place_of s c) Fence) b (is_at p s c core there)
-            ∙ (ap (exec capacity fault.None s c b) is ∙ did) in (
+        (get_or (get_or p c []) (place_of s c) Fence) b (is_at p s c core there)
+        ∙ (ap (exec capacity fault.None s c b) is ∙ did) in (
           t,
           took,
           record {
@@ -225,16 +225,27 @@ pub store_all : (p : List (List Op)) (n capacity c j : ℕ) (s : State) → IsGo
     → place_of s c + j ≤ length (get_or p c []) → count_by is_st (get_or p c []) ≤ capacity
     → ((i : ℕ) → place_of s c ≤ i → i < place_of s c + j → is_st (get_or (get_or p c []) i Fence) ≡ true)
     → (t : State) × Goes p capacity s (replicate j (Exec c)) t × HasStored p n capacity s t c j
-store_all p n capacity c zero s f core there room stores =
-    (s, (tt, refl), record { fits = f; performed = refl; place = omega arith; caches = refl; sum =
-    omega arith })
+store_all p n capacity c zero s f core there room stores = (
+  s,
+  (tt, refl),
+  record {
+    fits = f;
+    performed = refl;
+    place = omega arith;
+    caches = refl;
+    sum =
+        omega arith;
+  },
+)
 store_all p n capacity c (suc j) s f core there room stores =
     let one = store_one p n capacity s c f core (omega (arith, there)) room
-        (stores (place_of s c) (omega arith) (omega arith)) in
+    (stores (place_of s c) (omega arith) (omega arith)) in
     let rest = store_all p n capacity c j one.0 one.2.fits core (omega (arith, one.2.place, there)) room
-        (λ i from to. stores i (omega (arith, one.2.place, from)) (omega (arith, one.2.place, to))) in
-    (rest.0, goes_first p capacity s one.0 rest.0 (Exec c) (replicate j (Exec c)) one.1 rest.1,
-      stored_more p n capacity s one.0 rest.0 c j one.2 rest.2)
+    (λ i from to. stores i (omega (arith, one.2.place, from)) (omega (arith, one.2.place, to))) in (
+      rest.0,
+      goes_first p capacity s one.0 rest.0 (Exec c) (replicate j (Exec c)) one.1 rest.1,
+      stored_more p n capacity s one.0 rest.0 c j one.2 rest.2,
+    )
 
 -- Lines
 
@@ -272,24 +283,34 @@ module _ (p : List (List Op)) (n capacity : ℕ) (s : State) (f : IsGoing p n ca
     where
       go : (b : Bool) → is_exclusive (moesi.line_of s.caches c a) ≡ b
           → (caches : moesi.CacheState) × Fetches p n capacity s (cond b [] (GetM c a ∷ [])) caches
-            × (is_exclusive (moesi.line_of caches c a) ≡ true)
+          × (is_exclusive (moesi.line_of caches c a) ≡ true)
       go true is = (s.caches, ((tt, refl), f, refl), is)
       go false is =
           let b : Block = moesi.block_of s.caches a in
-          let u : Block = record { lines = slice_set (map row.invalidated b.lines) c
-              (record { line = line.M; copy = supplied b }); memory = b.memory } in
-          let caches : moesi.CacheState = record { cores = s.caches.cores; blocks =
-              slice_set s.caches.blocks a u } in
+          let u : Block = record {
+            lines = slice_set (map row.invalidated b.lines) c
+                (record { line = line.M; copy = supplied b });
+            memory = b.memory;
+          } in
+          let caches : moesi.CacheState = record {
+            cores = s.caches.cores;
+            blocks =
+                slice_set s.caches.blocks a u;
+          } in
           let made : moesi.get_m s.caches c a ≡ Ok caches = rw is refl in
           let took : taken p capacity fault.None s (GetM c a) ≡ Ok (with_caches s caches) =
-              rw (has_line p s c a core within, made) refl in (
+          rw (has_line p s c a core within, made) refl in (
             caches,
-            (goes_one p capacity s (with_caches s caches) (GetM c a) took, goes_further p n capacity s
-              (with_caches s caches) (GetM c a) f took, length-set s.caches.blocks a u),
+            (
+              goes_one p capacity s (with_caches s caches) (GetM c a) took,
+              goes_further p n capacity s
+                  (with_caches s caches) (GetM c a) f took,
+              length-set s.caches.blocks a u,
+            ),
             ap is_exclusive (line_new s.caches c a u within
                 ∙ ap (λ (y : Cell). y.line) (get_or-set_same (map row.invalidated b.lines) c
-                  (record { line = line.M; copy = supplied b }) invalid
-                  (omega (arith, line_within, length-map b.lines row.invalidated)))),
+                (record { line = line.M; copy = supplied b }) invalid
+                (omega (arith, line_within, length-map b.lines row.invalidated)))),
           )
 
   -- a core that wants to read a line gets it, unless a store of its own waits
@@ -301,23 +322,30 @@ module _ (p : List (List Op)) (n capacity : ℕ) (s : State) (f : IsGoing p n ca
     where
       go : (b : Bool) → is_valid (moesi.line_of s.caches c a) ≡ b
           → (caches : moesi.CacheState) × Fetches p n capacity s (cond b [] (GetS c a ∷ [])) caches
-            × ((what : ℕ × Option ℕ) × (moesi.read caches c a ≡ Ok what))
+          × ((what : ℕ × Option ℕ) × (moesi.read caches c a ≡ Ok what))
       go true is = (s.caches, ((tt, refl), f, refl), (moesi.copy_of s.caches c a, rw is refl))
       go false is =
           let b : Block = moesi.block_of s.caches a in
           let y : Cell = record { line = cond (has_copy b) line.S line.E; copy = supplied b } in
           let u : Block = record { lines = slice_set (map row.shared b.lines) c y; memory = b.memory } in
-          let caches : moesi.CacheState = record { cores = s.caches.cores; blocks =
-              slice_set s.caches.blocks a u } in
+          let caches : moesi.CacheState = record {
+            cores = s.caches.cores;
+            blocks =
+                slice_set s.caches.blocks a u;
+          } in
           let made : moesi.get_s s.caches c a ≡ Ok caches = rw is refl in
           let took : taken p capacity fault.None s (GetS c a) ≡ Ok (with_caches s caches) =
-              rw (has_line p s c a core within, made) refl in
+          rw (has_line p s c a core within, made) refl in
           let valid : is_valid (moesi.line_of caches c a) ≡ true = ap is_valid (line_new s.caches c a u within
           ∙ ap (λ (z : Cell). z.line) (get_or-set_same (map row.shared b.lines) c y invalid
-            (omega (arith, line_within, length-map b.lines row.shared)))) ∙ shared_valid (has_copy b) in (
+          (omega (arith, line_within, length-map b.lines row.shared)))) ∙ shared_valid (has_copy b) in (
             caches,
-            (goes_one p capacity s (with_caches s caches) (GetS c a) took, goes_further p n capacity s
-              (with_caches s caches) (GetS c a) f took, length-set s.caches.blocks a u),
+            (
+              goes_one p capacity s (with_caches s caches) (GetS c a) took,
+              goes_further p n capacity s
+                  (with_caches s caches) (GetS c a) f took,
+              length-set s.caches.blocks a u,
+            ),
             (moesi.copy_of caches c a, rw valid refl),
           )
 
@@ -326,8 +354,11 @@ pub write_made : (s : moesi.CacheState) (c a value event : ℕ) → is_exclusive
     → (caches : moesi.CacheState) × (moesi.write s c a value event ≡ Ok caches)
 write_made s c a value event is =
     let b : Block = moesi.block_of s a in
-    let u : Block = record { lines = slice_set b.lines c
-        (record { line = line.M; copy = (value, Some event) }); memory = b.memory } in
+    let u : Block = record {
+      lines = slice_set b.lines c
+          (record { line = line.M; copy = (value, Some event) });
+      memory = b.memory;
+    } in
     (record { cores = s.cores; blocks = slice_set s.blocks a u }, rw is refl)
 
 -- at most one step gets a line

@@ -43,8 +43,14 @@ turn_behind p n capacity s u t c j e steps goes stored took = record {
   goes = goes_on p capacity s u t (replicate j (Exec c)) steps goes took.goes;
   fits = took.fits;
   performed = took.performed ∙ ap (λ (l : List ℕ). l ++ e ∷ []) stored.performed;
-  few = omega (arith, took.few, stored.sum, length-append (replicate j (Exec c)) steps, length-replicate j
-      (Exec c));
+  few = omega (
+    arith,
+    took.few,
+    stored.sum,
+    length-append (replicate j (Exec c)) steps,
+    length-replicate j
+        (Exec c),
+  );
 }
 
 module _ (x : Execution) (m : List ℕ) (tso : IsTsoOrder x m) (n capacity : ℕ)
@@ -66,22 +72,22 @@ module _ (x : Execution) (m : List ℕ) (tso : IsTsoOrder x m) (n capacity : ℕ
   event_turn : (s : State) (f : IsGoing (program_of x) n capacity s) (e : ℕ) (rest : List ℕ)
       (split : m ≡ s.performed ++ e ∷ rest)
       → (t : State) × IsTurn (program_of x) n capacity s
-        (turn (program_of x) capacity fault.None s (core_of x e) e (event_at x e)) e t
+      (turn (program_of x) capacity fault.None s (core_of x e) e (event_at x e)) e t
   event_turn s f e rest split =
       let p : List (List Op) = program_of x in
       let c : ℕ = core_of x e in
       let far : ℕ = executed_before e (event_at x e) in
       let ran = caught_up x m tso n capacity room s f e rest split far (before_few e (event_at x e))
-          (before_store e (event_at x e)) in
+      (before_store e (event_at x e)) in
       let later : m ≡ ran.0.performed ++ e ∷ rest = split ∙ ap (λ (l : List ℕ). l ++ e ∷ rest)
-          (sym ran.2.performed) in
+      (sym ran.2.performed) in
       let took = perform_turn ran.0 ran.2.fits e rest later (event_at x e) refl
-          (omega (arith, ran.2.place)) in (
+      (omega (arith, ran.2.place)) in (
         took.0,
         subst (λ (z : State). IsTurn p n capacity s (execute_to p s c far ++ perform z c (event_at x e)) e
             took.0) (sym ran.1.1)
             (turn_behind p n capacity s ran.0 took.0 c (far - (first_event p c + place_of s c)) e
-              (perform ran.0 c (event_at x e)) ran.1 ran.2 took.1),
+            (perform ran.0 c (event_at x e)) ran.1 ran.2 took.1),
       )
 
   -- the steps lead from s to t, which has performed the whole order
@@ -95,25 +101,38 @@ module _ (x : Execution) (m : List ℕ) (tso : IsTsoOrder x m) (n capacity : ℕ
   -- so does the order
   pub order_run : (rest : List ℕ) (s : State) → IsGoing (program_of x) n capacity s → m ≡ s.performed ++ rest
       → (t : State) × IsRun s rest t
-  order_run [] s f split = (s, record { goes = (tt, refl); fits = f; performed =
-      sym (split ∙ append-nil s.performed); few = omega arith })
+  order_run [] s f split = (
+    s,
+    record {
+      goes = (tt, refl);
+      fits = f;
+      performed =
+          sym (split ∙ append-nil s.performed);
+      few = omega arith;
+    },
+  )
   order_run (e ∷ rest) s f split =
       let took = event_turn s f e rest split in
       let later : m ≡ took.0.performed ++ rest = split
-          ∙ (sym (append_assoc s.performed (e ∷ []) rest) ∙ ap (λ (l : List ℕ). l ++ rest)
-          (sym took.1.performed)) in
+      ∙ (sym (append_assoc s.performed (e ∷ []) rest) ∙ ap (λ (l : List ℕ). l ++ rest)
+      (sym took.1.performed)) in
       let ran = order_run rest took.0 took.1.fits later in
       let front : List Step = turn (program_of x) capacity fault.None s (core_of x e) e (event_at x e) in
       let back : List Step = order_steps x capacity fault.None took.0 rest in
       let same : front ++ back ≡ order_steps x capacity fault.None s (e ∷ rest) =
-          ap (λ (z : State). front ++ order_steps x capacity fault.None z rest) (sym took.1.goes.1) in (
+      ap (λ (z : State). front ++ order_steps x capacity fault.None z rest) (sym took.1.goes.1) in (
         ran.0,
         record {
           goes = subst (λ (steps : List Step). Goes (program_of x) capacity s steps ran.0) same
               (goes_on (program_of x) capacity s took.0 ran.0 front back took.1.goes ran.1.goes);
           fits = ran.1.fits;
           performed = ran.1.performed;
-          few = omega (arith, took.1.few, ran.1.few, length-append front back,
-              ap (λ (l : List Step). length l) same);
+          few = omega (
+            arith,
+            took.1.few,
+            ran.1.few,
+            length-append front back,
+            ap (λ (l : List Step). length l) same,
+          );
         },
       )

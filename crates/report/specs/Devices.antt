@@ -1,5 +1,6 @@
 -- What reading from a source and writing to a sink do.
-use Rattle.std.specs.Prelude.{◌≡◌, ◌<◌, ◌↔◌, ◌+◌, ◌-◌, ◌^◌, ◌++◌, ℕ, List, Option, Result, Ok, Err, Bool, true}
+use Rattle.std.specs.Prelude.{◌≡◌, ◌<◌, ◌↔◌, ◌+◌, ◌-◌, ◌^◌, ◌++◌, ℕ, List, Option, Result, Ok, Err, Bool}
+use Rattle.std.specs.Prelude.{true}
 use Rattle.std.specs.Prelude.{⊤, length}
 use Rattle.std.specs.Io.KnownBytes.{Consumes}
 use Rattle.report.specs.declared.outcomes.ReportError.{ReportError}

@@ -40,7 +40,10 @@ unites_right v w u is k h = subst (λ (x : Known). Contains x.lengths k) (sym is
 pub row_kept : (t : Table) (before after : List ℕ) (v : ℕ) (row : SourceRow) → Keeps before after
     → IsRowFrom t before v row → IsRowFrom t after v row
 row_kept t before after v row keeps h =
-    record { shares = h.shares; from = h.from; covers = covers_kept (Related t) before after v keeps h.covers
+    record {
+      shares = h.shares;
+      from = h.from;
+      covers = covers_kept (Related t) before after v keeps h.covers;
     }
 
 -- and so in its place
@@ -53,20 +56,23 @@ slot_kept t before after v (Some row) keeps h = row_kept t before after v row ke
 pub slots_kept : (t : Table) (before after : List ℕ) (slots : List (Option SourceRow)) → Keeps before after
     → AreSlots t before slots → AreSlots t after slots
 slots_kept t before after slots keeps h =
-    record { size = h.size; each = λ v d at. slot_kept t before after v (get_or slots v d) keeps
-    (h.each v d at) }
+    record {
+      size = h.size;
+      each = λ v d at. slot_kept t before after v (get_or slots v d) keeps
+          (h.each v d at);
+    }
 
 -- one empty place more
 pub none_more : (t : Table) (lengths : List ℕ) (i : ℕ) (slots : List (Option SourceRow)) → length slots ≡ i
     → ((v : ℕ) (d : Option SourceRow) → v < i → IfSome (get_or slots v d) (IsRowFrom t lengths v))
     → (v : ℕ) (d : Option SourceRow) → v < i + 1 → IfSome (get_or (slots ++ None ∷ []) v d)
-      (IsRowFrom t lengths v)
+    (IsRowFrom t lengths v)
 none_more t lengths i slots long before v d below = elim (cases_eq v i) [
   | inl is ↦ subst (λ (o : Option SourceRow). IfSome o (IsRowFrom t lengths v))
-    (sym (get_or_push slots None d v (long ∙ sym is))) tt
+      (sym (get_or_push slots None d v (long ∙ sym is))) tt
   | inr other ↦ subst (λ (o : Option SourceRow). IfSome o (IsRowFrom t lengths v))
-    (sym (get_or_append_left slots (None ∷ []) d v (omega (arith, long, below, other))))
-    (before v d (omega (arith, below, other)))
+      (sym (get_or_append_left slots (None ∷ []) d v (omega (arith, long, below, other))))
+      (before v d (omega (arith, below, other)))
 ]
 
 -- one row more
@@ -77,13 +83,13 @@ filled_more t before after i rows more row keeps h new is = record {
   size = omega (arith, ap (λ (rs : List SourceRow). length rs) is, length-append rows (row ∷ []), h.size);
   each = λ v d below. subst (λ (rs : List SourceRow). IsRowFrom t after v (get_or rs v d)) (sym is)
       (elim (cases_eq v i) [
-    | inl same ↦ subst (λ (r : SourceRow). IsRowFrom t after v r)
-      (sym (get_or_push rows row d v (h.size ∙ sym same)))
-      (subst (λ (x : ℕ). IsRowFrom t after x row) (sym same) new)
-    | inr other ↦ subst (λ (r : SourceRow). IsRowFrom t after v r)
-      (sym (get_or_append_left rows (row ∷ []) d v (omega (arith, h.size, below, other))))
-      (row_kept t before after v (get_or rows v d) keeps (h.each v d (omega (arith, below, other))))
-  ]);
+        | inl same ↦ subst (λ (r : SourceRow). IsRowFrom t after v r)
+            (sym (get_or_push rows row d v (h.size ∙ sym same)))
+            (subst (λ (x : ℕ). IsRowFrom t after x row) (sym same) new)
+        | inr other ↦ subst (λ (r : SourceRow). IsRowFrom t after v r)
+            (sym (get_or_append_left rows (row ∷ []) d v (omega (arith, h.size, below, other))))
+            (row_kept t before after v (get_or rows v d) keeps (h.each v d (omega (arith, below, other))))
+      ]);
 }
 
 module _ (t : Table) (v w : Known) (rows : List SourceRow) (of : v.relation ≡ t)
@@ -125,5 +131,5 @@ least_known t v w (Some n) says least k short =
     let a : (c : List ℕ) × IsShortest (Related t) c × (length c ≡ n) = least in
     let b : (c : List ℕ) × IsShortest (Related t) c × (length c ≡ k) = short in
     subst (λ (x : ℕ). Contains w.lengths x)
-        (omega (arith, a.2, b.2, a.1.shortest b.0 b.1.cycle, b.1.shortest a.0 a.1.cycle))
-        (knows_it v w n says.0)
+    (omega (arith, a.2, b.2, a.1.shortest b.0 b.1.cycle, b.1.shortest a.0 a.1.cycle))
+    (knows_it v w n says.0)

@@ -25,8 +25,11 @@ covers_kept R before after v keeps h c cycle on = let k : (k : ℕ) × Contains 
 pub rows_kept : (t : Table) (before after : List ℕ) (rows : List SourceRow) → Keeps before after
     → All (IsRowFor t before) rows → All (IsRowFor t after) rows
 rows_kept t before after rows keeps h = λ k d at. let r : IsRowFor t before (get_or rows k d) = h k d at in
-    record { shares = r.shares; covers = covers_kept (Related t) before after (get_or rows k d).source keeps
-    r.covers }
+    record {
+      shares = r.shares;
+      covers = covers_kept (Related t) before after (get_or rows k d).source keeps
+          r.covers;
+    }
 
 -- an item that may have been pushed
 pub perhaps_pushed : {X : Type 0} (P : X → Type 0) (b : Bool) (xs ys : List X) (x : X)
@@ -36,10 +39,15 @@ perhaps_pushed P false xs ys x is all one = subst (All P) (sym is) all
 
 -- a crew for a relation is one for what its seat carries
 pub crew_of : (b : Best) (t : Table) (c : Crew) → IsCrewFor b t c → IsCrew b c
-crew_of b t c h = (h.0.0, subst (λ (r : Table). All (λ (job : Job). job.relation ≡ r) c.jobs.items)
-    (sym h.0.1) h.1)
+crew_of b t c h = (
+  h.0.0,
+  subst (λ (r : Table). All (λ (job : Job). job.relation ≡ r) c.jobs.items)
+      (sym h.0.1) h.1,
+)
 
 -- and its haul is one for the relation
 pub haul_for : (b : Best) (t : Table) (c : Crew) (h : Haul) → IsCrewFor b t c → IsHaulOf c h → IsHaulFor b t h
-haul_for b t c h crew haul = ((haul.0 ∙ crew.0.0, haul.1 ∙ crew.0.1),
-    subst (λ (r : Table). All (IsRowFor r (lengths_of h.seat)) h.rows.items) crew.0.1 haul.2)
+haul_for b t c h crew haul = (
+  (haul.0 ∙ crew.0.0, haul.1 ∙ crew.0.1),
+  subst (λ (r : Table). All (IsRowFor r (lengths_of h.seat)) h.rows.items) crew.0.1 haul.2,
+)

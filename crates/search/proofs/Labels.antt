@@ -30,12 +30,17 @@ pub labelled_next : (t : Table) (cap : Option ℕ) (i : ℕ) (front : List (List
     (rest rows : List (List ℕ)) → length front ≡ i → front ++ one ∷ rest ≡ rows
     → IsLeastLength (Related t) cap
     → AreExactRows (Related t) (length t) (unwrap_or cap (length t)) rows
-      → IsSourceRow (record { relation = t; source = i; cap = cap; numbers = one })
+    → IsSourceRow (record { relation = t; source = i; cap = cap; numbers = one })
 labelled_next t cap i front one rest rows size split least exact =
-    let within : i < length t = omega (arith, size, exact.one_each,
-        ap (λ (all : List (List ℕ)). length all) split, length-append front (one ∷ rest)) in
+    let within : i < length t = omega (
+      arith,
+      size,
+      exact.one_each,
+      ap (λ (all : List (List ℕ)). length all) split,
+      length-append front (one ∷ rest),
+    ) in
     let read : get_or rows i [] ≡ one = ap (λ (all : List (List ℕ)). get_or all i []) (sym split)
-        ∙ (ap (λ (k : ℕ). get_or (front ++ one ∷ rest) k []) (sym size) ∙ behind_front front one rest) in
+    ∙ (ap (λ (k : ℕ). get_or (front ++ one ∷ rest) k []) (sym size) ∙ behind_front front one rest) in
     record {
       within = within;
       cycle = least_is_cycle (Related t) cap least;
@@ -49,7 +54,7 @@ pub split_more : (all : List SourceRow) (row : SourceRow) (one : List ℕ) (rest
 split_more all row one rest rows is split =
     ap (λ (front : List (List ℕ)). front ++ rest) (map-append (λ (l : SourceRow). l.numbers) all (row ∷ []))
     ∙ (append_assoc (numbers_of all) (row.numbers ∷ []) rest
-      ∙ (ap (λ (x : List ℕ). numbers_of all ++ x ∷ rest) is ∙ split))
+    ∙ (ap (λ (x : List ℕ). numbers_of all ++ x ∷ rest) is ∙ split))
 
 -- and has its name
 pub named_more : (t : Table) (cap : Option ℕ) (i : ℕ) (all : List SourceRow) (row : SourceRow)
@@ -58,10 +63,10 @@ pub named_more : (t : Table) (cap : Option ℕ) (i : ℕ) (all : List SourceRow)
     → (v : ℕ) (d : SourceRow) → v < i + 1 → IsNamed t cap v (get_or (all ++ row ∷ []) v d)
 named_more t cap i all row long new before v d below = elim (cases_eq v i) [
   | inl is ↦ subst (λ (x : ℕ). IsNamed t cap x (get_or (all ++ row ∷ []) x d)) (sym is)
-    (subst (λ (l : SourceRow). IsNamed t cap i l) (sym (get_or_push all row d i long)) new)
+      (subst (λ (l : SourceRow). IsNamed t cap i l) (sym (get_or_push all row d i long)) new)
   | inr other ↦ subst (λ (l : SourceRow). IsNamed t cap v l)
-    (sym (get_or_append_left all (row ∷ []) d v (omega (arith, long, below, other))))
-    (before v d (omega (arith, below, other)))
+      (sym (get_or_append_left all (row ∷ []) d v (omega (arith, long, below, other))))
+      (before v d (omega (arith, below, other)))
 ]
 
 -- a relation of no events has no cycle
@@ -93,7 +98,7 @@ least_none t jobs none h = record {
     no_events = elim (cases_eq (length t) 0) [
       | inl is ↦ is
       | inr more ↦ let some : (i : ℕ) × (i < length jobs) × ((d : Job) → (get_or jobs i d).source ≡ 0) =
-        h.named 0 (omega (arith, more)) in absurd (omega (arith, some.1, none))
+          h.named 0 (omega (arith, more)) in absurd (omega (arith, some.1, none))
     ]
 
 -- the jobs of a relation share it
@@ -108,9 +113,9 @@ pub lists_more : (lists : List (Vec ℕ Global)) (last : Vec ℕ Global) (one : 
     → last.items ≡ one → lists_of lists ++ one ∷ rest ≡ all → lists_of (lists ++ last ∷ []) ++ rest ≡ all
 lists_more lists last one rest all is split =
     ap (λ (front : List (List ℕ)). front ++ rest)
-        (map-append (λ (v : Vec ℕ Global). v.items) lists (last ∷ []))
+    (map-append (λ (v : Vec ℕ Global). v.items) lists (last ∷ []))
     ∙ (append_assoc (lists_of lists) (last.items ∷ []) rest
-      ∙ (ap (λ (x : List ℕ). lists_of lists ++ x ∷ rest) is ∙ split))
+    ∙ (ap (λ (x : List ℕ). lists_of lists ++ x ∷ rest) is ∙ split))
 
 -- without rows there is no length
 pub no_cap : (t : Table) (cap : Option ℕ) (rows : List SourceRow) → length rows ≡ 0 → AreLeastRows t cap rows
@@ -142,5 +147,5 @@ pub some_exact : (t : Table) (cap : Option ℕ) (k : ℕ) (rows : List SourceRow
     (length t) k lists
 some_exact t cap k rows lists is same h =
     subst (λ (ls : List (List ℕ)). AreExactRows (Related t) (length t) k ls) (sym same)
-        (subst (λ (o : Option ℕ). AreExactRows (Related t) (length t) (unwrap_or o (length t))
-        (numbers_of rows)) (sym is) h.exact)
+    (subst (λ (o : Option ℕ). AreExactRows (Related t) (length t) (unwrap_or o (length t))
+    (numbers_of rows)) (sym is) h.exact)

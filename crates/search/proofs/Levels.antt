@@ -54,7 +54,7 @@ pub record IsReached (R : ℕ → ℕ → Type 0) (n k v label : ℕ) (labels : 
   pub first : label ≡ 0 → is_in level v ≡ true
   pub grows : (e f : ℕ) → R e f → get_or labels e 0 < label
       → (get_or labels f 0 ≤ get_or labels e 0 + 1) ⊎
-        ((is_in level f ≡ true) × (get_or labels e 0 + 1 ≡ label))
+      ((is_in level f ≡ true) × (get_or labels e 0 + 1 ≡ label))
   pub empty : (e : ℕ) → is_in next e ≡ false
 
 -- the least label below the next one of the events that are related to v, or else the cap
@@ -68,7 +68,7 @@ exact_of : (R : ℕ → ℕ → Type 0) (n k v : ℕ) (labels : List ℕ) → le
     → ((e : ℕ) → e < n → get_or labels e 0 ≤ k)
     → ((e : ℕ) → e < n → get_or labels e 0 < k → Walk R (get_or labels e 0) v e)
     → get_or labels v 0 ≡ 0 → ((e f : ℕ) → R e f → get_or labels f 0 ≤ get_or labels e 0 + 1)
-      → IsExactRow R n k v labels
+    → IsExactRow R n k v labels
 exact_of R n k v labels size capped walked begins grows = record {
   one_each = size;
   labels = λ e at. record {
@@ -86,14 +86,17 @@ pub closed_nearest : (R : ℕ → ℕ → Type 0) (n k v label closing : ℕ) (l
 closed_nearest R n k v label closing labels within or_cap c = record {
   below = c.below;
   reached = c.reached;
-  nearest = λ e r. elim (or_cap e (within e v r).0) [ inl small ↦ c.nearest e r small | inr full ↦ omega
-      (arith, full, c.below) ];
+  nearest = λ e r. elim (or_cap e (within e v r).0) [
+    | inl small ↦ c.nearest e r small
+    | inr full ↦ omega
+        (arith, full, c.below)
+  ];
 }
 
 module _ (R : ℕ → ℕ → Type 0) (n k v label : ℕ) (within : (e f : ℕ) → R e f → (e < n) × (f < n))
     (labels after : List ℕ) (seen level next : List Bool)
     (less : label < k) (v_in : v < n) (size : length after ≡ length labels)
-      (h : IsReached R n k v label labels seen level next) (t : GetsLabel level n label labels after) where
+    (h : IsReached R n k v label labels seen level next) (t : GetsLabel level n label labels after) where
   -- an event of the level has the cap until it is taken
   cap_of_level : (e : ℕ) → e < n → is_in level e ≡ true → get_or labels e 0 ≡ k
   cap_of_level e at is = elim (h.or_cap e at) [
@@ -113,8 +116,11 @@ module _ (R : ℕ → ℕ → Type 0) (n k v label : ℕ) (within : (e f : ℕ) 
   or_cap_now : (e : ℕ) → e < n → (get_or after e 0 < label + 1) ⊎ (get_or after e 0 ≡ k)
   or_cap_now e at = elim (now_has e at) [
     | inl new ↦ inl (omega (arith, new.1))
-    | inr same ↦ elim (h.or_cap e at) [ inl small ↦ inl (omega (arith, small, same.1)) | inr full ↦ inr
-      (same.1 ∙ full) ]
+    | inr same ↦ elim (h.or_cap e at) [
+      | inl small ↦ inl (omega (arith, small, same.1))
+      | inr full ↦ inr
+          (same.1 ∙ full)
+    ]
   ]
 
   -- a walk has its length
@@ -133,7 +139,8 @@ module _ (R : ℕ → ℕ → Type 0) (n k v label : ℕ) (within : (e f : ℕ) 
     | inl new ↦ elim (cases_eq label 0) [
       | inl zero_yet ↦ new.1 ∙ zero_yet
       | inr later ↦ absurd (not_both (is_in seen v)
-        (h.below_seen v v_in (omega (arith, h.start (omega (arith, later)), later))) (h.level_fresh v new.0))
+          (h.below_seen v v_in (omega (arith, h.start (omega (arith, later)), later)))
+          (h.level_fresh v new.0))
     ]
     | inr same ↦ elim (cases_eq label 0) [
       | inl zero_yet ↦ absurd (not_both (is_in level v) (h.first zero_yet) same.0)
@@ -166,8 +173,11 @@ module _ (R : ℕ → ℕ → Type 0) (n k v label : ℕ) (within : (e f : ℕ) 
       (λ e at small. walk_now e at (omega (arith, small, last))) start_now grows
     where
       capped : (e : ℕ) → e < n → get_or after e 0 ≤ k
-      capped e at = elim (or_cap_now e at) [ inl below ↦ omega (arith, below, last) | inr full ↦ omega
-          (arith, full) ]
+      capped e at = elim (or_cap_now e at) [
+        | inl below ↦ omega (arith, below, last)
+        | inr full ↦ omega
+            (arith, full)
+      ]
 
       grows : (e f : ℕ) → R e f → get_or after f 0 ≤ get_or after e 0 + 1
       grows e f r = elim (or_cap_now e (within e f r).0) [
@@ -221,7 +231,7 @@ module _ (R : ℕ → ℕ → Type 0) (n k v label : ℕ) (within : (e f : ℕ) 
     | inr at ↦
         let at_in : at.0 < n = (within at.0 v at.1).0 in
         let early : closing < label = elim (h.or_cap at.0 at_in)
-            [ inl small ↦ omega (arith, small, at.2) | inr full ↦ absurd (some (sym at.2 ∙ full)) ] in
+        [ inl small ↦ omega (arith, small, at.2) | inr full ↦ absurd (some (sym at.2 ∙ full)) ] in
         record {
           below = c.below;
           reached = elim (now_has at.0 at_in) [
@@ -244,13 +254,13 @@ module _ (R : ℕ → ℕ → Type 0) (n k v label : ℕ) (within : (e f : ℕ) 
       → IsClosed R k v (label + 1) after closing_more
   closes_more P closing closing_more same c step = elim step [
     | inl found ↦ let at = same.0 found.1 in closes_here closing_more at.0 found.2 at.1 at.2
-      (none_closed closing found.0 c)
+        (none_closed closing found.0 c)
     | inr missed ↦ subst (λ (x : ℕ). IsClosed R k v (label + 1) after x) (sym missed.1)
-      (elim (cases_eq closing k) [
-      | inl none ↦ subst (λ (x : ℕ). IsClosed R k v (label + 1) after x) (sym none)
-        (closes_nothing (none_closed closing none c) (λ e here r. missed.0 none (same.1 (e, here, r))))
-      | inr some ↦ closes_still closing some c
-    ])
+        (elim (cases_eq closing k) [
+          | inl none ↦ subst (λ (x : ℕ). IsClosed R k v (label + 1) after x) (sym none)
+              (closes_nothing (none_closed closing none c) (λ e here r. missed.0 none (same.1 (e, here, r))))
+          | inr some ↦ closes_still closing some c
+        ])
   ]
 
   -- what closes, with this level, is the nearest if no more labels are given
@@ -299,8 +309,11 @@ module _ (R : ℕ → ℕ → Type 0) (n k v label : ℕ) (within : (e f : ℕ) 
               ]
               | inr here ↦ inl (omega (arith, t.labelled f f_in here, new.1))
             ]
-            | inr fresh ↦ inr (goes f ∙ and_true (is_in more f) (is_in seen_more f)
-              (x.joined e f e_in new.0 r) fresh, omega (arith, new.1))
+            | inr fresh ↦ inr (
+              goes f ∙ and_true (is_in more f) (is_in seen_more f)
+                  (x.joined e f e_in new.0 r) fresh,
+              omega (arith, new.1),
+            )
           ]
         ]
 
@@ -310,7 +323,7 @@ module _ (R : ℕ → ℕ → Type 0) (n k v label : ℕ) (within : (e f : ℕ) 
       | inr none ↦ none
       | inl is ↦
           let at : (is_in level e ≡ true) × (is_in seen_more e ≡ false) = true_and (is_in level e)
-              (is_in seen_more e) (sym (drops e) ∙ is) in
+          (is_in seen_more e) (sym (drops e) ∙ is) in
           absurd (not_both (is_in seen_more e) (seen_now e (inr at.0)) at.1)
     ]
 
@@ -337,7 +350,7 @@ module _ (R : ℕ → ℕ → Type 0) (n k v label : ℕ) (within : (e f : ℕ) 
       level_walk = λ e is. elim (x.only e (fresh_now e is).0) [
         | inl old ↦ absurd (not_both (is_in next e) old (h.empty e))
         | inr new ↦ walk_of R (suc label) (label + 1) v e (omega arith)
-          (walk_more R label v new.0 e (h.level_walk new.0 new.1) new.2)
+            (walk_more R label v new.0 e (h.level_walk new.0 new.1) new.2)
       ];
       level_fresh = λ e is. (fresh_now e is).1;
       start = λ _. start_now;
@@ -350,7 +363,7 @@ module _ (R : ℕ → ℕ → Type 0) (n k v label : ℕ) (within : (e f : ℕ) 
 pub reached_none : (R : ℕ → ℕ → Type 0) (n k v : ℕ) (labels : List ℕ) (seen level next : List Bool)
     → length labels ≡ n → ((e : ℕ) → e < n → get_or labels e 0 ≡ k)
     → ((e : ℕ) → is_in seen e ≡ false) → ((e : ℕ) → is_in next e ≡ false) → is_in level v ≡ true
-      → ((e : ℕ) → is_in level e ≡ true → v ≡ e) → IsReached R n k v 0 labels seen level next
+    → ((e : ℕ) → is_in level e ≡ true → v ≡ e) → IsReached R n k v 0 labels seen level next
 reached_none R n k v labels seen level next size caps unseen empty here only = record {
   one_each = size;
   seen_below = λ e at is. absurd (not_both (is_in seen e) is (unseen e));
@@ -369,17 +382,23 @@ reached_none R n k v labels seen level next size caps unseen empty here only = r
 pub reached_exact : (R : ℕ → ℕ → Type 0) (n k v label : ℕ) (labels : List ℕ) (seen level next : List Bool)
     → ((e f : ℕ) → R e f → (e < n) × (f < n)) → v < n → label ≤ k
     → (label ≡ k) ⊎ ((e : ℕ) → is_in level e ≡ false) → IsReached R n k v label labels seen level next
-      → IsExactRow R n k v labels
+    → IsExactRow R n k v labels
 reached_exact R n k v label labels seen level next within v_in most ended h =
     exact_of R n k v labels h.one_each capped walked begins grows
   where
     capped : (e : ℕ) → e < n → get_or labels e 0 ≤ k
-    capped e at = elim (h.or_cap e at) [ inl below ↦ omega (arith, below, most) | inr full ↦ omega
-        (arith, full) ]
+    capped e at = elim (h.or_cap e at) [
+      | inl below ↦ omega (arith, below, most)
+      | inr full ↦ omega
+          (arith, full)
+    ]
 
     walked : (e : ℕ) → e < n → get_or labels e 0 < k → Walk R (get_or labels e 0) v e
-    walked e at small = elim (h.or_cap e at) [ inl below ↦ h.walk e at below | inr full ↦ absurd
-        (omega (arith, full, small)) ]
+    walked e at small = elim (h.or_cap e at) [
+      | inl below ↦ h.walk e at below
+      | inr full ↦ absurd
+          (omega (arith, full, small))
+    ]
 
     begins : get_or labels v 0 ≡ 0
     begins = elim (cases_eq label 0) [

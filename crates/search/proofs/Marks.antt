@@ -37,8 +37,10 @@ one_alone row more v e empty joins is = elim (cases_eq e v) [
 
 -- the rows are as long as they are many
 pub bits_square : (t : Table) (rows : List (List Bool)) → AreSetsOf t rows → IsBitSquare rows
-bits_square t rows h = record { each = λ e at. (h.each e (omega (arith, at, h.one_each))).size
-    ∙ sym h.one_each }
+bits_square t rows h = record {
+  each = λ e at. (h.each e (omega (arith, at, h.one_each))).size
+      ∙ sym h.one_each;
+}
 
 -- what is marked is related
 pub marked_related : (t : Table) (rows : List (List Bool)) → AreSetsOf t rows → (e f : ℕ) → Marked rows e f
@@ -46,8 +48,8 @@ pub marked_related : (t : Table) (rows : List (List Bool)) → AreSetsOf t rows 
 marked_related t rows h e f is = elim (cases_lt e (length t)) [
   | inl below ↦ sym ((h.each e below).each f) ∙ is
   | inr past ↦ absurd (not_both (is_in (get_or rows e []) f) is
-    (ap (λ (row : List Bool). is_in row f) (get_or_past rows e [] (omega (arith, past, h.one_each)))
-    ∙ get_or_past {X = Bool} [] f false (omega arith)))
+      (ap (λ (row : List Bool). is_in row f) (get_or_past rows e [] (omega (arith, past, h.one_each)))
+      ∙ get_or_past {X = Bool} [] f false (omega arith)))
 ]
 
 -- what is related is marked
@@ -61,12 +63,12 @@ pub marked_within : (rows : List (List Bool)) → IsBitSquare rows → (e f : �
     → (e < length rows) × (f < length rows)
 marked_within rows square e f is = elim (cases_lt e (length rows)) [
   | inr past ↦ absurd (not_both (is_in (get_or rows e []) f) is
-    (ap (λ (row : List Bool). is_in row f) (get_or_past rows e [] past) ∙ get_or_past {X = Bool} [] f false
-    (omega arith)))
+      (ap (λ (row : List Bool). is_in row f) (get_or_past rows e [] past) ∙ get_or_past {X = Bool} [] f false
+      (omega arith)))
   | inl below ↦ elim (cases_lt f (length rows)) [
     | inl also ↦ (below, also)
     | inr beyond ↦ absurd (not_both (is_in (get_or rows e []) f) is
-      (get_or_past (get_or rows e []) f false (omega (arith, beyond, square.each e below))))
+        (get_or_past (get_or rows e []) f false (omega (arith, beyond, square.each e below))))
   ]
 ]
 
@@ -95,8 +97,11 @@ pub nearest_related : (t : Table) (bits : List (List Bool)) (v : ℕ) (row : Lis
     → IsNearest (Marked bits) v row k closing → IsNearest (Related t) v row k closing
 nearest_related t bits v row k closing within h near = record {
   below = near.below;
-  reached = elim near.reached [ inl same ↦ inl same | inr at ↦ inr
-      (at.0, marked_related t bits h at.0 v at.1, at.2) ];
+  reached = elim near.reached [
+    | inl same ↦ inl same
+    | inr at ↦ inr
+        (at.0, marked_related t bits h at.0 v at.1, at.2)
+  ];
   nearest = λ e r. near.nearest e (related_marked t bits within h e v r);
 }
 
@@ -106,4 +111,4 @@ pub row_related : (t : Table) (bits : List (List Bool)) (k v : ℕ) (row : List 
     → IsExactRow (Marked bits) (length bits) k v row → IsExactRow (Related t) (length t) k v row
 row_related t bits k v row within h exact =
     exact_agrees (Marked bits) (Related t) (marked_related t bits h) (related_marked t bits within h)
-        (length t) k v row (subst (λ (n : ℕ). IsExactRow (Marked bits) n k v row) h.one_each exact)
+    (length t) k v row (subst (λ (n : ℕ). IsExactRow (Marked bits) n k v row) h.one_each exact)

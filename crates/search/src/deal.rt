@@ -11,6 +11,10 @@ use litmus::OutOfMemory;
 use relations::Relation;
 use std::alloc::Global;
 
+/// A worker beside the first gets one of so many jobs: a search among as few events as a recording
+/// has is over before threads that share it evenly have paid for their start.
+const PART: usize = 32;
+
 /// A worker with a seat of its own and as many of the last jobs; the others stay.
 fn crew_of(
     relation: &Relation,
@@ -38,7 +42,8 @@ fn crew_of(
     })
 }
 
-/// A crew for each worker from 1 on, with an even share of the jobs; the other jobs stay.
+/// A crew for each worker from 1 on, with its part of the jobs, one at least while there are any; the
+/// other jobs stay.
 pub(crate) fn dealt(
     alloc: Global,
     relation: &Relation,
@@ -57,7 +62,7 @@ pub(crate) fn dealt(
 {
     let mut crews = Vec::with_capacity(alloc, workers)?;
     for worker in 1..workers {
-        let share = jobs.len() / (workers - worker + 1);
+        let share = (jobs.len() / PART).max(1);
         crews.push(crew_of(relation, best, seat, worker, share, jobs)?)?;
     }
     Ok(crews)

@@ -28,8 +28,15 @@ pub record Grown (v w : View) : Type 0 where
   pub read : (q : ℕ) → Contains v.read q → Contains w.read q
 
 pub grown_same : (v : View) → Grown v v
-grown_same v = record { live = refl; campaign = refl; share = refl; filed = refl; seen = λ q h. h; read =
-    λ q h. h }
+grown_same v = record {
+  live = refl;
+  campaign = refl;
+  share = refl;
+  filed = refl;
+  seen = λ q h. h;
+  read =
+      λ q h. h;
+}
 
 grown_is : (v w x : View) → Grown v w → x ≡ w → Grown v x
 grown_is v w x g e = subst (Grown v) (sym e) g
@@ -38,18 +45,32 @@ pub grown_loads : (v w x : View) (k n : ℕ) → Grown v w → LoadsWord w k n x
 grown_loads v w x k n g l = dite (ℕ_discrete n 0)
     (λ e. grown_is v w x g (l.1 e))
     (λ full. dite (ℕ_discrete n 1)
-    (λ e. grown_is v (noticed w k) x record { live = g.live; campaign = g.campaign; share = g.share; filed =
-      g.filed; seen = λ q h. Contains-append_left w.seen (k ∷ []) q (g.seen q h); read = g.read } (l.2 e))
-    (λ more. grown_is v (met w k) x record { live = g.live; campaign = g.campaign; share = g.share; filed =
-      g.filed; seen = λ q h. Contains-append_left w.seen (k ∷ []) q (g.seen q h); read =
-      λ q h. Contains-append_left w.read (k ∷ []) q (g.read q h) } (l.3 full more).0))
+    (λ e. grown_is v (noticed w k) x record {
+      live = g.live;
+      campaign = g.campaign;
+      share = g.share;
+      filed =
+          g.filed;
+      seen = λ q h. Contains-append_left w.seen (k ∷ []) q (g.seen q h);
+      read = g.read;
+    } (l.2 e))
+    (λ more. grown_is v (met w k) x record {
+      live = g.live;
+      campaign = g.campaign;
+      share = g.share;
+      filed =
+          g.filed;
+      seen = λ q h. Contains-append_left w.seen (k ∷ []) q (g.seen q h);
+      read =
+          λ q h. Contains-append_left w.read (k ∷ []) q (g.read q h);
+    } (l.3 full more).0))
 
 grown_fits : (v w : View) (k n : ℕ) → Grown v w → FitsAt w k n → FitsAt v k n
 grown_fits v w k n g f =
     let into : (xs ys : List ℕ) → ys ≡ xs → Contains xs k → Contains ys k = λ xs ys e h. subst
-        (λ (z : List ℕ). Contains z k) (sym e) h in
+    (λ (z : List ℕ). Contains z k) (sym e) h in
     let code : IsCode w.campaign k n → IsCode v.campaign k n =
-        subst (λ (z : Plan). IsCode z k n) g.campaign in (
+    subst (λ (z : Plan). IsCode z k n) g.campaign in (
       (λ h. f.0 (into _ _ g.share h)),
       (λ h. let y = f.1 (into _ _ g.filed h) in (subst (λ (z : List ℕ). Contains z k) g.share y.0, code y.1)),
       (λ h out. f.2 (into _ _ g.share h) (λ y. out (subst (λ (z : List ℕ). Contains z k) g.filed y))),
@@ -64,8 +85,12 @@ pub record ReadSoFar (v : View) (ws : List ℕ) : Type 0 where
   pub beyond : 0 < length ws → (j : ℕ) → v.campaign.trials ≤ j → FitsAt v j 0
 
 pub nothing_read : (v : View) → ReadSoFar v []
-nothing_read v = record { fits = λ j h. absurd (omega (arith, h)); words =
-    λ j h. absurd (omega (arith, h)); beyond = λ h. absurd (omega (arith, h)) }
+nothing_read v = record {
+  fits = λ j h. absurd (omega (arith, h));
+  words =
+      λ j h. absurd (omega (arith, h));
+  beyond = λ h. absurd (omega (arith, h));
+}
 
 pub one_more : (v w x : View) (ws : List ℕ) (n : ℕ) → Grown v w → LoadsWord w (length ws) n x → ReadSoFar v ws
     → ReadSoFar v (ws ++ n ∷ [])
@@ -75,22 +100,26 @@ one_more v w x ws n g l r =
     let last : get_or (ws ++ n ∷ []) k 0 ≡ n = get_or-append_seam ws n [] 0 in
     let fit : FitsAt v k n = grown_fits v w k n g (subst (FitsAt w k) is (legal.fits i w at k)) in
     let word : IsWord v.campaign k n = subst (λ (c : Plan). IsWord c k n) g.campaign
-        (subst (IsWord w.campaign k) is (legal.words k)) in
+    (subst (IsWord w.campaign k) is (legal.words k)) in
     let len = length-append ws (n ∷ []) in
     record {
       fits = λ j h. dite (ℕ_discrete j k)
           (λ e. subst (λ (z : ℕ × ℕ). FitsAt v z.0 z.1)
-            (λ t. (sym e t, sym (ap (λ (q : ℕ). get_or (ws ++ n ∷ []) q 0) e ∙ last) t)) fit)
+          (λ t. (sym e t, sym (ap (λ (q : ℕ). get_or (ws ++ n ∷ []) q 0) e ∙ last) t)) fit)
           (λ ne. let low : j < k = omega (arith, h, len, ne) in
-            subst (FitsAt v j) (sym (get_or_append_left ws (n ∷ []) 0 j low)) (r.fits j low));
+          subst (FitsAt v j) (sym (get_or_append_left ws (n ∷ []) 0 j low)) (r.fits j low));
       words = λ j h. dite (ℕ_discrete j k)
           (λ e. subst (λ (z : ℕ × ℕ). IsWord v.campaign z.0 z.1)
-            (λ t. (sym e t, sym (ap (λ (q : ℕ). get_or (ws ++ n ∷ []) q 0) e ∙ last) t)) word)
+          (λ t. (sym e t, sym (ap (λ (q : ℕ). get_or (ws ++ n ∷ []) q 0) e ∙ last) t)) word)
           (λ ne. let low : j < k = omega (arith, h, len, ne) in subst (IsWord v.campaign j)
-            (sym (get_or_append_left ws (n ∷ []) 0 j low)) (r.words j low));
+          (sym (get_or_append_left ws (n ∷ []) 0 j low)) (r.words j low));
       beyond = λ _ j h.
-          let out : length s.words ≤ j = omega (arith, legal.size, ap (λ (c : Plan). c.trials) g.campaign,
-              h) in
+          let out : length s.words ≤ j = omega (
+            arith,
+            legal.size,
+            ap (λ (c : Plan). c.trials) g.campaign,
+            h,
+          ) in
           grown_fits v w j 0 g (subst (FitsAt w j) (get_or_past s.words j 0 out) (legal.fits i w at j));
     }
 
@@ -115,7 +144,7 @@ pick P d (suc n) = let r = pick P d n in elim (d n) [
   | yes p ↦ (
     r.0 ++ n ∷ [],
     (λ k h. ⊎_elim (λ x. let y = r.1 k x in (omega (arith, y.0), y.1))
-      (λ (e : n ≡ k). (omega (arith, e), subst P e p)) (Contains-push_cases r.0 n k h)),
+        (λ (e : n ≡ k). (omega (arith, e), subst P e p)) (Contains-push_cases r.0 n k h)),
     λ k lt pk. dite (ℕ_discrete k n) (λ e. subst (Contains (r.0 ++ n ∷ [])) (sym e) (Contains-push r.0 n))
         (λ ne. Contains-append_left r.0 (n ∷ []) k (r.2 k (omega (arith, lt, ne)) pk)),
   )
@@ -159,28 +188,43 @@ closing v ws live size some_word r =
     let n : ℕ = length ws in
     let share = pick (Theirs v ws) (theirs_dec v ws) n in
     let filed = pick (Done v ws) (done_dec v ws) n in
-    let other : View = record { live = true; campaign = v.campaign; share = share.0; filed = filed.0; seen =
-        []; read = [] } in
+    let other : View = record {
+      live = true;
+      campaign = v.campaign;
+      share = share.0;
+      filed = filed.0;
+      seen =
+          [];
+      read = [];
+    } in
     let out : (k : ℕ) → n ≤ k → get_or ws k 0 ≡ 0 = λ k h. get_or_past ws k 0 h in
     let word : (k : ℕ) → IsWord v.campaign k (get_or ws k 0) =
-        λ k. elim (dec_le n k) [ yes h ↦ inl (out k h) | no h ↦ r.words k (omega (arith, h)) ] in
+    λ k. elim (dec_le n k) [ yes h ↦ inl (out k h) | no h ↦ r.words k (omega (arith, h)) ] in
     let mine : (k : ℕ) → FitsAt v k (get_or ws k 0) =
-        λ k. elim (dec_le n k) [ yes h ↦ subst (FitsAt v k) (sym (out k h))
-        (r.beyond some_word k (omega (arith, h, size))) | no h ↦ r.fits k (omega (arith, h)) ] in
+    λ k. elim (dec_le n k) [
+      | yes h ↦ subst (FitsAt v k) (sym (out k h))
+          (r.beyond some_word k (omega (arith, h, size)))
+      | no h ↦ r.fits k (omega (arith, h))
+    ] in
     let below : (k : ℕ) → get_or ws k 0 ≢ 0 → k < n =
-        λ k full. elim (dec_le n k) [ yes h ↦ absurd (full (out k h)) | no h ↦ omega (arith, h) ] in
+    λ k full. elim (dec_le n k) [ yes h ↦ absurd (full (out k h)) | no h ↦ omega (arith, h) ] in
     let his : (k : ℕ) → FitsAt other k (get_or ws k 0) = λ k. (
       (λ h. (share.1 k h).1.0),
-      (λ h. let d = filed.1 k h in (share.2 k d.0 d.1.0, ⊎_elim (λ e. absurd (d.1.0.0 e))
-        (λ y. ⊎_elim (λ e. absurd (d.1.1 e)) (λ e. e) y) (word k))),
+      (λ h. let d = filed.1 k h in (
+        share.2 k d.0 d.1.0,
+        ⊎_elim (λ e. absurd (d.1.0.0 e))
+            (λ y. ⊎_elim (λ e. absurd (d.1.1 e)) (λ e. e) y) (word k),
+      )),
       (λ h not_filed. let t = share.1 k h in
-        elim (ℕ_discrete (get_or ws k 0) 1) [ yes e ↦ e | no ne ↦ absurd (not_filed (filed.2 k t.0 (t.1, ne)))
-        ]),
+          elim (ℕ_discrete (get_or ws k 0) 1) [
+            | yes e ↦ e
+            | no ne ↦ absurd (not_filed (filed.2 k t.0 (t.1, ne)))
+          ]),
       (λ h. absurd (none_in k h)),
       (λ h. absurd (none_in k h)),
     ) in
     let each : (P : ℕ → View → Type 0) → P 0 v → P 1 other → (i : ℕ) (u : View) → get_elem? (v ∷ other ∷ []) i
-        ≡ some u → P i u = two v other in (
+    ≡ some u → P i u = two v other in (
       record { words = ws; homes = []; views = v ∷ other ∷ [] },
       0,
       record {
@@ -190,9 +234,9 @@ closing v ws live size some_word r =
         fits = each (λ i u. (k : ℕ) → FitsAt u k (get_or ws k 0)) mine his;
         alone = λ i j a b ea eb. each (λ i a. (k : ℕ) → Contains a.share k → Contains b.share k → i ≡ j)
             (each (λ j b. (k : ℕ) → Contains v.share k → Contains b.share k → 0 ≡ j) (λ k _ _. refl)
-              (λ k h t. absurd ((share.1 k t).1.1 h)) j b eb)
+            (λ k h t. absurd ((share.1 k t).1.1 h)) j b eb)
             (each (λ j b. (k : ℕ) → Contains other.share k → Contains b.share k → 1 ≡ j)
-              (λ k t h. absurd ((share.1 k t).1.1 h)) (λ k _ _. refl) j b eb)
+            (λ k t h. absurd ((share.1 k t).1.1 h)) (λ k _ _. refl) j b eb)
             i a ea;
         owned = λ k full. elim (contains_dec v.share k) [
           | yes h ↦ (0, v, refl, h)

@@ -34,7 +34,7 @@ pub one_written : (p : Plan) (ws : List ℕ) (k n : ℕ) → k < length ws → I
     → IsCode p j (slice_index (set ws k n) j)
 one_written p ws k n low code done = below_more (λ (j : ℕ). IsCode p j (slice_index (set ws k n) j)) k
     (λ j less. subst (IsCode p j) (sym (get_or-set_other ws k j n 0 (λ e. omega (arith, e, less))))
-      (done j less))
+    (done j less))
     (subst (IsCode p k) (sym (get_or-set_same ws k n 0 low)) code)
 
 -- and the words are lawful still
@@ -43,5 +43,5 @@ pub words_written : (p : Plan) (ws : List ℕ) (k n : ℕ) → k < length ws →
     → IsWord p j (slice_index (set ws k n) j)
 words_written p ws k n low code words j less = dite (ℕ_discrete j k)
     (λ is. subst (λ (i : ℕ). IsWord p i (slice_index (set ws k n) i)) (sym is)
-      (subst (IsWord p k) (sym (get_or-set_same ws k n 0 low)) (inr (inr code))))
+    (subst (IsWord p k) (sym (get_or-set_same ws k n 0 low)) (inr (inr code))))
     (λ ne. subst (IsWord p j) (sym (get_or-set_other ws k j n 0 ne)) (words j less))

@@ -20,4 +20,4 @@ unfolding cycles_below
 cycles_more codes n count old new so_far is with_it =
     let e : n + 1 ≡ suc n = omega arith in
     rw e (with_it ∙ (ap (λ (l : List (ℕ × ℕ)). l ++ counted n count) so_far
-        ∙ ap (λ (c : ℕ). cycles_below codes n ++ counted n c) is))
+    ∙ ap (λ (c : ℕ). cycles_below codes n ++ counted n c) is))

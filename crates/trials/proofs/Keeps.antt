@@ -19,7 +19,8 @@ use Rattle.trials.specs.declared.board.View.{View}
 use Rattle.judge.specs.declared.verdict.Verdict.{Verdict}
 use Rattle.judge.specs.declared.verdict.Verdict.TheVariants.{Ordered, Overlook, Cycle}
 use Rattle.trials.specs.Codes.{IsCode, end_code}
-use Rattle.trials.specs.Board.{first_view, spent_view, without_share, joined_views, claimed, noticed, met, completed}
+use Rattle.trials.specs.Board.{first_view, spent_view, without_share, joined_views, claimed, noticed, met}
+use Rattle.trials.specs.Board.{completed}
 use Rattle.trials.specs.Board.{FitsAt, IsWord, Legal, Was, ClaimStep, FileStep, LookStep}
 
 abbrev St : Type 0
@@ -42,8 +43,11 @@ at_any : (words : List ℕ) (k n : ℕ) (v : View) → k < length words
     → FitsAt v j (get_or (set words k n) j 0)
 at_any words k n v low others here j = dite (ℕ_discrete j k)
     (λ is. subst (λ (z : ℕ × ℕ). FitsAt v z.0 z.1)
-      (λ i. (sym is i, sym (ap (λ (q : ℕ). get_or (set words k n) q 0) is ∙ get_or-set_same words k n 0 low)
-      i)) here)
+    (λ i. (
+      sym is i,
+      sym (ap (λ (q : ℕ). get_or (set words k n) q 0) is ∙ get_or-set_same words k n 0 low)
+          i,
+    )) here)
     (λ ne. subst (FitsAt v j) (sym (get_or-set_other words k j n 0 ne)) (others j ne))
 
 words_any : (c : Plan) (words : List ℕ) (k n : ℕ) → k < length words
@@ -51,8 +55,11 @@ words_any : (c : Plan) (words : List ℕ) (k n : ℕ) → k < length words
     → IsWord c j (get_or (set words k n) j 0)
 words_any c words k n low others here j = dite (ℕ_discrete j k)
     (λ is. subst (λ (z : ℕ × ℕ). IsWord c z.0 z.1)
-      (λ i. (sym is i, sym (ap (λ (q : ℕ). get_or (set words k n) q 0) is ∙ get_or-set_same words k n 0 low)
-      i)) here)
+    (λ i. (
+      sym is i,
+      sym (ap (λ (q : ℕ). get_or (set words k n) q 0) is ∙ get_or-set_same words k n 0 low)
+          i,
+    )) here)
     (λ ne. subst (IsWord c j) (sym (get_or-set_other words k j n 0 ne)) (others j))
 
 -- a fact of each view, after the view of one seat changed
@@ -80,9 +87,12 @@ still : (views : List View) (id : ℕ) (v w : View) → get_elem? views id ≡ s
     → get_elem? views i ≡ some u → Contains u.share q
     → (j : ℕ) × (x : View) × (get_elem? (set views id w) j ≡ some x) × Contains x.share q
 still views id v w at grows q i u e has = dite (ℕ_discrete i id)
-    (λ is. let same : u ≡ v = some-injective u v (sym e ∙ ap (get_elem? views) is ∙ at) in
-      (id, w, set_here views id w (in_length views id v at),
-      grows q (subst (λ (x : View). Contains x.share q) same has)))
+    (λ is. let same : u ≡ v = some-injective u v (sym e ∙ ap (get_elem? views) is ∙ at) in (
+      id,
+      w,
+      set_here views id w (in_length views id v at),
+      grows q (subst (λ (x : View). Contains x.share q) same has),
+    ))
     (λ ne. (i, u, set_else views id i w ne ∙ e, has))
 
 -- no trial is in two shares, after the view of one seat changed
@@ -90,14 +100,14 @@ alone_set : (views : List View) (id : ℕ) (w : View)
     → ((i j : ℕ) (v u : View) → get_elem? views i ≡ some v → get_elem? views j ≡ some u → (k : ℕ)
     → Contains v.share k → Contains u.share k → i ≡ j)
     → ((j : ℕ) (u : View) → j ≢ id → get_elem? views j ≡ some u → (q : ℕ) → Contains w.share q
-      → Contains u.share q → ⊥)
+    → Contains u.share q → ⊥)
     → (i j : ℕ) (a b : View) → get_elem? (set views id w) i ≡ some a → get_elem? (set views id w) j ≡ some b
-      → (q : ℕ) → Contains a.share q → Contains b.share q → i ≡ j
+    → (q : ℕ) → Contains a.share q → Contains b.share q → i ≡ j
 alone_set views id w was apart i j a b ea =
     each_set (λ i a. (j : ℕ) (b : View) → get_elem? (set views id w) j ≡ some b → (q : ℕ) → Contains a.share q
     → Contains b.share q → i ≡ j) views id w
     (each_set (λ j b. (q : ℕ) → Contains w.share q → Contains b.share q → id ≡ j) views id w (λ q _ _. refl)
-      (λ j u ne e q hw hu. absurd (apart j u ne e q hw hu)))
+    (λ j u ne e q hw hu. absurd (apart j u ne e q hw hu)))
     (λ i a nei ea. each_set (λ j b. (q : ℕ) → Contains a.share q → Contains b.share q → i ≡ j) views id w
     (λ q ha hw. absurd (apart i a nei ea q hw ha))
     (λ j b nej eb q ha hb. was i j a b ea eb q ha hb))
@@ -111,7 +121,7 @@ pub moved : (c : Plan) (s : State (Unit {0}) View) (r : Legal c s) (id k n : ℕ
     → ((j : ℕ) → j ≢ k → FitsAt w j (get_or s.words j 0)) → FitsAt w k n
     → ((j : ℕ) (u : View) → j ≢ id → get_elem? s.views j ≡ some u → FitsAt u k n)
     → ((j : ℕ) (u : View) → j ≢ id → get_elem? s.views j ≡ some u → (q : ℕ) → Contains w.share q
-      → Contains u.share q → ⊥)
+    → Contains u.share q → ⊥)
     → ((q : ℕ) → Contains v.share q → Contains w.share q)
     → (n ≢ 0 → Contains w.share k ⊎ (get_or s.words k 0 ≢ 0))
     → (c' : List (ℕ × Unit {0})) → Legal c (stepped s k n id c' w keeps)
@@ -129,14 +139,14 @@ moved c s r id k n v w at low ok camp mine_else mine others apart grows mine_now
       alone = alone_set s.views id w r.alone apart;
       owned = λ q filled. dite (ℕ_discrete q k)
           (λ is. let full : n ≢ 0 = λ e. filled (ap (λ (z : ℕ). get_or (set s.words k n) z 0) is
-            ∙ get_or-set_same s.words k n 0 wide ∙ e) in
+          ∙ get_or-set_same s.words k n 0 wide ∙ e) in
           ⊎_elim
           (λ has. (id, w, here, subst (Contains w.share) (sym is) has))
           (λ old. let o = r.owned k old in still s.views id v w at grows q o.0 o.1 o.2
-            (subst (Contains o.1.share) (sym is) o.3))
+          (subst (Contains o.1.share) (sym is) o.3))
           (mine_now full))
           (λ ne. let o = r.owned q (λ e. filled (get_or-set_other s.words k q n 0 ne ∙ e)) in
-            still s.views id v w at grows q o.0 o.1 o.2 o.3);
+          still s.views id v w at grows q o.0 o.1 o.2 o.3);
     }
 
 -- the seat's view is the same but for what it has seen, and so is the word
@@ -147,7 +157,7 @@ pub watched : (c : Plan) (s : State (Unit {0}) View) (r : Legal c s) (id k : ℕ
     → (c' : List (ℕ × Unit {0})) → Legal c (stepped s k (get_or s.words k 0) id c' w keeps)
 watched c s r id k v w at low live camp share fits c' =
     moved c s r id k (get_or s.words k 0) v w at low (r.words k)
-        (λ l. camp ∙ r.carried id v at (sym live ∙ l)) (λ j _. fits j) (fits k)
+    (λ l. camp ∙ r.carried id v at (sym live ∙ l)) (λ j _. fits j) (fits k)
     (λ j u _ e. r.fits j u e k)
     (λ j u ne e q hw hu. ne (r.alone j id u v e at q hu (subst (λ (xs : List ℕ). Contains xs q) share hw)))
     (λ q h. subst (λ (xs : List ℕ). Contains xs q) (sym share) h)
@@ -159,28 +169,36 @@ claims_open : (c : Plan) (s : State (Unit {0}) View) (r : Legal c s) (id k : ℕ
     → (c' : List (ℕ × Unit {0})) → Legal c (stepped s k 1 id c' (claimed v k) keeps)
 claims_open c s r id k v at low open' c' =
     let none_has : (i : ℕ) (u : View) → get_elem? s.views i ≡ some u → Contains u.share k → ⊥ =
-        λ i u e h. (r.fits i u e k).0 h open' in
+    λ i u e h. (r.fits i u e k).0 h open' in
     let none_read : (i : ℕ) (u : View) → get_elem? s.views i ≡ some u → Contains u.read k → ⊥ =
-        λ i u e h. let big = code_big u.campaign k (get_or s.words k 0) ((r.fits i u e k).4 h) in
-        absurd (omega (arith, big, open')) in
+    λ i u e h. let big = code_big u.campaign k (get_or s.words k 0) ((r.fits i u e k).4 h) in
+    absurd (omega (arith, big, open')) in
     let f = r.fits id v at k in
     moved c s r id k 1 v (claimed v k) at low (inr (inl refl)) (λ l. r.carried id v at l)
     (λ j ne. let g = r.fits id v at j in (
       (λ h. ⊎_elim (λ x. g.0 x) (λ (x : k ≡ j). absurd (ne (sym x))) (Contains-push_cases v.share k j h)),
       (λ h. (Contains-append_left v.share (k ∷ []) j (g.1 h).0, (g.1 h).1)),
       (λ h out. ⊎_elim (λ x. g.2 x out) (λ (x : k ≡ j). absurd (ne (sym x)))
-        (Contains-push_cases v.share k j h)),
+          (Contains-push_cases v.share k j h)),
       (λ h. ⊎_elim (λ x. g.3 x) (λ (x : k ≡ j). absurd (ne (sym x))) (Contains-push_cases v.seen k j h)),
       g.4,
+    )) (
+      (λ _. λ e. omega (arith, e)),
+      (λ h. absurd (f.0 (f.1 h).0 open')),
+      (λ _ _. refl),
+      (λ _. λ e. omega (arith, e)),
+      (λ h. absurd (none_read id v at h)),
+    )
+    (λ j u ne e. let g = r.fits j u e k in (
+      (λ h. absurd (none_has j u e h)),
+      (λ h. absurd (none_has j u e (g.1 h).0)),
+      (λ h _. absurd (none_has j u e h)),
+      (λ h. absurd (g.3 h open')),
+      (λ h. absurd (none_read j u e h)),
     ))
-    ((λ _. λ e. omega (arith, e)), (λ h. absurd (f.0 (f.1 h).0 open')), (λ _ _. refl),
-      (λ _. λ e. omega (arith, e)), (λ h. absurd (none_read id v at h)))
-    (λ j u ne e. let g = r.fits j u e k in
-      ((λ h. absurd (none_has j u e h)), (λ h. absurd (none_has j u e (g.1 h).0)),
-      (λ h _. absurd (none_has j u e h)), (λ h. absurd (g.3 h open')), (λ h. absurd (none_read j u e h))))
     (λ j u ne e q hw hu. ⊎_elim (λ x. ne (r.alone j id u v e at q hu x))
-      (λ (x : k ≡ q). none_has j u e (subst (Contains u.share) (sym x) hu))
-      (Contains-push_cases v.share k q hw))
+    (λ (x : k ≡ q). none_has j u e (subst (Contains u.share) (sym x) hu))
+    (Contains-push_cases v.share k q hw))
     (λ q h. Contains-append_left v.share (k ∷ []) q h)
     (λ _. inl (Contains-push v.share k)) c'
 
@@ -190,18 +208,27 @@ was c s r id k v live at = (s, id, subst (λ (z : Plan). Legal z s) (sym (r.carr
 
 noticed_fits : (words : List ℕ) (v : View) (k : ℕ) → ((j : ℕ) → FitsAt v j (get_or words j 0))
     → get_or words k 0 ≢ 0 → (j : ℕ) → FitsAt (noticed v k) j (get_or words j 0)
-noticed_fits words v k f full j = let g = f j in
-    (g.0, g.1, g.2, (λ h. ⊎_elim (λ x. g.3 x)
-    (λ (x : k ≡ j). λ e. full (ap (λ (z : ℕ). get_or words z 0) x ∙ e)) (Contains-push_cases v.seen k j h)),
-    g.4)
+noticed_fits words v k f full j = let g = f j in (
+  g.0,
+  g.1,
+  g.2,
+  (λ h. ⊎_elim (λ x. g.3 x)
+      (λ (x : k ≡ j). λ e. full (ap (λ (z : ℕ). get_or words z 0) x ∙ e)) (Contains-push_cases v.seen k j h)),
+  g.4,
+)
 
 met_fits : (words : List ℕ) (v : View) (k : ℕ) → ((j : ℕ) → FitsAt v j (get_or words j 0))
     → get_or words k 0 ≢ 0 → IsCode v.campaign k (get_or words k 0) → (j : ℕ) → FitsAt (met v k) j
     (get_or words j 0)
-met_fits words v k f full is j = let g = noticed_fits words v k f full j in
-    (g.0, g.1, g.2, g.3, λ h. ⊎_elim (λ x. (f j).4 x)
-    (λ (x : k ≡ j). subst (λ (z : ℕ). IsCode v.campaign z (get_or words z 0)) x is)
-    (Contains-push_cases v.read k j h))
+met_fits words v k f full is j = let g = noticed_fits words v k f full j in (
+  g.0,
+  g.1,
+  g.2,
+  g.3,
+  λ h. ⊎_elim (λ x. (f j).4 x)
+      (λ (x : k ≡ j). subst (λ (z : ℕ). IsCode v.campaign z (get_or words z 0)) x is)
+      (Contains-push_cases v.read k j h),
+)
 
 pub claims : (c : Plan) (slots id k : ℕ) (me : Me (Unit {0}) View) → k < c.trials → me.0.live ≡ true
     → Allows (Legal c) slots id me k (λ n. either (eqb n 0) 1 n) (ClaimStep (step slots k 0 1 none) me)
@@ -220,7 +247,7 @@ claims c slots id k me low live s r _ at _ = let x : ℕ = get_or s.words k 0 in
       tt,
       subst (λ b. Legal c (stepped s k (either b 1 x) id me.1 (noticed me.0 k) keeps)) (sym (ne_eqb x 0 miss))
           (watched c s r id k me.0 (noticed me.0 k) at low refl refl refl
-            (noticed_fits s.words me.0 k (r.fits id me.0 at) miss) me.1),
+          (noticed_fits s.words me.0 k (r.fits id me.0 at) miss) me.1),
       (was c s r id k me.0 live at, refl, (λ hit. absurd (miss hit)), λ _. refl),
     ))
 
@@ -228,20 +255,34 @@ pub looks : (c : Plan) (slots id k : ℕ) (me : Me (Unit {0}) View) → k < c.tr
     → Allows (Legal c) slots id me k (λ n. n) (LookStep (step slots k 0 0 none) me)
 looks c slots id k me low live s r _ at _ = let x : ℕ = get_or s.words k 0 in let w =
     was c s r id k me.0 live at in let f = r.fits id me.0 at in dite (ℕ_discrete x 0)
-    (λ hit. (me.0, keeps, tt, watched c s r id k me.0 me.0 at low refl refl refl f me.1,
-      (w, refl, (λ _. refl), (λ e. absurd (omega (arith, hit, e))), λ not. absurd (not hit))))
+    (λ hit. (
+      me.0,
+      keeps,
+      tt,
+      watched c s r id k me.0 me.0 at low refl refl refl f me.1,
+      (w, refl, (λ _. refl), (λ e. absurd (omega (arith, hit, e))), λ not. absurd (not hit)),
+    ))
     (λ full. dite (ℕ_discrete x 1)
-    (λ one. (noticed me.0 k, keeps, tt, watched c s r id k me.0 (noticed me.0 k) at low refl refl refl
-      (noticed_fits s.words me.0 k f full) me.1,
-      (w, refl, (λ e. absurd (full e)), (λ _. refl), λ _ not. absurd (not one))))
+    (λ one. (
+      noticed me.0 k,
+      keeps,
+      tt,
+      watched c s r id k me.0 (noticed me.0 k) at low refl refl refl
+          (noticed_fits s.words me.0 k f full) me.1,
+      (w, refl, (λ e. absurd (full e)), (λ _. refl), λ _ not. absurd (not one)),
+    ))
     (λ more.
     let coded : IsCode c k x = ⊎_elim (λ e. absurd (full e)) (λ y. ⊎_elim (λ e. absurd (more e)) (λ e. e) y)
-        (r.words k) in
+    (r.words k) in
     let mine : IsCode me.0.campaign k x = subst (λ (z : Plan). IsCode z k x) (sym (r.carried id me.0 at live))
-        coded in
-    (met me.0 k, keeps, tt, watched c s r id k me.0 (met me.0 k) at low refl refl refl
-      (met_fits s.words me.0 k f full mine) me.1,
-      (w, refl, (λ e. absurd (full e)), (λ e. absurd (more e)), λ _ _. (refl, mine)))))
+    coded in (
+      met me.0 k,
+      keeps,
+      tt,
+      watched c s r id k me.0 (met me.0 k) at low refl refl refl
+          (met_fits s.words me.0 k f full mine) me.1,
+      (w, refl, (λ e. absurd (full e)), (λ e. absurd (more e)), λ _ _. (refl, mine)),
+    )))
 
 pub files : (c : Plan) (slots id k n : ℕ) (me : Me (Unit {0}) View) → k < c.trials → me.0.live ≡ true
     → Contains me.0.share k → (Contains me.0.filed k → ⊥) → IsCode me.0.campaign k n
@@ -254,7 +295,7 @@ files c slots id k n me low live has unfiled is s r _ at _ =
     let full : n ≢ 0 = λ e. omega (arith, e, big) in
     let coded : IsCode c k n = subst (λ (z : Plan). IsCode z k n) (r.carried id v at live) is in
     let theirs : (j : ℕ) (u : View) → j ≢ id → get_elem? s.views j ≡ some u → Contains u.share k → ⊥ =
-        λ j u ne e h. ne (r.alone j id u v e at k h has) in (
+    λ j u ne e h. ne (r.alone j id u v e at k h has) in (
       completed v k,
       keeps,
       tt,
@@ -262,21 +303,25 @@ files c slots id k n me low live has unfiled is s r _ at _ =
           (λ j ne. let g = r.fits id v at j in (
             g.0,
             (λ h. ⊎_elim (λ x. g.1 x) (λ (x : k ≡ j). absurd (ne (sym x)))
-              (Contains-push_cases v.filed k j h)),
+                (Contains-push_cases v.filed k j h)),
             (λ h out. g.2 h (λ x. out (Contains-append_left v.filed (k ∷ []) j x))),
             g.3,
             (λ h. ⊎_elim (λ x. g.4 x) (λ (x : k ≡ j). absurd (ne (sym x)))
-              (Contains-push_cases v.read k j h)),
-          ))
-          ((λ _. full), (λ _. (has, is)), (λ _ out. absurd (out (Contains-push v.filed k))), (λ _. full),
-            (λ _. is))
+                (Contains-push_cases v.read k j h)),
+          )) (
+            (λ _. full),
+            (λ _. (has, is)),
+            (λ _ out. absurd (out (Contains-push v.filed k))),
+            (λ _. full),
+            (λ _. is),
+          )
           (λ j u ne e. let g = r.fits j u e k in (
             (λ _. full),
             (λ h. absurd (theirs j u ne e (g.1 h).0)),
             (λ h _. absurd (theirs j u ne e h)),
             (λ _. full),
             (λ h. let b = code_big u.campaign k (get_or s.words k 0) (g.4 h) in
-              absurd (omega (arith, one, b))),
+                absurd (omega (arith, one, b))),
           ))
           (λ j u ne e q hw hu. ne (r.alone j id u v e at q hu hw))
           (λ q h. h)
@@ -290,9 +335,13 @@ begins c words size zeros = record {
   size = size;
   words = λ k. inl (zeros k);
   carried = λ i v e l. ap (λ (x : View). x.campaign) (sym (only i v e));
-  fits = λ i v e k. subst (λ (x : View). FitsAt x k (get_or words k 0)) (only i v e)
-      ((λ h. absurd (none_in k h)), (λ h. absurd (none_in k h)), (λ h. absurd (none_in k h)),
-      (λ h. absurd (none_in k h)), λ h. absurd (none_in k h));
+  fits = λ i v e k. subst (λ (x : View). FitsAt x k (get_or words k 0)) (only i v e) (
+    (λ h. absurd (none_in k h)),
+    (λ h. absurd (none_in k h)),
+    (λ h. absurd (none_in k h)),
+    (λ h. absurd (none_in k h)),
+    λ h. absurd (none_in k h),
+  );
   alone = λ i j v w ev ew k hv hw. absurd
       (none_in k (subst (λ (x : View). Contains x.share k) (sym (only i v ev)) hv));
   owned = λ k full. absurd (full (zeros k));
@@ -303,8 +352,12 @@ begins c words size zeros = record {
     only (suc i) v e = absurd (some-ne-none v (sym e))
 
 pub splits : (c : Plan) (id : ℕ) (v : View) → v.live ≡ true → Splits (Legal c) id v v (without_share v)
-splits c id v live s r at = subst (λ (vs : List View). Legal c record { words = s.words; homes =
-    s.homes; views = vs ++ without_share v ∷ [] }) (sym (set_again s.views id v at)) record {
+splits c id v live s r at = subst (λ (vs : List View). Legal c record {
+  words = s.words;
+  homes =
+      s.homes;
+  views = vs ++ without_share v ∷ [];
+}) (sym (set_again s.views id v at)) record {
   size = r.size;
   words = r.words;
   carried = λ i u e l. ⊎_elim (λ x. r.carried i u x l)
@@ -312,12 +365,17 @@ splits c id v live s r at = subst (λ (vs : List View). Legal c record { words =
       (at_snoc s.views (without_share v) u i e);
   fits = λ i u e k. ⊎_elim (λ x. r.fits i u x k)
       (λ x. subst (λ (y : View). FitsAt y k (get_or s.words k 0)) x
-      (let f = r.fits id v at k in ((λ h. absurd (none_in k h)), (λ h. absurd (none_in k h)),
-      (λ h. absurd (none_in k h)), f.3, f.4))) (at_snoc s.views (without_share v) u i e);
+      (let f = r.fits id v at k in (
+        (λ h. absurd (none_in k h)),
+        (λ h. absurd (none_in k h)),
+        (λ h. absurd (none_in k h)),
+        f.3,
+        f.4,
+      ))) (at_snoc s.views (without_share v) u i e);
   alone = λ i j a b ea eb k ha hb. ⊎_elim
       (λ x. ⊎_elim (λ y. r.alone i j a b x y k ha hb)
-        (λ y. absurd (none_in k (subst (λ (z : View). Contains z.share k) (sym y) hb)))
-        (at_snoc s.views (without_share v) b j eb))
+      (λ y. absurd (none_in k (subst (λ (z : View). Contains z.share k) (sym y) hb)))
+      (at_snoc s.views (without_share v) b j eb))
       (λ x. absurd (none_in k (subst (λ (z : View). Contains z.share k) (sym x) ha)))
       (at_snoc s.views (without_share v) a i ea);
   owned = λ k full. let o = r.owned k full in
@@ -330,20 +388,28 @@ joined_fits v w k n same f g = (
   (λ h. ⊎_elim (λ x. f.0 x) (λ x. g.0 x) (Contains-append_cases v.share w.share k h)),
   (λ h. ⊎_elim
       (λ x. (Contains-append_left v.share w.share k (f.1 x).0, (f.1 x).1))
-      (λ x. (Contains-append_right v.share w.share k (g.1 x).0, subst (λ (z : Plan). IsCode z k n) same
-        (g.1 x).1))
+      (λ x. (
+        Contains-append_right v.share w.share k (g.1 x).0,
+        subst (λ (z : Plan). IsCode z k n) same
+            (g.1 x).1,
+      ))
       (Contains-append_cases v.filed w.filed k h)),
   (λ h out. ⊎_elim (λ x. f.2 x (λ y. out (Contains-append_left v.filed w.filed k y)))
-    (λ x. g.2 x (λ y. out (Contains-append_right v.filed w.filed k y)))
-    (Contains-append_cases v.share w.share k h)),
+      (λ x. g.2 x (λ y. out (Contains-append_right v.filed w.filed k y)))
+      (Contains-append_cases v.share w.share k h)),
   (λ h. ⊎_elim (λ x. f.3 x) (λ x. g.3 x) (Contains-append_cases v.seen w.seen k h)),
   (λ h. ⊎_elim (λ x. f.4 x) (λ x. subst (λ (z : Plan). IsCode z k n) same (g.4 x))
-    (Contains-append_cases v.read w.read k h)),
+      (Contains-append_cases v.read w.read k h)),
 )
 
 gone_fits : (k n : ℕ) → FitsAt spent_view k n
-gone_fits k n = ((λ h. absurd (none_in k h)), (λ h. absurd (none_in k h)), (λ h. absurd (none_in k h)),
-    (λ h. absurd (none_in k h)), λ h. absurd (none_in k h))
+gone_fits k n = (
+  (λ h. absurd (none_in k h)),
+  (λ h. absurd (none_in k h)),
+  (λ h. absurd (none_in k h)),
+  (λ h. absurd (none_in k h)),
+  λ h. absurd (none_in k h),
+)
 
 off : false ≡ true → ⊥
 off e = true≢false (sym e)
@@ -356,14 +422,14 @@ joins c id v other w lv lw s r at ne at' =
     let there : get_elem? s.views other ≡ some w = sym (set_else s.views id other both ne) ∙ at' in
     let same : w.campaign ≡ v.campaign = r.carried other w there lw ∙ sym (r.carried id v at lv) in
     let here : get_elem? (set mid other spent_view) id ≡ some both = set_else mid other id spent_view
-        (λ e. ne (sym e)) ∙ set_here s.views id both (in_length s.views id v at) in
+    (λ e. ne (sym e)) ∙ set_here s.views id both (in_length s.views id v at) in
     -- a view is the joined one, an old one, or nothing
     let kinds : (P : ℕ → View → Type 0) → P id both → P other spent_view
-        → ((j : ℕ) (u : View) → j ≢ id → j ≢ other → get_elem? s.views j ≡ some u → P j u)
-        → (j : ℕ) (u : View) → get_elem? (set mid other spent_view) j ≡ some u → P j u
+    → ((j : ℕ) (u : View) → j ≢ id → j ≢ other → get_elem? s.views j ≡ some u → P j u)
+    → (j : ℕ) (u : View) → get_elem? (set mid other spent_view) j ≡ some u → P j u
     = λ P p q o. each_set P mid other spent_view q
-        (λ j u nj e. each_set (λ j u. j ≢ other → P j u) s.views id both (λ _. p)
-        (λ j u ni e no. o j u ni no e) j u e nj) in
+    (λ j u nj e. each_set (λ j u. j ≢ other → P j u) s.views id both (λ _. p)
+    (λ j u ni e no. o j u ni no e) j u e nj) in
     record {
       size = r.size;
       words = r.words;
@@ -377,26 +443,40 @@ joins c id v other w lv lw s r at ne at' =
           (kinds (λ j b. (k : ℕ) → Contains both.share k → Contains b.share k → id ≡ j)
           (λ _ _ _. refl) (λ k _ h. absurd (none_in k h))
           (λ j b ni no e k h hb. ⊎_elim (λ x. absurd (ni (r.alone j id b v e at k hb x)))
-            (λ x. absurd (no (r.alone j other b w e there k hb x)))
-            (Contains-append_cases v.share w.share k h)))
+          (λ x. absurd (no (r.alone j other b w e there k hb x)))
+          (Contains-append_cases v.share w.share k h)))
           (λ j b _ k h. absurd (none_in k h))
           (λ i a ni no e. kinds (λ j b. (k : ℕ) → Contains a.share k → Contains b.share k → i ≡ j)
           (λ k ha h. ⊎_elim (λ x. absurd (ni (r.alone i id a v e at k ha x)))
-            (λ x. absurd (no (r.alone i other a w e there k ha x)))
-            (Contains-append_cases v.share w.share k h))
+          (λ x. absurd (no (r.alone i other a w e there k ha x)))
+          (Contains-append_cases v.share w.share k h))
           (λ k _ h. absurd (none_in k h))
           (λ j b _ _ eb k ha hb. r.alone i j a b e eb k ha hb))
           i a ea j b;
       owned = λ k full. let o = r.owned k full in dite (ℕ_discrete o.0 id)
-          (λ is. (id, both, here, Contains-append_left v.share w.share k
-            (subst (λ (x : View). Contains x.share k)
-            (some-injective o.1 v (sym o.2 ∙ ap (get_elem? s.views) is ∙ at)) o.3)))
+          (λ is. (
+            id,
+            both,
+            here,
+            Contains-append_left v.share w.share k
+                (subst (λ (x : View). Contains x.share k)
+                (some-injective o.1 v (sym o.2 ∙ ap (get_elem? s.views) is ∙ at)) o.3),
+          ))
           (λ ni. dite (ℕ_discrete o.0 other)
-          (λ is. (id, both, here, Contains-append_right v.share w.share k
-            (subst (λ (x : View). Contains x.share k)
-            (some-injective o.1 w (sym o.2 ∙ ap (get_elem? s.views) is ∙ there)) o.3)))
-          (λ no. (o.0, o.1, set_else mid other o.0 spent_view no ∙ set_else s.views id o.0 both ni ∙ o.2,
-            o.3)));
+          (λ is. (
+            id,
+            both,
+            here,
+            Contains-append_right v.share w.share k
+                (subst (λ (x : View). Contains x.share k)
+                (some-injective o.1 w (sym o.2 ∙ ap (get_elem? s.views) is ∙ there)) o.3),
+          ))
+          (λ no. (
+            o.0,
+            o.1,
+            set_else mid other o.0 spent_view no ∙ set_else s.views id o.0 both ni ∙ o.2,
+            o.3,
+          )));
     }
 
 -- after a claim the trial was seen at least claimed, whatever it answered

@@ -1,5 +1,6 @@
 -- A trial has one code.
-use Rattle.std.proofs.Common.{◌≡◌, ◌<◌, ◌≤◌, inl, inr, ℕ, List, length, get_or, refl, sym, ap, ◌∙◌, subst, arith}
+use Rattle.std.proofs.Common.{◌≡◌, ◌<◌, ◌≤◌, inl, inr, ℕ, List, length, get_or, refl, sym, ap, ◌∙◌, subst}
+use Rattle.std.proofs.Common.{arith}
 use Rattle.std.specs.Prelude.{Option, Some, None}
 use Rattle.std.proofs.lemmas.Bool.{cases_lt}
 use Rattle.std.proofs.lemmas.List.{ext_get_or}
@@ -88,20 +89,20 @@ pub one_code : (p : Plan) (k n m : ℕ) → IsCode p k n → IsCode p k m → n 
 one_code p k n m x y =
     let same : x.end ≡ y.end = one_end _ _ _ x.end y.end x.ends.0 y.ends.0 x.ends.1 y.ends.1 in
     x.code ∙ (one_judged y.end x.verdict y.verdict
-        (subst (λ (h : Configuration). IsEndVerdict h x.verdict) same x.judged) y.judged ∙ sym y.code)
+    (subst (λ (h : Configuration). IsEndVerdict h x.verdict) same x.judged) y.judged ∙ sym y.code)
 
 -- a campaign's trials have one list of codes
 one_list : (p : Plan) (codes others : List ℕ) → AreCodes p codes → AreCodes p others → codes ≡ others
 one_list p codes others x y = ext_get_or 0 codes others (x.size ∙ sym y.size)
     (λ k low. one_code p k (get_or codes k 0) (get_or others k 0) (x.each k (omega (arith, low, x.size)))
-      (y.each k (omega (arith, low, x.size))))
+    (y.each k (omega (arith, low, x.size))))
 
 -- and one ledger
 pub one_ledger : (p : Plan) (codes others : List ℕ) (l m : Ledger) → AreCodes p codes → IsLedger codes l
     → AreCodes p others → IsLedger others m → IsSameLedger l m
 one_ledger p codes others l m x one y two =
     let there : IsLedger codes m = subst (λ (list : List ℕ). IsLedger list m)
-        (sym (one_list p codes others x y)) two in
+    (sym (one_list p codes others x y)) two in
     record {
       trials = one.trials ∙ sym there.trials;
       ordered = one.ordered ∙ sym there.ordered;

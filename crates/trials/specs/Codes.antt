@@ -29,7 +29,7 @@ program_of_trial p k = program_of_words p.shape (first_words plus_plus (event_wo
 abbrev pub EndsIn : Plan → ℕ → Configuration → Type 0
 EndsIn p k h = (rest : List ℕ) × IsRandomRun p.attempts
     (begun_machine (program_of_trial p k) p.capacity p.fault) (after_words (event_words p) (generator p k)) h
-      rest
+    rest
 
 -- the code of a verdict: an order, its load and store, or the length of its cycle
 abbrev pub verdict_code : Verdict → ℕ

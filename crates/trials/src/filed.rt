@@ -1,6 +1,7 @@
 //! Trials with their codes.
 
 use crate::campaign::Campaign;
+use crate::code::{ORDERED, UNFINISHED};
 use std::marker::Model;
 
 /// A trial of a campaign with its code, which its type keeps to be that of the trial.
@@ -25,6 +26,7 @@ impl Model for Filed {
 impl Filed {
     ghost use Rattle.std.specs.Prelude.{◌≡◌};
     ghost use Rattle.trials.specs.Codes.{IsCode};
+    ghost use Rattle.trials.specs.Counts.{is_violation};
 
     /// The trial with this code.
     pub(crate) fn new(campaign: &Campaign, trial: usize, code: u64) -> Filed
@@ -52,5 +54,12 @@ impl Filed {
         ensures right { IsCode self.now.campaign self.now.trial result }
     {
         self.code
+    }
+
+    /// Whether the trial's recording has an overlook or a cycle.
+    pub fn is_violation(&self) -> bool
+        ensures { result ≡ is_violation self.now.code }
+    {
+        self.code != UNFINISHED && self.code != ORDERED
     }
 }

@@ -4,6 +4,7 @@ ghost use Rattle.std.specs.Prelude.{◌≡◌, ◌<◌};
 ghost use Rattle.trials.specs.Looking.{IsDeskSeatOf};
 
 use crate::campaign::Campaign;
+use crate::filed::Filed;
 use crate::seat::{Desk, DeskSeat};
 use crate::trying::trial;
 use litmus::Gate;
@@ -11,6 +12,13 @@ use std::alloc::Global;
 use std::sync::Wait;
 use std::thread;
 use std::thread::{Scope, Threads};
+
+/// Tells the gate of a violation.
+fn tell<G: Gate>(gate: &G, worker: usize, filed: &Filed) {
+    if filed.is_violation() {
+        gate.found(worker, filed.trial());
+    }
+}
 
 /// Claims a trial, and files it where the word was open and there is memory.
 fn try_one<G: Gate>(
@@ -32,6 +40,7 @@ fn try_one<G: Gate>(
         gate.begin(worker, k);
         if let Ok(filed) = trial(alloc, campaign, k) {
             desk.file(seat, &filed);
+            tell(gate, worker, &filed);
             gate.done(worker, k);
         }
     }

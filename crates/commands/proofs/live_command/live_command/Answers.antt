@@ -9,7 +9,7 @@ returns-clause-ok g c = live_answer (g.P.Place.bytes c.args.place.now) c.args.op
     c.in_ok-finished.field-0
     (rw c.as_slice.ensures.value (rw (sym c.as_str.ensures.value) c.in_ok-text.ensures.given))
     c.in_ok-program.ensures.ok c.in-Ok.ensures.given c.in-Ok.ensures.ended c.in-Ok.ensures.replay
-        c.into_machine.ensures.machine c.in_ok-finished.ensures
+    c.into_machine.ensures.machine c.in_ok-finished.ensures
 
 pub returns-in-Err-clause-err : goal.returns-in-Err-clause-err
 returns-in-Err-clause-err g c = rw c.fault_of.ensures

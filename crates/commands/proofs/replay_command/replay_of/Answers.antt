@@ -10,7 +10,7 @@ returns-in_ok-text-in-Ordered c =
     let x : Execution = c.args.recording.now in
     let m : List ℕ = c.in-Ordered.order.items in
     let least : IsOrderedVerdict x m = subst (λ (v : Verdict). IsVerdict x v) c.in-Ordered.is
-        c.requires.found in
+    c.requires.found in
     inl (record {
       order = m;
       least = least;

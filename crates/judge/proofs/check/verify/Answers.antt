@@ -16,7 +16,7 @@ returns-in_ok-relation-in-Cycle-clause-exact c =
     let rows = lists_of c.in-Cycle.certificate.rows.items in
     let size = c.in_ok-relation-in-Cycle.ensures.table.size in
     let agree = c.relation_is_forced.ensures.certificates t x c.in_ok-relation-in-Cycle.ensures.related
-        (event_count x) cycle rows in
+    (event_count x) cycle rows in
     let exact = c.check-in-Cycle.ensures.exact in
     subst (λ (v : Verdict). IsTrue c.check-in-Cycle.result ↔ Verifies x v) (sym c.in-Cycle.is) (
       λ yes. agree.0 (subst (λ (n : ℕ). IsCertificate (Related t) n cycle rows) size (exact.0 yes)),

@@ -13,10 +13,10 @@ returns-in-Some-2-clause-verdict g c =
     let m = c.in-Some-2.order.items in
     let found : IsLeastOrder (Related s) (length s) m =
     subst (λ (o : Option (Vec _ Global)). IfSome o (λ v. IsLeastOrder (Related s) (length s) v.items))
-        c.in-Some-2.is c.in_ok-order.ensures.least in
+    c.in-Some-2.is c.in_ok-order.ensures.least in
     let least = least_order x c.in_ok-of.field-0 c.in_ok-of.ensures.related c.in_ok-of.ensures.table.size
-        (c.relation_is_forced.ensures.least c.in_ok-of.field-0 x) s
-        (c.deref.ensures ∙ c.in_ok-relation.ensures.ok) m found in
+    (c.relation_is_forced.ensures.least c.in_ok-of.field-0 x) s
+    (c.deref.ensures ∙ c.in_ok-relation.ensures.ok) m found in
     record {
       order = c.forced_is_exact.ensures.enough x m c.sound.ensures.well_formed c.in_default.ensures.none
           least.respects;
@@ -34,10 +34,10 @@ returns-in-Some-2-clause-verified g c =
     let m = c.in-Some-2.order.items in
     let found : IsLeastOrder (Related s) (length s) m =
     subst (λ (o : Option (Vec _ Global)). IfSome o (λ v. IsLeastOrder (Related s) (length s) v.items))
-        c.in-Some-2.is c.in_ok-order.ensures.least in
+    c.in-Some-2.is c.in_ok-order.ensures.least in
     let least = least_order x c.in_ok-of.field-0 c.in_ok-of.ensures.related c.in_ok-of.ensures.table.size
-        (c.relation_is_forced.ensures.least c.in_ok-of.field-0 x) s
-        (c.deref.ensures ∙ c.in_ok-relation.ensures.ok) m found in
+    (c.relation_is_forced.ensures.least c.in_ok-of.field-0 x) s
+    (c.deref.ensures ∙ c.in_ok-relation.ensures.ok) m found in
     c.forced_is_exact.ensures.enough x m c.sound.ensures.well_formed c.in_default.ensures.none least.respects
 
 pub returns-clause-verdict : goal.returns-clause-verdict
@@ -46,8 +46,8 @@ returns-clause-verdict g c =
     let t = c.in_ok-of.field-0 in
     let found = c.in_ok-least_certificate_by-in-None.field-0 in
     let least = least_cycle x t c.in_ok-of.ensures.related c.in_ok-of.ensures.table.size
-        (c.relation_is_forced.ensures.least_cycles t x) _ c.in_ok-relation.ensures.ok found
-        c.in_ok-least_certificate_by-in-None.ensures in
+    (c.relation_is_forced.ensures.least_cycles t x) _ c.in_ok-relation.ensures.ok found
+    c.in_ok-least_certificate_by-in-None.ensures in
     record {
       least = least;
       exact = exact_rows x t c.in_ok-of.ensures.related c.in_ok-of.ensures.table.size
@@ -63,5 +63,5 @@ returns-clause-verified g c =
     let x = c.args.recording.now in
     let t = c.in_ok-of.field-0 in
     certificate x t c.in_ok-of.ensures.related c.in_ok-of.ensures.table.size
-        (c.relation_is_forced.ensures.certificates t x) _ c.in_ok-relation.ensures.ok
-        c.in_ok-least_certificate_by-in-None.field-0 c.in_ok-least_certificate_by-in-None.ensures
+    (c.relation_is_forced.ensures.certificates t x) _ c.in_ok-relation.ensures.ok
+    c.in_ok-least_certificate_by-in-None.field-0 c.in_ok-least_certificate_by-in-None.ensures

@@ -6,10 +6,10 @@ pub grows_from-requires-clause-one_each : goal.grows_from-requires-clause-one_ea
 grows_from-requires-clause-one_each c =
     ap (λ (labels : List ℕ). length labels) c.as_slice-labels.ensures.value
     ∙ shaped_row (length c.args.relation.now) c.args.rows.now c.args.v c.index-rows-v.result c.requires.shape
-      c.requires.v c.index-rows-v.is
+    c.requires.v c.index-rows-v.is
 
 pub closes_from-requires-clause-one_each : goal.closes_from-requires-clause-one_each
 closes_from-requires-clause-one_each c =
     ap (λ (labels : List ℕ). length labels) c.as_slice-labels.ensures.value
     ∙ shaped_row (length c.args.relation.now) c.args.rows.now c.args.v c.index-rows-v.result c.requires.shape
-      c.requires.v c.index-rows-v.is
+    c.requires.v c.index-rows-v.is

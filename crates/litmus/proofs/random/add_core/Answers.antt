@@ -38,8 +38,12 @@ loop-i-preserved c =
     let less : c.loop-i.i < z.ops = omega (arith, c.loop-i-test.true) in
     let left : z.ops - c.loop-i.i ≡ suc j = omega (arith, less) in
     let begun : state c.add_core.new.self ≡ with_core old = c.in_ok-add_core.ensures in
-    let some : 0 < length p.cores = omega (arith, h.cores, ap (λ (q : Parts). length q.cores) begun,
-        (count_core old).1) in
+    let some : 0 < length p.cores = omega (
+      arith,
+      h.cores,
+      ap (λ (q : Parts). length q.cores) begun,
+      (count_core old).1,
+    ) in
     let room : op_count p.cores < MAX_EVENTS = omega (arith, h.count, less, c.requires.few) in
     let step : state c.add_word.new.builder ≡ with_word z.addresses p word =
     c.in_ok-add_word.ensures.ok ∙ ap (λ (a : ℕ). with_word a p word) c.addresses.ensures in
@@ -48,15 +52,19 @@ loop-i-preserved c =
       made = ap (λ (q : Parts). with_words z.addresses q (first_words plus_plus j c.next_word-word.new.self))
           step
           ∙ (ap (λ (x : ℕ × List ℕ). with_words z.addresses (with_word z.addresses p x.0)
-            (first_words plus_plus j x.1)) c.next_word-word.ensures
+          (first_words plus_plus j x.1)) c.next_word-word.ensures
           ∙ (sym turn ∙ h.made));
       after = ap (λ (x : ℕ × List ℕ). after_words j x.1) c.next_word-word.ensures
           ∙ (sym (after_turn rng (z.ops - c.loop-i.i) j left) ∙ h.after);
       drawn = subst (IsDrawn z.addresses) (sym step)
           (keeps_word z.addresses p word c.sound.ensures.addresses.0 c.sound.ensures.addresses.1 h.drawn some
           room);
-      count = omega (arith, ap (λ (q : Parts). op_count q.cores) step, (count_word z.addresses p word some).0,
-          h.count);
+      count = omega (
+        arith,
+        ap (λ (q : Parts). op_count q.cores) step,
+        (count_word z.addresses p word some).0,
+        h.count,
+      );
       cores = ap (λ (q : Parts). length q.cores) step ∙ ((count_word z.addresses p word some).1 ∙ h.cores);
       within = omega (arith, less);
     }
@@ -66,6 +74,6 @@ returns-clause-ok c =
     let z = c.args.shape.now in
     let h = c.loop-i.invariant in
     sym (words_end z.addresses (state c.loop-i.builder) c.loop-i.rng (z.ops - c.loop-i.i)
-        (omega (arith, c.loop-i-test.false)))
+    (omega (arith, c.loop-i-test.false)))
     ∙ (h.made ∙ ap (λ (q : Parts). with_words z.addresses q (first_words plus_plus z.ops c.args.rng.now))
-      c.in_ok-add_core.ensures)
+    c.in_ok-add_core.ensures)

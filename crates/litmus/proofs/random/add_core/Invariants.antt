@@ -12,7 +12,7 @@ invariant-loop-i l =
     record {
       made : with_words l.shape.addresses (state l.builder) (first_words plus_plus (l.shape.ops - l.i) l.rng)
           ≡ with_words l.shape.addresses (state l.initial.builder)
-              (first_words plus_plus l.shape.ops l.initial.rng);
+          (first_words plus_plus l.shape.ops l.initial.rng);
       after : after_words (l.shape.ops - l.i) l.rng ≡ after_words l.shape.ops l.initial.rng;
       drawn : IsDrawn l.shape.addresses (state l.builder);
       count : op_count l.builder.cores.items ≡ l.first + l.i;

@@ -18,7 +18,7 @@ loop-core-init c =
       made = ap (λ (k : ℕ). with_cores z k (state c.new-builder.result)
           (first_words plus_plus (k * z.ops) c.args.rng.now)) all
           ∙ ap (λ (p : Parts). with_cores z z.cores p
-            (first_words plus_plus (z.cores * z.ops) c.args.rng.now)) begun;
+          (first_words plus_plus (z.cores * z.ops) c.args.rng.now)) begun;
       after = ap (λ (k : ℕ). after_words (k * z.ops) c.args.rng.now) all;
       drawn = subst (IsDrawn z.addresses) (sym begun) (keeps_empty z.addresses);
       count = omega (arith, ap (λ (q : Parts). op_count q.cores) begun);
@@ -36,21 +36,25 @@ loop-core-preserved c =
     let less : c.loop-core.core < z.cores = omega (arith, c.loop-core-test.true) in
     let left : z.cores - c.loop-core.core ≡ suc j = omega (arith, less) in
     let words : (z.cores - c.loop-core.core) * z.ops ≡ z.ops + j * z.ops =
-        more_words (z.cores - c.loop-core.core) j z.ops left in
+    more_words (z.cores - c.loop-core.core) j z.ops left in
     let done = c.in_ok-add_core.ensures in
     record {
       made = ap (λ (q : Parts). with_cores z j q (first_words plus_plus (j * z.ops) c.add_core.new.rng))
           done.ok
           ∙ (ap (λ (s : List ℕ). with_cores z j
-            (with_words z.addresses (with_core p) (first_words plus_plus z.ops rng))
-            (first_words plus_plus (j * z.ops) s)) done.words
+          (with_words z.addresses (with_core p) (first_words plus_plus z.ops rng))
+          (first_words plus_plus (j * z.ops) s)) done.words
           ∙ (sym (cores_turn z p rng (z.cores - c.loop-core.core) j ((z.cores - c.loop-core.core) * z.ops)
-            (j * z.ops) left words) ∙ h.made));
+          (j * z.ops) left words) ∙ h.made));
       after = ap (λ (s : List ℕ). after_words (j * z.ops) s) done.words
           ∙ (sym (after_core z.ops rng ((z.cores - c.loop-core.core) * z.ops) (j * z.ops) words) ∙ h.after);
       drawn = done.drawn;
-      count = omega (arith, done.count, so_many c.loop-core.core z.ops,
-          ap (λ (n : ℕ). c.loop-core.core * n) c.ops.ensures);
+      count = omega (
+        arith,
+        done.count,
+        so_many c.loop-core.core z.ops,
+        ap (λ (n : ℕ). c.loop-core.core * n) c.ops.ensures,
+      );
       cores = omega (arith, done.cores, h.cores);
       within = omega (arith, less);
     }

@@ -14,7 +14,7 @@ invariant-loop-core l =
       made : with_cores l.shape (l.shape.cores - l.core) (state l.builder)
           (first_words plus_plus ((l.shape.cores - l.core) * l.shape.ops) l.rng)
           ≡ with_cores l.shape l.shape.cores empty
-              (first_words plus_plus (l.shape.cores * l.shape.ops) l.initial.rng);
+          (first_words plus_plus (l.shape.cores * l.shape.ops) l.initial.rng);
       after : after_words ((l.shape.cores - l.core) * l.shape.ops) l.rng ≡ after_words
           (l.shape.cores * l.shape.ops) l.initial.rng;
       drawn : IsDrawn l.shape.addresses (state l.builder);

@@ -9,10 +9,14 @@ use Rattle.machine.proofs.makes.units_of.Goals as goal
 pub loop-ops-preserved : goal.loop-ops-preserved
 loop-ops-preserved c =
     let pushed = c.in_ok-push.ensures.items ∙ ap (λ (u : Progress). c.loop-ops.units.items ++ u ∷ [])
-        c.new.ensures in
+    c.new.ensures in
     record {
-      one_each = omega (arith, c.loop-ops.invariant.one_each, ap (λ (l : List Progress). length l) pushed,
-          length-append c.loop-ops.units.items (record { first = c.loop-ops.next; place = 0 } ∷ []));
+      one_each = omega (
+        arith,
+        c.loop-ops.invariant.one_each,
+        ap (λ (l : List Progress). length l) pushed,
+        length-append c.loop-ops.units.items (record { first = c.loop-ops.next; place = 0 } ∷ []),
+      );
       next = omega (
         arith,
         c.loop-ops.invariant.next,

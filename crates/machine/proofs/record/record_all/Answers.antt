@@ -20,19 +20,19 @@ module _ (reads : List (ℕ × Option ℕ)) where
       → list.items ≡ events_from first ops reads
       → map (λ (v : Vec Event Global). v.items) lists ++ cores_from first (ops ∷ rest) reads ≡ all
       → map (λ (v : Vec Event Global). v.items) (lists ++ list ∷ []) ++ cores_from
-        (first + length ops) rest reads ≡ all
+      (first + length ops) rest reads ≡ all
   more lists list first ops rest all is h =
       ap (λ (l : List (List Event)). l ++ cores_from (first + length ops) rest reads)
-          (map-append (λ (v : Vec Event Global). v.items) lists (list ∷ []))
+      (map-append (λ (v : Vec Event Global). v.items) lists (list ∷ []))
       ∙ (append_assoc (map (λ (v : Vec Event Global). v.items) lists) (list.items ∷ [])
-        (cores_from (first + length ops) rest reads)
+      (cores_from (first + length ops) rest reads)
       ∙ (ap (λ (es : List Event). map (λ (v : Vec Event Global). v.items) lists ++ es ∷ cores_from
-        (first + length ops) rest reads) is ∙ h))
+      (first + length ops) rest reads) is ∙ h))
 
 pub record_core-requires-clause-room : goal.record_core-requires-clause-room
 record_core-requires-clause-room c =
     let popped = All-pop (Fresh (length c.args.reads.now)) c.loop-ops.events.items c.pop.new.self.items
-        (Some c.in-Some.list) c.in-Some.ensures.items c.loop-ops.invariant.fresh in
+    (Some c.in-Some.list) c.in-Some.ensures.items c.loop-ops.invariant.fresh in
     omega (
       arith,
       ap (λ (b : BoundedItems Event). length b.items) popped.1,
@@ -60,30 +60,34 @@ record_core-requires-clause-within c =
 pub loop-ops-preserved : goal.loop-ops-preserved
 loop-ops-preserved c =
     let popped = All-pop (Fresh (length c.args.reads.now)) c.loop-ops.events.items c.pop.new.self.items
-        (Some c.in-Some.list) c.in-Some.ensures.items c.loop-ops.invariant.fresh in
+    (Some c.in-Some.list) c.in-Some.ensures.items c.loop-ops.invariant.fresh in
     let size : length c.as_slice-in-loop-ops.result.now ≡ length c.ops-item.result =
-        ap (λ (l : List Op). length l) c.as_slice-in-loop-ops.ensures in
+    ap (λ (l : List Op). length l) c.as_slice-in-loop-ops.ensures in
     let list : c.into_items.result.items ≡ events_from c.loop-ops.first c.ops-item.result c.args.reads.now =
     c.into_items.ensures ∙ (ap (λ (b : BoundedItems Event). b.items) c.record_core.ensures
     ∙ (ap (λ (b : BoundedItems Event). b.items ++ events_from c.loop-ops.first c.as_slice.result.now
-      c.args.reads.now) popped.1
+    c.args.reads.now) popped.1
     ∙ ap (λ (l : List Op). events_from c.loop-ops.first l c.args.reads.now) c.as_slice.ensures)) in
     let next : suc c.loop-ops.ops-index ≡ c.loop-ops.ops-index + 1 = omega arith in
     let split : drop c.loop-ops.ops-index c.args.program.now ≡ c.ops-item.result ∷ drop
-        (c.loop-ops.ops-index + 1) c.args.program.now =
+    (c.loop-ops.ops-index + 1) c.args.program.now =
     drop-cons c.args.program.now c.loop-ops.ops-index c.ops-item.result c.loop-ops-test.true
     ∙ (ap (λ (v : List Op). v ∷ drop (suc c.loop-ops.ops-index) c.args.program.now) (sym c.ops-item.is)
-      ∙ ap (λ (n : ℕ). c.ops-item.result ∷ drop n c.args.program.now) next) in
+    ∙ ap (λ (n : ℕ). c.ops-item.result ∷ drop n c.args.program.now) next) in
     record {
       room = ap (λ (b : BoundedItems (Vec Event Global)). b.room) c.push.ensures ∙ c.loop-ops.invariant.room;
       made = rw (c.push.ensures, size)
           (more c.args.reads.now c.loop-ops.lists.items c.into_items.result c.loop-ops.first c.ops-item.result
-            (drop (c.loop-ops.ops-index + 1) c.args.program.now) _ list
+          (drop (c.loop-ops.ops-index + 1) c.args.program.now) _ list
           (subst (λ (xs : List (List Op)). map (λ (v : Vec Event Global). v.items) c.loop-ops.lists.items
-            ++ cores_from c.loop-ops.first xs c.args.reads.now
+          ++ cores_from c.loop-ops.first xs c.args.reads.now
           ≡ cores_from 0 c.args.program.now c.args.reads.now) split c.loop-ops.invariant.made));
-      size = omega (arith, ap (λ (b : BoundedItems (Vec Event Global)). length b.items) c.push.ensures,
-          length-append c.loop-ops.lists.items (c.into_items.result ∷ []), c.loop-ops.invariant.size);
+      size = omega (
+        arith,
+        ap (λ (b : BoundedItems (Vec Event Global)). length b.items) c.push.ensures,
+        length-append c.loop-ops.lists.items (c.into_items.result ∷ []),
+        c.loop-ops.invariant.size,
+      );
       first = omega (
         arith,
         size,
@@ -92,7 +96,12 @@ loop-ops-preserved c =
         sum_by_more (λ (l : List Op). length l) c.args.program.now c.loop-ops.ops-index c.ops-item.result
             c.loop-ops-test.true,
       );
-      left = omega (arith, c.loop-ops.invariant.left, ap (λ (l : List (BoundedItems Event)). length l)
-          c.in-Some.ensures.items, length-append c.pop.new.self.items (c.in-Some.list ∷ []));
+      left = omega (
+        arith,
+        c.loop-ops.invariant.left,
+        ap (λ (l : List (BoundedItems Event)). length l)
+            c.in-Some.ensures.items,
+        length-append c.pop.new.self.items (c.in-Some.list ∷ []),
+      );
       fresh = popped.0;
     }

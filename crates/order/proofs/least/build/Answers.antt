@@ -33,7 +33,7 @@ returns-clause-cycle c = (
   λ cycle. absurd (c.ordered_is_acyclic.ensures.related c.args.relation.now
       (length c.args.relation.now) c.loop-placed.order.items
       (greedy_all c.args.relation.now c.loop-placed.order.items c.sound.ensures.within
-        c.loop-placed.invariant.1 (omega arith)).respects cycle.0 cycle.1),
+      c.loop-placed.invariant.1 (omega arith)).respects cycle.0 cycle.1),
 )
 
 pub loop-placed-init : goal.loop-placed-init
@@ -63,5 +63,5 @@ loop-placed-preserved c =
       subst (λ (m : List ℕ). IsOpen t m new) (sym now)
           (open_more t p v old new less
           (free_is_fresh t p old c.loop-placed.invariant.2 v less c.in-Some.ensures.1)
-            c.loop-placed.invariant.2 released),
+          c.loop-placed.invariant.2 released),
     )

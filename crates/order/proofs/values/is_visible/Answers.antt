@@ -18,7 +18,7 @@ returns-else-i-at-2 c = (
       (c.writes_to.ensures.0 c.if-not-writes_to.false) c.if-i-at.false (inr (c.precedes.ensures.0 own)),
   λ seen. elim (earlier_or_own c.args.recording.now c.args.order.now c.requires.total c.args.at c.args.address
       c.args.i c.requires.read c.requires.write seen) [
-    | inl before ↦ absurd (omega arith)
-    | inr own ↦ c.precedes.ensures.1 own
-  ],
+        | inl before ↦ absurd (omega arith)
+        | inr own ↦ c.precedes.ensures.1 own
+      ],
 )

@@ -21,4 +21,4 @@ returns c =
     sym (ap (option_map found) c.in-Some.is) ∙ c.in-Ok-shape_in.ensures in
     answers_from c.args.bytes.now d
     (found c.in-Some.found) c.from_parts.result c.in-Ok.ensures.ok held c.if-found-ne1.false
-      c.from_parts.ensures.exact c.from_parts.ensures.ok c.from_parts.ensures.err
+    c.from_parts.ensures.exact c.from_parts.ensures.ok c.from_parts.ensures.err

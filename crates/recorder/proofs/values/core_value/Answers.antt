@@ -14,8 +14,8 @@ loop-event-preserved c =
     record {
       values = values_more event_data xs l.event-index
           (L 0 0 None) event l.values.items c.push.new.self.items c.in_ok-event_value.field-0
-            c.loop-event-test.true refl l.invariant.values c.in_ok-event_value.ensures.value
-            c.in_ok-push.ensures.items;
+          c.loop-event-test.true refl l.invariant.values c.in_ok-event_value.ensures.value
+          c.in_ok-push.ensures.items;
       again = again_more event_in event_data xs l.event-index
           (L 0 0 None) event c.loop-event-test.true refl l.invariant.again c.in_ok-event_value.ensures.again;
     }
@@ -23,9 +23,9 @@ loop-event-preserved c =
 pub returns-clause-value : goal.returns-clause-value
 returns-clause-value c = view-Array c.loop-event.values
     ∙ values_all event_data c.args.events.now c.loop-event.event-index c.loop-event.values.items
-      c.loop-event-test.false c.loop-event.invariant.values
+    c.loop-event-test.false c.loop-event.invariant.values
 
 pub returns-clause-again : goal.returns-clause-again
 returns-clause-again c =
     list_again event_in event_data c.args.events.now c.loop-event.event-index c.loop-event-test.false
-        c.loop-event.invariant.again
+    c.loop-event.invariant.again

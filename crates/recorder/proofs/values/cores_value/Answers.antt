@@ -23,9 +23,9 @@ loop-events-preserved c =
     record {
       values = values_more
           (list_data event_data) xs l.events-index item.items item.items l.values.items c.push.new.self.items
-            c.in_ok-core_value.field-0 at seen l.invariant.values
-            (c.in_ok-core_value.ensures.value ∙ ap (list_data event_data) c.as_slice.ensures.value)
-            c.in_ok-push.ensures.items;
+          c.in_ok-core_value.field-0 at seen l.invariant.values
+          (c.in_ok-core_value.ensures.value ∙ ap (list_data event_data) c.as_slice.ensures.value)
+          c.in_ok-push.ensures.items;
       again = again_more (list_in event_in)
           (list_data event_data) xs l.events-index item.items item.items at seen l.invariant.again
           (subst (λ (ys : List Event). list_in event_in (list_data event_data ys)

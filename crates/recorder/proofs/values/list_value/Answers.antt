@@ -21,9 +21,9 @@ loop-write-preserved c =
 pub returns-clause-value : goal.returns-clause-value
 returns-clause-value c = view-Array c.loop-write.values
     ∙ values_all number_data c.args.writes.now c.loop-write.write-index c.loop-write.values.items
-      c.loop-write-test.false c.loop-write.invariant.values
+    c.loop-write-test.false c.loop-write.invariant.values
 
 pub returns-clause-again : goal.returns-clause-again
 returns-clause-again c =
     list_again number_in number_data c.args.writes.now c.loop-write.write-index c.loop-write-test.false
-        c.loop-write.invariant.again
+    c.loop-write.invariant.again

@@ -23,9 +23,9 @@ loop-writes-preserved c =
     record {
       values = values_more
           (list_data number_data) xs l.writes-index item.items item.items l.values.items c.push.new.self.items
-            c.in_ok-list_value.field-0 at seen l.invariant.values
-            (c.in_ok-list_value.ensures.value ∙ ap (list_data number_data) c.as_slice.ensures.value)
-            c.in_ok-push.ensures.items;
+          c.in_ok-list_value.field-0 at seen l.invariant.values
+          (c.in_ok-list_value.ensures.value ∙ ap (list_data number_data) c.as_slice.ensures.value)
+          c.in_ok-push.ensures.items;
       again = again_more (list_in number_in)
           (list_data number_data) xs l.writes-index item.items item.items at seen l.invariant.again
           (subst (λ (ys : List ℕ). list_in number_in (list_data number_data ys)

@@ -68,7 +68,7 @@ loop-f-preserved c =
           subst (λ (rows : Table). AreFilled x (IsReached x (f + 1)) rows) (sym w.rows-is)
           (reader_of_none x f c.loop-f.rows
           (source_placed x c.args.events.now f _ _ c.requires.events within w.in_default.is)
-            c.loop-f.invariant)
+          c.loop-f.invariant)
     ]
 
 pub returns : goal.returns

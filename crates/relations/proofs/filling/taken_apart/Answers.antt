@@ -23,5 +23,5 @@ loop-row-preserved c =
       sets = subst (λ (ss : List (List Bool)). AreSetsOfRows (c.loop-row.yielded ++ c.in-Some.row ∷ []) ss)
           (sym sets)
           (sets_more c.loop-row.yielded c.loop-row.sets.items c.in-Some.row set c.loop-row.invariant.sets
-            c.into_parts-of_row.ensures.set);
+          c.into_parts-of_row.ensures.set);
     }

@@ -9,13 +9,13 @@ pub returns-in-None : goal.returns-in-None
 returns-in-None c =
     let early : use_ops c.loop-events.used (map op_of c.events-item.result.items) ≡ None =
     ap (λ (l : List Event). use_ops c.loop-events.used (map op_of l)) (sym c.as_slice.ensures.value)
-        ∙ sym c.in-None.ensures in (
+    ∙ sym c.in-None.ensures in (
       λ h. absurd cc,
       λ numbered. absurd (is_not_numbered c.args.recording.now c.cores-lists.result.now c.cores-lists.ensures
           c.sound.ensures c.loop-events.used c.loop-events.events-index c.loop-events.invariant
           c.events-item.result c.loop-events-test.true
-              (subst (λ (v : Vec Event Global). use_ops c.loop-events.used (map op_of v.items) ≡ None)
-              c.events-item.is early) numbered),
+          (subst (λ (v : Vec Event Global). use_ops c.loop-events.used (map op_of v.items) ≡ None)
+          c.events-item.is early) numbered),
     )
 
 pub returns : goal.returns

@@ -11,8 +11,8 @@ returns-clause-cores c =
     let made : List (List Op) = c.loop-events.cores.items in
     let lists : List (Vec Event Global) = c.cores-lists.result.now in
     let none : drop c.loop-events.events-index lists ≡ [] =
-        drop_of_length-le lists c.loop-events-test.false in
+    drop_of_length-le lists c.loop-events-test.false in
     sym (append-nil made) ∙ (ap (λ (l : List (Vec Event Global)). made ++ map
-        (λ (v : Vec Event Global). map op_of v.items) l) (sym none)
+    (λ (v : Vec Event Global). map op_of v.items) l) (sym none)
     ∙ (c.loop-events.invariant.cores ∙ (program_lists lists
-      ∙ ap (λ (cs : List (List Event)). map (λ es. map op_of es) cs) c.cores-lists.ensures)))
+    ∙ ap (λ (cs : List (List Event)). map (λ es. map op_of es) cs) c.cores-lists.ensures)))

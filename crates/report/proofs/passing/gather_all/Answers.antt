@@ -4,5 +4,11 @@ use Rattle.report.proofs.Known.{Consumes-nil}
 use Rattle.report.proofs.passing.gather_all.Goals as goal
 
 pub pieces-init : goal.pieces-init
-pieces-init g c = (([], Consumes-nil (g.R.Source.left c.args.source.now),
-    sym (append-nil c.args.bytes.now.items)), refl)
+pieces-init g c = (
+  (
+    [],
+    Consumes-nil (g.R.Source.left c.args.source.now),
+    sym (append-nil c.args.bytes.now.items),
+  ),
+  refl,
+)

@@ -6,5 +6,8 @@ use Rattle.search.proofs.alone.run_alone.Goals as goal
 pub returns-then-is_empty : goal.returns-then-is_empty
 returns-then-is_empty c =
     let none : length c.args.jobs.items ≡ 0 = grind (arith, c.is_empty.ensures, c.if-is_empty.true) in
-    λ t h. (None, subst (λ (rows : List SourceRow). AreLeastRows t None rows) (sym c.new.ensures.items)
-        (least_none t c.args.jobs.items none h))
+    λ t h. (
+      None,
+      subst (λ (rows : List SourceRow). AreLeastRows t None rows) (sym c.new.ensures.items)
+          (least_none t c.args.jobs.items none h),
+    )

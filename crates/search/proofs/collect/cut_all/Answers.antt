@@ -13,7 +13,7 @@ loop-row-preserved c =
     let i = length c.loop-row.all.items in
     let steps = c.in-Some.ensures.steps.0 in
     let head = drop_head i c.args.rows.items c.in-Some.row (into_iter_items c.next.new.self)
-        (sym inv.rest ∙ steps) in
+    (sym inv.rest ∙ steps) in
     let at : i < length t = omega (arith, head.0, c.requires.rows.size) in
     let is = head.1 c.in-Some.row in
     let named : IsNamed t c.args.cap i c.cut_to-cut.result = record {
@@ -24,8 +24,11 @@ loop-row-preserved c =
       cut = c.cut_to-cut.ensures.cut;
     } in
     let more : length c.push.new.self.items ≡ suc i =
-        omega (arith, ap (λ (l : List SourceRow). length l) c.in_ok-push.ensures.items,
-        length-append c.loop-row.all.items (c.cut_to-cut.result ∷ [])) in
+    omega (
+      arith,
+      ap (λ (l : List SourceRow). length l) c.in_ok-push.ensures.items,
+      length-append c.loop-row.all.items (c.cut_to-cut.result ∷ []),
+    ) in
     record {
       rest = head.2 ∙ ap (λ (k : ℕ). drop k c.args.rows.items) (sym more);
       size = omega (arith, inv.size, more, ap (λ (l : List SourceRow). length l) steps);
@@ -39,6 +42,6 @@ returns c =
     let t = c.args.relation.now in
     let inv = c.loop-row.invariant in
     let size : length c.loop-row.all.items ≡ length t =
-        omega (arith, inv.size, c.requires.rows.size, c.in-None.ensures.steps.0) in
+    omega (arith, inv.size, c.requires.rows.size, c.in-None.ensures.steps.0) in
     least_rows t c.args.cap c.loop-row.all.items size c.requires.least
-        (λ v d at. inv.each v d (omega (arith, at, size)))
+    (λ v d at. inv.each v d (omega (arith, at, size)))

@@ -15,16 +15,16 @@ loop-row-preserved c =
     let at : i < length c.loop-row.rows = omega arith in
     let at_rows : i < length rows = omega (arith, at, length-map c.loop-row.rows items) in
     let seen : get_or rows i [] ≡ c.as_mut_slice.result.now = row_seen c.loop-row.rows i c.row-item.result at
-        c.row-item.is ∙ (ap (λ (v : Vec ℕ Global). v.items) c.row-item.is
-        ∙ sym c.as_mut_slice.ensures.value) in
+    c.row-item.is ∙ (ap (λ (v : Vec ℕ Global). v.items) c.row-item.is
+    ∙ sym c.as_mut_slice.ensures.value) in
     let read : c.row-item.result ≡ get_or c.loop-row.rows i c.row-item.result = c.row-item.is in
     let written = with_items (get_or c.loop-row.rows i c.row-item.result) c.cut_row.new.row in
     let is : written.items ≡ c.cut_row.new.row = with_items_is (get_or c.loop-row.rows i c.row-item.result)
-        c.cut_row.new.row (omega (arith, ap (λ (v : Vec ℕ Global). v.len) read)) in
+    c.cut_row.new.row (omega (arith, ap (λ (v : Vec ℕ Global). v.len) read)) in
     subst (λ (all : List (List ℕ)). AreCutBelow c.args.cap (i + 1) (map items c.args.rows.now) all)
-        (sym (map-set items c.loop-row.rows i written ∙ ap (λ (row : List ℕ). set rows i row) is))
+    (sym (map-set items c.loop-row.rows i written ∙ ap (λ (row : List ℕ). set rows i row) is))
     (cut_more c.args.cap i (map items c.args.rows.now) rows c.cut_row.new.row at_rows
-      (omega (arith, ap (λ (row : List ℕ). length row) seen))
+    (omega (arith, ap (λ (row : List ℕ). length row) seen))
     (λ e. c.cut_row.ensures e ∙ ap (λ (row : List ℕ). min (get_or row e 0) c.args.cap) (sym seen))
     c.loop-row.invariant)
 
@@ -32,4 +32,4 @@ pub returns : goal.returns
 returns c = cut_all c.args.cap c.loop-row.row-index (lists_of c.args.rows.now)
     (map (λ (r : Vec ℕ Global). r.items) c.loop-row.rows)
     (omega (arith, c.loop-row-test.false, length-map c.loop-row.rows (λ (r : Vec ℕ Global). r.items)))
-      c.loop-row.invariant
+    c.loop-row.invariant

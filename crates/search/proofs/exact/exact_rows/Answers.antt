@@ -16,9 +16,9 @@ returns-clause-exact c =
     let n = length c.args.relation.now in
     let cut : AreCut c.in-Some.size (lists_of c.in_ok-rows.rows.items) (lists_of c.cut_rows.new.rows) =
     subst (λ (vs : List (Vec ℕ Global)). AreCut c.in-Some.size (lists_of vs) (lists_of c.cut_rows.new.rows))
-        c.as_mut_slice.ensures.value c.cut_rows.ensures in
+    c.as_mut_slice.ensures.value c.cut_rows.ensures in
     subst (λ (vs : List (Vec ℕ Global)). AreExactRows R n c.in-Some.size (lists_of vs))
-        (sym (rows_written_back c.in_ok-rows.rows.len c.cut_rows.new.rows c.in_ok-rows.rows.items
-        (omega arith)))
+    (sym (rows_written_back c.in_ok-rows.rows.len c.cut_rows.new.rows c.in_ok-rows.rows.items
+    (omega arith)))
     (cut_exact R n c.in-Some.size (lists_of c.in_ok-rows.rows.items) (lists_of c.cut_rows.new.rows)
-      c.sound.ensures.within c.in_ok-rows.ensures.distances c.in-Some.ensures cut)
+    c.sound.ensures.within c.in_ok-rows.ensures.distances c.in-Some.ensures cut)

@@ -11,24 +11,24 @@ use Rattle.search.proofs.least.first_event.Goals as goal
 pub closes_at-requires : goal.closes_at-requires
 closes_at-requires c =
     let at : c.loop-v.v < length c.args.relation.now =
-        omega (arith, c.requires.one_each, length-map c.args.rows.now (λ (r : Vec ℕ Global). r.items)) in
+    omega (arith, c.requires.one_each, length-map c.args.rows.now (λ (r : Vec ℕ Global). r.items)) in
     let in_rows : c.loop-v.v < length c.args.rows.now = omega arith in
     let is : get_or (lists_of c.args.rows.now) c.loop-v.v [] ≡ c.deref.result.now =
-        row_seen c.args.rows.now c.loop-v.v c.index-rows-v.result in_rows c.index-rows-v.is
-        ∙ sym c.deref.ensures.value in
+    row_seen c.args.rows.now c.loop-v.v c.index-rows-v.result in_rows c.index-rows-v.is
+    ∙ sym c.deref.ensures.value in
     ap (λ (row : List ℕ). length row) (sym is) ∙ c.requires.lengths c.loop-v.v at
 
 pub loop-v-preserved : goal.loop-v-preserved
 loop-v-preserved c =
     let at : c.loop-v.v < length c.args.relation.now =
-        omega (arith, c.requires.one_each, length-map c.args.rows.now (λ (r : Vec ℕ Global). r.items)) in
+    omega (arith, c.requires.one_each, length-map c.args.rows.now (λ (r : Vec ℕ Global). r.items)) in
     let in_rows : c.loop-v.v < length c.args.rows.now = omega arith in
     let is : get_or (lists_of c.args.rows.now) c.loop-v.v [] ≡ c.deref.result.now =
-        row_seen c.args.rows.now c.loop-v.v c.index-rows-v.result in_rows c.index-rows-v.is
-        ∙ sym c.deref.ensures.value in
+    row_seen c.args.rows.now c.loop-v.v c.index-rows-v.result in_rows c.index-rows-v.is
+    ∙ sym c.deref.ensures.value in
     below_more _ _ c.loop-v.invariant (λ closes. both_ways c.closes_at.result c.if-closes_at.false
-        (c.closes_at.ensures.1 (subst (λ (row : List ℕ). ClosesAt (Related c.args.relation.now) c.loop-v.v row
-        c.args.label) is closes)))
+    (c.closes_at.ensures.1 (subst (λ (row : List ℕ). ClosesAt (Related c.args.relation.now) c.loop-v.v row
+    c.args.label) is closes)))
 
 pub returns : goal.returns
 returns c = λ v at. c.loop-v.invariant v

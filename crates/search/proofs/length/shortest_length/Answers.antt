@@ -8,12 +8,17 @@ use Rattle.search.proofs.length.shortest_length.Goals as goal
 pub returns-then-least-rows : goal.returns-then-least-rows
 returns-then-least-rows c =
     one_closes (Related c.args.relation.now) (length c.args.relation.now)
-        (lists_of c.args.rows.now) c.sound.ensures.within c.requires.distances c.args.least c.requires.least
+    (lists_of c.args.rows.now) c.sound.ensures.within c.requires.distances c.args.least c.requires.least
     (omega (arith, c.requires.distances.one_each, length-map c.args.rows.now (λ (r : Vec ℕ Global). r.items)))
 
 pub returns-else-least-rows : goal.returns-else-least-rows
 returns-else-least-rows c =
     none_closes (Related c.args.relation.now) (length c.args.relation.now)
-        (lists_of c.args.rows.now) c.sound.ensures.within c.requires.distances c.args.least c.requires.least
-    (omega (arith, c.requires.least.below, c.requires.distances.one_each, length-map c.args.rows.now
-      (λ (r : Vec ℕ Global). r.items)))
+    (lists_of c.args.rows.now) c.sound.ensures.within c.requires.distances c.args.least c.requires.least
+    (omega (
+      arith,
+      c.requires.least.below,
+      c.requires.distances.one_each,
+      length-map c.args.rows.now
+          (λ (r : Vec ℕ Global). r.items),
+    ))

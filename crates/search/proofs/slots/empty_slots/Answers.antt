@@ -11,11 +11,17 @@ loop-preserved c =
     let t = c.args.relation.now in
     let lengths = lengths_of c.args.seat.now in
     let is = c.in_ok-push.ensures.items in (
-      omega (arith, ap (λ (l : List (Option SourceRow)). length l) is, length-append c.loop.slots.items
-          (None ∷ []), c.loop.invariant.0),
+      omega (
+        arith,
+        ap (λ (l : List (Option SourceRow)). length l) is,
+        length-append c.loop.slots.items
+            (None ∷ []),
+        c.loop.invariant.0,
+      ),
       (λ v d below. subst (λ (l : List (Option SourceRow)). IfSome (get_or l v d) (IsRowFrom t lengths v))
-        (sym is) (none_more t lengths c.loop.counter c.loop.slots.items c.loop.invariant.0 c.loop.invariant.1
-        v d below)),
+          (sym is)
+          (none_more t lengths c.loop.counter c.loop.slots.items c.loop.invariant.0 c.loop.invariant.1
+          v d below)),
     )
 
 pub returns : goal.returns

@@ -8,4 +8,4 @@ abbrev pub invariant-loop : goal.invariant-loop
 invariant-loop l =
     (length l.slots.items ≡ l.counter)
     × ((v : ℕ) (d : Option SourceRow) → v < l.counter → IfSome (get_or l.slots.items v d)
-      (IsRowFrom l.relation (lengths_of l.seat) v))
+    (IsRowFrom l.relation (lengths_of l.seat) v))

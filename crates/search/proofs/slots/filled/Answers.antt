@@ -13,12 +13,12 @@ row_or-requires-clause-slot g c κs within =
     let t = arc_value c.args.relation.now in
     let inv = c.loop-slot.invariant in
     let head = drop_head c.loop-slot.source c.args.slots.items c.in-Some.slot
-        (into_iter_items c.next.new.self) (sym inv.3 ∙ c.in-Some.ensures.steps.0) in
+    (into_iter_items c.next.new.self) (sym inv.3 ∙ c.in-Some.ensures.steps.0) in
     slot_kept t (lengths_of c.args.seat.now) (lengths_of c.loop-slot.seat) c.loop-slot.source c.in-Some.slot
-        inv.1
+    inv.1
     (subst (λ (o : Option SourceRow). IfSome o (IsRowFrom t (lengths_of c.args.seat.now) c.loop-slot.source))
-      (head.1 None) (c.requires.slots.each c.loop-slot.source None
-      (omega (arith, head.0, c.requires.slots.size))))
+    (head.1 None) (c.requires.slots.each c.loop-slot.source None
+    (omega (arith, head.0, c.requires.slots.size))))
 
 pub loop-slot-preserved : goal.loop-slot-preserved
 loop-slot-preserved g c =
@@ -26,7 +26,7 @@ loop-slot-preserved g c =
     let inv = c.loop-slot.invariant in
     let steps = c.in-Some.ensures.steps.0 in
     let head = drop_head c.loop-slot.source c.args.slots.items c.in-Some.slot
-        (into_iter_items c.next.new.self) (sym inv.3 ∙ steps) in
+    (into_iter_items c.next.new.self) (sym inv.3 ∙ steps) in
     let next : suc c.loop-slot.source ≡ c.loop-slot.source + 1 = omega arith in (
       c.row_or.ensures.seat,
       (λ k h. c.row_or.ensures.kept k (inv.1 k h)),
@@ -42,5 +42,5 @@ returns-clause-rows g c =
     let t = arc_value c.args.relation.now in
     let inv = c.loop-slot.invariant in
     let all : c.loop-slot.source ≡ length t =
-        omega (arith, inv.4, c.requires.slots.size, c.in-None.ensures.steps.0) in
+    omega (arith, inv.4, c.requires.slots.size, c.in-None.ensures.steps.0) in
     subst (λ (k : ℕ). AreSlotsFilled t (lengths_of c.loop-slot.seat) k c.loop-slot.rows.items) all inv.2

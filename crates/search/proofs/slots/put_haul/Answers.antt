@@ -8,13 +8,13 @@ use Rattle.search.proofs.slots.put_haul.Goals as goal
 pub put_rows-requires-clause-rows : goal.put_rows-requires-clause-rows
 put_rows-requires-clause-rows c =
     rows_kept c.args.relation.now (lengths_of c.args.haul.seat) (lengths_of c.absorb.new.self)
-        c.args.haul.rows.items
+    c.args.haul.rows.items
     (unites_right (known_of c.args.seat.now) (known_of c.args.haul.seat)
-      (known_of c.absorb.new.self) c.absorb.ensures.1) c.requires.haul.1
+    (known_of c.absorb.new.self) c.absorb.ensures.1) c.requires.haul.1
 
 pub put_rows-requires-clause-slots : goal.put_rows-requires-clause-slots
 put_rows-requires-clause-slots c =
     slots_kept c.args.relation.now (lengths_of c.args.seat.now) (lengths_of c.absorb.new.self)
-        c.args.slots.now.items
+    c.args.slots.now.items
     (unites_left (known_of c.args.seat.now) (known_of c.args.haul.seat)
-      (known_of c.absorb.new.self) c.absorb.ensures.1) c.requires.slots
+    (known_of c.absorb.new.self) c.absorb.ensures.1) c.requires.slots

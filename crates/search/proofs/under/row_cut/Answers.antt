@@ -10,18 +10,18 @@ pub returns-clause-exact : goal.returns-clause-exact
 returns-clause-exact c =
     let n = length c.args.relation.now in
     let most : c.unwrap_or-most.result ≡ unwrap_or c.args.cap n = c.unwrap_or-most.ensures
-        ∙ ap (λ (k : ℕ). unwrap_or c.args.cap k) c.len.ensures in
+    ∙ ap (λ (k : ℕ). unwrap_or c.args.cap k) c.len.ensures in
     subst (λ (k : ℕ). IsExactRow (Related c.args.relation.now) n k c.args.source c.row_in.result.0.items) most
     (row_related c.args.relation.now c.successors.result.now c.unwrap_or-most.result c.args.source
-      c.row_in.result.0.items c.sound.ensures.within c.successors.ensures c.row_in.ensures.exact)
+    c.row_in.result.0.items c.sound.ensures.within c.successors.ensures c.row_in.ensures.exact)
 
 pub returns-clause-nearest : goal.returns-clause-nearest
 returns-clause-nearest c =
     let n = length c.args.relation.now in
     let most : c.unwrap_or-most.result ≡ unwrap_or c.args.cap n = c.unwrap_or-most.ensures
-        ∙ ap (λ (k : ℕ). unwrap_or c.args.cap k) c.len.ensures in
+    ∙ ap (λ (k : ℕ). unwrap_or c.args.cap k) c.len.ensures in
     subst (λ (k : ℕ). IsNearest (Related c.args.relation.now) c.args.source c.row_in.result.0.items k
-        c.row_in.result.1) most
+    c.row_in.result.1) most
     (nearest_related c.args.relation.now c.successors.result.now c.args.source c.row_in.result.0.items
-      c.unwrap_or-most.result c.row_in.result.1 c.sound.ensures.within c.successors.ensures
-      c.row_in.ensures.nearest)
+    c.unwrap_or-most.result c.row_in.result.1 c.sound.ensures.within c.successors.ensures
+    c.row_in.ensures.nearest)

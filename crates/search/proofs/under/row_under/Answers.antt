@@ -14,4 +14,4 @@ pub returns-clause-cap : goal.returns-clause-cap
 returns-clause-cap c = λ k h. subst (λ (o : Option ℕ). AtMost o k)
     (sym (ap (λ (l : SourceRow). l.cap) c.of.ensures))
     (read_within (known_of c.args.seat.now) (known_of c.read-cap.new.seat) c.read-cap.result
-      c.read-cap.ensures.reads k h)
+    c.read-cap.ensures.reads k h)

@@ -15,6 +15,6 @@ returns-clause-rows g c =
           (sym c.in-Ok.ensures.source) c.in-Ok.ensures.covers;
     } in
     perhaps_pushed (IsRowFor t after) _ c.args.rows.now.items c.push-kept.new.self.items c.in-Ok.row
-        c.push-kept.ensures.items
+    c.push-kept.ensures.items
     (rows_kept t (lengths_of c.args.seat.now) after c.args.rows.now.items c.row_under-made.ensures.kept
-      c.requires.rows) row
+    c.requires.rows) row

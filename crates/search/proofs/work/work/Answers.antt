@@ -15,7 +15,7 @@ loop-job-preserved g c =
     let inv = c.loop-job.invariant in
     let rest = into_iter_items c.next.new.self in
     let is : c.in-Some.job.relation ≡ t = All-head (λ (job : Job). job.relation ≡ t) c.in-Some.job rest
-        (subst (All (λ (job : Job). job.relation ≡ t)) steps inv.2) in (
+    (subst (All (λ (job : Job). job.relation ≡ t)) steps inv.2) in (
       (c.make_row.ensures.seat.0, c.make_row.ensures.seat.1 ∙ is),
       subst (λ (x : Table). All (IsRowFor x (lengths_of c.make_row.new.seat)) c.make_row.new.rows.items) is
           c.make_row.ensures.rows,

@@ -18,8 +18,13 @@ loop-k-preserved c =
     let h = c.loop-k.invariant in
     let ws = c.loop-k.words.items in
     let low : c.loop-k.k < length ws =
-    omega (arith, c.loop-k-test.true, h.size, c.len-k-end.ensures,
-        closed_size p c.requires.0 c.args.words.items c.requires.1 c.requires.2) in
+    omega (
+      arith,
+      c.loop-k-test.true,
+      h.size,
+      c.len-k-end.ensures,
+      closed_size p c.requires.0 c.args.words.items c.requires.1 c.requires.2,
+    ) in
     record {
       size = length-set ws c.loop-k.k c.in_ok-words.field-0 ∙ h.size;
       done = one_written p ws c.loop-k.k c.in_ok-words.field-0 low c.in_ok-words.ensures h.done;

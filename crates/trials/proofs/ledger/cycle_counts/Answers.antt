@@ -9,5 +9,5 @@ loop-length-init c = c.new-cycles.ensures.items
 pub loop-length-preserved : goal.loop-length-preserved
 loop-length-preserved c =
     cycles_more c.args.codes.now c.loop-length.length c.count_of-count.result c.loop-length.cycles.items
-        c.add_count.new.cycles.items
+    c.add_count.new.cycles.items
     c.loop-length.invariant c.count_of-count.ensures.value c.in_ok-add_count.ensures

@@ -29,16 +29,16 @@ attempts-preserved c =
     let n = c.attempts._taken in
     let h = c.attempts.invariant in
     let cores : c.cores-cores.result ≡ length m.program.cores = c.cores-cores.ensures.count
-        ∙ ap (λ (p : Parts). length p.cores) c.program.ensures in
+    ∙ ap (λ (p : Parts). length p.cores) c.program.ensures in
     let addresses : c.len-addresses.result ≡ length m.program.names =
     c.len-addresses.ensures.len ∙ (ap (λ (names : List Name). length names) c.names.ensures.keys
-        ∙ ap (λ (p : Parts). length p.names) c.program-2.ensures) in
+    ∙ ap (λ (p : Parts). length p.names) c.program-2.ensures) in
     let word : c.next_word.result ≡ (plus_plus (after_words n g)).0 =
     ap (λ (x : ℕ × List ℕ). x.0) c.next_word.ensures ∙ ap (λ (r : List ℕ). (plus_plus r).0) h.words in
     let named : c.step_of_word-step.result ≡ step_of_word (length m.program.cores) (length m.program.names)
-        (plus_plus (after_words n g)).0 =
+    (plus_plus (after_words n g)).0 =
     c.step_of_word-step.ensures ∙ (ap (λ (k : ℕ). step_of_word k c.len-addresses.result c.next_word.result)
-        cores
+    cores
     ∙ (ap (λ (k : ℕ). step_of_word (length m.program.cores) k c.next_word.result) addresses
     ∙ ap (λ (w : ℕ). step_of_word (length m.program.cores) (length m.program.names) w) word)) in
     record {
@@ -48,7 +48,7 @@ attempts-preserved c =
           ∙ (ap (λ (r : List ℕ). (plus_plus r).1) h.words ∙ sym (after_more n g));
       before = below_more (λ (k : ℕ). IsAtEnd (configuration_behind m g k) → ⊥) n h.before
           (λ end. absurd (let clash : true ≡ false =
-            sym (c.is_complete.ensures.1 (subst IsAtEnd (sym h.leads) end)) ∙ c.if-is_complete.false in cc));
+          sym (c.is_complete.ensures.1 (subst IsAtEnd (sym h.leads) end)) ∙ c.if-is_complete.false in cc));
       within = omega (arith, c.attempts-test.true);
     }
 

@@ -10,10 +10,10 @@ loop-i-preserved c =
     elim c.match-get.branch [
       | in-Some w ↦ rw (w.found-is, w.or_before-found.ensures)
           (sym (youngest_step c.loop-i.found c.args.addr items c.loop-i.i w.in-Some.entry.now
-            (sym w.in-Some.ensures)) ∙ c.loop-i.invariant)
+          (sym w.in-Some.ensures)) ∙ c.loop-i.invariant)
       | in_default w ↦
           let within : c.loop-i.i < length items =
-              omega (arith, c.len-i-end.ensures.len, c.loop-i-test.true) in
+          omega (arith, c.len-i-end.ensures.len, c.loop-i-test.true) in
           let some = slice_get-some items c.loop-i.i within in
           grind (arith, some.1, w.in_default.ensures, c.get.ensures)
     ]

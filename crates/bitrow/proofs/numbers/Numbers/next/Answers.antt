@@ -13,10 +13,12 @@ returns-then-number-self-clause-found c =
 pub invariant_of-self : goal.invariant_of-self
 invariant_of-self c =
     let s = c.self.inside in
-    let low = lowest s.rest c.if-self-ne0.true (omega arith) in
-    (c.self.invariant.0, rest_behind s.words.now s.at s.rest s.from _ c.without_bit-self-inside.result
-      c.self.invariant.1 low.0 low.1 low.2 c.without_bit-self-inside.ensures.cleared
-      c.without_bit-self-inside.ensures.others)
+    let low = lowest s.rest c.if-self-ne0.true (omega arith) in (
+      c.self.invariant.0,
+      rest_behind s.words.now s.at s.rest s.from _ c.without_bit-self-inside.result
+          c.self.invariant.1 low.0 low.1 low.2 c.without_bit-self-inside.ensures.cleared
+          c.without_bit-self-inside.ensures.others,
+    )
 
 pub returns-then-self-ne0-clause-found : goal.returns-then-self-ne0-clause-found
 returns-then-self-ne0-clause-found c =
@@ -31,7 +33,7 @@ returns-in_err-number-clause-found c =
     (members_end s.words.now s.len s.from
     (rest_none s.words.now s.at s.from None
     (subst (λ (r : ℕ). IsRest s.words.now s.at r s.from) c.if-self-ne0.false c.self.invariant.1)
-      c.in_err-number.ensures))
+    c.in_err-number.ensures))
 
 pub returns-then-number-self-2-clause-found : goal.returns-then-number-self-2-clause-found
 returns-then-number-self-2-clause-found c =
@@ -39,7 +41,7 @@ returns-then-number-self-2-clause-found c =
     rw (← c.self.view_is) (members_past_end s.words.now s.len s.from _ c.if-number-self-2.true
     (rest_none s.words.now s.at s.from (Some c.in_ok-number.number)
     (subst (λ (r : ℕ). IsRest s.words.now s.at r s.from) c.if-self-ne0.false c.self.invariant.1)
-      c.in_ok-number.ensures))
+    c.in_ok-number.ensures))
 
 pub invariant_of-self-2 : goal.invariant_of-self-2
 invariant_of-self-2 c =
@@ -48,7 +50,7 @@ invariant_of-self-2 c =
       rest_of_word s.words.now
           (s.at + 1) c.in_ok-number.number c.without_bit-self-inside-2.result c.in_ok-number.ensures
           (bit_within s.words.now c.in_ok-number.number c.in_ok-number.ensures.1)
-            c.without_bit-self-inside-2.ensures.cleared c.without_bit-self-inside-2.ensures.others,
+          c.without_bit-self-inside-2.ensures.cleared c.without_bit-self-inside-2.ensures.others,
     )
 
 pub returns-clause-found : goal.returns-clause-found
@@ -57,4 +59,4 @@ returns-clause-found c =
     rw (← c.self.view_is) (members_next s.words.now s.len s.from _ c.if-number-self-2.false
     (rest_none s.words.now s.at s.from (Some c.in_ok-number.number)
     (subst (λ (r : ℕ). IsRest s.words.now s.at r s.from) c.if-self-ne0.false c.self.invariant.1)
-      c.in_ok-number.ensures))
+    c.in_ok-number.ensures))

@@ -34,9 +34,9 @@ returns-clause-numbers c =
     let also : length c.args.other.now ≡ c.other.inside.len =
     row_length c.other.inside.words.items c.other.inside.len c.args.other.now c.other.view_is in
     row_and_not c.self.inside.words.items c.as_mut_slice.result.now c.other.inside.words.items
-        c.as_slice.result.now c.and_not_words.new.words
-        (with_items c.self.inside.words c.and_not_words.new.words).items c.self.inside.len c.other.inside.len
-        c.args.self.now c.args.other.now
+    c.as_slice.result.now c.and_not_words.new.words
+    (with_items c.self.inside.words c.and_not_words.new.words).items c.self.inside.len c.other.inside.len
+    c.args.self.now c.args.other.now
     c.self.view_is c.other.view_is
     (omega (arith, size, also, c.requires)) c.as_mut_slice.ensures.value c.as_slice.ensures.value
     (with_items_is c.self.inside.words c.and_not_words.new.words (omega arith)) c.and_not_words.ensures

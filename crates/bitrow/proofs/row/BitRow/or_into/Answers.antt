@@ -34,8 +34,8 @@ returns-clause-numbers c =
     let also : length c.args.self.now ≡ c.self.inside.len =
     row_length c.self.inside.words.items c.self.inside.len c.args.self.now c.self.view_is in
     row_or c.into.inside.words.items c.as_mut_slice.result.now c.self.inside.words.items c.as_slice.result.now
-        c.or_words.new.words (with_items c.into.inside.words c.or_words.new.words).items c.into.inside.len
-        c.self.inside.len c.args.into.now c.args.self.now
+    c.or_words.new.words (with_items c.into.inside.words c.or_words.new.words).items c.into.inside.len
+    c.self.inside.len c.args.into.now c.args.self.now
     c.into.view_is c.self.view_is
     (omega (arith, size, also, c.requires)) c.as_mut_slice.ensures.value c.as_slice.ensures.value
     (with_items_is c.into.inside.words c.or_words.new.words (omega arith)) c.or_words.ensures

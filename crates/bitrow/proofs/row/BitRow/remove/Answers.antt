@@ -21,7 +21,7 @@ returns-clause-numbers c =
     row_length c.self.inside.words.items c.self.inside.len c.args.self.now c.self.view_is in
     row_clear c.self.inside.words.items c.as_mut_slice.result.now c.clear_bit.new.words
     (with_items c.self.inside.words c.clear_bit.new.words).items c.self.inside.len c.args.number
-      c.args.self.now
+    c.args.self.now
     c.self.view_is c.as_mut_slice.ensures.value
     (with_items_is c.self.inside.words c.clear_bit.new.words (omega arith))
     (omega (arith, size, c.requires)) c.clear_bit.ensures

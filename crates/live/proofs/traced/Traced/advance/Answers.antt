@@ -10,7 +10,7 @@ invariant_of-self-2 c = (
       c.step.new.self.fault (begun c.step.new.self.program) l ≡ Ok c.step.new.self.state)
       (sym c.in-Ok.ensures.items)
       (replay_more c.self.inside.machine c.step.new.self c.self.inside.steps.items c.args.step
-        c.self.invariant.0 c.in_default.ensures.ok c.in_default.ensures.rest),
+      c.self.invariant.0 c.in_default.ensures.ok c.in_default.ensures.rest),
   omega (arith, c.in-Ok.ensures.len, c.len.ensures, c.if-len-self.false),
   omega (arith, c.in-Ok.ensures.capacity, c.self.invariant.2),
 )

@@ -9,7 +9,7 @@ returns-else-is_complete c =
       λ same. inr (omega (arith, c.len.ensures, full.0 same)),
       λ ended. elim ended [
         | inl end ↦ absurd (let clash : true ≡ false = sym (c.is_complete.ensures.1 end)
-          ∙ c.if-is_complete.false in cc)
+            ∙ c.if-is_complete.false in cc)
         | inr all ↦ full.1 (omega (arith, c.len.ensures, all))
       ],
     )

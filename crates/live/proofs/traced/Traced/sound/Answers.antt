@@ -14,14 +14,14 @@ returns-clause-tso c =
     let h = c.self.inside.machine in
     let led : run h.program.cores h.capacity h.fault (begun h.program) c.self.inside.steps.items ≡ h.state =
     taken_run h.program.cores h.capacity h.fault (begun h.program) h.state c.self.inside.steps.items
-        c.self.invariant.0 in
+    c.self.invariant.0 in
     let fits = subst (λ (p : Parts). All (λ ops. All (IsWithin (length p.names)) ops) p.cores)
-        c.program.ensures c.sound.ensures.within in
+    c.program.ensures c.sound.ensures.within in
     rw (← c.self.view_is) (λ none end.
     let led' : run h.program.cores h.capacity fault.None (begun h.program) c.self.inside.steps.items
-        ≡ h.state =
+    ≡ h.state =
     subst (λ (f : Fault). run h.program.cores h.capacity f (begun h.program) c.self.inside.steps.items
-        ≡ h.state) none led in
+    ≡ h.state) none led in
     subst (λ (s : State). IsTsoOrder (recorded h.program.cores s) s.performed) led'
     (c.every_run_is_tso.ensures.tso h.program.cores (length h.program.names) h.capacity
-      c.self.inside.steps.items fits (subst (λ (s : State). IsComplete h.program.cores s) (sym led') end)))
+    c.self.inside.steps.items fits (subst (λ (s : State). IsComplete h.program.cores s) (sym led') end)))

@@ -9,29 +9,29 @@ use Rattle.machine.proofs.machine.Machine.fence.Goals as goal
 pub push-requires : goal.push-requires
 push-requires c =
     let at = subst (λ (h : Configuration). IsAt h.program.cores h.state c.args.core (Fence) c.args.event)
-        (sym c.self.view_is) c.requires in
+    (sym c.self.view_is) c.requires in
     executed.has_room _ _ _ _ _ _ _ _ c.self.invariant.sound c.args.core (Fence) c.args.event at
 
 pub advance-requires-clause-left : goal.advance-requires-clause-left
 advance-requires-clause-left c =
     let at = subst (λ (h : Configuration). IsAt h.program.cores h.state c.args.core (Fence) c.args.event)
-        (sym c.self.view_is) c.requires in
+    (sym c.self.view_is) c.requires in
     executed.left _ _ _ _ _ _ _ _ c.self.invariant.sound c.args.core
-        (Fence) c.args.event at c.index_mut.result.now c.index_mut.ensures.value c.ops.result.now
-        c.ops.ensures
+    (Fence) c.args.event at c.index_mut.result.now c.index_mut.ensures.value c.ops.result.now
+    c.ops.ensures
 
 pub advance-requires-clause-few : goal.advance-requires-clause-few
 advance-requires-clause-few c =
     let at = subst (λ (h : Configuration). IsAt h.program.cores h.state c.args.core (Fence) c.args.event)
-        (sym c.self.view_is) c.requires in
+    (sym c.self.view_is) c.requires in
     executed.few _ _ _ _ _ _ _ _ c.self.invariant.sound c.args.core
-        (Fence) c.args.event at c.index_mut.result.now c.index_mut.ensures.value c.ops.result.now
-        c.ops.ensures
+    (Fence) c.args.event at c.index_mut.result.now c.index_mut.ensures.value c.ops.result.now
+    c.ops.ensures
 
 pub invariant_of-self : goal.invariant_of-self
 invariant_of-self c =
     let at = subst (λ (h : Configuration). IsAt h.program.cores h.state c.args.core (Fence) c.args.event)
-        (sym c.self.view_is) c.requires in
+    (sym c.self.view_is) c.requires in
     record {
       sound = executed.performed_sound _ _ _ _ _ _ _ _ c.self.invariant.sound c.args.core
           (Fence) c.args.event at c.index_mut.result.now c.index_mut.ensures.value c.ops.result.now
@@ -49,9 +49,9 @@ invariant_of-self c =
 pub returns-clause-ok : goal.returns-clause-ok
 returns-clause-ok c =
     let at = subst (λ (h : Configuration). IsAt h.program.cores h.state c.args.core (Fence) c.args.event)
-        (sym c.self.view_is) c.requires in
+    (sym c.self.view_is) c.requires in
     rw (← c.self.view_is, c.push.ensures)
-        (executed.fence_taken _ _ _ _ _ _ _ _ c.self.invariant.sound c.args.core
-        (Fence) c.args.event at c.index_mut.result.now c.index_mut.ensures.value c.ops.result.now
-        c.ops.ensures c.advance.new.self c.advance.ensures c.self.inside.fault c.index.result.now
-        c.index.ensures (sym c.may_fence.ensures ∙ c.if-not-may_fence.false))
+    (executed.fence_taken _ _ _ _ _ _ _ _ c.self.invariant.sound c.args.core
+    (Fence) c.args.event at c.index_mut.result.now c.index_mut.ensures.value c.ops.result.now
+    c.ops.ensures c.advance.new.self c.advance.ensures c.self.inside.fault c.index.result.now
+    c.index.ensures (sym c.may_fence.ensures ∙ c.if-not-may_fence.false))

@@ -15,11 +15,15 @@ new-requires c =
     let p = c.self.inside.program in
     let d = reached_data _ _ _ _ _ c.self.invariant.reached in
     let end = subst (λ (h : Configuration). IsComplete h.program.cores h.state) (sym c.self.view_is)
-        (c.is_complete.ensures.0 c.if-not-is_complete.false) in
+    (c.is_complete.ensures.0 c.if-not-is_complete.false) in
     let addresses : length (map (λ (l : BoundedItems ℕ). l.items) c.self.inside.writes.items) ≤ MAX_ADDRESSES
-        =
-    omega (arith, length-map c.self.inside.writes.items (λ (l : BoundedItems ℕ). l.items),
-        c.self.invariant.sound.writes_length, c.sound.ensures.lawful.few_names) in
+    =
+    omega (
+      arith,
+      length-map c.self.inside.writes.items (λ (l : BoundedItems ℕ). l.items),
+      c.self.invariant.sound.writes_length,
+      c.sound.ensures.lawful.few_names,
+    ) in
     rw (c.fill-cores.ensures.cores, c.fill-cores.ensures.writes, c.lists.ensures, c.as_slice.ensures.value)
     (complete_recording p _ c.sound.ensures.lawful.few_cores c.sound.ensures.few addresses d end)
 
@@ -29,4 +33,4 @@ returns-clause-tso c = λ none.
     let fault_is = ap (λ (h : Configuration). h.fault) c.self.view_is ∙ none in
     let g = reached_in_order _ _ _ _ _ fault_is c.self.invariant.reached in
     complete_is_tso _ _ end (subst (λ (h : Configuration). IsInOrder h.program.cores h.state) c.self.view_is
-        g)
+    g)

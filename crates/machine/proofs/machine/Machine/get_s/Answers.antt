@@ -8,12 +8,12 @@ use Rattle.machine.proofs.machine.Machine.get_s.Goals as goal
 pub invariant_of-self-2 : goal.invariant_of-self-2
 invariant_of-self-2 c =
     let there = subst (λ (h : Configuration). has_line h c.args.core c.args.addr ≡ true) (sym c.self.view_is)
-        (sym c.has.ensures ∙ c.if-not-has.false) in
+    (sym c.has.ensures ∙ c.if-not-has.false) in
     record {
       sound = transacted_sound _ _ _ _ _ _ _ _ c.get_s.new.self c.self.invariant.sound c.get_s.ensures.cores
           c.get_s.ensures.addresses;
       reached = reached_step _ _ _ _ _ _ (GetS c.args.core c.args.addr) c.self.invariant.reached
           (get_s_taken c.self.inside.program c.self.inside.capacity _ _ _ _ _ c.self.inside.performed
-            c.get_s.new.self c.self.inside.fault c.args.core c.args.addr there c.in-Ok.ensures.ok);
+          c.get_s.new.self c.self.inside.fault c.args.core c.args.addr there c.in-Ok.ensures.ok);
       blank_is = c.self.invariant.blank_is;
     }

@@ -12,7 +12,7 @@ next-requires c = ends.few _ _ _ _ _ _ _ _ c.self.invariant.sound c.args.core
 pub returns-then-is_none : goal.returns-then-is_none
 returns-then-is_none c =
     let there = subst (λ (h : Configuration). c.args.core < length h.program.cores)
-        (sym c.self.view_is) c.requires in
+    (sym c.self.view_is) c.requires in
     let none = ap is_some (sym c.next.ensures) ∙ (c.is_none.ensures ∙ ap not c.if-is_none.true) in
     let unit_is = c.index.ensures in
     let buffer = c.index-then-is_none.result.now in
@@ -27,11 +27,11 @@ returns-then-is_none c =
 pub returns-else-is_none : goal.returns-else-is_none
 returns-else-is_none c =
     let there = subst (λ (h : Configuration). c.args.core < length h.program.cores)
-        (sym c.self.view_is) c.requires in
+    (sym c.self.view_is) c.requires in
     rw (← c.self.view_is) (
       λ holds. absurd (let clash : true ≡ false = sym holds ∙ c.if-is_none.false in cc),
       λ done. absurd (let clash : true ≡ false = sym (ap not c.if-is_none.false)
           ∙ (sym c.is_none.ensures ∙ (ap is_some c.next.ensures
           ∙ ends.none_is _ _ _ _ _ _ _ _ c.self.invariant.sound c.args.core there c.index.result.now
-            c.index.ensures c.ops.result.now c.ops.ensures done)) in cc),
+          c.index.ensures c.ops.result.now c.ops.ensures done)) in cc),
     )

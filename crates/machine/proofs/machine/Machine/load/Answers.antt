@@ -9,34 +9,37 @@ use Rattle.machine.proofs.machine.Machine.load.Goals as goal
 pub index_mut-requires : goal.index_mut-requires
 index_mut-requires c =
     let at = subst (λ (h : Configuration). IsAt h.program.cores h.state c.args.core
-        (Ld c.args.addr) c.args.event) (sym c.self.view_is) c.requires in
-    omega (arith, executed.number _ _ _ _ _ _ _ _ c.self.invariant.sound c.args.core
-        (Ld c.args.addr) c.args.event at)
+    (Ld c.args.addr) c.args.event) (sym c.self.view_is) c.requires in
+    omega (
+      arith,
+      executed.number _ _ _ _ _ _ _ _ c.self.invariant.sound c.args.core
+          (Ld c.args.addr) c.args.event at,
+    )
 
 pub push-requires : goal.push-requires
 push-requires c =
     let at = subst (λ (h : Configuration). IsAt h.program.cores h.state c.args.core
-        (Ld c.args.addr) c.args.event) (sym c.self.view_is) c.requires in
+    (Ld c.args.addr) c.args.event) (sym c.self.view_is) c.requires in
     executed.has_room _ _ _ _ _ _ _ _ c.self.invariant.sound c.args.core (Ld c.args.addr) c.args.event at
 
 pub advance-requires-clause-left : goal.advance-requires-clause-left
 advance-requires-clause-left c =
     let at = subst (λ (h : Configuration). IsAt h.program.cores h.state c.args.core
-        (Ld c.args.addr) c.args.event) (sym c.self.view_is) c.requires in
+    (Ld c.args.addr) c.args.event) (sym c.self.view_is) c.requires in
     executed.left _ _ _ _ _ _ _ _ c.self.invariant.sound c.args.core (Ld c.args.addr) c.args.event at
-        c.index_mut-2.result.now c.index_mut-2.ensures.value c.ops.result.now c.ops.ensures
+    c.index_mut-2.result.now c.index_mut-2.ensures.value c.ops.result.now c.ops.ensures
 
 pub advance-requires-clause-few : goal.advance-requires-clause-few
 advance-requires-clause-few c =
     let at = subst (λ (h : Configuration). IsAt h.program.cores h.state c.args.core
-        (Ld c.args.addr) c.args.event) (sym c.self.view_is) c.requires in
+    (Ld c.args.addr) c.args.event) (sym c.self.view_is) c.requires in
     executed.few _ _ _ _ _ _ _ _ c.self.invariant.sound c.args.core (Ld c.args.addr) c.args.event at
-        c.index_mut-2.result.now c.index_mut-2.ensures.value c.ops.result.now c.ops.ensures
+    c.index_mut-2.result.now c.index_mut-2.ensures.value c.ops.result.now c.ops.ensures
 
 pub invariant_of-self : goal.invariant_of-self
 invariant_of-self c =
     let at = subst (λ (h : Configuration). IsAt h.program.cores h.state c.args.core
-        (Ld c.args.addr) c.args.event) (sym c.self.view_is) c.requires in
+    (Ld c.args.addr) c.args.event) (sym c.self.view_is) c.requires in
     record {
       sound = executed.performed_sound _ _ _ _ _ _ _ _ c.self.invariant.sound c.args.core
           (Ld c.args.addr) c.args.event at c.index_mut-2.result.now c.index_mut-2.ensures.value
@@ -55,10 +58,10 @@ invariant_of-self c =
 pub returns-clause-ok : goal.returns-clause-ok
 returns-clause-ok c =
     let at = subst (λ (h : Configuration). IsAt h.program.cores h.state c.args.core
-        (Ld c.args.addr) c.args.event) (sym c.self.view_is) c.requires in
+    (Ld c.args.addr) c.args.event) (sym c.self.view_is) c.requires in
     rw (← c.self.view_is, c.push.ensures)
-        (executed.load_taken _ _ _ _ _ _ _ _ c.self.invariant.sound c.args.core
-        (Ld c.args.addr) c.args.event at c.index_mut-2.result.now c.index_mut-2.ensures.value c.ops.result.now
-        c.ops.ensures c.advance.new.self c.advance.ensures c.self.inside.fault c.index.result.now
-        c.index.ensures c.args.addr c.forwarded-entry.result c.forwarded-entry.ensures c.in-Ok.what
-        (ap (forwarded_or_read c.forwarded-entry.result) (sym c.read.ensures) ∙ sym c.in-Ok.ensures))
+    (executed.load_taken _ _ _ _ _ _ _ _ c.self.invariant.sound c.args.core
+    (Ld c.args.addr) c.args.event at c.index_mut-2.result.now c.index_mut-2.ensures.value c.ops.result.now
+    c.ops.ensures c.advance.new.self c.advance.ensures c.self.inside.fault c.index.result.now
+    c.index.ensures c.args.addr c.forwarded-entry.result c.forwarded-entry.ensures c.in-Ok.what
+    (ap (forwarded_or_read c.forwarded-entry.result) (sym c.read.ensures) ∙ sym c.in-Ok.ensures))

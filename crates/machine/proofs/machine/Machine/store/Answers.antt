@@ -9,32 +9,34 @@ use Rattle.machine.proofs.machine.Machine.store.Goals as goal
 pub advance-requires-clause-few : goal.advance-requires-clause-few
 advance-requires-clause-few c =
     let at = subst (λ (h : Configuration). IsAt h.program.cores h.state c.args.core
-        (St c.args.addr c.args.value) c.args.event) (sym c.self.view_is) c.requires in
+    (St c.args.addr c.args.value) c.args.event) (sym c.self.view_is) c.requires in
     executed.few _ _ _ _ _ _ _ _ c.self.invariant.sound c.args.core (St c.args.addr c.args.value) c.args.event
-        at c.index_mut-2.result.now c.index_mut-2.ensures.value c.ops.result.now c.ops.ensures
+    at c.index_mut-2.result.now c.index_mut-2.ensures.value c.ops.result.now c.ops.ensures
 
 pub invariant_of-self-2 : goal.invariant_of-self-2
 invariant_of-self-2 c =
     let at = subst (λ (h : Configuration). IsAt h.program.cores h.state c.args.core
-        (St c.args.addr c.args.value) c.args.event) (sym c.self.view_is) c.requires in
+    (St c.args.addr c.args.value) c.args.event) (sym c.self.view_is) c.requires in
     record {
       sound = executed.stored_sound _ _ _ _ _ _ _ _ c.self.invariant.sound c.args.core
           (St c.args.addr c.args.value) c.args.event at c.index_mut-2.result.now c.index_mut-2.ensures.value
           c.ops.result.now c.ops.ensures c.advance.new.self c.advance.ensures c.index_mut.result.now
-          c.push.new.self c.index_mut.ensures.value _ c.in-Ok.ensures.ok
-          (executed.within _ _ _ _ _ _ _ _ c.self.invariant.sound c.args.core
-          (St c.args.addr c.args.value) c.args.event at,
-          executed.number_few _ _ _ _ _ _ _ _ c.self.invariant.sound c.args.core
-          (St c.args.addr c.args.value) c.args.event at);
+          c.push.new.self c.index_mut.ensures.value _ c.in-Ok.ensures.ok (
+            executed.within _ _ _ _ _ _ _ _ c.self.invariant.sound c.args.core
+                (St c.args.addr c.args.value) c.args.event at,
+            executed.number_few _ _ _ _ _ _ _ _ c.self.invariant.sound c.args.core
+                (St c.args.addr c.args.value) c.args.event at,
+          );
       reached = reached_exec _ _ _ _ _ _ c.args.core (St c.args.addr c.args.value) c.args.event at
           c.self.invariant.reached (executed.store_taken _ _ _ _ _ _ _ _ c.self.invariant.sound c.args.core
           (St c.args.addr c.args.value) c.args.event at c.index_mut-2.result.now c.index_mut-2.ensures.value
           c.ops.result.now c.ops.ensures c.advance.new.self c.advance.ensures c.index_mut.result.now
-          c.push.new.self c.index_mut.ensures.value _ c.in-Ok.ensures.ok
-          (executed.within _ _ _ _ _ _ _ _ c.self.invariant.sound c.args.core
-          (St c.args.addr c.args.value) c.args.event at,
-          executed.number_few _ _ _ _ _ _ _ _ c.self.invariant.sound c.args.core
-          (St c.args.addr c.args.value) c.args.event at) c.self.inside.fault refl
+          c.push.new.self c.index_mut.ensures.value _ c.in-Ok.ensures.ok (
+            executed.within _ _ _ _ _ _ _ _ c.self.invariant.sound c.args.core
+                (St c.args.addr c.args.value) c.args.event at,
+            executed.number_few _ _ _ _ _ _ _ _ c.self.invariant.sound c.args.core
+                (St c.args.addr c.args.value) c.args.event at,
+          ) c.self.inside.fault refl
           (c.in-Ok.ensures.variant.0 refl));
       blank_is = c.self.invariant.blank_is;
     }
@@ -42,13 +44,14 @@ invariant_of-self-2 c =
 pub returns-clause-ok : goal.returns-clause-ok
 returns-clause-ok c =
     let at = subst (λ (h : Configuration). IsAt h.program.cores h.state c.args.core
-        (St c.args.addr c.args.value) c.args.event) (sym c.self.view_is) c.requires in
+    (St c.args.addr c.args.value) c.args.event) (sym c.self.view_is) c.requires in
     rw (← c.self.view_is) (executed.store_taken _ _ _ _ _ _ _ _ c.self.invariant.sound c.args.core
-        (St c.args.addr c.args.value) c.args.event at c.index_mut-2.result.now c.index_mut-2.ensures.value
-        c.ops.result.now c.ops.ensures c.advance.new.self c.advance.ensures c.index_mut.result.now
-        c.push.new.self c.index_mut.ensures.value _ c.in-Ok.ensures.ok
-        (executed.within _ _ _ _ _ _ _ _ c.self.invariant.sound c.args.core
-        (St c.args.addr c.args.value) c.args.event at,
-        executed.number_few _ _ _ _ _ _ _ _ c.self.invariant.sound c.args.core
-        (St c.args.addr c.args.value) c.args.event at) c.self.inside.fault refl
-        (c.in-Ok.ensures.variant.0 refl))
+    (St c.args.addr c.args.value) c.args.event at c.index_mut-2.result.now c.index_mut-2.ensures.value
+    c.ops.result.now c.ops.ensures c.advance.new.self c.advance.ensures c.index_mut.result.now
+    c.push.new.self c.index_mut.ensures.value _ c.in-Ok.ensures.ok (
+      executed.within _ _ _ _ _ _ _ _ c.self.invariant.sound c.args.core
+          (St c.args.addr c.args.value) c.args.event at,
+      executed.number_few _ _ _ _ _ _ _ _ c.self.invariant.sound c.args.core
+          (St c.args.addr c.args.value) c.args.event at,
+    ) c.self.inside.fault refl
+    (c.in-Ok.ensures.variant.0 refl))

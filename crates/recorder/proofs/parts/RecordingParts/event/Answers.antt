@@ -16,7 +16,7 @@ returns-then-rest-len c =
     ap (λ (x : Execution). x.cores) (sym c.self.view_is)
     ∙ ap (map (λ (v : Vec Event Global). v.items)) (sym c.deref-events-items.ensures.value) in
     let seen = core_seen c.deref-events-items.result.now c.args.self.now.cores c.loop-core.core
-        c.events-item.result cores c.loop-core-test.true c.events-item.is in
+    c.events-item.result cores c.loop-core-test.true c.events-item.is in
     let long : c.loop-core.rest < length c.events-item.result.items =
     omega (arith, c.if-rest-len.true, c.len.ensures, c.events-item.result.ok.0) in
     let found = behind_found c.args.self.now c.loop-core.core c.loop-core.rest c.args.number seen.0
@@ -33,7 +33,7 @@ loop-core-preserved c =
     ap (λ (x : Execution). x.cores) (sym c.self.view_is)
     ∙ ap (map (λ (v : Vec Event Global). v.items)) (sym c.deref-events-items.ensures.value) in
     let seen = core_seen c.deref-events-items.result.now c.args.self.now.cores c.loop-core.core
-        c.events-item.result cores c.loop-core-test.true c.events-item.is in
+    c.events-item.result cores c.loop-core-test.true c.events-item.is in
     let lengths : length (get_or c.args.self.now.cores c.loop-core.core []) ≡ c.len-rest.result =
     omega (
       arith,

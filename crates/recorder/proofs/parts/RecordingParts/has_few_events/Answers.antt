@@ -14,8 +14,8 @@ returns-then-len-before c =
     ap (λ (x : Execution). x.cores) (sym c.self.view_is)
     ∙ ap (map (λ (v : Vec Event Global). v.items)) (sym c.deref-events-items.ensures.value) in
     let next = counted_more c.deref-events-items.result.now c.args.self.now.cores c.loop-events.events-index
-        c.loop-events.before c.events-item.result cores c.loop-events-test.true c.events-item.is
-        c.loop-events.invariant.counted in
+    c.loop-events.before c.events-item.result cores c.loop-events-test.true c.events-item.is
+    c.loop-events.invariant.counted in
     let within = counted_within c.args.self.now (c.loop-events.events-index + 1)
     (c.loop-events.before + length c.events-item.result.items) next in (
       λ wrong. absurd cc,
@@ -40,8 +40,8 @@ loop-events-preserved c =
     record {
       counted = subst (λ (n : ℕ). IsCounted c.args.self.now.cores (c.loop-events.events-index + 1) n) count
           (counted_more c.deref-events-items.result.now c.args.self.now.cores c.loop-events.events-index
-            c.loop-events.before c.events-item.result cores c.loop-events-test.true c.events-item.is
-            c.loop-events.invariant.counted);
+          c.loop-events.before c.events-item.result cores c.loop-events-test.true c.events-item.is
+          c.loop-events.invariant.counted);
       few = omega (
         arith,
         c.loop-events.invariant.few,

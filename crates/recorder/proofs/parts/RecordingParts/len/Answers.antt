@@ -15,8 +15,8 @@ loop-events-preserved c =
     omega (arith, c.len-count.ensures, c.events-item.result.ok.0) in
     subst (λ (n : ℕ). IsCounted c.args.self.now.cores (c.loop-events.events-index + 1) n) count
     (counted_more c.deref-events-items.result.now c.args.self.now.cores c.loop-events.events-index
-      c.loop-events.count c.events-item.result cores c.loop-events-test.true c.events-item.is
-      c.loop-events.invariant)
+    c.loop-events.count c.events-item.result cores c.loop-events-test.true c.events-item.is
+    c.loop-events.invariant)
 
 pub overflow_add-count : goal.overflow_add-count
 overflow_add-count c =
@@ -24,8 +24,8 @@ overflow_add-count c =
     ap (λ (x : Execution). x.cores) (sym c.self.view_is)
     ∙ ap (map (λ (v : Vec Event Global). v.items)) (sym c.deref-events-items.ensures.value) in
     let next = counted_more c.deref-events-items.result.now c.args.self.now.cores c.loop-events.events-index
-        c.loop-events.count c.events-item.result cores c.loop-events-test.true c.events-item.is
-        c.loop-events.invariant in
+    c.loop-events.count c.events-item.result cores c.loop-events-test.true c.events-item.is
+    c.loop-events.invariant in
     omega (
       arith,
       c.requires,

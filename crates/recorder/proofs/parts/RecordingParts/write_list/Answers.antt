@@ -18,4 +18,4 @@ returns c =
     ap (λ (x : Execution). x.write_lists) (sym c.self.view_is) in
     c.as_slice.ensures.value
     ∙ sym (list_seen c.self.inside.writes.items c.args.self.now.write_lists c.args.address c.index.result.now
-      lists (omega (arith, c.if-address-len.false, c.len.ensures, c.self.inside.writes.ok.0)) c.index.ensures)
+    lists (omega (arith, c.if-address-len.false, c.len.ensures, c.self.inside.writes.ok.0)) c.index.ensures)

@@ -61,7 +61,7 @@ loop-i-preserved c =
     let f = get_or ws i 0 in
     let within : f < event_count x =
     listed_event x c.requires.placed.well_formed c.in-Some.address ws i c.write_list-list.ensures
-        c.loop-i-test.true in
+    c.loop-i-test.true in
     let second = c.requires.events.each f _ (omega (arith, c.requires.events.size)) in
     let at : ℕ → ℕ = place (write_list x c.in-Some.address) in
     let first = c.first_place-first.result in
@@ -90,8 +90,8 @@ returns c =
     ⊎ Holds x Fr p.number f) c.args.row.now c.loop-i.row
     (λ f h.
     let later = later_place x p first a f c.requires.placed c.first_place-first.ensures.reads
-        c.first_place-first.ensures.writes (λ b r. c.in-Some.ensures.reads b
-        (ap read_address c.requires.placed.event ∙ r))
+    c.first_place-first.ensures.writes (λ b r. c.in-Some.ensures.reads b
+    (ap read_address c.requires.placed.event ∙ r))
     (λ b w. c.in-Some.ensures.writes b (ap written_address c.requires.placed.event ∙ w)) h in (
       later.0,
       omega (

@@ -17,7 +17,7 @@ returns-then-self-other c = λ x hp hq.
         λ same. omega arith,
         λ before. both_ways c.precedes.result (not-true c.precedes.result apart) (own.1 before),
         (read_pair x c.args.self.now c.args.other.now c.in-Some.address hp hq reads writes).0
-          c.if-self-other.true,
+            c.if-self-other.true,
       ),
       λ h. not_from_false c.precedes.result (false_from_ne_true c.precedes.result
           (λ before. h.4 (own.0 before))),

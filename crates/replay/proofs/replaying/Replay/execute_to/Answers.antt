@@ -17,8 +17,8 @@ loop-preserved c = record {
 pub returns : goal.returns
 returns c =
     let whole : c.loop.counter - c.next_event-next.result ≡ c.args.event - c.next_event-next.result =
-        omega (arith, c.loop.invariant.from, c.loop.invariant.to, c.loop-test.false) in
+    omega (arith, c.loop.invariant.from, c.loop.invariant.to, c.loop-test.false) in
     c.loop.invariant.taken
     ∙ ap (λ (k : ℕ). with_steps c.args.self.now (replicate k (Exec c.args.core)))
-      (whole ∙ (ap (λ (k : ℕ). c.args.event - k) c.next_event-next.ensures
-      ∙ ap (λ (r : Replaying). c.args.event - next_event r.machine c.args.core) c.self.view_is))
+    (whole ∙ (ap (λ (k : ℕ). c.args.event - k) c.next_event-next.ensures
+    ∙ ap (λ (r : Replaying). c.args.event - next_event r.machine c.args.core) c.self.view_is))

@@ -11,10 +11,10 @@ perform-requires-clause-addresses c = λ a uses. subst (λ (r : Replaying). a < 
 pub returns : goal.returns
 returns c =
     let first : c.execute_to.new.self ≡ with_steps c.args.self.now
-        (execute_to c.args.self.now.machine.program.cores c.args.self.now.machine.state c.args.core
-        (executed_before c.args.number c.args.event)) =
+    (execute_to c.args.self.now.machine.program.cores c.args.self.now.machine.state c.args.core
+    (executed_before c.args.number c.args.event)) =
     c.in_ok-execute_to.ensures ∙ ap (λ (k : ℕ). with_steps c.args.self.now
-        (execute_to c.args.self.now.machine.program.cores c.args.self.now.machine.state c.args.core k))
-        c.executed_before.ensures in
+    (execute_to c.args.self.now.machine.program.cores c.args.self.now.machine.state c.args.core k))
+    c.executed_before.ensures in
     ok_then c.perform.result (turn_taken c.args.self.now c.execute_to.new.self c.perform.new.self c.args.core
-        c.args.number c.args.event first) c.perform.ensures
+    c.args.number c.args.event first) c.perform.ensures

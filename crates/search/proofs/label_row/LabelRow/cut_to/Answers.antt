@@ -10,8 +10,8 @@ pub invariant_of-result : goal.invariant_of-result
 invariant_of-result c =
     let r = c.self.inside in
     let within = subst (λ (t : Table). (e f : ℕ) → Related t e f → (e < length t) × (f < length t))
-        c.deref.ensures c.sound.ensures.within in
+    c.deref.ensures c.sound.ensures.within in
     cut_labelled (arc_value r.relation) r.source r.cap c.args.cap r.numbers.items c.cut_at.result.items within
-        c.self.invariant
+    c.self.invariant
     (subst (λ (l : SourceRow). IsLeastLength (Related l.relation) c.args.cap) (sym c.self.view_is) c.requires)
-      c.cut_at.ensures
+    c.cut_at.ensures

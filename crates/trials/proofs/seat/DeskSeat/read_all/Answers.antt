@@ -23,5 +23,5 @@ returns c =
     let inv = c.loop-k.invariant in
     let count = c.word_count-count.ensures ∙ ap (λ b. b.shared.table_id.words) c.deref.ensures ∙ h.size in
     let size : length c.loop-k.words.items ≡ h.seat.me.0.campaign.trials =
-        omega (arith, inv.0, count, c.loop-k-test.false, c.loop-k.auto.k-end) in
+    omega (arith, inv.0, count, c.loop-k-test.false, c.loop-k.auto.k-end) in
     closing h.seat.me.0 c.loop-k.words.items h.live size (omega (arith, size, h.some)) inv.2
