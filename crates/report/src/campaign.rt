@@ -1,7 +1,8 @@
 //! The text of a campaign.
 
 ghost use Rattle.std.specs.Prelude.{◌≡◌, ◌++◌, IfOk, OnOk, Some};
-ghost use Rattle.report.specs.Campaign.{campaign_text, count_line, cycle_line, cycle_lines, first_line, trial_name};
+ghost use Rattle.report.specs.Campaign.{campaign_text, count_line, cycle_line, cycle_lines};
+ghost use Rattle.report.specs.Campaign.{first_line, trial_name};
 
 use crate::numbers::put_number;
 use litmus::OutOfMemory;

@@ -77,7 +77,8 @@ pub(crate) fn read_all<R: Source>(alloc: Global, source: &mut R) -> Result<Vec<u
 pub(crate) fn write_all<W: Sink>(sink: &mut W, text: &[u8]) -> Result<(), Failed>
     requires { CanGrow (W.write_failures sink.old) }
     ensures ok { OnOk result (Appends (W.written sink.old) (W.written sink.new) text.now) }
-    ensures err { OnErr result ((n : ℕ) × Appends (W.written sink.old) (W.written sink.new) (take n text.now)) }
+    ensures err { OnErr result
+        ((n : ℕ) × Appends (W.written sink.old) (W.written sink.new) (take n text.now)) }
     ensures count { Counts (W.write_failures sink.old) (W.write_failures sink.new) result }
 {
     let mut at = 0;

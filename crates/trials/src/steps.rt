@@ -2,7 +2,8 @@
 
 ghost use Rattle.std.specs.Prelude.{◌≡◌, ◌≢◌, ◌<◌, ℕ, Bool, true, false, [], ◌==◌, length, IfOk, MatchBool};
 ghost use Rattle.std.specs.Prelude.{Contains, replicate};
-ghost use Rattle.trials.specs.Board.{claimed, noticed, completed, without_share, joined_views, AreDeskWords, Was};
+ghost use Rattle.trials.specs.Board.{claimed, noticed, completed, without_share, joined_views};
+ghost use Rattle.trials.specs.Board.{AreDeskWords, Was};
 ghost use Rattle.trials.specs.Looking.{LoadsWord};
 
 use crate::board::{Beside, Claims, Files, Looks};
