@@ -1,6 +1,6 @@
 //! The bound that workers share.
 
-ghost use Rattle.std.specs.Prelude.{◌≡◌, true, ◌∷◌, [], IfOk};
+ghost use Rattle.std.specs.Prelude.{◌≡◌, ◌≤◌, true, ◌∷◌, [], IfOk, length};
 ghost use Rattle.std.specs.Arc.{arc_value};
 ghost use Rattle.relations.specs.Relation.{Related};
 ghost use Rattle.relations.specs.Cycle.{IsCycle};
@@ -13,8 +13,10 @@ use best::{Best, BestSeat};
 use relations::Relation;
 use search::{SourceJob, jobs, row_under};
 use std::alloc::Global;
-use std::sync::Arc;
+use std::sync::{Arc, Wait};
 use std::test::Fail;
+use std::thread;
+use std::thread::{Scope, Threads};
 
 /// Whether events 0 to 3 are a cycle.
 fn is_first(relation: &Relation) -> bool
@@ -48,6 +50,62 @@ fn seats_read_the_least_length(rt: HostRuntime) -> Result<(), Fail> {
     assert_eq!(rt; best.read(&mut a), Some(3));
     a.absorb(b);
     assert_eq!(rt; best.read(&mut a), Some(3));
+    Ok(())
+}
+
+/// Starts a thread that lowers the bound to the second cycle.
+fn start<'s, E>(scope: &Scope<'s, E>, best: &'s Best, seat: BestSeat, relation: &'s Relation)
+    requires seat { IsBestSeatOf best.now seat }
+    requires relation { relation.now ≡ (known_of seat).relation }
+    requires cycle { IsCycle (Related relation.now) (4 ∷ 5 ∷ 6 ∷ []) }
+    requires events { 3 ≤ length relation.now }
+{
+    let mut seat = seat;
+    let there = move ||
+        requires seat { IsBestSeatOf best.now seat }
+        requires relation { relation.now ≡ (known_of seat).relation }
+        requires cycle { IsCycle (Related relation.now) (4 ∷ 5 ∷ 6 ∷ []) }
+        requires events { 3 ≤ length relation.now }
+    { best.lower(&mut seat, relation, &[4, 5, 6]) };
+    let _ = scope.spawn(there);
+}
+
+/// Lowers the bound to the second cycle in a thread, which has ended when this returns.
+fn lower_in_a_thread(
+    rt: &(impl Threads + Wait + Sync),
+    best: &Best,
+    seat: BestSeat,
+    relation: &Relation,
+)
+    requires seat { IsBestSeatOf best.now seat }
+    requires relation { relation.now ≡ (known_of seat).relation }
+    requires cycle { IsCycle (Related relation.now) (4 ∷ 5 ∷ 6 ∷ []) }
+    requires events { 3 ≤ length relation.now }
+{
+    thread::scope(
+        thread::scope_env(),
+        rt,
+        |scope|
+            requires seat { IsBestSeatOf best.now seat }
+            requires relation { relation.now ≡ (known_of seat).relation }
+            requires cycle { IsCycle (Related relation.now) (4 ∷ 5 ∷ 6 ∷ []) }
+            requires events { 3 ≤ length relation.now }
+        { start(scope, best, seat, relation) },
+    )
+}
+
+#[test]
+fn a_seat_reads_what_an_ended_thread_found(rt: HostRuntime) -> Result<(), Fail> {
+    let alloc = rt.alloc();
+    let relation = related(alloc, THREE_AND_FOUR)?;
+    if relation.len() != 7 || !is_first(&relation) || !is_second(&relation) {
+        return Err(Fail::from("two cycles"));
+    }
+    let (best, mut a) = Best::open(alloc, &relation).ok().ok_or("out of memory")?;
+    best.lower(&mut a, &relation, &[0, 1, 2, 3]);
+    let mut b = a.split().ok().ok_or("out of memory")?;
+    lower_in_a_thread(&rt, &best, a, &relation);
+    assert_eq!(rt; best.read(&mut b), Some(3));
     Ok(())
 }
 

@@ -1,8 +1,11 @@
 //! The caches of all cores over one memory.
 
-use crate::block::Block;
+use crate::cell::Cell;
 use crate::error::CacheError;
 use crate::line::Line;
+use crate::rows;
+use crate::word::{INVALID, unpack, written};
+use crate::words::{place, words_for};
 use litmus::{Addr, CoreId, EventId, OutOfMemory};
 use std::alloc::Global;
 use std::marker::Model;
@@ -12,28 +15,32 @@ use std::marker::Model;
 /// Primer on Memory Consistency and Cache Coherence, second edition, chapters 6 to 8). Data are a
 /// value and the event that wrote it, or none where nothing was written. Only `new` can fail
 /// for want of memory.
+///
+/// They are one list of words: word `core * addresses + addr` is a core's line of an address, and
+/// those behind the lines of all cores are memory.
 #[derive(Drop)]
 pub struct Caches {
-    blocks: Vec<Block>,
+    words: Vec<u64>,
     cores: usize,
+    addresses: usize,
 }
 
 impl Model for Caches {
-    ghost use Rattle.std.specs.Prelude.{◌≡◌, length};
-    ghost use Rattle.std.specs.List.{All};
     ghost use Rattle.moesi.specs.State.{CacheState};
+    ghost use Rattle.moesi.specs.Packed.{caches_in, AreWords};
 
     ghost Value = { CacheState };
 
-    ghost view = { λ s. record { cores = s.cores; blocks = s.blocks.items } };
+    ghost view = { λ s. caches_in s.cores s.addresses s.words.items };
 
-    ghost invariant = { λ s. All (λ b. length b.lines ≡ s.cores) s.blocks.items };
+    ghost invariant = { λ s. AreWords s.cores s.addresses s.words.items };
 }
 
 impl Caches {
     ghost use Rattle.std.specs.Prelude.{◌≡◌, ◌<◌, Ok, Err, length, IfOk, OnOk, IfErr, OnErr};
     ghost use Rattle.litmus.specs.declared.limits.TheConstants.{MAX_EVENTS};
-    ghost use Rattle.moesi.specs.State.{opening_caches, line_of, memory_of};
+    ghost use Rattle.moesi.specs.Block.{cell_of};
+    ghost use Rattle.moesi.specs.State.{opening_caches, block_of, line_of, memory_of};
     ghost use Rattle.moesi.specs.State.{get_s, get_m, get_m_stale, put, read, write};
     ghost use Rattle.moesi.specs.Coherent.{IsCoherent};
 
@@ -42,11 +49,23 @@ impl Caches {
     pub fn new(alloc: Global, cores: usize, addresses: usize) -> Result<Caches, OutOfMemory>
         ensures { IfOk result (λ s. s ≡ opening_caches cores addresses) }
     {
-        let mut blocks = Vec::with_capacity(alloc, addresses)?;
-        for _ in 0..addresses {
-            blocks.push(Block::new(alloc, cores)?)?;
-        }
-        Ok(Caches { blocks, cores })
+        let Some(size) = words_for(cores, addresses) else {
+            return Err(OutOfMemory);
+        };
+        Ok(Caches {
+            words: vec![in alloc; INVALID; size]?,
+            cores,
+            addresses,
+        })
+    }
+
+    /// A core's line of an address with its data.
+    fn cell(&self, core: CoreId, addr: Addr) -> Cell
+        requires core { core < self.now.cores }
+        requires address { addr < length self.now.blocks }
+        ensures { result ≡ cell_of (block_of self.now addr) core }
+    {
+        unpack(self.words[place(core as usize, self.addresses, addr as usize)])
     }
 
     /// The state of a core's line of an address.
@@ -55,7 +74,7 @@ impl Caches {
         requires address { addr < length self.now.blocks }
         ensures { result ≡ line_of self.now core addr }
     {
-        self.blocks[addr as usize].cell(core as usize).line
+        self.cell(core, addr).line
     }
 
     /// Memory's value of an address, and the event that wrote it.
@@ -63,7 +82,7 @@ impl Caches {
         requires { addr < length self.now.blocks }
         ensures { result ≡ memory_of self.now addr }
     {
-        self.blocks[addr as usize].memory()
+        unpack(self.words[place(self.cores, self.addresses, addr as usize)]).copy
     }
 
     /// GetS: gets a core a line that it may read. C1 where its line is valid; then nothing changes.
@@ -77,8 +96,13 @@ impl Caches {
         ensures addresses { length self.new.blocks ≡ length self.old.blocks }
         ensures coherent { IsCoherent self.old → IsCoherent self.new }
     {
-        let block = &mut self.blocks[addr as usize];
-        block.get_s(core as usize)
+        rows::get_s(
+            &mut self.words,
+            self.cores,
+            self.addresses,
+            core as usize,
+            addr as usize,
+        )
     }
 
     /// GetM: gets a core the only valid line of an address, which it may write. C2 where its line
@@ -93,8 +117,13 @@ impl Caches {
         ensures addresses { length self.new.blocks ≡ length self.old.blocks }
         ensures coherent { IsCoherent self.old → IsCoherent self.new }
     {
-        let block = &mut self.blocks[addr as usize];
-        block.get_m(core as usize)
+        rows::get_m(
+            &mut self.words,
+            self.cores,
+            self.addresses,
+            core as usize,
+            addr as usize,
+        )
     }
 
     /// GetM with a fault: other lines in S stay as they are, with their old data, so that the caches
@@ -108,8 +137,13 @@ impl Caches {
         ensures cores { self.new.cores ≡ self.old.cores }
         ensures addresses { length self.new.blocks ≡ length self.old.blocks }
     {
-        let block = &mut self.blocks[addr as usize];
-        block.get_m_stale(core as usize)
+        rows::get_m_stale(
+            &mut self.words,
+            self.cores,
+            self.addresses,
+            core as usize,
+            addr as usize,
+        )
     }
 
     /// Put: gives a core's line up. C3 where it is not valid; then nothing changes.
@@ -123,8 +157,13 @@ impl Caches {
         ensures addresses { length self.new.blocks ≡ length self.old.blocks }
         ensures coherent { IsCoherent self.old → IsCoherent self.new }
     {
-        let block = &mut self.blocks[addr as usize];
-        block.put(core as usize)
+        rows::put(
+            &mut self.words,
+            self.cores,
+            self.addresses,
+            core as usize,
+            addr as usize,
+        )
     }
 
     /// The value of a core's line, and the event that wrote it; C3 where the line is not valid.
@@ -133,7 +172,11 @@ impl Caches {
         requires address { addr < length self.now.blocks }
         ensures { result ≡ read self.now core addr }
     {
-        self.blocks[addr as usize].read(core as usize)
+        let cell = self.cell(core, addr);
+        if !cell.line.is_valid() {
+            return Err(CacheError::C3);
+        }
+        Ok(cell.copy)
     }
 
     /// Writes a value and its event, whose number is below `MAX_EVENTS`, to a core's line, which
@@ -155,7 +198,29 @@ impl Caches {
         ensures addresses { length self.new.blocks ≡ length self.old.blocks }
         ensures coherent { IsCoherent self.old → IsCoherent self.new }
     {
-        let block = &mut self.blocks[addr as usize];
-        block.write(core as usize, (value, Some(event)))
+        if !self.line(core, addr).is_exclusive() {
+            return Err(CacheError::C4);
+        }
+        let at = place(core as usize, self.addresses, addr as usize);
+        self.words[at] = written(value, event);
+        Ok(())
+    }
+}
+
+#[cfg(test)]
+mod tests {
+    use super::*;
+
+    #[test]
+    fn a_word_has_its_value_its_event_and_its_state(rt: HostRuntime) -> Result<(), OutOfMemory> {
+        let mut caches = Caches::new(rt.alloc(), 3, 1)?;
+        assert_eq!(rt; caches.get_m(0, 0), Ok(()));
+        assert_eq!(rt; caches.write(0, 0, 7, 0), Ok(()));
+        assert_eq!(rt; caches.get_s(1, 0), Ok(()));
+        assert_eq!(rt; caches.put(0, 0), Ok(()));
+        assert_eq!(rt; caches.get_s(2, 0), Ok(()));
+        let words = [0, 281479271677959, 281479271677959, 4294967303];
+        assert_eq!(rt; caches.words.as_slice(), words.as_slice());
+        Ok(())
     }
 }

@@ -1,13 +1,14 @@
 //! MOESI caches over one memory.
 #![tactic(auto)]
 
-mod block;
 mod caches;
 mod cell;
-mod cells;
 mod error;
 mod laws;
 mod line;
+mod rows;
+mod word;
+mod words;
 
 pub use caches::Caches;
 pub use error::CacheError;

@@ -2,6 +2,7 @@
 
 use litmus::{Gate, OpenGate, Shape};
 use machine::Fault;
+use report::campaign_text;
 use std::sync::atomic::{AtomicU64, Ordering};
 use std::test::Fail;
 use std::thread;
@@ -29,6 +30,42 @@ fn a_ledger_counts_codes(rt: HostRuntime) -> Result<(), Fail> {
     assert!(rt; ledger.trials == 5 && ledger.ordered == 1 && ledger.unfinished == 1);
     assert!(rt; ledger.overlook == 1 && ledger.cycles.as_slice() == [(6, 2)].as_slice());
     assert!(rt; ledger.first == Some(2));
+    let text = campaign_text(rt.alloc(), &ledger).ok().ok_or("memory")?;
+    let lines =
+        b"trials 5\nordered 1\nunfinished 1\noverlook 1\ncycle 6: 2\nfirst violation: trial 2\n";
+    assert_eq!(rt; text.as_slice(), lines.as_slice());
+    Ok(())
+}
+
+// Counts what is found.
+#[derive(Drop)]
+struct Found {
+    count: AtomicU64,
+}
+
+impl Gate for Found {
+    fn begin(&self, _worker: usize, _trial: usize) {}
+
+    fn done(&self, _worker: usize, _trial: usize) {}
+
+    fn found(&self, worker: usize, trial: usize) {
+        if worker < 2 && trial < 64 {
+            self.count.fetch_add(1, Ordering::SeqCst);
+        }
+    }
+}
+
+#[test]
+fn a_gate_is_told_of_each_violation(rt: HostRuntime) -> Result<(), Fail> {
+    let faulty = campaign((2, 4, 2), 64, 100_000, Fault::NoBypass)?;
+    let gate = Found {
+        count: AtomicU64::new(0),
+    };
+    let ledger = run_campaign(&rt, rt.alloc(), &faulty, 2, &gate)
+        .ok()
+        .ok_or("memory")?;
+    assert_eq!(rt; ledger.overlook, 17);
+    assert_eq!(rt; gate.count.load(Ordering::SeqCst), 17);
     Ok(())
 }
 

@@ -1,19 +1,53 @@
-use Rattle.std.proofs.Common.{◌<◌, length}
+use Rattle.std.proofs.Common.{◌<◌, length, arith}
+use Rattle.std.specs.Vec.{with_items}
+use Rattle.std.proofs.lemmas.List.{with_items_is}
 use Rattle.moesi.specs.Block.{Block}
 use Rattle.moesi.specs.Rows as row
 use Rattle.moesi.specs.State.{CacheState}
 use Rattle.moesi.specs.Coherent.{IsCoherent}
+use Rattle.moesi.specs.Packed.{caches_in}
 use Rattle.moesi.specs.CacheLaws.{get_s_kept}
-use Rattle.moesi.proofs.Answered.{answered}
+use Rattle.moesi.proofs.Answered.{column, answered_ok, answered_refused, answered_kept}
 use Rattle.moesi.proofs.caches.Caches.get_s.Goals as goal
+
+pub get_s-requires-clause-address : goal.get_s-requires-clause-address
+get_s-requires-clause-address c =
+    column c.self.inside.cores c.self.inside.addresses c.self.inside.words.items c.args.addr
+    (rw (← c.self.view_is) at c.requires.address)
+
+pub returns-clause-ok : goal.returns-clause-ok
+returns-clause-ok c =
+    let at : c.args.addr < c.self.inside.addresses =
+    column c.self.inside.cores c.self.inside.addresses c.self.inside.words.items c.args.addr
+    (rw (← c.self.view_is) at c.requires.address) in
+    rw (← c.self.view_is)
+    (answered_ok c.self.inside.cores c.self.inside.addresses c.args.addr c.self.inside.words.items
+    c.deref_mut.result.now c.get_s.new.words (with_items c.self.inside.words c.get_s.new.words).items
+    (λ (b : Block). row.get_s b c.args.core) at c.deref_mut.ensures.value
+    (with_items_is c.self.inside.words c.get_s.new.words (omega arith)) c.get_s.result c.get_s.ensures.elsewhere c.get_s.ensures.ok)
+
+pub returns-clause-refused : goal.returns-clause-refused
+returns-clause-refused c =
+    let at : c.args.addr < c.self.inside.addresses =
+    column c.self.inside.cores c.self.inside.addresses c.self.inside.words.items c.args.addr
+    (rw (← c.self.view_is) at c.requires.address) in
+    rw (← c.self.view_is)
+    (answered_refused c.self.inside.cores c.self.inside.addresses c.args.addr c.self.inside.words.items
+    c.deref_mut.result.now c.get_s.new.words (with_items c.self.inside.words c.get_s.new.words).items
+    (λ (b : Block). row.get_s b c.args.core) at c.deref_mut.ensures.value
+    (with_items_is c.self.inside.words c.get_s.new.words (omega arith)) c.get_s.result c.get_s.ensures.refused)
 
 pub returns-clause-coherent : goal.returns-clause-coherent
 returns-clause-coherent c = λ k.
-    let s : CacheState = record { cores = c.self.inside.cores; blocks = c.self.inside.blocks.items } in
+    let s : CacheState = caches_in c.self.inside.cores c.self.inside.addresses c.self.inside.words.items in
     let k0 : IsCoherent s = rw c.self.view_is k in
     let core : c.args.core < s.cores = rw (← c.self.view_is) at c.requires.core in
-    let at : c.args.addr < length s.blocks = rw (← c.self.view_is) at c.requires.address in
-    answered IsCoherent s.cores s.blocks c.args.addr c.index_mut-block.result.now c.get_s.new.self
-    c.get_s.result (λ (b : Block). row.get_s b c.args.core)
-    c.index_mut-block.ensures.value at c.get_s.ensures.ok c.get_s.ensures.unchanged k0
-    (λ t h. (get_s_kept s t c.args.core c.args.addr k0 core at h).coherent)
+    let address : c.args.addr < length s.blocks = rw (← c.self.view_is) at c.requires.address in
+    let at : c.args.addr < c.self.inside.addresses =
+    column c.self.inside.cores c.self.inside.addresses c.self.inside.words.items c.args.addr address in
+    answered_kept c.self.inside.cores c.self.inside.addresses c.args.addr c.self.inside.words.items
+    c.deref_mut.result.now c.get_s.new.words (with_items c.self.inside.words c.get_s.new.words).items
+    (λ (b : Block). row.get_s b c.args.core) at c.deref_mut.ensures.value
+    (with_items_is c.self.inside.words c.get_s.new.words (omega arith)) c.get_s.result IsCoherent c.get_s.ensures.elsewhere c.get_s.ensures.ok
+    c.get_s.ensures.unchanged k0
+    (λ t h. (get_s_kept s t c.args.core c.args.addr k0 core address h).coherent)

@@ -1,0 +1,39 @@
+use Rattle.std.proofs.Common.{◌≡◌, ◌<◌, ◌+◌, ◌*◌, List, length, slice_index, arith, sym, ap, ◌∙◌}
+use Rattle.std.proofs.lemmas.List.{get_or_default}
+use Rattle.moesi.specs.declared.cell.Cell.{Cell}
+use Rattle.moesi.specs.Words.{cell_in}
+use Rattle.moesi.proofs.Places.{inside}
+use Rattle.moesi.proofs.Answered.{column, cell_seen}
+use Rattle.moesi.proofs.caches.Caches.cell.Goals as goal
+
+pub index-requires : goal.index-requires
+index-requires c =
+    let core : c.args.core < c.self.inside.cores = rw (← c.self.view_is) at c.requires.core in
+    let at : c.args.addr < c.self.inside.addresses =
+    column c.self.inside.cores c.self.inside.addresses c.self.inside.words.items c.args.addr
+    (rw (← c.self.view_is) at c.requires.address) in
+    omega (
+      arith,
+      inside c.self.inside.cores c.self.inside.addresses c.self.inside.words.items c.args.core
+          c.args.addr c.self.invariant (omega arith) at,
+      c.self.inside.words.ok.0,
+    )
+
+pub returns : goal.returns
+returns c =
+    let core : c.args.core < c.self.inside.cores = rw (← c.self.view_is) at c.requires.core in
+    let at : c.args.addr < c.self.inside.addresses =
+    column c.self.inside.cores c.self.inside.addresses c.self.inside.words.items c.args.addr
+    (rw (← c.self.view_is) at c.requires.address) in
+    let within : c.place.result < length c.self.inside.words.items =
+    omega (
+      arith,
+      inside c.self.inside.cores c.self.inside.addresses c.self.inside.words.items c.args.core
+          c.args.addr c.self.invariant (omega arith) at,
+    ) in
+    let is : c.unpack.result ≡ cell_in (slice_index c.self.inside.words.items c.place.result) =
+    c.unpack.ensures
+    ∙ ap cell_in (c.index.ensures ∙ get_or_default c.self.inside.words.items _ _ 0 within) in
+    rw (← c.self.view_is)
+    (sym (cell_seen c.self.inside.cores c.self.inside.addresses c.self.inside.words.items c.args.core
+    c.args.addr c.place.result c.unpack.result core at c.place.ensures is))

@@ -1,0 +1,43 @@
+use Rattle.std.proofs.Common.{rules, ◌≡◌, ℕ, true, false, Option, Ok, ap, sym, ◌∙◌}
+use Rattle.std.proofs.lemmas.Bool.{cond-true, cond-false}
+use Rattle.moesi.specs.declared.line.Line.TheVariants.{M}
+use Rattle.moesi.specs.declared.cell.Cell.{Cell}
+use Rattle.moesi.specs.Lines.{is_exclusive}
+use Rattle.moesi.specs.Block.{Block, cell_of, supplied}
+use Rattle.moesi.specs.Packed.{block_in, block_by}
+use Rattle.moesi.specs.Rows.{left_stale}
+use Rattle.moesi.proofs.Turns.{TurnsInto}
+use Rattle.moesi.proofs.Replaced.{seen, turns_line}
+use Rattle.moesi.proofs.rows.get_m_stale.Goals as goal
+
+pub returns-then-is_exclusive-clause-refused : goal.returns-then-is_exclusive-clause-refused
+returns-then-is_exclusive-clause-refused c =
+    let b : Block = block_in c.args.cores c.args.addresses c.args.words.now c.args.addr in
+    let line : cell_of b c.args.core ≡ c.unpack.result =
+    seen c.args.cores c.args.addresses c.args.words.now c.args.core c.args.addr c.place-at.result
+    c.unpack.result c.requires.core c.place-at.ensures c.unpack.ensures in
+    let on : is_exclusive c.unpack.result.line ≡ true = cc in
+    cond-true _ _ _ (ap (λ (x : Cell). is_exclusive x.line) line ∙ on)
+
+pub returns : goal.returns
+returns c =
+    let b : Block = block_in c.args.cores c.args.addresses c.args.words.now c.args.addr in
+    let line : cell_of b c.args.core ≡ c.unpack.result =
+    seen c.args.cores c.args.addresses c.args.words.now c.args.core c.args.addr c.place-at.result
+    c.unpack.result c.requires.core c.place-at.ensures c.unpack.ensures in
+    let off : is_exclusive c.unpack.result.line ≡ false = cc in
+    let x : Cell = record { line = M; copy = supplied b } in
+    let others : TurnsInto c.args.cores c.args.addresses c.args.addr c.args.words.now
+    c.invalidate_unshared.new.words (block_by left_stale b) =
+    record { turned = c.invalidate_unshared.ensures.turned; elsewhere = c.invalidate_unshared.ensures.elsewhere } in
+    let all = turns_line c.args.cores c.args.addresses c.args.addr c.args.words.now
+    c.invalidate_unshared.new.words (block_by left_stale b) c.requires.words c.requires.address others c.args.core
+    c.place-at.result c.relined.result x c.requires.core c.place-at.ensures
+    (c.relined.ensures ∙ ap (λ (d : ℕ × Option ℕ). record { line = M; copy = d }) c.supplied-word.ensures)
+    in
+    record {
+      ok = cond-false _ _ _ (ap (λ (y : Cell). is_exclusive y.line) line ∙ off) ∙ ap Ok (sym all.turned);
+      refused = search rules;
+      unchanged = search rules;
+      elsewhere = all.elsewhere;
+    }

@@ -1,0 +1,128 @@
+//! The table of transactions, on the words of one address.
+
+ghost use Rattle.std.specs.Prelude.{◌≡◌, ◌<◌, Some, Ok, Err, OnOk, IfErr, OnErr};
+ghost use Rattle.litmus.specs.declared.limits.TheConstants.{MAX_EVENTS};
+ghost use Rattle.moesi.specs.Rows.{get_s, get_m, get_m_stale, put, read, write};
+ghost use Rattle.moesi.specs.Packed.{AreWords, block_in, StaysElsewhere};
+
+use crate::error::CacheError;
+use crate::line::Line;
+use crate::word::{INVALID, relined, unpack, written};
+use crate::words::{any_valid, invalidate_all, invalidate_unshared, place, share_all, supplied};
+use litmus::EventId;
+
+/// The row of GetS; C1 where the core's line is valid.
+pub(crate) fn get_s(
+    words: &mut [u64],
+    cores: usize,
+    addresses: usize,
+    core: usize,
+    addr: usize,
+) -> Result<(), CacheError>
+    requires words { AreWords cores addresses words.old }
+    requires core { core < cores }
+    requires address { addr < addresses }
+    ensures ok { OnOk result (get_s (block_in cores addresses words.old addr) core
+        ≡ Ok (block_in cores addresses words.new addr)) }
+    ensures refused { IfErr result (λ e. get_s (block_in cores addresses words.old addr) core ≡ Err e) }
+    ensures unchanged { OnErr result (words.new ≡ words.old) }
+    ensures elsewhere { StaysElsewhere cores addresses addr words.old words.new }
+{
+    let at = place(core, addresses, addr);
+    if unpack(words[at]).line.is_valid() {
+        return Err(CacheError::C1);
+    }
+    let line = if any_valid(words, cores, addresses, addr) {
+        Line::S
+    } else {
+        Line::E
+    };
+    let word = supplied(words, cores, addresses, addr);
+    share_all(words, cores, addresses, addr);
+    words[at] = relined(word, line);
+    Ok(())
+}
+
+/// The row of GetM; C2 where the core's line is M or E.
+pub(crate) fn get_m(
+    words: &mut [u64],
+    cores: usize,
+    addresses: usize,
+    core: usize,
+    addr: usize,
+) -> Result<(), CacheError>
+    requires words { AreWords cores addresses words.old }
+    requires core { core < cores }
+    requires address { addr < addresses }
+    ensures ok { OnOk result (get_m (block_in cores addresses words.old addr) core
+        ≡ Ok (block_in cores addresses words.new addr)) }
+    ensures refused { IfErr result (λ e. get_m (block_in cores addresses words.old addr) core ≡ Err e) }
+    ensures unchanged { OnErr result (words.new ≡ words.old) }
+    ensures elsewhere { StaysElsewhere cores addresses addr words.old words.new }
+{
+    let at = place(core, addresses, addr);
+    if unpack(words[at]).line.is_exclusive() {
+        return Err(CacheError::C2);
+    }
+    let word = supplied(words, cores, addresses, addr);
+    invalidate_all(words, cores, addresses, addr);
+    words[at] = relined(word, Line::M);
+    Ok(())
+}
+
+/// The row of the faulty GetM; C2 where the core's line is M or E.
+pub(crate) fn get_m_stale(
+    words: &mut [u64],
+    cores: usize,
+    addresses: usize,
+    core: usize,
+    addr: usize,
+) -> Result<(), CacheError>
+    requires words { AreWords cores addresses words.old }
+    requires core { core < cores }
+    requires address { addr < addresses }
+    ensures ok { OnOk result (get_m_stale (block_in cores addresses words.old addr) core
+        ≡ Ok (block_in cores addresses words.new addr)) }
+    ensures refused { IfErr result (λ e. get_m_stale (block_in cores addresses words.old addr) core ≡ Err e) }
+    ensures unchanged { OnErr result (words.new ≡ words.old) }
+    ensures elsewhere { StaysElsewhere cores addresses addr words.old words.new }
+{
+    let at = place(core, addresses, addr);
+    if unpack(words[at]).line.is_exclusive() {
+        return Err(CacheError::C2);
+    }
+    let word = supplied(words, cores, addresses, addr);
+    invalidate_unshared(words, cores, addresses, addr);
+    words[at] = relined(word, Line::M);
+    Ok(())
+}
+
+/// The row of Put; C3 where the core's line is not valid.
+pub(crate) fn put(
+    words: &mut [u64],
+    cores: usize,
+    addresses: usize,
+    core: usize,
+    addr: usize,
+) -> Result<(), CacheError>
+    requires words { AreWords cores addresses words.old }
+    requires core { core < cores }
+    requires address { addr < addresses }
+    ensures ok { OnOk result (put (block_in cores addresses words.old addr) core
+        ≡ Ok (block_in cores addresses words.new addr)) }
+    ensures refused { IfErr result (λ e. put (block_in cores addresses words.old addr) core ≡ Err e) }
+    ensures unchanged { OnErr result (words.new ≡ words.old) }
+    ensures elsewhere { StaysElsewhere cores addresses addr words.old words.new }
+{
+    let at = place(core, addresses, addr);
+    let word = words[at];
+    let line = unpack(word).line;
+    if !line.is_valid() {
+        return Err(CacheError::C3);
+    }
+    if line.is_owned() {
+        words[place(cores, addresses, addr)] = relined(word, Line::I);
+    }
+    words[at] = INVALID;
+    Ok(())
+}

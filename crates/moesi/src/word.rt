@@ -1,0 +1,103 @@
+//! A line with its data as one word.
+
+ghost use Rattle.std.specs.Prelude.{◌≡◌, ◌<◌, ◌^◌, Some};
+ghost use Rattle.litmus.specs.declared.limits.TheConstants.{MAX_EVENTS};
+ghost use Rattle.moesi.specs.declared.line.Line.TheVariants.{M};
+ghost use Rattle.moesi.specs.Rows.{shared, left_stale};
+ghost use Rattle.moesi.specs.Words.{line_code, line_from, event_from, cell_in};
+
+use crate::cell::Cell;
+use crate::line::Line;
+use litmus::EventId;
+
+/// The bits of the value.
+const VALUE_BITS: u32 = 32;
+
+/// The bits below the state: the value, and the event's number plus 1, or 0 for none.
+const COPY_BITS: u32 = 48;
+
+/// The word of a line in I, which has value 0 and no event.
+pub(crate) const INVALID: u64 = 0;
+
+/// The number of a state.
+fn line_code(line: Line) -> u64
+    ensures code { result ≡ line_code line }
+    ensures small { result < 8 }
+{
+    match line {
+        Line::I => 0,
+        Line::S => 1,
+        Line::E => 2,
+        Line::O => 3,
+        Line::M => 4,
+    }
+}
+
+/// The state of a number.
+fn line_from(code: u64) -> Line
+    ensures { result ≡ line_from code }
+{
+    match code {
+        1 => Line::S,
+        2 => Line::E,
+        3 => Line::O,
+        4 => Line::M,
+        _ => Line::I,
+    }
+}
+
+/// The event of a number.
+fn event_from(code: u64) -> Option<EventId>
+    requires { code < 2 ^ 16 }
+    ensures { result ≡ event_from code }
+{
+    if code == 0 {
+        return None;
+    }
+    Some((code - 1) as EventId)
+}
+
+/// The line with its data that a word stands for.
+pub(crate) fn unpack(word: u64) -> Cell
+    ensures { result ≡ cell_in word }
+{
+    let low = word % (1 << COPY_BITS);
+    let value = (low % (1 << VALUE_BITS)) as u32;
+    Cell {
+        line: line_from(word >> COPY_BITS),
+        copy: (value, event_from(low >> VALUE_BITS)),
+    }
+}
+
+/// The word of a line in this state with the data of another word.
+pub(crate) fn relined(word: u64, line: Line) -> u64
+    ensures { cell_in result ≡ record { line = line; copy = (cell_in word).copy } }
+{
+    (line_code(line) << COPY_BITS) + word % (1 << COPY_BITS)
+}
+
+/// The word of a line in M with these data.
+pub(crate) fn written(value: u32, event: EventId) -> u64
+    requires { event < MAX_EVENTS }
+    ensures { cell_in result ≡ record { line = M; copy = (value, Some event) } }
+{
+    relined(((event as u64 + 1) << VALUE_BITS) + value as u64, Line::M)
+}
+
+/// The word once another core shares its line.
+pub(crate) fn shared(word: u64) -> u64
+    ensures { cell_in result ≡ shared (cell_in word) }
+{
+    relined(word, unpack(word).line.lowered())
+}
+
+/// The word once another core takes its line for itself and leaves those in S as they are.
+pub(crate) fn left_stale(word: u64) -> u64
+    ensures { cell_in result ≡ left_stale (cell_in word) }
+{
+    if unpack(word).line.is_shared() {
+        word
+    } else {
+        INVALID
+    }
+}

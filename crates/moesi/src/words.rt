@@ -1,0 +1,98 @@
+//! The words of one address, in the words of all.
+
+ghost use Rattle.std.specs.Prelude.{◌≡◌, ◌<◌, ◌+◌, ◌*◌, ◌^◌, IfSome};
+ghost use Rattle.std.specs.List.{list_any};
+ghost use Rattle.moesi.specs.Lines.{is_valid};
+ghost use Rattle.moesi.specs.Block.{has_copy, supplied};
+ghost use Rattle.moesi.specs.Rows.{shared, invalidated, left_stale};
+ghost use Rattle.moesi.specs.Words.{cell_in};
+ghost use Rattle.moesi.specs.Packed.{AreWords, block_in, block_by, StaysElsewhere};
+
+use crate::word::{INVALID, left_stale, shared, unpack};
+
+/// How many words there are; none where their number is too large.
+pub(crate) fn words_for(cores: usize, addresses: usize) -> Option<usize>
+    ensures { IfSome result (λ n. n ≡ (cores + 1) * addresses) }
+{
+    cores.checked_add(1)?.checked_mul(addresses)
+}
+
+/// The place of a core's word of an address, and for the number of cores of memory's word.
+pub(crate) fn place(core: usize, addresses: usize, addr: usize) -> usize
+    requires { core * addresses + addr < 2 ^ 64 }
+    ensures { result ≡ core * addresses + addr }
+{
+    core * addresses + addr
+}
+
+/// Whether some line of the address is valid.
+pub(crate) fn any_valid(words: &[u64], cores: usize, addresses: usize, addr: usize) -> bool
+    requires words { AreWords cores addresses words.now }
+    requires address { addr < addresses }
+    ensures { result ≡ has_copy (block_in cores addresses words.now addr) }
+{
+    for core in 0..cores {
+        if unpack(words[place(core, addresses, addr)]).line.is_valid() {
+            return true;
+        }
+    }
+    false
+}
+
+/// The word whose data a core that asks is given: that of the first line that supplies them, else
+/// memory's.
+pub(crate) fn supplied(words: &[u64], cores: usize, addresses: usize, addr: usize) -> u64
+    requires words { AreWords cores addresses words.now }
+    requires address { addr < addresses }
+    ensures { (cell_in result).copy ≡ supplied (block_in cores addresses words.now addr) }
+{
+    for core in 0..cores {
+        let word = words[place(core, addresses, addr)];
+        if unpack(word).line.supplies() {
+            return word;
+        }
+    }
+    words[place(cores, addresses, addr)]
+}
+
+/// Lowers each line of the address, since another core shares it.
+pub(crate) fn share_all(words: &mut [u64], cores: usize, addresses: usize, addr: usize)
+    requires words { AreWords cores addresses words.old }
+    requires address { addr < addresses }
+    ensures turned { block_in cores addresses words.new addr
+        ≡ block_by shared (block_in cores addresses words.old addr) }
+    ensures elsewhere { StaysElsewhere cores addresses addr words.old words.new }
+{
+    for core in 0..cores {
+        let at = place(core, addresses, addr);
+        words[at] = shared(words[at]);
+    }
+}
+
+/// Makes each line of the address I.
+pub(crate) fn invalidate_all(words: &mut [u64], cores: usize, addresses: usize, addr: usize)
+    requires words { AreWords cores addresses words.old }
+    requires address { addr < addresses }
+    ensures turned { block_in cores addresses words.new addr
+        ≡ block_by invalidated (block_in cores addresses words.old addr) }
+    ensures elsewhere { StaysElsewhere cores addresses addr words.old words.new }
+{
+    for core in 0..cores {
+        let at = place(core, addresses, addr);
+        words[at] = INVALID;
+    }
+}
+
+/// Makes each line of the address I but those in S, which stay as they are.
+pub(crate) fn invalidate_unshared(words: &mut [u64], cores: usize, addresses: usize, addr: usize)
+    requires words { AreWords cores addresses words.old }
+    requires address { addr < addresses }
+    ensures turned { block_in cores addresses words.new addr
+        ≡ block_by left_stale (block_in cores addresses words.old addr) }
+    ensures elsewhere { StaysElsewhere cores addresses addr words.old words.new }
+{
+    for core in 0..cores {
+        let at = place(core, addresses, addr);
+        words[at] = left_stale(words[at]);
+    }
+}
