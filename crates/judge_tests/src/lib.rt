@@ -12,6 +12,8 @@ mod certificates;
 #[cfg(test)]
 mod forced;
 #[cfg(test)]
+mod memory;
+#[cfg(test)]
 mod orders;
 #[cfg(test)]
 mod recordings;

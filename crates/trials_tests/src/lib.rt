@@ -6,6 +6,8 @@ mod campaigns;
 #[cfg(test)]
 mod desks;
 #[cfg(test)]
+mod memory;
+#[cfg(test)]
 mod programs;
 #[cfg(test)]
 mod reproduced;
