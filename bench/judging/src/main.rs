@@ -2,6 +2,7 @@
 //! plain Rust program that does the same, and compares the texts of the two.
 //!
 //! `bench/judge_in_process` builds it against the static library of the crate `verdicts` and runs it.
+//! With a number it prints a cyclic recording of so many events.
 
 mod plain;
 mod recording;
@@ -50,6 +51,11 @@ fn median(calls: usize, mut call: impl FnMut()) -> f64 {
 }
 
 fn main() {
+    if let Some(events) = std::env::args().nth(1) {
+        let events = events.parse().expect("a number of events");
+        println!("{}", recording(events, Kind::Cyclic));
+        return;
+    }
     let mut out = vec![0; 1 << 20];
     println!("events  kind     first line   proved    plain");
     for events in [64, 128, 256] {

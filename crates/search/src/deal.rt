@@ -11,9 +11,12 @@ use litmus::OutOfMemory;
 use relations::Relation;
 use std::alloc::Global;
 
-/// A worker beside the first gets one of so many jobs: a search among as few events as a recording
-/// has is over before threads that share it evenly have paid for their start.
-const PART: usize = 32;
+/// A worker beside the first gets one of so many jobs at most: a thread that shares few jobs evenly is
+/// waited for at their end.
+const PART: usize = 8;
+
+/// So many jobs pay for one more thread.
+const PAYS: usize = 512;
 
 /// A worker with a seat of its own and as many of the last jobs; the others stay.
 fn crew_of(
@@ -42,8 +45,8 @@ fn crew_of(
     })
 }
 
-/// A crew for each worker from 1 on, with its part of the jobs, one at least while there are any; the
-/// other jobs stay.
+/// A crew for each worker from 1 on, but for more than the jobs pay for, with its part of the jobs, one
+/// at least while there are any; the other jobs stay.
 pub(crate) fn dealt(
     alloc: Global,
     relation: &Relation,
@@ -61,8 +64,9 @@ pub(crate) fn dealt(
     ensures crews { IfOk result (λ crews. All (IsCrewFor best.now relation.now) crews.items) }
 {
     let mut crews = Vec::with_capacity(alloc, workers)?;
-    for worker in 1..workers {
-        let share = (jobs.len() / PART).max(1);
+    let paid = jobs.len() / PAYS + 2;
+    for worker in 1..workers.min(paid) {
+        let share = (jobs.len() / PART.max(workers)).max(1);
         crews.push(crew_of(relation, best, seat, worker, share, jobs)?)?;
     }
     Ok(crews)
