@@ -12,7 +12,6 @@ use Rattle.litmus.specs.declared.op.Op.{Op}
 use Rattle.litmus.specs.declared.op.Op.TheVariants.{St, Ld, Fence, Swap, Add}
 use Rattle.moesi.specs.declared.line.Line.TheVariants as line
 use Rattle.moesi.specs.Lines.{is_valid, is_exclusive}
-use Rattle.moesi.specs.declared.cell.Cell.{Cell}
 use Rattle.moesi.specs.Block.{Block, cell_of, invalid, has_copy, supplied}
 use Rattle.moesi.specs.Rows as row
 use Rattle.moesi.specs.State as moesi
@@ -297,6 +296,9 @@ module _ (p : List (List Op)) (n capacity : ℕ) (s : State) (f : IsGoing p n ca
             blocks =
                 slice_set s.caches.blocks a u;
           } in
+          let mine : (get_or u.lines c invalid).line ≡ line.M =
+          rw (get_or-set_same (map row.invalidated b.lines) c (record { line = line.M; copy = supplied b })
+          invalid (omega (arith, line_within, length-map b.lines row.invalidated))) refl in
           let made : moesi.get_m s.caches c a ≡ Ok caches = rw is refl in
           let took : taken p capacity fault.None s (GetM c a) ≡ Ok (with_caches s caches) =
           rw (has_line p s c a core within, made) refl in (
@@ -307,10 +309,7 @@ module _ (p : List (List Op)) (n capacity : ℕ) (s : State) (f : IsGoing p n ca
                   (with_caches s caches) (GetM c a) f took,
               length-set s.caches.blocks a u,
             ),
-            ap is_exclusive (line_new s.caches c a u within
-                ∙ ap (λ (y : Cell). y.line) (get_or-set_same (map row.invalidated b.lines) c
-                (record { line = line.M; copy = supplied b }) invalid
-                (omega (arith, line_within, length-map b.lines row.invalidated)))),
+            ap is_exclusive (line_new s.caches c a u within ∙ mine),
           )
 
   -- a core that wants to read a line gets it, unless a store of its own waits
@@ -326,8 +325,16 @@ module _ (p : List (List Op)) (n capacity : ℕ) (s : State) (f : IsGoing p n ca
       go true is = (s.caches, ((tt, refl), f, refl), (moesi.copy_of s.caches c a, rw is refl))
       go false is =
           let b : Block = moesi.block_of s.caches a in
-          let y : Cell = record { line = cond (has_copy b) line.S line.E; copy = supplied b } in
-          let u : Block = record { lines = slice_set (map row.shared b.lines) c y; memory = b.memory } in
+          let u : Block = record {
+            lines =
+                slice_set (map row.shared b.lines) c
+                (record { line = cond (has_copy b) line.S line.E; copy = supplied b });
+            memory = b.memory;
+          } in
+          let mine : (get_or u.lines c invalid).line ≡ cond (has_copy b) line.S line.E =
+          rw (get_or-set_same (map row.shared b.lines) c
+          (record { line = cond (has_copy b) line.S line.E; copy = supplied b }) invalid
+          (omega (arith, line_within, length-map b.lines row.shared))) refl in
           let caches : moesi.CacheState = record {
             cores = s.caches.cores;
             blocks =
@@ -337,8 +344,7 @@ module _ (p : List (List Op)) (n capacity : ℕ) (s : State) (f : IsGoing p n ca
           let took : taken p capacity fault.None s (GetS c a) ≡ Ok (with_caches s caches) =
           rw (has_line p s c a core within, made) refl in
           let valid : is_valid (moesi.line_of caches c a) ≡ true = ap is_valid (line_new s.caches c a u within
-          ∙ ap (λ (z : Cell). z.line) (get_or-set_same (map row.shared b.lines) c y invalid
-          (omega (arith, line_within, length-map b.lines row.shared)))) ∙ shared_valid (has_copy b) in (
+          ∙ mine) ∙ shared_valid (has_copy b) in (
             caches,
             (
               goes_one p capacity s (with_caches s caches) (GetS c a) took,

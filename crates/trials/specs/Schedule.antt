@@ -1,6 +1,6 @@
 -- Random runs: the steps that words name, and where a run ends.
 use Rattle.std.specs.Prelude.{◌≡◌, ◌⊎◌, ◌<◌, ◌≤◌, ◌+◌, ◌-◌, ◌*◌, ◌/◌, ◌%◌, ◌==◌, ℕ, List, map, length, nat_lt}
-use Rattle.std.specs.Prelude.{if◌then◌else◌}
+use Rattle.std.specs.Prelude.{get_or, if◌then◌else◌}
 use Rattle.rand_core.specs.Steps.{first_words}
 use Rattle.rand_xoshiro.specs.Xoshiro256.{plus_plus}
 use Rattle.litmus.specs.Random.{after_words}
@@ -25,6 +25,11 @@ abbrev pub step_at : ℕ → ℕ → ℕ → Step
 step_at cores addresses i =
     if nat_lt i cores then Exec i
     else (if nat_lt i (2 * cores) then Drain (i - cores) else transaction_at cores addresses (i - 2 * cores))
+
+-- a table has the steps at its front
+abbrev pub AreSteps : ℕ → ℕ → List Step → Type 0
+AreSteps cores addresses table =
+    (i : ℕ) (d : Step) → i < step_count cores addresses → get_or table i d ≡ step_at cores addresses i
 
 -- the step that a word names; without a core there is none, and this one is blocked
 abbrev pub step_of_word : ℕ → ℕ → ℕ → Step

@@ -6,6 +6,7 @@ mod campaign;
 mod campaigning;
 mod code;
 mod desk;
+mod divisor;
 mod filed;
 mod judging;
 mod law;

@@ -1,10 +1,14 @@
 //! The steps that words name.
 
-ghost use Rattle.std.specs.Prelude.{◌≡◌, ◌<◌, ◌≤◌, ◌*◌, ◌/◌, ◌%◌};
-ghost use Rattle.trials.specs.Schedule.{step_at, step_count, step_of_word, transaction_at};
+ghost use Rattle.std.specs.Prelude.{◌≡◌, ◌<◌, ◌≤◌, ◌*◌, ◌/◌, ◌%◌, length};
+ghost use Rattle.trials.specs.Schedule.{AreSteps, step_at, step_count, step_of_word, transaction_at};
 
+use crate::divisor::Divisor;
 use litmus::{Addr, CoreId, MAX_ADDRESSES, MAX_CORES};
 use machine::Step;
+
+/// How many steps a machine has at most.
+pub(crate) const MOST_STEPS: usize = 2 * MAX_CORES + 3 * MAX_CORES * MAX_ADDRESSES;
 
 /// How many steps a machine has.
 #[tactic(auto, using(crate::proofs::Lines::few_lines))]
@@ -62,14 +66,44 @@ fn step_at(cores: usize, addresses: usize, i: usize) -> Step
     transaction_at(cores, addresses, i - 2 * cores)
 }
 
-/// The step that a word names; without a core there is none, and this one is blocked.
-pub(crate) fn step_of_word(cores: usize, addresses: usize, word: u64) -> Step
+/// Puts the steps of a machine, by their numbers, to the front of a table.
+pub(crate) fn fill(cores: usize, addresses: usize, table: &mut [Step])
     requires few { (cores ≤ MAX_CORES) × (addresses ≤ MAX_ADDRESSES) }
+    requires room { step_count cores addresses ≤ length table.old }
+    ensures steps { AreSteps cores addresses table.new }
+    ensures room { length table.new ≡ length table.old }
+{
+    for i in 0..step_count(cores, addresses) {
+        table[i] = step_at(cores, addresses, i);
+    }
+}
+
+/// The divisor by which words name steps, where there is a core.
+#[tactic(auto, using(crate::proofs::Lines::few_lines))]
+pub(crate) fn steps_divisor(cores: usize, addresses: usize) -> Divisor
+    requires few { (cores ≤ MAX_CORES) × (addresses ≤ MAX_ADDRESSES) }
+    ensures { 0 < cores → result.number ≡ step_count cores addresses }
+{
+    Divisor::new(step_count(cores, addresses).max(1) as u64)
+}
+
+/// The step that a word names, from the table of steps; without a core there is none, and this one is
+/// blocked.
+pub(crate) fn step_of_word(
+    cores: usize,
+    addresses: usize,
+    table: &[Step],
+    count: Divisor,
+    word: u64,
+) -> Step
+    requires table { AreSteps cores addresses table.now }
+    requires room { step_count cores addresses ≤ length table.now }
+    requires count { 0 < cores → count.number ≡ step_count cores addresses }
     ensures { result ≡ step_of_word cores addresses word }
 {
+    let _ = addresses;
     if cores == 0 {
         return Step::Exec(0);
     }
-    let number = word % step_count(cores, addresses) as u64;
-    step_at(cores, addresses, number as usize)
+    table[count.remainder(word) as usize]
 }
