@@ -2,7 +2,7 @@
 use Rattle.std.specs.Prelude.{◌≡◌, List, [], Option, Some, true, codes}
 use Rattle.clap.specs.Words.{App, Row, Rule, Text, fault_of, new_app, new_rule, subcommand_of, with_rule}
 use Rattle.clap.specs.Words.{with_subcommand}
-use Rattle.clap.specs.declared.builder.ArgAction.TheVariants.{Set}
+use Rattle.clap.specs.declared.builder.ArgAction.TheVariants.{Set, SetTrue}
 use Rattle.clap.specs.declared.builder.value_parser.ValueParser.TheVariants.{Unsigned}
 
 -- PROGRAM
@@ -29,6 +29,10 @@ number_rule id = record (new_rule id) {
 abbrev pub size_rule : Text → Rule
 size_rule id = record (number_rule id) { required = true }
 
+-- --ID, which takes no value
+abbrev pub flag_rule : Text → Rule
+flag_rule id = record (new_rule id) { long = Some id; action = Some SetTrue }
+
 -- [--attempts N] [--buffer N] [--fault NAME]
 abbrev pub with_run_rules : App → App
 with_run_rules app = with_rule (with_rule (with_rule app (number_rule (codes "attempts")))
@@ -52,13 +56,13 @@ with_size_rules app = with_rule (with_rule (with_rule app (size_rule (codes "cor
 abbrev pub with_trial_rules : App → App
 with_trial_rules app = with_rule (with_rule app (number_rule (codes "seed"))) (number_rule (codes "trials"))
 
--- [--workers N] [--show K]
+-- [--workers N] [--show K] [--quiet]
 abbrev pub with_answer_rules : App → App
-with_answer_rules app = with_rule (with_rule app (number_rule (codes "workers")))
-    (number_rule (codes "show"))
+with_answer_rules app = with_rule (with_rule (with_rule app (number_rule (codes "workers")))
+    (number_rule (codes "show"))) (flag_rule (codes "quiet"))
 
 -- trials --cores N --ops N --addresses N [--seed N] [--trials N] [--attempts N] [--buffer N]
--- [--fault NAME] [--workers N] [--show K]
+-- [--fault NAME] [--workers N] [--show K] [--quiet]
 abbrev pub trials_app : App
 trials_app = with_answer_rules (with_run_rules (with_trial_rules (with_size_rules
     (new_app (codes "trials")))))

@@ -1,9 +1,11 @@
 -- What the entries of a command ask for: each option is its entry, or else its default.
-use Rattle.std.specs.Prelude.{◌≢◌, ℕ, List, Option, Some, None, IfSome, codes, if◌then◌else◌}
+use Rattle.std.specs.Prelude.{◌≡◌, ◌≢◌, ℕ, Bool, List, Option, Some, None, IfSome, codes, if◌then◌else◌}
 use Rattle.std.specs.Prelude.{option_map, unwrap_or}
 use Rattle.std.specs.Str.{bytes_eq}
 use Rattle.std.specs.Str.Parse.{digits_value, without_leading_plus}
 use Rattle.clap.specs.Words.{IsUnsignedIn, Row, Text, first_of, one_of}
+use Rattle.clap.specs.Takes.{is_given}
+use Rattle.clap.specs.Values.{bool_text}
 use Rattle.machine.specs.declared.fault.Fault.{Fault}
 use Rattle.machine.specs.declared.fault.Fault.TheVariants as fault
 use Rattle.command_line.specs.declared.options.TheConstants.{DEFAULT_SEED, DEFAULT_TRIALS, DEFAULT_ATTEMPTS}
@@ -25,6 +27,10 @@ HasNumber id rows = IfSome (one_of id rows) (IsUnsignedIn 0 18446744073709551615
 -- there is an entry
 abbrev pub HasText : Text → List Row → Type 0
 HasText id rows = first_of id rows ≢ None
+
+-- the entry says whether the words have the flag; where there is none, they don't
+abbrev pub HasFlag : Text → List Row → Type 0
+HasFlag id rows = unwrap_or (one_of id rows) (codes "false") ≡ bool_text (is_given id rows)
 
 -- --cores, which clap asks for; 0 stands for no entry
 abbrev pub cores_of : List Row → ℕ
@@ -65,6 +71,10 @@ workers_of rows = number_or DEFAULT_WORKERS (one_of (codes "workers") rows)
 -- --show
 abbrev pub show_of : List Row → Option ℕ
 show_of rows = option_map number_written (one_of (codes "show") rows)
+
+-- --quiet: whether the words have it
+abbrev pub quiet_of : List Row → Bool
+quiet_of rows = is_given (codes "quiet") rows
 
 -- the fault of a name
 abbrev pub fault_named : Text → Option Fault

@@ -63,6 +63,10 @@ fault_text =
 abbrev pub show_text : List ℕ
 show_text = codes "Shows trial K, from 0 and below the number of trials, instead of the counts"
 
+-- --quiet
+abbrev pub quiet_text : List ℕ
+quiet_text = codes "Shows no progress on standard error"
+
 -- the texts that run and live name limits by
 pub record AreRunTexts (steps seed attempts buffer limit : List ℕ) : Type 0 where
   pub steps_is : steps ≡ steps_text

@@ -16,9 +16,9 @@ use Rattle.command_line.specs.declared.options.FileOptions.{FileOptions}
 use Rattle.command_line.specs.declared.options.OptionFault.{OptionFault}
 use Rattle.command_line.specs.declared.options.OptionFault.TheVariants.{Clap, Refused, OutOfMemory}
 use Rattle.command_line.specs.Commands.{AreFaultless, command_of, program_app}
-use Rattle.command_line.specs.Entries.{HasNumber, HasText, addresses_of, attempts_of, capacity_of, cores_of}
-use Rattle.command_line.specs.Entries.{limit_of, machine_fault_of, ops_of, seed_of, show_of, trials_of}
-use Rattle.command_line.specs.Entries.{workers_of}
+use Rattle.command_line.specs.Entries.{HasFlag, HasNumber, HasText, addresses_of, attempts_of, capacity_of}
+use Rattle.command_line.specs.Entries.{cores_of, limit_of, machine_fault_of, ops_of, quiet_of, seed_of}
+use Rattle.command_line.specs.Entries.{show_of, trials_of, workers_of}
 use Rattle.command_line.specs.Refusals.{campaign_refusal, judge_refusal, live_refusal, refusal_of}
 use Rattle.command_line.specs.Refusals.{run_refusal}
 
@@ -68,6 +68,7 @@ pub record HasTrialsEntries (rows : List Row) : Type 0 where
   pub buffer : HasNumber (codes "buffer") rows
   pub workers : HasNumber (codes "workers") rows
   pub show : HasNumber (codes "show") rows
+  pub quiet : HasFlag (codes "quiet") rows
 
 -- each option of trials is its entry, or else its default; none is refused, so the sizes make a shape
 pub record AreTrialsOptions (o : TrialsOptions) (rows : List Row) : Type 0 where
@@ -84,6 +85,7 @@ pub record AreTrialsOptions (o : TrialsOptions) (rows : List Row) : Type 0 where
   pub workers : IsInRange MAX_WORKERS (workers_of rows) o.workers
   pub show : o.show ≡ show_of rows
   pub shown : IfSome o.show (λ k. k < o.trials)
+  pub quiet : o.quiet ≡ quiet_of rows
   pub unrefused : campaign_refusal rows ≡ None
 
 -- the entries of live are what it requires

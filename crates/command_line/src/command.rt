@@ -13,8 +13,8 @@ use crate::pages::{
 };
 use crate::rules::{
     RunTexts, Texts, TrialsTexts, addresses_arg, attempts_arg, buffer_arg, cores_arg, fault_arg,
-    file_arg, limit_arg, ops_arg, program_arg, seed_arg, show_arg, steps_arg, trials_arg,
-    workers_arg,
+    file_arg, limit_arg, ops_arg, program_arg, quiet_arg, seed_arg, show_arg, steps_arg,
+    trials_arg, workers_arg,
 };
 use clap::Command;
 use std::alloc::{AllocError, Global};
@@ -94,7 +94,7 @@ fn with_trial_args<'a>(
     command.arg(seed)?.arg(trials)
 }
 
-/// The command with the workers and the trial to show.
+/// The command with the workers, the trial to show, and whether progress is.
 fn with_answer_args<'a>(
     alloc: Global,
     texts: &'a TrialsTexts,
@@ -105,7 +105,8 @@ fn with_answer_args<'a>(
 {
     let workers = workers_arg(alloc, texts);
     let show = show_arg(alloc);
-    command.arg(workers)?.arg(show)
+    let quiet = quiet_arg(alloc);
+    command.arg(workers)?.arg(show)?.arg(quiet)
 }
 
 fn trials<'a>(alloc: Global, texts: &'a Texts) -> Result<Command<'a>, AllocError>

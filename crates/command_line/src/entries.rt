@@ -1,8 +1,9 @@
 //! The entries that `clap` reads for a command.
 ghost use Rattle.std.specs.Prelude.{◌≡◌, Some, codes, option_map};
 ghost use Rattle.clap.specs.Words.{first_of, found_of, one_of, rows_of};
-ghost use Rattle.command_line.specs.Entries.{HasNumber, HasText, fault_named, machine_fault_of, number_or};
-ghost use Rattle.command_line.specs.Entries.{number_written, show_of};
+ghost use Rattle.clap.specs.Takes.{is_given};
+ghost use Rattle.command_line.specs.Entries.{HasFlag, HasNumber, HasText, fault_named, machine_fault_of};
+ghost use Rattle.command_line.specs.Entries.{number_or, number_written, show_of};
 
 use crate::options::DEFAULT_FAULT;
 use clap::ArgMatches;
@@ -58,6 +59,14 @@ pub fn show(matches: &ArgMatches<'_>) -> Option<usize>
         Some(k) => Some(k as usize),
         None => None,
     }
+}
+
+/// Whether the words have the flag.
+pub fn flag(matches: &ArgMatches<'_>, id: &str) -> bool
+    requires { HasFlag id.now (rows_of (found_of matches.now)) }
+    ensures { result ≡ is_given id.now (rows_of (found_of matches.now)) }
+{
+    matches.get_flag(id)
 }
 
 /// The fault of a name, where it is one of the six.

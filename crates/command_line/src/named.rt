@@ -8,7 +8,7 @@ ghost use Rattle.command_line.specs.Options.{HasLiveEntries, HasRunEntries, HasT
 ghost use Rattle.command_line.specs.Refusals.{campaign_refusal, judge_refusal, live_refusal, refusal_of};
 ghost use Rattle.command_line.specs.Refusals.{run_refusal};
 
-use crate::entries::{machine_fault, maybe_text, number_or, show, text};
+use crate::entries::{flag, machine_fault, maybe_text, number_or, show, text};
 use crate::options::{
     DEFAULT_ATTEMPTS, DEFAULT_BUFFER, DEFAULT_LIMIT, DEFAULT_SEED, DEFAULT_TRIALS, DEFAULT_WORKERS,
     FileOptions, JudgeOptions, LiveOptions, Options, RunOptions, TrialsOptions,
@@ -91,6 +91,7 @@ fn trials_options(matches: &ArgMatches<'_>) -> TrialsOptions
         fault: known_fault(matches),
         workers: number_or(matches, "workers", DEFAULT_WORKERS as u64) as usize,
         show: show(matches),
+        quiet: flag(matches, "quiet"),
     }
 }
 

@@ -68,8 +68,8 @@ pub struct JudgeOptions {
     pub workers: usize,
 }
 
-/// What `trials` is asked: the sizes of the programs, the trials and their runs, the workers, and the
-/// trial that is shown.
+/// What `trials` is asked: the sizes of the programs, the trials and their runs, the workers, the
+/// trial that is shown, and whether progress is.
 #[derive(Debug, Drop)]
 pub struct TrialsOptions {
     /// How many cores a program has, 1 to `MAX_CORES`.
@@ -92,6 +92,8 @@ pub struct TrialsOptions {
     pub workers: usize,
     /// The trial that is shown instead of the counts, below `trials`.
     pub show: Option<usize>,
+    /// Whether no progress is shown.
+    pub quiet: bool,
 }
 
 /// What `replay` is asked: the name of the recording.

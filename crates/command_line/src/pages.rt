@@ -96,6 +96,9 @@ ascending order, `cycle K: N`, how many have a shortest cycle of K events; and `
 violation: trial k`, or `first violation: none`. The counts do not depend on the number of
 workers.
 
+Where standard error is a terminal, a campaign that lasts shows there how many trials are
+done and how many of them are violations, until its end; with `--quiet` it shows nothing.
+
 To look at a violation, give the same options and `--show K` with its number: then, instead
 of the counts, the trial's program is printed, an empty line, its recording and its verdict,
 as by `run`, and the exit status is that of `run`.";
@@ -161,3 +164,6 @@ pub const FAULT_TEXT: &str =
 /// What the help says of `--show`.
 pub const SHOW_TEXT: &str =
     "Shows trial K, from 0 and below the number of trials, instead of the counts";
+
+/// What the help says of `--quiet`.
+pub const QUIET_TEXT: &str = "Shows no progress on standard error";

@@ -1,16 +1,17 @@
 //! The arguments and options, as `clap` reads and explains them.
 ghost use Rattle.std.specs.Prelude.{◌≡◌, Some, codes, false, string_bytes};
 ghost use Rattle.clap.specs.Words.{rule_of};
-ghost use Rattle.command_line.specs.Commands.{file_rule, number_rule, program_rule, size_rule, text_rule};
+ghost use Rattle.command_line.specs.Commands.{file_rule, flag_rule, number_rule, program_rule, size_rule};
+ghost use Rattle.command_line.specs.Commands.{text_rule};
 ghost use Rattle.command_line.specs.Help.{AreRunTexts, AreTrialsTexts, addresses_text, attempts_text};
 ghost use Rattle.command_line.specs.Help.{buffer_text, cores_text, fault_text, help_of, limit_text};
-ghost use Rattle.command_line.specs.Help.{ops_text, seed_text, show_text, steps_text, trials_text};
-ghost use Rattle.command_line.specs.Help.{workers_text};
+ghost use Rattle.command_line.specs.Help.{ops_text, quiet_text, seed_text, show_text, steps_text};
+ghost use Rattle.command_line.specs.Help.{trials_text, workers_text};
 
 use crate::options::{
     DEFAULT_ATTEMPTS, DEFAULT_BUFFER, DEFAULT_LIMIT, DEFAULT_SEED, DEFAULT_TRIALS, DEFAULT_WORKERS,
 };
-use crate::pages::{FAULT_TEXT, SHOW_TEXT};
+use crate::pages::{FAULT_TEXT, QUIET_TEXT, SHOW_TEXT};
 use clap::{Arg, ArgAction};
 use litmus::{
     MAX_ADDRESSES, MAX_CAPACITY, MAX_CORES, MAX_EVENTS, MAX_STEPS, MAX_TRIALS, MAX_WORKERS,
@@ -267,4 +268,16 @@ pub fn show_arg<'a>(alloc: Global) -> Arg<'a>
     ensures local { result.global ≡ false }
 {
     number_arg(alloc, "show", "K", SHOW_TEXT)
+}
+
+/// `--quiet`.
+pub fn quiet_arg<'a>(alloc: Global) -> Arg<'a>
+    ensures rule { rule_of result ≡ flag_rule (codes "quiet") }
+    ensures help { help_of result ≡ Some quiet_text }
+    ensures local { result.global ≡ false }
+{
+    Arg::new(alloc, "quiet")
+        .long("quiet")
+        .action(ArgAction::SetTrue)
+        .help(QUIET_TEXT)
 }

@@ -57,7 +57,7 @@ fn answered<R: Threads + Wait + Sync, P: Place>(
     match options(alloc, words) {
         Ok(Options::Run(run)) => run_command(alloc, &run, place),
         Ok(Options::Judge(options)) => judge_command(rt, alloc, &options, place),
-        Ok(Options::Trials(trials)) => trials_command(rt, alloc, &trials),
+        Ok(Options::Trials(trials)) => trials_command(rt, alloc, &trials, place),
         Ok(Options::Live(live)) => live_command(rt, alloc, &live, place),
         Ok(Options::Replay(options)) => replay_command(alloc, &options, place),
         Err(fault) => without_options(alloc, fault),

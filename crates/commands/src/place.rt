@@ -1,5 +1,6 @@
-//! Where a command's inputs come from.
+//! Where a command's inputs come from, and where it shows how far it is.
 
+use litmus::Gate;
 use std::io;
 
 /// Why an input was not given.
@@ -28,13 +29,16 @@ pub trait InputBytes {
         ensures unknown { IfErr result (λ _. remaining self.old ≡ None) };
 }
 
-/// Gives inputs by name.
+/// Gives inputs by name, and is told how far a campaign is.
 pub trait Place {
     ghost use Rattle.std.specs.Prelude.{◌≡◌, ℕ, List, Option, None, IfErr, IfOk};
     ghost use Rattle.std.specs.Io.KnownBytes.{Keeps};
 
     /// An opened input.
     type Input: InputBytes + Drop;
+
+    /// What is told of the trials of a campaign.
+    type Progress: Gate + Drop;
 
     /// The bytes that the input of each name gives, where they are known.
     ghost bytes: { Self → List ℕ → Option (List ℕ) } = { λ _ _. None };
@@ -47,4 +51,7 @@ pub trait Place {
             → bytes self.old name.now ≡ None) }
         // To open an input changes none.
         ensures kept { bytes self.new ≡ bytes self.old };
+
+    /// What is told of a campaign of so many trials while it lasts.
+    fn progress(&self, trials: usize) -> Self::Progress;
 }

@@ -6,6 +6,7 @@ ghost use Rattle.commands.specs.declared.fault.CommandFault.TheVariants.{OutOfMe
 ghost use Rattle.commands.specs.declared.stop.Stop.TheVariants.{Fault};
 ghost use Rattle.commands.specs.Trials.{IsTrials, plan_asked};
 
+use crate::place::Place;
 use crate::stop::Stop;
 use answers::{Answer, campaign_answer, shown_answer};
 use command_line::TrialsOptions;
@@ -36,11 +37,13 @@ fn campaign_of(options: &TrialsOptions) -> Campaign
     campaign
 }
 
-/// Runs the trials of a campaign and counts their codes, or shows one of them.
-pub fn trials_command<R: Threads + Wait + Sync>(
+/// Runs the trials of a campaign and counts their codes, of which the place is told unless the options are
+/// quiet, or shows one of them.
+pub fn trials_command<R: Threads + Wait + Sync, P: Place>(
     rt: &R,
     alloc: Global,
     options: &TrialsOptions,
+    place: &P,
 ) -> Result<Answer, Stop>
     requires { (rows : List Row) × AreTrialsOptions options.now rows }
     ensures ok { IfOk result (IsTrials options.now) }
@@ -49,6 +52,12 @@ pub fn trials_command<R: Threads + Wait + Sync>(
     let campaign = campaign_of(options);
     match options.show {
         Some(k) => Ok(shown_answer(alloc, &campaign, k)?),
-        None => Ok(campaign_answer(rt, alloc, &campaign, options.workers, &OpenGate)?),
+        None if options.quiet => {
+            Ok(campaign_answer(rt, alloc, &campaign, options.workers, &OpenGate)?)
+        }
+        None => {
+            let progress = place.progress(options.trials);
+            Ok(campaign_answer(rt, alloc, &campaign, options.workers, &progress)?)
+        }
     }
 }

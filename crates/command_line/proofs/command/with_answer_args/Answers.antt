@@ -6,5 +6,6 @@ use Rattle.command_line.proofs.command.with_answer_args.Goals as goal
 pub returns-clause-local : goal.returns-clause-local
 returns-clause-local c =
     let first = local_kept _ _ _ _ c.in_ok-arg.ensures.globals c.workers_arg-workers.ensures.local refl in
-    IfOk-weaker c.arg-2.result _ _ (λ new adds. local_kept _ _ _ _ adds.globals
-    c.show_arg-show.ensures.local first) c.arg-2.ensures
+    let second = local_kept _ _ _ _ c.in_ok-arg-2.ensures.globals c.show_arg-show.ensures.local first in
+    IfOk-weaker c.arg-3.result _ _ (λ new adds. local_kept _ _ _ _ adds.globals
+    c.quiet_arg-quiet.ensures.local second) c.arg-3.ensures

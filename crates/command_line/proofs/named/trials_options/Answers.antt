@@ -43,5 +43,6 @@ returns c =
       show = c.show.ensures;
       shown = shown_is c.show.result (show_of rows) c.number_or-5.result (trials_of rows) c.show.ensures
           c.number_or-5.ensures last.1;
+      quiet = c.flag.ensures;
       unrefused = c.requires.unrefused;
     }
