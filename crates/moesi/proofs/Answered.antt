@@ -1,6 +1,6 @@
 -- What a call is on the state that the words stand for.
-use Rattle.std.proofs.Common.{◌≡◌, ◌<◌, ◌+◌, ◌*◌, ℕ, Result, Ok, Err, List, [], ◌∷◌, length, map, replicate, slice_index}
-use Rattle.std.proofs.Common.{suc, zero, arith, refl, sym, ap, subst, ◌∙◌, OnOk, OnErr, IfErr, Option, None}
+use Rattle.std.proofs.Common.{◌≡◌, ◌<◌, ◌+◌, ◌*◌, ℕ, Result, Ok, Err, List, [], ◌∷◌, length, map, replicate}
+use Rattle.std.proofs.Common.{slice_index, suc, zero, arith, refl, sym, ap, subst, ◌∙◌, OnOk, OnErr, IfErr}
 use Rattle.std.specs.List.{range_with_len}
 use Rattle.std.proofs.lemmas.List.FromFn.{length-range_with_len}
 use Rattle.moesi.specs.declared.cell.Cell.{Cell}
@@ -9,8 +9,8 @@ use Rattle.moesi.specs.Block.{Block, cell_of, invalid, opening_block}
 use Rattle.moesi.specs.State.{CacheState, block_of, memory_of, at_address, opening_caches}
 use Rattle.moesi.specs.Words.{cell_in}
 use Rattle.moesi.specs.Packed.{block_in, caches_in, StaysElsewhere}
-use Rattle.moesi.proofs.Places.{block_at, blocks_length}
-use Rattle.moesi.proofs.Turns.{TurnsInto, caches_written, map_equal}
+use Rattle.moesi.proofs.Grid.{block_at, blocks_length}
+use Rattle.moesi.proofs.Turning.{TurnsInto, caches_written, map_equal}
 use Rattle.moesi.proofs.Replaced.{seen}
 
 -- an address of the state is one of the words

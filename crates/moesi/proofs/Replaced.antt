@@ -1,13 +1,13 @@
 -- The word that a row of the table writes last.
-use Rattle.std.proofs.Common.{◌≡◌, ◌<◌, ◌+◌, ◌*◌, ℕ, Bool, true, false, cond, Option, List, slice_index}
+use Rattle.std.proofs.Common.{◌≡◌, ◌<◌, ◌+◌, ◌*◌, ℕ, Option, List, slice_index}
 use Rattle.std.proofs.Common.{slice_set, arith, refl, sym, ap, ◌∙◌}
 use Rattle.moesi.specs.declared.cell.Cell.{Cell}
 use Rattle.moesi.specs.Block.{Block, cell_of, invalid}
 use Rattle.moesi.specs.Words.{cell_in}
 use Rattle.moesi.specs.Packed.{AreWords, block_in}
-use Rattle.moesi.proofs.Places.{line_at}
-use Rattle.moesi.proofs.Turns.{TurnsInto, line_written, memory_written, word_elsewhere, none_elsewhere}
-use Rattle.moesi.proofs.Turns.{both_elsewhere}
+use Rattle.moesi.proofs.Grid.{line_at}
+use Rattle.moesi.proofs.Turning.{TurnsInto, line_written, memory_written, word_elsewhere, none_elsewhere}
+use Rattle.moesi.proofs.Turning.{both_elsewhere}
 
 -- what a core has of the address is what its word stands for
 pub seen : (cores n : ℕ) (words : List ℕ) (c a p : ℕ) (x : Cell) → c < cores → p ≡ c * n + a

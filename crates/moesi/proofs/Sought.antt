@@ -1,6 +1,6 @@
 -- A loop that looks for a line of an address, core by core.
-use Rattle.std.proofs.Common.{◌≡◌, ◌<◌, ◌≤◌, ◌∷◌, ◌+◌, ◌*◌, ℕ, Bool, true, false, cond, Option, List, []}
-use Rattle.std.proofs.Common.{length, drop, slice_index, arith, refl, sym, ap, ◌∙◌}
+use Rattle.std.proofs.Common.{◌≡◌, ◌<◌, ◌≤◌, ◌∷◌, ◌+◌, ◌*◌, ℕ, Bool, false, cond, ◌||◌, Option, List, []}
+use Rattle.std.proofs.Common.{length, drop, slice_index, arith, sym, ap, ◌∙◌}
 use Rattle.std.specs.List.{list_any}
 use Rattle.std.proofs.Math.Seq.{drop-length}
 use Rattle.moesi.specs.declared.line.Line.{Line}
@@ -9,7 +9,7 @@ use Rattle.moesi.specs.Lines.{is_valid}
 use Rattle.moesi.specs.Block.{Block, copy_where}
 use Rattle.moesi.specs.Words.{cell_in}
 use Rattle.moesi.specs.Packed.{block_in}
-use Rattle.moesi.proofs.Places.{lines_from, lines_length}
+use Rattle.moesi.proofs.Grid.{lines_from, lines_length}
 
 module _ (cores n : ℕ) (words : List ℕ) (a : ℕ) where
   -- behind the last core there is no line
@@ -29,31 +29,26 @@ module _ (cores n : ℕ) (words : List ℕ) (a : ℕ) where
       → copy_where kind (drop c (block_in cores n words a).lines) m ≡ m
   copy_past kind c m low high = ap (λ (xs : List Cell). copy_where kind xs m) (lines_past c low high)
 
-  module _ (c : ℕ) (core : c < cores) (x : Cell) (is : x ≡ cell_in (slice_index words (c * n + a))) where
+  module _ (c p : ℕ) (x : Cell) (core : c < cores) (place : p ≡ c * n + a)
+      (is : x ≡ cell_in (slice_index words p)) where
     -- the lines from the core on begin with its own
-    from : drop c (block_in cores n words a).lines ≡ x ∷ drop (c + 1) (block_in cores n words a).lines
-    from =
+    lines_own : drop c (block_in cores n words a).lines ≡ x ∷ drop (c + 1) (block_in cores n words a).lines
+    lines_own =
+        let own : cell_in (slice_index words (c * n + a)) ≡ x =
+        sym (is ∙ ap (λ (i : ℕ). cell_in (slice_index words i)) place) in
         lines_from cores n words c a core
-        ∙ ap (λ (y : Cell). y ∷ drop (c + 1) (block_in cores n words a).lines) (sym is)
+        ∙ ap (λ (y : Cell). y ∷ drop (c + 1) (block_in cores n words a).lines) own
 
-    -- the core's line is valid
-    pub any_here : is_valid x.line ≡ true
-        → list_any (λ y. is_valid y.line) (drop c (block_in cores n words a).lines) ≡ true
-    any_here h = ap (list_any (λ y. is_valid y.line)) from ∙ rw h refl
+    -- whether one of them is valid
+    pub any_from : list_any (λ y. is_valid y.line) (drop c (block_in cores n words a).lines)
+        ≡ is_valid x.line || list_any (λ y. is_valid y.line) (drop (c + 1) (block_in cores n words a).lines)
+    any_from = ap (list_any (λ y. is_valid y.line)) lines_own
 
-    -- the core's line is not valid
-    pub any_beyond : is_valid x.line ≡ false
-        → list_any (λ y. is_valid y.line) (drop c (block_in cores n words a).lines)
-        ≡ list_any (λ y. is_valid y.line) (drop (c + 1) (block_in cores n words a).lines)
-    any_beyond h = ap (list_any (λ y. is_valid y.line)) from ∙ rw h refl
-
-    -- the core's line is of the kind
-    pub copy_here : (kind : Line → Bool) (m : ℕ × Option ℕ) → kind x.line ≡ true
-        → copy_where kind (drop c (block_in cores n words a).lines) m ≡ x.copy
-    copy_here kind m h = ap (λ (xs : List Cell). copy_where kind xs m) from ∙ rw h refl
-
-    -- the core's line is not
-    pub copy_beyond : (kind : Line → Bool) (m : ℕ × Option ℕ) → kind x.line ≡ false
+    -- the data of the first of a kind, with those of the lines behind
+    pub copy_from : (kind : Line → Bool) (m : ℕ × Option ℕ) (d : ℕ) → c + 1 ≡ d
         → copy_where kind (drop c (block_in cores n words a).lines) m
-        ≡ copy_where kind (drop (c + 1) (block_in cores n words a).lines) m
-    copy_beyond kind m h = ap (λ (xs : List Cell). copy_where kind xs m) from ∙ rw h refl
+        ≡ cond (kind x.line) x.copy (copy_where kind (drop d (block_in cores n words a).lines) m)
+    copy_from kind m d next =
+        ap (λ (xs : List Cell). copy_where kind xs m) lines_own
+        ∙ ap (λ (i : ℕ). cond (kind x.line) x.copy
+        (copy_where kind (drop i (block_in cores n words a).lines) m)) next

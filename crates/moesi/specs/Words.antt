@@ -13,10 +13,10 @@ line_code E = 2
 line_code O = 3
 line_code M = 4
 
--- the state of a number
+-- the state of a number; one above 4 is no state's, and stands for M
 abbrev pub line_from : ℕ → Line
 line_from n =
-    if n == 1 then S else (if n == 2 then E else (if n == 3 then O else (if n == 4 then M else I)))
+    if n == 0 then I else (if n == 1 then S else (if n == 2 then E else (if n == 3 then O else M)))
 
 -- the event of a number
 abbrev pub event_from : ℕ → Option ℕ

@@ -1,7 +1,7 @@
 //! The states of a line.
 
 ghost use Rattle.std.specs.Prelude.{◌≡◌};
-ghost use Rattle.moesi.specs.Lines.{is_valid, is_exclusive, is_owned, is_shared, supplies, lowered};
+ghost use Rattle.moesi.specs.Lines.{is_valid, is_exclusive, is_owned, is_shared, supplies};
 
 /// The state of one core's line of an address: whether it is valid (the core has a copy), owned
 /// (memory may lack its data), exclusive (no other core has a copy) and dirty (its data may differ
@@ -55,16 +55,5 @@ impl Line {
         ensures { result ≡ is_shared self }
     {
         matches!(self, Line::S)
-    }
-
-    /// Its state once another core shares it.
-    pub(crate) fn lowered(self) -> Line
-        ensures { result ≡ lowered self }
-    {
-        match self {
-            Line::M => Line::O,
-            Line::E => Line::S,
-            other => other,
-        }
     }
 }

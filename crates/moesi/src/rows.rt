@@ -1,15 +1,13 @@
 //! The table of transactions, on the words of one address.
 
-ghost use Rattle.std.specs.Prelude.{◌≡◌, ◌<◌, Some, Ok, Err, OnOk, IfErr, OnErr};
-ghost use Rattle.litmus.specs.declared.limits.TheConstants.{MAX_EVENTS};
-ghost use Rattle.moesi.specs.Rows.{get_s, get_m, get_m_stale, put, read, write};
+ghost use Rattle.std.specs.Prelude.{◌≡◌, ◌<◌, Ok, Err, OnOk, IfErr, OnErr};
+ghost use Rattle.moesi.specs.Rows.{get_s, get_m, get_m_stale, put};
 ghost use Rattle.moesi.specs.Packed.{AreWords, block_in, StaysElsewhere};
 
 use crate::error::CacheError;
 use crate::line::Line;
-use crate::word::{INVALID, relined, unpack, written};
-use crate::words::{any_valid, invalidate_all, invalidate_unshared, place, share_all, supplied};
-use litmus::EventId;
+use crate::word::{INVALID, relined, unpack};
+use crate::words::{asked, invalidate_all, invalidate_unshared, place, share_all};
 
 /// The row of GetS; C1 where the core's line is valid.
 pub(crate) fn get_s(
@@ -24,7 +22,8 @@ pub(crate) fn get_s(
     requires address { addr < addresses }
     ensures ok { OnOk result (get_s (block_in cores addresses words.old addr) core
         ≡ Ok (block_in cores addresses words.new addr)) }
-    ensures refused { IfErr result (λ e. get_s (block_in cores addresses words.old addr) core ≡ Err e) }
+    ensures refused { IfErr result (λ e.
+        get_s (block_in cores addresses words.old addr) core ≡ Err e) }
     ensures unchanged { OnErr result (words.new ≡ words.old) }
     ensures elsewhere { StaysElsewhere cores addresses addr words.old words.new }
 {
@@ -32,14 +31,9 @@ pub(crate) fn get_s(
     if unpack(words[at]).line.is_valid() {
         return Err(CacheError::C1);
     }
-    let line = if any_valid(words, cores, addresses, addr) {
-        Line::S
-    } else {
-        Line::E
-    };
-    let word = supplied(words, cores, addresses, addr);
+    let (valid, word) = asked(words, cores, addresses, addr);
     share_all(words, cores, addresses, addr);
-    words[at] = relined(word, line);
+    words[at] = relined(word, if valid { Line::S } else { Line::E });
     Ok(())
 }
 
@@ -56,7 +50,8 @@ pub(crate) fn get_m(
     requires address { addr < addresses }
     ensures ok { OnOk result (get_m (block_in cores addresses words.old addr) core
         ≡ Ok (block_in cores addresses words.new addr)) }
-    ensures refused { IfErr result (λ e. get_m (block_in cores addresses words.old addr) core ≡ Err e) }
+    ensures refused { IfErr result (λ e.
+        get_m (block_in cores addresses words.old addr) core ≡ Err e) }
     ensures unchanged { OnErr result (words.new ≡ words.old) }
     ensures elsewhere { StaysElsewhere cores addresses addr words.old words.new }
 {
@@ -64,7 +59,7 @@ pub(crate) fn get_m(
     if unpack(words[at]).line.is_exclusive() {
         return Err(CacheError::C2);
     }
-    let word = supplied(words, cores, addresses, addr);
+    let (_, word) = asked(words, cores, addresses, addr);
     invalidate_all(words, cores, addresses, addr);
     words[at] = relined(word, Line::M);
     Ok(())
@@ -83,7 +78,8 @@ pub(crate) fn get_m_stale(
     requires address { addr < addresses }
     ensures ok { OnOk result (get_m_stale (block_in cores addresses words.old addr) core
         ≡ Ok (block_in cores addresses words.new addr)) }
-    ensures refused { IfErr result (λ e. get_m_stale (block_in cores addresses words.old addr) core ≡ Err e) }
+    ensures refused { IfErr result (λ e.
+        get_m_stale (block_in cores addresses words.old addr) core ≡ Err e) }
     ensures unchanged { OnErr result (words.new ≡ words.old) }
     ensures elsewhere { StaysElsewhere cores addresses addr words.old words.new }
 {
@@ -91,7 +87,7 @@ pub(crate) fn get_m_stale(
     if unpack(words[at]).line.is_exclusive() {
         return Err(CacheError::C2);
     }
-    let word = supplied(words, cores, addresses, addr);
+    let (_, word) = asked(words, cores, addresses, addr);
     invalidate_unshared(words, cores, addresses, addr);
     words[at] = relined(word, Line::M);
     Ok(())
@@ -110,7 +106,8 @@ pub(crate) fn put(
     requires address { addr < addresses }
     ensures ok { OnOk result (put (block_in cores addresses words.old addr) core
         ≡ Ok (block_in cores addresses words.new addr)) }
-    ensures refused { IfErr result (λ e. put (block_in cores addresses words.old addr) core ≡ Err e) }
+    ensures refused { IfErr result (λ e.
+        put (block_in cores addresses words.old addr) core ≡ Err e) }
     ensures unchanged { OnErr result (words.new ≡ words.old) }
     ensures elsewhere { StaysElsewhere cores addresses addr words.old words.new }
 {

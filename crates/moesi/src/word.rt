@@ -33,16 +33,16 @@ fn line_code(line: Line) -> u64
     }
 }
 
-/// The state of a number.
+/// The state of a number. One above 4 is no state's: taken for M, it costs no comparison.
 fn line_from(code: u64) -> Line
     ensures { result ≡ line_from code }
 {
     match code {
+        0 => Line::I,
         1 => Line::S,
         2 => Line::E,
         3 => Line::O,
-        4 => Line::M,
-        _ => Line::I,
+        _ => Line::M,
     }
 }
 
@@ -88,7 +88,11 @@ pub(crate) fn written(value: u32, event: EventId) -> u64
 pub(crate) fn shared(word: u64) -> u64
     ensures { cell_in result ≡ shared (cell_in word) }
 {
-    relined(word, unpack(word).line.lowered())
+    let line = unpack(word).line;
+    if !line.is_exclusive() {
+        return word;
+    }
+    relined(word, if line.is_owned() { Line::O } else { Line::S })
 }
 
 /// The word once another core takes its line for itself and leaves those in S as they are.

@@ -1,8 +1,6 @@
 //! The words of one address, in the words of all.
 
 ghost use Rattle.std.specs.Prelude.{◌≡◌, ◌<◌, ◌+◌, ◌*◌, ◌^◌, IfSome};
-ghost use Rattle.std.specs.List.{list_any};
-ghost use Rattle.moesi.specs.Lines.{is_valid};
 ghost use Rattle.moesi.specs.Block.{has_copy, supplied};
 ghost use Rattle.moesi.specs.Rows.{shared, invalidated, left_stale};
 ghost use Rattle.moesi.specs.Words.{cell_in};
@@ -25,34 +23,25 @@ pub(crate) fn place(core: usize, addresses: usize, addr: usize) -> usize
     core * addresses + addr
 }
 
-/// Whether some line of the address is valid.
-pub(crate) fn any_valid(words: &[u64], cores: usize, addresses: usize, addr: usize) -> bool
+/// What a core that asks is told of the address: whether some line is valid, and the word whose
+/// data it is given, that of the first line that supplies them, else memory's.
+pub(crate) fn asked(words: &[u64], cores: usize, addresses: usize, addr: usize) -> (bool, u64)
     requires words { AreWords cores addresses words.now }
     requires address { addr < addresses }
-    ensures { result ≡ has_copy (block_in cores addresses words.now addr) }
+    ensures valid { result.0 ≡ has_copy (block_in cores addresses words.now addr) }
+    ensures given { (cell_in result.1).copy ≡ supplied (block_in cores addresses words.now addr) }
 {
-    for core in 0..cores {
-        if unpack(words[place(core, addresses, addr)]).line.is_valid() {
-            return true;
+    let mut valid = false;
+    let mut at = addr;
+    for _ in 0..cores {
+        let line = unpack(words[at]).line;
+        if line.supplies() {
+            return (true, words[at]);
         }
+        valid |= line.is_valid();
+        at += addresses;
     }
-    false
-}
-
-/// The word whose data a core that asks is given: that of the first line that supplies them, else
-/// memory's.
-pub(crate) fn supplied(words: &[u64], cores: usize, addresses: usize, addr: usize) -> u64
-    requires words { AreWords cores addresses words.now }
-    requires address { addr < addresses }
-    ensures { (cell_in result).copy ≡ supplied (block_in cores addresses words.now addr) }
-{
-    for core in 0..cores {
-        let word = words[place(core, addresses, addr)];
-        if unpack(word).line.supplies() {
-            return word;
-        }
-    }
-    words[place(cores, addresses, addr)]
+    (valid, words[at])
 }
 
 /// Lowers each line of the address, since another core shares it.
@@ -63,9 +52,10 @@ pub(crate) fn share_all(words: &mut [u64], cores: usize, addresses: usize, addr:
         ≡ block_by shared (block_in cores addresses words.old addr) }
     ensures elsewhere { StaysElsewhere cores addresses addr words.old words.new }
 {
-    for core in 0..cores {
-        let at = place(core, addresses, addr);
+    let mut at = addr;
+    for _ in 0..cores {
         words[at] = shared(words[at]);
+        at += addresses;
     }
 }
 
@@ -77,9 +67,10 @@ pub(crate) fn invalidate_all(words: &mut [u64], cores: usize, addresses: usize, 
         ≡ block_by invalidated (block_in cores addresses words.old addr) }
     ensures elsewhere { StaysElsewhere cores addresses addr words.old words.new }
 {
-    for core in 0..cores {
-        let at = place(core, addresses, addr);
+    let mut at = addr;
+    for _ in 0..cores {
         words[at] = INVALID;
+        at += addresses;
     }
 }
 
@@ -91,8 +82,9 @@ pub(crate) fn invalidate_unshared(words: &mut [u64], cores: usize, addresses: us
         ≡ block_by left_stale (block_in cores addresses words.old addr) }
     ensures elsewhere { StaysElsewhere cores addresses addr words.old words.new }
 {
-    for core in 0..cores {
-        let at = place(core, addresses, addr);
+    let mut at = addr;
+    for _ in 0..cores {
         words[at] = left_stale(words[at]);
+        at += addresses;
     }
 }

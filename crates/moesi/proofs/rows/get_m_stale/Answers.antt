@@ -1,4 +1,4 @@
-use Rattle.std.proofs.Common.{rules, ◌≡◌, ℕ, true, false, Option, Ok, ap, sym, ◌∙◌}
+use Rattle.std.proofs.Common.{rules, ◌≡◌, ℕ, true, false, Option, List, Ok, ap, sym, ◌∙◌}
 use Rattle.std.proofs.lemmas.Bool.{cond-true, cond-false}
 use Rattle.moesi.specs.declared.line.Line.TheVariants.{M}
 use Rattle.moesi.specs.declared.cell.Cell.{Cell}
@@ -6,7 +6,7 @@ use Rattle.moesi.specs.Lines.{is_exclusive}
 use Rattle.moesi.specs.Block.{Block, cell_of, supplied}
 use Rattle.moesi.specs.Packed.{block_in, block_by}
 use Rattle.moesi.specs.Rows.{left_stale}
-use Rattle.moesi.proofs.Turns.{TurnsInto}
+use Rattle.moesi.proofs.Turning.{TurnsInto}
 use Rattle.moesi.proofs.Replaced.{seen, turns_line}
 use Rattle.moesi.proofs.rows.get_m_stale.Goals as goal
 
@@ -27,13 +27,17 @@ returns c =
     c.unpack.result c.requires.core c.place-at.ensures c.unpack.ensures in
     let off : is_exclusive c.unpack.result.line ≡ false = cc in
     let x : Cell = record { line = M; copy = supplied b } in
-    let others : TurnsInto c.args.cores c.args.addresses c.args.addr c.args.words.now
-    c.invalidate_unshared.new.words (block_by left_stale b) =
-    record { turned = c.invalidate_unshared.ensures.turned; elsewhere = c.invalidate_unshared.ensures.elsewhere } in
+    let mid : List ℕ = c.invalidate_unshared.new.words in
+    let turned : Block = block_by left_stale b in
+    let others : TurnsInto c.args.cores c.args.addresses c.args.addr c.args.words.now mid turned =
+    record {
+      turned = c.invalidate_unshared.ensures.turned;
+      elsewhere = c.invalidate_unshared.ensures.elsewhere;
+    } in
     let all = turns_line c.args.cores c.args.addresses c.args.addr c.args.words.now
-    c.invalidate_unshared.new.words (block_by left_stale b) c.requires.words c.requires.address others c.args.core
-    c.place-at.result c.relined.result x c.requires.core c.place-at.ensures
-    (c.relined.ensures ∙ ap (λ (d : ℕ × Option ℕ). record { line = M; copy = d }) c.supplied-word.ensures)
+    mid turned c.requires.words c.requires.address others c.args.core c.place-at.result
+    c.relined.result x c.requires.core c.place-at.ensures
+    (c.relined.ensures ∙ ap (λ (d : ℕ × Option ℕ). record { line = M; copy = d }) c.asked-word.ensures.given)
     in
     record {
       ok = cond-false _ _ _ (ap (λ (y : Cell). is_exclusive y.line) line ∙ off) ∙ ap Ok (sym all.turned);

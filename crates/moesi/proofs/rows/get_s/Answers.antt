@@ -1,4 +1,4 @@
-use Rattle.std.proofs.Common.{rules, ◌≡◌, ℕ, true, false, cond, Option, Ok, ap, sym, ◌∙◌}
+use Rattle.std.proofs.Common.{rules, ◌≡◌, ℕ, true, false, cond, Option, List, Ok, ap, sym, ◌∙◌}
 use Rattle.std.proofs.lemmas.Bool.{cond-true, cond-false}
 use Rattle.moesi.specs.declared.line.Line.{Line}
 use Rattle.moesi.specs.declared.line.Line.TheVariants.{S, E}
@@ -8,10 +8,10 @@ use Rattle.moesi.specs.Block.{Block, cell_of, has_copy, supplied}
 use Rattle.moesi.specs.Words.{cell_in}
 use Rattle.moesi.specs.Packed.{block_in, block_by}
 use Rattle.moesi.specs.Rows.{shared}
-use Rattle.moesi.proofs.Turns.{TurnsInto}
+use Rattle.moesi.proofs.Turning.{TurnsInto}
 use Rattle.moesi.proofs.Replaced.{seen, turns_line}
 use Rattle.moesi.proofs.rows.get_s.Goals as goal
-use Rattle.moesi.proofs.rows.get_s.Goals.{then-any_valid, else-any_valid}
+use Rattle.moesi.proofs.rows.get_s.Goals.{then-valid, else-valid}
 
 pub returns-then-is_valid-clause-refused : goal.returns-then-is_valid-clause-refused
 returns-then-is_valid-clause-refused c =
@@ -30,24 +30,28 @@ returns c =
     c.unpack.result c.requires.core c.place-at.ensures c.unpack.ensures in
     let off : is_valid c.unpack.result.line ≡ false = cc in
     let fill : Line = cond (has_copy b) S E in
-    let filled : c.if-any_valid.line ≡ fill =
-    elim c.if-any_valid.branch [
-      | then-any_valid w ↦ w.line-is ∙ sym (cond-true (has_copy b) S E (cc))
-      | else-any_valid w ↦ w.line-is ∙ sym (cond-false (has_copy b) S E (cc))
+    let filled : c.if-valid.relined ≡ fill =
+    elim c.if-valid.branch [
+      | then-valid w ↦ w.relined-is ∙ sym (cond-true (has_copy b) S E (cc))
+      | else-valid w ↦ w.relined-is ∙ sym (cond-false (has_copy b) S E (cc))
     ] in
     let x : Cell = record { line = fill; copy = supplied b } in
-    let y : Cell = record { line = fill; copy = (cell_in c.supplied-word.result).copy } in
+    let y : Cell = record { line = fill; copy = (cell_in c.asked-valid.result.1).copy } in
     let lined : cell_in c.relined.result ≡ y =
     c.relined.ensures
-    ∙ ap (λ (l : Line). record { line = l; copy = (cell_in c.supplied-word.result).copy }) filled in
+    ∙ ap (λ (l : Line). record { line = l; copy = (cell_in c.asked-valid.result.1).copy }) filled in
     let is : cell_in c.relined.result ≡ x =
-    lined ∙ ap (λ (d : ℕ × Option ℕ). record { line = fill; copy = d }) c.supplied-word.ensures in
-    let others : TurnsInto c.args.cores c.args.addresses c.args.addr c.args.words.now
-    c.share_all.new.words (block_by shared b) =
-    record { turned = c.share_all.ensures.turned; elsewhere = c.share_all.ensures.elsewhere } in
+    lined ∙ ap (λ (d : ℕ × Option ℕ). record { line = fill; copy = d }) c.asked-valid.ensures.given in
+    let mid : List ℕ = c.share_all.new.words in
+    let turned : Block = block_by shared b in
+    let others : TurnsInto c.args.cores c.args.addresses c.args.addr c.args.words.now mid turned =
+    record {
+      turned = c.share_all.ensures.turned;
+      elsewhere = c.share_all.ensures.elsewhere;
+    } in
     let all = turns_line c.args.cores c.args.addresses c.args.addr c.args.words.now
-    c.share_all.new.words (block_by shared b) c.requires.words c.requires.address others c.args.core
-    c.place-at.result c.relined.result x c.requires.core c.place-at.ensures is in
+    mid turned c.requires.words c.requires.address others c.args.core c.place-at.result
+    c.relined.result x c.requires.core c.place-at.ensures is in
     record {
       ok = cond-false _ _ _ (ap (λ (y : Cell). is_valid y.line) line ∙ off) ∙ ap Ok (sym all.turned);
       refused = search rules;

@@ -1,5 +1,5 @@
-use Rattle.std.proofs.Common.{rules, ◌≡◌, ℕ, true, false, cond, Option, List, Result, Ok, slice_set, ap, sym, subst, ◌∙◌}
-use Rattle.std.proofs.Common.{refl}
+use Rattle.std.proofs.Common.{rules, ◌≡◌, ℕ, true, false, cond, Option, List, Result, Ok, slice_set, ap}
+use Rattle.std.proofs.Common.{refl, sym, ◌∙◌}
 use Rattle.std.proofs.lemmas.Bool.{cond-true, cond-false}
 use Rattle.moesi.specs.declared.cell.Cell.{Cell}
 use Rattle.moesi.specs.declared.error.CacheError.{CacheError}
@@ -7,7 +7,7 @@ use Rattle.moesi.specs.Lines.{is_valid, is_owned}
 use Rattle.moesi.specs.Block.{Block, cell_of, invalid}
 use Rattle.moesi.specs.Rows as row
 use Rattle.moesi.specs.Packed.{block_in}
-use Rattle.moesi.proofs.Turns.{TurnsInto}
+use Rattle.moesi.proofs.Turning.{TurnsInto}
 use Rattle.moesi.proofs.Replaced.{seen, turns_none, turns_line, turns_memory}
 use Rattle.moesi.proofs.rows.put.Goals as goal
 use Rattle.moesi.proofs.rows.put.Goals.{then-is_owned, else-is_owned}
@@ -33,7 +33,8 @@ returns c =
     turns_none c.args.cores c.args.addresses c.args.addr c.args.words.now in
     let m : ℕ × Option ℕ = cond (is_owned x.line) x.copy b.memory in
     let mid : Block = record { lines = b.lines; memory = m } in
-    let memory : TurnsInto c.args.cores c.args.addresses c.args.addr c.args.words.now c.if-is_owned.words mid =
+    let words : List ℕ = c.if-is_owned.words in
+    let memory : TurnsInto c.args.cores c.args.addresses c.args.addr c.args.words.now words mid =
     elim c.if-is_owned.branch [
       | then-is_owned w ↦
           rw w.words-is
@@ -45,8 +46,8 @@ returns c =
       | else-is_owned w ↦
           rw (w.words-is, cond-false (is_owned x.line) x.copy b.memory (cc)) none
     ] in
-    let all = turns_line c.args.cores c.args.addresses c.args.addr c.args.words.now c.if-is_owned.words mid
-    c.requires.words c.requires.address memory c.args.core c.place-at.result 0 invalid c.requires.core
+    let all = turns_line c.args.cores c.args.addresses c.args.addr c.args.words.now words mid c.requires.words
+    c.requires.address memory c.args.core c.place-at.result 0 invalid c.requires.core
     c.place-at.ensures refl
     in
     let by : Cell → Result Block CacheError =

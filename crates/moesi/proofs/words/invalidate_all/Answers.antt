@@ -1,16 +1,19 @@
 use Rattle.std.proofs.Common.{◌∙◌, arith, refl}
 use Rattle.moesi.specs.Rows.{invalidated}
-use Rattle.moesi.proofs.Turns.{turns_more, all_turned}
+use Rattle.moesi.proofs.Grid.{next_place}
+use Rattle.moesi.proofs.Turning.{turns_more, all_turned}
 use Rattle.moesi.proofs.words.invalidate_all.Goals as goal
 
-pub loop-core-preserved : goal.loop-core-preserved
-loop-core-preserved c =
-    turns_more c.args.cores c.args.addresses c.args.words.now c.loop-core.words c.loop-core.core c.args.addr
-    c.place-at.result 0 invalidated c.requires.words (omega arith) c.requires.address c.place-at.ensures
-    refl c.loop-core.invariant
+pub loop-preserved : goal.loop-preserved
+loop-preserved c = record {
+  place = next_place c.loop.counter c.args.addresses c.args.addr c.loop.at c.loop.invariant.place;
+  turns = turns_more c.args.cores c.args.addresses c.args.words.now c.loop.words c.loop.counter c.args.addr
+      c.loop.at 0 invalidated c.requires.words (omega arith) c.requires.address c.loop.invariant.place
+      refl c.loop.invariant.turns;
+}
 
 pub returns-clause-turned : goal.returns-clause-turned
 returns-clause-turned c =
-    c.loop-core.invariant.turned
-    ∙ all_turned c.args.cores c.args.addresses c.args.words.now c.args.addr invalidated c.loop-core.core
+    c.loop.invariant.turns.turned
+    ∙ all_turned c.args.cores c.args.addresses c.args.words.now c.args.addr invalidated c.loop.counter
     (omega arith) (omega arith)

@@ -1,8 +1,7 @@
-use Rattle.std.proofs.Common.{◌≡◌, ◌<◌, ◌+◌, ◌*◌, List, length, slice_index, arith, sym, ap, ◌∙◌}
+use Rattle.std.proofs.Common.{◌≡◌, ◌<◌, length, slice_index, arith, sym, ap, ◌∙◌}
 use Rattle.std.proofs.lemmas.List.{get_or_default}
-use Rattle.moesi.specs.declared.cell.Cell.{Cell}
 use Rattle.moesi.specs.Words.{cell_in}
-use Rattle.moesi.proofs.Places.{inside}
+use Rattle.moesi.proofs.Grid.{inside}
 use Rattle.moesi.proofs.Answered.{column, memory_seen}
 use Rattle.moesi.proofs.caches.Caches.memory.Goals as goal
 

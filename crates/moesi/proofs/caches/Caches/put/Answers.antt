@@ -1,4 +1,4 @@
-use Rattle.std.proofs.Common.{◌<◌, length, arith}
+use Rattle.std.proofs.Common.{◌≡◌, ◌<◌, ℕ, List, length, arith}
 use Rattle.std.specs.Vec.{with_items}
 use Rattle.std.proofs.lemmas.List.{with_items_is}
 use Rattle.moesi.specs.Block.{Block}
@@ -20,22 +20,28 @@ returns-clause-ok c =
     let at : c.args.addr < c.self.inside.addresses =
     column c.self.inside.cores c.self.inside.addresses c.self.inside.words.items c.args.addr
     (rw (← c.self.view_is) at c.requires.address) in
+    let last : List ℕ = (with_items c.self.inside.words c.put.new.words).items in
+    let back : last ≡ c.put.new.words =
+    with_items_is c.self.inside.words c.put.new.words (omega arith) in
     rw (← c.self.view_is)
     (answered_ok c.self.inside.cores c.self.inside.addresses c.args.addr c.self.inside.words.items
-    c.deref_mut.result.now c.put.new.words (with_items c.self.inside.words c.put.new.words).items
-    (λ (b : Block). row.put b c.args.core) at c.deref_mut.ensures.value
-    (with_items_is c.self.inside.words c.put.new.words (omega arith)) c.put.result c.put.ensures.elsewhere c.put.ensures.ok)
+    c.deref_mut.result.now c.put.new.words last (λ (b : Block). row.put b c.args.core) at
+    c.deref_mut.ensures.value back c.put.result
+    c.put.ensures.elsewhere c.put.ensures.ok)
 
 pub returns-clause-refused : goal.returns-clause-refused
 returns-clause-refused c =
     let at : c.args.addr < c.self.inside.addresses =
     column c.self.inside.cores c.self.inside.addresses c.self.inside.words.items c.args.addr
     (rw (← c.self.view_is) at c.requires.address) in
+    let last : List ℕ = (with_items c.self.inside.words c.put.new.words).items in
+    let back : last ≡ c.put.new.words =
+    with_items_is c.self.inside.words c.put.new.words (omega arith) in
     rw (← c.self.view_is)
     (answered_refused c.self.inside.cores c.self.inside.addresses c.args.addr c.self.inside.words.items
-    c.deref_mut.result.now c.put.new.words (with_items c.self.inside.words c.put.new.words).items
-    (λ (b : Block). row.put b c.args.core) at c.deref_mut.ensures.value
-    (with_items_is c.self.inside.words c.put.new.words (omega arith)) c.put.result c.put.ensures.refused)
+    c.deref_mut.result.now c.put.new.words last (λ (b : Block). row.put b c.args.core) at
+    c.deref_mut.ensures.value back c.put.result
+    c.put.ensures.refused)
 
 pub returns-clause-coherent : goal.returns-clause-coherent
 returns-clause-coherent c = λ k.
@@ -45,9 +51,11 @@ returns-clause-coherent c = λ k.
     let address : c.args.addr < length s.blocks = rw (← c.self.view_is) at c.requires.address in
     let at : c.args.addr < c.self.inside.addresses =
     column c.self.inside.cores c.self.inside.addresses c.self.inside.words.items c.args.addr address in
+    let last : List ℕ = (with_items c.self.inside.words c.put.new.words).items in
+    let back : last ≡ c.put.new.words =
+    with_items_is c.self.inside.words c.put.new.words (omega arith) in
     answered_kept c.self.inside.cores c.self.inside.addresses c.args.addr c.self.inside.words.items
-    c.deref_mut.result.now c.put.new.words (with_items c.self.inside.words c.put.new.words).items
-    (λ (b : Block). row.put b c.args.core) at c.deref_mut.ensures.value
-    (with_items_is c.self.inside.words c.put.new.words (omega arith)) c.put.result IsCoherent c.put.ensures.elsewhere c.put.ensures.ok
-    c.put.ensures.unchanged k0
+    c.deref_mut.result.now c.put.new.words last (λ (b : Block). row.put b c.args.core) at
+    c.deref_mut.ensures.value back c.put.result
+    IsCoherent c.put.ensures.elsewhere c.put.ensures.ok c.put.ensures.unchanged k0
     (λ t h. (put_kept s t c.args.core c.args.addr k0 core address h).coherent)

@@ -4,9 +4,9 @@ use Rattle.moesi.specs.State.{CacheState, line_of, write}
 use Rattle.moesi.specs.Coherent.{IsCoherent}
 use Rattle.moesi.specs.Packed.{caches_in}
 use Rattle.moesi.specs.CacheLaws.{write_kept}
-use Rattle.moesi.proofs.Places.{inside}
+use Rattle.moesi.proofs.Grid.{inside}
 use Rattle.moesi.proofs.Answered.{column}
-use Rattle.moesi.proofs.Written.{write_taken}
+use Rattle.moesi.proofs.Modified.{write_taken}
 use Rattle.moesi.proofs.caches.Caches.write.Goals as goal
 
 pub index_mut-requires : goal.index_mut-requires

@@ -10,10 +10,9 @@ use Rattle.std.proofs.lemmas.List.Edits.{map_over_more}
 use Rattle.std.proofs.Math.Seq.{take-length, drop-length}
 use Rattle.moesi.specs.declared.cell.Cell.{Cell}
 use Rattle.moesi.specs.Block.{Block, invalid}
-use Rattle.moesi.specs.State.{CacheState}
 use Rattle.moesi.specs.Words.{cell_in}
 use Rattle.moesi.specs.Packed.{AreWords, block_in, block_by, caches_in, StaysElsewhere}
-use Rattle.moesi.proofs.Places.{same_core, same_address, inside, lines_length, blocks_length, line_at}
+use Rattle.moesi.proofs.Grid.{same_core, same_address, inside, lines_length, blocks_length, line_at}
 
 -- equal functions make equal lists
 pub map_equal : {X Y : Type 0} (f g : X → Y) (xs : List X) → ((x : X) → f x ≡ g x) → map f xs ≡ map g xs

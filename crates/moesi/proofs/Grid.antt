@@ -1,12 +1,12 @@
 -- Places of words, and what is read there.
 use Rattle.std.proofs.Common.{◌≡◌, ◌<◌, ◌≤◌, ◌∷◌, ◌+◌, ◌*◌, ◌/◌, ◌%◌, ℕ, suc, List, length, drop, slice_index}
-use Rattle.std.proofs.Common.{slice_index_or, arith, refl, sym, ap, ◌∙◌}
+use Rattle.std.proofs.Common.{slice_index_or, arith, sym, ap, ◌∙◌}
 use Rattle.std.proofs.lemmas.List.FromFn.{get_or-map-range_with_len, length-map-range_with_len}
 use Rattle.std.proofs.lemmas.Nat.{div-mul-add, mod-mul-add}
 use Rattle.std.proofs.Math.Nat.{add-mul, mul-le-mul_right}
 use Rattle.std.proofs.Math.Seq.{drop-cons}
 use Rattle.moesi.specs.declared.cell.Cell.{Cell}
-use Rattle.moesi.specs.Block.{Block, invalid, cell_of}
+use Rattle.moesi.specs.Block.{Block, invalid}
 use Rattle.moesi.specs.State.{block_of}
 use Rattle.moesi.specs.Words.{cell_in}
 use Rattle.moesi.specs.Packed.{AreWords, block_in, caches_in}
@@ -25,6 +25,10 @@ pub inside : (cores n : ℕ) (words : List ℕ) (c a : ℕ) → AreWords cores n
 inside cores n words c a size core column =
     let more : (c + 1) * n ≤ (cores + 1) * n = mul-le-mul_right n (omega arith) in
     omega (arith, more, size, add-mul c 1 n)
+
+-- the place of the next core's word of the address
+pub next_place : (c n a p : ℕ) → p ≡ c * n + a → p + n ≡ (c + 1) * n + a
+next_place c n a p h = omega (arith, h, add-mul c 1 n)
 
 -- an address has a line for each core
 pub lines_length : (cores n : ℕ) (words : List ℕ) (a : ℕ) → length (block_in cores n words a).lines ≡ cores
