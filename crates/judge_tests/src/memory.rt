@@ -1,5 +1,6 @@
 //! Reading and judging where a growth may be refused: the usual answer, or none for want of memory and
-//! then the usual one. With ample memory each gives the usual answer; `bench/refuse_growths` refuses each growth in turn.
+//! then the usual one. With ample memory each gives the usual answer; `bench/refuse_growths` refuses
+//! each growth in turn.
 
 ghost use Rattle.std.specs.Prelude.{◌≤◌};
 ghost use Rattle.litmus.specs.declared.limits.TheConstants.{MAX_WORKERS};

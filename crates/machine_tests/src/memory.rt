@@ -1,5 +1,6 @@
 //! Threads where a growth may be refused: the usual end, or none for want of memory or of a thread, and
-//! then the usual one. With ample memory each run ends as usual; `bench/refuse_growths` refuses each growth in turn.
+//! then the usual one. With ample memory each run ends as usual; `bench/refuse_growths` refuses each
+//! growth in turn.
 
 use crate::runs::STORE_BUFFERING;
 use litmus::{LitmusError, OpenGate, parse};

@@ -1,5 +1,6 @@
-//! Campaigns where a growth may be refused: the usual ledger, or none for want of memory and then the usual one.
-//! With ample memory each gives the usual ledger; `bench/refuse_growths` refuses each growth in turn.
+//! Campaigns where a growth may be refused: the usual ledger, or none for want of memory and then the
+//! usual one. With ample memory each gives the usual ledger; `bench/refuse_growths` refuses each growth
+//! in turn.
 
 ghost use Rattle.std.specs.Prelude.{◌≤◌};
 ghost use Rattle.litmus.specs.declared.limits.TheConstants.{MAX_WORKERS};
