@@ -1,7 +1,7 @@
 //! What each fault makes of a program and a script, and the verdict on it.
 
+use crate::plain::{program, step};
 use judge::judge_alone;
-use litmus::parse;
 use machine::{Blocked, Fault, Machine, Step, parse_steps};
 use recorder::{Recording, write_recording};
 use report::verdict_text;
@@ -98,13 +98,8 @@ fn rows() -> &'static [Row] {
 }
 
 /// A machine that has run a script.
-fn machine_behind(
-    alloc: Global,
-    fault: Fault,
-    program: &str,
-    script: &str,
-) -> Result<Machine, Fail> {
-    let program = parse(alloc, program.as_bytes()).ok().ok_or("a program")?;
+fn machine_behind(alloc: Global, fault: Fault, text: &str, script: &str) -> Result<Machine, Fail> {
+    let program = program(alloc, text)?;
     let steps = parse_steps(alloc, script.as_bytes(), &program)
         .ok()
         .ok_or("a script")?;
@@ -143,7 +138,7 @@ fn no_stale_line_is_read_without_fault(rt: HostRuntime) -> Result<(), Fail> {
         MESSAGE_PASSING,
         MESSAGE_PASSING_STEPS,
     )?;
-    assert_eq!(rt; machine.step(Step::Exec(1)), Err(Blocked::B4));
+    assert_eq!(rt; step(&mut machine, Step::Exec(1)), Err(Blocked::B4));
     assert!(rt; machine.finish().is_err());
     Ok(())
 }

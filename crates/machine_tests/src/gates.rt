@@ -1,22 +1,13 @@
 //! Threads that a gate holds, and runs that come to no end.
 
-use crate::runs::STORE_BUFFERING;
-use litmus::{Gate, OpenGate, Program, parse};
+use crate::plain::{STORE_BUFFERING, program};
+use litmus::{Gate, OpenGate};
 use live::{LiveError, drive};
-use std::alloc::Global;
 use std::sync::atomic::{AtomicBool, Ordering};
 use std::test::*;
 use std::thread;
 
 const LIMIT: usize = 100_000;
-
-fn store_buffering(alloc: Global) -> Result<Program, Fail> {
-    Ok(
-        parse(alloc, STORE_BUFFERING.as_bytes())
-            .ok()
-            .ok_or("a program")?,
-    )
-}
 
 /// A core's first step is held until another core's was taken.
 #[derive(Drop)]
@@ -47,7 +38,7 @@ impl Gate for Held {
 
 #[test]
 fn a_core_waits_for_no_other(rt: HostRuntime) -> Result<(), Fail> {
-    let program = store_buffering(rt.alloc())?;
+    let program = program(rt.alloc(), STORE_BUFFERING)?;
     let gate = Held {
         taken: AtomicBool::new(false),
         seen: AtomicBool::new(false),
@@ -60,10 +51,10 @@ fn a_core_waits_for_no_other(rt: HostRuntime) -> Result<(), Fail> {
 
 #[test]
 fn a_full_trace_or_a_store_without_room_ends_a_run(rt: HostRuntime) -> Result<(), Fail> {
-    let short = store_buffering(rt.alloc())?;
+    let short = program(rt.alloc(), STORE_BUFFERING)?;
     let traced = drive(&rt, rt.alloc(), short, 8, 3, &OpenGate)?;
     assert_eq!(rt; traced.trace().len(), 3);
-    let roomless = store_buffering(rt.alloc())?;
+    let roomless = program(rt.alloc(), STORE_BUFFERING)?;
     let answer = drive(&rt, rt.alloc(), roomless, 0, LIMIT, &OpenGate);
     assert_eq!(rt; answer.err(), Some(LiveError::Stranger));
     Ok(())

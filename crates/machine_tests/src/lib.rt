@@ -12,6 +12,8 @@ mod lines;
 #[cfg(test)]
 mod memory;
 #[cfg(test)]
+mod plain;
+#[cfg(test)]
 mod runs;
 #[cfg(test)]
 mod scripts;

@@ -1,9 +1,59 @@
 //! Short lives of one address, a call a line.
-ghost use Rattle.std.specs.Prelude.{◌≡◌, length};
+ghost use Rattle.std.specs.Prelude.{◌≡◌, ◌<◌, length};
+ghost use Rattle.litmus.specs.declared.limits.TheConstants.{MAX_EVENTS};
 
+use litmus::{CoreId, EventId};
 use moesi::Line::{E, I, M, O, S};
 use moesi::{CacheError, Caches, Line};
 use std::test::Fail;
+
+// The calls at the first address, which say of the caches that their sizes stay, and no more, so that no
+// check works out what written numbers give.
+fn get_s(caches: &mut Caches, core: CoreId) -> Result<(), CacheError>
+    requires core { core < caches.old.cores }
+    requires address { 0 < length caches.old.blocks }
+    ensures cores { caches.new.cores ≡ caches.old.cores }
+    ensures addresses { length caches.new.blocks ≡ length caches.old.blocks }
+{
+    caches.get_s(core, 0)
+}
+
+fn get_m(caches: &mut Caches, core: CoreId) -> Result<(), CacheError>
+    requires core { core < caches.old.cores }
+    requires address { 0 < length caches.old.blocks }
+    ensures cores { caches.new.cores ≡ caches.old.cores }
+    ensures addresses { length caches.new.blocks ≡ length caches.old.blocks }
+{
+    caches.get_m(core, 0)
+}
+
+fn get_m_stale(caches: &mut Caches, core: CoreId) -> Result<(), CacheError>
+    requires core { core < caches.old.cores }
+    requires address { 0 < length caches.old.blocks }
+    ensures cores { caches.new.cores ≡ caches.old.cores }
+    ensures addresses { length caches.new.blocks ≡ length caches.old.blocks }
+{
+    caches.get_m_stale(core, 0)
+}
+
+fn put(caches: &mut Caches, core: CoreId) -> Result<(), CacheError>
+    requires core { core < caches.old.cores }
+    requires address { 0 < length caches.old.blocks }
+    ensures cores { caches.new.cores ≡ caches.old.cores }
+    ensures addresses { length caches.new.blocks ≡ length caches.old.blocks }
+{
+    caches.put(core, 0)
+}
+
+fn write(caches: &mut Caches, core: CoreId, value: u32, event: EventId) -> Result<(), CacheError>
+    requires core { core < caches.old.cores }
+    requires address { 0 < length caches.old.blocks }
+    requires event { event < MAX_EVENTS }
+    ensures cores { caches.new.cores ≡ caches.old.cores }
+    ensures addresses { length caches.new.blocks ≡ length caches.old.blocks }
+{
+    caches.write(core, 0, value, event)
+}
 
 /// Whether the lines of three cores are these.
 fn are_three(caches: &Caches, first: Line, second: Line, third: Line) -> bool
@@ -24,44 +74,44 @@ fn are(caches: &Caches, first: Line, second: Line) -> bool
 #[test]
 fn a_written_line_is_shared_and_put_back(rt: HostRuntime) -> Result<(), Fail> {
     let mut caches = Caches::new(rt.alloc(), 3, 1)?;
-    assert!(rt; caches.get_m(0, 0).is_ok() && caches.write(0, 0, 7, 0).is_ok());
+    assert!(rt; get_m(&mut caches, 0).is_ok() && write(&mut caches, 0, 7, 0).is_ok());
     assert!(rt; are_three(&caches, M, I, I));
-    assert!(rt; caches.get_s(1, 0).is_ok() && are_three(&caches, O, S, I));
-    assert!(rt; caches.put(0, 0).is_ok() && are_three(&caches, I, S, I));
+    assert!(rt; get_s(&mut caches, 1).is_ok() && are_three(&caches, O, S, I));
+    assert!(rt; put(&mut caches, 0).is_ok() && are_three(&caches, I, S, I));
     assert_eq!(rt; caches.memory(0), (7, Some(0)));
-    assert!(rt; caches.get_s(2, 0).is_ok() && are_three(&caches, I, S, S));
+    assert!(rt; get_s(&mut caches, 2).is_ok() && are_three(&caches, I, S, S));
     assert_eq!(rt; caches.read(2, 0), Ok((7, Some(0))));
-    assert_eq!(rt; caches.get_s(2, 0), Err(CacheError::C1));
+    assert_eq!(rt; get_s(&mut caches, 2), Err(CacheError::C1));
     Ok(())
 }
 
 #[test]
 fn an_owner_gives_its_line_away(rt: HostRuntime) -> Result<(), Fail> {
     let mut caches = Caches::new(rt.alloc(), 2, 1)?;
-    assert!(rt; caches.get_m(0, 0).is_ok() && caches.write(0, 0, 7, 0).is_ok());
-    assert!(rt; caches.get_s(1, 0).is_ok() && are(&caches, O, S));
-    assert!(rt; caches.get_m(1, 0).is_ok() && are(&caches, I, M));
+    assert!(rt; get_m(&mut caches, 0).is_ok() && write(&mut caches, 0, 7, 0).is_ok());
+    assert!(rt; get_s(&mut caches, 1).is_ok() && are(&caches, O, S));
+    assert!(rt; get_m(&mut caches, 1).is_ok() && are(&caches, I, M));
     assert_eq!(rt; caches.read(1, 0), Ok((7, Some(0))));
     assert_eq!(rt; caches.memory(0), (0, None));
-    assert!(rt; caches.put(1, 0).is_ok() && are(&caches, I, I));
+    assert!(rt; put(&mut caches, 1).is_ok() && are(&caches, I, I));
     assert_eq!(rt; caches.memory(0), (7, Some(0)));
-    assert!(rt; caches.get_s(0, 0).is_ok() && are(&caches, E, I));
-    assert!(rt; caches.write(0, 0, 8, 1).is_ok() && are(&caches, M, I));
-    assert_eq!(rt; caches.get_m(0, 0), Err(CacheError::C2));
+    assert!(rt; get_s(&mut caches, 0).is_ok() && are(&caches, E, I));
+    assert!(rt; write(&mut caches, 0, 8, 1).is_ok() && are(&caches, M, I));
+    assert_eq!(rt; get_m(&mut caches, 0), Err(CacheError::C2));
     assert_eq!(rt; caches.read(1, 0), Err(CacheError::C3));
-    assert_eq!(rt; caches.write(1, 0, 9, 2), Err(CacheError::C4));
+    assert_eq!(rt; write(&mut caches, 1, 9, 2), Err(CacheError::C4));
     Ok(())
 }
 
 #[test]
 fn a_stale_line_keeps_its_old_data(rt: HostRuntime) -> Result<(), Fail> {
     let mut caches = Caches::new(rt.alloc(), 3, 1)?;
-    assert!(rt; caches.get_s(0, 0).is_ok() && caches.get_s(1, 0).is_ok());
+    assert!(rt; get_s(&mut caches, 0).is_ok() && get_s(&mut caches, 1).is_ok());
     assert!(rt; are_three(&caches, S, S, I));
-    assert!(rt; caches.get_m_stale(0, 0).is_ok() && caches.write(0, 0, 7, 0).is_ok());
+    assert!(rt; get_m_stale(&mut caches, 0).is_ok() && write(&mut caches, 0, 7, 0).is_ok());
     assert!(rt; are_three(&caches, M, S, I));
-    assert_eq!(rt; caches.get_m_stale(0, 0), Err(CacheError::C2));
-    assert!(rt; caches.get_s(2, 0).is_ok() && are_three(&caches, O, S, S));
+    assert_eq!(rt; get_m_stale(&mut caches, 0), Err(CacheError::C2));
+    assert!(rt; get_s(&mut caches, 2).is_ok() && are_three(&caches, O, S, S));
     assert_eq!(rt; caches.read(1, 0), Ok((0, None)));
     assert_eq!(rt; caches.read(2, 0), Ok((7, Some(0))));
     Ok(())

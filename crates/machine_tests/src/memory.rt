@@ -2,7 +2,7 @@
 //! then the usual one. With ample memory each run ends as usual; `bench/refuse_growths` refuses each
 //! growth in turn.
 
-use crate::runs::STORE_BUFFERING;
+use crate::plain::STORE_BUFFERING;
 use litmus::{LitmusError, OpenGate, parse};
 use live::{LiveError, drive};
 use order::check;
@@ -11,9 +11,9 @@ use std::sync::Wait;
 use std::test::Fail;
 use std::thread::Threads;
 
-/// Whether threads drive store buffering to its end, in an order of TSO; none where memory or a thread is wanting.
-fn is_usual<R: Threads + Wait + Sync>(rt: &R, alloc: Global) -> Option<bool> {
-    let program = match parse(alloc, STORE_BUFFERING.as_bytes()) {
+/// Whether threads drive a program to its end, in an order of TSO; none where memory or a thread is wanting.
+fn is_usual<R: Threads + Wait + Sync>(rt: &R, alloc: Global, text: &str) -> Option<bool> {
+    let program = match parse(alloc, text.as_bytes()) {
         Ok(program) => program,
         Err(LitmusError::OutOfMemory) => return None,
         Err(_) => return Some(false),
@@ -34,8 +34,8 @@ fn is_usual<R: Threads + Wait + Sync>(rt: &R, alloc: Global) -> Option<bool> {
 
 #[test]
 fn a_run_by_threads_or_no_memory(rt: HostRuntime) -> Result<(), Fail> {
-    let first = is_usual(&rt, rt.alloc());
-    let second = is_usual(&rt, rt.alloc());
+    let first = is_usual(&rt, rt.alloc(), STORE_BUFFERING);
+    let second = is_usual(&rt, rt.alloc(), STORE_BUFFERING);
     assert!(rt; first != Some(false) && second != Some(false));
     assert!(rt; first.is_some() || second.is_some());
     Ok(())

@@ -1,6 +1,7 @@
 //! What a gate is told, and who takes the steps.
 
-use litmus::{EventId, Gate, OpenGate, Program, parse};
+use crate::plain::program;
+use litmus::{EventId, Gate, OpenGate};
 use live::drive;
 use machine::Step;
 use recorder::Event;
@@ -18,10 +19,6 @@ const THREE: &str = "core\nst x 1\nld y\nld x\ncore\ncore\nadd x 2\nst y 3\n";
 
 /// A core that writes, and one that reads.
 const WRITE_AND_READ: &str = "core\nswap x 1\ncore\nld x\n";
-
-fn program(alloc: Global, text: &str) -> Result<Program, Fail> {
-    Ok(parse(alloc, text.as_bytes()).ok().ok_or("a program")?)
-}
 
 /// Whether a flag is set within some time.
 fn comes(flag: &AtomicBool) -> bool {

@@ -3,7 +3,8 @@
 use litmus::{Gate, OpenGate, Shape};
 use machine::Fault;
 use report::campaign_text;
-use std::sync::atomic::{AtomicU64, Ordering};
+use std::alloc::Global;
+use std::sync::atomic::{AtomicBool, AtomicU64, Ordering};
 use std::test::Fail;
 use std::thread;
 use trials::{Campaign, Ledger, run_campaign};
@@ -37,35 +38,80 @@ fn a_ledger_counts_codes(rt: HostRuntime) -> Result<(), Fail> {
     Ok(())
 }
 
-// Counts what is found.
+// What was told of each trial, by worker w of two: 1 + w that it begins, 2 more that it is a violation, 4
+// more that it is done.
 #[derive(Drop)]
-struct Found {
-    count: AtomicU64,
+struct Told {
+    trials: Vec<AtomicU64>,
+    others: AtomicBool,
 }
 
-impl Gate for Found {
-    fn begin(&self, _worker: usize, _trial: usize) {}
-
-    fn done(&self, _worker: usize, _trial: usize) {}
-
-    fn found(&self, worker: usize, trial: usize) {
-        if worker < 2 && trial < 64 {
-            self.count.fetch_add(1, Ordering::SeqCst);
-        }
+// What worker w adds to begin.
+fn mark(worker: usize) -> u64 {
+    match worker {
+        0 => 1,
+        1 => 2,
+        _ => 100,
     }
 }
 
+impl Told {
+    // A call adds to what was told of a trial before, which has to be one of these two.
+    fn add(&self, trial: usize, more: u64, either: u64, or: u64) {
+        let before = match self.trials.get(trial) {
+            Some(told) => told.fetch_add(more, Ordering::SeqCst),
+            None => 1000,
+        };
+        if before != either && before != or {
+            self.others.store(true, Ordering::SeqCst);
+        }
+    }
+
+    // How many trials were told of by numbers in these bounds.
+    fn count(&self, least: u64, most: u64) -> usize {
+        self.trials
+            .iter()
+            .filter(|told| (least..=most).contains(&told.load(Ordering::SeqCst)))
+            .count()
+    }
+}
+
+impl Gate for Told {
+    fn begin(&self, worker: usize, trial: usize) {
+        self.add(trial, mark(worker), 0, 0);
+    }
+
+    fn found(&self, worker: usize, trial: usize) {
+        self.add(trial, 2, mark(worker), mark(worker));
+    }
+
+    fn done(&self, worker: usize, trial: usize) {
+        self.add(trial, 4, mark(worker), mark(worker).wrapping_add(2));
+    }
+}
+
+fn told_of(alloc: Global, trials: usize) -> Result<Told, Fail> {
+    let mut told = Vec::new(alloc);
+    for _ in 0..trials {
+        told.push(AtomicU64::new(0))?;
+    }
+    Ok(Told {
+        trials: told,
+        others: AtomicBool::new(false),
+    })
+}
+
 #[test]
-fn a_gate_is_told_of_each_violation(rt: HostRuntime) -> Result<(), Fail> {
+fn each_trial_begins_once_and_is_done_once_by_one_worker(rt: HostRuntime) -> Result<(), Fail> {
     let faulty = campaign((2, 4, 2), 64, 100_000, Fault::NoBypass)?;
-    let gate = Found {
-        count: AtomicU64::new(0),
-    };
+    let gate = told_of(rt.alloc(), 64)?;
     let ledger = run_campaign(&rt, rt.alloc(), &faulty, 2, &gate)
         .ok()
         .ok_or("memory")?;
+    assert!(rt; !gate.others.load(Ordering::SeqCst));
+    assert_eq!(rt; gate.count(5, 8), 64);
+    assert_eq!(rt; gate.count(7, 8), 17);
     assert_eq!(rt; ledger.overlook, 17);
-    assert_eq!(rt; gate.count.load(Ordering::SeqCst), 17);
     Ok(())
 }
 

@@ -4,18 +4,25 @@ ghost use Rattle.std.specs.Prelude.{◌<◌};
 
 use crate::campaigns::campaign;
 use judge::{Verdict, judge_alone};
-use litmus::print;
+use litmus::{EventId, print};
 use machine::Fault;
 use recorder::Recording;
 use std::alloc::Global;
 use std::test::Fail;
 use trials::{CYCLE, Campaign, LOAD, ORDERED, OVERLOOK, UNFINISHED, reproduce, trial};
 
+/// The code of an overlook.
+fn overlook_code(load: EventId, store: EventId) -> u64 {
+    OVERLOOK
+        .wrapping_add(LOAD.wrapping_mul(load as u64))
+        .wrapping_add(store as u64)
+}
+
 /// The code of the verdict on a recording.
 fn code_of(alloc: Global, recording: &Recording) -> Result<u64, Fail> {
     match judge_alone(alloc, recording) {
         Ok(Verdict::Ordered(_)) => Ok(ORDERED),
-        Ok(Verdict::Overlook { load, store }) => Ok(OVERLOOK + LOAD * load as u64 + store as u64),
+        Ok(Verdict::Overlook { load, store }) => { Ok(overlook_code(load, store)) }
         Ok(Verdict::Cycle(certificate)) => Ok(CYCLE.wrapping_add(certificate.cycle.len() as u64)),
         Err(_) => Err("memory")?,
     }

@@ -1,0 +1,25 @@
+//! Calls that say nothing of what they answer, so that no check works out what a written text or step
+//! gives.
+
+use litmus::{Program, parse};
+use machine::{Blocked, Machine, Step};
+use std::alloc::Global;
+use std::test::Fail;
+
+/// Store buffering.
+pub const STORE_BUFFERING: &str = "core\nst x 1\nld y\ncore\nst y 1\nld x\n";
+
+/// The program of a text.
+pub fn program(alloc: Global, text: &str) -> Result<Program, Fail> {
+    Ok(parse(alloc, text.as_bytes()).ok().ok_or("a program")?)
+}
+
+/// Takes a step.
+pub fn step(machine: &mut Machine, step: Step) -> Result<(), Blocked> {
+    machine.step(step)
+}
+
+/// Runs steps.
+pub fn run(machine: &mut Machine, steps: &[Step]) {
+    machine.run(steps);
+}
