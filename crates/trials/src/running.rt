@@ -1,12 +1,15 @@
 //! Random runs.
 
-ghost use Rattle.std.specs.Prelude.{◌≡◌};
-ghost use Rattle.trials.specs.Schedule.{IsRandomRun};
+ghost use Rattle.std.specs.Prelude.{◌≡◌, ◌≤◌, length};
+ghost use Rattle.trials.specs.Schedule.{IsRandomRun, step_count};
 
-use crate::schedule::{MOST_STEPS, fill, step_of_word, steps_divisor};
+use crate::schedule::{MOST_STEPS, fill, step_count, step_of_word, steps_divisor};
 use machine::{Machine, Step};
 use rand_core::utils::NextWord;
 use rand_xoshiro::Xoshiro256PlusPlus;
+
+/// A machine of no more steps is small, and a table of so many is enough for it.
+const FEW_STEPS: usize = 64;
 
 /// Attempts so many steps at most, each named by the next word of the generator, until the machine is
 /// complete; a blocked attempt counts. It can't fail for want of memory.
@@ -15,14 +18,28 @@ pub fn run_seeded(machine: &mut Machine, rng: &mut Xoshiro256PlusPlus, attempts:
 {
     let cores = machine.program().cores();
     let addresses = machine.program().names().len();
-    let mut table = [Step::Exec(0); MOST_STEPS];
-    fill(cores, addresses, &mut table);
+    if step_count(cores, addresses) <= FEW_STEPS {
+        run_by(&mut [Step::Exec(0); FEW_STEPS], machine, rng, attempts);
+    } else {
+        run_by(&mut [Step::Exec(0); MOST_STEPS], machine, rng, attempts);
+    }
+}
+
+/// The same, with a table that has room for the machine's steps.
+fn run_by(table: &mut [Step], machine: &mut Machine, rng: &mut Xoshiro256PlusPlus, attempts: usize)
+    requires room { step_count (length machine.old.program.cores) (length machine.old.program.names)
+        ≤ length table.old }
+    ensures { IsRandomRun attempts machine.old rng.old machine.new rng.new }
+{
+    let cores = machine.program().cores();
+    let addresses = machine.program().names().len();
+    fill(cores, addresses, table);
     let count = steps_divisor(cores, addresses);
     'attempts: for _taken in 0..attempts {
         if machine.is_complete() {
             return;
         }
-        let step = step_of_word(cores, addresses, &table, count, rng.next_word());
+        let step = step_of_word(cores, addresses, table, count, rng.next_word());
         machine.run(&[step]);
     }
 }

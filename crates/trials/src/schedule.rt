@@ -12,7 +12,7 @@ pub(crate) const MOST_STEPS: usize = 2 * MAX_CORES + 3 * MAX_CORES * MAX_ADDRESS
 
 /// How many steps a machine has.
 #[tactic(auto, using(crate::proofs::Lines::few_lines))]
-fn step_count(cores: usize, addresses: usize) -> usize
+pub(crate) fn step_count(cores: usize, addresses: usize) -> usize
     requires few { (cores ≤ MAX_CORES) × (addresses ≤ MAX_ADDRESSES) }
     ensures { result ≡ step_count cores addresses }
 {

@@ -2,7 +2,7 @@ use Rattle.std.proofs.Common.{◌≡◌, ◌<◌, ◌≤◌, ℕ}
 use Rattle.litmus.specs.Random.{after_words}
 use Rattle.machine.specs.Configuration.{IsAtEnd}
 use Rattle.trials.specs.Schedule.{configuration_behind}
-use Rattle.trials.proofs.running.run_seeded.Given as goal
+use Rattle.trials.proofs.running.run_by.Given as goal
 
 -- so many attempts were made, and the machine was never complete before one
 abbrev pub invariant-attempts : goal.invariant-attempts

@@ -11,7 +11,7 @@ use Rattle.machine.specs.Configuration.{Configuration, IsAtEnd}
 use Rattle.trials.specs.Judged.{ran}
 use Rattle.trials.specs.Schedule.{configuration_behind, step_of_word}
 use Rattle.trials.proofs.RandomRuns.{after_more, behind_more}
-use Rattle.trials.proofs.running.run_seeded.Goals as goal
+use Rattle.trials.proofs.running.run_by.Goals as goal
 
 pub attempts-init : goal.attempts-init
 unfolding first_words
