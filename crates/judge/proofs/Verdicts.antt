@@ -21,7 +21,7 @@ module _ (x : Execution) (t : Table) (related : Agree (Related t) (Forced x))
   least_order agree s same m least =
       let here : IsLeastOrder (Related t) (length t) m =
       subst (λ (u : Table). IsLeastOrder (Related u) (length u) m) same least in
-      agree related (event_count x) m (subst (λ (n : ℕ). IsLeastOrder (Related t) n m) size here)
+      (agree related (event_count x) m).0 (subst (λ (n : ℕ). IsLeastOrder (Related t) n m) size here)
 
   -- the certificate of the same table
   same_certificate : (s : Table) → s ≡ t → (c : Certificate) → IsLeastCertificate s c → IsLeastCertificate t c
@@ -30,14 +30,15 @@ module _ (x : Execution) (t : Table) (related : Agree (Related t) (Forced x))
   -- the first of the shortest cycles
   pub least_cycle : LeastCyclesAgree (Related t) (Forced x) → (s : Table) → s ≡ t → (c : Certificate)
       → IsLeastCertificate s c → IsLeastCycle (Forced x) c.cycle.items
-  least_cycle agree s same c least = agree related c.cycle.items (same_certificate s same c least).least
+  least_cycle agree s same c least =
+      (agree related c.cycle.items).0 (same_certificate s same c least).least
 
   -- the distances
   pub exact_rows : ExactRowsAgree (Related t) (Forced x) → (s : Table) → s ≡ t → (c : Certificate)
       → IsLeastCertificate s c
       → AreExactRows (Forced x) (event_count x) (length c.cycle.items) (lists_of c.rows.items)
   exact_rows agree s same c least =
-      agree related (event_count x) (length c.cycle.items) (lists_of c.rows.items)
+      (agree related (event_count x) (length c.cycle.items) (lists_of c.rows.items)).0
       (subst (λ (n : ℕ). AreExactRows (Related t) n (length c.cycle.items) (lists_of c.rows.items)) size
       (same_certificate s same c least).exact)
 

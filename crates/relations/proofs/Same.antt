@@ -1,7 +1,8 @@
 -- Relations with the same pairs have the same cycles, distances and first order.
 use Rattle.std.proofs.Common.{ℕ, zero, suc, List, [], ◌∷◌}
 use Rattle.relations.specs.Cycle.{Leads, IsCycle, IsShortest, Walk, IsCappedDistance, IsExactRow, IsLabelling}
-use Rattle.relations.specs.Cycle.{IsCertificate}
+use Rattle.relations.specs.Cycle.{IsLeastCycle, AreExactRows, IsCertificate}
+use Rattle.relations.specs.Respects.{IsLeastOrder}
 use Rattle.relations.specs.Laws.{Agree, LeastOrdersAgree, CyclesAgree, LeastCyclesAgree, ExactRowsAgree}
 use Rattle.relations.specs.Laws.{CertificatesAgree}
 
@@ -23,9 +24,14 @@ cycles_agree R S same c = (
   cycle_into S R (λ e f s. (same e f).1 s) c,
 )
 
--- they have the same first order
-pub least_agree : (R S : ℕ → ℕ → Type 0) → LeastOrdersAgree R S
-least_agree R S same n m l = record {
+-- they have the same pairs, the other way round
+turned : (R S : ℕ → ℕ → Type 0) → Agree R S → Agree S R
+turned R S same e f = ((same e f).1, (same e f).0)
+
+-- the first order of the one is that of the other
+least_into : (R S : ℕ → ℕ → Type 0) → Agree R S → (n : ℕ) (m : List ℕ) → IsLeastOrder R n m
+    → IsLeastOrder S n m
+least_into R S same n m l = record {
   respects = record { total = l.respects.total; related = λ e f s. l.respects.related e f ((same e f).1 s) };
   least = λ other r. l.least other (record {
     total = r.total;
@@ -34,6 +40,10 @@ least_agree R S same n m l = record {
   });
 }
 
+-- they have the same first order
+pub least_agree : (R S : ℕ → ℕ → Type 0) → LeastOrdersAgree R S
+least_agree R S same n m = (least_into R S same n m, least_into S R (turned R S same) n m)
+
 -- a shortest cycle of the one is one of the other
 shortest_into : (R S : ℕ → ℕ → Type 0) → Agree R S → (c : List ℕ) → IsShortest R c → IsShortest S c
 shortest_into R S same c s = record {
@@ -41,16 +51,16 @@ shortest_into R S same c s = record {
   shortest = λ d cycle. s.shortest d ((cycles_agree R S same d).1 cycle);
 }
 
--- they have the same pairs, the other way round
-turned : (R S : ℕ → ℕ → Type 0) → Agree R S → Agree S R
-turned R S same e f = ((same e f).1, (same e f).0)
-
--- they have the same first of their shortest cycles
-pub least_cycles_agree : (R S : ℕ → ℕ → Type 0) → LeastCyclesAgree R S
-least_cycles_agree R S same c l = record {
+-- the first shortest cycle of the one is that of the other
+least_cycle_into : (R S : ℕ → ℕ → Type 0) → Agree R S → (c : List ℕ) → IsLeastCycle R c → IsLeastCycle S c
+least_cycle_into R S same c l = record {
   shortest = shortest_into R S same c l.shortest;
   least = λ d s. l.least d (shortest_into S R (turned R S same) d s);
 }
+
+-- they have the same first of their shortest cycles
+pub least_cycles_agree : (R S : ℕ → ℕ → Type 0) → LeastCyclesAgree R S
+least_cycles_agree R S same c = (least_cycle_into R S same c, least_cycle_into S R (turned R S same) c)
 
 -- steps of the one are steps of the other
 walk_into : (R S : ℕ → ℕ → Type 0) → Agree R S → (n e f : ℕ) → Walk R n e f → Walk S n e f
@@ -66,15 +76,23 @@ distance_into R S same k e f n d = record {
   least = λ j w. d.least j (walk_into S R (turned R S same) j e f w);
 }
 
--- they have the same distances
-pub exact_rows_agree : (R S : ℕ → ℕ → Type 0) → ExactRowsAgree R S
-exact_rows_agree R S same n k rows exact = record {
+-- distances of the one are those of the other
+rows_into : (R S : ℕ → ℕ → Type 0) → Agree R S → (n k : ℕ) (rows : List (List ℕ)) → AreExactRows R n k rows
+    → AreExactRows S n k rows
+rows_into R S same n k rows exact = record {
   one_each = exact.one_each;
   exact = λ v low. let row : IsExactRow R n k v _ = exact.exact v low in record {
     one_each = row.one_each;
     labels = λ e here. distance_into R S same k v e _ (row.labels e here);
   };
 }
+
+-- they have the same distances
+pub exact_rows_agree : (R S : ℕ → ℕ → Type 0) → ExactRowsAgree R S
+exact_rows_agree R S same n k rows = (
+  rows_into R S same n k rows,
+  rows_into S R (turned R S same) n k rows,
+)
 
 -- labels of the one are labels of the other
 labelling_into : (R S : ℕ → ℕ → Type 0) → Agree R S → (k n v : ℕ) (labels : List ℕ)

@@ -7,8 +7,8 @@ ghost use Rattle.relations.specs.Laws.{EveryOrderRespects, EveryRespectingIsOrde
 ghost use Rattle.relations.specs.Laws.{LeastOrdersAgree, CyclesAgree, LeastCyclesAgree, ExactRowsAgree};
 ghost use Rattle.relations.specs.Laws.{CertificatesAgree};
 
-/// Every memory order of TSO has the forced pairs in order, and where no read overlooks a store of
-/// its own core, every order that has them in order is one of TSO.
+/// In a well-formed execution every memory order of TSO has the forced pairs in order, and where no
+/// read overlooks a store of its own core, every order that has them in order is one of TSO.
 pub fn forced_is_exact()
     ensures respects { (x : Execution) → EveryOrderRespects x }
     ensures enough { (x : Execution) → EveryRespectingIsOrder x }
@@ -20,7 +20,8 @@ pub fn ordered_is_acyclic()
     ensures related { (t : Table) → OrderedIsAcyclic (Related t) }
 {}
 
-/// A table with the forced pairs has their least order, cycles, distances and certificates.
+/// A table with the forced pairs has their least order, cycles, first shortest cycle, distances and
+/// certificates.
 pub fn relation_is_forced()
     ensures least { (t : Table) (x : Execution) → LeastOrdersAgree (Related t) (Forced x) }
     ensures cycles { (t : Table) (x : Execution) → CyclesAgree (Related t) (Forced x) }

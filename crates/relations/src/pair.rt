@@ -10,8 +10,8 @@ use litmus::EventId;
 use recorder::{Recording, place};
 
 /// The first reason for one event before another, without a table of all pairs; none where there is
-/// none, and for a number that names no event. It can't fail for want of memory; its time is linear
-/// in the lengths of the write lists of their addresses.
+/// none, and for a number that names no event. It can't fail for want of memory. No clause says its
+/// time: it is linear in the lengths of the write lists of their addresses.
 pub fn first_reason(recording: &Recording, first: EventId, second: EventId) -> Option<Reason>
     ensures { IsReason recording.now first second result }
 {
@@ -29,8 +29,8 @@ pub fn first_reason(recording: &Recording, first: EventId, second: EventId) -> O
 /// Whether a read overlooks a store of its own core, which coherence forbids (CoWR; Nagarajan,
 /// Sorin, Hill and Wood, A Primer on Memory Consistency and Cache Coherence, second edition, chapter
 /// 4); false for numbers that name no such events.
-/// It can't fail for want of memory; its time is linear in the length of the write list of the read's
-/// address.
+/// It can't fail for want of memory. No clause says its time: it is linear in the length of the write
+/// list of the read's address.
 pub fn is_overlook(recording: &Recording, load: EventId, store: EventId) -> bool
     ensures { IsTrue result ↔ Overlooks recording.now load store }
 {

@@ -37,7 +37,7 @@ impl Relation {
     ghost use Rattle.relations.specs.Sets.{AreSetsOf};
 
     /// The forced pairs of a recording (Nagarajan, Sorin, Hill and Wood, A Primer on Memory
-    /// Consistency and Cache Coherence, second edition, chapter 4).
+    /// Consistency and Cache Coherence, second edition, chapter 4). An `Err` is want of memory.
     pub fn of(alloc: Global, recording: &Recording) -> Result<Relation, OutOfMemory>
         ensures table { IfOk result (λ r. IsTableOf recording.now r) }
         ensures related { IfOk result (λ r. (e f : ℕ) → Related r e f ↔ Forced recording.now e f) }
