@@ -1,6 +1,7 @@
 //! The answer to the bytes of a recording.
 
 ghost use Rattle.std.specs.Prelude.{◌≡◌, ◌≢◌, ◌≤◌, true, Err, IfErr, IfOk, OnOk};
+ghost use Rattle.std.specs.Io.KnownBytes.{IsAtEnd};
 ghost use Rattle.report.specs.declared.outcomes.ReportError.{ReportError};
 ghost use Rattle.report.specs.Answer.{IsAnswerBegun, IsAnswerText, IsWholeAnswer, outcome_of};
 ghost use Rattle.report.specs.Devices.{CanGrow, CountsReads, CountsWrites};
@@ -69,6 +70,7 @@ pub fn answer<T: Threads + Wait + Sync, R: Source, W: Sink, G: Gate>(
     ensures whole { IfOk result (IsWholeAnswer (R.left source.old) (R.left source.new)
         (W.written sink.old) (W.written sink.new)) }
     ensures met { OnOk result (R.is_ended source.new ≡ true) }
+    ensures all { OnOk result (IsAtEnd (R.left source.new)) }
     ensures read_count { CountsReads (R.read_failures source.old) (R.read_failures source.new) result }
     ensures write_count { CountsWrites (W.write_failures sink.old) (W.write_failures sink.new) result }
     ensures begun { result ≡ Err ReportError.WriteFailed → IsAnswerBegun (R.left source.old)

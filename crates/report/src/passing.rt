@@ -1,7 +1,7 @@
 //! Whole texts from sources and to sinks.
 
 ghost use Rattle.std.specs.Prelude.{◌≡◌, ◌≢◌, ◌<◌, ℕ, true, IfErr, IfOk, OnErr, OnOk, length, take};
-ghost use Rattle.std.specs.Io.KnownBytes.{Appends, Consumes};
+ghost use Rattle.std.specs.Io.KnownBytes.{Appends, Consumes, IsAtEnd};
 ghost use Rattle.report.specs.declared.outcomes.ReportError.{ReportError};
 ghost use Rattle.report.specs.Devices.{CanGrow, Counts, CountsReads, Gathers};
 
@@ -25,6 +25,7 @@ fn gather<R: Source>(
         bytes.old.items bytes.new.items) }
     ensures more { IfOk result (λ more. more ≡ true → length bytes.old.items < length bytes.new.items) }
     ensures met { IfOk result (λ more. more ≢ true → R.is_ended source.new ≡ true) }
+    ensures all { IfOk result (λ more. more ≢ true → IsAtEnd (R.left source.new)) }
     ensures count { CountsReads (R.read_failures source.old) (R.read_failures source.new) result }
     ensures err { IfErr result (λ e. e ≢ ReportError.WriteFailed) }
 {
@@ -50,6 +51,7 @@ fn gather_all<R: Source>(
     ensures gathered { OnOk result (Gathers (R.left source.old) (R.left source.new)
         bytes.old.items bytes.new.items) }
     ensures met { OnOk result (R.is_ended source.new ≡ true) }
+    ensures all { OnOk result (IsAtEnd (R.left source.new)) }
     ensures count { CountsReads (R.read_failures source.old) (R.read_failures source.new) result }
     ensures err { IfErr result (λ e. e ≢ ReportError.WriteFailed) }
 {
@@ -62,6 +64,7 @@ pub(crate) fn read_all<R: Source>(alloc: Global, source: &mut R) -> Result<Vec<u
     requires { CanGrow (R.read_failures source.old) }
     ensures ok { IfOk result (λ bytes. Consumes (R.left source.old) (R.left source.new) bytes.items) }
     ensures met { OnOk result (R.is_ended source.new ≡ true) }
+    ensures all { OnOk result (IsAtEnd (R.left source.new)) }
     ensures count { CountsReads (R.read_failures source.old) (R.read_failures source.new) result }
     ensures err { IfErr result (λ e. e ≢ ReportError.WriteFailed) }
 {
