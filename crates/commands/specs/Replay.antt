@@ -23,11 +23,16 @@ use Rattle.commands.specs.Inputs.{AreBytesOf, IsInputFault}
 use Rattle.commands.specs.Judge.{IsUnread}
 use Rattle.answers.specs.Verdict.{IsVerdictAnswer}
 
+-- a capacity, the text of a program and a script, with an empty line between them
+abbrev pub parts_text : ℕ → List ℕ → List ℕ → List ℕ
+parts_text capacity program script =
+    codes "buffer " ++ decimal capacity ++ 10 ∷ 10 ∷ [] ++ program ++ 10 ∷ [] ++ script
+
 -- the capacity, the program and the script that replay an order, as they are printed
 abbrev pub replay_text : Execution → List ℕ → List ℕ
 replay_text x m =
-    codes "buffer " ++ decimal (most_stores x.cores) ++ 10 ∷ 10 ∷ [] ++ spelling (named_program x) ++ 10 ∷ []
-    ++ script_text (named_program x) (replay_steps x m)
+    parts_text (most_stores x.cores) (spelling (named_program x))
+    (script_text (named_program x) (replay_steps x m))
 
 -- the printed program is read as the program, and the printed script for it as the steps
 pub record IsReadBack (x : Execution) (m : List ℕ) : Type 0 where

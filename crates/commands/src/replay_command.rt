@@ -4,7 +4,7 @@ ghost use Rattle.judge.specs.Verdict.{IsVerdict, Verifies};
 ghost use Rattle.recorder.specs.Tso.{IsTsoOrder};
 ghost use Rattle.replay.specs.Numbered.{IsNumberedByFirstUse};
 ghost use Rattle.commands.specs.Replay.{IsReadBack, IsReplayed, IsReplayedInput, IsReplayOf, IsReplayStop};
-ghost use Rattle.commands.specs.Replay.{IsUnreplayed, replay_text};
+ghost use Rattle.commands.specs.Replay.{IsUnreplayed, parts_text, replay_text};
 
 use crate::judge_command::unread;
 use crate::place::Place;
@@ -19,6 +19,26 @@ use machine::steps_text;
 use recorder::{Recording, read_recording};
 use replay::{every_order_is_replayed, is_numbered, most_stores, replay_steps};
 use std::alloc::Global;
+
+/// A capacity, the text of a program and a script, with an empty line between them.
+fn parts_text(
+    alloc: Global,
+    capacity: usize,
+    program: &[u8],
+    script: &[u8],
+) -> Result<Vec<u8>, OutOfMemory>
+    ensures { IfOk result (λ text. text.items ≡ parts_text capacity program.now script.now) }
+{
+    let mut buffer = Buffer::new();
+    let mut text = Vec::new(alloc);
+    text.extend_from_slice(b"buffer ")?;
+    text.extend_from_slice(buffer.format(capacity).as_bytes())?;
+    text.extend_from_slice(b"\n\n")?;
+    text.extend_from_slice(program)?;
+    text.push(b'\n')?;
+    text.extend_from_slice(script)?;
+    Ok(text)
+}
 
 /// The capacity, the program and the script that replay a TSO order.
 fn replay_text(
@@ -35,17 +55,9 @@ fn replay_text(
     has_one_text();
     let (program, steps) = replay_steps(alloc, recording, order)?;
     program.sound();
-    let program_text = print(alloc, &program)?;
+    let text = print(alloc, &program)?;
     let script = steps_text(alloc, &steps, &program)?;
-    let mut buffer = Buffer::new();
-    let mut text = Vec::new(alloc);
-    text.extend_from_slice(b"buffer ")?;
-    text.extend_from_slice(buffer.format(most_stores(recording)).as_bytes())?;
-    text.extend_from_slice(b"\n\n")?;
-    text.extend_from_slice(&program_text)?;
-    text.push(b'\n')?;
-    text.extend_from_slice(&script)?;
-    Ok(text)
+    parts_text(alloc, most_stores(recording), &text, &script)
 }
 
 /// The replay of the least order of a recording, or the verdict on a violation.
