@@ -3,8 +3,11 @@ use Rattle.std.specs.Prelude.{◌≡◌, ◌++◌, ℕ, List, Option, codes, dec
 use Rattle.clap.specs.declared.builder.arg.Arg.{Arg}
 use Rattle.litmus.specs.declared.limits.TheConstants.{MAX_ADDRESSES, MAX_CAPACITY, MAX_CORES, MAX_EVENTS}
 use Rattle.litmus.specs.declared.limits.TheConstants.{MAX_STEPS, MAX_TRIALS, MAX_WORKERS}
-use Rattle.command_line.specs.declared.options.TheConstants.{DEFAULT_ATTEMPTS, DEFAULT_BUFFER, DEFAULT_LIMIT}
-use Rattle.command_line.specs.declared.options.TheConstants.{DEFAULT_SEED, DEFAULT_TRIALS, DEFAULT_WORKERS}
+use Rattle.machine.specs.declared.fault.Fault.{Fault}
+use Rattle.machine.specs.declared.fault.Fault.TheVariants as fault
+use Rattle.command_line.specs.declared.options.TheConstants.{DEFAULT_ATTEMPTS, DEFAULT_BUFFER, DEFAULT_FAULT}
+use Rattle.command_line.specs.declared.options.TheConstants.{DEFAULT_LIMIT, DEFAULT_SEED, DEFAULT_TRIALS}
+use Rattle.command_line.specs.declared.options.TheConstants.{DEFAULT_WORKERS}
 
 -- --steps
 abbrev pub steps_text : List ℕ
@@ -18,7 +21,7 @@ seed_text = codes "The seed of what is random, any number of 64 bits [default: "
 
 -- --attempts
 abbrev pub attempts_text : List ℕ
-attempts_text = codes "Random steps that a run attempts, from 1 to " ++ decimal MAX_STEPS
+attempts_text = codes "The most random steps that a run attempts, from 1 to " ++ decimal MAX_STEPS
     ++ codes " [default: " ++ decimal DEFAULT_ATTEMPTS ++ codes "]"
 
 -- --buffer
@@ -33,7 +36,7 @@ limit_text = codes "Steps that may be taken, from 1 to " ++ decimal MAX_STEPS
 
 -- --workers
 abbrev pub workers_text : List ℕ
-workers_text = codes "Threads that share the work, from 1 to " ++ decimal MAX_WORKERS
+workers_text = codes "The most threads that share the work, from 1 to " ++ decimal MAX_WORKERS
     ++ codes " [default: " ++ decimal DEFAULT_WORKERS ++ codes "]"
 
 -- --cores
@@ -54,10 +57,20 @@ abbrev pub trials_text : List ℕ
 trials_text = codes "Programs that are made and run, from 1 to " ++ decimal MAX_TRIALS
     ++ codes " [default: " ++ decimal DEFAULT_TRIALS ++ codes "]"
 
+-- the name by which --fault asks for a fault
+abbrev pub fault_name : Fault → List ℕ
+fault_name fault.None = codes "none"
+fault_name fault.NoBypass = codes "no-bypass"
+fault_name fault.YoungestFirst = codes "youngest-first"
+fault_name fault.OpenFence = codes "open-fence"
+fault_name fault.StaleShare = codes "stale-share"
+fault_name fault.EarlyRmw = codes "early-rmw"
+
 -- --fault
 abbrev pub fault_text : List ℕ
 fault_text =
-    codes "A fault: none, no-bypass, youngest-first, open-fence, stale-share, early-rmw [default: none]"
+    codes "A fault: none, no-bypass, youngest-first, open-fence, stale-share, early-rmw [default: "
+    ++ fault_name DEFAULT_FAULT ++ codes "]"
 
 -- --show
 abbrev pub show_text : List ℕ

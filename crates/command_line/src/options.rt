@@ -11,7 +11,7 @@ pub const DEFAULT_SEED: u64 = 0;
 /// How many trials a campaign has where no option says it.
 pub const DEFAULT_TRIALS: usize = 64;
 
-/// How many steps a random run attempts where no option says it.
+/// How many steps a random run attempts at most where no option says it.
 pub const DEFAULT_ATTEMPTS: usize = 100_000;
 
 /// How many stores a buffer holds where no option says it.
@@ -51,7 +51,7 @@ pub struct RunOptions {
     pub steps: Option<String>,
     /// The seed of random steps.
     pub seed: u64,
-    /// How many random steps are attempted, 1 to `MAX_STEPS`.
+    /// How many random steps are attempted at most, 1 to `MAX_STEPS`.
     pub attempts: usize,
     /// How many stores a buffer holds, 1 to `MAX_CAPACITY`.
     pub buffer: usize,
@@ -59,12 +59,12 @@ pub struct RunOptions {
     pub fault: Fault,
 }
 
-/// What `judge` is asked: the name of the recording, and how many workers judge it.
+/// What `judge` is asked: the name of the recording, and how many workers judge it at most.
 #[derive(Debug, Drop)]
 pub struct JudgeOptions {
     /// The name of the recording.
     pub file: String,
-    /// How many workers judge it, 1 to `MAX_WORKERS`.
+    /// How many workers judge it at most, 1 to `MAX_WORKERS`.
     pub workers: usize,
 }
 
@@ -82,13 +82,13 @@ pub struct TrialsOptions {
     pub seed: u64,
     /// How many trials there are, 1 to `MAX_TRIALS`.
     pub trials: usize,
-    /// How many steps a trial attempts, 1 to `MAX_STEPS`.
+    /// How many steps a trial attempts at most, 1 to `MAX_STEPS`.
     pub attempts: usize,
     /// How many stores a buffer holds, 1 to `MAX_CAPACITY`.
     pub buffer: usize,
     /// What is wrong with the machine.
     pub fault: Fault,
-    /// How many workers share the trials, 1 to `MAX_WORKERS`.
+    /// How many workers share the trials at most, 1 to `MAX_WORKERS`.
     pub workers: usize,
     /// The trial that is shown instead of the counts, below `trials`.
     pub show: Option<usize>,

@@ -90,14 +90,14 @@ pub const TRIALS_MORE: &str =
 
 Trial k, from 0, draws its program and then its steps from the seed plus k. It prints, in
 this order, a line each: `trials T`, how many there were; `ordered N`, how many recordings
-TSO allows; `unfinished N`, how many runs used up their attempts; `overlook N`, how many
+TSO allows; `unfinished N`, how many runs did not come to their end; `overlook N`, how many
 have a load that overlooks a store of its own core; for each length K that occurs, in
-ascending order, `cycle K: N`, how many have a shortest cycle of K events; and `first
-violation: trial k`, or `first violation: none`. The counts do not depend on the number of
-workers.
+ascending order, `cycle K: N`, how many have no such load but a shortest cycle of K events;
+and `first violation: trial k`, or `first violation: none`. The counts do not depend on the
+number of workers.
 
 Where standard error is a terminal, a campaign that lasts shows there how many trials are
-done and how many of them are violations, until its end; with `--quiet` it shows nothing.
+done and how many violations were found, until its end; with `--quiet` it shows nothing.
 
 To look at a violation, give the same options and `--show K` with its number: then, instead
 of the counts, the trial's program is printed, an empty line, its recording and its verdict,
@@ -141,8 +141,8 @@ pub const REPLAY_ABOUT: &str = "Gives a program and a script whose run makes a r
 /// What `replay` does.
 pub const REPLAY_MORE: &str = "Gives a program and a script whose run makes a recording again.
 
-The line `buffer N` says how many stores a buffer has to hold. Behind an empty line stands a
-litmus program, which names its addresses a0, a1 and so on, and behind another empty line a
+The line `buffer N` says which `--buffer` is enough. Behind an empty line stands a litmus
+program, which names its addresses a0, a1 and so on, and behind another empty line a
 script. The run performs the first memory order, in dictionary order, that TSO allows for
 the recording. A violation is answered as by `judge`. The recording's addresses have to be
 numbered in the order of their first use, and each has to be used.";

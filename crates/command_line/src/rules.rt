@@ -41,7 +41,7 @@ impl RunTexts {
                 "The seed of what is random, any number of 64 bits [default: {DEFAULT_SEED}]"
             )?,
             attempts: format!(in alloc;
-                "Random steps that a run attempts, from 1 to {MAX_STEPS} [default: {DEFAULT_ATTEMPTS}]"
+                "The most random steps that a run attempts, from 1 to {MAX_STEPS} [default: {DEFAULT_ATTEMPTS}]"
             )?,
             buffer: format!(in alloc;
                 "Stores that a buffer holds, from 1 to {MAX_CAPACITY} [default: {DEFAULT_BUFFER}]"
@@ -80,7 +80,7 @@ impl TrialsTexts {
                 "Programs that are made and run, from 1 to {MAX_TRIALS} [default: {DEFAULT_TRIALS}]"
             )?,
             workers: format!(in alloc;
-                "Threads that share the work, from 1 to {MAX_WORKERS} [default: {DEFAULT_WORKERS}]"
+                "The most threads that share the work, from 1 to {MAX_WORKERS} [default: {DEFAULT_WORKERS}]"
             )?,
         })
     }
