@@ -10,7 +10,7 @@ pub const DONE: u8 = 0;
 pub const FAULT: u8 = 1;
 /// The status of what TSO does not allow.
 pub const VIOLATION: u8 = 2;
-/// The status of a refused text or number.
+/// The status of a refused text, number or name.
 pub const REFUSED: u8 = 3;
 /// The status of a run that left an operation or a buffered store.
 pub const UNFINISHED: u8 = 4;
@@ -18,7 +18,7 @@ pub const UNFINISHED: u8 = 4;
 /// What a command prints on standard output, and its exit status.
 #[derive(Drop)]
 pub struct Answer {
-    /// One of `DONE`, `VIOLATION`, `REFUSED` and `UNFINISHED`.
+    /// The exit status.
     pub status: u8,
     /// The bytes for standard output.
     pub text: Vec<u8>,

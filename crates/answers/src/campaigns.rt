@@ -26,8 +26,8 @@ fn status_of(ledger: &Ledger) -> u8
 }
 
 /// The text of a campaign's ledger, and `VIOLATION` where a trial violates TSO, else `UNFINISHED` where
-/// one is unfinished, by 1 to `MAX_WORKERS` workers; the gate is told of each claim and each filing. An
-/// error is want of memory.
+/// one is unfinished, else `DONE`, by 1 to `MAX_WORKERS` workers; the gate is told of each claim, each
+/// violation and each filing. An error is want of memory.
 pub fn campaign_answer<R: Threads + Wait + Sync, G: Gate>(
     rt: &R,
     alloc: Global,
@@ -60,8 +60,8 @@ fn behind(mut text: Vec<u8>, answer: Answer) -> Result<Answer, OutOfMemory>
     Ok(Answer { status, text })
 }
 
-/// The program of a trial, an empty line, and what `finished` answers of the machine in which the trial
-/// ends. An error is want of memory.
+/// The program of a trial below the number of trials, an empty line, and what `finished` answers of the
+/// machine in which the trial ends. An error is want of memory.
 pub fn shown_answer(alloc: Global, campaign: &Campaign, k: usize) -> Result<Answer, OutOfMemory>
     requires { k < campaign.now.trials }
     ensures { IfOk result (IsShownAnswer campaign.now k) }

@@ -23,7 +23,8 @@ fn status_of(verdict: &Verdict) -> u8
     }
 }
 
-/// The verdict on a recording, behind a text that is printed before it. An error is want of memory.
+/// The text and status of a verdict that is the recording's and passes its check, behind a text that is
+/// printed before it. An error is want of memory.
 pub fn verdict_behind(
     alloc: Global,
     mut text: Vec<u8>,

@@ -14,7 +14,7 @@ use std::alloc::Global;
 use std::sync::Arc;
 
 impl Best {
-    /// A bound that is none, and a seat that knows no length.
+    /// A bound for the cycles of a relation, and a seat that knows no length. An error is want of memory.
     pub fn open(alloc: Global, relation: &Relation) -> Result<(Best, BestSeat), OutOfMemory>
         ensures seat { IfOk result (λ r. IsBestSeatOf r.0 r.1) }
         ensures new { IfOk result (λ r. known_of r.1 ≡ first_bound relation.now) }
@@ -25,7 +25,8 @@ impl Best {
         Ok((Best { table: again }, BestSeat { table, seat }))
     }
 
-    /// The bound becomes the cycle's length, if that is smaller.
+    /// The bound is at most the cycle's length from now on, and the seat knows this length. The cycle is one
+    /// of the seat's relation, of at most as many events as there are.
     pub fn lower(&self, seat: &mut BestSeat, relation: &Relation, cycle: &[EventId])
         requires seat { IsBestSeatOf self.now seat.old }
         requires relation { relation.now ≡ (known_of seat.old).relation }
@@ -76,7 +77,7 @@ impl BestSeat {
         self.table.shared.load::<Reads>(&mut self.seat, 0)
     }
 
-    /// Another seat of the same bound, that knows the same.
+    /// Another seat of the same bound, that knows the same. An error is that the count of seats is full.
     pub fn split(&mut self) -> Result<BestSeat, OutOfMemory>
         ensures old { AreBeside self.old self.new × (known_of self.new ≡ known_of self.old) }
         ensures new { IfOk result (λ s. AreBeside self.old s × (known_of s ≡ known_of self.old)) }

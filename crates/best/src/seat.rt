@@ -7,7 +7,7 @@ use crate::rule::{BestTable, Known};
 use atomic_table::Seat;
 use std::sync::Arc;
 
-/// The length of the shortest cycle that any of its seats has told it; none before the first.
+/// None, or the length of a cycle, at most each length that its seats know.
 #[derive(Drop)]
 pub struct Best {
     pub(crate) table: Arc<BestTable>,

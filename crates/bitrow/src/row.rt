@@ -29,7 +29,7 @@ impl BitRow {
     ghost use Rattle.bitrow.specs.Bits.{is_in, IsNext};
     ghost use Rattle.bitrow.specs.Walks.{walk_of};
 
-    /// The empty set of numbers below a length.
+    /// The empty set of numbers below a length. An `Err` is want of memory.
     pub fn new(alloc: Global, len: usize) -> Result<BitRow, OutOfMemory>
         ensures len { IfOk result (λ row. length row ≡ len) }
         ensures empty { IfOk result (λ row. (j : ℕ) → is_in row j ≡ false) }
@@ -38,7 +38,7 @@ impl BitRow {
         Ok(BitRow { words, len })
     }
 
-    /// Whether a number is in the set.
+    /// Whether a number below the length is in the set.
     pub fn test(&self, number: usize) -> bool
         requires { number < length self.now }
         ensures { result ≡ is_in self.now number }
@@ -46,7 +46,7 @@ impl BitRow {
         test_bit(self.words.as_slice(), number)
     }
 
-    /// Puts a number into the set.
+    /// Puts a number below the length into the set.
     pub fn set(&mut self, number: usize)
         requires { number < length self.old }
         ensures len { length self.new ≡ length self.old }
@@ -55,7 +55,7 @@ impl BitRow {
         set_bit(self.words.as_mut_slice(), number);
     }
 
-    /// Takes a number out of the set.
+    /// Takes a number below the length out of the set.
     pub fn remove(&mut self, number: usize)
         requires { number < length self.old }
         ensures len { length self.new ≡ length self.old }
@@ -106,7 +106,7 @@ impl BitRow {
         self.first_set().is_none()
     }
 
-    /// The least number in the set.
+    /// The least number in the set; none where there is none.
     pub fn first_set(&self) -> Option<usize>
         ensures { IsNext self.now 0 result }
     {

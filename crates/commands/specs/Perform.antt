@@ -103,7 +103,7 @@ IsCommandStop inputs (Replay o) stop = IsReplayStop inputs o stop
 abbrev pub IsMistake : Error → Type 0
 IsMistake error = (kind_of error ≢ DisplayHelp) × (kind_of error ≢ DisplayVersion)
 
--- without options the answer is the help that was asked for
+-- without options the status is that of help, which was asked for; its text no clause says
 abbrev pub IsHelp : OptionFault → Answer → Type 0
 IsHelp (Clap error) answer = (answer.status ≡ DONE) × (IsMistake error → ⊥)
 IsHelp (refused.Refused refusal) answer = ⊥

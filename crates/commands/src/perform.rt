@@ -93,7 +93,9 @@ fn put<W: Write>(out: &mut W, text: &[u8]) -> io::Result<()>
 }
 
 /// Does what the words ask, writes what the command prints and answers its exit status. The words
-/// come without the program's name, and nothing is written before the whole answer stands.
+/// come without the program's name, and nothing is written before the whole answer stands. An error is
+/// a fault of the command line, an input that isn't read, threads under `live`, want of memory, or a
+/// write that failed.
 pub fn perform<R: Threads + Wait + Sync, P: Place, W: Write>(
     rt: &R,
     alloc: Global,
@@ -105,7 +107,7 @@ pub fn perform<R: Threads + Wait + Sync, P: Place, W: Write>(
         × IsPrinted (P.bytes place.old) (map string_bytes words.now) answer
         × (status ≡ answer.status) × Appends (W.contents out.old) (W.contents out.new) answer.text.items) }
     ensures fault { IfErr result (IsFaultOf (P.bytes place.old) (map string_bytes words.now)) }
-    // Only a write that fails leaves a part of an answer.
+    // Only where a write fails is anything written.
     ensures unwritten { IfErr result (λ fault. fault ≢ CommandFault.WriteFailed → out.new ≡ out.old) }
 {
     let answer = whole_answer(rt, alloc, words, place)?;

@@ -25,7 +25,7 @@ pub struct Line {
     pub done: usize,
     /// How many there are.
     pub trials: usize,
-    /// How many of those that are done are violations.
+    /// How many violations were found.
     pub found: usize,
 }
 

@@ -7,7 +7,7 @@ use std::alloc::{AllocError, AllocFailed};
 /// Why a command stops before its usual answer.
 #[derive(Debug, Drop)]
 pub enum Stop {
-    /// A text or a number is refused: the line to print.
+    /// A text, a number or a name is refused: the line to print.
     Refused(String),
     /// A fault: the program ends with status `FAULT`.
     Fault(CommandFault),

@@ -3,7 +3,7 @@
 use labels::Certificate;
 use litmus::EventId;
 
-/// What is judged of a recording.
+/// What is judged of a recording. Its type keeps none of this; `verify` says whether it holds.
 #[derive(Drop)]
 pub enum Verdict {
     /// A memory order of TSO that explains it: the events in that order.

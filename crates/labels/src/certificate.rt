@@ -2,7 +2,8 @@
 
 use litmus::EventId;
 
-/// A cycle of forced pairs, and a row of labels for each event.
+/// A cycle of forced pairs, and a row of labels for each event. Its type keeps none of this; `check` says
+/// whether it holds.
 #[derive(Drop)]
 pub struct Certificate {
     /// The events of the cycle.

@@ -25,7 +25,8 @@ pub(crate) fn address_name(alloc: Global, number: Addr) -> Result<Name, OutOfMem
     }
 }
 
-/// The names of so many addresses: the letter a, and their numbers from 0.
+/// The names of so many addresses, at most `MAX_ADDRESSES`: the letter a, and their numbers from 0. An
+/// `Err` is want of memory.
 pub fn address_names(alloc: Global, count: usize) -> Result<IndexSet<Name>, OutOfMemory>
     requires { count ≤ MAX_ADDRESSES }
     ensures { IfOk result (λ names. names.keys ≡ address_names count) }

@@ -51,7 +51,7 @@ impl Ops {
         }
     }
 
-    /// The operations of a list, in memory of their own.
+    /// The operations of a list, in memory of their own. An `Err` is want of memory.
     pub fn copied(alloc: Global, list: &[Op]) -> Result<Ops, OutOfMemory>
         ensures { IfOk result (λ ops. ops ≡ list.now) }
     {

@@ -37,8 +37,8 @@ impl Program {
     ghost use Rattle.litmus.specs.Text.{reading};
 
     /// The program of these names and operations. None exactly where no text is of these names and
-    /// operations: where a limit is passed, a name is unused, or the names aren't in order of first
-    /// use. It can't fail for want of memory.
+    /// operations: where a limit is passed, an address has no name, a name is unused, or the names
+    /// aren't in order of first use. It can't fail for want of memory.
     pub fn new(names: IndexSet<Name>, cores: Vec<Ops>) -> Option<Program>
         ensures some { IfSome result (λ p. p ≡ parts_of names.keys cores.items) }
 
@@ -65,7 +65,7 @@ impl Program {
         Program { names, cores }
     }
 
-    /// The same program, in memory of its own; an `Err` only where there is none.
+    /// The same program, in memory of its own; an `Err` is want of memory.
     pub fn copy(&self, alloc: Global) -> Result<Program, OutOfMemory>
         ensures { IfOk result (λ p. p ≡ self.now) }
     {
@@ -106,7 +106,7 @@ impl Program {
         self.cores.len()
     }
 
-    /// The operations of a core, in program order.
+    /// The operations of a core of the program, in program order.
     pub fn ops(&self, core: CoreId) -> &[Op]
         requires { core < length self.now.cores }
         ensures { result.now ≡ slice_index_or self.now.cores core [] }

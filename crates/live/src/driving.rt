@@ -35,12 +35,14 @@ fn is_run_of(traced: &Traced, program: &Program, capacity: usize, limit: usize) 
 
 /// Runs a program on a machine whose buffers have room for `capacity` stores each, by a thread for
 /// each core, one for drains and one for caches, until it is complete or has taken `limit` steps.
-/// Each step is taken under one lock; which steps the threads choose is not said. The gate is told
-/// of each core's first step, as piece and worker of the core's number.
+/// Each step is taken under one lock. The gate is told of each core's first turn, as piece and worker
+/// of the core's number. Which steps the threads choose is not said. No clause speaks of threads, lock
+/// and gate; tests do.
 ///
-/// Out of memory only before the first thread. `NoThread` where a thread was not started, else
-/// `Stranger` where the machine at the end is not as given or not at its end: so it is where the
-/// capacity is 0 and a core has a store.
+/// An error is want of memory, `NoThread` or `Stranger`. No clause tells them apart, tests do: out of
+/// memory only before the first thread, `NoThread` where a thread was not started, else `Stranger`
+/// where the machine at the end is not as given or not at its end: so it is where the capacity is 0
+/// and a store keeps the machine from its end.
 pub fn drive<R: Threads + Wait + Sync, G: Gate>(
     rt: &R,
     alloc: Global,

@@ -38,7 +38,7 @@ impl Traced {
     ghost use Rattle.live.specs.Advance.{advance_answer};
 
     /// A machine that has not yet taken a step, whose trace may have `limit` steps; the room for
-    /// them is made here. An `Err` only where there is no memory.
+    /// them is made here. An `Err` is want of memory.
     pub fn new(alloc: Global, machine: Machine, limit: usize) -> Result<Traced, OutOfMemory>
         requires { machine.state ≡ begun machine.program }
         ensures { IfOk result (λ t. t

@@ -9,7 +9,7 @@ pub enum Blocked {
     B2,
     /// The core's buffer isn't empty.
     B3,
-    /// The core loads, no store to the address waits in its buffer, and its line is in I.
+    /// The core loads, gets no store from its buffer, and its line is in I.
     B4,
     /// The core writes, and its line is neither in M nor in E.
     B5,

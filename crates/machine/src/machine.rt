@@ -66,7 +66,7 @@ impl Machine {
 
     /// A machine at the start of a program, whose store buffers have room for `capacity` stores
     /// each. What a run and its `finish` will hold is reserved here, so that they can't fail for want
-    /// of memory; an `Err` only where there is no memory.
+    /// of memory; an `Err` is want of memory.
     pub fn new(
         alloc: Global,
         program: Program,
@@ -140,7 +140,7 @@ impl Machine {
         self.performed.as_slice()
     }
 
-    /// The state of a core's line of an address of the program.
+    /// The state of the line of an address of the program, of a core of the program.
     pub fn line(&self, core: CoreId, addr: Addr) -> Line
         requires core { core < length self.now.program.cores }
         requires address { addr < length self.now.program.names }
@@ -185,7 +185,8 @@ impl Machine {
         Some(entry.addr)
     }
 
-    /// The number of a core's next event; that behind its last event where it has executed all.
+    /// The number of the next event of a core of the program; that behind its last event where it has
+    /// executed all.
     pub fn next_event(&self, core: CoreId) -> usize
         requires { core < length self.now.program.cores }
         ensures { result ≡ next_event self.now core }
@@ -193,7 +194,8 @@ impl Machine {
         self.units[core as usize].next_event()
     }
 
-    /// The youngest store to an address that waits in a core's buffer.
+    /// The youngest store to an address that waits in the buffer of a core of the program; none where none
+    /// waits.
     pub fn youngest(&self, core: CoreId, addr: Addr) -> Option<Entry>
         requires { core < length self.now.program.cores }
         ensures { result ≡ youngest (buffer_of self.now.state core) addr }

@@ -9,11 +9,13 @@ use litmus::{Addr, CoreId};
 pub enum Step {
     /// The core executes its next operation in program order.
     Exec(CoreId),
-    /// The oldest store in the core's store buffer leaves it and is written to the core's line.
+    /// The oldest store in the core's store buffer, with `YoungestFirst` the youngest, leaves it and is
+    /// written to the core's line.
     Drain(CoreId),
     /// The core gets a line of the address that it may read.
     GetS(CoreId, Addr),
-    /// The core gets the only valid line of the address, which it may write.
+    /// The core gets the only valid line of the address, which it may write; with `StaleShare` others in
+    /// S stay.
     GetM(CoreId, Addr),
     /// The core gives its line of the address up.
     Put(CoreId, Addr),

@@ -13,8 +13,8 @@ use std::marker::Model;
 /// The caches of some cores over one memory, with a line for each core and address, and atomic
 /// transactions. States and transactions are those of MOESI (Nagarajan, Sorin, Hill and Wood, A
 /// Primer on Memory Consistency and Cache Coherence, second edition, chapters 6 to 8). Data are a
-/// value and the event that wrote it, or none where nothing was written. Only `new` can fail
-/// for want of memory.
+/// value and the event that wrote it, or none where nothing was written. Each call asks that its core
+/// and its address are there. Only `new` can fail for want of memory.
 ///
 /// They are one list of words: word `core * addresses + addr` is a core's line of an address, and
 /// those behind the lines of all cores are memory.
@@ -45,7 +45,7 @@ impl Caches {
     ghost use Rattle.moesi.specs.Coherent.{IsCoherent};
 
     /// Caches of so many cores where no line is valid, over so many addresses with value 0 and no
-    /// event; out of memory where a growth was refused.
+    /// event; out of memory where there is none, also for so many that no memory could hold them.
     pub fn new(alloc: Global, cores: usize, addresses: usize) -> Result<Caches, OutOfMemory>
         ensures { IfOk result (λ s. s ≡ opening_caches cores addresses) }
     {

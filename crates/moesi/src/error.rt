@@ -5,7 +5,7 @@
 pub enum CacheError {
     /// `get_s` found the core's line valid.
     C1,
-    /// `get_m` found the core's line in M or E.
+    /// `get_m` or `get_m_stale` found the core's line in M or E.
     C2,
     /// `put` or `read` found the core's line not valid.
     C3,

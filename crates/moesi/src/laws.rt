@@ -6,10 +6,11 @@ ghost use Rattle.moesi.specs.Laws.{EveryTransactionKeepsCurrent, EveryWriteSetsC
 ghost use Rattle.moesi.specs.Laws.{EveryCopyWasThere, EveryWriteAddsItself};
 ghost use Rattle.moesi.specs.Laws.{OpeningHasEmptyLines, EveryCallKeepsEmptyLines};
 
-/// The opening caches are coherent, and every call keeps them so. In coherent caches a valid line
-/// has the current data, no transaction changes what is current, and a write sets it (invariants of
-/// single writer and of data value: Nagarajan, Sorin, Hill and Wood, A Primer on Memory
-/// Consistency and Cache Coherence, second edition, chapter 2). It does nothing.
+/// The opening caches are coherent, and every call but the faulty `get_m_stale` keeps them so. In
+/// coherent caches a valid line has the current data, GetS, GetM and Put don't change what is current,
+/// and a write sets it at its address alone (invariants of single writer and of data value: Nagarajan,
+/// Sorin, Hill and Wood, A Primer on Memory Consistency and Cache Coherence, second edition, chapter
+/// 2). It does nothing.
 pub fn coherent_caches()
     ensures opening { OpeningIsCoherent }
     ensures copies { EveryCopyIsCurrent }

@@ -1,4 +1,4 @@
--- What an event does to memory. Every rule speaks of events by these functions alone.
+-- What an event does to memory. Every rule of TSO speaks of events by these functions alone.
 use Rattle.std.specs.Prelude.{ℕ, Bool, true, false, Option, Some, None}
 use Rattle.recorder.specs.declared.event.Event.{Event}
 use Rattle.recorder.specs.declared.event.Event.TheVariants.{L, S, R, F}

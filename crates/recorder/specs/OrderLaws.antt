@@ -60,7 +60,7 @@ times_in (x ∷ xs) e h = elim (cases_eq x e) [
   )
 ]
 
--- two numbers have one place only if they are one
+-- two numbers of which one stands in the list have one place only if they are one
 pub place_one : (xs : List ℕ) (e f : ℕ) → place xs e ≡ place xs f → place xs e < length xs → e ≡ f
 place_one [] e f h l = absurd (omega (arith, place_nil e))
 place_one (x ∷ xs) e f h l = elim (cases_eq x e) [

@@ -5,7 +5,7 @@ use Rattle.std.proofs.lemmas.Bool.{cases_eq}
 use Rattle.recorder.specs.Order.{place, times, Before}
 use Rattle.recorder.specs.OrderLaws.{place_here, place_there, place_nil, times_here, times_there, times_in}
 
--- at the place of a number it stands
+-- a number that stands in the list stands at its place
 pub at_place : (xs : List ℕ) (e : ℕ) → place xs e < length xs → get_or xs (place xs e) 0 ≡ e
 at_place [] e h = absurd (omega (arith, place_nil e))
 at_place (x ∷ xs) e h = elim (cases_eq x e) [

@@ -34,7 +34,7 @@ impl Event {
     ghost use Rattle.recorder.specs.Event.{read_address, written_address, source, value_read, value_written};
     ghost use Rattle.recorder.specs.Event.{is_plain_store, is_plain_load};
 
-    /// The address that it reads.
+    /// The address that it reads; none where it does not read.
     pub fn read_address(&self) -> Option<Addr>
         ensures { result ≡ read_address self.now }
     {
@@ -44,7 +44,7 @@ impl Event {
         }
     }
 
-    /// The address that it writes.
+    /// The address that it writes; none where it does not write.
     pub fn written_address(&self) -> Option<Addr>
         ensures { result ≡ written_address self.now }
     {

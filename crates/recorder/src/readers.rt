@@ -9,7 +9,7 @@ impl Recording {
     ghost use Rattle.recorder.specs.Event.{read_address, written_address};
     ghost use Rattle.recorder.specs.Execution.{event_at, source_of, ProgramOrder, Kept};
 
-    /// The address that an event reads.
+    /// The address that an event reads; none where it does not read.
     pub fn read_address(&self, number: EventId) -> Option<Addr>
         ensures { result ≡ read_address (event_at self.now number) }
     {
@@ -19,7 +19,7 @@ impl Recording {
         }
     }
 
-    /// The address that an event writes.
+    /// The address that an event writes; none where it does not write.
     pub fn written_address(&self, number: EventId) -> Option<Addr>
         ensures { result ≡ written_address (event_at self.now number) }
     {

@@ -153,7 +153,7 @@ fn shape_in(alloc: Global, value: &Value) -> Result<Option<Found>, AllocError>
 }
 
 /// The recording that the bytes give, or the first refusal: of the JSON, its shape, the version, and what
-/// `Recording::from_parts` refuses.
+/// `Recording::from_parts` refuses; or want of memory.
 pub fn read_recording(alloc: Global, bytes: &[u8]) -> Result<Recording, RecError>
     ensures { IsReadingResult bytes.now result }
 {

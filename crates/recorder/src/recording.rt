@@ -33,7 +33,7 @@ impl Recording {
     ghost use Rattle.recorder.specs.Refusals.{IsRefusal};
     ghost use Rattle.recorder.specs.declared.fault.RecError.TheVariants.{OutOfMemory};
 
-    /// The recording of these events and write lists.
+    /// The recording of these events and write lists, which have to be one (`from_parts` tests it).
     pub fn new(cores: Vec<Vec<Event>>, writes: Vec<Vec<EventId>>) -> Recording
         requires { IsRecording (executed (map (λ v. v.items) cores.items) (map (λ v. v.items) writes.items)) }
         ensures { result ≡ executed (map (λ v. v.items) cores.items) (map (λ v. v.items) writes.items) }

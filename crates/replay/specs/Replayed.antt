@@ -18,8 +18,8 @@ use Rattle.replay.specs.Program.{named_program}
 abbrev pub led_to : Parts → ℕ → List Step → State
 led_to p capacity steps = run p.cores capacity fault.None (begun p) steps
 
--- the steps are the program's, at most three an event, are all taken, come to the end, perform this
--- order, and make this recording
+-- the steps are the program's, at most three times as many as the events, are all taken, come to the end,
+-- perform this order, and make this recording
 pub record IsReplay (x : Execution) (m : List ℕ) (p : Parts) (capacity : ℕ) (steps : List Step) : Type 0 where
   pub taken : all_taken p.cores capacity fault.None (begun p) steps ≡ Ok (led_to p capacity steps)
   pub complete : IsComplete p.cores (led_to p capacity steps)
@@ -28,7 +28,8 @@ pub record IsReplay (x : Execution) (m : List ℕ) (p : Parts) (capacity : ℕ) 
   pub within : All (IsStepOf p) steps
   pub few : length steps ≤ 3 * event_count x
 
--- each TSO order of a recording is replayed, with any capacity that holds the stores of a core
+-- each TSO order of a recording is replayed, with any capacity of at least 1 that holds the stores of a
+-- core
 abbrev pub EveryOrderIsReplayed : Execution → List ℕ → ℕ → Type 0
 EveryOrderIsReplayed x m capacity = IsRecording x → IsTsoOrder x m → most_stores x.cores ≤ capacity
     → IsReplay x m (named_program x) capacity (replay_steps x m)
@@ -39,8 +40,8 @@ CanMake capacity x = (p : Parts) × (steps : List Step)
     × All (λ ops. All (IsWithin (length p.names)) ops) p.cores
     × IsComplete p.cores (led_to p capacity steps) × (recorded p.cores (led_to p capacity steps) ≡ x)
 
--- with a capacity that holds the stores of a core, the machine makes exactly the recordings that
--- have a TSO order
+-- with a capacity of at least 1 that holds the stores of a core, the machine makes exactly the
+-- recordings that have a TSO order
 abbrev pub MakesExactlyTso : Execution → ℕ → Type 0
 MakesExactlyTso x capacity = IsRecording x → most_stores x.cores ≤ capacity
     → CanMake capacity x ↔ ((m : List ℕ) × IsTsoOrder x m)

@@ -51,9 +51,9 @@ fn steps_of(
 
 /// A program and the steps that perform a TSO order of a recording: a machine of this program
 /// without fault, whose store buffers have room for the plain stores of a core (`most_stores`),
-/// takes them all, comes to its end, and makes this recording again. At most three steps an event;
-/// the addresses of the recording are numbered by first use, and none is unused. An `Err` only
-/// where there is no memory.
+/// takes them all, comes to its end, and makes this recording again. They are at most three times as
+/// many as the events; the addresses of the recording are numbered by first use, and none is unused.
+/// An `Err` is want of memory.
 pub fn replay_steps(
     alloc: Global,
     recording: &Recording,

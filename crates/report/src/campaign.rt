@@ -72,7 +72,7 @@ fn put_first(out: &mut Vec<u8>, first: Option<usize>) -> Result<(), OutOfMemory>
 }
 
 /// The text of a campaign: how many trials there are and how they ended, a line for each length of
-/// cycles that occurs, ascending, and the first violation. An error is want of memory.
+/// cycles that the ledger has, in its order, and the first violation. An error is want of memory.
 pub fn campaign_text(alloc: Global, ledger: &Ledger) -> Result<Vec<u8>, OutOfMemory>
     ensures { IfOk result (λ text. text.items ≡ campaign_text ledger.now) }
 {

@@ -21,6 +21,7 @@ pub trait Source {
     ghost read_failures: { Self → ℕ };
 
     /// Reads bytes to the front of `buf` and answers how many; with room for one, none exactly at the end.
+    /// An error loses no byte, and is counted: the count is below `u64::MAX` before.
     fn pull(&mut self, buf: &mut [u8]) -> Result<usize, Failed>
         requires { CanGrow (read_failures self.old) }
         ensures bound { ReadsAtMost result buf.new }
@@ -42,7 +43,8 @@ pub trait Sink {
     /// How many writes failed.
     ghost write_failures: { Self → ℕ };
 
-    /// Writes bytes from the front of `text` and answers how many: one at least, if there is one.
+    /// Writes bytes from the front of `text` and answers how many: one at least, if there is one. An error
+    /// adds no byte, and is counted: the count is below `u64::MAX` before.
     fn push(&mut self, text: &[u8]) -> Result<usize, Failed>
         requires { CanGrow (write_failures self.old) }
         ensures bound { WritesAtMost result text.now }

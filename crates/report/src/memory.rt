@@ -16,7 +16,7 @@ pub struct MemorySource<'a> {
 impl<'a> MemorySource<'a> {
     ghost use Rattle.std.specs.Prelude.{◌≡◌, false};
 
-    /// These bytes, all of which are given.
+    /// These bytes, all of which are given, which is tested.
     pub fn new(bytes: &'a [u8]) -> MemorySource<'a>
         ensures rest { result.rest ≡ bytes.entry }
         ensures fails { result.before_failing ≡ 18446744073709551615 }
@@ -26,7 +26,7 @@ impl<'a> MemorySource<'a> {
         MemorySource::failing(bytes, usize::MAX)
     }
 
-    /// These bytes; behind the first so many of them each read fails.
+    /// These bytes; behind the first so many of them each read fails, which is tested.
     pub fn failing(bytes: &'a [u8], before_failing: usize) -> MemorySource<'a>
         ensures rest { result.rest ≡ bytes.entry }
         ensures fails { result.before_failing ≡ before_failing }

@@ -9,7 +9,8 @@ use crate::label_row::LabelRow;
 use litmus::OutOfMemory;
 use std::alloc::Global;
 
-/// The length of the shortest cycles, from the rows of all events; none where there is no cycle.
+/// The length of the shortest cycles, from the rows of all events that are cut at it, as `run_alone` and
+/// `run_jobs` give them; none where there is no cycle.
 pub fn least_length(rows: &[LabelRow]) -> Option<u16>
     ensures { (t : Table) (cap : Option ℕ) → AreLeastRows t cap rows.now → result ≡ cap }
 {

@@ -14,7 +14,7 @@ use std::alloc::Global;
 use std::sync::Arc;
 
 impl Desk {
-    /// All words are 0, and the seat has claimed and seen nothing.
+    /// A desk, and a seat that has claimed and seen nothing. An error is want of memory.
     pub fn open(alloc: Global, campaign: &Campaign) -> Result<(Desk, DeskSeat), OutOfMemory>
         ensures { IfOk result (λ r. IsDeskSeatOf r.0 r.1 × (r.1.seat.me.0 ≡ first_view campaign.now)) }
     {
@@ -26,7 +26,7 @@ impl Desk {
         Ok((Desk { table: again }, DeskSeat { table, seat }))
     }
 
-    /// True exactly where the word was 0 at its step.
+    /// Claims a trial below the number of trials: true exactly where its word was 0 at its step.
     pub fn claim(&self, seat: &mut DeskSeat, k: usize) -> bool
         requires seat { IsDeskSeatOf self.now seat.old }
         requires trial { k < seat.old.seat.me.0.campaign.trials }
@@ -41,7 +41,7 @@ impl Desk {
         seat.claim(k)
     }
 
-    /// Files a trial that this seat has claimed.
+    /// Files a trial of the desk's campaign that this seat has claimed and not yet filed.
     pub fn file(&self, seat: &mut DeskSeat, filed: &Filed)
         requires seat { IsDeskSeatOf self.now seat.old }
         requires campaign { filed.now.campaign ≡ seat.old.seat.me.0.campaign }
@@ -54,7 +54,8 @@ impl Desk {
         seat.file(filed);
     }
 
-    /// What the word of a trial says, at least what this seat has claimed, filed or seen.
+    /// What the word of a trial below the number of trials says, at least what this seat has claimed, filed
+    /// or seen.
     pub fn look(&self, seat: &mut DeskSeat, k: usize) -> Look
         requires seat { IsDeskSeatOf self.now seat.old }
         requires trial { k < seat.old.seat.me.0.campaign.trials }
@@ -68,7 +69,7 @@ impl Desk {
         }
     }
 
-    /// The words, which are those of a legal desk beside what the seat knows.
+    /// The words, which are those of a legal desk beside what the seat knows. An error is want of memory.
     pub fn close(self, alloc: Global, seat: DeskSeat) -> Result<Vec<u64>, OutOfMemory>
         requires { IsDeskSeatOf self seat }
         ensures { IfOk result (λ ws. AreDeskWords seat.seat.me.0 ws.items) }

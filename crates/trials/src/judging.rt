@@ -11,8 +11,8 @@ use litmus::{OutOfMemory, Program};
 use machine::{Fault, Machine, Step};
 use std::alloc::Global;
 
-/// The verdict on the recording of a machine; none exactly where it is not complete. An `Err` only where
-/// there is no memory.
+/// The verdict on the recording of a machine; none exactly where it is not complete. An `Err` is want of
+/// memory.
 pub(crate) fn end_verdict(alloc: Global, machine: Machine) -> Result<Option<Verdict>, OutOfMemory>
     ensures judged { IfOk result (IsEndVerdict machine) }
     ensures lawful { IfOk result (λ verdict. machine.fault ≡ faults.None → IsLawful verdict) }

@@ -18,7 +18,8 @@ pub struct Ledger {
     pub unfinished: usize,
     /// How many recordings have an overlook.
     pub overlook: usize,
-    /// The lengths of least cycles, ascending, each with how many recordings have one.
+    /// The lengths of least cycles of recordings without an overlook, ascending, each with how many there
+    /// are.
     pub cycles: Vec<(usize, usize)>,
     /// The least trial whose recording has an overlook or a cycle.
     pub first: Option<usize>,
@@ -28,7 +29,7 @@ impl Ledger {
     ghost use Rattle.std.specs.Prelude.{IfOk};
     ghost use Rattle.trials.specs.Counts.{IsLedger};
 
-    /// The ledger of the codes of all trials, in order. An `Err` only where there is no memory.
+    /// The ledger of the codes of all trials, in order. An `Err` is want of memory.
     pub fn count(alloc: Global, codes: &[u64]) -> Result<Ledger, OutOfMemory>
         ensures { IfOk result (IsLedger codes.now) }
     {

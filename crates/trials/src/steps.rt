@@ -52,8 +52,8 @@ impl DeskSeat {
         self.table.shared.load::<Looks>(&mut self.seat, k)
     }
 
-    /// A second seat, with an empty share, that has seen the same. An `Err` only where the desk's count of
-    /// seats is full, which no run can reach.
+    /// A second seat, with an empty share, that has seen the same. An `Err` is that the desk's count of seats
+    /// is full.
     pub fn split(&mut self) -> Result<DeskSeat, OutOfMemory>
         ensures old { (self.new.seat.table_id ≡ self.old.seat.table_id)
             × (self.new.seat.me.0 ≡ self.old.seat.me.0) }

@@ -23,8 +23,8 @@ fn generator(campaign: &Campaign, trial: usize) -> Xoshiro256PlusPlus
     Xoshiro256PlusPlus::seed_from_u64(campaign.base().wrapping_add(trial as u64))
 }
 
-/// The machine in which a trial ends: its generator's first words make the program, the later ones name
-/// the attempts. An `Err` only where there is no memory.
+/// The machine in which a trial below the number of trials ends: its generator's first words make the
+/// program, the later ones name the attempts. An `Err` is want of memory.
 pub fn run_trial(alloc: Global, campaign: &Campaign, k: usize) -> Result<Machine, OutOfMemory>
     requires { k < campaign.now.trials }
     ensures { IfOk result (EndsIn campaign.now k) }
@@ -46,8 +46,8 @@ pub fn trial(alloc: Global, campaign: &Campaign, k: usize) -> Result<Filed, OutO
     Ok(Filed::new(campaign, k, code))
 }
 
-/// The program of a trial, and its recording; none exactly where its run is not complete. An `Err` only
-/// where there is no memory.
+/// The program of a trial below the number of trials, and its recording; none exactly where its run is not
+/// complete. An `Err` is want of memory.
 pub fn reproduce(
     alloc: Global,
     campaign: &Campaign,

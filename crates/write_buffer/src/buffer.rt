@@ -28,7 +28,8 @@ impl WriteBuffer {
     ghost use Rattle.std.specs.Prelude.{IsOk, IsTrue, length, slice_get};
     ghost use Rattle.write_buffer.specs.Buffer.{Buffer, youngest};
 
-    /// An empty buffer for so many entries; out of memory where the growth was refused.
+    /// An empty buffer for so many entries; out of memory where there is none, also for so many that no
+    /// memory could hold them.
     pub fn new(alloc: Global, capacity: usize) -> Result<WriteBuffer, OutOfMemory>
         ensures { IfOk result (λ b. b ≡ record { entries = []; capacity = capacity }) }
     {
@@ -45,28 +46,29 @@ impl WriteBuffer {
         self.ring.try_push_back(entry)
     }
 
-    /// The youngest entry of an address: what a load of its core reads before memory.
+    /// The youngest entry of an address, which a load of its core reads before memory; none where none
+    /// waits.
     pub fn youngest(&self, addr: Addr) -> Option<Entry>
         ensures { result ≡ youngest self.now.entries addr }
     {
         youngest_in(&self.ring, addr)
     }
 
-    /// The entry that reaches memory next.
+    /// The oldest entry; none where none waits.
     pub fn oldest(&self) -> Option<Entry>
         ensures { result ≡ slice_get self.now.entries 0 }
     {
         self.ring.front().copied()
     }
 
-    /// The entry that was added last, of any address.
+    /// The entry that was added last, of any address; none where none waits.
     pub fn newest(&self) -> Option<Entry>
         ensures { result ≡ slice_get self.now.entries (length self.now.entries - 1) }
     {
         self.ring.back().copied()
     }
 
-    /// Removes the oldest entry and returns it.
+    /// Removes the oldest entry and returns it; none where none waits.
     pub fn pop_oldest(&mut self) -> Option<Entry>
         ensures some { IfSome result (λ x. self.old.entries ≡ x ∷ self.new.entries) }
         ensures none { IfNone result ((self.old.entries ≡ []) × (self.new ≡ self.old)) }
@@ -75,7 +77,7 @@ impl WriteBuffer {
         self.ring.pop_front()
     }
 
-    /// Removes the youngest entry and returns it.
+    /// Removes the youngest entry and returns it; none where none waits.
     pub fn pop_youngest(&mut self) -> Option<Entry>
         ensures some { IfSome result (λ x. self.old.entries ≡ self.new.entries ++ x ∷ []) }
         ensures none { IfNone result ((self.old.entries ≡ []) × (self.new ≡ self.old)) }

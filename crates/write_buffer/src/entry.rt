@@ -10,7 +10,7 @@ pub struct Entry {
     pub addr: Addr,
     /// The value that it writes, of 32 bits.
     pub value: u32,
-    /// The number of its event, below `MAX_EVENTS`.
+    /// The number of its event; in a machine it is below `MAX_EVENTS`.
     pub event: EventId,
 }
 
