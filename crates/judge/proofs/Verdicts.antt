@@ -5,13 +5,18 @@ use Rattle.relations.specs.Forced.{Forced}
 use Rattle.relations.specs.Relation.{Table, Related}
 use Rattle.relations.specs.Cycle.{IsCycle, IsLeastCycle, AreExactRows, IsCertificate}
 use Rattle.relations.specs.Respects.{IsLeastOrder}
-use Rattle.relations.specs.Verdict.{HasNoOrder}
-use Rattle.relations.specs.Laws.{Agree, EveryOrderRespects, OrderedIsAcyclic, LeastOrdersAgree, CyclesAgree}
-use Rattle.relations.specs.Laws.{LeastCyclesAgree, ExactRowsAgree, CertificatesAgree}
+use Rattle.relations.specs.Verdict.{HasNoOrder, HasNoOverlook}
+use Rattle.relations.specs.Laws.{Agree, EveryOrderRespects, EveryRespectingIsOrder, OrderedIsAcyclic}
+use Rattle.relations.specs.Laws.{LeastOrdersAgree, LeastCyclesAgree, ExactRowsAgree, CertificatesAgree}
 use Rattle.recorder.specs.Tso.{IsWellFormed}
 use Rattle.labels.specs.Certified.{lists_of}
 use Rattle.labels.specs.declared.certificate.Certificate.{Certificate}
-use Rattle.judge.specs.Verdict.{IsLeastCertificate}
+use Rattle.judge.specs.Verdict.{IsCycleVerdict, IsLeastCertificate, IsOrderedVerdict}
+
+-- where the forced pairs have a cycle, there is no order
+pub no_order : (x : Execution) → IsWellFormed x → EveryOrderRespects x → OrderedIsAcyclic (Forced x)
+    → (c : List ℕ) → IsCycle (Forced x) c → HasNoOrder x
+no_order x formed respects acyclic c cycle m tso = acyclic (event_count x) m (respects m formed tso).0 c cycle
 
 module _ (x : Execution) (t : Table) (related : Agree (Related t) (Forced x))
     (size : length t ≡ event_count x) where
@@ -51,7 +56,30 @@ module _ (x : Execution) (t : Table) (related : Agree (Related t) (Forced x))
       (subst (λ (n : ℕ). IsCertificate (Related t) n c.cycle.items (lists_of c.rows.items)) size
       (same_certificate s same c least).certified)
 
--- where the forced pairs have a cycle, there is no order
-pub no_order : (x : Execution) → IsWellFormed x → EveryOrderRespects x → OrderedIsAcyclic (Forced x)
-    → (c : List ℕ) → IsCycle (Forced x) c → HasNoOrder x
-no_order x formed respects acyclic c cycle m tso = acyclic (event_count x) m (respects m formed tso).0 c cycle
+  -- the verdict of the first order
+  pub ordered_verdict : LeastOrdersAgree (Related t) (Forced x) → EveryOrderRespects x
+      → EveryRespectingIsOrder x → OrderedIsAcyclic (Forced x) → IsWellFormed x → HasNoOverlook x
+      → (s : Table) → s ≡ t → (m : List ℕ) → IsLeastOrder (Related s) (length s) m → IsOrderedVerdict x m
+  ordered_verdict agree respects enough acyclic formed none s same m found =
+      let least = least_order agree s same m found in
+      record {
+        order = enough m formed none least.respects;
+        first = λ other tso. least.least other (respects other formed tso).0;
+        least = least;
+        no_overlook = none;
+        no_cycle = acyclic (event_count x) m least.respects;
+      }
+
+  -- the verdict of a certificate
+  pub cycle_verdict : LeastCyclesAgree (Related t) (Forced x) → ExactRowsAgree (Related t) (Forced x)
+      → EveryOrderRespects x → OrderedIsAcyclic (Forced x) → IsWellFormed x → HasNoOverlook x
+      → (s : Table) → s ≡ t → (c : Certificate) → IsLeastCertificate s c
+      → IsCycleVerdict x c.cycle.items (lists_of c.rows.items)
+  cycle_verdict cycles rows respects acyclic formed none s same c found =
+      let least = least_cycle cycles s same c found in
+      record {
+        least = least;
+        exact = exact_rows rows s same c found;
+        no_overlook = none;
+        no_order = no_order x formed respects acyclic c.cycle.items least.shortest.cycle;
+      }
