@@ -82,7 +82,7 @@ pub struct MemorySink {
 impl MemorySink {
     ghost use Rattle.std.specs.Prelude.{◌≡◌, []};
 
-    /// Nothing yet; all bytes are taken, while there is memory.
+    /// Nothing yet; all bytes are taken, while there is memory, which is tested.
     pub fn new(alloc: Global) -> MemorySink
         ensures written { result.written.items ≡ [] }
         ensures failures { result.failures ≡ 0 }
@@ -91,7 +91,7 @@ impl MemorySink {
         MemorySink::failing(alloc, usize::MAX)
     }
 
-    /// Nothing yet; behind the first so many bytes each write fails.
+    /// Nothing yet; behind the first so many bytes each write fails, which is tested.
     pub fn failing(alloc: Global, before_failing: usize) -> MemorySink
         ensures written { result.written.items ≡ [] }
         ensures failures { result.failures ≡ 0 }

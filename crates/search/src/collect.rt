@@ -102,10 +102,10 @@ fn collected<R: Threads + Wait + Sync, G: Gate>(
 }
 
 /// The rows of jobs that share the seat's relation and name each of its events, as `run_alone` gives
-/// them, made by 1 to `MAX_WORKERS` workers that share the bound: the calling thread is worker 0, and one that is not
-/// started is done without. The gate is called round each source. Afterwards the seat knows the
-/// length of the shortest cycles, if there is a cycle; after an error, which is want of memory, it
-/// may know more than before.
+/// them, made by 1 to `MAX_WORKERS` workers that share the bound: the calling thread is worker 0, and
+/// one that is not started is done without. The gate is called round each source, which is tested.
+/// Afterwards the seat knows the length of the shortest cycles, if there is a cycle; after an error,
+/// which is want of memory, it may know more than before.
 pub fn run_jobs<R: Threads + Wait + Sync, G: Gate>(
     rt: &R,
     alloc: Global,

@@ -36,7 +36,7 @@ pub fn run_trial(alloc: Global, campaign: &Campaign, k: usize) -> Result<Machine
     Ok(machine)
 }
 
-/// A trial of a campaign with its code. It waits for nobody, and an `Err` is want of memory.
+/// A trial below the number of trials, with its code. It waits for nobody, and an `Err` is want of memory.
 pub fn trial(alloc: Global, campaign: &Campaign, k: usize) -> Result<Filed, OutOfMemory>
     requires { k < campaign.now.trials }
     ensures { IfOk result (λ f. (f.campaign ≡ campaign.now) × (f.trial ≡ k)) }
