@@ -6,4 +6,5 @@ use Rattle.trials.proofs.schedule.fill.Given as goal
 -- the steps below i are there
 abbrev pub invariant-loop-i : goal.invariant-loop-i
 invariant-loop-i l =
-    (length l.table ≡ length l.initial.table) × ((j : ℕ) (d : Step) → j < l.i → get_or l.table j d ≡ step_at l.cores l.addresses j)
+    (length l.table ≡ length l.initial.table)
+    × ((j : ℕ) (d : Step) → j < l.i → get_or l.table j d ≡ step_at l.cores l.addresses j)
