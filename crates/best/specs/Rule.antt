@@ -53,6 +53,6 @@ abbrev pub LoadsBound : Known → ℕ → Known → Type 0
 LoadsBound v n w = Bounded v n × (n ≡ none_word → w ≡ v)
     × (n ≢ none_word → (w ≡ knows v n) × IsLength v.relation n × (n < 65536))
 
--- a load that found m
+-- a load that found n
 abbrev pub ReadStep : Step (Unit {0}) → Me (Unit {0}) Known → ℕ → Me (Unit {0}) Known → Type 0
 ReadStep st m n m' = (m'.1 ≡ m.1) × LoadsBound m.0 n m'.0

@@ -107,7 +107,7 @@ pub fn perform<R: Threads + Wait + Sync, P: Place, W: Write>(
         × IsPrinted (P.bytes place.old) (map string_bytes words.now) answer
         × (status ≡ answer.status) × Appends (W.contents out.old) (W.contents out.new) answer.text.items) }
     ensures fault { IfErr result (IsFaultOf (P.bytes place.old) (map string_bytes words.now)) }
-    // Only where a write fails is anything written.
+    // An error leaves the sink as it was, unless a write failed.
     ensures unwritten { IfErr result (λ fault. fault ≢ CommandFault.WriteFailed → out.new ≡ out.old) }
 {
     let answer = whole_answer(rt, alloc, words, place)?;

@@ -7,8 +7,8 @@ use moesi::Line::{E, I, M, O, S};
 use moesi::{CacheError, Caches, Line};
 use std::test::Fail;
 
-// The calls at the first address, which say of the caches that their sizes stay, and no more, so that no
-// check works out what written numbers give.
+// The calls at the first address, which say of the caches that their sizes stay, and no more: with the exact
+// clauses of the calls themselves two of the tests below took a minute each to prove.
 fn get_s(caches: &mut Caches, core: CoreId) -> Result<(), CacheError>
     requires core { core < caches.old.cores }
     requires address { 0 < length caches.old.blocks }

@@ -1,5 +1,5 @@
-//! Calls that say nothing of what they answer, so that no check works out what a written text or step
-//! gives.
+//! Calls without a clause, for tests that hand them written texts and steps: with the exact clauses of the
+//! calls themselves such a test took minutes to prove.
 
 use litmus::{Program, parse};
 use machine::{Blocked, Machine, Step};
