@@ -1,4 +1,4 @@
--- What random words make keeps a program.
+-- What random words make keeps the limits of a program.
 use Rattle.std.proofs.Common.{◌≡◌, ℕ, ◌+◌, ◌/◌, ◌%◌, ◌<◌, ◌≤◌, ◌==◌, ◌^◌, ◌⊎◌, ◌||◌, ◌≢◌}
 use Rattle.std.proofs.Common.{ne_eqb, nat_lt, nat_eq, List, [], ◌∷◌, ◌++◌, map, length}
 use Rattle.std.proofs.Common.{codes, decimal, Bool, true, false, cond, Some, inl, inr, refl, arith, sym}
@@ -15,7 +15,7 @@ use Rattle.litmus.specs.declared.op.Op.TheVariants.{St, Ld, Fence, Swap, Add}
 use Rattle.litmus.specs.declared.limits.TheConstants.{MAX_CORES, MAX_EVENTS, MAX_ADDRESSES}
 use Rattle.litmus.specs.AddressNames.{address_name}
 use Rattle.litmus.specs.Names.{name_eq, name_of, name_text}
-use Rattle.litmus.specs.Parts.{Small, Parts, op_count, addr_of, use_addr}
+use Rattle.litmus.specs.Parts.{Small, Body, op_count, addr_of, use_addr}
 use Rattle.litmus.specs.Steps.{empty, names_with, name_number, with_op}
 use Rattle.litmus.specs.Random.{IsDrawn, drawn_op, with_fence, with_access, with_word, with_core}
 use Rattle.litmus.specs.AddressNameLaws.{name_is}
@@ -127,7 +127,7 @@ small_drawn word e a less = by (nat_lt (word % 8) 3) (nat_lt (word % 8) 6) (word
 
     by : (p q r : Bool) → Small (cond p (Ld a)
         (cond q (St a (e + 1)) (cond r (Swap a (e + 1)) (Add a (e + 1)))))
-    by true q r = omega arith
+    by true q r = tt
     by false true r = fits
     by false false true = fits
     by false false false = fits
@@ -135,15 +135,15 @@ small_drawn word e a less = by (nat_lt (word % 8) 3) (nat_lt (word % 8) 6) (word
 -- ---- one word more
 
 -- a fence keeps it
-keeps_fence : (n : ℕ) (p : Parts) → IsDrawn n p → 0 < length p.cores → op_count p.cores < MAX_EVENTS
+keeps_fence : (n : ℕ) (p : Body) → IsDrawn n p → 0 < length p.cores → op_count p.cores < MAX_EVENTS
     → IsDrawn n (with_fence p)
 keeps_fence n p h some room =
-    let g = grown p.names p.names [] p.cores Fence h.program some room (sym (append-nil p.names))
-    refl h.program.few_names h.program.lawful h.program.distinct (omega arith) in
-    record { program = g.program; drawn = h.drawn; names = h.names; distinct = h.distinct; below = h.below }
+    let g = grown p.names p.names [] p.cores Fence h.body some room (sym (append-nil p.names))
+    refl h.body.few_names h.body.lawful h.body.distinct tt in
+    record { body = g.body; drawn = h.drawn; names = h.names; distinct = h.distinct; below = h.below }
 
 -- an access keeps it
-keeps_access : (n : ℕ) (p : Parts) (word d : ℕ) → n ≤ MAX_ADDRESSES → IsDrawn n p → 0 < length p.cores
+keeps_access : (n : ℕ) (p : Body) (word d : ℕ) → n ≤ MAX_ADDRESSES → IsDrawn n p → 0 < length p.cores
     → op_count p.cores < MAX_EVENTS → d < n → IsDrawn n (with_access p word d)
 keeps_access n p word d limit h some room low =
     let name = address_name d in
@@ -156,13 +156,13 @@ keeps_access n p word d limit h some room low =
     let few : length more ≤ n =
     subst (λ (names : List Name). length names ≤ n) (sym drawn.names_are)
     (few_drawn n drawn.drawn drawn.distinct drawn.below) in
-    let m = one_name p.names name h.program.lawful h.program.distinct (named d (omega (arith, low, limit))) in
+    let m = one_name p.names name h.body.lawful h.body.distinct (named d (omega (arith, low, limit))) in
     let used : use_addr (length p.names) (addr_of op) ≡ Some (length more) =
     rw (addr_drawn word (op_count p.cores) a) m.used in
-    let g = grown p.names more m.extra p.cores op h.program some room m.kept used (omega (arith, few, limit))
+    let g = grown p.names more m.extra p.cores op h.body some room m.kept used (omega (arith, few, limit))
     m.lawful m.distinct (small_drawn word (op_count p.cores) a room) in
     record {
-      program = g.program;
+      body = g.body;
       drawn = drawn.drawn;
       names = drawn.names_are;
       distinct =
@@ -171,7 +171,7 @@ keeps_access n p word d limit h some room low =
     }
 
 -- one word keeps it
-pub keeps_word : (n : ℕ) (p : Parts) (word : ℕ) → 0 < n → n ≤ MAX_ADDRESSES → IsDrawn n p → 0 < length p.cores
+pub keeps_word : (n : ℕ) (p : Body) (word : ℕ) → 0 < n → n ≤ MAX_ADDRESSES → IsDrawn n p → 0 < length p.cores
     → op_count p.cores < MAX_EVENTS → IsDrawn n (with_word n p word)
 keeps_word n p word some_address limit h some room = by (word % 8 == 6)
   where
@@ -180,16 +180,16 @@ keeps_word n p word some_address limit h some room = by (word % 8 == 6)
     by false = keeps_access n p word (word / 16 % n) limit h some room (omega (arith, some_address))
 
 -- one core more keeps it
-pub keeps_core : (n : ℕ) (p : Parts) → IsDrawn n p → length p.cores < MAX_CORES → IsDrawn n (with_core p)
+pub keeps_core : (n : ℕ) (p : Body) → IsDrawn n p → length p.cores < MAX_CORES → IsDrawn n (with_core p)
 keeps_core n p h few = record {
-  program = record {
+  body = record {
     few_cores = omega (arith, few, length-append p.cores ([] ∷ []));
-    few_ops = omega (arith, h.program.few_ops, count-append p.cores []);
-    few_names = h.program.few_names;
-    values = all_push (AllByRecursion Small) p.cores [] h.program.values tt;
-    lawful = h.program.lawful;
-    distinct = h.program.distinct;
-    numbered = use_cores-push 0 p.cores [] ∙ rw h.program.numbered refl;
+    few_ops = omega (arith, h.body.few_ops, count-append p.cores []);
+    few_names = h.body.few_names;
+    values = all_push (AllByRecursion Small) p.cores [] h.body.values tt;
+    lawful = h.body.lawful;
+    distinct = h.body.distinct;
+    numbered = use_cores-push 0 p.cores [] ∙ rw h.body.numbered refl;
   };
   drawn = h.drawn;
   names = h.names;
@@ -201,7 +201,7 @@ keeps_core n p h few = record {
 pub keeps_empty : (n : ℕ) → IsDrawn n empty
 unfolding IsDistinct
 keeps_empty n = record {
-  program = record {
+  body = record {
     few_cores = omega arith;
     few_ops = omega arith;
     few_names = omega arith;
@@ -245,7 +245,7 @@ count_with cores op some =
     )
 
 -- after one word
-pub count_word : (n : ℕ) (p : Parts) (word : ℕ) → 0 < length p.cores
+pub count_word : (n : ℕ) (p : Body) (word : ℕ) → 0 < length p.cores
     → (op_count (with_word n p word).cores ≡ op_count p.cores + 1)
     × (length (with_word n p word).cores ≡ length p.cores)
 count_word n p word some = by (word % 8 == 6)
@@ -258,17 +258,17 @@ count_word n p word some = by (word % 8 == 6)
         (name_number p.names (address_name (word / 16 % n)))) some
 
 -- after one core
-pub count_core : (p : Parts) → (op_count (with_core p).cores ≡ op_count p.cores)
+pub count_core : (p : Body) → (op_count (with_core p).cores ≡ op_count p.cores)
     × (length (with_core p).cores ≡ length p.cores + 1)
 count_core p = (omega (arith, count-append p.cores []), length-append p.cores ([] ∷ []))
 
 -- an access, part by part
-pub access_is : (n word e a : ℕ) (old : Parts) (names : List Name) (cores : Cores) (name : Name)
+pub access_is : (n word e a : ℕ) (old : Body) (names : List Name) (cores : Cores) (name : Name)
     → word % 8 ≢ 6
     → name ≡ address_name (word / 16 % n) → names ≡ names_with old.names name → a ≡ name_number old.names name
     → e ≡ op_count old.cores
     → cores ≡ with_op old.cores (drawn_op word e a)
-    → (let p : Parts = record { names = names; cores = cores } in p) ≡ with_word n old word
+    → (let p : Body = record { names = names; cores = cores } in p) ≡ with_word n old word
 access_is n word e a old names cores name other this more number event after =
     let no_fence : (word % 8 == 6) ≡ false = ne_eqb (word % 8) 6 other in
     rw (no_fence, more, after, number, event, this) refl

@@ -4,7 +4,11 @@ pub mod ManyNames
 pub mod OneLine
 pub mod Cores
 pub mod OneStep
+pub mod Initial
+pub mod OneDraft
 pub mod OneText
+pub mod Cuts
+pub mod CoresAgain
 pub mod Again
 pub mod Parsing
 pub mod Soundness

@@ -3,12 +3,12 @@ use Rattle.std.proofs.Common.{◌≡◌, ℕ, zero, suc, ◌+◌, ◌-◌, ◌*�
 use Rattle.std.proofs.Common.{ap, ◌∙◌, subst}
 use Rattle.rand_core.specs.Steps.{first_words}
 use Rattle.rand_xoshiro.specs.Xoshiro256.{plus_plus}
-use Rattle.litmus.specs.Parts.{Parts}
+use Rattle.litmus.specs.Parts.{Body}
 use Rattle.litmus.specs.Random.{after_words, with_word, with_words, with_core, with_cores}
 use Rattle.litmus.specs.Shapes.{Sizes}
 
 -- the first of the next words
-pub words_turn : (n : ℕ) (p : Parts) (s : List ℕ) (k j : ℕ) → k ≡ suc j
+pub words_turn : (n : ℕ) (p : Body) (s : List ℕ) (k j : ℕ) → k ≡ suc j
     → with_words n p (first_words plus_plus k s)
     ≡ with_words n (with_word n p (plus_plus s).0) (first_words plus_plus j (plus_plus s).1)
 unfolding first_words
@@ -19,7 +19,7 @@ pub after_turn : (s : List ℕ) (k j : ℕ) → k ≡ suc j → after_words k s 
 after_turn s k j e = rw e refl
 
 -- no word is left
-pub words_end : (n : ℕ) (p : Parts) (s : List ℕ) (k : ℕ) → k ≡ 0 → with_words n p (first_words plus_plus k s)
+pub words_end : (n : ℕ) (p : Body) (s : List ℕ) (k : ℕ) → k ≡ 0 → with_words n p (first_words plus_plus k s)
     ≡ p
 unfolding first_words
 words_end n p s k e = rw e refl
@@ -48,7 +48,7 @@ after_both (suc a) b s = let e : suc a + b ≡ suc (a + b) = omega arith in
     rw e (after_both a b (plus_plus s).1)
 
 -- the words of the next core
-pub cores_turn : (z : Sizes) (p : Parts) (s : List ℕ) (k j m l : ℕ) → k ≡ suc j → m ≡ z.ops + l
+pub cores_turn : (z : Sizes) (p : Body) (s : List ℕ) (k j m l : ℕ) → k ≡ suc j → m ≡ z.ops + l
     → with_cores z k p (first_words plus_plus m s)
     ≡ with_cores z j (with_words z.addresses (with_core p) (first_words plus_plus z.ops s))
     (first_words plus_plus l (after_words z.ops s))
@@ -60,12 +60,16 @@ pub after_core : (ops : ℕ) (s : List ℕ) (m l : ℕ) → m ≡ ops + l → af
 after_core ops s m l f = rw f (after_both ops l s)
 
 -- no core is left
-pub cores_end : (z : Sizes) (p : Parts) (words : List ℕ) (k : ℕ) → k ≡ 0 → with_cores z k p words ≡ p
+pub cores_end : (z : Sizes) (p : Body) (words : List ℕ) (k : ℕ) → k ≡ 0 → with_cores z k p words ≡ p
 cores_end z p words k e = rw e refl
 
 -- the words of one core more
 pub more_words : (k j ops : ℕ) → k ≡ suc j → k * ops ≡ ops + j * ops
 more_words k j ops e = rw e (grind arith)
+
+-- no word is left where no core is
+pub no_words : (k ops : ℕ) → k ≡ 0 → k * ops ≡ 0
+no_words k ops e = rw e (grind arith)
 
 -- as many as those of the cores so far and one more
 pub so_many : (core ops : ℕ) → core * ops + ops ≡ (core + 1) * ops

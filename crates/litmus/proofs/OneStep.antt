@@ -1,52 +1,51 @@
--- After each line there is a program, and what was read so far is its text.
-use Rattle.std.proofs.Common.{◌≡◌, ℕ, ◌<◌, ◌≤◌, ◌==◌, ◌^◌, nat_lt, List, [], ◌∷◌, ◌++◌, length, Bool, true}
-use Rattle.std.proofs.Common.{false, cond, Option, Some, None, Result, Ok, Err, refl, arith, sym, ap, ◌∙◌}
-use Rattle.std.proofs.Common.{subst, codes}
+-- After each line of a core there are the names and operations of a program, and the line is their text.
+use Rattle.std.proofs.Common.{◌≡◌, ℕ, ◌<◌, ◌≤◌, ◌==◌, ◌^◌, ◌&&◌, nat_lt, List, [], ◌∷◌, ◌++◌, length, Bool}
+use Rattle.std.proofs.Common.{true, false, cond, Option, Some, None, Result, Ok, Err, refl, arith, sym, ap}
+use Rattle.std.proofs.Common.{◌∙◌, subst, codes}
 use Rattle.std.specs.List.{AllByRecursion, IsDistinct, flat_map}
 use Rattle.std.proofs.lemmas.Bool.{ltb-true, ltb-false, eqb-false}
 use Rattle.std.proofs.lemmas.List.{length-append, append-nil}
 use Rattle.std.proofs.lemmas.Grind.{flat_map-append}
 use Rattle.litmus.specs.declared.name.Name.{Name}
 use Rattle.litmus.specs.declared.op.Op.{Op}
-use Rattle.litmus.specs.declared.op.Op.TheVariants.{Ld, Fence}
+use Rattle.litmus.specs.declared.op.Op.TheVariants.{Ld, Fence, Cas}
 use Rattle.litmus.specs.declared.line.Write.{Write}
 use Rattle.litmus.specs.declared.line.Write.TheVariants as writes
 use Rattle.litmus.specs.declared.fault.LineFault.{LineFault}
 use Rattle.litmus.specs.declared.fault.LineFault.TheVariants.{L1, L2, L3, L4, L5}
 use Rattle.litmus.specs.declared.limits.TheConstants.{MAX_CORES, MAX_EVENTS, MAX_ADDRESSES}
 use Rattle.litmus.specs.Names.{AreLawful, name_eq, name_of, name_text}
-use Rattle.litmus.specs.Lines.{Line, core_line, fence_line, load_line, write_line, line_of}
-use Rattle.litmus.specs.Parts.{Small, Parts, IsProgram, op_count, addr_of, use_addr}
+use Rattle.litmus.specs.Lines.{load_line, write_line, compare_line}
+use Rattle.litmus.specs.Parts.{Small, Body, IsBody, op_count, addr_of, use_addr}
 use Rattle.litmus.specs.Steps.{names_with, name_number, with_op, write_op, op_fault, unless, core_step}
-use Rattle.litmus.specs.Steps.{fence_step, load_step, write_step, said_step, step}
-use Rattle.litmus.specs.Spelling.{spelling, core_text, op_text, line_text, name_at}
-use Rattle.litmus.proofs.OneLine.{Reads, line_reads}
+use Rattle.litmus.specs.Steps.{fence_step, load_step, write_step, compare_step}
+use Rattle.litmus.specs.Spelling.{body_text, core_text, op_text, line_text, name_at}
 use Rattle.litmus.specs.NameListLaws.{one_name, all_push}
 use Rattle.litmus.proofs.Cores.{Cores, last_core, with_op-is, count-append, use_with_op, use_cores-push}
 use Rattle.litmus.proofs.Cores.{cores_kept, text_more, small_more}
 
 -- a line that was read
-abbrev pub done : Parts → Result Parts LineFault
+abbrev pub done : Body → Result Body LineFault
 done p = Ok p
 
 -- two programs that are one answer
-ok_is : (p q : Parts) → done p ≡ done q → p ≡ q
+ok_is : (p q : Body) → done p ≡ done q → p ≡ q
 ok_is p q e = cc
 
 -- a test that was passed
-test_ok : (b : Bool) (p : Parts) (f : LineFault) (q : Parts) → cond b (done p) (Err f) ≡ done q →
+test_ok : (b : Bool) (p : Body) (f : LineFault) (q : Body) → cond b (done p) (Err f) ≡ done q →
     (b ≡ true) × (p ≡ q)
 test_ok true p f q e = (refl, ok_is p q e)
 test_ok false p f q e = absurd cc
 
 -- a fault that was not met
-guard_ok : (b : Bool) (r : Result Parts LineFault) (f : LineFault) (q : Parts) → cond b (Err f) r
+guard_ok : (b : Bool) (r : Result Body LineFault) (f : LineFault) (q : Body) → cond b (Err f) r
     ≡ done q → (b ≡ false) × (r ≡ done q)
 guard_ok true r f q e = absurd cc
 guard_ok false r f q e = (refl, e)
 
 -- no fault came first
-unless_ok : (o : Option LineFault) (r : Result Parts LineFault) (q : Parts) → unless o r ≡ done q →
+unless_ok : (o : Option LineFault) (r : Result Body LineFault) (q : Body) → unless o r ≡ done q →
     (o ≡ None) × (r ≡ done q)
 unless_ok None r q e = (refl, e)
 unless_ok (Some f) r q e = absurd cc
@@ -59,7 +58,7 @@ room_in false true f g e = (refl, refl)
 room_in false false f g e = absurd cc
 
 -- where an operation may come there is a core, and room
-pub op_room : (p : Parts) → op_fault p ≡ None → (0 < length p.cores) ×
+pub op_room : (p : Body) → op_fault p ≡ None → (0 < length p.cores) ×
     (op_count p.cores < MAX_EVENTS)
 op_room p e =
     let r = room_in (length p.cores == 0) (nat_lt (op_count p.cores) MAX_EVENTS) L1 L3 e in
@@ -67,13 +66,13 @@ op_room p e =
 
 pub record Grown (names : List Name) (cores : Cores) (op : Op) (more : List Name)
     (after : Cores) : Type 0 where
-  pub program : IsProgram (record { names = more; cores = after })
-  pub text : spelling (record { names = more; cores = after })
-      ≡ spelling (record { names = names; cores = cores }) ++ op_text more op
+  pub body : IsBody (record { names = more; cores = after })
+  pub text : body_text (record { names = more; cores = after })
+      ≡ body_text (record { names = names; cores = cores }) ++ op_text more op
 
--- one operation more in the last core keeps a program
+-- one operation more in the last core keeps it
 grown_at : (names more extra : List Name) (front : Cores) (last : List Op) (op : Op) →
-    IsProgram (record { names = names; cores = front ++ last ∷ [] }) →
+    IsBody (record { names = names; cores = front ++ last ∷ [] }) →
     op_count (front ++ last ∷ []) < MAX_EVENTS → more ≡ names ++ extra → use_addr (length names)
     (addr_of op) ≡ Some (length more) → length more ≤ MAX_ADDRESSES →
     AreLawful more → IsDistinct name_eq more → Small op →
@@ -81,7 +80,7 @@ grown_at : (names more extra : List Name) (front : Cores) (last : List Op) (op :
 grown_at names more extra front last op h room kept used few lawful distinct small =
     let cores = front ++ last ∷ [] in
     record {
-      program = record {
+      body = record {
         few_cores = omega (
           arith,
           h.few_cores,
@@ -107,9 +106,9 @@ grown_at names more extra front last op h room kept used few lawful distinct sma
           text_more more front last op ∙ ap (λ t. t ++ op_text more op) old;
     }
 
--- one operation more keeps a program
+-- one operation more keeps it
 pub grown : (names more extra : List Name) (cores : Cores) (op : Op) →
-    IsProgram (record { names = names; cores = cores }) →
+    IsBody (record { names = names; cores = cores }) →
     0 < length cores → op_count cores < MAX_EVENTS → more ≡ names ++ extra → use_addr (length names)
     (addr_of op) ≡ Some (length more) → length more ≤ MAX_ADDRESSES →
     AreLawful more → IsDistinct name_eq more → Small op →
@@ -118,8 +117,8 @@ grown names more extra cores op h some room kept used few lawful distinct small 
     let parts = last_core cores some in
     let front = parts.0 in
     let last = parts.1 in
-    let there : IsProgram (record { names = names; cores = front ++ last ∷ [] }) =
-    subst (λ (cs : Cores). IsProgram (record { names = names; cores = cs })) parts.2 h in
+    let there : IsBody (record { names = names; cores = front ++ last ∷ [] }) =
+    subst (λ (cs : Cores). IsBody (record { names = names; cores = cs })) parts.2 h in
     let count : op_count (front ++ last ∷ []) < MAX_EVENTS =
     subst (λ (cs : Cores). op_count cs < MAX_EVENTS) parts.2 room in
     let at = grown_at names more extra front last op there count kept used few lawful distinct
@@ -131,20 +130,20 @@ grown names more extra cores op h some room kept used few lawful distinct small 
     subst (λ (cs : Cores). Grown names cs op more (with_op cores op)) (sym parts.2) one
 
 -- what holds after a line
-pub record Keeps (p : Parts) (line : List ℕ) (q : Parts) : Type 0 where
-  pub program : IsProgram q
-  pub text : spelling q ≡ spelling p ++ (line ++ 10 ∷ [])
+pub record Keeps (p : Body) (line : List ℕ) (q : Body) : Type 0 where
+  pub body : IsBody q
+  pub text : body_text q ≡ body_text p ++ (line ++ 10 ∷ [])
 
 -- one operation more is one line more
-keeps_op : (p : Parts) (line : List ℕ) (op : Op) (more : List Name) (text : List ℕ) →
+keeps_op : (p : Body) (line : List ℕ) (op : Op) (more : List Name) (text : List ℕ) →
     Grown p.names p.cores op more (with_op p.cores op) → op_text more op ≡ text ++ 10 ∷ [] → text
     ≡ line →
     Keeps p line (record { names = more; cores = with_op p.cores op })
 keeps_op p line op more text g this is =
-    record { program = g.program; text = g.text ∙ rw this (rw is refl) }
+    record { body = g.body; text = g.text ∙ rw this (rw is refl) }
 
--- after the line of a core there is a program
-keeps_core : (p q : Parts) (line : List ℕ) → IsProgram p → codes "core" ≡ line → core_step p
+-- after the line of a core there is a body
+pub keeps_core : (p q : Body) (line : List ℕ) → IsBody p → codes "core" ≡ line → core_step p
     ≡ Ok q → Keeps p line q
 unfolding core_step
 keeps_core p q line h is e =
@@ -152,7 +151,7 @@ keeps_core p q line h is e =
     (record p { cores = p.cores ++ [] ∷ [] }) L2 q e in
     let few = ltb-true _ _ t.0 in
     rw (← t.1) (record {
-      program = record {
+      body = record {
         few_cores = omega (arith, few, length-append p.cores ([] ∷ []));
         few_ops = omega (arith, h.few_ops, count-append p.cores []);
         few_names = h.few_names;
@@ -162,35 +161,35 @@ keeps_core p q line h is e =
         numbered = use_cores-push 0 p.cores [] ∙ rw h.numbered refl;
       };
       text = flat_map-append (core_text p.names) p.cores ([] ∷ [])
-          ∙ ap (λ t'. spelling p ++ (t' ++ 10 ∷ [])) is;
+          ∙ ap (λ t'. body_text p ++ (t' ++ 10 ∷ [])) is;
     })
 
--- after the line of a fence there is a program
-keeps_fence : (p q : Parts) (line : List ℕ) → IsProgram p → codes "fence" ≡ line → fence_step p
+-- after the line of a fence there is a body
+pub keeps_fence : (p q : Body) (line : List ℕ) → IsBody p → codes "fence" ≡ line → fence_step p
     ≡ Ok q → Keeps p line q
 unfolding fence_step
 keeps_fence p q line h is e =
     let u = unless_ok (op_fault p) (done (record p { cores = with_op p.cores Fence })) q e in
     let room = op_room p u.0 in
     let g = grown p.names p.names [] p.cores Fence h room.0 room.1 (sym (append-nil p.names)) refl
-    h.few_names h.lawful h.distinct (omega arith) in
+    h.few_names h.lawful h.distinct tt in
     rw (← ok_is _ _ u.1) (keeps_op p line Fence p.names (codes "fence") g refl is)
 
--- after the line of a load there is a program
-keeps_load : (p q : Parts) (line : List ℕ) (name : Name) → IsProgram p → name_of (name_text name)
+-- after the line of a load there is a body
+pub keeps_load : (p q : Body) (line : List ℕ) (name : Name) → IsBody p → name_of (name_text name)
     ≡ Some name → line_text (load_line name) ≡ line → load_step p name ≡ Ok q → Keeps p line q
 unfolding load_step
 keeps_load p q line name h named is e =
     let more = names_with p.names name in
     let op = Ld (name_number p.names name) in
-    let after : Parts = record { names = more; cores = with_op p.cores op } in
+    let after : Body = record { names = more; cores = with_op p.cores op } in
     let u = unless_ok (op_fault p)
     (cond (nat_lt MAX_ADDRESSES (length more)) (Err L4) (done after)) q e in
     let room = op_room p u.0 in
     let few = guard_ok (nat_lt MAX_ADDRESSES (length more)) (done after) L4 q u.1 in
     let n = one_name p.names name h.lawful h.distinct named in
     let g = grown p.names more n.extra p.cores op h room.0 room.1 n.kept n.used
-    (ltb-false _ _ few.0) n.lawful n.distinct (omega arith) in
+    (ltb-false _ _ few.0) n.lawful n.distinct tt in
     let this : op_text more op ≡ line_text (load_line name) ++ 10 ∷ [] =
     ap (λ (m : Name). line_text (load_line m) ++ 10 ∷ []) n.there in
     rw (← ok_is after q few.1) (keeps_op p line op more (line_text (load_line name)) g this is)
@@ -214,8 +213,8 @@ written_small writes.Store a n h = h
 written_small writes.Swap a n h = h
 written_small writes.Add a n h = h
 
--- after the line of a write there is a program
-keeps_write : (p q : Parts) (line : List ℕ) (write : Write) (name : Name) (n : ℕ) → IsProgram p →
+-- after the line of a write there is a body
+pub keeps_write : (p q : Body) (line : List ℕ) (write : Write) (name : Name) (n : ℕ) → IsBody p →
     name_of (name_text name) ≡ Some name →
     (n < 2 ^ 32 → line_text (write_line write name n) ≡ line) →
     write_step p write name n ≡ Ok q → Keeps p line q
@@ -224,7 +223,7 @@ keeps_write p q line write name n h named is e =
     let more = names_with p.names name in
     let a = name_number p.names name in
     let op = write_op write a n in
-    let after : Parts = record { names = more; cores = with_op p.cores op } in
+    let after : Body = record { names = more; cores = with_op p.cores op } in
     let u = unless_ok (op_fault p)
     (cond (nat_lt MAX_ADDRESSES (length more)) (Err L4)
     (cond (nat_lt n (2 ^ 32)) (done after) (Err L5))) q e in
@@ -243,23 +242,33 @@ keeps_write p q line write name n h named is e =
     ∙ ap (λ (o : Name). line_text (write_line write o n) ++ 10 ∷ []) m.there in
     rw (← fits.1) (keeps_op p line op more (line_text (write_line write name n)) g this (is small))
 
--- after a line of the grammar there is a program
-keeps_said : (p q : Parts) (line : List ℕ) (l : Line) → IsProgram p → Reads l line →
-    said_step p (Some l) ≡ Ok q → Keeps p line q
-keeps_said p q line core_line h r e = keeps_core p q line h (r.text_is tt) e
-keeps_said p q line fence_line h r e = keeps_fence p q line h (r.text_is tt) e
-keeps_said p q line (load_line name) h r e = keeps_load p q line name h r.named (r.text_is tt) e
-keeps_said p q line (write_line write name n) h r e =
-    keeps_write p q line write name n h r.named r.text_is e
+-- both values fit
+both_fit : (a b : Bool) → (a && b) ≡ true → (a ≡ true) × (b ≡ true)
+both_fit true b e = (refl, e)
+both_fit false b e = absurd cc
 
--- after a line that is read there is a program, and its text is one line longer
-pub step_keeps : (p q : Parts) (line : List ℕ) → IsProgram p → step p line ≡ Ok q → Keeps p line q
-step_keeps p q line h e = by (line_of line) refl
-  where
-    by : (o : Option Line) → line_of line ≡ o → Keeps p line q
-    by None is = absurd (none_ok (sym (ap (λ (o : Option Line). said_step p o) is) ∙ e))
-      where
-        none_ok : said_step p None ≡ done q → ⊥
-        none_ok f = cc
-    by (Some l) is = keeps_said p q line l h (line_reads line l is)
-        (sym (ap (λ (o : Option Line). said_step p o) is) ∙ e)
+-- after the line of a compare-and-swap there is a body
+pub keeps_compare : (p q : Body) (line : List ℕ) (name : Name) (v n : ℕ) → IsBody p →
+    name_of (name_text name) ≡ Some name →
+    ((v < 2 ^ 32) × (n < 2 ^ 32) → line_text (compare_line name v n) ≡ line) →
+    compare_step p name v n ≡ Ok q → Keeps p line q
+unfolding compare_step
+keeps_compare p q line name v n h named is e =
+    let more = names_with p.names name in
+    let a = name_number p.names name in
+    let op = Cas a v n in
+    let after : Body = record { names = more; cores = with_op p.cores op } in
+    let fit = nat_lt v (2 ^ 32) && nat_lt n (2 ^ 32) in
+    let u = unless_ok (op_fault p)
+    (cond (nat_lt MAX_ADDRESSES (length more)) (Err L4) (cond fit (done after) (Err L5))) q e in
+    let room = op_room p u.0 in
+    let few = guard_ok (nat_lt MAX_ADDRESSES (length more)) (cond fit (done after) (Err L5)) L4 q u.1 in
+    let fits = test_ok fit after L5 q few.1 in
+    let both = both_fit (nat_lt v (2 ^ 32)) (nat_lt n (2 ^ 32)) fits.0 in
+    let small : (v < 2 ^ 32) × (n < 2 ^ 32) = (ltb-true _ _ both.0, ltb-true _ _ both.1) in
+    let m = one_name p.names name h.lawful h.distinct named in
+    let g = grown p.names more m.extra p.cores op h room.0 room.1 m.kept m.used (ltb-false _ _ few.0)
+    m.lawful m.distinct small in
+    let this : op_text more op ≡ line_text (compare_line name v n) ++ 10 ∷ [] =
+    ap (λ (o : Name). line_text (compare_line o v n) ++ 10 ∷ []) m.there in
+    rw (← fits.1) (keeps_op p line op more (line_text (compare_line name v n)) g this (is small))

@@ -3,7 +3,7 @@ use Rattle.std.proofs.Common.{◌≡◌, ℕ, ◌≤◌, List, [], ◌∷◌, So
 use Rattle.std.specs.Prelude.{All}
 use Rattle.std.proofs.lemmas.List.Elements.{All-nil, All-cons}
 use Rattle.litmus.specs.declared.op.Op.{Op}
-use Rattle.litmus.specs.declared.op.Op.TheVariants.{St, Ld, Fence, Swap, Add}
+use Rattle.litmus.specs.declared.op.Op.TheVariants.{St, Ld, Fence, Swap, Add, Cas}
 use Rattle.litmus.specs.Parts.{IsWithin, addr_of, use_addr, use_ops, use_cores}
 use Rattle.litmus.proofs.OnLists.{bind_some}
 use Rattle.litmus.proofs.Cores.{use_below, ops_grow, cores_grow}
@@ -15,6 +15,7 @@ op_within (Ld a) m j k e le = let h = use_below m a j e in omega (arith, h.0, le
 op_within Fence m j k e le = tt
 op_within (Swap a v) m j k e le = let h = use_below m a j e in omega (arith, h.0, le)
 op_within (Add a v) m j k e le = let h = use_below m a j e in omega (arith, h.0, le)
+op_within (Cas a r v) m j k e le = let h = use_below m a j e in omega (arith, h.0, le)
 
 -- the same for a core's operations
 ops_within : (ops : List Op) (m j k : ℕ) → use_ops m ops ≡ Some j → j ≤ k → All (IsWithin k) ops

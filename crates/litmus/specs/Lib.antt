@@ -8,6 +8,7 @@ pub mod Said
 pub mod Parts
 pub mod PartLaws
 pub mod Steps
+pub mod Drafts
 pub mod Reading
 pub mod ReadingLaws
 pub mod Text

@@ -1,21 +1,31 @@
--- What a program is: its names, and for each core its operations.
+-- What a program is: its names, for each core its operations, and the initial values.
 use Rattle.std.specs.Prelude.{◌≡◌, ◌≤◌, ◌<◌, ◌^◌, ◌+◌, ◌==◌, ℕ, List, [], ◌∷◌, Option, Some, None, length}
 use Rattle.std.specs.Prelude.{sum_by, nat_lt, if◌then◌else◌, option_and_then, ⊤}
 use Rattle.std.specs.List.{AllByRecursion, IsDistinct}
 use Rattle.litmus.specs.declared.name.Name.{Name}
 use Rattle.litmus.specs.declared.op.Op.{Op}
-use Rattle.litmus.specs.declared.op.Op.TheVariants.{St, Ld, Fence, Swap, Add}
+use Rattle.litmus.specs.declared.op.Op.TheVariants.{St, Ld, Fence, Swap, Add, Cas}
 use Rattle.litmus.specs.declared.limits.TheConstants.{MAX_CORES, MAX_EVENTS, MAX_ADDRESSES}
 use Rattle.litmus.specs.Names.{name_eq, AreLawful}
 
 -- the names in order of first use, and the operations of each core in program order
-pub record Parts : Type 0 where
+pub record Body : Type 0 where
   pub names : List Name
   pub cores : List (List Op)
 
--- the program of these names and operations
-abbrev pub parts_of : List Name → List (List Op) → Parts
-parts_of names cores = record { names = names; cores = cores }
+-- the same, and the initial value of each address
+pub record Parts : Type 0 where
+  pub names : List Name
+  pub cores : List (List Op)
+  pub init : List ℕ
+
+-- the program of these names, operations and initial values
+abbrev pub parts_of : List Name → List (List Op) → List ℕ → Parts
+parts_of names cores init = record { names = names; cores = cores; init = init }
+
+-- a program without its initial values
+abbrev pub body_of : Parts → Body
+body_of p = record { names = p.names; cores = p.cores }
 
 -- how many operations there are
 abbrev pub op_count : List (List Op) → ℕ
@@ -28,14 +38,7 @@ addr_of (Ld a) = Some a
 addr_of Fence = None
 addr_of (Swap a n) = Some a
 addr_of (Add a n) = Some a
-
--- the value of an operation, 0 where it has none
-abbrev pub value_of : Op → ℕ
-value_of (St a n) = n
-value_of (Ld a) = 0
-value_of Fence = 0
-value_of (Swap a n) = n
-value_of (Add a n) = n
+addr_of (Cas a e n) = Some a
 
 -- an operation's address, if it has one, is below n
 abbrev pub IsWithin : ℕ → Op → Type 0
@@ -44,10 +47,20 @@ IsWithin n (Ld a) = a < n
 IsWithin n Fence = ⊤
 IsWithin n (Swap a v) = a < n
 IsWithin n (Add a v) = a < n
+IsWithin n (Cas a e v) = a < n
 
 -- a value of 32 bits
+abbrev pub IsSmall : ℕ → Type 0
+IsSmall n = n < 2 ^ 32
+
+-- values of 32 bits
 abbrev pub Small : Op → Type 0
-Small op = value_of op < 2 ^ 32
+Small (St a n) = IsSmall n
+Small (Ld a) = ⊤
+Small Fence = ⊤
+Small (Swap a n) = IsSmall n
+Small (Add a n) = IsSmall n
+Small (Cas a e n) = IsSmall e × IsSmall n
 
 -- how many addresses were used after this one, where the first m were used before
 abbrev pub use_addr : ℕ → Option ℕ → Option ℕ
@@ -64,7 +77,17 @@ abbrev pub use_cores : ℕ → List (List Op) → Option ℕ
 use_cores m [] = Some m
 use_cores m (ops ∷ cores) = option_and_then (λ k. use_cores k cores) (use_ops m ops)
 
--- a program within the limits, whose names are lawful, distinct, and those of its addresses
+-- cores within the limits, whose names are lawful, distinct, and those of their addresses
+pub record IsBody (p : Body) : Type 0 where
+  pub few_cores : length p.cores ≤ MAX_CORES
+  pub few_ops : op_count p.cores ≤ MAX_EVENTS
+  pub few_names : length p.names ≤ MAX_ADDRESSES
+  pub values : AllByRecursion (AllByRecursion Small) p.cores
+  pub lawful : AreLawful p.names
+  pub distinct : IsDistinct name_eq p.names
+  pub numbered : use_cores 0 p.cores ≡ Some (length p.names)
+
+-- the same of a program, with one initial value of 32 bits for each address
 pub record IsProgram (p : Parts) : Type 0 where
   pub few_cores : length p.cores ≤ MAX_CORES
   pub few_ops : op_count p.cores ≤ MAX_EVENTS
@@ -73,3 +96,5 @@ pub record IsProgram (p : Parts) : Type 0 where
   pub lawful : AreLawful p.names
   pub distinct : IsDistinct name_eq p.names
   pub numbered : use_cores 0 p.cores ≡ Some (length p.names)
+  pub init_length : length p.init ≡ length p.names
+  pub init_values : AllByRecursion IsSmall p.init

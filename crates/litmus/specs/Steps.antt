@@ -1,5 +1,5 @@
--- What a line does to what was read before it.
-use Rattle.std.specs.Prelude.{ℕ, List, [], ◌∷◌, ◌++◌, ◌-◌, ◌^◌, ◌==◌, nat_lt, length, slice_set}
+-- What a line does to the names and operations that were read before it.
+use Rattle.std.specs.Prelude.{ℕ, List, [], ◌∷◌, ◌++◌, ◌-◌, ◌^◌, ◌==◌, ◌&&◌, nat_lt, length, slice_set}
 use Rattle.std.specs.Prelude.{slice_index_or, Option, None, Some, Result, Ok, Err, if◌then◌else◌}
 use Rattle.std.specs.List.{position_or_len}
 use Rattle.indexmap.specs.IndexSet.{insert_key}
@@ -7,16 +7,15 @@ use Rattle.litmus.specs.declared.name.Name.{Name}
 use Rattle.litmus.specs.declared.line.Write.{Write}
 use Rattle.litmus.specs.declared.line.Write.TheVariants as writes
 use Rattle.litmus.specs.declared.op.Op.{Op}
-use Rattle.litmus.specs.declared.op.Op.TheVariants.{St, Ld, Fence, Swap, Add}
+use Rattle.litmus.specs.declared.op.Op.TheVariants.{St, Ld, Fence, Swap, Add, Cas}
 use Rattle.litmus.specs.declared.fault.LineFault.{LineFault}
 use Rattle.litmus.specs.declared.fault.LineFault.TheVariants.{L1, L2, L3, L4, L5}
 use Rattle.litmus.specs.declared.limits.TheConstants.{MAX_CORES, MAX_EVENTS, MAX_ADDRESSES}
 use Rattle.litmus.specs.Names.{name_eq}
-use Rattle.litmus.specs.Lines.{Line, core_line, fence_line, load_line, write_line, line_of}
-use Rattle.litmus.specs.Parts.{Parts, op_count}
+use Rattle.litmus.specs.Parts.{Body, op_count}
 
 -- what is read from no line
-abbrev pub empty : Parts
+abbrev pub empty : Body
 empty = record { names = []; cores = [] }
 
 -- the names, with one that may be new at the end
@@ -39,35 +38,35 @@ write_op writes.Swap a n = Swap a n
 write_op writes.Add a n = Add a n
 
 -- whether an operation may come
-abbrev pub op_fault : Parts → Option LineFault
+abbrev pub op_fault : Body → Option LineFault
 op_fault p =
     if length p.cores == 0 then Some L1
     else (if nat_lt (op_count p.cores) MAX_EVENTS then None else Some L3)
 
 -- an answer, unless there is a fault before it
-abbrev pub unless : Option LineFault → Result Parts LineFault → Result Parts LineFault
+abbrev pub unless : {S : Type 0} → Option LineFault → Result S LineFault → Result S LineFault
 unless None r = r
 unless (Some f) r = Err f
 
 -- a new core begins
-unfoldable pub core_step : Parts → Result Parts LineFault
+unfoldable pub core_step : Body → Result Body LineFault
 core_step p = if nat_lt (length p.cores) MAX_CORES then Ok (record p {
   cores =
       p.cores ++ [] ∷ [];
 }) else Err L2
 
 -- a fence comes
-unfoldable pub fence_step : Parts → Result Parts LineFault
+unfoldable pub fence_step : Body → Result Body LineFault
 fence_step p = unless (op_fault p) (Ok (record p { cores = with_op p.cores Fence }))
 
 -- an operation with a name comes: its address is tested, and then there is this answer
-abbrev pub at_name : Parts → Name → Result Parts LineFault → Result Parts LineFault
+abbrev pub at_name : Body → Name → Result Body LineFault → Result Body LineFault
 at_name p name r =
     unless (op_fault p)
     (if nat_lt MAX_ADDRESSES (length (names_with p.names name)) then Err L4 else r)
 
 -- a load comes
-unfoldable pub load_step : Parts → Name → Result Parts LineFault
+unfoldable pub load_step : Body → Name → Result Body LineFault
 load_step p name =
     at_name p name
     (Ok (record {
@@ -76,7 +75,7 @@ load_step p name =
     }))
 
 -- a write comes: its address is tested, and then its value
-unfoldable pub write_step : Parts → Write → Name → ℕ → Result Parts LineFault
+unfoldable pub write_step : Body → Write → Name → ℕ → Result Body LineFault
 write_step p write name n =
     at_name p name
     (if nat_lt n (2 ^ 32)
@@ -86,14 +85,13 @@ write_step p write name n =
     })
     else Err L5)
 
--- what a line does, which may be outside the grammar
-abbrev pub said_step : Parts → Option Line → Result Parts LineFault
-said_step p None = Err L1
-said_step p (Some core_line) = core_step p
-said_step p (Some fence_line) = fence_step p
-said_step p (Some (load_line name)) = load_step p name
-said_step p (Some (write_line write name n)) = write_step p write name n
-
--- what the bytes of a line do
-abbrev pub step : Parts → List ℕ → Result Parts LineFault
-step p line = said_step p (line_of line)
+-- a compare-and-swap comes: its address is tested, and then its values
+unfoldable pub compare_step : Body → Name → ℕ → ℕ → Result Body LineFault
+compare_step p name e n =
+    at_name p name
+    (if nat_lt e (2 ^ 32) && nat_lt n (2 ^ 32)
+    then Ok (record {
+      names = names_with p.names name;
+      cores = with_op p.cores (Cas (name_number p.names name) e n);
+    })
+    else Err L5)

@@ -1,4 +1,4 @@
-//! What was read so far.
+//! The names and operations so far.
 
 ghost use Rattle.std.specs.Prelude.{◌≡◌, nat_lt};
 ghost use Rattle.litmus.specs.Parts.{op_count};
@@ -7,7 +7,7 @@ ghost use Rattle.litmus.specs.Steps.{write_op};
 use crate::fault::{LineFault, LitmusError};
 use crate::ids::Addr;
 use crate::limits::{MAX_ADDRESSES, MAX_CORES, MAX_EVENTS};
-use crate::line::{Said, Write, line_of};
+use crate::line::Write;
 use crate::name::Name;
 use crate::number::Number;
 use crate::op::{Op, Ops};
@@ -40,11 +40,11 @@ pub struct Builder {
 impl Builder {
     ghost use Rattle.std.specs.Prelude.{◌≡◌, ◌≤◌, ◌<◌, ◌^◌, ℕ, Err, Ok, None, Result, OnOk, IfOk, IfErr};
     ghost use Rattle.std.specs.Prelude.{length, nat_lt};
-    ghost use Rattle.litmus.specs.Parts.{Parts, op_count, addr_of};
+    ghost use Rattle.litmus.specs.Parts.{Body, op_count};
     ghost use Rattle.litmus.specs.declared.fault.LineFault.{LineFault};
     ghost use Rattle.litmus.specs.declared.line_error.LineError.TheVariants.{OutOfMemory};
-    ghost use Rattle.litmus.specs.Steps.{empty, step, core_step, fence_step, load_step, write_step, op_fault};
-    ghost use Rattle.litmus.specs.Steps.{at_name, names_with, name_number, with_op, write_op};
+    ghost use Rattle.litmus.specs.Steps.{empty, core_step, fence_step, load_step, write_step, op_fault};
+    ghost use Rattle.litmus.specs.Steps.{at_name, names_with, name_number, with_op, write_op, compare_step};
     ghost use Rattle.litmus.specs.Numbers.{IsValue};
     ghost use Rattle.litmus.specs.Reading.{AnswersLine, seen_as};
     ghost use Rattle.litmus.specs.declared.line.Write.{Write};
@@ -59,8 +59,9 @@ impl Builder {
         }
     }
 
+    /// A line `core`.
     #[tactic(auto, unfolding(crate::specs::Steps::core_step))]
-    fn begin_core(&mut self, alloc: Global, number: usize) -> Result<(), LitmusError>
+    pub fn begin_core(&mut self, alloc: Global, number: usize) -> Result<(), LitmusError>
         ensures { AnswersLine (seen_as result (λ _. state self.new)) number
             (core_step (state self.old)) }
     {
@@ -94,8 +95,9 @@ impl Builder {
         Ok(())
     }
 
+    /// A line `fence`.
     #[tactic(auto, unfolding(crate::specs::Steps::fence_step))]
-    fn fence(&mut self, number: usize) -> Result<(), LitmusError>
+    pub fn fence(&mut self, number: usize) -> Result<(), LitmusError>
         ensures { AnswersLine (seen_as result (λ _. state self.new)) number
             (fence_step (state self.old)) }
     {
@@ -107,9 +109,9 @@ impl Builder {
 
     /// The address of a name, where an operation with it may come; else the line's fault.
     fn address_of(&mut self, name: Name, number: usize) -> Result<Addr, LitmusError>
-        ensures ok { OnOk result ((r : Result Parts LineFault) →
+        ensures ok { OnOk result ((r : Result Body LineFault) →
             at_name (state self.old) name r ≡ r) }
-        ensures err { IfErr result (λ e. (r : Result Parts LineFault) →
+        ensures err { IfErr result (λ e. (r : Result Body LineFault) →
             AnswersLine (Err e) number (at_name (state self.old) name r)) }
         ensures address { IfOk result (λ addr. addr ≡ name_number self.old.names.keys name) }
         ensures names { OnOk result (self.new.names.keys ≡ names_with self.old.names.keys name) }
@@ -126,8 +128,9 @@ impl Builder {
         Ok(addr as Addr)
     }
 
+    /// A line `ld`.
     #[tactic(auto, unfolding(crate::specs::Steps::load_step))]
-    fn load(&mut self, name: Name, number: usize) -> Result<(), LitmusError>
+    pub fn load(&mut self, name: Name, number: usize) -> Result<(), LitmusError>
         ensures { AnswersLine (seen_as result (λ _. state self.new)) number
             (load_step (state self.old) name) }
     {
@@ -135,9 +138,9 @@ impl Builder {
         self.push(Op::Ld(addr))
     }
 
-    // The addresses are tested before the value.
+    /// A line `st`, `swap` or `add`. The addresses are tested before the value.
     #[tactic(auto, unfolding(crate::specs::Steps::write_step))]
-    fn write(
+    pub fn write(
         &mut self,
         write: Write,
         name: Name,
@@ -155,22 +158,25 @@ impl Builder {
         }
     }
 
-    /// Takes line `number`. After an error what was read so far is of no use.
-    pub fn take_line(
+    /// A line `cas`. The addresses are tested before the values.
+    #[tactic(auto, unfolding(crate::specs::Steps::compare_step))]
+    pub fn compare(
         &mut self,
-        alloc: Global,
-        line: &[u8],
+        name: Name,
+        expected: Number,
+        value: Number,
         number: usize,
     ) -> Result<(), LitmusError>
-        ensures { AnswersLine (seen_as result (λ _. state self.new)) number
-            (step (state self.old) line.now) }
+        ensures { (e n : ℕ) → IsValue expected e → IsValue value n →
+            AnswersLine (seen_as result (λ _. state self.new)) number
+            (compare_step (state self.old) name e n) }
     {
-        match line_of(line) {
-            None => Err(LitmusError::AtLine(LineFault::L1, number)),
-            Some(Said::Core) => self.begin_core(alloc, number),
-            Some(Said::Fence) => self.fence(number),
-            Some(Said::Load(name)) => self.load(name, number),
-            Some(Said::Write(write, name, value)) => self.write(write, name, value, number),
+        let addr = self.address_of(name, number)?;
+        match (expected, value) {
+            (Number::Value(expected), Number::Value(value)) => {
+                self.push(Op::Cas(addr, expected, value))
+            }
+            _ => Err(LitmusError::AtLine(LineFault::L5, number)),
         }
     }
 }

@@ -1,10 +1,10 @@
-//! Whether names and operations are those of a program.
+//! Whether names, operations and initial values are those of a program.
 
 ghost use Rattle.std.specs.Prelude.{◌≡◌, ◌<◌, ◌^◌, IsTrue, IsSome, true, false};
 ghost use Rattle.std.specs.List.{AllByRecursion};
 ghost use Rattle.litmus.specs.Names.{AreLawful};
-ghost use Rattle.litmus.specs.Parts.{IsProgram, Small, parts_of, addr_of, value_of, use_addr, use_ops};
-ghost use Rattle.litmus.specs.Parts.{use_cores};
+ghost use Rattle.litmus.specs.Parts.{IsProgram, IsSmall, Small, addr_of, parts_of};
+ghost use Rattle.litmus.specs.Parts.{use_addr, use_cores, use_ops};
 
 use crate::builder::are_below;
 use crate::limits::{MAX_ADDRESSES, MAX_CORES, MAX_EVENTS};
@@ -35,6 +35,7 @@ fn use_op(used: usize, op: Op) -> Option<usize>
         Op::Fence => return Some(used),
         Op::Swap(addr, _) => addr,
         Op::Add(addr, _) => addr,
+        Op::Cas(addr, _, _) => addr,
     };
     use_addr(used, addr)
 }
@@ -71,11 +72,24 @@ fn use_cores(cores: &[Ops]) -> Option<usize>
     Some(used)
 }
 
-/// Whether these are the names and operations of a program.
-pub(crate) fn is_program(names: &IndexSet<Name>, cores: &[Ops]) -> bool
-    ensures yes { result ≡ true → IsProgram (parts_of names.now.keys cores.now) }
-    ensures other { result ≡ false → IsProgram (parts_of names.now.keys cores.now) → ⊥ }
+// What every list of values keeps. It does nothing.
+fn are_small(init: &[u32])
+    ensures { AllByRecursion IsSmall init.now }
 {
+    for value in init {
+        let _value = value;
+    }
+}
+
+/// Whether these are the names, operations and initial values of a program.
+pub(crate) fn is_program(names: &IndexSet<Name>, cores: &[Ops], init: &[u32]) -> bool
+    ensures yes { result ≡ true → IsProgram (parts_of names.now.keys cores.now init.now) }
+    ensures other { result ≡ false → IsProgram (parts_of names.now.keys cores.now init.now) → ⊥ }
+{
+    are_small(init);
+    if init.len() != names.len() {
+        return false;
+    }
     if MAX_CORES < cores.len() {
         return false;
     }

@@ -19,6 +19,7 @@ mod one_text;
 mod op;
 mod program;
 mod random;
+mod reader;
 mod same;
 mod shape;
 mod shape_error;

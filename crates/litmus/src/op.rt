@@ -22,6 +22,9 @@ pub enum Op {
     /// An atomic read-modify-write: reads the old value, and writes its sum with this one, modulo
     /// 2^32.
     Add(Addr, u32),
+    /// An atomic compare-and-swap: reads the old value and, where that is the first value, writes the
+    /// second; else it writes nothing.
+    Cas(Addr, u32, u32),
 }
 
 /// The operations of one core, in program order.

@@ -6,17 +6,18 @@ use crate::limits::{MAX_ADDRESSES, MAX_CORES, MAX_EVENTS};
 use crate::memory::OutOfMemory;
 use crate::name::{Name, copy_names};
 use crate::op::{Op, Ops, copies_of};
-use crate::same::{are_same_cores, are_same_names};
+use crate::same::{are_same_cores, are_same_names, are_same_values};
 use indexmap::IndexSet;
 use std::alloc::Global;
 use std::marker::Model;
 
-/// A litmus program: the names of its addresses in order of first use, and the operations of each
-/// core in program order.
+/// A litmus program: the names of its addresses in order of first use, the operations of each core in
+/// program order, and the initial value of each address.
 #[derive(Drop)]
 pub struct Program {
     names: IndexSet<Name>,
     cores: Vec<Ops>,
+    init: Vec<u32>,
 }
 
 impl Model for Program {
@@ -24,9 +25,9 @@ impl Model for Program {
 
     ghost Value = { Parts };
 
-    ghost view = { λ p. parts_of p.names.keys p.cores.items };
+    ghost view = { λ p. parts_of p.names.keys p.cores.items p.init.items };
 
-    ghost invariant = { λ p. IsProgram (parts_of p.names.keys p.cores.items) };
+    ghost invariant = { λ p. IsProgram (parts_of p.names.keys p.cores.items p.init.items) };
 }
 
 impl Program {
@@ -36,33 +37,34 @@ impl Program {
     ghost use Rattle.litmus.specs.Spelling.{spelling};
     ghost use Rattle.litmus.specs.Text.{reading};
 
-    /// The program of these names and operations. None exactly where no text is of these names and
-    /// operations: where a limit is passed, an address has no name, a name is unused, or the names
-    /// aren't in order of first use. It can't fail for want of memory.
-    pub fn new(names: IndexSet<Name>, cores: Vec<Ops>) -> Option<Program>
-        ensures some { IfSome result (λ p. p ≡ parts_of names.keys cores.items) }
+    /// The program of these names, operations and initial values. None exactly where no text is of
+    /// them: where a limit is passed, an address has no name, a name is unused, the names aren't in
+    /// order of first use, or there isn't one initial value for each name. It can't fail for want of
+    /// memory.
+    pub fn new(names: IndexSet<Name>, cores: Vec<Ops>, init: Vec<u32>) -> Option<Program>
+        ensures some { IfSome result (λ p. p ≡ parts_of names.keys cores.items init.items) }
 
         // Some where this is a program, and its text is read as it.
-        ensures lawful { IsSome result → IsProgram (parts_of names.keys cores.items) }
-        ensures read { IsSome result → reading (spelling (parts_of names.keys cores.items))
-            ≡ Ok (parts_of names.keys cores.items) }
+        ensures lawful { IsSome result → IsProgram (parts_of names.keys cores.items init.items) }
+        ensures read { IsSome result → reading (spelling (parts_of names.keys cores.items init.items))
+            ≡ Ok (parts_of names.keys cores.items init.items) }
 
         // None where this is no program, and no text is read as it.
-        ensures none { result ≡ None → ¬ IsProgram (parts_of names.keys cores.items) }
+        ensures none { result ≡ None → ¬ IsProgram (parts_of names.keys cores.items init.items) }
         ensures unread { result ≡ None → (text : List ℕ) →
-            reading text ≢ Ok (parts_of names.keys cores.items) }
+            reading text ≢ Ok (parts_of names.keys cores.items init.items) }
     {
-        if !is_program(&names, &cores) {
+        if !is_program(&names, &cores, &init) {
             return None;
         }
-        Some(Program::of_lawful(names, cores))
+        Some(Program::of_lawful(names, cores, init))
     }
 
-    pub(crate) fn of_lawful(names: IndexSet<Name>, cores: Vec<Ops>) -> Program
-        requires { IsProgram (parts_of names.keys cores.items) }
-        ensures { result ≡ parts_of names.keys cores.items }
+    pub(crate) fn of_lawful(names: IndexSet<Name>, cores: Vec<Ops>, init: Vec<u32>) -> Program
+        requires { IsProgram (parts_of names.keys cores.items init.items) }
+        ensures { result ≡ parts_of names.keys cores.items init.items }
     {
-        Program { names, cores }
+        Program { names, cores, init }
     }
 
     /// The same program, in memory of its own; an `Err` is want of memory.
@@ -71,14 +73,18 @@ impl Program {
     {
         let names = copy_names(&self.names)?;
         let cores = copies_of(alloc, &self.cores)?;
-        Ok(Program { names, cores })
+        let init = Vec::from_slice(alloc, &self.init)?;
+        Ok(Program { names, cores, init })
     }
 
-    /// Whether the other program is the same: its names and its operations, in their order.
+    /// Whether the other program is the same: its names, its operations and its initial values, in their
+    /// order.
     pub fn is_same(&self, other: &Program) -> bool
         ensures { IsTrue result ↔ (self.now ≡ other.now) }
     {
-        are_same_names(&self.names, &other.names) && are_same_cores(&self.cores, &other.cores)
+        are_same_names(&self.names, &other.names)
+            && are_same_cores(&self.cores, &other.cores)
+            && are_same_values(&self.init, &other.init)
     }
 
     /// What every program keeps. It does nothing.
@@ -119,5 +125,13 @@ impl Program {
         ensures { result.now ≡ self.now.cores }
     {
         &self.cores
+    }
+
+    /// The initial values of the addresses, one for each name.
+    pub fn init(&self) -> &[u32]
+        ensures values { result.now ≡ self.now.init }
+        ensures count { length result.now ≡ length self.now.names }
+    {
+        &self.init
     }
 }

@@ -15,6 +15,7 @@ use crate::memory::OutOfMemory;
 use crate::naming::address_name;
 use crate::op::Op;
 use crate::program::Program;
+use crate::reader::Reader;
 use crate::shape::Shape;
 use rand_core::utils::NextWord;
 use rand_xoshiro::Xoshiro256PlusPlus;
@@ -94,6 +95,7 @@ fn add_core(
 /// The random program of a shape. Each event takes one word of the generator: its remainder by 8 is
 /// the operation (0 to 2 a load, 3 to 5 a store, 6 a fence, 7 a `swap`, or an `add` where an eighth of
 /// the word is odd), a sixteenth of it names the address, and the value is the event's number and 1.
+/// Each address begins with 0.
 /// An `Err` is want of memory; what the generator then gives is open.
 pub fn generate(
     alloc: Global,
@@ -109,5 +111,5 @@ pub fn generate(
     for core in 0..shape.cores() {
         add_core(alloc, &mut builder, shape, core * shape.ops(), rng)?;
     }
-    Ok(Program::of_lawful(builder.names, builder.cores))
+    Reader::of(alloc, builder).finish()
 }

@@ -13,6 +13,13 @@ pub(crate) fn are_same_names(a: &IndexSet<Name>, b: &IndexSet<Name>) -> bool
     a.as_slice() == b.as_slice()
 }
 
+/// Whether these are the same values in the same order.
+pub(crate) fn are_same_values(a: &[u32], b: &[u32]) -> bool
+    ensures { IsTrue result ↔ (a.now ≡ b.now) }
+{
+    a == b
+}
+
 /// Whether these are one operation.
 fn is_same_op(a: Op, b: Op) -> bool
     ensures { IsTrue result ↔ (a ≡ b) }

@@ -3,7 +3,7 @@ use Rattle.rand_core.specs.Steps.{first_words}
 use Rattle.rand_xoshiro.specs.Xoshiro256.{plus_plus}
 use Rattle.litmus.specs.declared.limits.TheConstants.{MAX_EVENTS}
 use Rattle.litmus.specs.Built.{state}
-use Rattle.litmus.specs.Parts.{Parts, op_count}
+use Rattle.litmus.specs.Parts.{Body, op_count}
 use Rattle.litmus.specs.Random.{IsDrawn, after_words, with_core, with_word, with_words}
 use Rattle.litmus.proofs.Drawn.{keeps_core, keeps_word, count_core, count_word}
 use Rattle.litmus.proofs.NextWords.{words_turn, words_end, after_turn}
@@ -21,7 +21,7 @@ loop-i-init c =
       after = ap (λ (k : ℕ). after_words k c.args.rng.now) all;
       drawn = subst (IsDrawn z.addresses) (sym begun)
           (keeps_core z.addresses p c.requires.drawn c.requires.cores);
-      count = omega (arith, ap (λ (q : Parts). op_count q.cores) begun, (count_core p).0, c.requires.first);
+      count = omega (arith, ap (λ (q : Body). op_count q.cores) begun, (count_core p).0, c.requires.first);
       cores = refl;
       within = omega arith;
     }
@@ -41,7 +41,7 @@ loop-i-preserved c =
     let some : 0 < length p.cores = omega (
       arith,
       h.cores,
-      ap (λ (q : Parts). length q.cores) begun,
+      ap (λ (q : Body). length q.cores) begun,
       (count_core old).1,
     ) in
     let room : op_count p.cores < MAX_EVENTS = omega (arith, h.count, less, c.requires.few) in
@@ -49,7 +49,7 @@ loop-i-preserved c =
     c.in_ok-add_word.ensures.ok ∙ ap (λ (a : ℕ). with_word a p word) c.addresses.ensures in
     let turn = words_turn z.addresses p rng (z.ops - c.loop-i.i) j left in
     record {
-      made = ap (λ (q : Parts). with_words z.addresses q (first_words plus_plus j c.next_word-word.new.self))
+      made = ap (λ (q : Body). with_words z.addresses q (first_words plus_plus j c.next_word-word.new.self))
           step
           ∙ (ap (λ (x : ℕ × List ℕ). with_words z.addresses (with_word z.addresses p x.0)
           (first_words plus_plus j x.1)) c.next_word-word.ensures
@@ -61,11 +61,11 @@ loop-i-preserved c =
           room);
       count = omega (
         arith,
-        ap (λ (q : Parts). op_count q.cores) step,
+        ap (λ (q : Body). op_count q.cores) step,
         (count_word z.addresses p word some).0,
         h.count,
       );
-      cores = ap (λ (q : Parts). length q.cores) step ∙ ((count_word z.addresses p word some).1 ∙ h.cores);
+      cores = ap (λ (q : Body). length q.cores) step ∙ ((count_word z.addresses p word some).1 ∙ h.cores);
       within = omega (arith, less);
     }
 
@@ -75,5 +75,5 @@ returns-clause-ok c =
     let h = c.loop-i.invariant in
     sym (words_end z.addresses (state c.loop-i.builder) c.loop-i.rng (z.ops - c.loop-i.i)
     (omega (arith, c.loop-i-test.false)))
-    ∙ (h.made ∙ ap (λ (q : Parts). with_words z.addresses q (first_words plus_plus z.ops c.args.rng.now))
+    ∙ (h.made ∙ ap (λ (q : Body). with_words z.addresses q (first_words plus_plus z.ops c.args.rng.now))
     c.in_ok-add_core.ensures)

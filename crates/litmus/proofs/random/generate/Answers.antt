@@ -1,12 +1,16 @@
 use Rattle.std.proofs.Common.{◌≡◌, ◌<◌, ◌-◌, ◌+◌, ◌*◌, ℕ, suc, List, length, arith, refl, sym, ap, ◌∙◌, subst}
+use Rattle.std.specs.Prelude.{IfOk}
+use Rattle.std.proofs.lemmas.Result.{IfOk-weaker}
 use Rattle.rand_core.specs.Steps.{first_words}
 use Rattle.rand_xoshiro.specs.Xoshiro256.{plus_plus}
 use Rattle.litmus.specs.Built.{state}
-use Rattle.litmus.specs.Parts.{Parts, op_count}
+use Rattle.litmus.specs.Parts.{Body, Parts, op_count}
 use Rattle.litmus.specs.Steps.{empty}
+use Rattle.litmus.specs.Drafts.{Draft, plain, program_of}
 use Rattle.litmus.specs.Random.{IsDrawn, after_words, with_core, with_cores, with_words}
 use Rattle.litmus.proofs.Drawn.{keeps_empty}
-use Rattle.litmus.proofs.NextWords.{cores_turn, after_core, more_words, so_many}
+use Rattle.litmus.proofs.NextWords.{cores_turn, cores_end, after_core, after_end, more_words}
+use Rattle.litmus.proofs.NextWords.{no_words, so_many}
 use Rattle.litmus.proofs.random.generate.Goals as goal
 
 pub loop-core-init : goal.loop-core-init
@@ -17,12 +21,12 @@ loop-core-init c =
     record {
       made = ap (λ (k : ℕ). with_cores z k (state c.new-builder.result)
           (first_words plus_plus (k * z.ops) c.args.rng.now)) all
-          ∙ ap (λ (p : Parts). with_cores z z.cores p
+          ∙ ap (λ (p : Body). with_cores z z.cores p
           (first_words plus_plus (z.cores * z.ops) c.args.rng.now)) begun;
       after = ap (λ (k : ℕ). after_words (k * z.ops) c.args.rng.now) all;
       drawn = subst (IsDrawn z.addresses) (sym begun) (keeps_empty z.addresses);
-      count = omega (arith, ap (λ (q : Parts). op_count q.cores) begun);
-      cores = ap (λ (q : Parts). length q.cores) begun;
+      count = omega (arith, ap (λ (q : Body). op_count q.cores) begun);
+      cores = ap (λ (q : Body). length q.cores) begun;
       within = omega arith;
     }
 
@@ -39,7 +43,7 @@ loop-core-preserved c =
     more_words (z.cores - c.loop-core.core) j z.ops left in
     let done = c.in_ok-add_core.ensures in
     record {
-      made = ap (λ (q : Parts). with_cores z j q (first_words plus_plus (j * z.ops) c.add_core.new.rng))
+      made = ap (λ (q : Body). with_cores z j q (first_words plus_plus (j * z.ops) c.add_core.new.rng))
           done.ok
           ∙ (ap (λ (s : List ℕ). with_cores z j
           (with_words z.addresses (with_core p) (first_words plus_plus z.ops rng))
@@ -58,3 +62,25 @@ loop-core-preserved c =
       cores = omega (arith, done.cores, h.cores);
       within = omega (arith, less);
     }
+
+pub returns-clause-program : goal.returns-clause-program
+returns-clause-program c =
+    let z = c.args.shape.now in
+    let h = c.loop-core.invariant in
+    let left = z.cores - c.loop-core.core in
+    let none : left ≡ 0 = omega (arith, c.loop-core-test.false) in
+    let made : state c.loop-core.builder ≡ with_cores z z.cores empty
+    (first_words plus_plus (z.cores * z.ops) c.args.rng.now) =
+    sym (cores_end z (state c.loop-core.builder) (first_words plus_plus (left * z.ops) c.loop-core.rng) left
+    none) ∙ h.made in
+    subst (λ (p : Parts). IfOk c.finish.result (λ q. q ≡ p))
+    (ap (λ (d : Draft). program_of d) c.of.ensures ∙ ap (λ (b : Body). program_of (plain b)) made)
+    c.finish.ensures
+
+pub returns-clause-words : goal.returns-clause-words
+returns-clause-words c =
+    let z = c.args.shape.now in
+    let left = z.cores - c.loop-core.core in
+    let none : left * z.ops ≡ 0 = no_words left z.ops (omega (arith, c.loop-core-test.false)) in
+    IfOk-weaker c.finish.result _ _ (λ _ _. sym (after_end c.loop-core.rng (left * z.ops) none)
+    ∙ c.loop-core.invariant.after) c.finish.ensures
