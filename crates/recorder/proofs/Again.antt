@@ -7,15 +7,18 @@ use Rattle.std.proofs.lemmas.List.{take_more, take_all, get_or-map, map-append}
 use Rattle.serde_json.specs.Data.{Data, array}
 use Rattle.serde_json.specs.declared.value.Value.{Value}
 use Rattle.serde_json.specs.View.{view, items_of}
-use Rattle.recorder.specs.declared.event.Event.TheVariants.{L, S, R, F}
-use Rattle.recorder.specs.Execution.{Execution}
-use Rattle.recorder.specs.Text.{number_data, list_data, source_data, event_data, data_of}
-use Rattle.recorder.specs.Reading.{number_in, source_in, load_in, store_in, rmw_in, event_of, event_in, each}
-use Rattle.recorder.specs.Reading.{list_in, shape_of, shape_in}
+use Rattle.recorder.specs.declared.event.Event.TheVariants.{L, S, R, C, F}
+use Rattle.recorder.specs.Text.{number_data, list_data, source_data, event_data}
+use Rattle.recorder.specs.Reading.{number_in, value_in, source_in, load_in, store_in, rmw_in, failed_cas_in}
+use Rattle.recorder.specs.Reading.{event_of, event_in, each, list_in}
 
 -- the number of an event or of an address
 pub number_again : (n : ℕ) → number_in (number_data n) ≡ Some n
 number_again n = refl
+
+-- an initial value
+pub value_again : (n : ℕ) → n < 2 ^ 32 → value_in (number_data n) ≡ Some n
+value_again n h = rw (lt-ltb n (2 ^ 32) h) refl
 
 -- a load
 pub load_again : (a r : ℕ) (s : Option ℕ) → r < 2 ^ 32 → source_in (source_data s) ≡ Some s
@@ -33,6 +36,12 @@ pub rmw_again : (a r : ℕ) (s : Option ℕ) (w : ℕ) → r < 2 ^ 32 → source
     → w < 2 ^ 32 → event_in (event_data (R a r s w)) ≡ Some (R a r s w)
 unfolding event_in event_of rmw_in
 rmw_again a r s w hr hs hw = rw (lt-ltb r (2 ^ 32) hr, hs, lt-ltb w (2 ^ 32) hw) refl
+
+-- a compare-and-swap that failed
+pub failed_cas_again : (a r : ℕ) (s : Option ℕ) → r < 2 ^ 32 → source_in (source_data s) ≡ Some s
+    → event_in (event_data (C a r s)) ≡ Some (C a r s)
+unfolding event_in event_of failed_cas_in
+failed_cas_again a r s hr hs = rw (lt-ltb r (2 ^ 32) hr, hs) refl
 
 -- a fence
 pub fence_again : event_in (event_data F) ≡ Some F
@@ -94,11 +103,3 @@ pub item_seen : {A : Type 0} (vs : List (Vec A Global)) (i : ℕ) (v : Vec A Glo
     → v ≡ get_or vs i v → v.items ≡ get_or (map (λ w. w.items) vs) i v.items
 item_seen {A} vs i v at is = ap (λ (w : Vec A Global). w.items) is
     ∙ sym (get_or-map (λ (w : Vec A Global). w.items) vs i v v.items at)
-
--- an execution
-pub shape_again : (x : Execution) → list_in (list_in event_in) (list_data (list_data event_data) x.cores)
-    ≡ Some x.cores → list_in (list_in number_in) (list_data (list_data number_data) x.write_lists)
-    ≡ Some x.write_lists
-    → shape_in (data_of x) ≡ Some (1, x)
-unfolding shape_in shape_of
-shape_again x cores writes = rw (cores, writes) refl

@@ -6,7 +6,7 @@ use Rattle.std.proofs.lemmas.Bool.{cases_lt, lt-ltb, le-ltb}
 use Rattle.std.proofs.lemmas.List.{length-map, map-append}
 use Rattle.litmus.specs.declared.limits.TheConstants.{MAX_EVENTS, MAX_ADDRESSES}
 use Rattle.recorder.specs.declared.event.Event.{Event}
-use Rattle.recorder.specs.declared.event.Event.TheVariants.{L, S, R, F}
+use Rattle.recorder.specs.declared.event.Event.TheVariants.{L, S, R, C, F}
 use Rattle.recorder.specs.Event.{read_address, written_address, source, value_read, value_written}
 use Rattle.recorder.specs.Execution.{Execution, placed_from, event_count, event_at, write_list, source_of}
 use Rattle.recorder.specs.Clipped.{clip, clip_event, clipped}
@@ -41,6 +41,7 @@ read_clipped : (v : Event) → read_address (clip_event v) ≡ option_map clip (
 read_clipped (L a r s) = refl
 read_clipped (S a w) = refl
 read_clipped (R a r s w) = refl
+read_clipped (C a r s) = refl
 read_clipped F = refl
 
 -- the address that it writes is clipped
@@ -48,6 +49,7 @@ written_clipped : (v : Event) → written_address (clip_event v) ≡ option_map 
 written_clipped (L a r s) = refl
 written_clipped (S a w) = refl
 written_clipped (R a r s w) = refl
+written_clipped (C a r s) = refl
 written_clipped F = refl
 
 -- its source is clipped
@@ -55,6 +57,7 @@ source_clipped : (v : Event) → source (clip_event v) ≡ option_map clip (sour
 source_clipped (L a r s) = refl
 source_clipped (S a w) = refl
 source_clipped (R a r s w) = refl
+source_clipped (C a r s) = refl
 source_clipped F = refl
 
 -- the value that it reads is as it was
@@ -62,6 +65,7 @@ value_read_clipped : (v : Event) → value_read (clip_event v) ≡ value_read v
 value_read_clipped (L a r s) = refl
 value_read_clipped (S a w) = refl
 value_read_clipped (R a r s w) = refl
+value_read_clipped (C a r s) = refl
 value_read_clipped F = refl
 
 -- the value that it writes is as it was
@@ -69,6 +73,7 @@ value_written_clipped : (v : Event) → value_written (clip_event v) ≡ value_w
 value_written_clipped (L a r s) = refl
 value_written_clipped (S a w) = refl
 value_written_clipped (R a r s w) = refl
+value_written_clipped (C a r s) = refl
 value_written_clipped F = refl
 
 -- an event clipped on its core

@@ -40,6 +40,7 @@ within_from x is = record {
               (omega (arith, below, is.few_addresses, addresses_fit)),
         )
   ];
+  initial = is.initial ∙ lists_count x;
 }
 
 -- within the limits no address that is used is clipped
@@ -88,6 +89,7 @@ within_to x is = record {
           (writes_from x is e a writes)
     ]),
   );
+  initial = is.initial ∙ sym (lists_count x);
 }
 
 -- what writes has a number below the greatest of 16 bits

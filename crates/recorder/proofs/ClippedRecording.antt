@@ -3,7 +3,7 @@ use Rattle.std.proofs.Common.{◌≡◌, ◌<◌, ◌+◌, ◌-◌, inl, inr, �
 use Rattle.std.proofs.Common.{get_or, arith, refl, sym, ap, subst, ◌∙◌}
 use Rattle.std.proofs.lemmas.List.{length-map, ext_get_or, get_or-map}
 use Rattle.recorder.specs.declared.event.Event.{Event}
-use Rattle.recorder.specs.declared.event.Event.TheVariants.{L, S, R, F}
+use Rattle.recorder.specs.declared.event.Event.TheVariants.{L, S, R, C, F}
 use Rattle.recorder.specs.Event.{read_address, written_address, source}
 use Rattle.recorder.specs.Execution.{Execution, placed_from, event_at, write_list}
 use Rattle.recorder.specs.Recording.{IsRecording, IsWithinLimits}
@@ -30,6 +30,7 @@ event_fixed : (v : Event) → ((a : ℕ) → read_address v ≡ Some a
 event_fixed (L a r s) reads writes = rw ((reads a refl).0, (reads a refl).1) refl
 event_fixed (S a w) reads writes = rw (writes a refl) refl
 event_fixed (R a r s w) reads writes = rw ((reads a refl).0, (reads a refl).1) refl
+event_fixed (C a r s) reads writes = rw ((reads a refl).0, (reads a refl).1) refl
 event_fixed F reads writes = refl
 
 -- cores are not clipped where no event is

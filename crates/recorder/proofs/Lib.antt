@@ -7,10 +7,13 @@ pub mod Obeys
 pub mod Refused
 pub mod Members
 pub mod Each
+pub mod Failed
 pub mod Again
+pub mod Told
 pub mod Clipped
 pub mod ClippedLists
 pub mod ClippedLimits
 pub mod ClippedRefusals
 pub mod ClippedRecording
+pub mod ClippedContents
 pub mod ClippedAnswers

@@ -4,7 +4,7 @@ use Rattle.std.proofs.Common.{◌∷◌, Bool, nat_lt, nat_eq, IsTrue, length, g
 use Rattle.std.proofs.Common.{◌∙◌}
 use Rattle.std.proofs.lemmas.Bool.{cases_eq, ltb-true, lt-ltb, eqb-true, eq-eqb}
 use Rattle.recorder.specs.declared.event.Event.{Event}
-use Rattle.recorder.specs.declared.event.Event.TheVariants.{L, S, R}
+use Rattle.recorder.specs.declared.event.Event.TheVariants.{L, S, R, C}
 use Rattle.recorder.specs.Event.{read_address, written_address, value_read, value_written}
 use Rattle.recorder.specs.Execution.{Execution, event_at, initial_value, source_of, Reads}
 use Rattle.recorder.specs.Refusals.{HasValue}
@@ -25,7 +25,8 @@ below o p a n is only = (λ t b uses. omega (arith, only b uses, ltb-true a n t)
 
 -- an event uses one address
 pub uses_one : (v : Event) (a n : ℕ) → ((r : ℕ) × (s : Option ℕ) × (v ≡ L a r s))
-    ⊎ (((w : ℕ) × (v ≡ S a w)) ⊎ ((r : ℕ) × (s : Option ℕ) × (w : ℕ) × (v ≡ R a r s w)))
+    ⊎ (((w : ℕ) × (v ≡ S a w)) ⊎ (((r : ℕ) × (s : Option ℕ) × (w : ℕ) × (v ≡ R a r s w))
+    ⊎ ((r : ℕ) × (s : Option ℕ) × (v ≡ C a r s))))
     → IsTrue (nat_lt a n) ↔ UsesBelow (read_address v) (written_address v) n
 uses_one v a n is = elim is [
   | inl l ↦ subst (λ (u : Event). IsTrue (nat_lt a n) ↔ UsesBelow (read_address u) (written_address u) n)
@@ -34,8 +35,16 @@ uses_one v a n is = elim is [
     | inl s ↦ subst (λ (u : Event). IsTrue (nat_lt a n) ↔ UsesBelow (read_address u) (written_address u) n)
         (sym s.1) (below None (Some a) a n (inr refl)
         (λ b uses. elim uses [ inl e ↦ absurd cc | inr e ↦ cc ]))
-    | inr r ↦ subst (λ (u : Event). IsTrue (nat_lt a n) ↔ UsesBelow (read_address u) (written_address u) n)
-        (sym r.3) (below (Some a) (Some a) a n (inl refl) (λ b uses. elim uses [ inl e ↦ cc | inr e ↦ cc ]))
+    | inr atomic ↦ elim atomic [
+      | inl r ↦ subst
+          (λ (u : Event). IsTrue (nat_lt a n) ↔ UsesBelow (read_address u) (written_address u) n)
+          (sym r.3) (below (Some a) (Some a) a n (inl refl)
+          (λ b uses. elim uses [ inl e ↦ cc | inr e ↦ cc ]))
+      | inr c ↦ subst
+          (λ (u : Event). IsTrue (nat_lt a n) ↔ UsesBelow (read_address u) (written_address u) n)
+          (sym c.2) (below (Some a) None a n (inl refl)
+          (λ b uses. elim uses [ inl e ↦ cc | inr e ↦ absurd cc ]))
+    ]
   ]
 ]
 

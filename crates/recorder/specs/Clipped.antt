@@ -3,9 +3,10 @@
 use Rattle.std.specs.Prelude.{◌^◌, ◌-◌, ℕ, Option, option_map, map, nat_lt, if◌then◌else◌}
 use Rattle.serde_json.specs.Data.{Data}
 use Rattle.recorder.specs.declared.event.Event.{Event}
-use Rattle.recorder.specs.declared.event.Event.TheVariants.{L, S, R, F}
+use Rattle.recorder.specs.declared.event.Event.TheVariants.{L, S, R, C, F}
 use Rattle.recorder.specs.Execution.{Execution}
 use Rattle.recorder.specs.Recording.{executed}
+use Rattle.recorder.specs.Contents.{Contents}
 use Rattle.recorder.specs.Reading.{number_in, event_in}
 
 -- a number, or the greatest of 16 bits where it is greater
@@ -17,15 +18,22 @@ abbrev pub clip_event : Event → Event
 clip_event (L a r s) = L (clip a) r (option_map clip s)
 clip_event (S a w) = S (clip a) w
 clip_event (R a r s w) = R (clip a) r (option_map clip s) w
+clip_event (C a r s) = C (clip a) r (option_map clip s)
 clip_event F = F
 
--- an execution with each address, each source and each number of a write list clipped
+-- an execution with each address, each source and each number of a write list clipped; an initial value
+-- never is
 abbrev pub clipped : Execution → Execution
-clipped x = executed (map (map clip_event) x.cores) (map (map clip) x.write_lists)
+clipped x = executed (map (map clip_event) x.cores) (map (map clip) x.write_lists) x.initial
 
--- a version, which is never clipped, and a clipped execution
-abbrev pub clipped_shape : ℕ × Execution → ℕ × Execution
-clipped_shape shape = (shape.0, clipped shape.1)
+-- the contents of a text, clipped as an execution is; the version never is
+abbrev pub clipped_shape : Contents → Contents
+clipped_shape c = record {
+  version = c.version;
+  cores = map (map clip_event) c.cores;
+  write_lists = map (map clip) c.write_lists;
+  values = c.values;
+}
 
 -- what is held of the number of an event or of an address
 abbrev pub clipped_number : Data → Option ℕ

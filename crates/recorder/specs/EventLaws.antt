@@ -5,7 +5,7 @@ use Rattle.std.proofs.lemmas.Bool.{cases_lt}
 use Rattle.std.proofs.lemmas.List.{get_or_past, get_or_append_left, get_or-map, get_or-append_right}
 use Rattle.std.proofs.lemmas.List.{length-map}
 use Rattle.recorder.specs.declared.event.Event.{Event}
-use Rattle.recorder.specs.declared.event.Event.TheVariants.{L, S, R, F}
+use Rattle.recorder.specs.declared.event.Event.TheVariants.{L, S, R, C, F}
 use Rattle.recorder.specs.Event.{read_address, written_address, source}
 use Rattle.recorder.specs.Execution.{Execution, placed_from, event_count, event_at, source_of, Reads, Writes}
 
@@ -33,6 +33,7 @@ source_reads : (ev : Event) (s : ℕ) → source ev ≡ Some s → (a : ℕ) × 
 source_reads (L a r o) s h = (a, refl)
 source_reads (S a w) s h = absurd cc
 source_reads (R a r o w) s h = (a, refl)
+source_reads (C a r o) s h = (a, refl)
 source_reads F s h = absurd cc
 
 -- so an event of an execution with a source reads

@@ -1,15 +1,16 @@
 -- Executions: events numbered core by core, program order, and the pairs of it that memory order keeps.
 use Rattle.std.specs.Prelude.{◌≡◌, ◌<◌, ◌+◌, ℕ, false, Option, Some, List, [], ◌∷◌, ◌++◌, map, length}
-use Rattle.std.specs.Prelude.{slice_index_or, ◌&&◌}
+use Rattle.std.specs.Prelude.{slice_index, slice_index_or, ◌&&◌}
 use Rattle.recorder.specs.declared.event.Event.{Event}
 use Rattle.recorder.specs.declared.event.Event.TheVariants.{F}
 use Rattle.recorder.specs.Event.{read_address, written_address, source, is_plain_store, is_plain_load}
 
 -- what was recorded: the events of each core in program order, and for each address its writes in
--- memory order
+-- memory order and its initial value
 pub record Execution : Type 0 where
   pub cores : List (List Event)
   pub write_lists : List (List ℕ)
+  pub initial : List ℕ
 
 -- what each core has, numbered core by core, with the core
 abbrev pub placed_from : {A : Type 0} → ℕ → List (List A) → List (ℕ × A)
@@ -32,9 +33,9 @@ event_at x e = (slice_index_or (placed_from 0 x.cores) e (0, F)).1
 unfoldable pub write_list : Execution → ℕ → List ℕ
 write_list x a = slice_index_or x.write_lists a []
 
--- the value of an address that was never written
+-- the value that an address begins with
 abbrev pub initial_value : Execution → ℕ → ℕ
-initial_value x a = 0
+initial_value x a = slice_index x.initial a
 
 -- event e reads address a
 abbrev pub Reads : Execution → ℕ → ℕ → Type 0

@@ -1,9 +1,13 @@
 -- What was read, without where it lies in memory.
-use Rattle.std.specs.Prelude.{ℕ, map}
+use Rattle.std.specs.Prelude.{map, option_map}
 use Rattle.recorder.specs.declared.reading.Found.{Found}
-use Rattle.recorder.specs.Execution.{Execution}
-use Rattle.recorder.specs.Recording.{executed}
+use Rattle.recorder.specs.Contents.{Contents}
 
--- the version and the execution
-abbrev pub found : Found → ℕ × Execution
-found f = (f.version, executed (map (λ v. v.items) f.cores.items) (map (λ v. v.items) f.writes.items))
+-- the contents of the text
+abbrev pub found : Found → Contents
+found f = record {
+  version = f.version;
+  cores = map (λ v. v.items) f.cores.items;
+  write_lists = map (λ v. v.items) f.writes.items;
+  values = option_map (λ v. v.items) f.init;
+}

@@ -1,17 +1,18 @@
 -- What the bytes of a recording give, from what `serde_json` reads of them: an execution, or the
 -- first refusal.
-use Rattle.std.specs.Prelude.{◌≡◌, ◌≢◌, ◌^◌, ◌==◌, ◌&&◌, ℕ, suc, List, [], ◌∷◌, Option, None, Some, is_some}
+use Rattle.std.specs.Prelude.{◌≡◌, ◌^◌, ◌==◌, ◌&&◌, ℕ, suc, List, [], ◌∷◌, Option, None, Some, is_some}
 use Rattle.std.specs.Prelude.{option_map, option_and_then, Result, Ok, Err, codes, nat_lt, bytes_eq}
 use Rattle.std.specs.Prelude.{if◌then◌else◌, ⊤}
 use Rattle.serde_json.specs.Data.{Data, Items, no_items, item, Members, no_members, member}
 use Rattle.serde_json.specs.Find.{get, as_null, as_number, as_u64, as_str, as_array, as_object}
 use Rattle.recorder.specs.declared.event.Event.{Event}
-use Rattle.recorder.specs.declared.event.Event.TheVariants.{L, S, R, F}
+use Rattle.recorder.specs.declared.event.Event.TheVariants.{L, S, R, C, F}
 use Rattle.recorder.specs.declared.fault.RecError.{RecError}
 use Rattle.recorder.specs.declared.fault.RecError.TheVariants.{NotJson, Shape, Version, Limits, Source, Value}
 use Rattle.recorder.specs.declared.fault.RecError.TheVariants.{WriteList, OutOfMemory}
 use Rattle.recorder.specs.Execution.{Execution}
-use Rattle.recorder.specs.Recording.{executed, IsRecording}
+use Rattle.recorder.specs.Recording.{IsRecording}
+use Rattle.recorder.specs.Contents.{Contents, told, IsVersioned}
 use Rattle.recorder.specs.Refusals.{IsRefusal}
 use Rattle.recorder.specs.Text.{IsReadAs}
 
@@ -79,45 +80,73 @@ rmw_in d =
     (at_key value_in (codes "r") d))
     (at_key number_in (codes "a") d)
 
+unfoldable pub failed_cas_in : Data → Option Event
+failed_cas_in d =
+    option_and_then (λ a.
+    option_and_then (λ r.
+    option_map (λ s. C a r s)
+    (at_key source_in (codes "s") d))
+    (at_key value_in (codes "r") d))
+    (at_key number_in (codes "a") d)
+
 -- an event of a kind, in an object with so many keys
 unfoldable pub event_of : List ℕ → ℕ → Data → Option Event
 event_of k n d =
     if bytes_eq k (codes "L") && n == 4 then load_in d
     else (if bytes_eq k (codes "S") && n == 3 then store_in d
     else (if bytes_eq k (codes "R") && n == 5 then rmw_in d
-    else (if bytes_eq k (codes "F") && n == 1 then Some F else None)))
+    else (if bytes_eq k (codes "C") && n == 4 then failed_cas_in d
+    else (if bytes_eq k (codes "F") && n == 1 then Some F else None))))
 
 unfoldable pub event_in : Data → Option Event
 event_in d = option_and_then (λ n. option_and_then (λ k. event_of k n d) (at_key as_str (codes "k") d))
     (option_map count_members (as_object d))
 
--- the version and the execution of an object with exactly three keys
-unfoldable pub shape_of : Data → Option (ℕ × Execution)
-shape_of d =
+-- the initial values of an object with so many keys: none with three, and the fourth of four
+unfoldable pub values_in : ℕ → Data → Option (Option (List ℕ))
+values_in n d =
+    if n == 3 then Some None
+    else (if n == 4 then option_map Some (at_key (list_in value_in) (codes "init") d) else None)
+
+-- the contents of an object, with initial values or without
+unfoldable pub shape_of : Option (List ℕ) → Data → Option Contents
+shape_of values d =
     option_and_then (λ version.
     option_and_then (λ cores.
-    option_map (λ writes. (version, executed cores writes))
+    option_map (λ writes. record {
+      version = version;
+      cores = cores;
+      write_lists = writes;
+      values = values;
+    })
     (at_key (list_in (list_in number_in)) (codes "writes") d))
     (at_key (list_in (list_in event_in)) (codes "cores") d))
     (at_key natural (codes "version") d)
 
-unfoldable pub shape_in : Data → Option (ℕ × Execution)
-shape_in d = option_and_then (λ n. if n == 3 then shape_of d else None)
+unfoldable pub shape_in : Data → Option Contents
+shape_in d = option_and_then (λ n. option_and_then (λ values. shape_of values d) (values_in n d))
     (option_map count_members (as_object d))
+
+-- a value has the contents of a text of its version, and they tell the execution
+pub record Tells (d : Data) (x : Execution) : Type 0 where
+  pub contents : Contents
+  pub shape : shape_in d ≡ Some contents
+  pub versioned : IsVersioned contents
+  pub same : told contents ≡ x
 
 -- what a reader of these bytes may answer: the first refusal in this order; memory alone is left open
 abbrev pub IsReadingResult : List ℕ → Result Execution RecError → Type 0
-IsReadingResult bytes (Ok x) = (d : Data) × IsReadAs bytes d × (shape_in d ≡ Some (1, x)) × IsRecording x
+IsReadingResult bytes (Ok x) = (d : Data) × IsReadAs bytes d × Tells d x × IsRecording x
 IsReadingResult bytes (Err NotJson) = (d : Data) → IsReadAs bytes d → ⊥
 IsReadingResult bytes (Err Shape) = (d : Data) × IsReadAs bytes d × (shape_in d ≡ None)
 IsReadingResult bytes (Err Version) = (d : Data) × IsReadAs bytes d
-    × ((version : ℕ) × (x : Execution) × (shape_in d ≡ Some (version, x)) × (version ≢ 1))
+    × ((c : Contents) × (shape_in d ≡ Some c) × (¬ IsVersioned c))
 IsReadingResult bytes (Err Limits) = (d : Data) × IsReadAs bytes d
-    × ((x : Execution) × (shape_in d ≡ Some (1, x)) × IsRefusal x Limits)
+    × ((x : Execution) × Tells d x × IsRefusal x Limits)
 IsReadingResult bytes (Err (Source e)) = (d : Data) × IsReadAs bytes d
-    × ((x : Execution) × (shape_in d ≡ Some (1, x)) × IsRefusal x (Source e))
+    × ((x : Execution) × Tells d x × IsRefusal x (Source e))
 IsReadingResult bytes (Err (Value e)) = (d : Data) × IsReadAs bytes d
-    × ((x : Execution) × (shape_in d ≡ Some (1, x)) × IsRefusal x (Value e))
+    × ((x : Execution) × Tells d x × IsRefusal x (Value e))
 IsReadingResult bytes (Err (WriteList a)) = (d : Data) × IsReadAs bytes d
-    × ((x : Execution) × (shape_in d ≡ Some (1, x)) × IsRefusal x (WriteList a))
+    × ((x : Execution) × Tells d x × IsRefusal x (WriteList a))
 IsReadingResult bytes (Err OutOfMemory) = ⊤

@@ -33,3 +33,11 @@ pub(crate) fn copied_writes(
     }
     Ok(copies)
 }
+
+/// A copy of initial values.
+pub(crate) fn copied_values(alloc: Global, init: &[u32]) -> Result<Vec<u32>, OutOfMemory>
+    ensures { IfOk result (λ copy. copy.items ≡ init.now) }
+{
+    let copy = Vec::from_slice(alloc, init)?;
+    Ok(copy)
+}

@@ -25,6 +25,13 @@ pub enum Event {
         s: Option<EventId>,
         w: u32,
     },
+    /// An atomic compare-and-swap of address `a` that read `r` from `s`, as a load does, and failed: it
+    /// wrote nothing.
+    C {
+        a: Addr,
+        r: u32,
+        s: Option<EventId>,
+    },
     /// A full fence.
     F,
 }
@@ -33,13 +40,14 @@ impl Event {
     ghost use Rattle.std.specs.Prelude.{◌≡◌, ◌↔◌, ◌<◌, ◌⊎◌, ◌&&◌, ℕ, IsTrue, Some, false};
     ghost use Rattle.recorder.specs.Event.{read_address, written_address, source, value_read, value_written};
     ghost use Rattle.recorder.specs.Event.{is_plain_store, is_plain_load};
+    ghost use Rattle.recorder.specs.Text.{is_failed_cas};
 
     /// The address that it reads; none where it does not read.
     pub fn read_address(&self) -> Option<Addr>
         ensures { result ≡ read_address self.now }
     {
         match self {
-            Event::L { a, .. } | Event::R { a, .. } => Some(*a),
+            Event::L { a, .. } | Event::R { a, .. } | Event::C { a, .. } => Some(*a),
             Event::S { .. } | Event::F => None,
         }
     }
@@ -50,7 +58,7 @@ impl Event {
     {
         match self {
             Event::S { a, .. } | Event::R { a, .. } => Some(*a),
-            Event::L { .. } | Event::F => None,
+            Event::L { .. } | Event::C { .. } | Event::F => None,
         }
     }
 
@@ -70,7 +78,9 @@ impl Event {
             ⊎ (written_address self.now ≡ Some a) → a < count) }
     {
         match self {
-            Event::L { a, .. } | Event::S { a, .. } | Event::R { a, .. } => (*a as usize) < count,
+            Event::L { a, .. } | Event::S { a, .. } | Event::R { a, .. } | Event::C { a, .. } => {
+                (*a as usize) < count
+            }
             Event::F => true,
         }
     }
@@ -80,7 +90,7 @@ impl Event {
         ensures { result ≡ source self.now }
     {
         match self {
-            Event::L { s, .. } | Event::R { s, .. } => *s,
+            Event::L { s, .. } | Event::R { s, .. } | Event::C { s, .. } => *s,
             Event::S { .. } | Event::F => None,
         }
     }
@@ -90,7 +100,7 @@ impl Event {
         ensures { result ≡ value_read self.now }
     {
         match self {
-            Event::L { r, .. } | Event::R { r, .. } => *r,
+            Event::L { r, .. } | Event::R { r, .. } | Event::C { r, .. } => *r,
             Event::S { .. } | Event::F => 0,
         }
     }
@@ -101,8 +111,15 @@ impl Event {
     {
         match self {
             Event::S { w, .. } | Event::R { w, .. } => *w,
-            Event::L { .. } | Event::F => 0,
+            Event::L { .. } | Event::C { .. } | Event::F => 0,
         }
+    }
+
+    /// Whether it is a compare-and-swap that failed.
+    pub(crate) fn is_failed_cas(&self) -> bool
+        ensures { result ≡ is_failed_cas self.now }
+    {
+        matches!(self, Event::C { .. })
     }
 
     /// Whether a later event of its core may not overtake it in memory order: whether the pair is

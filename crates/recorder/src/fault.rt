@@ -9,15 +9,16 @@ pub enum RecError {
     NotJson,
     /// The JSON does not have the shape of a recording, or a value is too large; printed as N2.
     Shape,
-    /// The version is not 1; printed as N3.
+    /// The version is neither 1 nor 2, or it is 1 and there are initial values or a compare-and-swap that
+    /// failed, or it is 2 without initial values; printed as N3.
     Version,
-    /// There are too many cores, events or write lists, or an address has no write list; printed
-    /// as N4.
+    /// There are too many cores, events or write lists, or an address has no write list, or there are
+    /// not as many initial values as write lists; printed as N4.
     Limits,
     /// The least event whose source is no write to the address that it reads; printed as N5.
     Source(EventId),
-    /// The least event whose value read is not the one that its source wrote, or 0 where it has
-    /// none; printed as N6.
+    /// The least event whose value read is not the one that its source wrote, or the initial value of
+    /// its address where it has none; printed as N6.
     Value(EventId),
     /// The least address whose write list does not have each of its writes once and nothing else;
     /// printed as N7.

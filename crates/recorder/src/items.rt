@@ -3,7 +3,7 @@
 ghost use Rattle.std.specs.Prelude.{◌≡◌, option_map};
 ghost use Rattle.serde_json.specs.View.{view};
 ghost use Rattle.recorder.specs.Reading.{value_in, source_in, at_key, load_in, store_in, rmw_in, event_of};
-ghost use Rattle.recorder.specs.Reading.{count_members};
+ghost use Rattle.recorder.specs.Reading.{count_members, failed_cas_in};
 ghost use Rattle.recorder.specs.Clipped.{clip, clip_event, clipped_number, clipped_event};
 ghost use Rattle.serde_json.specs.Find.{as_object};
 
@@ -17,7 +17,7 @@ pub(crate) fn number_in(value: &Value) -> Option<u16>
     Some(u16::try_from(n).unwrap_or(u16::MAX))
 }
 
-fn value_in(value: &Value) -> Option<u32>
+pub(crate) fn value_in(value: &Value) -> Option<u32>
     ensures { result ≡ value_in (view value.now) }
 {
     let n = value.as_u64()?;
@@ -82,6 +82,16 @@ fn rmw_in(value: &Value) -> Option<Event>
     Some(Event::R { a, r, s, w })
 }
 
+#[tactic(auto, unfolding(crate::specs::Reading::failed_cas_in))]
+fn failed_cas_in(value: &Value) -> Option<Event>
+    ensures { result ≡ option_map clip_event (failed_cas_in (view value.now)) }
+{
+    let a = number_at(value, "a")?;
+    let r = value_at(value, "r")?;
+    let s = source_at(value, "s")?;
+    Some(Event::C { a, r, s })
+}
+
 #[tactic(auto, unfolding(crate::specs::Reading::event_of))]
 fn event_of(kind: &str, keys: usize, value: &Value) -> Option<Event>
     ensures { result ≡ option_map clip_event (event_of kind.now keys (view value.now)) }
@@ -94,6 +104,9 @@ fn event_of(kind: &str, keys: usize, value: &Value) -> Option<Event>
     }
     if kind == "R" && keys == 5 {
         return rmw_in(value);
+    }
+    if kind == "C" && keys == 4 {
+        return failed_cas_in(value);
     }
     if kind == "F" && keys == 1 {
         return Some(Event::F);

@@ -14,6 +14,7 @@ mod refusal;
 mod rules;
 mod text;
 mod values;
+mod versions;
 
 pub use event::Event;
 pub use fault::RecError;

@@ -4,11 +4,12 @@ use crate::event::Event;
 use litmus::{Addr, CoreId, EventId, MAX_CORES, MAX_EVENTS};
 use std::marker::Model;
 
-/// The events of each core, and the writes of each address.
+/// The events of each core, and the writes and the initial value of each address.
 #[derive(Drop)]
 pub(crate) struct RecordingParts {
     cores: Vec<Vec<Event>>,
     writes: Vec<Vec<EventId>>,
+    init: Vec<u32>,
 }
 
 impl Model for RecordingParts {
@@ -18,7 +19,8 @@ impl Model for RecordingParts {
 
     ghost Value = { Execution };
 
-    ghost view = { λ p. executed (map (λ v. v.items) p.cores.items) (map (λ v. v.items) p.writes.items) };
+    ghost view = { λ p. executed (map (λ v. v.items) p.cores.items) (map (λ v. v.items) p.writes.items)
+        p.init.items };
 }
 
 impl RecordingParts {
@@ -28,10 +30,19 @@ impl RecordingParts {
     ghost use Rattle.recorder.specs.Execution.{Writes};
     ghost use Rattle.recorder.specs.Recording.{executed};
 
-    pub(crate) fn new(cores: Vec<Vec<Event>>, writes: Vec<Vec<EventId>>) -> RecordingParts
-        ensures { result ≡ executed (map (λ v. v.items) cores.items) (map (λ v. v.items) writes.items) }
+    pub(crate) fn new(
+        cores: Vec<Vec<Event>>,
+        writes: Vec<Vec<EventId>>,
+        init: Vec<u32>,
+    ) -> RecordingParts
+        ensures { result ≡ executed (map (λ v. v.items) cores.items) (map (λ v. v.items) writes.items)
+            init.items }
     {
-        RecordingParts { cores, writes }
+        RecordingParts {
+            cores,
+            writes,
+            init,
+        }
     }
 
     pub(crate) fn cores(&self) -> &[Vec<Event>]
@@ -46,6 +57,12 @@ impl RecordingParts {
         ensures count { length result.now ≡ length self.now.write_lists }
     {
         self.writes.as_slice()
+    }
+
+    pub(crate) fn init(&self) -> &[u32]
+        ensures { result.now ≡ self.now.initial }
+    {
+        self.init.as_slice()
     }
 
     /// Whether there are no more events than a recording may have.
@@ -102,11 +119,14 @@ impl RecordingParts {
         self.writes[address as usize].as_slice()
     }
 
-    /// The initial value of an address.
-    pub(crate) fn initial_value(&self, _address: Addr) -> u32
-        ensures { result ≡ initial_value self.now _address }
+    /// The initial value of an address; 0 where there is no such address.
+    pub(crate) fn initial_value(&self, address: Addr) -> u32
+        ensures { result ≡ initial_value self.now address }
     {
-        0
+        if address as usize >= self.init.len() {
+            return 0;
+        }
+        self.init[address as usize]
     }
 
     /// Whether an event writes an address.

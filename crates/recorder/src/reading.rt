@@ -1,26 +1,42 @@
 //! Reading the text of a recording.
 
-ghost use Rattle.std.specs.Prelude.{◌≡◌, IfOk, option_map, map, codes};
+ghost use Rattle.std.specs.Prelude.{◌≡◌, ◌↔◌, IfOk, IsTrue, option_map, map, codes};
 ghost use Rattle.serde_json.specs.View.{view, items_view};
+ghost use Rattle.recorder.specs.Contents.{initial_values, IsVersioned};
 ghost use Rattle.recorder.specs.Found.{found};
-ghost use Rattle.recorder.specs.Reading.{each, list_in, number_in, event_in, at_key, shape_of, shape_in};
-ghost use Rattle.recorder.specs.Reading.{IsReadingResult};
+ghost use Rattle.recorder.specs.Reading.{each, list_in, number_in, value_in, event_in, at_key, values_in};
+ghost use Rattle.recorder.specs.Reading.{shape_of, shape_in, IsReadingResult};
 ghost use Rattle.recorder.specs.Clipped.{clip, clip_event, clipped_shape, clipped_number, clipped_event};
 
 use crate::event::Event;
 use crate::fault::RecError;
-use crate::items::{event_in, keys_of, number_in};
+use crate::items::{event_in, keys_of, number_in, value_in};
 use crate::recording::Recording;
+use crate::versions::has_failed_cas;
 use litmus::EventId;
 use serde_json::Value;
 use std::alloc::{AllocError, Global};
 
-/// The version, the events of each core and the write lists, which may break every rule.
+/// The version, the events of each core, the write lists and perhaps the initial values, which may
+/// break every rule.
 #[derive(Drop)]
 struct Found {
     version: u64,
     cores: Vec<Vec<Event>>,
     writes: Vec<Vec<EventId>>,
+    init: Option<Vec<u32>>,
+}
+
+impl Found {
+    /// Whether it has what its version has.
+    fn is_versioned(&self) -> bool
+        ensures { IsTrue result ↔ IsVersioned (found self.now) }
+    {
+        match &self.init {
+            Some(_) => self.version == 2,
+            None => self.version == 1 && !has_failed_cas(self.cores.as_slice()),
+        }
+    }
 }
 
 fn events_in(alloc: Global, list: &[Value]) -> Result<Option<Vec<Event>>, AllocError>
@@ -119,9 +135,58 @@ fn lists_at(alloc: Global, value: &Value) -> Result<Option<Vec<Vec<EventId>>>, A
     lists_in(alloc, list.as_slice())
 }
 
+fn values_in(alloc: Global, list: &[Value]) -> Result<Option<Vec<u32>>, AllocError>
+    ensures { IfOk result (λ o. option_map (λ v. v.items) o ≡ each value_in (items_view list.now)) }
+{
+    let mut found = Vec::new(alloc);
+    for value in list {
+        let Some(number) = value_in(value) else {
+            return Ok(None);
+        };
+        found.push(number)?;
+    }
+    Ok(Some(found))
+}
+
+fn values_at(alloc: Global, value: &Value) -> Result<Option<Vec<u32>>, AllocError>
+    ensures { IfOk result (λ o. option_map (λ v. v.items) o
+        ≡ at_key (list_in value_in) (codes "init") (view value.now)) }
+{
+    let Some(list) = value.get("init").and_then(Value::as_array) else {
+        return Ok(None);
+    };
+    values_in(alloc, list.as_slice())
+}
+
+#[tactic(auto, unfolding(crate::specs::Reading::values_in))]
+fn init_in(
+    alloc: Global,
+    keys: usize,
+    value: &Value,
+) -> Result<Option<Option<Vec<u32>>>, AllocError>
+    ensures { IfOk result (λ o. option_map (option_map (λ v. v.items)) o
+        ≡ values_in keys (view value.now)) }
+{
+    if keys == 3 {
+        return Ok(Some(None));
+    }
+    if keys != 4 {
+        return Ok(None);
+    }
+    let Some(init) = values_at(alloc, value)? else {
+        return Ok(None);
+    };
+    Ok(Some(Some(init)))
+}
+
 #[tactic(auto, unfolding(crate::specs::Reading::shape_of))]
-fn shape_of(alloc: Global, value: &Value) -> Result<Option<Found>, AllocError>
-    ensures { IfOk result (λ o. option_map found o ≡ option_map clipped_shape (shape_of (view value.now))) }
+fn shape_of(
+    alloc: Global,
+    init: Option<Vec<u32>>,
+    value: &Value,
+) -> Result<Option<Found>, AllocError>
+    ensures { IfOk result (λ o. option_map found o
+        ≡ option_map clipped_shape (shape_of (option_map (λ v. v.items) init) (view value.now))) }
 {
     let Some(version) = value.get("version").and_then(Value::as_u64) else {
         return Ok(None);
@@ -136,6 +201,7 @@ fn shape_of(alloc: Global, value: &Value) -> Result<Option<Found>, AllocError>
         version,
         cores,
         writes,
+        init,
     }))
 }
 
@@ -146,10 +212,25 @@ fn shape_in(alloc: Global, value: &Value) -> Result<Option<Found>, AllocError>
     let Some(keys) = keys_of(value) else {
         return Ok(None);
     };
-    if keys != 3 {
+    let Some(init) = init_in(alloc, keys, value)? else {
         return Ok(None);
+    };
+    shape_of(alloc, init, value)
+}
+
+/// The initial values that were read; where none were, 0 for each write list.
+fn initial_values(
+    alloc: Global,
+    init: Option<Vec<u32>>,
+    writes: &[Vec<EventId>],
+) -> Result<Vec<u32>, AllocError>
+    ensures { IfOk result (λ v. v.items
+        ≡ initial_values (option_map (λ w. w.items) init) (map (λ w. w.items) writes.now)) }
+{
+    match init {
+        Some(init) => Ok(init),
+        None => vec![in alloc; 0; writes.len()],
     }
-    shape_of(alloc, value)
 }
 
 /// The recording that the bytes give, or the first refusal: of the JSON, its shape, the version, and what
@@ -173,8 +254,17 @@ pub fn read_recording(alloc: Global, bytes: &[u8]) -> Result<Recording, RecError
     let Some(found) = found else {
         return Err(RecError::Shape);
     };
-    if found.version != 1 {
+    if !found.is_versioned() {
         return Err(RecError::Version);
     }
-    Recording::from_parts(found.cores, found.writes)
+    let Found {
+        cores,
+        writes,
+        init,
+        ..
+    } = found;
+    let Ok(init) = initial_values(alloc, init, writes.as_slice()) else {
+        return Err(RecError::OutOfMemory);
+    };
+    Recording::from_parts(cores, writes, init)
 }

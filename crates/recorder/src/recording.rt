@@ -1,6 +1,6 @@
 //! Recordings.
 
-use crate::copies::{copied_cores, copied_writes};
+use crate::copies::{copied_cores, copied_values, copied_writes};
 use crate::event::Event;
 use crate::fault::RecError;
 use crate::parts::RecordingParts;
@@ -8,7 +8,8 @@ use litmus::{Addr, CoreId, EventId};
 use std::alloc::Global;
 use std::marker::Model;
 
-/// A recording: the events of each core in program order, and for each address its writes in memory order.
+/// A recording: the events of each core in program order, and for each address its writes in memory order
+/// and its initial value.
 #[derive(Drop)]
 pub struct Recording {
     parts: RecordingParts,
@@ -33,52 +34,58 @@ impl Recording {
     ghost use Rattle.recorder.specs.Refusals.{IsRefusal};
     ghost use Rattle.recorder.specs.declared.fault.RecError.TheVariants.{OutOfMemory};
 
-    /// The recording of these events and write lists, which have to be one (`from_parts` tests it).
-    pub fn new(cores: Vec<Vec<Event>>, writes: Vec<Vec<EventId>>) -> Recording
-        requires { IsRecording (executed (map (λ v. v.items) cores.items) (map (λ v. v.items) writes.items)) }
-        ensures { result ≡ executed (map (λ v. v.items) cores.items) (map (λ v. v.items) writes.items) }
+    /// The recording of these events, write lists and initial values, which have to be one (`from_parts`
+    /// tests it).
+    pub fn new(cores: Vec<Vec<Event>>, writes: Vec<Vec<EventId>>, init: Vec<u32>) -> Recording
+        requires { IsRecording
+            (executed (map (λ v. v.items) cores.items) (map (λ v. v.items) writes.items) init.items) }
+        ensures { result
+            ≡ executed (map (λ v. v.items) cores.items) (map (λ v. v.items) writes.items) init.items }
     {
         Recording {
-            parts: RecordingParts::new(cores, writes),
+            parts: RecordingParts::new(cores, writes, init),
         }
     }
 
-    /// The recording of these events and write lists, or the first refusal: of the limits, of the
-    /// least event without its source, of the least event without the value of its source, of the
-    /// least address without its write list.
+    /// The recording of these events, write lists and initial values, or the first refusal: of the
+    /// limits, of the least event without its source, of the least event without the value of its
+    /// source, of the least address without its write list.
     pub fn from_parts(
         cores: Vec<Vec<Event>>,
         writes: Vec<Vec<EventId>>,
+        init: Vec<u32>,
     ) -> Result<Recording, RecError>
         ensures exact { IsOk result ↔ IsRecording
-            (executed (map (λ v. v.items) cores.items) (map (λ v. v.items) writes.items)) }
+            (executed (map (λ v. v.items) cores.items) (map (λ v. v.items) writes.items) init.items) }
         ensures ok { IfOk result (λ r. r
-            ≡ executed (map (λ v. v.items) cores.items) (map (λ v. v.items) writes.items)) }
-        ensures err { IfErr result
-            (λ e. IsRefusal (executed (map (λ v. v.items) cores.items) (map (λ v. v.items) writes.items)) e) }
+            ≡ executed (map (λ v. v.items) cores.items) (map (λ v. v.items) writes.items) init.items) }
+        ensures err { IfErr result (λ e. IsRefusal
+            (executed (map (λ v. v.items) cores.items) (map (λ v. v.items) writes.items) init.items) e) }
     {
-        let parts = RecordingParts::new(cores, writes);
+        let parts = RecordingParts::new(cores, writes, init);
         match parts.refusal() {
             Some(refusal) => Err(refusal),
             None => Ok(Recording { parts }),
         }
     }
 
-    /// The recording of copies of these events and write lists, or the first refusal, as
-    /// `from_parts` has it; `OutOfMemory` where there is none for a copy.
+    /// The recording of copies of these events, write lists and initial values, or the first refusal,
+    /// as `from_parts` has it; `OutOfMemory` where there is none for a copy.
     pub fn from_lists(
         alloc: Global,
         cores: &[&[Event]],
         writes: &[&[EventId]],
+        init: &[u32],
     ) -> Result<Recording, RecError>
         ensures ok { IfOk result (λ r. r
-            ≡ executed (map (λ s. s.now) cores.now) (map (λ s. s.now) writes.now)) }
+            ≡ executed (map (λ s. s.now) cores.now) (map (λ s. s.now) writes.now) init.now) }
         ensures err { IfErr result (λ e. (e ≡ OutOfMemory)
-            ⊎ IsRefusal (executed (map (λ s. s.now) cores.now) (map (λ s. s.now) writes.now)) e) }
+            ⊎ IsRefusal (executed (map (λ s. s.now) cores.now) (map (λ s. s.now) writes.now) init.now) e) }
     {
         let cores = copied_cores(alloc, cores)?;
         let writes = copied_writes(alloc, writes)?;
-        Recording::from_parts(cores, writes)
+        let init = copied_values(alloc, init)?;
+        Recording::from_parts(cores, writes, init)
     }
 
     /// What every recording keeps. It does nothing.
@@ -100,6 +107,14 @@ impl Recording {
         ensures { map (λ v. v.items) result.now ≡ self.now.write_lists }
     {
         self.parts.writes()
+    }
+
+    /// For each address the value that it begins with.
+    pub fn init(&self) -> &[u32]
+        ensures value { result.now ≡ self.now.initial }
+        ensures count { length result.now ≡ length self.now.write_lists }
+    {
+        self.parts.init()
     }
 
     /// How many events there are.

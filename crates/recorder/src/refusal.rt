@@ -26,7 +26,8 @@ impl RecordingParts {
         true
     }
 
-    /// Whether they are within the limits, and each address that is used has a write list.
+    /// Whether they are within the limits, each address that is used has a write list, and each that has
+    /// one has an initial value.
     fn is_within_limits(&self) -> bool
         ensures { IsTrue result ↔ IsWithinLimits self.now }
     {
@@ -34,6 +35,9 @@ impl RecordingParts {
             return false;
         }
         if self.writes().len() > MAX_ADDRESSES {
+            return false;
+        }
+        if self.init().len() != self.writes().len() {
             return false;
         }
         if !self.has_few_events() {

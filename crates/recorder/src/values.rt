@@ -2,12 +2,14 @@
 
 ghost use Rattle.std.specs.Prelude.{◌≡◌, IfOk, Some, map};
 ghost use Rattle.serde_json.specs.View.{view};
-ghost use Rattle.recorder.specs.Reading.{number_in, source_in, event_in, list_in, shape_in};
+ghost use Rattle.recorder.specs.declared.event.Event.TheVariants.{C};
+ghost use Rattle.recorder.specs.Reading.{number_in, value_in, source_in, event_in, list_in, Tells};
 ghost use Rattle.recorder.specs.Text.{number_data, list_data, source_data, event_data, data_of};
 
 use crate::event::Event;
 use crate::recording::Recording;
-use litmus::EventId;
+use crate::versions::is_of_version_1;
+use litmus::{Addr, EventId};
 use serde_json::{Value, json};
 use std::alloc::{AllocError, Global};
 
@@ -21,6 +23,13 @@ fn source_value(source: Option<EventId>) -> Value
     }
 }
 
+fn failed_cas_value(alloc: Global, a: Addr, r: u32, s: Option<EventId>) -> Result<Value, AllocError>
+    ensures value { IfOk result (λ v. view v ≡ event_data (C a r s)) }
+    ensures again { IfOk result (λ _. event_in (event_data (C a r s)) ≡ Some (C a r s)) }
+{
+    json!(in alloc; {"a": a, "k": "C", "r": r, "s": source_value(s)})
+}
+
 fn event_value(alloc: Global, event: &Event) -> Result<Value, AllocError>
     ensures value { IfOk result (λ v. view v ≡ event_data event.now) }
     ensures again { IfOk result (λ _. event_in (event_data event.now) ≡ Some event.now) }
@@ -31,6 +40,7 @@ fn event_value(alloc: Global, event: &Event) -> Result<Value, AllocError>
         Event::R { a, r, s, w } => {
             json!(in alloc; {"a": a, "k": "R", "r": r, "s": source_value(s), "w": w})
         }
+        Event::C { a, r, s } => failed_cas_value(alloc, a, r, s),
         Event::F => json!(in alloc; {"k": "F"}),
     }
 }
@@ -86,11 +96,27 @@ fn lists_value(alloc: Global, lists: &[Vec<EventId>]) -> Result<Value, AllocErro
     Ok(Value::Array(values))
 }
 
+fn init_value(alloc: Global, init: &[u32]) -> Result<Value, AllocError>
+    ensures value { IfOk result (λ v. view v ≡ list_data number_data init.now) }
+    ensures again { IfOk result (λ _. list_in value_in (list_data number_data init.now) ≡ Some init.now) }
+{
+    let mut values = Vec::with_capacity(alloc, init.len())?;
+    for value in init {
+        values.push(Value::from(*value))?;
+    }
+    Ok(Value::Array(values))
+}
+
 pub(crate) fn value_of(alloc: Global, recording: &Recording) -> Result<Value, AllocError>
     ensures value { IfOk result (λ v. view v ≡ data_of recording.now) }
-    ensures again { IfOk result (λ _. shape_in (data_of recording.now) ≡ Some (1, recording.now)) }
+    ensures again { IfOk result (λ _. Tells (data_of recording.now) recording.now) }
 {
+    recording.sound();
     let cores = cores_value(alloc, recording.cores())?;
     let writes = lists_value(alloc, recording.writes())?;
-    json!(in alloc; {"cores": cores, "version": 1, "writes": writes})
+    if is_of_version_1(recording) {
+        return json!(in alloc; {"cores": cores, "version": 1, "writes": writes});
+    }
+    let init = init_value(alloc, recording.init())?;
+    json!(in alloc; {"cores": cores, "init": init, "version": 2, "writes": writes})
 }

@@ -22,7 +22,8 @@ impl Placed {
         ensures writes { (a : ℕ) → written_address self.now.event ≡ Some a → result ≡ Some a }
     {
         match self.event {
-            Event::L { a, .. } | Event::S { a, .. } | Event::R { a, .. } => Some(a),
+            Event::L { a, .. } | Event::S { a, .. } | Event::R { a, .. } | Event::C { a, .. } =>
+                Some(a),
             Event::F => None,
         }
     }
