@@ -72,6 +72,7 @@ fn transaction(machine: &Machine, core: CoreId) -> Option<Step> {
         Op::Ld(addr) => Some(Step::GetS(core, addr)),
         Op::Swap(addr, _) => Some(Step::GetM(core, addr)),
         Op::Add(addr, _) => Some(Step::GetM(core, addr)),
+        Op::Cas(addr, _, _) => Some(Step::GetM(core, addr)),
         Op::St(..) => None,
         Op::Fence => None,
     }

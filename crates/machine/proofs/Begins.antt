@@ -3,7 +3,7 @@ use Rattle.std.proofs.Common.{◌≡◌, ◌<◌, ◌≤◌, ◌+◌, ◌-◌, i
 use Rattle.std.proofs.Common.{◌++◌, map, length, get_or, slice_index_or, replicate, arith, refl, sym, ap}
 use Rattle.std.proofs.Common.{subst, ◌∙◌}
 use Rattle.std.specs.List.{All, sum_by}
-use Rattle.std.proofs.lemmas.List.{length-replicate, get_or-replicate, get_or_append_left}
+use Rattle.std.proofs.lemmas.List.{length-replicate, get_or-replicate, get_or_append_left, length-map}
 use Rattle.std.proofs.lemmas.List.{get_or-append_right}
 use Rattle.std.proofs.lemmas.List.Sums.{sum_by-cons}
 use Rattle.std.proofs.lemmas.Bool.{cases_lt}
@@ -17,7 +17,7 @@ use Rattle.machine.specs.declared.fault.Fault.{Fault}
 use Rattle.machine.specs.State.{first_event, opening}
 use Rattle.machine.specs.Made.{AreUnits}
 use Rattle.moesi.specs.State as moesi
-use Rattle.moesi.specs.Block.{Block, opening_block}
+use Rattle.moesi.specs.Block.{block_with}
 use Rattle.machine.specs.Configuration.{BlankSize, IsSound, IsEntry, IsMachine, state_from, places_of}
 use Rattle.machine.proofs.Opening.{get_or_same}
 
@@ -47,97 +47,109 @@ places_none (u ∷ units) (suc n) l h =
     ap (λ (k : ℕ). k ∷ places_of units) (h 0 u (omega arith)) ∙ ap (λ (ks : List ℕ). 0 ∷ ks)
     (places_none units n (omega (arith, l)) (λ c d inside. h (suc c) d (omega (arith, inside))))
 
-module _ (p : Parts) (capacity cores total n : ℕ) (units : List Progress) (cores_is : cores ≡ length p.cores)
-    (n_is : n ≡ length p.names) (are : AreUnits p.cores units total)
+module _ (p : Parts) (capacity cores total n : ℕ) (init : List ℕ) (units : List Progress)
+    (cores_is : cores ≡ length p.cores) (n_is : n ≡ length init) (init_is : init ≡ p.init)
+    (initials : length p.init ≡ length p.names) (are : AreUnits p.cores units total)
     (fits : All (λ ops. All (IsWithin (length p.names)) ops) p.cores) (few : op_count p.cores ≤ MAX_EVENTS)
     (buffers : List Buffer) (caches : moesi.CacheState) (reads : List (ℕ × Option ℕ))
     (writes : List (BoundedItems ℕ)) (done : BoundedItems ℕ) (blank : BlankSize)
     (buffers_are : buffers ≡ replicate cores (record { entries = []; capacity = capacity }))
-    (caches_are : caches ≡ moesi.opening_caches cores n)
+    (caches_are : caches ≡ moesi.opening_with cores init)
     (writes_are : writes ≡ replicate n (record { items = []; room = total }))
     (reads_are : reads ≡ replicate total (0, None)) (done_is : done ≡ record { items = []; room = total })
-    (blank_is : blank ≡ record { cores = cores; events = total; addresses = n }) where
-  -- each unit is at the start of its core
-  units_begun : (c : ℕ) (d : Progress) → c < length p.cores → slice_index_or units c d
-      ≡ record { first = first_event p.cores c; place = 0 }
-  units_begun = are.begun
+    (blank_is : blank ≡ record { cores = cores; events = total; addresses = length init; initial = init })
+  where
+    -- each unit is at the start of its core
+    units_begun : (c : ℕ) (d : Progress) → c < length p.cores → slice_index_or units c d
+        ≡ record { first = first_event p.cores c; place = 0 }
+    units_begun = are.begun
 
-  -- no core has executed anything
-  places_are : places_of units ≡ replicate (length p.cores) 0
-  places_are = places_none units (length p.cores) are.one_each
-      (λ c d inside. ap (λ (u : Progress). u.place) (are.begun c d inside))
+    -- no core has executed anything
+    places_are : places_of units ≡ replicate (length p.cores) 0
+    places_are = places_none units (length p.cores) are.one_each
+        (λ c d inside. ap (λ (u : Progress). u.place) (are.begun c d inside))
 
-  -- the parts make the opening state
-  pub opening_held : state_from units buffers caches writes reads done.items ≡ opening p.cores
-      (length p.names)
-  opening_held = rw (
-    places_are,
-    buffers_are,
-    caches_are,
-    writes_are,
-    reads_are,
-    done_is,
-    cores_is,
-    n_is,
-    map_same (λ (b : Buffer). b.entries) (length p.cores) (record { entries = []; capacity = capacity }),
-    map_same (λ (b : BoundedItems ℕ). b.items) (length p.names) (record { items = []; room = total }),
-    are.events,
-  ) refl
+    -- the parts make the opening state
+    pub opening_held : state_from p.init units buffers caches writes reads done.items ≡ opening p.cores p.init
+    opening_held = rw (
+      places_are,
+      buffers_are,
+      caches_are,
+      writes_are,
+      reads_are,
+      done_is,
+      cores_is,
+      n_is,
+      init_is,
+      map_same (λ (b : Buffer). b.entries) (length p.cores) (record { entries = []; capacity = capacity }),
+      map_same (λ (b : BoundedItems ℕ). b.items) (length p.init) (record { items = []; room = total }),
+      are.events,
+    ) refl
 
-  -- the parts fit together
-  sound : IsSound p capacity units buffers caches writes reads done
-  sound = record {
-    operations = fits;
-    few = few;
-    units_length = are.one_each;
-    buffers_length = ap (λ (l : List Buffer). length l) buffers_are
-        ∙ (length-replicate {A = Buffer} cores (record { entries = []; capacity = capacity }) ∙ cores_is);
-    cache_cores = ap (λ (m : moesi.CacheState). m.cores) caches_are ∙ cores_is;
-    cache_blocks = ap (λ (m : moesi.CacheState). length m.blocks) caches_are
-        ∙ (length-replicate {A = Block} n (opening_block cores) ∙ n_is);
-    writes_length = ap (λ (l : List (BoundedItems ℕ)). length l) writes_are
-        ∙ (length-replicate {A = BoundedItems ℕ} n (record { items = []; room = total }) ∙ n_is);
-    events = ap (λ (m : List (ℕ × Option ℕ)). length m) reads_are
-        ∙ (length-replicate total (0, None) ∙ are.events);
-    first = λ c d inside. ap (λ (u : Progress). u.first) (are.begun c d inside);
-    place = λ c. omega (
-      arith,
-      ap (λ (l : List ℕ). get_or l c 0) places_are,
-      get_or_same {A = ℕ}
-          (length p.cores) c 0,
-    );
-    capacities = subst (λ (l : List Buffer). All (λ b. b.capacity ≡ capacity) l) (sym buffers_are)
-        (all_same (λ (b : Buffer). b.capacity ≡ capacity) cores (record { entries = []; capacity = capacity })
-        refl);
-    entries = subst (λ (l : List Buffer). All (λ b. All (IsEntry (length p.names)) b.entries) l)
-        (sym buffers_are)
-        (all_same (λ (b : Buffer). All (IsEntry (length p.names)) b.entries) cores
-        (record { entries = []; capacity = capacity }) (λ k d h. absurd (omega (arith, h))));
-    write_rooms = subst (λ (l : List (BoundedItems ℕ)). All (λ b. b.room ≡ op_count p.cores) l)
-        (sym writes_are) (all_same (λ (b : BoundedItems ℕ). b.room ≡ op_count p.cores) n
-        (record { items = []; room = total }) are.events);
-    write_lengths = subst (λ (l : List (BoundedItems ℕ)). All (λ b. length b.items ≤ length done.items) l)
-        (sym writes_are)
-        (all_same (λ (b : BoundedItems ℕ). length b.items ≤ length done.items) n
-        (record { items = []; room = total }) (omega arith));
-    performed_room = ap (λ (r : BoundedItems ℕ). r.room) done_is ∙ are.events;
-    counted = omega (
-      arith,
-      ap (λ (r : BoundedItems ℕ). length r.items) done_is,
-      ap (λ (l : List Buffer). sum_by (λ b. length b.entries) l) buffers_are,
-      sum_same (λ (b : Buffer). length b.entries) cores (record { entries = []; capacity = capacity }) refl,
-      ap (λ (l : List ℕ). sum_by (λ (x : ℕ). x) l) places_are,
-      sum_same (λ (x : ℕ). x) (length p.cores) 0 refl,
-    );
-  }
+    -- there are as many addresses as names
+    addresses_are : length init ≡ length p.names
+    addresses_are = ap (λ (l : List ℕ). length l) init_is ∙ initials
 
-  -- so they are a machine
-  pub is_machine : (fault : Fault) → IsMachine p capacity fault units buffers caches writes reads done blank
-  is_machine fault = record {
-    sound = sound;
-    reached = record { steps = []; leads = sym opening_held; operations = fits };
-    blank_is = rw (blank_is, cores_is, are.events, n_is) refl;
-  }
+    -- the parts fit together
+    sound : IsSound p capacity units buffers caches writes reads done
+    sound = record {
+      operations = fits;
+      few = few;
+      initials = initials;
+      units_length = are.one_each;
+      buffers_length = ap (λ (l : List Buffer). length l) buffers_are
+          ∙ (length-replicate {A = Buffer} cores (record { entries = []; capacity = capacity }) ∙ cores_is);
+      cache_cores = ap (λ (m : moesi.CacheState). m.cores) caches_are ∙ cores_is;
+      cache_blocks = ap (λ (m : moesi.CacheState). length m.blocks) caches_are
+          ∙ (length-map init (λ v. block_with cores v) ∙ addresses_are);
+      writes_length = ap (λ (l : List (BoundedItems ℕ)). length l) writes_are
+          ∙ (length-replicate {A = BoundedItems ℕ} n (record { items = []; room = total })
+          ∙ (n_is ∙ addresses_are));
+      events = ap (λ (m : List (ℕ × Option ℕ)). length m) reads_are
+          ∙ (length-replicate total (0, None) ∙ are.events);
+      first = λ c d inside. ap (λ (u : Progress). u.first) (are.begun c d inside);
+      place = λ c. omega (
+        arith,
+        ap (λ (l : List ℕ). get_or l c 0) places_are,
+        get_or_same {A = ℕ}
+            (length p.cores) c 0,
+      );
+      capacities = subst (λ (l : List Buffer). All (λ b. b.capacity ≡ capacity) l) (sym buffers_are)
+          (all_same (λ (b : Buffer). b.capacity ≡ capacity) cores
+          (record { entries = []; capacity = capacity }) refl);
+      entries = subst (λ (l : List Buffer). All (λ b. All (IsEntry (length p.names)) b.entries) l)
+          (sym buffers_are)
+          (all_same (λ (b : Buffer). All (IsEntry (length p.names)) b.entries) cores
+          (record { entries = []; capacity = capacity }) (λ k d h. absurd (omega (arith, h))));
+      write_rooms = subst (λ (l : List (BoundedItems ℕ)). All (λ b. b.room ≡ op_count p.cores) l)
+          (sym writes_are) (all_same (λ (b : BoundedItems ℕ). b.room ≡ op_count p.cores) n
+          (record { items = []; room = total }) are.events);
+      write_lengths = subst (λ (l : List (BoundedItems ℕ)). All (λ b. length b.items ≤ length done.items) l)
+          (sym writes_are)
+          (all_same (λ (b : BoundedItems ℕ). length b.items ≤ length done.items) n
+          (record { items = []; room = total }) (omega arith));
+      performed_room = ap (λ (r : BoundedItems ℕ). r.room) done_is ∙ are.events;
+      counted = omega (
+        arith,
+        ap (λ (r : BoundedItems ℕ). length r.items) done_is,
+        ap (λ (l : List Buffer). sum_by (λ b. length b.entries) l) buffers_are,
+        sum_same (λ (b : Buffer). length b.entries) cores (record { entries = []; capacity = capacity }) refl,
+        ap (λ (l : List ℕ). sum_by (λ (x : ℕ). x) l) places_are,
+        sum_same (λ (x : ℕ). x) (length p.cores) 0 refl,
+      );
+    }
+
+    -- so they are a machine
+    pub is_machine : (fault : Fault) → IsMachine p capacity fault units buffers caches writes reads done blank
+    is_machine fault = record {
+      sound = sound;
+      reached = record {
+        steps = [];
+        leads = sym opening_held;
+        operations = subst (λ (k : ℕ). All (λ ops. All (IsWithin k) ops) p.cores) (sym initials) fits;
+      };
+      blank_is = rw (blank_is, cores_is, are.events, init_is, initials) refl;
+    }
 
 -- one core more
 pub unit_more : (p : List (List Op)) (units units' : List Progress) (i next : ℕ) → length units ≡ i

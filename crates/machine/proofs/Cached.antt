@@ -1,14 +1,14 @@
 -- What a step that the caches allow does to them.
 use Rattle.std.proofs.Common.{◌≡◌, inl, inr, ℕ, zero, suc, Bool, true, false, Option, Some, None, Result, Ok}
-use Rattle.std.proofs.Common.{Err, [], length, slice_index_or, slice_set, replicate, refl, sym, ap, ◌∙◌}
-use Rattle.std.proofs.Common.{length-set}
+use Rattle.std.proofs.Common.{Err, List, [], ◌∷◌, length, map, slice_index, slice_index_or, slice_set, refl}
+use Rattle.std.proofs.Common.{sym, ap, ◌∙◌, length-set}
 use Rattle.std.specs.Prelude.{IsTrue}
 use Rattle.moesi.specs.declared.error.CacheError.{CacheError}
 use Rattle.moesi.specs.declared.error.CacheError.TheVariants.{C4}
 use Rattle.moesi.specs.Lines.{is_valid, is_exclusive}
-use Rattle.moesi.specs.Block.{Block, opening_block, invalid, HasBlock}
+use Rattle.moesi.specs.Block.{Block, block_with, invalid, HasBlock}
 use Rattle.moesi.specs.Rows as row
-use Rattle.moesi.specs.State.{CacheState, block_of, line_of, copy_of, opening_caches, at_address, read, write}
+use Rattle.moesi.specs.State.{CacheState, block_of, line_of, copy_of, opening_with, at_address, read, write}
 use Rattle.moesi.specs.State.{Has}
 use Rattle.moesi.specs.Laws.{IsTransaction, IsAnyTransaction}
 use Rattle.moesi.specs.LineLaws.{exclusive_valid}
@@ -76,6 +76,11 @@ pub written_read : (s t : CacheState) (c a value event : ℕ) → write s c a va
 written_read s t c a value event h =
     rw (exclusive_valid (line_of s c a) (written_exclusive s t c a value event h)) refl
 
+-- a line that is M or E may be read
+pub exclusive_read : (s : CacheState) (c a : ℕ) → is_exclusive (line_of s c a) ≡ true
+    → read s c a ≡ Ok (copy_of s c a)
+exclusive_read s c a h = rw (exclusive_valid (line_of s c a) h) refl
+
 -- a line that may not be read may not be written
 pub unread_unwritten : (s : CacheState) (c a value event : ℕ) (e : CacheError) → read s c a ≡ Err e
     → write s c a value event ≡ Err C4
@@ -90,21 +95,22 @@ unread_unwritten s c a value event e h = go (is_exclusive (line_of s c a)) refl
         sym (valid is) ∙ h in cc)
     go false is = rw is refl
 
--- at first 0 with no event is there, and nothing else
-pub opening_has : (cores addresses a : ℕ) (copy : ℕ × Option ℕ) → Has (opening_caches cores addresses) a copy
-    → copy ≡ (0, None)
-opening_has cores addresses a copy h = replicated addresses a h
+-- at first the initial value with no event is there, and nothing else
+pub opening_has : (cores : ℕ) (init : List ℕ) (a : ℕ) (copy : ℕ × Option ℕ)
+    → Has (opening_with cores init) a copy → copy ≡ (slice_index init a, None)
+opening_has cores init a copy h = begun init a h
   where
     none : Block
     none = record { lines = []; memory = (0, None) }
 
-    has_none : (n : ℕ) → HasBlock (record { lines = replicate n invalid; memory = (0, None) }) copy
-        → copy ≡ (0, None)
-    has_none n (inl m) = sym m
-    has_none n (inr k) = let off : is_valid invalid.line ≡ true = rw (all_invalid n k.0) at k.1 in cc (off)
+    has_none : (n value : ℕ) → HasBlock (block_with n value) copy → copy ≡ (value, None)
+    has_none n value (inl m) = sym m
+    has_none n value (inr k) =
+        let off : is_valid invalid.line ≡ true = rw (all_invalid n k.0) at k.1 in cc (off)
 
-    replicated : (n i : ℕ) → HasBlock (slice_index_or (replicate n (opening_block cores)) i none) copy
-        → copy ≡ (0, None)
-    replicated zero i k = has_none 0 k
-    replicated (suc n) zero k = has_none cores k
-    replicated (suc n) (suc i) k = replicated n i k
+    begun : (values : List ℕ) (i : ℕ)
+        → HasBlock (slice_index_or (map (λ v. block_with cores v) values) i none) copy
+        → copy ≡ (slice_index values i, None)
+    begun [] i k = has_none 0 0 k
+    begun (v ∷ values) zero k = has_none cores v k
+    begun (v ∷ values) (suc i) k = begun values i k

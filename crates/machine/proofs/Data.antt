@@ -1,21 +1,21 @@
 -- Each value in a line, in memory, in a buffer or read is one that an executed write of its address
 -- wrote, so a complete state's recording is well formed.
 use Rattle.std.proofs.Common.{◌≡◌, ◌≢◌, ◌<◌, ◌≤◌, ◌+◌, ◌⊎◌, inl, inr, ℕ, Bool, true, cond, Option, Some, None}
-use Rattle.std.proofs.Common.{Ok, List, [], ◌∷◌, ◌++◌, map, length, get_or, slice_set, arith, refl, sym, ap}
-use Rattle.std.proofs.Common.{subst, ◌∙◌, get_or-set_same, get_or-set_other}
+use Rattle.std.proofs.Common.{Ok, List, [], ◌∷◌, ◌++◌, map, length, get_or, slice_index, slice_set, arith}
+use Rattle.std.proofs.Common.{refl, sym, ap, subst, ◌∙◌, get_or-set_same, get_or-set_other}
 use Rattle.std.specs.Prelude.{◌==◌}
-use Rattle.std.specs.List.{All, filter, sum_by}
+use Rattle.std.specs.List.{All, filter}
 use Rattle.std.proofs.lemmas.List.{get_or_past, map-append}
 use Rattle.std.proofs.lemmas.Bool.{cases_eq, cases_lt, eq-eqb}
 use Rattle.litmus.specs.declared.op.Op.{Op}
-use Rattle.litmus.specs.declared.op.Op.TheVariants.{St, Ld, Fence, Swap, Add}
+use Rattle.litmus.specs.declared.op.Op.TheVariants.{St, Ld, Fence, Swap, Add, Cas}
 use Rattle.litmus.specs.Parts.{IsWithin}
 use Rattle.recorder.specs.Event.{written_address, source, value_read, value_written}
-use Rattle.recorder.specs.Execution.{event_at, write_list, Reads, Writes}
+use Rattle.recorder.specs.Execution.{placed_from, event_at, write_list, Reads, Writes}
 use Rattle.recorder.specs.Order.{times}
 use Rattle.recorder.specs.Tso.{Gives, IsWellFormed}
 use Rattle.recorder.specs.OrderLaws.{times_nil, times_here, times_append}
-use Rattle.recorder.specs.EventLaws.{Writes-event}
+use Rattle.recorder.specs.EventLaws.{Reads-event, Writes-event}
 use Rattle.write_buffer.specs.declared.entry.Entry.{Entry}
 use Rattle.write_buffer.specs.Buffer.{youngest, or_else}
 use Rattle.machine.specs.declared.step.Step.{Step}
@@ -24,8 +24,8 @@ use Rattle.moesi.specs.Laws.{IsAnyTransaction}
 use Rattle.moesi.specs.OriginLaws.{every_copy_was_there, every_write_adds_itself}
 use Rattle.machine.specs.declared.fault.Fault.{Fault}
 use Rattle.machine.specs.Faults.{forwarded}
-use Rattle.machine.specs.State.{State, place_of, buffer_of, line_copy, event_of, recorded, opening}
-use Rattle.machine.specs.State.{IsComplete}
+use Rattle.machine.specs.State.{State, place_of, buffer_of, line_copy, first_event, event_of, recorded}
+use Rattle.machine.specs.State.{opening, IsComplete}
 use Rattle.machine.specs.Step.{with_caches, forwarded_or_read, looked_up, rmw_value, run}
 use Rattle.machine.specs.Tso.{EveryRunIsWellFormed}
 use Rattle.machine.proofs.Cached.{read_has, written_read, opening_has}
@@ -36,16 +36,17 @@ use Rattle.machine.proofs.Drains.{AreStores, stores_out, drained_state}
 use Rattle.machine.proofs.Removed.{forwarded_youngest}
 use Rattle.machine.proofs.Loads.{not_equal}
 use Rattle.machine.proofs.Executes.{IsNext, next_placed}
-use Rattle.machine.proofs.Rows.{IsKept, IsRmw, stored_state, loaded_state, fenced_state, rmw_state, run_kept}
+use Rattle.machine.proofs.Rows.{IsKept, IsRmw, IsCompare, stored_state, loaded_state, fenced_state, rmw_state}
+use Rattle.machine.proofs.Rows.{run_kept}
 use Rattle.machine.proofs.Steady.{IsSteady, next_within, drain_steady, store_steady, load_steady}
-use Rattle.machine.proofs.Steady.{fence_steady, rmw_steady, transact_steady}
-use Rattle.machine.proofs.Opening.{get_or_same, opening_steady}
-use Rattle.machine.specs.RecordedLaws.{event_is}
-use Rattle.machine.proofs.Complete.{list_is, writes_is, reads_is, complete_listed}
+use Rattle.machine.proofs.Steady.{fence_steady, rmw_steady, compare_steady, transact_steady}
+use Rattle.machine.proofs.Opening.{nothing_executed, opening_steady}
+use Rattle.machine.specs.RecordedLaws.{event_is, count_is}
+use Rattle.machine.proofs.Complete.{both, list_is, writes_is, reads_is, all_done, complete_listed}
 
 -- the value is the initial one, or the source is an executed write of it to the address
 abbrev pub IsGiven : List (List Op) → State → ℕ → Option ℕ → ℕ → Type 0
-IsGiven p s a None v = v ≡ 0
+IsGiven p s a None v = v ≡ slice_index s.initial a
 IsGiven p s a (Some w) v =
     (w < (snapshot_of p s).next ((static_of p s).core w)) × (written_address (done_by p s w) ≡ Some a)
     × (value_written (done_by p s w) ≡ v)
@@ -54,19 +55,20 @@ IsGiven p s a (Some w) v =
 abbrev pub IsPairGiven : List (List Op) → State → ℕ → ℕ × Option ℕ → Type 0
 IsPairGiven p s a d = IsGiven p s a d.1 d.0
 
--- what lines and memory hold and events read was given
+-- what lines and memory hold and executed events read was given
 pub record IsData (p : List (List Op)) (s : State) : Type 0 where
   pub steady : IsSteady p s
   pub copies : (a : ℕ) (copy : ℕ × Option ℕ) → moesi.Has s.caches a copy → IsPairGiven p s a copy
-  pub reads : (e a : ℕ) → op_reads (placed_op p e).1 ≡ Some a → IsPairGiven p s a (get_or s.reads e (0, None))
+  pub reads : (e a : ℕ) → e < (snapshot_of p s).next ((static_of p s).core e)
+      → op_reads (placed_op p e).1 ≡ Some a → IsPairGiven p s a (get_or s.reads e (0, None))
 
 -- an event that is executed now changes nothing that others gave
 given_kept : (p : List (List Op)) (s t : State) (b : ℕ) → (snapshot_of p s).next ((static_of p s).core b) ≡ b
     → ((e : ℕ) → e ≢ b → get_or t.reads e (0, None) ≡ get_or s.reads e (0, None))
-    → ((c : ℕ) → place_of s c ≤ place_of t c) → (a : ℕ) (o : Option ℕ) (v : ℕ) → IsGiven p s a o v
-    → IsGiven p t a o v
-given_kept p s t b new same up a None v h = h
-given_kept p s t b new same up a (Some w) v h =
+    → ((c : ℕ) → place_of s c ≤ place_of t c) → s.initial ≡ t.initial → (a : ℕ) (o : Option ℕ) (v : ℕ)
+    → IsGiven p s a o v → IsGiven p t a o v
+given_kept p s t b new same up init a None v h = h ∙ ap (λ (l : List ℕ). slice_index l a) init
+given_kept p s t b new same up init a (Some w) v h =
     let other : w ≢ b =
     λ is. omega (arith, h.0, ap (λ (e : ℕ). (snapshot_of p s).next ((static_of p s).core e)) is, new, is)
     in
@@ -215,19 +217,52 @@ module _ (p : List (List Op)) (s : State) (d : IsData p s) where
     -- what was given before core c goes on is given behind it
     go_on : (t : State) → t.places ≡ slice_set s.places c (place_of s c + 1)
         → ((e : ℕ) → e ≢ b → get_or t.reads e (0, None) ≡ get_or s.reads e (0, None))
-        → (a : ℕ) (o : Option ℕ) (v : ℕ) → IsGiven p s a o v → IsGiven p t a o v
-    go_on t places reads =
+        → s.initial ≡ t.initial → (a : ℕ) (o : Option ℕ) (v : ℕ) → IsGiven p s a o v → IsGiven p t a o v
+    go_on t places reads init =
         given_kept p s t b new reads (λ k. subst (λ (l : List ℕ). place_of s k ≤ get_or l k 0) (sym places)
-        (up k))
+        (up k)) init
+
+    -- what was executed by then, other than b, was executed before
+    earlier : (t : State) → t.places ≡ slice_set s.places c (place_of s c + 1) → (e : ℕ) → e ≢ b
+        → e < (snapshot_of p t).next ((static_of p t).core e)
+        → e < (snapshot_of p s).next ((static_of p s).core e)
+    earlier t places e other done = elim (cases_eq ((placed_op p e).0) c) [
+      | inl own ↦
+          let past : e < b + 1 = omega (
+            arith,
+            n.event,
+            subst (λ (k : ℕ). e < first_event p k + get_or t.places k 0) own done,
+            ap (λ (l : List ℕ). get_or l c 0) places,
+            get_or-set_same s.places c (place_of s c + 1) 0 n.core,
+          ) in
+          subst (λ (k : ℕ). e < first_event p k + place_of s k) (sym own) (elim (cases_lt e b) [
+            | inl below ↦ omega (arith, below, n.event)
+            | inr behind ↦ absurd (other (omega (arith, past, behind)))
+          ])
+      | inr away ↦ omega (
+        arith,
+        done,
+        ap (λ (l : List ℕ). get_or l ((placed_op p e).0) 0) places,
+        get_or-set_other s.places c ((placed_op p e).0) (place_of s c + 1) 0 away,
+      )
+    ]
+
+    -- an event that reads is not b where b reads nothing
+    unread : op_reads op ≡ None → (e k : ℕ) → op_reads (placed_op p e).1 ≡ Some k → e ≢ b
+    unread none e k r is =
+        let clash : None ≡ Some k =
+        sym none ∙ (sym (ap (λ (z : ℕ × Op). op_reads z.1) (next_placed p s c b op n))
+        ∙ (ap (λ (z : ℕ). op_reads (placed_op p z).1) (sym is) ∙ r)) in cc
 
     -- what events read where b has read a pair that was given
     read_given : (t : State) (a : ℕ) (what : ℕ × Option ℕ) → op_reads op ≡ Some a → IsPairGiven p s a what
         → t.places ≡ slice_set s.places c (place_of s c + 1) → t.reads ≡ slice_set s.reads b what
-        → (e k : ℕ) → op_reads (placed_op p e).1 ≡ Some k → IsPairGiven p t k (get_or t.reads e (0, None))
-    read_given t a what reads_a was places reads e k r =
+        → s.initial ≡ t.initial → (e k : ℕ) → e < (snapshot_of p t).next ((static_of p t).core e)
+        → op_reads (placed_op p e).1 ≡ Some k → IsPairGiven p t k (get_or t.reads e (0, None))
+    read_given t a what reads_a was places reads init e k done r =
         let keep : (k : ℕ) (o : Option ℕ) (v : ℕ) → IsGiven p s k o v → IsGiven p t k o v =
         go_on t places (λ f other. ap (λ (l : List (ℕ × Option ℕ)). get_or l f (0, None)) reads
-        ∙ get_or-set_other s.reads b f what (0, None) other) in
+        ∙ get_or-set_other s.reads b f what (0, None) other) init in
         elim (cases_eq e b) [
           | inl is_b ↦
               let one : a ≡ k = let h : Some a ≡ Some k =
@@ -241,7 +276,8 @@ module _ (p : List (List Op)) (s : State) (d : IsData p s) where
           | inr other ↦
               subst (λ (l : List (ℕ × Option ℕ)). IsPairGiven p t k (get_or l e (0, None))) (sym reads)
               (subst (λ (z : ℕ × Option ℕ). IsPairGiven p t k z)
-              (sym (get_or-set_other s.reads b e what (0, None) other)) (keep k _ _ (d.reads e k r)))
+              (sym (get_or-set_other s.reads b e what (0, None) other))
+              (keep k _ _ (d.reads e k (earlier t places e other done) r)))
         ]
 
   -- a store keeps the data
@@ -249,22 +285,25 @@ module _ (p : List (List Op)) (s : State) (d : IsData p s) where
   store_data c b a v n at =
       let keep : (k : ℕ) (o : Option ℕ) (w : ℕ) → IsGiven p s k o w
       → IsGiven p (stored_state s c b a v) k o w =
-      go_on c b (St a v) n (stored_state s c b a v) refl (λ e other. refl) in
+      go_on c b (St a v) n (stored_state s c b a v) refl (λ e other. refl) refl in
       record {
         steady = store_steady p s d.steady c b a v n at;
         copies = λ k copy h. keep k _ _ (d.copies k copy h);
-        reads = λ e k r. keep k _ _ (d.reads e k r);
+        reads = λ e k done r. keep k _ _ (d.reads e k
+            (earlier c b (St a v) n (stored_state s c b a v) refl e (unread c b (St a v) n refl e k r) done)
+            r);
       }
 
   -- a fence keeps the data
   fence_data : (c b : ℕ) → IsNext p s c b Fence → IsData p (fenced_state s c b)
   fence_data c b n =
       let keep : (k : ℕ) (o : Option ℕ) (w : ℕ) → IsGiven p s k o w → IsGiven p (fenced_state s c b) k o w =
-      go_on c b Fence n (fenced_state s c b) refl (λ e other. refl) in
+      go_on c b Fence n (fenced_state s c b) refl (λ e other. refl) refl in
       record {
         steady = fence_steady p s d.steady c b n;
         copies = λ k copy h. keep k _ _ (d.copies k copy h);
-        reads = λ e k r. keep k _ _ (d.reads e k r);
+        reads = λ e k done r. keep k _ _ (d.reads e k
+            (earlier c b Fence n (fenced_state s c b) refl e (unread c b Fence n refl e k r) done) r);
       }
 
   -- a load keeps the data
@@ -275,8 +314,8 @@ module _ (p : List (List Op)) (s : State) (d : IsData p s) where
       record {
         steady = load_steady p s d.steady c b a what n;
         copies = λ k copy h. go_on c b (Ld a) n t refl
-            (λ e other. get_or-set_other s.reads b e what (0, None) other) k _ _ (d.copies k copy h);
-        reads = read_given c b (Ld a) n t a what refl (loaded_given f c a what got) refl refl;
+            (λ e other. get_or-set_other s.reads b e what (0, None) other) refl k _ _ (d.copies k copy h);
+        reads = read_given c b (Ld a) n t a what refl (loaded_given f c a what got) refl refl refl;
       }
 
   -- a read-modify-write keeps the data
@@ -298,10 +337,24 @@ module _ (p : List (List Op)) (s : State) (d : IsData p s) where
         steady = rmw_steady p s d.steady caches c b a op n is wrote;
         copies = copies_given t caches c a b value wrote gave
             (λ k copy h. go_on c b op n t refl (λ e other. get_or-set_other s.reads b e what (0, None) other)
-            k _ _ (d.copies k copy h));
+            refl k _ _ (d.copies k copy h));
         reads = read_given c b op n t a what is.reads
             (d.copies a what (read_has s.caches c a what (written_read s.caches caches c a value b wrote)))
-            refl refl;
+            refl refl refl;
+      }
+
+  -- a comparison keeps the data
+  compare_data : (c b a : ℕ) (op : Op) → IsNext p s c b op → IsCompare op (line_copy s c a) a
+      → moesi.read s.caches c a ≡ Ok (line_copy s c a) → IsData p (loaded_state s c b (line_copy s c a))
+  compare_data c b a op n is got =
+      let what : ℕ × Option ℕ = line_copy s c a in
+      let t : State = loaded_state s c b what in
+      record {
+        steady = compare_steady p s d.steady c b a op n is;
+        copies = λ k copy h. go_on c b op n t refl
+            (λ e other. get_or-set_other s.reads b e what (0, None) other) refl k _ _ (d.copies k copy h);
+        reads = read_given c b op n t a what is.reads (d.copies a what (read_has s.caches c a what got))
+            refl refl refl;
       }
 
   -- a transaction keeps the data
@@ -311,7 +364,7 @@ module _ (p : List (List Op)) (s : State) (d : IsData p s) where
     steady = transact_steady p s d.steady caches c a made;
     copies = λ k copy h. given_same k copy
         (d.copies k copy (every_copy_was_there s.caches caches c a k copy made h));
-    reads = λ e k r. given_same k (get_or s.reads e (0, None)) (d.reads e k r);
+    reads = λ e k done r. given_same k (get_or s.reads e (0, None)) (d.reads e k done r);
   }
     where
       given_same : (k : ℕ) (copy : ℕ × Option ℕ) → IsPairGiven p s k copy
@@ -327,25 +380,30 @@ module _ (p : List (List Op)) (s : State) (d : IsData p s) where
     load = load_data f;
     fence = λ c b n empty. fence_data c b n;
     rmw = λ caches c b a op n at is empty wrote. rmw_data caches c b a op n is wrote;
+    compare = λ c b a op n is empty got. compare_data c b a op n is got;
     transact = λ caches c a at within made sound. transact_data caches c a made;
   }
 
 -- the opening state has only initial values
-opening_data : (p : List (List Op)) (n : ℕ) → All (λ ops. All (IsWithin n) ops) p → IsData p (opening p n)
-opening_data p n fits = record {
-  steady = opening_steady p n fits;
-  copies = λ a copy h. subst (λ (z : ℕ × Option ℕ). IsPairGiven p (opening p n) a z)
-      (sym (opening_has (length p) n a copy h)) refl;
-  reads = λ e a r. subst (λ (z : ℕ × Option ℕ). IsPairGiven p (opening p n) a z)
-      (sym (get_or_same (sum_by (λ ops. length ops) p) e (0, None))) refl;
+opening_data : (p : List (List Op)) (init : List ℕ) → All (λ ops. All (IsWithin (length init)) ops) p
+    → IsData p (opening p init)
+opening_data p init fits = record {
+  steady = opening_steady p init fits;
+  copies = λ a copy h. subst (λ (z : ℕ × Option ℕ). IsPairGiven p (opening p init) a z)
+      (sym (opening_has (length p) init a copy h)) refl;
+  reads = λ e a done r. elim (cases_lt e (static_of p (opening p init)).count) [
+    | inl event ↦ absurd (nothing_executed p init fits e event done)
+    | inr past ↦ absurd (let clash : None ≡ Some a =
+        sym (ap (λ (z : ℕ × Op). op_reads z.1) (get_or_past (placed_from 0 p) e (0, Fence) past)) ∙ r in cc)
+  ];
 }
 
 -- every run has its data from executed writes, under every fault
-pub run_data : (p : List (List Op)) (n capacity : ℕ) (f : Fault) (steps : List Step)
-    → All (λ ops. All (IsWithin n) ops) p → IsData p (run p capacity f (opening p n) steps)
-run_data p n capacity f steps fits =
-    run_kept p capacity f (IsData p) (λ s d. (data_kept p s d f, d.steady.places)) steps (opening p n)
-    (opening_data p n fits)
+pub run_data : (p : List (List Op)) (init : List ℕ) (capacity : ℕ) (f : Fault) (steps : List Step)
+    → All (λ ops. All (IsWithin (length init)) ops) p → IsData p (run p capacity f (opening p init) steps)
+run_data p init capacity f steps fits =
+    run_kept p capacity f (IsData p) (λ s d. (data_kept p s d f, d.steady.places)) steps (opening p init)
+    (opening_data p init fits)
 
 -- Well-formedness
 
@@ -357,6 +415,10 @@ value_same (Ld b) d a h = (refl, refl)
 value_same Fence d a h = absurd cc
 value_same (Swap b v) d a h = (refl, refl)
 value_same (Add b v) d a h = (refl, refl)
+value_same (Cas b e v) d a h = (
+  both source d.1 b d v (d.0 == e) refl refl,
+  both value_read d.0 b d v (d.0 == e) refl refl,
+)
 
 -- what is given is what the recording asks of a source
 gives : (p : List (List Op)) (s : State) (a : ℕ) (o : Option ℕ) (v : ℕ) → IsGiven p s a o v
@@ -418,7 +480,8 @@ module _ (p : List (List Op)) (s : State) (d : IsData p s) (end : IsComplete p s
         (sym (ap source (event_is p s e) ∙ same.0))
         (subst (λ (v : ℕ). Gives (recorded p s) a (get_or s.reads e (0, None)).1 v)
         (sym (ap value_read (event_is p s e) ∙ same.1))
-        (gives p s a (get_or s.reads e (0, None)).1 (get_or s.reads e (0, None)).0 (d.reads e a op)));
+        (gives p s a (get_or s.reads e (0, None)).1 (get_or s.reads e (0, None)).0 (d.reads e a
+        ((all_done p s end).done e (omega (arith, Reads-event (recorded p s) e a reads, count_is p s))) op)));
     write_lists =
         λ a. record { once = λ e writes. once a e writes; nothing_else = λ e there. nothing_else a e there };
   }
@@ -436,7 +499,8 @@ module _ (p : List (List Op)) (s : State) (d : IsData p s) (end : IsComplete p s
   ]
 
 -- every complete run has a well-formed recording, under every fault
-pub every_run_is_well_formed : (p : List (List Op)) (n capacity : ℕ) (f : Fault) (steps : List Step)
-    → EveryRunIsWellFormed p n capacity f steps
-every_run_is_well_formed p n capacity f steps fits end =
-    complete_well_formed p (run p capacity f (opening p n) steps) (run_data p n capacity f steps fits) end
+pub every_run_is_well_formed : (p : List (List Op)) (init : List ℕ) (capacity : ℕ) (f : Fault)
+    (steps : List Step) → EveryRunIsWellFormed p init capacity f steps
+every_run_is_well_formed p init capacity f steps fits end =
+    complete_well_formed p (run p capacity f (opening p init) steps)
+    (run_data p init capacity f steps fits) end

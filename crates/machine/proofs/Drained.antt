@@ -53,8 +53,8 @@ module _ (p : Parts) (capacity : ℕ) (units : List Progress) (buffers : List Bu
 
   -- a drain that the caches refuse is blocked
   pub drain_blocked : (e : CacheError) → moesi.write caches core entry.addr entry.value entry.event ≡ Err e
-      → taken p.cores capacity fault (state_from units buffers caches writes reads done.items) (Drain core)
-      ≡ Err B5
+      → taken p.cores capacity fault (state_from p.init units buffers caches writes reads done.items)
+      (Drain core) ≡ Err B5
   drain_blocked e refused = rw (
     lt-ltb core (length p.cores) at,
     buffer_seen buffers core old buffer_there is,
@@ -157,6 +157,7 @@ module _ (p : Parts) (capacity : ℕ) (units : List Progress) (buffers : List Bu
       drained_sound caches' same_cores same_blocks = record {
         operations = sound.operations;
         few = sound.few;
+        initials = sound.initials;
         units_length = sound.units_length;
         buffers_length = length-set buffers core new ∙ sound.buffers_length;
         cache_cores = same_cores ∙ sound.cache_cores;
@@ -188,10 +189,10 @@ module _ (p : Parts) (capacity : ℕ) (units : List Progress) (buffers : List Bu
       -- the row of a drain
       pub drain_taken : (caches' : moesi.CacheState)
           → moesi.write caches core entry.addr entry.value entry.event ≡ Ok caches'
-          → taken p.cores capacity fault (state_from units buffers caches writes reads done.items)
+          → taken p.cores capacity fault (state_from p.init units buffers caches writes reads done.items)
           (Drain core)
-          ≡ Ok (state_from units (slice_set buffers core new) caches' (slice_set writes entry.addr list')
-          reads done'.items)
+          ≡ Ok (state_from p.init units (slice_set buffers core new) caches'
+          (slice_set writes entry.addr list') reads done'.items)
       drain_taken caches' wrote = rw (
         lt-ltb core (length p.cores) at,
         map-set (λ (b : Buffer). b.entries) buffers core new,

@@ -19,10 +19,11 @@ use Rattle.recorder.specs.Event.{value_written}
 use Rattle.moesi.specs.declared.error.CacheError.{CacheError}
 use Rattle.machine.specs.declared.blocked.Blocked.TheVariants.{B5}
 use Rattle.moesi.specs.State as moesi
+use Rattle.moesi.specs.Lines.{is_exclusive}
 use Rattle.machine.specs.declared.fault.Fault.{Fault}
 use Rattle.machine.specs.Faults.{forwarded, may_fence, may_rmw}
 use Rattle.machine.specs.State.{first_event, event_of}
-use Rattle.machine.specs.Step.{exec, read_modify_written, IsAt, forwarded_or_read}
+use Rattle.machine.specs.Step.{exec, read_modify_written, read_unmodified, IsAt, forwarded_or_read}
 use Rattle.machine.specs.BoundedItems.{BoundedItems}
 use Rattle.machine.specs.Configuration.{IsSound, IsEntry, state_from, places_of}
 use Rattle.recorder.specs.PlacedLaws.{placed_at, placed_total}
@@ -63,7 +64,7 @@ module _ (p : Parts) (capacity : ℕ) (units : List Progress) (buffers : List Bu
     (writes : List (BoundedItems ℕ)) (reads : List (ℕ × Option ℕ)) (done : BoundedItems ℕ)
     (sound : IsSound p capacity units buffers caches writes reads done)
     (core : ℕ) (op : Op) (event : ℕ) (at : IsAt p.cores
-    (state_from units buffers caches writes reads done.items) core op event) where
+    (state_from p.init units buffers caches writes reads done.items) core op event) where
   -- the core has a unit
   pub unit_there : core < length units
   unit_there = omega (arith, at.core, sound.units_length)
@@ -77,8 +78,8 @@ module _ (p : Parts) (capacity : ℕ) (units : List Progress) (buffers : List Bu
       → may_rmw fault old.entries ≡ true → (addr : ℕ) (what : ℕ × Option ℕ)
       → moesi.copy_of caches core addr ≡ what
       → (e : CacheError) → moesi.write caches core addr (value_written (event_of op what)) event ≡ Err e
-      → read_modify_written fault (state_from units buffers caches writes reads done.items) core event op addr
-      ≡ Err B5
+      → read_modify_written fault (state_from p.init units buffers caches writes reads done.items)
+      core event op addr ≡ Err B5
   rmw_blocked fault old is may addr what what_is e refused =
       rw (buffer_seen buffers core old buffer_there is, may, what_is, refused) refl
 
@@ -212,6 +213,7 @@ module _ (p : Parts) (capacity : ℕ) (units : List Progress) (buffers : List Bu
       performed_sound reads' same new is = record {
         operations = sound.operations;
         few = sound.few;
+        initials = sound.initials;
         units_length = units_up;
         buffers_length = sound.buffers_length;
         cache_cores = sound.cache_cores;
@@ -236,8 +238,9 @@ module _ (p : Parts) (capacity : ℕ) (units : List Progress) (buffers : List Bu
       -- the row of a fence
       pub fence_taken : (fault : Fault) (old : Buffer) → old ≡ slice_index_or buffers core old
           → may_fence fault old.entries ≡ true
-          → exec capacity fault (state_from units buffers caches writes reads done.items) core event Fence
-          ≡ Ok (state_from (slice_set units core moved) buffers caches writes reads
+          → exec capacity fault (state_from p.init units buffers caches writes reads done.items)
+          core event Fence
+          ≡ Ok (state_from p.init (slice_set units core moved) buffers caches writes reads
           (done.items ++ event ∷ []))
       fence_taken fault old is may = rw (buffer_seen buffers core old buffer_there is, may, places_set) refl
 
@@ -245,11 +248,24 @@ module _ (p : Parts) (capacity : ℕ) (units : List Progress) (buffers : List Bu
       pub load_taken : (fault : Fault) (old : Buffer) → old ≡ slice_index_or buffers core old
           → (addr : ℕ) (entry : Option Entry) → entry ≡ forwarded fault old.entries addr
           → (what : ℕ × Option ℕ) → forwarded_or_read entry (moesi.read caches core addr) ≡ Ok what
-          → exec capacity fault (state_from units buffers caches writes reads done.items) core event (Ld addr)
-          ≡ Ok (state_from (slice_set units core moved) buffers caches writes (slice_set reads event what)
-          (done.items ++ event ∷ []))
+          → exec capacity fault (state_from p.init units buffers caches writes reads done.items)
+          core event (Ld addr)
+          ≡ Ok (state_from p.init (slice_set units core moved) buffers caches writes
+          (slice_set reads event what) (done.items ++ event ∷ []))
       load_taken fault old is addr entry entry_is what got =
           rw (buffer_seen buffers core old buffer_there is, ← entry_is, got, places_set) refl
+
+      -- the row of a read-modify-write that only reads
+      pub compare_taken : (fault : Fault) (old : Buffer) → old ≡ slice_index_or buffers core old
+          → may_rmw fault old.entries ≡ true → (addr : ℕ)
+          → is_exclusive (moesi.line_of caches core addr) ≡ true
+          → (what : ℕ × Option ℕ) → moesi.copy_of caches core addr ≡ what
+          → read_unmodified fault (state_from p.init units buffers caches writes reads done.items)
+          core event addr
+          ≡ Ok (state_from p.init (slice_set units core moved) buffers caches writes
+          (slice_set reads event what) (done.items ++ event ∷ []))
+      compare_taken fault old is may addr owned what what_is =
+          rw (buffer_seen buffers core old buffer_there is, may, owned, what_is, places_set) refl
 
       -- the row of a read-modify-write
       pub rmw_taken : (fault : Fault) (old : Buffer) → old ≡ slice_index_or buffers core old
@@ -258,9 +274,9 @@ module _ (p : Parts) (capacity : ℕ) (units : List Progress) (buffers : List Bu
           → moesi.write caches core addr (value_written (event_of op what)) event ≡ Ok caches'
           → (list new : BoundedItems ℕ) → list ≡ slice_index_or writes addr list
           → new ≡ record { items = list.items ++ event ∷ []; room = list.room }
-          → read_modify_written fault (state_from units buffers caches writes reads done.items)
+          → read_modify_written fault (state_from p.init units buffers caches writes reads done.items)
           core event op addr
-          ≡ Ok (state_from (slice_set units core moved) buffers caches' (slice_set writes addr new)
+          ≡ Ok (state_from p.init (slice_set units core moved) buffers caches' (slice_set writes addr new)
           (slice_set reads event what) (done.items ++ event ∷ []))
       rmw_taken fault old is may addr addressed what what_is caches' wrote list new list_is pushed =
           rw (
@@ -308,6 +324,7 @@ module _ (p : Parts) (capacity : ℕ) (units : List Progress) (buffers : List Bu
             record {
               operations = base.operations;
               few = base.few;
+              initials = base.initials;
               units_length = base.units_length;
               buffers_length = base.buffers_length;
               cache_cores = same_cores ∙ base.cache_cores;
@@ -353,6 +370,7 @@ module _ (p : Parts) (capacity : ℕ) (units : List Progress) (buffers : List Bu
         stored_sound = record {
           operations = sound.operations;
           few = sound.few;
+          initials = sound.initials;
           units_length = units_up;
           buffers_length = length-set buffers core new ∙ sound.buffers_length;
           cache_cores = sound.cache_cores;
@@ -385,9 +403,9 @@ module _ (p : Parts) (capacity : ℕ) (units : List Progress) (buffers : List Bu
 
         -- the row of a store
         pub store_taken : (fault : Fault) → entry.event ≡ event → length old.entries < old.capacity
-            → exec capacity fault (state_from units buffers caches writes reads done.items) core event
+            → exec capacity fault (state_from p.init units buffers caches writes reads done.items) core event
             (St entry.addr entry.value)
-            ≡ Ok (state_from (slice_set units core moved) (slice_set buffers core new)
+            ≡ Ok (state_from p.init (slice_set units core moved) (slice_set buffers core new)
             caches writes reads done.items)
         store_taken fault event_is room =
             let entry_is : entry ≡ record { addr = entry.addr; value = entry.value; event = event } =

@@ -20,7 +20,8 @@ use Rattle.machine.specs.Step.{looked_up, rmw_value, with_caches, run}
 use Rattle.machine.specs.Orderly.{placed_op, is_st, IsOrderly, EveryStateIsOrderly}
 use Rattle.machine.proofs.Drains.{drained_state}
 use Rattle.machine.proofs.Executes.{IsNext}
-use Rattle.machine.proofs.Rows.{IsKeptFaultless, IsRmw, stored_state, loaded_state, fenced_state, rmw_state}
+use Rattle.machine.proofs.Rows.{IsKeptFaultless, IsRmw, IsCompare, stored_state, loaded_state, fenced_state}
+use Rattle.machine.proofs.Rows.{rmw_state}
 use Rattle.machine.proofs.Rows.{run_kept, faultless}
 use Rattle.machine.proofs.InOrder.{IsInOrder, in_order_kept}
 use Rattle.machine.proofs.Opening.{get_or_same, op_within, opening_in_order}
@@ -212,6 +213,18 @@ module _ (p : List (List Op)) (n : ℕ) (s : State) (f : IsFitting p n s) where
     counted = omega (arith, f.counted, sum_up c b op at, pushed s.performed b);
   }
 
+  -- a comparison keeps what fits
+  compare_fits : (c b a : ℕ) (op : Op) → IsNext p s c b op → IsCompare op (line_copy s c a) a
+      → buffer_of s c ≡ [] → moesi.read s.caches c a ≡ Ok (line_copy s c a)
+      → IsFitting p n (loaded_state s c b (line_copy s c a))
+  compare_fits c b a op at is empty got = record {
+    in_order = (in_order_kept p s f.in_order).compare c b a op at is empty got;
+    few = λ d. omega (arith, f.few d, few_up c b op at d);
+    places = place_up c b op at;
+    lists = f.lists;
+    counted = omega (arith, f.counted, sum_up c b op at, pushed s.performed b);
+  }
+
   -- a transaction keeps what fits
   transact_fits : (caches : moesi.CacheState) (c a : ℕ) → c < length p → a < length s.caches.blocks
       → IsTransaction s.caches c a caches → IsFitting p n (with_caches s caches)
@@ -231,6 +244,7 @@ module _ (p : List (List Op)) (n : ℕ) (s : State) (f : IsFitting p n s) where
     load = load_fits;
     fence = fence_fits;
     rmw = rmw_fits;
+    compare = compare_fits;
     transact = transact_fits;
   }
 
@@ -245,13 +259,13 @@ wait_none zero = refl
 wait_none (suc n) = omega (arith, sum_by-cons (λ (b : List Entry). length b) [] (replicate n []), wait_none n)
 
 -- the opening state fits
-opening_fits : (p : List (List Op)) (n : ℕ) → All (λ ops. All (IsWithin n) ops) p
-    → IsFitting p n (opening p n)
-opening_fits p n fits = record {
-  in_order = opening_in_order p n fits;
+opening_fits : (p : List (List Op)) (init : List ℕ) → All (λ ops. All (IsWithin (length init)) ops) p
+    → IsFitting p (length init) (opening p init)
+opening_fits p init fits = record {
+  in_order = opening_in_order p init fits;
   few = λ c. omega (arith, ap (λ (l : List Entry). length l) (get_or_same {A = List Entry} (length p) c []));
   places = λ c. omega (arith, get_or_same {A = ℕ} (length p) c 0);
-  lists = length-replicate {A = List ℕ} n [];
+  lists = length-replicate {A = List ℕ} (length init) [];
   counted = omega (arith, sum_none (length p), wait_none (length p));
 }
 
@@ -280,10 +294,12 @@ orderly p n s within f = record {
 }
 
 -- every run without fault leads to such a state
-pub every_state_is_orderly : (p : List (List Op)) (n capacity : ℕ) (steps : List Step)
-    → EveryStateIsOrderly p n capacity steps
-every_state_is_orderly p n capacity steps fits =
-    orderly p n (run p capacity fault.None (opening p n) steps) (op_within p n fits)
-    (run_kept p capacity fault.None (IsFitting p n)
-    (λ s f. (faultless p s (IsFitting p n) (fitting_kept p n s f), f.in_order.steady.places)) steps
-    (opening p n) (opening_fits p n fits))
+pub every_state_is_orderly : (p : List (List Op)) (init : List ℕ) (capacity : ℕ) (steps : List Step)
+    → EveryStateIsOrderly p init capacity steps
+every_state_is_orderly p init capacity steps fits =
+    orderly p (length init) (run p capacity fault.None (opening p init) steps) (op_within p init fits)
+    (run_kept p capacity fault.None (IsFitting p (length init))
+    (λ s f. (
+      faultless p s (IsFitting p (length init)) (fitting_kept p (length init) s f),
+      f.in_order.steady.places,
+    )) steps (opening p init) (opening_fits p init fits))

@@ -22,10 +22,11 @@ use Rattle.machine.proofs.Drains.{AreStores, drained_state, drain_ordered}
 use Rattle.machine.proofs.Executes.{IsNext, next_placed, perform_ordered, issue_ordered}
 use Rattle.machine.proofs.Loads.{some_one}
 use Rattle.machine.proofs.WriteLists.{IsLatest, latest_written, loaded_newest}
-use Rattle.machine.proofs.Rows.{IsKeptFaultless, IsRmw, stored_state, loaded_state, fenced_state, rmw_state}
+use Rattle.machine.proofs.Rows.{IsKeptFaultless, IsRmw, IsCompare, stored_state, loaded_state, fenced_state}
+use Rattle.machine.proofs.Rows.{rmw_state}
 use Rattle.machine.proofs.Steady.{IsSteady, once, waits_once, waiting_once, next_within, rmw_within}
 use Rattle.machine.proofs.Steady.{drain_steady, store_steady, load_steady, fence_steady, rmw_steady}
-use Rattle.machine.proofs.Steady.{transact_steady}
+use Rattle.machine.proofs.Steady.{compare_steady, transact_steady}
 
 -- what every step keeps without fault: TSO's order as each core sees it, that the caches are coherent,
 -- and that each address has its last write
@@ -150,6 +151,27 @@ module _ (p : List (List Op)) (s : State) (g : IsInOrder p s) where
             within wrote) g.latest;
       }
 
+  -- a comparison keeps the order
+  compare_in_order : (c b a : ℕ) (op : Op) → IsNext p s c b op → IsCompare op (line_copy s c a) a
+      → buffer_of s c ≡ [] → moesi.read s.caches c a ≡ Ok (line_copy s c a)
+      → IsInOrder p (loaded_state s c b (line_copy s c a))
+  compare_in_order c b a op n is empty got =
+      let what : ℕ × Option ℕ = line_copy s c a in
+      let within : a < length s.caches.blocks =
+      g.steady.reads_within b a (ap (λ (z : ℕ × Op). op_reads z.1) (next_placed p s c b op n) ∙ is.reads) in
+      record {
+        steady = compare_steady p s g.steady c b a op n is;
+        ordered = perform_ordered p s (loaded_state s c b what) c b op n refl refl refl
+            (λ e other. get_or-set_other s.reads b e what (0, None) other) is.store (inr empty)
+            (λ k h. newest_read c b a what (next_within p s g.steady c b op n)
+            (newest c a what within
+            (ap (λ (l : List Entry). forwarded_or_read (youngest l a) (moesi.read s.caches c a)) empty ∙ got))
+            k (sym is.reads ∙ h))
+            g.steady.counted g.ordered;
+        coherent = g.coherent;
+        latest = g.latest;
+      }
+
   -- a transaction keeps the order
   transact_in_order : (caches : moesi.CacheState) (c a : ℕ) → c < length p → a < length s.caches.blocks
       → IsTransaction s.caches c a caches → IsInOrder p (with_caches s caches)
@@ -171,5 +193,6 @@ module _ (p : List (List Op)) (s : State) (g : IsInOrder p s) where
     load = load_in_order;
     fence = fence_in_order;
     rmw = rmw_in_order;
+    compare = compare_in_order;
     transact = transact_in_order;
   }

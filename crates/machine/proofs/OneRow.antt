@@ -2,7 +2,7 @@
 use Rattle.std.proofs.Common.{◌≡◌, ℕ, false, cond, Option, Some, None, Result, Err, List, [], refl, ap}
 use Rattle.std.proofs.Common.{slice_get, slice_index_or, nat_lt, length}
 use Rattle.litmus.specs.declared.op.Op.{Op}
-use Rattle.litmus.specs.declared.op.Op.TheVariants.{St, Ld, Fence, Swap, Add}
+use Rattle.litmus.specs.declared.op.Op.TheVariants.{St, Ld, Fence, Swap, Add, Cas}
 use Rattle.machine.specs.declared.fault.Fault.{Fault}
 use Rattle.machine.specs.declared.fault.Fault.TheVariants as fault
 use Rattle.machine.specs.declared.step.Step.TheVariants.{Exec, Drain, GetS, GetM, Put}
@@ -45,6 +45,12 @@ exec_same capacity fault.YoungestFirst s c e (Add a v) h = refl
 exec_same capacity fault.OpenFence s c e (Add a v) h = refl
 exec_same capacity fault.StaleShare s c e (Add a v) h = refl
 exec_same capacity fault.EarlyRmw s c e (Add a v) h = absurd cc
+exec_same capacity fault.None s c n (Cas a e v) h = refl
+exec_same capacity fault.NoBypass s c n (Cas a e v) h = refl
+exec_same capacity fault.YoungestFirst s c n (Cas a e v) h = refl
+exec_same capacity fault.OpenFence s c n (Cas a e v) h = refl
+exec_same capacity fault.StaleShare s c n (Cas a e v) h = refl
+exec_same capacity fault.EarlyRmw s c n (Cas a e v) h = absurd cc
 
 -- the next operation, where one is left
 next_same : (p : List (List Op)) (capacity : ℕ) (f : Fault) (s : State) (c : ℕ) (o : Option Op)

@@ -1,20 +1,22 @@
 -- The opening state keeps all that a step keeps, and where the events of a core stand.
-use Rattle.std.proofs.Common.{◌≡◌, ◌<◌, inl, inr, ℕ, Option, Some, None, List, []}
+use Rattle.std.proofs.Common.{◌≡◌, ◌<◌, inl, inr, ℕ, Bool, true, false, cond, Option, Some, None, List, []}
 use Rattle.std.proofs.Common.{map, length, get_or, replicate, arith, refl, sym, ap, subst, ◌∙◌}
+use Rattle.std.specs.Prelude.{◌==◌}
 use Rattle.std.specs.List.{All, sum_by}
-use Rattle.std.proofs.lemmas.List.{length-replicate, get_or-replicate, get_or_past}
+use Rattle.std.proofs.lemmas.List.{length-replicate, get_or-replicate, get_or_past, length-map}
 use Rattle.std.proofs.lemmas.Bool.{cases_lt}
 use Rattle.recorder.specs.Execution.{placed_from}
 use Rattle.recorder.specs.Order.{times}
 use Rattle.recorder.specs.OrderLaws.{times_nil}
 use Rattle.litmus.specs.declared.op.Op.{Op}
-use Rattle.litmus.specs.declared.op.Op.TheVariants.{St, Ld, Fence, Swap, Add}
+use Rattle.litmus.specs.declared.op.Op.TheVariants.{St, Ld, Fence, Swap, Add, Cas}
 use Rattle.write_buffer.specs.declared.entry.Entry.{Entry}
 use Rattle.machine.specs.State.{opening, event_of}
 use Rattle.litmus.specs.Parts.{IsWithin}
+use Rattle.recorder.specs.declared.event.Event.TheVariants.{R, C}
 use Rattle.recorder.specs.Event.{written_address}
-use Rattle.moesi.specs.Block.{Block, opening_block}
-use Rattle.moesi.specs.CacheLaws.{opening_is_coherent}
+use Rattle.moesi.specs.Block.{block_with}
+use Rattle.moesi.specs.CacheLaws.{opening_with_is_coherent}
 use Rattle.recorder.specs.PlacedLaws.{located, placed_total}
 use Rattle.machine.specs.PlaceLaws.{event_behind, event_op}
 use Rattle.machine.proofs.Static.{static_of, snapshot_of, placed_op, op_reads}
@@ -38,17 +40,22 @@ address_within n (Ld b) a d h is = absurd cc
 address_within n Fence a d h is = absurd cc
 address_within n (Swap b v) a d h is = omega (arith, h, let one : b ≡ a = cc in one)
 address_within n (Add b v) a d h is = omega (arith, h, let one : b ≡ a = cc in one)
+address_within n (Cas b e v) a d h is = go (d.0 == e) is
+  where
+    go : (q : Bool) → written_address (cond q (R b d.0 d.1 v) (C b d.0 d.1)) ≡ Some a → a < n
+    go true wrote = omega (arith, h, let one : b ≡ a = cc in one)
+    go false wrote = absurd cc
 
-module _ (p : List (List Op)) (n : ℕ) (fits : All (λ ops. All (IsWithin n) ops) p) where
+module _ (p : List (List Op)) (init : List ℕ) (fits : All (λ ops. All (IsWithin (length init)) ops) p) where
   -- nothing was executed
-  nothing_executed : (e : ℕ) → e < (static_of p (opening p n)).count
-      → ¬ (e < (snapshot_of p (opening p n)).next ((static_of p (opening p n)).core e))
+  pub nothing_executed : (e : ℕ) → e < (static_of p (opening p init)).count
+      → ¬ (e < (snapshot_of p (opening p init)).next ((static_of p (opening p init)).core e))
   nothing_executed e event done =
       omega (
         arith,
         done,
         event_behind p e event,
-        get_or_same {A = ℕ} (length p) ((static_of p (opening p n)).core e) 0,
+        get_or_same {A = ℕ} (length p) ((static_of p (opening p init)).core e) 0,
       )
 
   -- nothing waits
@@ -59,26 +66,27 @@ module _ (p : List (List Op)) (n : ℕ) (fits : All (λ ops. All (IsWithin n) op
       ∙ times_nil e
 
   -- each operation has an address of the program
-  pub op_within : (e : ℕ) → IsWithin n (placed_op p e).1
+  pub op_within : (e : ℕ) → IsWithin (length init) (placed_op p e).1
   op_within e = elim (cases_lt e (length (placed_from 0 p))) [
     | inl event ↦
         let at = located 0 p e event in
-        subst (λ (o : Op). IsWithin n o) (sym (event_op p e event))
+        subst (λ (o : Op). IsWithin (length init) o) (sym (event_op p e event))
         (fits at.0 [] at.2 at.1 Fence at.3)
-    | inr past ↦ subst (λ (z : ℕ × Op). IsWithin n z.1)
+    | inr past ↦ subst (λ (z : ℕ × Op). IsWithin (length init) z.1)
         (sym (get_or_past (placed_from 0 p) e (0, Fence) past)) tt
   ]
 
   -- so has each read
-  reads_within : (o : Op) (a : ℕ) → IsWithin n o → op_reads o ≡ Some a → a < n
+  reads_within : (o : Op) (a : ℕ) → IsWithin (length init) o → op_reads o ≡ Some a → a < length init
   reads_within (St b v) a h is = absurd cc
   reads_within (Ld b) a h is = omega (arith, h, let one : b ≡ a = cc in one)
   reads_within Fence a h is = absurd cc
   reads_within (Swap b v) a h is = omega (arith, h, let one : b ≡ a = cc in one)
   reads_within (Add b v) a h is = omega (arith, h, let one : b ≡ a = cc in one)
+  reads_within (Cas b e v) a h is = omega (arith, h, let one : b ≡ a = cc in one)
 
   -- the opening state is steady
-  pub opening_steady : IsSteady p (opening p n)
+  pub opening_steady : IsSteady p (opening p init)
   opening_steady = record {
     counted = record {
       listed = λ e event done. absurd (nothing_executed e event done);
@@ -86,8 +94,8 @@ module _ (p : List (List Op)) (n : ℕ) (fits : All (λ ops. All (IsWithin n) op
       waiting = λ c e there. absurd (omega (arith, there, nothing_waits c e));
     };
     listed = record {
-      cells = length-replicate n [] ∙ sym (length-replicate n (opening_block (length p)));
-      lists = λ a inside. get_or_same n a [];
+      cells = length-replicate (length init) [] ∙ sym (length-map init (λ v. block_with (length p) v));
+      lists = λ a inside. get_or_same (length init) a [];
     };
     stores = λ c. subst (λ (b : List Entry). AreStores p c b) (sym (get_or_same (length p) c [])) tt;
     places = length-replicate (length p) 0;
@@ -97,26 +105,26 @@ module _ (p : List (List Op)) (n : ℕ) (fits : All (λ ops. All (IsWithin n) op
     writes_within =
         λ e a d is. omega (
           arith,
-          address_within n (placed_op p e).1 a d (op_within e) is,
-          length-replicate {A = Block} n (opening_block (length p)),
+          address_within (length init) (placed_op p e).1 a d (op_within e) is,
+          length-map init (λ v. block_with (length p) v),
         );
     reads_within =
         λ e a is. omega (
           arith,
           reads_within (placed_op p e).1 a (op_within e) is,
-          length-replicate {A = Block} n (opening_block (length p)),
+          length-map init (λ v. block_with (length p) v),
         );
   }
 
   -- and in order
-  pub opening_in_order : IsInOrder p (opening p n)
+  pub opening_in_order : IsInOrder p (opening p init)
   opening_in_order = record {
     steady = opening_steady;
     ordered = record {
       kept = λ e f own done strong. absurd (nothing_executed f own.1 done);
       values = λ e a reads there. absurd (omega (arith, there, times_nil e));
     };
-    coherent = (opening_is_coherent (length p) n).0;
-    latest = λ a inside. ap (λ (z : ℕ × Option ℕ). z.1) ((opening_is_coherent (length p) n).1 a)
-        ∙ (sym last_nil ∙ ap last_of (sym (get_or_same n a [])));
+    coherent = (opening_with_is_coherent (length p) init).0;
+    latest = λ a inside. ap (λ (z : ℕ × Option ℕ). z.1) ((opening_with_is_coherent (length p) init).1 a)
+        ∙ (sym last_nil ∙ ap last_of (sym (get_or_same (length init) a [])));
   }

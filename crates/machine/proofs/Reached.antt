@@ -15,11 +15,11 @@ use Rattle.machine.proofs.Complete.{run_in_order}
 use Rattle.machine.proofs.Data.{IsData, run_data}
 
 -- one step more
-pub reached_step : (p : List (List Op)) (n capacity : ℕ) (f : Fault) (s t : State) (step : Step)
-    → IsReached p n capacity f s → taken p capacity f s step ≡ Ok t → IsReached p n capacity f t
-reached_step p n capacity f s t step r took = record {
+pub reached_step : (p : List (List Op)) (init : List ℕ) (capacity : ℕ) (f : Fault) (s t : State) (step : Step)
+    → IsReached p init capacity f s → taken p capacity f s step ≡ Ok t → IsReached p init capacity f t
+reached_step p init capacity f s t step r took = record {
   steps = r.steps ++ step ∷ [];
-  leads = run_append p capacity f (opening p n) r.steps (step ∷ [])
+  leads = run_append p capacity f (opening p init) r.steps (step ∷ [])
       ∙ (ap (λ (z : State). after z (taken p capacity f z step)) r.leads ∙ ap (after s) took);
   operations = r.operations;
 }
@@ -30,21 +30,21 @@ pub at_taken : (p : List (List Op)) (capacity : ℕ) (f : Fault) (s : State) (c 
 at_taken p capacity f s c op e at = rw (lt-ltb c (length p) at.core, at.operation, at.number) refl
 
 -- an execution leads on
-pub reached_exec : (p : List (List Op)) (n capacity : ℕ) (f : Fault) (s t : State) (c : ℕ) (op : Op) (e : ℕ)
-    → IsAt p s c op e → IsReached p n capacity f s
-    → exec capacity f s c e op ≡ Ok t → IsReached p n capacity f t
-reached_exec p n capacity f s t c op e at r took =
-    reached_step p n capacity f s t (Exec c) r (at_taken p capacity f s c op e at ∙ took)
+pub reached_exec : (p : List (List Op)) (init : List ℕ) (capacity : ℕ) (f : Fault) (s t : State)
+    (c : ℕ) (op : Op) (e : ℕ) → IsAt p s c op e → IsReached p init capacity f s
+    → exec capacity f s c e op ≡ Ok t → IsReached p init capacity f t
+reached_exec p init capacity f s t c op e at r took =
+    reached_step p init capacity f s t (Exec c) r (at_taken p capacity f s c op e at ∙ took)
 
 -- a state that is reached without fault is in order
-pub reached_in_order : (p : List (List Op)) (n capacity : ℕ) (f : Fault) (s : State) → f ≡ fault.None
-    → IsReached p n capacity f s → IsInOrder p s
-reached_in_order p n capacity f s none r = subst (λ (z : State). IsInOrder p z) r.leads
-    (subst (λ (g : Fault). IsInOrder p (run p capacity g (opening p n) r.steps)) (sym none)
-    (run_in_order p n capacity r.steps r.operations))
+pub reached_in_order : (p : List (List Op)) (init : List ℕ) (capacity : ℕ) (f : Fault) (s : State)
+    → f ≡ fault.None → IsReached p init capacity f s → IsInOrder p s
+reached_in_order p init capacity f s none r = subst (λ (z : State). IsInOrder p z) r.leads
+    (subst (λ (g : Fault). IsInOrder p (run p capacity g (opening p init) r.steps)) (sym none)
+    (run_in_order p init capacity r.steps r.operations))
 
 -- a reached state has its data from executed writes, under every fault
-pub reached_data : (p : List (List Op)) (n capacity : ℕ) (f : Fault) (s : State) → IsReached p n capacity f s
-    → IsData p s
-reached_data p n capacity f s r =
-    subst (λ (z : State). IsData p z) r.leads (run_data p n capacity f r.steps r.operations)
+pub reached_data : (p : List (List Op)) (init : List ℕ) (capacity : ℕ) (f : Fault) (s : State)
+    → IsReached p init capacity f s → IsData p s
+reached_data p init capacity f s r =
+    subst (λ (z : State). IsData p z) r.leads (run_data p init capacity f r.steps r.operations)

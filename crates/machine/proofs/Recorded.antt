@@ -19,13 +19,15 @@ cores_length e (ops ∷ p) reads = ap suc (cores_length (e + length ops) p reads
 -- the recording of a complete state is a recording
 pub complete_recording : (p : Parts) (s : State) → length p.cores ≤ MAX_CORES
     → sum_by (λ ops. length ops) p.cores ≤ MAX_EVENTS → length s.write_lists ≤ MAX_ADDRESSES
-    → IsData p.cores s → IsComplete p.cores s → IsRecording (recorded p.cores s)
-complete_recording p s cores events addresses d end = record {
+    → length s.initial ≡ length s.write_lists → IsData p.cores s → IsComplete p.cores s
+    → IsRecording (recorded p.cores s)
+complete_recording p s cores events addresses initials d end = record {
   well_formed = complete_well_formed p.cores s d end;
   within = record {
     few_cores = omega (arith, cores, cores_length 0 p.cores s.reads);
     few_events = omega (arith, events, count_is p.cores s, placed_total 0 p.cores);
     few_addresses = addresses;
+    initial = initials;
     addresses = complete_addresses p.cores s d end;
   };
 }

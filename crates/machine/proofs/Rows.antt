@@ -2,10 +2,11 @@
 use Rattle.std.proofs.Common.{◌≡◌, ◌<◌, ◌+◌, ◌&&◌, inl, inr, ℕ, nat_lt, Bool, true, false, cond, Option, Some}
 use Rattle.std.proofs.Common.{None, Result, Ok, Err, List, [], ◌∷◌, ◌++◌, take, drop, length, slice_get}
 use Rattle.std.proofs.Common.{slice_index_or, arith, refl, sym, ap, subst, ◌∙◌}
+use Rattle.std.specs.Prelude.{◌==◌}
 use Rattle.std.proofs.lemmas.Bool.{ltb-true}
 use Rattle.std.proofs.lemmas.Option.{slice_get_within, get_or_from_slice_get}
 use Rattle.litmus.specs.declared.op.Op.{Op}
-use Rattle.litmus.specs.declared.op.Op.TheVariants.{St, Ld, Fence, Swap, Add}
+use Rattle.litmus.specs.declared.op.Op.TheVariants.{St, Ld, Fence, Swap, Add, Cas}
 use Rattle.recorder.specs.Event.{written_address}
 use Rattle.moesi.specs.State as moesi
 use Rattle.moesi.specs.Laws.{IsTransaction, IsAnyTransaction}
@@ -19,9 +20,10 @@ use Rattle.machine.specs.declared.blocked.Blocked.{Blocked}
 use Rattle.machine.specs.declared.blocked.Blocked.TheVariants.{B4, B5, B7, B8}
 use Rattle.machine.specs.State.{State, place_of, buffer_of, line_copy, first_event, event_of}
 use Rattle.machine.specs.Step.{advanced, performed, given, written, with_buffer, with_caches, allowed}
-use Rattle.machine.specs.Step.{looked_up, read_modify_written, rmw_value, exec, exec_next, drained_at, has}
-use Rattle.machine.specs.Step.{taken, after, run}
+use Rattle.machine.specs.Step.{looked_up, read_modify_written, read_unmodified, compared_and_swapped}
+use Rattle.machine.specs.Step.{rmw_value, exec, exec_next, drained_at, has, taken, after, run}
 use Rattle.machine.proofs.Static.{op_reads, is_st, is_ld}
+use Rattle.machine.proofs.Cached.{exclusive_read}
 use Rattle.machine.proofs.Executes.{IsNext}
 use Rattle.machine.specs.Faults.{draining, get_m_under}
 use Rattle.machine.proofs.Drains.{drained_state}
@@ -51,6 +53,13 @@ pub record IsRmw (op : Op) (d : ℕ × Option ℕ) (a : ℕ) : Type 0 where
   pub reads : op_reads op ≡ Some a
   pub address : written_address (event_of op d) ≡ Some a
 
+-- op reads address a and writes nothing, though it is no load
+pub record IsCompare (op : Op) (d : ℕ × Option ℕ) (a : ℕ) : Type 0 where
+  pub store : is_st op ≡ false
+  pub load : is_ld op ≡ false
+  pub reads : op_reads op ≡ Some a
+  pub address : written_address (event_of op d) ≡ None
+
 -- what each row of the table keeps under a fault; what a fault leaves out is known where there is none
 pub record IsKept (p : List (List Op)) (f : Fault) (s : State) (P : State → Type 0) : Type 0 where
   pub drain : (caches : moesi.CacheState) (c : ℕ) (x : Entry) (front back : List Entry) → c < length p
@@ -65,6 +74,9 @@ pub record IsKept (p : List (List Op)) (f : Fault) (s : State) (P : State → Ty
   pub rmw : (caches : moesi.CacheState) (c b a : ℕ) (op : Op) → IsNext p s c b op → c < length p
       → IsRmw op (line_copy s c a) a → (f ≡ fault.None → buffer_of s c ≡ [])
       → moesi.write s.caches c a (rmw_value s c op a) b ≡ Ok caches → P (rmw_state s caches c b a)
+  pub compare : (c b a : ℕ) (op : Op) → IsNext p s c b op → IsCompare op (line_copy s c a) a
+      → (f ≡ fault.None → buffer_of s c ≡ []) → moesi.read s.caches c a ≡ Ok (line_copy s c a)
+      → P (loaded_state s c b (line_copy s c a))
   pub transact : (caches : moesi.CacheState) (c a : ℕ) → c < length p → a < length s.caches.blocks
       → IsAnyTransaction s.caches c a caches → (f ≡ fault.None → IsTransaction s.caches c a caches)
       → P (with_caches s caches)
@@ -81,6 +93,9 @@ pub record IsKeptFaultless (p : List (List Op)) (s : State) (P : State → Type 
   pub rmw : (caches : moesi.CacheState) (c b a : ℕ) (op : Op) → IsNext p s c b op → c < length p
       → IsRmw op (line_copy s c a) a → buffer_of s c ≡ []
       → moesi.write s.caches c a (rmw_value s c op a) b ≡ Ok caches → P (rmw_state s caches c b a)
+  pub compare : (c b a : ℕ) (op : Op) → IsNext p s c b op → IsCompare op (line_copy s c a) a
+      → buffer_of s c ≡ [] → moesi.read s.caches c a ≡ Ok (line_copy s c a)
+      → P (loaded_state s c b (line_copy s c a))
   pub transact : (caches : moesi.CacheState) (c a : ℕ) → c < length p → a < length s.caches.blocks
       → IsTransaction s.caches c a caches → P (with_caches s caches)
 
@@ -95,6 +110,7 @@ faultless p s P kept = record {
   load = kept.load;
   fence = λ c b n empty. kept.fence c b n (empty refl);
   rmw = λ caches c b a op n at is empty wrote. kept.rmw caches c b a op n at is (empty refl) wrote;
+  compare = λ c b a op n is empty got. kept.compare c b a op n is (empty refl) got;
   transact = λ caches c a at within made sound. kept.transact caches c a at within (sound refl);
 }
 
@@ -134,6 +150,11 @@ has_both p s c a h = go (nat_lt c (length p)) refl h
     go true is k = (ltb-true c (length p) is, ltb-true a (length s.caches.blocks) k)
     go false is k = absurd cc
 
+-- a compare-and-swap that finds the value is a swap
+pub swap_is : (f : Fault) (s : State) (c b a e v : ℕ) → ((line_copy s c a).0 == e) ≡ true
+    → read_modify_written f s c b (Cas a e v) a ≡ read_modify_written f s c b (Swap a v) a
+swap_is f s c b a e v is = rw is refl
+
 module _ (p : List (List Op)) (capacity : ℕ) (f : Fault) (s : State) (P : State → Type 0)
     (kept : IsKept p f s P) (one_each : length s.places ≡ length p) where
   -- a read-modify-write is one of the rows
@@ -143,6 +164,28 @@ module _ (p : List (List Op)) (capacity : ℕ) (f : Fault) (s : State) (P : Stat
       let g = guarded _ _ _ t h in
       let wrote = allowed_ok B5 _ (moesi.write s.caches c a (rmw_value s c op a) b) t g.1 in
       subst P wrote.2 (kept.rmw wrote.0 c b a op n at is (rmw_behind f (buffer_of s c) g.0) wrote.1)
+
+  -- so is one that only reads
+  compare_kept : (c b a : ℕ) (op : Op) (t : State) → IsNext p s c b op → IsCompare op (line_copy s c a) a
+      → read_unmodified f s c b a ≡ Ok t → P t
+  compare_kept c b a op t n is h =
+      let g = guarded _ _ _ t h in
+      let owned = guarded _ _ _ t g.1 in
+      subst P (ok_one _ t owned.1) (kept.compare c b a op n is (rmw_behind f (buffer_of s c) g.0)
+      (exclusive_read s.caches c a owned.0))
+
+  -- so is a compare-and-swap
+  cas_kept : (c b a e v : ℕ) (t : State) → IsNext p s c b (Cas a e v) → c < length p
+      → compared_and_swapped f s c b a e v ≡ Ok t → P t
+  cas_kept c b a e v t n at h = go ((line_copy s c a).0 == e) refl h
+    where
+      go : (q : Bool) → ((line_copy s c a).0 == e) ≡ q
+          → cond q (read_modify_written f s c b (Swap a v) a) (read_unmodified f s c b a) ≡ Ok t → P t
+      go true is h' = rmw_kept c b a (Cas a e v) t n at
+          (record { store = refl; load = refl; reads = refl; address = rw is refl })
+          (swap_is f s c b a e v is ∙ h')
+      go false is h' = compare_kept c b a (Cas a e v) t n
+          (record { store = refl; load = refl; reads = refl; address = rw is refl }) h'
 
   -- so is a transaction
   transaction_kept : (c a : ℕ) (t : State) (r : Result moesi.CacheState CacheError)
@@ -169,6 +212,7 @@ module _ (p : List (List Op)) (capacity : ℕ) (f : Fault) (s : State) (P : Stat
       (record { store = refl; load = refl; reads = refl; address = refl }) h
   exec_kept c b (Add a v) t n at h = rmw_kept c b a (Add a v) t n at
       (record { store = refl; load = refl; reads = refl; address = refl }) h
+  exec_kept c b (Cas a e v) t n at h = cas_kept c b a e v t n at h
 
   -- a step that is taken is one of the rows
   pub step_kept : (step : Step) (t : State) → taken p capacity f s step ≡ Ok t → P t

@@ -7,7 +7,7 @@ use Rattle.recorder.specs.Execution.{placed_from}
 use Rattle.recorder.specs.declared.event.Event.{Event}
 use Rattle.recorder.specs.Event.{written_address}
 use Rattle.litmus.specs.declared.op.Op.{Op}
-use Rattle.litmus.specs.declared.op.Op.TheVariants.{St, Ld, Fence, Swap, Add}
+use Rattle.litmus.specs.declared.op.Op.TheVariants.{St, Ld, Fence, Swap, Add, Cas}
 use Rattle.machine.specs.State.{State, place_of, buffer_of, first_event, event_of}
 pub use Rattle.machine.specs.Orderly.{placed_op, is_st, is_ld}
 use Rattle.machine.proofs.Seen.{Static, Snapshot}
@@ -19,6 +19,7 @@ op_reads (Ld a) = Some a
 op_reads Fence = None
 op_reads (Swap a v) = Some a
 op_reads (Add a v) = Some a
+op_reads (Cas a e v) = Some a
 
 -- what event e did, as far as s goes
 abbrev pub done_by : List (List Op) → State → ℕ → Event

@@ -21,7 +21,7 @@ use Rattle.machine.proofs.Static.{static_of, snapshot_of, placed_op, done_by, op
 use Rattle.machine.proofs.Drains.{AreStores, stores_out, drained_state, drain_counted}
 use Rattle.machine.proofs.Executes.{IsNext, next_placed, next_event, perform_counted, issue_counted}
 use Rattle.machine.proofs.WriteLists.{AreListed, listed_given, listed_written, listed_performed}
-use Rattle.machine.proofs.Rows.{IsKept, IsRmw, stored_state, loaded_state, fenced_state, rmw_state}
+use Rattle.machine.proofs.Rows.{IsKept, IsRmw, IsCompare, stored_state, loaded_state, fenced_state, rmw_state}
 
 -- what every step keeps, under every fault: the count, the write lists, that plain stores wait, and what
 -- fits together
@@ -266,6 +266,30 @@ module _ (p : List (List Op)) (s : State) (g : IsSteady p s) where
         reads_within = λ e k h. omega (arith, g.reads_within e k h, large.blocks);
       }
 
+  -- a comparison keeps it
+  pub compare_steady : (c b a : ℕ) (op : Op) → IsNext p s c b op → IsCompare op (line_copy s c a) a
+      → IsSteady p (loaded_state s c b (line_copy s c a))
+  compare_steady c b a op n is =
+      let what : ℕ × Option ℕ = line_copy s c a in
+      let kept : AreListed p (performed (given s b what) b) =
+      listed_performed p (given s b what) b
+      (ap (λ (d : ℕ × Option ℕ). written_address (event_of (placed_op p b).1 d))
+      (get_or-set_same s.reads b what (0, None) (next_within c b op n))
+      ∙ (ap (λ (z : ℕ × Op). written_address (event_of z.1 what)) (next_placed p s c b op n) ∙ is.address))
+      (listed_given p s b what (next_fresh c b op n) g.listed) in
+      record {
+        counted = perform_counted p s (loaded_state s c b what) c b op n refl refl refl
+            (λ e other. get_or-set_other s.reads b e what (0, None) other) g.counted;
+        listed = record { cells = kept.cells; lists = kept.lists };
+        stores = g.stores;
+        places = length-set s.places c (place_of s c + 1) ∙ g.places;
+        cores = g.cores;
+        buffers = g.buffers;
+        reads = length-set s.reads b what ∙ g.reads;
+        writes_within = g.writes_within;
+        reads_within = g.reads_within;
+      }
+
   -- a transaction keeps it
   pub transact_steady : (caches : moesi.CacheState) (c a : ℕ) → IsAnyTransaction s.caches c a caches
       → IsSteady p (with_caches s caches)
@@ -300,5 +324,6 @@ module _ (p : List (List Op)) (s : State) (g : IsSteady p s) where
     load = λ c b a what n got. load_steady c b a what n;
     fence = λ c b n empty. fence_steady c b n;
     rmw = λ caches c b a op n at is empty wrote. rmw_steady caches c b a op n is wrote;
+    compare = λ c b a op n is empty got. compare_steady c b a op n is;
     transact = λ caches c a at within made sound. transact_steady caches c a made;
   }

@@ -22,6 +22,7 @@ module _ (p : Parts) (capacity : ℕ) (units : List Progress) (buffers : List Bu
   transacted_sound sound same_cores same_blocks = record {
     operations = sound.operations;
     few = sound.few;
+    initials = sound.initials;
     units_length = sound.units_length;
     buffers_length = sound.buffers_length;
     cache_cores = same_cores ∙ sound.cache_cores;
@@ -39,21 +40,22 @@ module _ (p : Parts) (capacity : ℕ) (units : List Progress) (buffers : List Bu
   }
 
   module _ (fault : Fault) (core addr : ℕ)
-      (there : has p.cores (state_from units buffers caches writes reads done.items) core addr ≡ true) where
-    -- the row of GetS
-    pub get_s_taken : moesi.get_s caches core addr ≡ Ok caches'
-        → taken p.cores capacity fault (state_from units buffers caches writes reads done.items)
-        (GetS core addr) ≡ Ok (state_from units buffers caches' writes reads done.items)
-    get_s_taken made = rw (there, made) refl
+      (there : has p.cores (state_from p.init units buffers caches writes reads done.items) core addr ≡ true)
+    where
+      -- the row of GetS
+      pub get_s_taken : moesi.get_s caches core addr ≡ Ok caches'
+          → taken p.cores capacity fault (state_from p.init units buffers caches writes reads done.items)
+          (GetS core addr) ≡ Ok (state_from p.init units buffers caches' writes reads done.items)
+      get_s_taken made = rw (there, made) refl
 
-    -- the row of GetM
-    pub get_m_taken : get_m_under fault caches core addr ≡ Ok caches'
-        → taken p.cores capacity fault (state_from units buffers caches writes reads done.items)
-        (GetM core addr) ≡ Ok (state_from units buffers caches' writes reads done.items)
-    get_m_taken made = rw (there, made) refl
+      -- the row of GetM
+      pub get_m_taken : get_m_under fault caches core addr ≡ Ok caches'
+          → taken p.cores capacity fault (state_from p.init units buffers caches writes reads done.items)
+          (GetM core addr) ≡ Ok (state_from p.init units buffers caches' writes reads done.items)
+      get_m_taken made = rw (there, made) refl
 
-    -- the row of Put
-    pub put_taken : moesi.put caches core addr ≡ Ok caches'
-        → taken p.cores capacity fault (state_from units buffers caches writes reads done.items)
-        (Put core addr) ≡ Ok (state_from units buffers caches' writes reads done.items)
-    put_taken made = rw (there, made) refl
+      -- the row of Put
+      pub put_taken : moesi.put caches core addr ≡ Ok caches'
+          → taken p.cores capacity fault (state_from p.init units buffers caches writes reads done.items)
+          (Put core addr) ≡ Ok (state_from p.init units buffers caches' writes reads done.items)
+      put_taken made = rw (there, made) refl

@@ -27,16 +27,17 @@ pub record Configuration : Type 0 where
 abbrev pub places_of : List Progress → List ℕ
 places_of units = map (λ u. u.place) units
 
--- the state that the parts make
-abbrev pub state_from : List Progress → List Buffer → moesi.CacheState → List (BoundedItems ℕ)
+-- the state that the initial values and the parts make
+abbrev pub state_from : List ℕ → List Progress → List Buffer → moesi.CacheState → List (BoundedItems ℕ)
     → List (ℕ × Option ℕ) → List ℕ → State
-state_from units buffers caches writes reads performed = record {
+state_from init units buffers caches writes reads performed = record {
   places = places_of units;
   buffers = map (λ b. b.entries) buffers;
   caches = caches;
   write_lists = map (λ l. l.items) writes;
   reads = reads;
   performed = performed;
+  initial = init;
 }
 
 -- a waiting store is to one of n addresses, and its event is within the limit
@@ -49,6 +50,7 @@ pub record IsSound (p : Parts) (capacity : ℕ) (units : List Progress) (buffers
     (performed : BoundedItems ℕ) : Type 0 where
   pub operations : All (λ ops. All (IsWithin (length p.names)) ops) p.cores
   pub few : op_count p.cores ≤ MAX_EVENTS
+  pub initials : length p.init ≡ length p.names
   pub units_length : length units ≡ length p.cores
   pub buffers_length : length buffers ≡ length p.cores
   pub cache_cores : caches.cores ≡ length p.cores
@@ -65,29 +67,37 @@ pub record IsSound (p : Parts) (capacity : ℕ) (units : List Progress) (buffers
   pub performed_room : performed.room ≡ op_count p.cores
   pub counted : length performed.items + sum_by (λ b. length b.entries) buffers ≡ sum (places_of units)
 
--- some list of steps leads from the opening state to this one, and each operation has one of the n addresses
-pub record IsReached (p : List (List Op)) (n capacity : ℕ) (fault : Fault) (s : State) : Type 0 where
-  pub steps : List Step
-  pub leads : run p capacity fault (opening p n) steps ≡ s
-  pub operations : All (λ ops. All (IsWithin n) ops) p
+-- some list of steps leads from the opening state to this one, and each operation has an address with an
+-- initial value
+pub record IsReached (p : List (List Op)) (init : List ℕ) (capacity : ℕ) (fault : Fault) (s : State) : Type 0
+  where
+    pub steps : List Step
+    pub leads : run p capacity fault (opening p init) steps ≡ s
+    pub operations : All (λ ops. All (IsWithin (length init)) ops) p
 
--- the room that was made for the recording of a run
+-- the room that was made for the recording of a run, and the initial values
 pub record BlankSize : Type 0 where
   pub cores : ℕ
   pub events : ℕ
   pub addresses : ℕ
+  pub initial : List ℕ
 
 -- the room for the recording of a program
 abbrev pub blank_size : Parts → BlankSize
-blank_size p = record { cores = length p.cores; events = op_count p.cores; addresses = length p.names }
+blank_size p = record {
+  cores = length p.cores;
+  events = op_count p.cores;
+  addresses = length p.names;
+  initial = p.init;
+}
 
 -- what every machine keeps
 pub record IsMachine (p : Parts) (capacity : ℕ) (fault : Fault) (units : List Progress)
     (buffers : List Buffer) (caches : moesi.CacheState) (writes : List (BoundedItems ℕ))
     (reads : List (ℕ × Option ℕ)) (performed : BoundedItems ℕ) (blank : BlankSize) : Type 0 where
   pub sound : IsSound p capacity units buffers caches writes reads performed
-  pub reached : IsReached p.cores (length p.names) capacity fault
-      (state_from units buffers caches writes reads performed.items)
+  pub reached : IsReached p.cores p.init capacity fault
+      (state_from p.init units buffers caches writes reads performed.items)
   pub blank_is : blank ≡ blank_size p
 
 -- The words of a machine's contracts

@@ -24,7 +24,8 @@ abbrev pub may_fence : Fault → List Entry → Bool
 may_fence OpenFence entries = true
 may_fence fault entries = length entries == 0
 
--- whether a read-modify-write may go on: behind an empty buffer; always with EarlyRmw
+-- whether a read-modify-write, also a compare-and-swap, may go on: behind an empty buffer; always with
+-- EarlyRmw
 abbrev pub may_rmw : Fault → List Entry → Bool
 may_rmw EarlyRmw entries = true
 may_rmw fault entries = length entries == 0

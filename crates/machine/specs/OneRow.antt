@@ -2,7 +2,7 @@
 use Rattle.std.specs.Prelude.{◌≡◌, ℕ, Bool, true, false, List, [], Option, None, Some, slice_get}
 use Rattle.std.specs.Prelude.{slice_index_or}
 use Rattle.litmus.specs.declared.op.Op.{Op}
-use Rattle.litmus.specs.declared.op.Op.TheVariants.{Ld, Fence, Swap, Add}
+use Rattle.litmus.specs.declared.op.Op.TheVariants.{Ld, Fence, Swap, Add, Cas}
 use Rattle.machine.specs.declared.fault.Fault.{Fault}
 use Rattle.machine.specs.declared.fault.Fault.TheVariants.{NoBypass, YoungestFirst, OpenFence, StaleShare}
 use Rattle.machine.specs.declared.fault.Fault.TheVariants.{EarlyRmw}
@@ -20,6 +20,7 @@ changes OpenFence (Exec c) (Some Fence) = true
 changes StaleShare (GetM c a) op = true
 changes EarlyRmw (Exec c) (Some (Swap a v)) = true
 changes EarlyRmw (Exec c) (Some (Add a v)) = true
+changes EarlyRmw (Exec c) (Some (Cas a e v)) = true
 changes f step op = false
 
 -- the operation that a step executes, where it executes one and one is left

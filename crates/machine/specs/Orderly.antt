@@ -2,7 +2,7 @@
 use Rattle.std.specs.Prelude.{◌≡◌, ◌<◌, ◌≤◌, ◌+◌, ◌&&◌, ℕ, Bool, true, false, List, [], ◌∷◌, ◌++◌, map, take}
 use Rattle.std.specs.Prelude.{length, slice_index_or, sum, sum_by, count_by, All}
 use Rattle.litmus.specs.declared.op.Op.{Op}
-use Rattle.litmus.specs.declared.op.Op.TheVariants.{St, Ld, Fence, Swap, Add}
+use Rattle.litmus.specs.declared.op.Op.TheVariants.{St, Ld, Fence, Swap, Add, Cas}
 use Rattle.litmus.specs.Parts.{IsWithin}
 use Rattle.recorder.specs.Execution.{placed_from}
 use Rattle.recorder.specs.Order.{times, Before}
@@ -24,6 +24,7 @@ is_st (Ld a) = false
 is_st Fence = false
 is_st (Swap a v) = false
 is_st (Add a v) = false
+is_st (Cas a e v) = false
 
 -- whether it is a plain load
 abbrev pub is_ld : Op → Bool
@@ -32,6 +33,7 @@ is_ld (Ld a) = true
 is_ld Fence = false
 is_ld (Swap a v) = false
 is_ld (Add a v) = false
+is_ld (Cas a e v) = false
 
 -- e is earlier than f on one core
 abbrev pub IsBefore : List (List Op) → ℕ → ℕ → Type 0
@@ -75,6 +77,6 @@ pub record IsOrderly (p : List (List Op)) (n : ℕ) (s : State) : Type 0 where
       → Before (seen_by s (placed_op p f).0) e f
 
 -- every run without fault leads to such a state
-abbrev pub EveryStateIsOrderly : List (List Op) → ℕ → ℕ → List Step → Type 0
-EveryStateIsOrderly p n capacity steps = All (λ ops. All (IsWithin n) ops) p
-    → IsOrderly p n (run p capacity fault.None (opening p n) steps)
+abbrev pub EveryStateIsOrderly : List (List Op) → List ℕ → ℕ → List Step → Type 0
+EveryStateIsOrderly p init capacity steps = All (λ ops. All (IsWithin (length init)) ops) p
+    → IsOrderly p (length init) (run p capacity fault.None (opening p init) steps)

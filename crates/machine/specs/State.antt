@@ -1,11 +1,11 @@
 -- What a machine of store buffers and caches has reached, and the recording of it.
-use Rattle.std.specs.Prelude.{◌+◌, ◌%◌, ◌^◌, ◌≡◌, ℕ, Option, None, List, [], ◌∷◌, map, length, slice_index}
-use Rattle.std.specs.Prelude.{slice_index_or, sum, take, replicate}
+use Rattle.std.specs.Prelude.{◌+◌, ◌%◌, ◌^◌, ◌≡◌, ◌==◌, ℕ, if◌then◌else◌, Option, None, List, [], ◌∷◌, map}
+use Rattle.std.specs.Prelude.{length, slice_index, slice_index_or, sum, take, replicate}
 use Rattle.litmus.specs.declared.op.Op.{Op}
-use Rattle.litmus.specs.declared.op.Op.TheVariants.{St, Ld, Fence, Swap, Add}
+use Rattle.litmus.specs.declared.op.Op.TheVariants.{St, Ld, Fence, Swap, Add, Cas}
 use Rattle.litmus.specs.Parts.{op_count}
 use Rattle.recorder.specs.declared.event.Event.{Event}
-use Rattle.recorder.specs.declared.event.Event.TheVariants.{L, S, R, F}
+use Rattle.recorder.specs.declared.event.Event.TheVariants.{L, S, R, C, F}
 use Rattle.recorder.specs.Execution.{Execution}
 use Rattle.write_buffer.specs.declared.entry.Entry.{Entry}
 use Rattle.moesi.specs.State as moesi
@@ -24,6 +24,8 @@ pub record State : Type 0 where
   pub reads : List (ℕ × Option ℕ)
   -- the performed events, first to last
   pub performed : List ℕ
+  -- for each address the value that it began with, which no step changes
+  pub initial : List ℕ
 
 -- how many operations core c has executed
 abbrev pub place_of : State → ℕ → ℕ
@@ -52,6 +54,7 @@ event_of (Ld a) d = L a d.0 d.1
 event_of Fence d = F
 event_of (Swap a v) d = R a d.0 d.1 v
 event_of (Add a v) d = R a d.0 d.1 ((d.0 + v) % 2 ^ 32)
+event_of (Cas a e v) d = if d.0 == e then R a d.0 d.1 v else C a d.0 d.1
 
 -- the events of one core, of which the first has number e
 abbrev pub events_from : ℕ → List Op → List (ℕ × Option ℕ) → List Event
@@ -64,19 +67,24 @@ abbrev pub cores_from : ℕ → List (List Op) → List (ℕ × Option ℕ) → 
 cores_from e [] reads = []
 cores_from e (ops ∷ rest) reads = events_from e ops reads ∷ cores_from (e + length ops) rest reads
 
--- the recording of a state; what was not read yet is the initial value
+-- the recording of a state; what was not read yet is 0 with no source
 abbrev pub recorded : List (List Op) → State → Execution
-recorded p s = record { cores = cores_from 0 p s.reads; write_lists = s.write_lists }
+recorded p s = record {
+  cores = cores_from 0 p s.reads;
+  write_lists = s.write_lists;
+  initial = s.initial;
+}
 
--- the state in which a program of n addresses begins
-abbrev pub opening : List (List Op) → ℕ → State
-opening p n = record {
+-- the state in which a program begins whose addresses have these initial values
+abbrev pub opening : List (List Op) → List ℕ → State
+opening p init = record {
   places = replicate (length p) 0;
   buffers = replicate (length p) [];
-  caches = moesi.opening_caches (length p) n;
-  write_lists = replicate n [];
+  caches = moesi.opening_with (length p) init;
+  write_lists = replicate (length init) [];
   reads = replicate (op_count p) (0, None);
   performed = [];
+  initial = init;
 }
 
 -- core c has executed all its operations, and no store of it waits

@@ -1,9 +1,10 @@
 -- One step of the machine: the first guard that is false, else one effect. What a fault changes is
 -- told by its words.
-use Rattle.std.specs.Prelude.{◌≡◌, ◌+◌, ◌<◌, ◌&&◌, ℕ, Bool, nat_lt, if◌then◌else◌, Option, Some, None, Result}
-use Rattle.std.specs.Prelude.{Ok, Err, List, [], ◌∷◌, ◌++◌, length, slice_index_or, slice_set, slice_get}
+use Rattle.std.specs.Prelude.{◌≡◌, ◌+◌, ◌<◌, ◌&&◌, ◌==◌, ℕ, Bool, nat_lt, if◌then◌else◌, Option, Some, None}
+use Rattle.std.specs.Prelude.{Result, Ok, Err, List, [], ◌∷◌, ◌++◌, length, slice_index_or, slice_set}
+use Rattle.std.specs.Prelude.{slice_get}
 use Rattle.litmus.specs.declared.op.Op.{Op}
-use Rattle.litmus.specs.declared.op.Op.TheVariants.{St, Ld, Fence, Swap, Add}
+use Rattle.litmus.specs.declared.op.Op.TheVariants.{St, Ld, Fence, Swap, Add, Cas}
 use Rattle.write_buffer.specs.declared.entry.Entry.{Entry}
 use Rattle.machine.specs.declared.step.Step.{Step}
 use Rattle.machine.specs.declared.step.Step.TheVariants.{Exec, Drain, GetS, GetM, Put}
@@ -11,6 +12,7 @@ use Rattle.machine.specs.declared.blocked.Blocked.{Blocked}
 use Rattle.machine.specs.declared.blocked.Blocked.TheVariants.{B1, B2, B3, B4, B5, B6, B7, B8}
 use Rattle.recorder.specs.Event.{value_written}
 use Rattle.moesi.specs.State as moesi
+use Rattle.moesi.specs.Lines.{is_exclusive}
 use Rattle.machine.specs.declared.fault.Fault.{Fault}
 use Rattle.machine.specs.Faults.{forwarded, draining, without, may_fence, may_rmw, get_m_under}
 use Rattle.moesi.specs.declared.error.CacheError.{CacheError}
@@ -90,6 +92,21 @@ read_modify_written fault s c e op a =
     (moesi.write s.caches c a (rmw_value s c op a) e)
     else Err B3
 
+-- core c reads address a and writes nothing, behind an empty buffer and from a line that is M or E
+abbrev pub read_unmodified : Fault → State → ℕ → ℕ → ℕ → Result State Blocked
+read_unmodified fault s c n a =
+    if may_rmw fault (buffer_of s c)
+    then (if is_exclusive (moesi.line_of s.caches c a)
+    then Ok (advanced (performed (given s n (line_copy s c a)) n) c) else Err B5)
+    else Err B3
+
+-- core c swaps v into address a where its line has the value e, and else reads it alone
+abbrev pub compared_and_swapped : Fault → State → ℕ → ℕ → ℕ → ℕ → ℕ → Result State Blocked
+compared_and_swapped fault s c n a e v =
+    if (line_copy s c a).0 == e
+    then read_modify_written fault s c n (Swap a v) a
+    else read_unmodified fault s c n a
+
 -- core c executes the operation op as event e
 abbrev pub exec : ℕ → Fault → State → ℕ → ℕ → Op → Result State Blocked
 exec capacity fault s c e (St a v) = stored capacity s c e a v
@@ -97,6 +114,7 @@ exec capacity fault s c e (Ld a) = loaded fault s c e a
 exec capacity fault s c e Fence = fenced fault s c e
 exec capacity fault s c e (Swap a v) = read_modify_written fault s c e (Swap a v) a
 exec capacity fault s c e (Add a v) = read_modify_written fault s c e (Add a v) a
+exec capacity fault s c n (Cas a e v) = compared_and_swapped fault s c n a e v
 
 -- the next operation of core c, where one is left
 abbrev pub exec_next : List (List Op) → ℕ → Fault → State → ℕ → Option Op → Result State Blocked

@@ -1,5 +1,5 @@
 -- Lists of steps of which none is blocked.
-use Rattle.std.specs.Prelude.{ℕ, List, [], ◌∷◌, length, Result, Ok, Err}
+use Rattle.std.specs.Prelude.{ℕ, List, [], ◌∷◌, Result, Ok, Err}
 use Rattle.litmus.specs.declared.op.Op.{Op}
 use Rattle.litmus.specs.Parts.{Parts}
 use Rattle.machine.specs.declared.fault.Fault.{Fault}
@@ -10,7 +10,7 @@ use Rattle.machine.specs.Step.{taken}
 
 -- the state in which a program begins
 abbrev pub begun : Parts → State
-begun p = opening p.cores (length p.names)
+begun p = opening p.cores p.init
 
 -- goes on from a state, or is blocked
 abbrev pub unless_blocked : Result State Blocked → (State → Result State Blocked) → Result State Blocked

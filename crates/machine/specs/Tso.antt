@@ -1,5 +1,5 @@
 -- What every run keeps.
-use Rattle.std.specs.Prelude.{ℕ, List, All}
+use Rattle.std.specs.Prelude.{ℕ, List, All, length}
 use Rattle.recorder.specs.Tso.{IsTsoOrder, IsWellFormed}
 use Rattle.litmus.specs.declared.op.Op.{Op}
 use Rattle.litmus.specs.Parts.{IsWithin}
@@ -11,14 +11,16 @@ use Rattle.machine.specs.Step.{run}
 
 -- where a run without fault is complete, the order of what it performed is one that TSO allows for
 -- its recording
-abbrev pub EveryRunIsTso : List (List Op) → ℕ → ℕ → List Step → Type 0
-EveryRunIsTso p n capacity steps =
-    All (λ ops. All (IsWithin n) ops) p → IsComplete p (run p capacity fault.None (opening p n) steps)
-    → IsTsoOrder (recorded p (run p capacity fault.None (opening p n) steps))
-    (run p capacity fault.None (opening p n) steps).performed
+abbrev pub EveryRunIsTso : List (List Op) → List ℕ → ℕ → List Step → Type 0
+EveryRunIsTso p init capacity steps =
+    All (λ ops. All (IsWithin (length init)) ops) p
+    → IsComplete p (run p capacity fault.None (opening p init) steps)
+    → IsTsoOrder (recorded p (run p capacity fault.None (opening p init) steps))
+    (run p capacity fault.None (opening p init) steps).performed
 
 -- where a run under any fault is complete, its recording is well formed
-abbrev pub EveryRunIsWellFormed : List (List Op) → ℕ → ℕ → Fault → List Step → Type 0
-EveryRunIsWellFormed p n capacity fault steps =
-    All (λ ops. All (IsWithin n) ops) p → IsComplete p (run p capacity fault (opening p n) steps)
-    → IsWellFormed (recorded p (run p capacity fault (opening p n) steps))
+abbrev pub EveryRunIsWellFormed : List (List Op) → List ℕ → ℕ → Fault → List Step → Type 0
+EveryRunIsWellFormed p init capacity fault steps =
+    All (λ ops. All (IsWithin (length init)) ops) p
+    → IsComplete p (run p capacity fault (opening p init) steps)
+    → IsWellFormed (recorded p (run p capacity fault (opening p init) steps))

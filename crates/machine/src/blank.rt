@@ -8,13 +8,14 @@ use recorder::Event;
 use std::alloc::Global;
 use std::marker::Model;
 
-/// The room for a recording: for each core's events, and for the write lists.
+/// The room for a recording: for each core's events, and for the write lists; and the initial values.
 #[derive(Drop)]
 pub(crate) struct Blank {
     cores: BoundedList<Vec<Event>>,
     events: Vec<BoundedList<Event>>,
     room: usize,
     writes: BoundedList<Vec<EventId>>,
+    init: Vec<u32>,
 }
 
 impl Model for Blank {
@@ -27,6 +28,7 @@ impl Model for Blank {
       cores = b.cores.room;
       events = b.room;
       addresses = b.writes.room;
+      initial = b.init.items;
     } };
 
     ghost invariant = { λ b. (b.cores.items ≡ []) × (b.writes.items ≡ [])
@@ -39,42 +41,50 @@ impl Blank {
     ghost use Rattle.machine.specs.Configuration.{BlankSize};
     ghost use Rattle.machine.specs.State.{cores_from};
 
-    /// Room for the recording of so many cores, events and addresses.
+    /// Room for the recording of so many cores and events, and of as many addresses as there are
+    /// initial values, with a copy of these.
     pub(crate) fn new(
         alloc: Global,
         cores: usize,
         events: usize,
-        addresses: usize,
+        init: &[u32],
     ) -> Result<Blank, OutOfMemory>
-        ensures { IfOk result (λ b. b
-            ≡ record { cores = cores; events = events; addresses = addresses }) }
+        ensures { IfOk result (λ b. b ≡ record {
+          cores = cores;
+          events = events;
+          addresses = length init.now;
+          initial = init.now;
+        }) }
     {
         Ok(Blank {
             cores: BoundedList::new(alloc, cores)?,
             events: bounded_lists(alloc, cores, events)?,
             room: events,
-            writes: BoundedList::new(alloc, addresses)?,
+            writes: BoundedList::new(alloc, init.len())?,
+            init: Vec::from_slice(alloc, init)?,
         })
     }
 
-    /// The events of a program's operations from what they read, and the write lists. It can't
-    /// fail for want of memory.
+    /// The events of a program's operations from what they read, the write lists, and the initial
+    /// values. It can't fail for want of memory.
     pub(crate) fn fill(
         self,
         program: &[Ops],
         reads: &[(u32, Option<EventId>)],
         writes: Vec<BoundedList<EventId>>,
-    ) -> (Vec<Vec<Event>>, Vec<Vec<EventId>>)
+    ) -> (Vec<Vec<Event>>, Vec<Vec<EventId>>, Vec<u32>)
         requires cores { self.cores ≡ length program.now }
         requires events { self.events ≡ length reads.now }
         requires addresses { self.addresses ≡ length writes.items }
         requires fits { op_count program.now ≤ length reads.now }
         ensures cores { map (λ v. v.items) result.0.items ≡ cores_from 0 program.now reads.now }
         ensures writes { map (λ v. v.items) result.1.items ≡ map (λ b. b.items) writes.items }
+        ensures initial { result.2.items ≡ self.initial }
     {
         (
             record_all(self.cores, self.events, program, reads),
             unwrap_all(self.writes, writes),
+            self.init,
         )
     }
 }

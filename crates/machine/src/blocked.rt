@@ -11,7 +11,7 @@ pub enum Blocked {
     B3,
     /// The core loads, gets no store from its buffer, and its line is in I.
     B4,
-    /// The core writes, and its line is neither in M nor in E.
+    /// The core writes, or compares and swaps, and its line is neither in M nor in E.
     B5,
     /// The core's buffer is empty.
     B6,

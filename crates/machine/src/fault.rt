@@ -17,7 +17,7 @@ pub enum Fault {
     OpenFence,
     /// GetM leaves other lines in S as they are, with their old data.
     StaleShare,
-    /// A read-modify-write doesn't wait for an empty buffer.
+    /// A read-modify-write, also a compare-and-swap, doesn't wait for an empty buffer.
     EarlyRmw,
 }
 
@@ -67,7 +67,7 @@ impl Fault {
         }
     }
 
-    /// Whether a read-modify-write may go on.
+    /// Whether a read-modify-write, also a compare-and-swap, may go on.
     pub(crate) fn may_rmw(self, buffer: &WriteBuffer) -> bool
         ensures { result ≡ may_rmw self buffer.now.entries }
     {

@@ -46,7 +46,7 @@ impl Model for Machine {
       program = m.program;
       capacity = m.capacity;
       fault = m.fault;
-      state = state_from m.units.items m.buffers.items m.caches m.writes.items m.reads.items
+      state = state_from m.program.init m.units.items m.buffers.items m.caches m.writes.items m.reads.items
           m.performed.items;
     } };
 
@@ -77,19 +77,20 @@ impl Machine {
           program = program;
           capacity = capacity;
           fault = fault;
-          state = opening program.cores (length program.names);
+          state = opening program.cores program.init;
         }) }
     {
         program.sound();
         let cores = program.cores();
-        let addresses = program.names().len();
+        let init = program.init();
+        let addresses = init.len();
         let (units, events) = units_of(alloc, program.lists())?;
         let buffers = buffers_of(alloc, cores, capacity)?;
-        let caches = Caches::new(alloc, cores, addresses)?;
+        let caches = Caches::with_init(alloc, cores, init)?;
         let writes = bounded_lists(alloc, addresses, events)?;
         let reads = vec![in alloc; (0, None); events]?;
         let performed = BoundedList::new(alloc, events)?;
-        let blank = Blank::new(alloc, cores, events, addresses)?;
+        let blank = Blank::new(alloc, cores, events, init)?;
         Ok(Machine {
             program,
             capacity,
@@ -248,7 +249,7 @@ impl Machine {
             writes,
             ..
         } = self;
-        let (cores, writes) = blank.fill(program.lists(), reads.as_slice(), writes);
-        Ok(Recording::new(cores, writes))
+        let (cores, writes, init) = blank.fill(program.lists(), reads.as_slice(), writes);
+        Ok(Recording::new(cores, writes, init))
     }
 }

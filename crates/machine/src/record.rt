@@ -24,6 +24,13 @@ pub(crate) fn event_of(op: Op, read: (u32, Option<EventId>)) -> Event
             s,
             w: r.wrapping_add(value),
         },
+        Op::Cas(a, expected, w) => {
+            if r == expected {
+                Event::R { a, r, s, w }
+            } else {
+                Event::C { a, r, s }
+            }
+        }
     }
 }
 

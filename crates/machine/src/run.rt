@@ -40,6 +40,9 @@ impl Machine {
             Op::Fence => self.fence(core, event),
             Op::Swap(addr, _) => self.read_modify_write(core, event, op, addr),
             Op::Add(addr, _) => self.read_modify_write(core, event, op, addr),
+            Op::Cas(addr, expected, value) => {
+                self.compare_and_swap(core, event, addr, expected, value)
+            }
         }
     }
 

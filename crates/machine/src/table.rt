@@ -11,10 +11,14 @@ use moesi::CacheError;
 use write_buffer::Entry;
 
 impl Machine {
-    ghost use Rattle.std.specs.Prelude.{◌≡◌, ◌<◌, Ok, Err, OnOk, OnErr, IfErr, length};
-    ghost use Rattle.litmus.specs.declared.op.Op.TheVariants.{St, Ld, Fence};
+    ghost use Rattle.std.specs.Prelude.{◌≡◌, ◌≢◌, ◌<◌, ◌⊎◌, Ok, Err, IsTrue, IsFalse, OnOk, OnErr, IfErr};
+    ghost use Rattle.std.specs.Prelude.{length};
+    ghost use Rattle.litmus.specs.declared.op.Op.TheVariants.{St, Ld, Fence, Cas};
     ghost use Rattle.machine.specs.declared.step.Step.TheVariants.{Drain};
-    ghost use Rattle.machine.specs.Step.{read_modify_written};
+    ghost use Rattle.machine.specs.Step.{read_modify_written, read_unmodified};
+    ghost use Rattle.moesi.specs.Lines.{is_valid};
+    ghost use Rattle.moesi.specs.State.{line_of};
+    ghost use Rattle.machine.specs.State.{line_copy};
     ghost use Rattle.machine.specs.Configuration.{answer_of, exec_answer, IsNextOf};
 
     /// Puts a store at the back of its core's buffer.
@@ -105,6 +109,79 @@ impl Machine {
         self.performed.push(event);
         self.units[core as usize].advance(self.program.ops(core));
         Ok(())
+    }
+
+    /// Reads the core's line alone, as a read-modify-write would: behind an empty buffer, where the
+    /// machine waits for it, and from a line that the core may write.
+    pub(crate) fn read_unmodified(
+        &mut self,
+        core: CoreId,
+        event: EventId,
+        op: Op,
+        addr: Addr,
+    ) -> Result<(), Blocked>
+        requires at { IsNextOf self.old core op event }
+        requires address { addr < length self.old.program.names }
+        requires row { exec_answer self.old core op event
+            ≡ read_unmodified self.old.fault self.old.state core event addr }
+        ensures ok { OnOk result (exec_answer self.old core op event ≡ Ok self.new.state) }
+        ensures blocked { IfErr result (λ b. exec_answer self.old core op event ≡ Err b) }
+        ensures rest { OnOk result (self.new ≡ record self.old { state = self.new.state }) }
+        ensures unchanged { OnErr result (self.new ≡ self.old) }
+    {
+        if !self.fault.may_rmw(&self.buffers[core as usize]) {
+            return Err(Blocked::B3);
+        }
+        if !self.caches.line(core, addr).is_exclusive() {
+            return Err(Blocked::B5);
+        }
+        let Ok(read) = self.caches.read(core, addr) else {
+            return Err(Blocked::B5);
+        };
+        self.reads[event as usize] = read;
+        self.performed.push(event);
+        self.units[core as usize].advance(self.program.ops(core));
+        Ok(())
+    }
+
+    /// Swaps the value of the core's line for another where it is the expected one, and else reads it alone.
+    pub(crate) fn compare_and_swap(
+        &mut self,
+        core: CoreId,
+        event: EventId,
+        addr: Addr,
+        expected: u32,
+        value: u32,
+    ) -> Result<(), Blocked>
+        requires at { IsNextOf self.old core (Cas addr expected value) event }
+        requires address { addr < length self.old.program.names }
+        ensures ok { OnOk result (exec_answer self.old core (Cas addr expected value) event
+            ≡ Ok self.new.state) }
+        ensures blocked { IfErr result (λ b. exec_answer self.old core (Cas addr expected value) event
+            ≡ Err b) }
+        ensures rest { OnOk result (self.new ≡ record self.old { state = self.new.state }) }
+        ensures unchanged { OnErr result (self.new ≡ self.old) }
+    {
+        let op = Op::Cas(addr, expected, value);
+        if self.has_value(core, addr, expected) {
+            self.read_modify_write(core, event, op, addr)
+        } else {
+            self.read_unmodified(core, event, op, addr)
+        }
+    }
+
+    /// Whether a core's line of an address is valid and has a value.
+    fn has_value(&self, core: CoreId, addr: Addr, value: u32) -> bool
+        requires core { core < length self.now.program.cores }
+        requires address { addr < length self.now.program.names }
+        ensures yes { IsTrue result → ((line_copy self.now.state core addr).0 ≡ value) }
+        ensures no { IsFalse result → IsFalse (is_valid (line_of self.now.state.caches core addr))
+            ⊎ ((line_copy self.now.state core addr).0 ≢ value) }
+    {
+        match self.caches.read(core, addr) {
+            Ok((read, _source)) => read == value,
+            Err(_) => false,
+        }
     }
 
     /// Writes the store that leaves a core's buffer next to the core's line.

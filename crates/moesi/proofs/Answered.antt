@@ -88,7 +88,7 @@ module _ {A : Type 0} (cores n a : ℕ) (old slice new last : List ℕ) (step : 
       subst (λ (ws : List ℕ). P (caches_in cores n ws)) (sym (back ∙ (unchanged ∙ lent))) p
 
 -- words that are all 0
-zeros : (k i : ℕ) → slice_index (replicate k 0) i ≡ 0
+pub zeros : (k i : ℕ) → slice_index (replicate k 0) i ≡ 0
 zeros zero i = refl
 zeros (suc k) zero = refl
 zeros (suc k) (suc i) = zeros k i

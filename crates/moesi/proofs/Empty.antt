@@ -1,15 +1,15 @@
 -- A line in I has value 0 and no event.
 use Rattle.std.proofs.Common.{◌≡◌, inl, inr, ℕ, suc, zero, Bool, true, false, cond, Option, Some, None}
-use Rattle.std.proofs.Common.{Result, Ok, Err, List, [], map, replicate, slice_index_or, slice_set, refl, sym}
-use Rattle.std.proofs.Common.{ap, subst, ◌∙◌}
+use Rattle.std.proofs.Common.{Result, Ok, Err, List, [], ◌∷◌, map, replicate, slice_index_or, slice_set, refl}
+use Rattle.std.proofs.Common.{sym, ap, subst, ◌∙◌}
 use Rattle.std.proofs.Math.ListN.{get_or-map}
 use Rattle.moesi.specs.declared.line.Line.TheVariants.{S, E}
 use Rattle.moesi.specs.declared.cell.Cell.{Cell}
 use Rattle.moesi.specs.declared.error.CacheError.{CacheError}
 use Rattle.moesi.specs.Lines.{is_valid, is_owned, is_shared}
-use Rattle.moesi.specs.Block.{Block, cell_of, invalid, opening_block, has_copy}
+use Rattle.moesi.specs.Block.{Block, cell_of, invalid, opening_block, block_with, has_copy}
 use Rattle.moesi.specs.Rows as row
-use Rattle.moesi.specs.State.{CacheState, block_of, at_address, opening_caches, write}
+use Rattle.moesi.specs.State.{CacheState, block_of, at_address, opening_caches, opening_with, write}
 use Rattle.moesi.specs.Laws.{IsTransaction, IsAnyTransaction, HasEmptyLines}
 use Rattle.moesi.specs.LineLaws.{lowered_valid}
 use Rattle.moesi.specs.BlockLaws.{all_invalid}
@@ -116,15 +116,26 @@ module _ (s t : CacheState) (c a : ℕ) (before : HasEmptyLines s) where
   empty_written value event h =
       moved _ (λ u g. empty_write (block_of s a) c (λ d. before d a) u (value, Some event) g) h
 
+-- lines in I are empty
+empty_fill : (n : ℕ) (d : ℕ) → EmptyCell (slice_index_or (replicate n invalid) d invalid)
+empty_fill n d g = rw (all_invalid n d) refl
+
 -- at first each line is in I, and empty
 pub empty_opening : (cores addresses : ℕ) → HasEmptyLines (opening_caches cores addresses)
 empty_opening cores addresses c a h = both addresses (opening_block cores) (empty_fill cores) a c h
   where
-    empty_fill : (n : ℕ) (d : ℕ) → EmptyCell (slice_index_or (replicate n invalid) d invalid)
-    empty_fill n d g = rw (all_invalid n d) refl
-
     both : (n : ℕ) (b : Block) → EmptyBlock b → (i : ℕ)
         → EmptyBlock (slice_index_or (replicate n b) i (record { lines = []; memory = (0, None) }))
     both zero b p i = λ d g. refl
     both (suc n) b p zero = p
     both (suc n) b p (suc i) = both n b p i
+
+-- whatever memory begins with
+pub empty_opening_with : (cores : ℕ) (init : List ℕ) → HasEmptyLines (opening_with cores init)
+empty_opening_with cores init c a h = all init a c h
+  where
+    all : (values : List ℕ) (i : ℕ) → EmptyBlock
+        (slice_index_or (map (λ v. block_with cores v) values) i (record { lines = []; memory = (0, None) }))
+    all [] i = λ d g. refl
+    all (v ∷ values) zero = empty_fill cores
+    all (v ∷ values) (suc i) = all values i

@@ -20,6 +20,10 @@ invalid = record { line = I; copy = (0, None) }
 abbrev pub opening_block : ℕ → Block
 opening_block cores = record { lines = replicate cores invalid; memory = (0, None) }
 
+-- the same where memory has a value with no event
+abbrev pub block_with : ℕ → ℕ → Block
+block_with cores value = record { lines = replicate cores invalid; memory = (value, None) }
+
 -- what core c has of the address; a core that does not exist has nothing
 abbrev pub cell_of : Block → ℕ → Cell
 cell_of b c = slice_index_or b.lines c invalid

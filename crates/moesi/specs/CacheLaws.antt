@@ -2,18 +2,19 @@
 use Rattle.std.proofs.Common.{◌≡◌, ◌≢◌, ◌<◌, ◌==◌, inl, inr, ℕ, true, cond, Option, Some, None}
 use Rattle.std.proofs.Common.{Result, Ok, Err, [], length, map, slice_index_or, slice_set, replicate, suc}
 use Rattle.std.proofs.Common.{zero, arith, refl, sym, ap, subst, ◌∙◌, get_or-set_other, get_or-set_same}
-use Rattle.std.proofs.Common.{length-set}
+use Rattle.std.proofs.Common.{length-set, List, ◌∷◌, slice_index}
 use Rattle.std.proofs.lemmas.Bool.{cases_eq, eq-eqb, ne_eqb}
-use Rattle.std.proofs.lemmas.List.{length-map, length-replicate, get_or-replicate}
+use Rattle.std.proofs.lemmas.List.{length-map, length-replicate, get_or-replicate, get_or-map}
 use Rattle.moesi.specs.declared.error.CacheError.{CacheError}
-use Rattle.moesi.specs.Lines.{is_owned}
-use Rattle.moesi.specs.Block.{Block, invalid, opening_block}
+use Rattle.moesi.specs.Lines.{is_valid, is_owned}
+use Rattle.moesi.specs.Block.{Block, invalid, opening_block, block_with}
 use Rattle.moesi.specs.Rows as row
-use Rattle.moesi.specs.State.{CacheState, opening_caches, block_of, current, at_address, get_s, get_m, put}
-use Rattle.moesi.specs.State.{read, write}
+use Rattle.moesi.specs.State.{CacheState, opening_caches, opening_with, block_of, current, at_address}
+use Rattle.moesi.specs.State.{get_s, get_m, put, read, write}
 use Rattle.moesi.specs.Coherent.{IsCoherent}
-use Rattle.moesi.specs.Laws.{IsTransaction, OpeningIsCoherent, EveryCallKeepsCoherence, EveryCopyIsCurrent}
-use Rattle.moesi.specs.Laws.{EveryReadIsCurrent, EveryTransactionKeepsCurrent, EveryWriteSetsCurrent}
+use Rattle.moesi.specs.Laws.{IsTransaction, OpeningIsCoherent, OpeningWithIsCoherent, EveryCallKeepsCoherence}
+use Rattle.moesi.specs.Laws.{EveryCopyIsCurrent, EveryReadIsCurrent, EveryTransactionKeepsCurrent}
+use Rattle.moesi.specs.Laws.{EveryWriteSetsCurrent}
 use Rattle.moesi.specs.RowLaws.{taken_else, taken_then}
 use Rattle.moesi.specs.BlockLaws.{IsSettled, settled_of, current_settled, coherent_settled, copy_is_current}
 use Rattle.moesi.specs.BlockLaws.{all_invalid}
@@ -161,13 +162,13 @@ read_current s c a copy k h =
     sym r.1 ∙ copy_is_current (block_of s a) (k.blocks a) c r.0
 
 -- a block where no line is valid
-settled_opening : (cores : ℕ) → IsSettled (opening_block cores) (0, None)
-settled_opening cores =
+settled_opening : (cores value : ℕ) → IsSettled (block_with cores value) (value, None)
+settled_opening cores value =
     let none : (c : ℕ) → slice_index_or (replicate cores invalid) c invalid ≡ invalid = all_invalid cores in
     record {
       single = λ c d h ne. rw (none d) refl;
       owned = λ c d h g. let off : is_owned invalid.line ≡ true = rw (none c) at h in cc (off);
-      copies = λ c h. rw (none c) refl;
+      copies = λ c h. let off : is_valid invalid.line ≡ true = rw (none c) at h in cc (off);
       clean = λ h. refl;
     }
 
@@ -179,8 +180,8 @@ opening_coherent cores addresses =
     let first : Block = opening_block cores in
     let none : Block = record { lines = []; memory = (0, None) } in
     let each : (a : ℕ) → IsSettled (block_of (opening_caches cores addresses) a) (0, None) =
-    λ a. replicated addresses first none (λ b. IsSettled b (0, None)) (settled_opening cores)
-    (settled_opening 0) a in (
+    λ a. replicated addresses first none (λ b. IsSettled b (0, None)) (settled_opening cores 0)
+    (settled_opening 0 0) a in (
       record {
         lines = λ a h. ap (λ (b : Block). length b.lines)
             (get_or-replicate addresses a first none (omega (arith, h, length-replicate addresses first)))
@@ -196,9 +197,40 @@ opening_coherent cores addresses =
     replicated (suc n) x d P p q zero = p
     replicated (suc n) x d P p q (suc a) = replicated n x d P p q a
 
+-- so it is where memory begins with these values
+opening_with_coherent : (cores : ℕ) (init : List ℕ)
+    → IsCoherent (opening_with cores init)
+    × ((a : ℕ) → current (opening_with cores init) a ≡ (slice_index init a, None))
+opening_with_coherent cores init =
+    let each : (a : ℕ) → IsSettled (block_of (opening_with cores init) a) (slice_index init a, None) =
+    λ a. begun init a in (
+      record {
+        lines = λ a h. ap (λ (b : Block). length b.lines)
+            (get_or-map (λ v. block_with cores v) init a 0 none
+            (omega (arith, h, length-map init (λ v. block_with cores v))))
+            ∙ length-replicate cores invalid;
+        blocks = λ a. coherent_settled _ (slice_index init a, None) (each a);
+      },
+      λ a. current_settled _ (slice_index init a, None) (each a),
+    )
+  where
+    none : Block
+    none = record { lines = []; memory = (0, None) }
+
+    begun : (values : List ℕ) (a : ℕ)
+        → IsSettled (slice_index_or (map (λ v. block_with cores v) values) a none)
+        (slice_index values a, None)
+    begun [] a = settled_opening 0 0
+    begun (v ∷ values) zero = settled_opening cores v
+    begun (v ∷ values) (suc a) = begun values a
+
 -- the laws of `Laws`: the opening
 pub opening_is_coherent : OpeningIsCoherent
 opening_is_coherent = opening_coherent
+
+-- with any values
+pub opening_with_is_coherent : OpeningWithIsCoherent
+opening_with_is_coherent = opening_with_coherent
 
 -- transactions and writes
 pub every_call_keeps_coherence : EveryCallKeepsCoherence

@@ -1,9 +1,9 @@
 -- What holds of the caches whatever the calls.
 use Rattle.std.specs.Prelude.{◌≡◌, ◌<◌, ◌==◌, ◌⊎◌, ℕ, Option, if◌then◌else◌, IsTrue, IsFalse, Some, None, Ok}
-use Rattle.std.specs.Prelude.{length}
+use Rattle.std.specs.Prelude.{List, length, slice_index}
 use Rattle.moesi.specs.Lines.{is_valid}
-use Rattle.moesi.specs.State.{CacheState, line_of, copy_of, current, opening_caches, get_s, get_m}
-use Rattle.moesi.specs.State.{get_m_stale, put, read, write, Has}
+use Rattle.moesi.specs.State.{CacheState, line_of, copy_of, current, opening_caches, opening_with, get_s}
+use Rattle.moesi.specs.State.{get_m, get_m_stale, put, read, write, Has}
 use Rattle.moesi.specs.Coherent.{IsCoherent}
 
 -- core c made a transaction of address a
@@ -18,6 +18,11 @@ IsAnyTransaction s c a t = IsTransaction s c a t ⊎ (get_m_stale s c a ≡ Ok t
 abbrev pub OpeningIsCoherent : Type 0
 OpeningIsCoherent = (cores addresses : ℕ) → IsCoherent (opening_caches cores addresses)
     × ((a : ℕ) → current (opening_caches cores addresses) a ≡ (0, None))
+
+-- so it is where memory begins with these values, and each address has its value with no event
+abbrev pub OpeningWithIsCoherent : Type 0
+OpeningWithIsCoherent = (cores : ℕ) (init : List ℕ) → IsCoherent (opening_with cores init)
+    × ((a : ℕ) → current (opening_with cores init) a ≡ (slice_index init a, None))
 
 -- a valid line has the current data
 abbrev pub EveryCopyIsCurrent : Type 0
@@ -63,6 +68,10 @@ HasEmptyLines s = (c a : ℕ) → IsFalse (is_valid (line_of s c a)) → copy_of
 -- at first it is so
 abbrev pub OpeningHasEmptyLines : Type 0
 OpeningHasEmptyLines = (cores addresses : ℕ) → HasEmptyLines (opening_caches cores addresses)
+
+-- also where memory begins with these values
+abbrev pub OpeningWithHasEmptyLines : Type 0
+OpeningWithHasEmptyLines = (cores : ℕ) (init : List ℕ) → HasEmptyLines (opening_with cores init)
 
 -- transactions and writes keep it so
 abbrev pub EveryCallKeepsEmptyLines : Type 0

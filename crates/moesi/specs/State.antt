@@ -1,9 +1,9 @@
 -- What the caches of all cores are, with memory, and what each call does to them.
 use Rattle.std.specs.Prelude.{ℕ, Option, Some, None, Result, Ok, Err, List, [], replicate, slice_index_or}
-use Rattle.std.specs.Prelude.{slice_set}
+use Rattle.std.specs.Prelude.{slice_set, map}
 use Rattle.moesi.specs.declared.line.Line.{Line}
 use Rattle.moesi.specs.declared.error.CacheError.{CacheError}
-use Rattle.moesi.specs.Block.{Block, cell_of, opening_block, current_of, HasBlock}
+use Rattle.moesi.specs.Block.{Block, cell_of, opening_block, block_with, current_of, HasBlock}
 use Rattle.moesi.specs.Rows as row
 
 -- the number of cores, and what there is of each address
@@ -41,6 +41,10 @@ opening_caches cores addresses = record {
   cores = cores;
   blocks = replicate addresses (opening_block cores);
 }
+
+-- the same where memory has these values, one for each address
+abbrev pub opening_with : ℕ → List ℕ → CacheState
+opening_with cores init = record { cores = cores; blocks = map (λ v. block_with cores v) init }
 
 -- a row of the table, taken at address a
 abbrev pub at_address : CacheState → ℕ → Result Block CacheError → Result CacheState CacheError

@@ -29,3 +29,7 @@ copy_in low = (low % 2 ^ 32, event_from (low / 2 ^ 32))
 -- the line with its data that a word stands for
 abbrev pub cell_in : ℕ → Cell
 cell_in w = record { line = line_from (w / 2 ^ 48); copy = copy_in (w % 2 ^ 48) }
+
+-- memory's value with no event; its words have the number of I
+abbrev pub memory_cell : ℕ → Cell
+memory_cell value = record { line = I; copy = (value, None) }

@@ -5,7 +5,7 @@ use crate::error::CacheError;
 use crate::line::Line;
 use crate::rows;
 use crate::word::{INVALID, unpack, written};
-use crate::words::{place, words_for};
+use crate::words::{fill_memory, place, words_for};
 use litmus::{Addr, CoreId, EventId, OutOfMemory};
 use std::alloc::Global;
 use std::marker::Model;
@@ -14,7 +14,7 @@ use std::marker::Model;
 /// transactions. States and transactions are those of MOESI (Nagarajan, Sorin, Hill and Wood, A
 /// Primer on Memory Consistency and Cache Coherence, second edition, chapters 6 to 8). Data are a
 /// value and the event that wrote it, or none where nothing was written. Each call asks that its core
-/// and its address are there. Only `new` can fail for want of memory.
+/// and its address are there. Only `new` and `with_init` can fail for want of memory.
 ///
 /// They are one list of words: word `core * addresses + addr` is a core's line of an address, and
 /// those behind the lines of all cores are memory.
@@ -40,7 +40,7 @@ impl Caches {
     ghost use Rattle.std.specs.Prelude.{◌≡◌, ◌<◌, Ok, Err, length, IfOk, OnOk, IfErr, OnErr};
     ghost use Rattle.litmus.specs.declared.limits.TheConstants.{MAX_EVENTS};
     ghost use Rattle.moesi.specs.Block.{cell_of};
-    ghost use Rattle.moesi.specs.State.{opening_caches, block_of, line_of, memory_of};
+    ghost use Rattle.moesi.specs.State.{opening_caches, opening_with, block_of, line_of, memory_of};
     ghost use Rattle.moesi.specs.State.{get_s, get_m, get_m_stale, put, read, write};
     ghost use Rattle.moesi.specs.Coherent.{IsCoherent};
 
@@ -54,6 +54,25 @@ impl Caches {
         };
         Ok(Caches {
             words: vec![in alloc; INVALID; size]?,
+            cores,
+            addresses,
+        })
+    }
+
+    /// Caches of so many cores where no line is valid, over as many addresses as there are initial values,
+    /// each with its value and no event; out of memory where there is none, also for so many that no
+    /// memory could hold them.
+    pub fn with_init(alloc: Global, cores: usize, init: &[u32]) -> Result<Caches, OutOfMemory>
+        ensures { IfOk result (λ s. s ≡ opening_with cores init.now) }
+    {
+        let addresses = init.len();
+        let Some(size) = words_for(cores, addresses) else {
+            return Err(OutOfMemory);
+        };
+        let mut words = vec![in alloc; INVALID; size]?;
+        fill_memory(&mut words, cores, init);
+        Ok(Caches {
+            words,
             cores,
             addresses,
         })
@@ -221,6 +240,18 @@ mod tests {
         assert_eq!(rt; caches.get_s(2, 0), Ok(()));
         let words = [0, 281479271677959, 281479271677959, 4294967303];
         assert_eq!(rt; caches.words.as_slice(), words.as_slice());
+        Ok(())
+    }
+
+    #[test]
+    fn memory_begins_with_its_values(rt: HostRuntime) -> Result<(), OutOfMemory> {
+        let caches = Caches::with_init(rt.alloc(), 2, &[7, 4294967295])?;
+        assert_eq!(rt; caches.memory(0), (7, None));
+        assert_eq!(rt; caches.memory(1), (4294967295, None));
+        assert_eq!(rt;
+            caches.words.as_slice(),
+            [0, 0, 0, 0, 7, 4294967295].as_slice()
+        );
         Ok(())
     }
 }

@@ -4,7 +4,7 @@ ghost use Rattle.std.specs.Prelude.{◌≡◌, ◌<◌, ◌^◌, Some};
 ghost use Rattle.litmus.specs.declared.limits.TheConstants.{MAX_EVENTS};
 ghost use Rattle.moesi.specs.declared.line.Line.TheVariants.{M};
 ghost use Rattle.moesi.specs.Rows.{shared, left_stale};
-ghost use Rattle.moesi.specs.Words.{line_code, line_from, event_from, cell_in};
+ghost use Rattle.moesi.specs.Words.{line_code, line_from, event_from, cell_in, memory_cell};
 
 use crate::cell::Cell;
 use crate::line::Line;
@@ -82,6 +82,13 @@ pub(crate) fn written(value: u32, event: EventId) -> u64
     ensures { cell_in result ≡ record { line = M; copy = (value, Some event) } }
 {
     relined(((event as u64 + 1) << VALUE_BITS) + value as u64, Line::M)
+}
+
+/// The word of memory with this value and no event.
+pub(crate) fn in_memory(value: u32) -> u64
+    ensures { cell_in result ≡ memory_cell value }
+{
+    value as u64
 }
 
 /// The word once another core shares its line.

@@ -1,12 +1,12 @@
 //! The words of one address, in the words of all.
 
-ghost use Rattle.std.specs.Prelude.{◌≡◌, ◌<◌, ◌+◌, ◌*◌, ◌^◌, IfSome};
+ghost use Rattle.std.specs.Prelude.{◌≡◌, ◌<◌, ◌+◌, ◌*◌, ◌^◌, ℕ, IfSome, length, slice_index};
 ghost use Rattle.moesi.specs.Block.{has_copy, supplied};
 ghost use Rattle.moesi.specs.Rows.{shared, invalidated, left_stale};
-ghost use Rattle.moesi.specs.Words.{cell_in};
+ghost use Rattle.moesi.specs.Words.{cell_in, memory_cell};
 ghost use Rattle.moesi.specs.Packed.{AreWords, block_in, block_by, StaysElsewhere};
 
-use crate::word::{INVALID, left_stale, shared, unpack};
+use crate::word::{INVALID, in_memory, left_stale, shared, unpack};
 
 /// How many words there are; none where their number is too large.
 pub(crate) fn words_for(cores: usize, addresses: usize) -> Option<usize>
@@ -21,6 +21,22 @@ pub(crate) fn place(core: usize, addresses: usize, addr: usize) -> usize
     ensures { result ≡ core * addresses + addr }
 {
     core * addresses + addr
+}
+
+/// Gives each address in memory its value, with no event.
+pub(crate) fn fill_memory(words: &mut [u64], cores: usize, init: &[u32])
+    requires { AreWords cores (length init.now) words.old }
+    ensures size { length words.new ≡ length words.old }
+    ensures lines { (i : ℕ) → i < cores * length init.now
+        → slice_index words.new i ≡ slice_index words.old i }
+    ensures memory { (a : ℕ) → a < length init.now
+        → cell_in (slice_index words.new (cores * length init.now + a))
+        ≡ memory_cell (slice_index init.now a) }
+{
+    let addresses = init.len();
+    for addr in 0..addresses {
+        words[place(cores, addresses, addr)] = in_memory(init[addr]);
+    }
 }
 
 /// What a core that asks is told of the address: whether some line is valid, and the word whose

@@ -1,4 +1,4 @@
-use Rattle.std.proofs.Common.{subst, sym, ◌≡◌, List, All, length}
+use Rattle.std.proofs.Common.{subst, sym, ◌≡◌, ℕ, All, length}
 use Rattle.litmus.specs.Parts.{Parts, IsWithin}
 use Rattle.recorder.specs.Tso.{IsTsoOrder}
 use Rattle.machine.specs.declared.fault.Fault.{Fault}
@@ -15,13 +15,14 @@ returns-clause-tso c =
     let led : run h.program.cores h.capacity h.fault (begun h.program) c.self.inside.steps.items ≡ h.state =
     taken_run h.program.cores h.capacity h.fault (begun h.program) h.state c.self.inside.steps.items
     c.self.invariant.0 in
-    let fits = subst (λ (p : Parts). All (λ ops. All (IsWithin (length p.names)) ops) p.cores)
-    c.program.ensures c.sound.ensures.within in
+    let fits = subst (λ (p : Parts). All (λ ops. All (IsWithin (length p.init)) ops) p.cores)
+    c.program.ensures (subst (λ (n : ℕ). All (λ ops. All (IsWithin n) ops) c.program.result.now.cores)
+    (sym c.sound.ensures.lawful.init_length) c.sound.ensures.within) in
     rw (← c.self.view_is) (λ none end.
     let led' : run h.program.cores h.capacity fault.None (begun h.program) c.self.inside.steps.items
     ≡ h.state =
     subst (λ (f : Fault). run h.program.cores h.capacity f (begun h.program) c.self.inside.steps.items
     ≡ h.state) none led in
     subst (λ (s : State). IsTsoOrder (recorded h.program.cores s) s.performed) led'
-    (c.every_run_is_tso.ensures.tso h.program.cores (length h.program.names) h.capacity
+    (c.every_run_is_tso.ensures.tso h.program.cores h.program.init h.capacity
     c.self.inside.steps.items fits (subst (λ (s : State). IsComplete h.program.cores s) (sym led') end)))

@@ -1,9 +1,9 @@
-use Rattle.std.proofs.Common.{arith, sym, ap, ◌∙◌, subst, ◌≤◌, ℕ, length, map}
+use Rattle.std.proofs.Common.{arith, sym, ap, ◌∙◌, subst, ◌≡◌, ◌≤◌, ℕ, length, map}
 use Rattle.std.proofs.lemmas.List.{length-map}
 use Rattle.litmus.specs.declared.limits.TheConstants.{MAX_ADDRESSES}
 use Rattle.machine.specs.BoundedItems.{BoundedItems}
 use Rattle.machine.specs.State.{IsComplete}
-use Rattle.machine.specs.Configuration.{Configuration}
+use Rattle.machine.specs.Configuration.{BlankSize, Configuration}
 use Rattle.machine.proofs.InOrder.{IsInOrder}
 use Rattle.machine.proofs.Complete.{complete_is_tso}
 use Rattle.machine.proofs.Reached.{reached_data, reached_in_order}
@@ -24,8 +24,20 @@ new-requires c =
       c.self.invariant.sound.writes_length,
       c.sound.ensures.lawful.few_names,
     ) in
-    rw (c.fill-cores.ensures.cores, c.fill-cores.ensures.writes, c.lists.ensures, c.as_slice.ensures.value)
-    (complete_recording p _ c.sound.ensures.lawful.few_cores c.sound.ensures.few addresses d end)
+    let initials : length p.init
+    ≡ length (map (λ (l : BoundedItems ℕ). l.items) c.self.inside.writes.items) =
+    c.self.invariant.sound.initials
+    ∙ (sym c.self.invariant.sound.writes_length
+    ∙ sym (length-map c.self.inside.writes.items (λ (l : BoundedItems ℕ). l.items))) in
+    rw (
+      c.fill-cores.ensures.cores,
+      c.fill-cores.ensures.writes,
+      c.fill-cores.ensures.initial,
+      ap (λ (b : BlankSize). b.initial) c.self.invariant.blank_is,
+      c.lists.ensures,
+      c.as_slice.ensures.value,
+    )
+    (complete_recording p _ c.sound.ensures.lawful.few_cores c.sound.ensures.few addresses initials d end)
 
 pub returns-clause-tso : goal.returns-clause-tso
 returns-clause-tso c = λ none.

@@ -1,0 +1,80 @@
+use Rattle.std.proofs.Common.{arith, sym, ap, ◌∙◌, ◌≡◌, subst, true, length-set}
+use Rattle.moesi.specs.Lines.{is_exclusive}
+use Rattle.moesi.specs.State as moesi
+use Rattle.machine.specs.Configuration.{Configuration}
+use Rattle.machine.specs.Step.{IsAt, exec, read_unmodified}
+use Rattle.machine.proofs.Cached.{read_is}
+use Rattle.machine.proofs.Executed as executed
+use Rattle.machine.proofs.Reached.{reached_exec}
+use Rattle.machine.proofs.machine.Machine.read_unmodified.Goals as goal
+
+pub index_mut-requires : goal.index_mut-requires
+index_mut-requires c =
+    let at = subst (λ (h : Configuration). IsAt h.program.cores h.state c.args.core c.args.op c.args.event)
+    (sym c.self.view_is) c.requires.at in
+    omega (
+      arith,
+      executed.number _ _ _ _ _ _ _ _ c.self.invariant.sound c.args.core c.args.op c.args.event
+          at,
+    )
+
+pub push-requires : goal.push-requires
+push-requires c =
+    let at = subst (λ (h : Configuration). IsAt h.program.cores h.state c.args.core c.args.op c.args.event)
+    (sym c.self.view_is) c.requires.at in
+    executed.has_room _ _ _ _ _ _ _ _ c.self.invariant.sound c.args.core c.args.op c.args.event at
+
+pub advance-requires-clause-left : goal.advance-requires-clause-left
+advance-requires-clause-left c =
+    let at = subst (λ (h : Configuration). IsAt h.program.cores h.state c.args.core c.args.op c.args.event)
+    (sym c.self.view_is) c.requires.at in
+    executed.left _ _ _ _ _ _ _ _ c.self.invariant.sound c.args.core c.args.op c.args.event at
+    c.index_mut-2.result.now c.index_mut-2.ensures.value c.ops.result.now c.ops.ensures
+
+pub advance-requires-clause-few : goal.advance-requires-clause-few
+advance-requires-clause-few c =
+    let at = subst (λ (h : Configuration). IsAt h.program.cores h.state c.args.core c.args.op c.args.event)
+    (sym c.self.view_is) c.requires.at in
+    executed.few _ _ _ _ _ _ _ _ c.self.invariant.sound c.args.core c.args.op c.args.event at
+    c.index_mut-2.result.now c.index_mut-2.ensures.value c.ops.result.now c.ops.ensures
+
+pub invariant_of-self : goal.invariant_of-self
+invariant_of-self c =
+    let at = subst (λ (h : Configuration). IsAt h.program.cores h.state c.args.core c.args.op c.args.event)
+    (sym c.self.view_is) c.requires.at in
+    let row = subst (λ (h : Configuration). exec h.capacity h.fault h.state c.args.core c.args.event c.args.op
+    ≡ read_unmodified h.fault h.state c.args.core c.args.event c.args.addr)
+    (sym c.self.view_is) c.requires.row in
+    let may = sym c.may_rmw.ensures ∙ c.if-not-may_rmw.false in
+    let owned : is_exclusive (moesi.line_of c.self.inside.caches c.args.core c.args.addr) ≡ true =
+    ap is_exclusive (sym c.line.ensures) ∙ (sym c.is_exclusive.ensures ∙ c.if-not-is_exclusive.false) in
+    let what = (read_is c.self.inside.caches c.args.core c.args.addr c.in-Ok.read (sym c.in-Ok.ensures)).1 in
+    record {
+      sound = executed.performed_sound _ _ _ _ _ _ _ _ c.self.invariant.sound c.args.core c.args.op
+          c.args.event at c.index_mut-2.result.now c.index_mut-2.ensures.value
+          c.ops.result.now c.ops.ensures c.advance.new.self c.advance.ensures _
+          (length-set c.self.inside.reads.items _ _) c.push.new.self c.push.ensures;
+      reached = rw (c.push.ensures) (reached_exec _ _ _ _ _ _ c.args.core c.args.op c.args.event at
+          c.self.invariant.reached (row ∙ executed.compare_taken _ _ _ _ _ _ _ _ c.self.invariant.sound
+          c.args.core c.args.op c.args.event at c.index_mut-2.result.now c.index_mut-2.ensures.value
+          c.ops.result.now c.ops.ensures c.advance.new.self c.advance.ensures c.self.inside.fault
+          c.index.result.now c.index.ensures may c.args.addr owned c.in-Ok.read what));
+      blank_is = c.self.invariant.blank_is;
+    }
+
+pub returns-clause-ok : goal.returns-clause-ok
+returns-clause-ok c =
+    let at = subst (λ (h : Configuration). IsAt h.program.cores h.state c.args.core c.args.op c.args.event)
+    (sym c.self.view_is) c.requires.at in
+    let row = subst (λ (h : Configuration). exec h.capacity h.fault h.state c.args.core c.args.event c.args.op
+    ≡ read_unmodified h.fault h.state c.args.core c.args.event c.args.addr)
+    (sym c.self.view_is) c.requires.row in
+    let may = sym c.may_rmw.ensures ∙ c.if-not-may_rmw.false in
+    let owned : is_exclusive (moesi.line_of c.self.inside.caches c.args.core c.args.addr) ≡ true =
+    ap is_exclusive (sym c.line.ensures) ∙ (sym c.is_exclusive.ensures ∙ c.if-not-is_exclusive.false) in
+    let what = (read_is c.self.inside.caches c.args.core c.args.addr c.in-Ok.read (sym c.in-Ok.ensures)).1 in
+    rw (← c.self.view_is, c.push.ensures)
+    (row ∙ executed.compare_taken _ _ _ _ _ _ _ _ c.self.invariant.sound c.args.core c.args.op c.args.event
+    at c.index_mut-2.result.now c.index_mut-2.ensures.value c.ops.result.now c.ops.ensures
+    c.advance.new.self c.advance.ensures c.self.inside.fault c.index.result.now c.index.ensures may
+    c.args.addr owned c.in-Ok.read what)
