@@ -92,7 +92,7 @@ module _ (x y : Execution) (m : List ℕ) (made : IsMade x y) (well : IsWellForm
   -- one source gives one value, where its event is the same
   gives_one : (a : ℕ) (o : Option ℕ) (v w : ℕ) → ((s : ℕ) → o ≡ Some s → event_at y s ≡ event_at x s)
       → Gives x a o v → Gives y a o w → w ≡ v
-  gives_one a None v w same h k = k ∙ sym h
+  gives_one a None v w same h k = k ∙ (ap (λ (l : List ℕ). get_or l a 0) made.initial ∙ sym h)
   gives_one a (Some s) v w same h k = sym k.1 ∙ (ap value_written (same s refl) ∙ h.1)
 
   -- program order is one
@@ -254,6 +254,18 @@ determined x y m made well well_other tso tso_other =
     let writes : y.write_lists ≡ x.write_lists =
     ext_get_or [] y.write_lists x.write_lists made.lists
     (λ a inside. lists_are x y (list_same x y m made well well_other tso tso_other) a) in
-    ap (λ (c : List (List Event)). let z : Execution = record { cores = c; write_lists = y.write_lists } in z)
-    cores
-    ∙ ap (λ (l : List (List ℕ)). let z : Execution = record { cores = x.cores; write_lists = l } in z) writes
+    ap (λ (c : List (List Event)). let z : Execution = record {
+      cores = c;
+      write_lists = y.write_lists;
+      initial = y.initial;
+    } in z) cores
+    ∙ (ap (λ (l : List (List ℕ)). let z : Execution = record {
+      cores = x.cores;
+      write_lists = l;
+      initial = y.initial;
+    } in z) writes
+    ∙ ap (λ (l : List ℕ). let z : Execution = record {
+      cores = x.cores;
+      write_lists = x.write_lists;
+      initial = l;
+    } in z) made.initial)

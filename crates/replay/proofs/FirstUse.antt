@@ -8,7 +8,7 @@ use Rattle.litmus.specs.declared.op.Op.{Op}
 use Rattle.litmus.specs.declared.op.Op.TheVariants.{Fence}
 use Rattle.litmus.specs.Parts.{addr_of, use_addr, use_ops, use_cores}
 use Rattle.recorder.specs.declared.event.Event.{Event}
-use Rattle.recorder.specs.declared.event.Event.TheVariants.{L, S, R, F}
+use Rattle.recorder.specs.declared.event.Event.TheVariants.{L, S, R, C, F}
 use Rattle.recorder.specs.Event.{read_address, written_address}
 use Rattle.recorder.specs.Execution.{Execution, placed_from, event_count, event_at}
 use Rattle.replay.specs.Program.{op_of, program_of}
@@ -28,6 +28,8 @@ uses_address (S b w) a (inl h) = absurd cc
 uses_address (S b w) a (inr h) = h
 uses_address (R b r s w) a (inl h) = h
 uses_address (R b r s w) a (inr h) = h
+uses_address (C b r s) a (inl h) = h
+uses_address (C b r s) a (inr h) = absurd cc
 uses_address F a (inl h) = absurd cc
 uses_address F a (inr h) = absurd cc
 
@@ -37,6 +39,7 @@ address_used : (ev : Event) (a : ℕ) → addr_of (op_of ev) ≡ Some a
 address_used (L b r s) a h = inl h
 address_used (S b w) a h = inr h
 address_used (R b r s w) a h = inl h
+address_used (C b r s) a h = inl h
 address_used F a h = absurd cc
 
 -- the operations of all cores, one after another

@@ -9,7 +9,7 @@ use Rattle.std.proofs.lemmas.List.{length-map}
 use Rattle.std.proofs.lemmas.Option.{slice_get-get_or}
 use Rattle.std.proofs.lemmas.List.Sums.{sum_by-set}
 use Rattle.litmus.specs.declared.op.Op.{Op}
-use Rattle.litmus.specs.declared.op.Op.TheVariants.{St, Ld, Fence, Swap, Add}
+use Rattle.litmus.specs.declared.op.Op.TheVariants.{St, Ld, Fence, Swap, Add, Cas}
 use Rattle.moesi.specs.declared.line.Line.TheVariants as line
 use Rattle.moesi.specs.Lines.{is_valid, is_exclusive}
 use Rattle.moesi.specs.Block.{Block, cell_of, invalid, has_copy, supplied}
@@ -98,6 +98,7 @@ exec_more capacity larger s t c e (Ld a) h took = took
 exec_more capacity larger s t c e Fence h took = took
 exec_more capacity larger s t c e (Swap a v) h took = took
 exec_more capacity larger s t c e (Add a v) h took = took
+exec_more capacity larger s t c e (Cas a k v) h took = took
 
 -- so is what comes next
 next_more : (p : List (List Op)) (capacity larger : ℕ) (s t : State) (c : ℕ) (o : Option Op)
@@ -142,6 +143,7 @@ store_is (Ld a) h = absurd cc
 store_is Fence h = absurd cc
 store_is (Swap a v) h = absurd cc
 store_is (Add a v) h = absurd cc
+store_is (Cas a e v) h = absurd cc
 
 -- where core c is, if it has not come to its end
 pub is_at : (p : List (List Op)) (s : State) (c : ℕ) → c < length p → place_of s c < length (get_or p c [])

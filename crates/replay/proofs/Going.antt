@@ -27,10 +27,10 @@ pub record IsGoing (p : List (List Op)) (n capacity : ℕ) (s : State) : Type 0 
   pub on : (steps : List Step) → IsOrderly p n (run p capacity fault.None s steps)
 
 -- so it is at first
-pub begun_going : (p : List (List Op)) (n capacity : ℕ)
-    → ((steps : List Step) → EveryStateIsOrderly p n capacity steps) → All (λ ops. All (IsWithin n) ops) p
-    → IsGoing p n capacity (opening p n)
-begun_going p n capacity law fits = record { on = λ steps. law steps fits }
+pub begun_going : (p : List (List Op)) (init : List ℕ) (capacity : ℕ)
+    → ((steps : List Step) → EveryStateIsOrderly p init capacity steps)
+    → All (λ ops. All (IsWithin (length init)) ops) p → IsGoing p (length init) capacity (opening p init)
+begun_going p init capacity law fits = record { on = λ steps. law steps fits }
 
 -- and behind a step that is taken
 pub goes_further : (p : List (List Op)) (n capacity : ℕ) (s t : State) (step : Step) → IsGoing p n capacity s

@@ -2,6 +2,7 @@ pub mod Made
 pub mod Determined
 pub mod Going
 pub mod Goes
+pub mod Kept
 pub mod Turns
 pub mod Orders
 pub mod Replayed

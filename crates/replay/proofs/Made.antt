@@ -1,13 +1,14 @@
 -- The program of an execution has the cores of its events, and what they do but for what they read.
-use Rattle.std.proofs.Common.{◌≡◌, ◌<◌, ◌+◌, inl, inr, ℕ, true, Option, Some, None, List, [], ◌∷◌, ◌++◌}
+use Rattle.std.proofs.Common.{◌≡◌, ◌<◌, ◌+◌, ◌%◌, ◌^◌, ◌==◌, inl, inr, ℕ, Bool, true, false, cond, Option}
+use Rattle.std.proofs.Common.{Some, None, List, [], ◌∷◌, ◌++◌}
 use Rattle.std.proofs.Common.{map, length, get_or, arith, refl, sym, ap, subst, ◌∙◌}
 use Rattle.std.proofs.lemmas.List.{map-append, length-map, get_or_past}
-use Rattle.std.proofs.lemmas.Bool.{cases_lt}
+use Rattle.std.proofs.lemmas.Bool.{cases_lt, ne_eqb}
 use Rattle.std.proofs.Math.ListN as lists
 use Rattle.litmus.specs.declared.op.Op.{Op}
 use Rattle.litmus.specs.declared.op.Op.TheVariants.{Fence}
 use Rattle.recorder.specs.declared.event.Event.{Event}
-use Rattle.recorder.specs.declared.event.Event.TheVariants.{L, S, R, F}
+use Rattle.recorder.specs.declared.event.Event.TheVariants.{L, S, R, C, F}
 use Rattle.recorder.specs.Event.{read_address, source, value_read, is_plain_store}
 use Rattle.recorder.specs.Execution.{Execution, placed_from, event_count, event_at, core_of}
 use Rattle.machine.specs.State.{State, event_of, cores_from, recorded}
@@ -16,11 +17,16 @@ use Rattle.machine.specs.Orderly.{placed_op, is_st}
 use Rattle.machine.specs.PlaceLaws.{event_behind, event_before}
 use Rattle.machine.specs.RecordedLaws.{events_length, event_is, core_is, count_is}
 
+-- no number is the next one modulo 2^32
+never_next : (r : ℕ) → (r == (r + 1) % 2 ^ 32) ≡ false
+never_next r = ne_eqb r ((r + 1) % 2 ^ 32) (λ same. absurd (omega (arith, same)))
+
 -- an operation makes its event again from what that read
 pub made_again : (ev : Event) → event_of (op_of ev) (value_read ev, source ev) ≡ ev
 made_again (L a r s) = refl
 made_again (S a w) = refl
 made_again (R a r s w) = refl
+made_again (C a r s) = rw (never_next r) refl
 made_again F = refl
 
 -- from anything, where it reads nothing
@@ -28,13 +34,28 @@ pub made_unread : (ev : Event) (d : ℕ × Option ℕ) → read_address ev ≡ N
 made_unread (L a r s) d h = absurd cc
 made_unread (S a w) d h = refl
 made_unread (R a r s w) d h = absurd cc
+made_unread (C a r s) d h = absurd cc
 made_unread F d h = refl
+
+-- a compare-and-swap reads its address, whether it writes or not
+reads_either : (b : Bool) (a : ℕ) (d : ℕ × Option ℕ)
+    → read_address (cond b (R a d.0 d.1 0) (C a d.0 d.1)) ≡ Some a
+reads_either true a d = refl
+reads_either false a d = refl
+
+-- and has the value and the source that it was given
+given_either : (b : Bool) (a : ℕ) (d : ℕ × Option ℕ)
+    → (value_read (cond b (R a d.0 d.1 0) (C a d.0 d.1)) ≡ d.0)
+    × (source (cond b (R a d.0 d.1 0) (C a d.0 d.1)) ≡ d.1)
+given_either true a d = (refl, refl)
+given_either false a d = (refl, refl)
 
 -- what it makes reads the same address
 pub made_reads : (ev : Event) (d : ℕ × Option ℕ) → read_address (event_of (op_of ev) d) ≡ read_address ev
 made_reads (L a r s) d = refl
 made_reads (S a w) d = refl
 made_reads (R a r s w) d = refl
+made_reads (C a r s) d = reads_either (d.0 == (r + 1) % 2 ^ 32) a d
 made_reads F d = refl
 
 -- and has the value and the source that it was given
@@ -43,6 +64,7 @@ pub made_given : (ev : Event) (d : ℕ × Option ℕ) (a : ℕ) → read_address
 made_given (L b r s) d a h = (refl, refl)
 made_given (S b w) d a h = absurd cc
 made_given (R b r s w) d a h = (refl, refl)
+made_given (C b r s) d a h = given_either (d.0 == (r + 1) % 2 ^ 32) b d
 made_given F d a h = absurd cc
 
 -- a plain store reads nothing
@@ -50,6 +72,7 @@ pub store_unread : (ev : Event) → is_plain_store ev ≡ true → read_address 
 store_unread (L a r s) h = absurd cc
 store_unread (S a w) h = refl
 store_unread (R a r s w) h = absurd cc
+store_unread (C a r s) h = absurd cc
 store_unread F h = absurd cc
 
 -- it is a plain store where its event is
@@ -57,6 +80,7 @@ pub store_same : (ev : Event) → is_st (op_of ev) ≡ is_plain_store ev
 store_same (L a r s) = refl
 store_same (S a w) = refl
 store_same (R a r s w) = refl
+store_same (C a r s) = refl
 store_same F = refl
 
 -- a function of what stands beside the core
@@ -128,18 +152,19 @@ program_lengths (es ∷ rest) =
     ap (λ (k : ℕ). k ∷ map (λ ops. length ops) (map (λ fs. map op_of fs) rest)) (length-map es op_of)
     ∙ ap (λ (l : List ℕ). length es ∷ l) (program_lengths rest)
 
--- y is an execution of the program of x, and both have as many write lists
+-- y is an execution of the program of x, and both have as many write lists and the same initial values
 pub record IsMade (x y : Execution) : Type 0 where
   pub event : (e : ℕ) → (d : ℕ × Option ℕ) × (event_at y e ≡ event_of (op_of (event_at x e)) d)
   pub core : (e : ℕ) → core_of y e ≡ core_of x e
   pub count : event_count y ≡ event_count x
   pub lengths : map (λ es. length es) y.cores ≡ map (λ es. length es) x.cores
   pub lists : length y.write_lists ≡ length x.write_lists
+  pub initial : y.initial ≡ x.initial
 
 -- the program of x records executions of it
 pub recorded_made : (x : Execution) (s : State) → length s.write_lists ≡ length x.write_lists
-    → IsMade x (recorded (program_of x) s)
-recorded_made x s lists = record {
+    → s.initial ≡ x.initial → IsMade x (recorded (program_of x) s)
+recorded_made x s lists initial = record {
   event = λ e. (
     get_or s.reads e (0, None),
     event_is (program_of x) s e
@@ -149,4 +174,5 @@ recorded_made x s lists = record {
   count = count_is (program_of x) s ∙ count_same x;
   lengths = cores_length 0 (program_of x) s.reads ∙ program_lengths x.cores;
   lists = lists;
+  initial = initial;
 }

@@ -7,7 +7,7 @@ use Rattle.std.proofs.Math.Nat.{le-max_right, max-eq_left, max-eq_right}
 use Rattle.std.proofs.lemmas.List.{length-map}
 use Rattle.litmus.specs.declared.limits.TheConstants.{MAX_ADDRESSES}
 use Rattle.litmus.specs.declared.op.Op.{Op}
-use Rattle.litmus.specs.Parts.{Small, IsProgram, use_ops, use_cores}
+use Rattle.litmus.specs.Parts.{Small, IsSmall, IsProgram, use_ops, use_cores}
 use Rattle.recorder.specs.declared.event.Event.{Event}
 use Rattle.recorder.specs.Event.{is_plain_store}
 use Rattle.recorder.specs.Execution.{Execution}
@@ -23,10 +23,11 @@ use Rattle.std.proofs.lemmas.Option.{same_Some}
 use Rattle.replay.proofs.FirstUse.{program_numbered, numbered_by_program}
 use Rattle.litmus.specs.AddressNameLaws.{names_lawful, names_distinct, names_count}
 
--- the names and the operations of a recording are a program
+-- the names, the operations and the initial values of a recording are a program
 pub named_is_program : (x : Execution) → IsRecording x → IsNumberedByFirstUse x
-    → AllByRecursion (AllByRecursion Small) (program_of x) → IsProgram (named_program x)
-named_is_program x r numbered small =
+    → AllByRecursion (AllByRecursion Small) (program_of x) → AllByRecursion IsSmall x.initial
+    → IsProgram (named_program x)
+named_is_program x r numbered small small_init =
     let count : length (address_names (length x.write_lists)) ≡ length x.write_lists =
     names_count (length x.write_lists) in
     let limit : MAX_ADDRESSES ≤ 10 ^ 7 = omega arith in
@@ -38,6 +39,8 @@ named_is_program x r numbered small =
       lawful = names_lawful (length x.write_lists) (omega (arith, limit, r.within.few_addresses));
       distinct = names_distinct (length x.write_lists) (omega (arith, limit, r.within.few_addresses));
       numbered = program_numbered x numbered r.within.addresses ∙ ap Some (sym count);
+      init_length = r.within.initial ∙ sym count;
+      init_values = small_init;
     }
 
 -- a core has room for one store at least

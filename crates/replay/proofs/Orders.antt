@@ -6,7 +6,7 @@ use Rattle.std.specs.List.{sum, count_by}
 use Rattle.std.proofs.lemmas.List.{length-replicate}
 use Rattle.litmus.specs.declared.op.Op.{Op}
 use Rattle.recorder.specs.declared.event.Event.{Event}
-use Rattle.recorder.specs.declared.event.Event.TheVariants.{L, S, R, F}
+use Rattle.recorder.specs.declared.event.Event.TheVariants.{L, S, R, C, F}
 use Rattle.recorder.specs.Event.{is_plain_store}
 use Rattle.recorder.specs.Execution.{Execution, event_at, core_of}
 use Rattle.recorder.specs.Tso.{IsTsoOrder}
@@ -19,13 +19,14 @@ use Rattle.replay.specs.Steps.{execute_to, executed_before, perform, turn, order
 use Rattle.machine.specs.Orderly.{is_st}
 use Rattle.replay.proofs.Going.{IsGoing}
 use Rattle.replay.proofs.Goes.{Goes, goes_on, HasStored}
-use Rattle.replay.proofs.Turns.{IsTurn, caught_up, fence_turn, rmw_turn, load_turn, drain_turn}
+use Rattle.replay.proofs.Turns.{IsTurn, caught_up, fence_turn, rmw_turn, cas_turn, load_turn, drain_turn}
 
 -- at most the event itself is executed before it is performed
 before_few : (e : ℕ) (ev : Event) → executed_before e ev ≤ e + 1
 before_few e (L a r o) = omega arith
 before_few e (S a w) = omega arith
 before_few e (R a r o w) = omega arith
+before_few e (C a r o) = omega arith
 before_few e F = omega arith
 
 -- and then it is a plain store
@@ -33,6 +34,7 @@ before_store : (e : ℕ) (ev : Event) → e < executed_before e ev → is_plain_
 before_store e (L a r o) h = absurd (omega (arith, h))
 before_store e (S a w) h = refl
 before_store e (R a r o w) h = absurd (omega (arith, h))
+before_store e (C a r o) h = absurd (omega (arith, h))
 before_store e F h = absurd (omega (arith, h))
 
 -- core c executes stores before its turn
@@ -66,6 +68,8 @@ module _ (x : Execution) (m : List ℕ) (tso : IsTsoOrder x m) (n capacity : ℕ
       a r o is
   perform_turn s f e rest split (R a r o w) is ready = rmw_turn x m tso n capacity room s f e rest split ready
       a r w o is
+  perform_turn s f e rest split (C a r o) is ready = cas_turn x m tso n capacity room s f e rest split ready
+      a r o is
   perform_turn s f e rest split F is ready = fence_turn x m tso n capacity room s f e rest split ready is
 
   -- each event takes its turn

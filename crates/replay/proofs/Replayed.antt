@@ -11,7 +11,7 @@ use Rattle.litmus.specs.declared.op.Op.TheVariants.{Fence}
 use Rattle.litmus.specs.declared.name.Name.{Name}
 use Rattle.litmus.specs.Parts.{Parts, IsWithin, parts_of}
 use Rattle.recorder.specs.declared.event.Event.{Event}
-use Rattle.recorder.specs.declared.event.Event.TheVariants.{L, S, R, F}
+use Rattle.recorder.specs.declared.event.Event.TheVariants.{L, S, R, C, F}
 use Rattle.recorder.specs.Event.{read_address, written_address, is_plain_store}
 use Rattle.recorder.specs.Execution.{Execution, placed_from, event_at}
 use Rattle.recorder.specs.Order.{times}
@@ -42,6 +42,7 @@ use Rattle.replay.proofs.Determined.{determined}
 use Rattle.replay.proofs.Going.{IsGoing, begun_going, goes_further, stores_same, waiting, waits_once}
 use Rattle.replay.proofs.Goes.{AreTaken, Goes, all_of, goes_more, guarded}
 use Rattle.replay.proofs.Orders.{order_run}
+use Rattle.replay.proofs.Kept.{run_keeps, made_fits}
 
 -- Room for the stores of a core
 
@@ -62,6 +63,7 @@ op_fits : (n : ℕ) (ev : Event) → ((a : ℕ) → read_address ev ≡ Some a �
 op_fits n (L a r s) reads writes = reads a refl
 op_fits n (S a w) reads writes = writes a refl
 op_fits n (R a r s w) reads writes = reads a refl
+op_fits n (C a r s) reads writes = reads a refl
 op_fits n F reads writes = tt
 
 -- the operations of a recording have addresses with write lists
@@ -157,10 +159,12 @@ module _ (x : Execution) (m : List ℕ) (tso : IsTsoOrder x m) (n : ℕ) (t : St
   ]
 
   -- and made this recording
-  recorded_it : IsRecording x → n ≡ length x.write_lists → IsWellFormed (recorded (program_of x) t)
-      → IsTsoOrder (recorded (program_of x) t) t.performed → recorded (program_of x) t ≡ x
-  recorded_it r n_is well order =
-      determined x (recorded (program_of x) t) m (recorded_made x t (f.lists ∙ n_is)) r.well_formed well tso
+  recorded_it : IsRecording x → n ≡ length x.write_lists → t.initial ≡ x.initial
+      → IsWellFormed (recorded (program_of x) t) → IsTsoOrder (recorded (program_of x) t) t.performed
+      → recorded (program_of x) t ≡ x
+  recorded_it r n_is initial well order =
+      determined x (recorded (program_of x) t) m (recorded_made x t (f.lists ∙ n_is) initial) r.well_formed
+      well tso
       (subst (λ (l : List ℕ). IsTsoOrder (recorded (program_of x) t) l) whole order)
 
 -- a core and an address that are there
@@ -193,49 +197,52 @@ steps_within q capacity (step ∷ steps) s f h =
 
 -- what the machine's laws say of every run without fault
 pub record Laws : Type 0 where
-  pub tso : (p : List (List Op)) (n capacity : ℕ) (steps : List Step) → EveryRunIsTso p n capacity steps
-  pub well_formed : (p : List (List Op)) (n capacity : ℕ) (steps : List Step)
-      → EveryRunIsWellFormed p n capacity fault.None steps
-  pub orderly : (p : List (List Op)) (n capacity : ℕ) (steps : List Step)
-      → EveryStateIsOrderly p n capacity steps
+  pub tso : (p : List (List Op)) (init : List ℕ) (capacity : ℕ) (steps : List Step)
+      → EveryRunIsTso p init capacity steps
+  pub well_formed : (p : List (List Op)) (init : List ℕ) (capacity : ℕ) (steps : List Step)
+      → EveryRunIsWellFormed p init capacity fault.None steps
+  pub orderly : (p : List (List Op)) (init : List ℕ) (capacity : ℕ) (steps : List Step)
+      → EveryStateIsOrderly p init capacity steps
 
 module _ (law : Laws) where
   -- the steps replay the order, on a program of so many addresses
   steps_replay : (x : Execution) (m : List ℕ) (capacity : ℕ) (names : List Name)
       → length names ≡ length x.write_lists → IsRecording x → IsTsoOrder x m → most_stores x.cores ≤ capacity
-      → IsReplay x m (parts_of names (program_of x)) capacity (replay_steps x m)
+      → IsReplay x m (parts_of names (program_of x) x.initial) capacity (replay_steps x m)
   steps_replay x m capacity names named r tso room =
       let p : List (List Op) = program_of x in
-      let n : ℕ = length x.write_lists in
+      let init : List ℕ = x.initial in
+      let n : ℕ = length init in
       let steps : List Step = replay_steps x m in
-      let fits : All (λ ops. All (IsWithin n) ops) p = recording_fits x r in
-      let ran = order_run x m tso n (most_stores x.cores) (stores_most x.cores) m (opening p n)
-      (begun_going p n (most_stores x.cores) (law.orderly p n (most_stores x.cores)) fits) refl in
+      let fits : All (λ ops. All (IsWithin n) ops) p =
+      subst (λ (k : ℕ). All (λ ops. All (IsWithin k) ops) p) (sym r.within.initial) (recording_fits x r) in
+      let ran = order_run x m tso n (most_stores x.cores) (stores_most x.cores) m (opening p init)
+      (begun_going p init (most_stores x.cores) (law.orderly p init (most_stores x.cores)) fits) refl in
       let t : State = ran.0 in
       let f : IsOrderly p n t = ran.1.fits.on [] in
-      let goes : Goes p capacity (opening p n) steps t =
-      goes_more p (most_stores x.cores) capacity room steps (opening p n) t ran.1.goes in
+      let goes : Goes p capacity (opening p init) steps t =
+      goes_more p (most_stores x.cores) capacity room steps (opening p init) t ran.1.goes in
       let end : IsComplete p t = ended x m tso n t f ran.1.performed in
-      let there : IsComplete p (run p capacity fault.None (opening p n) steps) =
+      let there : IsComplete p (run p capacity fault.None (opening p init) steps) =
       subst (λ (z : State). IsComplete p z) (sym goes.1) end in
       let order : IsTsoOrder (recorded p t) t.performed =
       subst (λ (z : State). IsTsoOrder (recorded p z) z.performed) goes.1
-      (law.tso p n capacity steps fits there) in
+      (law.tso p init capacity steps fits there) in
       let well : IsWellFormed (recorded p t) =
       subst (λ (z : State). IsWellFormed (recorded p z)) goes.1
-      (law.well_formed p n capacity steps fits there) in
-      let begins : Goes p capacity (opening p (length names)) steps t =
-      subst (λ (k : ℕ). Goes p capacity (opening p k) steps t) (sym named) goes in
+      (law.well_formed p init capacity steps fits there) in
+      let kept : t.initial ≡ init = ap (λ (z : State). z.initial) (sym goes.1)
+      ∙ (run_keeps p capacity fault.None (opening p init) steps).0 in
       record {
-        taken = all_of p capacity steps (opening p (length names)) t begins.0 begins.1
-            ∙ ap (λ (z : State). Ok z) (sym begins.1);
-        complete = subst (λ (z : State). IsComplete p z) (sym begins.1) end;
-        performed = ap (λ (z : State). z.performed) begins.1 ∙ ran.1.performed;
-        recording = ap (λ (z : State). recorded p z) begins.1
-            ∙ recorded_it x m tso n t f ran.1.performed r refl well order;
-        within = steps_within (parts_of names p) capacity steps (opening p (length names))
-            (begun_going p (length names) capacity (law.orderly p (length names) capacity)
-            (subst (λ (k : ℕ). All (λ ops. All (IsWithin k) ops) p) (sym named) fits)) begins.0;
+        taken = all_of p capacity steps (opening p init) t goes.0 goes.1
+            ∙ ap (λ (z : State). Ok z) (sym goes.1);
+        complete = subst (λ (z : State). IsComplete p z) (sym goes.1) end;
+        performed = ap (λ (z : State). z.performed) goes.1 ∙ ran.1.performed;
+        recording = ap (λ (z : State). recorded p z) goes.1
+            ∙ recorded_it x m tso n t f ran.1.performed r r.within.initial kept well order;
+        within = steps_within (parts_of names p init) capacity steps (opening p init)
+            (subst (λ (k : ℕ). IsGoing p k capacity (opening p init)) (r.within.initial ∙ sym named)
+            (begun_going p init capacity (law.orderly p init capacity) fits)) goes.0;
         few = omega (
           arith,
           ran.1.few,
@@ -261,7 +268,8 @@ module _ (law : Laws) where
         let order : List ℕ = (led_to made.0 capacity made.1).performed in (
           order,
           subst (λ (y : Execution). IsTsoOrder y order) made.4
-              (law.tso made.0.cores (length made.0.names) capacity made.1 made.2 made.3),
+              (law.tso made.0.cores made.0.init capacity made.1 (made_fits made.0 capacity made.1 x made.4 r)
+              made.3),
         ),
     λ allowed.
         let p : Parts = named_program x in

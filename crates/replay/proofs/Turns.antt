@@ -1,14 +1,15 @@
 -- Where the order up to an event was performed, the steps of this event are taken, and perform it.
-use Rattle.std.proofs.Common.{◌≡◌, ◌<◌, ◌≤◌, ◌+◌, ◌-◌, ◌&&◌, inl, inr, ℕ, true, false, Option, Ok, List, []}
+use Rattle.std.proofs.Common.{◌≡◌, ◌<◌, ◌≤◌, ◌+◌, ◌-◌, ◌%◌, ◌^◌, ◌==◌, ◌&&◌, inl, inr, ℕ, Bool, true, false, cond}
+use Rattle.std.proofs.Common.{Option, Ok, List, []}
 use Rattle.std.proofs.Common.{◌∷◌, ◌++◌, map, length, get_or, slice_set, arith, refl, sym, ap, subst, ◌∙◌}
 use Rattle.std.proofs.Common.{length-append}
 use Rattle.std.specs.List.{sum, count_by}
 use Rattle.std.proofs.lemmas.List.Sums.{sum_by-set}
 use Rattle.std.proofs.lemmas.Bool.{cases_eq, cases_lt, lt-ltb, cases_Bool, and_parts, and_right}
 use Rattle.litmus.specs.declared.op.Op.{Op}
-use Rattle.litmus.specs.declared.op.Op.TheVariants.{St, Ld, Fence, Swap, Add}
+use Rattle.litmus.specs.declared.op.Op.TheVariants.{St, Ld, Fence, Swap, Add, Cas}
 use Rattle.litmus.specs.Parts.{IsWithin}
-use Rattle.recorder.specs.declared.event.Event.TheVariants.{L, S, R, F}
+use Rattle.recorder.specs.declared.event.Event.TheVariants.{L, S, R, C, F}
 use Rattle.recorder.specs.Event.{is_plain_store, is_plain_load}
 use Rattle.recorder.specs.Execution.{Execution, placed_from, event_count, event_at, core_of}
 use Rattle.recorder.specs.Order.{times, Before}
@@ -26,7 +27,7 @@ use Rattle.machine.specs.declared.step.Step.TheVariants.{Exec, Drain}
 use Rattle.machine.specs.declared.blocked.Blocked.TheVariants.{B4}
 use Rattle.machine.specs.State.{State, place_of, buffer_of, line_copy, first_event}
 use Rattle.machine.specs.Step.{exec, taken, allowed, advanced, performed, given, written, with_buffer}
-use Rattle.machine.specs.Step.{with_caches, rmw_value}
+use Rattle.machine.specs.Step.{with_caches, rmw_value, read_modify_written, read_unmodified}
 use Rattle.replay.specs.Program.{op_of, program_of}
 use Rattle.replay.specs.Steps.{execute_to, get_to_write, get_to_read}
 use Rattle.machine.specs.Orderly.{placed_op, is_st, is_ld, AreStores, seen_by, IsOrderly}
@@ -44,6 +45,7 @@ store_no_load (Ld a) h = absurd cc
 store_no_load Fence h = refl
 store_no_load (Swap a v) h = refl
 store_no_load (Add a v) h = refl
+store_no_load (Cas a e v) h = refl
 
 -- the state after core c's oldest store went to its line, which left these caches
 abbrev pub drained_state : State → moesi.CacheState → ℕ → Entry → List Entry → State
@@ -55,6 +57,30 @@ drain_taken : (p : List (List Op)) (capacity : ℕ) (s : State) (caches : moesi.
     → moesi.write s.caches c y.addr y.value y.event ≡ Ok caches
     → taken p capacity fault.None s (Drain c) ≡ Ok (drained_state s caches c y ys)
 drain_taken p capacity s caches c y ys core is wrote = rw (lt-ltb c (length p) core, is, wrote, is) refl
+
+-- a compare-and-swap behind an empty buffer is executed in a line that is M or E, whatever that has
+cas_did : (capacity : ℕ) (s : State) (caches : moesi.CacheState) (c b a e v : ℕ) → buffer_of s c ≡ []
+    → is_exclusive (moesi.line_of s.caches c a) ≡ true
+    → moesi.write s.caches c a (rmw_value s c (Swap a v) a) b ≡ Ok caches
+    → (t : State) × (exec capacity fault.None s c b (Cas a e v) ≡ Ok t)
+    × (t.places ≡ slice_set s.places c (place_of s c + 1)) × (t.performed ≡ s.performed ++ b ∷ [])
+cas_did capacity s caches c b a e v empty exclusive wrote = go ((line_copy s c a).0 == e)
+  where
+    go : (q : Bool) → (t : State) × (cond q (read_modify_written fault.None s c b (Swap a v) a)
+        (read_unmodified fault.None s c b a) ≡ Ok t)
+        × (t.places ≡ slice_set s.places c (place_of s c + 1)) × (t.performed ≡ s.performed ++ b ∷ [])
+    go true = (
+      advanced (performed (written (given s b (line_copy s c a)) caches a b) b) c,
+      rw (empty, wrote) refl,
+      refl,
+      refl,
+    )
+    go false = (
+      advanced (performed (given s b (line_copy s c a)) b) c,
+      rw (empty, exclusive) refl,
+      refl,
+      refl,
+    )
 
 -- the steps lead from s to t, which has performed e more, and no more than two of them execute nothing
 pub record IsTurn (p : List (List Op)) (n capacity : ℕ) (s : State) (steps : List Step) (e : ℕ)
@@ -388,6 +414,37 @@ module _ (x : Execution) (m : List ℕ) (tso : IsTsoOrder x m) (n capacity : ℕ
               fits = took.1;
               performed = performed_it next;
               few = omega (arith, sum_up, few_write s c a, length-append (get_to_write s c a) (Exec c ∷ []));
+            },
+          )
+
+      -- a compare-and-swap that failed takes its turn
+      pub cas_turn : (a r : ℕ) (o : Option ℕ) → event_at x e ≡ C a r o
+          → (t : State) × IsTurn (program_of x) n capacity s
+          (get_to_write s (core_of x e) a ++ Exec (core_of x e) ∷ []) e t
+      cas_turn a r o is =
+          let c : ℕ = core_of x e in
+          let b : ℕ = first_event (program_of x) c + place_of s c in
+          let op : Op = Cas a ((r + 1) % 2 ^ 32) 0 in
+          let next : e ≡ b = is_next ready (ap is_plain_store is) in
+          let empty : buffer_of s c ≡ [] = is_emptied ready (ap is_plain_store is) (ap is_plain_load is) in
+          let got = fetch_write (program_of x) n capacity s f c a core (address_there op (ap op_of is)) in
+          let u : State = with_caches s got.0 in
+          let made = write_made got.0 c a (rmw_value u c (Swap a 0) a) b got.2 in
+          let did = cas_did capacity u made.0 c b a ((r + 1) % 2 ^ 32) 0 empty got.2 made.1 in
+          let took = executed got.0 op did.0 got.1.1 next (ap op_of is) did.1 in (
+            did.0,
+            record {
+              goes = goes_on (program_of x) capacity s u did.0 (get_to_write s c a) (Exec c ∷ []) got.1.0
+                  (goes_one (program_of x) capacity u did.0 (Exec c) took.0);
+              fits = took.1;
+              performed = did.3 ∙ performed_it next;
+              few = omega (
+                arith,
+                sum_up,
+                ap (λ (l : List ℕ). sum l) did.2,
+                few_write s c a,
+                length-append (get_to_write s c a) (Exec c ∷ []),
+              );
             },
           )
 

@@ -1,9 +1,9 @@
 -- The steps that make a recording again, from a memory order of it.
-use Rattle.std.specs.Prelude.{◌+◌, ◌-◌, ℕ, if◌then◌else◌, Option, Some, None, List, [], ◌∷◌, ◌++◌, length}
+use Rattle.std.specs.Prelude.{◌+◌, ◌-◌, ℕ, if◌then◌else◌, Option, Some, None, List, [], ◌∷◌, ◌++◌}
 use Rattle.std.specs.Prelude.{replicate}
 use Rattle.litmus.specs.declared.op.Op.{Op}
 use Rattle.recorder.specs.declared.event.Event.{Event}
-use Rattle.recorder.specs.declared.event.Event.TheVariants.{L, S, R, F}
+use Rattle.recorder.specs.declared.event.Event.TheVariants.{L, S, R, C, F}
 use Rattle.recorder.specs.Execution.{Execution, core_of, event_at}
 use Rattle.write_buffer.specs.declared.entry.Entry.{Entry}
 use Rattle.write_buffer.specs.Buffer.{youngest}
@@ -36,6 +36,7 @@ abbrev pub perform : State → ℕ → Event → List Step
 perform s c (S a w) = get_to_write s c a ++ Drain c ∷ []
 perform s c (L a r o) = get_to_read s c a (youngest (buffer_of s c) a) ++ Exec c ∷ []
 perform s c (R a r o w) = get_to_write s c a ++ Exec c ∷ []
+perform s c (C a r o) = get_to_write s c a ++ Exec c ∷ []
 perform s c F = Exec c ∷ []
 
 -- the first event that its core has not executed when event e is performed: a plain store waits in
@@ -44,6 +45,7 @@ abbrev pub executed_before : ℕ → Event → ℕ
 executed_before e (S a w) = e + 1
 executed_before e (L a r o) = e
 executed_before e (R a r o w) = e
+executed_before e (C a r o) = e
 executed_before e F = e
 
 -- the steps of event e of core c: the core executes what comes first, and performs it
@@ -62,4 +64,4 @@ order_steps x capacity f s (e ∷ m) =
 -- the steps that perform an order from the start, without fault and with the smallest buffers
 abbrev pub replay_steps : Execution → List ℕ → List Step
 replay_steps x m =
-    order_steps x (most_stores x.cores) fault.None (opening (program_of x) (length x.write_lists)) m
+    order_steps x (most_stores x.cores) fault.None (opening (program_of x) x.initial) m

@@ -13,7 +13,8 @@ fn used_after(used: usize, event: Event) -> Option<usize>
     ensures { result ≡ use_addr used (addr_of (op_of event)) }
 {
     let addr = match event {
-        Event::L { a, .. } | Event::S { a, .. } | Event::R { a, .. } => a as usize,
+        Event::L { a, .. } | Event::S { a, .. } | Event::R { a, .. } | Event::C { a, .. } =>
+            a as usize,
         Event::F => return Some(used),
     };
     if addr < used {

@@ -9,7 +9,8 @@ use litmus::{Op, Ops, OutOfMemory};
 use recorder::{Event, Recording};
 use std::alloc::Global;
 
-/// The operation that an event came from; a read-modify-write is a swap of what it wrote.
+/// The operation that an event came from; a read-modify-write is a swap of what it wrote, and a
+/// compare-and-swap that failed expects another value than it read.
 fn op_of(event: Event) -> Op
     ensures op { result ≡ op_of event }
     ensures small { Small result }
@@ -18,6 +19,7 @@ fn op_of(event: Event) -> Op
         Event::L { a, .. } => Op::Ld(a),
         Event::S { a, w } => Op::St(a, w),
         Event::R { a, w, .. } => Op::Swap(a, w),
+        Event::C { a, r, .. } => Op::Cas(a, r.wrapping_add(1), 0),
         Event::F => Op::Fence,
     }
 }

@@ -1,6 +1,8 @@
 //! The program that makes a recording again.
 
 ghost use Rattle.std.specs.Prelude.{◌≡◌, IfOk};
+ghost use Rattle.std.specs.List.{AllByRecursion};
+ghost use Rattle.litmus.specs.Parts.{IsSmall};
 ghost use Rattle.replay.specs.Numbered.{IsNumberedByFirstUse};
 ghost use Rattle.replay.specs.Program.{named_program};
 
@@ -8,6 +10,18 @@ use crate::operations::cores_of;
 use litmus::{OutOfMemory, Program, address_names};
 use recorder::Recording;
 use std::alloc::Global;
+
+/// The initial values, in memory of their own.
+fn values_of(alloc: Global, init: &[u32]) -> Result<Vec<u32>, OutOfMemory>
+    ensures values { IfOk result (λ values. values.items ≡ init.now) }
+    ensures small { IfOk result (λ values. AllByRecursion IsSmall values.items) }
+{
+    let mut values = Vec::new(alloc);
+    for value in init {
+        values.push(*value)?;
+    }
+    Ok(values)
+}
 
 /// The program of a recording whose addresses are numbered by first use; an `Err` only where there
 /// is no memory.
@@ -18,7 +32,8 @@ pub(crate) fn named_program(alloc: Global, recording: &Recording) -> Result<Prog
     recording.sound();
     let names = address_names(alloc, recording.addresses())?;
     let cores = cores_of(alloc, recording)?;
-    match Program::new(names, cores) {
+    let init = values_of(alloc, recording.init())?;
+    match Program::new(names, cores, init) {
         Some(program) => Ok(program),
         None => unreachable!(),
     }

@@ -104,6 +104,10 @@ impl Replay {
                 self.get_to_write(core, a)?;
                 self.take(Step::Exec(core))
             }
+            Event::C { a, .. } => {
+                self.get_to_write(core, a)?;
+                self.take(Step::Exec(core))
+            }
             Event::F => self.take(Step::Exec(core)),
         }
     }

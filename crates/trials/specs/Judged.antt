@@ -4,7 +4,7 @@ use Rattle.litmus.specs.Parts.{Parts}
 use Rattle.recorder.specs.Execution.{Execution}
 use Rattle.machine.specs.declared.fault.Fault.{Fault}
 use Rattle.machine.specs.declared.step.Step.{Step}
-use Rattle.machine.specs.State.{opening}
+use Rattle.machine.specs.Taken.{begun}
 use Rattle.machine.specs.Configuration.{Configuration, IsAtEnd, recording_of, state_behind}
 use Rattle.judge.specs.declared.verdict.Verdict.{Verdict}
 use Rattle.judge.specs.declared.verdict.Verdict.TheVariants.{Ordered, Overlook, Cycle}
@@ -16,7 +16,7 @@ begun_machine program capacity fault = record {
   program = program;
   capacity = capacity;
   fault = fault;
-  state = opening program.cores (length program.names);
+  state = begun program;
 }
 
 -- the machine after a list of steps

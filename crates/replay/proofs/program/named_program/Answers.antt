@@ -1,8 +1,9 @@
-use Rattle.std.proofs.Common.{◌≡◌, ◌∙◌, ap, sym, subst, refl, length, List}
+use Rattle.std.proofs.Common.{◌≡◌, ◌∙◌, ap, sym, subst, refl, length, ℕ, List}
 use Rattle.std.specs.List.{AllByRecursion}
 use Rattle.litmus.specs.declared.name.Name.{Name}
 use Rattle.litmus.specs.declared.op.Op.{Op}
-use Rattle.litmus.specs.Parts.{Small, IsProgram, parts_of}
+use Rattle.litmus.specs.Parts.{Small, IsSmall, IsProgram, parts_of}
+use Rattle.recorder.specs.Execution.{Execution}
 use Rattle.replay.specs.Program.{program_of}
 use Rattle.litmus.specs.AddressNames.{address_names}
 use Rattle.replay.proofs.NamedProgram.{named_is_program}
@@ -10,14 +11,20 @@ use Rattle.replay.proofs.program.named_program.Goals as goal
 
 pub unreachable-requires : goal.unreachable-requires
 unreachable-requires c =
-    let small : AllByRecursion (AllByRecursion Small) (program_of c.args.recording.now) =
+    let x : Execution = c.args.recording.now in
+    let small : AllByRecursion (AllByRecursion Small) (program_of x) =
     subst (λ (p : List (List Op)). AllByRecursion (AllByRecursion Small) p) c.in_ok-cores.ensures.cores
     c.in_ok-cores.ensures.small in
-    let names : c.in_ok-names.names.keys ≡ address_names (length c.args.recording.now.write_lists) =
+    let names : c.in_ok-names.names.keys ≡ address_names (length x.write_lists) =
     c.in_ok-names.ensures ∙ ap address_names c.addresses.ensures in
-    c.in-None.ensures.none refl (subst (λ (l : List Name). IsProgram (parts_of l c.in_ok-cores.cores.items))
+    let init : c.in_ok-init.init.items ≡ x.initial = c.in_ok-init.ensures.values ∙ c.init.ensures.value in
+    let small_init : AllByRecursion IsSmall x.initial =
+    subst (λ (l : List ℕ). AllByRecursion IsSmall l) init c.in_ok-init.ensures.small in
+    c.in-None.ensures.none refl
+    (subst (λ (l : List Name). IsProgram (parts_of l c.in_ok-cores.cores.items c.in_ok-init.init.items))
     (sym names)
     (subst (λ (p : List (List Op)). IsProgram
-    (parts_of (address_names (length c.args.recording.now.write_lists)) p))
+    (parts_of (address_names (length x.write_lists)) p c.in_ok-init.init.items))
     (sym c.in_ok-cores.ensures.cores)
-    (named_is_program c.args.recording.now c.sound.ensures c.requires small)))
+    (subst (λ (l : List ℕ). IsProgram (parts_of (address_names (length x.write_lists)) (program_of x) l))
+    (sym init) (named_is_program x c.sound.ensures c.requires small small_init))))

@@ -5,7 +5,6 @@ use Rattle.machine.specs.declared.fault.Fault.TheVariants as fault
 use Rattle.machine.specs.declared.step.Step.{Step}
 use Rattle.machine.specs.State.{opening}
 use Rattle.machine.specs.Configuration.{Configuration}
-use Rattle.replay.specs.Program.{program_of}
 use Rattle.replay.specs.Stores.{most_stores}
 use Rattle.replay.specs.Steps.{order_steps, replay_steps}
 use Rattle.replay.specs.Program.{named_program}
@@ -28,12 +27,10 @@ returns-clause-steps c =
     ∙ (c.in_ok-replay.ensures.steps
     ∙ (ap (λ (h : Configuration). order_steps x h.capacity h.fault h.state m) c.in_ok-machine.ensures
     ∙ (ap (λ (k : ℕ). order_steps x k fault.None
-    (opening c.in_ok-program.program.cores (length c.in_ok-program.program.names)) m)
+    (opening c.in_ok-program.program.cores c.in_ok-program.program.init) m)
     c.most_stores.ensures
-    ∙ (ap (λ (p : Parts). order_steps x (most_stores x.cores) fault.None (opening p.cores (length p.names)) m)
-    c.in_ok-program.ensures
-    ∙ ap (λ (n : ℕ). order_steps x (most_stores x.cores) fault.None (opening (program_of x) n) m)
-    (names_count (length x.write_lists))))))
+    ∙ ap (λ (p : Parts). order_steps x (most_stores x.cores) fault.None (opening p.cores p.init) m)
+    c.in_ok-program.ensures)))
 
 pub returns-clause-replay : goal.returns-clause-replay
 returns-clause-replay c = λ capacity room.

@@ -10,3 +10,6 @@ get_to_read-requires-clause-address c = c.requires.addresses c.in-L.a (inl (ap r
 
 pub get_to_write-requires-in-R-clause-address : goal.get_to_write-requires-in-R-clause-address
 get_to_write-requires-in-R-clause-address c = c.requires.addresses c.in-R.a (inl (ap read_address c.in-R.is))
+
+pub get_to_write-requires-in-C-clause-address : goal.get_to_write-requires-in-C-clause-address
+get_to_write-requires-in-C-clause-address c = c.requires.addresses c.in-C.a (inl (ap read_address c.in-C.is))
