@@ -26,6 +26,12 @@ pub const RUN_ABOUT: &str =
 pub const RUN_MORE: &str =
     "Runs a litmus program by a script or by random steps, prints its recording and judges it.
 
+A program has a line `core` for each core, and behind it a line for each of its operations:
+`st NAME VALUE` stores, `ld NAME` loads, `fence` is a full fence; `swap NAME VALUE` writes,
+`add NAME VALUE` adds, and `cas NAME EXPECT VALUE` writes where it reads what it expects,
+each at once with reading the old value. Behind the last operation `init NAME VALUE` says
+what an address begins with where that is not 0.
+
 Each core has a store buffer and a MOESI cache in front of one memory. A script has a line
 for each step: `exec C` executes the next operation of core C, and `drain C` writes the
 oldest store of its buffer to its cache. `gets C NAME` gets core C a line of an address that
@@ -34,9 +40,10 @@ A step that is blocked is skipped. Without a script each step is drawn at random
 program is complete or the attempts are used up; blocked steps count. The same seed draws
 the same steps. With a script, seed and attempts are not used.
 
-The recording is one line of JSON: what each operation read and wrote, and for each address
-its writes in memory order. Behind it stands the verdict, as `judge` prints it; of a run
-that is not complete only `unfinished` is printed.
+The recording is one line of JSON: what each operation read and wrote, for each address its
+writes in memory order, and all initial values where one is not 0 or a `cas` failed. Behind
+it stands the verdict, as `judge` prints it; of a run that is not complete only `unfinished`
+is printed.
 
 A machine may be wrong in one way, and may then record a violation: with `no-bypass` loads
 don't look in their core's buffer, with `youngest-first` the youngest store drains first,

@@ -2,7 +2,7 @@
 use Rattle.std.specs.Prelude.{◌≡◌, ◌++◌, ◌∷◌, [], ℕ, List, Some, Result, Ok, Err, codes}
 use Rattle.std.specs.Prelude.{decimal, string_bytes}
 use Rattle.litmus.specs.declared.fault.LineFault.{LineFault}
-use Rattle.litmus.specs.declared.fault.LineFault.TheVariants.{L1, L2, L3, L4, L5}
+use Rattle.litmus.specs.declared.fault.LineFault.TheVariants.{L1, L2, L3, L4, L5, L6, L7, L8}
 use Rattle.machine.specs.declared.script_fault.StepFault.{StepFault}
 use Rattle.machine.specs.declared.script_fault.StepFault.TheVariants.{S1, S2, S3, S4}
 use Rattle.recorder.specs.declared.fault.RecError.{RecError}
@@ -22,6 +22,9 @@ line_fault_name L2 = codes "L2"
 line_fault_name L3 = codes "L3"
 line_fault_name L4 = codes "L4"
 line_fault_name L5 = codes "L5"
+line_fault_name L6 = codes "L6"
+line_fault_name L7 = codes "L7"
+line_fault_name L8 = codes "L8"
 
 -- what is printed for a fault of a script's line
 abbrev pub step_fault_name : StepFault → List ℕ

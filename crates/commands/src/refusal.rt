@@ -18,6 +18,9 @@ pub fn line_fault_name(fault: LineFault) -> &'static str
         LineFault::L3 => "L3",
         LineFault::L4 => "L4",
         LineFault::L5 => "L5",
+        LineFault::L6 => "L6",
+        LineFault::L7 => "L7",
+        LineFault::L8 => "L8",
     }
 }
 

@@ -8,17 +8,21 @@ use std::test::Fail;
 // What stands behind a text of the most cores, addresses or operations, and its fault.
 const AFTER_CORES: [(&str, LineFault); 2] = [("core\n", LineFault::L2), ("core", LineFault::L1)];
 
-const AFTER_ADDRESSES: [(&str, LineFault); 3] = [
+const AFTER_ADDRESSES: [(&str, LineFault); 5] = [
     ("ld b\n", LineFault::L4),
+    ("cas b 0 4294967296\n", LineFault::L4),
+    ("init b 1\n", LineFault::L6),
     ("st b 4294967296\n", LineFault::L4),
     ("st b 01\n", LineFault::L1),
 ];
 
-const AFTER_OPERATIONS: [(&str, LineFault); 6] = [
+const AFTER_OPERATIONS: [(&str, LineFault); 8] = [
     ("fence\n", LineFault::L3),
     ("ld a0\n", LineFault::L3),
     ("ld b\n", LineFault::L3),
     ("st a0 4294967296\n", LineFault::L3),
+    ("cas a0 0 4294967296\n", LineFault::L3),
+    ("init a0 4294967296\n", LineFault::L5),
     ("st b 01\n", LineFault::L1),
     ("st b 4294967296", LineFault::L1),
 ];

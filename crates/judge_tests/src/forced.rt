@@ -1,6 +1,8 @@
 //! The reasons of forced pairs.
 
-use crate::recordings::{BYPASSING, LOAD_AND_STORE, SELF_SOURCE, TWIN_SWAPS, related};
+use crate::recordings::{
+    BYPASSING, FAILED_SWAPS, LOAD_AND_STORE, SELF_SOURCE, TWIN_SWAPS, related,
+};
 use litmus::EventId;
 use relations::{Reason, Relation};
 use std::test::Fail;
@@ -12,7 +14,8 @@ fn a_pair_has_the_first_reason_that_holds(rt: HostRuntime) -> Result<(), Fail> {
     let twin_swaps = related(alloc, TWIN_SWAPS)?;
     let self_source = related(alloc, SELF_SOURCE)?;
     let load_and_store = related(alloc, LOAD_AND_STORE)?;
-    let rows: [(&str, &Relation, EventId, EventId, Option<Reason>); 10] = [
+    let failed_swaps = related(alloc, FAILED_SWAPS)?;
+    let rows: [(&str, &Relation, EventId, EventId, Option<Reason>); 12] = [
         ("own waiting store", &bypassing, 0, 1, None),
         ("write list", &bypassing, 4, 0, Some(Reason::Wo)),
         ("initial value", &bypassing, 2, 3, Some(Reason::Fr)),
@@ -23,6 +26,8 @@ fn a_pair_has_the_first_reason_that_holds(rt: HostRuntime) -> Result<(), Fail> {
         ("itself", &twin_swaps, 0, 0, None),
         ("its own source", &self_source, 0, 0, Some(Reason::Rf)),
         ("two reasons", &load_and_store, 0, 1, Some(Reason::Po)),
+        ("behind a store", &failed_swaps, 0, 1, Some(Reason::Po)),
+        ("initial value 7", &failed_swaps, 3, 0, Some(Reason::Fr)),
     ];
     for (name, relation, first, second, reason) in rows {
         assert_eq!(rt; relation.reason(first, second), reason, "{name}");

@@ -84,42 +84,69 @@ pub const SWAP_OF_ITSELF: Event = Event::R {
     w: 1,
 };
 
-/// The events of each core, and the write list of each address.
-pub type EventLists = (&'static [&'static [Event]], &'static [&'static [EventId]]);
+/// A compare-and-swap of x that fails, and reads the initial value.
+pub const FAILED_X: Event = Event::C {
+    a: 0,
+    r: 7,
+    s: None,
+};
 
-pub const STORE_BUFFERING: EventLists = (&[&[X1, Y0], &[Y1, X0]], &[&[0], &[2]]);
+/// A compare-and-swap of y that fails, and reads the initial value.
+pub const FAILED_Y: Event = Event::C {
+    a: 1,
+    r: 0,
+    s: None,
+};
+
+/// The events of each core, and the write list and the initial value of each address.
+pub type EventLists = (
+    &'static [&'static [Event]],
+    &'static [&'static [EventId]],
+    &'static [u32],
+);
+
+pub const STORE_BUFFERING: EventLists = (&[&[X1, Y0], &[Y1, X0]], &[&[0], &[2]], &[0, 0]);
 
 pub const STORE_BUFFERING_FENCED: EventLists = (
     &[&[X1, Event::F, Y0], &[Y1, Event::F, X0]],
     &[&[0], &[3]],
+    &[0, 0],
 );
 
-pub const BYPASSING: EventLists = (&[&[X1, OWN_X1, Y0], &[Y1, X2]], &[&[4, 0], &[3]]);
+/// Store buffering by compare-and-swaps that fail; x begins with 7.
+pub const FAILED_SWAPS: EventLists = (&[&[X1, FAILED_Y], &[Y1, FAILED_X]], &[&[0], &[2]], &[7, 0]);
 
-pub const MESSAGE_PASSING: EventLists = (&[&[X1, Y1], &[READ_Y1, X0]], &[&[0], &[1]]);
+pub const BYPASSING: EventLists = (&[&[X1, OWN_X1, Y0], &[Y1, X2]], &[&[4, 0], &[3]], &[0, 0]);
+
+pub const MESSAGE_PASSING: EventLists = (&[&[X1, Y1], &[READ_Y1, X0]], &[&[0], &[1]], &[0, 0]);
 
 /// Message passing, and a core that reads a store and then the value before it: the cycles `0 1 2 3`
 /// and `4 5 6`.
 pub const THREE_AND_FOUR: EventLists = (
     &[&[X1, Y1], &[READ_Y1, X0], &[Z1], &[READ_Z1, Z0]],
     &[&[0], &[1], &[4]],
+    &[0, 0, 0],
 );
 
-pub const OVERLOOKED_STORE: EventLists = (&[&[X1, X0]], &[&[0]]);
+pub const OVERLOOKED_STORE: EventLists = (&[&[X1, X0]], &[&[0]], &[0]);
 
-pub const TWIN_SWAPS: EventLists = (&[&[SWAP_X], &[SWAP_X]], &[&[0, 1]]);
+pub const TWIN_SWAPS: EventLists = (&[&[SWAP_X], &[SWAP_X]], &[&[0, 1]], &[0]);
 
-pub const SELF_SOURCE: EventLists = (&[&[SWAP_OF_ITSELF]], &[&[0]]);
+pub const SELF_SOURCE: EventLists = (&[&[SWAP_OF_ITSELF]], &[&[0]], &[0]);
 
-pub const LOAD_AND_STORE: EventLists = (&[&[X0, X1]], &[&[1]]);
+pub const LOAD_AND_STORE: EventLists = (&[&[X0, X1]], &[&[1]], &[0]);
 
-pub const TWO_CYCLES: EventLists = (&[&[SWAP_X, SWAP_Y], &[SWAP_X, SWAP_Y]], &[&[0, 2], &[1, 3]]);
+pub const TWO_CYCLES: EventLists = (
+    &[&[SWAP_X, SWAP_Y], &[SWAP_X, SWAP_Y]],
+    &[&[0, 2], &[1, 3]],
+    &[0, 0],
+);
 
 /// The recording of some parts.
 pub fn recorded(alloc: Global, parts: EventLists) -> Result<Recording, Fail> {
-    let (cores, writes) = parts;
+    let (cores, writes, init) = parts;
     Ok(
-        Recording::from_lists(alloc, cores, writes)
+        Recording::from_lists(alloc, cores, writes, init)
             .ok()
             .ok_or("refused")?,
     )
