@@ -15,7 +15,7 @@ use Rattle.litmus.specs.Parts.{Body, IsProgram, IsSmall}
 use Rattle.litmus.specs.Steps.{name_number, core_step, fence_step, load_step, write_step, compare_step}
 use Rattle.litmus.specs.Steps.{unless}
 use Rattle.litmus.specs.Drafts.{Draft, IsDraft, body_step, filled, init_fault, init_step, plain}
-use Rattle.litmus.specs.Drafts.{program_of, said_step, step, with_body}
+use Rattle.litmus.specs.Drafts.{drafted_program, said_step, step, with_body}
 use Rattle.litmus.specs.Spelling.{body_text, init_text, line_text, name_at, spelling, value_text}
 use Rattle.litmus.specs.NameListLaws.{all_push, is_new, is_there}
 use Rattle.litmus.proofs.Initial.{filled_length, filled_text, init_append, zeros_small}
@@ -198,7 +198,7 @@ step_keeps d e line h f = by (line_of line) refl
 -- ---- the program of a draft
 
 -- it is a program
-pub program_is : (d : Draft) → IsDraft d → IsProgram (program_of d)
+pub program_is : (d : Draft) → IsDraft d → IsProgram (drafted_program d)
 program_is d h = record {
   few_cores = h.body.few_cores;
   few_ops = h.body.few_ops;
@@ -212,6 +212,6 @@ program_is d h = record {
 }
 
 -- its text is what was read
-pub program_text : (d : Draft) → spelling (program_of d) ≡ draft_text d
+pub program_text : (d : Draft) → spelling (drafted_program d) ≡ draft_text d
 program_text d =
     ap (λ t. body_text d.body ++ t) (filled_text d.body.names (length d.body.names) d.init)

@@ -35,8 +35,8 @@ pub record IsDraft (d : Draft) : Type 0 where
   pub values : AllByRecursion IsSmall d.init
 
 -- the program of what was read: an address without an `init` line begins with 0
-abbrev pub program_of : Draft → Parts
-program_of d = parts_of d.body.names d.body.cores (filled (length d.body.names) d.init)
+abbrev pub drafted_program : Draft → Parts
+drafted_program d = parts_of d.body.names d.body.cores (filled (length d.body.names) d.init)
 
 -- other names and operations, unless there is a fault
 abbrev pub with_body : Draft → Result Body LineFault → Result Draft LineFault

@@ -9,7 +9,7 @@ use Rattle.litmus.specs.AddressNames.{address_name}
 use Rattle.litmus.specs.Parts.{Body, Parts, IsBody, op_count}
 use Rattle.litmus.specs.Shapes.{Sizes}
 use Rattle.litmus.specs.Steps.{empty, names_with, name_number, with_op}
-use Rattle.litmus.specs.Drafts.{plain, program_of}
+use Rattle.litmus.specs.Drafts.{plain, drafted_program}
 
 -- the state of the generator after n words
 abbrev pub after_words : ℕ → List ℕ → List ℕ
@@ -56,7 +56,7 @@ with_cores s (suc n) p words =
 
 -- the program that words make, one for each event; each address begins with 0
 abbrev pub program_of_words : Sizes → List ℕ → Parts
-program_of_words s words = program_of (plain (with_cores s s.cores empty words))
+program_of_words s words = drafted_program (plain (with_cores s s.cores empty words))
 
 -- names and operations whose addresses have names below n
 pub record IsDrawn (n : ℕ) (p : Body) : Type 0 where

@@ -21,7 +21,7 @@ pub struct Reader {
 impl Reader {
     ghost use Rattle.std.specs.Prelude.{◌≡◌, ◌≤◌, ◌++◌, ◌∷◌, [], ℕ, IfOk, OnOk, length};
     ghost use Rattle.litmus.specs.Built.{draft, state};
-    ghost use Rattle.litmus.specs.Drafts.{IsDraft, body_step, filled, init_step, plain, program_of, step};
+    ghost use Rattle.litmus.specs.Drafts.{IsDraft, body_step, filled, init_step, plain, drafted_program, step};
     ghost use Rattle.litmus.specs.Numbers.{IsValue};
     ghost use Rattle.litmus.specs.Reading.{AnswersLine, seen_as};
     ghost use Rattle.litmus.specs.Steps.{compare_step, core_step, fence_step, load_step, write_step};
@@ -161,7 +161,7 @@ impl Reader {
     /// of memory.
     pub fn finish(self) -> Result<Program, OutOfMemory>
         requires { IsDraft (draft self) }
-        ensures { IfOk result (λ p. p ≡ program_of (draft self)) }
+        ensures { IfOk result (λ p. p ≡ drafted_program (draft self)) }
     {
         let Reader { builder, mut init } = self;
         init.resize(builder.names.len(), 0)?;

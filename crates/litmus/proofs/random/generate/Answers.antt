@@ -6,7 +6,7 @@ use Rattle.rand_xoshiro.specs.Xoshiro256.{plus_plus}
 use Rattle.litmus.specs.Built.{state}
 use Rattle.litmus.specs.Parts.{Body, Parts, op_count}
 use Rattle.litmus.specs.Steps.{empty}
-use Rattle.litmus.specs.Drafts.{Draft, plain, program_of}
+use Rattle.litmus.specs.Drafts.{Draft, plain, drafted_program}
 use Rattle.litmus.specs.Random.{IsDrawn, after_words, with_core, with_cores, with_words}
 use Rattle.litmus.proofs.Drawn.{keeps_empty}
 use Rattle.litmus.proofs.NextWords.{cores_turn, cores_end, after_core, after_end, more_words}
@@ -74,7 +74,7 @@ returns-clause-program c =
     sym (cores_end z (state c.loop-core.builder) (first_words plus_plus (left * z.ops) c.loop-core.rng) left
     none) ∙ h.made in
     subst (λ (p : Parts). IfOk c.finish.result (λ q. q ≡ p))
-    (ap (λ (d : Draft). program_of d) c.of.ensures ∙ ap (λ (b : Body). program_of (plain b)) made)
+    (ap (λ (d : Draft). drafted_program d) c.of.ensures ∙ ap (λ (b : Body). drafted_program (plain b)) made)
     c.finish.ensures
 
 pub returns-clause-words : goal.returns-clause-words
