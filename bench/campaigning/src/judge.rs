@@ -10,7 +10,7 @@ pub enum Verdict {
     Cycle(usize),
 }
 
-const WORDS: usize = 4;
+const WORDS: usize = 8;
 type Row = [u64; WORDS];
 
 /// The pairs of events that are forced, kept from run to run.
