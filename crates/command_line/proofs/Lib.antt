@@ -3,3 +3,4 @@ pub mod Walks
 pub mod Taken
 pub mod Unrefused
 pub mod Locals
+pub mod Added

@@ -1,9 +1,15 @@
 -- The commands and options, as clap reads them of words.
-use Rattle.std.specs.Prelude.{◌≡◌, List, [], Option, Some, true, codes}
-use Rattle.clap.specs.Words.{App, Row, Rule, Text, fault_of, new_app, new_rule, subcommand_of, with_rule}
-use Rattle.clap.specs.Words.{with_subcommand}
+use Rattle.std.specs.Prelude.{◌≡◌, IfOk, List, [], Option, Result, Some, codes, false, true}
+use Rattle.clap.specs.Words.{App, Row, Rule, Text, app_of, fault_of, new_app, new_rule}
+use Rattle.clap.specs.Words.{subcommand_of, with_rule, with_subcommand}
+use Rattle.clap.specs.declared.builder.command.Command.{Command}
+use Rattle.clap.specs.declared.builder.command.Command.TheViews.{out-Command as fields_of}
 use Rattle.clap.specs.declared.builder.ArgAction.TheVariants.{Set, SetTrue}
 use Rattle.clap.specs.declared.builder.value_parser.ValueParser.TheVariants.{Unsigned}
+
+-- what clap has of a command, where there is one, and that no argument of it is global
+abbrev pub Gives : {E : Type 0} → Result Command E → App → Type 0
+Gives r app = IfOk r (λ c. (app_of c ≡ app) × ((fields_of c).has_globals ≡ false))
 
 -- PROGRAM
 abbrev pub program_rule : Rule

@@ -8,6 +8,7 @@ mod options;
 mod pages;
 mod refusals;
 mod rules;
+mod subcommands;
 pub mod words;
 
 pub use options::{
