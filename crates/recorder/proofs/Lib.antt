@@ -17,3 +17,9 @@ pub mod ClippedRefusals
 pub mod ClippedRecording
 pub mod ClippedContents
 pub mod ClippedAnswers
+pub mod Pulled
+pub mod AtKeys
+pub mod PlainNumbers
+pub mod EventFields
+pub mod Somes
+pub mod Drafted

@@ -2,17 +2,22 @@
 #![tactic(auto)]
 
 mod copies;
+mod digits;
+mod draft;
 mod event;
 mod fault;
+mod fields;
 mod items;
 mod lists;
 mod parts;
+mod pulled_lists;
 mod readers;
 mod reading;
 mod recording;
 mod refusal;
 mod rules;
 mod text;
+mod tokens;
 mod values;
 mod versions;
 

@@ -1,13 +1,15 @@
 //! Reading the text of a recording.
 
-ghost use Rattle.std.specs.Prelude.{◌≡◌, ◌↔◌, IfOk, IsTrue, option_map, map, codes};
+ghost use Rattle.std.specs.Prelude.{◌≡◌, ◌↔◌, ℕ, List, Err, IfOk, IfErr, IsTrue, option_map, map, codes};
 ghost use Rattle.serde_json.specs.View.{view, items_view};
 ghost use Rattle.recorder.specs.Contents.{initial_values, IsVersioned};
 ghost use Rattle.recorder.specs.Found.{found};
+ghost use Rattle.recorder.specs.Draft.{IsDraftOf};
 ghost use Rattle.recorder.specs.Reading.{each, list_in, number_in, value_in, event_in, at_key, values_in};
 ghost use Rattle.recorder.specs.Reading.{shape_of, shape_in, IsReadingResult};
 ghost use Rattle.recorder.specs.Clipped.{clip, clip_event, clipped_shape, clipped_number, clipped_event};
 
+use crate::draft::drafted;
 use crate::event::Event;
 use crate::fault::RecError;
 use crate::items::{event_in, keys_of, number_in, value_in};
@@ -20,11 +22,11 @@ use std::alloc::{AllocError, Global};
 /// The version, the events of each core, the write lists and perhaps the initial values, which may
 /// break every rule.
 #[derive(Drop)]
-struct Found {
-    version: u64,
-    cores: Vec<Vec<Event>>,
-    writes: Vec<Vec<EventId>>,
-    init: Option<Vec<u32>>,
+pub(crate) struct Found {
+    pub(crate) version: u64,
+    pub(crate) cores: Vec<Vec<Event>>,
+    pub(crate) writes: Vec<Vec<EventId>>,
+    pub(crate) init: Option<Vec<u32>>,
 }
 
 impl Found {
@@ -233,10 +235,11 @@ fn initial_values(
     }
 }
 
-/// The recording that the bytes give, or the first refusal: of the JSON, its shape, the version, and what
-/// `Recording::from_parts` refuses; or want of memory.
-pub fn read_recording(alloc: Global, bytes: &[u8]) -> Result<Recording, RecError>
-    ensures { IsReadingResult bytes.now result }
+/// The contents of a text by its whole value, or the first refusal of the JSON and its shape; or want of
+/// memory.
+fn found_in_tree(alloc: Global, bytes: &[u8]) -> Result<Found, RecError>
+    ensures found { IfOk result (λ q. IsDraftOf bytes.now q) }
+    ensures err { IfErr result (λ e. IsReadingResult bytes.now (Err e)) }
 {
     let value = match Value::from_slice(alloc, bytes) {
         Ok(value) => value,
@@ -254,7 +257,15 @@ pub fn read_recording(alloc: Global, bytes: &[u8]) -> Result<Recording, RecError
     let Some(found) = found else {
         return Err(RecError::Shape);
     };
-    if !found.is_versioned() {
+    Ok(found)
+}
+
+/// The recording of these contents, or the first refusal of the version, and what `Recording::from_parts`
+/// refuses; or want of memory.
+fn recording_of(alloc: Global, contents: Found) -> Result<Recording, RecError>
+    ensures { (bytes : List ℕ) → IsDraftOf bytes contents → IsReadingResult bytes result }
+{
+    if !contents.is_versioned() {
         return Err(RecError::Version);
     }
     let Found {
@@ -262,9 +273,24 @@ pub fn read_recording(alloc: Global, bytes: &[u8]) -> Result<Recording, RecError
         writes,
         init,
         ..
-    } = found;
+    } = contents;
     let Ok(init) = initial_values(alloc, init, writes.as_slice()) else {
         return Err(RecError::OutOfMemory);
     };
     Recording::from_parts(cores, writes, init)
+}
+
+/// The recording that the bytes give, or the first refusal: of the JSON, its shape, the version, and what
+/// `Recording::from_parts` refuses; or want of memory.
+pub fn read_recording(alloc: Global, bytes: &[u8]) -> Result<Recording, RecError>
+    ensures { IsReadingResult bytes.now result }
+{
+    let Ok(drafted) = drafted(alloc, bytes) else {
+        return Err(RecError::OutOfMemory);
+    };
+    if let Some(found) = drafted {
+        return recording_of(alloc, found);
+    }
+    let found = found_in_tree(alloc, bytes)?;
+    recording_of(alloc, found)
 }

@@ -1,0 +1,112 @@
+//! Lists of a recording, read from the tokens of its text.
+
+ghost use Rattle.std.specs.Prelude.{ℕ, suc, map, IfOk, IfSome};
+ghost use Rattle.recorder.specs.Reading.{list_in, value_in};
+ghost use Rattle.recorder.specs.Clipped.{clipped_event, clipped_number};
+ghost use Rattle.recorder.specs.Pulled.{Gives};
+
+use crate::event::Event;
+use crate::fields::pull_event;
+use crate::tokens::{begins_array, pull_number, pull_value};
+use json::Reader;
+use litmus::EventId;
+use std::alloc::{AllocError, Global};
+
+/// The events of a core.
+fn pull_core(alloc: Global, reader: &mut Reader<'_>) -> Result<Option<Vec<Event>>, AllocError>
+    ensures { IfOk result (λ o. IfSome o (λ v. (depth : ℕ)
+        → Gives (list_in clipped_event) (suc (suc depth)) reader.old (v.items) reader.new)) }
+{
+    if !begins_array(reader) {
+        return Ok(None);
+    }
+    let mut found = Vec::with_capacity(alloc, 32)?;
+    'items: while !reader.take_end_array() {
+        let Some(event) = pull_event(reader) else {
+            return Ok(None);
+        };
+        found.push(event)?;
+    }
+    Ok(Some(found))
+}
+
+/// A write list.
+fn pull_writes(alloc: Global, reader: &mut Reader<'_>) -> Result<Option<Vec<EventId>>, AllocError>
+    ensures { IfOk result (λ o. IfSome o (λ v. (depth : ℕ)
+        → Gives (list_in clipped_number) (suc depth) reader.old (v.items) reader.new)) }
+{
+    if !begins_array(reader) {
+        return Ok(None);
+    }
+    let mut found = Vec::with_capacity(alloc, 32)?;
+    'items: while !reader.take_end_array() {
+        let Some(number) = pull_number(reader) else {
+            return Ok(None);
+        };
+        found.push(number)?;
+    }
+    Ok(Some(found))
+}
+
+/// The initial values.
+pub(crate) fn pull_values(
+    alloc: Global,
+    reader: &mut Reader<'_>,
+) -> Result<Option<Vec<u32>>, AllocError>
+    ensures { IfOk result (λ o. IfSome o (λ v. (depth : ℕ)
+        → Gives (list_in value_in) (suc depth) reader.old (v.items) reader.new)) }
+{
+    if !begins_array(reader) {
+        return Ok(None);
+    }
+    let mut found = Vec::with_capacity(alloc, 16)?;
+    'items: while !reader.take_end_array() {
+        let Some(number) = pull_value(reader) else {
+            return Ok(None);
+        };
+        found.push(number)?;
+    }
+    Ok(Some(found))
+}
+
+/// The events of each core.
+pub(crate) fn pull_cores(
+    alloc: Global,
+    reader: &mut Reader<'_>,
+) -> Result<Option<Vec<Vec<Event>>>, AllocError>
+    ensures { IfOk result (λ o. IfSome o (λ v. (depth : ℕ)
+        → Gives (list_in (list_in clipped_event)) (suc (suc (suc depth))) reader.old (map (λ w. w.items) v.items) reader.new)) }
+{
+    if !begins_array(reader) {
+        return Ok(None);
+    }
+    let mut found = Vec::with_capacity(alloc, 16)?;
+    'items: while !reader.take_end_array() {
+        let Some(core) = pull_core(alloc, reader)? else {
+            return Ok(None);
+        };
+        found.push(core)?;
+    }
+    Ok(Some(found))
+}
+
+/// The write lists.
+pub(crate) fn pull_lists(
+    alloc: Global,
+    reader: &mut Reader<'_>,
+) -> Result<Option<Vec<Vec<EventId>>>, AllocError>
+    ensures { IfOk result (λ o. IfSome o (λ v. (depth : ℕ)
+        → Gives (list_in (list_in clipped_number)) (suc (suc depth)) reader.old (map (λ w. w.items) v.items) reader.new)) }
+{
+    if !begins_array(reader) {
+        return Ok(None);
+    }
+    let mut found = Vec::with_capacity(alloc, 16)?;
+    'items: while !reader.take_end_array() {
+        let Some(writes) = pull_writes(alloc, reader)? else {
+            return Ok(None);
+        };
+        found.push(writes)?;
+    }
+    Ok(Some(found))
+}
