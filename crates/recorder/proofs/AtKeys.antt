@@ -46,7 +46,8 @@ none_there f (Some d) h = absurd cc
 count_put_at : (o : Ordering) (key l : List ℕ) (d e : Data) (ms : Members)
     → match_ordering o (get_member key ms) (Some e) (get_member key ms) ≡ None
     → (get_member key ms ≡ None → count_members (put key d ms) ≡ suc (count_members ms))
-    → count_members (match_ordering o (member key d (member l e ms)) (member l d ms) (member l e (put key d ms)))
+    → count_members (match_ordering o (member key d (member l e ms)) (member l d ms)
+    (member l e (put key d ms)))
     ≡ suc (suc (count_members ms))
 count_put_at Less key l d e ms none later = refl
 count_put_at Equal key l d e ms none later = absurd cc

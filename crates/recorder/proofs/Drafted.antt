@@ -1,5 +1,6 @@
 -- What the members of a recording give by those that were read.
-use Rattle.std.proofs.Common.{◌≡◌, ◌+◌, ℕ, List, Vec, Global, Option, Some, None, option_map, option_and_then, map}
+use Rattle.std.proofs.Common.{◌≡◌, ◌+◌, ℕ, List, Vec, Global, Option, Some, None, option_map}
+use Rattle.std.proofs.Common.{option_and_then, map}
 use Rattle.std.proofs.Common.{codes, IsUtf8, [], refl, sym, ap, ◌∙◌, subst, arith}
 use Rattle.json.specs.Token.{Token}
 use Rattle.json.specs.Lex.{tokens}
@@ -10,7 +11,8 @@ use Rattle.recorder.specs.declared.event.Event.{Event}
 use Rattle.recorder.specs.declared.draft.Draft.{Draft}
 use Rattle.recorder.specs.declared.reading.Found.{Found}
 use Rattle.recorder.specs.Found.{found}
-use Rattle.recorder.specs.Reading.{natural, number_in, value_in, event_in, list_in, at_key, values_in, shape_of}
+use Rattle.recorder.specs.Reading.{natural, number_in, value_in, event_in, list_in, at_key, values_in}
+use Rattle.recorder.specs.Reading.{shape_of}
 use Rattle.recorder.specs.Reading.{shape_in}
 use Rattle.recorder.specs.Clipped.{clip, clip_event, clipped_shape, clipped_number, clipped_event}
 use Rattle.recorder.specs.Pulled.{Gives, Adds}
@@ -50,8 +52,10 @@ version_added p o x depth ts rest g none is = record {
 }
 
 -- the events of each core
-pub cores_added : (p : Draft) (o : Option (Vec (Vec Event Global) Global)) (x : Vec (Vec Event Global) Global) (depth : ℕ) (ts rest : List Token)
-    → Gives (list_in (list_in clipped_event)) depth ts (map (λ w. w.items) x.items) rest → p.cores ≡ None → o ≡ Some x
+pub cores_added : (p : Draft) (o : Option (Vec (Vec Event Global) Global))
+    (x : Vec (Vec Event Global) Global) (depth : ℕ) (ts rest : List Token)
+    → Gives (list_in (list_in clipped_event)) depth ts (map (λ w. w.items) x.items) rest → p.cores ≡ None
+    → o ≡ Some x
     → Adds AreParts (codes "cores") depth ts rest p (record p { cores = o })
 cores_added p o x depth ts rest g none is = record {
   datum = g.datum;
@@ -60,14 +64,16 @@ cores_added p o x depth ts rest g none is = record {
     version = at_other natural (codes "version") (codes "cores") ms g.datum
         p.version refl h.version;
     cores = at_new (list_in (list_in clipped_event)) (codes "cores") ms g.datum (map (λ w. w.items) x.items)
-        (option_map (λ v. map (λ w. w.items) v.items) o) g.gives (ap (option_map (λ (v : Vec (Vec Event Global) Global). map (λ w. w.items) v.items)) is);
+        (option_map (λ v. map (λ w. w.items) v.items) o) g.gives
+        (ap (option_map (λ (v : Vec (Vec Event Global) Global). map (λ w. w.items) v.items)) is);
     writes = at_other (list_in (list_in clipped_number)) (codes "writes") (codes "cores") ms g.datum
         (option_map (λ v. map (λ w. w.items) v.items) p.writes) refl h.writes;
     init = at_other (list_in value_in) (codes "init") (codes "cores") ms g.datum
         (option_map (λ v. v.items) p.init) refl h.init;
     count = omega (
       arith,
-      count_new (list_in (list_in clipped_event)) (codes "cores") g.datum ms (option_map (λ v. map (λ w. w.items) v.items) p.cores) h.cores
+      count_new (list_in (list_in clipped_event)) (codes "cores") g.datum ms
+          (option_map (λ v. map (λ w. w.items) v.items) p.cores) h.cores
           (ap (option_map (λ (v : Vec (Vec Event Global) Global). map (λ w. w.items) v.items)) none),
       h.count,
       ap one_if none,
@@ -77,8 +83,10 @@ cores_added p o x depth ts rest g none is = record {
 }
 
 -- the write lists
-pub writes_added : (p : Draft) (o : Option (Vec (Vec ℕ Global) Global)) (x : Vec (Vec ℕ Global) Global) (depth : ℕ) (ts rest : List Token)
-    → Gives (list_in (list_in clipped_number)) depth ts (map (λ w. w.items) x.items) rest → p.writes ≡ None → o ≡ Some x
+pub writes_added : (p : Draft) (o : Option (Vec (Vec ℕ Global) Global)) (x : Vec (Vec ℕ Global) Global)
+    (depth : ℕ) (ts rest : List Token)
+    → Gives (list_in (list_in clipped_number)) depth ts (map (λ w. w.items) x.items) rest → p.writes ≡ None
+    → o ≡ Some x
     → Adds AreParts (codes "writes") depth ts rest p (record p { writes = o })
 writes_added p o x depth ts rest g none is = record {
   datum = g.datum;
@@ -88,13 +96,16 @@ writes_added p o x depth ts rest g none is = record {
         p.version refl h.version;
     cores = at_other (list_in (list_in clipped_event)) (codes "cores") (codes "writes") ms g.datum
         (option_map (λ v. map (λ w. w.items) v.items) p.cores) refl h.cores;
-    writes = at_new (list_in (list_in clipped_number)) (codes "writes") ms g.datum (map (λ w. w.items) x.items)
-        (option_map (λ v. map (λ w. w.items) v.items) o) g.gives (ap (option_map (λ (v : Vec (Vec ℕ Global) Global). map (λ w. w.items) v.items)) is);
+    writes = at_new (list_in (list_in clipped_number)) (codes "writes") ms g.datum
+        (map (λ w. w.items) x.items)
+        (option_map (λ v. map (λ w. w.items) v.items) o) g.gives
+        (ap (option_map (λ (v : Vec (Vec ℕ Global) Global). map (λ w. w.items) v.items)) is);
     init = at_other (list_in value_in) (codes "init") (codes "writes") ms g.datum
         (option_map (λ v. v.items) p.init) refl h.init;
     count = omega (
       arith,
-      count_new (list_in (list_in clipped_number)) (codes "writes") g.datum ms (option_map (λ v. map (λ w. w.items) v.items) p.writes) h.writes
+      count_new (list_in (list_in clipped_number)) (codes "writes") g.datum ms
+          (option_map (λ v. map (λ w. w.items) v.items) p.writes) h.writes
           (ap (option_map (λ (v : Vec (Vec ℕ Global) Global). map (λ w. w.items) v.items)) none),
       h.count,
       ap one_if none,
@@ -137,7 +148,8 @@ shape_from : (values : Option (List ℕ)) (version : Option ℕ) (cores : Option
     (writes : Option (List (List ℕ))) (v : ℕ) (cs : List (List Event)) (ws : List (List ℕ))
     → version ≡ Some v → option_map (map (map clip_event)) cores ≡ Some cs
     → option_map (map (map clip)) writes ≡ Some ws
-    → option_map clipped_shape (option_and_then (λ version. option_and_then (λ cores. option_map (λ writes. record {
+    → option_map clipped_shape (option_and_then (λ version. option_and_then
+    (λ cores. option_map (λ writes. record {
       version = version;
       cores = cores;
       write_lists = writes;
@@ -189,13 +201,15 @@ contents_by values n p ms count h is = rw (h.count, count, is) refl
 pub found_gives : (p : Draft) (init : Option (Vec ℕ Global)) (ms : Members) (v : ℕ)
     (cs : Vec (Vec Event Global) Global) (ws : Vec (Vec ℕ Global) Global) → AreParts p ms → p.version ≡ Some v
     → p.cores ≡ Some cs → p.writes ≡ Some ws → p.init ≡ init
-    → clipped_contents (object ms) ≡ Some (found (record { version = v; cores = cs; writes = ws; init = init }))
+    → clipped_contents (object ms) ≡ Some (found (record
+    { version = v; cores = cs; writes = ws; init = init }))
 unfolding values_in
 found_gives p None ms v cs ws h hv hc hw hi =
     contents_by None 3 p ms (rw (hv, hc, hw, hi) refl) h refl ∙ shaped None p ms v cs ws h hv hc hw
 found_gives p (Some vs) ms v cs ws h hv hc hw hi =
     contents_by (Some vs.items) 4 p ms (rw (hv, hc, hw, hi) refl) h
-    (ap (option_map Some) (at_key_is (list_in value_in) (codes "init") ms (option_map (λ v. v.items) p.init) h.init
+    (ap (option_map Some) (at_key_is (list_in value_in) (codes "init") ms (option_map (λ v. v.items) p.init)
+    h.init
     ∙ ap (option_map (λ (v : Vec ℕ Global). v.items)) hi))
     ∙ shaped (Some vs.items) p ms v cs ws h hv hc hw
 

@@ -17,7 +17,8 @@ use Rattle.recorder.proofs.AtKeys.{at_new, at_other, at_key_is, count_new}
 -- ---- one member more
 
 -- the kind
-pub kind_added : (f : Fields) (o : Option (Bor (List ℕ))) (k : Bor (List ℕ)) (depth : ℕ) (ts rest : List Token)
+pub kind_added : (f : Fields) (o : Option (Bor (List ℕ))) (k : Bor (List ℕ)) (depth : ℕ)
+    (ts rest : List Token)
     → Gives as_str depth ts k.now rest → f.k ≡ None → o ≡ Some k
     → Adds AreFields (codes "k") depth ts rest f (record f { k = o })
 kind_added f o k depth ts rest g none is = record {
@@ -176,7 +177,8 @@ event_is f ms k n h kind count = rw (
 ) refl
 
 -- what a load or a failed compare-and-swap has
-read_from : (make : ℕ → ℕ → Option ℕ → Event) (p q : Option ℕ) (o : Option (Option ℕ)) (a r : ℕ) (s : Option ℕ)
+read_from : (make : ℕ → ℕ → Option ℕ → Event) (p q : Option ℕ) (o : Option (Option ℕ)) (a r : ℕ)
+    (s : Option ℕ)
     → ((x y : ℕ) (z : Option ℕ) → clip_event (make x y z) ≡ make (clip x) y (option_map clip z))
     → option_map clip p ≡ Some a → q ≡ Some r → option_map (option_map clip) o ≡ Some s
     → option_map clip_event (option_and_then (λ x. option_and_then (λ y. option_map (λ z. make x y z) o) q) p)
@@ -198,7 +200,8 @@ unfolding event_of load_in
 load_gives f ms a r s h kind fa fr fs fw =
     ap (option_map clip_event) (event_is f ms (codes "L") 4 h kind
     (rw (kind_counts f.k (codes "L") kind, fa, fr, fs, fw) refl))
-    ∙ read_from (λ x y z. L x y z) (at_key number_in (codes "a") (object ms)) (at_key value_in (codes "r") (object ms))
+    ∙ read_from (λ x y z. L x y z) (at_key number_in (codes "a") (object ms))
+    (at_key value_in (codes "r") (object ms))
     (at_key source_in (codes "s") (object ms)) a r s (λ x y z. refl)
     (number_there (codes "a") ms f.a h.address ∙ fa)
     (at_key_is value_in (codes "r") ms f.r h.value_read ∙ fr)
@@ -212,7 +215,8 @@ unfolding event_of failed_cas_in
 failed_cas_gives f ms a r s h kind fa fr fs fw =
     ap (option_map clip_event) (event_is f ms (codes "C") 4 h kind
     (rw (kind_counts f.k (codes "C") kind, fa, fr, fs, fw) refl))
-    ∙ read_from (λ x y z. C x y z) (at_key number_in (codes "a") (object ms)) (at_key value_in (codes "r") (object ms))
+    ∙ read_from (λ x y z. C x y z) (at_key number_in (codes "a") (object ms))
+    (at_key value_in (codes "r") (object ms))
     (at_key source_in (codes "s") (object ms)) a r s (λ x y z. refl)
     (number_there (codes "a") ms f.a h.address ∙ fa)
     (at_key_is value_in (codes "r") ms f.r h.value_read ∙ fr)

@@ -1,6 +1,7 @@
 -- Texts of digits alone, as JSON numbers.
 use Rattle.std.proofs.Common.{◌≡◌, ◌<◌, ◌≤◌, ◌^◌, ◌+◌, ◌-◌, ◌*◌, ℕ, List, [], ◌∷◌, ◌++◌, length, take, get_or}
-use Rattle.std.proofs.Common.{false, true, nat_le, nat_eq, zero, suc, Some, refl, sym, ap, ◌∙◌, arith, append-nil, lt-ltb, ne_eqb}
+use Rattle.std.proofs.Common.{false, true, nat_le, nat_eq, zero, suc, Some, refl, sym, ap, ◌∙◌, arith}
+use Rattle.std.proofs.Common.{append-nil, lt-ltb, ne_eqb}
 use Rattle.std.proofs.lemmas.List.{take_all}
 use Rattle.std.proofs.lemmas.Bool.{and_parts, leb-true}
 use Rattle.std.proofs.lemmas.Int.Digits.{digits_more, digits_value_more}

@@ -1,6 +1,7 @@
 -- Reading values, lists and objects token by token.
 use Rattle.std.proofs.Common.{◌≡◌, ◌<◌, ◌≤◌, ◌-◌, ℕ, suc, List, [], ◌∷◌, ◌++◌, length, Option, Some, None}
-use Rattle.std.proofs.Common.{option_map, option_and_then, map, Vec, Global, refl, ap, ◌∙◌, arith, append-nil, append_assoc}
+use Rattle.std.proofs.Common.{option_map, option_and_then, map, Vec, Global, refl, ap, ◌∙◌, arith}
+use Rattle.std.proofs.Common.{append-nil, append_assoc}
 use Rattle.std.proofs.lemmas.List.{map-append}
 use Rattle.json.specs.Token.{Token}
 use Rattle.json.specs.Json as json
@@ -66,7 +67,12 @@ gives_null f depth ts rest x first gives = record {
 pub gives_also : {A B : Type 0} (f : Data → Option A) (g : Data → Option B) (depth : ℕ)
     (ts rest : List Token) (x : A) (y : B) → ((d : Data) → f d ≡ Some x → g d ≡ Some y)
     → Gives f depth ts x rest → Gives g depth ts y rest
-gives_also f g depth ts rest x y also h = record { datum = h.datum; read = h.read; gives = also h.datum h.gives }
+gives_also f g depth ts rest x y also h = record {
+  datum = h.datum;
+  read = h.read;
+  gives = also h.datum
+      h.gives;
+}
 
 -- a value takes a token
 value_takes : (depth : ℕ) (ts rest : List Token) (d : Data)
@@ -142,7 +148,8 @@ came_more f depth all ts same mid xs zs x came test given push =
 
 -- an array of so many items
 begun_array : (depth : ℕ) (all : List Token)
-    → value (suc depth) (Token.begin_array ∷ all) ≡ parse_map json.array (items (value depth) (length all) all)
+    → value (suc depth) (Token.begin_array ∷ all) ≡ parse_map json.array
+    (items (value depth) (length all) all)
 unfolding value
 begun_array depth all = refl
 
@@ -264,12 +271,14 @@ whole_read o d e =
     ap (λ r. option_and_then of_json (option_and_then (λ p. if_last p.0 p.1) r)) j.1 ∙ j.2
 
 -- at the key under another name
-pub adds_at : {S : Type 0} (Are : S → Members → Type 0) (key other : List ℕ) (depth : ℕ) (ts rest : List Token)
+pub adds_at : {S : Type 0} (Are : S → Members → Type 0) (key other : List ℕ) (depth : ℕ)
+    (ts rest : List Token)
     (s t : S) → key ≡ other → Adds Are other depth ts rest s t → Adds Are key depth ts rest s t
 adds_at Are key other depth ts rest s t named h = rw named h
 
 -- a member makes the tokens fewer
-pub adds_shorter : {S : Type 0} (Are : S → Members → Type 0) (key : List ℕ) (depth : ℕ) (ts mid rest : List Token)
+pub adds_shorter : {S : Type 0} (Are : S → Members → Type 0) (key : List ℕ) (depth : ℕ)
+    (ts mid rest : List Token)
     (s t : S) → read_key ts ≡ Some (Some key, mid) → Adds Are key depth mid rest s t → length rest < length ts
 adds_shorter Are key depth ts mid rest s t named h = omega (
   arith,

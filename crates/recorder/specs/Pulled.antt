@@ -13,7 +13,8 @@ abbrev pub clipped_source : Data → Option (Option ℕ)
 clipped_source d = option_map (option_map clip) (source_in d)
 
 -- the tokens begin with a value that gives x, and the rest follows it
-pub record Gives {A : Type 0} (f : Data → Option A) (depth : ℕ) (tokens : List Token) (x : A) (rest : List Token) : Type 0 where
+pub record Gives {A : Type 0} (f : Data → Option A) (depth : ℕ) (tokens : List Token) (x : A)
+    (rest : List Token) : Type 0 where
   pub datum : Data
   pub read : converted of_json (value depth tokens) ≡ Some (datum, rest)
   pub gives : f datum ≡ Some x
@@ -23,13 +24,15 @@ abbrev pub AtKey : {A : Type 0} → (Data → Option A) → List ℕ → Members
 AtKey f key ms o = option_map f (get_member key ms) ≡ option_map Some o
 
 -- the tokens begin with a value that, put at the key of members that are `old`, makes them `new`
-pub record Adds {S : Type 0} (Are : S → Members → Type 0) (key : List ℕ) (depth : ℕ) (tokens rest : List Token) (old new : S) : Type 0 where
+pub record Adds {S : Type 0} (Are : S → Members → Type 0) (key : List ℕ) (depth : ℕ)
+    (tokens rest : List Token) (old new : S) : Type 0 where
   pub datum : Data
   pub read : converted of_json (value depth tokens) ≡ Some (datum, rest)
   pub adds : (ms : Members) → Are old ms → Are new (put key datum ms)
 
 -- the tokens begin with the members of an object, and the brace that closes it
-pub record GivesMembers {S : Type 0} (Are : S → Members → Type 0) (depth : ℕ) (tokens rest : List Token) (s : S) : Type 0 where
+pub record GivesMembers {S : Type 0} (Are : S → Members → Type 0) (depth : ℕ) (tokens rest : List Token)
+    (s : S) : Type 0 where
   pub found : Members
   pub read : converted (λ ms. of_members ms no_members) (members (value depth) (length tokens) tokens)
       ≡ Some (found, rest)

@@ -5,9 +5,9 @@ ghost use Rattle.serde_json.specs.Data.{unsigned};
 ghost use Rattle.serde_json.specs.Read.{number_of};
 
 /// The least number that gets no further digit.
-const LIMIT: u64 = 1_000_000_000_000;
+const LIMIT: u64 = 1_000_000_000;
 
-/// The number that digits alone write; none for any other text, or for one of more than 13 digits.
+/// The number that digits alone write; none for any other text, or for a number of 10^10 or more.
 pub(crate) fn plain_number(text: &str) -> Option<u64>
     ensures { IfSome result (λ n. number_of text.now ≡ Some (unsigned n)) }
 {

@@ -20,7 +20,7 @@ fn pull_core(alloc: Global, reader: &mut Reader<'_>) -> Result<Option<Vec<Event>
     if !begins_array(reader) {
         return Ok(None);
     }
-    let mut found = Vec::with_capacity(alloc, 32)?;
+    let mut found = Vec::new(alloc);
     'items: while !reader.take_end_array() {
         let Some(event) = pull_event(reader) else {
             return Ok(None);
@@ -38,7 +38,7 @@ fn pull_writes(alloc: Global, reader: &mut Reader<'_>) -> Result<Option<Vec<Even
     if !begins_array(reader) {
         return Ok(None);
     }
-    let mut found = Vec::with_capacity(alloc, 32)?;
+    let mut found = Vec::new(alloc);
     'items: while !reader.take_end_array() {
         let Some(number) = pull_number(reader) else {
             return Ok(None);
@@ -59,7 +59,7 @@ pub(crate) fn pull_values(
     if !begins_array(reader) {
         return Ok(None);
     }
-    let mut found = Vec::with_capacity(alloc, 16)?;
+    let mut found = Vec::new(alloc);
     'items: while !reader.take_end_array() {
         let Some(number) = pull_value(reader) else {
             return Ok(None);
@@ -75,12 +75,13 @@ pub(crate) fn pull_cores(
     reader: &mut Reader<'_>,
 ) -> Result<Option<Vec<Vec<Event>>>, AllocError>
     ensures { IfOk result (λ o. IfSome o (λ v. (depth : ℕ)
-        → Gives (list_in (list_in clipped_event)) (suc (suc (suc depth))) reader.old (map (λ w. w.items) v.items) reader.new)) }
+        → Gives (list_in (list_in clipped_event)) (suc (suc (suc depth))) reader.old
+        (map (λ w. w.items) v.items) reader.new)) }
 {
     if !begins_array(reader) {
         return Ok(None);
     }
-    let mut found = Vec::with_capacity(alloc, 16)?;
+    let mut found = Vec::new(alloc);
     'items: while !reader.take_end_array() {
         let Some(core) = pull_core(alloc, reader)? else {
             return Ok(None);
@@ -96,12 +97,13 @@ pub(crate) fn pull_lists(
     reader: &mut Reader<'_>,
 ) -> Result<Option<Vec<Vec<EventId>>>, AllocError>
     ensures { IfOk result (λ o. IfSome o (λ v. (depth : ℕ)
-        → Gives (list_in (list_in clipped_number)) (suc (suc depth)) reader.old (map (λ w. w.items) v.items) reader.new)) }
+        → Gives (list_in (list_in clipped_number)) (suc (suc depth)) reader.old
+        (map (λ w. w.items) v.items) reader.new)) }
 {
     if !begins_array(reader) {
         return Ok(None);
     }
-    let mut found = Vec::with_capacity(alloc, 16)?;
+    let mut found = Vec::new(alloc);
     'items: while !reader.take_end_array() {
         let Some(writes) = pull_writes(alloc, reader)? else {
             return Ok(None);

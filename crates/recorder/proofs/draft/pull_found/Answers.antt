@@ -14,5 +14,6 @@ returns c = if_some c.found.result (λ q gives.
     found_is _ c.in_ok-draft.field-0 c.in-Some.draft c.in-Some.is c.in_ok-draft.ensures 123 in
     gives_object AreParts clipped_contents 126 c.args.reader.now all [] c.in-Some.draft (found q)
     (c.if-not-begins_object.ensures refl)
-    (subst (λ (r : List Token). GivesMembers AreParts 126 all r c.in-Some.draft) c.in-None.ensures.value.0 members)
+    (subst (λ (r : List Token). GivesMembers AreParts 126 all r c.in-Some.draft) c.in-None.ensures.value.0
+    members)
     gives) c.found.ensures

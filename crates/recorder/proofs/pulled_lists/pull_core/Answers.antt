@@ -13,7 +13,8 @@ items-preserved c depth =
 
 pub items-smaller : goal.items-smaller
 items-smaller c =
-    came_shorter clipped_event (suc 0) c.items.reader c.take_end_array.new.self c.pull_event.new.reader c.in-Some.event
+    came_shorter clipped_event (suc 0) c.items.reader c.take_end_array.new.self c.pull_event.new.reader
+    c.in-Some.event
     c.items-test.ensures (c.in-Some.ensures 0)
 
 pub returns : goal.returns

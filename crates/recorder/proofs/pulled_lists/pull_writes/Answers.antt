@@ -13,7 +13,8 @@ items-preserved c depth =
 
 pub items-smaller : goal.items-smaller
 items-smaller c =
-    came_shorter clipped_number 0 c.items.reader c.take_end_array.new.self c.pull_number.new.reader c.in-Some.number
+    came_shorter clipped_number 0 c.items.reader c.take_end_array.new.self c.pull_number.new.reader
+    c.in-Some.number
     c.items-test.ensures (c.in-Some.ensures 0)
 
 pub returns : goal.returns

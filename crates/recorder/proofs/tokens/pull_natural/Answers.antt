@@ -10,5 +10,6 @@ pub returns-in_ok-n-in-Number : goal.returns-in_ok-n-in-Number
 returns-in_ok-n-in-Number c depth =
     let first : c.args.reader.now ≡ token_of c.in_ok-text.field-0 ∷ c.next.new.self = grind arith in
     let is : c.args.reader.now ≡ Token.number c.in-Number.text.now ∷ c.next.new.self = grind (arith, first) in
-    gives_number natural depth c.args.reader.now c.next.new.self c.in-Number.text.now (unsigned c.in_ok-n-in-Number.n)
+    gives_number natural depth c.args.reader.now c.next.new.self c.in-Number.text.now
+    (unsigned c.in_ok-n-in-Number.n)
     c.in_ok-n-in-Number.n is c.in_ok-n-in-Number.ensures refl

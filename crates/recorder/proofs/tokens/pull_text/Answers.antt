@@ -9,4 +9,5 @@ pub returns-in-String : goal.returns-in-String
 returns-in-String c depth =
     let first : c.args.reader.now ≡ token_of c.in_ok-text.field-0 ∷ c.next.new.self = grind arith in
     let is : c.args.reader.now ≡ Token.string c.in-String.text.now ∷ c.next.new.self = grind (arith, first) in
-    gives_string as_str depth c.args.reader.now c.next.new.self c.in-String.text.now c.in-String.text.now is refl
+    gives_string as_str depth c.args.reader.now c.next.new.self c.in-String.text.now c.in-String.text.now is
+    refl
