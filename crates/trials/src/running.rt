@@ -1,6 +1,8 @@
 //! Random runs.
 
-ghost use Rattle.std.specs.Prelude.{◌≡◌, ◌≤◌, length};
+ghost use Rattle.std.specs.Prelude.{◌≡◌, ◌≤◌, ◌∷◌, ◌↔◌, [], false, length, IsTrue};
+ghost use Rattle.machine.specs.Configuration.{IsAtEnd};
+ghost use Rattle.trials.specs.Judged.{ran};
 ghost use Rattle.trials.specs.Schedule.{IsRandomRun, step_count};
 
 use crate::schedule::{MOST_STEPS, fill, step_count, step_of_word, steps_divisor};
@@ -25,6 +27,22 @@ pub fn run_seeded(machine: &mut Machine, rng: &mut Xoshiro256PlusPlus, attempts:
     }
 }
 
+/// Whether the machine is complete, where it can only be so once a step was taken.
+fn is_at_end(machine: &Machine, moved: bool) -> bool
+    requires { moved ≡ false → ¬ IsAtEnd machine.now }
+    ensures { IsTrue result ↔ IsAtEnd machine.now }
+{
+    moved && machine.is_complete()
+}
+
+/// Attempts a step, and tells whether it was taken; a blocked one changes nothing.
+fn attempt(machine: &mut Machine, step: Step) -> bool
+    ensures ran { machine.new ≡ ran machine.old (step ∷ []) }
+    ensures still { result ≡ false → machine.new ≡ machine.old }
+{
+    machine.step(step).is_ok()
+}
+
 /// The same, with a table that has room for the machine's steps.
 fn run_by(table: &mut [Step], machine: &mut Machine, rng: &mut Xoshiro256PlusPlus, attempts: usize)
     requires room { step_count (length machine.old.program.cores) (length machine.old.program.names)
@@ -35,11 +53,12 @@ fn run_by(table: &mut [Step], machine: &mut Machine, rng: &mut Xoshiro256PlusPlu
     let addresses = machine.program().names().len();
     fill(cores, addresses, table);
     let count = steps_divisor(cores, addresses);
+    let mut moved = true;
     'attempts: for _taken in 0..attempts {
-        if machine.is_complete() {
+        if is_at_end(machine, moved) {
             return;
         }
         let step = step_of_word(cores, addresses, table, count, rng.next_word());
-        machine.run(&[step]);
+        moved = attempt(machine, step);
     }
 }

@@ -20,6 +20,7 @@ attempts-init c = record {
   words = refl;
   before = λ n less. absurd (omega (arith, less));
   within = omega arith;
+  still = λ no. absurd (let clash : true ≡ false = no in cc);
 }
 
 pub attempts-preserved : goal.attempts-preserved
@@ -42,25 +43,28 @@ attempts-preserved c =
     ∙ (ap (λ (k : ℕ). step_of_word (length m.program.cores) k c.next_word.result) addresses
     ∙ ap (λ (w : ℕ). step_of_word (length m.program.cores) (length m.program.names) w) word)) in
     record {
-      leads = c.run.ensures ∙ (ap (λ (x : Configuration). ran x (c.step_of_word-step.result ∷ [])) h.leads
+      leads = c.attempt-moved.ensures.ran ∙ (ap (λ (x : Configuration). ran x (c.step_of_word-step.result ∷ [])) h.leads
           ∙ (ap (λ (s : Step). ran (configuration_behind m g n) (s ∷ [])) named ∙ sym (behind_more m g n)));
       words = ap (λ (x : ℕ × List ℕ). x.1) c.next_word.ensures
           ∙ (ap (λ (r : List ℕ). (plus_plus r).1) h.words ∙ sym (after_more n g));
       before = below_more (λ (k : ℕ). IsAtEnd (configuration_behind m g k) → ⊥) n h.before
           (λ end. absurd (let clash : true ≡ false =
-          sym (c.is_complete.ensures.1 (subst IsAtEnd (sym h.leads) end)) ∙ c.if-is_complete.false in cc));
+          sym (c.is_at_end.ensures.1 (subst IsAtEnd (sym h.leads) end)) ∙ c.if-is_at_end.false in cc));
       within = omega (arith, c.attempts-test.true);
+      still = λ blocked end. absurd (let clash : true ≡ false =
+          sym (c.is_at_end.ensures.1 (subst IsAtEnd (c.attempt-moved.ensures.still blocked) end))
+          ∙ c.if-is_at_end.false in cc);
     }
 
-pub returns-then-is_complete : goal.returns-then-is_complete
-returns-then-is_complete c =
+pub returns-then-is_at_end : goal.returns-then-is_at_end
+returns-then-is_at_end c =
     let h = c.attempts.invariant in
     record {
       taken = c.attempts._taken;
       within = h.within;
       leads = h.leads;
       words = h.words;
-      ended = inl (c.is_complete.ensures.0 c.if-is_complete.true);
+      ended = inl (c.is_at_end.ensures.0 c.if-is_at_end.true);
       before = h.before;
     }
 

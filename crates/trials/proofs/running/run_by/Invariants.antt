@@ -1,4 +1,4 @@
-use Rattle.std.proofs.Common.{◌≡◌, ◌<◌, ◌≤◌, ℕ}
+use Rattle.std.proofs.Common.{◌≡◌, ◌<◌, ◌≤◌, ℕ, false}
 use Rattle.litmus.specs.Random.{after_words}
 use Rattle.machine.specs.Configuration.{IsAtEnd}
 use Rattle.trials.specs.Schedule.{configuration_behind}
@@ -12,4 +12,5 @@ invariant-attempts l =
       words : l.rng ≡ after_words l._taken l.initial.rng;
       before : (n : ℕ) → n < l._taken → ¬ IsAtEnd (configuration_behind l.initial.machine l.initial.rng n);
       within : l._taken ≤ l.attempts;
+      still : l.moved ≡ false → ¬ IsAtEnd l.machine;
     }
