@@ -1,4 +1,5 @@
-//! Lists of a recording, read from the tokens of its text.
+//! Lists of a recording, read from the tokens of its text. Nothing is told of one with more cores or
+//! addresses than a recording may have, so that a long text takes no room for them.
 
 ghost use Rattle.std.specs.Prelude.{ℕ, suc, map, IfOk, IfSome};
 ghost use Rattle.recorder.specs.Reading.{list_in, value_in};
@@ -9,8 +10,11 @@ use crate::event::Event;
 use crate::fields::pull_event;
 use crate::tokens::{begins_array, pull_number, pull_value};
 use json::Reader;
-use litmus::EventId;
+use litmus::{EventId, MAX_ADDRESSES, MAX_CORES};
 use std::alloc::{AllocError, Global};
+
+/// For how many events or numbers a list has room at first.
+const ROOM: usize = 32;
 
 /// The events of a core.
 fn pull_core(alloc: Global, reader: &mut Reader<'_>) -> Result<Option<Vec<Event>>, AllocError>
@@ -20,7 +24,7 @@ fn pull_core(alloc: Global, reader: &mut Reader<'_>) -> Result<Option<Vec<Event>
     if !begins_array(reader) {
         return Ok(None);
     }
-    let mut found = Vec::new(alloc);
+    let mut found = Vec::with_capacity(alloc, ROOM)?;
     'items: while !reader.take_end_array() {
         let Some(event) = pull_event(reader) else {
             return Ok(None);
@@ -38,7 +42,7 @@ fn pull_writes(alloc: Global, reader: &mut Reader<'_>) -> Result<Option<Vec<Even
     if !begins_array(reader) {
         return Ok(None);
     }
-    let mut found = Vec::new(alloc);
+    let mut found = Vec::with_capacity(alloc, ROOM)?;
     'items: while !reader.take_end_array() {
         let Some(number) = pull_number(reader) else {
             return Ok(None);
@@ -59,7 +63,7 @@ pub(crate) fn pull_values(
     if !begins_array(reader) {
         return Ok(None);
     }
-    let mut found = Vec::new(alloc);
+    let mut found = Vec::with_capacity(alloc, MAX_ADDRESSES)?;
     'items: while !reader.take_end_array() {
         let Some(number) = pull_value(reader) else {
             return Ok(None);
@@ -81,8 +85,11 @@ pub(crate) fn pull_cores(
     if !begins_array(reader) {
         return Ok(None);
     }
-    let mut found = Vec::new(alloc);
+    let mut found = Vec::with_capacity(alloc, MAX_CORES)?;
     'items: while !reader.take_end_array() {
+        if found.len() == MAX_CORES {
+            return Ok(None);
+        }
         let Some(core) = pull_core(alloc, reader)? else {
             return Ok(None);
         };
@@ -103,8 +110,11 @@ pub(crate) fn pull_lists(
     if !begins_array(reader) {
         return Ok(None);
     }
-    let mut found = Vec::new(alloc);
+    let mut found = Vec::with_capacity(alloc, MAX_ADDRESSES)?;
     'items: while !reader.take_end_array() {
+        if found.len() == MAX_ADDRESSES {
+            return Ok(None);
+        }
         let Some(writes) = pull_writes(alloc, reader)? else {
             return Ok(None);
         };
