@@ -1,81 +1,133 @@
-//! Times the judge in process, from the text of a recording to the text of its verdict, beside a
-//! plain Rust program that does the same, and compares the texts of the two.
+//! Times the judge in process, from the text of a recording to the text of its verdict, beside a plain
+//! Rust judge that does the same behind two readers, one of any JSON and one of this layout alone, and
+//! compares the texts.
+//!
+//! judging [--spaced] [EVENTS [KIND [SEED]]]
 //!
 //! `bench/judge_in_process` builds it against the static library of the crate `verdicts` and runs it.
-//! With a number it prints a cyclic recording of so many events.
+//! With EVENTS it prints a recording of so many events instead: of the kind `ordered`, `cyclic`,
+//! `overlook` or `ring`, or else a cyclic one, from the seed SEED, or else 0. With `--spaced` the texts
+//! have their keys in another order and a blank behind each comma and colon; the reader of one layout is
+//! then left out.
 
+mod by_key;
+mod forced;
+mod kinds;
+mod library;
+mod making;
+mod newer;
 mod plain;
+mod reader;
 mod recording;
+mod table;
+mod text;
+mod timing;
+mod tree;
 
-use recording::{Kind, recording};
-use std::time::{Duration, Instant};
+use kinds::{Kind, recording};
+use std::hint::black_box;
+use table::Line;
+use text::Form;
+use timing::Program;
 
-unsafe extern "C" {
-    fn verdicts_judge(
-        text: *const u8,
-        text_len: usize,
-        out: *mut u8,
-        out_len: usize,
-        len: *mut usize,
-    ) -> u8;
+const SIZES: [usize; 5] = [32, 64, 128, 256, 512];
+
+/// How many recordings of each size and kind there are, each from a seed of its own.
+const SEEDS: u64 = 16;
+
+/// How often each program judges them.
+const ROUNDS: usize = 201;
+
+/// The room for the text of a verdict, in bytes: 512 rows of 512 labels take less than 1 MB.
+const ROOM: usize = 2 << 20;
+
+/// The verdict of the plain judge, by way of a tree of any JSON.
+fn by_tree(text: &str) -> Vec<u8> {
+    plain::judge(&by_key::read(text).expect("a recording"))
 }
 
-/// Writes the text of the verdict on a recording to the front of `out`, and answers its length.
-fn judge(text: &str, out: &mut [u8]) -> usize {
-    let mut len = 0;
-    // The library reads `text` and writes `out`, each within its length, and `len`.
-    let status = unsafe {
-        verdicts_judge(
-            text.as_ptr(),
-            text.len(),
-            out.as_mut_ptr(),
-            out.len(),
-            &mut len,
-        )
+/// The verdict of the plain judge, by the reader of one layout.
+fn by_form(text: &str) -> Vec<u8> {
+    plain::judge(&reader::read(text))
+}
+
+/// Compares the verdicts of all programs.
+fn compare(text: &str, form: Form, beginning: &str, out: &mut [u8]) {
+    let verdict = library::judge(text, out);
+    assert!(
+        verdict.starts_with(beginning.as_bytes()),
+        "no verdict {beginning}"
+    );
+    assert!(verdict == by_tree(text), "tree: another verdict");
+    if let Form::Own = form {
+        assert!(verdict == by_form(text), "form: another verdict");
+    }
+}
+
+fn timed(events: usize, kind: Kind, form: Form, out: &mut [u8]) -> Line {
+    let text = |seed| form.text(&recording(events, kind, seed));
+    let row: Vec<String> = (0..SEEDS).map(text).collect();
+    for text in &row {
+        compare(text, form, &kind.beginning(events), out);
+    }
+    let mut proved = |text: &str| {
+        black_box(library::judge(black_box(text), out));
     };
-    assert_eq!(status, 0, "no verdict");
-    len
+    let mut tree = |text: &str| {
+        black_box(by_tree(black_box(text)));
+    };
+    let mut one_layout = |text: &str| {
+        black_box(by_form(black_box(text)));
+    };
+    let mut programs: Vec<Program> = vec![&mut proved, &mut tree];
+    if let Form::Own = form {
+        programs.push(&mut one_layout);
+    }
+    let times = timing::in_turn(ROUNDS, &row, &mut programs);
+    Line {
+        events,
+        kind,
+        times,
+    }
 }
 
-/// The median of the times of so many calls, in milliseconds.
-fn median(calls: usize, mut call: impl FnMut()) -> f64 {
-    let mut times: Vec<Duration> = (0..calls)
-        .map(|_| {
-            let start = Instant::now();
-            call();
-            start.elapsed()
-        })
-        .collect();
-    times.sort();
-    times[calls / 2].as_secs_f64() * 1e3
+fn time_all(form: Form) {
+    let mut out = vec![0; ROOM];
+    let mut lines = Vec::new();
+    table::print_head(match form {
+        Form::Own => 2,
+        Form::Spaced => 1,
+    });
+    for events in SIZES {
+        for kind in Kind::ALL {
+            let line = timed(events, kind, form, &mut out);
+            line.print();
+            lines.push(line);
+        }
+    }
+    table::print_growth(&lines, &SIZES);
 }
 
 fn main() {
-    if let Some(events) = std::env::args().nth(1) {
-        let events = events.parse().expect("a number of events");
-        println!("{}", recording(events, Kind::Cyclic));
+    let (flags, words): (Vec<String>, Vec<String>) = std::env::args()
+        .skip(1)
+        .partition(|word| word.starts_with("--"));
+    let form = match flags.as_slice() {
+        [] => Form::Own,
+        [flag] if flag == "--spaced" => Form::Spaced,
+        _ => panic!("no such option"),
+    };
+    let Some(events) = words.first() else {
+        time_all(form);
         return;
-    }
-    let mut out = vec![0; 1 << 20];
-    println!("events  kind     first line   proved    plain");
-    for events in [64, 128, 256] {
-        for kind in [Kind::Ordered, Kind::Cyclic] {
-            let text = recording(events, kind);
-            let len = judge(&text, &mut out);
-            let verdict = std::str::from_utf8(&out[..len]).expect("a verdict is ASCII");
-            let first: String = verdict.chars().take_while(|c| !matches!(c, ':' | '\n')).collect();
-            assert!(kind.begins(&first), "{first}");
-            assert_eq!(verdict, plain::judge(&text), "the two judges differ");
-            let proved = median(1001, || {
-                std::hint::black_box(judge(std::hint::black_box(&text), &mut out));
-            });
-            let plain = median(1001, || {
-                std::hint::black_box(plain::judge(std::hint::black_box(&text)));
-            });
-            println!(
-                "{events:6}  {:7}  {first:11}  {proved:.3} ms  {plain:.3} ms",
-                kind.name()
-            );
-        }
-    }
+    };
+    let events = events.parse().expect("a number of events");
+    let kind = words
+        .get(1)
+        .map_or(Some(Kind::Cyclic), |name| Kind::named(name));
+    let seed = words.get(2).map_or(0, |seed| seed.parse().expect("a seed"));
+    println!(
+        "{}",
+        form.text(&recording(events, kind.expect("a kind"), seed))
+    );
 }
