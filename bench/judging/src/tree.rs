@@ -170,14 +170,14 @@ impl Reader<'_> {
     /// The string that begins with the quote here.
     fn string(&mut self) -> Option<String> {
         self.place += 1;
-        let mut read = String::new();
+        let mut read = self.plain()?.to_owned();
         loop {
-            read.push_str(self.plain()?);
             match self.next()? {
                 b'"' => return Some(read),
                 b'\\' => read.push(self.escaped()?),
                 _ => return None,
             }
+            read.push_str(self.plain()?);
         }
     }
 
