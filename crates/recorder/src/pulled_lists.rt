@@ -19,7 +19,7 @@ const ROOM: usize = 32;
 /// The events of a core.
 fn pull_core(alloc: Global, reader: &mut Reader<'_>) -> Result<Option<Vec<Event>>, AllocError>
     ensures { IfOk result (λ o. IfSome o (λ v. (depth : ℕ)
-        → Gives (list_in clipped_event) (suc (suc depth)) reader.old (v.items) reader.new)) }
+        → Gives (list_in clipped_event) (suc (suc depth)) reader.old v.items reader.new)) }
 {
     if !begins_array(reader) {
         return Ok(None);
@@ -37,7 +37,7 @@ fn pull_core(alloc: Global, reader: &mut Reader<'_>) -> Result<Option<Vec<Event>
 /// A write list.
 fn pull_writes(alloc: Global, reader: &mut Reader<'_>) -> Result<Option<Vec<EventId>>, AllocError>
     ensures { IfOk result (λ o. IfSome o (λ v. (depth : ℕ)
-        → Gives (list_in clipped_number) (suc depth) reader.old (v.items) reader.new)) }
+        → Gives (list_in clipped_number) (suc depth) reader.old v.items reader.new)) }
 {
     if !begins_array(reader) {
         return Ok(None);
@@ -58,7 +58,7 @@ pub(crate) fn pull_values(
     reader: &mut Reader<'_>,
 ) -> Result<Option<Vec<u32>>, AllocError>
     ensures { IfOk result (λ o. IfSome o (λ v. (depth : ℕ)
-        → Gives (list_in value_in) (suc depth) reader.old (v.items) reader.new)) }
+        → Gives (list_in value_in) (suc depth) reader.old v.items reader.new)) }
 {
     if !begins_array(reader) {
         return Ok(None);
