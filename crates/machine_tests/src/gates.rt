@@ -1,11 +1,14 @@
 //! Threads that a gate holds, and runs that come to no end.
 
-use crate::plain::{STORE_BUFFERING, program};
+use crate::plain::{STORE_BUFFERING, is_driven, program};
 use litmus::{Gate, OpenGate};
 use live::{LiveError, drive};
+use std::alloc::Global;
+use std::sync::Wait;
 use std::sync::atomic::{AtomicBool, Ordering};
 use std::test::*;
 use std::thread;
+use std::thread::Threads;
 
 const LIMIT: usize = 100_000;
 
@@ -38,24 +41,38 @@ impl Gate for Held {
 
 #[test]
 fn a_core_waits_for_no_other(rt: HostRuntime) -> Result<(), Fail> {
-    let program = program(rt.alloc(), STORE_BUFFERING)?;
     let gate = Held {
         taken: AtomicBool::new(false),
         seen: AtomicBool::new(false),
     };
-    let traced = drive(&rt, rt.alloc(), program, 8, LIMIT, &gate)?;
+    assert!(rt; is_driven(&rt, rt.alloc(), STORE_BUFFERING, 8, &gate)?);
     assert!(rt; gate.seen.load(Ordering::SeqCst));
-    assert!(rt; traced.machine().is_complete());
     Ok(())
+}
+
+/// How many steps threads take of store buffering with this limit.
+fn steps_taken<R: Threads + Wait + Sync>(
+    rt: &R,
+    alloc: Global,
+    limit: usize,
+) -> Result<usize, Fail> {
+    let program = program(alloc, STORE_BUFFERING)?;
+    let traced = drive(rt, alloc, program, 8, limit, &OpenGate)?;
+    Ok(traced.trace().len())
+}
+
+/// Whether threads can't drive store buffering without room for a store.
+fn is_roomless<R: Threads + Wait + Sync>(rt: &R, alloc: Global) -> Result<bool, Fail> {
+    let program = program(alloc, STORE_BUFFERING)?;
+    match drive(rt, alloc, program, 0, LIMIT, &OpenGate) {
+        Ok(_) => Ok(false),
+        Err(error) => Ok(error == LiveError::Stranger),
+    }
 }
 
 #[test]
 fn a_full_trace_or_a_store_without_room_ends_a_run(rt: HostRuntime) -> Result<(), Fail> {
-    let short = program(rt.alloc(), STORE_BUFFERING)?;
-    let traced = drive(&rt, rt.alloc(), short, 8, 3, &OpenGate)?;
-    assert_eq!(rt; traced.trace().len(), 3);
-    let roomless = program(rt.alloc(), STORE_BUFFERING)?;
-    let answer = drive(&rt, rt.alloc(), roomless, 0, LIMIT, &OpenGate);
-    assert_eq!(rt; answer.err(), Some(LiveError::Stranger));
+    assert!(rt; steps_taken(&rt, rt.alloc(), 3)? == 3);
+    assert!(rt; is_roomless(&rt, rt.alloc())?);
     Ok(())
 }

@@ -2,32 +2,37 @@
 //! then the usual one. With ample memory each run ends as usual; `bench/refuse_growths` refuses each
 //! growth in turn.
 
-use crate::plain::STORE_BUFFERING;
-use litmus::{LitmusError, OpenGate, parse};
+use crate::plain::{STORE_BUFFERING, is_order};
+use litmus::{LitmusError, OpenGate, Program, parse};
 use live::{LiveError, drive};
-use order::check;
+use machine::Machine;
 use std::alloc::Global;
 use std::sync::Wait;
 use std::test::Fail;
 use std::thread::Threads;
 
+/// Whether a machine is complete, and TSO allows the order of what it performed; none where memory is wanting.
+fn performs_an_order(alloc: Global, machine: Machine) -> Option<bool> {
+    match Vec::from_slice(alloc, machine.performed()) {
+        Ok(performed) => Some(is_order(machine, performed.as_slice())),
+        Err(_) => None,
+    }
+}
+
 /// Whether threads drive a program to its end, in an order of TSO; none where memory or a thread is wanting.
+fn is_driven<R: Threads + Wait + Sync>(rt: &R, alloc: Global, program: Program) -> Option<bool> {
+    match drive(rt, alloc, program, 8, 100_000, &OpenGate) {
+        Ok(traced) => performs_an_order(alloc, traced.into_machine()),
+        Err(LiveError::OutOfMemory | LiveError::NoThread) => None,
+        Err(_) => Some(false),
+    }
+}
+
+/// The same of the program of a text.
 fn is_usual<R: Threads + Wait + Sync>(rt: &R, alloc: Global, text: &str) -> Option<bool> {
-    let program = match parse(alloc, text.as_bytes()) {
-        Ok(program) => program,
-        Err(LitmusError::OutOfMemory) => return None,
-        Err(_) => return Some(false),
-    };
-    let machine = match drive(rt, alloc, program, 8, 100_000, &OpenGate) {
-        Ok(traced) => traced.into_machine(),
-        Err(LiveError::OutOfMemory | LiveError::NoThread) => return None,
-        Err(_) => return Some(false),
-    };
-    let Ok(performed) = Vec::from_slice(alloc, machine.performed()) else {
-        return None;
-    };
-    match machine.finish() {
-        Ok(recording) => Some(check(&recording, performed.as_slice())),
+    match parse(alloc, text.as_bytes()) {
+        Ok(program) => is_driven(rt, alloc, program),
+        Err(LitmusError::OutOfMemory) => None,
         Err(_) => Some(false),
     }
 }

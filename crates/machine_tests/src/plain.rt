@@ -1,10 +1,14 @@
 //! Calls without a clause, for tests that hand them written texts and steps: with the exact clauses of the
 //! calls themselves such a test took minutes to prove.
 
-use litmus::{Program, parse};
+use litmus::{EventId, Gate, Program, parse};
+use live::drive;
 use machine::{Blocked, Machine, Step};
+use order::check;
 use std::alloc::Global;
+use std::sync::Wait;
 use std::test::Fail;
+use std::thread::Threads;
 
 /// Store buffering.
 pub const STORE_BUFFERING: &str = "core\nst x 1\nld y\ncore\nst y 1\nld x\n";
@@ -22,4 +26,25 @@ pub fn step(machine: &mut Machine, step: Step) -> Result<(), Blocked> {
 /// Runs steps.
 pub fn run(machine: &mut Machine, steps: &[Step]) {
     machine.run(steps);
+}
+
+/// Whether a machine is complete, and TSO allows this order of its recording.
+pub fn is_order(machine: Machine, order: &[EventId]) -> bool {
+    match machine.finish() {
+        Ok(recording) => check(&recording, order),
+        Err(_) => false,
+    }
+}
+
+/// Whether threads drive a program to its end.
+pub fn is_driven<R: Threads + Wait + Sync, G: Gate>(
+    rt: &R,
+    alloc: Global,
+    text: &str,
+    capacity: usize,
+    gate: &G,
+) -> Result<bool, Fail> {
+    let program = program(alloc, text)?;
+    let traced = drive(rt, alloc, program, capacity, 100_000, gate)?;
+    Ok(traced.machine().is_complete())
 }

@@ -1,9 +1,9 @@
 //! What a gate is told, and who takes the steps.
 
-use crate::plain::program;
-use litmus::{EventId, Gate, OpenGate};
+use crate::plain::{is_driven, program};
+use litmus::{Gate, OpenGate};
 use live::drive;
-use machine::Step;
+use machine::{Machine, Step};
 use recorder::Event;
 use std::alloc::Global;
 use std::sync::Wait;
@@ -60,25 +60,24 @@ impl Gate for Told {
     }
 }
 
+/// Whether each core's first step began once and was done once.
+fn is_told(gate: &Told) -> bool {
+    for told in &gate.cores {
+        if told.load(Ordering::SeqCst) != 2 {
+            return false;
+        }
+    }
+    !gate.others.load(Ordering::SeqCst)
+}
+
 #[test]
 fn each_core_begins_once_and_is_done_once(rt: HostRuntime) -> Result<(), Fail> {
     let gate = Told {
         cores: [AtomicU64::new(0), AtomicU64::new(0), AtomicU64::new(0)],
         others: AtomicBool::new(false),
     };
-    let traced = drive(
-        &rt,
-        rt.alloc(),
-        program(rt.alloc(), THREE)?,
-        2,
-        LIMIT,
-        &gate,
-    )?;
-    assert!(rt; traced.machine().is_complete());
-    assert!(rt; !gate.others.load(Ordering::SeqCst));
-    for told in &gate.cores {
-        assert_eq!(rt; told.load(Ordering::SeqCst), 2);
-    }
+    assert!(rt; is_driven(&rt, rt.alloc(), THREE, 2, &gate)?);
+    assert!(rt; is_told(&gate));
     Ok(())
 }
 
@@ -116,6 +115,24 @@ impl Gate for Between {
     }
 }
 
+/// What core 1 reads in a machine that is complete.
+fn read_of(machine: Machine) -> Option<Event> {
+    match machine.finish() {
+        Ok(recording) => recording.event(1).map(|(_, event)| *event),
+        Err(_) => None,
+    }
+}
+
+/// The machine that threads drive to its end while the gate holds core 0.
+fn machine_between<R: Threads + Wait + Sync>(
+    rt: &R,
+    alloc: Global,
+    gate: &Between,
+) -> Result<Machine, Fail> {
+    let program = program(alloc, WRITE_AND_READ)?;
+    Ok(drive(rt, alloc, program, 2, LIMIT, gate)?.into_machine())
+}
+
 /// What core 1 reads while core 0 is held at a call of the gate.
 fn read_between<R: Threads + Wait + Sync>(
     rt: &R,
@@ -128,44 +145,46 @@ fn read_between<R: Threads + Wait + Sync>(
         passed: AtomicBool::new(false),
         seen: AtomicBool::new(false),
     };
-    let program = program(alloc, WRITE_AND_READ)?;
-    let traced = drive(rt, alloc, program, 2, LIMIT, &gate)?;
-    if !gate.seen.load(Ordering::SeqCst) {
-        return Ok(None);
-    }
-    let Ok(recording) = traced.into_machine().finish() else {
-        return Ok(None);
-    };
-    Ok(recording.event(1).map(|(_, event)| *event))
+    let read = read_of(machine_between(rt, alloc, &gate)?);
+    Ok(if gate.seen.load(Ordering::SeqCst) {
+        read
+    } else {
+        None
+    })
 }
 
 #[test]
 fn a_gate_is_told_before_a_step_and_behind_it(rt: HostRuntime) -> Result<(), Fail> {
-    let source: Option<EventId> = Some(0);
-    assert_eq!(rt;
-        read_between(&rt, rt.alloc(), false)?,
-        Some(Event::L {
-            a: 0,
-            r: 0,
-            s: None
-        })
-    );
-    assert_eq!(rt;
-        read_between(&rt, rt.alloc(), true)?,
-        Some(Event::L {
-            a: 0,
-            r: 1,
-            s: source
-        })
-    );
+    let before = Event::L {
+        a: 0,
+        r: 0,
+        s: None,
+    };
+    let behind = Event::L {
+        a: 0,
+        r: 1,
+        s: Some(0),
+    };
+    assert!(rt; read_between(&rt, rt.alloc(), false)? == Some(before));
+    assert!(rt; read_between(&rt, rt.alloc(), true)? == Some(behind));
     Ok(())
+}
+
+/// Whether threads drive a program by these steps.
+fn has_trace<R: Threads + Wait + Sync>(
+    rt: &R,
+    alloc: Global,
+    text: &str,
+    steps: &[Step],
+) -> Result<bool, Fail> {
+    let program = program(alloc, text)?;
+    let traced = drive(rt, alloc, program, 1, LIMIT, &OpenGate)?;
+    Ok(traced.trace() == steps)
 }
 
 #[test]
 fn a_store_wants_the_thread_for_caches_and_the_one_for_drains(rt: HostRuntime) -> Result<(), Fail> {
-    let program = program(rt.alloc(), "core\nst x 1\n")?;
-    let traced = drive(&rt, rt.alloc(), program, 1, LIMIT, &OpenGate)?;
     let steps = [Step::Exec(0), Step::GetM(0, 0), Step::Drain(0)];
-    assert_eq!(rt; traced.trace(), steps.as_slice());
+    assert!(rt; has_trace(&rt, rt.alloc(), "core\nst x 1\n", &steps)?);
     Ok(())
 }
