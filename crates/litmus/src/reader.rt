@@ -21,7 +21,8 @@ pub struct Reader {
 impl Reader {
     ghost use Rattle.std.specs.Prelude.{◌≡◌, ◌≤◌, ◌++◌, ◌∷◌, [], ℕ, IfOk, OnOk, length};
     ghost use Rattle.litmus.specs.Built.{draft, state};
-    ghost use Rattle.litmus.specs.Drafts.{IsDraft, body_step, filled, init_step, plain, drafted_program, step};
+    ghost use Rattle.litmus.specs.Drafts.{IsDraft, body_step, drafted_program, filled, init_step, plain};
+    ghost use Rattle.litmus.specs.Drafts.{step};
     ghost use Rattle.litmus.specs.Numbers.{IsValue};
     ghost use Rattle.litmus.specs.Reading.{AnswersLine, seen_as};
     ghost use Rattle.litmus.specs.Steps.{compare_step, core_step, fence_step, load_step, write_step};

@@ -11,7 +11,8 @@ use std::sync::Wait;
 use std::test::Fail;
 use std::thread::Threads;
 
-/// Whether a machine is complete, and TSO allows the order of what it performed; none where memory is wanting.
+/// Whether a machine is complete, and TSO allows the order of what it performed; none where memory is
+/// wanting.
 fn performs_an_order(alloc: Global, machine: Machine) -> Option<bool> {
     match Vec::from_slice(alloc, machine.performed()) {
         Ok(performed) => Some(is_order(machine, performed.as_slice())),

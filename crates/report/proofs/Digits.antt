@@ -56,8 +56,10 @@ three_digits xs i n low some small =
     let hundreds : n / 10 / 10 ≡ n / 100 = omega arith in
     let text : decimal n ≡ (48 + n / 10 / 10) ∷ (48 + n / 10 % 10) ∷ (48 + n % 10) ∷ [] =
     decimal_step n (omega arith) (omega arith)
-    ∙ ap (λ (digits : List ℕ). digits ++ (48 + n % 10) ∷ []) (decimal_step (n / 10) (omega arith) (omega arith)
-    ∙ ap (λ (digits : List ℕ). digits ++ (48 + n / 10 % 10) ∷ []) (decimal_digit (n / 10 / 10) (omega arith))) in
+    ∙ ap (λ (digits : List ℕ). digits ++ (48 + n % 10) ∷ [])
+    (decimal_step (n / 10) (omega arith) (omega arith)
+    ∙ ap (λ (digits : List ℕ). digits ++ (48 + n / 10 % 10) ∷ [])
+    (decimal_digit (n / 10 / 10) (omega arith))) in
     three_more xs i (48 + n / 100) (48 + n / 10 % 10) (48 + n % 10) low
     ∙ ap (λ (d : ℕ). take i xs ++ (48 + d) ∷ (48 + n / 10 % 10) ∷ (48 + n % 10) ∷ []) (sym hundreds)
     ∙ ap (λ (digits : List ℕ). take i xs ++ digits) (sym text)

@@ -43,7 +43,8 @@ attempts-preserved c =
     ∙ (ap (λ (k : ℕ). step_of_word (length m.program.cores) k c.next_word.result) addresses
     ∙ ap (λ (w : ℕ). step_of_word (length m.program.cores) (length m.program.names) w) word)) in
     record {
-      leads = c.attempt-moved.ensures.ran ∙ (ap (λ (x : Configuration). ran x (c.step_of_word-step.result ∷ [])) h.leads
+      leads = c.attempt-moved.ensures.ran
+          ∙ (ap (λ (x : Configuration). ran x (c.step_of_word-step.result ∷ [])) h.leads
           ∙ (ap (λ (s : Step). ran (configuration_behind m g n) (s ∷ [])) named ∙ sym (behind_more m g n)));
       words = ap (λ (x : ℕ × List ℕ). x.1) c.next_word.ensures
           ∙ (ap (λ (r : List ℕ). (plus_plus r).1) h.words ∙ sym (after_more n g));
