@@ -1,12 +1,17 @@
 //! Campaigns, their desks and their ledgers.
 
+ghost use Rattle.std.specs.Prelude.{◌≤◌};
+ghost use Rattle.litmus.specs.declared.limits.TheConstants.{MAX_WORKERS};
+
 use litmus::{Gate, OpenGate, Shape};
 use machine::Fault;
 use report::campaign_text;
 use std::alloc::Global;
+use std::sync::Wait;
 use std::sync::atomic::{AtomicBool, AtomicU64, Ordering};
 use std::test::Fail;
 use std::thread;
+use std::thread::Threads;
 use trials::{Campaign, Ledger, run_campaign};
 
 // The campaign of these cores, operations, addresses, trials and attempts, on machines with this fault.
@@ -16,26 +21,60 @@ pub fn campaign(
     attempts: usize,
     fault: Fault,
 ) -> Result<Campaign, Fail> {
-    let shape = Shape::new(shape.0, shape.1, shape.2).ok().ok_or("a shape")?;
-    let campaign = Campaign::new(shape, 0, trials, attempts, 8, fault)
-        .ok()
-        .ok_or("a campaign")?;
+    let Ok(shape) = Shape::new(shape.0, shape.1, shape.2) else {
+        return Err("a shape")?;
+    };
+    let Ok(campaign) = Campaign::new(shape, 0, trials, attempts, 8, fault) else {
+        return Err("a campaign")?;
+    };
     Ok(campaign)
 }
 
+// Whether the ledger counts one order, one unfinished run, one overlook and two cycles of 6.
+fn has_counts(ledger: &Ledger) -> bool {
+    ledger.trials == 5
+        && ledger.ordered == 1
+        && ledger.unfinished == 1
+        && ledger.overlook == 1
+        && ledger.cycles.as_slice() == [(6, 2)].as_slice()
+        && ledger.first == Some(2)
+}
+
+// Whether the text of the ledger is this one.
+fn has_text(alloc: Global, ledger: &Ledger, lines: &str) -> Result<bool, Fail> {
+    let Ok(text) = campaign_text(alloc, ledger) else {
+        return Err("memory")?;
+    };
+    Ok(text.as_slice() == lines.as_bytes())
+}
+
+const LINES: &str =
+    "trials 5\nordered 1\nunfinished 1\noverlook 1\ncycle 6: 2\nfirst violation: trial 2\n";
+
 #[test]
 fn a_ledger_counts_codes(rt: HostRuntime) -> Result<(), Fail> {
-    let ledger = Ledger::count(rt.alloc(), &[3, 2, 22, 1_049_600, 22])
-        .ok()
-        .ok_or("memory")?;
-    assert!(rt; ledger.trials == 5 && ledger.ordered == 1 && ledger.unfinished == 1);
-    assert!(rt; ledger.overlook == 1 && ledger.cycles.as_slice() == [(6, 2)].as_slice());
-    assert!(rt; ledger.first == Some(2));
-    let text = campaign_text(rt.alloc(), &ledger).ok().ok_or("memory")?;
-    let lines =
-        b"trials 5\nordered 1\nunfinished 1\noverlook 1\ncycle 6: 2\nfirst violation: trial 2\n";
-    assert_eq!(rt; text.as_slice(), lines.as_slice());
+    let Ok(ledger) = Ledger::count(rt.alloc(), &[3, 2, 22, 1_049_600, 22]) else {
+        return Err("memory")?;
+    };
+    assert!(rt; has_counts(&ledger));
+    assert!(rt; has_text(rt.alloc(), &ledger, LINES)?);
     Ok(())
+}
+
+// The ledger of a campaign.
+fn ledger_by<R: Threads + Wait + Sync, G: Gate>(
+    rt: &R,
+    alloc: Global,
+    campaign: &Campaign,
+    workers: usize,
+    gate: &G,
+) -> Result<Ledger, Fail>
+    requires { (1 ≤ workers) × (workers ≤ MAX_WORKERS) }
+{
+    match run_campaign(rt, alloc, campaign, workers, gate) {
+        Ok(ledger) => Ok(ledger),
+        Err(_) => Err("memory")?,
+    }
 }
 
 // What was told of each trial, by worker w of two: 1 + w that it begins, 2 more that it is a violation, 4
@@ -101,26 +140,25 @@ fn told_of(alloc: Global, trials: usize) -> Result<Told, Fail> {
     })
 }
 
+// Whether 64 trials were told of, each as it begins and is done, by one worker, and 17 violations.
+fn is_told(gate: &Told) -> bool {
+    !gate.others.load(Ordering::SeqCst) && gate.count(5, 8) == 64 && gate.count(7, 8) == 17
+}
+
 #[test]
 fn each_trial_begins_once_and_is_done_once_by_one_worker(rt: HostRuntime) -> Result<(), Fail> {
     let faulty = campaign((2, 4, 2), 64, 100_000, Fault::NoBypass)?;
     let gate = told_of(rt.alloc(), 64)?;
-    let ledger = run_campaign(&rt, rt.alloc(), &faulty, 2, &gate)
-        .ok()
-        .ok_or("memory")?;
-    assert!(rt; !gate.others.load(Ordering::SeqCst));
-    assert_eq!(rt; gate.count(5, 8), 64);
-    assert_eq!(rt; gate.count(7, 8), 17);
-    assert_eq!(rt; ledger.overlook, 17);
+    let ledger = ledger_by(&rt, rt.alloc(), &faulty, 2, &gate)?;
+    assert!(rt; is_told(&gate));
+    assert!(rt; ledger.overlook == 17);
     Ok(())
 }
 
 #[test]
 fn a_trial_of_one_attempt_is_unfinished(rt: HostRuntime) -> Result<(), Fail> {
     let short = campaign((2, 1, 1), 3, 1, Fault::None)?;
-    let ledger = run_campaign(&rt, rt.alloc(), &short, 1, &OpenGate)
-        .ok()
-        .ok_or("memory")?;
+    let ledger = ledger_by(&rt, rt.alloc(), &short, 1, &OpenGate)?;
     assert!(rt; ledger.trials == 3 && ledger.unfinished == 3 && ledger.first.is_none());
     Ok(())
 }
@@ -150,6 +188,17 @@ impl Gate for Held {
     }
 }
 
+// Whether two ledgers of 64 trials say the same.
+fn are_equal(held: &Ledger, alone: &Ledger) -> bool {
+    held.trials == 64
+        && alone.trials == 64
+        && held.ordered == alone.ordered
+        && held.unfinished == alone.unfinished
+        && held.overlook == alone.overlook
+        && held.first == alone.first
+        && held.cycles.as_slice() == alone.cycles.as_slice()
+}
+
 #[test]
 fn a_worker_takes_what_another_leaves(rt: HostRuntime) -> Result<(), Fail> {
     let fences = campaign((2, 4, 2), 64, 100_000, Fault::OpenFence)?;
@@ -157,16 +206,9 @@ fn a_worker_takes_what_another_leaves(rt: HostRuntime) -> Result<(), Fail> {
         filed: AtomicU64::new(0),
         seen: AtomicU64::new(0),
     };
-    let held = run_campaign(&rt, rt.alloc(), &fences, 2, &gate)
-        .ok()
-        .ok_or("memory")?;
+    let held = ledger_by(&rt, rt.alloc(), &fences, 2, &gate)?;
     assert!(rt; gate.seen.load(Ordering::SeqCst) == 1);
-    let alone = run_campaign(&rt, rt.alloc(), &fences, 1, &OpenGate)
-        .ok()
-        .ok_or("memory")?;
-    assert!(rt; held.ordered == alone.ordered && held.unfinished == alone.unfinished);
-    assert!(rt; held.overlook == alone.overlook && held.first == alone.first);
-    assert!(rt; held.cycles.as_slice() == alone.cycles.as_slice());
-    assert!(rt; held.trials == 64 && alone.trials == 64);
+    let alone = ledger_by(&rt, rt.alloc(), &fences, 1, &OpenGate)?;
+    assert!(rt; are_equal(&held, &alone));
     Ok(())
 }

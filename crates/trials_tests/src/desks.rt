@@ -36,18 +36,18 @@ fn what_a_seat_files_another_sees(rt: HostRuntime) -> Result<(), Fail> {
     }
     assert!(rt; !desk.claim(&mut second, 0));
     desk.file(&mut first, &filed);
-    assert_eq!(rt; desk.look(&mut first, 0), Look::Filed(2));
-    assert_eq!(rt; desk.look(&mut second, 0), Look::Filed(2));
+    assert!(rt; desk.look(&mut first, 0) == Look::Filed(2));
+    assert!(rt; desk.look(&mut second, 0) == Look::Filed(2));
     assert!(rt; desk.claim(&mut second, 1));
-    assert_eq!(rt; desk.look(&mut second, 1), Look::Claimed);
+    assert!(rt; desk.look(&mut second, 1) == Look::Claimed);
     let mut both = first.merge(second);
-    assert_eq!(rt; desk.look(&mut both, 0), Look::Filed(2));
-    assert_eq!(rt; desk.look(&mut both, 1), Look::Claimed);
+    assert!(rt; desk.look(&mut both, 0) == Look::Filed(2));
+    assert!(rt; desk.look(&mut both, 1) == Look::Claimed);
     let words = match desk.close(alloc, both) {
         Ok(words) => words,
         Err(_) => return Err("memory")?,
     };
-    assert_eq!(rt; words.as_slice(), [2, 1, 0].as_slice());
+    assert!(rt; words.as_slice() == [2, 1, 0].as_slice());
     Ok(())
 }
 
@@ -107,6 +107,6 @@ fn a_seat_sees_what_an_ended_thread_filed(rt: HostRuntime) -> Result<(), Fail> {
         Err(_) => return Err("memory")?,
     };
     file_in_a_thread(&rt, &desk, first, filed);
-    assert_eq!(rt; desk.look(&mut second, 0), Look::Filed(2));
+    assert!(rt; desk.look(&mut second, 0) == Look::Filed(2));
     Ok(())
 }

@@ -4,7 +4,7 @@ ghost use Rattle.std.specs.Prelude.{◌<◌};
 
 use crate::campaigns::campaign;
 use judge::{Verdict, judge_alone};
-use litmus::{EventId, print};
+use litmus::{EventId, Program, print};
 use machine::Fault;
 use recorder::Recording;
 use std::alloc::Global;
@@ -28,24 +28,41 @@ fn code_of(alloc: Global, recording: &Recording) -> Result<u64, Fail> {
     }
 }
 
+/// Whether a program and its copy have one text.
+fn has_one_text(alloc: Global, program: &Program) -> Result<bool, Fail> {
+    let Ok(copy) = program.copy(alloc) else {
+        return Err("memory")?;
+    };
+    let Ok(text) = print(alloc, program) else {
+        return Err("memory")?;
+    };
+    let Ok(again) = print(alloc, &copy) else {
+        return Err("memory")?;
+    };
+    Ok(text.as_slice() == again.as_slice())
+}
+
+/// The code of a trial's recording, or of an unfinished trial where there is none.
+fn wanted_code(alloc: Global, recording: Option<&Recording>) -> Result<u64, Fail> {
+    match recording {
+        Some(recording) => code_of(alloc, recording),
+        None => Ok(UNFINISHED),
+    }
+}
+
 /// Whether trial k is reproduced: its code is that of its recording, and its program has one text.
 fn is_reproduced(alloc: Global, plan: &Campaign, k: usize) -> Result<bool, Fail>
     requires { k < plan.now.trials }
 {
-    let Ok((program, recording)) = reproduce(alloc, plan, k) else {
-        return Err("memory")?;
-    };
     let Ok(filed) = trial(alloc, plan, k) else {
         return Err("memory")?;
     };
-    let wanted = match &recording {
-        Some(recording) => code_of(alloc, recording)?,
-        None => UNFINISHED,
+    let code = filed.code();
+    let Ok((program, recording)) = reproduce(alloc, plan, k) else {
+        return Err("memory")?;
     };
-    let copy = program.copy(alloc).ok().ok_or("memory")?;
-    let text = print(alloc, &program).ok().ok_or("memory")?;
-    let again = print(alloc, &copy).ok().ok_or("memory")?;
-    Ok(filed.code() == wanted && text.as_slice() == again.as_slice())
+    let wanted = wanted_code(alloc, recording.as_ref())?;
+    Ok(has_one_text(alloc, &program)? && code == wanted)
 }
 
 #[test]

@@ -11,10 +11,12 @@ const STORE_BUFFERING: &str = "core\nst x 1\nld y\ncore\nst y 1\nld x\n";
 
 // The machine of a program without fault, in its opening state.
 fn machine_of(alloc: Global, text: &str) -> Result<Machine, Fail> {
-    let program = parse(alloc, text.as_bytes()).ok().ok_or("a program")?;
-    let machine = Machine::new(alloc, program, 8, Fault::None)
-        .ok()
-        .ok_or("memory")?;
+    let Ok(program) = parse(alloc, text.as_bytes()) else {
+        return Err("a program")?;
+    };
+    let Ok(machine) = Machine::new(alloc, program, 8, Fault::None) else {
+        return Err("memory")?;
+    };
     Ok(machine)
 }
 
