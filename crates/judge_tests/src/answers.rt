@@ -1,13 +1,16 @@
 //! Answers to the bytes of recordings, from and to devices that fail.
 
-use crate::recordings::{MESSAGE_PASSING, THREE_AND_FOUR, recorded};
+use crate::recordings::{EventLists, MESSAGE_PASSING, THREE_AND_FOUR, recorded};
 use crate::workers::Watch;
 use litmus::OpenGate;
 use recorder::write_recording;
 use report::{Device, MemorySink, MemorySource, Outcome, ReportError, answer};
+use std::alloc::Global;
 use std::io;
 use std::io::{ErrorKind, Read, Write};
+use std::sync::Wait;
 use std::test::Fail;
+use std::thread::Threads;
 
 /// The answer to message passing.
 const CYCLE: &[u8] = b"cycle of 4
@@ -52,79 +55,120 @@ impl Read for Interrupted {
     }
 }
 
+/// Whether a read that fails behind so many bytes leaves nothing written.
+fn leaves_nothing<R: Threads + Wait + Sync>(
+    rt: &R,
+    alloc: Global,
+    text: &[u8],
+    length: usize,
+) -> bool {
+    let mut source = MemorySource::failing(text, length);
+    let mut sink = MemorySink::new(alloc);
+    let answered = answer(rt, alloc, &mut source, &mut sink, 1, &OpenGate);
+    answered == Err(ReportError::ReadFailed) && sink.written().is_empty()
+}
+
+/// Whether reads that are interrupted leave nothing written.
+fn is_interrupted<R: Threads + Wait + Sync>(rt: &R, alloc: Global) -> bool {
+    let mut interrupted = Device::new(Interrupted);
+    let mut sink = MemorySink::new(alloc);
+    let answered = answer(rt, alloc, &mut interrupted, &mut sink, 1, &OpenGate);
+    answered == Err(ReportError::ReadFailed) && sink.written().is_empty()
+}
+
+/// The text of a recording.
+fn text_of(alloc: Global, parts: EventLists) -> Result<Vec<u8>, Fail> {
+    Ok(write_recording(alloc, &recorded(alloc, parts)?)?)
+}
+
 #[test]
 fn a_failed_read_leaves_nothing_written(rt: HostRuntime) -> Result<(), Fail> {
-    let alloc = rt.alloc();
-    let text = write_recording(alloc, &recorded(alloc, MESSAGE_PASSING)?)?;
+    let text = text_of(rt.alloc(), MESSAGE_PASSING)?;
     for k in 0..=text.len() {
-        let mut source = MemorySource::failing(&text, k);
-        let mut sink = MemorySink::new(alloc);
-        let answered = answer(&rt, alloc, &mut source, &mut sink, 1, &OpenGate);
-        assert_eq!(rt; answered, Err(ReportError::ReadFailed), "{k}");
-        assert!(rt; sink.written().is_empty(), "{k}");
+        assert!(rt; leaves_nothing(&rt, rt.alloc(), text.as_slice(), k));
     }
-    let mut sink = MemorySink::new(alloc);
-    let mut interrupted = Device::new(Interrupted);
-    let answered = answer(&rt, alloc, &mut interrupted, &mut sink, 1, &OpenGate);
-    assert_eq!(rt; answered, Err(ReportError::ReadFailed));
-    assert!(rt; sink.written().is_empty());
+    assert!(rt; is_interrupted(&rt, rt.alloc()));
     Ok(())
+}
+
+/// Whether a write that fails behind so many bytes leaves as long a beginning of the answer.
+fn leaves_a_beginning<R: Threads + Wait + Sync>(
+    rt: &R,
+    alloc: Global,
+    text: &[u8],
+    length: usize,
+) -> bool {
+    let mut source = MemorySource::new(text);
+    let mut sink = MemorySink::failing(alloc, length);
+    let answered = answer(rt, alloc, &mut source, &mut sink, 1, &OpenGate);
+    answered == Err(ReportError::WriteFailed)
+        && sink.written().len() == length
+        && CYCLE.starts_with(sink.written())
+}
+
+/// Whether the whole answer is written where a write fails behind it.
+fn is_whole<R: Threads + Wait + Sync>(rt: &R, alloc: Global, text: &[u8]) -> bool {
+    let mut source = MemorySource::new(text);
+    let mut sink = MemorySink::failing(alloc, CYCLE.len());
+    let answered = answer(rt, alloc, &mut source, &mut sink, 1, &OpenGate);
+    answered == Ok(Outcome::Violation) && sink.written() == CYCLE
 }
 
 #[test]
 fn a_failed_write_leaves_a_beginning(rt: HostRuntime) -> Result<(), Fail> {
-    let alloc = rt.alloc();
-    let text = write_recording(alloc, &recorded(alloc, MESSAGE_PASSING)?)?;
-    assert_eq!(rt; CYCLE.len(), 123);
-    for k in 0..CYCLE.len() {
-        let mut source = MemorySource::new(&text);
-        let mut sink = MemorySink::failing(alloc, k);
-        let answered = answer(&rt, alloc, &mut source, &mut sink, 1, &OpenGate);
-        assert_eq!(rt; answered, Err(ReportError::WriteFailed), "{k}");
-        assert_eq!(rt; sink.written(), &CYCLE[..k], "{k}");
+    let text = text_of(rt.alloc(), MESSAGE_PASSING)?;
+    assert!(rt; CYCLE.len() == 123);
+    for k in 0..123 {
+        assert!(rt; leaves_a_beginning(&rt, rt.alloc(), text.as_slice(), k));
     }
-    let mut source = MemorySource::new(&text);
-    let mut sink = MemorySink::failing(alloc, CYCLE.len());
-    let answered = answer(&rt, alloc, &mut source, &mut sink, 1, &OpenGate);
-    assert_eq!(rt; answered, Ok(Outcome::Violation));
-    assert_eq!(rt; sink.written(), CYCLE);
+    assert!(rt; is_whole(&rt, rt.alloc(), text.as_slice()));
     Ok(())
+}
+
+/// Whether a device that takes so many bytes of each write is answered so, and has taken these bytes.
+fn is_taken<R: Threads + Wait + Sync>(
+    rt: &R,
+    alloc: Global,
+    text: &[u8],
+    width: usize,
+    outcome: Result<Outcome, ReportError>,
+    taken: &[u8],
+) -> bool {
+    let mut device = Device::new(Narrow {
+        width,
+        taken: Vec::new(alloc),
+    });
+    let mut source = Device::new(text);
+    let answered = answer(rt, alloc, &mut source, &mut device, 1, &OpenGate);
+    device.into_inner().taken.as_slice() == taken && answered == outcome
 }
 
 #[test]
 fn a_device_may_take_a_byte_at_a_time_but_not_none(rt: HostRuntime) -> Result<(), Fail> {
-    let alloc = rt.alloc();
-    let text = write_recording(alloc, &recorded(alloc, MESSAGE_PASSING)?)?;
-    let wanted = [
-        (1, Ok(Outcome::Violation), CYCLE),
-        (0, Err(ReportError::WriteFailed), b"".as_slice()),
-    ];
-    for (width, outcome, taken) in wanted {
-        let mut device = Device::new(Narrow {
-            width,
-            taken: Vec::new(alloc),
-        });
-        let mut source = Device::new(text.as_slice());
-        let answered = answer(&rt, alloc, &mut source, &mut device, 1, &OpenGate);
-        assert_eq!(rt; answered, outcome);
-        assert_eq!(rt; device.into_inner().taken.as_slice(), taken);
-    }
+    let text = text_of(rt.alloc(), MESSAGE_PASSING)?;
+    let violation = Ok(Outcome::Violation);
+    assert!(rt; is_taken(&rt, rt.alloc(), text.as_slice(), 1, violation, CYCLE));
+    let failed = Err(ReportError::WriteFailed);
+    assert!(rt; is_taken(&rt, rt.alloc(), text.as_slice(), 0, failed, b""));
     Ok(())
+}
+
+/// Whether the answer of two workers begins as wanted.
+fn begins_so<R: Threads + Wait + Sync>(rt: &R, alloc: Global, text: &[u8], watch: &Watch) -> bool {
+    let mut source = MemorySource::new(text);
+    let mut sink = MemorySink::new(alloc);
+    let answered = answer(rt, alloc, &mut source, &mut sink, 2, watch);
+    answered == Ok(Outcome::Violation)
+        && sink
+            .written()
+            .starts_with(b"cycle of 3\n4 -> 5 Rf\n5 -> 6 Po\n6 -> 4 Fr\n")
 }
 
 #[test]
 fn an_answer_waits_for_no_worker(rt: HostRuntime) -> Result<(), Fail> {
-    let alloc = rt.alloc();
-    let text = write_recording(alloc, &recorded(alloc, THREE_AND_FOUR)?)?;
-    let mut source = MemorySource::new(&text);
-    let mut sink = MemorySink::new(alloc);
+    let text = text_of(rt.alloc(), THREE_AND_FOUR)?;
     let watch = Watch::new();
-    let answered = answer(&rt, alloc, &mut source, &mut sink, 2, &watch);
-    assert_eq!(rt; answered, Ok(Outcome::Violation));
-    assert!(rt;
-        sink.written()
-            .starts_with(b"cycle of 3\n4 -> 5 Rf\n5 -> 6 Po\n6 -> 4 Fr\n")
-    );
+    assert!(rt; begins_so(&rt, rt.alloc(), text.as_slice(), &watch));
     assert!(rt; watch.is_right());
     Ok(())
 }

@@ -40,16 +40,16 @@ fn seats_read_the_least_length(rt: HostRuntime) -> Result<(), Fail> {
         return Err(Fail::from("two cycles"));
     }
     let (best, mut a) = Best::open(alloc, &relation).ok().ok_or("out of memory")?;
-    assert_eq!(rt; best.read(&mut a), None);
+    assert!(rt; best.read(&mut a) == None);
     best.lower(&mut a, &relation, &[0, 1, 2, 3]);
-    assert_eq!(rt; best.read(&mut a), Some(4));
+    assert!(rt; best.read(&mut a) == Some(4));
     let mut b = a.split().ok().ok_or("out of memory")?;
     best.lower(&mut b, &relation, &[4, 5, 6]);
-    assert_eq!(rt; best.read(&mut a), Some(3));
+    assert!(rt; best.read(&mut a) == Some(3));
     best.lower(&mut a, &relation, &[0, 1, 2, 3]);
-    assert_eq!(rt; best.read(&mut a), Some(3));
+    assert!(rt; best.read(&mut a) == Some(3));
     a.absorb(b);
-    assert_eq!(rt; best.read(&mut a), Some(3));
+    assert!(rt; best.read(&mut a) == Some(3));
     Ok(())
 }
 
@@ -105,7 +105,7 @@ fn a_seat_reads_what_an_ended_thread_found(rt: HostRuntime) -> Result<(), Fail> 
     best.lower(&mut a, &relation, &[0, 1, 2, 3]);
     let mut b = a.split().ok().ok_or("out of memory")?;
     lower_in_a_thread(&rt, &best, a, &relation);
-    assert_eq!(rt; best.read(&mut b), Some(3));
+    assert!(rt; best.read(&mut b) == Some(3));
     Ok(())
 }
 
@@ -155,8 +155,8 @@ fn a_row_is_cut_at_what_another_found(rt: HostRuntime) -> Result<(), Fail> {
         return Err(Fail::from("a job for each event"));
     }
     let later = cap_of(alloc, &jobs[4], &best, &mut seat)?;
-    assert_eq!(rt; later, (None, Some(3)));
+    assert!(rt; later == (None, Some(3)));
     let first = cap_of(alloc, &jobs[0], &best, &mut seat)?;
-    assert_eq!(rt; first, (Some(3), Some(3)));
+    assert!(rt; first == (Some(3), Some(3)));
     Ok(())
 }

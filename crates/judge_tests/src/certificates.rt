@@ -3,8 +3,11 @@
 use crate::recordings::{MESSAGE_PASSING, TWO_CYCLES, related};
 use labels::{Certificate, check, check_par};
 use litmus::EventId;
+use relations::Relation;
 use std::alloc::Global;
+use std::sync::Wait;
 use std::test::Fail;
+use std::thread::Threads;
 
 fn certificate(alloc: Global, cycle: &[EventId], rows: &[&[u16]]) -> Result<Certificate, Fail> {
     let mut lists = Vec::new(alloc);
@@ -56,33 +59,51 @@ const CERTIFICATES: [(&str, &[EventId], &[&[u16]], bool); 11] = [
     ("a longer cycle", &[0, 2, 0, 2], EXACT, false),
 ];
 
+/// Whether a cycle with labels is found to be a certificate or not, alone and by threads.
+fn is_checked<R: Threads + Wait + Sync>(
+    rt: &R,
+    alloc: Global,
+    relation: &Relation,
+    cycle: &[EventId],
+    labels: &[&[u16]],
+    passes: bool,
+) -> Result<bool, Fail> {
+    let given = certificate(alloc, cycle, labels)?;
+    Ok(check(relation, &given) == passes && check_par(rt, relation, &given) == passes)
+}
+
 #[test]
 fn two_cycles_have_one_certificate(rt: HostRuntime) -> Result<(), Fail> {
-    let alloc = rt.alloc();
-    let relation = related(alloc, TWO_CYCLES)?;
+    let relation = related(rt.alloc(), TWO_CYCLES)?;
     for (name, cycle, labels, passes) in CERTIFICATES {
-        let given = certificate(alloc, cycle, labels)?;
-        assert_eq!(rt; check(&relation, &given), passes, "{name}");
-        let by_threads = check_par(&rt, &relation, &given);
-        assert_eq!(rt; by_threads, passes, "{name}, by threads");
+        if !is_checked(&rt, rt.alloc(), &relation, cycle, labels, passes)? {
+            return Err(name)?;
+        }
     }
     Ok(())
 }
 
+/// The exact labels of message passing, and labels of which one grows by two.
+const LABELS: [(&str, &[&[u16]], bool); 2] = [
+    (
+        "exact",
+        &[&[0, 1, 2, 3], &[3, 0, 1, 2], &[2, 3, 0, 1], &[1, 2, 3, 0]],
+        true,
+    ),
+    (
+        "steep",
+        &[&[0, 1, 3, 3], &[3, 0, 1, 2], &[2, 3, 0, 1], &[1, 2, 3, 0]],
+        false,
+    ),
+];
+
 #[test]
 fn labels_grow_by_one_at_most(rt: HostRuntime) -> Result<(), Fail> {
-    let alloc = rt.alloc();
-    let relation = related(alloc, MESSAGE_PASSING)?;
-    let exact: &[&[u16]] = &[&[0, 1, 2, 3], &[3, 0, 1, 2], &[2, 3, 0, 1], &[1, 2, 3, 0]];
-    let steep: &[&[u16]] = &[&[0, 1, 3, 3], &[3, 0, 1, 2], &[2, 3, 0, 1], &[1, 2, 3, 0]];
-    for (name, labels, passes) in [("exact", exact, true), ("steep", steep, false)] {
-        let given = certificate(alloc, &[0, 1, 2, 3], labels)?;
-        assert_eq!(rt; check(&relation, &given), passes, "{name}");
-        assert_eq!(rt;
-            check_par(&rt, &relation, &given),
-            passes,
-            "{name}, by threads"
-        );
+    let relation = related(rt.alloc(), MESSAGE_PASSING)?;
+    for (name, labels, passes) in LABELS {
+        if !is_checked(&rt, rt.alloc(), &relation, &[0, 1, 2, 3], labels, passes)? {
+            return Err(name)?;
+        }
     }
     Ok(())
 }

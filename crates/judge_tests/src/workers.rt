@@ -158,10 +158,10 @@ fn found_by<G: Gate>(
 #[test]
 fn workers_leave_the_shortest_length(rt: HostRuntime) -> Result<(), Fail> {
     let alloc = rt.alloc();
-    assert_eq!(rt; found_by(&rt, alloc, 1, &OpenGate)?, Some(3));
-    assert_eq!(rt; found_by(&rt, alloc, 2, &OpenGate)?, Some(3));
+    assert!(rt; found_by(&rt, alloc, 1, &OpenGate)? == Some(3));
+    assert!(rt; found_by(&rt, alloc, 2, &OpenGate)? == Some(3));
     let watch = Watch::new();
-    assert_eq!(rt; found_by(&rt, alloc, 2, &watch)?, Some(3));
+    assert!(rt; found_by(&rt, alloc, 2, &watch)? == Some(3));
     assert!(rt; watch.is_right());
     Ok(())
 }
@@ -177,7 +177,7 @@ fn a_judge_waits_for_no_worker(rt: HostRuntime) -> Result<(), Fail> {
     let Verdict::Cycle(certificate) = verdict else {
         return Err(Fail::from("a cycle"));
     };
-    assert_eq!(rt; certificate.cycle.as_slice(), [4, 5, 6].as_slice());
+    assert!(rt; certificate.cycle.as_slice() == [4, 5, 6].as_slice());
     assert!(rt; watch.is_right());
     Ok(())
 }
