@@ -75,9 +75,9 @@ fn is_checked<R: Threads + Wait + Sync>(
 #[test]
 fn two_cycles_have_one_certificate(rt: HostRuntime) -> Result<(), Fail> {
     let relation = related(rt.alloc(), TWO_CYCLES)?;
-    for (name, cycle, labels, passes) in CERTIFICATES {
-        if !is_checked(&rt, rt.alloc(), &relation, cycle, labels, passes)? {
-            return Err(name)?;
+    for (name, cycle, labels, passes) in &CERTIFICATES {
+        if !is_checked(&rt, rt.alloc(), &relation, *cycle, *labels, *passes)? {
+            return Err(*name)?;
         }
     }
     Ok(())
@@ -100,9 +100,9 @@ const LABELS: [(&str, &[&[u16]], bool); 2] = [
 #[test]
 fn labels_grow_by_one_at_most(rt: HostRuntime) -> Result<(), Fail> {
     let relation = related(rt.alloc(), MESSAGE_PASSING)?;
-    for (name, labels, passes) in LABELS {
-        if !is_checked(&rt, rt.alloc(), &relation, &[0, 1, 2, 3], labels, passes)? {
-            return Err(name)?;
+    for (name, labels, passes) in &LABELS {
+        if !is_checked(&rt, rt.alloc(), &relation, &[0, 1, 2, 3], *labels, *passes)? {
+            return Err(*name)?;
         }
     }
     Ok(())

@@ -39,9 +39,9 @@ const ROWS: [(&str, EventLists, EventId, EventId, Option<Reason>); 12] = [
 
 #[test]
 fn a_pair_has_the_first_reason_that_holds(rt: HostRuntime) -> Result<(), Fail> {
-    for (name, parts, first, second, reason) in ROWS {
-        if !is_forced_by(rt.alloc(), parts, first, second, reason)? {
-            return Err(name)?;
+    for (name, parts, first, second, reason) in &ROWS {
+        if !is_forced_by(rt.alloc(), *parts, *first, *second, *reason)? {
+            return Err(*name)?;
         }
     }
     assert!(rt; related(rt.alloc(), BYPASSING)?.len() == 5);

@@ -30,9 +30,9 @@ const ROWS: [(&str, EventLists, &[EventId], bool); 8] = [
 
 #[test]
 fn memory_orders_are_those_that_the_rules_allow(rt: HostRuntime) -> Result<(), Fail> {
-    for (name, parts, order, allowed) in ROWS {
-        if is_allowed(rt.alloc(), parts, order)? != allowed {
-            return Err(name)?;
+    for (name, parts, order, allowed) in &ROWS {
+        if is_allowed(rt.alloc(), *parts, *order)? != *allowed {
+            return Err(*name)?;
         }
     }
     Ok(())

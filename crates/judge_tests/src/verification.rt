@@ -70,9 +70,9 @@ fn is_judged<R: Threads + Wait + Sync>(
 
 #[test]
 fn verdicts_pass_their_check(rt: HostRuntime) -> Result<(), Fail> {
-    for (name, parts, events) in NAMED {
-        if !is_judged(&rt, rt.alloc(), parts, events)? {
-            return Err(name)?;
+    for (name, parts, events) in &NAMED {
+        if !is_judged(&rt, rt.alloc(), *parts, *events)? {
+            return Err(*name)?;
         }
     }
     Ok(())

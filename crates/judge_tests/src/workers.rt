@@ -9,7 +9,8 @@ use crate::bound::{jobs_of, opened};
 use crate::recordings::{THREE_AND_FOUR, recorded, related};
 use best::{Best, BestSeat};
 use judge::{Verdict, judge_gated};
-use litmus::{Gate, OpenGate};
+use litmus::{EventId, Gate, OpenGate};
+use recorder::Recording;
 use search::{SourceJob, least_length, run_jobs};
 use std::alloc::Global;
 use std::sync::atomic::{AtomicBool, AtomicU64, Ordering};
@@ -166,18 +167,30 @@ fn workers_leave_the_shortest_length(rt: HostRuntime) -> Result<(), Fail> {
     Ok(())
 }
 
+/// Whether the verdict is a cycle of these events.
+fn is_cycle(verdict: &Verdict, events: &[EventId]) -> bool {
+    match verdict {
+        Verdict::Cycle(certificate) => certificate.cycle.as_slice() == events,
+        _ => false,
+    }
+}
+
+/// Whether two workers judge that the second cycle is the least.
+fn is_judged<R: Threads + Wait + Sync>(
+    rt: &R,
+    alloc: Global,
+    recording: &Recording,
+    watch: &Watch,
+) -> Result<bool, Fail> {
+    let verdict = judge_gated(rt, alloc, recording, 2, watch)?;
+    Ok(is_cycle(&verdict, &[4, 5, 6]))
+}
+
 #[test]
 fn a_judge_waits_for_no_worker(rt: HostRuntime) -> Result<(), Fail> {
-    let alloc = rt.alloc();
-    let recording = recorded(alloc, THREE_AND_FOUR)?;
+    let recording = recorded(rt.alloc(), THREE_AND_FOUR)?;
     let watch = Watch::new();
-    let verdict = judge_gated(&rt, alloc, &recording, 2, &watch)
-        .ok()
-        .ok_or("out of memory")?;
-    let Verdict::Cycle(certificate) = verdict else {
-        return Err(Fail::from("a cycle"));
-    };
-    assert!(rt; certificate.cycle.as_slice() == [4, 5, 6].as_slice());
+    assert!(rt; is_judged(&rt, rt.alloc(), &recording, &watch)?);
     assert!(rt; watch.is_right());
     Ok(())
 }
