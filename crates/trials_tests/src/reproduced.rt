@@ -28,17 +28,26 @@ fn code_of(alloc: Global, recording: &Recording) -> Result<u64, Fail> {
     }
 }
 
+/// The text of a program.
+fn text_of(alloc: Global, program: &Program) -> Result<Vec<u8>, Fail> {
+    match print(alloc, program) {
+        Ok(text) => Ok(text),
+        Err(_) => Err("memory")?,
+    }
+}
+
+/// The text of a program's copy.
+fn text_of_copy(alloc: Global, program: &Program) -> Result<Vec<u8>, Fail> {
+    match program.copy(alloc) {
+        Ok(copy) => text_of(alloc, &copy),
+        Err(_) => Err("memory")?,
+    }
+}
+
 /// Whether a program and its copy have one text.
 fn has_one_text(alloc: Global, program: &Program) -> Result<bool, Fail> {
-    let Ok(copy) = program.copy(alloc) else {
-        return Err("memory")?;
-    };
-    let Ok(text) = print(alloc, program) else {
-        return Err("memory")?;
-    };
-    let Ok(again) = print(alloc, &copy) else {
-        return Err("memory")?;
-    };
+    let text = text_of(alloc, program)?;
+    let again = text_of_copy(alloc, program)?;
     Ok(text.as_slice() == again.as_slice())
 }
 
@@ -50,19 +59,36 @@ fn wanted_code(alloc: Global, recording: Option<&Recording>) -> Result<u64, Fail
     }
 }
 
+/// Whether a code is that of a recording, and a program has one text.
+fn is_right(
+    alloc: Global,
+    code: u64,
+    program: &Program,
+    recording: Option<&Recording>,
+) -> Result<bool, Fail> {
+    let wanted = wanted_code(alloc, recording)?;
+    Ok(has_one_text(alloc, program)? && code == wanted)
+}
+
+/// The code of trial k.
+fn filed_code(alloc: Global, plan: &Campaign, k: usize) -> Result<u64, Fail>
+    requires { k < plan.now.trials }
+{
+    match trial(alloc, plan, k) {
+        Ok(filed) => Ok(filed.code()),
+        Err(_) => Err("memory")?,
+    }
+}
+
 /// Whether trial k is reproduced: its code is that of its recording, and its program has one text.
 fn is_reproduced(alloc: Global, plan: &Campaign, k: usize) -> Result<bool, Fail>
     requires { k < plan.now.trials }
 {
-    let Ok(filed) = trial(alloc, plan, k) else {
-        return Err("memory")?;
-    };
-    let code = filed.code();
-    let Ok((program, recording)) = reproduce(alloc, plan, k) else {
-        return Err("memory")?;
-    };
-    let wanted = wanted_code(alloc, recording.as_ref())?;
-    Ok(has_one_text(alloc, &program)? && code == wanted)
+    let code = filed_code(alloc, plan, k)?;
+    match reproduce(alloc, plan, k) {
+        Ok((program, recording)) => is_right(alloc, code, &program, recording.as_ref()),
+        Err(_) => Err("memory")?,
+    }
 }
 
 #[test]
