@@ -13,8 +13,8 @@ fn cases_are_read_as_their_lines(rt: HostRuntime) -> Result<(), Fail> {
     let [refused, printed, help] = cases.as_slice() else {
         return Err("three cases")?;
     };
-    assert_eq!(rt; refused.command, Some(" run - --steps nowhere"));
-    assert_eq!(rt; refused.input.as_str(), "core\nst x 1\n");
+    assert!(rt; refused.command == Some(" run - --steps nowhere"));
+    assert!(rt; refused.input.as_str() == "core\nst x 1\n");
     assert!(rt; refused.is_met(3, b"refused: L1 line 1\n"));
     assert!(rt; !refused.is_met(2, b"refused: L1 line 1\n"));
     assert!(rt; !refused.is_met(3, b"refused: L1 line 1"));

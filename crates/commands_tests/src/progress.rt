@@ -12,18 +12,24 @@ fn with(done: usize, found: usize) -> Line {
     }
 }
 
-fn text_of(alloc: Global, line: Line) -> Result<String, AllocError> {
-    format!(in alloc; "{line}")
+/// Whether a line has this text.
+fn is(alloc: Global, line: Line, text: &str) -> Result<bool, AllocError> {
+    let written = format!(in alloc; "{line}")?;
+    Ok(written.as_str() == text)
 }
 
 #[test]
 fn lines_stand_on_one_row(rt: HostRuntime) -> Result<(), Fail> {
-    let none = text_of(rt.alloc(), with(0, 0))?;
-    assert_eq!(rt; none.as_str(), "\r0 of 65536 trials, 0 violations");
-    let one = text_of(rt.alloc(), with(1234, 1))?;
-    assert_eq!(rt; one.as_str(), "\r1234 of 65536 trials, 1 violation");
-    let all = text_of(rt.alloc(), with(65536, 65536))?;
-    assert_eq!(rt; all.as_str(), "\r65536 of 65536 trials, 65536 violations");
+    let alloc = rt.alloc();
+    assert!(rt; is(alloc, with(0, 0), "\r0 of 65536 trials, 0 violations")?);
+    assert!(rt; is(alloc, with(1234, 1), "\r1234 of 65536 trials, 1 violation")?);
+    assert!(rt;
+        is(
+            alloc,
+            with(65536, 65536),
+            "\r65536 of 65536 trials, 65536 violations"
+        )?
+    );
     Ok(())
 }
 
