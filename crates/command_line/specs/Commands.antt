@@ -8,8 +8,8 @@ use Rattle.clap.specs.declared.builder.ArgAction.TheVariants.{Set, SetTrue}
 use Rattle.clap.specs.declared.builder.value_parser.ValueParser.TheVariants.{Unsigned}
 
 -- what clap has of a command, where there is one, and that no argument of it is global
-abbrev pub Gives : {E : Type 0} → Result Command E → App → Type 0
-Gives r app = IfOk r (λ c. (app_of c ≡ app) × ((fields_of c).has_globals ≡ false))
+abbrev pub Builds : {E : Type 0} → Result Command E → App → Type 0
+Builds r app = IfOk r (λ c. (app_of c ≡ app) × ((fields_of c).has_globals ≡ false))
 
 -- PROGRAM
 abbrev pub program_rule : Rule

@@ -1,7 +1,7 @@
 //! The command line of the program, as `clap` reads and explains it.
 ghost use Rattle.std.specs.Prelude.{◌≡◌, IfOk};
 ghost use Rattle.clap.specs.Words.{App, app_of, with_subcommand};
-ghost use Rattle.command_line.specs.Commands.{Gives, bare_app, program_app};
+ghost use Rattle.command_line.specs.Commands.{Builds, bare_app, program_app};
 
 use crate::pages::{ABOUT, STATUSES};
 use crate::rules::Texts;
@@ -28,7 +28,7 @@ fn with<'a>(
     program: Result<Command<'a>, AllocError>,
     command: Result<Command<'a>, AllocError>,
 ) -> Result<Command<'a>, AllocError>
-    ensures { (app sub : App) → IfOk program.entry (λ c. app_of c ≡ app) → Gives command.entry sub
+    ensures { (app sub : App) → IfOk program.entry (λ c. app_of c ≡ app) → Builds command.entry sub
         → IfOk result (λ c. app_of c ≡ with_subcommand app sub.top) }
 {
     match program {

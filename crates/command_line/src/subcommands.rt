@@ -1,7 +1,7 @@
 //! The commands of the program, as `clap` reads and explains them.
 ghost use Rattle.std.specs.Prelude.{◌≡◌, false};
 ghost use Rattle.clap.specs.Words.{App, Rule, new_app, rule_of, with_rule};
-ghost use Rattle.command_line.specs.Commands.{Gives, judge_app, live_app, replay_app, run_app, trials_app};
+ghost use Rattle.command_line.specs.Commands.{Builds, judge_app, live_app, replay_app, run_app, trials_app};
 ghost use Rattle.command_line.specs.Commands.{with_answer_rules, with_run_rules, with_size_rules};
 ghost use Rattle.command_line.specs.Commands.{with_trial_rules};
 
@@ -26,7 +26,7 @@ fn described<'a>(
     more: &'a str,
     statuses: &'a str,
 ) -> Result<Command<'a>, AllocError>
-    ensures { Gives result (new_app name.now) }
+    ensures { Builds result (new_app name.now) }
 {
     Ok(
         Command::new(alloc, name)
@@ -42,8 +42,8 @@ fn with<'a>(
     arg: Arg<'a>,
 ) -> Result<Command<'a>, AllocError>
     requires { arg.global ≡ false }
-    ensures { (app : App) (rule : Rule) → rule_of arg.entry ≡ rule → Gives command.entry app
-        → Gives result (with_rule app rule) }
+    ensures { (app : App) (rule : Rule) → rule_of arg.entry ≡ rule → Builds command.entry app
+        → Builds result (with_rule app rule) }
 {
     match command {
         Ok(command) => command.arg(arg),
@@ -57,7 +57,7 @@ fn with_run_args<'a>(
     texts: &'a RunTexts,
     command: Result<Command<'a>, AllocError>,
 ) -> Result<Command<'a>, AllocError>
-    ensures { (app : App) → Gives command.entry app → Gives result (with_run_rules app) }
+    ensures { (app : App) → Builds command.entry app → Builds result (with_run_rules app) }
 {
     let attempts = with(command, attempts_arg(alloc, texts));
     let buffer = with(attempts, buffer_arg(alloc, texts));
@@ -66,7 +66,7 @@ fn with_run_args<'a>(
 
 /// `run`.
 pub fn run<'a>(alloc: Global, texts: &'a RunTexts) -> Result<Command<'a>, AllocError>
-    ensures { Gives result run_app }
+    ensures { Builds result run_app }
 {
     let command = described(alloc, "run", RUN_ABOUT, RUN_MORE, RUN_STATUSES);
     let program = with(command, program_arg(alloc));
@@ -77,7 +77,7 @@ pub fn run<'a>(alloc: Global, texts: &'a RunTexts) -> Result<Command<'a>, AllocE
 
 /// `judge`.
 pub fn judge<'a>(alloc: Global, texts: &'a TrialsTexts) -> Result<Command<'a>, AllocError>
-    ensures { Gives result judge_app }
+    ensures { Builds result judge_app }
 {
     let command = described(alloc, "judge", JUDGE_ABOUT, JUDGE_MORE, JUDGE_STATUSES);
     let file = with(command, file_arg(alloc));
@@ -90,7 +90,7 @@ fn with_size_args<'a>(
     texts: &'a TrialsTexts,
     command: Result<Command<'a>, AllocError>,
 ) -> Result<Command<'a>, AllocError>
-    ensures { (app : App) → Gives command.entry app → Gives result (with_size_rules app) }
+    ensures { (app : App) → Builds command.entry app → Builds result (with_size_rules app) }
 {
     let cores = with(command, cores_arg(alloc, texts));
     let ops = with(cores, ops_arg(alloc, texts));
@@ -103,7 +103,7 @@ fn with_trial_args<'a>(
     texts: &'a Texts,
     command: Result<Command<'a>, AllocError>,
 ) -> Result<Command<'a>, AllocError>
-    ensures { (app : App) → Gives command.entry app → Gives result (with_trial_rules app) }
+    ensures { (app : App) → Builds command.entry app → Builds result (with_trial_rules app) }
 {
     let seed = with(command, seed_arg(alloc, &texts.run));
     with(seed, trials_arg(alloc, &texts.trials))
@@ -115,7 +115,7 @@ fn with_answer_args<'a>(
     texts: &'a TrialsTexts,
     command: Result<Command<'a>, AllocError>,
 ) -> Result<Command<'a>, AllocError>
-    ensures { (app : App) → Gives command.entry app → Gives result (with_answer_rules app) }
+    ensures { (app : App) → Builds command.entry app → Builds result (with_answer_rules app) }
 {
     let workers = with(command, workers_arg(alloc, texts));
     let show = with(workers, show_arg(alloc));
@@ -124,7 +124,7 @@ fn with_answer_args<'a>(
 
 /// `trials`.
 pub fn trials<'a>(alloc: Global, texts: &'a Texts) -> Result<Command<'a>, AllocError>
-    ensures { Gives result trials_app }
+    ensures { Builds result trials_app }
 {
     let command = described(alloc, "trials", TRIALS_ABOUT, TRIALS_MORE, TRIALS_STATUSES);
     let sizes = with_size_args(alloc, &texts.trials, command);
@@ -135,7 +135,7 @@ pub fn trials<'a>(alloc: Global, texts: &'a Texts) -> Result<Command<'a>, AllocE
 
 /// `live`.
 pub fn live<'a>(alloc: Global, texts: &'a RunTexts) -> Result<Command<'a>, AllocError>
-    ensures { Gives result live_app }
+    ensures { Builds result live_app }
 {
     let command = described(alloc, "live", LIVE_ABOUT, LIVE_MORE, LIVE_STATUSES);
     let program = with(command, program_arg(alloc));
@@ -145,7 +145,7 @@ pub fn live<'a>(alloc: Global, texts: &'a RunTexts) -> Result<Command<'a>, Alloc
 
 /// `replay`.
 pub fn replay<'a>(alloc: Global) -> Result<Command<'a>, AllocError>
-    ensures { Gives result replay_app }
+    ensures { Builds result replay_app }
 {
     let command = described(alloc, "replay", REPLAY_ABOUT, REPLAY_MORE, REPLAY_STATUSES);
     with(command, file_arg(alloc))

@@ -16,7 +16,7 @@ use Rattle.recorder.specs.Reading.{shape_of}
 use Rattle.recorder.specs.Reading.{shape_in}
 use Rattle.recorder.specs.Clipped.{clip, clip_event, clipped_shape, clipped_number, clipped_event}
 use Rattle.recorder.specs.Pulled.{Gives, Adds}
-use Rattle.recorder.specs.Fields.{one_if}
+use Rattle.recorder.specs.Fields.{count_of}
 use Rattle.recorder.specs.Draft.{AreParts, clipped_contents, IsDraftOf}
 use Rattle.recorder.proofs.AtKeys.{at_new, at_other, at_key_is, count_new}
 use Rattle.recorder.proofs.Pulled.{whole_read}
@@ -45,8 +45,8 @@ version_added p o x depth ts rest g none is = record {
       count_new natural (codes "version") g.datum ms p.version h.version
           none,
       h.count,
-      ap one_if none,
-      ap one_if is,
+      ap count_of none,
+      ap count_of is,
     );
   };
 }
@@ -76,8 +76,8 @@ cores_added p o x depth ts rest g none is = record {
           (option_map (λ v. map (λ w. w.items) v.items) p.cores) h.cores
           (ap (option_map (λ (v : Vec (Vec Event Global) Global). map (λ w. w.items) v.items)) none),
       h.count,
-      ap one_if none,
-      ap one_if is,
+      ap count_of none,
+      ap count_of is,
     );
   };
 }
@@ -108,8 +108,8 @@ writes_added p o x depth ts rest g none is = record {
           (option_map (λ v. map (λ w. w.items) v.items) p.writes) h.writes
           (ap (option_map (λ (v : Vec (Vec ℕ Global) Global). map (λ w. w.items) v.items)) none),
       h.count,
-      ap one_if none,
-      ap one_if is,
+      ap count_of none,
+      ap count_of is,
     );
   };
 }
@@ -135,8 +135,8 @@ init_added p o x depth ts rest g none is = record {
       count_new (list_in value_in) (codes "init") g.datum ms (option_map (λ v. v.items) p.init) h.init
           (ap (option_map (λ (v : Vec ℕ Global). v.items)) none),
       h.count,
-      ap one_if none,
-      ap one_if is,
+      ap count_of none,
+      ap count_of is,
     );
   };
 }
@@ -191,7 +191,7 @@ shaped values p ms v cs ws h hv hc hw =
 
 -- the contents, by how many keys there are
 contents_by : (values : Option (List ℕ)) (n : ℕ) (p : Draft) (ms : Members)
-    → one_if p.version + one_if p.cores + one_if p.writes + one_if p.init ≡ n → AreParts p ms
+    → count_of p.version + count_of p.cores + count_of p.writes + count_of p.init ≡ n → AreParts p ms
     → values_in n (object ms) ≡ Some values
     → clipped_contents (object ms) ≡ option_map clipped_shape (shape_of values (object ms))
 unfolding shape_in

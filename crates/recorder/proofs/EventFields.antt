@@ -11,7 +11,7 @@ use Rattle.recorder.specs.Reading.{number_in, value_in, source_in, at_key, load_
 use Rattle.recorder.specs.Reading.{rmw_in, failed_cas_in, event_of, event_in}
 use Rattle.recorder.specs.Clipped.{clip, clip_event, clipped_number, clipped_event}
 use Rattle.recorder.specs.Pulled.{clipped_source, AtKey, Gives, Adds}
-use Rattle.recorder.specs.Fields.{one_if, AreFields}
+use Rattle.recorder.specs.Fields.{count_of, AreFields}
 use Rattle.recorder.proofs.AtKeys.{at_new, at_other, at_key_is, count_new}
 
 -- ---- one member more
@@ -36,8 +36,8 @@ kind_added f o k depth ts rest g none is = record {
       count_new as_str (codes "k") g.datum ms (option_map (λ s. s.now) f.k) h.kind
           (ap (option_map (λ s. s.now)) none),
       h.count,
-      ap one_if none,
-      ap one_if is,
+      ap count_of none,
+      ap count_of is,
     );
   };
 }
@@ -60,8 +60,8 @@ address_added f o a depth ts rest g none is = record {
       arith,
       count_new clipped_number (codes "a") g.datum ms f.a h.address none,
       h.count,
-      ap one_if none,
-      ap one_if is,
+      ap count_of none,
+      ap count_of is,
     );
   };
 }
@@ -84,8 +84,8 @@ value_read_added f o r depth ts rest g none is = record {
       arith,
       count_new value_in (codes "r") g.datum ms f.r h.value_read none,
       h.count,
-      ap one_if none,
-      ap one_if is,
+      ap count_of none,
+      ap count_of is,
     );
   };
 }
@@ -108,8 +108,8 @@ source_added f o s depth ts rest g none is = record {
       arith,
       count_new clipped_source (codes "s") g.datum ms f.s h.source none,
       h.count,
-      ap one_if none,
-      ap one_if is,
+      ap count_of none,
+      ap count_of is,
     );
   };
 }
@@ -132,8 +132,8 @@ value_written_added f o w depth ts rest g none is = record {
       arith,
       count_new value_in (codes "w") g.datum ms f.w h.value_written none,
       h.count,
-      ap one_if none,
-      ap one_if is,
+      ap count_of none,
+      ap count_of is,
     );
   };
 }
@@ -159,14 +159,14 @@ source_there key ms o h =
     sym (then_clipped source_in (option_map clip) (get_member key ms)) ∙ at_key_is clipped_source key ms o h
 
 -- the kind is one member
-kind_counts : (o : Option (Bor (List ℕ))) (k : List ℕ) → option_map (λ s. s.now) o ≡ Some k → one_if o ≡ 1
+kind_counts : (o : Option (Bor (List ℕ))) (k : List ℕ) → option_map (λ s. s.now) o ≡ Some k → count_of o ≡ 1
 kind_counts None k is = absurd cc
 kind_counts (Some s) k is = refl
 
 -- an event of a kind with so many keys
 event_is : (f : Fields) (ms : Members) (k : List ℕ) (n : ℕ) → AreFields f ms
     → option_map (λ s. s.now) f.k ≡ Some k
-    → one_if f.k + one_if f.a + one_if f.r + one_if f.s + one_if f.w ≡ n
+    → count_of f.k + count_of f.a + count_of f.r + count_of f.s + count_of f.w ≡ n
     → event_in (object ms) ≡ event_of k n (object ms)
 unfolding event_in
 event_is f ms k n h kind count = rw (

@@ -8,7 +8,7 @@ use Rattle.recorder.specs.Contents.{Contents}
 use Rattle.recorder.specs.Found.{found}
 use Rattle.recorder.specs.Reading.{count_members, natural, value_in, list_in, shape_in}
 use Rattle.recorder.specs.Clipped.{clipped_number, clipped_event, clipped_shape}
-use Rattle.recorder.specs.Fields.{one_if}
+use Rattle.recorder.specs.Fields.{count_of}
 use Rattle.recorder.specs.Pulled.{AtKey}
 
 -- the members have what was read, and nothing else
@@ -19,7 +19,7 @@ pub record AreParts (p : Draft) (ms : Members) : Type 0 where
   pub writes : AtKey (list_in (list_in clipped_number)) (codes "writes") ms
       (option_map (λ v. map (λ w. w.items) v.items) p.writes)
   pub init : AtKey (list_in value_in) (codes "init") ms (option_map (λ v. v.items) p.init)
-  pub count : count_members ms ≡ one_if p.version + one_if p.cores + one_if p.writes + one_if p.init
+  pub count : count_members ms ≡ count_of p.version + count_of p.cores + count_of p.writes + count_of p.init
 
 -- what is held of the contents of a text
 abbrev pub clipped_contents : Data → Option Contents

@@ -8,9 +8,9 @@ use Rattle.recorder.specs.Clipped.{clipped_number}
 use Rattle.recorder.specs.Pulled.{clipped_source, AtKey}
 
 -- 1 for what was read
-abbrev pub one_if : {A : Type 0} → Option A → ℕ
-one_if None = 0
-one_if (Some x) = 1
+abbrev pub count_of : {A : Type 0} → Option A → ℕ
+count_of None = 0
+count_of (Some x) = 1
 
 -- the members have what was read, and nothing else
 pub record AreFields (f : Fields) (ms : Members) : Type 0 where
@@ -19,4 +19,4 @@ pub record AreFields (f : Fields) (ms : Members) : Type 0 where
   pub value_read : AtKey value_in (codes "r") ms f.r
   pub source : AtKey clipped_source (codes "s") ms f.s
   pub value_written : AtKey value_in (codes "w") ms f.w
-  pub count : count_members ms ≡ one_if f.k + one_if f.a + one_if f.r + one_if f.s + one_if f.w
+  pub count : count_members ms ≡ count_of f.k + count_of f.a + count_of f.r + count_of f.s + count_of f.w
