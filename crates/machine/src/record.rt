@@ -9,7 +9,7 @@ use litmus::{EventId, Op, Ops};
 use recorder::Event;
 
 /// The event that an operation makes, from the value that it read and its source.
-pub(crate) fn event_of(op: Op, read: (u32, Option<EventId>)) -> Event
+pub fn event_of(op: Op, read: (u32, Option<EventId>)) -> Event
     ensures { result ≡ event_of op read }
 {
     let (r, s) = read;

@@ -96,7 +96,7 @@ impl Event {
     }
 
     /// The value that it reads; 0 where it does not read.
-    pub(crate) fn value_read(&self) -> u32
+    pub fn value_read(&self) -> u32
         ensures { result ≡ value_read self.now }
     {
         match self {

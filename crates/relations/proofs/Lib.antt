@@ -10,3 +10,4 @@ pub mod Same
 pub mod Filled
 pub mod Cores
 pub mod Readers
+pub mod InCycles

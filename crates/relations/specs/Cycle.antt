@@ -12,6 +12,10 @@ abbrev pub IsCycle : (ℕ → ℕ → Type 0) → List ℕ → Type 0
 IsCycle R [] = ⊥
 IsCycle R (e ∷ es) = Leads R e es e
 
+-- the number behind place i of a cycle; behind the last is the first
+abbrev pub behind : List ℕ → ℕ → ℕ
+behind c i = slice_index_or c (i + 1) (slice_index c 0)
+
 -- there is no cycle
 abbrev pub IsAcyclic : (ℕ → ℕ → Type 0) → Type 0
 IsAcyclic R = (c : List ℕ) → ¬ IsCycle R c

@@ -5,6 +5,7 @@ mod candidates;
 mod filling;
 mod forced;
 mod laws;
+mod neighbours;
 mod overlooks;
 mod pair;
 mod placed;
@@ -13,6 +14,7 @@ mod relation;
 mod row;
 
 pub use laws::{forced_is_exact, ordered_is_acyclic, relation_is_forced};
+pub use neighbours::behind;
 pub use overlooks::overlook;
 pub use pair::{first_reason, is_overlook};
 pub use reason::Reason;

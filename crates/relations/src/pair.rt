@@ -1,6 +1,7 @@
 //! What holds of one pair of events.
 
-ghost use Rattle.std.specs.Prelude.{◌↔◌, IsTrue};
+ghost use Rattle.std.specs.Prelude.{◌↔◌, ◌<◌, IsSome, IsTrue};
+ghost use Rattle.recorder.specs.Execution.{event_count};
 ghost use Rattle.relations.specs.Forced.{IsReason, Overlooks};
 
 use crate::overlooks::newer_from;
@@ -13,7 +14,9 @@ use recorder::{Recording, place};
 /// none, and for a number that names no event. It can't fail for want of memory. No clause says its
 /// time: it is linear in the lengths of the write lists of their addresses.
 pub fn first_reason(recording: &Recording, first: EventId, second: EventId) -> Option<Reason>
-    ensures { IsReason recording.now first second result }
+    ensures reason { IsReason recording.now first second result }
+    ensures events { IsSome result
+        → (first < event_count recording.now) × (second < event_count recording.now) }
 {
     recording.sound();
     let len = recording.len();

@@ -1,11 +1,12 @@
 -- The texts of verdicts.
-use Rattle.std.specs.Prelude.{◌≡◌, ◌++◌, ◌∷◌, ◌+◌, [], ℕ, zero, suc, List, Some, codes, decimal, length}
+use Rattle.std.specs.Prelude.{◌≡◌, ◌++◌, ◌∷◌, [], ℕ, zero, suc, List, Some, codes, decimal, length}
 use Rattle.std.specs.Prelude.{slice_index, slice_index_or}
 use Rattle.std.specs.List.{flat_map}
 use Rattle.recorder.specs.Execution.{Execution}
 use Rattle.relations.specs.declared.reason.Reason.{Reason}
 use Rattle.relations.specs.declared.reason.Reason.TheVariants.{Po, Wo, Rf, Fr}
 use Rattle.relations.specs.Forced.{IsReason}
+use Rattle.relations.specs.Cycle.{behind}
 use Rattle.labels.specs.Certified.{lists_of}
 use Rattle.judge.specs.declared.verdict.Verdict.{Verdict}
 use Rattle.judge.specs.declared.verdict.Verdict.TheVariants.{Ordered, Overlook, Cycle}
@@ -39,10 +40,6 @@ pub record IsPairLine (x : Execution) (e f : ℕ) (line : List ℕ) : Type 0 whe
   pub reason : Reason
   pub first : IsReason x e f (Some reason)
   pub text : line ≡ pair_line e f reason
-
--- the event behind place i of a cycle; behind the last is the first
-abbrev pub behind : List ℕ → ℕ → ℕ
-behind c i = slice_index_or c (i + 1) (slice_index c 0)
 
 -- the lines of the first n events of a cycle, each with the event behind it
 abbrev pub ArePairLines : Execution → List ℕ → ℕ → List ℕ → Type 0

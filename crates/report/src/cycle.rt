@@ -1,17 +1,17 @@
 //! The text of a cycle with its labels.
 
-ghost use Rattle.std.specs.Prelude.{◌≡◌, ◌++◌, ◌<◌, ℕ, List, OnOk, length};
+ghost use Rattle.std.specs.Prelude.{◌≡◌, ◌++◌, ℕ, List, OnOk, length};
 ghost use Rattle.relations.specs.Cycle.{IsCycle};
 ghost use Rattle.relations.specs.Forced.{Forced};
 ghost use Rattle.labels.specs.Certified.{lists_of};
-ghost use Rattle.report.specs.Verdict.{reason_name, pair_line, behind, labels_line, labels_text, IsPairLine};
+ghost use Rattle.report.specs.Verdict.{reason_name, pair_line, labels_line, labels_text, IsPairLine};
 ghost use Rattle.report.specs.Verdict.{ArePairLines, IsCycleText};
 
 use crate::numbers::{put_number, put_numbers};
 use labels::Certificate;
 use litmus::{EventId, OutOfMemory};
 use recorder::Recording;
-use relations::{Reason, first_reason};
+use relations::{Reason, behind, first_reason};
 
 /// The name of a reason.
 fn reason_name(reason: Reason) -> &'static [u8]
@@ -58,18 +58,6 @@ fn put_pair(
         unreachable!();
     };
     put_reason(out, first, second, reason)
-}
-
-/// The event behind a place of a cycle: behind the last is the first.
-fn behind(cycle: &[EventId], i: usize) -> EventId
-    requires { i < length cycle.now }
-    ensures { result ≡ behind cycle.now i }
-{
-    if i + 1 < cycle.len() {
-        cycle[i + 1]
-    } else {
-        cycle[0]
-    }
 }
 
 /// Adds a line for each pair of neighbours.

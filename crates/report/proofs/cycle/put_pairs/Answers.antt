@@ -1,16 +1,10 @@
-use Rattle.std.proofs.Common.{◌≡◌, ◌++◌, ◌+◌, ℕ, List, suc, get_or, arith, ap, sym, refl, subst, ◌∙◌}
+use Rattle.std.proofs.Common.{◌≡◌, ◌++◌, ◌+◌, ℕ, List, suc, get_or, arith, ap, refl, subst, ◌∙◌}
 use Rattle.std.proofs.lemmas.List.{append_assoc}
-use Rattle.relations.specs.Forced.{Forced}
 use Rattle.report.specs.Verdict.{IsPairLine, ArePairLines}
-use Rattle.report.proofs.Neighbours.{neighbours}
 use Rattle.report.proofs.cycle.put_pairs.Goals as goal
 
 pub put_pair-requires : goal.put_pair-requires
-put_pair-requires c =
-    let x = c.args.recording.now in
-    let cycle = c.args.cycle.now in
-    subst (λ (n : ℕ). Forced x (get_or cycle c.loop-i.i 0) n) (sym c.behind.ensures)
-    (neighbours (Forced x) cycle c.requires c.loop-i.i (omega arith))
+put_pair-requires c = c.behind.ensures.forced c.args.recording.now c.requires
 
 pub loop-i-preserved : goal.loop-i-preserved
 loop-i-preserved c =
@@ -20,7 +14,7 @@ loop-i-preserved c =
     let h = c.loop-i.invariant in
     let p = c.in_ok-put_pair.ensures in
     let next : suc i ≡ i + 1 = omega arith in
-    let line = subst (λ (n : ℕ). IsPairLine x (get_or cycle i 0) n p.0) c.behind.ensures p.1 in (
+    let line = subst (λ (n : ℕ). IsPairLine x (get_or cycle i 0) n p.0) c.behind.ensures.value p.1 in (
       h.0 ++ p.0,
       subst (λ (n : ℕ). ArePairLines x cycle n (h.0 ++ p.0)) next (h.0, p.0, h.1, line, refl),
       p.2 ∙ ap (λ (front : List ℕ). front ++ p.0) h.2 ∙ append_assoc c.args.out.now.items h.0 p.0,

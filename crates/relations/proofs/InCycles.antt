@@ -1,7 +1,6 @@
 -- Each event of a cycle is related to the one behind it.
 use Rattle.std.proofs.Common.{◌≡◌, ◌<◌, ◌+◌, ℕ, zero, suc, List, [], ◌∷◌, length, get_or, arith, subst}
-use Rattle.relations.specs.Cycle.{Leads, IsCycle}
-use Rattle.report.specs.Verdict.{behind}
+use Rattle.relations.specs.Cycle.{Leads, IsCycle, behind}
 
 -- along a list that leads back, each is related to the next, and the last to where it leads
 leads_at : (R : ℕ → ℕ → Type 0) (e : ℕ) (es : List ℕ) (back : ℕ) → Leads R e es back → (i : ℕ)

@@ -1,0 +1,23 @@
+//! Neighbours in a cycle.
+
+ghost use Rattle.std.specs.Prelude.{◌≡◌, ◌<◌, length, slice_index};
+ghost use Rattle.recorder.specs.Execution.{Execution};
+ghost use Rattle.relations.specs.Cycle.{IsCycle, behind};
+ghost use Rattle.relations.specs.Forced.{Forced};
+
+use litmus::EventId;
+
+/// The event behind a place of a cycle: behind the last is the first. In a cycle of forced pairs the
+/// event at the place is forced before it.
+pub fn behind(cycle: &[EventId], i: usize) -> EventId
+    requires { i < length cycle.now }
+    ensures value { result ≡ behind cycle.now i }
+    ensures forced { (x : Execution) → IsCycle (Forced x) cycle.now
+        → Forced x (slice_index cycle.now i) result }
+{
+    if i + 1 < cycle.len() {
+        cycle[i + 1]
+    } else {
+        cycle[0]
+    }
+}
