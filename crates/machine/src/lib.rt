@@ -22,6 +22,7 @@ pub use blocked::Blocked;
 pub use fault::Fault;
 pub use law::{every_run_is_tso, every_state_is_orderly, faults_change_one_row};
 pub use machine::{Machine, Unfinished};
+pub use record::event_of;
 pub use script::parse_steps;
 pub use script_fault::{StepFault, StepsError};
 pub use script_writing::steps_text;

@@ -1,0 +1,3 @@
+pub mod Texts
+pub mod Places
+pub mod Makings

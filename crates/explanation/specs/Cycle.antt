@@ -1,0 +1,46 @@
+-- A cycle in words: each of its events, and why it comes before the next.
+use Rattle.std.specs.Prelude.{◌≡◌, ◌++◌, ◌∷◌, [], ℕ, zero, suc, List, Some, codes, decimal, length}
+use Rattle.std.specs.Prelude.{slice_index}
+use Rattle.litmus.specs.declared.name.Name.{Name}
+use Rattle.recorder.specs.Event.{written_address}
+use Rattle.recorder.specs.Execution.{Execution, event_at}
+use Rattle.relations.specs.declared.reason.Reason.{Reason}
+use Rattle.relations.specs.declared.reason.Reason.TheVariants.{Po, Wo, Rf, Fr}
+use Rattle.relations.specs.Forced.{IsReason}
+use Rattle.relations.specs.Cycle.{behind}
+use Rattle.explanation.specs.Events.{event_line, indent, written_text}
+
+-- why an event comes before another, which writes this address
+abbrev pub reason_text : Reason → List ℕ → List ℕ
+reason_text Po address = codes " in program order"
+reason_text Wo address = codes " in the write list of " ++ address
+reason_text Rf address = codes ", which read it"
+reason_text Fr address = codes ", which wrote a newer value of " ++ address
+
+-- the line that says why an event comes before event f
+unfoldable pub reason_line : Execution → List Name → ℕ → Reason → List ℕ
+reason_line x names f reason = indent x ++ (codes "before " ++ decimal f)
+    ++ reason_text reason (written_text names (written_address (event_at x f))) ++ 10 ∷ []
+
+-- the lines of an event that comes before f, with the first reason that holds
+pub record IsStep (x : Execution) (names : List Name) (e f : ℕ) (text : List ℕ) : Type 0 where
+  pub reason : Reason
+  pub first : IsReason x e f (Some reason)
+  pub lines : text ≡ event_line x names e ++ reason_line x names f reason
+
+-- the lines of the first n events of a cycle, each with the event behind it
+abbrev pub AreSteps : Execution → List Name → List ℕ → ℕ → List ℕ → Type 0
+AreSteps x names c zero text = text ≡ []
+AreSteps x names c (suc i) text = (before step : List ℕ) × AreSteps x names c i before
+    × IsStep x names (slice_index c i) (behind c i) step × (text ≡ before ++ step)
+
+-- what is said first of a cycle of n events
+abbrev pub cycle_heading : ℕ → List ℕ
+cycle_heading n = codes "No memory order explains this recording: these " ++ decimal n
+    ++ (codes " events would each come before the next." ++ 10 ∷ [])
+
+-- a cycle in words
+pub record IsCycleText (x : Execution) (names : List Name) (c text : List ℕ) : Type 0 where
+  pub steps : List ℕ
+  pub lines : AreSteps x names c (length c) steps
+  pub whole : text ≡ cycle_heading (length c) ++ steps

@@ -1,0 +1,67 @@
+-- What is said of an event: a line with its number, its core, its operation and its values.
+use Rattle.std.specs.Prelude.{◌++◌, ◌∷◌, ◌-◌, [], ℕ, Option, Some, None, List, codes, decimal, length}
+use Rattle.std.specs.Prelude.{replicate}
+use Rattle.litmus.specs.declared.name.Name.{Name}
+use Rattle.litmus.specs.Names.{name_text}
+use Rattle.litmus.specs.Spelling.{name_at}
+use Rattle.recorder.specs.declared.event.Event.{Event}
+use Rattle.recorder.specs.declared.event.Event.TheVariants.{L, S, R, C, F}
+use Rattle.recorder.specs.Execution.{Execution, event_count, event_at, core_of}
+
+-- how many digits a number has
+abbrev pub digits : ℕ → ℕ
+digits n = length (decimal n)
+
+-- so many spaces
+abbrev pub spaces : ℕ → List ℕ
+spaces n = replicate n 32
+
+-- a number with spaces before it, up to a width
+abbrev pub padded : ℕ → ℕ → List ℕ
+padded width n = spaces (width - digits n) ++ decimal n
+
+-- how many digits the greatest number of an event has, and of a core
+abbrev pub event_width : Execution → ℕ
+event_width x = digits (event_count x - 1)
+
+abbrev pub core_width : Execution → ℕ
+core_width x = digits (length x.cores - 1)
+
+-- the name of an address
+abbrev pub address_text : List Name → ℕ → List ℕ
+address_text names a = name_text (name_at names a)
+
+-- the name of the address that an event writes
+abbrev pub written_text : List Name → Option ℕ → List ℕ
+written_text names None = []
+written_text names (Some a) = address_text names a
+
+-- where a value came from
+abbrev pub source_text : Option ℕ → List ℕ
+source_text None = codes ", the initial value"
+source_text (Some s) = codes ", from " ++ decimal s
+
+-- the address that was read, the value, and where it came from
+abbrev pub read_text : List Name → ℕ → ℕ → Option ℕ → List ℕ
+read_text names a r s = address_text names a ++ codes " = " ++ decimal r ++ source_text s
+
+-- what an event did
+unfoldable pub event_text : List Name → Event → List ℕ
+event_text names (L a r s) = codes "ld " ++ read_text names a r s
+event_text names (S a w) = codes "st " ++ address_text names a ++ 32 ∷ decimal w
+event_text names (R a r s w) = codes "rmw " ++ read_text names a r s ++ (codes ", wrote " ++ decimal w)
+event_text names (C a r s) = codes "cas " ++ read_text names a r s ++ codes ", wrote nothing"
+event_text names F = codes "fence"
+
+-- the number of an event and its core
+abbrev pub place_text : Execution → ℕ → List ℕ
+place_text x e = codes "  " ++ padded (event_width x) e ++ codes "  core "
+    ++ padded (core_width x) (core_of x e) ++ codes "  "
+
+-- the line of an event
+unfoldable pub event_line : Execution → List Name → ℕ → List ℕ
+event_line x names e = place_text x e ++ event_text names (event_at x e) ++ 10 ∷ []
+
+-- the spaces before what is said of the event above
+abbrev pub indent : Execution → List ℕ
+indent x = spaces (event_width x) ++ codes "    "

@@ -1,0 +1,6 @@
+pub mod Events
+pub mod Cycle
+pub mod Overlook
+pub mod Order
+pub mod Program
+pub mod Explanation

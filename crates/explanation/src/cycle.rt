@@ -1,0 +1,155 @@
+//! A cycle in words.
+
+ghost use Rattle.std.specs.Prelude.{◌≡◌, ◌++◌, ℕ, List, OnOk, codes, decimal, length};
+ghost use Rattle.relations.specs.Cycle.{IsCycle};
+ghost use Rattle.relations.specs.Forced.{Forced};
+ghost use Rattle.explanation.specs.Events.{written_text};
+ghost use Rattle.explanation.specs.Cycle.{reason_text, reason_line, cycle_heading, IsStep, AreSteps};
+ghost use Rattle.explanation.specs.Cycle.{IsCycleText};
+
+use crate::events::put_written;
+use crate::lines::{put_indent, put_line};
+use crate::numbers::put_number;
+use indexmap::IndexSet;
+use litmus::{Addr, EventId, Name, OutOfMemory};
+use recorder::Recording;
+use relations::{Reason, behind, first_reason};
+
+/// Adds where in a write list an event comes before another.
+fn put_in_write_list(
+    out: &mut Vec<u8>,
+    names: &IndexSet<Name>,
+    address: Option<Addr>,
+) -> Result<(), OutOfMemory>
+    ensures { OnOk result (out.new.items ≡ out.old.items
+        ++ (codes " in the write list of " ++ written_text names.now.keys address)) }
+{
+    out.extend_from_slice(b" in the write list of ")?;
+    put_written(out, names, address)
+}
+
+/// Adds that another event wrote a newer value.
+fn put_newer(
+    out: &mut Vec<u8>,
+    names: &IndexSet<Name>,
+    address: Option<Addr>,
+) -> Result<(), OutOfMemory>
+    ensures { OnOk result (out.new.items ≡ out.old.items
+        ++ (codes ", which wrote a newer value of " ++ written_text names.now.keys address)) }
+{
+    out.extend_from_slice(b", which wrote a newer value of ")?;
+    put_written(out, names, address)
+}
+
+/// Adds why an event comes before another, which writes this address.
+fn put_reason(
+    out: &mut Vec<u8>,
+    names: &IndexSet<Name>,
+    reason: Reason,
+    address: Option<Addr>,
+) -> Result<(), OutOfMemory>
+    ensures { OnOk result (out.new.items ≡ out.old.items
+        ++ reason_text reason (written_text names.now.keys address)) }
+{
+    match reason {
+        Reason::Po => {
+            out.extend_from_slice(b" in program order")?;
+            Ok(())
+        }
+        Reason::Wo => put_in_write_list(out, names, address),
+        Reason::Rf => {
+            out.extend_from_slice(b", which read it")?;
+            Ok(())
+        }
+        Reason::Fr => put_newer(out, names, address),
+    }
+}
+
+/// Adds which event it comes before.
+fn put_before(out: &mut Vec<u8>, number: EventId) -> Result<(), OutOfMemory>
+    ensures { OnOk result (out.new.items ≡ out.old.items ++ (codes "before " ++ decimal number)) }
+{
+    out.extend_from_slice(b"before ")?;
+    put_number(out, number as usize)
+}
+
+/// Adds the line that says why an event comes before another.
+#[tactic(auto, unfolding(crate::specs::Cycle::reason_line))]
+fn put_reason_line(
+    out: &mut Vec<u8>,
+    recording: &Recording,
+    names: &IndexSet<Name>,
+    second: EventId,
+    reason: Reason,
+) -> Result<(), OutOfMemory>
+    ensures { OnOk result (out.new.items ≡ out.old.items
+        ++ reason_line recording.now names.now.keys second reason) }
+{
+    put_indent(out, recording)?;
+    put_before(out, second)?;
+    put_reason(out, names, reason, recording.written_address(second))?;
+    out.push(b'\n')?;
+    Ok(())
+}
+
+/// Adds the lines of an event that comes before another.
+fn put_step(
+    out: &mut Vec<u8>,
+    recording: &Recording,
+    names: &IndexSet<Name>,
+    first: EventId,
+    second: EventId,
+) -> Result<(), OutOfMemory>
+    requires { Forced recording.now first second }
+    ensures { OnOk result ((step : List ℕ) × IsStep recording.now names.now.keys first second step
+        × (out.new.items ≡ out.old.items ++ step)) }
+{
+    let Some(reason) = first_reason(recording, first, second) else {
+        unreachable!();
+    };
+    put_line(out, recording, names, first)?;
+    put_reason_line(out, recording, names, second, reason)
+}
+
+/// Adds the lines of each event of a cycle.
+fn put_steps(
+    out: &mut Vec<u8>,
+    recording: &Recording,
+    names: &IndexSet<Name>,
+    cycle: &[EventId],
+) -> Result<(), OutOfMemory>
+    requires { IsCycle (Forced recording.now) cycle.now }
+    ensures { OnOk result ((steps : List ℕ)
+        × AreSteps recording.now names.now.keys cycle.now (length cycle.now) steps
+        × (out.new.items ≡ out.old.items ++ steps)) }
+{
+    for i in 0..cycle.len() {
+        put_step(out, recording, names, cycle[i], behind(cycle, i))?;
+    }
+    Ok(())
+}
+
+/// Adds what is said first of a cycle of so many events.
+fn put_heading(out: &mut Vec<u8>, count: usize) -> Result<(), OutOfMemory>
+    ensures { OnOk result (out.new.items ≡ out.old.items ++ cycle_heading count) }
+{
+    out.extend_from_slice(b"No memory order explains this recording: these ")?;
+    put_number(out, count)?;
+    out.extend_from_slice(b" events would each come before the next.\n")?;
+    Ok(())
+}
+
+/// Adds a cycle in words.
+pub(crate) fn put_cycle(
+    out: &mut Vec<u8>,
+    recording: &Recording,
+    names: &IndexSet<Name>,
+    cycle: &[EventId],
+) -> Result<(), OutOfMemory>
+    requires { IsCycle (Forced recording.now) cycle.now }
+    ensures { OnOk result ((text : List ℕ) × IsCycleText recording.now names.now.keys cycle.now text
+        × (out.new.items ≡ out.old.items ++ text)) }
+{
+    put_heading(out, cycle.len())?;
+    put_steps(out, recording, names, cycle)
+}

@@ -1,0 +1,150 @@
+//! What an event did.
+
+ghost use Rattle.std.specs.Prelude.{◌≡◌, ◌++◌, ◌∷◌, OnOk, Some, codes, decimal};
+ghost use Rattle.recorder.specs.declared.event.Event.TheVariants.{L, S, R, C};
+ghost use Rattle.explanation.specs.Events.{address_text, written_text, source_text, read_text, event_text};
+
+use crate::numbers::put_number;
+use indexmap::IndexSet;
+use litmus::{Addr, EventId, Name, OutOfMemory};
+use recorder::Event;
+
+/// Adds the name of an address.
+pub(crate) fn put_address(
+    out: &mut Vec<u8>,
+    names: &IndexSet<Name>,
+    address: Addr,
+) -> Result<(), OutOfMemory>
+    ensures { OnOk result (out.new.items ≡ out.old.items ++ address_text names.now.keys address) }
+{
+    let Some(name) = names.get_index(address as usize) else {
+        return Ok(());
+    };
+    out.extend_from_slice(name.text())?;
+    Ok(())
+}
+
+/// Adds the name of the address that an event writes.
+pub(crate) fn put_written(
+    out: &mut Vec<u8>,
+    names: &IndexSet<Name>,
+    address: Option<Addr>,
+) -> Result<(), OutOfMemory>
+    ensures { OnOk result (out.new.items ≡ out.old.items ++ written_text names.now.keys address) }
+{
+    match address {
+        Some(address) => put_address(out, names, address),
+        None => Ok(()),
+    }
+}
+
+/// Adds where a value came from.
+fn put_source(out: &mut Vec<u8>, source: Option<EventId>) -> Result<(), OutOfMemory>
+    ensures { OnOk result (out.new.items ≡ out.old.items ++ source_text source) }
+{
+    let Some(source) = source else {
+        out.extend_from_slice(b", the initial value")?;
+        return Ok(());
+    };
+    out.extend_from_slice(b", from ")?;
+    put_number(out, source as usize)
+}
+
+/// Adds an address that was read, the value, and where it came from.
+fn put_read(
+    out: &mut Vec<u8>,
+    names: &IndexSet<Name>,
+    read: (Addr, u32, Option<EventId>),
+) -> Result<(), OutOfMemory>
+    ensures { OnOk result (out.new.items ≡ out.old.items ++ read_text names.now.keys read.0 read.1 read.2) }
+{
+    let (address, value, source) = read;
+    put_address(out, names, address)?;
+    out.extend_from_slice(b" = ")?;
+    put_number(out, value as usize)?;
+    put_source(out, source)
+}
+
+/// Adds what a load did.
+#[tactic(auto, unfolding(crate::specs::Events::event_text))]
+fn put_load(
+    out: &mut Vec<u8>,
+    names: &IndexSet<Name>,
+    read: (Addr, u32, Option<EventId>),
+) -> Result<(), OutOfMemory>
+    ensures { OnOk result (out.new.items ≡ out.old.items
+        ++ event_text names.now.keys (L read.0 read.1 read.2)) }
+{
+    out.extend_from_slice(b"ld ")?;
+    put_read(out, names, read)
+}
+
+/// Adds what a store did.
+#[tactic(auto, unfolding(crate::specs::Events::event_text))]
+fn put_store(
+    out: &mut Vec<u8>,
+    names: &IndexSet<Name>,
+    address: Addr,
+    value: u32,
+) -> Result<(), OutOfMemory>
+    ensures { OnOk result (out.new.items ≡ out.old.items ++ event_text names.now.keys (S address value)) }
+{
+    out.extend_from_slice(b"st ")?;
+    put_address(out, names, address)?;
+    out.push(b' ')?;
+    put_number(out, value as usize)
+}
+
+/// Adds what a read-modify-write did.
+#[tactic(auto, unfolding(crate::specs::Events::event_text))]
+fn put_rmw(
+    out: &mut Vec<u8>,
+    names: &IndexSet<Name>,
+    read: (Addr, u32, Option<EventId>),
+    value: u32,
+) -> Result<(), OutOfMemory>
+    ensures { OnOk result (out.new.items ≡ out.old.items
+        ++ event_text names.now.keys (R read.0 read.1 read.2 value)) }
+{
+    out.extend_from_slice(b"rmw ")?;
+    put_read(out, names, read)?;
+    out.extend_from_slice(b", wrote ")?;
+    put_number(out, value as usize)
+}
+
+/// Adds what a compare-and-swap did that failed.
+#[tactic(auto, unfolding(crate::specs::Events::event_text))]
+fn put_failed_cas(
+    out: &mut Vec<u8>,
+    names: &IndexSet<Name>,
+    read: (Addr, u32, Option<EventId>),
+) -> Result<(), OutOfMemory>
+    ensures { OnOk result (out.new.items ≡ out.old.items
+        ++ event_text names.now.keys (C read.0 read.1 read.2)) }
+{
+    out.extend_from_slice(b"cas ")?;
+    put_read(out, names, read)?;
+    out.extend_from_slice(b", wrote nothing")?;
+    Ok(())
+}
+
+/// Adds what an event did.
+#[tactic(auto, unfolding(crate::specs::Events::event_text))]
+pub(crate) fn put_event(
+    out: &mut Vec<u8>,
+    names: &IndexSet<Name>,
+    event: &Event,
+) -> Result<(), OutOfMemory>
+    ensures { OnOk result (out.new.items ≡ out.old.items ++ event_text names.now.keys event.now) }
+{
+    match event {
+        Event::L { a, r, s } => put_load(out, names, (*a, *r, *s)),
+        Event::S { a, w } => put_store(out, names, *a, *w),
+        Event::R { a, r, s, w } => put_rmw(out, names, (*a, *r, *s), *w),
+        Event::C { a, r, s } => put_failed_cas(out, names, (*a, *r, *s)),
+        Event::F => {
+            out.extend_from_slice(b"fence")?;
+            Ok(())
+        }
+    }
+}

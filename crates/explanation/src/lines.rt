@@ -1,0 +1,81 @@
+//! The lines of events.
+
+ghost use Rattle.std.specs.Prelude.{◌≡◌, ◌++◌, OnOk, codes};
+ghost use Rattle.recorder.specs.Execution.{event_at, core_of};
+ghost use Rattle.explanation.specs.Events.{event_width, core_width, padded, event_line, indent};
+
+use crate::events::put_event;
+use crate::numbers::{digits, put_padded, put_spaces};
+use indexmap::IndexSet;
+use litmus::{CoreId, EventId, Name, OutOfMemory};
+use recorder::{Event, Recording};
+
+/// How many digits the greatest number of an event has.
+fn event_width(recording: &Recording) -> usize
+    ensures { result ≡ event_width recording.now }
+{
+    digits(recording.len().saturating_sub(1))
+}
+
+/// How many digits the greatest number of a core has.
+fn core_width(recording: &Recording) -> usize
+    ensures { result ≡ core_width recording.now }
+{
+    digits(recording.cores().len().saturating_sub(1))
+}
+
+/// The core of an event and what it did; a number past the last event is a fence of core 0.
+pub(crate) fn event_of(recording: &Recording, number: EventId) -> (CoreId, Event)
+    ensures core { result.0 ≡ core_of recording.now number }
+    ensures event { result.1 ≡ event_at recording.now number }
+{
+    match recording.event(number) {
+        Some((core, event)) => (core, *event),
+        None => (0, Event::F),
+    }
+}
+
+/// Adds the number of an event and its core.
+fn put_place(
+    out: &mut Vec<u8>,
+    recording: &Recording,
+    number: EventId,
+    core: CoreId,
+) -> Result<(), OutOfMemory>
+    ensures { OnOk result (out.new.items ≡ out.old.items ++ (codes "  "
+        ++ padded (event_width recording.now) number ++ codes "  core "
+        ++ padded (core_width recording.now) core ++ codes "  ")) }
+{
+    out.extend_from_slice(b"  ")?;
+    put_padded(out, event_width(recording), number as usize)?;
+    out.extend_from_slice(b"  core ")?;
+    put_padded(out, core_width(recording), core as usize)?;
+    out.extend_from_slice(b"  ")?;
+    Ok(())
+}
+
+/// Adds the line of an event.
+#[tactic(auto, unfolding(crate::specs::Events::event_line))]
+pub(crate) fn put_line(
+    out: &mut Vec<u8>,
+    recording: &Recording,
+    names: &IndexSet<Name>,
+    number: EventId,
+) -> Result<(), OutOfMemory>
+    ensures { OnOk result (out.new.items ≡ out.old.items ++ event_line recording.now names.now.keys number) }
+{
+    let (core, event) = event_of(recording, number);
+    put_place(out, recording, number, core)?;
+    put_event(out, names, &event)?;
+    out.push(b'\n')?;
+    Ok(())
+}
+
+/// Adds the spaces before what is said of the event above.
+pub(crate) fn put_indent(out: &mut Vec<u8>, recording: &Recording) -> Result<(), OutOfMemory>
+    ensures { OnOk result (out.new.items ≡ out.old.items ++ indent recording.now) }
+{
+    put_spaces(out, event_width(recording))?;
+    out.extend_from_slice(b"    ")?;
+    Ok(())
+}

@@ -1,0 +1,42 @@
+//! Numbers in a text, and their widths.
+
+ghost use Rattle.std.specs.Prelude.{◌≡◌, ◌++◌, ◌-◌, ◌<◌, ◌≤◌, ◌^◌, OnOk, decimal};
+ghost use Rattle.explanation.specs.Events.{digits, padded, spaces};
+
+use itoa::Buffer;
+use litmus::OutOfMemory;
+
+/// How many digits a number has.
+pub(crate) fn digits(number: usize) -> usize
+    ensures { result ≡ digits number }
+{
+    let mut buffer = Buffer::new();
+    buffer.format(number).as_bytes().len()
+}
+
+/// Adds a number.
+pub(crate) fn put_number(out: &mut Vec<u8>, number: usize) -> Result<(), OutOfMemory>
+    ensures { OnOk result (out.new.items ≡ out.old.items ++ decimal number) }
+{
+    let mut buffer = Buffer::new();
+    out.extend_from_slice(buffer.format(number).as_bytes())?;
+    Ok(())
+}
+
+/// Adds so many spaces.
+pub(crate) fn put_spaces(out: &mut Vec<u8>, count: usize) -> Result<(), OutOfMemory>
+    ensures { OnOk result (out.new.items ≡ out.old.items ++ spaces count) }
+{
+    for _i in 0..count {
+        out.push(b' ')?;
+    }
+    Ok(())
+}
+
+/// Adds a number with spaces before it, up to a width.
+pub(crate) fn put_padded(out: &mut Vec<u8>, width: usize, number: usize) -> Result<(), OutOfMemory>
+    ensures { OnOk result (out.new.items ≡ out.old.items ++ padded width number) }
+{
+    put_spaces(out, width.saturating_sub(digits(number)))?;
+    put_number(out, number)
+}

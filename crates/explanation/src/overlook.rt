@@ -1,0 +1,133 @@
+//! An overlook in words.
+
+ghost use Rattle.std.specs.Prelude.{◌≡◌, ◌++◌, OnOk, codes, decimal};
+ghost use Rattle.recorder.specs.Event.{written_address};
+ghost use Rattle.recorder.specs.Execution.{event_at, source_of};
+ghost use Rattle.explanation.specs.Events.{written_text};
+ghost use Rattle.explanation.specs.Overlook.{overlook_heading, store_line, instead_lines, overlook_text};
+
+use crate::events::put_written;
+use crate::lines::{put_indent, put_line};
+use crate::numbers::put_number;
+use indexmap::IndexSet;
+use litmus::{Addr, EventId, Name, OutOfMemory};
+use recorder::Recording;
+
+/// Adds what is said first of an overlook.
+fn put_heading(out: &mut Vec<u8>, load: EventId, store: EventId) -> Result<(), OutOfMemory>
+    ensures { OnOk result (out.new.items ≡ out.old.items ++ overlook_heading load store) }
+{
+    out.extend_from_slice(b"No memory order explains this recording: event ")?;
+    put_number(out, load as usize)?;
+    out.extend_from_slice(b" overlooks event ")?;
+    put_number(out, store as usize)?;
+    out.extend_from_slice(b", a newer write of its own core.\n")?;
+    Ok(())
+}
+
+/// Adds which event the store is before.
+fn put_before(out: &mut Vec<u8>, load: EventId) -> Result<(), OutOfMemory>
+    ensures { OnOk result (out.new.items ≡ out.old.items ++ (codes "before " ++ decimal load)) }
+{
+    out.extend_from_slice(b"before ")?;
+    put_number(out, load as usize)
+}
+
+/// Adds the line that says that the store is before the load.
+fn put_store_line(
+    out: &mut Vec<u8>,
+    recording: &Recording,
+    load: EventId,
+) -> Result<(), OutOfMemory>
+    ensures { OnOk result (out.new.items ≡ out.old.items ++ store_line recording.now load) }
+{
+    put_indent(out, recording)?;
+    put_before(out, load)?;
+    out.extend_from_slice(b" in program order\n")?;
+    Ok(())
+}
+
+/// Adds that the load read from an older write.
+fn put_older(
+    out: &mut Vec<u8>,
+    names: &IndexSet<Name>,
+    source: EventId,
+    address: Option<Addr>,
+) -> Result<(), OutOfMemory>
+    ensures { OnOk result (out.new.items ≡ out.old.items ++ (codes "read it from " ++ decimal source
+        ++ codes ", which is older in the write list of " ++ written_text names.now.keys address)) }
+{
+    out.extend_from_slice(b"read it from ")?;
+    put_number(out, source as usize)?;
+    out.extend_from_slice(b", which is older in the write list of ")?;
+    put_written(out, names, address)
+}
+
+/// Adds that the load read the initial value.
+fn put_initial(
+    out: &mut Vec<u8>,
+    names: &IndexSet<Name>,
+    address: Option<Addr>,
+) -> Result<(), OutOfMemory>
+    ensures { OnOk result (out.new.items ≡ out.old.items
+        ++ (codes "the initial value is older than each write of " ++ written_text names.now.keys address)) }
+{
+    out.extend_from_slice(b"the initial value is older than each write of ")?;
+    put_written(out, names, address)
+}
+
+/// Adds the lines that say what was read instead of a store to this address.
+fn put_instead(
+    out: &mut Vec<u8>,
+    recording: &Recording,
+    names: &IndexSet<Name>,
+    address: Option<Addr>,
+    source: Option<EventId>,
+) -> Result<(), OutOfMemory>
+    ensures { OnOk result (out.new.items ≡ out.old.items
+        ++ instead_lines recording.now names.now.keys (written_text names.now.keys address) source) }
+{
+    put_indent(out, recording)?;
+    let Some(source) = source else {
+        put_initial(out, names, address)?;
+        out.push(b'\n')?;
+        return Ok(());
+    };
+    put_older(out, names, source, address)?;
+    out.push(b'\n')?;
+    put_line(out, recording, names, source)
+}
+
+/// Adds the lines that say what a load read instead of a store.
+fn put_read_instead(
+    out: &mut Vec<u8>,
+    recording: &Recording,
+    names: &IndexSet<Name>,
+    load: EventId,
+    store: EventId,
+) -> Result<(), OutOfMemory>
+    ensures { OnOk result (out.new.items ≡ out.old.items ++ instead_lines recording.now names.now.keys
+        (written_text names.now.keys (written_address (event_at recording.now store)))
+        (source_of recording.now load)) }
+{
+    let address = recording.written_address(store);
+    put_instead(out, recording, names, address, recording.source(load))
+}
+
+/// Adds an overlook in words.
+pub(crate) fn put_overlook(
+    out: &mut Vec<u8>,
+    recording: &Recording,
+    names: &IndexSet<Name>,
+    load: EventId,
+    store: EventId,
+) -> Result<(), OutOfMemory>
+    ensures { OnOk result (out.new.items ≡ out.old.items
+        ++ overlook_text recording.now names.now.keys load store) }
+{
+    put_heading(out, load, store)?;
+    put_line(out, recording, names, store)?;
+    put_store_line(out, recording, load)?;
+    put_line(out, recording, names, load)?;
+    put_read_instead(out, recording, names, load, store)
+}

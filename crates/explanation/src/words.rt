@@ -1,0 +1,40 @@
+//! A verdict in words.
+
+ghost use Rattle.std.specs.Prelude.{IfOk};
+ghost use Rattle.judge.specs.Verdict.{Verifies};
+ghost use Rattle.explanation.specs.Explanation.{IsExplanation};
+
+use crate::cycle::put_cycle;
+use crate::memory_order::put_order;
+use crate::overlook::put_overlook;
+use indexmap::IndexSet;
+use judge::Verdict;
+use litmus::{Name, OutOfMemory};
+use recorder::Recording;
+use std::alloc::Global;
+
+/// A verdict that holds of the recording, in words, with these names of its addresses: of a cycle each
+/// event and why it comes before the next; of an overlook the store, the load, and what was read
+/// instead; of an order each event and what makes its place lawful (Nagarajan, Sorin, Hill and Wood,
+/// A Primer on Memory Consistency and Cache Coherence, second edition, chapter 4). Each event has a
+/// line with its number, its core, its operation, and the values that it read and wrote. An address
+/// past the last name has an empty one. An error is want of memory.
+pub fn explanation_text(
+    alloc: Global,
+    recording: &Recording,
+    names: &IndexSet<Name>,
+    verdict: &Verdict,
+) -> Result<Vec<u8>, OutOfMemory>
+    requires { Verifies recording.now verdict.now }
+    ensures { IfOk result (λ text. IsExplanation recording.now names.now.keys verdict.now text.items) }
+{
+    let mut out = Vec::new(alloc);
+    match verdict {
+        Verdict::Ordered(order) => put_order(&mut out, recording, names, order)?,
+        Verdict::Overlook { load, store } => put_overlook(
+            &mut out, recording, names, *load, *store,
+        )?,
+        Verdict::Cycle(certificate) => put_cycle(&mut out, recording, names, &certificate.cycle)?,
+    }
+    Ok(out)
+}
