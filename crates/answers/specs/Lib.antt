@@ -1,3 +1,4 @@
 pub mod Verdict
+pub mod Explained
 pub mod Run
 pub mod Campaign

@@ -28,7 +28,8 @@ use Rattle.clap.specs.declared.builder.value_parser.ValueParser.TheVariants.{Uns
 use Rattle.clap.specs.declared.parser.matches.ValueSource.{ValueSource}
 use Rattle.clap.specs.declared.parser.matches.ValueSource.TheVariants.{CommandLine, DefaultValue}
 use Rattle.clap.specs.declared.error.kind.ErrorKind.TheVariants as kinds
-use Rattle.command_line.specs.Commands.{AreFaultless, command_of, file_rule, flag_rule, judge_app, live_app}
+use Rattle.command_line.specs.Commands.{AreFaultless, command_of, explain_app, file_rule, flag_rule}
+use Rattle.command_line.specs.Commands.{judge_app, live_app}
 use Rattle.command_line.specs.Commands.{number_rule, program_app, program_rule, replay_app, run_app}
 use Rattle.command_line.specs.Commands.{size_rule, text_rule, trials_app}
 use Rattle.command_line.specs.Entries.{HasFlag, HasNumber, HasText}
@@ -428,6 +429,9 @@ live_keeps = (
 replay_keeps : Each (Keeps AreFit) (leaf replay_app).rules
 replay_keeps = (file_keeps, (help_keeps, tt))
 
+explain_keeps : Each (Keeps AreFit) (leaf explain_app).rules
+explain_keeps = (file_keeps, (text_keeps 2 (codes "program") refl refl, (help_keeps, tt)))
+
 -- clap finds no fault in the words of a command
 abbrev IsRead : Shape → List Text → Type 0
 IsRead s words = level_fault s [] nothing_held words false [] ≡ []
@@ -535,6 +539,16 @@ replay_entry words read =
     (first_given file (filled help_rule ∷ []) rows refl
     (wanted (leaf replay_app) rows false is.check).1).0
 
+explain_entry : (words : List Text) → IsRead (leaf explain_app) words
+    → HasText (codes "FILE") (rows_after (leaf explain_app).rules [] words)
+explain_entry words read =
+    let is = faultless AreFit AreFinal fit_final (leaf explain_app) explain_keeps
+    (no_defaults AreFinal (leaf explain_app).rules (refl, (refl, (refl, tt)))) [] words false [] read tt in
+    let rows = rows_after (leaf explain_app).rules [] words in
+    given_entry (codes "FILE") rows is.rows
+    (first_given file (text 2 (codes "program") ∷ filled help_rule ∷ []) rows refl
+    (wanted (leaf explain_app) rows false is.check).1).0
+
 -- ---- the command that the words name
 
 -- the names of the commands differ
@@ -550,6 +564,7 @@ run_entered words read = record {
   trials = differ (codes "run") (codes "trials") refl;
   live = differ (codes "run") (codes "live") refl;
   replay = differ (codes "run") (codes "replay") refl;
+  explain = differ (codes "run") (codes "explain") refl;
 }
 
 judge_entered : (words : List Text) → IsRead (leaf judge_app) words
@@ -561,6 +576,7 @@ judge_entered words read = record {
   trials = differ (codes "judge") (codes "trials") refl;
   live = differ (codes "judge") (codes "live") refl;
   replay = differ (codes "judge") (codes "replay") refl;
+  explain = differ (codes "judge") (codes "explain") refl;
 }
 
 trials_entered : (words : List Text) → IsRead (leaf trials_app) words
@@ -572,6 +588,7 @@ trials_entered words read = record {
   trials = λ _. trials_entries words read;
   live = differ (codes "trials") (codes "live") refl;
   replay = differ (codes "trials") (codes "replay") refl;
+  explain = differ (codes "trials") (codes "explain") refl;
 }
 
 live_entered : (words : List Text) → IsRead (leaf live_app) words
@@ -583,6 +600,7 @@ live_entered words read = record {
   trials = differ (codes "live") (codes "trials") refl;
   live = λ _. live_entries words read;
   replay = differ (codes "live") (codes "replay") refl;
+  explain = differ (codes "live") (codes "explain") refl;
 }
 
 replay_entered : (words : List Text) → IsRead (leaf replay_app) words
@@ -594,6 +612,19 @@ replay_entered words read = record {
   trials = differ (codes "replay") (codes "trials") refl;
   live = differ (codes "replay") (codes "live") refl;
   replay = λ _. replay_entry words read;
+  explain = differ (codes "replay") (codes "explain") refl;
+}
+
+explain_entered : (words : List Text) → IsRead (leaf explain_app) words
+    → HasEntries (rows_at (leaf explain_app) words)
+explain_entered words read = record {
+  known = λ none. none.5 refl;
+  run = differ (codes "explain") (codes "run") refl;
+  judge = differ (codes "explain") (codes "judge") refl;
+  trials = differ (codes "explain") (codes "trials") refl;
+  live = differ (codes "explain") (codes "live") refl;
+  replay = differ (codes "explain") (codes "replay") refl;
+  explain = λ _. explain_entry words read;
 }
 
 or_false : (b : Bool) → (b || false) ≡ true → b ≡ true
@@ -623,7 +654,10 @@ each_is_whole word words entered = (
         (λ _ read. live_entered words read),
         (
           (λ _ read. replay_entered words read),
-          ((λ answers read. absurd (help_entered word answers entered)), tt),
+          (
+            (λ _ read. explain_entered words read),
+            ((λ answers read. absurd (help_entered word answers entered)), tt),
+          ),
         ),
       ),
     ),

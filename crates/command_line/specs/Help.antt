@@ -72,6 +72,10 @@ fault_text =
     codes "A fault: none, no-bypass, youngest-first, open-fence, stale-share, early-rmw [default: "
     ++ fault_name DEFAULT_FAULT ++ codes "]"
 
+-- --program
+abbrev pub names_text : List ℕ
+names_text = codes "The program that was recorded, which names the addresses: a file, or - for standard input"
+
 -- --show
 abbrev pub show_text : List ℕ
 show_text = codes "Shows trial K, from 0 and below the number of trials, instead of the counts"

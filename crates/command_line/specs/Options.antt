@@ -7,12 +7,13 @@ use Rattle.clap.specs.declared.error.kind.ErrorKind.TheVariants as kinds
 use Rattle.litmus.specs.declared.limits.TheConstants.{MAX_CAPACITY, MAX_STEPS, MAX_TRIALS, MAX_WORKERS}
 use Rattle.litmus.specs.Shapes.{is_outside, shape_of}
 use Rattle.command_line.specs.declared.options.Options.{Options}
-use Rattle.command_line.specs.declared.options.Options.TheVariants.{Run, Judge, Trials, Live, Replay}
+use Rattle.command_line.specs.declared.options.Options.TheVariants.{Run, Judge, Trials, Live, Replay, Explain}
 use Rattle.command_line.specs.declared.options.RunOptions.{RunOptions}
 use Rattle.command_line.specs.declared.options.JudgeOptions.{JudgeOptions}
 use Rattle.command_line.specs.declared.options.TrialsOptions.{TrialsOptions}
 use Rattle.command_line.specs.declared.options.LiveOptions.{LiveOptions}
 use Rattle.command_line.specs.declared.options.FileOptions.{FileOptions}
+use Rattle.command_line.specs.declared.options.ExplainOptions.{ExplainOptions}
 use Rattle.command_line.specs.declared.options.OptionFault.{OptionFault}
 use Rattle.command_line.specs.declared.options.OptionFault.TheVariants.{Clap, Refused, OutOfMemory}
 use Rattle.command_line.specs.Commands.{AreFaultless, command_of, program_app}
@@ -105,6 +106,11 @@ pub record AreLiveOptions (o : LiveOptions) (rows : List Row) : Type 0 where
 abbrev pub AreFileOptions : FileOptions → List Row → Type 0
 AreFileOptions o rows = first_of (codes "FILE") rows ≡ Some (string_bytes o.file)
 
+-- the file is its entry, and so is the program, where there is one
+pub record AreExplainOptions (o : ExplainOptions) (rows : List Row) : Type 0 where
+  pub file : first_of (codes "FILE") rows ≡ Some (string_bytes o.file)
+  pub program : first_of (codes "program") rows ≡ option_map string_bytes o.program
+
 -- the options are those of the command that was read
 abbrev pub AreOptions : Options → Option (Text × List Row) → Type 0
 AreOptions o None = ⊥
@@ -113,11 +119,12 @@ AreOptions (Judge o) (Some command) = (command.0 ≡ codes "judge") × AreJudgeO
 AreOptions (Trials o) (Some command) = (command.0 ≡ codes "trials") × AreTrialsOptions o command.1
 AreOptions (Live o) (Some command) = (command.0 ≡ codes "live") × AreLiveOptions o command.1
 AreOptions (Replay o) (Some command) = (command.0 ≡ codes "replay") × AreFileOptions o command.1
+AreOptions (Explain o) (Some command) = (command.0 ≡ codes "explain") × AreExplainOptions o command.1
 
 -- a name that is no command's
 abbrev pub IsNoCommand : Text → Type 0
 IsNoCommand name = (name ≢ codes "run") × (name ≢ codes "judge") × (name ≢ codes "trials")
-    × (name ≢ codes "live") × (name ≢ codes "replay")
+    × (name ≢ codes "live") × (name ≢ codes "replay") × (name ≢ codes "explain")
 
 -- what was read is one of the commands, with the entries that it requires
 pub record HasEntries (command : Text × List Row) : Type 0 where
@@ -127,6 +134,7 @@ pub record HasEntries (command : Text × List Row) : Type 0 where
   pub trials : command.0 ≡ codes "trials" → HasTrialsEntries command.1
   pub live : command.0 ≡ codes "live" → HasLiveEntries command.1
   pub replay : command.0 ≡ codes "replay" → HasText (codes "FILE") command.1
+  pub explain : command.0 ≡ codes "explain" → HasText (codes "FILE") command.1
 
 -- why the command that was read gives no options: its entries' first refusal, or want of memory
 abbrev pub IsCommandFault : OptionFault → Option (Text × List Row) → Type 0

@@ -5,7 +5,7 @@ ghost use Rattle.command_line.specs.Commands.{Builds, bare_app, program_app};
 
 use crate::pages::{ABOUT, STATUSES};
 use crate::rules::Texts;
-use crate::subcommands::{judge, live, replay, run, trials};
+use crate::subcommands::{explain, judge, live, replay, run, trials};
 use clap::Command;
 use std::alloc::{AllocError, Global};
 
@@ -45,5 +45,6 @@ pub fn command<'a>(alloc: Global, texts: &'a Texts) -> Result<Command<'a>, Alloc
     let judge = with(run, judge(alloc, &texts.trials));
     let trials = with(judge, trials(alloc, texts));
     let live = with(trials, live(alloc, &texts.run));
-    with(live, replay(alloc))
+    let replay = with(live, replay(alloc));
+    with(replay, explain(alloc))
 }

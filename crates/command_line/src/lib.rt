@@ -13,6 +13,6 @@ pub mod words;
 
 pub use options::{
     DEFAULT_ATTEMPTS, DEFAULT_BUFFER, DEFAULT_FAULT, DEFAULT_LIMIT, DEFAULT_SEED, DEFAULT_TRIALS,
-    DEFAULT_WORKERS, FileOptions, JudgeOptions, LiveOptions, OptionFault, OptionRefusal, Options,
-    RunOptions, TrialsOptions,
+    DEFAULT_WORKERS, ExplainOptions, FileOptions, JudgeOptions, LiveOptions, OptionFault,
+    OptionRefusal, Options, RunOptions, TrialsOptions,
 };

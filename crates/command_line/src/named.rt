@@ -2,7 +2,8 @@
 ghost use Rattle.std.specs.Prelude.{◌≡◌, ◌≢◌, IfOk, None, Some, codes, option_map, string_bytes};
 ghost use Rattle.clap.specs.Words.{first_of, found_of, rows_of};
 ghost use Rattle.command_line.specs.Entries.{HasText, machine_fault_of};
-ghost use Rattle.command_line.specs.Options.{AreFileOptions, AreJudgeOptions, AreLiveOptions, AreOptions};
+ghost use Rattle.command_line.specs.Options.{AreExplainOptions, AreFileOptions, AreJudgeOptions};
+ghost use Rattle.command_line.specs.Options.{AreLiveOptions, AreOptions};
 ghost use Rattle.command_line.specs.Options.{AreRunOptions, AreTrialsOptions, HasEntries, HasJudgeEntries};
 ghost use Rattle.command_line.specs.Options.{HasLiveEntries, HasRunEntries, HasTrialsEntries};
 ghost use Rattle.command_line.specs.Refusals.{campaign_refusal, judge_refusal, live_refusal, refusal_of};
@@ -11,7 +12,7 @@ ghost use Rattle.command_line.specs.Refusals.{run_refusal};
 use crate::entries::{flag, machine_fault, maybe_text, number_or, show, text};
 use crate::options::{
     DEFAULT_ATTEMPTS, DEFAULT_BUFFER, DEFAULT_LIMIT, DEFAULT_SEED, DEFAULT_TRIALS, DEFAULT_WORKERS,
-    FileOptions, JudgeOptions, LiveOptions, Options, RunOptions, TrialsOptions,
+    ExplainOptions, FileOptions, JudgeOptions, LiveOptions, Options, RunOptions, TrialsOptions,
 };
 use clap::ArgMatches;
 use machine::Fault;
@@ -120,6 +121,17 @@ fn file_options(alloc: Global, matches: &ArgMatches<'_>) -> Result<FileOptions, 
     })
 }
 
+/// The options of `explain`: the file is `clap`'s entry, and so is the program where there is one.
+fn explain_options(alloc: Global, matches: &ArgMatches<'_>) -> Result<ExplainOptions, AllocError>
+    requires { HasText (codes "FILE") (rows_of (found_of matches.now)) }
+    ensures { IfOk result (λ o. AreExplainOptions o (rows_of (found_of matches.now))) }
+{
+    Ok(ExplainOptions {
+        file: String::from_str(alloc, text(matches, "FILE"))?,
+        program: maybe_name(alloc, matches, "program")?,
+    })
+}
+
 /// The options of the command with this name, whose entries are not refused.
 pub fn named_options(
     alloc: Global,
@@ -148,6 +160,10 @@ pub fn named_options(
     if name == "replay" {
         let replay = file_options(alloc, entries)?;
         return Ok(Options::Replay(replay));
+    }
+    if name == "explain" {
+        let explain = explain_options(alloc, entries)?;
+        return Ok(Options::Explain(explain));
     }
     unreachable!()
 }

@@ -39,6 +39,8 @@ pub enum Options {
     Live(LiveOptions),
     /// `replay`.
     Replay(FileOptions),
+    /// `explain`.
+    Explain(ExplainOptions),
 }
 
 /// What `run` is asked: the names of the program and of the script, and the machine and the steps of
@@ -101,6 +103,15 @@ pub struct TrialsOptions {
 pub struct FileOptions {
     /// The name of the recording.
     pub file: String,
+}
+
+/// What `explain` is asked: the name of the recording, and of the program that names its addresses.
+#[derive(Debug, Drop)]
+pub struct ExplainOptions {
+    /// The name of the recording.
+    pub file: String,
+    /// The name of the program; none asks for the usual names.
+    pub program: Option<String>,
 }
 
 /// What `live` is asked: the name of the program, the capacity of each buffer, and how many steps

@@ -13,6 +13,7 @@ pub const STATUSES: &str = "Exit status:
 
 Examples:
   tsotest judge recording.json
+  tsotest explain recording.json
   tsotest replay recording.json
   tsotest run store_buffering.litmus
   tsotest run store_buffering.litmus --steps store_buffering.steps
@@ -163,6 +164,33 @@ pub const REPLAY_STATUSES: &str = "Exit status:
 
 Example:
   tsotest replay recording.json";
+
+/// `explain` in one line.
+pub const EXPLAIN_ABOUT: &str = "Says the verdict on a recording in words";
+
+/// What `explain` does.
+pub const EXPLAIN_MORE: &str = "Says the verdict on a recording in words.
+
+Each event of the verdict has a line with its number, its core, what it did, and where a
+value that it read came from. The line below says, of a cycle, why the event comes before
+the next one, and of an order what makes its place lawful. Of an overlook there are the
+store, the load, and what the load read instead. The addresses are named a0, a1 and so on,
+or as in the program of --program, whose operations and initial values have to be those of
+the recording.";
+
+/// How `explain` ends.
+pub const EXPLAIN_STATUSES: &str = "Exit status:
+  0  TSO allows the recording
+  1  a fault of the command line, a file or memory, as standard error says
+  2  the recording is a violation of TSO
+  3  the recording or the program was refused, as the line `refused: ..` says
+
+Example:
+  tsotest explain recording.json --program store_buffering.litmus";
+
+/// What the help says of `--program`.
+pub const NAMES_TEXT: &str =
+    "The program that was recorded, which names the addresses: a file, or - for standard input";
 
 /// What the help says of `--fault`.
 pub const FAULT_TEXT: &str =

@@ -4,14 +4,14 @@ ghost use Rattle.clap.specs.Words.{rule_of};
 ghost use Rattle.command_line.specs.Commands.{file_rule, flag_rule, number_rule, program_rule, size_rule};
 ghost use Rattle.command_line.specs.Commands.{text_rule};
 ghost use Rattle.command_line.specs.Help.{AreRunTexts, AreTrialsTexts, addresses_text, attempts_text};
-ghost use Rattle.command_line.specs.Help.{buffer_text, cores_text, fault_text, help_of, limit_text};
+ghost use Rattle.command_line.specs.Help.{buffer_text, cores_text, fault_text, help_of, limit_text, names_text};
 ghost use Rattle.command_line.specs.Help.{ops_text, quiet_text, seed_text, show_text, steps_text};
 ghost use Rattle.command_line.specs.Help.{trials_text, workers_text};
 
 use crate::options::{
     DEFAULT_ATTEMPTS, DEFAULT_BUFFER, DEFAULT_LIMIT, DEFAULT_SEED, DEFAULT_TRIALS, DEFAULT_WORKERS,
 };
-use crate::pages::{FAULT_TEXT, QUIET_TEXT, SHOW_TEXT};
+use crate::pages::{FAULT_TEXT, NAMES_TEXT, QUIET_TEXT, SHOW_TEXT};
 use clap::{Arg, ArgAction};
 use litmus::{
     MAX_ADDRESSES, MAX_CAPACITY, MAX_CORES, MAX_EVENTS, MAX_STEPS, MAX_TRIALS, MAX_WORKERS,
@@ -125,6 +125,15 @@ pub fn file_arg<'a>(alloc: Global) -> Arg<'a>
         .required(true)
         .action(ArgAction::Set)
         .help("The recording: a file, or - for standard input")
+}
+
+/// `--program PROGRAM`.
+pub fn names_arg<'a>(alloc: Global) -> Arg<'a>
+    ensures rule { rule_of result ≡ text_rule (codes "program") }
+    ensures help { help_of result ≡ Some names_text }
+    ensures local { result.global ≡ false }
+{
+    text_arg(alloc, "program", "PROGRAM", NAMES_TEXT)
 }
 
 /// An option that takes a number.

@@ -1,18 +1,19 @@
 //! The commands of the program, as `clap` reads and explains them.
 ghost use Rattle.std.specs.Prelude.{◌≡◌, false};
 ghost use Rattle.clap.specs.Words.{App, Rule, new_app, rule_of, with_rule};
-ghost use Rattle.command_line.specs.Commands.{Builds, judge_app, live_app, replay_app, run_app, trials_app};
+ghost use Rattle.command_line.specs.Commands.{Builds, explain_app, judge_app, live_app, replay_app};
+ghost use Rattle.command_line.specs.Commands.{run_app, trials_app};
 ghost use Rattle.command_line.specs.Commands.{with_answer_rules, with_run_rules, with_size_rules};
 ghost use Rattle.command_line.specs.Commands.{with_trial_rules};
 
 use crate::pages::{
-    JUDGE_ABOUT, JUDGE_MORE, JUDGE_STATUSES, LIVE_ABOUT, LIVE_MORE, LIVE_STATUSES, REPLAY_ABOUT,
-    REPLAY_MORE, REPLAY_STATUSES, RUN_ABOUT, RUN_MORE, RUN_STATUSES, TRIALS_ABOUT, TRIALS_MORE,
-    TRIALS_STATUSES,
+    EXPLAIN_ABOUT, EXPLAIN_MORE, EXPLAIN_STATUSES, JUDGE_ABOUT, JUDGE_MORE, JUDGE_STATUSES,
+    LIVE_ABOUT, LIVE_MORE, LIVE_STATUSES, REPLAY_ABOUT, REPLAY_MORE, REPLAY_STATUSES, RUN_ABOUT,
+    RUN_MORE, RUN_STATUSES, TRIALS_ABOUT, TRIALS_MORE, TRIALS_STATUSES,
 };
 use crate::rules::{
     RunTexts, Texts, TrialsTexts, addresses_arg, attempts_arg, buffer_arg, cores_arg, fault_arg,
-    file_arg, limit_arg, ops_arg, program_arg, quiet_arg, seed_arg, show_arg, steps_arg,
+    file_arg, limit_arg, names_arg, ops_arg, program_arg, quiet_arg, seed_arg, show_arg, steps_arg,
     trials_arg, workers_arg,
 };
 use clap::{Arg, Command};
@@ -149,4 +150,19 @@ pub fn replay<'a>(alloc: Global) -> Result<Command<'a>, AllocError>
 {
     let command = described(alloc, "replay", REPLAY_ABOUT, REPLAY_MORE, REPLAY_STATUSES);
     with(command, file_arg(alloc))
+}
+
+/// `explain`.
+pub fn explain<'a>(alloc: Global) -> Result<Command<'a>, AllocError>
+    ensures { Builds result explain_app }
+{
+    let command = described(
+        alloc,
+        "explain",
+        EXPLAIN_ABOUT,
+        EXPLAIN_MORE,
+        EXPLAIN_STATUSES,
+    );
+    let file = with(command, file_arg(alloc));
+    with(file, names_arg(alloc))
 }

@@ -28,8 +28,12 @@ pub record IsJudgedInput (inputs : List ℕ
   pub given : AreBytesOf inputs (string_bytes o.file) bytes
   pub judged : IsJudged bytes answer
 
--- a line of refusal is that of the named input; a fault is one of reading it
-abbrev pub IsJudgeStop : (List ℕ → Option (List ℕ)) → JudgeOptions → Stop → Type 0
-IsJudgeStop inputs o (Refused line) = (bytes : List ℕ) × AreBytesOf inputs (string_bytes o.file) bytes
+-- the named input is no recording, or isn't read
+abbrev pub IsRecordingStop : (List ℕ → Option (List ℕ)) → List ℕ → Stop → Type 0
+IsRecordingStop inputs name (Refused line) = (bytes : List ℕ) × AreBytesOf inputs name bytes
     × IsUnread bytes (Refused line)
-IsJudgeStop inputs o (Fault fault) = IsInputFault inputs (string_bytes o.file) fault
+IsRecordingStop inputs name (Fault fault) = IsInputFault inputs name fault
+
+-- why a recording is not judged
+abbrev pub IsJudgeStop : (List ℕ → Option (List ℕ)) → JudgeOptions → Stop → Type 0
+IsJudgeStop inputs o stop = IsRecordingStop inputs (string_bytes o.file) stop

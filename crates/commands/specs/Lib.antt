@@ -1,5 +1,7 @@
 pub mod Inputs
 pub mod Judge
+pub mod Program
+pub mod Explain
 pub mod Replay
 pub mod Perform
 pub mod Progress

@@ -18,7 +18,7 @@ use Rattle.commands.specs.declared.fault.CommandFault.TheVariants.{CommandLine, 
 use Rattle.commands.specs.declared.fault.CommandFault.TheVariants.{WriteFailed}
 use Rattle.commands.specs.declared.fault.CommandFault.TheVariants as fault
 use Rattle.command_line.specs.declared.options.Options.{Options}
-use Rattle.command_line.specs.declared.options.Options.TheVariants.{Run, Judge, Trials, Live, Replay}
+use Rattle.command_line.specs.declared.options.Options.TheVariants.{Run, Judge, Trials, Live, Replay, Explain}
 use Rattle.command_line.specs.declared.options.OptionFault.{OptionFault}
 use Rattle.command_line.specs.declared.options.OptionFault.TheVariants.{Clap, OutOfMemory}
 use Rattle.command_line.specs.declared.options.OptionFault.TheVariants as refused
@@ -28,16 +28,12 @@ use Rattle.command_line.specs.declared.options.RunOptions.{RunOptions}
 use Rattle.commands.specs.Inputs.{AreBytesOf, IsInputFault}
 use Rattle.commands.specs.Judge.{IsJudgedInput, IsJudgeStop}
 use Rattle.commands.specs.Replay.{IsReplayedInput, IsReplayStop}
+use Rattle.commands.specs.Explain.{IsExplained, IsExplainStop}
+use Rattle.commands.specs.Program.{IsProgramRefused, IsProgramStop}
 use Rattle.command_line.specs.Options.{AreOptions, IsFault}
-use Rattle.commands.specs.Refusal.{IsReadingStop, line_fault_name, option_line, step_fault_name}
+use Rattle.commands.specs.Refusal.{IsReadingStop, option_line, step_fault_name}
 use Rattle.commands.specs.Run.{IsRun, IsLive}
 use Rattle.commands.specs.Trials.{IsTrials}
-
--- the named program is refused
-pub record IsProgramRefused (inputs : List ℕ → Option (List ℕ)) (name : List ℕ) (stop : Stop) : Type 0 where
-  pub text : List ℕ
-  pub given : AreBytesOf inputs name text
-  pub refused : IsReadingStop line_fault_name (reading text) stop
 
 -- the script of this name is refused for the program, or isn't read
 abbrev pub IsScriptStop : (List ℕ → Option (List ℕ)) → Parts → List ℕ → Stop → Type 0
@@ -54,11 +50,6 @@ pub record IsStoppedByScript (inputs : List ℕ → Option (List ℕ)) (o : RunO
   pub program : Parts
   pub read : reading text ≡ Ok program
   pub stops : IsScriptStop inputs program name stop
-
--- the named program is refused or isn't read
-abbrev pub IsProgramStop : (List ℕ → Option (List ℕ)) → List ℕ → Stop → Type 0
-IsProgramStop inputs name (Refused line) = IsProgramRefused inputs name (Refused line)
-IsProgramStop inputs name (Fault fault) = IsInputFault inputs name fault
 
 -- why a run stops: its program does, or the script where one is named
 abbrev pub IsRunStopBy : (List ℕ → Option (List ℕ)) → RunOptions → Option (List ℕ) → Stop → Type 0
@@ -90,6 +81,7 @@ IsAnswerTo inputs (Judge o) answer = IsJudgedInput inputs o answer
 IsAnswerTo inputs (Trials o) answer = IsTrials o answer
 IsAnswerTo inputs (Live o) answer = IsLive inputs o answer
 IsAnswerTo inputs (Replay o) answer = IsReplayedInput inputs o answer
+IsAnswerTo inputs (Explain o) answer = IsExplained inputs o answer
 
 -- why a command with these options and inputs stops
 abbrev pub IsCommandStop : (List ℕ → Option (List ℕ)) → Options → Stop → Type 0
@@ -98,6 +90,7 @@ IsCommandStop inputs (Judge o) stop = IsJudgeStop inputs o stop
 IsCommandStop inputs (Trials o) stop = stop ≡ Fault fault.OutOfMemory
 IsCommandStop inputs (Live o) stop = IsLiveStop inputs o stop
 IsCommandStop inputs (Replay o) stop = IsReplayStop inputs o stop
+IsCommandStop inputs (Explain o) stop = IsExplainStop inputs o stop
 
 -- what clap says goes to standard error: it is neither help nor the version
 abbrev pub IsMistake : Error → Type 0

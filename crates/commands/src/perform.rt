@@ -5,6 +5,7 @@ ghost use Rattle.answers.specs.declared.answer.Answer.{Answer};
 ghost use Rattle.commands.specs.declared.stop.Stop.{Stop};
 ghost use Rattle.commands.specs.Perform.{IsAnswered, IsFaultOf, IsHelp, IsPrinted, IsOptionStop, IsStop};
 
+use crate::explain_command::explain_command;
 use crate::fault::CommandFault;
 use crate::judge_command::judge_command;
 use crate::live_command::live_command;
@@ -60,6 +61,7 @@ fn answered<R: Threads + Wait + Sync, P: Place>(
         Ok(Options::Trials(trials)) => trials_command(rt, alloc, &trials, place),
         Ok(Options::Live(live)) => live_command(rt, alloc, &live, place),
         Ok(Options::Replay(options)) => replay_command(alloc, &options, place),
+        Ok(Options::Explain(options)) => explain_command(alloc, &options, place),
         Err(fault) => without_options(alloc, fault),
     }
 }

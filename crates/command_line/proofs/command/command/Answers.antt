@@ -6,4 +6,5 @@ returns c =
     let judge = c.with-judge.ensures _ _ run c.judge.ensures in
     let trials = c.with-trials.ensures _ _ judge c.trials.ensures in
     let live = c.with-live.ensures _ _ trials c.live.ensures in
-    c.with.ensures _ _ live c.replay.ensures
+    let replay = c.with-replay.ensures _ _ live c.replay.ensures in
+    c.with.ensures _ _ replay c.explain.ensures

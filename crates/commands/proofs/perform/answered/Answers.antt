@@ -1,8 +1,8 @@
 use Rattle.std.proofs.Common.{map, sym}
 use Rattle.std.specs.Prelude.{string_bytes}
-use Rattle.command_line.specs.declared.options.Options.TheVariants.{Run, Judge, Trials, Live, Replay}
+use Rattle.command_line.specs.declared.options.Options.TheVariants.{Run, Judge, Trials, Live, Replay, Explain}
 use Rattle.command_line.specs.Commands.{command_of}
-use Rattle.commands.proofs.Asked.{trials_rows}
+use Rattle.commands.proofs.Asked.{judge_workers, trials_rows}
 use Rattle.commands.proofs.Printed.{answer_of_words, stop_of_words}
 use Rattle.commands.proofs.perform.answered.Goals as goal
 
@@ -46,6 +46,16 @@ returns-in-Ok-Replay-clause-err g c = stop_of_words (g.P.Place.bytes c.args.plac
     (Replay c.in-Ok-Replay.options) (map string_bytes c.args.words.now)
     (rw (sym c.in-Ok-Replay.field-0-is) c.in-Ok-Replay.ensures.ok) c.replay_command.ensures.err
 
+pub returns-in-Ok-Explain-clause-ok : goal.returns-in-Ok-Explain-clause-ok
+returns-in-Ok-Explain-clause-ok g c = answer_of_words (g.P.Place.bytes c.args.place.now)
+    c.explain_command.result (Explain c.in-Ok-Explain.options) (map string_bytes c.args.words.now)
+    (rw (sym c.in-Ok-Explain.field-0-is) c.in-Ok-Explain.ensures.ok) c.explain_command.ensures.ok
+
+pub returns-in-Ok-Explain-clause-err : goal.returns-in-Ok-Explain-clause-err
+returns-in-Ok-Explain-clause-err g c = stop_of_words (g.P.Place.bytes c.args.place.now)
+    c.explain_command.result (Explain c.in-Ok-Explain.options) (map string_bytes c.args.words.now)
+    (rw (sym c.in-Ok-Explain.field-0-is) c.in-Ok-Explain.ensures.ok) c.explain_command.ensures.err
+
 pub returns-in-Ok-Trials-clause-ok : goal.returns-in-Ok-Trials-clause-ok
 returns-in-Ok-Trials-clause-ok g c = answer_of_words (g.P.Place.bytes c.args.place.now)
     c.trials_command.result (Trials c.in-Ok-Trials.trials) (map string_bytes c.args.words.now)
@@ -55,6 +65,11 @@ pub returns-in-Ok-Trials-clause-err : goal.returns-in-Ok-Trials-clause-err
 returns-in-Ok-Trials-clause-err g c = stop_of_words (g.P.Place.bytes c.args.place.now) c.trials_command.result
     (Trials c.in-Ok-Trials.trials) (map string_bytes c.args.words.now)
     (rw (sym c.in-Ok-Trials.field-0-is) c.in-Ok-Trials.ensures.ok) c.trials_command.ensures.err
+
+pub judge_command-requires-after_bounds : goal.judge_command-requires-after_bounds
+judge_command-requires-after_bounds g c κs within =
+    judge_workers c.in-Ok-Judge.options (command_of (map string_bytes c.args.words.now))
+    (rw (sym c.in-Ok-Judge.field-0-is) c.in-Ok-Judge.ensures.ok)
 
 pub trials_command-requires-after_bounds : goal.trials_command-requires-after_bounds
 trials_command-requires-after_bounds g c κs within =

@@ -1,0 +1,84 @@
+-- What is answered to a recording that is to be explained.
+use Rattle.std.specs.Prelude.{◌≡◌, ◌⊎◌, ◌++◌, ◌∷◌, [], ℕ, List, Option, Some, None, Ok, codes, length}
+use Rattle.std.specs.Prelude.{option_map, string_bytes}
+use Rattle.litmus.specs.declared.name.Name.{Name}
+use Rattle.litmus.specs.AddressNames.{address_names}
+use Rattle.litmus.specs.Parts.{Parts}
+use Rattle.litmus.specs.Text.{reading}
+use Rattle.recorder.specs.Execution.{Execution}
+use Rattle.recorder.specs.Reading.{IsReadingResult}
+use Rattle.explanation.specs.Program.{IsProgramOf}
+use Rattle.command_line.specs.declared.options.ExplainOptions.{ExplainOptions}
+use Rattle.answers.specs.declared.answer.Answer.{Answer}
+use Rattle.answers.specs.Explained.{IsExplainedAnswer}
+use Rattle.commands.specs.declared.stop.Stop.{Stop}
+use Rattle.commands.specs.declared.stop.Stop.TheVariants.{Refused, Fault}
+use Rattle.commands.specs.declared.fault.CommandFault.TheVariants.{OutOfMemory}
+use Rattle.commands.specs.Inputs.{AreBytesOf}
+use Rattle.commands.specs.Judge.{IsRecordingStop}
+use Rattle.commands.specs.Program.{IsProgramStop}
+
+-- the names are those of the program of this name, of which the recording is one
+pub record AreNamesIn (inputs : List ℕ → Option (List ℕ)) (x : Execution) (name : List ℕ)
+    (names : List Name) : Type 0 where
+  pub text : List ℕ
+  pub given : AreBytesOf inputs name text
+  pub program : Parts
+  pub read : reading text ≡ Ok program
+  pub same : IsProgramOf program x
+  pub names_are : names ≡ program.names
+
+-- the names of a recording's addresses: those of the program, where one is named
+abbrev pub AreNamesBy : (List ℕ → Option (List ℕ)) → Execution → Option (List ℕ) → List Name → Type 0
+AreNamesBy inputs x (Some name) names = AreNamesIn inputs x name names
+AreNamesBy inputs x None names = names ≡ address_names (length x.write_lists)
+
+-- the answer of a recording in words, with its names
+pub record IsExplainedBy (inputs : List ℕ → Option (List ℕ)) (x : Execution) (program : Option (List ℕ))
+    (answer : Answer) : Type 0 where
+  pub names : List Name
+  pub named : AreNamesBy inputs x program names
+  pub answered : IsExplainedAnswer x names answer
+
+-- the verdict on the recording of the named input, in words
+pub record IsExplained (inputs : List ℕ → Option (List ℕ)) (o : ExplainOptions) (answer : Answer)
+    : Type 0 where
+  pub bytes : List ℕ
+  pub given : AreBytesOf inputs (string_bytes o.file) bytes
+  pub recording : Execution
+  pub read : IsReadingResult bytes (Ok recording)
+  pub explained : IsExplainedBy inputs recording (option_map string_bytes o.program) answer
+
+-- the line of a program of which the recording is none, or memory is wanting
+abbrev pub IsOtherStop : Stop → Type 0
+IsOtherStop (Refused line) = string_bytes line ≡ codes "refused: N9" ++ 10 ∷ []
+IsOtherStop (Fault fault) = fault ≡ OutOfMemory
+
+-- the recording is none of the program of this name
+pub record IsOther (inputs : List ℕ → Option (List ℕ)) (x : Execution) (name : List ℕ) (stop : Stop)
+    : Type 0 where
+  pub text : List ℕ
+  pub given : AreBytesOf inputs name text
+  pub program : Parts
+  pub read : reading text ≡ Ok program
+  pub other : ¬ IsProgramOf program x
+  pub stopped : IsOtherStop stop
+
+-- why a recording that is read is not explained: its program is refused or isn't read, or is another one
+abbrev pub IsNamesStop : (List ℕ → Option (List ℕ)) → Execution → Option (List ℕ) → Stop → Type 0
+IsNamesStop inputs x (Some name) stop = IsProgramStop inputs name stop ⊎ IsOther inputs x name stop
+IsNamesStop inputs x None stop = stop ≡ Fault OutOfMemory
+
+-- the recording of the named input is read, and stops because of its program
+pub record IsStoppedByNames (inputs : List ℕ → Option (List ℕ)) (o : ExplainOptions) (stop : Stop)
+    : Type 0 where
+  pub bytes : List ℕ
+  pub given : AreBytesOf inputs (string_bytes o.file) bytes
+  pub recording : Execution
+  pub read : IsReadingResult bytes (Ok recording)
+  pub stops : IsNamesStop inputs recording (option_map string_bytes o.program) stop
+
+-- why there is no explanation: the recording is not read, and then no program is opened, or its program
+abbrev pub IsExplainStop : (List ℕ → Option (List ℕ)) → ExplainOptions → Stop → Type 0
+IsExplainStop inputs o stop = IsRecordingStop inputs (string_bytes o.file) stop
+    ⊎ IsStoppedByNames inputs o stop

@@ -1,0 +1,18 @@
+-- Why a named program is not read.
+use Rattle.std.specs.Prelude.{ℕ, List, Option}
+use Rattle.litmus.specs.Text.{reading}
+use Rattle.commands.specs.declared.stop.Stop.{Stop}
+use Rattle.commands.specs.declared.stop.Stop.TheVariants.{Refused, Fault}
+use Rattle.commands.specs.Inputs.{AreBytesOf, IsInputFault}
+use Rattle.commands.specs.Refusal.{IsReadingStop, line_fault_name}
+
+-- the named program is refused
+pub record IsProgramRefused (inputs : List ℕ → Option (List ℕ)) (name : List ℕ) (stop : Stop) : Type 0 where
+  pub text : List ℕ
+  pub given : AreBytesOf inputs name text
+  pub refused : IsReadingStop line_fault_name (reading text) stop
+
+-- the named program is refused or isn't read
+abbrev pub IsProgramStop : (List ℕ → Option (List ℕ)) → List ℕ → Stop → Type 0
+IsProgramStop inputs name (Refused line) = IsProgramRefused inputs name (Refused line)
+IsProgramStop inputs name (Fault fault) = IsInputFault inputs name fault

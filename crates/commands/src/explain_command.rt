@@ -1,0 +1,90 @@
+//! The command `explain`.
+ghost use Rattle.std.specs.Prelude.{IfErr, IfOk, Ok, Some, length};
+ghost use Rattle.litmus.specs.AddressNames.{address_names};
+ghost use Rattle.recorder.specs.Reading.{IsReadingResult};
+ghost use Rattle.answers.specs.Explained.{IsExplainedAnswer};
+ghost use Rattle.commands.specs.Explain.{AreNamesIn, IsExplained, IsExplainedBy, IsExplainStop, IsNamesStop};
+ghost use Rattle.commands.specs.Judge.{IsUnread};
+
+use crate::judge_command::unread;
+use crate::place::Place;
+use crate::reading::text_at;
+use crate::run_command::program_of;
+use crate::stop::Stop;
+use answers::{Answer, explained_answer};
+use command_line::ExplainOptions;
+use explanation::is_program_of;
+use litmus::{OutOfMemory, Program, address_names};
+use recorder::{Recording, read_recording};
+use std::alloc::Global;
+
+/// The recording that the bytes are, or the line of their refusal.
+fn recording_of(alloc: Global, bytes: &[u8]) -> Result<Recording, Stop>
+    ensures ok { IfOk result (λ recording. IsReadingResult bytes.now (Ok recording)) }
+    ensures err { IfErr result (IsUnread bytes.now) }
+{
+    match read_recording(alloc, bytes) {
+        Ok(recording) => Ok(recording),
+        Err(refusal) => Err(unread(alloc, refusal)?),
+    }
+}
+
+/// The program of this name, of which the recording has to be one.
+fn program_at<P: Place>(
+    alloc: Global,
+    recording: &Recording,
+    name: &str,
+    place: &mut P,
+) -> Result<Program, Stop>
+    ensures ok { IfOk result (λ program.
+        AreNamesIn (P.bytes place.old) recording.now name.now program.names) }
+    ensures err { IfErr result (IsNamesStop (P.bytes place.old) recording.now (Some name.now)) }
+{
+    let text = text_at(alloc, place, name)?;
+    let program = program_of(alloc, text.as_slice())?;
+    if !is_program_of(&program, recording) {
+        return Err(Stop::Refused(String::from_str(alloc, "refused: N9\n")?));
+    }
+    Ok(program)
+}
+
+/// The verdict on a recording in words, with the names that its program gives the addresses.
+fn named_answer<P: Place>(
+    alloc: Global,
+    recording: &Recording,
+    name: &str,
+    place: &mut P,
+) -> Result<Answer, Stop>
+    ensures ok { IfOk result (IsExplainedBy (P.bytes place.old) recording.now (Some name.now)) }
+    ensures err { IfErr result (IsNamesStop (P.bytes place.old) recording.now (Some name.now)) }
+{
+    let program = program_at(alloc, recording, name, place)?;
+    Ok(explained_answer(alloc, recording, program.names())?)
+}
+
+/// The verdict on a recording in words, with the usual names of the addresses.
+fn unnamed_answer(alloc: Global, recording: &Recording) -> Result<Answer, OutOfMemory>
+    ensures { IfOk result (IsExplainedAnswer recording.now
+        (address_names (length recording.now.write_lists))) }
+{
+    recording.sound();
+    let names = address_names(alloc, recording.addresses())?;
+    explained_answer(alloc, recording, &names)
+}
+
+/// Explains the recording of a named input; it is read before the program is opened.
+pub fn explain_command<P: Place>(
+    alloc: Global,
+    options: &ExplainOptions,
+    place: &mut P,
+) -> Result<Answer, Stop>
+    ensures ok { IfOk result (IsExplained (P.bytes place.old) options.now) }
+    ensures err { IfErr result (IsExplainStop (P.bytes place.old) options.now) }
+{
+    let bytes = text_at(alloc, place, options.file.as_str())?;
+    let recording = recording_of(alloc, bytes.as_slice())?;
+    match &options.program {
+        Some(name) => named_answer(alloc, &recording, name.as_str(), place),
+        None => Ok(unnamed_answer(alloc, &recording)?),
+    }
+}
