@@ -5,6 +5,7 @@ pub mod Newline
 pub mod Depths
 pub mod Obeys
 pub mod Refused
+pub mod WriteLists
 pub mod Members
 pub mod Each
 pub mod Failed

@@ -10,6 +10,7 @@ pub mod Tso
 pub mod Recording
 pub mod Text
 pub mod Refusals
+pub mod Listed
 pub mod Contents
 pub mod Reading
 pub mod Clipped

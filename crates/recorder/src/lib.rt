@@ -8,6 +8,7 @@ mod event;
 mod fault;
 mod fields;
 mod items;
+mod listed;
 mod lists;
 mod parts;
 mod pulled_lists;

@@ -82,10 +82,9 @@ impl RecordingParts {
         ensures { MatchOption result ((a : ℕ) → HasWriteList self.now a)
             (λ a. IsLeastWithout (HasWriteList self.now) a) }
     {
-        for address in 0..self.writes().len() as Addr {
-            if !self.has_write_list(address) {
-                return Some(address);
-            }
+        let right = self.first_lists_right();
+        if right < self.writes().len() {
+            return Some(right as Addr);
         }
         None
     }

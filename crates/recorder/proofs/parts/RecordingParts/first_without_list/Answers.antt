@@ -4,9 +4,5 @@ use Rattle.recorder.proofs.parts.RecordingParts.first_without_list.Goals as goal
 
 pub returns : goal.returns
 returns c = write_lists_all c.args.self.now c.requires
-    (λ a at. c.loop-address.invariant a (omega (
-      arith,
-      at,
-      c.writes.ensures.count,
-      c.loop-address-test.false,
-    )))
+    (λ a at. c.first_lists_right-right.ensures.right a
+    (omega (arith, at, c.writes.ensures.count, c.if-right-writes.false)))
