@@ -6,6 +6,7 @@ pub mod Depths
 pub mod Obeys
 pub mod Refused
 pub mod WriteLists
+pub mod Tables
 pub mod Members
 pub mod Each
 pub mod Failed

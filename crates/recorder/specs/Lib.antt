@@ -11,6 +11,7 @@ pub mod Recording
 pub mod Text
 pub mod Refusals
 pub mod Listed
+pub mod Numbered
 pub mod Contents
 pub mod Reading
 pub mod Clipped

@@ -10,6 +10,7 @@ mod fields;
 mod items;
 mod listed;
 mod lists;
+mod numbered;
 mod parts;
 mod pulled_lists;
 mod readers;

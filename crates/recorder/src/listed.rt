@@ -1,11 +1,11 @@
 //! The write lists of parts of a recording, which may break its rules.
 
-use crate::parts::RecordingParts;
+use crate::numbered::Numbered;
 use litmus::{Addr, EventId, MAX_EVENTS};
 
-impl RecordingParts {
+impl<'p> Numbered<'p> {
     ghost use Rattle.std.specs.Prelude.{◌≡◌, ◌↔◌, ◌<◌, ◌≤◌, ℕ, IsTrue, false, length};
-    ghost use Rattle.litmus.specs.declared.limits.TheConstants.{MAX_CORES, MAX_EVENTS};
+    ghost use Rattle.litmus.specs.declared.limits.TheConstants.{MAX_EVENTS};
     ghost use Rattle.recorder.specs.Execution.{event_count, write_list, Writes};
     ghost use Rattle.recorder.specs.Order.{times};
     ghost use Rattle.recorder.specs.Listed.{is_marked, AreMarked, ListsEachWrite, ListsWritesOnce};
@@ -15,7 +15,6 @@ impl RecordingParts {
     /// Whether each number in the write list of an address writes it and stands once. Then its numbers are
     /// the marked writes of the address.
     fn lists_writes_once(&self, address: Addr, marks: &mut [bool; MAX_EVENTS]) -> bool
-        requires few_cores { length self.now.cores ≤ MAX_CORES }
         requires few_events { event_count self.now ≤ MAX_EVENTS }
         requires unmarked { (e : ℕ) → Writes self.now e address → is_marked marks.old e ≡ false }
         ensures once { IsTrue result ↔ ListsWritesOnce self.now address }
@@ -48,7 +47,7 @@ impl RecordingParts {
         ensures last { result < length self.now.write_lists → ¬ ListsWritesOnce self.now result }
         ensures marked { AreMarked self.now result marks.new }
     {
-        let count = self.writes().len();
+        let count = self.parts().writes().len();
         for address in 0..count {
             if !self.lists_writes_once(address as Addr, marks) {
                 return address;
@@ -59,7 +58,6 @@ impl RecordingParts {
 
     /// The address that an unmarked event writes, where it is below a count; else the count.
     fn unmarked_below(&self, number: EventId, marks: &[bool; MAX_EVENTS], count: usize) -> usize
-        requires few_cores { length self.now.cores ≤ MAX_CORES }
         requires here { number < MAX_EVENTS }
         ensures bound { result ≤ count }
         ensures least { (a : ℕ) → Writes self.now number a → a < result → IsTrue (is_marked marks.now number) }
@@ -69,10 +67,7 @@ impl RecordingParts {
         if marks[number as usize] {
             return count;
         }
-        let Some((_, event)) = self.event(number) else {
-            return count;
-        };
-        match event.written_address() {
+        match self.event(number).written_address() {
             Some(address) => count.min(address as usize),
             None => count,
         }
@@ -80,7 +75,6 @@ impl RecordingParts {
 
     /// How many of the first lists, as many of which are marked, have each write of their addresses.
     fn first_lists_whole(&self, marks: &[bool; MAX_EVENTS], count: usize) -> usize
-        requires few_cores { length self.now.cores ≤ MAX_CORES }
         requires few_events { event_count self.now ≤ MAX_EVENTS }
         requires marked { AreMarked self.now count marks.now }
         ensures bound { result ≤ count }

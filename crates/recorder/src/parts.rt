@@ -25,7 +25,7 @@ impl Model for RecordingParts {
 
 impl RecordingParts {
     ghost use Rattle.std.specs.Prelude.{◌≡◌, ◌≤◌, ◌<◌, ◌↔◌, IsTrue, length, map, MatchOption};
-    ghost use Rattle.recorder.specs.Event.{value_written, written_address};
+    ghost use Rattle.recorder.specs.Event.{written_address};
     ghost use Rattle.recorder.specs.Execution.{event_count, event_at, core_of, write_list, initial_value};
     ghost use Rattle.recorder.specs.Execution.{Writes};
     ghost use Rattle.recorder.specs.Recording.{executed};
@@ -137,17 +137,6 @@ impl RecordingParts {
         match self.event(number) {
             Some((_, event)) => event.writes_to(address),
             None => false,
-        }
-    }
-
-    /// The value that an event writes; 0 where it does not write.
-    pub(crate) fn value_written(&self, number: EventId) -> u32
-        requires { length self.now.cores ≤ MAX_CORES }
-        ensures { result ≡ value_written (event_at self.now number) }
-    {
-        match self.event(number) {
-            Some((_, event)) => event.value_written(),
-            None => 0,
         }
     }
 }

@@ -1,10 +1,11 @@
 //! The first rule that parts of a recording break.
 
 use crate::fault::RecError;
+use crate::numbered::Numbered;
 use crate::parts::RecordingParts;
 use litmus::{Addr, EventId, MAX_ADDRESSES, MAX_CORES};
 
-impl RecordingParts {
+impl<'p> Numbered<'p> {
     ghost use Rattle.std.specs.Prelude.{◌≡◌, ◌↔◌, ◌<◌, ◌≤◌, ◌⊎◌, ℕ, IsTrue, MatchOption, length};
     ghost use Rattle.litmus.specs.declared.limits.TheConstants.{MAX_CORES, MAX_EVENTS, MAX_ADDRESSES};
     ghost use Rattle.recorder.specs.Execution.{event_count, Reads, Writes};
@@ -13,8 +14,7 @@ impl RecordingParts {
 
     /// Whether each address that is used has a write list.
     fn has_all_lists(&self) -> bool
-        requires few_cores { length self.now.cores ≤ MAX_CORES }
-        requires few_events { event_count self.now ≤ MAX_EVENTS }
+        requires { event_count self.now ≤ MAX_EVENTS }
         ensures { IsTrue result ↔ ((e a : ℕ) → Reads self.now e a ⊎ Writes self.now e a
             → a < length self.now.write_lists) }
     {
@@ -29,18 +29,17 @@ impl RecordingParts {
     /// Whether they are within the limits, each address that is used has a write list, and each that has
     /// one has an initial value.
     fn is_within_limits(&self) -> bool
+        requires { event_count self.now ≤ MAX_EVENTS }
         ensures { IsTrue result ↔ IsWithinLimits self.now }
     {
-        if self.cores().len() > MAX_CORES {
+        let parts = self.parts();
+        if parts.cores().len() > MAX_CORES {
             return false;
         }
-        if self.writes().len() > MAX_ADDRESSES {
+        if parts.writes().len() > MAX_ADDRESSES {
             return false;
         }
-        if self.init().len() != self.writes().len() {
-            return false;
-        }
-        if !self.has_few_events() {
+        if parts.init().len() != parts.writes().len() {
             return false;
         }
         self.has_all_lists()
@@ -48,8 +47,7 @@ impl RecordingParts {
 
     /// The least event whose source is no write to the address that it reads.
     fn first_without_source(&self) -> Option<EventId>
-        requires few_cores { length self.now.cores ≤ MAX_CORES }
-        requires few_events { event_count self.now ≤ MAX_EVENTS }
+        requires { event_count self.now ≤ MAX_EVENTS }
         ensures { MatchOption result ((e : ℕ) → HasSource self.now e)
             (λ e. IsLeastWithout (HasSource self.now) e) }
     {
@@ -63,8 +61,7 @@ impl RecordingParts {
 
     /// The least event whose value read is not that of its source.
     fn first_without_value(&self) -> Option<EventId>
-        requires few_cores { length self.now.cores ≤ MAX_CORES }
-        requires few_events { event_count self.now ≤ MAX_EVENTS }
+        requires { event_count self.now ≤ MAX_EVENTS }
         ensures { MatchOption result ((e : ℕ) → HasValue self.now e)
             (λ e. IsLeastWithout (HasValue self.now) e) }
     {
@@ -83,14 +80,15 @@ impl RecordingParts {
             (λ a. IsLeastWithout (HasWriteList self.now) a) }
     {
         let right = self.first_lists_right();
-        if right < self.writes().len() {
+        if right < self.parts().writes().len() {
             return Some(right as Addr);
         }
         None
     }
 
-    /// Why they are no recording: what is refused first.
-    pub(crate) fn refusal(&self) -> Option<RecError>
+    /// Why they are no recording, as `RecordingParts::refusal` has it.
+    fn first_refusal(&self) -> Option<RecError>
+        requires { event_count self.now ≤ MAX_EVENTS }
         ensures { MatchOption result (IsRecording self.now) (λ e. IsRefusal self.now e) }
     {
         if !self.is_within_limits() {
@@ -106,5 +104,21 @@ impl RecordingParts {
             return Some(RecError::WriteList(address));
         }
         None
+    }
+}
+
+impl RecordingParts {
+    ghost use Rattle.std.specs.Prelude.{MatchOption};
+    ghost use Rattle.recorder.specs.Recording.{IsRecording};
+    ghost use Rattle.recorder.specs.Refusals.{IsRefusal};
+
+    /// Why they are no recording: what is refused first.
+    pub(crate) fn refusal(&self) -> Option<RecError>
+        ensures { MatchOption result (IsRecording self.now) (λ e. IsRefusal self.now e) }
+    {
+        if !self.has_few_events() {
+            return Some(RecError::Limits);
+        }
+        Numbered::new(self).first_refusal()
     }
 }
