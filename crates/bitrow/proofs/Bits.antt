@@ -34,6 +34,11 @@ test_and_not zero (suc (suc b)) p q = absurd (omega arith)
 test_and_not (suc zero) (suc (suc b)) p q = absurd (omega arith)
 test_and_not (suc (suc a)) b p q = absurd (omega arith)
 
+-- a bit of two words, joined
+pub or_word : (a b i : ℕ) → (bit_at (bit_or a b) i == 1) ≡ ((bit_at a i == 1) || (bit_at b i == 1))
+or_word a b i = ap (λ (x : ℕ). x == 1) (bit_at_or a b i)
+    ∙ test_or (bit_at a i) (bit_at b i) (bit_at-lt a i) (bit_at-lt b i)
+
 -- words that are joined one by one
 pub or_bits : (before after other : List ℕ)
     → ((k : ℕ) → get_or after k 0 ≡ bit_or (get_or before k 0) (get_or other k 0)) → (j : ℕ) → bit_of after j

@@ -176,3 +176,23 @@ row_and_not old now other lent new after n m row set seen also size same second 
 -- a set's length
 pub row_length : (words : List ℕ) (n : ℕ) (row : List Bool) → members words n ≡ row → length row ≡ n
 row_length words n row seen = ap (λ (r : List Bool). length r) (sym seen) ∙ members_length words n
+
+-- a number that a call on the words leaves as it is
+pub row_kept : (old now new after : List ℕ) (n j : ℕ) (row : List Bool) → members old n ≡ row → now ≡ old
+    → after ≡ new → bit_of new j ≡ bit_of now j → is_in (members after n) j ≡ is_in row j
+row_kept old now new after n j row seen same kept h =
+    subst (λ (r : List Bool). is_in (members after n) j ≡ is_in r j) seen
+    (elim (cases_lt j n) [
+      | inl below ↦ members_at after n j below
+          ∙ (ap (λ (ws : List ℕ). bit_of ws j) kept ∙ (h ∙ (ap (λ (ws : List ℕ). bit_of ws j) same
+          ∙ sym (members_at old n j below))))
+      | inr past ↦ members_past after n j past ∙ sym (members_past old n j past)
+    ])
+
+-- where no bit is 1, no number is in the set
+pub none_left : (new after : List ℕ) (n : ℕ) → after ≡ new → ((j : ℕ) → bit_of new j ≡ false) → (j : ℕ)
+    → is_in (members after n) j ≡ false
+none_left new after n kept h j = elim (cases_lt j n) [
+  | inl below ↦ members_at after n j below ∙ (ap (λ (ws : List ℕ). bit_of ws j) kept ∙ h j)
+  | inr past ↦ members_past after n j past
+]

@@ -284,7 +284,7 @@ module _ (R : ℕ → ℕ → Type 0) (n k v label : ℕ) (within : (e f : ℕ) 
   module _ (more seen_more level_more emptied : List Bool) (x : JoinsNext R level n next more)
       (sees : (e : ℕ) → is_in seen_more e ≡ (is_in seen e || is_in level e))
       (goes : (e : ℕ) → is_in level_more e ≡ (is_in more e && not (is_in seen_more e)))
-      (drops : (e : ℕ) → is_in emptied e ≡ (is_in level e && not (is_in seen_more e))) where
+      (emptied_now : (e : ℕ) → is_in emptied e ≡ false) where
     -- what was seen, or is taken, is seen
     seen_now : (e : ℕ) → (is_in seen e ≡ true) ⊎ (is_in level e ≡ true) → is_in seen_more e ≡ true
     seen_now e either = sees e ∙ or_true (is_in seen e) (is_in level e) either
@@ -316,16 +316,6 @@ module _ (R : ℕ → ℕ → Type 0) (n k v label : ℕ) (within : (e f : ℕ) 
             )
           ]
         ]
-
-    -- the taken level is emptied
-    emptied_now : (e : ℕ) → is_in emptied e ≡ false
-    emptied_now e = elim (cases_bool (is_in emptied e)) [
-      | inr none ↦ none
-      | inl is ↦
-          let at : (is_in level e ≡ true) × (is_in seen_more e ≡ false) = true_and (is_in level e)
-          (is_in seen_more e) (sym (drops e) ∙ is) in
-          absurd (not_both (is_in seen_more e) (seen_now e (inr at.0)) at.1)
-    ]
 
     -- one level more
     pub reached_more : IsReached R n k v (label + 1) after seen_more level_more emptied

@@ -11,3 +11,4 @@ pub mod Marks
 pub mod Shortened
 pub mod Through
 pub mod Walks
+mod Parts

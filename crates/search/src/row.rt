@@ -53,9 +53,7 @@ pub(crate) fn row_in(rows: &[BitRow], source: EventId, cap: u16, room: Room) -> 
         }
         take_level(rows, &level, label, &mut next, labels.as_mut_slice());
         closing = closing_with(next.test(source as usize), label, cap, closing);
-        level.or_into(&mut seen);
-        next.and_not(&seen);
-        level.and_not(&seen);
+        level.move_into(&mut seen, &mut next);
         let taken = level;
         level = next;
         next = taken;
