@@ -12,7 +12,8 @@ use Rattle.bitrow.proofs.Bits.{bit_in, or_word}
 -- a bit of words that are joined with as many from one on
 pub or_beside : (lanes words : List ℕ) (at n : ℕ) → length lanes ≡ n → at + n ≤ length words → (f : ℕ)
     → f < 64 * n
-    → bit_of (zip2 (λ a b. bit_or a b) lanes (chunk at n words)) f ≡ (bit_of lanes f || bit_of words (64 * at + f))
+    → bit_of (zip2 (λ a b. bit_or a b) lanes (chunk at n words)) f
+    ≡ (bit_of lanes f || bit_of words (64 * at + f))
 or_beside lanes words at n size within f small =
     let k : ℕ = f / 64 in
     let i : ℕ = f % 64 in

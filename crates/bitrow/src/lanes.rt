@@ -14,7 +14,8 @@ pub(crate) fn or_lanes<const N: usize>(
     requires lanes { length lanes ≡ N }
     requires within { at + N ≤ length words.now }
     ensures size { length result ≡ N }
-    ensures bits { (f : ℕ) → f < 64 * N → bit_of result f ≡ (bit_of lanes.entry f || bit_of words.now (64 * at + f)) }
+    ensures bits { (f : ℕ) → f < 64 * N
+        → bit_of result f ≡ (bit_of lanes.entry f || bit_of words.now (64 * at + f)) }
 {
     lanes | Simd::<u64, N>::from_slice(&words[at..])
 }
@@ -29,7 +30,7 @@ pub(crate) fn put_lanes<const N: usize>(words: &mut [u64], at: usize, lanes: Sim
     lanes.copy_to_slice(&mut words[at..]);
 }
 
-/// Moves the bits of some words to others, and makes these 0 in the next ones.
+/// Moves the bits of some words to others, and makes what is then 1 in these 0 in the next ones.
 pub(crate) fn move_words(words: &mut [u64], into: &mut [u64], next: &mut [u64])
     requires into { length into.old ≡ length words.old }
     requires next { length next.old ≡ length words.old }

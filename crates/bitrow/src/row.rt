@@ -85,7 +85,7 @@ impl BitRow {
         and_not_words(self.words.as_mut_slice(), other.words.as_slice());
     }
 
-    /// Puts the numbers of as many words from one on into the lanes.
+    /// Puts the numbers of as many words, of 64 numbers each, from one on into the lanes.
     pub fn join<const N: usize>(&self, at: usize, lanes: Simd<u64, N>) -> Simd<u64, N>
         requires lanes { length lanes ≡ N }
         requires within { 64 * (at + N) < length self.now + 64 }
@@ -109,7 +109,15 @@ impl BitRow {
         put_lanes(self.words.as_mut_slice(), at, lanes);
     }
 
-    /// Moves the numbers of the set to another of its length, and takes these out of a third.
+    /// Takes all numbers out of the set.
+    pub fn clear(&mut self)
+        ensures len { length self.new ≡ length self.old }
+        ensures empty { (j : ℕ) → is_in self.new j ≡ false }
+    {
+        self.words.as_mut_slice().fill(0);
+    }
+
+    /// Moves the numbers of the set to another of its length, and takes what is then in it out of a third.
     pub fn move_into(&mut self, into: &mut BitRow, next: &mut BitRow)
         requires into { length into.old ≡ length self.old }
         requires next { length next.old ≡ length self.old }

@@ -14,7 +14,7 @@ pub record JoinsNext (R : ℕ → ℕ
   pub only : (f : ℕ) → is_in next f ≡ true
       → (is_in waiting f ≡ true) ⊎ ((e : ℕ) × (is_in level e ≡ true) × R e f)
 
--- what the events of the level below i are related to, of n numbers as many as `size` from `from` on, is in the words
+-- the words have what the events of the level below i are related to, `size` of n numbers from one on
 pub record JoinsWords (R : ℕ → ℕ → Type 0) (level : List Bool) (i n from size : ℕ)
     (words : List ℕ) : Type 0 where
   pub joined : (e f : ℕ) → e < i → is_in level e ≡ true → f < size → R e (from + f) → bit_of words f ≡ true

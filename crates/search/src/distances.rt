@@ -5,6 +5,7 @@ ghost use Rattle.relations.specs.Relation.{Related};
 ghost use Rattle.labels.specs.Certified.{lists_of};
 ghost use Rattle.search.specs.Cycles.{AreDistanceRows, IsLeastClosing};
 
+use crate::room::Sets;
 use crate::row::exact_row;
 use litmus::{EventId, OutOfMemory};
 use relations::Relation;
@@ -34,8 +35,10 @@ pub(crate) fn distance_rows(
     let mut cap = relation.len() as u16;
     let mut least = cap;
     let mut rows = Vec::with_capacity(alloc, relation.len())?;
+    let mut sets = Sets::new(alloc, relation.len())?;
     for source in 0..relation.len() {
-        let (row, closing) = exact_row(alloc, successors, source as EventId, cap)?;
+        let (row, closing, emptied) = exact_row(alloc, successors, source as EventId, cap, sets)?;
+        sets = emptied;
         cap = next_cap(closing, cap);
         least = least.min(closing);
         rows.push(row)?;

@@ -4,11 +4,11 @@ ghost use Rattle.std.specs.Prelude.{◌≡◌, ◌<◌, length, IfOk, IsTrue};
 ghost use Rattle.relations.specs.Cycle.{IsExactRow};
 ghost use Rattle.search.specs.Bits.{Marked, IsBitSquare};
 ghost use Rattle.search.specs.Cycles.{IsNearest};
-ghost use Rattle.search.specs.Fresh.{IsFresh};
+ghost use Rattle.search.specs.Fresh.{AreSets, AreEmptySets, IsFresh};
 ghost use Rattle.search.specs.Levels.{IsClosing};
 
 use crate::level::{take_last_level, take_level};
-use crate::room::Room;
+use crate::room::{Room, Sets};
 use bitrow::BitRow;
 use litmus::{EventId, OutOfMemory};
 use std::alloc::Global;
@@ -25,31 +25,40 @@ fn closing_with(closes: bool, label: u16, cap: u16, closing: u16) -> u16
 }
 
 /// The least number of steps from a source to each event, or the cap where none is less, and the
-/// least of these numbers for the events that are forced before the source. It takes no memory but
-/// the room.
-pub(crate) fn row_in(rows: &[BitRow], source: EventId, cap: u16, room: Room) -> (Vec<u16>, u16)
+/// least of these numbers for the events that are forced before the source; with the sets. It takes no
+/// memory but what it is given.
+fn row_with(
+    rows: &[BitRow],
+    source: EventId,
+    cap: u16,
+    labels: Vec<u16>,
+    sets: Sets,
+) -> (Vec<u16>, u16, Sets)
     requires square { IsBitSquare rows.now }
     requires source { source < length rows.now }
-    requires room { IsFresh (length rows.now) room }
+    requires labels { length labels.items ≡ length rows.now }
+    requires sets { AreEmptySets (length rows.now) sets }
     ensures exact { IsExactRow (Marked rows.now) (length rows.now) cap source result.0.items }
     ensures nearest { IsNearest (Marked rows.now) source result.0.items cap result.1 }
+    ensures sets { AreSets (length rows.now) result.2 }
 {
-    let Room {
-        mut labels,
+    let mut labels = labels;
+    let Sets {
         mut seen,
         mut level,
         mut next,
-    } = room;
+    } = sets;
     labels.fill(cap);
     let mut closing = cap;
     level.set(source as usize);
     for label in 0..cap {
         if level.is_empty() {
-            return (labels, closing);
+            return (labels, closing, Sets { seen, level, next });
         }
         if label + 1 == cap {
             let closes = take_last_level(rows, &level, label, source, labels.as_mut_slice());
-            return (labels, closing_with(closes, label, cap, closing));
+            let closing = closing_with(closes, label, cap, closing);
+            return (labels, closing, Sets { seen, level, next });
         }
         take_level(rows, &level, label, &mut next, labels.as_mut_slice());
         closing = closing_with(next.test(source as usize), label, cap, closing);
@@ -58,22 +67,39 @@ pub(crate) fn row_in(rows: &[BitRow], source: EventId, cap: u16, room: Room) -> 
         level = next;
         next = taken;
     }
+    (labels, closing, Sets { seen, level, next })
+}
+
+/// The same row and number, in room of their own.
+pub(crate) fn row_in(rows: &[BitRow], source: EventId, cap: u16, room: Room) -> (Vec<u16>, u16)
+    requires square { IsBitSquare rows.now }
+    requires source { source < length rows.now }
+    requires room { IsFresh (length rows.now) room }
+    ensures exact { IsExactRow (Marked rows.now) (length rows.now) cap source result.0.items }
+    ensures nearest { IsNearest (Marked rows.now) source result.0.items cap result.1 }
+{
+    let Room { labels, sets } = room;
+    let (labels, closing, _sets) = row_with(rows, source, cap, labels, sets);
     (labels, closing)
 }
 
-/// The same, in room of its own.
+/// The same row and number, with labels of their own; the sets are emptied.
 pub(crate) fn exact_row(
     alloc: Global,
     rows: &[BitRow],
     source: EventId,
     cap: u16,
-) -> Result<(Vec<u16>, u16), OutOfMemory>
+    sets: Sets,
+) -> Result<(Vec<u16>, u16, Sets), OutOfMemory>
     requires square { IsBitSquare rows.now }
     requires source { source < length rows.now }
+    requires sets { AreEmptySets (length rows.now) sets }
     ensures exact { IfOk result (λ p. IsExactRow (Marked rows.now) (length rows.now) cap source
         p.0.items) }
     ensures nearest { IfOk result (λ p. IsNearest (Marked rows.now) source p.0.items cap p.1) }
+    ensures sets { IfOk result (λ p. AreEmptySets (length rows.now) p.2) }
 {
-    let room = Room::new(alloc, rows.len())?;
-    Ok(row_in(rows, source, cap, room))
+    let labels = vec![in alloc; 0; rows.len()]?;
+    let (labels, closing, used) = row_with(rows, source, cap, labels, sets);
+    Ok((labels, closing, used.emptied()))
 }

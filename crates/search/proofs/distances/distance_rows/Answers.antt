@@ -1,5 +1,5 @@
 use Rattle.std.proofs.Common.{◌≡◌, ◌<◌, ◌+◌, ℕ, List, [], ◌∷◌, ◌++◌, length, get_or, min, Vec, Global, arith}
-use Rattle.std.proofs.Common.{subst, sym, ap, ◌∙◌, length-append}
+use Rattle.std.proofs.Common.{rules, subst, sym, ap, ◌∙◌, length-append}
 use Rattle.std.proofs.lemmas.List.{map-append}
 use Rattle.relations.specs.Relation.{Related}
 use Rattle.relations.specs.Cycle.{IsExactRow}
@@ -29,6 +29,7 @@ loop-source-preserved c =
     c.in_ok-row.ensures.nearest in
     let both : min c.loop-source.least c.in_ok-row.closing ≡ c.min-least.result = omega arith in
     record {
+      sets = search rules;
       cap = subst (λ (k : ℕ). IsCap R n k) (sym c.next_cap-cap.ensures)
           (cap_next R n cap c.loop-source.source c.in_ok-row.closing c.in_ok-row.row.items
           c.sound.ensures.within exact near c.loop-source.invariant.cap);

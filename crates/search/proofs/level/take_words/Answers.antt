@@ -1,5 +1,5 @@
-use Rattle.std.proofs.Common.{rules, ◌≡◌, ◌<◌, ◌+◌, ◌*◌, ◌||◌, ℕ, Bool, [], Some, None, List, length, arith, sym, ap}
-use Rattle.std.proofs.Common.{subst, get_or, replicate, ◌∙◌}
+use Rattle.std.proofs.Common.{rules, ◌≡◌, ◌<◌, ◌+◌, ◌*◌, ◌||◌, ℕ, Bool, [], Some, None, List, length, arith}
+use Rattle.std.proofs.Common.{sym, ap, subst, get_or, replicate, ◌∙◌}
 use Rattle.bitrow.specs.Bits.{bit_of, is_in, IsNext}
 use Rattle.bitrow.specs.Walks.{RowWalk}
 use Rattle.std.proofs.lemmas.List.{length-replicate, get_or_default}
@@ -33,7 +33,8 @@ loop-event-preserved g c =
     let at : event < length rows = omega (arith, next.1, c.requires.level) in
     let row : List Bool = c.index-rows-event.result in
     let row_is : row ≡ get_or rows event [] = c.index-rows-event.is ∙ get_or_default rows event row [] at in
-    let long : length row ≡ length rows = ap (λ (r : List Bool). length r) row_is ∙ c.requires.square.each event at in
+    let long : length row ≡ length rows = ap (λ (r : List Bool). length r) row_is
+    ∙ c.requires.square.each event at in
     record {
       row = search rules;
       within = search rules;

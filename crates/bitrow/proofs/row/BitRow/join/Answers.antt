@@ -6,9 +6,19 @@ use Rattle.bitrow.proofs.row.BitRow.join.Goals as goal
 pub or_lanes-requires : goal.or_lanes-requires
 or_lanes-requires g c =
     let size : length c.args.self.now ≡ c.self.inside.len =
-    row_length c.self.inside.words.items c.self.inside.len c.args.self.now c.self.view_is in
-    (search rules, (c.requires.lanes, omega (arith, size, c.requires.within, c.self.invariant.enough,
-        c.as_slice.ensures.len)))
+    row_length c.self.inside.words.items c.self.inside.len c.args.self.now c.self.view_is in (
+      search rules,
+      (
+        c.requires.lanes,
+        omega (
+          arith,
+          size,
+          c.requires.within,
+          c.self.invariant.enough,
+          c.as_slice.ensures.len,
+        ),
+      ),
+    )
 
 pub returns-clause-bits : goal.returns-clause-bits
 returns-clause-bits g c f small inside =

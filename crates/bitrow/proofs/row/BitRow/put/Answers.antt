@@ -8,9 +8,19 @@ use Rattle.bitrow.proofs.row.BitRow.put.Goals as goal
 pub put_lanes-requires : goal.put_lanes-requires
 put_lanes-requires g c =
     let size : length c.args.self.now ≡ c.self.inside.len =
-    row_length c.self.inside.words.items c.self.inside.len c.args.self.now c.self.view_is in
-    (search rules, (c.requires.lanes, omega (arith, size, c.requires.within, c.self.invariant.enough,
-        c.as_mut_slice.ensures.len)))
+    row_length c.self.inside.words.items c.self.inside.len c.args.self.now c.self.view_is in (
+      search rules,
+      (
+        c.requires.lanes,
+        omega (
+          arith,
+          size,
+          c.requires.within,
+          c.self.invariant.enough,
+          c.as_mut_slice.ensures.len,
+        ),
+      ),
+    )
 
 pub returns-clause-len : goal.returns-clause-len
 returns-clause-len g c =
@@ -24,7 +34,8 @@ returns-clause-here g c f small inside =
     let j : ℕ = 64 * c.args.at + f in
     members_at (with_items c.self.inside.words c.put_lanes.new.words).items c.self.inside.len j
     (omega (arith, size, inside))
-    ∙ (ap (λ (ws : List ℕ). bit_of ws j) (with_items_is c.self.inside.words c.put_lanes.new.words (omega arith))
+    ∙ (ap (λ (ws : List ℕ). bit_of ws j) (with_items_is c.self.inside.words c.put_lanes.new.words
+    (omega arith))
     ∙ c.put_lanes.ensures.here f small)
 
 pub returns-clause-others : goal.returns-clause-others
@@ -32,4 +43,5 @@ returns-clause-others g c j apart =
     row_kept c.self.inside.words.items c.as_mut_slice.result.now c.put_lanes.new.words
     (with_items c.self.inside.words c.put_lanes.new.words).items c.self.inside.len j c.args.self.now
     c.self.view_is c.as_mut_slice.ensures.value
-    (with_items_is c.self.inside.words c.put_lanes.new.words (omega arith)) (c.put_lanes.ensures.others j apart)
+    (with_items_is c.self.inside.words c.put_lanes.new.words (omega arith))
+    (c.put_lanes.ensures.others j apart)

@@ -1,7 +1,7 @@
 use Rattle.std.proofs.Common.{◌≡◌, length}
 use Rattle.search.specs.Bits.{Marked}
 use Rattle.search.proofs.Levels.{IsReached, IsClosed}
-use Rattle.search.proofs.row.row_in.Given as goal
+use Rattle.search.proofs.row.row_with.Given as goal
 
 abbrev pub invariant-loop-label : goal.invariant-loop-label
 invariant-loop-label l = record {

@@ -8,27 +8,27 @@ use Rattle.search.specs.Levels.{Closes}
 use Rattle.search.proofs.Marks.{joins_one, one_alone, marked_within}
 use Rattle.search.proofs.Levels.{IsReached, reached_none, IsClosed, reached_more, closes_more, closes_by_next}
 use Rattle.search.proofs.Levels.{reached_exact, nearest_more, last_exact, closed_nearest, written_back}
-use Rattle.search.proofs.row.row_in.Goals as goal
+use Rattle.search.proofs.row.row_with.Goals as goal
 
 pub loop-label-init : goal.loop-label-init
 loop-label-init c =
     let n = length c.args.rows.now in
-    let room = c.requires.room in
-    let items : c.fill.new.self.items ≡ replicate (vec_len c.args.room.labels) c.args.cap =
+    let sets = c.requires.sets in
+    let items : c.fill.new.self.items ≡ replicate (vec_len c.args.labels) c.args.cap =
     c.fill.ensures.items (λ y h. h) in
     let caps : (e : ℕ) → e < n → get_or c.fill.new.self.items e 0 ≡ c.args.cap =
     subst (λ (row : List ℕ). (e : ℕ) → e < n → get_or row e 0 ≡ c.args.cap) (sym items)
-    (λ e at. get_or-replicate (vec_len c.args.room.labels) e c.args.cap 0
-    (omega (arith, at, room.labels))) in
+    (λ e at. get_or-replicate (vec_len c.args.labels) e c.args.cap 0
+    (omega (arith, at, c.requires.labels))) in
     record {
-      seen_size = room.seen.size;
-      level_size = omega (arith, c.set.ensures.len, room.level.size);
-      next_size = room.next.size;
+      seen_size = sets.seen.size;
+      level_size = omega (arith, c.set.ensures.len, sets.level.size);
+      next_size = sets.next.size;
       reached = reached_none (Marked c.args.rows.now) n c.args.cap c.args.source c.fill.new.self.items
-          c.args.room.seen c.set.new.self c.args.room.next (omega (arith, room.labels, c.fill.ensures.len))
-          caps room.seen.empty room.next.empty
-          (joins_one c.args.room.level c.set.new.self c.args.source c.args.source c.set.ensures.numbers refl)
-          (λ e is. one_alone c.args.room.level c.set.new.self c.args.source e room.level.empty
+          c.args.sets.seen c.set.new.self c.args.sets.next (omega (arith, c.requires.labels, c.fill.ensures.len))
+          caps sets.seen.empty sets.next.empty
+          (joins_one c.args.sets.level c.set.new.self c.args.source c.args.source c.set.ensures.numbers refl)
+          (λ e is. one_alone c.args.sets.level c.set.new.self c.args.source e sets.level.empty
           c.set.ensures.numbers is);
       closed = record {
         below = omega arith;
@@ -83,15 +83,15 @@ returns-then-label-cap-clause-nearest c =
     c.loop-label.closing =
     subst (λ (row : List ℕ). IsClosed R c.args.cap c.args.source c.loop-label.label row c.loop-label.closing)
     (sym c.as_mut_slice.ensures.value) c.loop-label.invariant.closed in
-    subst (λ (row : List ℕ). IsNearest R c.args.source row c.args.cap c.closing_with.result)
+    subst (λ (row : List ℕ). IsNearest R c.args.source row c.args.cap c.closing_with-closing.result)
     (sym (written_back c.loop-label.labels.len c.take_last_level-closes.new.labels
     c.loop-label.labels.items (omega arith)))
     (nearest_more R n c.args.cap c.args.source c.loop-label.label
     (marked_within c.args.rows.now c.requires.square) c.as_mut_slice.result.now
     c.take_last_level-closes.new.labels c.loop-label.seen c.loop-label.level c.loop-label.next
     c.loop-label-test.true c.requires.source (omega arith) reached c.take_last_level-closes.ensures.labels
-    (IsTrue c.take_last_level-closes.result) c.loop-label.closing c.closing_with.result
-    c.take_last_level-closes.ensures.closes closed c.closing_with.ensures)
+    (IsTrue c.take_last_level-closes.result) c.loop-label.closing c.closing_with-closing.result
+    c.take_last_level-closes.ensures.closes closed c.closing_with-closing.ensures)
 
 pub loop-label-preserved : goal.loop-label-preserved
 loop-label-preserved c =
@@ -123,20 +123,20 @@ loop-label-preserved c =
           c.take_level.ensures.next c.move_into.ensures.into c.move_into.ensures.next
           c.move_into.ensures.moved);
       closed = subst (λ (row : List ℕ). IsClosed R c.args.cap c.args.source
-          (c.loop-label.label + 1) row c.closing_with-closing.result)
+          (c.loop-label.label + 1) row c.closing_with-closing-in-loop-label.result)
           (sym back)
           (closes_more R n c.args.cap c.args.source c.loop-label.label
           (marked_within c.args.rows.now c.requires.square) c.as_mut_slice-in-loop-label.result.now
           c.take_level.new.labels c.loop-label.seen c.loop-label.level c.loop-label.next
           c.loop-label-test.true c.requires.source (omega arith) reached c.take_level.ensures.labels
-          (IsTrue c.test.result) c.loop-label.closing c.closing_with-closing.result
+          (IsTrue c.test.result) c.loop-label.closing c.closing_with-closing-in-loop-label.result
           (subst (λ (b : Bool). (b ≡ true) ↔ Closes R c.loop-label.level c.args.source) (sym c.test.ensures)
           (closes_by_next R n c.args.cap c.args.source c.loop-label.label
           (marked_within c.args.rows.now c.requires.square) c.as_mut_slice-in-loop-label.result.now
           c.take_level.new.labels c.loop-label.seen c.loop-label.level c.loop-label.next
           c.loop-label-test.true c.requires.source (omega arith) reached c.take_level.ensures.labels
           c.take_level.new.next c.take_level.ensures.next))
-          closed c.closing_with-closing.ensures);
+          closed c.closing_with-closing-in-loop-label.ensures);
     }
 
 pub returns-clause-exact : goal.returns-clause-exact
