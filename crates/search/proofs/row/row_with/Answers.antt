@@ -25,8 +25,8 @@ loop-label-init c =
       level_size = omega (arith, c.set.ensures.len, sets.level.size);
       next_size = sets.next.size;
       reached = reached_none (Marked c.args.rows.now) n c.args.cap c.args.source c.fill.new.self.items
-          c.args.sets.seen c.set.new.self c.args.sets.next (omega (arith, c.requires.labels, c.fill.ensures.len))
-          caps sets.seen.empty sets.next.empty
+          c.args.sets.seen c.set.new.self c.args.sets.next
+          (omega (arith, c.requires.labels, c.fill.ensures.len)) caps sets.seen.empty sets.next.empty
           (joins_one c.args.sets.level c.set.new.self c.args.source c.args.source c.set.ensures.numbers refl)
           (λ e is. one_alone c.args.sets.level c.set.new.self c.args.source e sets.level.empty
           c.set.ensures.numbers is);
