@@ -77,7 +77,8 @@ filled_within x k first table es at is filled = elim (cases_lt 0 (length es)) [
 ]
 
 -- one core more
-pub filled_more : (x : Execution) (k first : ℕ) (old table : List Event) (es : List Event) → k < length x.cores
+pub filled_more : (x : Execution) (k first : ℕ) (old table : List Event) (es : List Event)
+    → k < length x.cores
     → get_or x.cores k [] ≡ es
     → ((i : ℕ) → i < length es → numbered table (first + i) ≡ numbered es i)
     → ((e : ℕ) → (e < first) ⊎ (first + length es ≤ e) → numbered table e ≡ numbered old e)

@@ -60,7 +60,8 @@ impl<'p> Numbered<'p> {
     fn unmarked_below(&self, number: EventId, marks: &[bool; MAX_EVENTS], count: usize) -> usize
         requires here { number < MAX_EVENTS }
         ensures bound { result ≤ count }
-        ensures least { (a : ℕ) → Writes self.now number a → a < result → IsTrue (is_marked marks.now number) }
+        ensures least { (a : ℕ) → Writes self.now number a → a < result
+            → IsTrue (is_marked marks.now number) }
         ensures unmarked { result < count
             → Writes self.now number result × (is_marked marks.now number ≡ false) }
     {
