@@ -23,16 +23,16 @@ reason_line x names f reason = indent x ++ (codes "before " ++ decimal f)
     ++ reason_text reason (written_text names (written_address (event_at x f))) ++ 10 ∷ []
 
 -- the lines of an event that comes before f, with the first reason that holds
-pub record IsStep (x : Execution) (names : List Name) (e f : ℕ) (text : List ℕ) : Type 0 where
+pub record IsLink (x : Execution) (names : List Name) (e f : ℕ) (text : List ℕ) : Type 0 where
   pub reason : Reason
   pub first : IsReason x e f (Some reason)
   pub lines : text ≡ event_line x names e ++ reason_line x names f reason
 
 -- the lines of the first n events of a cycle, each with the event behind it
-abbrev pub AreSteps : Execution → List Name → List ℕ → ℕ → List ℕ → Type 0
-AreSteps x names c zero text = text ≡ []
-AreSteps x names c (suc i) text = (before step : List ℕ) × AreSteps x names c i before
-    × IsStep x names (slice_index c i) (behind c i) step × (text ≡ before ++ step)
+abbrev pub AreLinks : Execution → List Name → List ℕ → ℕ → List ℕ → Type 0
+AreLinks x names c zero text = text ≡ []
+AreLinks x names c (suc i) text = (before link : List ℕ) × AreLinks x names c i before
+    × IsLink x names (slice_index c i) (behind c i) link × (text ≡ before ++ link)
 
 -- what is said first of a cycle of n events
 abbrev pub cycle_heading : ℕ → List ℕ
@@ -40,7 +40,7 @@ cycle_heading n = codes "No memory order explains this recording: these " ++ dec
     ++ (codes " events would each come before the next." ++ 10 ∷ [])
 
 -- a cycle in words
-pub record IsCycleText (x : Execution) (names : List Name) (c text : List ℕ) : Type 0 where
-  pub steps : List ℕ
-  pub lines : AreSteps x names c (length c) steps
-  pub whole : text ≡ cycle_heading (length c) ++ steps
+pub record SaysCycle (x : Execution) (names : List Name) (c text : List ℕ) : Type 0 where
+  pub links : List ℕ
+  pub lines : AreLinks x names c (length c) links
+  pub whole : text ≡ cycle_heading (length c) ++ links

@@ -17,8 +17,8 @@ abbrev pub spaces : ℕ → List ℕ
 spaces n = replicate n 32
 
 -- a number with spaces before it, up to a width
-abbrev pub padded : ℕ → ℕ → List ℕ
-padded width n = spaces (width - digits n) ++ decimal n
+abbrev pub aligned : ℕ → ℕ → List ℕ
+aligned width n = spaces (width - digits n) ++ decimal n
 
 -- how many digits the greatest number of an event has, and of a core
 abbrev pub event_width : Execution → ℕ
@@ -55,8 +55,8 @@ event_text names F = codes "fence"
 
 -- the number of an event and its core
 abbrev pub place_text : Execution → ℕ → List ℕ
-place_text x e = codes "  " ++ padded (event_width x) e ++ codes "  core "
-    ++ padded (core_width x) (core_of x e) ++ codes "  "
+place_text x e = codes "  " ++ aligned (event_width x) e ++ codes "  core "
+    ++ aligned (core_width x) (core_of x e) ++ codes "  "
 
 -- the line of an event
 unfoldable pub event_line : Execution → List Name → ℕ → List ℕ

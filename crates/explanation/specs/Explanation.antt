@@ -6,10 +6,10 @@ use Rattle.judge.specs.declared.verdict.Verdict.{Verdict}
 use Rattle.judge.specs.declared.verdict.Verdict.TheVariants.{Ordered, Overlook, Cycle}
 use Rattle.explanation.specs.Order.{order_text}
 use Rattle.explanation.specs.Overlook.{overlook_text}
-use Rattle.explanation.specs.Cycle.{IsCycleText}
+use Rattle.explanation.specs.Cycle.{SaysCycle}
 
 -- the text says the verdict on an execution in words, with these names of its addresses
 abbrev pub IsExplanation : Execution → List Name → Verdict → List ℕ → Type 0
 IsExplanation x names (Ordered m) text = text ≡ order_text x names m.items
 IsExplanation x names (Overlook l s) text = text ≡ overlook_text x names l s
-IsExplanation x names (Cycle c) text = IsCycleText x names c.cycle.items text
+IsExplanation x names (Cycle c) text = SaysCycle x names c.cycle.items text

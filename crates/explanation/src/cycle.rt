@@ -4,8 +4,8 @@ ghost use Rattle.std.specs.Prelude.{◌≡◌, ◌++◌, ℕ, List, OnOk, codes,
 ghost use Rattle.relations.specs.Cycle.{IsCycle};
 ghost use Rattle.relations.specs.Forced.{Forced};
 ghost use Rattle.explanation.specs.Events.{written_text};
-ghost use Rattle.explanation.specs.Cycle.{reason_text, reason_line, cycle_heading, IsStep, AreSteps};
-ghost use Rattle.explanation.specs.Cycle.{IsCycleText};
+ghost use Rattle.explanation.specs.Cycle.{reason_text, reason_line, cycle_heading, IsLink, AreLinks};
+ghost use Rattle.explanation.specs.Cycle.{SaysCycle};
 
 use crate::events::put_written;
 use crate::lines::{put_indent, put_line};
@@ -93,7 +93,7 @@ fn put_reason_line(
 }
 
 /// Adds the lines of an event that comes before another.
-fn put_step(
+fn put_link(
     out: &mut Vec<u8>,
     recording: &Recording,
     names: &IndexSet<Name>,
@@ -101,8 +101,8 @@ fn put_step(
     second: EventId,
 ) -> Result<(), OutOfMemory>
     requires { Forced recording.now first second }
-    ensures { OnOk result ((step : List ℕ) × IsStep recording.now names.now.keys first second step
-        × (out.new.items ≡ out.old.items ++ step)) }
+    ensures { OnOk result ((link : List ℕ) × IsLink recording.now names.now.keys first second link
+        × (out.new.items ≡ out.old.items ++ link)) }
 {
     let Some(reason) = first_reason(recording, first, second) else {
         unreachable!();
@@ -112,19 +112,19 @@ fn put_step(
 }
 
 /// Adds the lines of each event of a cycle.
-fn put_steps(
+fn put_links(
     out: &mut Vec<u8>,
     recording: &Recording,
     names: &IndexSet<Name>,
     cycle: &[EventId],
 ) -> Result<(), OutOfMemory>
     requires { IsCycle (Forced recording.now) cycle.now }
-    ensures { OnOk result ((steps : List ℕ)
-        × AreSteps recording.now names.now.keys cycle.now (length cycle.now) steps
-        × (out.new.items ≡ out.old.items ++ steps)) }
+    ensures { OnOk result ((links : List ℕ)
+        × AreLinks recording.now names.now.keys cycle.now (length cycle.now) links
+        × (out.new.items ≡ out.old.items ++ links)) }
 {
     for i in 0..cycle.len() {
-        put_step(out, recording, names, cycle[i], behind(cycle, i))?;
+        put_link(out, recording, names, cycle[i], behind(cycle, i))?;
     }
     Ok(())
 }
@@ -147,9 +147,9 @@ pub(crate) fn put_cycle(
     cycle: &[EventId],
 ) -> Result<(), OutOfMemory>
     requires { IsCycle (Forced recording.now) cycle.now }
-    ensures { OnOk result ((text : List ℕ) × IsCycleText recording.now names.now.keys cycle.now text
+    ensures { OnOk result ((text : List ℕ) × SaysCycle recording.now names.now.keys cycle.now text
         × (out.new.items ≡ out.old.items ++ text)) }
 {
     put_heading(out, cycle.len())?;
-    put_steps(out, recording, names, cycle)
+    put_links(out, recording, names, cycle)
 }

@@ -2,10 +2,10 @@
 
 ghost use Rattle.std.specs.Prelude.{◌≡◌, ◌++◌, OnOk, codes};
 ghost use Rattle.recorder.specs.Execution.{event_at, core_of};
-ghost use Rattle.explanation.specs.Events.{event_width, core_width, padded, event_line, indent};
+ghost use Rattle.explanation.specs.Events.{event_width, core_width, aligned, event_line, indent};
 
 use crate::events::put_event;
-use crate::numbers::{digits, put_padded, put_spaces};
+use crate::numbers::{digits, put_aligned, put_spaces};
 use indexmap::IndexSet;
 use litmus::{CoreId, EventId, Name, OutOfMemory};
 use recorder::{Event, Recording};
@@ -43,13 +43,13 @@ fn put_place(
     core: CoreId,
 ) -> Result<(), OutOfMemory>
     ensures { OnOk result (out.new.items ≡ out.old.items ++ (codes "  "
-        ++ padded (event_width recording.now) number ++ codes "  core "
-        ++ padded (core_width recording.now) core ++ codes "  ")) }
+        ++ aligned (event_width recording.now) number ++ codes "  core "
+        ++ aligned (core_width recording.now) core ++ codes "  ")) }
 {
     out.extend_from_slice(b"  ")?;
-    put_padded(out, event_width(recording), number as usize)?;
+    put_aligned(out, event_width(recording), number as usize)?;
     out.extend_from_slice(b"  core ")?;
-    put_padded(out, core_width(recording), core as usize)?;
+    put_aligned(out, core_width(recording), core as usize)?;
     out.extend_from_slice(b"  ")?;
     Ok(())
 }

@@ -1,7 +1,7 @@
 //! Numbers in a text, and their widths.
 
 ghost use Rattle.std.specs.Prelude.{◌≡◌, ◌++◌, ◌-◌, ◌<◌, ◌≤◌, ◌^◌, OnOk, decimal};
-ghost use Rattle.explanation.specs.Events.{digits, padded, spaces};
+ghost use Rattle.explanation.specs.Events.{digits, aligned, spaces};
 
 use itoa::Buffer;
 use litmus::OutOfMemory;
@@ -34,8 +34,8 @@ pub(crate) fn put_spaces(out: &mut Vec<u8>, count: usize) -> Result<(), OutOfMem
 }
 
 /// Adds a number with spaces before it, up to a width.
-pub(crate) fn put_padded(out: &mut Vec<u8>, width: usize, number: usize) -> Result<(), OutOfMemory>
-    ensures { OnOk result (out.new.items ≡ out.old.items ++ padded width number) }
+pub(crate) fn put_aligned(out: &mut Vec<u8>, width: usize, number: usize) -> Result<(), OutOfMemory>
+    ensures { OnOk result (out.new.items ≡ out.old.items ++ aligned width number) }
 {
     put_spaces(out, width.saturating_sub(digits(number)))?;
     put_number(out, number)
