@@ -2,7 +2,7 @@
 
 use crate::lanes::{move_words, or_lanes, put_lanes};
 use crate::numbers::Numbers;
-use crate::word_bits::{and_not_words, clear_bit, next_bit, or_words, set_bit, test_bit};
+use crate::word_bits::{clear_bit, next_bit, set_bit, test_bit};
 use litmus::OutOfMemory;
 use std::alloc::Global;
 use std::marker::Model;
@@ -65,24 +65,6 @@ impl BitRow {
         ensures numbers { (j : ℕ) → is_in self.new j ≡ (is_in self.old j && not (j == number)) }
     {
         clear_bit(self.words.as_mut_slice(), number);
-    }
-
-    /// Puts the numbers of this set into another of its length.
-    pub fn or_into(&self, into: &mut BitRow)
-        requires { length self.now ≡ length into.old }
-        ensures len { length into.new ≡ length into.old }
-        ensures numbers { (j : ℕ) → is_in into.new j ≡ (is_in into.old j || is_in self.now j) }
-    {
-        or_words(into.words.as_mut_slice(), self.words.as_slice());
-    }
-
-    /// Takes the numbers of another set of its length out of this one.
-    pub fn and_not(&mut self, other: &BitRow)
-        requires { length other.now ≡ length self.old }
-        ensures len { length self.new ≡ length self.old }
-        ensures numbers { (j : ℕ) → is_in self.new j ≡ (is_in self.old j && not (is_in other.now j)) }
-    {
-        and_not_words(self.words.as_mut_slice(), other.words.as_slice());
     }
 
     /// Puts the numbers of as many words, of 64 numbers each, from one on into the lanes.

@@ -1,6 +1,6 @@
 //! A cycle in words.
 
-ghost use Rattle.std.specs.Prelude.{◌≡◌, ◌++◌, ℕ, List, OnOk, codes, decimal, length};
+ghost use Rattle.std.specs.Prelude.{◌≡◌, ◌++◌, ℕ, List, OnOk, codes, length};
 ghost use Rattle.relations.specs.Cycle.{IsCycle};
 ghost use Rattle.relations.specs.Forced.{Forced};
 ghost use Rattle.explanation.specs.Events.{written_text};
@@ -8,7 +8,7 @@ ghost use Rattle.explanation.specs.Cycle.{reason_text, reason_line, cycle_headin
 ghost use Rattle.explanation.specs.Cycle.{SaysCycle};
 
 use crate::events::put_written;
-use crate::lines::{put_indent, put_line};
+use crate::lines::{put_before, put_indent, put_line};
 use crate::numbers::put_number;
 use indexmap::IndexSet;
 use litmus::{Addr, EventId, Name, OutOfMemory};
@@ -63,14 +63,6 @@ fn put_reason(
         }
         Reason::Fr => put_newer(out, names, address),
     }
-}
-
-/// Adds which event it comes before.
-fn put_before(out: &mut Vec<u8>, number: EventId) -> Result<(), OutOfMemory>
-    ensures { OnOk result (out.new.items ≡ out.old.items ++ (codes "before " ++ decimal number)) }
-{
-    out.extend_from_slice(b"before ")?;
-    put_number(out, number as usize)
 }
 
 /// Adds the line that says why an event comes before another.

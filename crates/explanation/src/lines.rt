@@ -1,11 +1,11 @@
 //! The lines of events.
 
-ghost use Rattle.std.specs.Prelude.{◌≡◌, ◌++◌, OnOk, codes};
+ghost use Rattle.std.specs.Prelude.{◌≡◌, ◌++◌, OnOk, codes, decimal};
 ghost use Rattle.recorder.specs.Execution.{event_at, core_of};
 ghost use Rattle.explanation.specs.Events.{event_width, core_width, aligned, event_line, indent};
 
 use crate::events::put_event;
-use crate::numbers::{digits, put_aligned, put_spaces};
+use crate::numbers::{digits, put_aligned, put_number, put_spaces};
 use indexmap::IndexSet;
 use litmus::{CoreId, EventId, Name, OutOfMemory};
 use recorder::{Event, Recording};
@@ -78,4 +78,12 @@ pub(crate) fn put_indent(out: &mut Vec<u8>, recording: &Recording) -> Result<(),
     put_spaces(out, event_width(recording))?;
     out.extend_from_slice(b"    ")?;
     Ok(())
+}
+
+/// Adds which event it comes before.
+pub(crate) fn put_before(out: &mut Vec<u8>, number: EventId) -> Result<(), OutOfMemory>
+    ensures { OnOk result (out.new.items ≡ out.old.items ++ (codes "before " ++ decimal number)) }
+{
+    out.extend_from_slice(b"before ")?;
+    put_number(out, number as usize)
 }

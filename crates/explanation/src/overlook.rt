@@ -7,7 +7,7 @@ ghost use Rattle.explanation.specs.Events.{written_text};
 ghost use Rattle.explanation.specs.Overlook.{overlook_heading, store_line, instead_lines, overlook_text};
 
 use crate::events::put_written;
-use crate::lines::{put_indent, put_line};
+use crate::lines::{put_before, put_indent, put_line};
 use crate::numbers::put_number;
 use indexmap::IndexSet;
 use litmus::{Addr, EventId, Name, OutOfMemory};
@@ -23,14 +23,6 @@ fn put_heading(out: &mut Vec<u8>, load: EventId, store: EventId) -> Result<(), O
     put_number(out, store as usize)?;
     out.extend_from_slice(b", a newer write of its own core.\n")?;
     Ok(())
-}
-
-/// Adds which event the store is before.
-fn put_before(out: &mut Vec<u8>, load: EventId) -> Result<(), OutOfMemory>
-    ensures { OnOk result (out.new.items ≡ out.old.items ++ (codes "before " ++ decimal load)) }
-{
-    out.extend_from_slice(b"before ")?;
-    put_number(out, load as usize)
 }
 
 /// Adds the line that says that the store is before the load.
