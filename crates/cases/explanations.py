@@ -25,6 +25,19 @@ def names_of(program):
     return list(dict.fromkeys(it[1] for it in words if it[0] not in ("core", "fence", "init")))
 
 
+def is_said(text, event, names):
+    """Whether a text says what an event did, with the recording's own data."""
+    said = KINDS[event["k"]].fullmatch(text)
+    if not said:
+        return False
+    told = said.groupdict()
+    told.pop("none", None)
+    wanted = {key: event[key] for key in "arsw" if key in event}
+    if "a" in wanted:
+        wanted["a"] = names[wanted["a"]]
+    return told == {key: None if it is None else str(it) for key, it in wanted.items()}
+
+
 class Reader:
     """A recording with the names of its addresses, and the lines of its explanation."""
 
@@ -46,15 +59,7 @@ class Reader:
             return False
         if len(found[1] + found[2]) != self.width or len(found[3] + found[4]) != self.core_width:
             return False
-        said = KINDS[event["k"]].fullmatch(found[5])
-        if not said:
-            return False
-        told = said.groupdict()
-        told.pop("none", None)
-        wanted = {key: event[key] for key in "arsw" if key in event}
-        if "a" in wanted:
-            wanted["a"] = self.names[wanted["a"]]
-        return told == {key: None if it is None else str(it) for key, it in wanted.items()}
+        return is_said(found[5], event, self.names)
 
     def is_below(self, line, text):
         """Whether a line says this below an event."""

@@ -1,4 +1,4 @@
 pub mod Verdict
-pub mod Explained
+pub mod Told
 pub mod Run
 pub mod Campaign

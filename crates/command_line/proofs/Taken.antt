@@ -28,7 +28,8 @@ use Rattle.clap.specs.declared.builder.value_parser.ValueParser.TheVariants.{Uns
 use Rattle.clap.specs.declared.parser.matches.ValueSource.{ValueSource}
 use Rattle.clap.specs.declared.parser.matches.ValueSource.TheVariants.{CommandLine, DefaultValue}
 use Rattle.clap.specs.declared.error.kind.ErrorKind.TheVariants as kinds
-use Rattle.command_line.specs.Commands.{AreFaultless, command_of, explain_app, file_rule, flag_rule}
+use Rattle.command_line.specs.Commands.{AreFaultless, command_of, draw_app, explain_app, file_rule}
+use Rattle.command_line.specs.Commands.{flag_rule}
 use Rattle.command_line.specs.Commands.{judge_app, live_app}
 use Rattle.command_line.specs.Commands.{number_rule, program_app, program_rule, replay_app, run_app}
 use Rattle.command_line.specs.Commands.{size_rule, text_rule, trials_app}
@@ -432,6 +433,9 @@ replay_keeps = (file_keeps, (help_keeps, tt))
 explain_keeps : Each (Keeps AreFit) (leaf explain_app).rules
 explain_keeps = (file_keeps, (text_keeps 2 (codes "program") refl refl, (help_keeps, tt)))
 
+draw_keeps : Each (Keeps AreFit) (leaf draw_app).rules
+draw_keeps = (file_keeps, (text_keeps 2 (codes "program") refl refl, (help_keeps, tt)))
+
 -- clap finds no fault in the words of a command
 abbrev IsRead : Shape → List Text → Type 0
 IsRead s words = level_fault s [] nothing_held words false [] ≡ []
@@ -549,6 +553,16 @@ explain_entry words read =
     (first_given file (text 2 (codes "program") ∷ filled help_rule ∷ []) rows refl
     (wanted (leaf explain_app) rows false is.check).1).0
 
+draw_entry : (words : List Text) → IsRead (leaf draw_app) words
+    → HasText (codes "FILE") (rows_after (leaf draw_app).rules [] words)
+draw_entry words read =
+    let is = faultless AreFit AreFinal fit_final (leaf draw_app) draw_keeps
+    (no_defaults AreFinal (leaf draw_app).rules (refl, (refl, (refl, tt)))) [] words false [] read tt in
+    let rows = rows_after (leaf draw_app).rules [] words in
+    given_entry (codes "FILE") rows is.rows
+    (first_given file (text 2 (codes "program") ∷ filled help_rule ∷ []) rows refl
+    (wanted (leaf draw_app) rows false is.check).1).0
+
 -- ---- the command that the words name
 
 -- the names of the commands differ
@@ -565,6 +579,7 @@ run_entered words read = record {
   live = differ (codes "run") (codes "live") refl;
   replay = differ (codes "run") (codes "replay") refl;
   explain = differ (codes "run") (codes "explain") refl;
+  draw = differ (codes "run") (codes "draw") refl;
 }
 
 judge_entered : (words : List Text) → IsRead (leaf judge_app) words
@@ -577,6 +592,7 @@ judge_entered words read = record {
   live = differ (codes "judge") (codes "live") refl;
   replay = differ (codes "judge") (codes "replay") refl;
   explain = differ (codes "judge") (codes "explain") refl;
+  draw = differ (codes "judge") (codes "draw") refl;
 }
 
 trials_entered : (words : List Text) → IsRead (leaf trials_app) words
@@ -589,6 +605,7 @@ trials_entered words read = record {
   live = differ (codes "trials") (codes "live") refl;
   replay = differ (codes "trials") (codes "replay") refl;
   explain = differ (codes "trials") (codes "explain") refl;
+  draw = differ (codes "trials") (codes "draw") refl;
 }
 
 live_entered : (words : List Text) → IsRead (leaf live_app) words
@@ -601,6 +618,7 @@ live_entered words read = record {
   live = λ _. live_entries words read;
   replay = differ (codes "live") (codes "replay") refl;
   explain = differ (codes "live") (codes "explain") refl;
+  draw = differ (codes "live") (codes "draw") refl;
 }
 
 replay_entered : (words : List Text) → IsRead (leaf replay_app) words
@@ -613,6 +631,7 @@ replay_entered words read = record {
   live = differ (codes "replay") (codes "live") refl;
   replay = λ _. replay_entry words read;
   explain = differ (codes "replay") (codes "explain") refl;
+  draw = differ (codes "replay") (codes "draw") refl;
 }
 
 explain_entered : (words : List Text) → IsRead (leaf explain_app) words
@@ -625,6 +644,20 @@ explain_entered words read = record {
   live = differ (codes "explain") (codes "live") refl;
   replay = differ (codes "explain") (codes "replay") refl;
   explain = λ _. explain_entry words read;
+  draw = differ (codes "explain") (codes "draw") refl;
+}
+
+draw_entered : (words : List Text) → IsRead (leaf draw_app) words
+    → HasEntries (rows_at (leaf draw_app) words)
+draw_entered words read = record {
+  known = λ none. none.6 refl;
+  run = differ (codes "draw") (codes "run") refl;
+  judge = differ (codes "draw") (codes "judge") refl;
+  trials = differ (codes "draw") (codes "trials") refl;
+  live = differ (codes "draw") (codes "live") refl;
+  replay = differ (codes "draw") (codes "replay") refl;
+  explain = differ (codes "draw") (codes "explain") refl;
+  draw = λ _. draw_entry words read;
 }
 
 or_false : (b : Bool) → (b || false) ≡ true → b ≡ true
@@ -656,7 +689,10 @@ each_is_whole word words entered = (
           (λ _ read. replay_entered words read),
           (
             (λ _ read. explain_entered words read),
-            ((λ answers read. absurd (help_entered word answers entered)), tt),
+            (
+              (λ _ read. draw_entered words read),
+              ((λ answers read. absurd (help_entered word answers entered)), tt),
+            ),
           ),
         ),
       ),

@@ -82,9 +82,17 @@ live_app = with_rule (with_rule (with_rule (new_app (codes "live")) program_rule
 abbrev pub replay_app : App
 replay_app = with_rule (new_app (codes "replay")) file_rule
 
+-- FILE [--program PROGRAM]
+abbrev pub with_telling_rules : App → App
+with_telling_rules app = with_rule (with_rule app file_rule) (text_rule (codes "program"))
+
 -- explain FILE [--program PROGRAM]
 abbrev pub explain_app : App
-explain_app = with_rule (with_rule (new_app (codes "explain")) file_rule) (text_rule (codes "program"))
+explain_app = with_telling_rules (new_app (codes "explain"))
+
+-- draw FILE [--program PROGRAM]
+abbrev pub draw_app : App
+draw_app = with_telling_rules (new_app (codes "draw"))
 
 -- the program without a command
 abbrev pub bare_app : App
@@ -95,8 +103,8 @@ bare_app =
 -- the program with its commands; its name is not among the words
 abbrev pub program_app : App
 program_app = with_subcommand (with_subcommand (with_subcommand (with_subcommand (with_subcommand
-    (with_subcommand bare_app run_app.top) judge_app.top) trials_app.top) live_app.top) replay_app.top)
-    explain_app.top
+    (with_subcommand (with_subcommand bare_app run_app.top) judge_app.top) trials_app.top) live_app.top)
+    replay_app.top) explain_app.top) draw_app.top
 
 -- clap finds no fault in the words
 abbrev pub AreFaultless : List Text → Type 0

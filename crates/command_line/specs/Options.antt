@@ -7,7 +7,7 @@ use Rattle.clap.specs.declared.error.kind.ErrorKind.TheVariants as kinds
 use Rattle.litmus.specs.declared.limits.TheConstants.{MAX_CAPACITY, MAX_STEPS, MAX_TRIALS, MAX_WORKERS}
 use Rattle.litmus.specs.Shapes.{is_outside, shape_of}
 use Rattle.command_line.specs.declared.options.Options.{Options}
-use Rattle.command_line.specs.declared.options.Options.TheVariants.{Run, Judge, Trials, Live, Replay, Explain}
+use Rattle.command_line.specs.declared.options.Options.TheVariants.{Run, Judge, Trials, Live, Replay, Explain, Draw}
 use Rattle.command_line.specs.declared.options.RunOptions.{RunOptions}
 use Rattle.command_line.specs.declared.options.JudgeOptions.{JudgeOptions}
 use Rattle.command_line.specs.declared.options.TrialsOptions.{TrialsOptions}
@@ -120,11 +120,12 @@ AreOptions (Trials o) (Some command) = (command.0 ≡ codes "trials") × AreTria
 AreOptions (Live o) (Some command) = (command.0 ≡ codes "live") × AreLiveOptions o command.1
 AreOptions (Replay o) (Some command) = (command.0 ≡ codes "replay") × AreFileOptions o command.1
 AreOptions (Explain o) (Some command) = (command.0 ≡ codes "explain") × AreExplainOptions o command.1
+AreOptions (Draw o) (Some command) = (command.0 ≡ codes "draw") × AreExplainOptions o command.1
 
 -- a name that is no command's
 abbrev pub IsNoCommand : Text → Type 0
 IsNoCommand name = (name ≢ codes "run") × (name ≢ codes "judge") × (name ≢ codes "trials")
-    × (name ≢ codes "live") × (name ≢ codes "replay") × (name ≢ codes "explain")
+    × (name ≢ codes "live") × (name ≢ codes "replay") × (name ≢ codes "explain") × (name ≢ codes "draw")
 
 -- what was read is one of the commands, with the entries that it requires
 pub record HasEntries (command : Text × List Row) : Type 0 where
@@ -135,6 +136,7 @@ pub record HasEntries (command : Text × List Row) : Type 0 where
   pub live : command.0 ≡ codes "live" → HasLiveEntries command.1
   pub replay : command.0 ≡ codes "replay" → HasText (codes "FILE") command.1
   pub explain : command.0 ≡ codes "explain" → HasText (codes "FILE") command.1
+  pub draw : command.0 ≡ codes "draw" → HasText (codes "FILE") command.1
 
 -- why the command that was read gives no options: its entries' first refusal, or want of memory
 abbrev pub IsCommandFault : OptionFault → Option (Text × List Row) → Type 0

@@ -87,7 +87,7 @@ campaign_refusal rows =
 abbrev pub live_refusal : List Row → Option OptionRefusal
 live_refusal rows = option_or (limit_refusal rows) (buffer_refusal rows)
 
--- the first refusal of the entries of the command with this name; replay and explain have none
+-- the first refusal of the entries of the command with this name; replay, explain and draw have none
 abbrev pub refusal_of : Text → List Row → Option OptionRefusal
 refusal_of name rows =
     if bytes_eq name (codes "run") then run_refusal rows

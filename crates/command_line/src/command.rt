@@ -5,7 +5,7 @@ ghost use Rattle.command_line.specs.Commands.{Builds, bare_app, program_app};
 
 use crate::pages::{ABOUT, STATUSES};
 use crate::rules::Texts;
-use crate::subcommands::{explain, judge, live, replay, run, trials};
+use crate::subcommands::{draw, explain, judge, live, replay, run, trials};
 use clap::Command;
 use std::alloc::{AllocError, Global};
 
@@ -46,5 +46,6 @@ pub fn command<'a>(alloc: Global, texts: &'a Texts) -> Result<Command<'a>, Alloc
     let trials = with(judge, trials(alloc, texts));
     let live = with(trials, live(alloc, &texts.run));
     let replay = with(live, replay(alloc));
-    with(replay, explain(alloc))
+    let explain = with(replay, explain(alloc));
+    with(explain, draw(alloc))
 }

@@ -121,7 +121,7 @@ fn file_options(alloc: Global, matches: &ArgMatches<'_>) -> Result<FileOptions, 
     })
 }
 
-/// The options of `explain`: the file is `clap`'s entry, and so is the program where there is one.
+/// The options of `explain` and `draw`: the file is `clap`'s entry, and so is the program where there is one.
 fn explain_options(alloc: Global, matches: &ArgMatches<'_>) -> Result<ExplainOptions, AllocError>
     requires { HasText (codes "FILE") (rows_of (found_of matches.now)) }
     ensures { IfOk result (λ o. AreExplainOptions o (rows_of (found_of matches.now))) }
@@ -164,6 +164,10 @@ pub fn named_options(
     if name == "explain" {
         let explain = explain_options(alloc, entries)?;
         return Ok(Options::Explain(explain));
+    }
+    if name == "draw" {
+        let draw = explain_options(alloc, entries)?;
+        return Ok(Options::Draw(draw));
     }
     unreachable!()
 }

@@ -41,6 +41,8 @@ pub enum Options {
     Replay(FileOptions),
     /// `explain`.
     Explain(ExplainOptions),
+    /// `draw`.
+    Draw(ExplainOptions),
 }
 
 /// What `run` is asked: the names of the program and of the script, and the machine and the steps of
@@ -105,7 +107,7 @@ pub struct FileOptions {
     pub file: String,
 }
 
-/// What `explain` is asked: the name of the recording, and of the program that names its addresses.
+/// What `explain` and `draw` are asked: the name of the recording, and of the program that names its addresses.
 #[derive(Debug, Drop)]
 pub struct ExplainOptions {
     /// The name of the recording.

@@ -14,6 +14,7 @@ pub const STATUSES: &str = "Exit status:
 Examples:
   tsotest judge recording.json
   tsotest explain recording.json
+  tsotest draw recording.json | dot -Tsvg > recording.svg
   tsotest replay recording.json
   tsotest run store_buffering.litmus
   tsotest run store_buffering.litmus --steps store_buffering.steps
@@ -187,6 +188,32 @@ pub const EXPLAIN_STATUSES: &str = "Exit status:
 
 Example:
   tsotest explain recording.json --program store_buffering.litmus";
+
+/// `draw` in one line.
+pub const DRAW_ABOUT: &str = "Draws the verdict on a recording as a graph";
+
+/// What `draw` does.
+pub const DRAW_MORE: &str =
+    "Draws the verdict on a recording as a directed graph in the DOT language of Graphviz, of
+which `dot -Tsvg` makes a picture.
+
+Each core has its events in program order from top to bottom, each with its number, what it
+did, and where a value that it read came from. The edges are program order (po), black;
+reads-from (rf), red; coherence order (co), blue; and from-read (fr), orange. The edges of a
+cycle are bold, and of an overlook those between the store and the load. The others go to the
+next event of the core, from the write that was read, to the next write of the address, and
+to the first write that is newer than what was read. The events of an order stand in memory
+order, from top to bottom. The addresses are named as by `explain`.";
+
+/// How `draw` ends.
+pub const DRAW_STATUSES: &str = "Exit status:
+  0  TSO allows the recording
+  1  a fault of the command line, a file or memory, as standard error says
+  2  the recording is a violation of TSO
+  3  the recording or the program was refused, as the line `refused: ..` says
+
+Example:
+  tsotest draw recording.json --program store_buffering.litmus | dot -Tsvg > recording.svg";
 
 /// What the help says of `--program`.
 pub const NAMES_TEXT: &str =

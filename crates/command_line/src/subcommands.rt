@@ -1,15 +1,16 @@
 //! The commands of the program, as `clap` reads and explains them.
 ghost use Rattle.std.specs.Prelude.{◌≡◌, false};
 ghost use Rattle.clap.specs.Words.{App, Rule, new_app, rule_of, with_rule};
-ghost use Rattle.command_line.specs.Commands.{Builds, explain_app, judge_app, live_app, replay_app};
-ghost use Rattle.command_line.specs.Commands.{run_app, trials_app};
+ghost use Rattle.command_line.specs.Commands.{Builds, draw_app, explain_app, judge_app, live_app};
+ghost use Rattle.command_line.specs.Commands.{replay_app, run_app, trials_app, with_telling_rules};
 ghost use Rattle.command_line.specs.Commands.{with_answer_rules, with_run_rules, with_size_rules};
 ghost use Rattle.command_line.specs.Commands.{with_trial_rules};
 
 use crate::pages::{
-    EXPLAIN_ABOUT, EXPLAIN_MORE, EXPLAIN_STATUSES, JUDGE_ABOUT, JUDGE_MORE, JUDGE_STATUSES,
-    LIVE_ABOUT, LIVE_MORE, LIVE_STATUSES, REPLAY_ABOUT, REPLAY_MORE, REPLAY_STATUSES, RUN_ABOUT,
-    RUN_MORE, RUN_STATUSES, TRIALS_ABOUT, TRIALS_MORE, TRIALS_STATUSES,
+    DRAW_ABOUT, DRAW_MORE, DRAW_STATUSES, EXPLAIN_ABOUT, EXPLAIN_MORE, EXPLAIN_STATUSES,
+    JUDGE_ABOUT, JUDGE_MORE, JUDGE_STATUSES, LIVE_ABOUT, LIVE_MORE, LIVE_STATUSES, REPLAY_ABOUT,
+    REPLAY_MORE, REPLAY_STATUSES, RUN_ABOUT, RUN_MORE, RUN_STATUSES, TRIALS_ABOUT, TRIALS_MORE,
+    TRIALS_STATUSES,
 };
 use crate::rules::{
     RunTexts, Texts, TrialsTexts, addresses_arg, attempts_arg, buffer_arg, cores_arg, fault_arg,
@@ -152,6 +153,17 @@ pub fn replay<'a>(alloc: Global) -> Result<Command<'a>, AllocError>
     with(command, file_arg(alloc))
 }
 
+/// The command with the recording and the program that names its addresses.
+fn with_telling_args<'a>(
+    alloc: Global,
+    command: Result<Command<'a>, AllocError>,
+) -> Result<Command<'a>, AllocError>
+    ensures { (app : App) → Builds command.entry app → Builds result (with_telling_rules app) }
+{
+    let file = with(command, file_arg(alloc));
+    with(file, names_arg(alloc))
+}
+
 /// `explain`.
 pub fn explain<'a>(alloc: Global) -> Result<Command<'a>, AllocError>
     ensures { Builds result explain_app }
@@ -163,6 +175,13 @@ pub fn explain<'a>(alloc: Global) -> Result<Command<'a>, AllocError>
         EXPLAIN_MORE,
         EXPLAIN_STATUSES,
     );
-    let file = with(command, file_arg(alloc));
-    with(file, names_arg(alloc))
+    with_telling_args(alloc, command)
+}
+
+/// `draw`.
+pub fn draw<'a>(alloc: Global) -> Result<Command<'a>, AllocError>
+    ensures { Builds result draw_app }
+{
+    let command = described(alloc, "draw", DRAW_ABOUT, DRAW_MORE, DRAW_STATUSES);
+    with_telling_args(alloc, command)
 }

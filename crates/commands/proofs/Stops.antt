@@ -10,7 +10,7 @@ use Rattle.answers.specs.declared.answer.Answer.{Answer}
 use Rattle.commands.specs.declared.stop.Stop.{Stop}
 use Rattle.commands.specs.declared.stop.Stop.TheVariants.{Refused, Fault}
 use Rattle.commands.specs.Inputs.{AreBytesOf}
-use Rattle.commands.specs.Explain.{IsExplainStop}
+use Rattle.commands.specs.Tell.{IsTellingStop}
 use Rattle.commands.specs.Judge.{IsJudgeStop, IsUnread}
 use Rattle.commands.specs.Perform.{IsLiveStop, thread_fault}
 
@@ -23,12 +23,12 @@ judge_stop inputs o bytes (Err (Refused line)) given is = (bytes, given, is)
 judge_stop inputs o bytes (Err (Fault fault)) given is = rw is.2 tt
 
 -- so there is nothing to be explained
-pub explain_stop : (inputs : List ℕ → Option (List ℕ)) (o : ExplainOptions) (bytes : List ℕ)
+pub telling_stop : (inputs : List ℕ → Option (List ℕ)) (o : ExplainOptions) (bytes : List ℕ)
     (r : Result Answer Stop) (stop : Stop) → AreBytesOf inputs (string_bytes o.file) bytes
-    → IsErrAnd r (λ s. s ≡ stop) → IsUnread bytes stop → IfErr r (IsExplainStop inputs o)
-explain_stop inputs o bytes (Ok answer) stop given same is = tt
-explain_stop inputs o bytes (Err s) (Refused line) given same is = rw same (inl (bytes, given, is))
-explain_stop inputs o bytes (Err s) (Fault fault) given same is = rw same (inl (rw is.2 tt))
+    → IsErrAnd r (λ s. s ≡ stop) → IsUnread bytes stop → IfErr r (IsTellingStop inputs o)
+telling_stop inputs o bytes (Ok answer) stop given same is = tt
+telling_stop inputs o bytes (Err s) (Refused line) given same is = rw same (inl (bytes, given, is))
+telling_stop inputs o bytes (Err s) (Fault fault) given same is = rw same (inl (rw is.2 tt))
 
 -- threads left no machine
 pub thread_stop : (inputs : List ℕ → Option (List ℕ)) (o : LiveOptions) (error : LiveError)

@@ -1,10 +1,10 @@
 pub mod Inputs
 pub mod Judge
 pub mod Program
-pub mod Explain
 pub mod Replay
 pub mod Perform
 pub mod Progress
 pub mod Refusal
 pub mod Run
+pub mod Tell
 pub mod Trials

@@ -9,6 +9,7 @@ use Rattle.live.specs.declared.error.LiveError.{LiveError}
 use Rattle.live.specs.declared.error.LiveError.TheVariants as live
 use Rattle.litmus.specs.Text.{reading}
 use Rattle.machine.specs.Script.{steps_of}
+use Rattle.explanation.specs.declared.telling.Telling.TheVariants.{Words, Picture}
 use Rattle.answers.specs.declared.answer.Answer.{Answer}
 use Rattle.commands.specs.declared.stop.Stop.{Stop}
 use Rattle.commands.specs.declared.stop.Stop.TheVariants.{Refused, Fault}
@@ -18,7 +19,7 @@ use Rattle.commands.specs.declared.fault.CommandFault.TheVariants.{CommandLine, 
 use Rattle.commands.specs.declared.fault.CommandFault.TheVariants.{WriteFailed}
 use Rattle.commands.specs.declared.fault.CommandFault.TheVariants as fault
 use Rattle.command_line.specs.declared.options.Options.{Options}
-use Rattle.command_line.specs.declared.options.Options.TheVariants.{Run, Judge, Trials, Live, Replay, Explain}
+use Rattle.command_line.specs.declared.options.Options.TheVariants.{Run, Judge, Trials, Live, Replay, Explain, Draw}
 use Rattle.command_line.specs.declared.options.OptionFault.{OptionFault}
 use Rattle.command_line.specs.declared.options.OptionFault.TheVariants.{Clap, OutOfMemory}
 use Rattle.command_line.specs.declared.options.OptionFault.TheVariants as refused
@@ -28,7 +29,7 @@ use Rattle.command_line.specs.declared.options.RunOptions.{RunOptions}
 use Rattle.commands.specs.Inputs.{AreBytesOf, IsInputFault}
 use Rattle.commands.specs.Judge.{IsJudgedInput, IsJudgeStop}
 use Rattle.commands.specs.Replay.{IsReplayedInput, IsReplayStop}
-use Rattle.commands.specs.Explain.{IsExplained, IsExplainStop}
+use Rattle.commands.specs.Tell.{IsTold, IsTellingStop}
 use Rattle.commands.specs.Program.{IsProgramRefused, IsProgramStop}
 use Rattle.command_line.specs.Options.{AreOptions, IsFault}
 use Rattle.commands.specs.Refusal.{IsReadingStop, option_line, step_fault_name}
@@ -81,7 +82,8 @@ IsAnswerTo inputs (Judge o) answer = IsJudgedInput inputs o answer
 IsAnswerTo inputs (Trials o) answer = IsTrials o answer
 IsAnswerTo inputs (Live o) answer = IsLive inputs o answer
 IsAnswerTo inputs (Replay o) answer = IsReplayedInput inputs o answer
-IsAnswerTo inputs (Explain o) answer = IsExplained inputs o answer
+IsAnswerTo inputs (Explain o) answer = IsTold inputs Words o answer
+IsAnswerTo inputs (Draw o) answer = IsTold inputs Picture o answer
 
 -- why a command with these options and inputs stops
 abbrev pub IsCommandStop : (List ℕ → Option (List ℕ)) → Options → Stop → Type 0
@@ -90,7 +92,8 @@ IsCommandStop inputs (Judge o) stop = IsJudgeStop inputs o stop
 IsCommandStop inputs (Trials o) stop = stop ≡ Fault fault.OutOfMemory
 IsCommandStop inputs (Live o) stop = IsLiveStop inputs o stop
 IsCommandStop inputs (Replay o) stop = IsReplayStop inputs o stop
-IsCommandStop inputs (Explain o) stop = IsExplainStop inputs o stop
+IsCommandStop inputs (Explain o) stop = IsTellingStop inputs o stop
+IsCommandStop inputs (Draw o) stop = IsTellingStop inputs o stop
 
 -- what clap says goes to standard error: it is neither help nor the version
 abbrev pub IsMistake : Error → Type 0

@@ -5,7 +5,6 @@ ghost use Rattle.answers.specs.declared.answer.Answer.{Answer};
 ghost use Rattle.commands.specs.declared.stop.Stop.{Stop};
 ghost use Rattle.commands.specs.Perform.{IsAnswered, IsFaultOf, IsHelp, IsPrinted, IsOptionStop, IsStop};
 
-use crate::explain_command::explain_command;
 use crate::fault::CommandFault;
 use crate::judge_command::judge_command;
 use crate::live_command::live_command;
@@ -14,10 +13,12 @@ use crate::refusal::option_line;
 use crate::replay_command::replay_command;
 use crate::run_command::run_command;
 use crate::stop::Stop;
+use crate::tell_command::tell_command;
 use crate::trials_command::trials_command;
 use answers::{Answer, DONE, REFUSED};
 use command_line::words::options;
 use command_line::{OptionFault, Options};
+use explanation::Telling;
 use std::alloc::Global;
 use std::io;
 use std::io::Write;
@@ -61,7 +62,8 @@ fn answered<R: Threads + Wait + Sync, P: Place>(
         Ok(Options::Trials(trials)) => trials_command(rt, alloc, &trials, place),
         Ok(Options::Live(live)) => live_command(rt, alloc, &live, place),
         Ok(Options::Replay(options)) => replay_command(alloc, &options, place),
-        Ok(Options::Explain(options)) => explain_command(alloc, &options, place),
+        Ok(Options::Explain(options)) => tell_command(alloc, Telling::Words, &options, place),
+        Ok(Options::Draw(options)) => tell_command(alloc, Telling::Picture, &options, place),
         Err(fault) => without_options(alloc, fault),
     }
 }

@@ -1,9 +1,12 @@
--- What is known of a number past the last event.
-use Rattle.std.proofs.Common.{◌≡◌, ◌≤◌, ℕ, ap}
+-- What is known of a number past the last event, and of places.
+use Rattle.std.proofs.Common.{◌≡◌, ◌≤◌, ℕ, inl, inr, List, [], ◌∷◌, length, ap, arith}
+use Rattle.std.proofs.lemmas.Bool.{cases_eq}
 use Rattle.std.proofs.lemmas.List.{get_or_past}
 use Rattle.recorder.specs.declared.event.Event.{Event}
 use Rattle.recorder.specs.declared.event.Event.TheVariants.{F}
 use Rattle.recorder.specs.Execution.{Execution, placed_from, event_count, event_at, core_of}
+use Rattle.recorder.specs.Order.{place}
+use Rattle.recorder.specs.OrderLaws.{place_nil, place_here, place_there}
 
 -- it is a fence
 pub past_event : (x : Execution) (e : ℕ) → event_count x ≤ e → event_at x e ≡ F
@@ -16,3 +19,11 @@ pub past_core : (x : Execution) (e : ℕ) → event_count x ≤ e → core_of x 
 unfolding core_of event_count
 past_core x e past =
     ap (λ (p : ℕ × Event). p.0) (get_or_past (placed_from 0 x.cores) e (0, F) past)
+
+-- a place is one of the list, or its length
+pub place_inside : (list : List ℕ) (e : ℕ) → place list e ≤ length list
+place_inside [] e = omega (arith, place_nil e)
+place_inside (f ∷ rest) e = elim (cases_eq f e) [
+  | inl same ↦ omega (arith, place_here rest f e same)
+  | inr other ↦ omega (arith, place_there rest f e other, place_inside rest e)
+]

@@ -1,7 +1,8 @@
 -- A text that is added piece by piece.
-use Rattle.std.proofs.Common.{◌≡◌, ◌++◌, ℕ, List, Result, Ok, Err, ap, ◌∙◌}
+use Rattle.std.proofs.Common.{◌≡◌, ◌++◌, ◌+◌, ℕ, suc, List, Result, Ok, Err, ap, arith, ◌∙◌}
 use Rattle.std.specs.Prelude.{OnOk}
 use Rattle.std.proofs.lemmas.List.{append_assoc}
+use Rattle.explanation.specs.Nodes.{texts_below}
 
 -- what follows for an `Ok`
 pub on_ok : {X E : Type 0} (r : Result X E) (P Q : Type 0) → (P → Q) → OnOk r P → OnOk r Q
@@ -40,3 +41,10 @@ pub five_last : {X E : Type 0} (x : Result X E) (o p q r s t a b c d e : List �
     → r ≡ q ++ c → s ≡ r ++ d → OnOk x (t ≡ s ++ e) → OnOk x (t ≡ o ++ (a ++ b ++ c ++ d ++ e))
 five_last x o p q r s t a b c d e h i j k =
     two_last x o s t (a ++ b ++ c ++ d) e (four o p q r s a b c d h i j k)
+
+-- the texts of one number more
+pub next_text : (f : ℕ → List ℕ) (i : ℕ) (o p q : List ℕ) → p ≡ o ++ texts_below f i → q ≡ p ++ f i
+    → q ≡ o ++ texts_below f (i + 1)
+next_text f i o p q h k =
+    let next : suc i ≡ i + 1 = omega arith in
+    two o p q (texts_below f i) (f i) h k ∙ ap (λ (n : ℕ). o ++ texts_below f n) next

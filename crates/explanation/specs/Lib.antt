@@ -4,3 +4,8 @@ pub mod Overlook
 pub mod Order
 pub mod Program
 pub mod Explanation
+pub mod Edges
+pub mod Bold
+pub mod Nodes
+pub mod Drawing
+pub mod Telling

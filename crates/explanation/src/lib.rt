@@ -1,14 +1,22 @@
-//! Verdicts in words, an event a line, and whether a recording is one of a program.
+//! Verdicts in words, an event a line, and as pictures, and whether a recording is one of a program.
 #![tactic(auto)]
 
+mod bold;
 mod cycle;
+mod drawing;
+mod edge_lines;
+mod edges;
 mod events;
 mod lines;
 mod memory_order;
+mod nodes;
 mod numbers;
 mod overlook;
 mod program;
+mod telling;
 mod words;
 
+pub use drawing::drawing_text;
 pub use program::is_program_of;
+pub use telling::{Telling, telling_text};
 pub use words::explanation_text;

@@ -7,4 +7,5 @@ returns c =
     let trials = c.with-trials.ensures _ _ judge c.trials.ensures in
     let live = c.with-live.ensures _ _ trials c.live.ensures in
     let replay = c.with-replay.ensures _ _ live c.replay.ensures in
-    c.with.ensures _ _ replay c.explain.ensures
+    let explain = c.with-explain.ensures _ _ replay c.explain.ensures in
+    c.with.ensures _ _ explain c.draw.ensures

@@ -1,6 +1,6 @@
 use Rattle.std.proofs.Common.{map, sym}
 use Rattle.std.specs.Prelude.{string_bytes}
-use Rattle.command_line.specs.declared.options.Options.TheVariants.{Run, Judge, Trials, Live, Replay, Explain}
+use Rattle.command_line.specs.declared.options.Options.TheVariants.{Run, Judge, Trials, Live, Replay, Explain, Draw}
 use Rattle.command_line.specs.Commands.{command_of}
 use Rattle.commands.proofs.Asked.{judge_workers, trials_rows}
 use Rattle.commands.proofs.Printed.{answer_of_words, stop_of_words}
@@ -48,13 +48,23 @@ returns-in-Ok-Replay-clause-err g c = stop_of_words (g.P.Place.bytes c.args.plac
 
 pub returns-in-Ok-Explain-clause-ok : goal.returns-in-Ok-Explain-clause-ok
 returns-in-Ok-Explain-clause-ok g c = answer_of_words (g.P.Place.bytes c.args.place.now)
-    c.explain_command.result (Explain c.in-Ok-Explain.options) (map string_bytes c.args.words.now)
-    (rw (sym c.in-Ok-Explain.field-0-is) c.in-Ok-Explain.ensures.ok) c.explain_command.ensures.ok
+    c.tell_command.result (Explain c.in-Ok-Explain.options) (map string_bytes c.args.words.now)
+    (rw (sym c.in-Ok-Explain.field-0-is) c.in-Ok-Explain.ensures.ok) c.tell_command.ensures.ok
 
 pub returns-in-Ok-Explain-clause-err : goal.returns-in-Ok-Explain-clause-err
 returns-in-Ok-Explain-clause-err g c = stop_of_words (g.P.Place.bytes c.args.place.now)
-    c.explain_command.result (Explain c.in-Ok-Explain.options) (map string_bytes c.args.words.now)
-    (rw (sym c.in-Ok-Explain.field-0-is) c.in-Ok-Explain.ensures.ok) c.explain_command.ensures.err
+    c.tell_command.result (Explain c.in-Ok-Explain.options) (map string_bytes c.args.words.now)
+    (rw (sym c.in-Ok-Explain.field-0-is) c.in-Ok-Explain.ensures.ok) c.tell_command.ensures.err
+
+pub returns-in-Ok-Draw-clause-ok : goal.returns-in-Ok-Draw-clause-ok
+returns-in-Ok-Draw-clause-ok g c = answer_of_words (g.P.Place.bytes c.args.place.now)
+    c.tell_command-in-Ok-Draw.result (Draw c.in-Ok-Draw.options) (map string_bytes c.args.words.now)
+    (rw (sym c.in-Ok-Draw.field-0-is) c.in-Ok-Draw.ensures.ok) c.tell_command-in-Ok-Draw.ensures.ok
+
+pub returns-in-Ok-Draw-clause-err : goal.returns-in-Ok-Draw-clause-err
+returns-in-Ok-Draw-clause-err g c = stop_of_words (g.P.Place.bytes c.args.place.now)
+    c.tell_command-in-Ok-Draw.result (Draw c.in-Ok-Draw.options) (map string_bytes c.args.words.now)
+    (rw (sym c.in-Ok-Draw.field-0-is) c.in-Ok-Draw.ensures.ok) c.tell_command-in-Ok-Draw.ensures.err
 
 pub returns-in-Ok-Trials-clause-ok : goal.returns-in-Ok-Trials-clause-ok
 returns-in-Ok-Trials-clause-ok g c = answer_of_words (g.P.Place.bytes c.args.place.now)

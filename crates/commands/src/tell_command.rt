@@ -1,9 +1,9 @@
-//! The command `explain`.
+//! The commands `explain` and `draw`.
 ghost use Rattle.std.specs.Prelude.{IfErr, IfOk, Ok, Some, length};
 ghost use Rattle.litmus.specs.AddressNames.{address_names};
 ghost use Rattle.recorder.specs.Reading.{IsReadingResult};
-ghost use Rattle.answers.specs.Explained.{IsExplainedAnswer};
-ghost use Rattle.commands.specs.Explain.{AreNamesIn, IsExplained, IsExplainedBy, IsExplainStop, IsNamesStop};
+ghost use Rattle.answers.specs.Told.{IsToldAnswer};
+ghost use Rattle.commands.specs.Tell.{AreNamesIn, IsTold, IsToldBy, IsTellingStop, IsNamesStop};
 ghost use Rattle.commands.specs.Judge.{IsUnread};
 
 use crate::judge_command::unread;
@@ -11,9 +11,9 @@ use crate::place::Place;
 use crate::reading::text_at;
 use crate::run_command::program_of;
 use crate::stop::Stop;
-use answers::{Answer, explained_answer};
+use answers::{Answer, told_answer};
 use command_line::ExplainOptions;
-use explanation::is_program_of;
+use explanation::{Telling, is_program_of};
 use litmus::{OutOfMemory, Program, address_names};
 use recorder::{Recording, read_recording};
 use std::alloc::Global;
@@ -48,43 +48,49 @@ fn program_at<P: Place>(
     Ok(program)
 }
 
-/// The verdict on a recording in words, with the names that its program gives the addresses.
+/// The verdict on a recording, told so, with the names that its program gives the addresses.
 fn named_answer<P: Place>(
     alloc: Global,
+    telling: Telling,
     recording: &Recording,
     name: &str,
     place: &mut P,
 ) -> Result<Answer, Stop>
-    ensures ok { IfOk result (IsExplainedBy (P.bytes place.old) recording.now (Some name.now)) }
+    ensures ok { IfOk result (IsToldBy (P.bytes place.old) telling recording.now (Some name.now)) }
     ensures err { IfErr result (IsNamesStop (P.bytes place.old) recording.now (Some name.now)) }
 {
     let program = program_at(alloc, recording, name, place)?;
-    Ok(explained_answer(alloc, recording, program.names())?)
+    Ok(told_answer(alloc, telling, recording, program.names())?)
 }
 
-/// The verdict on a recording in words, with the usual names of the addresses.
-fn unnamed_answer(alloc: Global, recording: &Recording) -> Result<Answer, OutOfMemory>
-    ensures { IfOk result (IsExplainedAnswer recording.now
+/// The verdict on a recording, told so, with the usual names of the addresses.
+fn unnamed_answer(
+    alloc: Global,
+    telling: Telling,
+    recording: &Recording,
+) -> Result<Answer, OutOfMemory>
+    ensures { IfOk result (IsToldAnswer telling recording.now
         (address_names (length recording.now.write_lists))) }
 {
     recording.sound();
     let names = address_names(alloc, recording.addresses())?;
-    explained_answer(alloc, recording, &names)
+    told_answer(alloc, telling, recording, &names)
 }
 
-/// Explains the recording of a named input; it is read before the program is opened.
-pub fn explain_command<P: Place>(
+/// Tells the verdict on the recording of a named input; it is read before the program is opened.
+pub fn tell_command<P: Place>(
     alloc: Global,
+    telling: Telling,
     options: &ExplainOptions,
     place: &mut P,
 ) -> Result<Answer, Stop>
-    ensures ok { IfOk result (IsExplained (P.bytes place.old) options.now) }
-    ensures err { IfErr result (IsExplainStop (P.bytes place.old) options.now) }
+    ensures ok { IfOk result (IsTold (P.bytes place.old) telling options.now) }
+    ensures err { IfErr result (IsTellingStop (P.bytes place.old) options.now) }
 {
     let bytes = text_at(alloc, place, options.file.as_str())?;
     let recording = recording_of(alloc, bytes.as_slice())?;
     match &options.program {
-        Some(name) => named_answer(alloc, &recording, name.as_str(), place),
-        None => Ok(unnamed_answer(alloc, &recording)?),
+        Some(name) => named_answer(alloc, telling, &recording, name.as_str(), place),
+        None => Ok(unnamed_answer(alloc, telling, &recording)?),
     }
 }

@@ -1,4 +1,4 @@
--- What is answered to a recording that is to be explained.
+-- What is answered to a recording whose verdict is to be told, in words or as a picture.
 use Rattle.std.specs.Prelude.{◌≡◌, ◌⊎◌, ◌++◌, ◌∷◌, [], ℕ, List, Option, Some, None, Ok, codes, length}
 use Rattle.std.specs.Prelude.{option_map, string_bytes}
 use Rattle.litmus.specs.declared.name.Name.{Name}
@@ -7,10 +7,11 @@ use Rattle.litmus.specs.Parts.{Parts}
 use Rattle.litmus.specs.Text.{reading}
 use Rattle.recorder.specs.Execution.{Execution}
 use Rattle.recorder.specs.Reading.{IsReadingResult}
+use Rattle.explanation.specs.declared.telling.Telling.{Telling}
 use Rattle.explanation.specs.Program.{IsProgramOf}
 use Rattle.command_line.specs.declared.options.ExplainOptions.{ExplainOptions}
 use Rattle.answers.specs.declared.answer.Answer.{Answer}
-use Rattle.answers.specs.Explained.{IsExplainedAnswer}
+use Rattle.answers.specs.Told.{IsToldAnswer}
 use Rattle.commands.specs.declared.stop.Stop.{Stop}
 use Rattle.commands.specs.declared.stop.Stop.TheVariants.{Refused, Fault}
 use Rattle.commands.specs.declared.fault.CommandFault.TheVariants.{OutOfMemory}
@@ -33,21 +34,21 @@ abbrev pub AreNamesBy : (List ℕ → Option (List ℕ)) → Execution → Optio
 AreNamesBy inputs x (Some name) names = AreNamesIn inputs x name names
 AreNamesBy inputs x None names = names ≡ address_names (length x.write_lists)
 
--- the answer of a recording in words, with its names
-pub record IsExplainedBy (inputs : List ℕ → Option (List ℕ)) (x : Execution) (program : Option (List ℕ))
-    (answer : Answer) : Type 0 where
+-- the verdict on a recording, told so, with its names
+pub record IsToldBy (inputs : List ℕ → Option (List ℕ)) (telling : Telling) (x : Execution)
+    (program : Option (List ℕ)) (answer : Answer) : Type 0 where
   pub names : List Name
   pub named : AreNamesBy inputs x program names
-  pub answered : IsExplainedAnswer x names answer
+  pub answered : IsToldAnswer telling x names answer
 
--- the verdict on the recording of the named input, in words
-pub record IsExplained (inputs : List ℕ → Option (List ℕ)) (o : ExplainOptions) (answer : Answer)
-    : Type 0 where
+-- the verdict on the recording of the named input, told so
+pub record IsTold (inputs : List ℕ → Option (List ℕ)) (telling : Telling) (o : ExplainOptions)
+    (answer : Answer) : Type 0 where
   pub bytes : List ℕ
   pub given : AreBytesOf inputs (string_bytes o.file) bytes
   pub recording : Execution
   pub read : IsReadingResult bytes (Ok recording)
-  pub explained : IsExplainedBy inputs recording (option_map string_bytes o.program) answer
+  pub told : IsToldBy inputs telling recording (option_map string_bytes o.program) answer
 
 -- the line of a program of which the recording is none, or memory is wanting
 abbrev pub IsOtherStop : Stop → Type 0
@@ -64,7 +65,7 @@ pub record IsOther (inputs : List ℕ → Option (List ℕ)) (x : Execution) (na
   pub other : ¬ IsProgramOf program x
   pub stopped : IsOtherStop stop
 
--- why a recording that is read is not explained: its program is refused or isn't read, or is another one
+-- why the verdict on a recording that is read is not told: its program is refused or isn't read, or is another one
 abbrev pub IsNamesStop : (List ℕ → Option (List ℕ)) → Execution → Option (List ℕ) → Stop → Type 0
 IsNamesStop inputs x (Some name) stop = IsProgramStop inputs name stop ⊎ IsOther inputs x name stop
 IsNamesStop inputs x None stop = stop ≡ Fault OutOfMemory
@@ -78,7 +79,7 @@ pub record IsStoppedByNames (inputs : List ℕ → Option (List ℕ)) (o : Expla
   pub read : IsReadingResult bytes (Ok recording)
   pub stops : IsNamesStop inputs recording (option_map string_bytes o.program) stop
 
--- why there is no explanation: the recording is not read, and then no program is opened, or its program
-abbrev pub IsExplainStop : (List ℕ → Option (List ℕ)) → ExplainOptions → Stop → Type 0
-IsExplainStop inputs o stop = IsRecordingStop inputs (string_bytes o.file) stop
+-- why no verdict is told: the recording is not read, and then no program is opened, or its program
+abbrev pub IsTellingStop : (List ℕ → Option (List ℕ)) → ExplainOptions → Stop → Type 0
+IsTellingStop inputs o stop = IsRecordingStop inputs (string_bytes o.file) stop
     ⊎ IsStoppedByNames inputs o stop
