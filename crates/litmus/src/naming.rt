@@ -12,17 +12,11 @@ use itoa::Buffer;
 use std::alloc::Global;
 
 /// The name of an address: the letter a, and its number.
-pub(crate) fn address_name(alloc: Global, number: Addr) -> Result<Name, OutOfMemory>
-    ensures { IfOk result (λ name. name ≡ address_name number) }
+pub(crate) fn address_name(number: Addr) -> Name
+    ensures { result ≡ address_name number }
 {
     let mut buffer = Buffer::new();
-    let mut text = Vec::new(alloc);
-    text.push(b'a')?;
-    text.extend_from_slice(buffer.format(number).as_bytes())?;
-    match Name::new(&text) {
-        Some(name) => Ok(name),
-        None => unreachable!(),
-    }
+    Name::of_parts(b'a', buffer.format(number).as_bytes())
 }
 
 /// The names of so many addresses, at most `MAX_ADDRESSES`: the letter a, and their numbers from 0. An
@@ -33,8 +27,7 @@ pub fn address_names(alloc: Global, count: usize) -> Result<IndexSet<Name>, OutO
 {
     let mut names = IndexSet::new(alloc);
     for number in 0..count {
-        let name = address_name(alloc, number as Addr)?;
-        let _new = names.insert(name)?;
+        let _new = names.insert(address_name(number as Addr))?;
     }
     Ok(names)
 }

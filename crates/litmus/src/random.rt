@@ -42,7 +42,6 @@ fn drawn_op(word: u64, event: usize, addr: Addr) -> Op
 
 /// Adds the operation of event `event` that a word makes.
 fn add_word(
-    alloc: Global,
     builder: &mut Builder,
     addresses: usize,
     event: usize,
@@ -57,7 +56,7 @@ fn add_word(
     if word % 8 == 6 {
         return builder.add(Op::Fence);
     }
-    let name = address_name(alloc, (word / 16 % addresses as u64) as Addr)?;
+    let name = address_name((word / 16 % addresses as u64) as Addr);
     let (addr, _) = builder.names.insert_full(name)?;
     builder.add(drawn_op(word, event, addr as Addr))?;
     Ok(())
@@ -87,7 +86,7 @@ fn add_core(
     builder.add_core(alloc)?;
     for i in 0..shape.ops() {
         let word = rng.next_word();
-        add_word(alloc, builder, shape.addresses(), first + i, word)?;
+        add_word(builder, shape.addresses(), first + i, word)?;
     }
     Ok(())
 }

@@ -1,26 +1,17 @@
-use Rattle.std.proofs.Common.{◌≡◌, ◌∙◌, ◌++◌, ◌∷◌, [], ℕ, List, Some, None, ap, sym, arith, codes, decimal}
-use Rattle.litmus.specs.Names.{name_of}
-use Rattle.litmus.specs.AddressNames.{address_name}
-use Rattle.litmus.specs.AddressNameLaws.{name_is, some_name}
+use Rattle.std.proofs.Common.{ℕ, ◌≤◌, ◌∷◌, ◌∙◌, List, length, ap, arith, decimal, subst, sym}
+use Rattle.std.proofs.lemmas.Fmt.{length-decimal-le}
+use Rattle.litmus.specs.declared.name.Name.{Name}
+use Rattle.litmus.specs.Names.{padded}
 use Rattle.litmus.proofs.naming.address_name.Goals as goal
 
-pub unreachable-requires : goal.unreachable-requires
-unreachable-requires c =
-    let text : c.deref.result.now ≡ codes "a" ++ decimal c.args.number =
-    c.deref.ensures.value ∙ (c.in_ok-extend_from_slice.ensures.items
-    ∙ (ap (λ (l : List ℕ). l ++ c.as_bytes.result.now)
-    (c.in_ok-push.ensures.items ∙ ap (λ (l : List ℕ). l ++ 97 ∷ []) c.new-text.ensures.items)
-    ∙ ap (λ (l : List ℕ). 97 ∷ l) (c.as_bytes.ensures.value ∙ c.format.ensures.text))) in
-    let clash : Some (address_name c.args.number) ≡ None =
-    sym (name_is c.args.number (omega (arith, c.ranges.number.fits)))
-    ∙ (ap name_of (sym text) ∙ (sym c.new.ensures ∙ c.in-None.is)) in cc
+pub of_parts-requires : goal.of_parts-requires
+of_parts-requires c =
+    subst (λ (text : List ℕ). length text ≤ 7) (sym (c.as_bytes.ensures.value ∙ c.format.ensures.text))
+    (length-decimal-le 7 c.args.number (omega arith) (omega (arith, c.ranges.number.fits))
+    (omega (arith, c.ranges.number.fits)))
 
 pub returns : goal.returns
 returns c =
-    let text : c.deref.result.now ≡ codes "a" ++ decimal c.args.number =
-    c.deref.ensures.value ∙ (c.in_ok-extend_from_slice.ensures.items
-    ∙ (ap (λ (l : List ℕ). l ++ c.as_bytes.result.now)
-    (c.in_ok-push.ensures.items ∙ ap (λ (l : List ℕ). l ++ 97 ∷ []) c.new-text.ensures.items)
-    ∙ ap (λ (l : List ℕ). 97 ∷ l) (c.as_bytes.ensures.value ∙ c.format.ensures.text))) in
-    some_name (sym c.in-Some.is ∙ (c.new.ensures
-    ∙ (ap name_of text ∙ name_is c.args.number (omega (arith, c.ranges.number.fits)))))
+    c.of_parts.ensures
+    ∙ ap (λ (text : List ℕ). let name : Name = record { bytes = padded (97 ∷ text) } in name)
+    (c.as_bytes.ensures.value ∙ c.format.ensures.text)
