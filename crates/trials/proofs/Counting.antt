@@ -1,8 +1,37 @@
--- One length more is counted.
-use Rattle.std.proofs.Common.{◌≡◌, ◌≢◌, ℕ, suc, ◌+◌, ◌==◌, List, [], ◌∷◌, ◌++◌, true, false, count_by, refl}
-use Rattle.std.proofs.Common.{arith, sym, ap, ◌∙◌, eq-eqb, ne_eqb}
-use Rattle.std.proofs.lemmas.List.{append-nil}
-use Rattle.trials.specs.Counts.{counted, cycles_below, is_cycle_of}
+-- One code or one length more is counted.
+use Rattle.std.proofs.Common.{◌≡◌, ◌≢◌, ℕ, suc, ◌+◌, ◌==◌, ◌<◌, ◌≤◌, List, [], ◌∷◌, ◌++◌, true, false}
+use Rattle.std.proofs.Common.{arith, sym, ap, ◌∙◌, eq-eqb, ne_eqb, count_by, refl, take, replicate, length}
+use Rattle.std.proofs.Common.{get_or, inl, inr}
+use Rattle.std.proofs.lemmas.Bool.{cases_Bool}
+use Rattle.std.proofs.lemmas.List.{append-nil, get_or-replicate, length-take}
+use Rattle.std.proofs.lemmas.List.Sums.{count_by_more_no, count_by_more_yes, count_by-le-length}
+use Rattle.litmus.specs.declared.limits.TheConstants.{MAX_EVENTS}
+use Rattle.trials.specs.Counts.{AreCounts, count_with, counted, cycles_below, is_cycle_of}
+
+-- of no code
+pub none_yet : (codes : List ℕ) (size : ℕ) → MAX_EVENTS < size → AreCounts (take 0 codes) (replicate size 0)
+none_yet codes size large n within = get_or-replicate size n 0 0 (omega (arith, large, within))
+
+-- of one code more
+pub one_code : (codes old new : List ℕ) (i : ℕ) → i < length codes → AreCounts (take i codes) old
+    → ((n : ℕ) → n ≤ MAX_EVENTS → get_or new n 0 ≡ count_with n (get_or codes i 0) (get_or old n 0))
+    → AreCounts (take (i + 1) codes) new
+one_code codes old new i at so_far with_it n within = with_it n within ∙ elim (cases_Bool (is_cycle_of n
+    (get_or codes i 0))) [
+      | inl same ↦ rw same (ap (λ (c : ℕ). c + 1) (so_far n within)
+          ∙ sym (count_by_more_yes (is_cycle_of n) codes i 0 at same))
+      | inr other ↦ rw other (so_far n within ∙ sym (count_by_more_no (is_cycle_of n) codes i 0 at other))
+    ]
+
+-- no more than there are codes
+pub few_counted : (codes counts : List ℕ) (i : ℕ) → AreCounts (take i codes) counts → (n : ℕ)
+    → n ≤ MAX_EVENTS → get_or counts n 0 ≤ i
+few_counted codes counts i are n within = omega (
+  arith,
+  are n within,
+  count_by-le-length (is_cycle_of n) (take i codes),
+  length-take i codes,
+)
 
 -- where there is none, nothing is added
 pub none_counted : (l : List (ℕ × ℕ)) (n c : ℕ) → c ≡ 0 → l ≡ l ++ counted n c

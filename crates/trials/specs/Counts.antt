@@ -1,6 +1,6 @@
 -- What a ledger counts.
 use Rattle.std.specs.Prelude.{◌≡◌, ◌+◌, ◌==◌, ◌&&◌, ℕ, zero, suc, Bool, not, nat_le, List, [], ◌∷◌, ◌++◌}
-use Rattle.std.specs.Prelude.{length, count_by, position, if◌then◌else◌}
+use Rattle.std.specs.Prelude.{length, count_by, position, slice_index, ◌≤◌, if◌then◌else◌}
 use Rattle.litmus.specs.declared.limits.TheConstants.{MAX_EVENTS}
 use Rattle.trials.specs.declared.code.TheConstants.{UNFINISHED, ORDERED, CYCLE, OVERLOOK}
 use Rattle.trials.specs.declared.ledger.Ledger.{Ledger}
@@ -16,6 +16,15 @@ is_overlook code = nat_le OVERLOOK code
 -- the code of neither an order nor an unfinished run
 abbrev pub is_violation : ℕ → Bool
 is_violation code = not (code == UNFINISHED) && not (code == ORDERED)
+
+-- for each length how many of the codes are those of a cycle of it
+abbrev pub AreCounts : List ℕ → List ℕ → Type 0
+AreCounts codes counts = (n : ℕ) → n ≤ MAX_EVENTS
+    → slice_index counts n ≡ count_by (is_cycle_of n) codes
+
+-- how many codes are those of a cycle of length n, with one code more
+abbrev pub count_with : ℕ → ℕ → ℕ → ℕ
+count_with n code count = if is_cycle_of n code then count + 1 else count
 
 -- a length with its count, unless there is none
 abbrev pub counted : ℕ → ℕ → List (ℕ × ℕ)

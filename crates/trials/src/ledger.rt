@@ -1,7 +1,9 @@
 //! Ledgers.
 
-ghost use Rattle.std.specs.Prelude.{◌≡◌, ◌≤◌, ◌+◌, ◌++◌, ◌==◌, IfOk, OnOk, count_by, length, position};
-ghost use Rattle.trials.specs.Counts.{counted, cycles_below, is_overlook, is_violation};
+ghost use Rattle.std.specs.Prelude.{◌≡◌, ◌≤◌, ◌<◌, ◌+◌, ◌^◌, ◌++◌, ◌==◌, ℕ, IfOk, OnOk};
+ghost use Rattle.std.specs.Prelude.{count_by, length, position, slice_index};
+ghost use Rattle.trials.specs.Counts.{AreCounts, count_with, counted, cycles_below, is_overlook};
+ghost use Rattle.trials.specs.Counts.{is_violation};
 
 use crate::code::{CYCLE, ORDERED, OVERLOOK, UNFINISHED};
 use litmus::{MAX_EVENTS, OutOfMemory};
@@ -85,14 +87,37 @@ fn add_count(
     Ok(())
 }
 
+/// Counts a code, where it is that of a cycle, among those of its length.
+fn count_code(counts: &mut [usize; MAX_EVENTS + 1], code: u64)
+    requires { (n : ℕ) → n ≤ MAX_EVENTS → slice_index counts.old n + 1 < 2 ^ 64 }
+    ensures { (n : ℕ) → n ≤ MAX_EVENTS
+        → slice_index counts.new n ≡ count_with n code (slice_index counts.old n) }
+{
+    let length = code.wrapping_sub(CYCLE);
+    if length <= MAX_EVENTS as u64 {
+        counts[length as usize] += 1;
+    }
+}
+
+/// How many codes are those of a cycle, for each length.
+fn counts_of(codes: &[u64]) -> [usize; MAX_EVENTS + 1]
+    ensures { AreCounts codes.now result }
+{
+    let mut counts = [0; MAX_EVENTS + 1];
+    for code in codes {
+        count_code(&mut counts, *code);
+    }
+    counts
+}
+
 /// The lengths of cycles, each with how many there are.
 fn cycle_counts(alloc: Global, codes: &[u64]) -> Result<Vec<(usize, usize)>, OutOfMemory>
     ensures { IfOk result (λ v. v.items ≡ cycles_below codes.now (MAX_EVENTS + 1)) }
 {
+    let counts = counts_of(codes);
     let mut cycles = Vec::new(alloc);
     for length in 0..MAX_EVENTS + 1 {
-        let count = count_of(codes, CYCLE + length as u64);
-        add_count(&mut cycles, length, count)?;
+        add_count(&mut cycles, length, counts[length])?;
     }
     Ok(cycles)
 }
