@@ -2,7 +2,7 @@
 use Rattle.std.specs.Prelude.{◌≡◌, ◌++◌, ◌∷◌, ℕ, List, if◌then◌else◌, is_some, nat_lt}
 use Rattle.litmus.specs.Spelling.{spelling}
 use Rattle.machine.specs.Configuration.{Configuration}
-use Rattle.report.specs.Campaign.{campaign_text}
+use Rattle.answers.specs.CampaignText.{campaign_text}
 use Rattle.trials.specs.declared.ledger.Ledger.{Ledger}
 use Rattle.trials.specs.Campaigns.{Plan}
 use Rattle.trials.specs.Codes.{AreCodes, EndsIn, program_of_trial}

@@ -1,4 +1,5 @@
 pub mod Verdict
 pub mod Told
 pub mod Run
+pub mod CampaignText
 pub mod Campaign

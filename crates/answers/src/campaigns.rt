@@ -4,9 +4,9 @@ ghost use Rattle.std.specs.Prelude.{◌≡◌, ◌<◌, ◌≤◌, ◌++◌, ◌
 ghost use Rattle.answers.specs.Campaign.{IsCampaignAnswer, IsShownAnswer, campaign_status};
 
 use crate::answer::{Answer, DONE, UNFINISHED, VIOLATION};
+use crate::ledger_text::campaign_text;
 use crate::runs::finished;
 use litmus::{Gate, MAX_WORKERS, OutOfMemory, print};
-use report::campaign_text;
 use std::alloc::Global;
 use std::sync::Wait;
 use std::thread::Threads;

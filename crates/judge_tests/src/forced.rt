@@ -1,10 +1,10 @@
 //! The reasons of forced pairs.
 
 use crate::recordings::{
-    BYPASSING, EventLists, FAILED_SWAPS, LOAD_AND_STORE, SELF_SOURCE, TWIN_SWAPS, related,
+    BYPASSING, EventLists, FAILED_SWAPS, LOAD_AND_STORE, SELF_SOURCE, TWIN_SWAPS, recorded, related,
 };
 use litmus::EventId;
-use relations::Reason;
+use relations::{Reason, first_reason};
 use std::alloc::Global;
 use std::test::Fail;
 
@@ -16,9 +16,9 @@ fn is_forced_by(
     second: EventId,
     reason: Option<Reason>,
 ) -> Result<bool, Fail> {
-    let relation = related(alloc, parts)?;
-    let forced = relation.forced(first, second);
-    Ok(relation.reason(first, second) == reason && forced == reason.is_some())
+    let forced = related(alloc, parts)?.forced(first, second);
+    let found = first_reason(&recorded(alloc, parts)?, first, second);
+    Ok(found == reason && forced == reason.is_some())
 }
 
 /// Pairs of events of recordings, and their reasons.

@@ -4,7 +4,6 @@
 #[cfg(test)]
 mod buffers;
 #[cfg(test)]
-mod faults;
 #[cfg(test)]
 mod gates;
 #[cfg(test)]

@@ -225,33 +225,3 @@ impl Caches {
         Ok(())
     }
 }
-
-#[cfg(test)]
-mod tests {
-    use super::*;
-
-    #[test]
-    fn a_word_has_its_value_its_event_and_its_state(rt: HostRuntime) -> Result<(), OutOfMemory> {
-        let mut caches = Caches::new(rt.alloc(), 3, 1)?;
-        assert_eq!(rt; caches.get_m(0, 0), Ok(()));
-        assert_eq!(rt; caches.write(0, 0, 7, 0), Ok(()));
-        assert_eq!(rt; caches.get_s(1, 0), Ok(()));
-        assert_eq!(rt; caches.put(0, 0), Ok(()));
-        assert_eq!(rt; caches.get_s(2, 0), Ok(()));
-        let words = [0, 281479271677959, 281479271677959, 4294967303];
-        assert_eq!(rt; caches.words.as_slice(), words.as_slice());
-        Ok(())
-    }
-
-    #[test]
-    fn memory_begins_with_its_values(rt: HostRuntime) -> Result<(), OutOfMemory> {
-        let caches = Caches::with_init(rt.alloc(), 2, &[7, 4294967295])?;
-        assert_eq!(rt; caches.memory(0), (7, None));
-        assert_eq!(rt; caches.memory(1), (4294967295, None));
-        assert_eq!(rt;
-            caches.words.as_slice(),
-            [0, 0, 0, 0, 7, 4294967295].as_slice()
-        );
-        Ok(())
-    }
-}

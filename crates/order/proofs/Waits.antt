@@ -2,12 +2,11 @@
 use Rattle.std.proofs.Common.{◌≡◌, ◌≢◌, ◌<◌, ◌≤◌, ◌+◌, ◌-◌, ◌⊎◌, inl, inr, ℕ, zero, suc, Bool, true, false}
 use Rattle.std.proofs.Common.{◌&&◌, eqb, replicate, List, [], ◌∷◌, ◌++◌, get_or, length, arith, refl, sym, ap}
 use Rattle.std.proofs.Common.{◌∙◌, subst}
-use Rattle.std.specs.Prelude.{is_some}
 use Rattle.std.proofs.lemmas.Bool.{cases_eq, cases_Bool, eq-eqb, ne_eqb}
 use Rattle.std.proofs.lemmas.List.{length-replicate, get_or-replicate}
 use Rattle.recorder.specs.Order.{times}
 use Rattle.recorder.specs.OrderLaws.{times_here, times_there, times_nil, times_append, cases_times}
-use Rattle.relations.specs.Relation.{Table, reason_at, Related}
+use Rattle.relations.specs.Relation.{Table, relates, Related}
 use Rattle.order.specs.Open.{waits, one_if, IsOpen}
 
 -- an event counts where both tests hold
@@ -29,7 +28,7 @@ unfolding waits
 waits_counts t p d e r none =
     let one : d + 1 ≡ suc d = omega arith in
     ap (λ (k : ℕ). waits t p k e) one ∙ ap (λ (k : ℕ). waits t p d e
-    + k) (step_counts (is_some (reason_at t d e)) (eqb (times p d) 0) r (eq-eqb (times p d) 0 none))
+    + k) (step_counts (relates t d e) (eqb (times p d) 0) r (eq-eqb (times p d) 0 none))
 
 -- any other does not
 pub waits_skips : (t : Table) (p : List ℕ) (d e : ℕ) → (Related t d e → 0 < times p d)
@@ -39,7 +38,7 @@ waits_skips t p d e h =
     let one : d + 1 ≡ suc d = omega arith in
     ap (λ (k : ℕ). waits t p k e) one ∙ omega (
       arith,
-      step_skips (is_some (reason_at t d e)) (eqb (times p d) 0)
+      step_skips (relates t d e) (eqb (times p d) 0)
           (λ r. ne_eqb (times p d) 0 (λ z. let some : 0 < times p d = h r in omega arith)),
     )
 
@@ -50,7 +49,7 @@ waits_zero t p e = refl
 
 -- two events are related, or not
 pub related_or_not : (t : Table) (d e : ℕ) → Related t d e ⊎ ¬ Related t d e
-related_or_not t d e = elim (cases_Bool (is_some (reason_at t d e))) [
+related_or_not t d e = elim (cases_Bool (relates t d e)) [
   | inl holds ↦ inl holds
   | inr fails ↦ inr (λ h. let no : false ≡ true = sym fails ∙ h in cc)
 ]
@@ -213,7 +212,7 @@ pub record IsReleased (t : Table) (v : ℕ) (old new : List ℕ) : Type 0 where
   pub size : length new ≡ length old
   pub own : get_or new v 0 ≡ 0
   pub others : (f : ℕ) → f < length old → f ≢ v
-      → get_or new f 0 ≡ get_or old f 0 - one_if (is_some (reason_at t v f))
+      → get_or new f 0 ≡ get_or old f 0 - one_if (relates t v f)
 
 -- one event more is placed
 pub open_more : (t : Table) (p : List ℕ) (v : ℕ) (old new : List ℕ) → v < length t → times p v ≡ 0
@@ -235,10 +234,10 @@ open_more t p v old new less none unplaced released = record {
   ];
 }
   where
-    waiting : (e : ℕ) → e ≢ v → get_or new e 0 ≡ get_or old e 0 - one_if (is_some (reason_at t v e))
+    waiting : (e : ℕ) → e ≢ v → get_or new e 0 ≡ get_or old e 0 - one_if (relates t v e)
         → get_or old e 0 ≡ waits t p (length t) e + 1
         → get_or new e 0 ≡ waits t (p ++ v ∷ []) (length t) e + 1
-    waiting e other after before = elim (cases_Bool (is_some (reason_at t v e))) [
+    waiting e other after before = elim (cases_Bool (relates t v e)) [
       | inl holds ↦ omega (
         arith,
         after,
@@ -286,11 +285,11 @@ counts_none t = record {
 
 -- one row more is counted
 pub counts_more : (t : Table) (d : ℕ) (old new : List ℕ) → AreCounts t d old → length new ≡ length old
-    → ((f : ℕ) → f < length old → get_or new f 0 ≡ get_or old f 0 + one_if (is_some (reason_at t d f)))
+    → ((f : ℕ) → f < length old → get_or new f 0 ≡ get_or old f 0 + one_if (relates t d f))
     → AreCounts t (d + 1) new
 counts_more t d old new were size more = record {
   size = size ∙ were.size;
-  counted = λ f h. elim (cases_Bool (is_some (reason_at t d f))) [
+  counted = λ f h. elim (cases_Bool (relates t d f)) [
     | inl holds ↦ omega (
       arith,
       were.counted f h,

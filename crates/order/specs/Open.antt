@@ -1,9 +1,9 @@
 -- How many events at or before each are still open, while an order grows.
 use Rattle.std.specs.Prelude.{◌≡◌, ◌↔◌, ◌<◌, ◌+◌, ◌==◌, ◌&&◌, ℕ, zero, suc, Bool, true, false, List, length}
-use Rattle.std.specs.Prelude.{slice_index, is_some}
+use Rattle.std.specs.Prelude.{slice_index}
 use Rattle.bitrow.specs.Bits.{is_in}
 use Rattle.recorder.specs.Order.{times}
-use Rattle.relations.specs.Relation.{Table, reason_at}
+use Rattle.relations.specs.Relation.{Table, relates}
 
 -- 1 where the test holds, else 0
 abbrev pub one_if : Bool → ℕ
@@ -14,7 +14,7 @@ one_if false = 0
 unfoldable pub waits : Table → List ℕ → ℕ → ℕ → ℕ
 waits t placed zero e = 0
 waits t placed (suc d) e = waits t placed d e
-    + one_if (is_some (reason_at t d e) && (times placed d == 0))
+    + one_if (relates t d e && (times placed d == 0))
 
 -- for each event, how many at or before it are not placed; none at or before a placed one
 pub record IsOpen (t : Table) (placed counts : List ℕ) : Type 0 where

@@ -28,8 +28,8 @@ impl Model for Waiting {
 
 impl Waiting {
     ghost use Rattle.std.specs.Prelude.{◌≡◌, ◌≢◌, ◌≤◌, ◌<◌, ◌-◌, ◌^◌, ℕ, [], IfOk, MatchOption, length};
-    ghost use Rattle.std.specs.Prelude.{slice_index, slice_set, is_some};
-    ghost use Rattle.relations.specs.Relation.{reason_at};
+    ghost use Rattle.std.specs.Prelude.{slice_index, slice_set};
+    ghost use Rattle.relations.specs.Relation.{relates};
     ghost use Rattle.order.specs.Open.{one_if, IsOpen, IsFreeSet};
 
     /// The set of the events that wait for no other.
@@ -96,7 +96,7 @@ impl Waiting {
         ensures size { length self.new ≡ length self.old }
         ensures own { slice_index self.new event ≡ 0 }
         ensures others { (f : ℕ) → f < length self.old → f ≢ event → slice_index self.new f
-            ≡ slice_index self.old f - one_if (is_some (reason_at relation.now event f)) }
+            ≡ slice_index self.old f - one_if (relates relation.now event f) }
     {
         relation.sound();
         let behind = &relation.successors()[event as usize];

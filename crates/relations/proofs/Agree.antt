@@ -1,5 +1,5 @@
 -- A table of the forced pairs relates the forced pairs.
-use Rattle.std.proofs.Common.{◌≡◌, ◌<◌, ◌↔◌, inl, inr, ℕ, true, false, Option, Some, None, List, [], length}
+use Rattle.std.proofs.Common.{◌≡◌, ◌<◌, ◌↔◌, inl, inr, ℕ, Bool, true, false, Option, Some, None, List, [], length}
 use Rattle.std.proofs.Common.{get_or, arith, refl, sym, ap, ◌∙◌}
 use Rattle.std.specs.Prelude.{is_some, All}
 use Rattle.std.proofs.lemmas.Bool.{cases_lt}
@@ -10,23 +10,27 @@ use Rattle.recorder.specs.EventLaws.{Reads-event, Writes-event}
 use Rattle.relations.specs.declared.reason.Reason.{Reason}
 use Rattle.relations.specs.declared.reason.Reason.TheVariants.{Po, Wo, Rf, Fr}
 use Rattle.relations.specs.Forced.{Holds, Forced, IsReason}
-use Rattle.relations.specs.Relation.{Table, reason_at, Related, IsTableOf}
+use Rattle.relations.specs.Filled.{Tells, AreFilled}
+use Rattle.relations.specs.Relation.{Table, relates, Related}
+use Rattle.bitrow.specs.Bits.{is_in}
+use Rattle.relations.proofs.Filled.{filled_tells}
+use Rattle.relations.proofs.Tables.{row_size}
 use Rattle.relations.proofs.Written.{writes_listed, source_writes, source_within}
 
--- where each row has as many reasons as there are rows, related numbers are numbers of rows
+-- where each row has a place for each row, related numbers are numbers of rows
 pub related_within : (t : Table) (n : ℕ) → length t ≡ n → All (λ row. length row ≡ n) t → (e f : ℕ)
     → Related t e f → (e < n) × (f < n)
 related_within t n size rows e f r = elim (cases_lt e (length t)) [
   | inl here ↦ elim (cases_lt f n) [
     | inl there ↦ (omega arith, there)
-    | inr past ↦ absurd (nothing (get_or_past (get_or t e []) f None (omega (arith, rows e [] here))))
+    | inr past ↦ absurd (nothing (get_or_past (get_or t e []) f false (omega (arith, rows e [] here))))
   ]
-  | inr past ↦ absurd (nothing (ap (λ (row : List (Option Reason)). get_or row f None)
-      (get_or_past t e [] past) ∙ get_or_past [] f None (omega arith)))
+  | inr past ↦ absurd (nothing (ap (λ (row : List Bool). is_in row f) (get_or_past t e [] past)
+      ∙ get_or_past {X = Bool} [] f false (omega arith)))
 ]
   where
-    nothing : reason_at t e f ≡ None → ⊥
-    nothing none = let no : false ≡ true = sym (ap is_some none) ∙ r in cc
+    nothing : relates t e f ≡ false → ⊥
+    nothing none = let no : false ≡ true = sym none ∙ r in cc
 
 -- forced pairs are pairs of events
 pub forced_within : (x : Execution) → IsWellFormed x → (reason : Reason) (e f : ℕ) → Holds x reason e f
@@ -51,14 +55,18 @@ no_reason : (x : Execution) (e f : ℕ) (o : Option Reason) → IsReason x e f o
 no_reason x e f None h forced = absurd (h forced)
 no_reason x e f (Some r) h forced = refl
 
--- the related pairs of a table of reasons are the forced pairs
-pub related_is_forced : (x : Execution) (t : Table) → IsWellFormed x → IsTableOf x t → (e f : ℕ)
+-- whether a pair has a reason tells whether it is forced
+pub reason_tells : (x : Execution) (e f : ℕ) (o : Option Reason) → IsReason x e f o → Tells x e f (is_some o)
+reason_tells x e f o h = (some_reason x e f o h, no_reason x e f o h)
+
+-- rows that are filled for all forced pairs relate these
+pub related_is_forced : (x : Execution) (t : Table) → IsWellFormed x → AreFilled x (Forced x) t → (e f : ℕ)
     → Related t e f ↔ Forced x e f
-related_is_forced x t wf table e f = (
+related_is_forced x t wf filled e f = (
   λ r.
-      let within = related_within t (event_count x) table.size table.rows e f r in
-      some_reason x e f (reason_at t e f) (table.reasons e f within.0 within.1) r,
+      let within = related_within t (event_count x) filled.size (row_size x (Forced x) t filled) e f r in
+      (filled_tells x e (get_or t e []) (filled.each e within.0) f).0 r,
   λ forced.
       let within = forced_within x wf forced.0 e f forced.1 in
-      no_reason x e f (reason_at t e f) (table.reasons e f within.0 within.1) forced,
+      (filled_tells x e (get_or t e []) (filled.each e within.0) f).1 forced,
 )

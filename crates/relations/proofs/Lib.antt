@@ -3,7 +3,6 @@ pub mod Written
 pub mod Exact
 pub mod Acyclic
 pub mod Tables
-pub mod Sets
 pub mod Agree
 pub mod Pairs
 pub mod Same

@@ -1,18 +1,16 @@
 -- Rows as the events that read are put into them.
-use Rattle.std.proofs.Common.{◌≡◌, ◌<◌, ◌+◌, ◌⊎◌, inl, inr, ℕ, Option, Some, None, List, [], get_or, set}
+use Rattle.std.proofs.Common.{◌≡◌, ◌<◌, ◌+◌, ◌⊎◌, inl, inr, ℕ, Bool, Option, Some, None, List, [], get_or, set}
 use Rattle.std.proofs.Common.{arith, sym, ap, subst, ◌∙◌, get_or-set_other, get_or-set_same, length-set}
 use Rattle.std.proofs.lemmas.Bool.{cases_eq}
 use Rattle.std.proofs.lemmas.List.{get_or_default}
 use Rattle.recorder.specs.Execution.{Execution, event_count, source_of}
 use Rattle.recorder.specs.Tso.{IsWellFormed}
 use Rattle.relations.specs.declared.placed.Placed.{Placed}
-use Rattle.relations.specs.declared.reason.Reason.{Reason}
-use Rattle.relations.specs.Forced.{Forced, IsReason}
+use Rattle.relations.specs.Forced.{Forced}
 use Rattle.relations.specs.Placed.{IsPlaced, ArePlaced}
-use Rattle.relations.specs.Filled.{IsFilledRow, IsOwnOrWrite, AreFilled}
+use Rattle.relations.specs.Filled.{IsPut, Tells, IsFilledRow, IsOwnOrWrite, AreFilled}
 use Rattle.relations.specs.Relation.{Table}
 use Rattle.relations.proofs.Written.{source_writes}
-use Rattle.relations.proofs.Tables.{row_size}
 use Rattle.relations.proofs.Filled.{filled_fewer, filled_more, forced_split}
 
 -- f is behind e on its core, a write that e is before, or an event below n that reads from e
@@ -28,6 +26,14 @@ rows_fewer x P Q rows fewer h =
       each = λ e at. filled_fewer x e (P e) (Q e) _ (get_or rows e []) (fewer e)
           (h.each e at);
     }
+
+-- before the first event no event that reads is in a row
+pub no_reader : (x : Execution) (rows : Table) → AreFilled x (IsOwnOrWrite x) rows
+    → AreFilled x (IsReached x 0) rows
+no_reader x rows h = rows_fewer x (IsOwnOrWrite x) (IsReached x 0) rows (λ e f q. elim q [
+  | inl own ↦ own
+  | inr reads ↦ absurd (omega (arith, reads.1))
+]) h
 
 -- after the last event each forced pair is in its row
 pub every_reader : (x : Execution) (n : ℕ) (rows : Table) → IsWellFormed x → event_count x ≡ n
@@ -56,31 +62,30 @@ source_placed x ps n d o placed at is =
     let here = placed.each n d (omega (arith, placed.size)) in
     ap (source_of x) (sym here.1) ∙ (sym here.0.source ∙ is)
 
--- the reason for one placed event before another is that for their numbers
-pub reason_placed : (x : Execution) (ps : List Placed) (e f : ℕ) (d k : Placed) (r : Option Reason)
+-- what is told of two placed events is told of their numbers
+pub tells_placed : (x : Execution) (ps : List Placed) (e f : ℕ) (d k : Placed) (answer : Bool)
     → ArePlaced x ps → e < event_count x → f < event_count x
     → (IsPlaced x (get_or ps e d) → IsPlaced x (get_or ps f k)
-    → IsReason x (get_or ps e d).number (get_or ps f k).number r) → IsReason x e f r
-reason_placed x ps e f d k r placed he hf reason =
+    → Tells x (get_or ps e d).number (get_or ps f k).number answer) → Tells x e f answer
+tells_placed x ps e f d k answer placed he hf tells =
     let first = placed.each e d (omega (arith, placed.size)) in
     let second = placed.each f k (omega (arith, placed.size)) in
-    subst (λ (g : ℕ). IsReason x g f r) first.1 (subst
-    (λ (g : ℕ). IsReason x (get_or ps e d).number g r) second.1 (reason first.0 second.0))
+    subst (λ (g : ℕ). Tells x g f answer) first.1 (subst
+    (λ (g : ℕ). Tells x (get_or ps e d).number g answer) second.1 (tells first.0 second.0))
 
 -- an event with a source is in the row of its source
-pub reader_of_some : (x : Execution) (n s : ℕ) (rows : Table) (r : Option Reason) (d : List (Option Reason))
-    → n < event_count x → s < event_count x → source_of x n ≡ Some s → IsReason x s n r
-    → AreFilled x (IsReached x n) rows
-    → AreFilled x (IsReached x (n + 1)) (set rows s (set (get_or rows s d) n r))
-reader_of_some x n s rows r d within at is reason h = record {
+pub reader_of_some : (x : Execution) (n s : ℕ) (rows : Table) (answer : Bool) (d row : List Bool)
+    → s < event_count x → source_of x n ≡ Some s → Tells x s n answer
+    → IsPut (get_or rows s d) n answer row → AreFilled x (IsReached x n) rows
+    → AreFilled x (IsReached x (n + 1)) (set rows s row)
+reader_of_some x n s rows answer d row at is tells put h = record {
   size = length-set rows s row ∙ h.size;
   each = λ e event. elim (cases_eq e s) [
     | inl one ↦
         subst (λ (g : ℕ). IsFilledRow x g (IsReached x (n + 1) g) (get_or (set rows s row) g [])) (sym one)
-        (subst (λ (v : List (Option Reason)). IsFilledRow x s (IsReached x (n + 1) s) v)
+        (subst (λ (v : List Bool). IsFilledRow x s (IsReached x (n + 1) s) v)
         (sym (get_or-set_same rows s row [] (omega (arith, h.size, at))))
-        (filled_more x s (IsReached x n s) (IsReached x (n + 1) s) _ (get_or rows s d) n r
-        (omega (arith, within, row_size x (IsReached x n) rows h s d (omega (arith, h.size, at)))) reason
+        (filled_more x s (IsReached x n s) (IsReached x (n + 1) s) _ (get_or rows s d) row n answer put tells
         (λ f q. elim q [
           | inl own ↦ inl (inl own)
           | inr reads ↦ elim (cases_eq f n) [
@@ -88,10 +93,10 @@ reader_of_some x n s rows r d within at is reason h = record {
             | inr earlier ↦ inl
                 (inr (reads.0, omega arith))
           ]
-        ]) (subst (λ (v : List (Option Reason)). IsFilledRow x s (IsReached x n s) v)
+        ]) (subst (λ (v : List Bool). IsFilledRow x s (IsReached x n s) v)
         (get_or_default rows s [] d (omega (arith, h.size, at))) (h.each s at))))
     | inr other ↦
-        subst (λ (v : List (Option Reason)). IsFilledRow x e (IsReached x (n + 1) e) v)
+        subst (λ (v : List Bool). IsFilledRow x e (IsReached x (n + 1) e) v)
         (sym (get_or-set_other rows s e row [] other))
         (filled_fewer x e (IsReached x n e) (IsReached x (n + 1) e) _ (get_or rows e []) (λ f q. elim q [
           | inl own ↦ inl own
@@ -103,6 +108,3 @@ reader_of_some x n s rows r d within at is reason h = record {
         ]) (h.each e event))
   ];
 }
-  where
-    row : List (Option Reason)
-    row = set (get_or rows s d) n r

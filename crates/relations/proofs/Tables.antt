@@ -1,18 +1,15 @@
--- Placed events, rows and tables of reasons as they grow.
-use Rattle.std.proofs.Common.{◌≡◌, ◌<◌, ◌≤◌, inl, inr, ℕ, Option, None, List, [], ◌∷◌, ◌++◌, get_or, length}
-use Rattle.std.proofs.Common.{arith, sym, ap, ◌∙◌, subst, length-append, map, Vec, Global}
+-- Placed events and rows of forced pairs as they grow.
+use Rattle.std.proofs.Common.{◌≡◌, ◌<◌, ◌≤◌, inl, inr, ℕ, Bool, false, List, [], ◌∷◌, ◌++◌, get_or, length}
+use Rattle.std.proofs.Common.{arith, sym, ap, ◌∙◌, subst, length-append}
 use Rattle.std.proofs.lemmas.Bool.{cases_lt}
-use Rattle.std.proofs.lemmas.List.{get_or_push, get_or_append_left, get_or_default, get_or-map, length-map}
-use Rattle.std.proofs.lemmas.List.{length-replicate}
+use Rattle.std.proofs.lemmas.List.{get_or_push, get_or_append_left, get_or_default, length-replicate}
 use Rattle.std.specs.Prelude.{All}
 use Rattle.litmus.specs.declared.limits.TheConstants.{MAX_EVENTS}
-use Rattle.relations.specs.declared.reason.Reason.{Reason}
 use Rattle.relations.specs.declared.placed.Placed.{Placed}
 use Rattle.relations.specs.Placed.{IsPlaced}
 use Rattle.relations.specs.Forced.{Forced}
 use Rattle.relations.specs.Filled.{IsFilledRow, AreFilled}
-use Rattle.relations.specs.Relation.{Table, IsTableOf, IsSquare}
-use Rattle.relations.proofs.Filled.{filled_reason}
+use Rattle.relations.specs.Relation.{Table, IsSquare}
 use Rattle.recorder.specs.Execution.{Execution, event_count}
 
 -- what holds of each item holds with one more
@@ -42,7 +39,7 @@ abbrev pub AreFilledSoFar : Execution → (ℕ → ℕ → Type 0) → Table →
 AreFilledSoFar x P rows = (e : ℕ) → e < length rows → IsFilledRow x e (P e) (get_or rows e [])
 
 -- one row more
-pub filled_rows_more : (x : Execution) (P : ℕ → ℕ → Type 0) (rows : Table) (row : List (Option Reason))
+pub filled_rows_more : (x : Execution) (P : ℕ → ℕ → Type 0) (rows : Table) (row : List Bool)
     → AreFilledSoFar x P rows → IsFilledRow x (length rows) (P (length rows)) row
     → AreFilledSoFar x P (rows ++ row ∷ [])
 filled_rows_more x P rows row rest last e h =
@@ -52,38 +49,13 @@ filled_rows_more x P rows row rest last e h =
 pub row_size : (x : Execution) (P : ℕ → ℕ → Type 0) (rows : Table) → AreFilled x P rows
     → All (λ row. length row ≡ event_count x) rows
 row_size x P rows h e d at =
-    ap (λ (row : List (Option Reason)). length row) (get_or_default rows e d [] at)
-    ∙ ((h.each e (omega (arith, h.size))).size ∙ length-replicate {A = Option Reason}
-    (event_count x) None)
+    ap (λ (row : List Bool). length row) (get_or_default rows e d [] at)
+    ∙ ((h.each e (omega (arith, h.size))).size ∙ length-replicate {A = Bool} (event_count x) false)
 
--- rows with the reasons for each forced pair are the table
-pub table_of_filled : (x : Execution) (rows : Table) → AreFilled x (Forced x) rows → IsTableOf x rows
-table_of_filled x rows h = record {
-  size = h.size;
-  rows = row_size x (Forced x) rows h;
-  reasons = λ e f he hf. filled_reason x e (get_or rows e []) (h.each e he) f;
-}
-
--- the table of a recording is square
-pub square_of_table : (x : Execution) (t : Table) → event_count x ≤ MAX_EVENTS → IsTableOf x t → IsSquare t
-square_of_table x t few h = record {
-  rows = subst (λ (n : ℕ). All (λ row. length row
-      ≡ n) t) (sym h.size) h.rows;
+-- the rows of a recording are square
+pub square_of_filled : (x : Execution) (t : Table) → event_count x ≤ MAX_EVENTS → AreFilled x (Forced x) t
+    → IsSquare t
+square_of_filled x t few h = record {
+  rows = subst (λ (n : ℕ). All (λ row. length row ≡ n) t) (sym h.size) (row_size x (Forced x) t h);
   few = omega (arith, few, h.size);
 }
-
--- the rows of a vector of vectors
-abbrev pub rows_of : List (Vec (Option Reason) Global) → Table
-rows_of vs = map (λ v. v.items) vs
-
--- a row of a square is as long as there are rows
-pub square_row : (vs : List (Vec (Option Reason) Global)) (v : Vec (Option Reason) Global) (i : ℕ)
-    → IsSquare (rows_of vs) → i < length vs → v ≡ get_or vs i v → length v.items ≡ length vs
-square_row vs v i square at read =
-    let here : get_or (rows_of vs) i [] ≡ v.items =
-    get_or-map (λ (w : Vec (Option Reason) Global). w.items) vs i v [] at
-    ∙ ap (λ (w : Vec (Option Reason) Global). w.items) (sym read) in
-    let size : length (rows_of vs) ≡ length vs =
-    length-map vs (λ (w : Vec (Option Reason) Global). w.items) in
-    let long : length (get_or (rows_of vs) i []) ≡ length (rows_of vs) = square.rows i [] (omega arith) in
-    ap (λ (row : List (Option Reason)). length row) (sym here) ∙ (long ∙ size)

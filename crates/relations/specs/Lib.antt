@@ -2,7 +2,6 @@ pub mod Forced
 pub mod Placed
 pub mod Filled
 pub mod Relation
-pub mod Sets
 pub mod Cycle
 pub mod CycleLaws
 pub mod Respects

@@ -1,9 +1,9 @@
 //! The events that an event may be forced before without being read: those behind it on its core,
 //! and the writes of its address.
 
+use crate::filling::put;
 use crate::placed::Placed;
-use crate::reason::Reason;
-use crate::row::Row;
+use bitrow::BitRow;
 use litmus::Addr;
 use recorder::{Event, Recording};
 
@@ -12,9 +12,9 @@ impl Placed {
     ghost use Rattle.recorder.specs.Event.{read_address, written_address};
     ghost use Rattle.recorder.specs.Execution.{Execution, ProgramOrder};
     ghost use Rattle.relations.specs.declared.reason.Reason.TheVariants.{Wo, Fr};
-    ghost use Rattle.relations.specs.Forced.{Holds, IsReason};
+    ghost use Rattle.relations.specs.Forced.{Holds};
     ghost use Rattle.relations.specs.Placed.{IsPlaced, ArePlaced};
-    ghost use Rattle.relations.specs.Filled.{IsFilled, IsOwnOrWrite};
+    ghost use Rattle.relations.specs.Filled.{Tells, IsFilled, IsOwnOrWrite};
 
     /// The address that it reads or writes.
     fn address(&self) -> Option<Addr>
@@ -40,21 +40,17 @@ impl Placed {
         }
     }
 
-    /// The first reason for it before an event behind it on its core.
-    fn reason_behind(&self, other: &Placed) -> Option<Reason>
+    /// Whether it is forced before an event behind it on its core.
+    fn is_forced_behind(&self, other: &Placed) -> bool
         ensures { (x : Execution) → IsPlaced x self.now → IsPlaced x other.now
             → ProgramOrder x self.now.number other.now.number
-            → IsReason x self.now.number other.now.number result }
+            → Tells x self.now.number other.now.number result }
     {
-        if self.event.keeps(&other.event) {
-            Some(Reason::Po)
-        } else {
-            None
-        }
+        self.event.keeps(&other.event)
     }
 
-    /// Puts the reasons for it before the events behind it on its core into a row.
-    fn fill_own_core(&self, events: &[Placed], row: &mut Row)
+    /// Puts the events behind it on its core that it is forced before into a row.
+    fn fill_own_core(&self, events: &[Placed], row: &mut BitRow)
         requires { length row.old ≡ length events.now }
         ensures { (x : Execution) → IsPlaced x self.now → ArePlaced x events.now
             → IsFilled x self.now.number (ProgramOrder x self.now.number) row.old row.new }
@@ -64,12 +60,12 @@ impl Placed {
             if second.core != self.core {
                 return;
             }
-            row.put(f, self.reason_behind(second));
+            put(row, f, self.is_forced_behind(second));
         }
     }
 
-    /// Puts the reasons for it before the writes of its address into a row.
-    fn fill_writes(&self, recording: &Recording, events: &[Placed], row: &mut Row)
+    /// Puts the writes of its address that it is forced before into a row.
+    fn fill_writes(&self, recording: &Recording, events: &[Placed], row: &mut BitRow)
         requires placed { IsPlaced recording.now self.now }
         requires events { ArePlaced recording.now events.now }
         requires size { length row.old ≡ length events.now }
@@ -84,13 +80,13 @@ impl Placed {
         let first = self.first_place();
         for i in first..list.len() {
             let f = list[i] as usize;
-            row.put(f, self.reason(&events[f]));
+            put(row, f, self.is_forced_before(&events[f]));
         }
     }
 
-    /// Puts the reasons for it before the events behind it on its core and the writes of its
-    /// address into a row.
-    pub(crate) fn fill(&self, recording: &Recording, events: &[Placed], row: &mut Row)
+    /// Puts the events behind it on its core and the writes of its address that it is forced before
+    /// into a row.
+    pub(crate) fn fill(&self, recording: &Recording, events: &[Placed], row: &mut BitRow)
         requires placed { IsPlaced recording.now self.now }
         requires events { ArePlaced recording.now events.now }
         requires size { length row.old ≡ length events.now }

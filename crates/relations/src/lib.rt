@@ -11,7 +11,6 @@ mod pair;
 mod placed;
 mod reason;
 mod relation;
-mod row;
 
 pub use laws::{forced_is_exact, ordered_is_acyclic, relation_is_forced};
 pub use neighbours::behind;

@@ -1,51 +1,43 @@
 //! The relation of forced pairs.
 
-use crate::filling::{filled_rows, taken_apart};
-use crate::reason::Reason;
+use crate::filling::filled_rows;
 use bitrow::BitRow;
 use litmus::{EventId, OutOfMemory};
 use recorder::Recording;
 use std::alloc::Global;
 use std::marker::Model;
 
-/// The forced pairs of a recording, each with the first reason that holds, and for each event the
-/// set of the events that it is forced before.
+/// The forced pairs of a recording: for each event the set of the events that it is forced before.
 #[derive(Drop)]
 pub struct Relation {
-    rows: Vec<Vec<Option<Reason>>>,
-    successors: Vec<BitRow>,
+    rows: Vec<BitRow>,
 }
 
 impl Model for Relation {
-    ghost use Rattle.std.specs.Prelude.{map};
     ghost use Rattle.relations.specs.Relation.{Table, IsSquare};
-    ghost use Rattle.relations.specs.Sets.{AreSetsOf};
 
     ghost Value = { Table };
 
-    ghost view = { λ r. map (λ v. v.items) r.rows.items };
+    ghost view = { λ r. r.rows.items };
 
-    ghost invariant = { λ r. IsSquare (map (λ v. v.items) r.rows.items)
-        × AreSetsOf (map (λ v. v.items) r.rows.items) r.successors.items };
+    ghost invariant = { λ r. IsSquare r.rows.items };
 }
 
 impl Relation {
     ghost use Rattle.std.specs.Prelude.{◌≡◌, ◌<◌, ◌↔◌, ℕ, IsTrue, IfOk, length};
-    ghost use Rattle.recorder.specs.Execution.{Execution};
+    ghost use Rattle.recorder.specs.Execution.{event_count};
     ghost use Rattle.relations.specs.Forced.{Forced};
-    ghost use Rattle.relations.specs.Relation.{IsTableOf, IsSquare, Related, reason_at};
-    ghost use Rattle.relations.specs.Sets.{AreSetsOf};
+    ghost use Rattle.relations.specs.Relation.{IsSquare, Related};
 
     /// The forced pairs of a recording (Nagarajan, Sorin, Hill and Wood, A Primer on Memory
     /// Consistency and Cache Coherence, second edition, chapter 4). An `Err` is want of memory.
     pub fn of(alloc: Global, recording: &Recording) -> Result<Relation, OutOfMemory>
-        ensures table { IfOk result (λ r. IsTableOf recording.now r) }
+        ensures size { IfOk result (λ r. length r ≡ event_count recording.now) }
         ensures related { IfOk result (λ r. (e f : ℕ) → Related r e f ↔ Forced recording.now e f) }
     {
         recording.sound();
-        let filled = filled_rows(alloc, recording)?;
-        let (rows, successors) = taken_apart(alloc, filled)?;
-        Ok(Relation { rows, successors })
+        let rows = filled_rows(alloc, recording)?;
+        Ok(Relation { rows })
     }
 
     /// What every relation keeps. It does nothing.
@@ -66,24 +58,17 @@ impl Relation {
 
     /// For each event the set of the events that it is forced before.
     pub fn successors(&self) -> &[BitRow]
-        ensures { AreSetsOf self.now result.now }
+        ensures { result.now ≡ self.now }
     {
-        self.successors.as_slice()
-    }
-
-    /// The first reason for one event before another; none where there is none, and for a number
-    /// that names no event.
-    pub fn reason(&self, first: EventId, second: EventId) -> Option<Reason>
-        ensures { result ≡ reason_at self.now first second }
-    {
-        let row = self.rows.get(first as usize)?;
-        *row.get(second as usize)?
+        self.rows.as_slice()
     }
 
     /// Whether one event is forced before another; no number that names no event is.
     pub fn forced(&self, first: EventId, second: EventId) -> bool
         ensures { IsTrue result ↔ Related self.now first second }
     {
-        self.reason(first, second).is_some()
+        let len = self.len();
+        let (first, second) = (first as usize, second as usize);
+        first < len && second < len && self.rows[first].test(second)
     }
 }

@@ -2,4 +2,3 @@ pub mod Answer
 pub mod Devices
 pub mod Refusal
 pub mod Verdict
-pub mod Campaign

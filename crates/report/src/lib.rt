@@ -1,8 +1,7 @@
-//! The texts of verdicts and of campaigns, and the answer to a recording's bytes.
+//! The texts of verdicts, and the answer to a recording's bytes.
 #![tactic(auto)]
 
 mod answering;
-mod campaign;
 mod cycle;
 mod devices;
 mod memory;
@@ -14,9 +13,9 @@ mod stream;
 mod verdict;
 
 pub use answering::answer;
-pub use campaign::campaign_text;
 pub use devices::{Failed, Sink, Source};
 pub use memory::{MemorySink, MemorySource};
+pub use numbers::put_number;
 pub use outcomes::{Outcome, ReportError};
 pub use refusal::recording_line;
 pub use stream::Device;

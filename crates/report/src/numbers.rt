@@ -7,8 +7,8 @@ ghost use Rattle.report.specs.Verdict.{numbers_text};
 use itoa::Buffer;
 use litmus::{MAX_EVENTS, OutOfMemory};
 
-/// Adds a number.
-pub(crate) fn put_number(out: &mut Vec<u8>, number: usize) -> Result<(), OutOfMemory>
+/// Adds a number to a text, in decimal. An error is want of memory.
+pub fn put_number(out: &mut Vec<u8>, number: usize) -> Result<(), OutOfMemory>
     ensures { OnOk result (out.new.items ≡ out.old.items ++ decimal number) }
 {
     let mut digits = Buffer::new();

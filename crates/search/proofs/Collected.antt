@@ -1,22 +1,21 @@
 -- Rows that are collected by source, while the seat learns more.
 use Rattle.std.proofs.Common.{◌≡◌, ◌<◌, ◌≤◌, ◌+◌, ◌∙◌, inl, inr, ℕ, zero, suc, drop, Option, None, Some, List}
-use Rattle.std.proofs.Common.{[], ◌∷◌, ◌++◌, length, get_or, IfSome, Contains, All, arith, refl, sym, ap}
+use Rattle.std.proofs.Common.{[], ◌∷◌, ◌++◌, length, get_or, IfSome, Contains, arith, refl, sym, ap}
 use Rattle.std.proofs.Common.{subst, length-append}
 use Rattle.std.proofs.lemmas.Bool.{cases_eq}
 use Rattle.std.proofs.lemmas.List.{get_or_push, get_or_append_left}
 use Rattle.std.proofs.lemmas.List.Elements.{Contains-append_left, Contains-append_right}
 use Rattle.relations.specs.Relation.{Table, Related}
-use Rattle.relations.specs.Cycle.{IsCycle, IsAcyclic, IsShortest}
+use Rattle.relations.specs.Cycle.{IsCycle, IsShortest}
 use Rattle.best.specs.declared.rule.Known.{Known}
-use Rattle.best.specs.Rule.{IsLength, joined_bounds}
+use Rattle.best.specs.Rule.{IsLength}
 use Rattle.best.specs.Seats.{IsBoundRead, Unites}
-use Rattle.search.specs.Cycles.{IsLeastLength, IsShortestLength}
+use Rattle.search.specs.Cycles.{IsLeastLength}
 use Rattle.search.specs.SourceRow.{SourceRow}
-use Rattle.search.specs.Bound.{Covers, Keeps, KnowsShortest}
-use Rattle.search.specs.Crews.{IsRowFor}
+use Rattle.search.specs.Bound.{Keeps, KnowsShortest}
 use Rattle.search.specs.Slots.{IsRowFrom, AreSlots, AreSlotsFilled}
-use Rattle.search.proofs.Hauls.{covers_kept, rows_kept}
-use Rattle.search.proofs.Known.{read_within, knows_it}
+use Rattle.search.proofs.Hauls.{covers_kept}
+use Rattle.search.proofs.Known.{knows_it}
 
 -- what stands behind the first i
 pub drop_head : {X : Type 0} (i : ℕ) (xs : List X) (x : X) (ys : List X) → drop i xs ≡ x ∷ ys

@@ -1,18 +1,14 @@
 -- Rows that one seat knows of, while it learns more.
-use Rattle.std.proofs.Common.{◌≡◌, ◌≤◌, ◌∙◌, length, get_or, Contains, ℕ, Option, None, Some, Bool, true}
-use Rattle.std.proofs.Common.{false, List, [], ◌∷◌, ◌++◌, All, IfSome, sym, ap, subst}
+use Rattle.std.proofs.Common.{◌≡◌, ◌≤◌, ◌∙◌, length, get_or, Contains, ℕ, Bool, true}
+use Rattle.std.proofs.Common.{false, List, [], ◌∷◌, ◌++◌, All, sym, subst}
 use Rattle.std.specs.Bool.{if◌then◌else◌}
-use Rattle.std.proofs.lemmas.List.Elements.{All-push, All-rest, All-head}
-use Rattle.std.specs.declared.thread.PromisedHandle.{PromisedHandle}
+use Rattle.std.proofs.lemmas.List.Elements.{All-push}
 use Rattle.relations.specs.Relation.{Table, Related}
 use Rattle.best.specs.declared.seat.Best.{Best}
-use Rattle.best.specs.declared.seat.BestSeat.{BestSeat}
-use Rattle.best.specs.Seats.{known_of}
 use Rattle.search.specs.SourceRow.{SourceRow, Job}
-use Rattle.search.specs.Bound.{Covers, Keeps, IsSeatFor, lengths_of}
+use Rattle.search.specs.Bound.{Covers, Keeps, lengths_of}
 use Rattle.search.specs.declared.crew.Crew.{Crew}
 use Rattle.search.specs.declared.crew.Haul.{Haul}
-use Rattle.search.specs.declared.crew.HaulOf.{HaulOf}
 use Rattle.search.specs.Crews.{IsRowFor, IsCrew, IsCrewFor, IsHaulOf, IsHaulFor}
 
 -- what is covered stays so

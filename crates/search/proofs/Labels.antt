@@ -1,13 +1,13 @@
 -- Rows that get their names one by one, and jobs that share a relation.
-use Rattle.std.proofs.Common.{◌≡◌, ◌<◌, ◌+◌, inl, inr, ℕ, Option, None, Some, List, [], ◌∷◌, ◌++◌, length}
-use Rattle.std.proofs.Common.{get_or, arith, refl, sym, ap, subst, ◌∙◌, length-append, append_assoc, Vec}
+use Rattle.std.proofs.Common.{◌≡◌, ◌<◌, ◌+◌, inl, inr, ℕ, Bool, Option, None, Some, List, [], ◌∷◌, ◌++◌}
+use Rattle.std.proofs.Common.{length, get_or, arith, refl, sym, ap, subst, ◌∙◌, length-append, append_assoc, Vec}
 use Rattle.std.proofs.Common.{Global}
 use Rattle.std.specs.Option.{unwrap_or}
-use Rattle.std.specs.Prelude.{is_some, false, true}
+use Rattle.std.specs.Prelude.{false, true}
 use Rattle.std.proofs.lemmas.Bool.{cases_eq}
 use Rattle.std.proofs.lemmas.List.{get_or_past, get_or_push, get_or_append_left, map-append, length-map}
-use Rattle.relations.specs.declared.reason.Reason.{Reason}
-use Rattle.relations.specs.Relation.{Table, Related}
+use Rattle.bitrow.specs.Bits.{is_in}
+use Rattle.relations.specs.Relation.{Table, relates, Related}
 use Rattle.relations.specs.Cycle.{Leads, IsExactRow, AreExactRows, IsAcyclic}
 use Rattle.labels.specs.Certified.{lists_of}
 use Rattle.search.specs.Cycles.{IsLeastLength, IsShortestLength}
@@ -74,13 +74,11 @@ empty_acyclic : (t : Table) → length t ≡ 0 → IsAcyclic (Related t)
 empty_acyclic t none [] cycle = cycle
 empty_acyclic t none (e ∷ es) cycle = leads_none es cycle
   where
-    reason_none : (f : ℕ) → get_or (get_or t e []) f None ≡ None
-    reason_none f = ap (λ (row : List (Option Reason)). get_or row f None)
-        (get_or_past t e [] (omega (arith, none))) ∙ get_or_past {X = Option Reason} [] f None (omega arith)
-
     unrelated : (f : ℕ) → Related t e f → ⊥
-    unrelated f r = let wrong : false ≡ true = sym (ap (λ (o : Option Reason). is_some o) (reason_none f))
-        ∙ r in cc
+    unrelated f r =
+        let empty : relates t e f ≡ false = ap (λ (row : List Bool). is_in row f)
+        (get_or_past t e [] (omega (arith, none))) ∙ get_or_past {X = Bool} [] f false (omega arith) in
+        let wrong : false ≡ true = sym empty ∙ r in cc
 
     leads_none : (es : List ℕ) → Leads (Related t) e es e → ⊥
     leads_none [] h = unrelated e h

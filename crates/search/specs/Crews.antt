@@ -3,7 +3,7 @@ use Rattle.std.specs.Prelude.{◌≡◌, ℕ, List, All}
 use Rattle.relations.specs.Relation.{Table, Related}
 use Rattle.best.specs.declared.seat.Best.{Best}
 use Rattle.best.specs.Seats.{IsBestSeatOf, AreBeside, known_of}
-use Rattle.search.specs.SourceRow.{SourceRow, Job}
+use Rattle.search.specs.SourceRow.{SourceRow}
 use Rattle.search.specs.Bound.{Covers, IsSeatFor, lengths_of}
 use Rattle.search.specs.declared.crew.Crew.{Crew}
 use Rattle.search.specs.declared.crew.Haul.{Haul}

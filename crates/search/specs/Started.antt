@@ -1,5 +1,4 @@
 -- Workers that were started.
-use Rattle.std.specs.Prelude.{ℕ}
 use Rattle.std.specs.declared.thread.PromisedHandle.{PromisedHandle}
 use Rattle.relations.specs.Relation.{Table}
 use Rattle.best.specs.declared.seat.Best.{Best}

@@ -3,9 +3,9 @@
 ghost use Rattle.std.specs.Prelude.{◌≤◌};
 ghost use Rattle.litmus.specs.declared.limits.TheConstants.{MAX_WORKERS};
 
+use answers::campaign_text;
 use litmus::{Gate, OpenGate, Shape};
 use machine::Fault;
-use report::campaign_text;
 use std::alloc::Global;
 use std::sync::Wait;
 use std::sync::atomic::{AtomicBool, AtomicU64, Ordering};

@@ -1,6 +1,5 @@
-use Rattle.std.proofs.Common.{◌↔◌, IsTrue, ℕ, length, sym, subst}
+use Rattle.std.proofs.Common.{◌↔◌, IsTrue, ℕ, sym, subst}
 use Rattle.recorder.specs.Execution.{event_count}
-use Rattle.relations.specs.Forced.{Forced}
 use Rattle.relations.specs.Relation.{Related}
 use Rattle.relations.specs.Cycle.{IsCertificate}
 use Rattle.labels.specs.Certified.{lists_of}
@@ -14,7 +13,7 @@ returns-in_ok-relation-in-Cycle-clause-exact c =
     let t = c.in_ok-relation-in-Cycle.relation in
     let cycle = c.in-Cycle.certificate.cycle.items in
     let rows = lists_of c.in-Cycle.certificate.rows.items in
-    let size = c.in_ok-relation-in-Cycle.ensures.table.size in
+    let size = c.in_ok-relation-in-Cycle.ensures.size in
     let agree = c.relation_is_forced.ensures.certificates t x c.in_ok-relation-in-Cycle.ensures.related
     (event_count x) cycle rows in
     let exact = c.check-in-Cycle.ensures.exact in

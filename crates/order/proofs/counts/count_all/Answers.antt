@@ -1,8 +1,7 @@
 use Rattle.std.proofs.Common.{◌≡◌, ◌<◌, ◌≤◌, ◌+◌, ℕ, Bool, [], List, get_or, length, replicate, arith, ap}
 use Rattle.std.proofs.Common.{sym, subst, ◌∙◌}
-use Rattle.std.specs.Prelude.{is_some}
 use Rattle.std.proofs.lemmas.List.{with_items_is, get_or_default}
-use Rattle.relations.specs.Relation.{reason_at}
+use Rattle.relations.specs.Relation.{Table, relates}
 use Rattle.bitrow.specs.Bits.{is_in}
 use Rattle.order.specs.Open.{one_if}
 use Rattle.order.proofs.Waits.{AreCounts, counts_none, counts_more, counts_all, counts_most}
@@ -37,14 +36,13 @@ loop-event-preserved c =
     let were : AreCounts t d old =
     subst (λ (counts : List ℕ). AreCounts t d counts)
     (sym c.deref_mut.ensures.value) c.loop-event.invariant in
-    let sets = c.successors-successors.result.now in
-    let set = c.successors-successors.ensures.each d (omega (arith, c.loop-event-test.true)) in
-    let added : (f : ℕ) → f < length old → get_or new f 0
-    ≡ get_or old f 0 + one_if (is_some (reason_at t d f)) =
-    λ f at. c.add_set.ensures.more f at ∙ ap (λ (b : Bool). get_or old f 0
-    + one_if b) (ap (λ (s : List Bool). is_in s f)
-    (c.index-successors-event.is ∙ get_or_default sets d c.index-successors-event.result []
-    (omega (arith, c.loop-event-test.true, c.successors-successors.ensures.one_each))) ∙ set.each f) in
+    let row : c.index-successors-event.result ≡ get_or t d [] =
+    c.index-successors-event.is ∙ (ap (λ (rows : Table). get_or rows d c.index-successors-event.result)
+    c.successors-successors.ensures ∙ get_or_default t d c.index-successors-event.result []
+    (omega (arith, c.loop-event-test.true))) in
+    let added : (f : ℕ) → f < length old → get_or new f 0 ≡ get_or old f 0 + one_if (relates t d f) =
+    λ f at. c.add_set.ensures.more f at
+    ∙ ap (λ (s : List Bool). get_or old f 0 + one_if (is_in s f)) row in
     subst (λ (counts : List ℕ). AreCounts t (d + 1) counts)
     (sym (with_items_is c.loop-event.counts new (omega arith)))
     (counts_more t d old new were c.add_set.ensures.size added)

@@ -1,12 +1,11 @@
-use Rattle.std.proofs.Common.{◌≡◌, ◌<◌, ◌+◌, Some, List, Option, length, set, arith, sym, ap, subst, ◌∙◌}
+use Rattle.std.proofs.Common.{◌≡◌, ◌<◌, ◌+◌, Some, length, arith, sym, subst}
 use Rattle.recorder.specs.Execution.{event_count, source_of}
-use Rattle.relations.specs.declared.reason.Reason.{Reason}
 use Rattle.relations.specs.Relation.{Table}
 use Rattle.relations.specs.Filled.{AreFilled}
 use Rattle.relations.proofs.Written.{source_within}
 use Rattle.relations.proofs.Tables.{row_size}
-use Rattle.relations.proofs.Readers.{IsReached, source_placed, reason_placed, reader_of_none, reader_of_some}
-use Rattle.relations.proofs.Readers.{every_reader}
+use Rattle.relations.proofs.Readers.{IsReached, source_placed, tells_placed, reader_of_none, reader_of_some}
+use Rattle.relations.proofs.Readers.{no_reader, every_reader}
 use Rattle.relations.proofs.filling.put_readers.Goals.{in-Some, in_default}
 use Rattle.relations.proofs.filling.put_readers.Goals as goal
 
@@ -47,6 +46,9 @@ put-requires c =
       row_size x (IsReached x f) c.loop-f.rows c.loop-f.invariant s c.index-rows-first.result first,
     )
 
+pub loop-f-init : goal.loop-f-init
+loop-f-init c = no_reader c.args.recording.now c.args.rows.now c.requires.rows
+
 pub loop-f-preserved : goal.loop-f-preserved
 loop-f-preserved c =
     let x = c.args.recording.now in
@@ -55,15 +57,14 @@ loop-f-preserved c =
     elim c.match-second.branch [
       | in-Some w ↦
           let s = w.in-Some.source in
-          let r = w.reason.result in
+          let answer = w.is_forced_before.result in
           let source : source_of x f ≡ Some s =
           source_placed x c.args.events.now f _ (Some s) c.requires.events within w.in-Some.is in
           let first : s < event_count x = source_within x c.sound.ensures.well_formed s f source in
-          subst (λ (rows : Table). AreFilled x (IsReached x (f + 1)) rows)
-          (sym (w.rows-is ∙ ap (λ (row : List (Option Reason)). set c.loop-f.rows s row) w.put.ensures))
-          (reader_of_some x f s c.loop-f.rows r w.index-rows-first.result within first source
-          (reason_placed x c.args.events.now s f _ _ r c.requires.events first within
-          (w.reason.ensures x)) c.loop-f.invariant)
+          subst (λ (rows : Table). AreFilled x (IsReached x (f + 1)) rows) (sym w.rows-is)
+          (reader_of_some x f s c.loop-f.rows answer w.index-rows-first.result w.put.new.row first source
+          (tells_placed x c.args.events.now s f _ _ answer c.requires.events first within
+          (w.is_forced_before.ensures x)) w.put.ensures c.loop-f.invariant)
       | in_default w ↦
           subst (λ (rows : Table). AreFilled x (IsReached x (f + 1)) rows) (sym w.rows-is)
           (reader_of_none x f c.loop-f.rows

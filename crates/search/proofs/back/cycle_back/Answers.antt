@@ -1,7 +1,6 @@
-use Rattle.std.proofs.Common.{◌≡◌, ℕ, List, length, reverse, arith, subst}
+use Rattle.std.proofs.Common.{length, arith}
 use Rattle.relations.specs.Relation.{Related}
-use Rattle.relations.specs.Cycle.{IsCycle}
-use Rattle.search.proofs.WaysBack.{back_exists, back_more, back_end}
+use Rattle.search.proofs.WaysBack.{back_exists, back_more}
 use Rattle.search.proofs.back.cycle_back.Goals as goal
 
 pub unreachable-requires : goal.unreachable-requires

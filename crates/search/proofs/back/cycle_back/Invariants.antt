@@ -1,4 +1,4 @@
-use Rattle.std.proofs.Common.{◌≡◌, ◌<◌, length, vec_capacity}
+use Rattle.std.proofs.Common.{◌<◌, length, vec_capacity}
 use Rattle.relations.specs.Relation.{Related}
 use Rattle.search.proofs.WaysBack.{IsBack}
 use Rattle.search.proofs.back.cycle_back.Given as goal

@@ -1,4 +1,4 @@
-use Rattle.std.proofs.Common.{◌≡◌, ℕ, List, Contains, sym, subst}
+use Rattle.std.proofs.Common.{ℕ, List, Contains, sym, subst}
 use Rattle.best.specs.declared.rule.Known.{Known}
 use Rattle.search.proofs.collect.collected.Goals as goal
 

@@ -1,5 +1,5 @@
-use Rattle.std.proofs.Common.{◌≡◌, ◌<◌, ◌+◌, ◌∙◌, ◌∷◌, ◌++◌, [], ℕ, suc, List, length, length-append, drop}
-use Rattle.std.proofs.Common.{get_or, arith, sym, ap, subst}
+use Rattle.std.proofs.Common.{◌≡◌, ◌<◌, ◌∙◌, ◌∷◌, [], ℕ, suc, List, length, length-append, drop}
+use Rattle.std.proofs.Common.{arith, sym, ap}
 use Rattle.std.specs.Vec.Iter.{into_iter_items}
 use Rattle.search.specs.SourceRow.{SourceRow, IsNamed, IsSourceRow}
 use Rattle.search.proofs.Collected.{drop_head}

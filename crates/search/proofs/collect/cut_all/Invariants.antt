@@ -1,4 +1,4 @@
-use Rattle.std.proofs.Common.{◌≡◌, ◌+◌, ◌<◌, ℕ, List, length, drop, get_or}
+use Rattle.std.proofs.Common.{◌≡◌, ◌+◌, ◌<◌, ℕ, length, drop, get_or}
 use Rattle.std.specs.Vec.Iter.{into_iter_items}
 use Rattle.search.specs.SourceRow.{SourceRow, IsNamed, IsSourceRow}
 use Rattle.search.proofs.collect.cut_all.Given as goal

@@ -1,4 +1,3 @@
-use Rattle.std.proofs.Common.{◌≡◌}
 use Rattle.best.specs.Seats.{known_of}
 use Rattle.search.proofs.Known.{read_keeps}
 use Rattle.search.proofs.Collected.{read_least, least_known}

@@ -1,5 +1,4 @@
-use Rattle.std.proofs.Common.{◌≡◌, ◌∙◌, ℕ, List, length, get_or, min, arith, sym, ap, subst}
-use Rattle.search.specs.Slots.{IsCutAt}
+use Rattle.std.proofs.Common.{◌∙◌, ℕ, List, get_or, min, arith, ap}
 use Rattle.search.proofs.Levels.{written_back}
 use Rattle.search.proofs.Shortened.{cut_some}
 use Rattle.search.proofs.cut.cut_at.Goals as goal

@@ -1,13 +1,12 @@
 use Rattle.std.proofs.Common.{◌≡◌, ◌<◌, ◌+◌, ℕ, List, [], ◌∷◌, ◌++◌, length, get_or, min, Vec, Global, arith}
 use Rattle.std.proofs.Common.{rules, subst, sym, ap, ◌∙◌, length-append}
 use Rattle.std.proofs.lemmas.List.{map-append}
-use Rattle.relations.specs.Relation.{Related}
+use Rattle.relations.specs.Relation.{Table, Related}
 use Rattle.relations.specs.Cycle.{IsExactRow}
 use Rattle.labels.specs.Certified.{lists_of}
 use Rattle.search.specs.Cycles.{IsCap, IsNearest, IsDistanceRow, IsLeastClosing}
 use Rattle.search.proofs.Cuts.{cap_next, distance_push}
 use Rattle.search.proofs.Lengths.{closing_next}
-use Rattle.search.proofs.Marks.{row_related, nearest_related}
 use Rattle.search.proofs.distances.distance_rows.Goals as goal
 
 pub loop-source-preserved : goal.loop-source-preserved
@@ -20,13 +19,11 @@ loop-source-preserved c =
     ap (λ (vs : List (Vec ℕ Global)). lists_of vs) c.in_ok-push.ensures.items
     ∙ map-append (λ (r : Vec ℕ Global). r.items) c.loop-source.rows.items (c.in_ok-row.row ∷ []) in
     let exact : IsExactRow R n cap c.loop-source.source c.in_ok-row.row.items =
-    row_related c.args.relation.now c.successors-successors.result.now cap c.loop-source.source
-    c.in_ok-row.row.items c.sound.ensures.within c.successors-successors.ensures
-    c.in_ok-row.ensures.exact in
+    subst (λ (t : Table). IsExactRow (Related t) (length t) cap c.loop-source.source c.in_ok-row.row.items)
+    c.successors-successors.ensures c.in_ok-row.ensures.exact in
     let near : IsNearest R c.loop-source.source c.in_ok-row.row.items cap c.in_ok-row.closing =
-    nearest_related c.args.relation.now c.successors-successors.result.now c.loop-source.source
-    c.in_ok-row.row.items cap c.in_ok-row.closing c.sound.ensures.within c.successors-successors.ensures
-    c.in_ok-row.ensures.nearest in
+    subst (λ (t : Table). IsNearest (Related t) c.loop-source.source c.in_ok-row.row.items cap
+    c.in_ok-row.closing) c.successors-successors.ensures c.in_ok-row.ensures.nearest in
     let both : min c.loop-source.least c.in_ok-row.closing ≡ c.min-least.result = omega arith in
     record {
       sets = search rules;

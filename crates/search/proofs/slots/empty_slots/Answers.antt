@@ -1,4 +1,4 @@
-use Rattle.std.proofs.Common.{◌≡◌, ◌<◌, ◌+◌, ◌∷◌, ◌++◌, [], ℕ, Option, List, None, get_or, IfSome, length}
+use Rattle.std.proofs.Common.{◌∷◌, [], Option, List, None, get_or, IfSome, length}
 use Rattle.std.proofs.Common.{length-append, arith, sym, ap, subst}
 use Rattle.search.specs.SourceRow.{SourceRow}
 use Rattle.search.specs.Bound.{lengths_of}

@@ -1,4 +1,4 @@
-use Rattle.std.proofs.Common.{◌≡◌, ◌+◌, ℕ, List, length, drop}
+use Rattle.std.proofs.Common.{◌≡◌, ◌+◌, length, drop}
 use Rattle.std.specs.Arc.{arc_value}
 use Rattle.std.specs.Vec.Iter.{into_iter_items}
 use Rattle.search.specs.Bound.{IsSeatFor, Keeps, lengths_of}

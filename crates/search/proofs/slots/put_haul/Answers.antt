@@ -1,4 +1,3 @@
-use Rattle.std.proofs.Common.{◌≡◌}
 use Rattle.best.specs.Seats.{known_of}
 use Rattle.search.specs.Bound.{lengths_of}
 use Rattle.search.proofs.Hauls.{rows_kept}

@@ -1,4 +1,3 @@
-use Rattle.std.proofs.Common.{List, All}
 use Rattle.std.specs.Vec.Iter.{into_iter_items}
 use Rattle.std.proofs.lemmas.List.Elements.{All-rest}
 use Rattle.search.specs.Bound.{lengths_of}

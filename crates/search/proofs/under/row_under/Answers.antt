@@ -1,4 +1,4 @@
-use Rattle.std.proofs.Common.{◌≡◌, ℕ, Option, sym, ap, subst}
+use Rattle.std.proofs.Common.{ℕ, Option, sym, ap, subst}
 use Rattle.best.specs.Seats.{known_of}
 use Rattle.search.specs.SourceRow.{SourceRow}
 use Rattle.search.specs.Bound.{AtMost}

@@ -1,4 +1,3 @@
-use Rattle.std.proofs.Common.{◌≡◌, List, All}
 use Rattle.search.specs.Crews.{IsHaulFor}
 use Rattle.search.proofs.Hauls.{haul_for, perhaps_pushed}
 use Rattle.search.proofs.work.join_one.Goals as goal

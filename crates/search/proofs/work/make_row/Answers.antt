@@ -1,4 +1,4 @@
-use Rattle.std.proofs.Common.{◌≡◌, ℕ, sym, subst}
+use Rattle.std.proofs.Common.{ℕ, sym, subst}
 use Rattle.relations.specs.Relation.{Related}
 use Rattle.search.specs.Bound.{Covers, lengths_of}
 use Rattle.search.specs.Crews.{IsRowFor}

@@ -1,4 +1,4 @@
-use Rattle.std.proofs.Common.{◌≡◌, ◌∙◌, List, All, sym, subst}
+use Rattle.std.proofs.Common.{◌≡◌, ◌∙◌, All, sym, subst}
 use Rattle.std.specs.Vec.Iter.{into_iter_items}
 use Rattle.std.proofs.lemmas.List.Elements.{All-head, All-rest}
 use Rattle.relations.specs.Relation.{Table}

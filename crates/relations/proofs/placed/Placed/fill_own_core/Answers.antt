@@ -1,10 +1,7 @@
-use Rattle.std.proofs.Common.{◌≡◌, ◌<◌, ◌+◌, inl, inr, ℕ, Option, List, length, length-set, arith, sym, ap}
-use Rattle.std.proofs.Common.{subst, ◌∙◌}
+use Rattle.std.proofs.Common.{◌≡◌, ◌<◌, ◌+◌, inl, inr, ℕ, arith, sym, ap, subst, ◌∙◌}
 use Rattle.std.proofs.lemmas.Bool.{cases_lt}
 use Rattle.recorder.specs.Execution.{ProgramOrder, core_of}
-use Rattle.relations.specs.declared.reason.Reason.{Reason}
-use Rattle.relations.specs.Filled.{IsFilled}
-use Rattle.relations.specs.Forced.{IsReason}
+use Rattle.relations.specs.Filled.{Tells}
 use Rattle.relations.proofs.Cores.{behind_past}
 use Rattle.relations.proofs.Filled.{filled_fewer, filled_more}
 use Rattle.relations.proofs.placed.Placed.fill_own_core.Goals as goal
@@ -16,24 +13,21 @@ pub loop-f-preserved : goal.loop-f-preserved
 loop-f-preserved c =
     let i = c.loop-f.f in
     record {
-      size = ap (λ (row : List (Option Reason)). length row) c.put.ensures
-          ∙ (length-set c.loop-f.row i c.reason_behind.result ∙ c.loop-f.invariant.size);
+      size = c.put.ensures.size ∙ c.loop-f.invariant.size;
       filled = λ x hp hs.
           let e = c.args.self.now.number in
           let second = hs.each i _ c.loop-f-test.true in
-          subst (λ (row : List (Option Reason)). IsFilled x e
-          (λ f. ProgramOrder x e f × (f < i + 1)) c.args.row.now row) (sym c.put.ensures)
-          (filled_more x e (λ f. ProgramOrder x e f × (f < i))
-          (λ f. ProgramOrder x e f × (f < i + 1)) c.args.row.now c.loop-f.row i c.reason_behind.result
-          (omega (arith, c.loop-f-test.true, c.loop-f.invariant.size, c.requires))
-          (subst (λ (g : ℕ). IsReason x e g c.reason_behind.result) second.1
-          (c.reason_behind.ensures x hp second.0 (
+          filled_more x e (λ f. ProgramOrder x e f × (f < i))
+          (λ f. ProgramOrder x e f × (f < i + 1)) c.args.row.now c.loop-f.row c.put.new.row i
+          c.is_forced_behind.result c.put.ensures
+          (subst (λ (g : ℕ). Tells x e g c.is_forced_behind.result) second.1
+          (c.is_forced_behind.ensures x hp second.0 (
             omega (arith, second.1, c.loop-f.auto.f),
             second.0.within,
             sym hp.core ∙ (sym c.if-second-self.false ∙ second.0.core),
           )))
           (λ f q. elim (cases_lt f i) [ inl before ↦ inl (q.0, before) | inr here ↦ inr (omega arith) ])
-          (c.loop-f.invariant.filled x hp hs));
+          (c.loop-f.invariant.filled x hp hs);
     }
 
 pub returns-then-second-self : goal.returns-then-second-self

@@ -1,13 +1,12 @@
-use Rattle.std.proofs.Common.{◌≡◌, ◌<◌, ◌≤◌, ◌+◌, ◌⊎◌, inl, inr, ℕ, Some, Option, None, List, get_or, length}
-use Rattle.std.proofs.Common.{arith, sym, ap, subst, ◌∙◌}
+use Rattle.std.proofs.Common.{◌≡◌, ◌<◌, ◌≤◌, ◌+◌, ◌⊎◌, inl, inr, ℕ, Some, None, List, get_or, length}
+use Rattle.std.proofs.Common.{arith, ap, subst, ◌∙◌}
 use Rattle.std.proofs.lemmas.Bool.{cases_lt}
 use Rattle.recorder.specs.Event.{read_address, written_address}
 use Rattle.recorder.specs.Execution.{event_count, write_list}
 use Rattle.recorder.specs.Order.{place}
 use Rattle.relations.specs.declared.reason.Reason.TheVariants.{Wo, Fr}
-use Rattle.relations.specs.declared.reason.Reason.{Reason}
-use Rattle.relations.specs.Filled.{IsFilled}
-use Rattle.relations.specs.Forced.{Holds, IsReason}
+use Rattle.relations.specs.Filled.{Tells}
+use Rattle.relations.specs.Forced.{Holds}
 use Rattle.relations.proofs.Pairs.{later_place}
 use Rattle.relations.proofs.Written.{address_used, listed_event, stands_at}
 use Rattle.relations.proofs.Filled.{filled_none, filled_fewer, filled_more}
@@ -65,19 +64,17 @@ loop-i-preserved c =
     let second = c.requires.events.each f _ (omega (arith, c.requires.events.size)) in
     let at : ℕ → ℕ = place (write_list x c.in-Some.address) in
     let first = c.first_place-first.result in
-    subst (λ (row : List (Option Reason)). IsFilled x e
-    (λ g. (first ≤ at g) × (at g < i + 1)) c.args.row.now row) (sym c.put.ensures)
-    (filled_more x e (λ g. (first ≤ at g) × (at g < i))
-    (λ g. (first ≤ at g) × (at g < i + 1)) c.args.row.now c.loop-i.row f c.reason.result
-    (omega (arith, c.requires.size, c.loop-i.invariant.size, c.requires.events.size))
-    (subst (λ (g : ℕ). IsReason x e g c.reason.result) second.1
-    (c.reason.ensures x c.requires.placed second.0))
+    filled_more x e (λ g. (first ≤ at g) × (at g < i))
+    (λ g. (first ≤ at g) × (at g < i + 1)) c.args.row.now c.loop-i.row c.put.new.row f
+    c.is_forced_before.result c.put.ensures
+    (subst (λ (g : ℕ). Tells x e g c.is_forced_before.result) second.1
+    (c.is_forced_before.ensures x c.requires.placed second.0))
     (λ g q. elim (cases_lt (at g) i) [
       | inl before ↦ inl (q.0, before)
       | inr here ↦ inr (stands_at x c.in-Some.address ws g i c.write_list-list.ensures
           (omega arith) c.loop-i-test.true)
     ])
-    c.loop-i.invariant)
+    c.loop-i.invariant
 
 pub returns : goal.returns
 returns c =

@@ -1,4 +1,4 @@
-use Rattle.std.proofs.Common.{◌≡◌, ◌<◌, ℕ, length, sym, ap, subst}
+use Rattle.std.proofs.Common.{◌<◌, ℕ, length, sym, subst}
 use Rattle.std.specs.Arc.{arc_value}
 use Rattle.relations.specs.Relation.{Table, Related}
 use Rattle.search.specs.Cycles.{IsLeastLength}

@@ -1,11 +1,11 @@
 //! The text of a campaign.
 
 ghost use Rattle.std.specs.Prelude.{◌≡◌, ◌++◌, IfOk, OnOk, Some};
-ghost use Rattle.report.specs.Campaign.{campaign_text, count_line, cycle_line, cycle_lines};
-ghost use Rattle.report.specs.Campaign.{first_line, trial_name};
+ghost use Rattle.answers.specs.CampaignText.{campaign_text, count_line, cycle_line, cycle_lines};
+ghost use Rattle.answers.specs.CampaignText.{first_line, trial_name};
 
-use crate::numbers::put_number;
 use litmus::OutOfMemory;
+use report::put_number;
 use std::alloc::Global;
 use trials::Ledger;
 
