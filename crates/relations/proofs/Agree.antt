@@ -10,7 +10,7 @@ use Rattle.recorder.specs.EventLaws.{Reads-event, Writes-event}
 use Rattle.relations.specs.declared.reason.Reason.{Reason}
 use Rattle.relations.specs.declared.reason.Reason.TheVariants.{Po, Wo, Rf, Fr}
 use Rattle.relations.specs.Forced.{Holds, Forced, IsReason}
-use Rattle.relations.specs.Filled.{Tells, AreFilled}
+use Rattle.relations.specs.Filled.{TellsForced, AreFilled}
 use Rattle.relations.specs.Relation.{Table, relates, Related}
 use Rattle.bitrow.specs.Bits.{is_in}
 use Rattle.relations.proofs.Filled.{filled_tells}
@@ -56,7 +56,7 @@ no_reason x e f None h forced = absurd (h forced)
 no_reason x e f (Some r) h forced = refl
 
 -- whether a pair has a reason tells whether it is forced
-pub reason_tells : (x : Execution) (e f : ℕ) (o : Option Reason) → IsReason x e f o → Tells x e f (is_some o)
+pub reason_tells : (x : Execution) (e f : ℕ) (o : Option Reason) → IsReason x e f o → TellsForced x e f (is_some o)
 reason_tells x e f o h = (some_reason x e f o h, no_reason x e f o h)
 
 -- rows that are filled for all forced pairs relate these

@@ -8,7 +8,7 @@ use Rattle.relations.specs.declared.reason.Reason.{Reason}
 use Rattle.recorder.specs.Execution.{Execution, event_count, source_of}
 use Rattle.relations.specs.Forced.{Holds, Forced}
 use Rattle.relations.specs.declared.reason.Reason.TheVariants.{Po, Wo, Rf, Fr}
-use Rattle.relations.specs.Filled.{IsPut, Tells, IsFilled, IsOwnOrWrite, IsFilledRow}
+use Rattle.relations.specs.Filled.{IsPut, TellsForced, IsFilled, IsOwnOrWrite, IsFilledRow}
 
 -- a row that was not changed is filled for no event
 pub filled_none : (x : Execution) (e : ℕ) (P : ℕ → Type 0) (row : List Bool) → ((f : ℕ) → P f → ⊥)
@@ -23,26 +23,26 @@ filled_fewer x e P Q old new fewer h =
 
 -- one event more
 pub filled_more : (x : Execution) (e : ℕ) (P Q : ℕ → Type 0) (old mid new : List Bool) (i : ℕ) (answer : Bool)
-    → IsPut mid i answer new → Tells x e i answer → ((f : ℕ) → Q f → P f ⊎ (f ≡ i))
+    → IsPut mid i answer new → TellsForced x e i answer → ((f : ℕ) → Q f → P f ⊎ (f ≡ i))
     → IsFilled x e P old mid → IsFilled x e Q old new
 filled_more x e P Q old mid new i answer put last more h = record {
   size = put.size ∙ h.size;
   filled = λ f q. elim (cases_eq f i) [
     | inl one ↦ here f one
     | inr other ↦ elim (more f q) [
-      | inl before ↦ subst (λ (b : Bool). Tells x e f b) (sym (put.others f other)) (h.filled f before)
+      | inl before ↦ subst (λ (b : Bool). TellsForced x e f b) (sym (put.others f other)) (h.filled f before)
       | inr one ↦ here f one
     ]
   ];
   others = λ f. elim (cases_eq f i) [
     | inl one ↦ inl (here f one)
-    | inr other ↦ subst (λ (b : Bool). Tells x e f b ⊎ (b ≡ is_in old f)) (sym (put.others f other)) (h.others f)
+    | inr other ↦ subst (λ (b : Bool). TellsForced x e f b ⊎ (b ≡ is_in old f)) (sym (put.others f other)) (h.others f)
   ];
 }
   where
-    here : (f : ℕ) → f ≡ i → Tells x e f (is_in new f)
-    here f one = subst (λ (g : ℕ). Tells x e g (is_in new g)) (sym one)
-        (subst (λ (b : Bool). Tells x e i b) (sym put.here) last)
+    here : (f : ℕ) → f ≡ i → TellsForced x e f (is_in new f)
+    here f one = subst (λ (g : ℕ). TellsForced x e g (is_in new g)) (sym one)
+        (subst (λ (b : Bool). TellsForced x e i b) (sym put.here) last)
 
 -- what was filled first stays filled
 pub filled_both : (x : Execution) (e : ℕ) (P Q R : ℕ → Type 0) (old mid new : List Bool)
@@ -52,13 +52,13 @@ filled_both x e P Q R old mid new split h k = record {
   filled = λ f r. elim (split f r) [
     | inl first ↦ elim (k.others f) [
       | inl exact ↦ exact
-      | inr same ↦ subst (λ (b : Bool). Tells x e f b) (sym same) (h.filled f first)
+      | inr same ↦ subst (λ (b : Bool). TellsForced x e f b) (sym same) (h.filled f first)
     ]
     | inr second ↦ k.filled f second
   ];
   others = λ f. elim (k.others f) [
     | inl exact ↦ inl exact
-    | inr same ↦ subst (λ (b : Bool). Tells x e f b ⊎ (b ≡ is_in old f)) (sym same) (h.others f)
+    | inr same ↦ subst (λ (b : Bool). TellsForced x e f b ⊎ (b ≡ is_in old f)) (sym same) (h.others f)
   ];
 }
 
@@ -92,7 +92,7 @@ filled_row x e P old new size empty h = record {
 
 -- a row that is filled for all that an event is forced before tells it for each event
 pub filled_tells : (x : Execution) (e : ℕ) (row : List Bool) → IsFilledRow x e (Forced x e) row
-    → (f : ℕ) → Tells x e f (is_in row f)
+    → (f : ℕ) → TellsForced x e f (is_in row f)
 filled_tells x e row h f = elim (h.others f) [
   | inl exact ↦ exact
   | inr same ↦ (

@@ -8,7 +8,7 @@ use Rattle.recorder.specs.Tso.{IsWellFormed}
 use Rattle.relations.specs.declared.placed.Placed.{Placed}
 use Rattle.relations.specs.Forced.{Forced}
 use Rattle.relations.specs.Placed.{IsPlaced, ArePlaced}
-use Rattle.relations.specs.Filled.{IsPut, Tells, IsFilledRow, IsOwnOrWrite, AreFilled}
+use Rattle.relations.specs.Filled.{IsPut, TellsForced, IsFilledRow, IsOwnOrWrite, AreFilled}
 use Rattle.relations.specs.Relation.{Table}
 use Rattle.relations.proofs.Written.{source_writes}
 use Rattle.relations.proofs.Filled.{filled_fewer, filled_more, forced_split}
@@ -66,16 +66,16 @@ source_placed x ps n d o placed at is =
 pub tells_placed : (x : Execution) (ps : List Placed) (e f : ℕ) (d k : Placed) (answer : Bool)
     → ArePlaced x ps → e < event_count x → f < event_count x
     → (IsPlaced x (get_or ps e d) → IsPlaced x (get_or ps f k)
-    → Tells x (get_or ps e d).number (get_or ps f k).number answer) → Tells x e f answer
+    → TellsForced x (get_or ps e d).number (get_or ps f k).number answer) → TellsForced x e f answer
 tells_placed x ps e f d k answer placed he hf tells =
     let first = placed.each e d (omega (arith, placed.size)) in
     let second = placed.each f k (omega (arith, placed.size)) in
-    subst (λ (g : ℕ). Tells x g f answer) first.1 (subst
-    (λ (g : ℕ). Tells x (get_or ps e d).number g answer) second.1 (tells first.0 second.0))
+    subst (λ (g : ℕ). TellsForced x g f answer) first.1 (subst
+    (λ (g : ℕ). TellsForced x (get_or ps e d).number g answer) second.1 (tells first.0 second.0))
 
 -- an event with a source is in the row of its source
 pub reader_of_some : (x : Execution) (n s : ℕ) (rows : Table) (answer : Bool) (d row : List Bool)
-    → s < event_count x → source_of x n ≡ Some s → Tells x s n answer
+    → s < event_count x → source_of x n ≡ Some s → TellsForced x s n answer
     → IsPut (get_or rows s d) n answer row → AreFilled x (IsReached x n) rows
     → AreFilled x (IsReached x (n + 1)) (set rows s row)
 reader_of_some x n s rows answer d row at is tells put h = record {

@@ -14,14 +14,14 @@ pub record IsPut (old : List Bool) (e : ℕ) (answer : Bool) (new : List Bool) :
   pub others : (f : ℕ) → f ≢ e → is_in new f ≡ is_in old f
 
 -- the answer is whether e is forced before f
-abbrev pub Tells : Execution → ℕ → ℕ → Bool → Type 0
-Tells x e f answer = (answer ≡ true) ↔ Forced x e f
+abbrev pub TellsForced : Execution → ℕ → ℕ → Bool → Type 0
+TellsForced x e f answer = (answer ≡ true) ↔ Forced x e f
 
 -- the new row tells what e is forced before where P holds, and elsewhere that or what the old row did
 pub record IsFilled (x : Execution) (e : ℕ) (P : ℕ → Type 0) (old new : List Bool) : Type 0 where
   pub size : length new ≡ length old
-  pub filled : (f : ℕ) → P f → Tells x e f (is_in new f)
-  pub others : (f : ℕ) → Tells x e f (is_in new f) ⊎ (is_in new f ≡ is_in old f)
+  pub filled : (f : ℕ) → P f → TellsForced x e f (is_in new f)
+  pub others : (f : ℕ) → TellsForced x e f (is_in new f) ⊎ (is_in new f ≡ is_in old f)
 
 -- f is behind e on its core, or a write that e is before by write order or from-read
 abbrev pub IsOwnOrWrite : Execution → ℕ → ℕ → Type 0

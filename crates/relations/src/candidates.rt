@@ -14,7 +14,7 @@ impl Placed {
     ghost use Rattle.relations.specs.declared.reason.Reason.TheVariants.{Wo, Fr};
     ghost use Rattle.relations.specs.Forced.{Holds};
     ghost use Rattle.relations.specs.Placed.{IsPlaced, ArePlaced};
-    ghost use Rattle.relations.specs.Filled.{Tells, IsFilled, IsOwnOrWrite};
+    ghost use Rattle.relations.specs.Filled.{TellsForced, IsFilled, IsOwnOrWrite};
 
     /// The address that it reads or writes.
     fn address(&self) -> Option<Addr>
@@ -44,7 +44,7 @@ impl Placed {
     fn is_forced_behind(&self, other: &Placed) -> bool
         ensures { (x : Execution) → IsPlaced x self.now → IsPlaced x other.now
             → ProgramOrder x self.now.number other.now.number
-            → Tells x self.now.number other.now.number result }
+            → TellsForced x self.now.number other.now.number result }
     {
         self.event.keeps(&other.event)
     }

@@ -10,7 +10,7 @@ impl Placed {
     ghost use Rattle.relations.specs.declared.reason.Reason.TheVariants.{Po, Wo, Rf, Fr};
     ghost use Rattle.relations.specs.Forced.{Holds, IsReason};
     ghost use Rattle.relations.specs.Placed.{IsPlaced};
-    ghost use Rattle.relations.specs.Filled.{Tells};
+    ghost use Rattle.relations.specs.Filled.{TellsForced};
 
     /// Whether it writes an address.
     fn writes_to(&self, address: Addr) -> bool
@@ -97,7 +97,7 @@ impl Placed {
     /// Whether every memory order has it before another.
     pub(crate) fn is_forced_before(&self, other: &Placed) -> bool
         ensures { (x : Execution) → IsPlaced x self.now → IsPlaced x other.now
-            → Tells x self.now.number other.now.number result }
+            → TellsForced x self.now.number other.now.number result }
     {
         self.reason(other).is_some()
     }

@@ -1,7 +1,7 @@
 use Rattle.std.proofs.Common.{◌≡◌, ◌<◌, ◌+◌, inl, inr, ℕ, arith, sym, ap, subst, ◌∙◌}
 use Rattle.std.proofs.lemmas.Bool.{cases_lt}
 use Rattle.recorder.specs.Execution.{ProgramOrder, core_of}
-use Rattle.relations.specs.Filled.{Tells}
+use Rattle.relations.specs.Filled.{TellsForced}
 use Rattle.relations.proofs.Cores.{behind_past}
 use Rattle.relations.proofs.Filled.{filled_fewer, filled_more}
 use Rattle.relations.proofs.placed.Placed.fill_own_core.Goals as goal
@@ -20,7 +20,7 @@ loop-f-preserved c =
           filled_more x e (λ f. ProgramOrder x e f × (f < i))
           (λ f. ProgramOrder x e f × (f < i + 1)) c.args.row.now c.loop-f.row c.put.new.row i
           c.is_forced_behind.result c.put.ensures
-          (subst (λ (g : ℕ). Tells x e g c.is_forced_behind.result) second.1
+          (subst (λ (g : ℕ). TellsForced x e g c.is_forced_behind.result) second.1
           (c.is_forced_behind.ensures x hp second.0 (
             omega (arith, second.1, c.loop-f.auto.f),
             second.0.within,

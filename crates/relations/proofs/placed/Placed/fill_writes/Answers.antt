@@ -5,7 +5,7 @@ use Rattle.recorder.specs.Event.{read_address, written_address}
 use Rattle.recorder.specs.Execution.{event_count, write_list}
 use Rattle.recorder.specs.Order.{place}
 use Rattle.relations.specs.declared.reason.Reason.TheVariants.{Wo, Fr}
-use Rattle.relations.specs.Filled.{Tells}
+use Rattle.relations.specs.Filled.{TellsForced}
 use Rattle.relations.specs.Forced.{Holds}
 use Rattle.relations.proofs.Pairs.{later_place}
 use Rattle.relations.proofs.Written.{address_used, listed_event, stands_at}
@@ -67,7 +67,7 @@ loop-i-preserved c =
     filled_more x e (λ g. (first ≤ at g) × (at g < i))
     (λ g. (first ≤ at g) × (at g < i + 1)) c.args.row.now c.loop-i.row c.put.new.row f
     c.is_forced_before.result c.put.ensures
-    (subst (λ (g : ℕ). Tells x e g c.is_forced_before.result) second.1
+    (subst (λ (g : ℕ). TellsForced x e g c.is_forced_before.result) second.1
     (c.is_forced_before.ensures x c.requires.placed second.0))
     (λ g q. elim (cases_lt (at g) i) [
       | inl before ↦ inl (q.0, before)
