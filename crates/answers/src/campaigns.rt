@@ -6,7 +6,8 @@ ghost use Rattle.answers.specs.Campaign.{IsCampaignAnswer, IsShownAnswer, campai
 use crate::answer::{Answer, DONE, UNFINISHED, VIOLATION};
 use crate::ledger_text::campaign_text;
 use crate::runs::finished;
-use litmus::{Gate, MAX_WORKERS, OutOfMemory, print};
+use common::{Gate, MAX_WORKERS, OutOfMemory};
+use litmus::print;
 use std::alloc::Global;
 use std::sync::Wait;
 use std::thread::Threads;

@@ -4,7 +4,7 @@ ghost use Rattle.std.specs.Prelude.{◌≡◌, ◌++◌, IfOk, OnOk, Some};
 ghost use Rattle.answers.specs.CampaignText.{campaign_text, count_line, cycle_line, cycle_lines};
 ghost use Rattle.answers.specs.CampaignText.{first_line, trial_name};
 
-use litmus::OutOfMemory;
+use common::OutOfMemory;
 use report::put_number;
 use std::alloc::Global;
 use trials::Ledger;

@@ -5,12 +5,13 @@ ghost use Rattle.answers.specs.Run.{IsRunAnswer, IsSeededAnswer, state_after};
 
 use crate::answer::{Answer, UNFINISHED};
 use crate::verdict::verdict_behind;
+use common::OutOfMemory;
 use judge::judge_alone;
-use litmus::{OutOfMemory, Program};
+use litmus::Program;
 use machine::{Fault, Machine, Step};
 use rand_core::SeedableRng;
 use rand_xoshiro::Xoshiro256PlusPlus;
-use recorder::write_recording;
+use recording_text::write_recording;
 use std::alloc::Global;
 use trials::run_seeded;
 

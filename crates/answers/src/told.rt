@@ -5,10 +5,11 @@ ghost use Rattle.answers.specs.Told.{IsToldAnswer};
 
 use crate::answer::Answer;
 use crate::verdict::status_of;
+use common::OutOfMemory;
 use explanation::{Telling, telling_text};
 use indexmap::IndexSet;
 use judge::judge_alone;
-use litmus::{Name, OutOfMemory};
+use litmus::Name;
 use recorder::Recording;
 use std::alloc::Global;
 

@@ -5,8 +5,8 @@ ghost use Rattle.judge.specs.Verdict.{IsVerdict, Verifies};
 ghost use Rattle.answers.specs.Verdict.{IsVerdictAnswer, verdict_status};
 
 use crate::answer::{Answer, DONE, VIOLATION};
+use common::{MAX_WORKERS, OutOfMemory};
 use judge::{Verdict, judge};
-use litmus::{MAX_WORKERS, OutOfMemory};
 use recorder::Recording;
 use report::verdict_text;
 use std::alloc::Global;

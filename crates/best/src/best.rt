@@ -8,7 +8,7 @@ ghost use Rattle.best.specs.Seats.{IsBestSeatOf, IsBoundRead, AreBeside, Unites,
 
 use crate::rule::{Beside, BestTable, Lowers, NONE, Reads};
 use crate::seat::{Best, BestSeat};
-use litmus::{EventId, OutOfMemory};
+use common::{EventId, OutOfMemory};
 use relations::Relation;
 use std::alloc::Global;
 use std::sync::Arc;

@@ -3,7 +3,7 @@
 use crate::lanes::{move_words, or_lanes, put_lanes};
 use crate::numbers::Numbers;
 use crate::word_bits::{clear_bit, next_bit, set_bit, test_bit};
-use litmus::OutOfMemory;
+use common::OutOfMemory;
 use std::alloc::Global;
 use std::marker::Model;
 use std::simd::prelude::*;

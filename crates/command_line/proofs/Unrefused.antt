@@ -4,7 +4,7 @@ use Rattle.std.proofs.Common.{Option, Some, None, IfSome, Result, Ok, Err, if◌
 use Rattle.std.proofs.Common.{nat_lt}
 use Rattle.std.specs.Option.{option_or}
 use Rattle.std.proofs.lemmas.Bool.{ltb-false, ltb-true, or_parts}
-use Rattle.litmus.specs.declared.limits.TheConstants.{MAX_ADDRESSES, MAX_CORES, MAX_EVENTS}
+use Rattle.common.specs.declared.limits.TheConstants.{MAX_ADDRESSES, MAX_CORES, MAX_EVENTS}
 use Rattle.litmus.specs.declared.shape_error.ShapeError.{ShapeError}
 use Rattle.litmus.specs.declared.shape_error.ShapeError.TheVariants.{K1, K2, K3, K4}
 use Rattle.litmus.specs.Shapes.{Sizes, is_outside, shape_of}

@@ -1,8 +1,8 @@
 -- The texts of the help that name limits and defaults.
 use Rattle.std.specs.Prelude.{◌≡◌, ◌++◌, ℕ, List, Option, codes, decimal, option_map}
 use Rattle.clap.specs.declared.builder.arg.Arg.{Arg}
-use Rattle.litmus.specs.declared.limits.TheConstants.{MAX_ADDRESSES, MAX_CAPACITY, MAX_CORES, MAX_EVENTS}
-use Rattle.litmus.specs.declared.limits.TheConstants.{MAX_STEPS, MAX_TRIALS, MAX_WORKERS}
+use Rattle.common.specs.declared.limits.TheConstants.{MAX_ADDRESSES, MAX_CAPACITY, MAX_CORES, MAX_EVENTS}
+use Rattle.common.specs.declared.limits.TheConstants.{MAX_STEPS, MAX_TRIALS, MAX_WORKERS}
 use Rattle.machine.specs.declared.fault.Fault.{Fault}
 use Rattle.machine.specs.declared.fault.Fault.TheVariants as fault
 use Rattle.command_line.specs.declared.options.TheConstants.{DEFAULT_ATTEMPTS, DEFAULT_BUFFER, DEFAULT_FAULT}

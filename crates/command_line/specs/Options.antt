@@ -4,7 +4,7 @@ use Rattle.std.specs.Prelude.{option_map, string_bytes}
 use Rattle.clap.specs.Words.{IsAmong, Row, Text, fault_of, first_of, kind_of, takes}
 use Rattle.clap.specs.declared.error.Error.{Error}
 use Rattle.clap.specs.declared.error.kind.ErrorKind.TheVariants as kinds
-use Rattle.litmus.specs.declared.limits.TheConstants.{MAX_CAPACITY, MAX_STEPS, MAX_TRIALS, MAX_WORKERS}
+use Rattle.common.specs.declared.limits.TheConstants.{MAX_CAPACITY, MAX_STEPS, MAX_TRIALS, MAX_WORKERS}
 use Rattle.litmus.specs.Shapes.{is_outside, shape_of}
 use Rattle.command_line.specs.declared.options.Options.{Options}
 use Rattle.command_line.specs.declared.options.Options.TheVariants.{Run, Judge, Trials, Live, Replay, Explain, Draw}

@@ -4,7 +4,7 @@ use Rattle.std.specs.Prelude.{nat_lt}
 use Rattle.std.specs.Option.{option_or}
 use Rattle.std.specs.Str.{bytes_eq}
 use Rattle.clap.specs.Words.{Row, Text}
-use Rattle.litmus.specs.declared.limits.TheConstants.{MAX_CAPACITY, MAX_STEPS, MAX_TRIALS, MAX_WORKERS}
+use Rattle.common.specs.declared.limits.TheConstants.{MAX_CAPACITY, MAX_STEPS, MAX_TRIALS, MAX_WORKERS}
 use Rattle.litmus.specs.declared.shape_error.ShapeError.{ShapeError}
 use Rattle.litmus.specs.declared.shape_error.ShapeError.TheVariants.{K5, K6, K7}
 use Rattle.litmus.specs.Shapes.{Sizes, is_outside, shape_of}

@@ -15,7 +15,8 @@ use crate::options::{
     DEFAULT_ATTEMPTS, DEFAULT_BUFFER, DEFAULT_LIMIT, DEFAULT_TRIALS, DEFAULT_WORKERS, OptionRefusal,
 };
 use clap::ArgMatches;
-use litmus::{MAX_CAPACITY, MAX_STEPS, MAX_TRIALS, MAX_WORKERS, Shape, ShapeError, is_outside};
+use common::{MAX_CAPACITY, MAX_STEPS, MAX_TRIALS, MAX_WORKERS};
+use litmus::{Shape, ShapeError, is_outside};
 
 /// The refusal of a number that is not from 1 to the limit.
 fn refusal_outside(limit: usize, refusal: OptionRefusal, number: u64) -> Option<OptionRefusal>

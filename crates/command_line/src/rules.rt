@@ -13,7 +13,7 @@ use crate::options::{
 };
 use crate::pages::{FAULT_TEXT, NAMES_TEXT, QUIET_TEXT, SHOW_TEXT};
 use clap::{Arg, ArgAction};
-use litmus::{
+use common::{
     MAX_ADDRESSES, MAX_CAPACITY, MAX_CORES, MAX_EVENTS, MAX_STEPS, MAX_TRIALS, MAX_WORKERS,
 };
 use std::alloc::{AllocError, Global};

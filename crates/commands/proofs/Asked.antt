@@ -9,7 +9,7 @@ use Rattle.command_line.specs.declared.options.JudgeOptions.{JudgeOptions}
 use Rattle.command_line.specs.declared.options.RunOptions.{RunOptions}
 use Rattle.command_line.specs.declared.options.TrialsOptions.{TrialsOptions}
 use Rattle.command_line.specs.Options.{AreOptions, AreTrialsOptions}
-use Rattle.litmus.specs.declared.limits.TheConstants.{MAX_WORKERS}
+use Rattle.common.specs.declared.limits.TheConstants.{MAX_WORKERS}
 use Rattle.litmus.specs.Parts.{Parts}
 use Rattle.litmus.specs.Text.{reading}
 use Rattle.commands.specs.Inputs.{AreBytesOf}

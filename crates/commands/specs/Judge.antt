@@ -3,7 +3,7 @@ use Rattle.std.specs.Prelude.{◌≡◌, [], ℕ, List, Option, Ok, Err, string_
 use Rattle.command_line.specs.declared.options.JudgeOptions.{JudgeOptions}
 use Rattle.recorder.specs.declared.fault.RecError.{RecError}
 use Rattle.recorder.specs.Execution.{Execution}
-use Rattle.recorder.specs.Reading.{IsReadingResult}
+use Rattle.recording_text.specs.Reading.{IsReadingResult}
 use Rattle.answers.specs.declared.answer.Answer.{Answer}
 use Rattle.commands.specs.declared.stop.Stop.{Stop}
 use Rattle.commands.specs.declared.stop.Stop.TheVariants.{Refused, Fault}

@@ -4,7 +4,7 @@ use Rattle.command_line.specs.declared.options.FileOptions.{FileOptions}
 use Rattle.litmus.specs.Spelling.{spelling}
 use Rattle.litmus.specs.Text.{reading}
 use Rattle.recorder.specs.Execution.{Execution}
-use Rattle.recorder.specs.Reading.{IsReadingResult}
+use Rattle.recording_text.specs.Reading.{IsReadingResult}
 use Rattle.recorder.specs.Tso.{IsTsoOrder}
 use Rattle.machine.specs.Script.{steps_of}
 use Rattle.machine.specs.ScriptText.{script_text}

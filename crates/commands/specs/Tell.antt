@@ -6,7 +6,7 @@ use Rattle.litmus.specs.AddressNames.{address_names}
 use Rattle.litmus.specs.Parts.{Parts}
 use Rattle.litmus.specs.Text.{reading}
 use Rattle.recorder.specs.Execution.{Execution}
-use Rattle.recorder.specs.Reading.{IsReadingResult}
+use Rattle.recording_text.specs.Reading.{IsReadingResult}
 use Rattle.explanation.specs.declared.telling.Telling.{Telling}
 use Rattle.explanation.specs.Program.{IsProgramOf}
 use Rattle.command_line.specs.declared.options.ExplainOptions.{ExplainOptions}

@@ -11,7 +11,7 @@ use crate::run_command::program_of;
 use crate::stop::Stop;
 use answers::{Answer, finished};
 use command_line::LiveOptions;
-use litmus::OpenGate;
+use common::OpenGate;
 use live::{LiveError, drive};
 use std::alloc::Global;
 use std::sync::Wait;

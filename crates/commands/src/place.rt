@@ -1,6 +1,6 @@
 //! Where a command's inputs come from, and where it shows how far it is.
 
-use litmus::Gate;
+use common::Gate;
 use std::io;
 
 /// Why an input was not given.

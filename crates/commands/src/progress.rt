@@ -2,7 +2,7 @@
 ghost use Rattle.std.specs.Prelude.{◌≡◌};
 ghost use Rattle.commands.specs.Progress.{line_due};
 
-use litmus::Gate;
+use common::Gate;
 use std::fmt;
 use std::fmt::{Display, Formatter, Write};
 use std::io::IsTerminal;

@@ -12,11 +12,13 @@ use crate::reading::text_at;
 use crate::stop::Stop;
 use answers::{Answer, DONE, verdict_behind};
 use command_line::FileOptions;
+use common::{EventId, OutOfMemory};
 use itoa::Buffer;
 use judge::{Verdict, judge_alone};
-use litmus::{EventId, OutOfMemory, has_one_text, print};
+use litmus::{has_one_text, print};
 use machine::steps_text;
-use recorder::{Recording, read_recording};
+use recorder::Recording;
+use recording_text::read_recording;
 use replay::{every_order_is_replayed, is_numbered, most_stores, replay_steps};
 use std::alloc::Global;
 

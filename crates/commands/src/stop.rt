@@ -1,7 +1,7 @@
 //! Why a command stops.
 
 use crate::fault::CommandFault;
-use litmus::OutOfMemory;
+use common::OutOfMemory;
 use std::alloc::{AllocError, AllocFailed};
 
 /// Why a command stops before its usual answer.

@@ -1,7 +1,7 @@
 //! The commands `explain` and `draw`.
 ghost use Rattle.std.specs.Prelude.{IfErr, IfOk, Ok, Some, length};
 ghost use Rattle.litmus.specs.AddressNames.{address_names};
-ghost use Rattle.recorder.specs.Reading.{IsReadingResult};
+ghost use Rattle.recording_text.specs.Reading.{IsReadingResult};
 ghost use Rattle.answers.specs.Told.{IsToldAnswer};
 ghost use Rattle.commands.specs.Tell.{AreNamesIn, IsTold, IsToldBy, IsTellingStop, IsNamesStop};
 ghost use Rattle.commands.specs.Judge.{IsUnread};
@@ -13,9 +13,11 @@ use crate::run_command::program_of;
 use crate::stop::Stop;
 use answers::{Answer, told_answer};
 use command_line::ExplainOptions;
+use common::OutOfMemory;
 use explanation::{Telling, is_program_of};
-use litmus::{OutOfMemory, Program, address_names};
-use recorder::{Recording, read_recording};
+use litmus::{Program, address_names};
+use recorder::Recording;
+use recording_text::read_recording;
 use std::alloc::Global;
 
 /// The recording that the bytes are, or the line of their refusal.

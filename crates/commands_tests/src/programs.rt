@@ -1,6 +1,7 @@
 //! Programs at their limits, and past them.
 
-use litmus::{LineFault, LitmusError, MAX_ADDRESSES, MAX_CORES, MAX_EVENTS, parse};
+use common::{MAX_ADDRESSES, MAX_CORES, MAX_EVENTS};
+use litmus::{LineFault, LitmusError, parse};
 use std::alloc::Global;
 use std::fmt::Write;
 use std::test::Fail;

@@ -8,8 +8,8 @@ ghost use Rattle.judge.specs.declared.verdict.Verdict.TheVariants.{Overlook};
 ghost use Rattle.explanation.specs.Bold.{IsCycleEdge, AreCycleEdges, AreBold};
 
 use crate::edges::Edge;
+use common::{EventId, OutOfMemory};
 use judge::Verdict;
-use litmus::{EventId, OutOfMemory};
 use recorder::Recording;
 use relations::{Reason, behind, first_reason};
 use std::alloc::Global;

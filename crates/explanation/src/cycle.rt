@@ -10,8 +10,9 @@ ghost use Rattle.explanation.specs.Cycle.{SaysCycle};
 use crate::events::put_written;
 use crate::lines::{put_before, put_indent, put_line};
 use crate::numbers::put_number;
+use common::{Addr, EventId, OutOfMemory};
 use indexmap::IndexSet;
-use litmus::{Addr, EventId, Name, OutOfMemory};
+use litmus::Name;
 use recorder::Recording;
 use relations::{Reason, behind, first_reason};
 

@@ -13,9 +13,10 @@ use crate::bold::bold_edges;
 use crate::edge_lines::{put_bold, put_ends, put_thin};
 use crate::edges::Edge;
 use crate::nodes::put_clusters;
+use common::{EventId, OutOfMemory};
 use indexmap::IndexSet;
 use judge::Verdict;
-use litmus::{EventId, Name, OutOfMemory};
+use litmus::Name;
 use recorder::Recording;
 use std::alloc::Global;
 

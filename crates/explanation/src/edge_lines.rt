@@ -9,7 +9,7 @@ ghost use Rattle.explanation.specs.Nodes.{texts_below};
 
 use crate::edges::{Edge, co_edge, fr_edge, is_drawn, po_edge, rf_edge};
 use crate::numbers::put_number;
-use litmus::{EventId, OutOfMemory};
+use common::{EventId, OutOfMemory};
 use recorder::Recording;
 use relations::Reason;
 

@@ -7,7 +7,7 @@ ghost use Rattle.explanation.specs.Edges.{other_than, first_newer, po_edge, rf_e
 ghost use Rattle.explanation.specs.Edges.{is_same_edge, is_drawn};
 
 use crate::lines::event_of;
-use litmus::{Addr, EventId};
+use common::{Addr, EventId};
 use recorder::{Recording, place};
 use relations::Reason;
 

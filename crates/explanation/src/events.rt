@@ -5,8 +5,9 @@ ghost use Rattle.recorder.specs.declared.event.Event.TheVariants.{L, S, R, C};
 ghost use Rattle.explanation.specs.Events.{address_text, written_text, source_text, read_text, event_text};
 
 use crate::numbers::put_number;
+use common::{Addr, EventId, OutOfMemory};
 use indexmap::IndexSet;
-use litmus::{Addr, EventId, Name, OutOfMemory};
+use litmus::Name;
 use recorder::Event;
 
 /// Adds the name of an address.

@@ -6,8 +6,9 @@ ghost use Rattle.explanation.specs.Events.{event_width, core_width, aligned, eve
 
 use crate::events::put_event;
 use crate::numbers::{digits, put_aligned, put_number, put_spaces};
+use common::{CoreId, EventId, OutOfMemory};
 use indexmap::IndexSet;
-use litmus::{CoreId, EventId, Name, OutOfMemory};
+use litmus::Name;
 use recorder::{Event, Recording};
 
 /// How many digits the greatest number of an event has.

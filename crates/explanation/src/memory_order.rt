@@ -9,8 +9,9 @@ ghost use Rattle.explanation.specs.Order.{lawful_lines, placed_lines, order_text
 use crate::events::put_address;
 use crate::lines::{event_of, put_indent, put_line};
 use crate::numbers::put_number;
+use common::{Addr, EventId, OutOfMemory};
 use indexmap::IndexSet;
-use litmus::{Addr, EventId, Name, OutOfMemory};
+use litmus::Name;
 use recorder::{Event, Recording, place};
 
 /// Adds that no write of an address is before an event.

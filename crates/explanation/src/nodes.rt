@@ -8,8 +8,9 @@ ghost use Rattle.explanation.specs.Nodes.{cluster_heading, cluster_text};
 use crate::events::put_event;
 use crate::lines::event_of;
 use crate::numbers::put_number;
+use common::{EventId, OutOfMemory};
 use indexmap::IndexSet;
-use litmus::{EventId, Name, OutOfMemory};
+use litmus::Name;
 use recorder::{Event, Recording};
 
 /// Adds the beginning of the line of an event.

@@ -3,8 +3,8 @@
 ghost use Rattle.std.specs.Prelude.{◌≡◌, ◌++◌, ◌-◌, ◌<◌, ◌≤◌, ◌^◌, OnOk, decimal};
 ghost use Rattle.explanation.specs.Events.{digits, aligned, spaces};
 
+use common::OutOfMemory;
 use itoa::Buffer;
-use litmus::OutOfMemory;
 
 /// How many digits a number has.
 pub(crate) fn digits(number: usize) -> usize

@@ -9,8 +9,9 @@ ghost use Rattle.explanation.specs.Overlook.{overlook_heading, store_line, inste
 use crate::events::put_written;
 use crate::lines::{put_before, put_indent, put_line};
 use crate::numbers::put_number;
+use common::{Addr, EventId, OutOfMemory};
 use indexmap::IndexSet;
-use litmus::{Addr, EventId, Name, OutOfMemory};
+use litmus::Name;
 use recorder::Recording;
 
 /// Adds what is said first of an overlook.

@@ -6,9 +6,10 @@ ghost use Rattle.explanation.specs.Telling.{TellsVerdict};
 
 use crate::drawing::drawing_text;
 use crate::words::explanation_text;
+use common::OutOfMemory;
 use indexmap::IndexSet;
 use judge::Verdict;
-use litmus::{Name, OutOfMemory};
+use litmus::Name;
 use recorder::Recording;
 use std::alloc::Global;
 

@@ -7,9 +7,10 @@ ghost use Rattle.explanation.specs.Explanation.{IsExplanation};
 use crate::cycle::put_cycle;
 use crate::memory_order::put_order;
 use crate::overlook::put_overlook;
+use common::OutOfMemory;
 use indexmap::IndexSet;
 use judge::Verdict;
-use litmus::{Name, OutOfMemory};
+use litmus::Name;
 use recorder::Recording;
 use std::alloc::Global;
 

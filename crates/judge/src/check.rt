@@ -4,7 +4,7 @@ ghost use Rattle.std.specs.Prelude.{◌↔◌, IfOk, IsTrue};
 ghost use Rattle.judge.specs.Verdict.{Verifies, Means};
 
 use crate::verdict::Verdict;
-use litmus::OutOfMemory;
+use common::OutOfMemory;
 use recorder::Recording;
 use relations::{Relation, forced_is_exact, is_overlook, ordered_is_acyclic, relation_is_forced};
 use std::alloc::Global;

@@ -1,7 +1,7 @@
 //! Verdicts.
 
+use common::EventId;
 use labels::Certificate;
-use litmus::EventId;
 
 /// What is judged of a recording. Its type keeps none of this; `verify` says whether it holds.
 #[derive(Drop)]

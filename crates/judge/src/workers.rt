@@ -7,8 +7,8 @@ ghost use Rattle.relations.specs.Relation.{Related};
 ghost use Rattle.judge.specs.Verdict.{IsVerdict, IsLeastCertificate, Verifies};
 
 use crate::verdict::Verdict;
+use common::{Gate, MAX_WORKERS, OpenGate, OutOfMemory};
 use labels::Certificate;
-use litmus::{Gate, MAX_WORKERS, OpenGate, OutOfMemory};
 use order::build;
 use recorder::Recording;
 use relations::{Relation, forced_is_exact, ordered_is_acyclic, overlook, relation_is_forced};

@@ -2,8 +2,8 @@
 
 use crate::recordings::{EventLists, MESSAGE_PASSING, THREE_AND_FOUR, recorded};
 use crate::workers::Watch;
-use litmus::OpenGate;
-use recorder::write_recording;
+use common::OpenGate;
+use recording_text::write_recording;
 use report::{Device, MemorySink, MemorySource, Outcome, ReportError, answer};
 use std::alloc::Global;
 use std::io;

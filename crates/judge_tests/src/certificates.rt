@@ -1,8 +1,8 @@
 //! Certificates, and lists that differ from one in one thing.
 
 use crate::recordings::{MESSAGE_PASSING, TWO_CYCLES, related};
+use common::EventId;
 use labels::{Certificate, check, check_par};
-use litmus::EventId;
 use relations::Relation;
 use std::alloc::Global;
 use std::sync::Wait;

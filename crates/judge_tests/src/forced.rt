@@ -3,7 +3,7 @@
 use crate::recordings::{
     BYPASSING, EventLists, FAILED_SWAPS, LOAD_AND_STORE, SELF_SOURCE, TWIN_SWAPS, recorded, related,
 };
-use litmus::EventId;
+use common::EventId;
 use relations::{Reason, first_reason};
 use std::alloc::Global;
 use std::test::Fail;

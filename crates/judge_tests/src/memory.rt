@@ -3,10 +3,11 @@
 //! each growth in turn.
 
 ghost use Rattle.std.specs.Prelude.{◌≤◌};
-ghost use Rattle.litmus.specs.declared.limits.TheConstants.{MAX_WORKERS};
+ghost use Rattle.common.specs.declared.limits.TheConstants.{MAX_WORKERS};
 
 use judge::judge;
-use recorder::{RecError, Recording, read_recording};
+use recorder::{RecError, Recording};
+use recording_text::read_recording;
 use report::verdict_text;
 use std::alloc::Global;
 use std::sync::Wait;

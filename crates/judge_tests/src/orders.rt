@@ -1,7 +1,7 @@
 //! Lists of events, and which of them are memory orders.
 
 use crate::recordings::{EventLists, MESSAGE_PASSING, STORE_BUFFERING, recorded};
-use litmus::EventId;
+use common::EventId;
 use order::check;
 use std::alloc::Global;
 use std::test::Fail;

@@ -1,6 +1,6 @@
 //! Recordings by the names that the field gives them.
 
-use litmus::EventId;
+use common::EventId;
 use recorder::{Event, Recording};
 use relations::Relation;
 use std::alloc::Global;

@@ -4,9 +4,9 @@ use crate::recordings::{
     EventLists, MESSAGE_PASSING, OVERLOOKED_STORE, STORE_BUFFERING, STORE_BUFFERING_FENCED,
     recorded,
 };
+use common::{EventId, MAX_WORKERS};
 use judge::{Verdict, judge, judge_alone, verify};
 use labels::Certificate;
-use litmus::{EventId, MAX_WORKERS};
 use recorder::Recording;
 use std::alloc::Global;
 use std::sync::Wait;

@@ -1,15 +1,15 @@
 //! Workers that share the search for cycles.
 
 ghost use Rattle.std.specs.Prelude.{◌≤◌};
-ghost use Rattle.litmus.specs.declared.limits.TheConstants.{MAX_WORKERS};
+ghost use Rattle.common.specs.declared.limits.TheConstants.{MAX_WORKERS};
 ghost use Rattle.best.specs.Seats.{IsBestSeatOf, known_of};
 ghost use Rattle.search.specs.SourceRow.{AreShared};
 
 use crate::bound::{jobs_of, opened};
 use crate::recordings::{THREE_AND_FOUR, recorded, related};
 use best::{Best, BestSeat};
+use common::{EventId, Gate, OpenGate};
 use judge::{Verdict, judge_gated};
-use litmus::{EventId, Gate, OpenGate};
 use recorder::Recording;
 use search::{SourceJob, least_length, run_jobs};
 use std::alloc::Global;

@@ -1,6 +1,6 @@
 //! Certificates.
 
-use litmus::EventId;
+use common::EventId;
 
 /// A cycle of forced pairs, and a row of labels for each event. Its type keeps none of this; `check` says
 /// whether it holds.

@@ -4,7 +4,7 @@ ghost use Rattle.std.specs.Prelude.{◌↔◌, IsTrue};
 ghost use Rattle.relations.specs.Relation.{Related};
 ghost use Rattle.relations.specs.Cycle.{IsCycle};
 
-use litmus::EventId;
+use common::EventId;
 use relations::Relation;
 
 /// Whether each event of a list of any numbers is forced before the next, and the last before the

@@ -4,7 +4,7 @@ ghost use Rattle.std.specs.Prelude.{◌≡◌, ◌<◌, ◌≤◌, ◌+◌, ◌�
 ghost use Rattle.relations.specs.Relation.{Related};
 ghost use Rattle.relations.specs.Cycle.{IsLabelling};
 
-use litmus::EventId;
+use common::EventId;
 use relations::Relation;
 
 /// The largest label, or 0 where there is none.

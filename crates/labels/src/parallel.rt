@@ -2,7 +2,7 @@
 
 ghost use Rattle.std.specs.Prelude.{◌≡◌, ◌<◌, ◌≤◌, ◌*◌, ◌/◌, ◌%◌, ◌↔◌, [], IsTrue, length, slice_index};
 ghost use Rattle.std.specs.Prelude.{slice_index_or};
-ghost use Rattle.litmus.specs.declared.limits.TheConstants.{MAX_EVENTS};
+ghost use Rattle.common.specs.declared.limits.TheConstants.{MAX_EVENTS};
 ghost use Rattle.relations.specs.Relation.{Related};
 ghost use Rattle.relations.specs.Cycle.{IsShortest};
 ghost use Rattle.labels.specs.Certified.{lists_of, Certifies};
@@ -11,7 +11,7 @@ ghost use Rattle.labels.specs.Agreed.{AreShaped, AgreesAt, AllAgree};
 use crate::certificate::Certificate;
 use crate::cycle::is_cycle;
 use crate::labelling::{closes_from, grows_from};
-use litmus::EventId;
+use common::EventId;
 use rayon::prelude::*;
 use relations::Relation;
 use std::thread::Threads;

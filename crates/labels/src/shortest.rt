@@ -8,7 +8,7 @@ ghost use Rattle.labels.specs.Certified.{Certifies, AreLabellings};
 use crate::certificate::Certificate;
 use crate::cycle::is_cycle;
 use crate::labelling::is_labelling;
-use litmus::EventId;
+use common::EventId;
 use relations::Relation;
 
 /// Whether each event has a row by which no cycle through it is shorter than the length.

@@ -14,7 +14,7 @@ use Rattle.litmus.specs.declared.line.Write.{Write}
 use Rattle.litmus.specs.declared.line.Write.TheVariants as writes
 use Rattle.litmus.specs.declared.fault.LineFault.{LineFault}
 use Rattle.litmus.specs.declared.fault.LineFault.TheVariants.{L1}
-use Rattle.litmus.specs.declared.limits.TheConstants.{MAX_CORES, MAX_EVENTS, MAX_ADDRESSES}
+use Rattle.common.specs.declared.limits.TheConstants.{MAX_CORES, MAX_EVENTS, MAX_ADDRESSES}
 use Rattle.litmus.specs.Names.{AreLawful, name_eq, name_of, name_text, no_name}
 use Rattle.litmus.specs.Lines.{core_line}
 use Rattle.litmus.specs.Parts.{Small, Body, op_count, addr_of, use_addr, use_ops, use_cores}

@@ -13,7 +13,7 @@ use Rattle.litmus.specs.declared.line.Write.{Write}
 use Rattle.litmus.specs.declared.line.Write.TheVariants as writes
 use Rattle.litmus.specs.declared.fault.LineFault.{LineFault}
 use Rattle.litmus.specs.declared.fault.LineFault.TheVariants.{L1, L2, L3, L4, L5}
-use Rattle.litmus.specs.declared.limits.TheConstants.{MAX_CORES, MAX_EVENTS, MAX_ADDRESSES}
+use Rattle.common.specs.declared.limits.TheConstants.{MAX_CORES, MAX_EVENTS, MAX_ADDRESSES}
 use Rattle.litmus.specs.Names.{AreLawful, name_eq, name_of, name_text}
 use Rattle.litmus.specs.Lines.{load_line, write_line, compare_line}
 use Rattle.litmus.specs.Parts.{Small, Body, IsBody, op_count, addr_of, use_addr}

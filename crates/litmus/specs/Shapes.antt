@@ -2,7 +2,7 @@
 use Rattle.std.specs.Prelude.{◌<◌, ◌≤◌, ◌*◌, ◌||◌, ℕ, Bool, nat_lt, Result, Ok, Err, if◌then◌else◌}
 use Rattle.litmus.specs.declared.shape_error.ShapeError.{ShapeError}
 use Rattle.litmus.specs.declared.shape_error.ShapeError.TheVariants.{K1, K2, K3, K4}
-use Rattle.litmus.specs.declared.limits.TheConstants.{MAX_CORES, MAX_EVENTS, MAX_ADDRESSES}
+use Rattle.common.specs.declared.limits.TheConstants.{MAX_CORES, MAX_EVENTS, MAX_ADDRESSES}
 
 -- how many cores, operations of each core, and addresses
 pub record Sizes : Type 0 where

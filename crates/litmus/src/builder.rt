@@ -5,12 +5,11 @@ ghost use Rattle.litmus.specs.Parts.{op_count};
 ghost use Rattle.litmus.specs.Steps.{write_op};
 
 use crate::fault::{LineFault, LitmusError};
-use crate::ids::Addr;
-use crate::limits::{MAX_ADDRESSES, MAX_CORES, MAX_EVENTS};
 use crate::line::Write;
 use crate::name::Name;
 use crate::number::Number;
 use crate::op::{Op, Ops};
+use common::{Addr, MAX_ADDRESSES, MAX_CORES, MAX_EVENTS};
 use indexmap::IndexSet;
 use std::alloc::Global;
 

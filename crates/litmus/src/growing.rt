@@ -1,8 +1,8 @@
 //! What a builder takes without a line of a text.
 
 use crate::builder::Builder;
-use crate::memory::OutOfMemory;
 use crate::op::{Op, Ops};
+use common::OutOfMemory;
 use std::alloc::Global;
 
 impl Builder {

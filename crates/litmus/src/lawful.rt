@@ -7,9 +7,9 @@ ghost use Rattle.litmus.specs.Parts.{IsProgram, IsSmall, Small, addr_of, parts_o
 ghost use Rattle.litmus.specs.Parts.{use_addr, use_cores, use_ops};
 
 use crate::builder::are_below;
-use crate::limits::{MAX_ADDRESSES, MAX_CORES, MAX_EVENTS};
 use crate::name::{Name, is_lawful, name_at};
 use crate::op::{Op, Ops};
+use common::{MAX_ADDRESSES, MAX_CORES, MAX_EVENTS};
 use indexmap::IndexSet;
 
 fn are_lawful(names: &IndexSet<Name>) -> bool

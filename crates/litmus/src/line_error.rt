@@ -1,6 +1,6 @@
 //! Why a text gives nothing.
 
-use crate::memory::OutOfMemory;
+use common::OutOfMemory;
 use std::alloc::AllocFailed;
 
 /// Why a text that is read line by line gave nothing.

@@ -3,10 +3,8 @@
 ghost use Rattle.std.specs.Prelude.{◌≡◌, ◌≤◌, IfOk};
 ghost use Rattle.litmus.specs.AddressNames.{address_name, address_names};
 
-use crate::ids::Addr;
-use crate::limits::MAX_ADDRESSES;
-use crate::memory::OutOfMemory;
 use crate::name::Name;
+use common::{Addr, MAX_ADDRESSES, OutOfMemory};
 use indexmap::IndexSet;
 use itoa::Buffer;
 use std::alloc::Global;

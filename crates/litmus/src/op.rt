@@ -2,8 +2,7 @@
 
 ghost use Rattle.std.specs.Prelude.{◌≡◌, IfOk};
 
-use crate::ids::Addr;
-use crate::memory::OutOfMemory;
+use common::{Addr, OutOfMemory};
 use std::alloc::Global;
 use std::marker::Model;
 

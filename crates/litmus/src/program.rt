@@ -1,12 +1,10 @@
 //! Litmus programs.
 
-use crate::ids::CoreId;
 use crate::lawful::is_program;
-use crate::limits::{MAX_ADDRESSES, MAX_CORES, MAX_EVENTS};
-use crate::memory::OutOfMemory;
 use crate::name::{Name, copy_names};
 use crate::op::{Op, Ops, copies_of};
 use crate::same::{are_same_cores, are_same_names, are_same_values};
+use common::{CoreId, MAX_ADDRESSES, MAX_CORES, MAX_EVENTS, OutOfMemory};
 use indexmap::IndexSet;
 use std::alloc::Global;
 use std::marker::Model;

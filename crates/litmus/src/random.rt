@@ -9,14 +9,12 @@ ghost use Rattle.litmus.specs.Random.{IsDrawn, after_words, drawn_op, program_of
 ghost use Rattle.litmus.specs.Random.{with_words};
 
 use crate::builder::Builder;
-use crate::ids::Addr;
-use crate::limits::{MAX_ADDRESSES, MAX_CORES, MAX_EVENTS};
-use crate::memory::OutOfMemory;
 use crate::naming::address_name;
 use crate::op::Op;
 use crate::program::Program;
 use crate::reader::Reader;
 use crate::shape::Shape;
+use common::{Addr, MAX_ADDRESSES, MAX_CORES, MAX_EVENTS, OutOfMemory};
 use rand_core::utils::NextWord;
 use rand_xoshiro::Xoshiro256PlusPlus;
 use std::alloc::Global;

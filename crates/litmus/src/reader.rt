@@ -5,10 +5,10 @@ ghost use Rattle.std.specs.Prelude.{◌≡◌};
 use crate::builder::Builder;
 use crate::fault::{LineFault, LitmusError};
 use crate::line::{Said, Write, line_of};
-use crate::memory::OutOfMemory;
 use crate::name::Name;
 use crate::number::Number;
 use crate::program::Program;
+use common::OutOfMemory;
 use std::alloc::Global;
 
 /// The names, the operations, and the initial values up to that of the last `init` line.

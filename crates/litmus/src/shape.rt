@@ -3,8 +3,8 @@
 ghost use Rattle.std.specs.Prelude.{◌≡◌};
 ghost use Rattle.litmus.specs.Shapes.{is_outside};
 
-use crate::limits::{MAX_ADDRESSES, MAX_CORES, MAX_EVENTS};
 use crate::shape_error::ShapeError;
+use common::{MAX_ADDRESSES, MAX_CORES, MAX_EVENTS};
 use std::marker::Model;
 
 /// How many cores a random program has, how many operations each of them, and how many addresses

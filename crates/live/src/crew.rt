@@ -2,7 +2,7 @@
 
 use crate::traced::Traced;
 use crate::turn::{Turn, Worker};
-use litmus::{CoreId, Gate};
+use common::{CoreId, Gate};
 use std::sync::atomic::{AtomicBool, Ordering};
 use std::sync::{Condvar, Mutex, Wait};
 use std::thread;

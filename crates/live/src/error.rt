@@ -1,6 +1,6 @@
 //! Why a traced machine does not go on.
 
-use litmus::OutOfMemory;
+use common::OutOfMemory;
 use machine::Blocked;
 
 /// Why a step is not taken, or why threads gave no machine.

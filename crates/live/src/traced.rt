@@ -1,7 +1,7 @@
 //! Machines with the trace of their steps.
 
 use crate::error::LiveError;
-use litmus::OutOfMemory;
+use common::OutOfMemory;
 use machine::{Machine, Step, every_run_is_tso};
 use std::alloc::Global;
 use std::marker::Model;

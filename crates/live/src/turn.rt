@@ -4,7 +4,8 @@ ghost use Rattle.std.specs.Prelude.{◌<◌, length};
 
 use crate::error::LiveError;
 use crate::traced::Traced;
-use litmus::{Addr, CoreId, Op};
+use common::{Addr, CoreId};
+use litmus::Op;
 use machine::{Blocked, Machine, Step};
 
 /// What came of a thread's turn.

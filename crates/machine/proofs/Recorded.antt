@@ -1,7 +1,7 @@
 -- The recording of a complete state is one within the limits.
 use Rattle.std.proofs.Common.{◌≡◌, ◌≤◌, ◌+◌, ℕ, suc, Option, List, [], ◌∷◌, length, arith, refl, ap}
 use Rattle.std.specs.List.{sum_by}
-use Rattle.litmus.specs.declared.limits.TheConstants.{MAX_CORES, MAX_EVENTS, MAX_ADDRESSES}
+use Rattle.common.specs.declared.limits.TheConstants.{MAX_CORES, MAX_EVENTS, MAX_ADDRESSES}
 use Rattle.litmus.specs.declared.op.Op.{Op}
 use Rattle.litmus.specs.Parts.{Parts}
 use Rattle.recorder.specs.Recording.{IsRecording}

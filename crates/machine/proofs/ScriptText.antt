@@ -7,7 +7,7 @@ use Rattle.std.proofs.lemmas.Bool.{ltb-true}
 use Rattle.std.proofs.lemmas.List.{length-append}
 use Rattle.std.proofs.lemmas.List.Elements.{All-nil, All-push}
 use Rattle.std.proofs.lemmas.Option.{cond_some}
-use Rattle.litmus.specs.declared.limits.TheConstants.{MAX_STEPS}
+use Rattle.common.specs.declared.limits.TheConstants.{MAX_STEPS}
 use Rattle.litmus.specs.declared.name.Name.{Name}
 use Rattle.litmus.specs.Names.{name_eq}
 use Rattle.litmus.specs.Parts.{Parts}

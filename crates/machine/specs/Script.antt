@@ -1,7 +1,7 @@
 -- What a whole step script gives: its steps, or the first line at fault with its number.
 use Rattle.std.specs.Prelude.{◌<◌, ◌++◌, ◌∷◌, [], ℕ, List, nat_lt, length, position, Option, None, Some}
 use Rattle.std.specs.Prelude.{Result, Ok, Err, if◌then◌else◌}
-use Rattle.litmus.specs.declared.limits.TheConstants.{MAX_STEPS}
+use Rattle.common.specs.declared.limits.TheConstants.{MAX_STEPS}
 use Rattle.litmus.specs.declared.name.Name.{Name}
 use Rattle.litmus.specs.Names.{name_eq}
 use Rattle.litmus.specs.Parts.{Parts}

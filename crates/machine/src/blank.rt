@@ -3,7 +3,8 @@
 use crate::bounded::BoundedList;
 use crate::makes::bounded_lists;
 use crate::record::{record_all, unwrap_all};
-use litmus::{EventId, Ops, OutOfMemory};
+use common::{EventId, OutOfMemory};
+use litmus::Ops;
 use recorder::Event;
 use std::alloc::Global;
 use std::marker::Model;

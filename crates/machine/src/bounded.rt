@@ -1,6 +1,6 @@
 //! Lists with room made beforehand.
 
-use litmus::OutOfMemory;
+use common::OutOfMemory;
 use std::alloc::Global;
 use std::marker::Model;
 

@@ -1,6 +1,6 @@
 //! Faults of the machine.
 
-use litmus::{Addr, CoreId};
+use common::{Addr, CoreId};
 use moesi::{CacheError, Caches};
 use write_buffer::{Entry, WriteBuffer};
 

@@ -5,8 +5,9 @@ ghost use Rattle.litmus.specs.Parts.{op_count};
 ghost use Rattle.machine.specs.Made.{AreUnits};
 
 use crate::bounded::BoundedList;
+use common::{EventId, MAX_EVENTS, OutOfMemory};
 use core_unit::CoreUnit;
-use litmus::{EventId, MAX_EVENTS, Ops, OutOfMemory};
+use litmus::Ops;
 use std::alloc::Global;
 use write_buffer::WriteBuffer;
 

@@ -5,7 +5,8 @@ ghost use Rattle.litmus.specs.Parts.{op_count};
 ghost use Rattle.machine.specs.State.{event_of, events_from, cores_from};
 
 use crate::bounded::BoundedList;
-use litmus::{EventId, Op, Ops};
+use common::EventId;
+use litmus::{Op, Ops};
 use recorder::Event;
 
 /// The event that an operation makes, from the value that it read and its source.

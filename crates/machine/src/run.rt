@@ -3,7 +3,8 @@
 use crate::blocked::Blocked;
 use crate::machine::Machine;
 use crate::step::Step;
-use litmus::{CoreId, EventId, Op};
+use common::{CoreId, EventId};
+use litmus::Op;
 
 impl Machine {
     ghost use Rattle.std.specs.Prelude.{◌≡◌, Ok, Err, IfOk, OnOk, OnErr, IfErr, length};

@@ -8,7 +8,8 @@ ghost use Rattle.machine.specs.Script.{core_in, address_in, with_step, line_step
 use crate::script_fault::{StepFault, StepsError};
 use crate::script_line::{Said, own_step, script_line_of, transaction_step};
 use crate::step::Step;
-use litmus::{Addr, CoreId, MAX_STEPS, Name, Number, Program};
+use common::{Addr, CoreId, MAX_STEPS};
+use litmus::{Name, Number, Program};
 use std::alloc::Global;
 
 fn core_in(program: &Program, number: Number) -> Option<CoreId>

@@ -7,17 +7,18 @@ ghost use Rattle.machine.specs.ScriptLine.{transaction_step};
 ghost use Rattle.machine.specs.ScriptSaid.{SaysScriptLine};
 
 use crate::step::Step;
-use litmus::{Addr, CoreId, Name, Number, decimal, space_in};
+use common::{Addr, CoreId};
+use litmus::{Name, Number, decimal, space_in};
 
 /// The kind of a step that a core takes alone.
-#[derive(Clone, Copy, Debug, PartialEq, Eq)]
+#[derive(Clone, Copy)]
 pub enum Own {
     Exec,
     Drain,
 }
 
 /// The kind of a transaction.
-#[derive(Clone, Copy, Debug, PartialEq, Eq)]
+#[derive(Clone, Copy)]
 pub enum Transaction {
     GetS,
     GetM,
@@ -25,7 +26,7 @@ pub enum Transaction {
 }
 
 /// What a line says, with its core and its name not yet looked up.
-#[derive(Clone, Copy, Debug, PartialEq, Eq)]
+#[derive(Clone, Copy)]
 pub enum Said {
     Own(Own, Number),
     Transaction(Transaction, Number, Name),

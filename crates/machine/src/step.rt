@@ -1,6 +1,6 @@
 //! Steps of the machine.
 
-use litmus::{Addr, CoreId};
+use common::{Addr, CoreId};
 
 /// A step of the machine, of cores with store buffers and MOESI caches over one memory (Nagarajan,
 /// Sorin, Hill and Wood, A Primer on Memory Consistency and Cache Coherence, second edition,

@@ -6,7 +6,8 @@ ghost use Rattle.machine.specs.Step.{forwarded_or_read};
 use crate::blocked::Blocked;
 use crate::machine::Machine;
 use crate::record::event_of;
-use litmus::{Addr, CoreId, EventId, Op};
+use common::{Addr, CoreId, EventId};
+use litmus::Op;
 use moesi::CacheError;
 use write_buffer::Entry;
 

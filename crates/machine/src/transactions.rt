@@ -2,7 +2,7 @@
 
 use crate::blocked::Blocked;
 use crate::machine::Machine;
-use litmus::{Addr, CoreId};
+use common::{Addr, CoreId};
 
 impl Machine {
     ghost use Rattle.std.specs.Prelude.{◌≡◌, ◌↔◌, IsTrue, Ok, Err, OnOk, OnErr, IfErr};

@@ -1,7 +1,7 @@
 //! Threads that a gate holds, and runs that come to no end.
 
 use crate::plain::{STORE_BUFFERING, is_driven, program};
-use litmus::{Gate, OpenGate};
+use common::{Gate, OpenGate};
 use live::{LiveError, drive};
 use std::alloc::Global;
 use std::sync::Wait;

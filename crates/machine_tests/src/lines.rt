@@ -1,7 +1,7 @@
 //! Short lives of one address, a call a line.
 ghost use Rattle.std.specs.Prelude.{◌≡◌, length};
 
-use litmus::{CoreId, EventId, MAX_EVENTS};
+use common::{CoreId, EventId, MAX_EVENTS};
 use moesi::Line::{E, I, M, O, S};
 use moesi::{CacheError, Caches, Line};
 use std::alloc::Global;

@@ -3,7 +3,8 @@
 //! growth in turn.
 
 use crate::plain::{STORE_BUFFERING, is_order};
-use litmus::{LitmusError, OpenGate, Program, parse};
+use common::OpenGate;
+use litmus::{LitmusError, Program, parse};
 use live::{LiveError, drive};
 use machine::Machine;
 use std::alloc::Global;

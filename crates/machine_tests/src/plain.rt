@@ -1,7 +1,8 @@
 //! Calls without a clause, for tests that hand them written texts and steps: with the exact clauses of the
 //! calls themselves such a test took minutes to prove.
 
-use litmus::{EventId, Gate, Program, parse};
+use common::{EventId, Gate};
+use litmus::{Program, parse};
 use live::drive;
 use machine::{Blocked, Machine, Step};
 use order::check;

@@ -1,7 +1,7 @@
 //! What a gate is told, and who takes the steps.
 
 use crate::plain::{is_driven, program};
-use litmus::{Gate, OpenGate};
+use common::{Gate, OpenGate};
 use live::drive;
 use machine::{Machine, Step};
 use recorder::Event;

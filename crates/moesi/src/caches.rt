@@ -6,7 +6,7 @@ use crate::line::Line;
 use crate::rows;
 use crate::word::{INVALID, unpack, written};
 use crate::words::{fill_memory, place, words_for};
-use litmus::{Addr, CoreId, EventId, OutOfMemory};
+use common::{Addr, CoreId, EventId, OutOfMemory};
 use std::alloc::Global;
 use std::marker::Model;
 
@@ -38,7 +38,7 @@ impl Model for Caches {
 
 impl Caches {
     ghost use Rattle.std.specs.Prelude.{◌≡◌, ◌<◌, Ok, Err, length, IfOk, OnOk, IfErr, OnErr};
-    ghost use Rattle.litmus.specs.declared.limits.TheConstants.{MAX_EVENTS};
+    ghost use Rattle.common.specs.declared.limits.TheConstants.{MAX_EVENTS};
     ghost use Rattle.moesi.specs.Block.{cell_of};
     ghost use Rattle.moesi.specs.State.{opening_caches, opening_with, block_of, line_of, memory_of};
     ghost use Rattle.moesi.specs.State.{get_s, get_m, get_m_stale, put, read, write};

@@ -1,7 +1,7 @@
 //! One core's line with its data.
 
 use crate::line::Line;
-use litmus::EventId;
+use common::EventId;
 
 /// One core's line of an address, with its value and the event that wrote it.
 #[derive(Clone, Copy)]

@@ -1,14 +1,14 @@
 //! A line with its data as one word.
 
 ghost use Rattle.std.specs.Prelude.{◌≡◌, ◌<◌, ◌^◌, Some};
-ghost use Rattle.litmus.specs.declared.limits.TheConstants.{MAX_EVENTS};
+ghost use Rattle.common.specs.declared.limits.TheConstants.{MAX_EVENTS};
 ghost use Rattle.moesi.specs.declared.line.Line.TheVariants.{M};
 ghost use Rattle.moesi.specs.Rows.{shared, left_stale};
 ghost use Rattle.moesi.specs.Words.{line_code, line_from, event_from, cell_in, memory_cell};
 
 use crate::cell::Cell;
 use crate::line::Line;
-use litmus::EventId;
+use common::EventId;
 
 /// The bits of the value.
 const VALUE_BITS: u32 = 32;

@@ -5,7 +5,7 @@ ghost use Rattle.bitrow.specs.Bits.{is_in};
 ghost use Rattle.order.specs.Open.{one_if, IsOpen};
 
 use bitrow::BitRow;
-use litmus::OutOfMemory;
+use common::OutOfMemory;
 use relations::Relation;
 use std::alloc::Global;
 

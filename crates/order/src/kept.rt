@@ -4,7 +4,7 @@ ghost use Rattle.std.specs.Prelude.{◌≡◌, ◌<◌, ◌↔◌, ℕ, IsTrue, 
 ghost use Rattle.recorder.specs.Order.{Before, Enumerates};
 ghost use Rattle.recorder.specs.Execution.{event_count, Kept};
 
-use litmus::EventId;
+use common::EventId;
 use recorder::Recording;
 
 /// Whether no event behind the one at a place is kept before it.

@@ -6,7 +6,7 @@ ghost use Rattle.relations.specs.Relation.{Related};
 ghost use Rattle.relations.specs.Respects.{IsLeastOrder};
 
 use crate::waiting::Waiting;
-use litmus::{EventId, OutOfMemory};
+use common::{EventId, OutOfMemory};
 use relations::{Relation, ordered_is_acyclic};
 use std::alloc::Global;
 

@@ -4,7 +4,7 @@ ghost use Rattle.std.specs.Prelude.{◌≡◌, ◌<◌, ◌↔◌, ℕ, IsTrue};
 ghost use Rattle.recorder.specs.Order.{times, Enumerates};
 ghost use Rattle.recorder.specs.Execution.{event_count};
 
-use litmus::EventId;
+use common::EventId;
 use recorder::{Recording, times};
 
 /// Whether each event stands once.

@@ -8,7 +8,7 @@ use crate::kept::keeps_order;
 use crate::total::is_total;
 use crate::values::gives_values;
 use crate::written::keeps_writes;
-use litmus::EventId;
+use common::EventId;
 use recorder::Recording;
 use relations::forced_is_exact;
 

@@ -6,7 +6,7 @@ ghost use Rattle.recorder.specs.Execution.{event_count};
 ghost use Rattle.recorder.specs.Tso.{Visible, IsLastVisible};
 ghost use Rattle.order.specs.Values.{HasLastVisible};
 
-use litmus::{Addr, EventId};
+use common::{Addr, EventId};
 use recorder::Recording;
 
 /// Whether the write at place `i` is visible to the read at place `at`.

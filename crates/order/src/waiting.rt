@@ -2,7 +2,7 @@
 
 use crate::counts::count_all;
 use bitrow::BitRow;
-use litmus::{EventId, OutOfMemory};
+use common::{EventId, OutOfMemory};
 use relations::Relation;
 use std::alloc::Global;
 use std::marker::Model;

@@ -4,7 +4,7 @@ ghost use Rattle.std.specs.Prelude.{◌≡◌, ◌<◌, ◌≤◌, ◌↔◌, �
 ghost use Rattle.recorder.specs.Order.{times, Before};
 ghost use Rattle.recorder.specs.Execution.{write_list};
 
-use litmus::{Addr, EventId};
+use common::{Addr, EventId};
 use recorder::{Recording, stands_before};
 
 /// Whether a write list, whose writes differ, stands in order.

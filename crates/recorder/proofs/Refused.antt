@@ -1,6 +1,6 @@
 -- From the tests of single events and addresses to a recording.
 use Rattle.std.proofs.Common.{◌≡◌, ◌<◌, ◌≤◌, ◌⊎◌, inl, inr, ℕ, Option, Some, None, List, [], length, arith}
-use Rattle.std.proofs.Common.{refl, ap, subst, ◌∙◌}
+use Rattle.std.proofs.Common.{refl, ap, ◌∙◌}
 use Rattle.std.proofs.lemmas.Bool.{cases_lt}
 use Rattle.std.proofs.lemmas.List.{get_or_past}
 use Rattle.recorder.specs.Event.{value_read}
@@ -9,6 +9,7 @@ use Rattle.recorder.specs.Order.{times}
 use Rattle.recorder.specs.Tso.{Gives, IsValueOf}
 use Rattle.recorder.specs.Recording.{IsRecording, IsWithinLimits}
 use Rattle.recorder.specs.Refusals.{HasSource, HasValue, HasWriteList, IsRefusal}
+use Rattle.recorder.specs.RefusalLaws.{source_of_recording}
 use Rattle.recorder.specs.declared.fault.RecError.{RecError}
 use Rattle.recorder.specs.declared.fault.RecError.TheVariants.{NotJson, Shape, Version, Limits, Source, Value}
 use Rattle.recorder.specs.declared.fault.RecError.TheVariants.{WriteList, OutOfMemory}
@@ -65,13 +66,7 @@ recording x within sources values lists = record {
   within = within;
 }
 
--- the other way round: a recording gives each read its source
-pub source_of_recording : (x : Execution) → IsRecording x → (e : ℕ) → HasSource x e
-source_of_recording x is e a s reads from =
-    (subst (λ (o : Option ℕ). Gives x a o (value_read (event_at x e))) from
-    (is.well_formed.sources e a reads)).0
-
--- and its value
+-- a recording gives each read its value
 value_of : (x : Execution) (a : ℕ) (o : Option ℕ) (value : ℕ) → Gives x a o value → IsValueOf x a o value
 value_of x a None value is = is
 value_of x a (Some s) value is = is.1

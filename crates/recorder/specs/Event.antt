@@ -58,3 +58,11 @@ is_plain_load (S a w) = false
 is_plain_load (R a r s w) = false
 is_plain_load (C a r s) = false
 is_plain_load F = false
+
+-- a compare-and-swap that failed
+abbrev pub is_failed_cas : Event → Bool
+is_failed_cas (L a r s) = false
+is_failed_cas (S a w) = false
+is_failed_cas (R a r s w) = false
+is_failed_cas (C a r s) = true
+is_failed_cas F = false

@@ -8,14 +8,7 @@ pub mod PlaceLaws
 pub mod EnumerationLaws
 pub mod Tso
 pub mod Recording
-pub mod Text
 pub mod Refusals
+pub mod RefusalLaws
 pub mod Listed
 pub mod Numbered
-pub mod Contents
-pub mod Reading
-pub mod Clipped
-pub mod Found
-pub mod Pulled
-pub mod Fields
-pub mod Draft

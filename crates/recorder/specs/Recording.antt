@@ -1,6 +1,6 @@
 -- What every recording keeps.
 use Rattle.std.specs.Prelude.{◌≡◌, ◌<◌, ◌≤◌, ◌⊎◌, ℕ, List, length}
-use Rattle.litmus.specs.declared.limits.TheConstants.{MAX_CORES, MAX_EVENTS, MAX_ADDRESSES}
+use Rattle.common.specs.declared.limits.TheConstants.{MAX_CORES, MAX_EVENTS, MAX_ADDRESSES}
 use Rattle.recorder.specs.declared.event.Event.{Event}
 use Rattle.recorder.specs.Execution.{Execution, event_count, Reads, Writes}
 use Rattle.recorder.specs.Tso.{IsWellFormed}

@@ -3,7 +3,7 @@
 ghost use Rattle.std.specs.Prelude.{◌≡◌, IfOk, map};
 
 use crate::event::Event;
-use litmus::{EventId, OutOfMemory};
+use common::{EventId, OutOfMemory};
 use std::alloc::Global;
 
 /// Copies of lists of events.

@@ -1,6 +1,6 @@
 //! What one operation of a core did.
 
-use litmus::{Addr, EventId};
+use common::{Addr, EventId};
 
 /// What one operation of a core did to memory, with the values of 32 bits that it read and wrote.
 /// (Nagarajan, Sorin, Hill and Wood, A Primer on Memory Consistency and Cache Coherence, second
@@ -39,8 +39,7 @@ pub enum Event {
 impl Event {
     ghost use Rattle.std.specs.Prelude.{◌≡◌, ◌↔◌, ◌<◌, ◌⊎◌, ◌&&◌, ℕ, IsTrue, Some, false};
     ghost use Rattle.recorder.specs.Event.{read_address, written_address, source, value_read, value_written};
-    ghost use Rattle.recorder.specs.Event.{is_plain_store, is_plain_load};
-    ghost use Rattle.recorder.specs.Text.{is_failed_cas};
+    ghost use Rattle.recorder.specs.Event.{is_failed_cas, is_plain_store, is_plain_load};
 
     /// The address that it reads; none where it does not read.
     pub fn read_address(&self) -> Option<Addr>
@@ -116,7 +115,7 @@ impl Event {
     }
 
     /// Whether it is a compare-and-swap that failed.
-    pub(crate) fn is_failed_cas(&self) -> bool
+    pub fn is_failed_cas(&self) -> bool
         ensures { result ≡ is_failed_cas self.now }
     {
         matches!(self, Event::C { .. })

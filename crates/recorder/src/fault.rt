@@ -1,6 +1,6 @@
 //! Why a recording is refused.
 
-use litmus::{Addr, EventId, OutOfMemory};
+use common::{Addr, EventId, OutOfMemory};
 
 /// Why parts or a text are refused as a recording; each refusal is printed by its number.
 #[derive(Clone, Copy, Debug, Drop, PartialEq, Eq)]

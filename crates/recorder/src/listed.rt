@@ -1,11 +1,11 @@
 //! The write lists of parts of a recording, which may break its rules.
 
 use crate::numbered::Numbered;
-use litmus::{Addr, EventId, MAX_EVENTS};
+use common::{Addr, EventId, MAX_EVENTS};
 
 impl<'p> Numbered<'p> {
     ghost use Rattle.std.specs.Prelude.{◌≡◌, ◌↔◌, ◌<◌, ◌≤◌, ℕ, IsTrue, false, length};
-    ghost use Rattle.litmus.specs.declared.limits.TheConstants.{MAX_EVENTS};
+    ghost use Rattle.common.specs.declared.limits.TheConstants.{MAX_EVENTS};
     ghost use Rattle.recorder.specs.Execution.{event_count, write_list, Writes};
     ghost use Rattle.recorder.specs.Order.{times};
     ghost use Rattle.recorder.specs.Listed.{is_marked, AreMarked, ListsEachWrite, ListsWritesOnce};

@@ -3,7 +3,7 @@
 ghost use Rattle.std.specs.Prelude.{◌≡◌, ◌↔◌, IsTrue};
 ghost use Rattle.recorder.specs.Order.{place, times, Before};
 
-use litmus::EventId;
+use common::EventId;
 
 /// Where an event first stands, or the length where it does not stand.
 pub fn place(order: &[EventId], event: EventId) -> usize

@@ -1,12 +1,12 @@
 //! The events of parts of a recording by their numbers.
 
 ghost use Rattle.std.specs.Prelude.{◌≡◌, ◌+◌, ◌≤◌, ◌<◌, ◌⊎◌, ℕ, length};
-ghost use Rattle.litmus.specs.declared.limits.TheConstants.{MAX_EVENTS};
+ghost use Rattle.common.specs.declared.limits.TheConstants.{MAX_EVENTS};
 ghost use Rattle.recorder.specs.Numbered.{numbered};
 
 use crate::event::Event;
 use crate::parts::RecordingParts;
-use litmus::{Addr, EventId, MAX_EVENTS};
+use common::{Addr, EventId, MAX_EVENTS};
 use std::marker::Model;
 
 /// Parts of a recording with a table of their events, each at its number.

@@ -1,7 +1,7 @@
 //! The parts of a recording, which may break its rules.
 
 use crate::event::Event;
-use litmus::{Addr, CoreId, EventId, MAX_CORES, MAX_EVENTS};
+use common::{Addr, CoreId, EventId, MAX_CORES, MAX_EVENTS};
 use std::marker::Model;
 
 /// The events of each core, and the writes and the initial value of each address.

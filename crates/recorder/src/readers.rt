@@ -2,7 +2,7 @@
 
 use crate::event::Event;
 use crate::recording::Recording;
-use litmus::{Addr, EventId};
+use common::{Addr, EventId};
 
 impl Recording {
     ghost use Rattle.std.specs.Prelude.{◌≡◌, ◌↔◌, IsTrue, MatchOption};

@@ -4,7 +4,7 @@ use crate::copies::{copied_cores, copied_values, copied_writes};
 use crate::event::Event;
 use crate::fault::RecError;
 use crate::parts::RecordingParts;
-use litmus::{Addr, CoreId, EventId};
+use common::{Addr, CoreId, EventId};
 use std::alloc::Global;
 use std::marker::Model;
 

@@ -3,11 +3,11 @@
 use crate::fault::RecError;
 use crate::numbered::Numbered;
 use crate::parts::RecordingParts;
-use litmus::{Addr, EventId, MAX_ADDRESSES, MAX_CORES};
+use common::{Addr, EventId, MAX_ADDRESSES, MAX_CORES};
 
 impl<'p> Numbered<'p> {
     ghost use Rattle.std.specs.Prelude.{◌≡◌, ◌↔◌, ◌<◌, ◌≤◌, ◌⊎◌, ℕ, IsTrue, MatchOption, length};
-    ghost use Rattle.litmus.specs.declared.limits.TheConstants.{MAX_CORES, MAX_EVENTS, MAX_ADDRESSES};
+    ghost use Rattle.common.specs.declared.limits.TheConstants.{MAX_CORES, MAX_EVENTS, MAX_ADDRESSES};
     ghost use Rattle.recorder.specs.Execution.{event_count, Reads, Writes};
     ghost use Rattle.recorder.specs.Recording.{IsRecording, IsWithinLimits};
     ghost use Rattle.recorder.specs.Refusals.{HasSource, HasValue, HasWriteList, IsLeastWithout, IsRefusal};

@@ -1,7 +1,7 @@
 //! The rules of single events that parts of a recording may break.
 
 use crate::numbered::Numbered;
-use litmus::EventId;
+use common::EventId;
 
 impl<'p> Numbered<'p> {
     ghost use Rattle.std.specs.Prelude.{◌↔◌, ◌<◌, ◌⊎◌, ℕ, IsTrue, length};

@@ -4,7 +4,7 @@ use Rattle.std.proofs.Common.{arith, sym, ap, ◌∙◌, subst, length-append}
 use Rattle.std.proofs.lemmas.Bool.{cases_lt}
 use Rattle.std.proofs.lemmas.List.{get_or_push, get_or_append_left, get_or_default, length-replicate}
 use Rattle.std.specs.Prelude.{All}
-use Rattle.litmus.specs.declared.limits.TheConstants.{MAX_EVENTS}
+use Rattle.common.specs.declared.limits.TheConstants.{MAX_EVENTS}
 use Rattle.relations.specs.declared.placed.Placed.{Placed}
 use Rattle.relations.specs.Placed.{IsPlaced}
 use Rattle.relations.specs.Forced.{Forced}

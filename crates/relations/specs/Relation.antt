@@ -1,6 +1,6 @@
 -- The forced pairs of an execution as a table.
 use Rattle.std.specs.Prelude.{◌≡◌, ◌≤◌, ℕ, Bool, true, List, [], length, slice_index_or, All}
-use Rattle.litmus.specs.declared.limits.TheConstants.{MAX_EVENTS}
+use Rattle.common.specs.declared.limits.TheConstants.{MAX_EVENTS}
 use Rattle.bitrow.specs.Bits.{is_in}
 
 -- row e is the set of what e is related to

@@ -4,7 +4,7 @@
 use crate::filling::put;
 use crate::placed::Placed;
 use bitrow::BitRow;
-use litmus::Addr;
+use common::Addr;
 use recorder::{Event, Recording};
 
 impl Placed {

@@ -7,7 +7,7 @@ ghost use Rattle.relations.specs.Filled.{IsPut, IsOwnOrWrite, IsFilledRow, AreFi
 
 use crate::placed::{Placed, placed_events};
 use bitrow::BitRow;
-use litmus::OutOfMemory;
+use common::OutOfMemory;
 use recorder::Recording;
 use std::alloc::Global;
 

@@ -2,7 +2,7 @@
 
 use crate::placed::Placed;
 use crate::reason::Reason;
-use litmus::Addr;
+use common::Addr;
 
 impl Placed {
     ghost use Rattle.std.specs.Prelude.{◌≡◌, ◌↔◌, IsTrue, Some};

@@ -5,7 +5,7 @@ ghost use Rattle.recorder.specs.Execution.{Execution};
 ghost use Rattle.relations.specs.Cycle.{IsCycle, behind};
 ghost use Rattle.relations.specs.Forced.{Forced};
 
-use litmus::EventId;
+use common::EventId;
 
 /// The event behind a place of a cycle: behind the last is the first. In a cycle of forced pairs the
 /// event at the place is forced before it.

@@ -3,7 +3,7 @@
 ghost use Rattle.std.specs.Prelude.{◌≡◌, ◌≤◌, ◌<◌, ℕ, min, MatchOption, IfSome, IfNone};
 ghost use Rattle.relations.specs.Forced.{IsNewerFrom, Overlooks, IsLeastOverlook};
 
-use litmus::EventId;
+use common::EventId;
 use recorder::{Recording, place};
 
 /// The place of a list from which on its writes are newer than a source.

@@ -7,7 +7,7 @@ ghost use Rattle.relations.specs.Forced.{IsReason, Overlooks};
 use crate::overlooks::newer_from;
 use crate::placed::placed_event;
 use crate::reason::Reason;
-use litmus::EventId;
+use common::EventId;
 use recorder::{Recording, place};
 
 /// The first reason for one event before another, without a table of all pairs; none where there is

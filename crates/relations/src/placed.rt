@@ -7,7 +7,7 @@ ghost use Rattle.relations.specs.Forced.{IsNewerFrom};
 ghost use Rattle.relations.specs.Placed.{IsPlaced, ArePlaced};
 
 use crate::overlooks::newer_from;
-use litmus::{Addr, CoreId, EventId, OutOfMemory};
+use common::{Addr, CoreId, EventId, OutOfMemory};
 use recorder::{Event, Recording, place};
 use std::alloc::Global;
 

@@ -2,7 +2,7 @@
 
 use crate::filling::filled_rows;
 use bitrow::BitRow;
-use litmus::{EventId, OutOfMemory};
+use common::{EventId, OutOfMemory};
 use recorder::Recording;
 use std::alloc::Global;
 use std::marker::Model;

@@ -5,7 +5,7 @@ use Rattle.std.proofs.Common.{Global, option_and_then, drop-cons, drop_of_length
 use Rattle.std.specs.List.{AllByRecursion}
 use Rattle.std.proofs.Math.Nat.{le-max_right, max-eq_left, max-eq_right}
 use Rattle.std.proofs.lemmas.List.{length-map}
-use Rattle.litmus.specs.declared.limits.TheConstants.{MAX_ADDRESSES}
+use Rattle.common.specs.declared.limits.TheConstants.{MAX_ADDRESSES}
 use Rattle.litmus.specs.declared.op.Op.{Op}
 use Rattle.litmus.specs.Parts.{Small, IsSmall, IsProgram, use_ops, use_cores}
 use Rattle.recorder.specs.declared.event.Event.{Event}

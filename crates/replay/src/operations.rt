@@ -5,7 +5,8 @@ ghost use Rattle.std.specs.List.{AllByRecursion};
 ghost use Rattle.litmus.specs.Parts.{Small};
 ghost use Rattle.replay.specs.Program.{op_of, program_of};
 
-use litmus::{Op, Ops, OutOfMemory};
+use common::OutOfMemory;
+use litmus::{Op, Ops};
 use recorder::{Event, Recording};
 use std::alloc::Global;
 

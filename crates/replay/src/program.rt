@@ -7,7 +7,8 @@ ghost use Rattle.replay.specs.Numbered.{IsNumberedByFirstUse};
 ghost use Rattle.replay.specs.Program.{named_program};
 
 use crate::operations::cores_of;
-use litmus::{OutOfMemory, Program, address_names};
+use common::OutOfMemory;
+use litmus::{Program, address_names};
 use recorder::Recording;
 use std::alloc::Global;
 

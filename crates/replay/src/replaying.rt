@@ -3,7 +3,7 @@
 ghost use Rattle.std.specs.Prelude.{◌≡◌};
 ghost use Rattle.replay.specs.Steps.{executed_before};
 
-use litmus::{Addr, CoreId, EventId, OutOfMemory};
+use common::{Addr, CoreId, EventId, OutOfMemory};
 use machine::{Machine, Step};
 use recorder::Event;
 use std::marker::Model;

@@ -8,8 +8,8 @@ ghost use Rattle.report.specs.Verdict.{reason_name, pair_line, labels_line, labe
 ghost use Rattle.report.specs.Verdict.{ArePairLines, IsCycleText};
 
 use crate::numbers::{put_number, put_numbers};
+use common::{EventId, OutOfMemory};
 use labels::Certificate;
-use litmus::{EventId, OutOfMemory};
 use recorder::Recording;
 use relations::{Reason, behind, first_reason};
 

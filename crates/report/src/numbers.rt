@@ -1,11 +1,11 @@
 //! Numbers in a text.
 
 ghost use Rattle.std.specs.Prelude.{◌≡◌, ◌<◌, ◌≤◌, ◌+◌, ◌*◌, ◌++◌, All, OnOk, decimal, length, take};
-ghost use Rattle.litmus.specs.declared.limits.TheConstants.{MAX_EVENTS};
+ghost use Rattle.common.specs.declared.limits.TheConstants.{MAX_EVENTS};
 ghost use Rattle.report.specs.Verdict.{numbers_text};
 
+use common::{MAX_EVENTS, OutOfMemory};
 use itoa::Buffer;
-use litmus::{MAX_EVENTS, OutOfMemory};
 
 /// Adds a number to a text, in decimal. An error is want of memory.
 pub fn put_number(out: &mut Vec<u8>, number: usize) -> Result<(), OutOfMemory>

@@ -1,6 +1,6 @@
 //! How an answer came out.
 
-use litmus::OutOfMemory;
+use common::OutOfMemory;
 use thiserror::Error;
 
 /// How the answer to a recording's bytes came out.

@@ -6,8 +6,8 @@ ghost use Rattle.report.specs.Verdict.{order_line, overlook_line, IsVerdictText}
 
 use crate::cycle::put_cycle;
 use crate::numbers::{put_number, put_numbers};
+use common::{EventId, OutOfMemory};
 use judge::Verdict;
-use litmus::{EventId, OutOfMemory};
 use recorder::Recording;
 use std::alloc::Global;
 

@@ -7,7 +7,7 @@ ghost use Rattle.search.specs.SourceRow.{AreJobsOf, AreShared, AreLeastRows};
 
 use crate::job::SourceJob;
 use crate::label_row::LabelRow;
-use litmus::{EventId, OutOfMemory};
+use common::{EventId, OutOfMemory};
 use relations::Relation;
 use std::alloc::Global;
 use std::sync::Arc;

@@ -5,7 +5,7 @@ ghost use Rattle.relations.specs.Relation.{Related};
 ghost use Rattle.relations.specs.Cycle.{IsCycle, IsExactRow};
 ghost use Rattle.search.specs.Cycles.{IsLeastWith, ClosesAt};
 
-use litmus::EventId;
+use common::EventId;
 use relations::Relation;
 
 /// The least event with the label that is forced before this one.

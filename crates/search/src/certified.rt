@@ -1,7 +1,7 @@
 //! Shortest cycles with their certificates.
 
 ghost use Rattle.std.specs.Prelude.{◌≤◌, ℕ, Option, length, IfOk, IfSome, MatchOption};
-ghost use Rattle.litmus.specs.declared.limits.TheConstants.{MAX_WORKERS};
+ghost use Rattle.common.specs.declared.limits.TheConstants.{MAX_WORKERS};
 ghost use Rattle.std.specs.Arc.{arc_value};
 ghost use Rattle.relations.specs.Relation.{Related};
 ghost use Rattle.relations.specs.Cycle.{IsLeastCycle, AreExactRows, IsAcyclic};
@@ -14,8 +14,8 @@ use crate::label_row::LabelRow;
 use crate::least::least_cycle;
 use crate::lists::{into_lists, least_length};
 use best::Best;
+use common::{Gate, OutOfMemory};
 use labels::Certificate;
-use litmus::{Gate, OutOfMemory};
 use relations::Relation;
 use std::alloc::Global;
 use std::sync::{Arc, Wait};

@@ -2,7 +2,7 @@
 
 ghost use Rattle.std.specs.Prelude.{◌≡◌, ◌≤◌, ℕ, Option, All, IfOk, length};
 ghost use Rattle.std.specs.Arc.{arc_value};
-ghost use Rattle.litmus.specs.declared.limits.TheConstants.{MAX_WORKERS};
+ghost use Rattle.common.specs.declared.limits.TheConstants.{MAX_WORKERS};
 ghost use Rattle.relations.specs.Relation.{Related};
 ghost use Rattle.best.specs.Seats.{IsBestSeatOf, known_of};
 ghost use Rattle.search.specs.Cycles.{IsLeastLength};
@@ -17,7 +17,7 @@ use crate::label_row::LabelRow;
 use crate::slots::{empty_slots, filled, put_hauls};
 use crate::work::made_by;
 use best::{Best, BestSeat};
-use litmus::{Gate, OutOfMemory};
+use common::{Gate, OutOfMemory};
 use relations::Relation;
 use std::alloc::Global;
 use std::sync::{Arc, Wait};

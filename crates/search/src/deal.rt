@@ -7,7 +7,7 @@ ghost use Rattle.search.specs.Crews.{IsCrewFor};
 use crate::crew::Crew;
 use crate::job::SourceJob;
 use best::{Best, BestSeat};
-use litmus::OutOfMemory;
+use common::OutOfMemory;
 use relations::Relation;
 use std::alloc::Global;
 

@@ -7,7 +7,7 @@ ghost use Rattle.search.specs.Cycles.{AreDistanceRows, IsLeastClosing};
 
 use crate::room::Sets;
 use crate::row::exact_row;
-use litmus::{EventId, OutOfMemory};
+use common::{EventId, OutOfMemory};
 use relations::Relation;
 use std::alloc::Global;
 

@@ -10,7 +10,7 @@ ghost use Rattle.search.specs.Cycles.{IsLeastLength};
 use crate::cut::cut_rows;
 use crate::distances::distance_rows;
 use crate::length::shortest_length;
-use litmus::OutOfMemory;
+use common::OutOfMemory;
 use relations::Relation;
 use std::alloc::Global;
 

@@ -3,7 +3,7 @@
 use crate::exact::exact_rows;
 use crate::label_row::LabelRow;
 use crate::label_rows::label_rows;
-use litmus::{EventId, OutOfMemory};
+use common::{EventId, OutOfMemory};
 use relations::Relation;
 use std::alloc::Global;
 use std::marker::Model;

@@ -1,7 +1,7 @@
 //! Rows of labels.
 
 use crate::cut::cut_at;
-use litmus::{EventId, OutOfMemory};
+use common::{EventId, OutOfMemory};
 use relations::Relation;
 use std::marker::Model;
 use std::sync::Arc;

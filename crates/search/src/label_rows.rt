@@ -10,7 +10,7 @@ ghost use Rattle.search.specs.Cycles.{IsLeastLength};
 ghost use Rattle.search.specs.SourceRow.{AreLeastRows};
 
 use crate::label_row::LabelRow;
-use litmus::OutOfMemory;
+use common::OutOfMemory;
 use relations::Relation;
 use std::alloc::Global;
 use std::sync::Arc;

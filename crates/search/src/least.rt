@@ -6,7 +6,7 @@ ghost use Rattle.relations.specs.Cycle.{IsLeastCycle, IsCertificate, AreExactRow
 ghost use Rattle.labels.specs.Certified.{lists_of};
 ghost use Rattle.search.specs.Cycles.{IsGrid, IsShortestLength, IsLeastWith, ClosesAt, GoesOn};
 
-use litmus::{EventId, OutOfMemory};
+use common::{EventId, OutOfMemory};
 use relations::Relation;
 use std::alloc::Global;
 

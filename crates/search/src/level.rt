@@ -5,7 +5,7 @@ ghost use Rattle.search.specs.Bits.{Marked, IsBitSquare};
 ghost use Rattle.search.specs.Levels.{Closes, GetsLabel, JoinsNext, JoinsPart, JoinsWords};
 
 use bitrow::BitRow;
-use litmus::EventId;
+use common::EventId;
 use std::simd::prelude::*;
 
 /// Gives the label to each event of the level; as many words, from one on, of the events that these are

@@ -6,7 +6,7 @@ ghost use Rattle.labels.specs.Certified.{lists_of};
 ghost use Rattle.search.specs.SourceRow.{AreLeastRows, numbers_of};
 
 use crate::label_row::LabelRow;
-use litmus::OutOfMemory;
+use common::OutOfMemory;
 use std::alloc::Global;
 
 /// The length of the shortest cycles, from the rows of all events that are cut at it, as `run_alone` and

@@ -1,7 +1,7 @@
 //! The memory of a breadth-first search.
 
 use bitrow::BitRow;
-use litmus::OutOfMemory;
+use common::OutOfMemory;
 use std::alloc::Global;
 
 /// Three sets of events: those that were seen, those of a level, and those of the next one.

@@ -10,7 +10,7 @@ ghost use Rattle.search.specs.Levels.{IsClosing};
 use crate::level::{take_last_level, take_level};
 use crate::room::{Room, Sets};
 use bitrow::BitRow;
-use litmus::{EventId, OutOfMemory};
+use common::{EventId, OutOfMemory};
 use std::alloc::Global;
 
 /// The least label that closes, with one more level; the cap where there is none.

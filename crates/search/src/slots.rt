@@ -11,7 +11,7 @@ use crate::job::SourceJob;
 use crate::label_row::LabelRow;
 use crate::under::row_under;
 use best::{Best, BestSeat};
-use litmus::{EventId, Gate, OutOfMemory};
+use common::{EventId, Gate, OutOfMemory};
 use relations::Relation;
 use std::alloc::Global;
 use std::sync::Arc;

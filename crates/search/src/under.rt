@@ -15,7 +15,7 @@ use crate::label_row::LabelRow;
 use crate::room::Room;
 use crate::row::row_in;
 use best::{Best, BestSeat};
-use litmus::{EventId, OutOfMemory};
+use common::{EventId, OutOfMemory};
 use relations::Relation;
 use std::alloc::Global;
 use std::sync::Arc;

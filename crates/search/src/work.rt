@@ -11,7 +11,7 @@ use crate::job::SourceJob;
 use crate::label_row::LabelRow;
 use crate::under::row_under;
 use best::{Best, BestSeat};
-use litmus::{Gate, OutOfMemory};
+use common::{Gate, OutOfMemory};
 use relations::Relation;
 use std::alloc::Global;
 use std::snapshot::Snapshot;

@@ -5,7 +5,7 @@ use Rattle.std.proofs.Common.{get_or, inl, inr}
 use Rattle.std.proofs.lemmas.Bool.{cases_Bool}
 use Rattle.std.proofs.lemmas.List.{append-nil, get_or-replicate, length-take}
 use Rattle.std.proofs.lemmas.List.Sums.{count_by_more_no, count_by_more_yes, count_by-le-length}
-use Rattle.litmus.specs.declared.limits.TheConstants.{MAX_EVENTS}
+use Rattle.common.specs.declared.limits.TheConstants.{MAX_EVENTS}
 use Rattle.trials.specs.Counts.{AreCounts, count_with, counted, cycles_below, is_cycle_of}
 
 -- of no code

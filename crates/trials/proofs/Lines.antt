@@ -1,7 +1,7 @@
 -- How many lines there are.
 use Rattle.std.proofs.Common.{◌≡◌, ℕ, zero, suc, ◌+◌, ◌*◌, ◌/◌, ◌<◌, ◌≤◌, arith}
 use Rattle.std.proofs.Math.Nat.{mul-le-mul, div-le_self}
-use Rattle.litmus.specs.declared.limits.TheConstants.{MAX_CORES, MAX_ADDRESSES}
+use Rattle.common.specs.declared.limits.TheConstants.{MAX_CORES, MAX_ADDRESSES}
 
 -- there are few
 pub few_lines : (c a : ℕ) → c ≤ MAX_CORES → a ≤ MAX_ADDRESSES → c * a ≤ MAX_CORES * MAX_ADDRESSES

@@ -1,7 +1,7 @@
 -- What a ledger counts.
 use Rattle.std.specs.Prelude.{◌≡◌, ◌+◌, ◌==◌, ◌&&◌, ℕ, zero, suc, Bool, not, nat_le, List, [], ◌∷◌, ◌++◌}
 use Rattle.std.specs.Prelude.{length, count_by, position, slice_index, ◌≤◌, if◌then◌else◌}
-use Rattle.litmus.specs.declared.limits.TheConstants.{MAX_EVENTS}
+use Rattle.common.specs.declared.limits.TheConstants.{MAX_EVENTS}
 use Rattle.trials.specs.declared.code.TheConstants.{UNFINISHED, ORDERED, CYCLE, OVERLOOK}
 use Rattle.trials.specs.declared.ledger.Ledger.{Ledger}
 

@@ -1,6 +1,7 @@
 //! Campaigns.
 
-use litmus::{MAX_CAPACITY, MAX_STEPS, MAX_TRIALS, Shape, ShapeError, is_outside};
+use common::{MAX_CAPACITY, MAX_STEPS, MAX_TRIALS};
+use litmus::{Shape, ShapeError, is_outside};
 use machine::Fault;
 use std::marker::Model;
 

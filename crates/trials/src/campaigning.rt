@@ -12,7 +12,7 @@ use crate::ledger::Ledger;
 use crate::seat::{Desk, DeskSeat, Look};
 use crate::trying::trial;
 use crate::workers::work_all;
-use litmus::{Gate, MAX_WORKERS, OutOfMemory};
+use common::{Gate, MAX_WORKERS, OutOfMemory};
 use std::alloc::Global;
 use std::sync::Wait;
 use std::thread::Threads;

@@ -9,7 +9,7 @@ use crate::board::Board;
 use crate::campaign::Campaign;
 use crate::filed::Filed;
 use crate::seat::{Desk, DeskSeat, Look};
-use litmus::OutOfMemory;
+use common::OutOfMemory;
 use std::alloc::Global;
 use std::sync::Arc;
 

@@ -6,8 +6,9 @@ ghost use Rattle.machine.specs.declared.fault.Fault.TheVariants as faults;
 ghost use Rattle.trials.specs.Judged.{begun_machine, ran, IsEndVerdict, IsLawful};
 
 use crate::code::{CYCLE, LOAD, ORDERED, OVERLOOK, UNFINISHED};
+use common::OutOfMemory;
 use judge::{Verdict, judge_alone};
-use litmus::{OutOfMemory, Program};
+use litmus::Program;
 use machine::{Fault, Machine, Step};
 use std::alloc::Global;
 

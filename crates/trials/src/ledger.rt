@@ -6,7 +6,7 @@ ghost use Rattle.trials.specs.Counts.{AreCounts, count_with, counted, cycles_bel
 ghost use Rattle.trials.specs.Counts.{is_violation};
 
 use crate::code::{CYCLE, ORDERED, OVERLOOK, UNFINISHED};
-use litmus::{MAX_EVENTS, OutOfMemory};
+use common::{MAX_EVENTS, OutOfMemory};
 use std::alloc::Global;
 
 /// How the trials of a campaign ended.

@@ -4,7 +4,7 @@ ghost use Rattle.std.specs.Prelude.{◌≡◌, ◌<◌, ◌≤◌, ◌*◌, ◌/
 ghost use Rattle.trials.specs.Schedule.{AreSteps, step_at, step_count, step_of_word, transaction_at};
 
 use crate::divisor::Divisor;
-use litmus::{Addr, CoreId, MAX_ADDRESSES, MAX_CORES};
+use common::{Addr, CoreId, MAX_ADDRESSES, MAX_CORES};
 use machine::Step;
 
 /// How many steps a machine has at most.

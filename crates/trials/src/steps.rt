@@ -9,7 +9,7 @@ ghost use Rattle.trials.specs.Looking.{LoadsWord};
 use crate::board::{Beside, Claims, Files, Looks};
 use crate::filed::Filed;
 use crate::seat::DeskSeat;
-use litmus::OutOfMemory;
+use common::OutOfMemory;
 use std::alloc::Global;
 use std::sync::Arc;
 

@@ -7,7 +7,7 @@ use crate::campaign::Campaign;
 use crate::filed::Filed;
 use crate::seat::{Desk, DeskSeat};
 use crate::trying::trial;
-use litmus::Gate;
+use common::Gate;
 use std::alloc::Global;
 use std::sync::Wait;
 use std::thread;

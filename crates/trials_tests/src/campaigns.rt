@@ -1,10 +1,11 @@
 //! Campaigns, their desks and their ledgers.
 
 ghost use Rattle.std.specs.Prelude.{◌≤◌};
-ghost use Rattle.litmus.specs.declared.limits.TheConstants.{MAX_WORKERS};
+ghost use Rattle.common.specs.declared.limits.TheConstants.{MAX_WORKERS};
 
 use answers::campaign_text;
-use litmus::{Gate, OpenGate, Shape};
+use common::{Gate, OpenGate};
+use litmus::Shape;
 use machine::Fault;
 use std::alloc::Global;
 use std::sync::Wait;

@@ -3,10 +3,10 @@
 //! in turn.
 
 ghost use Rattle.std.specs.Prelude.{◌≤◌};
-ghost use Rattle.litmus.specs.declared.limits.TheConstants.{MAX_WORKERS};
+ghost use Rattle.common.specs.declared.limits.TheConstants.{MAX_WORKERS};
 
 use crate::campaigns::campaign;
-use litmus::Gate;
+use common::Gate;
 use machine::Fault;
 use std::alloc::Global;
 use std::sync::Wait;

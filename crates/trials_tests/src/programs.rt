@@ -1,9 +1,8 @@
 //! Random programs, word by word.
 
 use crate::words::generator;
-use litmus::{
-    MAX_ADDRESSES, MAX_CORES, MAX_EVENTS, OutOfMemory, Shape, ShapeError, generate, print,
-};
+use common::{MAX_ADDRESSES, MAX_CORES, MAX_EVENTS, OutOfMemory};
+use litmus::{Shape, ShapeError, generate, print};
 use rand_core::SeedableRng;
 use rand_core::utils::NextWord;
 use rand_xoshiro::Xoshiro256PlusPlus;

@@ -3,8 +3,9 @@
 ghost use Rattle.std.specs.Prelude.{◌<◌};
 
 use crate::campaigns::campaign;
+use common::EventId;
 use judge::{Verdict, judge_alone};
-use litmus::{EventId, Program, print};
+use litmus::{Program, print};
 use machine::Fault;
 use recorder::Recording;
 use std::alloc::Global;

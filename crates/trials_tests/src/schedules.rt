@@ -1,7 +1,8 @@
 //! The steps that words name, of two cores and two addresses.
 
 use crate::words::generator;
-use litmus::{Addr, CoreId, parse};
+use common::{Addr, CoreId};
+use litmus::parse;
 use machine::{Blocked, Fault, Machine, Step};
 use std::alloc::Global;
 use std::test::Fail;

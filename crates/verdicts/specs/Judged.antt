@@ -3,7 +3,7 @@ use Rattle.std.specs.Prelude.{◌≡◌, ◌≢◌, ◌≤◌, ◌<◌, ◌++◌
 use Rattle.recorder.specs.declared.fault.RecError.{RecError}
 use Rattle.recorder.specs.declared.fault.RecError.TheVariants.{OutOfMemory}
 use Rattle.recorder.specs.Execution.{Execution}
-use Rattle.recorder.specs.Reading.{IsReadingResult}
+use Rattle.recording_text.specs.Reading.{IsReadingResult}
 use Rattle.judge.specs.declared.verdict.Verdict.{Verdict}
 use Rattle.judge.specs.Verdict.{IsVerdict}
 use Rattle.report.specs.Verdict.{IsVerdictText}

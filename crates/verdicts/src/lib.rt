@@ -4,9 +4,10 @@
 ghost use Rattle.std.specs.Prelude.{◌≡◌, ◌≢◌, ◌≤◌, ◌⊎◌, IfErr, IfOk};
 ghost use Rattle.verdicts.specs.Judged.{IsRefused, IsTextOfBytes, IsTextOfVerdict, IsTooLong, IsWritten};
 
+use common::OutOfMemory;
 use judge::judge_alone;
-use litmus::OutOfMemory;
-use recorder::{RecError, Recording, read_recording};
+use recorder::{RecError, Recording};
+use recording_text::read_recording;
 use report::verdict_text;
 use std::alloc::Global;
 

@@ -4,7 +4,7 @@ ghost use Rattle.std.specs.Prelude.{◌≡◌};
 
 use crate::entry::Entry;
 use circular_buffer::HeapCircularBuffer;
-use litmus::{Addr, OutOfMemory};
+use common::{Addr, OutOfMemory};
 use std::alloc::Global;
 use std::marker::Model;
 

@@ -1,7 +1,7 @@
 //! What waits in a store buffer.
 ghost use Rattle.std.specs.Prelude.{◌≡◌, ◌==◌, if◌then◌else◌, Option, Some};
 
-use litmus::{Addr, EventId};
+use common::{Addr, EventId};
 
 /// A store that has not reached memory.
 #[derive(Clone, Copy, Debug, PartialEq, Eq)]

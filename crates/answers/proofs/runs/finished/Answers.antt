@@ -1,7 +1,7 @@
 use Rattle.std.proofs.Common.{ℕ, List, ap, subst, ◌∙◌}
 use Rattle.std.proofs.lemmas.Result.{IfOk-weaker}
 use Rattle.recorder.specs.Execution.{Execution}
-use Rattle.recorder.specs.Text.{recording_text}
+use Rattle.recording_text.specs.Text.{recording_text}
 use Rattle.machine.specs.Configuration.{recording_of}
 use Rattle.answers.specs.Verdict.{IsVerdictAnswer}
 use Rattle.answers.proofs.Answered.{complete_answer, unfinished_answer}

@@ -1,6 +1,6 @@
 use Rattle.std.specs.Option.{option_or}
 use Rattle.clap.specs.Words.{found_of, rows_of}
-use Rattle.litmus.specs.declared.limits.TheConstants.{MAX_CAPACITY, MAX_STEPS, MAX_TRIALS, MAX_WORKERS}
+use Rattle.common.specs.declared.limits.TheConstants.{MAX_CAPACITY, MAX_STEPS, MAX_TRIALS, MAX_WORKERS}
 use Rattle.litmus.specs.declared.shape_error.ShapeError.TheVariants.{K5, K6, K7}
 use Rattle.command_line.specs.declared.options.OptionRefusal.TheVariants as refused
 use Rattle.command_line.specs.Entries.{addresses_of, attempts_of, capacity_of, cores_of, ops_of, show_of}

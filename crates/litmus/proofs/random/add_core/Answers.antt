@@ -1,7 +1,7 @@
 use Rattle.std.proofs.Common.{◌≡◌, ◌<◌, ◌-◌, ◌+◌, ℕ, suc, List, length, arith, refl, sym, ap, ◌∙◌, subst}
 use Rattle.rand_core.specs.Steps.{first_words}
 use Rattle.rand_xoshiro.specs.Xoshiro256.{plus_plus}
-use Rattle.litmus.specs.declared.limits.TheConstants.{MAX_EVENTS}
+use Rattle.common.specs.declared.limits.TheConstants.{MAX_EVENTS}
 use Rattle.litmus.specs.Built.{state}
 use Rattle.litmus.specs.Parts.{Body, op_count}
 use Rattle.litmus.specs.Random.{IsDrawn, after_words, with_core, with_word, with_words}

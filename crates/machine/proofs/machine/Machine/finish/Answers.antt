@@ -1,6 +1,6 @@
 use Rattle.std.proofs.Common.{arith, sym, ap, ◌∙◌, subst, ◌≡◌, ◌≤◌, ℕ, length, map}
 use Rattle.std.proofs.lemmas.List.{length-map}
-use Rattle.litmus.specs.declared.limits.TheConstants.{MAX_ADDRESSES}
+use Rattle.common.specs.declared.limits.TheConstants.{MAX_ADDRESSES}
 use Rattle.machine.specs.BoundedItems.{BoundedItems}
 use Rattle.machine.specs.State.{IsComplete}
 use Rattle.machine.specs.Configuration.{BlankSize, Configuration}

@@ -1,5 +1,5 @@
 use Rattle.std.proofs.Common.{◌≤◌}
-use Rattle.litmus.specs.declared.limits.TheConstants.{MAX_EVENTS}
+use Rattle.common.specs.declared.limits.TheConstants.{MAX_EVENTS}
 use Rattle.recorder.proofs.Finds.{IsCounted}
 use Rattle.recorder.proofs.parts.RecordingParts.has_few_events.Given as goal
 

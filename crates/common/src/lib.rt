@@ -1,0 +1,14 @@
+//! What all crates share: numbers, limits, `OutOfMemory`, `Gate`.
+#![tactic(auto)]
+
+mod gate;
+mod ids;
+mod limits;
+mod memory;
+
+pub use gate::{Gate, OpenGate};
+pub use ids::{Addr, CoreId, EventId};
+pub use limits::{
+    MAX_ADDRESSES, MAX_CAPACITY, MAX_CORES, MAX_EVENTS, MAX_STEPS, MAX_TRIALS, MAX_WORKERS,
+};
+pub use memory::OutOfMemory;

@@ -1,0 +1,30 @@
+-- What was read of a recording's members, and what they are.
+use Rattle.std.specs.Prelude.{◌≡◌, ◌+◌, ℕ, List, Option, Some, codes, map, option_map}
+use Rattle.serde_json.specs.Data.{Data, Members}
+use Rattle.recording_text.specs.declared.draft.Draft.{Draft}
+use Rattle.recording_text.specs.declared.reading.Found.{Found}
+use Rattle.recording_text.specs.Text.{IsReadAs}
+use Rattle.recording_text.specs.Contents.{Contents}
+use Rattle.recording_text.specs.Found.{found}
+use Rattle.recording_text.specs.Reading.{count_members, natural, value_in, list_in, shape_in}
+use Rattle.recording_text.specs.Clipped.{clipped_number, clipped_event, clipped_shape}
+use Rattle.recording_text.specs.Fields.{count_of}
+use Rattle.recording_text.specs.Pulled.{AtKey}
+
+-- the members have what was read, and nothing else
+pub record AreParts (p : Draft) (ms : Members) : Type 0 where
+  pub version : AtKey natural (codes "version") ms p.version
+  pub cores : AtKey (list_in (list_in clipped_event)) (codes "cores") ms
+      (option_map (λ v. map (λ w. w.items) v.items) p.cores)
+  pub writes : AtKey (list_in (list_in clipped_number)) (codes "writes") ms
+      (option_map (λ v. map (λ w. w.items) v.items) p.writes)
+  pub init : AtKey (list_in value_in) (codes "init") ms (option_map (λ v. v.items) p.init)
+  pub count : count_members ms ≡ count_of p.version + count_of p.cores + count_of p.writes + count_of p.init
+
+-- what is held of the contents of a text
+abbrev pub clipped_contents : Data → Option Contents
+clipped_contents d = option_map clipped_shape (shape_in d)
+
+-- the bytes are read as a value that has the contents that were found
+abbrev pub IsDraftOf : List ℕ → Found → Type 0
+IsDraftOf bytes q = (d : Data) × IsReadAs bytes d × (clipped_contents d ≡ Some (found q))
