@@ -91,9 +91,9 @@ fn ledger_of(
 }
 
 /// Runs the trials of a campaign by so many workers, 1 to `MAX_WORKERS`, of which the calling thread is
-/// worker 0 and another one that isn't started is done without. Workers claim trials in ascending order;
-/// the gate is told of each claim, each violation and each filing. What they left out the calling thread
-/// computes. An `Err` is want of memory.
+/// worker 0 and another one that isn't started is done without. Each worker claims trials in ascending order,
+/// from the first of its share on, and then those before it; the gate is told of each claim, each violation
+/// and each filing. What they left out the calling thread computes. An `Err` is want of memory.
 pub fn run_campaign<R: Threads + Wait + Sync, G: Gate>(
     rt: &R,
     alloc: Global,

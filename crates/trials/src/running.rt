@@ -27,20 +27,21 @@ pub fn run_seeded(machine: &mut Machine, rng: &mut Xoshiro256PlusPlus, attempts:
     }
 }
 
-/// Whether the machine is complete, where it can only be so once a step was taken.
-fn is_at_end(machine: &Machine, moved: bool) -> bool
-    requires { moved ≡ false → ¬ IsAtEnd machine.now }
+/// Whether the machine is complete, where it can only be so once a core went on.
+fn is_at_end(machine: &Machine, went_on: bool) -> bool
+    requires { went_on ≡ false → ¬ IsAtEnd machine.now }
     ensures { IsTrue result ↔ IsAtEnd machine.now }
 {
-    moved && machine.is_complete()
+    went_on && machine.is_complete()
 }
 
-/// Attempts a step, and tells whether it was taken; a blocked one changes nothing.
+/// Attempts a step, and tells whether a core went on by it: a blocked step changes nothing, and a
+/// transaction leaves every core where it is.
 fn attempt(machine: &mut Machine, step: Step) -> bool
     ensures ran { machine.new ≡ ran machine.old (step ∷ []) }
-    ensures still { result ≡ false → machine.new ≡ machine.old }
+    ensures still { result ≡ false → IsAtEnd machine.new → IsAtEnd machine.old }
 {
-    machine.step(step).is_ok()
+    machine.step(step).is_ok() && matches!(step, Step::Exec(_) | Step::Drain(_))
 }
 
 /// The same, with a table that has room for the machine's steps.
@@ -53,12 +54,12 @@ fn run_by(table: &mut [Step], machine: &mut Machine, rng: &mut Xoshiro256PlusPlu
     let addresses = machine.program().names().len();
     fill(cores, addresses, table);
     let count = steps_divisor(cores, addresses);
-    let mut moved = true;
+    let mut went_on = true;
     'attempts: for _taken in 0..attempts {
-        if is_at_end(machine, moved) {
+        if is_at_end(machine, went_on) {
             return;
         }
         let step = step_of_word(cores, addresses, table, count, rng.next_word());
-        moved = attempt(machine, step);
+        went_on = attempt(machine, step);
     }
 }

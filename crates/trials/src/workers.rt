@@ -1,6 +1,6 @@
 //! Workers that claim trials one after another.
 
-ghost use Rattle.std.specs.Prelude.{◌≡◌, ◌<◌};
+ghost use Rattle.std.specs.Prelude.{◌≡◌, ◌<◌, ◌≤◌};
 ghost use Rattle.trials.specs.Looking.{IsDeskSeatOf};
 
 use crate::campaign::Campaign;
@@ -46,7 +46,15 @@ fn try_one<G: Gate>(
     }
 }
 
-/// Takes trials in ascending order, one claim at a time.
+/// The trial at which a worker begins: the first of its share, where so many workers share the trials out.
+fn first_of(trials: usize, worker: usize, workers: usize) -> usize
+    requires { 1 ≤ workers }
+    ensures { result ≤ trials }
+{
+    (trials / workers).saturating_mul(worker).min(trials)
+}
+
+/// Takes the trials from the first one on in ascending order, and then those before it, one claim at a time.
 fn work<G: Gate>(
     alloc: Global,
     campaign: &Campaign,
@@ -54,14 +62,19 @@ fn work<G: Gate>(
     seat: &mut DeskSeat,
     gate: &G,
     worker: usize,
+    first: usize,
 )
     requires seat { IsDeskSeatOf desk.now seat.old }
     requires campaign { seat.old.seat.me.0.campaign ≡ campaign.now }
+    requires first { first ≤ campaign.now.trials }
     ensures seat { IsDeskSeatOf desk.now seat.new }
     ensures campaign { seat.new.seat.me.0.campaign ≡ campaign.now }
 {
-    for k in 0..campaign.trials() {
+    for k in first..campaign.trials() {
         try_one(alloc, campaign, desk, seat, gate, worker, k);
+    }
+    for earlier in 0..first {
+        try_one(alloc, campaign, desk, seat, gate, worker, earlier);
     }
 }
 
@@ -73,13 +86,15 @@ fn work_there<G: Gate>(
     mut seat: DeskSeat,
     gate: &G,
     worker: usize,
+    first: usize,
 ) -> DeskSeat
     requires seat { IsDeskSeatOf desk.now seat }
     requires campaign { seat.seat.me.0.campaign ≡ campaign.now }
+    requires first { first ≤ campaign.now.trials }
     ensures seat { IsDeskSeatOf desk.now result }
     ensures campaign { result.seat.me.0.campaign ≡ campaign.now }
 {
-    work(alloc, campaign, desk, &mut seat, gate, worker);
+    work(alloc, campaign, desk, &mut seat, gate, worker, first);
     seat
 }
 
@@ -92,9 +107,11 @@ fn start<'s, E, G: Gate>(
     seat: &mut DeskSeat,
     gate: &'s G,
     worker: usize,
+    first: usize,
 )
     requires seat { IsDeskSeatOf desk.now seat.old }
     requires campaign { seat.old.seat.me.0.campaign ≡ campaign.now }
+    requires first { first ≤ campaign.now.trials }
     ensures seat { IsDeskSeatOf desk.now seat.new }
     ensures campaign { seat.new.seat.me.0.campaign ≡ campaign.now }
 {
@@ -102,8 +119,9 @@ fn start<'s, E, G: Gate>(
         return;
     };
     let there = move || -> DeskSeat
-        requires { IsDeskSeatOf desk.now other × (other.seat.me.0.campaign ≡ campaign.now) }
-    { work_there(alloc, campaign, desk, other, gate, worker) };
+        requires { IsDeskSeatOf desk.now other × (other.seat.me.0.campaign ≡ campaign.now)
+            × (first ≤ campaign.now.trials) }
+    { work_there(alloc, campaign, desk, other, gate, worker, first) };
     let _ = scope.spawn(there);
 }
 
@@ -123,7 +141,8 @@ fn start_all<'s, E, G: Gate>(
     ensures campaign { seat.new.seat.me.0.campaign ≡ campaign.now }
 {
     for worker in 1..workers {
-        start(scope, alloc, campaign, desk, seat, gate, worker);
+        let first = first_of(campaign.trials(), worker, workers);
+        start(scope, alloc, campaign, desk, seat, gate, worker, first);
     }
 }
 
@@ -152,7 +171,7 @@ pub(crate) fn work_all<R: Threads + Wait + Sync, G: Gate>(
         {
             let mut mine = seat;
             start_all(scope, alloc, campaign, desk, &mut mine, gate, workers);
-            work_there(alloc, campaign, desk, mine, gate, 0)
+            work_there(alloc, campaign, desk, mine, gate, 0, 0)
         },
     )
 }

@@ -43,7 +43,7 @@ attempts-preserved c =
     ∙ (ap (λ (k : ℕ). step_of_word (length m.program.cores) k c.next_word.result) addresses
     ∙ ap (λ (w : ℕ). step_of_word (length m.program.cores) (length m.program.names) w) word)) in
     record {
-      leads = c.attempt-moved.ensures.ran
+      leads = c.attempt-went_on.ensures.ran
           ∙ (ap (λ (x : Configuration). ran x (c.step_of_word-step.result ∷ [])) h.leads
           ∙ (ap (λ (s : Step). ran (configuration_behind m g n) (s ∷ [])) named ∙ sym (behind_more m g n)));
       words = ap (λ (x : ℕ × List ℕ). x.1) c.next_word.ensures
@@ -53,7 +53,7 @@ attempts-preserved c =
           sym (c.is_at_end.ensures.1 (subst IsAtEnd (sym h.leads) end)) ∙ c.if-is_at_end.false in cc));
       within = omega (arith, c.attempts-test.true);
       still = λ blocked end. absurd (let clash : true ≡ false =
-          sym (c.is_at_end.ensures.1 (subst IsAtEnd (c.attempt-moved.ensures.still blocked) end))
+          sym (c.is_at_end.ensures.1 (c.attempt-went_on.ensures.still blocked end))
           ∙ c.if-is_at_end.false in cc);
     }
 

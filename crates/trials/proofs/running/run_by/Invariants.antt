@@ -12,5 +12,5 @@ invariant-attempts l =
       words : l.rng ≡ after_words l._taken l.initial.rng;
       before : (n : ℕ) → n < l._taken → ¬ IsAtEnd (configuration_behind l.initial.machine l.initial.rng n);
       within : l._taken ≤ l.attempts;
-      still : l.moved ≡ false → ¬ IsAtEnd l.machine;
+      still : l.went_on ≡ false → ¬ IsAtEnd l.machine;
     }
