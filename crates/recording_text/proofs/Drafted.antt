@@ -15,7 +15,7 @@ use Rattle.recording_text.specs.Reading.{natural, number_in, value_in, event_in,
 use Rattle.recording_text.specs.Reading.{shape_of}
 use Rattle.recording_text.specs.Reading.{shape_in}
 use Rattle.recording_text.specs.Clipped.{clip, clip_event, clipped_shape, clipped_number, clipped_event}
-use Rattle.recording_text.specs.Pulled.{Gives, Adds}
+use Rattle.recording_text.specs.Pulled.{GivesValue, Adds}
 use Rattle.recording_text.specs.Fields.{count_of}
 use Rattle.recording_text.specs.Draft.{AreParts, clipped_contents, IsDraftOf}
 use Rattle.recording_text.proofs.AtKeys.{at_new, at_other, at_key_is, count_new}
@@ -26,7 +26,7 @@ use Rattle.recording_text.proofs.ClippedLists.{cores_clipped, writes_clipped}
 
 -- the version
 pub version_added : (p : Draft) (o : Option (ℕ)) (x : ℕ) (depth : ℕ) (ts rest : List Token)
-    → Gives natural depth ts x rest → p.version ≡ None → o ≡ Some x
+    → GivesValue natural depth ts x rest → p.version ≡ None → o ≡ Some x
     → Adds AreParts (codes "version") depth ts rest p (record p { version = o })
 version_added p o x depth ts rest g none is = record {
   datum = g.datum;
@@ -54,7 +54,7 @@ version_added p o x depth ts rest g none is = record {
 -- the events of each core
 pub cores_added : (p : Draft) (o : Option (Vec (Vec Event Global) Global))
     (x : Vec (Vec Event Global) Global) (depth : ℕ) (ts rest : List Token)
-    → Gives (list_in (list_in clipped_event)) depth ts (map (λ w. w.items) x.items) rest → p.cores ≡ None
+    → GivesValue (list_in (list_in clipped_event)) depth ts (map (λ w. w.items) x.items) rest → p.cores ≡ None
     → o ≡ Some x
     → Adds AreParts (codes "cores") depth ts rest p (record p { cores = o })
 cores_added p o x depth ts rest g none is = record {
@@ -85,7 +85,7 @@ cores_added p o x depth ts rest g none is = record {
 -- the write lists
 pub writes_added : (p : Draft) (o : Option (Vec (Vec ℕ Global) Global)) (x : Vec (Vec ℕ Global) Global)
     (depth : ℕ) (ts rest : List Token)
-    → Gives (list_in (list_in clipped_number)) depth ts (map (λ w. w.items) x.items) rest → p.writes ≡ None
+    → GivesValue (list_in (list_in clipped_number)) depth ts (map (λ w. w.items) x.items) rest → p.writes ≡ None
     → o ≡ Some x
     → Adds AreParts (codes "writes") depth ts rest p (record p { writes = o })
 writes_added p o x depth ts rest g none is = record {
@@ -116,7 +116,7 @@ writes_added p o x depth ts rest g none is = record {
 
 -- the initial values
 pub init_added : (p : Draft) (o : Option (Vec ℕ Global)) (x : Vec ℕ Global) (depth : ℕ) (ts rest : List Token)
-    → Gives (list_in value_in) depth ts x.items rest → p.init ≡ None → o ≡ Some x
+    → GivesValue (list_in value_in) depth ts x.items rest → p.init ≡ None → o ≡ Some x
     → Adds AreParts (codes "init") depth ts rest p (record p { init = o })
 init_added p o x depth ts rest g none is = record {
   datum = g.datum;
@@ -215,9 +215,9 @@ found_gives p (Some vs) ms v cs ws h hv hc hw hi =
 
 -- the bytes are read so, where their tokens give what was found and nothing follows
 pub draft_read : (bytes text : List ℕ) (reader : List Token) (q : Found) → (text ≡ bytes) × IsUtf8 bytes
-    → reader ≡ tokens text → Gives clipped_contents max_depth reader (found q) [] → IsDraftOf bytes q
+    → reader ≡ tokens text → GivesValue clipped_contents max_depth reader (found q) [] → IsDraftOf bytes q
 draft_read bytes text reader q read is given =
     let all : reader ≡ tokens bytes = is ∙ ap tokens read.0 in
-    let g : Gives clipped_contents max_depth (tokens bytes) (found q) [] =
-    subst (λ (ts : List Token). Gives clipped_contents max_depth ts (found q) []) all given in
+    let g : GivesValue clipped_contents max_depth (tokens bytes) (found q) [] =
+    subst (λ (ts : List Token). GivesValue clipped_contents max_depth ts (found q) []) all given in
     (g.datum, (read.1, whole_read (value max_depth (tokens bytes)) g.datum g.read), g.gives)

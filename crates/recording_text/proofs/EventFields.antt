@@ -10,7 +10,7 @@ use Rattle.recording_text.specs.declared.fields.Fields.{Fields}
 use Rattle.recording_text.specs.Reading.{number_in, value_in, source_in, at_key, load_in, store_in}
 use Rattle.recording_text.specs.Reading.{rmw_in, failed_cas_in, event_of, event_in}
 use Rattle.recording_text.specs.Clipped.{clip, clip_event, clipped_number, clipped_event}
-use Rattle.recording_text.specs.Pulled.{clipped_source, AtKey, Gives, Adds}
+use Rattle.recording_text.specs.Pulled.{clipped_source, AtKey, GivesValue, Adds}
 use Rattle.recording_text.specs.Fields.{count_of, AreFields}
 use Rattle.recording_text.proofs.AtKeys.{at_new, at_other, at_key_is, count_new}
 
@@ -19,7 +19,7 @@ use Rattle.recording_text.proofs.AtKeys.{at_new, at_other, at_key_is, count_new}
 -- the kind
 pub kind_added : (f : Fields) (o : Option (Bor (List ℕ))) (k : Bor (List ℕ)) (depth : ℕ)
     (ts rest : List Token)
-    → Gives as_str depth ts k.now rest → f.k ≡ None → o ≡ Some k
+    → GivesValue as_str depth ts k.now rest → f.k ≡ None → o ≡ Some k
     → Adds AreFields (codes "k") depth ts rest f (record f { k = o })
 kind_added f o k depth ts rest g none is = record {
   datum = g.datum;
@@ -44,7 +44,7 @@ kind_added f o k depth ts rest g none is = record {
 
 -- the address
 pub address_added : (f : Fields) (o : Option ℕ) (a : ℕ) (depth : ℕ) (ts rest : List Token)
-    → Gives clipped_number depth ts a rest → f.a ≡ None → o ≡ Some a
+    → GivesValue clipped_number depth ts a rest → f.a ≡ None → o ≡ Some a
     → Adds AreFields (codes "a") depth ts rest f (record f { a = o })
 address_added f o a depth ts rest g none is = record {
   datum = g.datum;
@@ -68,7 +68,7 @@ address_added f o a depth ts rest g none is = record {
 
 -- the value that is read
 pub value_read_added : (f : Fields) (o : Option ℕ) (r : ℕ) (depth : ℕ) (ts rest : List Token)
-    → Gives value_in depth ts r rest → f.r ≡ None → o ≡ Some r
+    → GivesValue value_in depth ts r rest → f.r ≡ None → o ≡ Some r
     → Adds AreFields (codes "r") depth ts rest f (record f { r = o })
 value_read_added f o r depth ts rest g none is = record {
   datum = g.datum;
@@ -92,7 +92,7 @@ value_read_added f o r depth ts rest g none is = record {
 
 -- the source
 pub source_added : (f : Fields) (o : Option (Option ℕ)) (s : Option ℕ) (depth : ℕ) (ts rest : List Token)
-    → Gives clipped_source depth ts s rest → f.s ≡ None → o ≡ Some s
+    → GivesValue clipped_source depth ts s rest → f.s ≡ None → o ≡ Some s
     → Adds AreFields (codes "s") depth ts rest f (record f { s = o })
 source_added f o s depth ts rest g none is = record {
   datum = g.datum;
@@ -116,7 +116,7 @@ source_added f o s depth ts rest g none is = record {
 
 -- the value that is written
 pub value_written_added : (f : Fields) (o : Option ℕ) (w : ℕ) (depth : ℕ) (ts rest : List Token)
-    → Gives value_in depth ts w rest → f.w ≡ None → o ≡ Some w
+    → GivesValue value_in depth ts w rest → f.w ≡ None → o ≡ Some w
     → Adds AreFields (codes "w") depth ts rest f (record f { w = o })
 value_written_added f o w depth ts rest g none is = record {
   datum = g.datum;

@@ -12,7 +12,7 @@ use Rattle.serde_json.specs.Data.{Data, Num, null, number, string, array, object
 use Rattle.serde_json.specs.Data.{item, Members, no_members, put}
 use Rattle.serde_json.specs.Read.{number_of, of_json, of_items, of_members, converted}
 use Rattle.recording_text.specs.Reading.{each, list_in}
-use Rattle.recording_text.specs.Pulled.{Gives, Adds, GivesMembers}
+use Rattle.recording_text.specs.Pulled.{GivesValue, Adds, GivesMembers}
 
 -- ---- a value
 
@@ -38,7 +38,7 @@ converted_some f (Some p) b r e =
 -- a number
 pub gives_number : {A : Type 0} (f : Data → Option A) (depth : ℕ) (ts rest : List Token) (s : List ℕ)
     (n : Num) (x : A) → ts ≡ Token.number s ∷ rest → number_of s ≡ Some n → f (number n) ≡ Some x
-    → Gives f depth ts x rest
+    → GivesValue f depth ts x rest
 gives_number f depth ts rest s n x first is gives = record {
   datum = number n;
   read = rw (first, value_is depth (Token.number s ∷ rest), is) refl;
@@ -47,7 +47,7 @@ gives_number f depth ts rest s n x first is gives = record {
 
 -- a string
 pub gives_string : {A : Type 0} (f : Data → Option A) (depth : ℕ) (ts rest : List Token) (s : List ℕ)
-    (x : A) → ts ≡ Token.string s ∷ rest → f (string s) ≡ Some x → Gives f depth ts x rest
+    (x : A) → ts ≡ Token.string s ∷ rest → f (string s) ≡ Some x → GivesValue f depth ts x rest
 gives_string f depth ts rest s x first gives = record {
   datum = string s;
   read = rw (first, value_is depth (Token.string s ∷ rest)) refl;
@@ -56,7 +56,7 @@ gives_string f depth ts rest s x first gives = record {
 
 -- null
 pub gives_null : {A : Type 0} (f : Data → Option A) (depth : ℕ) (ts rest : List Token) (x : A)
-    → ts ≡ Token.null ∷ rest → f null ≡ Some x → Gives f depth ts x rest
+    → ts ≡ Token.null ∷ rest → f null ≡ Some x → GivesValue f depth ts x rest
 gives_null f depth ts rest x first gives = record {
   datum = null;
   read = rw (first, value_is depth (Token.null ∷ rest)) refl;
@@ -66,7 +66,7 @@ gives_null f depth ts rest x first gives = record {
 -- the same value gives what another function makes of it
 pub gives_also : {A B : Type 0} (f : Data → Option A) (g : Data → Option B) (depth : ℕ)
     (ts rest : List Token) (x : A) (y : B) → ((d : Data) → f d ≡ Some x → g d ≡ Some y)
-    → Gives f depth ts x rest → Gives g depth ts y rest
+    → GivesValue f depth ts x rest → GivesValue g depth ts y rest
 gives_also f g depth ts rest x y also h = record {
   datum = h.datum;
   read = h.read;
@@ -101,7 +101,7 @@ items_over f depth n ts rest enough over = record {
 
 -- one item before others
 items_read : {A : Type 0} (f : Data → Option A) (depth n : ℕ) (ts mid rest : List Token) (x : A)
-    (xs : List A) → 0 < n → after_end_array ts ≡ None → Gives f depth ts x mid
+    (xs : List A) → 0 < n → after_end_array ts ≡ None → GivesValue f depth ts x mid
     → GivesItems f depth (n - 1) mid xs rest → GivesItems f depth n ts (x ∷ xs) rest
 items_read f depth n ts mid rest x xs some going one more =
     let j = converted_some of_json (value depth ts) one.datum mid one.read in
@@ -133,10 +133,10 @@ came_start f depth ts xs none = record {
 -- one item more
 pub came_more : {A : Type 0} (f : Data → Option A) (depth : ℕ) (all ts same mid : List Token)
     (xs zs : List A) (x : A) → Came f depth all xs ts → (after_end_array ts ≡ None) × (same ≡ ts)
-    → Gives f depth same x mid → zs ≡ xs ++ x ∷ [] → Came f depth all zs mid
+    → GivesValue f depth same x mid → zs ≡ xs ++ x ∷ [] → Came f depth all zs mid
 came_more f depth all ts same mid xs zs x came test given push =
     let going = test.0 in
-    let one : Gives f depth ts x mid = rw (← test.1) given in
+    let one : GivesValue f depth ts x mid = rw (← test.1) given in
     let less : length mid < length ts = value_takes depth ts mid one.datum one.read in
     record {
       n = came.n - 1;
@@ -155,7 +155,7 @@ begun_array depth all = refl
 
 -- an item makes the tokens fewer
 pub came_shorter : {A : Type 0} (f : Data → Option A) (depth : ℕ) (ts same mid : List Token) (x : A)
-    → (after_end_array ts ≡ None) × (same ≡ ts) → Gives f depth same x mid → length mid < length ts
+    → (after_end_array ts ≡ None) × (same ≡ ts) → GivesValue f depth same x mid → length mid < length ts
 came_shorter f depth ts same mid x test one =
     rw (← test.1) (value_takes depth same mid one.datum one.read)
 
@@ -167,7 +167,7 @@ items_pushed vs ws v push = ap (map (λ w. w.items)) push ∙ map-append (λ w. 
 -- at the bracket all are read
 pub came_all : {A : Type 0} (f : Data → Option A) (depth : ℕ) (all ts rest old : List Token) (xs : List A)
     → Came f depth all xs ts → after_end_array ts ≡ Some rest → old ≡ Token.begin_array ∷ all
-    → Gives (list_in f) (suc depth) old xs rest
+    → GivesValue (list_in f) (suc depth) old xs rest
 came_all f depth all ts rest old xs came over begins =
     let h = came.onward [] rest (items_over f depth came.n ts rest came.enough over) in
     let js = converted_some of_items (items (value depth) (length all) all) h.datum rest h.read in
@@ -249,7 +249,7 @@ begun_object depth all = refl
 pub gives_object : {S A : Type 0} (Are : S → Members → Type 0) (f : Data → Option A) (depth : ℕ)
     (old all rest : List Token) (s : S) (x : A) → old ≡ Token.begin_object ∷ all
     → GivesMembers Are depth all rest s → ((ms : Members) → Are s ms → f (object ms) ≡ Some x)
-    → Gives f (suc depth) old x rest
+    → GivesValue f (suc depth) old x rest
 gives_object Are f depth old all rest s x begins h gives =
     let ms = converted_some (λ ms. of_members ms no_members) (members (value depth) (length all) all) h.found
     rest h.read in

@@ -13,7 +13,7 @@ abbrev pub clipped_source : Data → Option (Option ℕ)
 clipped_source d = option_map (option_map clip) (source_in d)
 
 -- the tokens begin with a value that gives x, and the rest follows it
-pub record Gives {A : Type 0} (f : Data → Option A) (depth : ℕ) (tokens : List Token) (x : A)
+pub record GivesValue {A : Type 0} (f : Data → Option A) (depth : ℕ) (tokens : List Token) (x : A)
     (rest : List Token) : Type 0 where
   pub datum : Data
   pub read : converted of_json (value depth tokens) ≡ Some (datum, rest)

@@ -5,7 +5,7 @@ ghost use Rattle.serde_json.specs.Data.{Members, no_members, object};
 ghost use Rattle.serde_json.specs.Read.{max_depth};
 ghost use Rattle.recording_text.specs.Found.{found};
 ghost use Rattle.recording_text.specs.Draft.{AreParts, clipped_contents, IsDraftOf};
-ghost use Rattle.recording_text.specs.Pulled.{Adds, Gives, GivesMembers};
+ghost use Rattle.recording_text.specs.Pulled.{Adds, GivesValue, GivesMembers};
 
 use crate::fields::once;
 use crate::pulled_lists::{pull_cores, pull_lists, pull_values};
@@ -116,7 +116,7 @@ fn pull_draft(alloc: Global, reader: &mut Reader<'_>) -> Result<Option<Draft>, A
 }
 
 fn pull_found(alloc: Global, reader: &mut Reader<'_>) -> Result<Option<Found>, AllocError>
-    ensures { IfOk result (λ o. IfSome o (λ q. Gives clipped_contents max_depth reader.old (found q) [])) }
+    ensures { IfOk result (λ o. IfSome o (λ q. GivesValue clipped_contents max_depth reader.old (found q) [])) }
 {
     if !begins_object(reader) {
         return Ok(None);

@@ -2,7 +2,7 @@
 
 ghost use Rattle.std.specs.Prelude.{◌≡◌, ℕ, suc, codes, Some, None, IfSome, option_map};
 ghost use Rattle.recording_text.specs.Clipped.{clipped_event};
-ghost use Rattle.recording_text.specs.Pulled.{AtKey, Adds, Gives, GivesMembers};
+ghost use Rattle.recording_text.specs.Pulled.{AtKey, Adds, GivesValue, GivesMembers};
 ghost use Rattle.recording_text.specs.Fields.{AreFields};
 ghost use Rattle.serde_json.specs.Data.{Members, no_members, object};
 
@@ -185,7 +185,7 @@ fn pull_fields<'a>(reader: &mut Reader<'a>) -> Option<Fields<'a>>
 /// An event.
 pub(crate) fn pull_event(reader: &mut Reader<'_>) -> Option<Event>
     ensures { IfSome result (λ e. (depth : ℕ)
-        → Gives clipped_event (suc depth) reader.old e reader.new) }
+        → GivesValue clipped_event (suc depth) reader.old e reader.new) }
 {
     if !begins_object(reader) {
         return None;

@@ -4,7 +4,7 @@
 ghost use Rattle.std.specs.Prelude.{ℕ, suc, map, IfOk, IfSome};
 ghost use Rattle.recording_text.specs.Reading.{list_in, value_in};
 ghost use Rattle.recording_text.specs.Clipped.{clipped_event, clipped_number};
-ghost use Rattle.recording_text.specs.Pulled.{Gives};
+ghost use Rattle.recording_text.specs.Pulled.{GivesValue};
 
 use crate::fields::pull_event;
 use crate::tokens::{begins_array, pull_number, pull_value};
@@ -19,7 +19,7 @@ const ROOM: usize = 32;
 /// The events of a core.
 fn pull_core(alloc: Global, reader: &mut Reader<'_>) -> Result<Option<Vec<Event>>, AllocError>
     ensures { IfOk result (λ o. IfSome o (λ v. (depth : ℕ)
-        → Gives (list_in clipped_event) (suc (suc depth)) reader.old v.items reader.new)) }
+        → GivesValue (list_in clipped_event) (suc (suc depth)) reader.old v.items reader.new)) }
 {
     if !begins_array(reader) {
         return Ok(None);
@@ -37,7 +37,7 @@ fn pull_core(alloc: Global, reader: &mut Reader<'_>) -> Result<Option<Vec<Event>
 /// A write list.
 fn pull_writes(alloc: Global, reader: &mut Reader<'_>) -> Result<Option<Vec<EventId>>, AllocError>
     ensures { IfOk result (λ o. IfSome o (λ v. (depth : ℕ)
-        → Gives (list_in clipped_number) (suc depth) reader.old v.items reader.new)) }
+        → GivesValue (list_in clipped_number) (suc depth) reader.old v.items reader.new)) }
 {
     if !begins_array(reader) {
         return Ok(None);
@@ -58,7 +58,7 @@ pub(crate) fn pull_values(
     reader: &mut Reader<'_>,
 ) -> Result<Option<Vec<u32>>, AllocError>
     ensures { IfOk result (λ o. IfSome o (λ v. (depth : ℕ)
-        → Gives (list_in value_in) (suc depth) reader.old v.items reader.new)) }
+        → GivesValue (list_in value_in) (suc depth) reader.old v.items reader.new)) }
 {
     if !begins_array(reader) {
         return Ok(None);
@@ -79,7 +79,7 @@ pub(crate) fn pull_cores(
     reader: &mut Reader<'_>,
 ) -> Result<Option<Vec<Vec<Event>>>, AllocError>
     ensures { IfOk result (λ o. IfSome o (λ v. (depth : ℕ)
-        → Gives (list_in (list_in clipped_event)) (suc (suc (suc depth))) reader.old
+        → GivesValue (list_in (list_in clipped_event)) (suc (suc (suc depth))) reader.old
         (map (λ w. w.items) v.items) reader.new)) }
 {
     if !begins_array(reader) {
@@ -104,7 +104,7 @@ pub(crate) fn pull_lists(
     reader: &mut Reader<'_>,
 ) -> Result<Option<Vec<Vec<EventId>>>, AllocError>
     ensures { IfOk result (λ o. IfSome o (λ v. (depth : ℕ)
-        → Gives (list_in (list_in clipped_number)) (suc (suc depth)) reader.old
+        → GivesValue (list_in (list_in clipped_number)) (suc (suc depth)) reader.old
         (map (λ w. w.items) v.items) reader.new)) }
 {
     if !begins_array(reader) {

@@ -6,7 +6,7 @@ ghost use Rattle.json.specs.Token.{begin_array, begin_object};
 ghost use Rattle.serde_json.specs.Find.{as_str};
 ghost use Rattle.recording_text.specs.Reading.{natural, value_word, value_in};
 ghost use Rattle.recording_text.specs.Clipped.{clip, clipped_number};
-ghost use Rattle.recording_text.specs.Pulled.{clipped_source, Gives};
+ghost use Rattle.recording_text.specs.Pulled.{clipped_source, GivesValue};
 
 use crate::digits::plain_number;
 use json::{Reader, Token};
@@ -25,7 +25,7 @@ pub(crate) fn begins_object(reader: &mut Reader<'_>) -> bool
 
 /// The text of a string.
 pub(crate) fn pull_text<'a>(reader: &mut Reader<'a>) -> Option<&'a str>
-    ensures { IfSome result (λ s. (depth : ℕ) → Gives as_str depth reader.old s.now reader.new) }
+    ensures { IfSome result (λ s. (depth : ℕ) → GivesValue as_str depth reader.old s.now reader.new) }
 {
     match reader.next()? {
         Token::String(text) => Some(text),
@@ -35,7 +35,7 @@ pub(crate) fn pull_text<'a>(reader: &mut Reader<'a>) -> Option<&'a str>
 
 /// A natural number.
 pub(crate) fn pull_natural(reader: &mut Reader<'_>) -> Option<u64>
-    ensures { IfSome result (λ n. (depth : ℕ) → Gives natural depth reader.old n reader.new) }
+    ensures { IfSome result (λ n. (depth : ℕ) → GivesValue natural depth reader.old n reader.new) }
 {
     match reader.next()? {
         Token::Number(text) => {
@@ -54,7 +54,7 @@ fn clipped(n: u64) -> u16
 
 /// The number of an event or of an address; the greatest of 16 bits where it is greater.
 pub(crate) fn pull_number(reader: &mut Reader<'_>) -> Option<u16>
-    ensures { IfSome result (λ n. (depth : ℕ) → Gives clipped_number depth reader.old n reader.new) }
+    ensures { IfSome result (λ n. (depth : ℕ) → GivesValue clipped_number depth reader.old n reader.new) }
 {
     let n = pull_natural(reader)?;
     Some(clipped(n))
@@ -68,7 +68,7 @@ fn word(n: u64) -> Option<u32>
 
 /// A value of 32 bits.
 pub(crate) fn pull_value(reader: &mut Reader<'_>) -> Option<u32>
-    ensures { IfSome result (λ n. (depth : ℕ) → Gives value_in depth reader.old n reader.new) }
+    ensures { IfSome result (λ n. (depth : ℕ) → GivesValue value_in depth reader.old n reader.new) }
 {
     let n = pull_natural(reader)?;
     let value = word(n)?;
@@ -77,7 +77,7 @@ pub(crate) fn pull_value(reader: &mut Reader<'_>) -> Option<u32>
 
 /// The source of a read.
 pub(crate) fn pull_source(reader: &mut Reader<'_>) -> Option<Option<u16>>
-    ensures { IfSome result (λ s. (depth : ℕ) → Gives clipped_source depth reader.old s reader.new) }
+    ensures { IfSome result (λ s. (depth : ℕ) → GivesValue clipped_source depth reader.old s reader.new) }
 {
     match reader.next()? {
         Token::Null => Some(None),
