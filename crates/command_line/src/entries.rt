@@ -73,25 +73,15 @@ pub fn flag(matches: &ArgMatches<'_>, id: &str) -> bool
 fn fault_named(name: &str) -> Option<Fault>
     ensures { result ≡ fault_named name.now }
 {
-    if name == "none" {
-        return Some(Fault::None);
+    match name {
+        "none" => Some(Fault::None),
+        "no-bypass" => Some(Fault::NoBypass),
+        "youngest-first" => Some(Fault::YoungestFirst),
+        "open-fence" => Some(Fault::OpenFence),
+        "stale-share" => Some(Fault::StaleShare),
+        "early-rmw" => Some(Fault::EarlyRmw),
+        _ => None,
     }
-    if name == "no-bypass" {
-        return Some(Fault::NoBypass);
-    }
-    if name == "youngest-first" {
-        return Some(Fault::YoungestFirst);
-    }
-    if name == "open-fence" {
-        return Some(Fault::OpenFence);
-    }
-    if name == "stale-share" {
-        return Some(Fault::StaleShare);
-    }
-    if name == "early-rmw" {
-        return Some(Fault::EarlyRmw);
-    }
-    None
 }
 
 /// The fault that is asked for, or the default; none where the name is none of the six.

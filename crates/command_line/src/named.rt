@@ -2,9 +2,8 @@
 ghost use Rattle.std.specs.Prelude.{◌≡◌, ◌≢◌, IfOk, None, Some, codes, option_map, string_bytes};
 ghost use Rattle.clap.specs.Words.{first_of, found_of, rows_of};
 ghost use Rattle.command_line.specs.Entries.{HasText, machine_fault_of};
-ghost use Rattle.command_line.specs.Options.{AreExplainOptions, AreFileOptions, AreJudgeOptions};
-ghost use Rattle.command_line.specs.Options.{AreLiveOptions, AreOptions};
-ghost use Rattle.command_line.specs.Options.{AreRunOptions, AreTrialsOptions, HasEntries, HasJudgeEntries};
+ghost use Rattle.command_line.specs.Options.{AreExplainOptions, AreOptions, AreTrialsOptions};
+ghost use Rattle.command_line.specs.Options.{HasEntries, HasJudgeEntries};
 ghost use Rattle.command_line.specs.Options.{HasLiveEntries, HasRunEntries, HasTrialsEntries};
 ghost use Rattle.command_line.specs.Refusals.{campaign_refusal, judge_refusal, live_refusal, refusal_of};
 ghost use Rattle.command_line.specs.Refusals.{run_refusal};
@@ -45,34 +44,34 @@ fn known_fault(matches: &ArgMatches<'_>) -> Fault
 }
 
 /// The options of `run`: each is `clap`'s entry, else its default.
-fn run_options(alloc: Global, matches: &ArgMatches<'_>) -> Result<RunOptions, AllocError>
+fn run_options(alloc: Global, matches: &ArgMatches<'_>) -> Result<Options, AllocError>
     requires entries { HasRunEntries (rows_of (found_of matches.now)) }
     requires unrefused { run_refusal (rows_of (found_of matches.now)) ≡ None }
-    ensures { IfOk result (λ o. AreRunOptions o (rows_of (found_of matches.now))) }
+    ensures { IfOk result (λ o. AreOptions o (Some (codes "run", rows_of (found_of matches.now)))) }
 {
     let attempts = number_or(matches, "attempts", DEFAULT_ATTEMPTS as u64) as usize;
     let buffer = number_or(matches, "buffer", DEFAULT_BUFFER as u64) as usize;
-    Ok(RunOptions {
+    Ok(Options::Run(RunOptions {
         program: String::from_str(alloc, text(matches, "PROGRAM"))?,
         steps: maybe_name(alloc, matches, "steps")?,
         seed: number_or(matches, "seed", DEFAULT_SEED),
         attempts,
         buffer,
         fault: known_fault(matches),
-    })
+    }))
 }
 
 /// The options of `judge`: each is `clap`'s entry, else its default.
-fn judge_options(alloc: Global, matches: &ArgMatches<'_>) -> Result<JudgeOptions, AllocError>
+fn judge_options(alloc: Global, matches: &ArgMatches<'_>) -> Result<Options, AllocError>
     requires entries { HasJudgeEntries (rows_of (found_of matches.now)) }
     requires unrefused { judge_refusal (rows_of (found_of matches.now)) ≡ None }
-    ensures { IfOk result (λ o. AreJudgeOptions o (rows_of (found_of matches.now))) }
+    ensures { IfOk result (λ o. AreOptions o (Some (codes "judge", rows_of (found_of matches.now)))) }
 {
     let workers = number_or(matches, "workers", DEFAULT_WORKERS as u64) as usize;
-    Ok(JudgeOptions {
+    Ok(Options::Judge(JudgeOptions {
         file: String::from_str(alloc, text(matches, "FILE"))?,
         workers,
-    })
+    }))
 }
 
 /// The options of `trials`: each is `clap`'s entry, else its default.
@@ -97,28 +96,28 @@ fn trials_options(matches: &ArgMatches<'_>) -> TrialsOptions
 }
 
 /// The options of `live`: each is `clap`'s entry, else its default.
-fn live_options(alloc: Global, matches: &ArgMatches<'_>) -> Result<LiveOptions, AllocError>
+fn live_options(alloc: Global, matches: &ArgMatches<'_>) -> Result<Options, AllocError>
     requires entries { HasLiveEntries (rows_of (found_of matches.now)) }
     requires unrefused { live_refusal (rows_of (found_of matches.now)) ≡ None }
-    ensures { IfOk result (λ o. AreLiveOptions o (rows_of (found_of matches.now))) }
+    ensures { IfOk result (λ o. AreOptions o (Some (codes "live", rows_of (found_of matches.now)))) }
 {
     let buffer = number_or(matches, "buffer", DEFAULT_BUFFER as u64) as usize;
     let limit = number_or(matches, "limit", DEFAULT_LIMIT as u64) as usize;
-    Ok(LiveOptions {
+    Ok(Options::Live(LiveOptions {
         program: String::from_str(alloc, text(matches, "PROGRAM"))?,
         buffer,
         limit,
-    })
+    }))
 }
 
 /// The options of `replay`: the file is `clap`'s entry.
-fn file_options(alloc: Global, matches: &ArgMatches<'_>) -> Result<FileOptions, AllocError>
+fn replay_options(alloc: Global, matches: &ArgMatches<'_>) -> Result<Options, AllocError>
     requires { HasText (codes "FILE") (rows_of (found_of matches.now)) }
-    ensures { IfOk result (λ o. AreFileOptions o (rows_of (found_of matches.now))) }
+    ensures { IfOk result (λ o. AreOptions o (Some (codes "replay", rows_of (found_of matches.now)))) }
 {
-    Ok(FileOptions {
+    Ok(Options::Replay(FileOptions {
         file: String::from_str(alloc, text(matches, "FILE"))?,
-    })
+    }))
 }
 
 /// The options of `explain` and `draw`: the file is `clap`'s entry, and so is the program where there is one.
@@ -142,32 +141,14 @@ pub fn named_options(
     requires unrefused { refusal_of name.now (rows_of (found_of entries.now)) ≡ None }
     ensures { IfOk result (λ o. AreOptions o (Some (name.now, rows_of (found_of entries.now)))) }
 {
-    if name == "run" {
-        let run = run_options(alloc, entries)?;
-        return Ok(Options::Run(run));
+    match name {
+        "run" => run_options(alloc, entries),
+        "judge" => judge_options(alloc, entries),
+        "trials" => Ok(Options::Trials(trials_options(entries))),
+        "live" => live_options(alloc, entries),
+        "replay" => replay_options(alloc, entries),
+        "explain" => Ok(Options::Explain(explain_options(alloc, entries)?)),
+        "draw" => Ok(Options::Draw(explain_options(alloc, entries)?)),
+        _ => unreachable!(),
     }
-    if name == "judge" {
-        let judge = judge_options(alloc, entries)?;
-        return Ok(Options::Judge(judge));
-    }
-    if name == "trials" {
-        return Ok(Options::Trials(trials_options(entries)));
-    }
-    if name == "live" {
-        let live = live_options(alloc, entries)?;
-        return Ok(Options::Live(live));
-    }
-    if name == "replay" {
-        let replay = file_options(alloc, entries)?;
-        return Ok(Options::Replay(replay));
-    }
-    if name == "explain" {
-        let explain = explain_options(alloc, entries)?;
-        return Ok(Options::Explain(explain));
-    }
-    if name == "draw" {
-        let draw = explain_options(alloc, entries)?;
-        return Ok(Options::Draw(draw));
-    }
-    unreachable!()
 }

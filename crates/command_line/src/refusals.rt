@@ -167,17 +167,11 @@ pub fn refusal_of(name: &str, matches: &ArgMatches<'_>) -> Option<OptionRefusal>
     requires { HasEntries (name.now, rows_of (found_of matches.now)) }
     ensures { result ≡ refusal_of name.now (rows_of (found_of matches.now)) }
 {
-    if name == "run" {
-        return run_refusal(matches);
+    match name {
+        "run" => run_refusal(matches),
+        "judge" => workers_refusal(matches),
+        "trials" => campaign_refusal(matches),
+        "live" => live_refusal(matches),
+        _ => None,
     }
-    if name == "judge" {
-        return workers_refusal(matches);
-    }
-    if name == "trials" {
-        return campaign_refusal(matches);
-    }
-    if name == "live" {
-        return live_refusal(matches);
-    }
-    None
 }
