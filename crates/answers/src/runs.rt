@@ -1,7 +1,9 @@
 //! What is answered of runs.
 
 ghost use Rattle.std.specs.Prelude.{IfOk};
-ghost use Rattle.answers.specs.Run.{IsRunAnswer, IsSeededAnswer, state_after};
+ghost use Rattle.recording_text.specs.Text.{recording_text};
+ghost use Rattle.answers.specs.Run.{IsRunAnswer, IsSeededAnswer, IsUnfinishedAnswer, state_after};
+ghost use Rattle.answers.specs.Verdict.{IsVerdictAnswer};
 
 use crate::answer::{Answer, UNFINISHED};
 use crate::verdict::verdict_behind;
@@ -11,9 +13,26 @@ use litmus::Program;
 use machine::{Fault, Machine, Step};
 use rand_core::SeedableRng;
 use rand_xoshiro::Xoshiro256PlusPlus;
+use recorder::Recording;
 use recording_text::write_recording;
 use std::alloc::Global;
 use trials::run_seeded;
+
+/// The line of a recording and the verdict on it. An error is want of memory.
+fn recorded(alloc: Global, recording: &Recording) -> Result<Answer, OutOfMemory>
+    ensures { IfOk result (IsVerdictAnswer recording.now (recording_text recording.now)) }
+{
+    let text = write_recording(alloc, recording)?;
+    let verdict = judge_alone(alloc, recording)?;
+    verdict_behind(alloc, text, recording, &verdict)
+}
+
+/// That a run is unfinished. An error is want of memory.
+fn unfinished(alloc: Global) -> Result<Answer, OutOfMemory>
+    ensures { IfOk result IsUnfinishedAnswer }
+{
+    Ok(Answer::of(alloc, UNFINISHED, "unfinished\n")?)
+}
 
 /// The line of the recording of a complete machine and the verdict on it, or that it is unfinished. An
 /// error is want of memory.
@@ -21,12 +40,8 @@ pub fn finished(alloc: Global, machine: Machine) -> Result<Answer, OutOfMemory>
     ensures { IfOk result (IsRunAnswer machine.fault machine.program machine.state) }
 {
     match machine.finish() {
-        Ok(recording) => {
-            let text = write_recording(alloc, &recording)?;
-            let verdict = judge_alone(alloc, &recording)?;
-            verdict_behind(alloc, text, &recording, &verdict)
-        }
-        Err(_unfinished) => Ok(Answer::of(alloc, UNFINISHED, "unfinished\n")?),
+        Ok(recording) => recorded(alloc, &recording),
+        Err(_unfinished) => unfinished(alloc),
     }
 }
 

@@ -1,10 +1,17 @@
--- Why a named program is not read.
-use Rattle.std.specs.Prelude.{ℕ, List, Option}
+-- A named program, and why it is not read.
+use Rattle.std.specs.Prelude.{◌≡◌, ℕ, List, Option, Ok}
+use Rattle.litmus.specs.Parts.{Parts}
 use Rattle.litmus.specs.Text.{reading}
 use Rattle.commands.specs.declared.stop.Stop.{Stop}
 use Rattle.commands.specs.declared.stop.Stop.TheVariants.{Refused, Fault}
 use Rattle.commands.specs.Inputs.{AreBytesOf, IsInputFault}
 use Rattle.commands.specs.Refusal.{IsReadingStop, line_fault_name}
+
+-- the input of this name is the text of the program
+pub record IsProgramAt (inputs : List ℕ → Option (List ℕ)) (name : List ℕ) (program : Parts) : Type 0 where
+  pub text : List ℕ
+  pub given : AreBytesOf inputs name text
+  pub read : reading text ≡ Ok program
 
 -- the named program is refused
 pub record IsProgramRefused (inputs : List ℕ → Option (List ℕ)) (name : List ℕ) (stop : Stop) : Type 0 where

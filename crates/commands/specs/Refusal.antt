@@ -37,6 +37,11 @@ step_fault_name S4 = codes "S4"
 abbrev pub refusal_line : List ℕ → ℕ → List ℕ
 refusal_line name k = codes "refused: " ++ name ++ codes " line " ++ decimal k ++ 10 ∷ []
 
+-- the line is printed, or memory is wanting
+abbrev pub IsLineStop : List ℕ → Stop → Type 0
+IsLineStop text (Refused line) = string_bytes line ≡ text
+IsLineStop text (Fault fault) = fault ≡ OutOfMemory
+
 -- the stop is that of a text which reads as a fault, or memory is wanting
 abbrev pub IsReadingStop : {X F : Type 0} → (F → List ℕ) → Result X (F × ℕ) → Stop → Type 0
 IsReadingStop name (Ok x) (Refused line) = ⊥

@@ -18,9 +18,9 @@ use Rattle.answers.specs.declared.answer.Answer.{Answer}
 use Rattle.commands.specs.declared.stop.Stop.{Stop}
 use Rattle.commands.specs.declared.stop.Stop.TheVariants.{Refused, Fault}
 use Rattle.answers.specs.declared.answer.TheConstants.{DONE, VIOLATION}
-use Rattle.commands.specs.declared.fault.CommandFault.TheVariants.{OutOfMemory}
 use Rattle.commands.specs.Inputs.{AreBytesOf, IsInputFault}
 use Rattle.commands.specs.Judge.{IsUnread}
+use Rattle.commands.specs.Refusal.{IsLineStop}
 use Rattle.answers.specs.Verdict.{IsVerdictAnswer}
 
 -- a capacity, the text of a program and a script, with an empty line between them
@@ -70,8 +70,7 @@ pub record IsReplayed (bytes : List ℕ) (answer : Answer) : Type 0 where
 
 -- the line of addresses that are not numbered by first use, or memory is wanting
 abbrev pub IsUnnumberedStop : Stop → Type 0
-IsUnnumberedStop (Refused line) = string_bytes line ≡ codes "refused: N8" ++ 10 ∷ []
-IsUnnumberedStop (Fault fault) = fault ≡ OutOfMemory
+IsUnnumberedStop stop = IsLineStop (codes "refused: N8" ++ 10 ∷ []) stop
 
 -- the bytes give a recording whose addresses are not numbered by first use
 pub record IsUnnumbered (bytes : List ℕ) (stop : Stop) : Type 0 where

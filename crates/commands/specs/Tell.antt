@@ -13,11 +13,12 @@ use Rattle.command_line.specs.declared.options.ExplainOptions.{ExplainOptions}
 use Rattle.answers.specs.declared.answer.Answer.{Answer}
 use Rattle.answers.specs.Told.{IsToldAnswer}
 use Rattle.commands.specs.declared.stop.Stop.{Stop}
-use Rattle.commands.specs.declared.stop.Stop.TheVariants.{Refused, Fault}
+use Rattle.commands.specs.declared.stop.Stop.TheVariants.{Fault}
 use Rattle.commands.specs.declared.fault.CommandFault.TheVariants.{OutOfMemory}
 use Rattle.commands.specs.Inputs.{AreBytesOf}
 use Rattle.commands.specs.Judge.{IsRecordingStop}
 use Rattle.commands.specs.Program.{IsProgramStop}
+use Rattle.commands.specs.Refusal.{IsLineStop}
 
 -- the names are those of the program of this name, of which the recording is one
 pub record AreNamesIn (inputs : List ℕ → Option (List ℕ)) (x : Execution) (name : List ℕ)
@@ -52,8 +53,7 @@ pub record IsTold (inputs : List ℕ → Option (List ℕ)) (telling : Telling) 
 
 -- the line of a program of which the recording is none, or memory is wanting
 abbrev pub IsOtherStop : Stop → Type 0
-IsOtherStop (Refused line) = string_bytes line ≡ codes "refused: N9" ++ 10 ∷ []
-IsOtherStop (Fault fault) = fault ≡ OutOfMemory
+IsOtherStop stop = IsLineStop (codes "refused: N9" ++ 10 ∷ []) stop
 
 -- the recording is none of the program of this name
 pub record IsOther (inputs : List ℕ → Option (List ℕ)) (x : Execution) (name : List ℕ) (stop : Stop)

@@ -6,8 +6,7 @@ ghost use Rattle.commands.specs.Run.{IsLive};
 
 use crate::fault::CommandFault;
 use crate::place::Place;
-use crate::reading::text_at;
-use crate::run_command::program_of;
+use crate::run_command::program_at;
 use crate::stop::Stop;
 use answers::{Answer, finished};
 use command_line::LiveOptions;
@@ -40,8 +39,7 @@ pub fn live_command<R: Threads + Wait + Sync, P: Place>(
     ensures ok { IfOk result (IsLive (P.bytes place.old) options.now) }
     ensures err { IfErr result (IsLiveStop (P.bytes place.old) options.now) }
 {
-    let text = text_at(alloc, place, options.program.as_str())?;
-    let program = program_of(alloc, text.as_slice())?;
+    let program = program_at(alloc, place, options.program.as_str())?;
     let traced = match drive(rt, alloc, program, options.buffer, options.limit, &OpenGate) {
         Ok(traced) => traced,
         Err(error) => return Err(Stop::Fault(fault_of(error))),

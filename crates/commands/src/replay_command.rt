@@ -1,5 +1,11 @@
 //! The command `replay`.
-ghost use Rattle.std.specs.Prelude.{◌≡◌, IfErr, IfOk};
+ghost use Rattle.std.specs.Prelude.{◌≡◌, ◌≤◌, All, IfErr, IfOk, Ok, length};
+ghost use Rattle.common.specs.declared.limits.TheConstants.{MAX_STEPS};
+ghost use Rattle.litmus.specs.Spelling.{spelling};
+ghost use Rattle.litmus.specs.Text.{reading};
+ghost use Rattle.machine.specs.Script.{IsStepOf, steps_of};
+ghost use Rattle.machine.specs.ScriptText.{script_text};
+ghost use Rattle.recording_text.specs.Reading.{IsReadingResult};
 ghost use Rattle.judge.specs.Verdict.{IsVerdict, Verifies};
 ghost use Rattle.recorder.specs.Tso.{IsTsoOrder};
 ghost use Rattle.replay.specs.Numbered.{IsNumberedByFirstUse};
@@ -15,8 +21,8 @@ use command_line::FileOptions;
 use common::{EventId, OutOfMemory};
 use itoa::Buffer;
 use judge::{Verdict, judge_alone};
-use litmus::{has_one_text, print};
-use machine::steps_text;
+use litmus::{Program, has_one_text, print};
+use machine::{Step, steps_text};
 use recorder::Recording;
 use recording_text::read_recording;
 use replay::{every_order_is_replayed, is_numbered, most_stores, replay_steps};
@@ -42,6 +48,28 @@ fn parts_text(
     Ok(text)
 }
 
+/// A capacity, a program and steps of it, as they are printed; the program and the steps are read back.
+fn printed(
+    alloc: Global,
+    capacity: usize,
+    program: &Program,
+    steps: &[Step],
+) -> Result<Vec<u8>, OutOfMemory>
+    requires within { All (IsStepOf program.now) steps.now }
+    requires few { length steps.now ≤ MAX_STEPS }
+    ensures text { IfOk result (λ text. text.items
+        ≡ parts_text capacity (spelling program.now) (script_text program.now steps.now)) }
+    ensures program { IfOk result (λ _. reading (spelling program.now) ≡ Ok program.now) }
+    ensures script { IfOk result (λ _. steps_of program.now (script_text program.now steps.now)
+        ≡ Ok steps.now) }
+{
+    has_one_text();
+    program.sound();
+    let text = print(alloc, program)?;
+    let script = steps_text(alloc, steps, program)?;
+    parts_text(alloc, capacity, &text, &script)
+}
+
 /// The capacity, the program and the script that replay a TSO order.
 fn replay_text(
     alloc: Global,
@@ -54,12 +82,8 @@ fn replay_text(
     ensures read { IfOk result (λ _. IsReadBack recording.now order.now) }
 {
     recording.sound();
-    has_one_text();
     let (program, steps) = replay_steps(alloc, recording, order)?;
-    program.sound();
-    let text = print(alloc, &program)?;
-    let script = steps_text(alloc, &steps, &program)?;
-    parts_text(alloc, most_stores(recording), &text, &script)
+    printed(alloc, most_stores(recording), &program, &steps)
 }
 
 /// The replay of the least order of a recording, or the verdict on a violation.
@@ -82,22 +106,41 @@ fn replay_of(alloc: Global, recording: &Recording, verdict: &Verdict) -> Result<
     }
 }
 
+/// The replay of a recording, or the verdict on it where it is a violation.
+fn replay(alloc: Global, recording: &Recording) -> Result<Answer, OutOfMemory>
+    requires { IsNumberedByFirstUse recording.now }
+    ensures { IfOk result (IsReplayOf recording.now) }
+{
+    let verdict = judge_alone(alloc, recording)?;
+    replay_of(alloc, recording, &verdict)
+}
+
+/// The recording that the bytes are, whose addresses are numbered by first use, or the line of their refusal.
+fn numbered(alloc: Global, bytes: &[u8]) -> Result<Recording, Stop>
+    ensures read { IfOk result (λ recording. IsReadingResult bytes.now (Ok recording)) }
+    ensures numbered { IfOk result (λ recording. IsNumberedByFirstUse recording) }
+    ensures err { IfErr result (IsUnreplayed bytes.now) }
+{
+    match read_recording(alloc, bytes) {
+        Ok(recording) => {
+            if is_numbered(&recording) {
+                Ok(recording)
+            } else {
+                Err(Stop::of_line(alloc, "refused: N8\n"))
+            }
+        }
+        Err(refusal) => Err(unread(alloc, refusal)?),
+    }
+}
+
 /// The replay of the recording that the bytes are, or the verdict on it where it is a violation, or
 /// the line of their refusal.
 fn replayed(alloc: Global, bytes: &[u8]) -> Result<Answer, Stop>
     ensures ok { IfOk result (IsReplayed bytes.now) }
     ensures err { IfErr result (IsUnreplayed bytes.now) }
 {
-    match read_recording(alloc, bytes) {
-        Ok(recording) => {
-            if !is_numbered(&recording) {
-                return Err(Stop::Refused(String::from_str(alloc, "refused: N8\n")?));
-            }
-            let verdict = judge_alone(alloc, &recording)?;
-            Ok(replay_of(alloc, &recording, &verdict)?)
-        }
-        Err(refusal) => Err(unread(alloc, refusal)?),
-    }
+    let recording = numbered(alloc, bytes)?;
+    Ok(replay(alloc, &recording)?)
 }
 
 /// Replays the recording of a named input.

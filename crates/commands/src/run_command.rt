@@ -2,6 +2,7 @@
 ghost use Rattle.std.specs.Prelude.{◌≡◌, IfErr, IfOk, Ok};
 ghost use Rattle.litmus.specs.Text.{reading};
 ghost use Rattle.machine.specs.Script.{steps_of};
+ghost use Rattle.commands.specs.Program.{IsProgramAt, IsProgramStop};
 ghost use Rattle.commands.specs.Refusal.{IsReadingStop, line_fault_name, step_fault_name};
 ghost use Rattle.commands.specs.Perform.{IsRunStop, IsScriptStop};
 ghost use Rattle.commands.specs.Run.{IsRun, IsScriptAnswer};
@@ -18,7 +19,7 @@ use machine::{Step, StepsError, parse_steps};
 use std::alloc::Global;
 
 /// The program of a text, or the line that is printed for its first line at fault.
-pub fn program_of(alloc: Global, text: &[u8]) -> Result<Program, Stop>
+fn program_of(alloc: Global, text: &[u8]) -> Result<Program, Stop>
     ensures ok { IfOk result (λ program. reading text.now ≡ Ok program) }
     ensures err { IfErr result (IsReadingStop line_fault_name (reading text.now)) }
 {
@@ -31,6 +32,16 @@ pub fn program_of(alloc: Global, text: &[u8]) -> Result<Program, Stop>
             line,
         )?)),
     }
+}
+
+/// The program of a named input, or why it is not read.
+pub fn program_at<P: Place>(alloc: Global, place: &mut P, name: &str) -> Result<Program, Stop>
+    ensures ok { IfOk result (λ program. IsProgramAt (P.bytes place.old) name.now program) }
+    ensures err { IfErr result (IsProgramStop (P.bytes place.old) name.now) }
+    ensures kept { P.bytes place.new ≡ P.bytes place.old }
+{
+    let text = text_at(alloc, place, name)?;
+    program_of(alloc, text.as_slice())
 }
 
 /// The steps of a script for a program, or the line that is printed for its first line at fault.
@@ -81,8 +92,7 @@ pub fn run_command<P: Place>(
     ensures ok { IfOk result (IsRun (P.bytes place.old) options.now) }
     ensures err { IfErr result (IsRunStop (P.bytes place.old) options.now) }
 {
-    let text = text_at(alloc, place, options.program.as_str())?;
-    let program = program_of(alloc, text.as_slice())?;
+    let program = program_at(alloc, place, options.program.as_str())?;
     match &options.steps {
         Some(name) => script_run(alloc, program, options, name.as_str(), place),
         None => Ok(seeded_answer(

@@ -1,8 +1,9 @@
 //! Why a command stops.
+ghost use Rattle.commands.specs.Refusal.{IsLineStop};
 
 use crate::fault::CommandFault;
 use common::OutOfMemory;
-use std::alloc::{AllocError, AllocFailed};
+use std::alloc::{AllocError, AllocFailed, Global};
 
 /// Why a command stops before its usual answer.
 #[derive(Debug, Drop)]
@@ -11,6 +12,18 @@ pub enum Stop {
     Refused(String),
     /// A fault: the program ends with status `FAULT`.
     Fault(CommandFault),
+}
+
+impl Stop {
+    /// The stop that prints this line, or want of memory.
+    pub fn of_line(alloc: Global, line: &str) -> Stop
+        ensures { IsLineStop line.now result }
+    {
+        match String::from_str(alloc, line) {
+            Ok(line) => Stop::Refused(line),
+            Err(_) => Stop::Fault(CommandFault::OutOfMemory),
+        }
+    }
 }
 
 impl From<CommandFault> for Stop {

@@ -9,7 +9,7 @@ ghost use Rattle.commands.specs.Judge.{IsUnread};
 use crate::judge_command::unread;
 use crate::place::Place;
 use crate::reading::text_at;
-use crate::run_command::program_of;
+use crate::run_command::program_at;
 use crate::stop::Stop;
 use answers::{Answer, told_answer};
 use command_line::ExplainOptions;
@@ -32,7 +32,7 @@ fn recording_of(alloc: Global, bytes: &[u8]) -> Result<Recording, Stop>
 }
 
 /// The program of this name, of which the recording has to be one.
-fn program_at<P: Place>(
+fn recorded_program<P: Place>(
     alloc: Global,
     recording: &Recording,
     name: &str,
@@ -42,12 +42,12 @@ fn program_at<P: Place>(
         AreNamesIn (P.bytes place.old) recording.now name.now program.names) }
     ensures err { IfErr result (IsNamesStop (P.bytes place.old) recording.now (Some name.now)) }
 {
-    let text = text_at(alloc, place, name)?;
-    let program = program_of(alloc, text.as_slice())?;
-    if !is_program_of(&program, recording) {
-        return Err(Stop::Refused(String::from_str(alloc, "refused: N9\n")?));
+    let program = program_at(alloc, place, name)?;
+    if is_program_of(&program, recording) {
+        Ok(program)
+    } else {
+        Err(Stop::of_line(alloc, "refused: N9\n"))
     }
-    Ok(program)
 }
 
 /// The verdict on a recording, told so, with the names that its program gives the addresses.
@@ -61,7 +61,7 @@ fn named_answer<P: Place>(
     ensures ok { IfOk result (IsToldBy (P.bytes place.old) telling recording.now (Some name.now)) }
     ensures err { IfErr result (IsNamesStop (P.bytes place.old) recording.now (Some name.now)) }
 {
-    let program = program_at(alloc, recording, name, place)?;
+    let program = recorded_program(alloc, recording, name, place)?;
     Ok(told_answer(alloc, telling, recording, program.names())?)
 }
 
