@@ -1,5 +1,5 @@
 -- What options ask for.
-use Rattle.std.proofs.Common.{◌≡◌, ◌≤◌, ap, sym, subst, ℕ, List, Option, Some, None, Ok, map}
+use Rattle.std.proofs.Common.{◌≡◌, ◌≤◌, ap, sym, subst, ℕ, List, Option, Some, None, Ok}
 use Rattle.std.specs.Prelude.{option_map, string_bytes}
 use Rattle.clap.specs.Words.{Row, Text}
 use Rattle.answers.specs.declared.answer.Answer.{Answer}

@@ -1,5 +1,5 @@
 -- What is answered to the bytes of a recording.
-use Rattle.std.specs.Prelude.{◌≡◌, [], ℕ, List, Option, Ok, Err, string_bytes}
+use Rattle.std.specs.Prelude.{[], ℕ, List, Option, Ok, Err, string_bytes}
 use Rattle.command_line.specs.declared.options.JudgeOptions.{JudgeOptions}
 use Rattle.recorder.specs.declared.fault.RecError.{RecError}
 use Rattle.recorder.specs.Execution.{Execution}
