@@ -1,6 +1,6 @@
 -- What was written of an event or a list is read as that event or list again.
 use Rattle.std.proofs.Common.{◌≡◌, ◌<◌, ◌≤◌, ◌^◌, ◌+◌, ℕ, List, [], ◌∷◌, ◌++◌, Option, Some, map, length}
-use Rattle.std.proofs.Common.{take, get_or, refl, sym, ap, ◌∙◌, subst, Vec, Global}
+use Rattle.std.proofs.Common.{None, take, get_or, refl, sym, ap, ◌∙◌, subst, Vec, Global}
 use Rattle.std.specs.Prelude.{⊤}
 use Rattle.std.proofs.lemmas.Bool.{lt-ltb}
 use Rattle.std.proofs.lemmas.List.{take_more, take_all, get_or-map, map-append}
@@ -20,11 +20,15 @@ number_again n = refl
 pub value_again : (n : ℕ) → n < 2 ^ 32 → value_in (number_data n) ≡ Some n
 value_again n h = rw (lt-ltb n (2 ^ 32) h) refl
 
+-- a source
+source_again : (s : Option ℕ) → source_in (source_data s) ≡ Some s
+source_again None = refl
+source_again (Some n) = refl
+
 -- a load
-pub load_again : (a r : ℕ) (s : Option ℕ) → r < 2 ^ 32 → source_in (source_data s) ≡ Some s
-    → event_in (event_data (L a r s)) ≡ Some (L a r s)
+pub load_again : (a r : ℕ) (s : Option ℕ) → r < 2 ^ 32 → event_in (event_data (L a r s)) ≡ Some (L a r s)
 unfolding event_in event_of load_in
-load_again a r s hr hs = rw (lt-ltb r (2 ^ 32) hr, hs) refl
+load_again a r s hr = rw (lt-ltb r (2 ^ 32) hr, source_again s) refl
 
 -- a store
 pub store_again : (a w : ℕ) → w < 2 ^ 32 → event_in (event_data (S a w)) ≡ Some (S a w)
@@ -32,16 +36,16 @@ unfolding event_in event_of store_in
 store_again a w hw = rw (lt-ltb w (2 ^ 32) hw) refl
 
 -- a read-modify-write
-pub rmw_again : (a r : ℕ) (s : Option ℕ) (w : ℕ) → r < 2 ^ 32 → source_in (source_data s) ≡ Some s
-    → w < 2 ^ 32 → event_in (event_data (R a r s w)) ≡ Some (R a r s w)
+pub rmw_again : (a r : ℕ) (s : Option ℕ) (w : ℕ) → r < 2 ^ 32 → w < 2 ^ 32
+    → event_in (event_data (R a r s w)) ≡ Some (R a r s w)
 unfolding event_in event_of rmw_in
-rmw_again a r s w hr hs hw = rw (lt-ltb r (2 ^ 32) hr, hs, lt-ltb w (2 ^ 32) hw) refl
+rmw_again a r s w hr hw = rw (lt-ltb r (2 ^ 32) hr, source_again s, lt-ltb w (2 ^ 32) hw) refl
 
 -- a compare-and-swap that failed
-pub failed_cas_again : (a r : ℕ) (s : Option ℕ) → r < 2 ^ 32 → source_in (source_data s) ≡ Some s
+pub failed_cas_again : (a r : ℕ) (s : Option ℕ) → r < 2 ^ 32
     → event_in (event_data (C a r s)) ≡ Some (C a r s)
 unfolding event_in event_of failed_cas_in
-failed_cas_again a r s hr hs = rw (lt-ltb r (2 ^ 32) hr, hs) refl
+failed_cas_again a r s hr = rw (lt-ltb r (2 ^ 32) hr, source_again s) refl
 
 -- a fence
 pub fence_again : event_in (event_data F) ≡ Some F

@@ -1,5 +1,5 @@
--- What is known of something that was found.
-use Rattle.std.proofs.Common.{◌≡◌, Option, Some, None, IfSome, subst}
+-- What is known of something that was found, or made.
+use Rattle.std.proofs.Common.{◌≡◌, Option, Some, None, IfSome, IsSome, refl, Result, Ok, Err, IfOk, subst}
 
 -- where something was found, more is known of it
 pub if_some : {A : Type 0} {P Q : A → Type 0} (o : Option A) → ((x : A) → P x → Q x) → IfSome o P → IfSome o Q
@@ -9,3 +9,25 @@ if_some (Some x) more h = more x h
 -- what is known of what was found
 pub found_is : {A : Type 0} (P : A → Type 0) (o : Option A) (x : A) → o ≡ Some x → IfSome o P → P x
 found_is {A} P o x is h = subst (λ (q : Option A). IfSome q P) is h
+
+-- what is known of something that is there
+pub some_is : {A : Type 0} (P : A → Type 0) (o : Option A) → IsSome o → IfSome o P
+    → (x : A) × (o ≡ Some x) × P x
+some_is P None there h = absurd cc
+some_is P (Some x) there h = (x, refl, h)
+
+-- what is always so, where all went well
+pub always : {A E : Type 0} {P : Type 0} (r : Result A E) → P → IfOk r (λ x. P)
+always (Ok x) p = p
+always (Err e) p = tt
+
+-- where all went well, more is so
+pub if_ok : {A E : Type 0} {P Q : Type 0} (r : Result A E) → (P → Q) → IfOk r (λ x. P) → IfOk r (λ x. Q)
+if_ok (Ok x) more p = more p
+if_ok (Err e) more p = tt
+
+-- the same of two things that are so
+pub both_ok : {A E : Type 0} {P Q S : Type 0} (r : Result A E) → (P → Q → S) → IfOk r (λ x. P)
+    → IfOk r (λ x. Q) → IfOk r (λ x. S)
+both_ok (Ok x) more p q = more p q
+both_ok (Err e) more p q = tt

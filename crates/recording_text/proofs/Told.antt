@@ -7,10 +7,11 @@ use Rattle.serde_json.specs.Data.{Data}
 use Rattle.recorder.specs.Execution.{Execution}
 use Rattle.recorder.specs.Recording.{executed}
 use Rattle.recording_text.specs.Contents.{Contents}
-use Rattle.recording_text.specs.Text.{number_data, list_data, event_data, data_of, data_1, data_2, has_failed_cas}
+use Rattle.recording_text.specs.Text.{data_of, data_1, data_2, has_failed_cas}
 use Rattle.recording_text.specs.Text.{is_of_version_1}
-use Rattle.recording_text.specs.Reading.{number_in, value_in, event_in, list_in, values_in, shape_of, shape_in}
+use Rattle.recording_text.specs.Reading.{values_in, shape_of, shape_in}
 use Rattle.recording_text.specs.Reading.{Tells}
+use Rattle.recording_text.specs.Values.{IsInitAgain, ArePartsAgain}
 
 -- the contents of a text of version 1
 abbrev contents_1 : Execution → Contents
@@ -20,20 +21,13 @@ contents_1 x = record { version = 1; cores = x.cores; write_lists = x.write_list
 abbrev contents_2 : Execution → Contents
 contents_2 x = record { version = 2; cores = x.cores; write_lists = x.write_lists; values = Some x.initial }
 
--- each part is read again
-pub record ArePartsAgain (x : Execution) : Type 0 where
-  pub cores : list_in (list_in event_in) (list_data (list_data event_data) x.cores) ≡ Some x.cores
-  pub lists : list_in (list_in number_in) (list_data (list_data number_data) x.write_lists)
-      ≡ Some x.write_lists
-
 -- so the contents are
 shape_1 : (x : Execution) → ArePartsAgain x → shape_in (data_1 x) ≡ Some (contents_1 x)
 unfolding shape_in shape_of values_in
 shape_1 x parts = rw (parts.cores, parts.lists) refl
 
 -- also with initial values
-shape_2 : (x : Execution) → ArePartsAgain x
-    → list_in value_in (list_data number_data x.initial) ≡ Some x.initial
+shape_2 : (x : Execution) → ArePartsAgain x → IsInitAgain x
     → shape_in (data_2 x) ≡ Some (contents_2 x)
 unfolding shape_in shape_of values_in
 shape_2 x parts values = rw (values, parts.cores, parts.lists) refl
@@ -73,8 +67,7 @@ tells_1 x parts size is =
     })
 
 -- and so does one of version 2
-pub tells_2 : (x : Execution) → ArePartsAgain x
-    → list_in value_in (list_data number_data x.initial) ≡ Some x.initial
+pub tells_2 : (x : Execution) → ArePartsAgain x → IsInitAgain x
     → is_of_version_1 x ≡ false → Tells (data_of x) x
 tells_2 x parts values is =
     let written : data_of x ≡ data_2 x = rw is refl in

@@ -6,3 +6,4 @@ pub mod Found
 pub mod Pulled
 pub mod Fields
 pub mod Draft
+pub mod Values

@@ -48,28 +48,17 @@ impl Draft {
             → Adds AreParts key.now (suc (suc (suc depth))) reader.old reader.new self.old self.new)) }
     {
         match key {
-            "version" => {
-                let Some(version) = pull_natural(reader) else {
-                    return Ok(None);
-                };
-                Ok(once(&mut self.version, version))
-            }
+            "version" => Ok(once(&mut self.version, pull_natural(reader))),
             "cores" => {
-                let Some(cores) = pull_cores(alloc, reader)? else {
-                    return Ok(None);
-                };
+                let cores = pull_cores(alloc, reader)?;
                 Ok(once(&mut self.cores, cores))
             }
             "writes" => {
-                let Some(writes) = pull_lists(alloc, reader)? else {
-                    return Ok(None);
-                };
+                let writes = pull_lists(alloc, reader)?;
                 Ok(once(&mut self.writes, writes))
             }
             "init" => {
-                let Some(init) = pull_values(alloc, reader)? else {
-                    return Ok(None);
-                };
+                let init = pull_values(alloc, reader)?;
                 Ok(once(&mut self.init, init))
             }
             _ => Ok(None),

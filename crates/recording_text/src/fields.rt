@@ -1,6 +1,6 @@
 //! Events, read from the tokens of a text.
 
-ghost use Rattle.std.specs.Prelude.{◌≡◌, ℕ, suc, codes, Some, None, IfSome, option_map};
+ghost use Rattle.std.specs.Prelude.{◌≡◌, ℕ, suc, codes, Some, None, IsSome, IfSome, option_map};
 ghost use Rattle.recording_text.specs.Clipped.{clipped_event};
 ghost use Rattle.recording_text.specs.Pulled.{AtKey, Adds, GivesValue, GivesMembers};
 ghost use Rattle.recording_text.specs.Fields.{AreFields};
@@ -20,14 +20,14 @@ struct Fields<'a> {
     w: Option<u32>,
 }
 
-/// Fills a place that is empty.
-pub(crate) fn once<T: Drop>(place: &mut Option<T>, value: T) -> Option<()>
-    ensures { IfSome result (λ _. (place.old ≡ None) × (place.new ≡ Some value)) }
+/// Fills a place that is empty with what was read, if something was.
+pub(crate) fn once<T: Drop>(place: &mut Option<T>, value: Option<T>) -> Option<()>
+    ensures { IfSome result (λ _. (place.old ≡ None) × IsSome value × (place.new ≡ value)) }
 {
-    if place.is_some() {
+    if place.is_some() || value.is_none() {
         return None;
     }
-    *place = Some(value);
+    *place = value;
     Some(())
 }
 
@@ -50,26 +50,11 @@ impl<'a> Fields<'a> {
             → Adds AreFields key.now depth reader.old reader.new self.old self.new) }
     {
         match key {
-            "a" => {
-                let a = pull_number(reader)?;
-                once(&mut self.a, a)
-            }
-            "k" => {
-                let k = pull_text(reader)?;
-                once(&mut self.k, k)
-            }
-            "r" => {
-                let r = pull_value(reader)?;
-                once(&mut self.r, r)
-            }
-            "s" => {
-                let s = pull_source(reader)?;
-                once(&mut self.s, s)
-            }
-            "w" => {
-                let w = pull_value(reader)?;
-                once(&mut self.w, w)
-            }
+            "a" => once(&mut self.a, pull_number(reader)),
+            "k" => once(&mut self.k, pull_text(reader)),
+            "r" => once(&mut self.r, pull_value(reader)),
+            "s" => once(&mut self.s, pull_source(reader)),
+            "w" => once(&mut self.w, pull_value(reader)),
             _ => None,
         }
     }
