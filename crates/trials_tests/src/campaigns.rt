@@ -52,13 +52,17 @@ fn has_text(alloc: Global, ledger: &Ledger, lines: &str) -> Result<bool, Fail> {
 const LINES: &str =
     "trials 5\nordered 1\nunfinished 1\noverlook 1\ncycle 6: 2\nfirst violation: trial 2\n";
 
-#[test]
-fn a_ledger_counts_codes(rt: HostRuntime) -> Result<(), Fail> {
-    let Ok(ledger) = Ledger::count(rt.alloc(), &[3, 2, 22, 1_049_600, 22]) else {
+// Whether the ledger of these codes has the counts and the text.
+fn is_counted(alloc: Global, codes: &[u64], lines: &str) -> Result<bool, Fail> {
+    let Ok(ledger) = Ledger::count(alloc, codes) else {
         return Err("memory")?;
     };
-    assert!(rt; has_counts(&ledger));
-    assert!(rt; has_text(rt.alloc(), &ledger, LINES)?);
+    Ok(has_text(alloc, &ledger, lines)? && has_counts(&ledger))
+}
+
+#[test]
+fn a_ledger_counts_codes(rt: HostRuntime) -> Result<(), Fail> {
+    assert!(rt; is_counted(rt.alloc(), &[3, 2, 22, 1_049_600, 22], LINES)?);
     Ok(())
 }
 
@@ -146,13 +150,21 @@ fn is_told(gate: &Told) -> bool {
     !gate.others.load(Ordering::SeqCst) && gate.count(5, 8) == 64 && gate.count(7, 8) == 17
 }
 
+// Whether two workers tell so of a campaign, and its ledger counts 17 overlooks.
+fn is_each_told<R: Threads + Wait + Sync>(
+    rt: &R,
+    alloc: Global,
+    faulty: &Campaign,
+) -> Result<bool, Fail> {
+    let gate = told_of(alloc, 64)?;
+    let ledger = ledger_by(rt, alloc, faulty, 2, &gate)?;
+    Ok(is_told(&gate) && ledger.overlook == 17)
+}
+
 #[test]
 fn each_trial_begins_once_and_is_done_once_by_one_worker(rt: HostRuntime) -> Result<(), Fail> {
     let faulty = campaign((2, 4, 2), 64, 100_000, Fault::NoBypass)?;
-    let gate = told_of(rt.alloc(), 64)?;
-    let ledger = ledger_by(&rt, rt.alloc(), &faulty, 2, &gate)?;
-    assert!(rt; is_told(&gate));
-    assert!(rt; ledger.overlook == 17);
+    assert!(rt; is_each_told(&rt, rt.alloc(), &faulty)?);
     Ok(())
 }
 

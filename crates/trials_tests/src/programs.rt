@@ -2,12 +2,18 @@
 
 use crate::words::generator;
 use common::{MAX_ADDRESSES, MAX_CORES, MAX_EVENTS, OutOfMemory};
-use litmus::{Shape, ShapeError, generate, print};
+use litmus::{Program, Shape, ShapeError, generate, print};
 use rand_core::SeedableRng;
 use rand_core::utils::NextWord;
 use rand_xoshiro::Xoshiro256PlusPlus;
 use std::alloc::Global;
 use std::test::Fail;
+
+// Whether the program has the text.
+fn is_printed(alloc: Global, program: &Program, text: &str) -> Result<bool, OutOfMemory> {
+    let printed = print(alloc, program)?;
+    Ok(printed.as_slice() == text.as_bytes())
+}
 
 // Whether the random program of these sizes and this generator has the text.
 fn makes(
@@ -19,8 +25,10 @@ fn makes(
     let Ok(shape) = Shape::new(sizes.0, sizes.1, sizes.2) else {
         return Ok(false);
     };
-    let program = generate(alloc, &shape, rng)?;
-    Ok(print(alloc, &program)?.as_slice() == text.as_bytes())
+    match generate(alloc, &shape, rng) {
+        Ok(program) => is_printed(alloc, &program, text),
+        Err(error) => Err(error),
+    }
 }
 
 // Whether the operation of event 0 that a word makes, over two addresses, has the text.

@@ -21,32 +21,71 @@ fn machine_of(alloc: Global, text: &str) -> Result<Machine, Fail> {
     Ok(machine)
 }
 
-// The machine of store buffering after these steps and the one that the word names.
-fn after(alloc: Global, steps: &[Step], word: u64) -> Result<Machine, Fail> {
-    let mut machine = machine_of(alloc, STORE_BUFFERING)?;
+// Takes these steps, and the one that the word names.
+fn take(machine: &mut Machine, steps: &[Step], word: u64) {
     machine.run(steps);
-    run_seeded(&mut machine, &mut generator(word), 1);
-    Ok(machine)
+    run_seeded(machine, &mut generator(word), 1);
 }
 
-// The address of the oldest store of a core that waits after the same.
+fn waiting_after(machine: Machine, steps: &[Step], word: u64, core: CoreId) -> Option<Addr> {
+    let mut machine = machine;
+    take(&mut machine, steps, word);
+    machine.oldest(core)
+}
+
+// The address of the oldest store of a core that waits in store buffering after these steps and the one that
+// the word names.
 fn waiting(alloc: Global, steps: &[Step], word: u64, core: CoreId) -> Result<Option<Addr>, Fail> {
-    Ok(after(alloc, steps, word)?.oldest(core))
+    match machine_of(alloc, STORE_BUFFERING) {
+        Ok(machine) => Ok(waiting_after(machine, steps, word, core)),
+        Err(fail) => Err(fail),
+    }
+}
+
+fn blocked_after(machine: Machine, before: Step, word: u64, step: Step) -> Option<Blocked> {
+    let mut machine = machine;
+    take(&mut machine, &[before], word);
+    machine.step(step).err()
 }
 
 // Why a step is blocked after the same.
 fn blocked(alloc: Global, before: Step, word: u64, step: Step) -> Result<Option<Blocked>, Fail> {
-    Ok(after(alloc, &[before], word)?.step(step).err())
+    match machine_of(alloc, STORE_BUFFERING) {
+        Ok(machine) => Ok(blocked_after(machine, before, word, step)),
+        Err(fail) => Err(fail),
+    }
+}
+
+// Whether this is the address.
+fn waits(
+    alloc: Global,
+    steps: &[Step],
+    word: u64,
+    core: CoreId,
+    address: Option<Addr>,
+) -> Result<bool, Fail> {
+    Ok(waiting(alloc, steps, word, core)? == address)
+}
+
+// Whether this is why.
+fn is_why(
+    alloc: Global,
+    before: Step,
+    word: u64,
+    step: Step,
+    why: Option<Blocked>,
+) -> Result<bool, Fail> {
+    Ok(blocked(alloc, before, word, step)? == why)
 }
 
 #[test]
 fn a_word_names_a_step_of_a_core(rt: HostRuntime) -> Result<(), Fail> {
     let alloc = rt.alloc();
-    assert!(rt; waiting(alloc, &[], 0, 0)? == Some(0));
-    assert!(rt; waiting(alloc, &[], 16, 0)? == Some(0));
+    assert!(rt; waits(alloc, &[], 0, 0, Some(0))?);
+    assert!(rt; waits(alloc, &[], 16, 0, Some(0))?);
     let ready = [Step::Exec(1), Step::GetM(1, 1)];
-    assert!(rt; waiting(alloc, &ready, 2, 1)? == Some(1));
-    assert!(rt; waiting(alloc, &ready, 3, 1)?.is_none());
+    assert!(rt; waits(alloc, &ready, 2, 1, Some(1))?);
+    assert!(rt; waits(alloc, &ready, 3, 1, None)?);
     Ok(())
 }
 
@@ -54,12 +93,12 @@ fn a_word_names_a_step_of_a_core(rt: HostRuntime) -> Result<(), Fail> {
 fn a_word_names_a_transaction(rt: HostRuntime) -> Result<(), Fail> {
     let alloc = rt.alloc();
     let line = Some(Blocked::B7);
-    assert!(rt; blocked(alloc, Step::GetS(1, 0), 4, Step::GetS(0, 0))? == line);
-    assert!(rt; blocked(alloc, Step::GetS(1, 0), 4, Step::GetM(0, 0))?.is_none());
-    assert!(rt; blocked(alloc, Step::GetS(0, 1), 7, Step::GetS(1, 1))? == line);
-    assert!(rt; blocked(alloc, Step::GetS(1, 0), 8, Step::GetM(0, 0))? == line);
-    assert!(rt; blocked(alloc, Step::GetS(0, 1), 11, Step::GetM(1, 1))? == line);
-    assert!(rt; blocked(alloc, Step::GetS(0, 0), 12, Step::GetS(0, 0))?.is_none());
-    assert!(rt; blocked(alloc, Step::GetS(1, 1), 15, Step::GetS(1, 1))?.is_none());
+    assert!(rt; is_why(alloc, Step::GetS(1, 0), 4, Step::GetS(0, 0), line)?);
+    assert!(rt; is_why(alloc, Step::GetS(1, 0), 4, Step::GetM(0, 0), None)?);
+    assert!(rt; is_why(alloc, Step::GetS(0, 1), 7, Step::GetS(1, 1), line)?);
+    assert!(rt; is_why(alloc, Step::GetS(1, 0), 8, Step::GetM(0, 0), line)?);
+    assert!(rt; is_why(alloc, Step::GetS(0, 1), 11, Step::GetM(1, 1), line)?);
+    assert!(rt; is_why(alloc, Step::GetS(0, 0), 12, Step::GetS(0, 0), None)?);
+    assert!(rt; is_why(alloc, Step::GetS(1, 1), 15, Step::GetS(1, 1), None)?);
     Ok(())
 }
