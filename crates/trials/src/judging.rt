@@ -19,7 +19,10 @@ pub(crate) fn end_verdict(alloc: Global, machine: Machine) -> Result<Option<Verd
     ensures lawful { IfOk result (λ verdict. machine.fault ≡ faults.None → IsLawful verdict) }
 {
     match machine.finish() {
-        Ok(recording) => Ok(Some(judge_alone(alloc, &recording)?)),
+        Ok(recording) => match judge_alone(alloc, &recording) {
+            Ok(verdict) => Ok(Some(verdict)),
+            Err(error) => Err(error),
+        },
         Err(_unfinished) => Ok(None),
     }
 }

@@ -47,6 +47,25 @@ pub fn trial(alloc: Global, campaign: &Campaign, k: usize) -> Result<Filed, OutO
     Ok(Filed::new(campaign, k, code))
 }
 
+/// The recording of a machine; none exactly where it is not complete.
+fn end_recording(machine: Machine) -> Option<Recording>
+    ensures { IsEndRecording machine result }
+{
+    match machine.finish() {
+        Ok(recording) => Some(recording),
+        Err(_unfinished) => None,
+    }
+}
+
+/// A copy of the program of a machine, and its recording.
+fn end_parts(alloc: Global, machine: Machine) -> Result<(Program, Option<Recording>), OutOfMemory>
+    ensures program { IfOk result (λ r. r.0 ≡ machine.program) }
+    ensures recording { IfOk result (λ r. IsEndRecording machine r.1) }
+{
+    let program = machine.program().copy(alloc)?;
+    Ok((program, end_recording(machine)))
+}
+
 /// The program of a trial below the number of trials, and its recording; none exactly where its run is not
 /// complete. An `Err` is want of memory.
 pub fn reproduce(
@@ -60,9 +79,6 @@ pub fn reproduce(
         (λ r. (h : Configuration) × EndsIn campaign.now k h × IsEndRecording h r.1) }
 {
     let machine = run_trial(alloc, campaign, k)?;
-    let program = machine.program().copy(alloc)?;
-    match machine.finish() {
-        Ok(recording) => Ok((program, Some(recording))),
-        Err(_unfinished) => Ok((program, None)),
-    }
+    let (program, recording) = end_parts(alloc, machine)?;
+    Ok((program, recording))
 }
