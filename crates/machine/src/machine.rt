@@ -3,7 +3,7 @@
 use crate::blank::Blank;
 use crate::bounded::BoundedList;
 use crate::fault::Fault;
-use crate::makes::{bounded_lists, buffers_of, units_of};
+use crate::makes::{Cores, Room, cores_of, room_for};
 use common::{Addr, CoreId, EventId, OutOfMemory};
 use core_unit::CoreUnit;
 use litmus::{Op, Program};
@@ -84,14 +84,27 @@ impl Machine {
         program.sound();
         let cores = program.cores();
         let init = program.init();
-        let addresses = init.len();
-        let (units, events) = units_of(alloc, program.lists())?;
-        let buffers = buffers_of(alloc, cores, capacity)?;
-        let caches = Caches::with_init(alloc, cores, init)?;
-        let writes = bounded_lists(alloc, addresses, events)?;
-        let reads = vec![in alloc; (0, None); events]?;
-        let performed = BoundedList::new(alloc, events)?;
-        let blank = Blank::new(alloc, cores, events, init)?;
+        let Ok(made) = cores_of(alloc, program.lists(), cores, capacity, init) else {
+            drop(program);
+            return Err(OutOfMemory);
+        };
+        let Ok(room) = room_for(alloc, cores, made.events, init) else {
+            drop(made);
+            drop(program);
+            return Err(OutOfMemory);
+        };
+        let Cores {
+            units,
+            buffers,
+            caches,
+            ..
+        } = made;
+        let Room {
+            writes,
+            reads,
+            performed,
+            blank,
+        } = room;
         Ok(Machine {
             program,
             capacity,
@@ -251,6 +264,7 @@ impl Machine {
             ..
         } = self;
         let (cores, writes, init) = blank.fill(program.lists(), reads.as_slice(), writes);
+        drop(program);
         Ok(Recording::new(cores, writes, init))
     }
 }

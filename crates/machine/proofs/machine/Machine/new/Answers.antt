@@ -1,4 +1,4 @@
-use Rattle.std.proofs.Common.{rules, refl, sym, ap, subst, ◌∙◌, ◌≡◌, ℕ, length, List}
+use Rattle.std.proofs.Common.{refl, sym, ap, subst, ◌∙◌, ◌≡◌, ℕ, length, List}
 use Rattle.litmus.specs.declared.op.Op.{Op}
 use Rattle.machine.specs.State.{State}
 use Rattle.machine.specs.Made.{AreUnits}
@@ -7,23 +7,22 @@ use Rattle.machine.proofs.machine.Machine.new.Goals as goal
 
 pub invariant_of-result : goal.invariant_of-result
 invariant_of-result c =
-    let are : AreUnits c.args.program.cores c.in_ok-units.units.items c.in_ok-units.events =
-    subst (λ (l : List (List Op)). AreUnits l c.in_ok-units.units.items c.in_ok-units.events)
-    c.lists.ensures c.in_ok-units.ensures in
+    let are : AreUnits c.args.program.cores c.in-Ok.made.units.items c.in-Ok.made.events =
+    subst (λ (l : List (List Op)). AreUnits l c.in-Ok.made.units.items c.in-Ok.made.events)
+    c.lists.ensures c.in-Ok.ensures.units in
     let initials : length c.args.program.init ≡ length c.args.program.names =
     ap (λ (l : List ℕ). length l) (sym c.init-init.ensures.values) ∙ c.init-init.ensures.count in
-    is_machine _ c.args.capacity c.cores-cores.result c.in_ok-units.events (length c.init-init.result.now)
+    is_machine _ c.args.capacity c.cores-cores.result c.in-Ok.made.events (length c.init-init.result.now)
     c.init-init.result.now _ c.cores-cores.ensures.count refl c.init-init.ensures.values initials are
     c.sound.ensures.within c.sound.ensures.few _ _ _ _ _ _
-    c.in_ok-buffers.ensures c.in_ok-caches.ensures c.in_ok-writes.ensures
-    (c.in_ok-reads.ensures.items_if_clones_equal (λ y h. search rules)) c.in_ok-performed.ensures
-    c.in_ok-blank.ensures c.args.fault
+    c.in-Ok.ensures.buffers c.in-Ok.ensures.caches c.in-Ok-room_for.ensures.writes c.in-Ok-room_for.ensures.reads
+    c.in-Ok-room_for.ensures.performed c.in-Ok-room_for.ensures.blank c.args.fault
 
 pub returns : goal.returns
 returns c =
-    let are : AreUnits c.args.program.cores c.in_ok-units.units.items c.in_ok-units.events =
-    subst (λ (l : List (List Op)). AreUnits l c.in_ok-units.units.items c.in_ok-units.events)
-    c.lists.ensures c.in_ok-units.ensures in
+    let are : AreUnits c.args.program.cores c.in-Ok.made.units.items c.in-Ok.made.events =
+    subst (λ (l : List (List Op)). AreUnits l c.in-Ok.made.units.items c.in-Ok.made.events)
+    c.lists.ensures c.in-Ok.ensures.units in
     let initials : length c.args.program.init ≡ length c.args.program.names =
     ap (λ (l : List ℕ). length l) (sym c.init-init.ensures.values) ∙ c.init-init.ensures.count in
     ap (λ (s : State). record {
@@ -33,9 +32,8 @@ returns c =
           c.args.fault;
       state = s;
     })
-    (opening_held _ c.args.capacity c.cores-cores.result c.in_ok-units.events (length c.init-init.result.now)
+    (opening_held _ c.args.capacity c.cores-cores.result c.in-Ok.made.events (length c.init-init.result.now)
     c.init-init.result.now _ c.cores-cores.ensures.count refl c.init-init.ensures.values initials are
     c.sound.ensures.within c.sound.ensures.few _ _ _ _ _ _
-    c.in_ok-buffers.ensures c.in_ok-caches.ensures c.in_ok-writes.ensures
-    (c.in_ok-reads.ensures.items_if_clones_equal (λ y h. search rules)) c.in_ok-performed.ensures
-    c.in_ok-blank.ensures)
+    c.in-Ok.ensures.buffers c.in-Ok.ensures.caches c.in-Ok-room_for.ensures.writes c.in-Ok-room_for.ensures.reads
+    c.in-Ok-room_for.ensures.performed c.in-Ok-room_for.ensures.blank)
