@@ -49,6 +49,7 @@ impl Crew {
     fn turn<R: Wait>(&self, rt: &R, worker: Worker) -> bool {
         let mut held = self.live.lock(rt);
         if self.stopped.load(Ordering::SeqCst) || held.is_ended() {
+            drop(held);
             return false;
         }
         match worker.turn(&mut held) {
@@ -62,7 +63,10 @@ impl Crew {
                 drop(self.moved.wait(rt, held));
                 true
             }
-            Turn::Over => false,
+            Turn::Over => {
+                drop(held);
+                false
+            }
             Turn::Stuck => {
                 drop(held);
                 self.stop(rt);

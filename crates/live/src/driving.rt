@@ -9,7 +9,7 @@ ghost use Rattle.live.specs.Driven.{IsGiven, IsDriveError};
 use crate::crew::Crew;
 use crate::error::LiveError;
 use crate::traced::Traced;
-use common::{CoreId, Gate};
+use common::{CoreId, Gate, OutOfMemory};
 use litmus::Program;
 use machine::{Fault, Machine};
 use std::alloc::Global;
@@ -32,6 +32,18 @@ fn is_run_of(traced: &Traced, program: &Program, capacity: usize, limit: usize) 
     ensures { IsTrue result ↔ IsGiven program.now capacity limit traced.now × IsEnded traced.now }
 {
     is_given(traced, program, capacity, limit) && traced.is_ended()
+}
+
+/// The crew of a new machine without a fault.
+fn crew_of(
+    alloc: Global,
+    program: Program,
+    capacity: usize,
+    limit: usize,
+) -> Result<Crew, OutOfMemory> {
+    let machine = Machine::new(alloc, program, capacity, Fault::None)?;
+    let traced = Traced::new(alloc, machine, limit)?;
+    Ok(Crew::new(traced))
 }
 
 /// Runs a program on a machine whose buffers have room for `capacity` stores each, by a thread for
@@ -60,16 +72,26 @@ pub fn drive<R: Threads + Wait + Sync, G: Gate>(
         → IsTsoOrder (recording_of t.machine) t.machine.state.performed) }
     ensures err { IfErr result IsDriveError }
 {
-    let given = program.copy(alloc)?;
-    let machine = Machine::new(alloc, program, capacity, Fault::None)?;
-    let crew = Crew::new(Traced::new(alloc, machine, limit)?);
+    let Ok(given) = program.copy(alloc) else {
+        drop(program);
+        return Err(LiveError::OutOfMemory);
+    };
+    let Ok(crew) = crew_of(alloc, program, capacity, limit) else {
+        drop(given);
+        return Err(LiveError::OutOfMemory);
+    };
     if !crew.run(rt, given.cores() as CoreId, gate) {
+        drop(crew);
+        drop(given);
         return Err(LiveError::NoThread);
     }
     let traced = crew.into_traced();
     if !is_run_of(&traced, &given, capacity, limit) {
+        drop(traced);
+        drop(given);
         return Err(LiveError::Stranger);
     }
+    drop(given);
     traced.sound();
     Ok(traced)
 }

@@ -44,7 +44,10 @@ impl Traced {
         ensures { IfOk result (λ t. t
             ≡ record { machine = machine; steps = []; limit = limit }) }
     {
-        let steps = Vec::with_capacity(alloc, limit)?;
+        let Ok(steps) = Vec::with_capacity(alloc, limit) else {
+            drop(machine);
+            return Err(OutOfMemory);
+        };
         Ok(Traced {
             machine,
             steps,
