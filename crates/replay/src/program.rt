@@ -32,8 +32,15 @@ pub(crate) fn named_program(alloc: Global, recording: &Recording) -> Result<Prog
 {
     recording.sound();
     let names = address_names(alloc, recording.addresses())?;
-    let cores = cores_of(alloc, recording)?;
-    let init = values_of(alloc, recording.init())?;
+    let Ok(cores) = cores_of(alloc, recording) else {
+        drop(names);
+        return Err(OutOfMemory);
+    };
+    let Ok(init) = values_of(alloc, recording.init()) else {
+        drop(cores);
+        drop(names);
+        return Err(OutOfMemory);
+    };
     match Program::new(names, cores, init) {
         Some(program) => Ok(program),
         None => unreachable!(),

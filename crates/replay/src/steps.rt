@@ -45,7 +45,10 @@ fn steps_of(
             Some(placed) => placed,
             None => unreachable!(),
         };
-        replay.turn(core, *number, *event)?;
+        let Ok(()) = replay.turn(core, *number, *event) else {
+            drop(replay);
+            return Err(OutOfMemory);
+        };
     }
     Ok(replay)
 }
