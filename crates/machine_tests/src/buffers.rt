@@ -16,19 +16,35 @@ fn refuses(buffer: &mut WriteBuffer, entry: Entry) -> bool {
     buffer.push(entry) == Err(entry)
 }
 
+const X: u16 = 0;
+
+const Y: u16 = 1;
+
+/// Whether a buffer with room for three stores takes them, no fourth, and finds the youngest of an address.
+fn finds_the_youngest(buffer: &mut WriteBuffer) -> bool {
+    takes(buffer, store(X, 1, 0))
+        && takes(buffer, store(Y, 2, 1))
+        && takes(buffer, store(X, 3, 2))
+        && buffer.youngest(X) == Some(store(X, 3, 2))
+        && refuses(buffer, store(Y, 4, 3))
+}
+
+/// Whether that buffer gives its stores from both ends then, and keeps the one between.
+fn gives_both_ends(buffer: &mut WriteBuffer) -> bool {
+    buffer.pop_oldest() == Some(store(X, 1, 0))
+        && buffer.pop_youngest() == Some(store(X, 3, 2))
+        && buffer.youngest(X).is_none()
+        && buffer.oldest() == Some(store(Y, 2, 1))
+        && !buffer.is_empty()
+}
+
 #[test]
 fn the_youngest_store_of_an_address_is_found(rt: HostRuntime) -> Result<(), Fail> {
     let mut buffer = WriteBuffer::new(rt.alloc(), 3)?;
-    let (x, y) = (0, 1);
-    assert!(rt; takes(&mut buffer, store(x, 1, 0)));
-    assert!(rt; takes(&mut buffer, store(y, 2, 1)));
-    assert!(rt; takes(&mut buffer, store(x, 3, 2)));
-    assert!(rt; buffer.youngest(x) == Some(store(x, 3, 2)));
-    assert!(rt; refuses(&mut buffer, store(y, 4, 3)));
-    assert!(rt; buffer.pop_oldest() == Some(store(x, 1, 0)));
-    assert!(rt; buffer.pop_youngest() == Some(store(x, 3, 2)));
-    assert!(rt; buffer.youngest(x).is_none());
-    assert!(rt; buffer.oldest() == Some(store(y, 2, 1)));
-    assert!(rt; !buffer.is_empty());
+    let found = finds_the_youngest(&mut buffer);
+    let given = gives_both_ends(&mut buffer);
+    drop(buffer);
+    assert!(rt; found);
+    assert!(rt; given);
     Ok(())
 }

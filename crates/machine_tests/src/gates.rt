@@ -58,14 +58,19 @@ fn steps_taken<R: Threads + Wait + Sync>(
 ) -> Result<usize, Fail> {
     let program = program(alloc, STORE_BUFFERING)?;
     let traced = drive(rt, alloc, program, 8, limit, &OpenGate)?;
-    Ok(traced.trace().len())
+    let taken = traced.trace().len();
+    drop(traced);
+    Ok(taken)
 }
 
 /// Whether threads can't drive store buffering without room for a store.
 fn is_roomless<R: Threads + Wait + Sync>(rt: &R, alloc: Global) -> Result<bool, Fail> {
     let program = program(alloc, STORE_BUFFERING)?;
     match drive(rt, alloc, program, 0, LIMIT, &OpenGate) {
-        Ok(_) => Ok(false),
+        Ok(traced) => {
+            drop(traced);
+            Ok(false)
+        }
         Err(error) => Ok(error == LiveError::Stranger),
     }
 }

@@ -12,145 +12,192 @@ use std::test::Fail;
 #[derive(Drop)]
 struct OneAddress {
     caches: Caches,
-    cores: usize,
+    cores: CoreId,
     ghost cores_are: { caches.cores ≡ cores },
     ghost is_one: { length caches.blocks ≡ 1 },
 }
 
-/// What a call at the address answers; none where its core or its event is not there.
-type Answer = Option<Result<(), CacheError>>;
+/// What a call at the address answers.
+type Answer = Result<(), CacheError>;
 
-const DONE: Answer = Some(Ok(()));
+const DONE: Answer = Ok(());
 
-const fn refused(error: CacheError) -> Answer {
-    Some(Err(error))
+/// A value and the event that wrote it.
+type Data = (u32, Option<EventId>);
+
+/// A call at the address, or a look at it, with its core and what it has to answer.
+enum Row {
+    GetS(CoreId, Answer),
+    GetM(CoreId, Answer),
+    GetMStale(CoreId, Answer),
+    Put(CoreId, Answer),
+    Write(CoreId, u32, EventId, Answer),
+    Read(CoreId, Result<Data, CacheError>),
+    Memory(Data),
+    /// The lines of all cores.
+    Lines(&'static [Line]),
 }
 
 impl OneAddress {
-    fn new(alloc: Global, cores: usize) -> Result<OneAddress, Fail> {
+    fn new(alloc: Global, cores: CoreId) -> Result<OneAddress, Fail> {
         Ok(OneAddress {
-            caches: Caches::new(alloc, cores, 1)?,
+            caches: Caches::new(alloc, cores as usize, 1)?,
             cores,
         })
     }
 
-    fn get_s(&mut self, core: CoreId) -> Answer {
-        if core as usize >= self.cores {
+    // Each of these calls answers none where its core or its event is not there.
+
+    fn get_s(&mut self, core: CoreId) -> Option<Answer> {
+        if core >= self.cores {
             return None;
         }
         Some(self.caches.get_s(core, 0))
     }
 
-    fn get_m(&mut self, core: CoreId) -> Answer {
-        if core as usize >= self.cores {
+    fn get_m(&mut self, core: CoreId) -> Option<Answer> {
+        if core >= self.cores {
             return None;
         }
         Some(self.caches.get_m(core, 0))
     }
 
-    fn get_m_stale(&mut self, core: CoreId) -> Answer {
-        if core as usize >= self.cores {
+    fn get_m_stale(&mut self, core: CoreId) -> Option<Answer> {
+        if core >= self.cores {
             return None;
         }
         Some(self.caches.get_m_stale(core, 0))
     }
 
-    fn put(&mut self, core: CoreId) -> Answer {
-        if core as usize >= self.cores {
+    fn put(&mut self, core: CoreId) -> Option<Answer> {
+        if core >= self.cores {
             return None;
         }
         Some(self.caches.put(core, 0))
     }
 
-    fn write(&mut self, core: CoreId, value: u32, event: EventId) -> Answer {
-        if core as usize >= self.cores || event as usize >= MAX_EVENTS {
+    fn write(&mut self, core: CoreId, value: u32, event: EventId) -> Option<Answer> {
+        if core >= self.cores || event as usize >= MAX_EVENTS {
             return None;
         }
         Some(self.caches.write(core, 0, value, event))
     }
 
-    fn read(&self, core: CoreId) -> Option<Result<(u32, Option<EventId>), CacheError>> {
-        if core as usize >= self.cores {
+    fn read(&self, core: CoreId) -> Option<Result<Data, CacheError>> {
+        if core >= self.cores {
             return None;
         }
         Some(self.caches.read(core, 0))
     }
 
-    fn memory(&self) -> (u32, Option<EventId>) {
+    fn memory(&self) -> Data {
         self.caches.memory(0)
     }
 
-    /// Whether a core's line is this one.
-    fn is(&self, core: CoreId, line: Line) -> bool {
-        (core as usize) < self.cores && self.caches.line(core, 0) == line
+    /// Whether the lines of the cores are these.
+    fn are(&self, lines: &[Line]) -> bool {
+        for core in 0..self.cores {
+            if lines.get(core as usize).copied() != Some(self.caches.line(core, 0)) {
+                return false;
+            }
+        }
+        lines.len() == self.cores as usize
     }
 
-    /// Whether the lines of two cores are these.
-    fn are(&self, first: Line, second: Line) -> bool {
-        self.is(0, first) && self.is(1, second)
-    }
-
-    /// Whether the lines of three cores are these.
-    fn are_three(&self, first: Line, second: Line, third: Line) -> bool {
-        self.are(first, second) && self.is(2, third)
+    /// Whether the row's call answers so.
+    fn answers(&mut self, row: &Row) -> bool {
+        match row {
+            Row::GetS(core, answer) => self.get_s(*core) == Some(*answer),
+            Row::GetM(core, answer) => self.get_m(*core) == Some(*answer),
+            Row::GetMStale(core, answer) => self.get_m_stale(*core) == Some(*answer),
+            Row::Put(core, answer) => self.put(*core) == Some(*answer),
+            Row::Write(core, value, event, answer) => {
+                self.write(*core, *value, *event) == Some(*answer)
+            }
+            Row::Read(core, answer) => self.read(*core) == Some(*answer),
+            Row::Memory(data) => self.memory() == *data,
+            Row::Lines(lines) => self.are(lines),
+        }
     }
 }
+
+/// Whether the caches of so many cores answer the rows so, one behind the other.
+fn answers_all(alloc: Global, cores: CoreId, rows: &[Row]) -> Result<bool, Fail> {
+    let mut caches = OneAddress::new(alloc, cores)?;
+    for row in rows {
+        if !caches.answers(row) {
+            drop(caches);
+            return Ok(false);
+        }
+    }
+    drop(caches);
+    Ok(true)
+}
+
+const SHARED_AND_PUT_BACK: &[Row] = &[
+    Row::GetM(0, DONE),
+    Row::Write(0, 7, 0, DONE),
+    Row::Lines(&[M, I, I]),
+    Row::GetS(1, DONE),
+    Row::Lines(&[O, S, I]),
+    Row::Put(0, DONE),
+    Row::Lines(&[I, S, I]),
+    Row::Memory((7, Some(0))),
+    Row::GetS(2, DONE),
+    Row::Lines(&[I, S, S]),
+    Row::Read(2, Ok((7, Some(0)))),
+    Row::GetS(2, Err(CacheError::C1)),
+];
 
 #[test]
 fn a_written_line_is_shared_and_put_back(rt: HostRuntime) -> Result<(), Fail> {
-    let mut caches = OneAddress::new(rt.alloc(), 3)?;
-    assert!(rt; caches.get_m(0) == DONE);
-    assert!(rt; caches.write(0, 7, 0) == DONE);
-    assert!(rt; caches.are_three(M, I, I));
-    assert!(rt; caches.get_s(1) == DONE);
-    assert!(rt; caches.are_three(O, S, I));
-    assert!(rt; caches.put(0) == DONE);
-    assert!(rt; caches.are_three(I, S, I));
-    assert!(rt; caches.memory() == (7, Some(0)));
-    assert!(rt; caches.get_s(2) == DONE);
-    assert!(rt; caches.are_three(I, S, S));
-    assert!(rt; caches.read(2) == Some(Ok((7, Some(0)))));
-    assert!(rt; caches.get_s(2) == refused(CacheError::C1));
+    assert!(rt; answers_all(rt.alloc(), 3, SHARED_AND_PUT_BACK)?);
     Ok(())
 }
+
+const GIVEN_AWAY: &[Row] = &[
+    Row::GetM(0, DONE),
+    Row::Write(0, 7, 0, DONE),
+    Row::GetS(1, DONE),
+    Row::Lines(&[O, S]),
+    Row::GetM(1, DONE),
+    Row::Lines(&[I, M]),
+    Row::Read(1, Ok((7, Some(0)))),
+    Row::Memory((0, None)),
+    Row::Put(1, DONE),
+    Row::Lines(&[I, I]),
+    Row::Memory((7, Some(0))),
+    Row::GetS(0, DONE),
+    Row::Lines(&[E, I]),
+    Row::Write(0, 8, 1, DONE),
+    Row::Lines(&[M, I]),
+    Row::GetM(0, Err(CacheError::C2)),
+    Row::Read(1, Err(CacheError::C3)),
+    Row::Write(1, 9, 2, Err(CacheError::C4)),
+];
 
 #[test]
 fn an_owner_gives_its_line_away(rt: HostRuntime) -> Result<(), Fail> {
-    let mut caches = OneAddress::new(rt.alloc(), 2)?;
-    assert!(rt; caches.get_m(0) == DONE);
-    assert!(rt; caches.write(0, 7, 0) == DONE);
-    assert!(rt; caches.get_s(1) == DONE);
-    assert!(rt; caches.are(O, S));
-    assert!(rt; caches.get_m(1) == DONE);
-    assert!(rt; caches.are(I, M));
-    assert!(rt; caches.read(1) == Some(Ok((7, Some(0)))));
-    assert!(rt; caches.memory() == (0, None));
-    assert!(rt; caches.put(1) == DONE);
-    assert!(rt; caches.are(I, I));
-    assert!(rt; caches.memory() == (7, Some(0)));
-    assert!(rt; caches.get_s(0) == DONE);
-    assert!(rt; caches.are(E, I));
-    assert!(rt; caches.write(0, 8, 1) == DONE);
-    assert!(rt; caches.are(M, I));
-    assert!(rt; caches.get_m(0) == refused(CacheError::C2));
-    assert!(rt; caches.read(1) == Some(Err(CacheError::C3)));
-    assert!(rt; caches.write(1, 9, 2) == refused(CacheError::C4));
+    assert!(rt; answers_all(rt.alloc(), 2, GIVEN_AWAY)?);
     Ok(())
 }
 
+const STALE: &[Row] = &[
+    Row::GetS(0, DONE),
+    Row::GetS(1, DONE),
+    Row::Lines(&[S, S, I]),
+    Row::GetMStale(0, DONE),
+    Row::Write(0, 7, 0, DONE),
+    Row::Lines(&[M, S, I]),
+    Row::GetMStale(0, Err(CacheError::C2)),
+    Row::GetS(2, DONE),
+    Row::Lines(&[O, S, S]),
+    Row::Read(1, Ok((0, None))),
+    Row::Read(2, Ok((7, Some(0)))),
+];
+
 #[test]
 fn a_stale_line_keeps_its_old_data(rt: HostRuntime) -> Result<(), Fail> {
-    let mut caches = OneAddress::new(rt.alloc(), 3)?;
-    assert!(rt; caches.get_s(0) == DONE);
-    assert!(rt; caches.get_s(1) == DONE);
-    assert!(rt; caches.are_three(S, S, I));
-    assert!(rt; caches.get_m_stale(0) == DONE);
-    assert!(rt; caches.write(0, 7, 0) == DONE);
-    assert!(rt; caches.are_three(M, S, I));
-    assert!(rt; caches.get_m_stale(0) == refused(CacheError::C2));
-    assert!(rt; caches.get_s(2) == DONE);
-    assert!(rt; caches.are_three(O, S, S));
-    assert!(rt; caches.read(1) == Some(Ok((0, None))));
-    assert!(rt; caches.read(2) == Some(Ok((7, Some(0)))));
+    assert!(rt; answers_all(rt.alloc(), 3, STALE)?);
     Ok(())
 }

@@ -2,29 +2,19 @@
 //! then the usual one. With ample memory each run ends as usual; `bench/refuse_growths` refuses each
 //! growth in turn.
 
-use crate::plain::{STORE_BUFFERING, is_order};
+use crate::plain::{STORE_BUFFERING, performs_an_order};
 use common::OpenGate;
 use litmus::{LitmusError, Program, parse};
 use live::{LiveError, drive};
-use machine::Machine;
 use std::alloc::Global;
 use std::sync::Wait;
 use std::test::Fail;
 use std::thread::Threads;
 
-/// Whether a machine is complete, and TSO allows the order of what it performed; none where memory is
-/// wanting.
-fn performs_an_order(alloc: Global, machine: Machine) -> Option<bool> {
-    match Vec::from_slice(alloc, machine.performed()) {
-        Ok(performed) => Some(is_order(machine, performed.as_slice())),
-        Err(_) => None,
-    }
-}
-
 /// Whether threads drive a program to its end, in an order of TSO; none where memory or a thread is wanting.
 fn is_driven<R: Threads + Wait + Sync>(rt: &R, alloc: Global, program: Program) -> Option<bool> {
     match drive(rt, alloc, program, 8, 100_000, &OpenGate) {
-        Ok(traced) => performs_an_order(alloc, traced.into_machine()),
+        Ok(traced) => performs_an_order(alloc, traced.into_machine()).ok(),
         Err(LiveError::OutOfMemory | LiveError::NoThread) => None,
         Err(_) => Some(false),
     }

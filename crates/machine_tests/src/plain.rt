@@ -6,7 +6,8 @@ use litmus::{Program, parse};
 use live::drive;
 use machine::{Blocked, Machine, Step};
 use order::check;
-use std::alloc::Global;
+use recorder::Recording;
+use std::alloc::{AllocError, Global};
 use std::sync::Wait;
 use std::test::Fail;
 use std::thread::Threads;
@@ -29,11 +30,37 @@ pub fn run(machine: &mut Machine, steps: &[Step]) {
     machine.run(steps);
 }
 
+/// The recording of a machine that is complete.
+pub fn recording_of(machine: Machine) -> Option<Recording> {
+    match machine.finish() {
+        Ok(recording) => Some(recording),
+        Err(unfinished) => {
+            drop(unfinished);
+            None
+        }
+    }
+}
+
 /// Whether a machine is complete, and TSO allows this order of its recording.
 pub fn is_order(machine: Machine, order: &[EventId]) -> bool {
-    match machine.finish() {
-        Ok(recording) => check(&recording, order),
-        Err(_) => false,
+    match recording_of(machine) {
+        Some(recording) => {
+            let allowed = check(&recording, order);
+            drop(recording);
+            allowed
+        }
+        None => false,
+    }
+}
+
+/// Whether a machine is complete, and TSO allows the order of what it performed.
+pub fn performs_an_order(alloc: Global, machine: Machine) -> Result<bool, AllocError> {
+    match Vec::from_slice(alloc, machine.performed()) {
+        Ok(performed) => Ok(is_order(machine, performed.as_slice())),
+        Err(error) => {
+            drop(machine);
+            Err(error)
+        }
     }
 }
 
@@ -47,5 +74,7 @@ pub fn is_driven<R: Threads + Wait + Sync, G: Gate>(
 ) -> Result<bool, Fail> {
     let program = program(alloc, text)?;
     let traced = drive(rt, alloc, program, capacity, 100_000, gate)?;
-    Ok(traced.machine().is_complete())
+    let complete = traced.machine().is_complete();
+    drop(traced);
+    Ok(complete)
 }

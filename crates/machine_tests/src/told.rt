@@ -1,10 +1,10 @@
 //! What a gate is told, and who takes the steps.
 
-use crate::plain::{is_driven, program};
-use common::{Gate, OpenGate};
+use crate::plain::{is_driven, program, recording_of};
+use common::{EventId, Gate, OpenGate};
 use live::drive;
 use machine::{Machine, Step};
-use recorder::Event;
+use recorder::{Event, Recording};
 use std::alloc::Global;
 use std::sync::Wait;
 use std::sync::atomic::{AtomicBool, AtomicU64, Ordering};
@@ -115,11 +115,23 @@ impl Gate for Between {
     }
 }
 
-/// What core 1 reads in a machine that is complete.
-fn read_of(machine: Machine) -> Option<Event> {
-    match machine.finish() {
-        Ok(recording) => recording.event(1).map(|(_, event)| *event),
-        Err(_) => None,
+/// Whether core 1 reads this value from this source.
+fn is_read(recording: &Recording, r: u32, s: Option<EventId>) -> bool {
+    match recording.event(1) {
+        Some((_, event)) => *event == Event::L { a: 0, r, s },
+        None => false,
+    }
+}
+
+/// Whether a machine is complete, and core 1 reads this in it.
+fn reads(machine: Machine, r: u32, s: Option<EventId>) -> bool {
+    match recording_of(machine) {
+        Some(recording) => {
+            let read = is_read(&recording, r, s);
+            drop(recording);
+            read
+        }
+        None => false,
     }
 }
 
@@ -133,40 +145,29 @@ fn machine_between<R: Threads + Wait + Sync>(
     Ok(drive(rt, alloc, program, 2, LIMIT, gate)?.into_machine())
 }
 
-/// What core 1 reads while core 0 is held at a call of the gate.
-fn read_between<R: Threads + Wait + Sync>(
+/// Whether core 1 reads this while core 0 is held at a call of the gate.
+fn reads_between<R: Threads + Wait + Sync>(
     rt: &R,
     alloc: Global,
     at_done: bool,
-) -> Result<Option<Event>, Fail> {
+    r: u32,
+    s: Option<EventId>,
+) -> Result<bool, Fail> {
     let gate = Between {
         at_done,
         reached: AtomicBool::new(false),
         passed: AtomicBool::new(false),
         seen: AtomicBool::new(false),
     };
-    let read = read_of(machine_between(rt, alloc, &gate)?);
-    Ok(if gate.seen.load(Ordering::SeqCst) {
-        read
-    } else {
-        None
-    })
+    let machine = machine_between(rt, alloc, &gate)?;
+    let read = reads(machine, r, s);
+    Ok(read && gate.seen.load(Ordering::SeqCst))
 }
 
 #[test]
 fn a_gate_is_told_before_a_step_and_behind_it(rt: HostRuntime) -> Result<(), Fail> {
-    let before = Event::L {
-        a: 0,
-        r: 0,
-        s: None,
-    };
-    let behind = Event::L {
-        a: 0,
-        r: 1,
-        s: Some(0),
-    };
-    assert!(rt; read_between(&rt, rt.alloc(), false)? == Some(before));
-    assert!(rt; read_between(&rt, rt.alloc(), true)? == Some(behind));
+    assert!(rt; reads_between(&rt, rt.alloc(), false, 0, None)?);
+    assert!(rt; reads_between(&rt, rt.alloc(), true, 1, Some(0))?);
     Ok(())
 }
 
@@ -179,7 +180,9 @@ fn has_trace<R: Threads + Wait + Sync>(
 ) -> Result<bool, Fail> {
     let program = program(alloc, text)?;
     let traced = drive(rt, alloc, program, 1, LIMIT, &OpenGate)?;
-    Ok(traced.trace() == steps)
+    let same = traced.trace() == steps;
+    drop(traced);
+    Ok(same)
 }
 
 #[test]
