@@ -2,7 +2,7 @@
 
 ghost use Rattle.std.specs.Prelude.{◌≡◌, ◌≤◌, ℕ, [], All, IfOk, length};
 ghost use Rattle.litmus.specs.Numbers.{IsValue};
-ghost use Rattle.litmus.specs.Reading.{Answers, AnswersLine, seen_as};
+ghost use Rattle.litmus.specs.Reading.{Answers, AnswersLine, read_from, seen_as};
 ghost use Rattle.machine.specs.Script.{core_in, address_in, with_step, line_step, steps_of, IsStepOf};
 
 use crate::script_fault::{StepFault, StepsError};
@@ -70,15 +70,16 @@ fn take_line(
     }
 }
 
-fn read_lines(alloc: Global, text: &[u8], program: &Program) -> Result<Vec<Step>, StepsError>
-    ensures { Answers (seen_as result (λ steps. steps.items)) (steps_of program.now text.now) }
+// Takes the lines of a text. After an error the steps so far are of no use.
+fn take_lines(steps: &mut Vec<Step>, program: &Program, text: &[u8]) -> Result<(), StepsError>
+    ensures { Answers (seen_as result (λ _. steps.new.items))
+        (read_from (line_step program.now) StepFault.S1 1 steps.old.items [] text.now) }
 {
-    let mut steps = Vec::new(alloc);
     let mut start: usize = 0;
     let mut number: usize = 1;
     for (i, b) in text.iter().enumerate() {
         if *b == b'\n' {
-            take_line(&mut steps, program, &text[start..i], number)?;
+            take_line(steps, program, &text[start..i], number)?;
             start = i + 1;
             number += 1;
         }
@@ -86,7 +87,21 @@ fn read_lines(alloc: Global, text: &[u8], program: &Program) -> Result<Vec<Step>
     if start < text.len() {
         return Err(StepsError::AtLine(StepFault::S1, number));
     }
-    Ok(steps)
+    Ok(())
+}
+
+/// The steps of a text, or its first line at fault.
+fn read_lines(alloc: Global, text: &[u8], program: &Program) -> Result<Vec<Step>, StepsError>
+    ensures { Answers (seen_as result (λ steps. steps.items)) (steps_of program.now text.now) }
+{
+    let mut steps = Vec::new(alloc);
+    match take_lines(&mut steps, program, text) {
+        Ok(()) => Ok(steps),
+        Err(error) => {
+            drop(steps);
+            Err(error)
+        }
+    }
 }
 
 /// The steps of a script for the program, or the first line at fault, or want of memory.

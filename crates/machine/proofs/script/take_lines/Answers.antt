@@ -1,8 +1,8 @@
 use Rattle.litmus.specs.ReadingLaws.{byte_read, line_read}
 use Rattle.machine.specs.declared.script_fault.StepFault.TheVariants.{S1}
 use Rattle.machine.specs.Script.{line_step}
-use Rattle.machine.proofs.script.read_lines.Goals as goal
-use Rattle.machine.proofs.script.read_lines.Goals.{then-b-eq10+in_ok-take_line, else-b-eq10}
+use Rattle.machine.proofs.script.take_lines.Goals as goal
+use Rattle.machine.proofs.script.take_lines.Goals.{then-b-eq10+in_ok-take_line, else-b-eq10}
 
 pub loop-i-preserved : goal.loop-i-preserved
 loop-i-preserved c =
