@@ -77,16 +77,34 @@ fn is_interrupted<R: Threads + Wait + Sync>(rt: &R, alloc: Global) -> bool {
 }
 
 /// The text of a recording.
-fn text_of(alloc: Global, parts: EventLists) -> Result<Vec<u8>, Fail> {
-    Ok(write_recording(alloc, &recorded(alloc, parts)?)?)
+fn text_of(alloc: Global, parts: EventLists) -> Option<Vec<u8>> {
+    let Some(recording) = recorded(alloc, parts) else {
+        return None;
+    };
+    write_recording(alloc, &recording).ok()
+}
+
+/// Whether a read that fails behind any byte of the text leaves nothing written.
+fn leaves_nothing_anywhere<R: Threads + Wait + Sync>(rt: &R, alloc: Global, text: &[u8]) -> bool {
+    for k in 0..=text.len() {
+        if !leaves_nothing(rt, alloc, text, k) {
+            return false;
+        }
+    }
+    true
+}
+
+/// Whether a read of message passing that fails anywhere leaves nothing written.
+fn is_read_whole_or_not_at_all<R: Threads + Wait + Sync>(rt: &R, alloc: Global) -> bool {
+    let Some(text) = text_of(alloc, MESSAGE_PASSING) else {
+        return false;
+    };
+    leaves_nothing_anywhere(rt, alloc, text.as_slice())
 }
 
 #[test]
 fn a_failed_read_leaves_nothing_written(rt: HostRuntime) -> Result<(), Fail> {
-    let text = text_of(rt.alloc(), MESSAGE_PASSING)?;
-    for k in 0..=text.len() {
-        assert!(rt; leaves_nothing(&rt, rt.alloc(), text.as_slice(), k));
-    }
+    assert!(rt; is_read_whole_or_not_at_all(&rt, rt.alloc()));
     assert!(rt; is_interrupted(&rt, rt.alloc()));
     Ok(())
 }
@@ -114,14 +132,28 @@ fn is_whole<R: Threads + Wait + Sync>(rt: &R, alloc: Global, text: &[u8]) -> boo
     answered == Ok(Outcome::Violation) && sink.written() == CYCLE
 }
 
+/// Whether a write that fails behind any of 123 bytes leaves as long a beginning of the answer.
+fn leaves_each_beginning<R: Threads + Wait + Sync>(rt: &R, alloc: Global, text: &[u8]) -> bool {
+    for k in 0..123 {
+        if !leaves_a_beginning(rt, alloc, text, k) {
+            return false;
+        }
+    }
+    true
+}
+
+/// Whether the answer to message passing is written up to where a write fails.
+fn is_written_so_far<R: Threads + Wait + Sync>(rt: &R, alloc: Global) -> bool {
+    let Some(text) = text_of(alloc, MESSAGE_PASSING) else {
+        return false;
+    };
+    leaves_each_beginning(rt, alloc, text.as_slice()) && is_whole(rt, alloc, text.as_slice())
+}
+
 #[test]
 fn a_failed_write_leaves_a_beginning(rt: HostRuntime) -> Result<(), Fail> {
-    let text = text_of(rt.alloc(), MESSAGE_PASSING)?;
     assert!(rt; CYCLE.len() == 123);
-    for k in 0..123 {
-        assert!(rt; leaves_a_beginning(&rt, rt.alloc(), text.as_slice(), k));
-    }
-    assert!(rt; is_whole(&rt, rt.alloc(), text.as_slice()));
+    assert!(rt; is_written_so_far(&rt, rt.alloc()));
     Ok(())
 }
 
@@ -143,13 +175,25 @@ fn is_taken<R: Threads + Wait + Sync>(
     device.into_inner().taken.as_slice() == taken && answered == outcome
 }
 
+/// Whether a device that takes a byte of each write takes the whole answer, and one that takes none fails.
+fn is_taken_unless_none_is<R: Threads + Wait + Sync>(rt: &R, alloc: Global) -> bool {
+    let Some(text) = text_of(alloc, MESSAGE_PASSING) else {
+        return false;
+    };
+    is_taken(rt, alloc, text.as_slice(), 1, Ok(Outcome::Violation), CYCLE)
+        && is_taken(
+            rt,
+            alloc,
+            text.as_slice(),
+            0,
+            Err(ReportError::WriteFailed),
+            b"",
+        )
+}
+
 #[test]
 fn a_device_may_take_a_byte_at_a_time_but_not_none(rt: HostRuntime) -> Result<(), Fail> {
-    let text = text_of(rt.alloc(), MESSAGE_PASSING)?;
-    let violation = Ok(Outcome::Violation);
-    assert!(rt; is_taken(&rt, rt.alloc(), text.as_slice(), 1, violation, CYCLE));
-    let failed = Err(ReportError::WriteFailed);
-    assert!(rt; is_taken(&rt, rt.alloc(), text.as_slice(), 0, failed, b""));
+    assert!(rt; is_taken_unless_none_is(&rt, rt.alloc()));
     Ok(())
 }
 
@@ -164,11 +208,17 @@ fn begins_so<R: Threads + Wait + Sync>(rt: &R, alloc: Global, text: &[u8], watch
             .starts_with(b"cycle of 3\n4 -> 5 Rf\n5 -> 6 Po\n6 -> 4 Fr\n")
 }
 
+/// Whether the answer begins so while the worker that begins first is held, and each piece is done once.
+fn is_answered_past_a_held_worker<R: Threads + Wait + Sync>(rt: &R, alloc: Global) -> bool {
+    let Some(text) = text_of(alloc, THREE_AND_FOUR) else {
+        return false;
+    };
+    let watch = Watch::new();
+    begins_so(rt, alloc, text.as_slice(), &watch) && watch.is_right()
+}
+
 #[test]
 fn an_answer_waits_for_no_worker(rt: HostRuntime) -> Result<(), Fail> {
-    let text = text_of(rt.alloc(), THREE_AND_FOUR)?;
-    let watch = Watch::new();
-    assert!(rt; begins_so(&rt, rt.alloc(), text.as_slice(), &watch));
-    assert!(rt; watch.is_right());
+    assert!(rt; is_answered_past_a_held_worker(&rt, rt.alloc()));
     Ok(())
 }

@@ -1,7 +1,7 @@
 //! Certificates, and lists that differ from one in one thing.
 
-use crate::recordings::{MESSAGE_PASSING, TWO_CYCLES, related};
-use common::EventId;
+use crate::recordings::{EventLists, MESSAGE_PASSING, TWO_CYCLES, related};
+use common::{EventId, OutOfMemory};
 use labels::{Certificate, check, check_par};
 use relations::Relation;
 use std::alloc::Global;
@@ -9,7 +9,11 @@ use std::sync::Wait;
 use std::test::Fail;
 use std::thread::Threads;
 
-fn certificate(alloc: Global, cycle: &[EventId], rows: &[&[u16]]) -> Result<Certificate, Fail> {
+fn certificate(
+    alloc: Global,
+    cycle: &[EventId],
+    rows: &[&[u16]],
+) -> Result<Certificate, OutOfMemory> {
     let mut lists = Vec::new(alloc);
     for row in rows {
         lists.push(Vec::from_slice(alloc, *row)?)?;
@@ -44,19 +48,33 @@ const LABEL_TOO_MANY: &[&[u16]] = &[
 
 const LABEL_TOO_SMALL: &[&[u16]] = &[&[0, 1, 0, 2], &[2, 0, 2, 1], &[1, 2, 0, 1], &[2, 1, 2, 0]];
 
-/// Cycles of two swaps on each of two cores, each with labels, and whether they are a certificate.
-const CERTIFICATES: [(&str, &[EventId], &[&[u16]], bool); 11] = [
-    ("the certificate", &[0, 2], EXACT, true),
-    ("begun elsewhere", &[2, 0], EXACT, true),
-    ("the other cycle", &[1, 3], EXACT, true),
-    ("the last row is missing", &[0, 2], LAST_ROW_MISSING, false),
-    ("a row too many", &[0, 2], ROW_TOO_MANY, false),
-    ("a label is missing", &[0, 2], LABEL_MISSING, false),
-    ("a label too many", &[0, 2], LABEL_TOO_MANY, false),
-    ("a label that is too small", &[0, 2], LABEL_TOO_SMALL, false),
-    ("no such event", &[0, 9], EXACT, false),
-    ("no cycle", &[], EXACT, false),
-    ("a longer cycle", &[0, 2, 0, 2], EXACT, false),
+/// A cycle, its labels, and whether they are a certificate.
+type Checked = (&'static [EventId], &'static [&'static [u16]], bool);
+
+/// Cycles of two swaps on each of two cores, each with labels.
+const OF_TWO_CYCLES: &[Checked] = &[
+    // the certificate
+    (&[0, 2], EXACT, true),
+    // begun elsewhere
+    (&[2, 0], EXACT, true),
+    // the other cycle
+    (&[1, 3], EXACT, true),
+    // the last row is missing
+    (&[0, 2], LAST_ROW_MISSING, false),
+    // a row too many
+    (&[0, 2], ROW_TOO_MANY, false),
+    // a label is missing
+    (&[0, 2], LABEL_MISSING, false),
+    // a label too many
+    (&[0, 2], LABEL_TOO_MANY, false),
+    // a label that is too small
+    (&[0, 2], LABEL_TOO_SMALL, false),
+    // no such event
+    (&[0, 9], EXACT, false),
+    // no cycle
+    (&[], EXACT, false),
+    // a longer cycle
+    (&[0, 2, 0, 2], EXACT, false),
 ];
 
 /// Whether a cycle with labels is found to be a certificate or not, alone and by threads.
@@ -67,31 +85,46 @@ fn is_checked<R: Threads + Wait + Sync>(
     cycle: &[EventId],
     labels: &[&[u16]],
     passes: bool,
-) -> Result<bool, Fail> {
-    let given = certificate(alloc, cycle, labels)?;
-    Ok(check(relation, &given) == passes && check_par(rt, relation, &given) == passes)
+) -> bool {
+    let Ok(given) = certificate(alloc, cycle, labels) else {
+        return false;
+    };
+    check(relation, &given) == passes && check_par(rt, relation, &given) == passes
+}
+
+/// Whether each cycle of a recording is checked so.
+fn are_checked<R: Threads + Wait + Sync>(
+    rt: &R,
+    alloc: Global,
+    parts: EventLists,
+    given: &[Checked],
+) -> bool {
+    let Some(relation) = related(alloc, parts) else {
+        return false;
+    };
+    for (cycle, labels, passes) in given {
+        if !is_checked(rt, alloc, &relation, *cycle, *labels, *passes) {
+            return false;
+        }
+    }
+    true
 }
 
 #[test]
 fn two_cycles_have_one_certificate(rt: HostRuntime) -> Result<(), Fail> {
-    let relation = related(rt.alloc(), TWO_CYCLES)?;
-    for (name, cycle, labels, passes) in &CERTIFICATES {
-        if !is_checked(&rt, rt.alloc(), &relation, *cycle, *labels, *passes)? {
-            return Err(*name)?;
-        }
-    }
+    assert!(rt; are_checked(&rt, rt.alloc(), TWO_CYCLES, OF_TWO_CYCLES));
     Ok(())
 }
 
 /// The exact labels of message passing, and labels of which one grows by two.
-const LABELS: [(&str, &[&[u16]], bool); 2] = [
+const OF_MESSAGE_PASSING: &[Checked] = &[
     (
-        "exact",
+        &[0, 1, 2, 3],
         &[&[0, 1, 2, 3], &[3, 0, 1, 2], &[2, 3, 0, 1], &[1, 2, 3, 0]],
         true,
     ),
     (
-        "steep",
+        &[0, 1, 2, 3],
         &[&[0, 1, 3, 3], &[3, 0, 1, 2], &[2, 3, 0, 1], &[1, 2, 3, 0]],
         false,
     ),
@@ -99,11 +132,6 @@ const LABELS: [(&str, &[&[u16]], bool); 2] = [
 
 #[test]
 fn labels_grow_by_one_at_most(rt: HostRuntime) -> Result<(), Fail> {
-    let relation = related(rt.alloc(), MESSAGE_PASSING)?;
-    for (name, labels, passes) in &LABELS {
-        if !is_checked(&rt, rt.alloc(), &relation, &[0, 1, 2, 3], *labels, *passes)? {
-            return Err(*name)?;
-        }
-    }
+    assert!(rt; are_checked(&rt, rt.alloc(), MESSAGE_PASSING, OF_MESSAGE_PASSING));
     Ok(())
 }

@@ -4,46 +4,90 @@ use crate::recordings::{
     BYPASSING, EventLists, FAILED_SWAPS, LOAD_AND_STORE, SELF_SOURCE, TWIN_SWAPS, recorded, related,
 };
 use common::EventId;
-use relations::{Reason, first_reason};
+use recorder::Recording;
+use relations::{Reason, Relation, first_reason};
 use std::alloc::Global;
 use std::test::Fail;
 
-/// Whether a pair of a recording has this reason, and is forced where it has one.
-fn is_forced_by(
-    alloc: Global,
-    parts: EventLists,
-    first: EventId,
-    second: EventId,
-    reason: Option<Reason>,
-) -> Result<bool, Fail> {
-    let forced = related(alloc, parts)?.forced(first, second);
-    let found = first_reason(&recorded(alloc, parts)?, first, second);
-    Ok(found == reason && forced == reason.is_some())
+/// Whether each pair has the reason beside it, and is forced where it has one.
+fn are_forced_so(
+    recording: &Recording,
+    relation: &Relation,
+    pairs: &[(EventId, EventId, Option<Reason>)],
+) -> bool {
+    for (first, second, reason) in pairs {
+        if first_reason(recording, *first, *second) != *reason
+            || relation.forced(*first, *second) != reason.is_some()
+        {
+            return false;
+        }
+    }
+    true
 }
 
-/// Pairs of events of recordings, and their reasons.
-const ROWS: [(&str, EventLists, EventId, EventId, Option<Reason>); 12] = [
-    ("own waiting store", BYPASSING, 0, 1, None),
-    ("write list", BYPASSING, 4, 0, Some(Reason::Wo)),
-    ("initial value", BYPASSING, 2, 3, Some(Reason::Fr)),
-    ("two loads of a core", BYPASSING, 1, 2, Some(Reason::Po)),
-    ("no such event", BYPASSING, 2, 5, None),
-    ("older write", TWIN_SWAPS, 0, 1, Some(Reason::Wo)),
-    ("older value", TWIN_SWAPS, 1, 0, Some(Reason::Fr)),
-    ("itself", TWIN_SWAPS, 0, 0, None),
-    ("its own source", SELF_SOURCE, 0, 0, Some(Reason::Rf)),
-    ("two reasons", LOAD_AND_STORE, 0, 1, Some(Reason::Po)),
-    ("behind a store", FAILED_SWAPS, 0, 1, Some(Reason::Po)),
-    ("initial value 7", FAILED_SWAPS, 3, 0, Some(Reason::Fr)),
+/// Whether the pairs of a recording have the reasons beside them.
+fn have_reasons(
+    alloc: Global,
+    parts: EventLists,
+    pairs: &[(EventId, EventId, Option<Reason>)],
+) -> bool {
+    let Some(recording) = recorded(alloc, parts) else {
+        return false;
+    };
+    let Ok(relation) = Relation::of(alloc, &recording) else {
+        return false;
+    };
+    are_forced_so(&recording, &relation, pairs)
+}
+
+/// Pairs of bypassing, and their reasons.
+const OF_BYPASSING: &[(EventId, EventId, Option<Reason>)] = &[
+    // own waiting store
+    (0, 1, None),
+    // write list
+    (4, 0, Some(Reason::Wo)),
+    // initial value
+    (2, 3, Some(Reason::Fr)),
+    // two loads of a core
+    (1, 2, Some(Reason::Po)),
+    // no such event
+    (2, 5, None),
 ];
+
+/// Pairs of two swaps: an older write, an older value, and an event and itself.
+const OF_TWIN_SWAPS: &[(EventId, EventId, Option<Reason>)] = &[
+    (0, 1, Some(Reason::Wo)),
+    (1, 0, Some(Reason::Fr)),
+    (0, 0, None),
+];
+
+/// A swap that is its own source.
+const OF_SELF_SOURCE: &[(EventId, EventId, Option<Reason>)] = &[(0, 0, Some(Reason::Rf))];
+
+/// A pair with two reasons, of which the first is told.
+const OF_LOAD_AND_STORE: &[(EventId, EventId, Option<Reason>)] = &[(0, 1, Some(Reason::Po))];
+
+/// A failed swap behind a store, and one that reads the initial value 7.
+const OF_FAILED_SWAPS: &[(EventId, EventId, Option<Reason>)] = &[
+    (0, 1, Some(Reason::Po)),
+    (3, 0, Some(Reason::Fr)),
+];
+
+/// Whether the relation of a recording has so many events.
+fn has_events(alloc: Global, parts: EventLists, events: usize) -> bool {
+    let Some(relation) = related(alloc, parts) else {
+        return false;
+    };
+    relation.len() == events
+}
 
 #[test]
 fn a_pair_has_the_first_reason_that_holds(rt: HostRuntime) -> Result<(), Fail> {
-    for (name, parts, first, second, reason) in &ROWS {
-        if !is_forced_by(rt.alloc(), *parts, *first, *second, *reason)? {
-            return Err(*name)?;
-        }
-    }
-    assert!(rt; related(rt.alloc(), BYPASSING)?.len() == 5);
+    assert!(rt; have_reasons(rt.alloc(), BYPASSING, OF_BYPASSING));
+    assert!(rt; have_reasons(rt.alloc(), TWIN_SWAPS, OF_TWIN_SWAPS));
+    assert!(rt; have_reasons(rt.alloc(), SELF_SOURCE, OF_SELF_SOURCE));
+    assert!(rt; have_reasons(rt.alloc(), LOAD_AND_STORE, OF_LOAD_AND_STORE));
+    assert!(rt; have_reasons(rt.alloc(), FAILED_SWAPS, OF_FAILED_SWAPS));
+    assert!(rt; has_events(rt.alloc(), BYPASSING, 5));
     Ok(())
 }

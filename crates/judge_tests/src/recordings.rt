@@ -4,7 +4,6 @@ use common::EventId;
 use recorder::{Event, Recording};
 use relations::Relation;
 use std::alloc::Global;
-use std::test::Fail;
 
 /// A store of 1 to x.
 pub const X1: Event = Event::S { a: 0, w: 1 };
@@ -142,18 +141,16 @@ pub const TWO_CYCLES: EventLists = (
     &[0, 0],
 );
 
-/// The recording of some parts.
-pub fn recorded(alloc: Global, parts: EventLists) -> Result<Recording, Fail> {
+/// The recording of some parts, which is not refused.
+pub fn recorded(alloc: Global, parts: EventLists) -> Option<Recording> {
     let (cores, writes, init) = parts;
-    Ok(
-        Recording::from_lists(alloc, cores, writes, init)
-            .ok()
-            .ok_or("refused")?,
-    )
+    Recording::from_lists(alloc, cores, writes, init).ok()
 }
 
 /// The forced pairs of a recording.
-pub fn related(alloc: Global, parts: EventLists) -> Result<Relation, Fail> {
-    let recording = recorded(alloc, parts)?;
-    Ok(Relation::of(alloc, &recording).ok().ok_or("out of memory")?)
+pub fn related(alloc: Global, parts: EventLists) -> Option<Relation> {
+    let Some(recording) = recorded(alloc, parts) else {
+        return None;
+    };
+    Relation::of(alloc, &recording).ok()
 }

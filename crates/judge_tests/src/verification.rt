@@ -13,24 +13,21 @@ use std::sync::Wait;
 use std::test::Fail;
 use std::thread::Threads;
 
-/// The events that a verdict names.
-fn named(alloc: Global, verdict: &Verdict) -> Result<Vec<EventId>, Fail> {
-    Ok(match verdict {
-        Verdict::Ordered(order) => Vec::from_slice(alloc, order)?,
-        Verdict::Overlook { load, store } => vec![in alloc; *load, *store]?,
-        Verdict::Cycle(certificate) => Vec::from_slice(alloc, &certificate.cycle)?,
-    })
-}
-
-fn is_verified(alloc: Global, recording: &Recording, verdict: &Verdict) -> Result<bool, Fail> {
-    Ok(verify(alloc, recording, verdict)?)
+/// Whether a verdict names these events.
+fn names(verdict: &Verdict, events: &[EventId]) -> bool {
+    match verdict {
+        Verdict::Ordered(order) => order.as_slice() == events,
+        Verdict::Overlook { load, store } => [*load, *store].as_slice() == events,
+        Verdict::Cycle(certificate) => certificate.cycle.as_slice() == events,
+    }
 }
 
 /// Whether the verdict on a recording names these events, and passes its check.
-fn is_right(alloc: Global, recording: &Recording, events: &[EventId]) -> Result<bool, Fail> {
-    let verdict = judge_alone(alloc, recording)?;
-    let names = named(alloc, &verdict)?.as_slice() == events;
-    Ok(is_verified(alloc, recording, &verdict)? && names)
+fn is_right(alloc: Global, recording: &Recording, events: &[EventId]) -> bool {
+    let Ok(verdict) = judge_alone(alloc, recording) else {
+        return false;
+    };
+    names(&verdict, events) && verify(alloc, recording, &verdict) == Ok(true)
 }
 
 /// Whether the verdict of as many workers as there may be names these events.
@@ -39,22 +36,12 @@ fn is_right_by_all<R: Threads + Wait + Sync>(
     alloc: Global,
     recording: &Recording,
     events: &[EventId],
-) -> Result<bool, Fail> {
-    let verdict = judge(rt, alloc, recording, MAX_WORKERS)?;
-    Ok(named(alloc, &verdict)?.as_slice() == events)
+) -> bool {
+    let Ok(verdict) = judge(rt, alloc, recording, MAX_WORKERS) else {
+        return false;
+    };
+    names(&verdict, events)
 }
-
-/// Recordings by name, and the events that their verdicts name.
-const NAMED: [(&str, EventLists, &[EventId]); 4] = [
-    ("store_buffering", STORE_BUFFERING, &[1, 2, 3, 0]),
-    (
-        "store_buffering_fenced",
-        STORE_BUFFERING_FENCED,
-        &[0, 1, 2, 3, 4, 5],
-    ),
-    ("message_passing", MESSAGE_PASSING, &[0, 1, 2, 3]),
-    ("overlooked_store", OVERLOOKED_STORE, &[1, 0]),
-];
 
 /// Whether a recording is judged so, alone and by workers.
 fn is_judged<R: Threads + Wait + Sync>(
@@ -62,43 +49,55 @@ fn is_judged<R: Threads + Wait + Sync>(
     alloc: Global,
     parts: EventLists,
     events: &[EventId],
-) -> Result<bool, Fail> {
-    let recording = recorded(alloc, parts)?;
-    let alone = is_right(alloc, &recording, events)?;
-    Ok(is_right_by_all(rt, alloc, &recording, events)? && alone)
+) -> bool {
+    let Some(recording) = recorded(alloc, parts) else {
+        return false;
+    };
+    is_right(alloc, &recording, events) && is_right_by_all(rt, alloc, &recording, events)
 }
 
 #[test]
 fn verdicts_pass_their_check(rt: HostRuntime) -> Result<(), Fail> {
-    for (name, parts, events) in &NAMED {
-        if !is_judged(&rt, rt.alloc(), *parts, *events)? {
-            return Err(*name)?;
-        }
-    }
+    assert!(rt; is_judged(&rt, rt.alloc(), STORE_BUFFERING, &[1, 2, 3, 0]));
+    assert!(rt; is_judged(&rt, rt.alloc(), STORE_BUFFERING_FENCED, &[0, 1, 2, 3, 4, 5]));
+    assert!(rt; is_judged(&rt, rt.alloc(), MESSAGE_PASSING, &[0, 1, 2, 3]));
+    assert!(rt; is_judged(&rt, rt.alloc(), OVERLOOKED_STORE, &[1, 0]));
     Ok(())
 }
 
 /// Whether a verdict on a recording does not pass its check.
-fn is_refused(alloc: Global, parts: EventLists, verdict: &Verdict) -> Result<bool, Fail> {
-    let recording = recorded(alloc, parts)?;
-    Ok(!is_verified(alloc, &recording, verdict)?)
+fn is_refused(alloc: Global, parts: EventLists, verdict: &Verdict) -> bool {
+    let Some(recording) = recorded(alloc, parts) else {
+        return false;
+    };
+    verify(alloc, &recording, verdict) == Ok(false)
 }
 
-/// A cycle of four events without labels.
-fn bare(alloc: Global) -> Result<Verdict, Fail> {
-    Ok(Verdict::Cycle(Certificate {
-        cycle: Vec::from_slice(alloc, &[0, 1, 2, 3])?,
+/// Whether an order that TSO forbids is refused.
+fn refuses_a_forbidden_order(alloc: Global) -> bool {
+    let Ok(order) = Vec::from_slice(alloc, &[0, 1, 2, 3]) else {
+        return false;
+    };
+    is_refused(alloc, STORE_BUFFERING, &Verdict::Ordered(order))
+}
+
+/// Whether a cycle of four events without labels is refused.
+fn refuses_a_bare_cycle(alloc: Global) -> bool {
+    let Ok(cycle) = Vec::from_slice(alloc, &[0, 1, 2, 3]) else {
+        return false;
+    };
+    let bare = Certificate {
+        cycle,
         rows: Vec::new(alloc),
-    }))
+    };
+    is_refused(alloc, MESSAGE_PASSING, &Verdict::Cycle(bare))
 }
 
 #[test]
 fn what_does_not_hold_is_not_verified(rt: HostRuntime) -> Result<(), Fail> {
-    let alloc = rt.alloc();
-    let forbidden = Verdict::Ordered(Vec::from_slice(alloc, &[0, 1, 2, 3])?);
-    assert!(rt; is_refused(alloc, STORE_BUFFERING, &forbidden)?);
+    assert!(rt; refuses_a_forbidden_order(rt.alloc()));
     let any_load = Verdict::Overlook { load: 3, store: 0 };
-    assert!(rt; is_refused(alloc, MESSAGE_PASSING, &any_load)?);
-    assert!(rt; is_refused(alloc, MESSAGE_PASSING, &bare(alloc)?)?);
+    assert!(rt; is_refused(rt.alloc(), MESSAGE_PASSING, &any_load));
+    assert!(rt; refuses_a_bare_cycle(rt.alloc()));
     Ok(())
 }

@@ -5,16 +5,16 @@ ghost use Rattle.common.specs.declared.limits.TheConstants.{MAX_WORKERS};
 ghost use Rattle.best.specs.Seats.{IsBestSeatOf, known_of};
 ghost use Rattle.search.specs.SourceRow.{AreShared};
 
-use crate::bound::{jobs_of, opened};
-use crate::recordings::{THREE_AND_FOUR, recorded, related};
+use crate::bound::begun;
+use crate::recordings::{THREE_AND_FOUR, recorded};
 use best::{Best, BestSeat};
 use common::{EventId, Gate, OpenGate};
 use judge::{Verdict, judge_gated};
 use recorder::Recording;
 use search::{SourceJob, least_length, run_jobs};
 use std::alloc::Global;
+use std::sync::Wait;
 use std::sync::atomic::{AtomicBool, AtomicU64, Ordering};
-use std::sync::{Arc, Wait};
 use std::test::Fail;
 use std::thread;
 use std::thread::Threads;
@@ -117,8 +117,8 @@ impl Gate for Watch {
     }
 }
 
-/// The length that workers leave in the seat, where it is the cap of the rows too.
-fn length_by<G: Gate>(
+/// Whether workers leave a shortest length of 3 in the seat, where it is the cap of the rows too.
+fn leave_three<G: Gate>(
     rt: &(impl Threads + Wait + Sync),
     alloc: Global,
     jobs: Vec<SourceJob>,
@@ -126,44 +126,43 @@ fn length_by<G: Gate>(
     seat: &mut BestSeat,
     workers: usize,
     gate: &G,
-) -> Result<Option<u16>, Fail>
+) -> bool
     requires seat { IsBestSeatOf best.now seat.old }
     requires jobs { AreShared (known_of seat.old).relation jobs.items }
     requires workers { (1 ≤ workers) × (workers ≤ MAX_WORKERS) }
 {
-    let rows = run_jobs(rt, alloc, jobs, best, seat, workers, gate)
-        .ok()
-        .ok_or("out of memory")?;
-    let read = best.read(seat);
-    Ok(if least_length(&rows) == read {
-        read
-    } else {
-        None
-    })
+    let Ok(rows) = run_jobs(rt, alloc, jobs, best, seat, workers, gate) else {
+        return false;
+    };
+    best.read(seat) == Some(3) && least_length(&rows) == Some(3)
 }
 
-fn found_by<G: Gate>(
+/// Whether so many workers find the shorter of the two cycles.
+fn find_the_shorter<G: Gate>(
     rt: &(impl Threads + Wait + Sync),
     alloc: Global,
     workers: usize,
     gate: &G,
-) -> Result<Option<u16>, Fail>
+) -> bool
     requires { (1 ≤ workers) × (workers ≤ MAX_WORKERS) }
 {
-    let shared = Arc::new(alloc, related(alloc, THREE_AND_FOUR)?)?;
-    let jobs = jobs_of(alloc, &shared)?;
-    let (best, mut seat) = opened(alloc, &shared)?;
-    length_by(rt, alloc, jobs, &best, &mut seat, workers, gate)
+    let Some((jobs, best, mut seat)) = begun(alloc) else {
+        return false;
+    };
+    leave_three(rt, alloc, jobs, &best, &mut seat, workers, gate)
+}
+
+/// Whether two workers find the shorter cycle while the one that begins first is held.
+fn find_past_a_held_worker(rt: &(impl Threads + Wait + Sync), alloc: Global) -> bool {
+    let watch = Watch::new();
+    find_the_shorter(rt, alloc, 2, &watch) && watch.is_right()
 }
 
 #[test]
 fn workers_leave_the_shortest_length(rt: HostRuntime) -> Result<(), Fail> {
-    let alloc = rt.alloc();
-    assert!(rt; found_by(&rt, alloc, 1, &OpenGate)? == Some(3));
-    assert!(rt; found_by(&rt, alloc, 2, &OpenGate)? == Some(3));
-    let watch = Watch::new();
-    assert!(rt; found_by(&rt, alloc, 2, &watch)? == Some(3));
-    assert!(rt; watch.is_right());
+    assert!(rt; find_the_shorter(&rt, rt.alloc(), 1, &OpenGate));
+    assert!(rt; find_the_shorter(&rt, rt.alloc(), 2, &OpenGate));
+    assert!(rt; find_past_a_held_worker(&rt, rt.alloc()));
     Ok(())
 }
 
@@ -181,16 +180,24 @@ fn is_judged<R: Threads + Wait + Sync>(
     alloc: Global,
     recording: &Recording,
     watch: &Watch,
-) -> Result<bool, Fail> {
-    let verdict = judge_gated(rt, alloc, recording, 2, watch)?;
-    Ok(is_cycle(&verdict, &[4, 5, 6]))
+) -> bool {
+    let Ok(verdict) = judge_gated(rt, alloc, recording, 2, watch) else {
+        return false;
+    };
+    is_cycle(&verdict, &[4, 5, 6])
+}
+
+/// Whether two workers judge so while the one that begins first is held.
+fn is_judged_past_a_held_worker<R: Threads + Wait + Sync>(rt: &R, alloc: Global) -> bool {
+    let Some(recording) = recorded(alloc, THREE_AND_FOUR) else {
+        return false;
+    };
+    let watch = Watch::new();
+    is_judged(rt, alloc, &recording, &watch) && watch.is_right()
 }
 
 #[test]
 fn a_judge_waits_for_no_worker(rt: HostRuntime) -> Result<(), Fail> {
-    let recording = recorded(rt.alloc(), THREE_AND_FOUR)?;
-    let watch = Watch::new();
-    assert!(rt; is_judged(&rt, rt.alloc(), &recording, &watch)?);
-    assert!(rt; watch.is_right());
+    assert!(rt; is_judged_past_a_held_worker(&rt, rt.alloc()));
     Ok(())
 }
