@@ -10,6 +10,7 @@ ghost use Rattle.explanation.specs.Cycle.{SaysCycle};
 use crate::events::put_written;
 use crate::lines::{put_before, put_indent, put_line};
 use crate::numbers::put_number;
+use crate::pieces::put_text;
 use common::{Addr, EventId, OutOfMemory};
 use indexmap::IndexSet;
 use litmus::Name;
@@ -25,7 +26,7 @@ fn put_in_write_list(
     ensures { OnOk result (out.new.items ≡ out.old.items
         ++ (codes " in the write list of " ++ written_text names.now.keys address)) }
 {
-    out.extend_from_slice(b" in the write list of ")?;
+    put_text(out, b" in the write list of ")?;
     put_written(out, names, address)
 }
 
@@ -38,7 +39,7 @@ fn put_newer(
     ensures { OnOk result (out.new.items ≡ out.old.items
         ++ (codes ", which wrote a newer value of " ++ written_text names.now.keys address)) }
 {
-    out.extend_from_slice(b", which wrote a newer value of ")?;
+    put_text(out, b", which wrote a newer value of ")?;
     put_written(out, names, address)
 }
 
@@ -53,15 +54,9 @@ fn put_reason(
         ++ reason_text reason (written_text names.now.keys address)) }
 {
     match reason {
-        Reason::Po => {
-            out.extend_from_slice(b" in program order")?;
-            Ok(())
-        }
+        Reason::Po => { put_text(out, b" in program order") }
         Reason::Wo => put_in_write_list(out, names, address),
-        Reason::Rf => {
-            out.extend_from_slice(b", which read it")?;
-            Ok(())
-        }
+        Reason::Rf => { put_text(out, b", which read it") }
         Reason::Fr => put_newer(out, names, address),
     }
 }
@@ -81,8 +76,7 @@ fn put_reason_line(
     put_indent(out, recording)?;
     put_before(out, second)?;
     put_reason(out, names, reason, recording.written_address(second))?;
-    out.push(b'\n')?;
-    Ok(())
+    put_text(out, b"\n")
 }
 
 /// Adds the lines of an event that comes before another.
@@ -126,10 +120,9 @@ fn put_links(
 fn put_heading(out: &mut Vec<u8>, count: usize) -> Result<(), OutOfMemory>
     ensures { OnOk result (out.new.items ≡ out.old.items ++ cycle_heading count) }
 {
-    out.extend_from_slice(b"No memory order explains this recording: these ")?;
+    put_text(out, b"No memory order explains this recording: these ")?;
     put_number(out, count)?;
-    out.extend_from_slice(b" events would each come before the next.\n")?;
-    Ok(())
+    put_text(out, b" events would each come before the next.\n")
 }
 
 /// Adds a cycle in words.

@@ -13,6 +13,7 @@ use crate::bold::bold_edges;
 use crate::edge_lines::{put_bold, put_ends, put_thin};
 use crate::edges::Edge;
 use crate::nodes::put_clusters;
+use crate::pieces::put_text;
 use common::{EventId, OutOfMemory};
 use indexmap::IndexSet;
 use judge::Verdict;
@@ -37,8 +38,7 @@ fn put_rank(out: &mut Vec<u8>, order: &[EventId], i: usize) -> Result<(), OutOfM
     ensures { OnOk result (out.new.items ≡ out.old.items ++ rank_line order.now i) }
 {
     put_ends(out, order[i], order[i + 1])?;
-    out.extend_from_slice(b" [style=\"invis\"];\n")?;
-    Ok(())
+    put_text(out, b" [style=\"invis\"];\n")
 }
 
 /// Adds the lines that put the events of a memory order one above the other.
@@ -70,18 +70,17 @@ fn put_end(out: &mut Vec<u8>, ranked: bool, bold: &[Edge]) -> Result<(), OutOfMe
         ++ (flat_map (edge_line ranked true) bold.now ++ codes "}\n")) }
 {
     put_bold(out, ranked, bold)?;
-    out.extend_from_slice(b"}\n")?;
-    Ok(())
+    put_text(out, b"}\n")
 }
 
 /// Adds the first lines.
 fn put_heading(out: &mut Vec<u8>) -> Result<(), OutOfMemory>
     ensures { OnOk result (out.new.items ≡ out.old.items ++ graph_heading) }
 {
-    out.extend_from_slice(
+    put_text(
+        out,
         b"digraph recording {\n  node [shape=\"plaintext\"];\n  newrank=\"true\";\n",
-    )?;
-    Ok(())
+    )
 }
 
 /// Adds a picture with these edges bold.

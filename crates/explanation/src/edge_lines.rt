@@ -9,6 +9,7 @@ ghost use Rattle.explanation.specs.Nodes.{texts_below};
 
 use crate::edges::{Edge, co_edge, fr_edge, is_drawn, po_edge, rf_edge};
 use crate::numbers::put_number;
+use crate::pieces::put_text;
 use common::{EventId, OutOfMemory};
 use recorder::Recording;
 use relations::Reason;
@@ -21,9 +22,9 @@ pub(crate) fn put_ends(
 ) -> Result<(), OutOfMemory>
     ensures { OnOk result (out.new.items ≡ out.old.items ++ ends_text first second) }
 {
-    out.extend_from_slice(b"  e")?;
+    put_text(out, b"  e")?;
     put_number(out, first as usize)?;
-    out.extend_from_slice(b" -> e")?;
+    put_text(out, b" -> e")?;
     put_number(out, second as usize)
 }
 
@@ -32,16 +33,14 @@ fn put_look(out: &mut Vec<u8>, reason: Reason) -> Result<(), OutOfMemory>
     ensures { OnOk result (out.new.items ≡ out.old.items ++ look_text reason) }
 {
     match reason {
-        Reason::Po => out.extend_from_slice(
-            b" [label=\"po\", color=\"black\", fontcolor=\"black\"",
-        )?,
-        Reason::Wo => out.extend_from_slice(b" [label=\"co\", color=\"blue\", fontcolor=\"blue\"")?,
-        Reason::Rf => out.extend_from_slice(b" [label=\"rf\", color=\"red\", fontcolor=\"red\"")?,
-        Reason::Fr => {
-            out.extend_from_slice(b" [label=\"fr\", color=\"#ffa040\", fontcolor=\"#ffa040\"")?
-        }
+        Reason::Po => put_text(out, b" [label=\"po\", color=\"black\", fontcolor=\"black\""),
+        Reason::Wo => put_text(out, b" [label=\"co\", color=\"blue\", fontcolor=\"blue\""),
+        Reason::Rf => put_text(out, b" [label=\"rf\", color=\"red\", fontcolor=\"red\""),
+        Reason::Fr => put_text(
+            out,
+            b" [label=\"fr\", color=\"#ffa040\", fontcolor=\"#ffa040\"",
+        ),
     }
-    Ok(())
 }
 
 /// Adds how thick an edge is.
@@ -49,9 +48,10 @@ fn put_style(out: &mut Vec<u8>, bold: bool) -> Result<(), OutOfMemory>
     ensures { OnOk result (out.new.items ≡ out.old.items ++ style_text bold) }
 {
     if bold {
-        out.extend_from_slice(b", style=\"bold\"")?;
+        put_text(out, b", style=\"bold\"")
+    } else {
+        Ok(())
     }
-    Ok(())
 }
 
 /// Adds that an edge puts no event above another.
@@ -59,9 +59,10 @@ fn put_free(out: &mut Vec<u8>, ranked: bool, reason: Reason) -> Result<(), OutOf
     ensures { OnOk result (out.new.items ≡ out.old.items ++ free_text ranked reason) }
 {
     if ranked || reason != Reason::Po {
-        out.extend_from_slice(b", constraint=\"false\"")?;
+        put_text(out, b", constraint=\"false\"")
+    } else {
+        Ok(())
     }
-    Ok(())
 }
 
 /// Adds the line of an edge.
@@ -73,8 +74,7 @@ fn put_edge_line(out: &mut Vec<u8>, ranked: bool, bold: bool, edge: Edge) -> Res
     put_look(out, edge.reason)?;
     put_style(out, bold)?;
     put_free(out, ranked, edge.reason)?;
-    out.extend_from_slice(b"];\n")?;
-    Ok(())
+    put_text(out, b"];\n")
 }
 
 /// Adds the line of an edge that is not drawn bold.

@@ -5,6 +5,7 @@ ghost use Rattle.recorder.specs.declared.event.Event.TheVariants.{L, S, R, C};
 ghost use Rattle.explanation.specs.Events.{address_text, written_text, source_text, read_text, event_text};
 
 use crate::numbers::put_number;
+use crate::pieces::put_text;
 use common::{Addr, EventId, OutOfMemory};
 use indexmap::IndexSet;
 use litmus::Name;
@@ -21,8 +22,7 @@ pub(crate) fn put_address(
     let Some(name) = names.get_index(address as usize) else {
         return Ok(());
     };
-    out.extend_from_slice(name.text())?;
-    Ok(())
+    put_text(out, name.text())
 }
 
 /// Adds the name of the address that an event writes.
@@ -44,10 +44,9 @@ fn put_source(out: &mut Vec<u8>, source: Option<EventId>) -> Result<(), OutOfMem
     ensures { OnOk result (out.new.items ≡ out.old.items ++ source_text source) }
 {
     let Some(source) = source else {
-        out.extend_from_slice(b", the initial value")?;
-        return Ok(());
+        return put_text(out, b", the initial value");
     };
-    out.extend_from_slice(b", from ")?;
+    put_text(out, b", from ")?;
     put_number(out, source as usize)
 }
 
@@ -61,7 +60,7 @@ fn put_read(
 {
     let (address, value, source) = read;
     put_address(out, names, address)?;
-    out.extend_from_slice(b" = ")?;
+    put_text(out, b" = ")?;
     put_number(out, value as usize)?;
     put_source(out, source)
 }
@@ -76,7 +75,7 @@ fn put_load(
     ensures { OnOk result (out.new.items ≡ out.old.items
         ++ event_text names.now.keys (L read.0 read.1 read.2)) }
 {
-    out.extend_from_slice(b"ld ")?;
+    put_text(out, b"ld ")?;
     put_read(out, names, read)
 }
 
@@ -90,9 +89,9 @@ fn put_store(
 ) -> Result<(), OutOfMemory>
     ensures { OnOk result (out.new.items ≡ out.old.items ++ event_text names.now.keys (S address value)) }
 {
-    out.extend_from_slice(b"st ")?;
+    put_text(out, b"st ")?;
     put_address(out, names, address)?;
-    out.push(b' ')?;
+    put_text(out, b" ")?;
     put_number(out, value as usize)
 }
 
@@ -107,9 +106,9 @@ fn put_rmw(
     ensures { OnOk result (out.new.items ≡ out.old.items
         ++ event_text names.now.keys (R read.0 read.1 read.2 value)) }
 {
-    out.extend_from_slice(b"rmw ")?;
+    put_text(out, b"rmw ")?;
     put_read(out, names, read)?;
-    out.extend_from_slice(b", wrote ")?;
+    put_text(out, b", wrote ")?;
     put_number(out, value as usize)
 }
 
@@ -123,10 +122,9 @@ fn put_failed_cas(
     ensures { OnOk result (out.new.items ≡ out.old.items
         ++ event_text names.now.keys (C read.0 read.1 read.2)) }
 {
-    out.extend_from_slice(b"cas ")?;
+    put_text(out, b"cas ")?;
     put_read(out, names, read)?;
-    out.extend_from_slice(b", wrote nothing")?;
-    Ok(())
+    put_text(out, b", wrote nothing")
 }
 
 /// Adds what an event did.
@@ -143,9 +141,6 @@ pub(crate) fn put_event(
         Event::S { a, w } => put_store(out, names, *a, *w),
         Event::R { a, r, s, w } => put_rmw(out, names, (*a, *r, *s), *w),
         Event::C { a, r, s } => put_failed_cas(out, names, (*a, *r, *s)),
-        Event::F => {
-            out.extend_from_slice(b"fence")?;
-            Ok(())
-        }
+        Event::F => { put_text(out, b"fence") }
     }
 }

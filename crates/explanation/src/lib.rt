@@ -12,6 +12,7 @@ mod memory_order;
 mod nodes;
 mod numbers;
 mod overlook;
+mod pieces;
 mod program;
 mod telling;
 mod words;

@@ -6,6 +6,7 @@ ghost use Rattle.explanation.specs.Events.{event_width, core_width, aligned, eve
 
 use crate::events::put_event;
 use crate::numbers::{digits, put_aligned, put_number, put_spaces};
+use crate::pieces::put_text;
 use common::{CoreId, EventId, OutOfMemory};
 use indexmap::IndexSet;
 use litmus::Name;
@@ -47,12 +48,11 @@ fn put_place(
         ++ aligned (event_width recording.now) number ++ codes "  core "
         ++ aligned (core_width recording.now) core ++ codes "  ")) }
 {
-    out.extend_from_slice(b"  ")?;
+    put_text(out, b"  ")?;
     put_aligned(out, event_width(recording), number as usize)?;
-    out.extend_from_slice(b"  core ")?;
+    put_text(out, b"  core ")?;
     put_aligned(out, core_width(recording), core as usize)?;
-    out.extend_from_slice(b"  ")?;
-    Ok(())
+    put_text(out, b"  ")
 }
 
 /// Adds the line of an event.
@@ -68,8 +68,7 @@ pub(crate) fn put_line(
     let (core, event) = event_of(recording, number);
     put_place(out, recording, number, core)?;
     put_event(out, names, &event)?;
-    out.push(b'\n')?;
-    Ok(())
+    put_text(out, b"\n")
 }
 
 /// Adds the spaces before what is said of the event above.
@@ -77,14 +76,13 @@ pub(crate) fn put_indent(out: &mut Vec<u8>, recording: &Recording) -> Result<(),
     ensures { OnOk result (out.new.items ≡ out.old.items ++ indent recording.now) }
 {
     put_spaces(out, event_width(recording))?;
-    out.extend_from_slice(b"    ")?;
-    Ok(())
+    put_text(out, b"    ")
 }
 
 /// Adds which event it comes before.
 pub(crate) fn put_before(out: &mut Vec<u8>, number: EventId) -> Result<(), OutOfMemory>
     ensures { OnOk result (out.new.items ≡ out.old.items ++ (codes "before " ++ decimal number)) }
 {
-    out.extend_from_slice(b"before ")?;
+    put_text(out, b"before ")?;
     put_number(out, number as usize)
 }

@@ -9,6 +9,7 @@ ghost use Rattle.explanation.specs.Order.{lawful_lines, placed_lines, order_text
 use crate::events::put_address;
 use crate::lines::{event_of, put_indent, put_line};
 use crate::numbers::put_number;
+use crate::pieces::put_text;
 use common::{Addr, EventId, OutOfMemory};
 use indexmap::IndexSet;
 use litmus::Name;
@@ -19,10 +20,9 @@ fn put_no_write(out: &mut Vec<u8>, names: &IndexSet<Name>, address: Addr) -> Res
     ensures { OnOk result (out.new.items ≡ out.old.items
         ++ (codes "no write of " ++ address_text names.now.keys address ++ codes " is before it")) }
 {
-    out.extend_from_slice(b"no write of ")?;
+    put_text(out, b"no write of ")?;
     put_address(out, names, address)?;
-    out.extend_from_slice(b" is before it")?;
-    Ok(())
+    put_text(out, b" is before it")
 }
 
 /// Adds which write of an address is the last before an event.
@@ -36,10 +36,9 @@ fn put_last_write(
         ++ address_text names.now.keys address ++ codes " before it")) }
 {
     put_number(out, source as usize)?;
-    out.extend_from_slice(b" is the last write of ")?;
+    put_text(out, b" is the last write of ")?;
     put_address(out, names, address)?;
-    out.extend_from_slice(b" before it")?;
-    Ok(())
+    put_text(out, b" before it")
 }
 
 /// Adds that the value of a store was forwarded.
@@ -48,10 +47,9 @@ fn put_forwarded(out: &mut Vec<u8>, source: EventId) -> Result<(), OutOfMemory>
         ++ (codes "forwarded from its core's store buffer, which " ++ decimal source
         ++ codes " leaves later")) }
 {
-    out.extend_from_slice(b"forwarded from its core's store buffer, which ")?;
+    put_text(out, b"forwarded from its core's store buffer, which ")?;
     put_number(out, source as usize)?;
-    out.extend_from_slice(b" leaves later")?;
-    Ok(())
+    put_text(out, b" leaves later")
 }
 
 /// Adds where the write of a value stands in the order.
@@ -91,8 +89,7 @@ fn put_read_line(
 {
     put_indent(out, recording)?;
     put_source(out, names, order, number, read)?;
-    out.push(b'\n')?;
-    Ok(())
+    put_text(out, b"\n")
 }
 
 /// Adds that a write is the first of an address.
@@ -100,7 +97,7 @@ fn put_first(out: &mut Vec<u8>, names: &IndexSet<Name>, address: Addr) -> Result
     ensures { OnOk result (out.new.items ≡ out.old.items
         ++ (codes "the first write of " ++ address_text names.now.keys address)) }
 {
-    out.extend_from_slice(b"the first write of ")?;
+    put_text(out, b"the first write of ")?;
     put_address(out, names, address)
 }
 
@@ -114,9 +111,9 @@ fn put_next(
     ensures { OnOk result (out.new.items ≡ out.old.items ++ (codes "the next write of "
         ++ address_text names.now.keys address ++ codes " behind " ++ decimal earlier)) }
 {
-    out.extend_from_slice(b"the next write of ")?;
+    put_text(out, b"the next write of ")?;
     put_address(out, names, address)?;
-    out.extend_from_slice(b" behind ")?;
+    put_text(out, b" behind ")?;
     put_number(out, earlier as usize)
 }
 
@@ -153,8 +150,7 @@ fn put_write_line(
 {
     put_indent(out, recording)?;
     put_write(out, names, recording.write_list(address), number, address)?;
-    out.push(b'\n')?;
-    Ok(())
+    put_text(out, b"\n")
 }
 
 /// Adds the line that says where a fence stands.
@@ -162,8 +158,7 @@ fn put_fence_line(out: &mut Vec<u8>, recording: &Recording) -> Result<(), OutOfM
     ensures { OnOk result (out.new.items ≡ out.old.items ++ fence_line recording.now) }
 {
     put_indent(out, recording)?;
-    out.extend_from_slice(b"behind what its core did before it\n")?;
-    Ok(())
+    put_text(out, b"behind what its core did before it\n")
 }
 
 /// Adds the lines that say what makes the place of an event lawful.
@@ -233,6 +228,9 @@ pub(crate) fn put_order(
     ensures { OnOk result (out.new.items ≡ out.old.items
         ++ order_text recording.now names.now.keys order.now) }
 {
-    out.extend_from_slice(b"TSO allows this recording. Its events in memory order:\n")?;
+    put_text(
+        out,
+        b"TSO allows this recording. Its events in memory order:\n",
+    )?;
     put_all_placed(out, recording, names, order)
 }

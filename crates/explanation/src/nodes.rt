@@ -8,6 +8,7 @@ ghost use Rattle.explanation.specs.Nodes.{cluster_heading, cluster_text};
 use crate::events::put_event;
 use crate::lines::event_of;
 use crate::numbers::put_number;
+use crate::pieces::put_text;
 use common::{EventId, OutOfMemory};
 use indexmap::IndexSet;
 use litmus::Name;
@@ -17,12 +18,11 @@ use recorder::{Event, Recording};
 fn put_node_heading(out: &mut Vec<u8>, number: EventId) -> Result<(), OutOfMemory>
     ensures { OnOk result (out.new.items ≡ out.old.items ++ node_heading number) }
 {
-    out.extend_from_slice(b"    e")?;
+    put_text(out, b"    e")?;
     put_number(out, number as usize)?;
-    out.extend_from_slice(b" [label=\"")?;
+    put_text(out, b" [label=\"")?;
     put_number(out, number as usize)?;
-    out.extend_from_slice(b": ")?;
-    Ok(())
+    put_text(out, b": ")
 }
 
 /// Adds the line of an event.
@@ -36,8 +36,7 @@ fn put_node(
 {
     put_node_heading(out, number)?;
     put_event(out, names, event)?;
-    out.extend_from_slice(b"\"];\n")?;
-    Ok(())
+    put_text(out, b"\"];\n")
 }
 
 /// Adds the line of an event that is one of this core.
@@ -81,12 +80,11 @@ fn put_nodes(
 fn put_cluster_heading(out: &mut Vec<u8>, core: usize) -> Result<(), OutOfMemory>
     ensures { OnOk result (out.new.items ≡ out.old.items ++ cluster_heading core) }
 {
-    out.extend_from_slice(b"  subgraph cluster_")?;
+    put_text(out, b"  subgraph cluster_")?;
     put_number(out, core)?;
-    out.extend_from_slice(b" {\n    label=\"core ")?;
+    put_text(out, b" {\n    label=\"core ")?;
     put_number(out, core)?;
-    out.extend_from_slice(b"\";\n")?;
-    Ok(())
+    put_text(out, b"\";\n")
 }
 
 /// Adds the lines of a core.
@@ -101,8 +99,7 @@ fn put_cluster(
 {
     put_cluster_heading(out, core)?;
     put_nodes(out, recording, names, core)?;
-    out.extend_from_slice(b"  }\n")?;
-    Ok(())
+    put_text(out, b"  }\n")
 }
 
 /// Adds the lines of each core.

@@ -3,6 +3,7 @@
 ghost use Rattle.std.specs.Prelude.{◌≡◌, ◌++◌, ◌-◌, ◌<◌, ◌≤◌, ◌^◌, OnOk, decimal};
 ghost use Rattle.explanation.specs.Events.{digits, aligned, spaces};
 
+use crate::pieces::put_text;
 use common::OutOfMemory;
 use itoa::Buffer;
 
@@ -19,8 +20,7 @@ pub(crate) fn put_number(out: &mut Vec<u8>, number: usize) -> Result<(), OutOfMe
     ensures { OnOk result (out.new.items ≡ out.old.items ++ decimal number) }
 {
     let mut buffer = Buffer::new();
-    out.extend_from_slice(buffer.format(number).as_bytes())?;
-    Ok(())
+    put_text(out, buffer.format(number).as_bytes())
 }
 
 /// Adds so many spaces.

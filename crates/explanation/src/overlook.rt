@@ -9,6 +9,7 @@ ghost use Rattle.explanation.specs.Overlook.{overlook_heading, store_line, inste
 use crate::events::put_written;
 use crate::lines::{put_before, put_indent, put_line};
 use crate::numbers::put_number;
+use crate::pieces::put_text;
 use common::{Addr, EventId, OutOfMemory};
 use indexmap::IndexSet;
 use litmus::Name;
@@ -18,12 +19,11 @@ use recorder::Recording;
 fn put_heading(out: &mut Vec<u8>, load: EventId, store: EventId) -> Result<(), OutOfMemory>
     ensures { OnOk result (out.new.items ≡ out.old.items ++ overlook_heading load store) }
 {
-    out.extend_from_slice(b"No memory order explains this recording: event ")?;
+    put_text(out, b"No memory order explains this recording: event ")?;
     put_number(out, load as usize)?;
-    out.extend_from_slice(b" overlooks event ")?;
+    put_text(out, b" overlooks event ")?;
     put_number(out, store as usize)?;
-    out.extend_from_slice(b", a newer write of its own core.\n")?;
-    Ok(())
+    put_text(out, b", a newer write of its own core.\n")
 }
 
 /// Adds the line that says that the store is before the load.
@@ -36,8 +36,7 @@ fn put_store_line(
 {
     put_indent(out, recording)?;
     put_before(out, load)?;
-    out.extend_from_slice(b" in program order\n")?;
-    Ok(())
+    put_text(out, b" in program order\n")
 }
 
 /// Adds that the load read from an older write.
@@ -50,9 +49,9 @@ fn put_older(
     ensures { OnOk result (out.new.items ≡ out.old.items ++ (codes "read it from " ++ decimal source
         ++ codes ", which is older in the write list of " ++ written_text names.now.keys address)) }
 {
-    out.extend_from_slice(b"read it from ")?;
+    put_text(out, b"read it from ")?;
     put_number(out, source as usize)?;
-    out.extend_from_slice(b", which is older in the write list of ")?;
+    put_text(out, b", which is older in the write list of ")?;
     put_written(out, names, address)
 }
 
@@ -65,7 +64,7 @@ fn put_initial(
     ensures { OnOk result (out.new.items ≡ out.old.items
         ++ (codes "the initial value is older than each write of " ++ written_text names.now.keys address)) }
 {
-    out.extend_from_slice(b"the initial value is older than each write of ")?;
+    put_text(out, b"the initial value is older than each write of ")?;
     put_written(out, names, address)
 }
 
@@ -83,11 +82,10 @@ fn put_instead(
     put_indent(out, recording)?;
     let Some(source) = source else {
         put_initial(out, names, address)?;
-        out.push(b'\n')?;
-        return Ok(());
+        return put_text(out, b"\n");
     };
     put_older(out, names, source, address)?;
-    out.push(b'\n')?;
+    put_text(out, b"\n")?;
     put_line(out, recording, names, source)
 }
 

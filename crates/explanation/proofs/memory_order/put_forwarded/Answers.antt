@@ -1,6 +1,6 @@
-use Rattle.explanation.proofs.Texts.{three}
+use Rattle.explanation.proofs.Texts.{three_last}
 use Rattle.explanation.proofs.memory_order.put_forwarded.Goals as goal
 
 pub returns : goal.returns
-returns c = three _ _ _ _ _ _ _ c.in_ok-extend_from_slice.ensures.items c.in_ok-put_number.ensures
-    c.in_ok-extend_from_slice-2.ensures.items
+returns c = three_last _ _ _ _ _ _ _ _ c.in_ok-put_text.ensures c.in_ok-put_number.ensures
+    c.put_text-2.ensures

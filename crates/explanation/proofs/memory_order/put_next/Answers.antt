@@ -2,5 +2,5 @@ use Rattle.explanation.proofs.Texts.{four_last}
 use Rattle.explanation.proofs.memory_order.put_next.Goals as goal
 
 pub returns : goal.returns
-returns c = four_last _ _ _ _ _ _ _ _ _ _ c.in_ok-extend_from_slice.ensures.items c.in_ok-put_address.ensures
-    c.in_ok-extend_from_slice-2.ensures.items c.put_number.ensures
+returns c = four_last _ _ _ _ _ _ _ _ _ _ c.in_ok-put_text.ensures c.in_ok-put_address.ensures
+    c.in_ok-put_text-2.ensures c.put_number.ensures

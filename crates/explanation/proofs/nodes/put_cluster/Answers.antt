@@ -1,6 +1,6 @@
-use Rattle.explanation.proofs.Texts.{three}
+use Rattle.explanation.proofs.Texts.{three_last}
 use Rattle.explanation.proofs.nodes.put_cluster.Goals as goal
 
 pub returns : goal.returns
-returns c = three _ _ _ _ _ _ _ c.in_ok-put_cluster_heading.ensures c.in_ok-put_nodes.ensures
-    c.in_ok-extend_from_slice.ensures.items
+returns c = three_last _ _ _ _ _ _ _ _ c.in_ok-put_cluster_heading.ensures c.in_ok-put_nodes.ensures
+    c.put_text.ensures

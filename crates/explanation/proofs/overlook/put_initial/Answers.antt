@@ -2,4 +2,4 @@ use Rattle.explanation.proofs.Texts.{two_last}
 use Rattle.explanation.proofs.overlook.put_initial.Goals as goal
 
 pub returns : goal.returns
-returns c = two_last _ _ _ _ _ _ c.in_ok-extend_from_slice.ensures.items c.put_written.ensures
+returns c = two_last _ _ _ _ _ _ c.in_ok-put_text.ensures c.put_written.ensures
