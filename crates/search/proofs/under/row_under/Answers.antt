@@ -1,17 +1,61 @@
-use Rattle.std.proofs.Common.{ℕ, Option, sym, ap, subst}
+use Rattle.std.proofs.Common.{◌<◌, ◌∙◌, ℕ, Option, length, sym, ap, subst}
+use Rattle.relations.specs.Relation.{Table, Related}
 use Rattle.best.specs.Seats.{known_of}
 use Rattle.search.specs.SourceRow.{SourceRow}
-use Rattle.search.specs.Bound.{AtMost}
-use Rattle.search.proofs.Known.{read_keeps, read_within}
+use Rattle.search.specs.Bound.{AtMost, Covers, lengths_of}
+use Rattle.search.proofs.Known.{read_keeps, read_known, read_few, read_within}
 use Rattle.search.proofs.under.row_under.Goals as goal
+
+pub read-cap-requires : goal.read-cap-requires
+read-cap-requires c = record { seat = c.requires.0 }
+
+pub row_cut-numbers-requires-clause-source : goal.row_cut-numbers-requires-clause-source
+row_cut-numbers-requires-clause-source c =
+    subst (λ (t : Table). c.source.result < length t)
+    (sym (c.deref-relation.ensures ∙ c.relation.ensures.value))
+    (subst (λ (v : ℕ). v < length c.args.job.now.relation) (sym c.source.ensures) c.relation.ensures.source)
+
+pub tell-requires-clause-seat : goal.tell-requires-clause-seat
+tell-requires-clause-seat c = (
+  c.read-cap.ensures.seat,
+  c.read-cap.ensures.relation ∙ (c.requires.1 ∙ sym (c.deref-relation.ensures ∙ c.relation.ensures.value)),
+)
+
+pub tell-requires-clause-known : goal.tell-requires-clause-known
+tell-requires-clause-known c =
+    read_known (known_of c.args.seat.now) (known_of c.read-cap.new.seat) c.read-cap.result
+    c.read-cap.ensures.reads
+
+pub tell-requires-clause-few : goal.tell-requires-clause-few
+tell-requires-clause-few c =
+    read_few c.deref-relation.result.now (known_of c.args.seat.now) (known_of c.read-cap.new.seat)
+    c.read-cap.result (c.requires.1 ∙ sym (c.deref-relation.ensures ∙ c.relation.ensures.value))
+    c.read-cap.ensures.reads
+
+pub returns-clause-seat : goal.returns-clause-seat
+returns-clause-seat c = (
+  c.tell.ensures.seat.0,
+  c.tell.ensures.seat.1 ∙ (c.deref-relation.ensures ∙ c.relation.ensures.value),
+)
 
 pub returns-clause-kept : goal.returns-clause-kept
 returns-clause-kept c = λ k h. c.tell.ensures.kept k
     (read_keeps (known_of c.args.seat.now) (known_of c.read-cap.new.seat) c.read-cap.result
     c.read-cap.ensures.reads k h)
 
+pub returns-clause-source : goal.returns-clause-source
+returns-clause-source c = ap (λ (l : SourceRow). l.source) c.of.ensures ∙ c.source-3.ensures
+
 pub returns-clause-cap : goal.returns-clause-cap
 returns-clause-cap c = λ k h. subst (λ (o : Option ℕ). AtMost o k)
     (sym (ap (λ (l : SourceRow). l.cap) c.of.ensures))
     (read_within (known_of c.args.seat.now) (known_of c.read-cap.new.seat) c.read-cap.result
     c.read-cap.ensures.reads k h)
+
+pub returns-clause-covers : goal.returns-clause-covers
+returns-clause-covers c =
+    let lengths = lengths_of c.tell.new.seat in
+    subst (λ (t : Table). Covers (Related t) lengths c.args.job.now.source)
+    (c.deref-relation.ensures ∙ c.relation.ensures.value)
+    (subst (λ (v : ℕ). Covers (Related c.deref-relation.result.now) lengths v) c.source-2.ensures
+    c.tell.ensures.covers)
