@@ -1,7 +1,9 @@
 -- A text that is added piece by piece.
-use Rattle.std.proofs.Common.{◌≡◌, ◌++◌, ◌+◌, ℕ, suc, List, Result, Ok, Err, ap, arith, ◌∙◌}
+use Rattle.std.proofs.Common.{◌≡◌, ◌++◌, ◌∷◌, [], ◌+◌, ℕ, suc, List, Result, Ok, Err, take, ap, sym, arith, ◌∙◌}
 use Rattle.std.specs.Prelude.{OnOk}
-use Rattle.std.proofs.lemmas.List.{append_assoc}
+use Rattle.std.specs.List.{flat_map}
+use Rattle.std.proofs.lemmas.Grind.{flat_map-append}
+use Rattle.std.proofs.lemmas.List.{append_assoc, append-nil}
 use Rattle.explanation.specs.Nodes.{texts_below}
 
 -- what follows for an `Ok`
@@ -48,3 +50,13 @@ pub next_text : (f : ℕ → List ℕ) (i : ℕ) (o p q : List ℕ) → p ≡ o 
 next_text f i o p q h k =
     let next : suc i ≡ i + 1 = omega arith in
     two o p q (texts_below f i) (f i) h k ∙ ap (λ (n : ℕ). o ++ texts_below f n) next
+
+-- the texts of one item more
+pub next_item : {X : Type 0} (f : X → List ℕ) (xs : List X) (i : ℕ) (x : X) (o p q : List ℕ)
+    → take (i + 1) xs ≡ take i xs ++ x ∷ [] → p ≡ o ++ flat_map f (take i xs) → q ≡ p ++ f x
+    → q ≡ o ++ flat_map f (take (i + 1) xs)
+next_item {X} f xs i x o p q more h k =
+    let texts : flat_map f (take (i + 1) xs) ≡ flat_map f (take i xs) ++ f x =
+    ap (λ (items : List X). flat_map f items) more ∙ flat_map-append f (take i xs) (x ∷ [])
+    ∙ ap (λ (t : List ℕ). flat_map f (take i xs) ++ t) (append-nil (f x)) in
+    two o p q (flat_map f (take i xs)) (f x) h k ∙ ap (λ (t : List ℕ). o ++ t) (sym texts)

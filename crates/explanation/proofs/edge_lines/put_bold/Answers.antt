@@ -1,0 +1,11 @@
+use Rattle.std.proofs.Common.{true}
+use Rattle.std.proofs.lemmas.List.{take_more}
+use Rattle.explanation.specs.Drawing.{edge_line}
+use Rattle.explanation.proofs.Texts.{next_item}
+use Rattle.explanation.proofs.edge_lines.put_bold.Goals as goal
+
+pub loop-edge-preserved : goal.loop-edge-preserved
+loop-edge-preserved c =
+    next_item (edge_line c.args.ranked true) c.args.bold.now c.loop-edge.edge-index _ _ _ _
+    (take_more c.args.bold.now c.loop-edge.edge-index _ c.loop-edge-test.true) c.loop-edge.invariant
+    c.in_ok-put_edge_line.ensures
