@@ -33,3 +33,17 @@ loop-v-preserved c =
 pub returns : goal.returns
 returns c = λ v at. c.loop-v.invariant v
     (omega (arith, at, c.requires.one_each, length-map c.args.rows.now (λ (r : Vec ℕ Global). r.items)))
+
+pub returns-then-closes_at : goal.returns-then-closes_at
+returns-then-closes_at c =
+    let at : c.loop-v.v < length c.args.relation.now =
+    omega (arith, c.requires.one_each, length-map c.args.rows.now (λ (r : Vec ℕ Global). r.items)) in
+    let in_rows : c.loop-v.v < length c.args.rows.now = omega arith in
+    let is : get_or (lists_of c.args.rows.now) c.loop-v.v [] ≡ c.deref.result.now =
+    row_seen c.args.rows.now c.loop-v.v c.index-rows-v.result in_rows c.index-rows-v.is
+    ∙ sym c.deref.ensures.value in (
+      at,
+      subst (λ (row : List ℕ). ClosesAt (Related c.args.relation.now) c.loop-v.v row c.args.label) (sym is)
+          (c.closes_at.ensures.0 c.if-closes_at.true),
+      c.loop-v.invariant,
+    )
