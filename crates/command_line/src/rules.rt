@@ -19,7 +19,6 @@ use common::{
 use std::alloc::{AllocError, Global};
 
 /// The texts by which the help names the limits and defaults of a run.
-#[derive(Drop)]
 pub struct RunTexts {
     steps: String,
     seed: String,
@@ -28,6 +27,18 @@ pub struct RunTexts {
     limit: String,
     ghost named: { AreRunTexts (string_bytes steps) (string_bytes seed) (string_bytes attempts)
         (string_bytes buffer) (string_bytes limit) },
+}
+
+impl Drop for RunTexts {
+    fn drop(self) {
+        let RunTexts {
+            steps: _,
+            seed: _,
+            attempts: _,
+            buffer: _,
+            limit: _,
+        } = self;
+    }
 }
 
 impl RunTexts {
@@ -54,7 +65,6 @@ impl RunTexts {
 }
 
 /// The texts by which the help names the limits and defaults of trials and of workers.
-#[derive(Drop)]
 pub struct TrialsTexts {
     cores: String,
     ops: String,
@@ -63,6 +73,18 @@ pub struct TrialsTexts {
     workers: String,
     ghost named: { AreTrialsTexts (string_bytes cores) (string_bytes ops) (string_bytes addresses)
         (string_bytes trials) (string_bytes workers) },
+}
+
+impl Drop for TrialsTexts {
+    fn drop(self) {
+        let TrialsTexts {
+            cores: _,
+            ops: _,
+            addresses: _,
+            trials: _,
+            workers: _,
+        } = self;
+    }
 }
 
 impl TrialsTexts {

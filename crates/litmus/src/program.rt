@@ -11,7 +11,6 @@ use std::marker::Model;
 
 /// A litmus program: the names of its addresses in order of first use, the operations of each core in
 /// program order, and the initial value of each address.
-#[derive(Drop)]
 pub struct Program {
     names: IndexSet<Name>,
     cores: Vec<Ops>,
@@ -26,6 +25,16 @@ impl Model for Program {
     ghost view = { λ p. parts_of p.names.keys p.cores.items p.init.items };
 
     ghost invariant = { λ p. IsProgram (parts_of p.names.keys p.cores.items p.init.items) };
+}
+
+impl Drop for Program {
+    fn drop(self) {
+        let Program {
+            names: _,
+            cores: _,
+            init: _,
+        } = self;
+    }
 }
 
 impl Program {

@@ -12,10 +12,18 @@ use common::OutOfMemory;
 use std::alloc::Global;
 
 /// The names, the operations, and the initial values up to that of the last `init` line.
-#[derive(Drop)]
 pub struct Reader {
     pub builder: Builder,
     pub init: Vec<u32>,
+}
+
+impl Drop for Reader {
+    fn drop(self) {
+        let Reader {
+            builder: _,
+            init: _,
+        } = self;
+    }
 }
 
 impl Reader {

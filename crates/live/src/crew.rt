@@ -13,11 +13,20 @@ pub type LiveMachine = Mutex<Traced>;
 
 /// What the threads share: the machine, where they sleep until it takes a step, and whether they
 /// are to stop before it has come to its end.
-#[derive(Drop)]
 pub(crate) struct Crew {
     live: LiveMachine,
     moved: Condvar,
     stopped: AtomicBool,
+}
+
+impl Drop for Crew {
+    fn drop(self) {
+        let Crew {
+            live: _,
+            moved: _,
+            stopped: _,
+        } = self;
+    }
 }
 
 impl Crew {
@@ -32,7 +41,12 @@ impl Crew {
 
     /// The machine, behind all threads.
     pub(crate) fn into_traced(self) -> Traced {
-        self.live.into_inner()
+        let Crew {
+            live,
+            moved: _,
+            stopped: _,
+        } = self;
+        live.into_inner()
     }
 
     /// Ends all threads. The flag is set under the lock: else a thread that is about to sleep could

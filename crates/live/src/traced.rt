@@ -8,7 +8,6 @@ use std::marker::Model;
 
 /// A machine and the trace of the steps that it took, which lead to it from the opening state of
 /// its program.
-#[derive(Drop)]
 pub struct Traced {
     machine: Machine,
     steps: Vec<Step>,
@@ -25,6 +24,16 @@ impl Model for Traced {
 
     ghost invariant = { λ t. IsTrace (record { machine = t.machine; steps = t.steps.items; limit = t.limit })
         × (vec_len t.steps ≤ t.limit) × (t.limit ≤ vec_capacity t.steps) };
+}
+
+impl Drop for Traced {
+    fn drop(self) {
+        let Traced {
+            machine: _,
+            steps: _,
+            limit: _,
+        } = self;
+    }
 }
 
 impl Traced {
@@ -105,7 +114,12 @@ impl Traced {
         ensures machine { result ≡ self.machine }
         ensures replay { IsTrace self }
     {
-        self.machine
+        let Traced {
+            machine,
+            steps: _,
+            limit: _,
+        } = self;
+        machine
     }
 
     /// Takes a step and adds it to the trace. A full trace is answered first, then a blocked step;

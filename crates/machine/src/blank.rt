@@ -10,7 +10,6 @@ use std::alloc::Global;
 use std::marker::Model;
 
 /// The room for a recording: for each core's events, and for the write lists; and the initial values.
-#[derive(Drop)]
 pub(crate) struct Blank {
     cores: BoundedList<Vec<Event>>,
     events: Vec<BoundedList<Event>>,
@@ -34,6 +33,18 @@ impl Model for Blank {
 
     ghost invariant = { λ b. (b.cores.items ≡ []) × (b.writes.items ≡ [])
         × (b.events.items ≡ replicate b.cores.room (record { items = []; room = b.room })) };
+}
+
+impl Drop for Blank {
+    fn drop(self) {
+        let Blank {
+            cores: _,
+            events: _,
+            room: _,
+            writes: _,
+            init: _,
+        } = self;
+    }
 }
 
 impl Blank {
@@ -82,10 +93,17 @@ impl Blank {
         ensures writes { map (λ v. v.items) result.1.items ≡ map (λ b. b.items) writes.items }
         ensures initial { result.2.items ≡ self.initial }
     {
+        let Blank {
+            cores,
+            events,
+            room: _,
+            writes: lists,
+            init,
+        } = self;
         (
-            record_all(self.cores, self.events, program, reads),
-            unwrap_all(self.writes, writes),
-            self.init,
+            record_all(cores, events, program, reads),
+            unwrap_all(lists, writes),
+            init,
         )
     }
 }

@@ -17,12 +17,22 @@ use recorder::Event;
 use std::alloc::{AllocError, Global};
 
 /// The members that were read of a recording.
-#[derive(Drop)]
 struct Draft {
     version: Option<u64>,
     cores: Option<Vec<Vec<Event>>>,
     writes: Option<Vec<Vec<EventId>>>,
     init: Option<Vec<u32>>,
+}
+
+impl Drop for Draft {
+    fn drop(self) {
+        let Draft {
+            version: _,
+            cores: _,
+            writes: _,
+            init: _,
+        } = self;
+    }
 }
 
 impl Draft {

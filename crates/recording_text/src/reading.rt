@@ -7,6 +7,7 @@ ghost use Rattle.recording_text.specs.Found.{found};
 ghost use Rattle.recording_text.specs.Draft.{IsDraftOf};
 ghost use Rattle.recording_text.specs.Reading.{each, list_in, number_in, value_in, event_in, at_key, values_in};
 ghost use Rattle.recording_text.specs.Reading.{shape_of, shape_in, IsReadingResult};
+ghost use Rattle.recording_text.specs.Text.{IsReadAs};
 ghost use Rattle.recording_text.specs.Clipped.{clip, clip_event, clipped_shape, clipped_number, clipped_event};
 
 use crate::draft::drafted;
@@ -233,22 +234,28 @@ fn initial_values(
     }
 }
 
+/// The whole value of a text, or that it is no JSON; or want of memory.
+fn tree_of(alloc: Global, bytes: &[u8]) -> Result<Value, RecError>
+    ensures tree { IfOk result (λ v. IsReadAs bytes.now (view v)) }
+    ensures err { IfErr result (λ e. IsReadingResult bytes.now (Err e)) }
+{
+    match Value::from_slice(alloc, bytes) {
+        Ok(value) => Ok(value),
+        Err(e) => Err(if e.is_memory() {
+            RecError::OutOfMemory
+        } else {
+            RecError::NotJson
+        }),
+    }
+}
+
 /// The contents of a text by its whole value, or the first refusal of the JSON and its shape; or want of
 /// memory.
 fn found_in_tree(alloc: Global, bytes: &[u8]) -> Result<Found, RecError>
     ensures found { IfOk result (λ q. IsDraftOf bytes.now q) }
     ensures err { IfErr result (λ e. IsReadingResult bytes.now (Err e)) }
 {
-    let value = match Value::from_slice(alloc, bytes) {
-        Ok(value) => value,
-        Err(e) => {
-            return Err(if e.is_memory() {
-                RecError::OutOfMemory
-            } else {
-                RecError::NotJson
-            });
-        }
-    };
+    let value = tree_of(alloc, bytes)?;
     let Ok(found) = shape_in(alloc, &value) else {
         return Err(RecError::OutOfMemory);
     };

@@ -10,7 +10,6 @@ use std::marker::Model;
 use std::sync::Arc;
 
 /// An event of a relation whose row is to be made. The jobs of a relation share it.
-#[derive(Drop)]
 pub struct SourceJob {
     relation: Arc<Relation>,
     source: EventId,
@@ -26,6 +25,15 @@ impl Model for SourceJob {
     ghost view = { λ j. job_of (arc_value j.relation) j.source };
 
     ghost invariant = { λ j. j.source < length (arc_value j.relation) };
+}
+
+impl Drop for SourceJob {
+    fn drop(self) {
+        let SourceJob {
+            relation: _,
+            source: _,
+        } = self;
+    }
 }
 
 impl SourceJob {

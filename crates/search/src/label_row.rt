@@ -8,7 +8,6 @@ use std::sync::Arc;
 
 /// The least numbers of steps from one event to each, cut at the length of a cycle or at the number
 /// of events.
-#[derive(Drop)]
 pub struct LabelRow {
     relation: Arc<Relation>,
     source: EventId,
@@ -25,6 +24,17 @@ impl Model for LabelRow {
     ghost view = { λ r. source_row (arc_value r.relation) r.source r.cap r.numbers.items };
 
     ghost invariant = { λ r. IsSourceRow (source_row (arc_value r.relation) r.source r.cap r.numbers.items) };
+}
+
+impl Drop for LabelRow {
+    fn drop(self) {
+        let LabelRow {
+            relation: _,
+            source: _,
+            cap: _,
+            numbers: _,
+        } = self;
+    }
 }
 
 impl LabelRow {
@@ -79,8 +89,8 @@ impl LabelRow {
         let LabelRow {
             relation,
             source,
+            cap: _,
             numbers,
-            ..
         } = self;
         relation.sound();
         LabelRow {
@@ -123,7 +133,12 @@ impl LabelRow {
     pub fn into_numbers(self) -> Vec<u16>
         ensures { result.items ≡ self.numbers }
     {
-        let LabelRow { numbers, .. } = self;
+        let LabelRow {
+            relation: _,
+            source: _,
+            cap: _,
+            numbers,
+        } = self;
         numbers
     }
 }

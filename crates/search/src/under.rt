@@ -102,9 +102,9 @@ pub fn row_under(
 {
     let relation: &Relation = job.relation();
     relation.sound();
-    let room = Room::new(alloc, relation.len())?;
     let cycle = Vec::with_capacity(alloc, relation.len())?;
     let shared = Arc::try_clone(job.relation())?;
+    let room = Room::new(alloc, relation.len())?;
     let cap = best.read(seat);
     let (numbers, closing) = row_cut(relation, job.source(), cap, room);
     tell(

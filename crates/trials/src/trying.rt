@@ -3,13 +3,14 @@
 ghost use Rattle.std.specs.Prelude.{◌≡◌, ◌<◌, IfOk};
 ghost use Rattle.machine.specs.Configuration.{Configuration};
 ghost use Rattle.trials.specs.Codes.{EndsIn, generator, program_of_trial};
-ghost use Rattle.trials.specs.Judged.{IsEndRecording};
+ghost use Rattle.trials.specs.Judged.{IsEndRecording, IsEndVerdict};
 
 use crate::campaign::Campaign;
 use crate::filed::Filed;
 use crate::judging::{end_code, end_verdict};
 use crate::running::run_seeded;
 use common::OutOfMemory;
+use judge::Verdict;
 use litmus::{Program, generate};
 use machine::Machine;
 use rand_core::SeedableRng;
@@ -37,14 +38,22 @@ pub fn run_trial(alloc: Global, campaign: &Campaign, k: usize) -> Result<Machine
     Ok(machine)
 }
 
+/// A trial with its code, by what is judged of a machine in which it ends.
+fn filed(campaign: &Campaign, k: usize, verdict: Option<Verdict>) -> Filed
+    requires { (h : Configuration) × EndsIn campaign.now k h × IsEndVerdict h verdict }
+    ensures { (result.campaign ≡ campaign.now) × (result.trial ≡ k) }
+{
+    Filed::new(campaign, k, end_code(verdict))
+}
+
 /// A trial below the number of trials, with its code. It waits for nobody, and an `Err` is want of memory.
 pub fn trial(alloc: Global, campaign: &Campaign, k: usize) -> Result<Filed, OutOfMemory>
     requires { k < campaign.now.trials }
     ensures { IfOk result (λ f. (f.campaign ≡ campaign.now) × (f.trial ≡ k)) }
 {
     let machine = run_trial(alloc, campaign, k)?;
-    let code = end_code(end_verdict(alloc, machine)?);
-    Ok(Filed::new(campaign, k, code))
+    let verdict = end_verdict(alloc, machine)?;
+    Ok(filed(campaign, k, verdict))
 }
 
 /// The recording of a machine; none exactly where it is not complete.
