@@ -4,7 +4,6 @@
 #[cfg(test)]
 mod buffers;
 #[cfg(test)]
-#[cfg(test)]
 mod gates;
 #[cfg(test)]
 mod lines;
