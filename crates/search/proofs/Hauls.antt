@@ -1,12 +1,15 @@
 -- Rows that one seat knows of, while it learns more.
 use Rattle.std.proofs.Common.{◌≡◌, ◌≤◌, ◌∙◌, length, get_or, Contains, ℕ, Bool, true}
-use Rattle.std.proofs.Common.{false, List, [], ◌∷◌, ◌++◌, All, sym, subst}
+use Rattle.std.proofs.Common.{false, List, [], ◌∷◌, ◌++◌, All, sym, ap, subst}
 use Rattle.std.specs.Bool.{if◌then◌else◌}
 use Rattle.std.proofs.lemmas.List.Elements.{All-push}
 use Rattle.relations.specs.Relation.{Table, Related}
 use Rattle.best.specs.declared.seat.Best.{Best}
+use Rattle.best.specs.declared.seat.BestSeat.{BestSeat}
+use Rattle.best.specs.declared.rule.Known.{Known}
+use Rattle.best.specs.Seats.{AreBeside, known_of}
 use Rattle.search.specs.SourceRow.{SourceRow, Job}
-use Rattle.search.specs.Bound.{Covers, Keeps, lengths_of}
+use Rattle.search.specs.Bound.{Covers, IsSeatFor, Keeps, lengths_of}
 use Rattle.search.specs.declared.crew.Crew.{Crew}
 use Rattle.search.specs.declared.crew.Haul.{Haul}
 use Rattle.search.specs.Crews.{IsRowFor, IsCrew, IsCrewFor, IsHaulOf, IsHaulFor}
@@ -32,6 +35,11 @@ pub perhaps_pushed : {X : Type 0} (P : X → Type 0) (b : Bool) (xs ys : List X)
     → ys ≡ (if b then xs ++ x ∷ [] else xs) → All P xs → P x → All P ys
 perhaps_pushed P true xs ys x is all one = subst (All P) (sym is) (All-push P xs x all one)
 perhaps_pushed P false xs ys x is all one = subst (All P) (sym is) all
+
+-- a seat beside another, that knows the same
+pub seat_beside : (b : Best) (t : Table) (s r : BestSeat) → AreBeside s r × (known_of r ≡ known_of s)
+    → IsSeatFor b t s → IsSeatFor b t r
+seat_beside b t s r is of = (is.0 ∙ of.0, ap (λ (v : Known). v.relation) is.1 ∙ of.1)
 
 -- a crew for a relation is one for what its seat carries
 pub crew_of : (b : Best) (t : Table) (c : Crew) → IsCrewFor b t c → IsCrew b c

@@ -1,16 +1,17 @@
 //! Jobs done by workers, and their rows collected.
 
-ghost use Rattle.std.specs.Prelude.{◌≡◌, ◌≤◌, ℕ, Option, All, IfOk, length};
+ghost use Rattle.std.specs.Prelude.{◌≡◌, ◌≤◌, ◌<◌, ℕ, Option, All, IfOk, length};
 ghost use Rattle.std.specs.Arc.{arc_value};
 ghost use Rattle.common.specs.declared.limits.TheConstants.{MAX_WORKERS};
-ghost use Rattle.relations.specs.Relation.{Related};
+ghost use Rattle.relations.specs.Relation.{Table, Related};
 ghost use Rattle.best.specs.Seats.{IsBestSeatOf, known_of};
 ghost use Rattle.search.specs.Cycles.{IsLeastLength};
 ghost use Rattle.search.specs.SourceRow.{AreShared, AreLeastRows};
 ghost use Rattle.search.specs.Bound.{IsSeatFor, Keeps, KnowsShortest, lengths_of};
-ghost use Rattle.search.specs.Slots.{AreSlotsFilled, AreOfEach};
+ghost use Rattle.search.specs.Crews.{IsHaulFor};
+ghost use Rattle.search.specs.Slots.{AreSlots, AreSlotsFilled, AreOfEach};
 
-use crate::crew::Crew;
+use crate::crew::{Crew, Haul};
 use crate::deal::dealt;
 use crate::job::SourceJob;
 use crate::label_row::LabelRow;
@@ -64,6 +65,54 @@ fn cut_by(
     cut_all(alloc, relation, rows, cap)
 }
 
+/// What the workers bring that the jobs are dealt to: the calling thread is worker 0.
+fn brought<R: Threads + Wait + Sync, G: Gate>(
+    rt: &R,
+    alloc: Global,
+    relation: &Relation,
+    jobs: Vec<SourceJob>,
+    best: &Best,
+    seat: &mut BestSeat,
+    workers: usize,
+    gate: &G,
+) -> Result<Vec<Haul>, OutOfMemory>
+    requires seat { IsSeatFor best.now relation.now seat.old }
+    requires jobs { All (λ job. job.relation ≡ relation.now) jobs.items }
+    requires workers { 1 ≤ workers }
+    ensures seat { IsSeatFor best.now relation.now seat.new }
+    ensures kept { lengths_of seat.new ≡ lengths_of seat.old }
+    ensures hauls { IfOk result (λ hauls. All (IsHaulFor best.now relation.now) hauls.items) }
+{
+    let mut jobs = jobs;
+    let crews = dealt(alloc, relation, best, seat, workers, &mut jobs)?;
+    let other = seat.split()?;
+    let mine = Crew {
+        worker: 0,
+        seat: other,
+        jobs,
+    };
+    made_by(rt, alloc, mine, crews, best, relation, gate)
+}
+
+/// The places for the rows of all events, with the rows that were brought.
+fn places(
+    alloc: Global,
+    relation: &Relation,
+    best: &Best,
+    seat: &mut BestSeat,
+    hauls: Vec<Haul>,
+) -> Result<Vec<Option<LabelRow>>, OutOfMemory>
+    requires seat { IsSeatFor best.now relation.now seat.old }
+    requires hauls { All (IsHaulFor best.now relation.now) hauls.items }
+    ensures seat { IsSeatFor best.now relation.now seat.new }
+    ensures kept { Keeps (lengths_of seat.old) (lengths_of seat.new) }
+    ensures slots { IfOk result (λ slots. AreSlots relation.now (lengths_of seat.new) slots.items) }
+{
+    let mut slots = empty_slots(alloc, relation, seat)?;
+    put_hauls(relation, best, seat, hauls, &mut slots);
+    Ok(slots)
+}
+
 /// The rows of all events of the relation that the jobs share.
 fn collected<R: Threads + Wait + Sync, G: Gate>(
     rt: &R,
@@ -86,19 +135,19 @@ fn collected<R: Threads + Wait + Sync, G: Gate>(
         (lengths_of seat.new)) }
 {
     let table: &Relation = relation;
-    let mut jobs = jobs;
-    let crews = dealt(alloc, table, best, seat, workers, &mut jobs)?;
-    let other = seat.split()?;
-    let mine = Crew {
-        worker: 0,
-        seat: other,
-        jobs,
-    };
-    let hauls = made_by(rt, alloc, mine, crews, best, table, gate)?;
-    let mut slots = empty_slots(alloc, table, seat)?;
-    put_hauls(table, best, seat, hauls, &mut slots);
+    let hauls = brought(rt, alloc, table, jobs, best, seat, workers, gate)?;
+    let slots = places(alloc, table, best, seat, hauls)?;
     let rows = filled(alloc, relation, slots, best, seat, gate)?;
     cut_by(alloc, table, rows, best, seat)
+}
+
+/// A share of the relation of the first job.
+fn relation_of(jobs: &[SourceJob]) -> Result<Arc<Relation>, OutOfMemory>
+    requires { 0 < length jobs.now }
+    ensures { IfOk result (λ relation. (t : Table) → All (λ job. job.relation ≡ t) jobs.now
+        → arc_value relation ≡ t) }
+{
+    Ok(Arc::try_clone(jobs[0].relation())?)
 }
 
 /// The rows of jobs that share the seat's relation and name each of its events, as `run_alone` gives
@@ -128,6 +177,6 @@ pub fn run_jobs<R: Threads + Wait + Sync, G: Gate>(
     if jobs.is_empty() {
         return Ok(Vec::new(alloc));
     }
-    let relation = Arc::try_clone(jobs[0].relation())?;
+    let relation = relation_of(&jobs)?;
     collected(rt, alloc, &relation, jobs, best, seat, workers, gate)
 }

@@ -6,7 +6,7 @@ ghost use Rattle.labels.specs.Certified.{lists_of};
 ghost use Rattle.search.specs.Cycles.{AreDistanceRows, IsLeastClosing};
 
 use crate::room::Sets;
-use crate::row::exact_row;
+use crate::row::add_row;
 use common::{EventId, OutOfMemory};
 use relations::Relation;
 use std::alloc::Global;
@@ -37,11 +37,17 @@ pub(crate) fn distance_rows(
     let mut rows = Vec::with_capacity(alloc, relation.len())?;
     let mut sets = Sets::new(alloc, relation.len())?;
     for source in 0..relation.len() {
-        let (row, closing, emptied) = exact_row(alloc, successors, source as EventId, cap, sets)?;
+        let (closing, emptied) = add_row(
+            alloc,
+            successors,
+            source as EventId,
+            cap,
+            sets,
+            &mut rows,
+        )?;
         sets = emptied;
         cap = next_cap(closing, cap);
         least = least.min(closing);
-        rows.push(row)?;
     }
     Ok((rows, least))
 }

@@ -1,6 +1,7 @@
 //! A breadth-first search.
 
-ghost use Rattle.std.specs.Prelude.{◌≡◌, ◌<◌, length, IfOk, IsTrue};
+ghost use Rattle.std.specs.Prelude.{◌≡◌, ◌<◌, ◌++◌, ◌∷◌, ℕ, List, [], length, IfOk, IsTrue};
+ghost use Rattle.labels.specs.Certified.{lists_of};
 ghost use Rattle.relations.specs.Cycle.{IsExactRow};
 ghost use Rattle.search.specs.Bits.{Marked, IsBitSquare};
 ghost use Rattle.search.specs.Cycles.{IsNearest};
@@ -83,23 +84,26 @@ pub(crate) fn row_in(rows: &[BitRow], source: EventId, cap: u16, room: Room) -> 
     (labels, closing)
 }
 
-/// The same row and number, with labels of their own; the sets are emptied.
-pub(crate) fn exact_row(
+/// The same number; the row is put behind those that are made, and the sets are emptied.
+pub(crate) fn add_row(
     alloc: Global,
     rows: &[BitRow],
     source: EventId,
     cap: u16,
     sets: Sets,
-) -> Result<(Vec<u16>, u16, Sets), OutOfMemory>
+    made: &mut Vec<Vec<u16>>,
+) -> Result<(u16, Sets), OutOfMemory>
     requires square { IsBitSquare rows.now }
     requires source { source < length rows.now }
     requires sets { AreEmptySets (length rows.now) sets }
-    ensures exact { IfOk result (λ p. IsExactRow (Marked rows.now) (length rows.now) cap source
-        p.0.items) }
-    ensures nearest { IfOk result (λ p. IsNearest (Marked rows.now) source p.0.items cap p.1) }
-    ensures sets { IfOk result (λ p. AreEmptySets (length rows.now) p.2) }
+    ensures row { IfOk result (λ p. (row : List ℕ)
+        × (lists_of made.new.items ≡ lists_of made.old.items ++ row ∷ [])
+        × IsExactRow (Marked rows.now) (length rows.now) cap source row
+        × IsNearest (Marked rows.now) source row cap p.0) }
+    ensures sets { IfOk result (λ p. AreEmptySets (length rows.now) p.1) }
 {
     let labels = vec![in alloc; 0; rows.len()]?;
-    let (labels, closing, used) = row_with(rows, source, cap, labels, sets);
-    Ok((labels, closing, used.emptied()))
+    let (row, closing, used) = row_with(rows, source, cap, labels, sets);
+    made.push(row)?;
+    Ok((closing, used.emptied()))
 }

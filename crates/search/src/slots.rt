@@ -1,6 +1,6 @@
 //! Rows that are collected by source.
 
-ghost use Rattle.std.specs.Prelude.{◌≡◌, ℕ, ◌<◌, length, All, IfOk, IfSome};
+ghost use Rattle.std.specs.Prelude.{◌≡◌, ℕ, ◌<◌, ◌+◌, length, All, IfOk, IfSome};
 ghost use Rattle.std.specs.Arc.{arc_value};
 ghost use Rattle.search.specs.Bound.{IsSeatFor, Keeps, lengths_of};
 ghost use Rattle.search.specs.Crews.{IsRowFor, IsHaulFor};
@@ -131,6 +131,31 @@ fn row_or<G: Gate>(
     made
 }
 
+/// Puts the row in a place, or else a row that is made here, behind the rows of the events before it.
+fn add_row<G: Gate>(
+    alloc: Global,
+    relation: &Arc<Relation>,
+    source: EventId,
+    slot: Option<LabelRow>,
+    best: &Best,
+    seat: &mut BestSeat,
+    gate: &G,
+    rows: &mut Vec<LabelRow>,
+) -> Result<(), OutOfMemory>
+    requires source { source < length (arc_value relation.now) }
+    requires seat { IsSeatFor best.now (arc_value relation.now) seat.old }
+    requires slot { IfSome slot (IsRowFrom (arc_value relation.now) (lengths_of seat.old) source) }
+    requires rows { AreSlotsFilled (arc_value relation.now) (lengths_of seat.old) source rows.old.items }
+    ensures seat { IsSeatFor best.now (arc_value relation.now) seat.new }
+    ensures kept { Keeps (lengths_of seat.old) (lengths_of seat.new) }
+    ensures rows { IfOk result (λ _. AreSlotsFilled (arc_value relation.now) (lengths_of seat.new)
+        (source + 1) rows.new.items) }
+{
+    let row = row_or(alloc, relation, source, slot, best, seat, gate)?;
+    rows.push(row)?;
+    Ok(())
+}
+
 /// The rows of all events, by event: those in the places, and the missing ones made here.
 pub(crate) fn filled<G: Gate>(
     alloc: Global,
@@ -151,7 +176,7 @@ pub(crate) fn filled<G: Gate>(
     let mut rows = Vec::with_capacity(alloc, slots.len())?;
     let mut source = 0;
     for slot in slots {
-        rows.push(row_or(alloc, relation, source, slot, best, seat, gate)?)?;
+        add_row(alloc, relation, source, slot, best, seat, gate, &mut rows)?;
         source += 1;
     }
     Ok(rows)

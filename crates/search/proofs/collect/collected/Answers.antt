@@ -1,8 +1,70 @@
-use Rattle.std.proofs.Common.{ℕ, List, Contains, sym, subst}
-use Rattle.best.specs.declared.rule.Known.{Known}
+use Rattle.std.proofs.Common.{◌≡◌, ◌∙◌, ℕ, Option, All, IfOk, List, Contains, length, sym, subst}
+use Rattle.relations.specs.Relation.{Table}
+use Rattle.search.specs.SourceRow.{Job, AreLeastRows}
+use Rattle.search.specs.Bound.{lengths_of}
+use Rattle.search.specs.Slots.{AreSlots, AreSlotsFilled}
 use Rattle.search.proofs.collect.collected.Goals as goal
 
+pub brought-requires-clause-seat : goal.brought-requires-clause-seat
+brought-requires-clause-seat g c κs within = (c.requires.seat.0, c.requires.seat.1 ∙ sym c.deref-table.ensures)
+
+pub brought-requires-clause-jobs : goal.brought-requires-clause-jobs
+brought-requires-clause-jobs g c κs within =
+    subst (λ (t : Table). All (λ (job : Job). job.relation ≡ t) c.args.jobs.items)
+    (sym c.deref-table.ensures) c.requires.jobs
+
+pub returns-in_err-hauls-clause-seat : goal.returns-in_err-hauls-clause-seat
+returns-in_err-hauls-clause-seat g c = (c.brought.ensures.seat.0, c.brought.ensures.seat.1 ∙ c.deref-table.ensures)
+
+pub returns-in_err-hauls-clause-kept : goal.returns-in_err-hauls-clause-kept
+returns-in_err-hauls-clause-kept g c = λ k h. subst (λ (lengths : List ℕ). Contains lengths k)
+    (sym c.brought.ensures.kept) h
+
+pub places-requires-clause-seat : goal.places-requires-clause-seat
+places-requires-clause-seat g c = c.brought.ensures.seat
+
+pub places-requires-clause-hauls : goal.places-requires-clause-hauls
+places-requires-clause-hauls g c = c.in_ok-hauls.ensures.hauls
+
+pub returns-in_err-slots-clause-seat : goal.returns-in_err-slots-clause-seat
+returns-in_err-slots-clause-seat g c = (c.places.ensures.seat.0, c.places.ensures.seat.1 ∙ c.deref-table.ensures)
+
+pub returns-in_err-slots-clause-kept : goal.returns-in_err-slots-clause-kept
+returns-in_err-slots-clause-kept g c = λ k h. c.places.ensures.kept k
+    (subst (λ (lengths : List ℕ). Contains lengths k) (sym c.brought.ensures.kept) h)
+
+pub filled-requires-clause-seat : goal.filled-requires-clause-seat
+filled-requires-clause-seat g c κs within =
+    (c.places.ensures.seat.0, c.places.ensures.seat.1 ∙ c.deref-table.ensures)
+
+pub filled-requires-clause-slots : goal.filled-requires-clause-slots
+filled-requires-clause-slots g c κs within =
+    subst (λ (t : Table). AreSlots t (lengths_of c.places.new.seat) c.in_ok-slots.slots.items)
+    c.deref-table.ensures c.in_ok-slots.ensures.slots
+
+pub returns-in_err-rows-clause-seat : goal.returns-in_err-rows-clause-seat
+returns-in_err-rows-clause-seat g c = c.filled.ensures.seat
+
+pub returns-in_err-rows-clause-kept : goal.returns-in_err-rows-clause-kept
+returns-in_err-rows-clause-kept g c = λ k h. c.filled.ensures.kept k (c.places.ensures.kept k
+    (subst (λ (lengths : List ℕ). Contains lengths k) (sym c.brought.ensures.kept) h))
+
+pub cut_by-requires-clause-seat : goal.cut_by-requires-clause-seat
+cut_by-requires-clause-seat g c = (c.filled.ensures.seat.0, c.filled.ensures.seat.1 ∙ sym c.deref-table.ensures)
+
+pub cut_by-requires-clause-rows : goal.cut_by-requires-clause-rows
+cut_by-requires-clause-rows g c =
+    subst (λ (t : Table). AreSlotsFilled t (lengths_of c.filled.new.seat) (length t) c.in_ok-rows.rows.items)
+    (sym c.deref-table.ensures) c.in_ok-rows.ensures.rows
+
+pub returns-clause-seat : goal.returns-clause-seat
+returns-clause-seat g c = (c.cut_by.ensures.seat.0, c.cut_by.ensures.seat.1 ∙ c.deref-table.ensures)
+
 pub returns-clause-kept : goal.returns-clause-kept
-returns-clause-kept g c = λ k h. c.cut_by.ensures.kept k (c.filled.ensures.kept k (c.put_hauls.ensures.kept k
-    (subst (λ (v : Known). Contains v.lengths k) (sym c.split.ensures.old.1)
-    (subst (λ (lengths : List ℕ). Contains lengths k) (sym c.dealt.ensures.kept) h))))
+returns-clause-kept g c = λ k h. c.cut_by.ensures.kept k (c.filled.ensures.kept k (c.places.ensures.kept k
+    (subst (λ (lengths : List ℕ). Contains lengths k) (sym c.brought.ensures.kept) h)))
+
+pub returns-clause-rows : goal.returns-clause-rows
+returns-clause-rows g c =
+    subst (λ (t : Table). IfOk c.cut_by.result (λ all. (cap : Option ℕ) × AreLeastRows t cap all.items))
+    c.deref-table.ensures c.cut_by.ensures.rows

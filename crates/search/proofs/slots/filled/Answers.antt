@@ -5,11 +5,20 @@ use Rattle.std.specs.Vec.Iter.{into_iter_items}
 use Rattle.search.specs.SourceRow.{SourceRow}
 use Rattle.search.specs.Bound.{lengths_of}
 use Rattle.search.specs.Slots.{IsRowFrom, AreSlotsFilled}
-use Rattle.search.proofs.Collected.{drop_head, slot_kept, filled_more}
+use Rattle.search.proofs.Collected.{drop_head, slot_kept}
 use Rattle.search.proofs.slots.filled.Goals as goal
 
-pub row_or-requires-clause-slot : goal.row_or-requires-clause-slot
-row_or-requires-clause-slot g c κs within =
+pub add_row-requires-clause-source : goal.add_row-requires-clause-source
+add_row-requires-clause-source g c κs within =
+    let head = drop_head c.loop-slot.source c.args.slots.items c.in-Some.slot
+    (into_iter_items c.next.new.self) (sym c.loop-slot.invariant.3 ∙ c.in-Some.ensures.steps.0) in
+    omega (arith, head.0, c.requires.slots.size)
+
+pub add_row-requires-clause-seat : goal.add_row-requires-clause-seat
+add_row-requires-clause-seat g c κs within = c.loop-slot.invariant.0
+
+pub add_row-requires-clause-slot : goal.add_row-requires-clause-slot
+add_row-requires-clause-slot g c κs within =
     let t = arc_value c.args.relation.now in
     let inv = c.loop-slot.invariant in
     let head = drop_head c.loop-slot.source c.args.slots.items c.in-Some.slot
@@ -20,6 +29,15 @@ row_or-requires-clause-slot g c κs within =
     (head.1 None) (c.requires.slots.each c.loop-slot.source None
     (omega (arith, head.0, c.requires.slots.size))))
 
+pub add_row-requires-clause-rows : goal.add_row-requires-clause-rows
+add_row-requires-clause-rows g c κs within = c.loop-slot.invariant.2
+
+pub returns-in_err-add_row-clause-seat : goal.returns-in_err-add_row-clause-seat
+returns-in_err-add_row-clause-seat g c = c.add_row.ensures.seat
+
+pub returns-in_err-add_row-clause-kept : goal.returns-in_err-add_row-clause-kept
+returns-in_err-add_row-clause-kept g c = λ k h. c.add_row.ensures.kept k (c.loop-slot.invariant.1 k h)
+
 pub loop-slot-preserved : goal.loop-slot-preserved
 loop-slot-preserved g c =
     let t = arc_value c.args.relation.now in
@@ -28,14 +46,18 @@ loop-slot-preserved g c =
     let head = drop_head c.loop-slot.source c.args.slots.items c.in-Some.slot
     (into_iter_items c.next.new.self) (sym inv.3 ∙ steps) in
     let next : suc c.loop-slot.source ≡ c.loop-slot.source + 1 = omega arith in (
-      c.row_or.ensures.seat,
-      (λ k h. c.row_or.ensures.kept k (inv.1 k h)),
-      filled_more t (lengths_of c.loop-slot.seat) (lengths_of c.row_or.new.seat) c.loop-slot.source
-          c.loop-slot.rows.items c.push.new.self.items c.in_ok-row_or.field-0 c.row_or.ensures.kept inv.2
-          c.in_ok-row_or.ensures.row c.in_ok-push.ensures.items,
+      c.add_row.ensures.seat,
+      (λ k h. c.add_row.ensures.kept k (inv.1 k h)),
+      c.in_ok-add_row.ensures.rows,
       head.2 ∙ ap (λ (k : ℕ). drop k c.args.slots.items) next,
       omega (arith, inv.4, ap (λ (l : List (Option SourceRow)). length l) steps),
     )
+
+pub returns-clause-seat : goal.returns-clause-seat
+returns-clause-seat g c = c.loop-slot.invariant.0
+
+pub returns-clause-kept : goal.returns-clause-kept
+returns-clause-kept g c = c.loop-slot.invariant.1
 
 pub returns-clause-rows : goal.returns-clause-rows
 returns-clause-rows g c =
