@@ -1,6 +1,6 @@
 -- Rows that are collected by source, while the seat learns more.
 use Rattle.std.proofs.Common.{◌≡◌, ◌<◌, ◌≤◌, ◌+◌, ◌∙◌, inl, inr, ℕ, zero, suc, drop, Option, None, Some, List}
-use Rattle.std.proofs.Common.{[], ◌∷◌, ◌++◌, length, get_or, IfSome, Contains, arith, refl, sym, ap}
+use Rattle.std.proofs.Common.{Result, Ok, Err, IfOk, [], ◌∷◌, ◌++◌, length, get_or, IfSome, Contains, arith, refl, sym, ap}
 use Rattle.std.proofs.Common.{subst, length-append}
 use Rattle.std.proofs.lemmas.Bool.{cases_eq}
 use Rattle.std.proofs.lemmas.List.{get_or_push, get_or_append_left}
@@ -16,6 +16,11 @@ use Rattle.search.specs.Bound.{Keeps, KnowsShortest}
 use Rattle.search.specs.Slots.{IsRowFrom, AreSlots, AreSlotsFilled}
 use Rattle.search.proofs.Hauls.{covers_kept}
 use Rattle.search.proofs.Known.{knows_it}
+
+-- what holds whatever the result
+pub if_ok : {T E : Type 0} {X : Type 0} (r : Result T E) → X → IfOk r (λ _. X)
+if_ok (Ok x) h = h
+if_ok (Err e) h = tt
 
 -- what stands behind the first i
 pub drop_head : {X : Type 0} (i : ℕ) (xs : List X) (x : X) (ys : List X) → drop i xs ≡ x ∷ ys

@@ -1,5 +1,5 @@
 -- What the events of a level are related to, joined in parts.
-use Rattle.std.proofs.Common.{◌≡◌, ◌<◌, ◌≤◌, ◌+◌, ◌/◌, ◌⊎◌, inl, inr, ℕ, Bool, true, false, ◌||◌, List, []}
+use Rattle.std.proofs.Common.{◌≡◌, ◌↔◌, ◌<◌, ◌≤◌, ◌+◌, ◌/◌, ◌⊎◌, inl, inr, ℕ, Bool, true, false, ◌||◌, List, []}
 use Rattle.std.proofs.Common.{Some, None, length, get_or, replicate, arith, refl, sym, ap, subst, ◌-◌, ◌∙◌}
 use Rattle.std.proofs.lemmas.Bool.{cases_eq, cases_lt}
 use Rattle.std.proofs.lemmas.List.{get_or_past, get_or-replicate, length-replicate}
@@ -50,6 +50,25 @@ joins_more rows level i event from size words more square next bits h = record {
         | inr new ↦ (event, next.2, new)
       ];
 }
+
+-- whether an event so far has v, one event more
+pub test_more : (rows : List (List Bool)) (level : List Bool) (i event v : ℕ) (before here : Bool)
+    → IsNext level i (Some event) → here ≡ is_in (get_or rows event []) v
+    → (before ≡ true) ↔ ((e : ℕ) × (e < i) × (is_in level e ≡ true) × Marked rows e v)
+    → ((before || here) ≡ true) ↔ ((e : ℕ) × (e < event + 1) × (is_in level e ≡ true) × Marked rows e v)
+test_more rows level i event v before here next is h = (
+  (λ t. elim (true_or before here t) [
+    | inl old ↦ let w = h.0 old in (w.0, omega (arith, w.1, next.0), w.2, w.3)
+    | inr new ↦ (event, omega arith, next.2, sym is ∙ new)
+  ]),
+  (λ w. or_true before here (elim (cases_eq w.0 event) [
+    | inl same ↦ inr (is ∙ subst (λ (k : ℕ). is_in (get_or rows k []) v ≡ true) same w.3)
+    | inr other ↦ elim (cases_lt w.0 i) [
+      | inl early ↦ inl (h.1 (w.0, early, w.2, w.3))
+      | inr late ↦ absurd (not_both (is_in level w.0) w.2 (next.3 w.0 late (omega (arith, w.1, other))))
+    ]
+  ])),
+)
 
 -- behind the last event all are joined
 pub joins_all : (R : ℕ → ℕ → Type 0) (level : List Bool) (i n from size : ℕ) (words : List ℕ)

@@ -17,10 +17,20 @@ pub fn jobs(alloc: Global, relation: Arc<Relation>) -> Result<Vec<SourceJob>, Ou
     ensures one_each { IfOk result (λ jobs. AreJobsOf (arc_value relation) jobs.items) }
     ensures shared { IfOk result (λ jobs. AreShared (arc_value relation) jobs.items) }
 {
-    relation.sound();
-    let mut jobs = Vec::with_capacity(alloc, relation.len())?;
-    for source in 0..relation.len() {
-        jobs.push(SourceJob::new(&relation, source as EventId)?)?;
+    jobs_of(alloc, &relation)
+}
+
+/// A job for each event of a relation that others share.
+fn jobs_of(alloc: Global, relation: &Arc<Relation>) -> Result<Vec<SourceJob>, OutOfMemory>
+    ensures one_each { IfOk result (λ jobs. AreJobsOf (arc_value relation.now) jobs.items) }
+    ensures shared { IfOk result (λ jobs. AreShared (arc_value relation.now) jobs.items) }
+{
+    let table: &Relation = relation;
+    table.sound();
+    let mut jobs = Vec::with_capacity(alloc, table.len())?;
+    for source in 0..table.len() {
+        let job = SourceJob::new(relation, source as EventId)?;
+        jobs.push(job)?;
     }
     Ok(jobs)
 }

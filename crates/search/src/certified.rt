@@ -63,6 +63,24 @@ pub fn shortest_cycle(
     certificate_of(alloc, relation, rows)
 }
 
+/// The rows of all events, cut at the length of the shortest cycles, made by workers as in `run_jobs`.
+fn rows_by<R: Threads + Wait + Sync, G: Gate>(
+    rt: &R,
+    alloc: Global,
+    relation: &Arc<Relation>,
+    workers: usize,
+    gate: &G,
+) -> Result<Vec<LabelRow>, OutOfMemory>
+    requires { (1 ≤ workers) × (workers ≤ MAX_WORKERS) }
+    ensures { IfOk result (λ rows. (cap : Option ℕ)
+        × AreLeastRows (arc_value relation.now) cap rows.items) }
+{
+    let table: &Relation = relation;
+    let jobs = jobs(alloc, Arc::try_clone(relation)?)?;
+    let (best, mut seat) = Best::open(alloc, table)?;
+    run_jobs(rt, alloc, jobs, &best, &mut seat, workers, gate)
+}
+
 /// The same, from rows that 1 to `MAX_WORKERS` workers make, as in `run_jobs`.
 pub fn shortest_cycle_by<R: Threads + Wait + Sync, G: Gate>(
     rt: &R,
@@ -81,9 +99,6 @@ pub fn shortest_cycle_by<R: Threads + Wait + Sync, G: Gate>(
     ensures certified { IfOk result (λ answer. IfSome answer (λ c.
         Certifies (arc_value relation.now) c)) }
 {
-    let table: &Relation = relation;
-    let jobs = jobs(alloc, Arc::try_clone(relation)?)?;
-    let (best, mut seat) = Best::open(alloc, table)?;
-    let rows = run_jobs(rt, alloc, jobs, &best, &mut seat, workers, gate)?;
-    certificate_of(alloc, table, rows)
+    let rows = rows_by(rt, alloc, relation, workers, gate)?;
+    certificate_of(alloc, relation, rows)
 }

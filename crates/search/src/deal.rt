@@ -45,6 +45,29 @@ fn crew_of(
     })
 }
 
+/// Puts such a worker behind the others.
+fn add_crew(
+    relation: &Relation,
+    best: &Best,
+    seat: &mut BestSeat,
+    worker: usize,
+    share: usize,
+    jobs: &mut Vec<SourceJob>,
+    crews: &mut Vec<Crew>,
+) -> Result<(), OutOfMemory>
+    requires seat { IsSeatFor best.now relation.now seat.old }
+    requires jobs { All (λ job. job.relation ≡ relation.now) jobs.old.items }
+    requires crews { All (IsCrewFor best.now relation.now) crews.old.items }
+    ensures seat { IsSeatFor best.now relation.now seat.new }
+    ensures kept { lengths_of seat.new ≡ lengths_of seat.old }
+    ensures jobs { All (λ job. job.relation ≡ relation.now) jobs.new.items }
+    ensures crews { IfOk result (λ _. All (IsCrewFor best.now relation.now) crews.new.items) }
+{
+    let crew = crew_of(relation, best, seat, worker, share, jobs)?;
+    crews.push(crew)?;
+    Ok(())
+}
+
 /// A crew for each worker from 1 on, but for more than the jobs pay for, with its part of the jobs, one
 /// at least while there are any; the other jobs stay.
 pub(crate) fn dealt(
@@ -67,7 +90,7 @@ pub(crate) fn dealt(
     let paid = jobs.len() / PAYS + 2;
     for worker in 1..workers.min(paid) {
         let share = (jobs.len() / PART.max(workers)).max(1);
-        crews.push(crew_of(relation, best, seat, worker, share, jobs)?)?;
+        add_crew(relation, best, seat, worker, share, jobs, &mut crews)?;
     }
     Ok(crews)
 }

@@ -1,5 +1,5 @@
 use Rattle.std.proofs.Common.{◌≡◌, ◌<◌, ◌+◌, ◌++◌, ◌∷◌, [], ℕ, List, length, get_or, min, arith}
-use Rattle.std.proofs.Common.{subst, sym, ap, length-append}
+use Rattle.std.proofs.Common.{◌∙◌, inl, subst, sym, ap, length-append, Vec, Global}
 use Rattle.relations.specs.Relation.{Table, Related}
 use Rattle.relations.specs.Cycle.{IsExactRow}
 use Rattle.labels.specs.Certified.{lists_of}
@@ -9,9 +9,41 @@ use Rattle.search.proofs.Cuts.{cap_next, distance_push}
 use Rattle.search.proofs.Lengths.{closing_next}
 use Rattle.search.proofs.distances.distance_rows.Goals as goal
 
+pub loop-source-init : goal.loop-source-init
+loop-source-init c = record {
+  sets = subst (λ (n : ℕ). AreEmptySets n c.in_ok-sets.sets) c.len-2.ensures c.in_ok-sets.ensures;
+  cap = inl c.len-cap.ensures;
+  less = omega arith;
+  one_each = ap (λ (vs : List (Vec ℕ Global)). length (lists_of vs)) c.in_ok-rows.ensures.items;
+  distances = λ v at. absurd (omega (arith, at));
+  closing = record {
+    below = omega (arith, c.len-cap.ensures);
+    reached = inl c.len-cap.ensures;
+    nearest = λ u e at r. absurd (omega (arith, at));
+  };
+}
+
+pub add_row-requires-clause-source : goal.add_row-requires-clause-source
+add_row-requires-clause-source c = omega (
+  arith,
+  c.loop-source-test.true,
+  ap (λ (t : Table). length t) c.successors-successors.ensures,
+)
+
 pub add_row-requires-clause-sets : goal.add_row-requires-clause-sets
 add_row-requires-clause-sets c = subst (λ (t : Table). AreEmptySets (length t) c.loop-source.sets)
     (sym c.successors-successors.ensures) c.loop-source.invariant.sets
+
+pub returns-clause-distances : goal.returns-clause-distances
+returns-clause-distances c =
+    let R = Related c.args.relation.now in
+    let n = length c.args.relation.now in
+    let rows = lists_of c.loop-source.rows.items in
+    let all : c.loop-source.source ≡ n = omega arith in
+    record {
+      one_each = c.loop-source.invariant.one_each ∙ all;
+      distances = λ v at. c.loop-source.invariant.distances v (omega (arith, at, all));
+    }
 
 pub loop-source-preserved : goal.loop-source-preserved
 loop-source-preserved c =

@@ -66,3 +66,16 @@ returns-clause-rows g c =
     let all : c.loop-slot.source ≡ length t =
     omega (arith, inv.4, c.requires.slots.size, c.in-None.ensures.steps.0) in
     subst (λ (k : ℕ). AreSlotsFilled t (lengths_of c.loop-slot.seat) k c.loop-slot.rows.items) all inv.2
+
+pub loop-slot-init : goal.loop-slot-init
+loop-slot-init g c =
+    let all = c.into_iter-slot-iterator.ensures.into_iter_gives.0 in (
+      c.requires.seat,
+      (λ k h. h),
+      record {
+        size = ap (λ (l : List SourceRow). length l) c.in_ok-rows.ensures.items;
+        each = λ v d at. absurd (omega (arith, at));
+      },
+      all,
+      omega (arith, ap (λ (l : List (Option SourceRow)). length l) all),
+    )

@@ -1,8 +1,24 @@
+use Rattle.std.proofs.Common.{◌∙◌, sym, ap}
+use Rattle.best.specs.declared.rule.Known.{Known}
 use Rattle.best.specs.Seats.{known_of}
 use Rattle.search.specs.Bound.{lengths_of}
 use Rattle.search.proofs.Hauls.{rows_kept}
 use Rattle.search.proofs.Collected.{unites_left, unites_right, slots_kept}
 use Rattle.search.proofs.slots.put_haul.Goals as goal
+
+pub absorb-requires : goal.absorb-requires
+absorb-requires c = c.requires.haul.0.0 ∙ sym c.requires.seat.0
+
+pub returns-clause-seat : goal.returns-clause-seat
+returns-clause-seat c = (
+  c.absorb.ensures.0 ∙ c.requires.seat.0,
+  ap (λ (v : Known). v.relation) c.absorb.ensures.1 ∙ c.requires.seat.1,
+)
+
+pub returns-clause-kept : goal.returns-clause-kept
+returns-clause-kept c =
+    unites_left (known_of c.args.seat.now) (known_of c.args.haul.seat) (known_of c.absorb.new.self)
+    c.absorb.ensures.1
 
 pub put_rows-requires-clause-rows : goal.put_rows-requires-clause-rows
 put_rows-requires-clause-rows c =

@@ -1,9 +1,12 @@
-use Rattle.std.proofs.Common.{◌<◌, ◌∙◌, ℕ, Option, length, sym, ap, subst}
+use Rattle.std.proofs.Common.{◌≡◌, ◌<◌, ◌∙◌, ℕ, Option, length, sym, ap, subst}
+use Rattle.std.specs.Arc.{arc_value}
+use Rattle.std.specs.Option.{unwrap_or}
 use Rattle.relations.specs.Relation.{Table, Related}
+use Rattle.relations.specs.Cycle.{IsExactRow}
 use Rattle.best.specs.Seats.{known_of}
 use Rattle.search.specs.SourceRow.{SourceRow}
 use Rattle.search.specs.Bound.{AtMost, Covers, lengths_of}
-use Rattle.search.proofs.Known.{read_keeps, read_known, read_few, read_within}
+use Rattle.search.proofs.Known.{read_cycle, read_keeps, read_known, read_few, read_within}
 use Rattle.search.proofs.under.row_under.Goals as goal
 
 pub read-cap-requires : goal.read-cap-requires
@@ -59,3 +62,23 @@ returns-clause-covers c =
     (c.deref-relation.ensures ∙ c.relation.ensures.value)
     (subst (λ (v : ℕ). Covers (Related c.deref-relation.result.now) lengths v) c.source-2.ensures
     c.tell.ensures.covers)
+
+pub of-requires : goal.of-requires
+of-requires c =
+    let job = c.args.job.now.relation in
+    let shared = arc_value c.in_ok-shared.shared in
+    let shared_is : shared ≡ job = c.in_ok-shared.ensures ∙ c.relation-2.ensures.value in
+    let same : c.deref-relation.result.now ≡ shared =
+    c.deref-relation.ensures ∙ (c.relation.ensures.value ∙ sym shared_is) in
+    let numbers = c.row_cut-numbers.result.0.items in
+    record {
+      within = subst (λ (t : Table). c.source-3.result < length t) (sym shared_is)
+          (subst (λ (v : ℕ). v < length job) (sym c.source-3.ensures) c.relation.ensures.source);
+      cycle = read_cycle shared (known_of c.args.seat.now) (known_of c.read-cap.new.seat) c.read-cap.result
+          (c.requires.1 ∙ sym shared_is) c.read-cap.ensures.reads;
+      exact = subst (λ (v : ℕ). IsExactRow (Related shared) (length shared)
+          (unwrap_or c.read-cap.result (length shared)) v numbers)
+          (c.source.ensures ∙ sym c.source-3.ensures)
+          (subst (λ (t : Table). IsExactRow (Related t) (length t) (unwrap_or c.read-cap.result (length t))
+          c.source.result numbers) same c.row_cut-numbers.ensures.exact);
+    }
