@@ -58,6 +58,15 @@ fn take_part<const N: usize>(
     next.put(at, words);
 }
 
+/// How many words of so many events are left from one on.
+fn words_left(events: usize, at: usize) -> usize
+    requires { 64 * at < events }
+    ensures some { 0 < result }
+    ensures within { 64 * (at + result) < events + 64 }
+{
+    events.div_ceil(64) - at
+}
+
 /// The same in 1, 2, 4 or 8 words, as many as are left; the word behind them.
 fn take_some(
     rows: &[BitRow],
@@ -78,7 +87,7 @@ fn take_some(
     ensures further { at < result }
     ensures within { 64 * result < length rows.now + 64 }
 {
-    let left = rows.len().div_ceil(64) - at;
+    let left = words_left(rows.len(), at);
     if left >= 8 {
         take_part::<8>(rows, level, label, at, next, labels);
         at + 8

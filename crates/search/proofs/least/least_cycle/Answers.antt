@@ -7,6 +7,24 @@ use Rattle.search.proofs.Choices.{first_exists, greedy_start, chosen_exists, cho
 use Rattle.search.proofs.Choices.{cycle_long}
 use Rattle.search.proofs.least.least_cycle.Goals as goal
 
+pub overflow_sub-left : goal.overflow_sub-left
+overflow_sub-left c = omega (arith, cycle_long (Related c.args.relation.now) c.args.size c.requires.size)
+
+pub first_event-requires : goal.first_event-requires
+first_event-requires c = record {
+  one_each = c.requires.rows.one_each;
+  lengths = λ v at. (c.requires.rows.exact v at).one_each;
+}
+
+pub next_event-requires-clause-rows : goal.next_event-requires-clause-rows
+next_event-requires-clause-rows c = record {
+  one_each = c.requires.rows.one_each;
+  lengths = λ v at. (c.requires.rows.exact v at).one_each;
+}
+
+pub next_event-requires-clause-v : goal.next_event-requires-clause-v
+next_event-requires-clause-v c = c.in-Some.ensures.0
+
 pub unreachable-requires : goal.unreachable-requires
 unreachable-requires c =
     first_exists (Related c.args.relation.now) (length c.args.relation.now) c.args.size

@@ -22,6 +22,19 @@ loop-event-init g c =
           (joins_none R c.args.level.now (length c.args.rows.now) (64 * c.args.at) (64 * g.row.N) g.row.N);
     }
 
+pub join-words-requires : goal.join-words-requires
+join-words-requires g c =
+    let rows = c.args.rows.now in
+    let event : ℕ = c.in-Some.event in
+    let next : IsNext c.args.level.now c.loop-event.events.from (Some event) =
+    subst (λ (r : List Bool). IsNext r c.loop-event.events.from (Some event)) c.loop-event.invariant.row
+    c.in-Some.ensures.found in
+    let at : event < length rows = omega (arith, next.1, c.requires.level) in
+    let row : List Bool = c.index-rows-event.result in
+    let long : length row ≡ length rows = ap (λ (r : List Bool). length r)
+    (c.index-rows-event.is ∙ get_or_default rows event row [] at) ∙ c.requires.square.each event at in
+    (omega arith, (c.loop-event.invariant.size, omega (arith, c.requires.within, long)))
+
 pub loop-event-preserved : goal.loop-event-preserved
 loop-event-preserved g c =
     let rows = c.args.rows.now in
