@@ -28,3 +28,4 @@ pub mod Recorded
 pub mod ScriptAgain
 pub mod Removed
 pub mod OneRow
+pub mod Refused

@@ -1,9 +1,11 @@
 -- What a transaction does to the parts of a machine.
-use Rattle.std.proofs.Common.{◌≡◌, ℕ, true, Option, Ok, List, length, refl, ◌∙◌}
+use Rattle.std.proofs.Common.{◌≡◌, ℕ, true, Option, Ok, Err, List, length, refl, ◌∙◌}
 use Rattle.litmus.specs.Parts.{Parts}
 use Rattle.write_buffer.specs.Buffer.{Buffer}
 use Rattle.core_unit.specs.Progress.{Progress}
 use Rattle.moesi.specs.State as moesi
+use Rattle.moesi.specs.declared.error.CacheError.{CacheError}
+use Rattle.machine.specs.declared.blocked.Blocked.TheVariants.{B7}
 use Rattle.machine.specs.declared.fault.Fault.{Fault}
 use Rattle.machine.specs.Faults.{get_m_under}
 use Rattle.machine.specs.declared.step.Step.TheVariants.{GetS, GetM, Put}
@@ -59,3 +61,27 @@ module _ (p : Parts) (capacity : ℕ) (units : List Progress) (buffers : List Bu
           → taken p.cores capacity fault (state_from p.init units buffers caches writes reads done.items)
           (Put core addr) ≡ Ok (state_from p.init units buffers caches' writes reads done.items)
       put_taken made = rw (there, made) refl
+
+module _ (p : Parts) (capacity : ℕ) (units : List Progress) (buffers : List Buffer)
+    (caches : moesi.CacheState)
+    (writes : List (BoundedItems ℕ)) (reads : List (ℕ × Option ℕ)) (done : BoundedItems ℕ)
+    (fault : Fault) (core addr : ℕ)
+    (there : has p.cores (state_from p.init units buffers caches writes reads done.items) core addr ≡ true)
+    (e : CacheError) where
+  -- a GetS that the caches refuse is blocked
+  pub get_s_blocked : moesi.get_s caches core addr ≡ Err e
+      → taken p.cores capacity fault (state_from p.init units buffers caches writes reads done.items)
+      (GetS core addr) ≡ Err B7
+  get_s_blocked refused = rw (there, refused) refl
+
+  -- so is a GetM
+  pub get_m_blocked : get_m_under fault caches core addr ≡ Err e
+      → taken p.cores capacity fault (state_from p.init units buffers caches writes reads done.items)
+      (GetM core addr) ≡ Err B7
+  get_m_blocked refused = rw (there, refused) refl
+
+  -- and a Put
+  pub put_blocked : moesi.put caches core addr ≡ Err e
+      → taken p.cores capacity fault (state_from p.init units buffers caches writes reads done.items)
+      (Put core addr) ≡ Err B7
+  put_blocked refused = rw (there, refused) refl

@@ -1,8 +1,9 @@
-use Rattle.std.proofs.Common.{arith, ◌<◌, ◌≡◌, Some, length, slice_get, subst}
+use Rattle.std.proofs.Common.{arith, refl, sym, ◌∙◌, ◌<◌, ◌≤◌, ◌≡◌, ℕ, Some, length, slice_get, subst}
 use Rattle.write_buffer.specs.Buffer.{Buffer}
 use Rattle.machine.specs.declared.step.Step.TheVariants.{Drain}
 use Rattle.machine.specs.Faults.{draining}
 use Rattle.machine.proofs.Drained as drained
+use Rattle.machine.proofs.Refused as refused
 use Rattle.machine.proofs.Reached.{reached_step}
 use Rattle.machine.proofs.machine.Machine.drain.Goals as goal
 
@@ -86,3 +87,47 @@ returns-clause-ok c =
     c.drain.ensures.capacity c.index_mut-2.result.now c.index_mut-2.ensures.value c.push.new.self
     c.push.ensures c.push-2.new.self c.push-2.ensures
     c.write.new.self c.in-Ok.ensures.ok)
+
+pub returns-then-core-cores-clause-blocked : goal.returns-then-core-cores-clause-blocked
+returns-then-core-cores-clause-blocked c =
+    let none = subst (λ (n : ℕ). n ≤ c.args.core) c.cores.ensures.count c.if-core-cores.true in
+    rw (← c.self.view_is) (refused.no_core_drains c.self.inside.program.cores c.self.inside.capacity c.self.inside.fault _
+    c.args.core none)
+
+pub write-requires-clause-core : goal.write-requires-clause-core
+write-requires-clause-core c =
+    let there = subst (λ (n : ℕ). c.args.core < n) c.cores.ensures.count c.if-core-cores.false in
+    refused.lines_there _ _ _ _ _ _ _ _ c.self.invariant.sound c.args.core there
+
+pub write-requires-clause-address : goal.write-requires-clause-address
+write-requires-clause-address c =
+    let there = subst (λ (n : ℕ). c.args.core < n) c.cores.ensures.count c.if-core-cores.false in
+    let within = (drained.entry_within _ _ _ _ _ _ _ _ c.self.invariant.sound c.args.core there
+    c.index.result.now c.index.ensures c.self.inside.fault c.in-Some.entry c.in-Some.ensures).0 in
+    subst (λ (n : ℕ). c.in-Some.entry.addr < n) (sym c.self.invariant.sound.cache_blocks) within
+
+pub returns-in_default-clause-blocked : goal.returns-in_default-clause-blocked
+returns-in_default-clause-blocked c =
+    let there = subst (λ (n : ℕ). c.args.core < n) c.cores.ensures.count c.if-core-cores.false in
+    rw (← c.self.view_is) (refused.nothing_drains _ _ _ _ _ _ _ _ c.self.invariant.sound c.args.core there
+    c.index.result.now c.index.ensures
+    c.self.inside.fault (sym c.draining.ensures ∙ c.in_default.is))
+
+pub invariant_of-self : goal.invariant_of-self
+invariant_of-self c =
+    rw c.in_default-write.ensures.unchanged c.self.invariant
+
+pub returns-in_default-write-clause-unchanged : goal.returns-in_default-write-clause-unchanged
+returns-in_default-write-clause-unchanged c =
+    rw c.in_default-write.ensures.unchanged c.self.view_is
+
+pub returns-in_default-write-clause-blocked : goal.returns-in_default-write-clause-blocked
+returns-in_default-write-clause-blocked c =
+    let there = subst (λ (n : ℕ). c.args.core < n) c.cores.ensures.count c.if-core-cores.false in
+    rw (← c.self.view_is) (drained.drain_blocked _ _ _ _ _ _ _ _ c.self.invariant.sound c.args.core there
+    c.index.result.now c.index.ensures
+    c.self.inside.fault c.in-Some.entry c.in-Some.ensures _ c.in_default-write.ensures.refused)
+
+pub returns-clause-rest : goal.returns-clause-rest
+returns-clause-rest c =
+    rw (← c.self.view_is) refl

@@ -3,6 +3,7 @@ use Rattle.litmus.specs.declared.op.Op.TheVariants.{Fence}
 use Rattle.machine.specs.Configuration.{Configuration}
 use Rattle.machine.specs.Step.{IsAt}
 use Rattle.machine.proofs.Executed as executed
+use Rattle.machine.proofs.Refused as refused
 use Rattle.machine.proofs.Reached.{reached_exec}
 use Rattle.machine.proofs.machine.Machine.fence.Goals as goal
 
@@ -55,3 +56,21 @@ returns-clause-ok c =
     (Fence) c.args.event at c.index_mut.result.now c.index_mut.ensures.value c.ops.result.now
     c.ops.ensures c.advance.new.self c.advance.ensures c.self.inside.fault c.index.result.now
     c.index.ensures (sym c.may_fence.ensures ∙ c.if-not-may_fence.false))
+
+pub ops-requires : goal.ops-requires
+ops-requires c =
+    let at = subst (λ (h : Configuration). IsAt h.program.cores h.state c.args.core (Fence) c.args.event)
+    (sym c.self.view_is) c.requires in
+    at.core
+
+pub returns-then-not-may_fence-clause-blocked : goal.returns-then-not-may_fence-clause-blocked
+returns-then-not-may_fence-clause-blocked c =
+    let at = subst (λ (h : Configuration). IsAt h.program.cores h.state c.args.core (Fence) c.args.event)
+    (sym c.self.view_is) c.requires in
+    rw (← c.self.view_is) (refused.fence_blocked _ _ _ _ _ _ _ _ c.self.invariant.sound c.args.core at.core
+    c.index.result.now c.index.ensures
+    c.self.inside.fault c.args.event (sym c.may_fence.ensures ∙ c.if-not-may_fence.true))
+
+pub returns-clause-rest : goal.returns-clause-rest
+returns-clause-rest c =
+    rw (← c.self.view_is) refl

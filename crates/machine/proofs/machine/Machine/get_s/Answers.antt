@@ -1,7 +1,7 @@
-use Rattle.std.proofs.Common.{sym, ◌≡◌, ◌∙◌, true, subst}
+use Rattle.std.proofs.Common.{refl, sym, ◌≡◌, ◌∙◌, true, subst}
 use Rattle.machine.specs.declared.step.Step.TheVariants.{GetS}
 use Rattle.machine.specs.Configuration.{Configuration, has_line}
-use Rattle.machine.proofs.Transacted.{transacted_sound, get_s_taken}
+use Rattle.machine.proofs.Transacted.{transacted_sound, get_s_taken, get_s_blocked}
 use Rattle.machine.proofs.Reached.{reached_step}
 use Rattle.machine.proofs.machine.Machine.get_s.Goals as goal
 
@@ -17,3 +17,33 @@ invariant_of-self-2 c =
           c.get_s.new.self c.self.inside.fault c.args.core c.args.addr there c.in-Ok.ensures.ok);
       blank_is = c.self.invariant.blank_is;
     }
+
+pub returns-then-not-has-clause-blocked : goal.returns-then-not-has-clause-blocked
+returns-then-not-has-clause-blocked c =
+    rw (sym c.has.ensures ∙ c.if-not-has.true) refl
+
+pub invariant_of-self : goal.invariant_of-self
+invariant_of-self c =
+    rw c.in_default.ensures.unchanged c.self.invariant
+
+pub returns-in_default-clause-unchanged : goal.returns-in_default-clause-unchanged
+returns-in_default-clause-unchanged c =
+    rw c.in_default.ensures.unchanged c.self.view_is
+
+pub returns-in_default-clause-blocked : goal.returns-in_default-clause-blocked
+returns-in_default-clause-blocked c =
+    let there = subst (λ (h : Configuration). has_line h c.args.core c.args.addr ≡ true) (sym c.self.view_is)
+    (sym c.has.ensures ∙ c.if-not-has.false) in
+    rw (← c.self.view_is) (get_s_blocked c.self.inside.program c.self.inside.capacity _ _ _ _ _
+    c.self.inside.performed c.self.inside.fault c.args.core c.args.addr there _ c.in_default.ensures.refused)
+
+pub returns-clause-ok : goal.returns-clause-ok
+returns-clause-ok c =
+    let there = subst (λ (h : Configuration). has_line h c.args.core c.args.addr ≡ true) (sym c.self.view_is)
+    (sym c.has.ensures ∙ c.if-not-has.false) in
+    rw (← c.self.view_is) (get_s_taken c.self.inside.program c.self.inside.capacity _ _ _ _ _
+    c.self.inside.performed c.get_s.new.self c.self.inside.fault c.args.core c.args.addr there c.in-Ok.ensures.ok)
+
+pub returns-clause-rest : goal.returns-clause-rest
+returns-clause-rest c =
+    rw (← c.self.view_is) refl

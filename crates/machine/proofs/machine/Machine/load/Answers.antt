@@ -1,8 +1,9 @@
-use Rattle.std.proofs.Common.{arith, sym, ap, ◌∙◌, subst, length-set}
+use Rattle.std.proofs.Common.{arith, sym, ap, ◌∙◌, refl, subst, ◌<◌, ℕ, length-set}
 use Rattle.litmus.specs.declared.op.Op.TheVariants.{Ld}
 use Rattle.machine.specs.Configuration.{Configuration}
 use Rattle.machine.specs.Step.{IsAt, forwarded_or_read}
 use Rattle.machine.proofs.Executed as executed
+use Rattle.machine.proofs.Refused as refused
 use Rattle.machine.proofs.Reached.{reached_exec}
 use Rattle.machine.proofs.machine.Machine.load.Goals as goal
 
@@ -65,3 +66,35 @@ returns-clause-ok c =
     c.ops.ensures c.advance.new.self c.advance.ensures c.self.inside.fault c.index.result.now
     c.index.ensures c.args.addr c.forwarded-entry.result c.forwarded-entry.ensures c.in-Ok.what
     (ap (forwarded_or_read c.forwarded-entry.result) (sym c.read.ensures) ∙ sym c.in-Ok.ensures))
+
+pub read-requires-clause-core : goal.read-requires-clause-core
+read-requires-clause-core c =
+    let at = subst (λ (h : Configuration). IsAt h.program.cores h.state c.args.core
+    (Ld c.args.addr) c.args.event) (sym c.self.view_is) c.requires in
+    refused.lines_there _ _ _ _ _ _ _ _ c.self.invariant.sound c.args.core at.core
+
+pub ops-requires : goal.ops-requires
+ops-requires c =
+    let at = subst (λ (h : Configuration). IsAt h.program.cores h.state c.args.core
+    (Ld c.args.addr) c.args.event) (sym c.self.view_is) c.requires in
+    at.core
+
+pub read-requires-clause-address : goal.read-requires-clause-address
+read-requires-clause-address c =
+    let at = subst (λ (h : Configuration). IsAt h.program.cores h.state c.args.core
+    (Ld c.args.addr) c.args.event) (sym c.self.view_is) c.requires in
+    subst (λ (n : ℕ). c.args.addr < n) (sym c.self.invariant.sound.cache_blocks)
+    (executed.within _ _ _ _ _ _ _ _ c.self.invariant.sound c.args.core (Ld c.args.addr) c.args.event at)
+
+pub returns-in_default-clause-blocked : goal.returns-in_default-clause-blocked
+returns-in_default-clause-blocked c =
+    let at = subst (λ (h : Configuration). IsAt h.program.cores h.state c.args.core
+    (Ld c.args.addr) c.args.event) (sym c.self.view_is) c.requires in
+    rw (← c.self.view_is) (refused.load_blocked _ _ _ _ _ _ _ _ c.self.invariant.sound c.args.core at.core
+    c.index.result.now c.index.ensures
+    c.self.inside.fault c.args.event c.args.addr c.forwarded-entry.result c.forwarded-entry.ensures _
+    (ap (forwarded_or_read c.forwarded-entry.result) (sym c.read.ensures) ∙ sym c.in_default.ensures))
+
+pub returns-clause-rest : goal.returns-clause-rest
+returns-clause-rest c =
+    rw (← c.self.view_is) refl

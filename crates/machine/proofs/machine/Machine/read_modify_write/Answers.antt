@@ -7,6 +7,7 @@ use Rattle.machine.specs.Configuration.{Configuration, exec_answer}
 use Rattle.machine.specs.Step.{IsAt, exec, read_modify_written}
 use Rattle.machine.proofs.Cached.{read_is, unread_unwritten}
 use Rattle.machine.proofs.Executed as executed
+use Rattle.machine.proofs.Refused as refused
 use Rattle.machine.proofs.Reached.{reached_exec}
 use Rattle.machine.proofs.machine.Machine.read_modify_write.Goals as goal
 
@@ -139,3 +140,54 @@ returns-clause-ok c =
     c.advance.ensures c.self.inside.fault c.index.result.now c.index.ensures may c.args.addr within
     c.in-Ok.read what c.write.new.self wrote c.index_mut-2.result.now c.push.new.self
     c.index_mut-2.ensures.value c.push.ensures)
+
+pub read-requires-clause-core : goal.read-requires-clause-core
+read-requires-clause-core c =
+    let at = subst (λ (h : Configuration). IsAt h.program.cores h.state c.args.core c.args.op c.args.event)
+    (sym c.self.view_is) c.requires.at in
+    refused.lines_there _ _ _ _ _ _ _ _ c.self.invariant.sound c.args.core at.core
+
+pub write-requires-clause-core : goal.write-requires-clause-core
+write-requires-clause-core c =
+    let at = subst (λ (h : Configuration). IsAt h.program.cores h.state c.args.core c.args.op c.args.event)
+    (sym c.self.view_is) c.requires.at in
+    refused.lines_there _ _ _ _ _ _ _ _ c.self.invariant.sound c.args.core at.core
+
+pub read-requires-clause-address : goal.read-requires-clause-address
+read-requires-clause-address c =
+    let within = subst (λ (h : Configuration). c.args.addr < length h.program.names)
+    (sym c.self.view_is) c.requires.address in
+    subst (λ (n : ℕ). c.args.addr < n) (sym c.self.invariant.sound.cache_blocks) within
+
+pub write-requires-clause-address : goal.write-requires-clause-address
+write-requires-clause-address c =
+    let within = subst (λ (h : Configuration). c.args.addr < length h.program.names)
+    (sym c.self.view_is) c.requires.address in
+    subst (λ (n : ℕ). c.args.addr < n) (sym c.self.invariant.sound.cache_blocks) within
+
+pub returns-then-not-may_rmw-clause-blocked : goal.returns-then-not-may_rmw-clause-blocked
+returns-then-not-may_rmw-clause-blocked c =
+    let at = subst (λ (h : Configuration). IsAt h.program.cores h.state c.args.core c.args.op c.args.event)
+    (sym c.self.view_is) c.requires.at in
+    c.requires.row ∙ rw (← c.self.view_is) (refused.rmw_waits _ _ _ _ _ _ _ _ c.self.invariant.sound c.args.core at.core
+    c.index.result.now
+    c.index.ensures c.self.inside.fault c.args.event c.args.op c.args.addr
+    (sym c.may_rmw.ensures ∙ c.if-not-may_rmw.true))
+
+pub invariant_of-self : goal.invariant_of-self
+invariant_of-self c =
+    rw c.in_default-write.ensures.unchanged c.self.invariant
+
+pub returns-in_default-write-clause-unchanged : goal.returns-in_default-write-clause-unchanged
+returns-in_default-write-clause-unchanged c =
+    rw c.in_default-write.ensures.unchanged c.self.view_is
+
+pub ops-requires : goal.ops-requires
+ops-requires c =
+    let at = subst (λ (h : Configuration). IsAt h.program.cores h.state c.args.core c.args.op c.args.event)
+    (sym c.self.view_is) c.requires.at in
+    at.core
+
+pub returns-clause-rest : goal.returns-clause-rest
+returns-clause-rest c =
+    rw (← c.self.view_is) refl

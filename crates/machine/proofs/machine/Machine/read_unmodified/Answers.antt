@@ -1,10 +1,11 @@
-use Rattle.std.proofs.Common.{arith, sym, ap, ◌∙◌, ◌≡◌, subst, true, length-set}
+use Rattle.std.proofs.Common.{arith, refl, sym, ap, ◌∙◌, ◌≡◌, ◌<◌, ℕ, subst, true, false, length, length-set}
 use Rattle.moesi.specs.Lines.{is_exclusive}
 use Rattle.moesi.specs.State as moesi
 use Rattle.machine.specs.Configuration.{Configuration}
 use Rattle.machine.specs.Step.{IsAt, exec, read_unmodified}
-use Rattle.machine.proofs.Cached.{read_is}
+use Rattle.machine.proofs.Cached.{read_is, exclusive_read}
 use Rattle.machine.proofs.Executed as executed
+use Rattle.machine.proofs.Refused as refused
 use Rattle.machine.proofs.Reached.{reached_exec}
 use Rattle.machine.proofs.machine.Machine.read_unmodified.Goals as goal
 
@@ -78,3 +79,66 @@ returns-clause-ok c =
     at c.index_mut-2.result.now c.index_mut-2.ensures.value c.ops.result.now c.ops.ensures
     c.advance.new.self c.advance.ensures c.self.inside.fault c.index.result.now c.index.ensures may
     c.args.addr owned c.in-Ok.read what)
+
+pub line-requires-clause-core : goal.line-requires-clause-core
+line-requires-clause-core c =
+    let at = subst (λ (h : Configuration). IsAt h.program.cores h.state c.args.core c.args.op c.args.event)
+    (sym c.self.view_is) c.requires.at in
+    refused.lines_there _ _ _ _ _ _ _ _ c.self.invariant.sound c.args.core at.core
+
+pub line-requires-clause-address : goal.line-requires-clause-address
+line-requires-clause-address c =
+    let within = subst (λ (h : Configuration). c.args.addr < length h.program.names)
+    (sym c.self.view_is) c.requires.address in
+    subst (λ (n : ℕ). c.args.addr < n) (sym c.self.invariant.sound.cache_blocks) within
+
+pub read-requires-clause-core : goal.read-requires-clause-core
+read-requires-clause-core c =
+    let at = subst (λ (h : Configuration). IsAt h.program.cores h.state c.args.core c.args.op c.args.event)
+    (sym c.self.view_is) c.requires.at in
+    refused.lines_there _ _ _ _ _ _ _ _ c.self.invariant.sound c.args.core at.core
+
+pub read-requires-clause-address : goal.read-requires-clause-address
+read-requires-clause-address c =
+    let within = subst (λ (h : Configuration). c.args.addr < length h.program.names)
+    (sym c.self.view_is) c.requires.address in
+    subst (λ (n : ℕ). c.args.addr < n) (sym c.self.invariant.sound.cache_blocks) within
+
+pub ops-requires : goal.ops-requires
+ops-requires c =
+    let at = subst (λ (h : Configuration). IsAt h.program.cores h.state c.args.core c.args.op c.args.event)
+    (sym c.self.view_is) c.requires.at in
+    at.core
+
+pub returns-then-not-may_rmw-clause-blocked : goal.returns-then-not-may_rmw-clause-blocked
+returns-then-not-may_rmw-clause-blocked c =
+    let at = subst (λ (h : Configuration). IsAt h.program.cores h.state c.args.core c.args.op c.args.event)
+    (sym c.self.view_is) c.requires.at in
+    c.requires.row ∙ rw (← c.self.view_is)
+    (refused.unmodified_waits _ _ _ _ _ _ _ _ c.self.invariant.sound c.args.core at.core
+    c.index.result.now
+    c.index.ensures c.self.inside.fault c.args.event c.args.addr
+    (sym c.may_rmw.ensures ∙ c.if-not-may_rmw.true))
+
+pub returns-then-not-is_exclusive-clause-blocked : goal.returns-then-not-is_exclusive-clause-blocked
+returns-then-not-is_exclusive-clause-blocked c =
+    let at = subst (λ (h : Configuration). IsAt h.program.cores h.state c.args.core c.args.op c.args.event)
+    (sym c.self.view_is) c.requires.at in
+    let shared : is_exclusive (moesi.line_of c.self.inside.caches c.args.core c.args.addr) ≡ false =
+    ap is_exclusive (sym c.line.ensures) ∙ (sym c.is_exclusive.ensures ∙ c.if-not-is_exclusive.true) in
+    c.requires.row ∙ rw (← c.self.view_is)
+    (refused.unmodified_blocked _ _ _ _ _ _ _ _ c.self.invariant.sound c.args.core at.core
+    c.index.result.now c.index.ensures c.self.inside.fault c.args.event c.args.addr
+    (sym c.may_rmw.ensures ∙ c.if-not-may_rmw.false) shared)
+
+pub returns-in_default-clause-blocked : goal.returns-in_default-clause-blocked
+returns-in_default-clause-blocked c =
+    let owned : is_exclusive (moesi.line_of c.self.inside.caches c.args.core c.args.addr) ≡ true =
+    ap is_exclusive (sym c.line.ensures) ∙ (sym c.is_exclusive.ensures ∙ c.if-not-is_exclusive.false) in
+    let clash = sym (exclusive_read c.self.inside.caches c.args.core c.args.addr owned)
+    ∙ (sym c.read.ensures ∙ c.in_default.is) in
+    absurd (cc clash)
+
+pub returns-clause-rest : goal.returns-clause-rest
+returns-clause-rest c =
+    rw (← c.self.view_is) refl
