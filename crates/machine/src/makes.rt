@@ -1,6 +1,6 @@
 //! The parts of a new machine.
 
-ghost use Rattle.std.specs.Prelude.{◌≡◌, ◌≤◌, [], length, replicate, IfOk, None};
+ghost use Rattle.std.specs.Prelude.{◌≡◌, ◌≤◌, ◌++◌, ◌∷◌, [], length, replicate, IfOk, OnOk, None};
 ghost use Rattle.litmus.specs.Parts.{op_count};
 ghost use Rattle.moesi.specs.State.{opening_with};
 ghost use Rattle.machine.specs.Made.{AreUnits};
@@ -14,6 +14,19 @@ use moesi::Caches;
 use std::alloc::Global;
 use write_buffer::WriteBuffer;
 
+/// Adds an empty list with this room.
+fn add_list<T: Drop>(
+    lists: &mut Vec<BoundedList<T>>,
+    alloc: Global,
+    room: usize,
+) -> Result<(), OutOfMemory>
+    ensures { OnOk result (lists.new.items
+        ≡ lists.old.items ++ record { items = []; room = room } ∷ []) }
+{
+    lists.push(BoundedList::new(alloc, room)?)?;
+    Ok(())
+}
+
 /// So many empty lists, each with the same room.
 pub(crate) fn bounded_lists<T: Drop>(
     alloc: Global,
@@ -24,7 +37,7 @@ pub(crate) fn bounded_lists<T: Drop>(
 {
     let mut lists = Vec::with_capacity(alloc, count)?;
     for _ in 0..count {
-        lists.push(BoundedList::new(alloc, room)?)?;
+        add_list(&mut lists, alloc, room)?;
     }
     Ok(lists)
 }
