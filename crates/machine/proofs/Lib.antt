@@ -29,3 +29,4 @@ pub mod ScriptAgain
 pub mod Removed
 pub mod OneRow
 pub mod Refused
+pub mod TextEnds

@@ -1,6 +1,6 @@
-use Rattle.std.proofs.Common.{arith, sym, ap, subst, ◌∙◌, ◌≡◌, ◌+◌, ◌++◌, ◌∷◌, [], length, map, drop, ℕ, suc}
-use Rattle.std.proofs.Common.{List, Option, Some, append_assoc, length-append, drop-cons, Vec, Global}
-use Rattle.std.proofs.lemmas.List.{map-append}
+use Rattle.std.proofs.Common.{arith, refl, sym, ap, subst, ◌∙◌, ◌≡◌, ◌+◌, ◌++◌, ◌∷◌, [], length, map, drop, ℕ, suc}
+use Rattle.std.proofs.Common.{List, Option, Some, append_assoc, append-nil, length-append, drop-cons, Vec, Global}
+use Rattle.std.proofs.lemmas.List.{map-append, drop_all}
 use Rattle.std.proofs.lemmas.List.Sums.{sum_by_more, sum_by-take-le, get_or-le-sum_by}
 use Rattle.std.proofs.lemmas.List.Elements.{All-pop}
 use Rattle.recorder.specs.declared.event.Event.{Event}
@@ -105,3 +105,32 @@ loop-ops-preserved c =
       );
       fresh = popped.0;
     }
+
+pub loop-ops-init : goal.loop-ops-init
+loop-ops-init c =
+    record {
+      room = refl;
+      made = rw c.requires.empty refl;
+      size = ap (λ (l : List (Vec Event Global)). length l) c.requires.empty;
+      first = refl;
+      left = omega (arith, c.requires.one_each);
+      fresh = c.requires.fresh;
+    }
+
+pub push-requires : goal.push-requires
+push-requires c =
+    omega (
+      arith,
+      c.loop-ops.invariant.size,
+      c.loop-ops.invariant.room,
+      c.requires.room,
+      c.loop-ops-test.true,
+    )
+
+pub returns : goal.returns
+returns c =
+    let lists = map (λ (v : Vec Event Global). v.items) c.loop-ops.lists.items in
+    let made = subst (λ (xs : List (List Op)). lists ++ cores_from c.loop-ops.first xs c.args.reads.now
+    ≡ cores_from 0 c.args.program.now c.args.reads.now)
+    (drop_all c.loop-ops.ops-index c.args.program.now c.loop-ops-test.false) c.loop-ops.invariant.made in
+    rw (c.into_items-2.ensures) (sym (append-nil lists) ∙ made)

@@ -1,6 +1,7 @@
 use Rattle.litmus.specs.ReadingLaws.{byte_read, line_read}
 use Rattle.machine.specs.declared.script_fault.StepFault.TheVariants.{S1}
 use Rattle.machine.specs.Script.{line_step}
+use Rattle.machine.proofs.TextEnds.{within_line, behind_line}
 use Rattle.machine.proofs.script.take_lines.Goals as goal
 use Rattle.machine.proofs.script.take_lines.Goals.{then-b-eq10+in_ok-take_line, else-b-eq10}
 
@@ -17,3 +18,15 @@ loop-i-preserved c =
           (byte_read step S1 text _ at.number at.steps.items at.start at.i at.invariant
           c.loop-i-test.true w.if-b-eq10.false)
     ]
+
+pub returns-then-start-text : goal.returns-then-start-text
+returns-then-start-text c =
+    let at = c.loop-i in
+    within_line (line_step c.args.program.now) S1 c.args.text.now _ at.number at.steps.items at.start at.i at.invariant
+    at.auto.i-end c.loop-i-test.false c.if-start-text.true
+
+pub returns : goal.returns
+returns c =
+    let at = c.loop-i in
+    behind_line (line_step c.args.program.now) S1 c.args.text.now _ at.number at.steps.items at.start at.i at.invariant
+    at.auto.i-end c.loop-i-test.false c.if-start-text.false
