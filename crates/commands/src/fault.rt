@@ -1,5 +1,5 @@
 //! What ends the program with status 1.
-ghost use Rattle.std.specs.Prelude.{◌≡◌, ◌↔◌, ◌⊎◌};
+ghost use Rattle.std.specs.Prelude.{◌≡◌, ◌↔◌, ◌⊎◌, true};
 ghost use Rattle.std.specs.IoError.{error_kind};
 
 use common::OutOfMemory;
@@ -37,13 +37,20 @@ pub enum CommandFault {
     OutOfMemory,
 }
 
+/// Whether the error is want of memory.
+pub(crate) fn wants_memory(error: io::Error) -> bool
+    ensures { (result ≡ true) ↔ (error_kind error ≡ ErrorKind.OutOfMemory) }
+{
+    error.kind() == ErrorKind::OutOfMemory
+}
+
 impl CommandFault {
     /// Why the words of the command line could not be had.
     pub fn of_words(error: io::Error) -> CommandFault
         ensures one { (result ≡ CommandFault.OutOfMemory) ⊎ (result ≡ CommandFault.NotText) }
         ensures kind { (result ≡ CommandFault.OutOfMemory) ↔ (error_kind error ≡ ErrorKind.OutOfMemory) }
     {
-        if error.kind() == ErrorKind::OutOfMemory {
+        if wants_memory(error) {
             CommandFault::OutOfMemory
         } else {
             CommandFault::NotText
@@ -55,7 +62,7 @@ impl CommandFault {
         ensures one { (result ≡ CommandFault.OutOfMemory) ⊎ (result ≡ CommandFault.ReadFailed) }
         ensures kind { (result ≡ CommandFault.OutOfMemory) ↔ (error_kind error ≡ ErrorKind.OutOfMemory) }
     {
-        if error.kind() == ErrorKind::OutOfMemory {
+        if wants_memory(error) {
             CommandFault::OutOfMemory
         } else {
             CommandFault::ReadFailed

@@ -1,5 +1,6 @@
 //! The command `judge`.
-ghost use Rattle.std.specs.Prelude.{◌≤◌, IfErr, IfOk};
+ghost use Rattle.std.specs.Prelude.{◌≤◌, IfErr, IfOk, Ok};
+ghost use Rattle.recording_text.specs.Reading.{IsReadingResult};
 ghost use Rattle.commands.specs.Judge.{IsJudgeStop, IsJudged, IsJudgedInput, IsUnread};
 ghost use Rattle.commands.specs.Refusal.{IsRefusedAs};
 
@@ -10,7 +11,7 @@ use crate::stop::Stop;
 use answers::{Answer, judged_answer};
 use command_line::JudgeOptions;
 use common::MAX_WORKERS;
-use recorder::RecError;
+use recorder::{RecError, Recording};
 use recording_text::read_recording;
 use report::recording_line;
 use std::alloc::{AllocError, Global};
@@ -27,6 +28,17 @@ pub fn unread(alloc: Global, refusal: RecError) -> Result<Stop, AllocError>
     }
 }
 
+/// The recording that the bytes are, or the line of their refusal.
+pub fn recording_of(alloc: Global, bytes: &[u8]) -> Result<Recording, Stop>
+    ensures ok { IfOk result (λ recording. IsReadingResult bytes.now (Ok recording)) }
+    ensures err { IfErr result (IsUnread bytes.now) }
+{
+    match read_recording(alloc, bytes) {
+        Ok(recording) => Ok(recording),
+        Err(refusal) => Err(unread(alloc, refusal)?),
+    }
+}
+
 /// The verdict on the recording that the bytes are, by so many workers, or the line of their refusal.
 fn judged<R: Threads + Wait + Sync>(
     rt: &R,
@@ -38,10 +50,10 @@ fn judged<R: Threads + Wait + Sync>(
     ensures ok { IfOk result (IsJudged bytes.now) }
     ensures err { IfErr result (IsUnread bytes.now) }
 {
-    match read_recording(alloc, bytes) {
-        Ok(recording) => Ok(judged_answer(rt, alloc, &recording, workers)?),
-        Err(refusal) => Err(unread(alloc, refusal)?),
-    }
+    let recording = recording_of(alloc, bytes)?;
+    let answer = judged_answer(rt, alloc, &recording, workers);
+    drop(recording);
+    Ok(answer?)
 }
 
 /// Judges the recording of a named input.

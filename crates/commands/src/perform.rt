@@ -1,9 +1,12 @@
 //! From the words of a command line to what is printed.
-ghost use Rattle.std.specs.Prelude.{◌≡◌, ◌≢◌, IfErr, IfOk, OnOk, map, string_bytes};
+ghost use Rattle.std.specs.Prelude.{◌≡◌, ◌≢◌, IfErr, IfOk, List, OnOk, Option, map, string_bytes};
 ghost use Rattle.std.specs.Io.KnownBytes.{Appends};
+ghost use Rattle.clap.specs.Words.{Row, Text};
+ghost use Rattle.command_line.specs.Options.{AreOptions};
 ghost use Rattle.answers.specs.declared.answer.Answer.{Answer};
 ghost use Rattle.commands.specs.declared.stop.Stop.{Stop};
-ghost use Rattle.commands.specs.Perform.{IsAnswered, IsFaultOf, IsHelp, IsPrinted, IsOptionStop, IsStop};
+ghost use Rattle.commands.specs.Perform.{IsAnswerTo, IsAnswered, IsCommandStop, IsFaultOf, IsHelp};
+ghost use Rattle.commands.specs.Perform.{IsPrinted, IsOptionStop, IsStop};
 
 use crate::fault::CommandFault;
 use crate::judge_command::judge_command;
@@ -46,6 +49,28 @@ fn without_options(alloc: Global, fault: OptionFault) -> Result<Answer, Stop>
     }
 }
 
+/// What the command answers that these options ask for.
+fn answer_to<R: Threads + Wait + Sync, P: Place>(
+    rt: &R,
+    alloc: Global,
+    options: &Options,
+    place: &mut P,
+) -> Result<Answer, Stop>
+    requires { (command : Option (Text × List Row)) × AreOptions options.now command }
+    ensures ok { IfOk result (IsAnswerTo (P.bytes place.old) options.now) }
+    ensures err { IfErr result (IsCommandStop (P.bytes place.old) options.now) }
+{
+    match options {
+        Options::Run(run) => run_command(alloc, run, place),
+        Options::Judge(judge) => judge_command(rt, alloc, judge, place),
+        Options::Trials(trials) => trials_command(rt, alloc, trials, place),
+        Options::Live(live) => live_command(rt, alloc, live, place),
+        Options::Replay(replay) => replay_command(alloc, replay, place),
+        Options::Explain(explain) => tell_command(alloc, Telling::Words, explain, place),
+        Options::Draw(draw) => tell_command(alloc, Telling::Picture, draw, place),
+    }
+}
+
 /// What the command answers that the words ask for, or the help.
 fn answered<R: Threads + Wait + Sync, P: Place>(
     rt: &R,
@@ -57,13 +82,7 @@ fn answered<R: Threads + Wait + Sync, P: Place>(
     ensures err { IfErr result (IsStop (P.bytes place.old) (map string_bytes words.now)) }
 {
     match options(alloc, words) {
-        Ok(Options::Run(run)) => run_command(alloc, &run, place),
-        Ok(Options::Judge(options)) => judge_command(rt, alloc, &options, place),
-        Ok(Options::Trials(trials)) => trials_command(rt, alloc, &trials, place),
-        Ok(Options::Live(live)) => live_command(rt, alloc, &live, place),
-        Ok(Options::Replay(options)) => replay_command(alloc, &options, place),
-        Ok(Options::Explain(options)) => tell_command(alloc, Telling::Words, &options, place),
-        Ok(Options::Draw(options)) => tell_command(alloc, Telling::Picture, &options, place),
+        Ok(options) => answer_to(rt, alloc, &options, place),
         Err(fault) => without_options(alloc, fault),
     }
 }

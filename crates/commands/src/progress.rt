@@ -61,6 +61,16 @@ fn millis(time: Duration) -> u64 {
         .saturating_add(time.subsec_millis() as u64)
 }
 
+/// Whether standard error is a terminal.
+fn is_shown(rt: &HostRuntime) -> bool {
+    rt.stderr().is_terminal()
+}
+
+/// The time at which a campaign begins, where there is a clock.
+fn beginning(rt: &HostRuntime) -> Option<Instant> {
+    Instant::now(rt).ok()
+}
+
 /// Shows how far a campaign is, on standard error where that is a terminal. Its end takes the line away.
 /// Without a clock it shows nothing.
 pub struct Progress<'a> {
@@ -78,8 +88,8 @@ impl<'a> Progress<'a> {
     pub fn new(rt: &'a HostRuntime, trials: usize) -> Progress<'a> {
         Progress {
             rt,
-            is_terminal: rt.stderr().is_terminal(),
-            begun: Instant::now(rt).ok(),
+            is_terminal: is_shown(rt),
+            begun: beginning(rt),
             trials,
             done: AtomicUsize::new(0),
             found: AtomicUsize::new(0),

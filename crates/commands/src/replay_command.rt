@@ -1,5 +1,6 @@
 //! The command `replay`.
-ghost use Rattle.std.specs.Prelude.{◌≡◌, ◌≤◌, All, IfErr, IfOk, Ok, length};
+ghost use Rattle.std.specs.Prelude.{◌≡◌, ◌≤◌, ◌++◌, ◌∷◌, [], All, IfErr, IfOk, Ok, codes, decimal, length};
+ghost use Rattle.std.specs.Prelude.{string_bytes};
 ghost use Rattle.common.specs.declared.limits.TheConstants.{MAX_STEPS};
 ghost use Rattle.litmus.specs.Spelling.{spelling};
 ghost use Rattle.litmus.specs.Text.{reading};
@@ -19,14 +20,21 @@ use crate::stop::Stop;
 use answers::{Answer, DONE, verdict_behind};
 use command_line::FileOptions;
 use common::{EventId, OutOfMemory};
-use itoa::Buffer;
 use judge::{Verdict, judge_alone};
 use litmus::{Program, has_one_text, print};
 use machine::{Step, steps_text};
 use recorder::Recording;
 use recording_text::read_recording;
 use replay::{every_order_is_replayed, is_numbered, most_stores, replay_steps};
-use std::alloc::Global;
+use std::alloc::{AllocError, Global};
+
+/// The line of a capacity, with an empty line behind it.
+fn buffer_line(alloc: Global, capacity: usize) -> Result<String, AllocError>
+    ensures { IfOk result (λ text. string_bytes text
+        ≡ codes "buffer " ++ decimal capacity ++ 10 ∷ 10 ∷ []) }
+{
+    format!(in alloc; "buffer {capacity}\n\n")
+}
 
 /// A capacity, the text of a program and a script, with an empty line between them.
 fn parts_text(
@@ -37,11 +45,7 @@ fn parts_text(
 ) -> Result<Vec<u8>, OutOfMemory>
     ensures { IfOk result (λ text. text.items ≡ parts_text capacity program.now script.now) }
 {
-    let mut buffer = Buffer::new();
-    let mut text = Vec::new(alloc);
-    text.extend_from_slice(b"buffer ")?;
-    text.extend_from_slice(buffer.format(capacity).as_bytes())?;
-    text.extend_from_slice(b"\n\n")?;
+    let mut text = buffer_line(alloc, capacity)?.into_bytes();
     text.extend_from_slice(program)?;
     text.push(b'\n')?;
     text.extend_from_slice(script)?;

@@ -1,7 +1,8 @@
 //! The command `run`.
-ghost use Rattle.std.specs.Prelude.{◌≡◌, IfErr, IfOk, Ok};
+ghost use Rattle.std.specs.Prelude.{◌≡◌, ℕ, List, IfErr, IfOk, Ok};
 ghost use Rattle.litmus.specs.Text.{reading};
 ghost use Rattle.machine.specs.Script.{steps_of};
+ghost use Rattle.commands.specs.Inputs.{AreBytesOf};
 ghost use Rattle.commands.specs.Program.{IsProgramAt, IsProgramStop};
 ghost use Rattle.commands.specs.Refusal.{IsReadingStop, line_fault_name, step_fault_name};
 ghost use Rattle.commands.specs.Perform.{IsRunStop, IsScriptStop};
@@ -60,6 +61,21 @@ fn steps_of(alloc: Global, text: &[u8], program: &Program) -> Result<Vec<Step>, 
     }
 }
 
+/// The steps of the script of this name for a program, or why it is not read.
+fn steps_at<P: Place>(
+    alloc: Global,
+    program: &Program,
+    name: &str,
+    place: &mut P,
+) -> Result<Vec<Step>, Stop>
+    ensures ok { IfOk result (λ steps. (text : List ℕ) × AreBytesOf (P.bytes place.old) name.now text
+        × (steps_of program.now text ≡ Ok steps.items)) }
+    ensures err { IfErr result (IsScriptStop (P.bytes place.old) program.now name.now) }
+{
+    let text = text_at(alloc, place, name)?;
+    steps_of(alloc, text.as_slice(), program)
+}
+
 /// The answer of a program that is run by the script of this name.
 fn script_run<P: Place>(
     alloc: Global,
@@ -71,8 +87,7 @@ fn script_run<P: Place>(
     ensures ok { IfOk result (IsScriptAnswer (P.bytes place.old) options.now program name.now) }
     ensures err { IfErr result (IsScriptStop (P.bytes place.old) program name.now) }
 {
-    let text = text_at(alloc, place, name)?;
-    let steps = steps_of(alloc, text.as_slice(), &program)?;
+    let steps = steps_at(alloc, &program, name, place)?;
     Ok(script_answer(
         alloc,
         program,

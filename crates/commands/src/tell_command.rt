@@ -1,12 +1,10 @@
 //! The commands `explain` and `draw`.
-ghost use Rattle.std.specs.Prelude.{IfErr, IfOk, Ok, Some, length};
+ghost use Rattle.std.specs.Prelude.{IfErr, IfOk, Some, length, option_map, string_bytes};
 ghost use Rattle.litmus.specs.AddressNames.{address_names};
-ghost use Rattle.recording_text.specs.Reading.{IsReadingResult};
 ghost use Rattle.answers.specs.Told.{IsToldAnswer};
 ghost use Rattle.commands.specs.Tell.{AreNamesIn, IsTold, IsToldBy, IsTellingStop, IsNamesStop};
-ghost use Rattle.commands.specs.Judge.{IsUnread};
 
-use crate::judge_command::unread;
+use crate::judge_command::recording_of;
 use crate::place::Place;
 use crate::reading::text_at;
 use crate::run_command::program_at;
@@ -17,19 +15,7 @@ use common::OutOfMemory;
 use explanation::{Telling, is_program_of};
 use litmus::{Program, address_names};
 use recorder::Recording;
-use recording_text::read_recording;
 use std::alloc::Global;
-
-/// The recording that the bytes are, or the line of their refusal.
-fn recording_of(alloc: Global, bytes: &[u8]) -> Result<Recording, Stop>
-    ensures ok { IfOk result (λ recording. IsReadingResult bytes.now (Ok recording)) }
-    ensures err { IfErr result (IsUnread bytes.now) }
-{
-    match read_recording(alloc, bytes) {
-        Ok(recording) => Ok(recording),
-        Err(refusal) => Err(unread(alloc, refusal)?),
-    }
-}
 
 /// The program of this name, of which the recording has to be one.
 fn recorded_program<P: Place>(
@@ -79,6 +65,25 @@ fn unnamed_answer(
     told_answer(alloc, telling, recording, &names)
 }
 
+/// The verdict on a recording, told so, with the names that the options ask for.
+fn told<P: Place>(
+    alloc: Global,
+    telling: Telling,
+    recording: &Recording,
+    options: &ExplainOptions,
+    place: &mut P,
+) -> Result<Answer, Stop>
+    ensures ok { IfOk result (IsToldBy (P.bytes place.old) telling recording.now
+        (option_map string_bytes options.now.program)) }
+    ensures err { IfErr result (IsNamesStop (P.bytes place.old) recording.now
+        (option_map string_bytes options.now.program)) }
+{
+    match &options.program {
+        Some(name) => named_answer(alloc, telling, recording, name.as_str(), place),
+        None => Ok(unnamed_answer(alloc, telling, recording)?),
+    }
+}
+
 /// Tells the verdict on the recording of a named input; it is read before the program is opened.
 pub fn tell_command<P: Place>(
     alloc: Global,
@@ -91,8 +96,5 @@ pub fn tell_command<P: Place>(
 {
     let bytes = text_at(alloc, place, options.file.as_str())?;
     let recording = recording_of(alloc, bytes.as_slice())?;
-    match &options.program {
-        Some(name) => named_answer(alloc, telling, &recording, name.as_str(), place),
-        None => Ok(unnamed_answer(alloc, telling, &recording)?),
-    }
+    told(alloc, telling, &recording, options, place)
 }

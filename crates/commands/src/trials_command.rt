@@ -38,6 +38,29 @@ fn campaign_of(options: &TrialsOptions) -> Campaign
     campaign
 }
 
+/// What the campaign that the options ask for gives: its counts, or one of its trials.
+fn answer_of<R: Threads + Wait + Sync, P: Place>(
+    rt: &R,
+    alloc: Global,
+    options: &TrialsOptions,
+    place: &P,
+) -> Result<Answer, common::OutOfMemory>
+    requires { (rows : List Row) × AreTrialsOptions options.now rows }
+    ensures { IfOk result (IsTrials options.now) }
+{
+    let campaign = campaign_of(options);
+    match options.show {
+        Some(k) => shown_answer(alloc, &campaign, k),
+        None if options.quiet => {
+            campaign_answer(rt, alloc, &campaign, options.workers, &OpenGate)
+        }
+        None => {
+            let progress = place.progress(options.trials);
+            campaign_answer(rt, alloc, &campaign, options.workers, &progress)
+        }
+    }
+}
+
 /// Runs the trials of a campaign and counts their codes, of which the place is told unless the options are
 /// quiet, or shows one of them.
 pub fn trials_command<R: Threads + Wait + Sync, P: Place>(
@@ -50,15 +73,5 @@ pub fn trials_command<R: Threads + Wait + Sync, P: Place>(
     ensures ok { IfOk result (IsTrials options.now) }
     ensures err { IfErr result (λ stop. stop ≡ Fault OutOfMemory) }
 {
-    let campaign = campaign_of(options);
-    match options.show {
-        Some(k) => Ok(shown_answer(alloc, &campaign, k)?),
-        None if options.quiet => {
-            Ok(campaign_answer(rt, alloc, &campaign, options.workers, &OpenGate)?)
-        }
-        None => {
-            let progress = place.progress(options.trials);
-            Ok(campaign_answer(rt, alloc, &campaign, options.workers, &progress)?)
-        }
-    }
+    Ok(answer_of(rt, alloc, options, place)?)
 }
