@@ -32,8 +32,17 @@ fn with<'a>(
         → IfOk result (λ c. app_of c ≡ with_subcommand app sub.top) }
 {
     match program {
-        Ok(program) => program.subcommand(command?),
-        Err(refused) => Err(refused),
+        Ok(program) => match command {
+            Ok(command) => program.subcommand(command),
+            Err(refused) => {
+                drop(program);
+                Err(refused)
+            }
+        },
+        Err(refused) => {
+            drop(command);
+            Err(refused)
+        }
     }
 }
 

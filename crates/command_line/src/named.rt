@@ -49,15 +49,19 @@ fn run_options(alloc: Global, matches: &ArgMatches<'_>) -> Result<Options, Alloc
     requires unrefused { run_refusal (rows_of (found_of matches.now)) ≡ None }
     ensures { IfOk result (λ o. AreOptions o (Some (codes "run", rows_of (found_of matches.now)))) }
 {
+    let seed = number_or(matches, "seed", DEFAULT_SEED);
     let attempts = number_or(matches, "attempts", DEFAULT_ATTEMPTS as u64) as usize;
     let buffer = number_or(matches, "buffer", DEFAULT_BUFFER as u64) as usize;
+    let fault = known_fault(matches);
+    let program = String::from_str(alloc, text(matches, "PROGRAM"))?;
+    let steps = maybe_name(alloc, matches, "steps")?;
     Ok(Options::Run(RunOptions {
-        program: String::from_str(alloc, text(matches, "PROGRAM"))?,
-        steps: maybe_name(alloc, matches, "steps")?,
-        seed: number_or(matches, "seed", DEFAULT_SEED),
+        program,
+        steps,
+        seed,
         attempts,
         buffer,
-        fault: known_fault(matches),
+        fault,
     }))
 }
 
@@ -120,8 +124,8 @@ fn replay_options(alloc: Global, matches: &ArgMatches<'_>) -> Result<Options, Al
     }))
 }
 
-/// The options of `explain` and `draw`: the file is `clap`'s entry, and so is the program where there is one.
-fn explain_options(alloc: Global, matches: &ArgMatches<'_>) -> Result<ExplainOptions, AllocError>
+/// What `explain` and `draw` are asked: the file is `clap`'s entry, and so is the program where there is one.
+fn telling_options(alloc: Global, matches: &ArgMatches<'_>) -> Result<ExplainOptions, AllocError>
     requires { HasText (codes "FILE") (rows_of (found_of matches.now)) }
     ensures { IfOk result (λ o. AreExplainOptions o (rows_of (found_of matches.now))) }
 {
@@ -129,6 +133,22 @@ fn explain_options(alloc: Global, matches: &ArgMatches<'_>) -> Result<ExplainOpt
         file: String::from_str(alloc, text(matches, "FILE"))?,
         program: maybe_name(alloc, matches, "program")?,
     })
+}
+
+/// The options of `explain`.
+fn explain_options(alloc: Global, matches: &ArgMatches<'_>) -> Result<Options, AllocError>
+    requires { HasText (codes "FILE") (rows_of (found_of matches.now)) }
+    ensures { IfOk result (λ o. AreOptions o (Some (codes "explain", rows_of (found_of matches.now)))) }
+{
+    Ok(Options::Explain(telling_options(alloc, matches)?))
+}
+
+/// The options of `draw`.
+fn draw_options(alloc: Global, matches: &ArgMatches<'_>) -> Result<Options, AllocError>
+    requires { HasText (codes "FILE") (rows_of (found_of matches.now)) }
+    ensures { IfOk result (λ o. AreOptions o (Some (codes "draw", rows_of (found_of matches.now)))) }
+{
+    Ok(Options::Draw(telling_options(alloc, matches)?))
 }
 
 /// The options of the command with this name, whose entries are not refused.
@@ -147,8 +167,8 @@ pub fn named_options(
         "trials" => Ok(Options::Trials(trials_options(entries))),
         "live" => live_options(alloc, entries),
         "replay" => replay_options(alloc, entries),
-        "explain" => Ok(Options::Explain(explain_options(alloc, entries)?)),
-        "draw" => Ok(Options::Draw(explain_options(alloc, entries)?)),
+        "explain" => explain_options(alloc, entries),
+        "draw" => draw_options(alloc, entries),
         _ => unreachable!(),
     }
 }
