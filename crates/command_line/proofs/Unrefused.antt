@@ -28,6 +28,12 @@ passed : (b : Bool) (r : OptionRefusal) → (if b then None else Some r) ≡ Non
 passed true r none = refl
 passed false r none = absurd (true≢false (ap is_some none))
 
+-- a fault that is not refused is known
+pub fault_is_known : {F : Type 0} (fault : Option F)
+    → (if is_some fault then None else Some refused.Fault) ≡ None → fault ≡ None → ⊥
+fault_is_known None none unknown = true≢false (ap is_some none)
+fault_is_known (Some fault) none unknown = true≢false (ap is_some unknown)
+
 -- a number that is not refused is within its limits
 pub within : (limit asked n : ℕ) (r : OptionRefusal) → n ≡ asked → refusal_outside limit r asked ≡ None
     → IsInRange limit asked n

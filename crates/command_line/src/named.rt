@@ -124,8 +124,8 @@ fn replay_options(alloc: Global, matches: &ArgMatches<'_>) -> Result<Options, Al
     }))
 }
 
-/// What `explain` and `draw` are asked: the file is `clap`'s entry, and so is the program where there is one.
-fn telling_options(alloc: Global, matches: &ArgMatches<'_>) -> Result<ExplainOptions, AllocError>
+/// The options of `explain` and `draw`: the file is `clap`'s entry, and so is the program where there is one.
+fn explain_options(alloc: Global, matches: &ArgMatches<'_>) -> Result<ExplainOptions, AllocError>
     requires { HasText (codes "FILE") (rows_of (found_of matches.now)) }
     ensures { IfOk result (λ o. AreExplainOptions o (rows_of (found_of matches.now))) }
 {
@@ -133,22 +133,6 @@ fn telling_options(alloc: Global, matches: &ArgMatches<'_>) -> Result<ExplainOpt
         file: String::from_str(alloc, text(matches, "FILE"))?,
         program: maybe_name(alloc, matches, "program")?,
     })
-}
-
-/// The options of `explain`.
-fn explain_options(alloc: Global, matches: &ArgMatches<'_>) -> Result<Options, AllocError>
-    requires { HasText (codes "FILE") (rows_of (found_of matches.now)) }
-    ensures { IfOk result (λ o. AreOptions o (Some (codes "explain", rows_of (found_of matches.now)))) }
-{
-    Ok(Options::Explain(telling_options(alloc, matches)?))
-}
-
-/// The options of `draw`.
-fn draw_options(alloc: Global, matches: &ArgMatches<'_>) -> Result<Options, AllocError>
-    requires { HasText (codes "FILE") (rows_of (found_of matches.now)) }
-    ensures { IfOk result (λ o. AreOptions o (Some (codes "draw", rows_of (found_of matches.now)))) }
-{
-    Ok(Options::Draw(telling_options(alloc, matches)?))
 }
 
 /// The options of the command with this name, whose entries are not refused.
@@ -167,8 +151,8 @@ pub fn named_options(
         "trials" => Ok(Options::Trials(trials_options(entries))),
         "live" => live_options(alloc, entries),
         "replay" => replay_options(alloc, entries),
-        "explain" => explain_options(alloc, entries),
-        "draw" => draw_options(alloc, entries),
+        "explain" => Ok(Options::Explain(explain_options(alloc, entries)?)),
+        "draw" => Ok(Options::Draw(explain_options(alloc, entries)?)),
         _ => unreachable!(),
     }
 }

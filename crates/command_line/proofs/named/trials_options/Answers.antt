@@ -3,13 +3,54 @@ use Rattle.clap.specs.Words.{found_of, rows_of}
 use Rattle.common.specs.declared.limits.TheConstants.{MAX_CAPACITY, MAX_STEPS, MAX_TRIALS, MAX_WORKERS}
 use Rattle.litmus.specs.declared.shape_error.ShapeError.TheVariants.{K5, K6, K7}
 use Rattle.command_line.specs.declared.options.OptionRefusal.TheVariants as refused
-use Rattle.command_line.specs.Entries.{addresses_of, attempts_of, capacity_of, cores_of, ops_of, show_of}
-use Rattle.command_line.specs.Entries.{trials_of, workers_of}
+use Rattle.command_line.specs.Entries.{addresses_of, attempts_of, capacity_of, cores_of, machine_fault_of}
+use Rattle.command_line.specs.Entries.{ops_of, show_of, trials_of, workers_of}
 use Rattle.command_line.specs.Refusals.{attempts_refusal, buffer_refusal, fault_refusal, other_refusal}
 use Rattle.command_line.specs.Refusals.{runs_refusal, show_refusal, sizes_refusal, trials_refusal}
 use Rattle.command_line.specs.Refusals.{workers_refusal}
-use Rattle.command_line.proofs.Unrefused.{neither_refused, shape_is, shown_is, within}
+use Rattle.command_line.proofs.Unrefused.{fault_is_known, neither_refused, shape_is, shown_is, within}
 use Rattle.command_line.proofs.named.trials_options.Goals as goal
+
+pub number_or-requires : goal.number_or-requires
+number_or-requires c = c.requires.entries.cores
+
+pub number_or-requires-2 : goal.number_or-requires-2
+number_or-requires-2 c = c.requires.entries.ops
+
+pub number_or-requires-3 : goal.number_or-requires-3
+number_or-requires-3 c = c.requires.entries.addresses
+
+pub number_or-requires-4 : goal.number_or-requires-4
+number_or-requires-4 c = c.requires.entries.seed
+
+pub number_or-requires-5 : goal.number_or-requires-5
+number_or-requires-5 c = c.requires.entries.trials
+
+pub number_or-requires-6 : goal.number_or-requires-6
+number_or-requires-6 c = c.requires.entries.attempts
+
+pub number_or-requires-7 : goal.number_or-requires-7
+number_or-requires-7 c = c.requires.entries.buffer
+
+pub number_or-requires-8 : goal.number_or-requires-8
+number_or-requires-8 c = c.requires.entries.workers
+
+pub show-requires : goal.show-requires
+show-requires c = c.requires.entries.show
+
+pub flag-requires : goal.flag-requires
+flag-requires c = c.requires.entries.quiet
+
+pub known_fault-requires : goal.known_fault-requires
+known_fault-requires c =
+    let rows = rows_of (found_of c.args.matches.now) in
+    let all = neither_refused (sizes_refusal rows) (option_or (runs_refusal rows) (other_refusal rows))
+    c.requires.unrefused in
+    let later = neither_refused (runs_refusal rows) (other_refusal rows) all.1 in
+    let others = neither_refused (workers_refusal rows)
+    (option_or (fault_refusal rows) (show_refusal rows)) later.1 in
+    fault_is_known (machine_fault_of rows)
+    (neither_refused (fault_refusal rows) (show_refusal rows) others.1).0
 
 pub returns : goal.returns
 returns c =
