@@ -9,7 +9,7 @@ ghost use Rattle.explanation.specs.Cycle.{SaysCycle};
 
 use crate::events::put_written;
 use crate::lines::{put_before, put_indent, put_line};
-use crate::numbers::put_number;
+use crate::numbers::put_text_and_number;
 use crate::pieces::put_text;
 use common::{Addr, EventId, OutOfMemory};
 use indexmap::IndexSet;
@@ -120,8 +120,11 @@ fn put_links(
 fn put_heading(out: &mut Vec<u8>, count: usize) -> Result<(), OutOfMemory>
     ensures { OnOk result (out.new.items ≡ out.old.items ++ cycle_heading count) }
 {
-    put_text(out, b"No memory order explains this recording: these ")?;
-    put_number(out, count)?;
+    put_text_and_number(
+        out,
+        b"No memory order explains this recording: these ",
+        count,
+    )?;
     put_text(out, b" events would each come before the next.\n")
 }
 

@@ -8,7 +8,7 @@ ghost use Rattle.explanation.specs.Drawing.{thin_lines};
 ghost use Rattle.explanation.specs.Nodes.{texts_below};
 
 use crate::edges::{Edge, co_edge, fr_edge, is_drawn, po_edge, rf_edge};
-use crate::numbers::put_number;
+use crate::numbers::put_text_and_number;
 use crate::pieces::put_text;
 use common::{EventId, OutOfMemory};
 use recorder::Recording;
@@ -22,10 +22,8 @@ pub(crate) fn put_ends(
 ) -> Result<(), OutOfMemory>
     ensures { OnOk result (out.new.items ≡ out.old.items ++ ends_text first second) }
 {
-    put_text(out, b"  e")?;
-    put_number(out, first as usize)?;
-    put_text(out, b" -> e")?;
-    put_number(out, second as usize)
+    put_text_and_number(out, b"  e", first as usize)?;
+    put_text_and_number(out, b" -> e", second as usize)
 }
 
 /// Adds the name and the colour of an edge.

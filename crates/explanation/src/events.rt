@@ -4,7 +4,7 @@ ghost use Rattle.std.specs.Prelude.{◌≡◌, ◌++◌, ◌∷◌, OnOk, Some, 
 ghost use Rattle.recorder.specs.declared.event.Event.TheVariants.{L, S, R, C};
 ghost use Rattle.explanation.specs.Events.{address_text, written_text, source_text, read_text, event_text};
 
-use crate::numbers::put_number;
+use crate::numbers::put_text_and_number;
 use crate::pieces::put_text;
 use common::{Addr, EventId, OutOfMemory};
 use indexmap::IndexSet;
@@ -46,8 +46,7 @@ fn put_source(out: &mut Vec<u8>, source: Option<EventId>) -> Result<(), OutOfMem
     let Some(source) = source else {
         return put_text(out, b", the initial value");
     };
-    put_text(out, b", from ")?;
-    put_number(out, source as usize)
+    put_text_and_number(out, b", from ", source as usize)
 }
 
 /// Adds an address that was read, the value, and where it came from.
@@ -60,8 +59,7 @@ fn put_read(
 {
     let (address, value, source) = read;
     put_address(out, names, address)?;
-    put_text(out, b" = ")?;
-    put_number(out, value as usize)?;
+    put_text_and_number(out, b" = ", value as usize)?;
     put_source(out, source)
 }
 
@@ -91,8 +89,7 @@ fn put_store(
 {
     put_text(out, b"st ")?;
     put_address(out, names, address)?;
-    put_text(out, b" ")?;
-    put_number(out, value as usize)
+    put_text_and_number(out, b" ", value as usize)
 }
 
 /// Adds what a read-modify-write did.
@@ -108,8 +105,7 @@ fn put_rmw(
 {
     put_text(out, b"rmw ")?;
     put_read(out, names, read)?;
-    put_text(out, b", wrote ")?;
-    put_number(out, value as usize)
+    put_text_and_number(out, b", wrote ", value as usize)
 }
 
 /// Adds what a compare-and-swap did that failed.

@@ -5,7 +5,7 @@ ghost use Rattle.recorder.specs.Execution.{event_at, core_of};
 ghost use Rattle.explanation.specs.Events.{event_width, core_width, aligned, event_line, indent};
 
 use crate::events::put_event;
-use crate::numbers::{digits, put_aligned, put_number, put_spaces};
+use crate::numbers::{digits, put_aligned, put_spaces, put_text_and_number};
 use crate::pieces::put_text;
 use common::{CoreId, EventId, OutOfMemory};
 use indexmap::IndexSet;
@@ -83,6 +83,5 @@ pub(crate) fn put_indent(out: &mut Vec<u8>, recording: &Recording) -> Result<(),
 pub(crate) fn put_before(out: &mut Vec<u8>, number: EventId) -> Result<(), OutOfMemory>
     ensures { OnOk result (out.new.items ≡ out.old.items ++ (codes "before " ++ decimal number)) }
 {
-    put_text(out, b"before ")?;
-    put_number(out, number as usize)
+    put_text_and_number(out, b"before ", number as usize)
 }

@@ -8,7 +8,7 @@ ghost use Rattle.explanation.specs.Order.{lawful_lines, placed_lines, order_text
 
 use crate::events::put_address;
 use crate::lines::{event_of, put_indent, put_line};
-use crate::numbers::put_number;
+use crate::numbers::{put_number, put_text_and_number};
 use crate::pieces::put_text;
 use common::{Addr, EventId, OutOfMemory};
 use indexmap::IndexSet;
@@ -47,8 +47,11 @@ fn put_forwarded(out: &mut Vec<u8>, source: EventId) -> Result<(), OutOfMemory>
         ++ (codes "forwarded from its core's store buffer, which " ++ decimal source
         ++ codes " leaves later")) }
 {
-    put_text(out, b"forwarded from its core's store buffer, which ")?;
-    put_number(out, source as usize)?;
+    put_text_and_number(
+        out,
+        b"forwarded from its core's store buffer, which ",
+        source as usize,
+    )?;
     put_text(out, b" leaves later")
 }
 

@@ -7,7 +7,7 @@ ghost use Rattle.explanation.specs.Nodes.{cluster_heading, cluster_text};
 
 use crate::events::put_event;
 use crate::lines::event_of;
-use crate::numbers::put_number;
+use crate::numbers::put_text_and_number;
 use crate::pieces::put_text;
 use common::{EventId, OutOfMemory};
 use indexmap::IndexSet;
@@ -18,10 +18,8 @@ use recorder::{Event, Recording};
 fn put_node_heading(out: &mut Vec<u8>, number: EventId) -> Result<(), OutOfMemory>
     ensures { OnOk result (out.new.items ≡ out.old.items ++ node_heading number) }
 {
-    put_text(out, b"    e")?;
-    put_number(out, number as usize)?;
-    put_text(out, b" [label=\"")?;
-    put_number(out, number as usize)?;
+    put_text_and_number(out, b"    e", number as usize)?;
+    put_text_and_number(out, b" [label=\"", number as usize)?;
     put_text(out, b": ")
 }
 
@@ -80,10 +78,8 @@ fn put_nodes(
 fn put_cluster_heading(out: &mut Vec<u8>, core: usize) -> Result<(), OutOfMemory>
     ensures { OnOk result (out.new.items ≡ out.old.items ++ cluster_heading core) }
 {
-    put_text(out, b"  subgraph cluster_")?;
-    put_number(out, core)?;
-    put_text(out, b" {\n    label=\"core ")?;
-    put_number(out, core)?;
+    put_text_and_number(out, b"  subgraph cluster_", core)?;
+    put_text_and_number(out, b" {\n    label=\"core ", core)?;
     put_text(out, b"\";\n")
 }
 

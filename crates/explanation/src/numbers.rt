@@ -23,6 +23,18 @@ pub(crate) fn put_number(out: &mut Vec<u8>, number: usize) -> Result<(), OutOfMe
     put_text(out, buffer.format(number).as_bytes())
 }
 
+/// Adds a text and a number behind it.
+pub(crate) fn put_text_and_number(
+    out: &mut Vec<u8>,
+    text: &[u8],
+    number: usize,
+) -> Result<(), OutOfMemory>
+    ensures { OnOk result (out.new.items ≡ out.old.items ++ (text.now ++ decimal number)) }
+{
+    put_text(out, text)?;
+    put_number(out, number)
+}
+
 /// Adds so many spaces.
 pub(crate) fn put_spaces(out: &mut Vec<u8>, count: usize) -> Result<(), OutOfMemory>
     ensures { OnOk result (out.new.items ≡ out.old.items ++ spaces count) }

@@ -8,7 +8,7 @@ ghost use Rattle.explanation.specs.Overlook.{overlook_heading, store_line, inste
 
 use crate::events::put_written;
 use crate::lines::{put_before, put_indent, put_line};
-use crate::numbers::put_number;
+use crate::numbers::{put_number, put_text_and_number};
 use crate::pieces::put_text;
 use common::{Addr, EventId, OutOfMemory};
 use indexmap::IndexSet;
@@ -19,10 +19,12 @@ use recorder::Recording;
 fn put_heading(out: &mut Vec<u8>, load: EventId, store: EventId) -> Result<(), OutOfMemory>
     ensures { OnOk result (out.new.items ≡ out.old.items ++ overlook_heading load store) }
 {
-    put_text(out, b"No memory order explains this recording: event ")?;
-    put_number(out, load as usize)?;
-    put_text(out, b" overlooks event ")?;
-    put_number(out, store as usize)?;
+    put_text_and_number(
+        out,
+        b"No memory order explains this recording: event ",
+        load as usize,
+    )?;
+    put_text_and_number(out, b" overlooks event ", store as usize)?;
     put_text(out, b", a newer write of its own core.\n")
 }
 

@@ -1,6 +1,7 @@
-use Rattle.explanation.proofs.Texts.{four_last}
+use Rattle.std.specs.Prelude.{codes, decimal}
+use Rattle.explanation.proofs.Texts.{two_numbers}
 use Rattle.explanation.proofs.edge_lines.put_ends.Goals as goal
 
 pub returns : goal.returns
-returns c = four_last _ _ _ _ _ _ _ _ _ _ c.in_ok-put_text.ensures c.in_ok-put_number.ensures
-    c.in_ok-put_text-2.ensures c.put_number-2.ensures
+returns c = two_numbers _ _ _ _ (codes "  e") (decimal c.args.first) (codes " -> e") (decimal c.args.second)
+    c.in_ok-put_text_and_number.ensures c.put_text_and_number-2.ensures

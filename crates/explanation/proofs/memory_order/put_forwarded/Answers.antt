@@ -1,6 +1,5 @@
-use Rattle.explanation.proofs.Texts.{three_last}
+use Rattle.explanation.proofs.Texts.{two_last}
 use Rattle.explanation.proofs.memory_order.put_forwarded.Goals as goal
 
 pub returns : goal.returns
-returns c = three_last _ _ _ _ _ _ _ _ c.in_ok-put_text.ensures c.in_ok-put_number.ensures
-    c.put_text-2.ensures
+returns c = two_last _ _ _ _ _ _ c.in_ok-put_text_and_number.ensures c.put_text.ensures

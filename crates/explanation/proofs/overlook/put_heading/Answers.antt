@@ -1,6 +1,8 @@
-use Rattle.explanation.proofs.Texts.{five_last}
+use Rattle.std.specs.Prelude.{codes, decimal}
+use Rattle.explanation.proofs.Texts.{two_numbers_last}
 use Rattle.explanation.proofs.overlook.put_heading.Goals as goal
 
 pub returns : goal.returns
-returns c = five_last _ _ _ _ _ _ _ _ _ _ _ _ c.in_ok-put_text.ensures c.in_ok-put_number.ensures
-    c.in_ok-put_text-2.ensures c.in_ok-put_number-2.ensures c.put_text-3.ensures
+returns c = two_numbers_last _ _ _ _ _ (codes "No memory order explains this recording: event ")
+    (decimal c.args.load) (codes " overlooks event ") (decimal c.args.store) _
+    c.in_ok-put_text_and_number.ensures c.in_ok-put_text_and_number-2.ensures c.put_text.ensures
