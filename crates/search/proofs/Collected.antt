@@ -1,6 +1,7 @@
 -- Rows that are collected by source, while the seat learns more.
 use Rattle.std.proofs.Common.{◌≡◌, ◌<◌, ◌≤◌, ◌+◌, ◌∙◌, inl, inr, ℕ, zero, suc, drop, Option, None, Some, List}
-use Rattle.std.proofs.Common.{Result, Ok, Err, IfOk, [], ◌∷◌, ◌++◌, length, get_or, IfSome, Contains, arith, refl, sym, ap}
+use Rattle.std.proofs.Common.{Result, Ok, Err, IfOk, [], ◌∷◌, ◌++◌}
+use Rattle.std.proofs.Common.{length, get_or, IfSome, Contains, arith, refl, sym, ap}
 use Rattle.std.proofs.Common.{subst, length-append}
 use Rattle.std.proofs.lemmas.Bool.{cases_eq}
 use Rattle.std.proofs.lemmas.List.{get_or_push, get_or_append_left}

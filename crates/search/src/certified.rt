@@ -43,6 +43,25 @@ fn certificate_of(
     Ok(Some(Certificate { cycle, rows: lists }))
 }
 
+/// The rows of all events, cut at the length of the shortest cycles, that workers make as in
+/// `run_jobs`.
+fn rows_by<R: Threads + Wait + Sync, G: Gate>(
+    rt: &R,
+    alloc: Global,
+    relation: &Arc<Relation>,
+    workers: usize,
+    gate: &G,
+) -> Result<Vec<LabelRow>, OutOfMemory>
+    requires { (1 ≤ workers) × (workers ≤ MAX_WORKERS) }
+    ensures { IfOk result (λ rows. (cap : Option ℕ)
+        × AreLeastRows (arc_value relation.now) cap rows.items) }
+{
+    let table: &Relation = relation;
+    let jobs = jobs(alloc, Arc::try_clone(relation)?)?;
+    let (best, mut seat) = Best::open(alloc, table)?;
+    run_jobs(rt, alloc, jobs, &best, &mut seat, workers, gate)
+}
+
 /// The first in dictionary order of the shortest cycles, with the rows of all events, cut at its
 /// length; none where there is no cycle.
 pub fn shortest_cycle(
@@ -61,24 +80,6 @@ pub fn shortest_cycle(
     let jobs = jobs(alloc, Arc::try_clone(relation)?)?;
     let rows = run_alone(alloc, jobs)?;
     certificate_of(alloc, relation, rows)
-}
-
-/// The rows of all events, cut at the length of the shortest cycles, made by workers as in `run_jobs`.
-fn rows_by<R: Threads + Wait + Sync, G: Gate>(
-    rt: &R,
-    alloc: Global,
-    relation: &Arc<Relation>,
-    workers: usize,
-    gate: &G,
-) -> Result<Vec<LabelRow>, OutOfMemory>
-    requires { (1 ≤ workers) × (workers ≤ MAX_WORKERS) }
-    ensures { IfOk result (λ rows. (cap : Option ℕ)
-        × AreLeastRows (arc_value relation.now) cap rows.items) }
-{
-    let table: &Relation = relation;
-    let jobs = jobs(alloc, Arc::try_clone(relation)?)?;
-    let (best, mut seat) = Best::open(alloc, table)?;
-    run_jobs(rt, alloc, jobs, &best, &mut seat, workers, gate)
 }
 
 /// The same, from rows that 1 to `MAX_WORKERS` workers make, as in `run_jobs`.

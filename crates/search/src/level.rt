@@ -8,6 +8,15 @@ use bitrow::BitRow;
 use common::EventId;
 use std::simd::prelude::*;
 
+/// How many words of so many events are left from one on.
+fn words_left(events: usize, at: usize) -> usize
+    requires { 64 * at < events }
+    ensures some { 0 < result }
+    ensures within { 64 * (at + result) < events + 64 }
+{
+    events.div_ceil(64) - at
+}
+
 /// Gives the label to each event of the level; as many words, from one on, of the events that these are
 /// forced before.
 fn take_words<const N: usize>(
@@ -56,15 +65,6 @@ fn take_part<const N: usize>(
 {
     let words = take_words::<N>(rows, level, label, at, labels);
     next.put(at, words);
-}
-
-/// How many words of so many events are left from one on.
-fn words_left(events: usize, at: usize) -> usize
-    requires { 64 * at < events }
-    ensures some { 0 < result }
-    ensures within { 64 * (at + result) < events + 64 }
-{
-    events.div_ceil(64) - at
 }
 
 /// The same in 1, 2, 4 or 8 words, as many as are left; the word behind them.

@@ -131,7 +131,7 @@ fn row_or<G: Gate>(
     made
 }
 
-/// Puts the row in a place, or else a row that is made here, behind the rows of the events before it.
+/// Puts the row in a place, or else a row that is made here, behind the rows of the events before.
 fn add_row<G: Gate>(
     alloc: Global,
     relation: &Arc<Relation>,
@@ -145,7 +145,8 @@ fn add_row<G: Gate>(
     requires source { source < length (arc_value relation.now) }
     requires seat { IsSeatFor best.now (arc_value relation.now) seat.old }
     requires slot { IfSome slot (IsRowFrom (arc_value relation.now) (lengths_of seat.old) source) }
-    requires rows { AreSlotsFilled (arc_value relation.now) (lengths_of seat.old) source rows.old.items }
+    requires rows { AreSlotsFilled (arc_value relation.now) (lengths_of seat.old) source
+        rows.old.items }
     ensures seat { IsSeatFor best.now (arc_value relation.now) seat.new }
     ensures kept { Keeps (lengths_of seat.old) (lengths_of seat.new) }
     ensures rows { IfOk result (λ _. AreSlotsFilled (arc_value relation.now) (lengths_of seat.new)
