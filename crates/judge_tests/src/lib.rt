@@ -8,9 +8,13 @@ mod bits;
 #[cfg(test)]
 mod bound;
 #[cfg(test)]
+mod buffers;
+#[cfg(test)]
 mod certificates;
 #[cfg(test)]
 mod forced;
+#[cfg(test)]
+mod limits;
 #[cfg(test)]
 mod memory;
 #[cfg(test)]

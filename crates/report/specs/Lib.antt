@@ -2,3 +2,4 @@ pub mod Answer
 pub mod Devices
 pub mod Refusal
 pub mod Verdict
+pub mod Judged

@@ -2,6 +2,7 @@
 #![tactic(auto)]
 
 mod answering;
+mod buffer;
 mod cycle;
 mod devices;
 mod memory;
@@ -13,6 +14,7 @@ mod stream;
 mod verdict;
 
 pub use answering::answer;
+pub use buffer::{OUT_OF_MEMORY, REFUSED, TOO_LONG, WRITTEN, verdict_into};
 pub use devices::{Failed, Sink, Source};
 pub use memory::{MemorySink, MemorySource};
 pub use numbers::put_number;

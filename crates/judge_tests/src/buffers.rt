@@ -1,6 +1,6 @@
-//! What is written for texts by hand.
+//! Verdicts that are written into buffers.
 
-use crate::{REFUSED, TOO_LONG, WRITTEN, verdicts_judge};
+use report::{REFUSED, TOO_LONG, WRITTEN, verdict_into};
 use std::test::Fail;
 
 const OVERLOOKED_STORE: &[u8] =
@@ -15,12 +15,12 @@ fn a_verdict_is_written_where_it_has_room(rt: HostRuntime) -> Result<(), Fail> {
     let mut len = 0;
     let mut out = [7u8; 27];
     assert_eq!(rt;
-        verdicts_judge(alloc, OVERLOOKED_STORE, &mut out, &mut len),
+        verdict_into(alloc, OVERLOOKED_STORE, &mut out, &mut len),
         WRITTEN
     );
     assert_eq!(rt; len, 25);
     assert_eq!(rt; out.as_slice(), FILLED);
-    assert_eq!(rt; verdicts_judge(alloc, b"{}", &mut out, &mut len), REFUSED);
+    assert_eq!(rt; verdict_into(alloc, b"{}", &mut out, &mut len), REFUSED);
     assert_eq!(rt; len, 0);
     assert_eq!(rt; out.as_slice(), FILLED);
     Ok(())
@@ -32,14 +32,14 @@ fn a_verdict_without_room_says_its_length(rt: HostRuntime) -> Result<(), Fail> {
     let mut len = 0;
     let mut short = [7u8; 24];
     assert_eq!(rt;
-        verdicts_judge(alloc, OVERLOOKED_STORE, &mut short, &mut len),
+        verdict_into(alloc, OVERLOOKED_STORE, &mut short, &mut len),
         TOO_LONG
     );
     assert_eq!(rt; len, 25);
     assert_eq!(rt; short, [7u8; 24]);
     let mut full = [7u8; 25];
     assert_eq!(rt;
-        verdicts_judge(alloc, OVERLOOKED_STORE, &mut full, &mut len),
+        verdict_into(alloc, OVERLOOKED_STORE, &mut full, &mut len),
         WRITTEN
     );
     assert_eq!(rt; len, 25);
