@@ -7,7 +7,7 @@ use crate::answer::{Answer, DONE, UNFINISHED, VIOLATION};
 use crate::ledger_text::campaign_text;
 use crate::runs::finished;
 use common::{Gate, MAX_WORKERS, OutOfMemory};
-use litmus::print;
+use litmus_text::print;
 use std::alloc::Global;
 use std::sync::Wait;
 use std::thread::Threads;

@@ -15,7 +15,8 @@ use crate::refusal::{line_fault_name, refusal_line, step_fault_name};
 use crate::stop::Stop;
 use answers::{Answer, script_answer, seeded_answer};
 use command_line::RunOptions;
-use litmus::{LitmusError, Program, parse};
+use litmus::{LitmusError, Program};
+use litmus_text::parse;
 use machine::{Step, StepsError, parse_steps};
 use std::alloc::Global;
 

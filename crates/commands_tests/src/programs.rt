@@ -1,7 +1,8 @@
 //! Programs at their limits, and past them.
 
 use common::{MAX_ADDRESSES, MAX_CORES, MAX_EVENTS};
-use litmus::{LineFault, LitmusError, parse};
+use litmus::{LineFault, LitmusError};
+use litmus_text::parse;
 use std::alloc::Global;
 use std::fmt::Write;
 use std::test::Fail;

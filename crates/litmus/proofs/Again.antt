@@ -16,7 +16,7 @@ use Rattle.litmus.specs.Reading.{Reading, read_from}
 use Rattle.litmus.specs.Text.{drafting, finished, reading}
 use Rattle.litmus.specs.Spelling.{spelling, init_text, name_at}
 use Rattle.litmus.specs.NameListLaws.{name_at_place}
-use Rattle.litmus.proofs.Initial.{filled_more, filled_whole}
+use Rattle.litmus.specs.DraftLaws.{filled_more, filled_whole}
 use Rattle.litmus.proofs.CoresAgain.{AreNames, all_of_it, cores_read}
 use Rattle.litmus.proofs.OneText.{said_again}
 

@@ -23,9 +23,9 @@ use Rattle.litmus.specs.Steps.{load_step, write_step, compare_step}
 use Rattle.litmus.specs.Drafts.{Draft, body_step, plain, said_step, step, with_body}
 use Rattle.litmus.specs.Reading.{read_from}
 use Rattle.litmus.specs.Spelling.{core_text, op_text, op_line, name_at}
-use Rattle.litmus.proofs.OnLists.{bind_some}
+use Rattle.litmus.specs.TestLaws.{bind_some}
 use Rattle.litmus.proofs.OneLine.{IsNamed, Fits}
-use Rattle.litmus.proofs.Cores.{Cores, with_op-is, count-append, ops_grow, cores_grow, use_below}
+use Rattle.litmus.specs.CoreLaws.{Cores, with_op-is, count-append, ops_grow, cores_grow, use_below}
 use Rattle.litmus.proofs.Cuts.{cut_at, used_so}
 use Rattle.litmus.proofs.OneText.{said_again}
 

@@ -2,15 +2,10 @@ pub mod Values
 pub mod OnLists
 pub mod ManyNames
 pub mod OneLine
-pub mod Cores
 pub mod OneStep
-pub mod Initial
 pub mod OneDraft
 pub mod OneText
 pub mod Cuts
 pub mod CoresAgain
 pub mod Again
-pub mod Parsing
 pub mod Soundness
-pub mod Drawn
-pub mod NextWords

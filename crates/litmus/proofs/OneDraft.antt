@@ -11,14 +11,14 @@ use Rattle.litmus.specs.declared.fault.LineFault.TheVariants.{L1, L5, L6, L7, L8
 use Rattle.litmus.specs.Lines.{Line, core_line, fence_line, load_line, write_line, compare_line, init_line}
 use Rattle.litmus.specs.Lines.{line_of}
 use Rattle.litmus.specs.Names.{name_eq}
-use Rattle.litmus.specs.Parts.{Body, IsProgram, IsSmall}
+use Rattle.litmus.specs.Parts.{Body, IsSmall}
 use Rattle.litmus.specs.Steps.{name_number, core_step, fence_step, load_step, write_step, compare_step}
 use Rattle.litmus.specs.Steps.{unless}
 use Rattle.litmus.specs.Drafts.{Draft, IsDraft, body_step, filled, init_fault, init_step, plain}
 use Rattle.litmus.specs.Drafts.{drafted_program, said_step, step, with_body}
 use Rattle.litmus.specs.Spelling.{body_text, init_text, line_text, name_at, spelling, value_text}
 use Rattle.litmus.specs.NameListLaws.{all_push, is_new, is_there}
-use Rattle.litmus.proofs.Initial.{filled_length, filled_text, init_append, zeros_small}
+use Rattle.litmus.specs.DraftLaws.{filled_length, filled_text, init_append, zeros_small}
 use Rattle.litmus.proofs.OneLine.{Reads, line_reads}
 use Rattle.litmus.proofs.OneStep.{Keeps, keeps_core, keeps_fence, keeps_load, keeps_write, keeps_compare}
 
@@ -196,20 +196,6 @@ step_keeps d e line h f = by (line_of line) refl
         (sym (ap (λ (o : Option Line). said_step d o) is) ∙ f)
 
 -- ---- the program of a draft
-
--- it is a program
-pub program_is : (d : Draft) → IsDraft d → IsProgram (drafted_program d)
-program_is d h = record {
-  few_cores = h.body.few_cores;
-  few_ops = h.body.few_ops;
-  few_names = h.body.few_names;
-  values = h.body.values;
-  lawful = h.body.lawful;
-  distinct = h.body.distinct;
-  numbered = h.body.numbered;
-  init_length = filled_length (length d.body.names) d.init h.few;
-  init_values = zeros_small d.init (length d.body.names - length d.init) h.values;
-}
 
 -- its text is what was read
 pub program_text : (d : Draft) → spelling (drafted_program d) ≡ draft_text d

@@ -1,8 +1,8 @@
 -- After each line of a core there are the names and operations of a program, and the line is their text.
-use Rattle.std.proofs.Common.{◌≡◌, ℕ, ◌<◌, ◌≤◌, ◌==◌, ◌^◌, ◌&&◌, nat_lt, List, [], ◌∷◌, ◌++◌, length, Bool}
+use Rattle.std.proofs.Common.{◌≡◌, ℕ, ◌<◌, ◌==◌, ◌^◌, ◌&&◌, nat_lt, List, [], ◌∷◌, ◌++◌, length, Bool}
 use Rattle.std.proofs.Common.{true, false, cond, Option, Some, None, Result, Ok, Err, refl, arith, sym, ap}
-use Rattle.std.proofs.Common.{◌∙◌, subst, codes}
-use Rattle.std.specs.List.{AllByRecursion, IsDistinct, flat_map}
+use Rattle.std.proofs.Common.{◌∙◌, codes}
+use Rattle.std.specs.List.{AllByRecursion}
 use Rattle.std.proofs.lemmas.Bool.{ltb-true, ltb-false, eqb-false}
 use Rattle.std.proofs.lemmas.List.{length-append, append-nil}
 use Rattle.std.proofs.lemmas.Grind.{flat_map-append}
@@ -14,15 +14,14 @@ use Rattle.litmus.specs.declared.line.Write.TheVariants as writes
 use Rattle.litmus.specs.declared.fault.LineFault.{LineFault}
 use Rattle.litmus.specs.declared.fault.LineFault.TheVariants.{L1, L2, L3, L4, L5}
 use Rattle.common.specs.declared.limits.TheConstants.{MAX_CORES, MAX_EVENTS, MAX_ADDRESSES}
-use Rattle.litmus.specs.Names.{AreLawful, name_eq, name_of, name_text}
+use Rattle.litmus.specs.Names.{name_of, name_text}
 use Rattle.litmus.specs.Lines.{load_line, write_line, compare_line}
 use Rattle.litmus.specs.Parts.{Small, Body, IsBody, op_count, addr_of, use_addr}
 use Rattle.litmus.specs.Steps.{names_with, name_number, with_op, write_op, op_fault, unless, core_step}
 use Rattle.litmus.specs.Steps.{fence_step, load_step, write_step, compare_step}
 use Rattle.litmus.specs.Spelling.{body_text, core_text, op_text, line_text, name_at}
 use Rattle.litmus.specs.NameListLaws.{one_name, all_push}
-use Rattle.litmus.proofs.Cores.{Cores, last_core, with_op-is, count-append, use_with_op, use_cores-push}
-use Rattle.litmus.proofs.Cores.{cores_kept, text_more, small_more}
+use Rattle.litmus.specs.CoreLaws.{Grown, grown, count-append, use_cores-push}
 
 -- a line that was read
 abbrev pub done : Body → Result Body LineFault
@@ -63,71 +62,6 @@ pub op_room : (p : Body) → op_fault p ≡ None → (0 < length p.cores) ×
 op_room p e =
     let r = room_in (length p.cores == 0) (nat_lt (op_count p.cores) MAX_EVENTS) L1 L3 e in
     let other = eqb-false (length p.cores) 0 r.0 in (omega (arith, other), ltb-true _ _ r.1)
-
-pub record Grown (names : List Name) (cores : Cores) (op : Op) (more : List Name)
-    (after : Cores) : Type 0 where
-  pub body : IsBody (record { names = more; cores = after })
-  pub text : body_text (record { names = more; cores = after })
-      ≡ body_text (record { names = names; cores = cores }) ++ op_text more op
-
--- one operation more in the last core keeps it
-grown_at : (names more extra : List Name) (front : Cores) (last : List Op) (op : Op) →
-    IsBody (record { names = names; cores = front ++ last ∷ [] }) →
-    op_count (front ++ last ∷ []) < MAX_EVENTS → more ≡ names ++ extra → use_addr (length names)
-    (addr_of op) ≡ Some (length more) → length more ≤ MAX_ADDRESSES →
-    AreLawful more → IsDistinct name_eq more → Small op →
-    Grown names (front ++ last ∷ []) op more (front ++ (last ++ op ∷ []) ∷ [])
-grown_at names more extra front last op h room kept used few lawful distinct small =
-    let cores = front ++ last ∷ [] in
-    record {
-      body = record {
-        few_cores = omega (
-          arith,
-          h.few_cores,
-          length-append front (last ∷ []),
-          length-append front ((last ++ op ∷ []) ∷ []),
-        );
-        few_ops = omega (
-          arith,
-          room,
-          count-append front last,
-          count-append front (last ++ op ∷ []),
-          length-append last (op ∷ []),
-        );
-        few_names = few;
-        values = small_more front last op h.values small;
-        lawful = lawful;
-        distinct = distinct;
-        numbered = use_with_op front last op ∙ rw h.numbered used;
-      };
-      text =
-          let old : flat_map (core_text more) cores ≡ flat_map (core_text names) cores =
-          rw kept (cores_kept names extra cores 0 (length names) h.numbered (omega arith)) in
-          text_more more front last op ∙ ap (λ t. t ++ op_text more op) old;
-    }
-
--- one operation more keeps it
-pub grown : (names more extra : List Name) (cores : Cores) (op : Op) →
-    IsBody (record { names = names; cores = cores }) →
-    0 < length cores → op_count cores < MAX_EVENTS → more ≡ names ++ extra → use_addr (length names)
-    (addr_of op) ≡ Some (length more) → length more ≤ MAX_ADDRESSES →
-    AreLawful more → IsDistinct name_eq more → Small op →
-    Grown names cores op more (with_op cores op)
-grown names more extra cores op h some room kept used few lawful distinct small =
-    let parts = last_core cores some in
-    let front = parts.0 in
-    let last = parts.1 in
-    let there : IsBody (record { names = names; cores = front ++ last ∷ [] }) =
-    subst (λ (cs : Cores). IsBody (record { names = names; cores = cs })) parts.2 h in
-    let count : op_count (front ++ last ∷ []) < MAX_EVENTS =
-    subst (λ (cs : Cores). op_count cs < MAX_EVENTS) parts.2 room in
-    let at = grown_at names more extra front last op there count kept used few lawful distinct
-    small in
-    let after : front ++ (last ++ op ∷ []) ∷ [] ≡ with_op cores op =
-    sym (ap (λ (cs : Cores). with_op cs op) parts.2 ∙ with_op-is front last op) in
-    let one : Grown names (front ++ last ∷ []) op more (with_op cores op) =
-    subst (λ (cs : Cores). Grown names (front ++ last ∷ []) op more cs) after at in
-    subst (λ (cs : Cores). Grown names cs op more (with_op cores op)) (sym parts.2) one
 
 -- what holds after a line
 pub record Keeps (p : Body) (line : List ℕ) (q : Body) : Type 0 where

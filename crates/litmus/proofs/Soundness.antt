@@ -5,8 +5,8 @@ use Rattle.std.proofs.lemmas.List.Elements.{All-nil, All-cons}
 use Rattle.litmus.specs.declared.op.Op.{Op}
 use Rattle.litmus.specs.declared.op.Op.TheVariants.{St, Ld, Fence, Swap, Add, Cas}
 use Rattle.litmus.specs.Parts.{IsWithin, addr_of, use_addr, use_ops, use_cores}
-use Rattle.litmus.proofs.OnLists.{bind_some}
-use Rattle.litmus.proofs.Cores.{use_below, ops_grow, cores_grow}
+use Rattle.litmus.specs.TestLaws.{bind_some}
+use Rattle.litmus.specs.CoreLaws.{use_below, ops_grow, cores_grow}
 
 -- an address that was used is below the number after it
 op_within : (op : Op) (m j k : ℕ) → use_addr m (addr_of op) ≡ Some j → j ≤ k → IsWithin k op

@@ -4,7 +4,6 @@ pub mod NameLaws
 pub mod Numbers
 pub mod NumberLaws
 pub mod Lines
-pub mod Said
 pub mod Parts
 pub mod PartLaws
 pub mod Steps
@@ -14,8 +13,8 @@ pub mod ReadingLaws
 pub mod Text
 pub mod Spelling
 pub mod NameListLaws
-pub mod Built
+pub mod CoreLaws
+pub mod DraftLaws
 pub mod AddressNames
 pub mod AddressNameLaws
 pub mod Shapes
-pub mod Random

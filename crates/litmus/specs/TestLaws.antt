@@ -1,7 +1,8 @@
 -- Laws of tests on lists, and of what they tell.
 use Rattle.std.proofs.Common.{◌≡◌, ℕ, ◌<◌, not, List, [], ◌∷◌, ◌++◌, length, Bool, true, false, cond, Some}
-use Rattle.std.proofs.Common.{None}
+use Rattle.std.proofs.Common.{None, Option}
 use Rattle.std.proofs.Common.{refl, arith, position, inl, inr, ◌⊎◌}
+use Rattle.std.specs.Prelude.{option_and_then}
 use Rattle.std.specs.List.{list_all, position_or_len}
 use Rattle.std.proofs.lemmas.Bool.{false≢true, lt-ltb, cond-true, and_parts}
 use Rattle.std.proofs.lemmas.List.{length-append}
@@ -16,6 +17,12 @@ pub cases_of : {A : Type 0} (b : Bool) (x y z : A) → cond b x y ≡ z →
     ((b ≡ true) × (x ≡ z)) ⊎ ((b ≡ false) × (y ≡ z))
 cases_of true x y z e = inl (refl, e)
 cases_of false x y z e = inr (refl, e)
+
+-- both steps of a chain gave something
+pub bind_some : {A B : Type 0} (o : Option A) (f : A → Option B) (y : B) → option_and_then f o
+    ≡ Some y → (x : A) × (o ≡ Some x) × (f x ≡ Some y)
+bind_some (Some x) f y e = (x, refl, e)
+bind_some None f y e = absurd cc
 
 -- each element that passes p passes q
 pub all_also : (p q : ℕ → Bool) → ((b : ℕ) → p b ≡ true → q b ≡ true) → (xs : List ℕ) →

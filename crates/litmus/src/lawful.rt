@@ -1,16 +1,31 @@
 //! Whether names, operations and initial values are those of a program.
 
-ghost use Rattle.std.specs.Prelude.{◌≡◌, ◌<◌, ◌^◌, IsTrue, IsSome, true, false};
+ghost use Rattle.std.specs.Prelude.{◌≡◌, ◌<◌, ◌^◌, IsTrue, IsSome, true, false, nat_lt};
 ghost use Rattle.std.specs.List.{AllByRecursion};
 ghost use Rattle.litmus.specs.Names.{AreLawful};
-ghost use Rattle.litmus.specs.Parts.{IsProgram, IsSmall, Small, addr_of, parts_of};
+ghost use Rattle.litmus.specs.Parts.{IsProgram, IsSmall, Small, addr_of, op_count, parts_of};
 ghost use Rattle.litmus.specs.Parts.{use_addr, use_cores, use_ops};
 
-use crate::builder::are_below;
 use crate::name::{Name, is_lawful, name_at};
 use crate::op::{Op, Ops};
 use common::{MAX_ADDRESSES, MAX_CORES, MAX_EVENTS};
 use indexmap::IndexSet;
+
+/// Whether the cores have fewer operations than `limit`.
+#[tactic(auto, using(crate::specs::CoreLaws::count_more))]
+pub fn are_below(cores: &[Ops], limit: usize) -> bool
+    ensures { result ≡ nat_lt (op_count cores.now) limit }
+{
+    let mut room = limit;
+    for core in cores {
+        let len = core.as_slice().len();
+        if room <= len {
+            return false;
+        }
+        room -= len;
+    }
+    0 < room
+}
 
 fn are_lawful(names: &IndexSet<Name>) -> bool
     ensures yes { result ≡ true → AreLawful names.now.keys }

@@ -1,9 +1,7 @@
-//! Litmus programs, their text and random ones.
+//! Litmus programs, and the law of their texts.
 #![tactic(auto)]
 
-mod builder;
 mod fault;
-mod growing;
 mod lawful;
 mod line;
 mod line_error;
@@ -13,25 +11,19 @@ mod number;
 mod one_text;
 mod op;
 mod program;
-mod random;
-mod reader;
 mod same;
 mod shape;
 mod shape_error;
-mod text;
-mod writing;
 
 pub use fault::{LineFault, LitmusError};
-pub use line::space_in;
+pub use lawful::are_below;
+pub use line::{Write, space_in};
 pub use line_error::LineError;
-pub use name::Name;
-pub use naming::address_names;
+pub use name::{Name, name_at};
+pub use naming::{address_name, address_names};
 pub use number::{Number, decimal};
 pub use one_text::has_one_text;
 pub use op::{Op, Ops};
 pub use program::Program;
-pub use random::generate;
 pub use shape::{Shape, is_outside};
 pub use shape_error::ShapeError;
-pub use text::parse;
-pub use writing::print;

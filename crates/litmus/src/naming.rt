@@ -10,7 +10,7 @@ use itoa::Buffer;
 use std::alloc::Global;
 
 /// The name of an address: the letter a, and its number.
-pub(crate) fn address_name(number: Addr) -> Name
+pub fn address_name(number: Addr) -> Name
     ensures { result ≡ address_name number }
 {
     let mut buffer = Buffer::new();

@@ -67,7 +67,8 @@ impl Program {
         Some(Program::of_lawful(names, cores, init))
     }
 
-    pub(crate) fn of_lawful(names: IndexSet<Name>, cores: Vec<Ops>, init: Vec<u32>) -> Program
+    /// The program of these names, operations and initial values, which have to be one.
+    pub fn of_lawful(names: IndexSet<Name>, cores: Vec<Ops>, init: Vec<u32>) -> Program
         requires { IsProgram (parts_of names.keys cores.items init.items) }
         ensures { result ≡ parts_of names.keys cores.items init.items }
     {

@@ -4,7 +4,8 @@
 
 use crate::plain::{STORE_BUFFERING, performs_an_order};
 use common::OpenGate;
-use litmus::{LitmusError, Program, parse};
+use litmus::{LitmusError, Program};
+use litmus_text::parse;
 use live::{LiveError, drive};
 use std::alloc::Global;
 use std::sync::Wait;

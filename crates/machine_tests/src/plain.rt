@@ -2,7 +2,8 @@
 //! calls themselves such a test took minutes to prove.
 
 use common::{EventId, Gate};
-use litmus::{Program, parse};
+use litmus::Program;
+use litmus_text::parse;
 use live::drive;
 use machine::{Blocked, Machine, Step};
 use order::check;

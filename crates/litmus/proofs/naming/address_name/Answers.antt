@@ -1,4 +1,4 @@
-use Rattle.std.proofs.Common.{ℕ, ◌≤◌, ◌∷◌, ◌∙◌, List, length, ap, arith, decimal, subst, sym}
+use Rattle.std.proofs.Common.{ℕ, ◌≤◌, ◌∷◌, ◌∙◌, List, length, ap, arith, subst, sym}
 use Rattle.std.proofs.lemmas.Fmt.{length-decimal-le}
 use Rattle.litmus.specs.declared.name.Name.{Name}
 use Rattle.litmus.specs.Names.{padded}

@@ -1,0 +1,4 @@
+pub mod Initial
+pub mod Parsing
+pub mod Drawn
+pub mod NextWords

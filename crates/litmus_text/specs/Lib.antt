@@ -1,0 +1,3 @@
+pub mod Said
+pub mod Built
+pub mod Random
