@@ -2,7 +2,7 @@
 //! then the usual one. With ample memory each run ends as usual; `bench/refuse_growths` refuses each
 //! growth in turn.
 
-use crate::plain::{STORE_BUFFERING, performs_an_order};
+use crate::machines::plain::{STORE_BUFFERING, performs_an_order};
 use common::OpenGate;
 use litmus::{LitmusError, Program};
 use litmus_text::parse;

@@ -7,7 +7,7 @@ ghost use Rattle.best.specs.Seats.{IsBestSeatOf, known_of};
 ghost use Rattle.search.specs.SourceRow.{AreShared};
 ghost use Rattle.search.specs.Bound.{IsSeatFor};
 
-use crate::recordings::{THREE_AND_FOUR, related};
+use crate::judging::recordings::{THREE_AND_FOUR, related};
 use best::{Best, BestSeat};
 use common::EventId;
 use relations::Relation;

@@ -5,8 +5,8 @@ ghost use Rattle.common.specs.declared.limits.TheConstants.{MAX_WORKERS};
 ghost use Rattle.best.specs.Seats.{IsBestSeatOf, known_of};
 ghost use Rattle.search.specs.SourceRow.{AreShared};
 
-use crate::bound::begun;
-use crate::recordings::{THREE_AND_FOUR, recorded};
+use crate::judging::bound::begun;
+use crate::judging::recordings::{THREE_AND_FOUR, recorded};
 use best::{Best, BestSeat};
 use common::{EventId, Gate, OpenGate};
 use judge::{Verdict, judge_gated};

@@ -1,6 +1,6 @@
 //! What a gate is told, and who takes the steps.
 
-use crate::plain::{is_driven, program, recording_of};
+use crate::machines::plain::{is_driven, program, recording_of};
 use common::{EventId, Gate, OpenGate};
 use live::drive;
 use machine::{Machine, Step};

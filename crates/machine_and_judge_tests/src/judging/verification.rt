@@ -1,6 +1,6 @@
 //! Verdicts that are checked.
 
-use crate::recordings::{
+use crate::judging::recordings::{
     EventLists, MESSAGE_PASSING, OVERLOOKED_STORE, STORE_BUFFERING, STORE_BUFFERING_FENCED,
     recorded,
 };

@@ -1,6 +1,6 @@
 //! The reasons of forced pairs.
 
-use crate::recordings::{
+use crate::judging::recordings::{
     BYPASSING, EventLists, FAILED_SWAPS, LOAD_AND_STORE, SELF_SOURCE, TWIN_SWAPS, recorded, related,
 };
 use common::EventId;

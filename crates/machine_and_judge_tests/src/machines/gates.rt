@@ -1,6 +1,6 @@
 //! Threads that a gate holds, and runs that come to no end.
 
-use crate::plain::{STORE_BUFFERING, is_driven, program};
+use crate::machines::plain::{STORE_BUFFERING, is_driven, program};
 use common::{Gate, OpenGate};
 use live::{LiveError, drive};
 use std::alloc::Global;

@@ -1,6 +1,6 @@
 //! Lists of events, and which of them are memory orders.
 
-use crate::recordings::{EventLists, MESSAGE_PASSING, STORE_BUFFERING, recorded};
+use crate::judging::recordings::{EventLists, MESSAGE_PASSING, STORE_BUFFERING, recorded};
 use common::EventId;
 use order::check;
 use std::alloc::Global;

@@ -1,6 +1,6 @@
 //! Certificates, and lists that differ from one in one thing.
 
-use crate::recordings::{EventLists, MESSAGE_PASSING, TWO_CYCLES, related};
+use crate::judging::recordings::{EventLists, MESSAGE_PASSING, TWO_CYCLES, related};
 use common::{EventId, OutOfMemory};
 use labels::{Certificate, check, check_par};
 use relations::Relation;

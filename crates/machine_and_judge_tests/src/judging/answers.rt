@@ -1,7 +1,7 @@
 //! Answers to the bytes of recordings, from and to devices that fail.
 
-use crate::recordings::{EventLists, MESSAGE_PASSING, THREE_AND_FOUR, recorded};
-use crate::workers::Watch;
+use crate::judging::recordings::{EventLists, MESSAGE_PASSING, THREE_AND_FOUR, recorded};
+use crate::judging::workers::Watch;
 use common::OpenGate;
 use recording_text::write_recording;
 use report::{Device, MemorySink, MemorySource, Outcome, ReportError, answer};

@@ -1,0 +1,14 @@
+//! Tests of the judge and of what it stands on: rows of bits, forced pairs, orders, certificates, texts of verdicts.
+
+mod answers;
+mod bits;
+mod bound;
+mod buffers;
+mod certificates;
+mod forced;
+mod limits;
+mod memory;
+mod orders;
+mod recordings;
+mod verification;
+mod workers;

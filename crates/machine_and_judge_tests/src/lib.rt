@@ -1,0 +1,7 @@
+//! Tests of the machine and of the judge, and of what both stand on.
+#![tactic(auto)]
+
+#[cfg(test)]
+mod judging;
+#[cfg(test)]
+mod machines;
