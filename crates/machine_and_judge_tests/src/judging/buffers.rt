@@ -1,6 +1,7 @@
 //! Verdicts that are written into buffers.
 
 use report::{REFUSED, TOO_LONG, WRITTEN, verdict_into};
+use std::alloc::Global;
 use std::test::Fail;
 
 const OVERLOOKED_STORE: &[u8] =
@@ -9,39 +10,50 @@ const OVERLOOKED_STORE: &[u8] =
 /// Its verdict, and what the buffer had behind it.
 const FILLED: &[u8] = b"overlook: load 1 store 0\n\x07\x07";
 
+/// Whether the verdict on a text is answered so, with this length, and leaves this buffer.
+fn leaves(alloc: Global, text: &[u8], out: &mut [u8], told: (u8, usize), left: &[u8]) -> bool {
+    let mut len = 0;
+    let status = verdict_into(alloc, text, out, &mut len);
+    status == told.0 && len == told.1 && &*out == left
+}
+
 #[test]
 fn a_verdict_is_written_where_it_has_room(rt: HostRuntime) -> Result<(), Fail> {
-    let alloc = rt.alloc();
-    let mut len = 0;
     let mut out = [7u8; 27];
-    assert_eq!(rt;
-        verdict_into(alloc, OVERLOOKED_STORE, &mut out, &mut len),
-        WRITTEN
+    assert!(rt;
+        leaves(
+            rt.alloc(),
+            OVERLOOKED_STORE,
+            &mut out,
+            (WRITTEN, 25),
+            FILLED
+        )
     );
-    assert_eq!(rt; len, 25);
-    assert_eq!(rt; out.as_slice(), FILLED);
-    assert_eq!(rt; verdict_into(alloc, b"{}", &mut out, &mut len), REFUSED);
-    assert_eq!(rt; len, 0);
-    assert_eq!(rt; out.as_slice(), FILLED);
+    assert!(rt; leaves(rt.alloc(), b"{}", &mut out, (REFUSED, 0), FILLED));
     Ok(())
 }
 
 #[test]
 fn a_verdict_without_room_says_its_length(rt: HostRuntime) -> Result<(), Fail> {
-    let alloc = rt.alloc();
-    let mut len = 0;
     let mut short = [7u8; 24];
-    assert_eq!(rt;
-        verdict_into(alloc, OVERLOOKED_STORE, &mut short, &mut len),
-        TOO_LONG
+    assert!(rt;
+        leaves(
+            rt.alloc(),
+            OVERLOOKED_STORE,
+            &mut short,
+            (TOO_LONG, 25),
+            &[7u8; 24]
+        )
     );
-    assert_eq!(rt; len, 25);
-    assert_eq!(rt; short, [7u8; 24]);
     let mut full = [7u8; 25];
-    assert_eq!(rt;
-        verdict_into(alloc, OVERLOOKED_STORE, &mut full, &mut len),
-        WRITTEN
+    assert!(rt;
+        leaves(
+            rt.alloc(),
+            OVERLOOKED_STORE,
+            &mut full,
+            (WRITTEN, 25),
+            &FILLED[..25]
+        )
     );
-    assert_eq!(rt; len, 25);
     Ok(())
 }
