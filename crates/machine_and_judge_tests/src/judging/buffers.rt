@@ -10,9 +10,10 @@ const OVERLOOKED_STORE: &[u8] =
 /// Its verdict, and what the buffer had behind it.
 const FILLED: &[u8] = b"overlook: load 1 store 0\n\x07\x07";
 
-/// Whether the verdict on a text is answered so, with this length, and leaves this buffer.
+/// Whether the verdict on a text is answered so, with this length, which is told whatever it was before, and
+/// leaves this buffer.
 fn leaves(alloc: Global, text: &[u8], out: &mut [u8], told: (u8, usize), left: &[u8]) -> bool {
-    let mut len = 0;
+    let mut len = 7;
     let status = verdict_into(alloc, text, out, &mut len);
     status == told.0 && len == told.1 && &*out == left
 }
