@@ -12,7 +12,7 @@ use Rattle.command_line.specs.Options.{AreOptions, AreTrialsOptions}
 use Rattle.common.specs.declared.limits.TheConstants.{MAX_WORKERS}
 use Rattle.litmus.specs.Parts.{Parts}
 use Rattle.litmus.specs.Text.{reading}
-use Rattle.commands.specs.Inputs.{AreBytesOf}
+use Rattle.inputs.specs.Inputs.{AreBytesOf}
 use Rattle.commands.specs.Run.{IsRun, IsRunBy}
 
 -- options of trials are those of some entries

@@ -2,9 +2,9 @@
 use Rattle.std.proofs.Common.{◌≡◌, ℕ, List, Option, Result, Ok, Err, IfOk, IfErr, IsErrAnd, inl}
 use Rattle.clap.specs.Words.{Text}
 use Rattle.answers.specs.declared.answer.Answer.{Answer}
-use Rattle.commands.specs.declared.stop.Stop.{Stop}
-use Rattle.commands.specs.declared.stop.Stop.TheVariants.{Fault}
-use Rattle.commands.specs.declared.fault.CommandFault.{CommandFault}
+use Rattle.inputs.specs.declared.stop.Stop.{Stop}
+use Rattle.inputs.specs.declared.stop.Stop.TheVariants.{Fault}
+use Rattle.inputs.specs.declared.fault.CommandFault.{CommandFault}
 use Rattle.command_line.specs.declared.options.Options.{Options}
 use Rattle.command_line.specs.Commands.{command_of}
 use Rattle.command_line.specs.Options.{AreOptions}

@@ -4,10 +4,10 @@ use Rattle.std.specs.Prelude.{string_bytes}
 use Rattle.command_line.specs.declared.options.FileOptions.{FileOptions}
 use Rattle.recorder.specs.declared.fault.RecError.TheVariants as rec
 use Rattle.answers.specs.declared.answer.Answer.{Answer}
-use Rattle.commands.specs.declared.stop.Stop.{Stop}
-use Rattle.commands.specs.declared.stop.Stop.TheVariants.{Refused, Fault}
-use Rattle.commands.specs.declared.fault.CommandFault.TheVariants as fault
-use Rattle.commands.specs.Inputs.{AreBytesOf}
+use Rattle.inputs.specs.declared.stop.Stop.{Stop}
+use Rattle.inputs.specs.declared.stop.Stop.TheVariants.{Refused, Fault}
+use Rattle.inputs.specs.declared.fault.CommandFault.TheVariants as fault
+use Rattle.inputs.specs.Inputs.{AreBytesOf}
 use Rattle.commands.specs.Replay.{IsReplayStop, IsUnreplayed}
 
 -- want of memory may come of any bytes

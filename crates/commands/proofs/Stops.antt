@@ -7,9 +7,9 @@ use Rattle.command_line.specs.declared.options.LiveOptions.{LiveOptions}
 use Rattle.live.specs.declared.error.LiveError.{LiveError}
 use Rattle.live.specs.declared.error.LiveError.TheVariants as live
 use Rattle.answers.specs.declared.answer.Answer.{Answer}
-use Rattle.commands.specs.declared.stop.Stop.{Stop}
-use Rattle.commands.specs.declared.stop.Stop.TheVariants.{Refused, Fault}
-use Rattle.commands.specs.Inputs.{AreBytesOf}
+use Rattle.inputs.specs.declared.stop.Stop.{Stop}
+use Rattle.inputs.specs.declared.stop.Stop.TheVariants.{Refused, Fault}
+use Rattle.inputs.specs.Inputs.{AreBytesOf}
 use Rattle.commands.specs.Tell.{IsTellingStop}
 use Rattle.commands.specs.Judge.{IsJudgeStop, IsUnread}
 use Rattle.commands.specs.Perform.{IsLiveStop, thread_fault}

@@ -5,9 +5,9 @@ use Rattle.recorder.specs.declared.fault.RecError.{RecError}
 use Rattle.recorder.specs.Execution.{Execution}
 use Rattle.recording_text.specs.Reading.{IsReadingResult}
 use Rattle.answers.specs.declared.answer.Answer.{Answer}
-use Rattle.commands.specs.declared.stop.Stop.{Stop}
-use Rattle.commands.specs.declared.stop.Stop.TheVariants.{Refused, Fault}
-use Rattle.commands.specs.Inputs.{AreBytesOf, IsInputFault}
+use Rattle.inputs.specs.declared.stop.Stop.{Stop}
+use Rattle.inputs.specs.declared.stop.Stop.TheVariants.{Refused, Fault}
+use Rattle.inputs.specs.Inputs.{AreBytesOf, IsInputFault}
 use Rattle.commands.specs.Refusal.{IsRefusedAs}
 use Rattle.answers.specs.Verdict.{IsVerdictAnswer}
 

@@ -1,9 +1,7 @@
-pub mod Inputs
 pub mod Judge
 pub mod Program
 pub mod Replay
 pub mod Perform
-pub mod Progress
 pub mod Refusal
 pub mod Run
 pub mod Tell

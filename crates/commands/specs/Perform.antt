@@ -11,13 +11,13 @@ use Rattle.litmus.specs.Text.{reading}
 use Rattle.machine.specs.Script.{steps_of}
 use Rattle.explanation.specs.declared.telling.Telling.TheVariants.{Words, Picture}
 use Rattle.answers.specs.declared.answer.Answer.{Answer}
-use Rattle.commands.specs.declared.stop.Stop.{Stop}
-use Rattle.commands.specs.declared.stop.Stop.TheVariants.{Refused, Fault}
+use Rattle.inputs.specs.declared.stop.Stop.{Stop}
+use Rattle.inputs.specs.declared.stop.Stop.TheVariants.{Refused, Fault}
 use Rattle.answers.specs.declared.answer.TheConstants.{DONE, REFUSED}
-use Rattle.commands.specs.declared.fault.CommandFault.{CommandFault}
-use Rattle.commands.specs.declared.fault.CommandFault.TheVariants.{CommandLine, NoThread, Stranger}
-use Rattle.commands.specs.declared.fault.CommandFault.TheVariants.{WriteFailed}
-use Rattle.commands.specs.declared.fault.CommandFault.TheVariants as fault
+use Rattle.inputs.specs.declared.fault.CommandFault.{CommandFault}
+use Rattle.inputs.specs.declared.fault.CommandFault.TheVariants.{CommandLine, NoThread, Stranger}
+use Rattle.inputs.specs.declared.fault.CommandFault.TheVariants.{WriteFailed}
+use Rattle.inputs.specs.declared.fault.CommandFault.TheVariants as fault
 use Rattle.command_line.specs.declared.options.Options.{Options}
 use Rattle.command_line.specs.declared.options.Options.TheVariants.{Run, Judge, Trials, Live, Replay, Explain, Draw}
 use Rattle.command_line.specs.declared.options.OptionFault.{OptionFault}
@@ -26,7 +26,7 @@ use Rattle.command_line.specs.declared.options.OptionFault.TheVariants as refuse
 use Rattle.command_line.specs.Commands.{command_of}
 use Rattle.command_line.specs.declared.options.LiveOptions.{LiveOptions}
 use Rattle.command_line.specs.declared.options.RunOptions.{RunOptions}
-use Rattle.commands.specs.Inputs.{AreBytesOf, IsInputFault}
+use Rattle.inputs.specs.Inputs.{AreBytesOf, IsInputFault}
 use Rattle.commands.specs.Judge.{IsJudgedInput, IsJudgeStop}
 use Rattle.commands.specs.Replay.{IsReplayedInput, IsReplayStop}
 use Rattle.commands.specs.Tell.{IsTold, IsTellingStop}

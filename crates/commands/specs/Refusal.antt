@@ -11,9 +11,9 @@ use Rattle.litmus.specs.declared.shape_error.ShapeError.TheVariants.{K1, K2, K3,
 use Rattle.command_line.specs.declared.options.OptionRefusal.{OptionRefusal}
 use Rattle.command_line.specs.declared.options.OptionRefusal.TheVariants as refused
 use Rattle.report.specs.Refusal.{recording_line}
-use Rattle.commands.specs.declared.stop.Stop.{Stop}
-use Rattle.commands.specs.declared.stop.Stop.TheVariants.{Refused, Fault}
-use Rattle.commands.specs.declared.fault.CommandFault.TheVariants.{OutOfMemory}
+use Rattle.inputs.specs.declared.stop.Stop.{Stop}
+use Rattle.inputs.specs.declared.stop.Stop.TheVariants.{Refused, Fault}
+use Rattle.inputs.specs.declared.fault.CommandFault.TheVariants.{OutOfMemory}
 
 -- what is printed for a fault of a program's line
 abbrev pub line_fault_name : LineFault → List ℕ
@@ -36,11 +36,6 @@ step_fault_name S4 = codes "S4"
 -- the line that is printed for line k of a text
 abbrev pub refusal_line : List ℕ → ℕ → List ℕ
 refusal_line name k = codes "refused: " ++ name ++ codes " line " ++ decimal k ++ 10 ∷ []
-
--- the line is printed, or memory is wanting
-abbrev pub IsLineStop : List ℕ → Stop → Type 0
-IsLineStop text (Refused line) = string_bytes line ≡ text
-IsLineStop text (Fault fault) = fault ≡ OutOfMemory
 
 -- the stop is that of a text which reads as a fault, or memory is wanting
 abbrev pub IsReadingStop : {X F : Type 0} → (F → List ℕ) → Result X (F × ℕ) → Stop → Type 0

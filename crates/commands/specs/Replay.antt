@@ -15,12 +15,12 @@ use Rattle.replay.specs.Steps.{replay_steps}
 use Rattle.replay.specs.Stores.{most_stores}
 use Rattle.judge.specs.Verdict.{IsOrderedVerdict}
 use Rattle.answers.specs.declared.answer.Answer.{Answer}
-use Rattle.commands.specs.declared.stop.Stop.{Stop}
-use Rattle.commands.specs.declared.stop.Stop.TheVariants.{Refused, Fault}
+use Rattle.inputs.specs.declared.stop.Stop.{Stop}
+use Rattle.inputs.specs.declared.stop.Stop.TheVariants.{Refused, Fault}
 use Rattle.answers.specs.declared.answer.TheConstants.{DONE, VIOLATION}
-use Rattle.commands.specs.Inputs.{AreBytesOf, IsInputFault}
+use Rattle.inputs.specs.Inputs.{AreBytesOf, IsInputFault}
 use Rattle.commands.specs.Judge.{IsUnread}
-use Rattle.commands.specs.Refusal.{IsLineStop}
+use Rattle.inputs.specs.Stop.{IsLineStop}
 use Rattle.answers.specs.Verdict.{IsVerdictAnswer}
 
 -- a capacity, the text of a program and a script, with an empty line between them

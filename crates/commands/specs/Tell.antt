@@ -12,13 +12,13 @@ use Rattle.explanation.specs.Program.{IsProgramOf}
 use Rattle.command_line.specs.declared.options.ExplainOptions.{ExplainOptions}
 use Rattle.answers.specs.declared.answer.Answer.{Answer}
 use Rattle.answers.specs.Told.{IsToldAnswer}
-use Rattle.commands.specs.declared.stop.Stop.{Stop}
-use Rattle.commands.specs.declared.stop.Stop.TheVariants.{Fault}
-use Rattle.commands.specs.declared.fault.CommandFault.TheVariants.{OutOfMemory}
-use Rattle.commands.specs.Inputs.{AreBytesOf}
+use Rattle.inputs.specs.declared.stop.Stop.{Stop}
+use Rattle.inputs.specs.declared.stop.Stop.TheVariants.{Fault}
+use Rattle.inputs.specs.declared.fault.CommandFault.TheVariants.{OutOfMemory}
+use Rattle.inputs.specs.Inputs.{AreBytesOf}
 use Rattle.commands.specs.Judge.{IsRecordingStop}
 use Rattle.commands.specs.Program.{IsProgramStop}
-use Rattle.commands.specs.Refusal.{IsLineStop}
+use Rattle.inputs.specs.Stop.{IsLineStop}
 
 -- the names are those of the program of this name, of which the recording is one
 pub record AreNamesIn (inputs : List ℕ → Option (List ℕ)) (x : Execution) (name : List ℕ)

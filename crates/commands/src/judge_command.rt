@@ -4,13 +4,13 @@ ghost use Rattle.recording_text.specs.Reading.{IsReadingResult};
 ghost use Rattle.commands.specs.Judge.{IsJudgeStop, IsJudged, IsJudgedInput, IsUnread};
 ghost use Rattle.commands.specs.Refusal.{IsRefusedAs};
 
-use crate::fault::CommandFault;
-use crate::place::Place;
-use crate::reading::text_at;
-use crate::stop::Stop;
 use answers::{Answer, judged_answer};
 use command_line::JudgeOptions;
 use common::MAX_WORKERS;
+use inputs::fault::CommandFault;
+use inputs::place::Place;
+use inputs::reading::text_at;
+use inputs::stop::Stop;
 use recorder::{RecError, Recording};
 use recording_text::read_recording;
 use report::recording_line;

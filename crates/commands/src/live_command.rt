@@ -4,13 +4,13 @@ ghost use Rattle.live.specs.Driven.{IsDriveError};
 ghost use Rattle.commands.specs.Perform.{IsLiveStop, thread_fault};
 ghost use Rattle.commands.specs.Run.{IsLive};
 
-use crate::fault::CommandFault;
-use crate::place::Place;
 use crate::run_command::program_at;
-use crate::stop::Stop;
 use answers::{Answer, finished};
 use command_line::LiveOptions;
 use common::OpenGate;
+use inputs::fault::CommandFault;
+use inputs::place::Place;
+use inputs::stop::Stop;
 use live::{LiveError, drive};
 use std::alloc::Global;
 use std::sync::Wait;

@@ -14,12 +14,12 @@ ghost use Rattle.commands.specs.Replay.{IsReadBack, IsReplayed, IsReplayedInput,
 ghost use Rattle.commands.specs.Replay.{IsUnreplayed, parts_text, replay_text};
 
 use crate::judge_command::unread;
-use crate::place::Place;
-use crate::reading::text_at;
-use crate::stop::Stop;
 use answers::{Answer, DONE, verdict_behind};
 use command_line::FileOptions;
 use common::{EventId, OutOfMemory};
+use inputs::place::Place;
+use inputs::reading::text_at;
+use inputs::stop::Stop;
 use judge::{Verdict, judge_alone};
 use litmus::{Program, has_one_text};
 use litmus_text::print;

@@ -2,19 +2,19 @@
 ghost use Rattle.std.specs.Prelude.{◌≡◌, ℕ, List, IfErr, IfOk, Ok};
 ghost use Rattle.litmus.specs.Text.{reading};
 ghost use Rattle.machine.specs.Script.{steps_of};
-ghost use Rattle.commands.specs.Inputs.{AreBytesOf};
+ghost use Rattle.inputs.specs.Inputs.{AreBytesOf};
 ghost use Rattle.commands.specs.Program.{IsProgramAt, IsProgramStop};
 ghost use Rattle.commands.specs.Refusal.{IsReadingStop, line_fault_name, step_fault_name};
 ghost use Rattle.commands.specs.Perform.{IsRunStop, IsScriptStop};
 ghost use Rattle.commands.specs.Run.{IsRun, IsScriptAnswer};
 
-use crate::fault::CommandFault;
-use crate::place::Place;
-use crate::reading::text_at;
 use crate::refusal::{line_fault_name, refusal_line, step_fault_name};
-use crate::stop::Stop;
 use answers::{Answer, script_answer, seeded_answer};
 use command_line::RunOptions;
+use inputs::fault::CommandFault;
+use inputs::place::Place;
+use inputs::reading::text_at;
+use inputs::stop::Stop;
 use litmus::{LitmusError, Program};
 use litmus_text::parse;
 use machine::{Step, StepsError, parse_steps};

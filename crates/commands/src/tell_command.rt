@@ -5,14 +5,14 @@ ghost use Rattle.answers.specs.Told.{IsToldAnswer};
 ghost use Rattle.commands.specs.Tell.{AreNamesIn, IsTold, IsToldBy, IsTellingStop, IsNamesStop};
 
 use crate::judge_command::recording_of;
-use crate::place::Place;
-use crate::reading::text_at;
 use crate::run_command::program_at;
-use crate::stop::Stop;
 use answers::{Answer, told_answer};
 use command_line::ExplainOptions;
 use common::OutOfMemory;
 use explanation::{Telling, is_program_of};
+use inputs::place::Place;
+use inputs::reading::text_at;
+use inputs::stop::Stop;
 use litmus::{Program, address_names};
 use recorder::Recording;
 use std::alloc::Global;

@@ -2,15 +2,15 @@
 ghost use Rattle.std.specs.Prelude.{◌≡◌, ◌≤◌, ◌<◌, IfErr, IfOk, List};
 ghost use Rattle.clap.specs.Words.{Row};
 ghost use Rattle.command_line.specs.Options.{AreTrialsOptions};
-ghost use Rattle.commands.specs.declared.fault.CommandFault.TheVariants.{OutOfMemory};
-ghost use Rattle.commands.specs.declared.stop.Stop.TheVariants.{Fault};
+ghost use Rattle.inputs.specs.declared.fault.CommandFault.TheVariants.{OutOfMemory};
+ghost use Rattle.inputs.specs.declared.stop.Stop.TheVariants.{Fault};
 ghost use Rattle.commands.specs.Trials.{IsTrials, plan_asked};
 
-use crate::place::Place;
-use crate::stop::Stop;
 use answers::{Answer, campaign_answer, shown_answer};
 use command_line::TrialsOptions;
 use common::OpenGate;
+use inputs::place::Place;
+use inputs::stop::Stop;
 use litmus::Shape;
 use std::alloc::Global;
 use std::sync::Wait;

@@ -1,8 +1,8 @@
 //! A cycle in words.
 
-ghost use Rattle.std.specs.Prelude.{◌≡◌, ◌++◌, ℕ, List, OnOk, codes, length};
+ghost use Rattle.std.specs.Prelude.{◌≡◌, ◌++◌, ℕ, List, OnOk, Some, codes, length};
 ghost use Rattle.relations.specs.Cycle.{IsCycle};
-ghost use Rattle.relations.specs.Forced.{Forced};
+ghost use Rattle.relations.specs.Forced.{Forced, IsReason};
 ghost use Rattle.explanation.specs.Events.{written_text};
 ghost use Rattle.explanation.specs.Cycle.{reason_text, reason_line, cycle_heading, IsLink, AreLinks};
 ghost use Rattle.explanation.specs.Cycle.{SaysCycle};
@@ -79,6 +79,17 @@ fn put_reason_line(
     put_text(out, b"\n")
 }
 
+/// The first reason why an event comes before another.
+fn reason_of(recording: &Recording, first: EventId, second: EventId) -> Reason
+    requires { Forced recording.now first second }
+    ensures { IsReason recording.now first second (Some result) }
+{
+    match first_reason(recording, first, second) {
+        Some(reason) => reason,
+        None => unreachable!(),
+    }
+}
+
 /// Adds the lines of an event that comes before another.
 fn put_link(
     out: &mut Vec<u8>,
@@ -91,9 +102,7 @@ fn put_link(
     ensures { OnOk result ((link : List ℕ) × IsLink recording.now names.now.keys first second link
         × (out.new.items ≡ out.old.items ++ link)) }
 {
-    let Some(reason) = first_reason(recording, first, second) else {
-        unreachable!();
-    };
+    let reason = reason_of(recording, first, second);
     put_line(out, recording, names, first)?;
     put_reason_line(out, recording, names, second, reason)
 }

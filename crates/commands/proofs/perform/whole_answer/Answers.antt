@@ -1,5 +1,5 @@
 use Rattle.std.proofs.Common.{refl, inr, sym}
-use Rattle.commands.specs.declared.stop.Stop.TheVariants.{Refused}
+use Rattle.inputs.specs.declared.stop.Stop.TheVariants.{Refused}
 use Rattle.commands.proofs.perform.whole_answer.Goals as goal
 
 pub returns-in-Err-Refused-clause-ok : goal.returns-in-Err-Refused-clause-ok

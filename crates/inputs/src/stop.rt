@@ -1,5 +1,5 @@
 //! Why a command stops.
-ghost use Rattle.commands.specs.Refusal.{IsLineStop};
+ghost use Rattle.inputs.specs.Stop.{IsLineStop};
 
 use crate::fault::CommandFault;
 use common::OutOfMemory;
@@ -28,7 +28,7 @@ impl Stop {
 
 impl From<CommandFault> for Stop {
     ghost use Rattle.std.specs.Prelude.{◌≡◌};
-    ghost use Rattle.commands.specs.declared.stop.Stop.TheVariants.{Fault};
+    ghost use Rattle.inputs.specs.declared.stop.Stop.TheVariants.{Fault};
 
     ghost from_gives = { λ fault stop. stop ≡ Fault fault };
 
@@ -39,8 +39,8 @@ impl From<CommandFault> for Stop {
 
 impl From<OutOfMemory> for Stop {
     ghost use Rattle.std.specs.Prelude.{◌≡◌};
-    ghost use Rattle.commands.specs.declared.stop.Stop.TheVariants.{Fault};
-    ghost use Rattle.commands.specs.declared.fault.CommandFault.TheVariants.{OutOfMemory};
+    ghost use Rattle.inputs.specs.declared.stop.Stop.TheVariants.{Fault};
+    ghost use Rattle.inputs.specs.declared.fault.CommandFault.TheVariants.{OutOfMemory};
 
     ghost from_gives = { λ _ stop. stop ≡ Fault OutOfMemory };
 
@@ -51,8 +51,8 @@ impl From<OutOfMemory> for Stop {
 
 impl From<AllocError> for Stop {
     ghost use Rattle.std.specs.Prelude.{◌≡◌};
-    ghost use Rattle.commands.specs.declared.stop.Stop.TheVariants.{Fault};
-    ghost use Rattle.commands.specs.declared.fault.CommandFault.TheVariants.{OutOfMemory};
+    ghost use Rattle.inputs.specs.declared.stop.Stop.TheVariants.{Fault};
+    ghost use Rattle.inputs.specs.declared.fault.CommandFault.TheVariants.{OutOfMemory};
 
     ghost from_gives = { λ _ stop. stop ≡ Fault OutOfMemory };
 
@@ -63,8 +63,8 @@ impl From<AllocError> for Stop {
 
 impl<T: Drop> From<AllocFailed<T>> for Stop {
     ghost use Rattle.std.specs.Prelude.{◌≡◌};
-    ghost use Rattle.commands.specs.declared.stop.Stop.TheVariants.{Fault};
-    ghost use Rattle.commands.specs.declared.fault.CommandFault.TheVariants.{OutOfMemory};
+    ghost use Rattle.inputs.specs.declared.stop.Stop.TheVariants.{Fault};
+    ghost use Rattle.inputs.specs.declared.fault.CommandFault.TheVariants.{OutOfMemory};
 
     ghost from_gives = { λ _ stop. stop ≡ Fault OutOfMemory };
 

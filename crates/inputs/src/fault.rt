@@ -72,7 +72,7 @@ impl CommandFault {
 
 impl From<OutOfMemory> for CommandFault {
     ghost use Rattle.std.specs.Prelude.{◌≡◌};
-    ghost use Rattle.commands.specs.declared.fault.CommandFault.TheVariants.{OutOfMemory};
+    ghost use Rattle.inputs.specs.declared.fault.CommandFault.TheVariants.{OutOfMemory};
 
     ghost from_gives = { λ _ e. e ≡ OutOfMemory };
 
@@ -83,7 +83,7 @@ impl From<OutOfMemory> for CommandFault {
 
 impl From<AllocError> for CommandFault {
     ghost use Rattle.std.specs.Prelude.{◌≡◌};
-    ghost use Rattle.commands.specs.declared.fault.CommandFault.TheVariants.{OutOfMemory};
+    ghost use Rattle.inputs.specs.declared.fault.CommandFault.TheVariants.{OutOfMemory};
 
     ghost from_gives = { λ _ e. e ≡ OutOfMemory };
 
@@ -94,7 +94,7 @@ impl From<AllocError> for CommandFault {
 
 impl<T: Drop> From<AllocFailed<T>> for CommandFault {
     ghost use Rattle.std.specs.Prelude.{◌≡◌};
-    ghost use Rattle.commands.specs.declared.fault.CommandFault.TheVariants.{OutOfMemory};
+    ghost use Rattle.inputs.specs.declared.fault.CommandFault.TheVariants.{OutOfMemory};
 
     ghost from_gives = { λ _ e. e ≡ OutOfMemory };
 

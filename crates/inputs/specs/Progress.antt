@@ -1,7 +1,7 @@
 -- When a line of progress is written.
 use Rattle.std.specs.Prelude.{◌-◌, ◌&&◌, ℕ, Bool, Option, Some, None, if◌then◌else◌, nat_le}
-use Rattle.commands.specs.declared.progress.Line.{Line}
-use Rattle.commands.specs.declared.progress.TheConstants.{FIRST_LINE, BETWEEN_LINES}
+use Rattle.inputs.specs.declared.progress.Line.{Line}
+use Rattle.inputs.specs.declared.progress.TheConstants.{FIRST_LINE, BETWEEN_LINES}
 
 -- on a terminal, where the campaign has lasted long enough, and so has the last line; in milliseconds
 abbrev pub line_due : Bool → ℕ → ℕ → Line → Option Line

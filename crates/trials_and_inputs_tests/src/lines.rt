@@ -1,5 +1,5 @@
 //! Lines of progress, without a terminal.
-use commands::progress::{Line, line_due};
+use inputs::progress::{Line, line_due};
 use std::alloc::{AllocError, Global};
 use std::test::Fail;
 

@@ -1,6 +1,6 @@
 //! The progress of a campaign, on a terminal.
 ghost use Rattle.std.specs.Prelude.{◌≡◌};
-ghost use Rattle.commands.specs.Progress.{line_due};
+ghost use Rattle.inputs.specs.Progress.{line_due};
 
 use common::Gate;
 use std::fmt;

@@ -1,7 +1,7 @@
 //! Inputs as bytes.
 ghost use Rattle.std.specs.Prelude.{◌≡◌, IfErr, IfOk};
 ghost use Rattle.std.specs.Io.KnownBytes.{Keeps};
-ghost use Rattle.commands.specs.Inputs.{AreBytesOf, IsInputFault};
+ghost use Rattle.inputs.specs.Inputs.{AreBytesOf, IsInputFault};
 
 use crate::fault::CommandFault;
 use crate::place::{InputBytes, InputFault, Place};

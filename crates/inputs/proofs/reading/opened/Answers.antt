@@ -1,8 +1,8 @@
 use Rattle.std.proofs.Common.{◌≡◌, ℕ, List, Option, Result, Ok, Err, IfOk, IfErr, IsErrAnd}
-use Rattle.commands.specs.declared.fault.CommandFault.{CommandFault}
-use Rattle.commands.specs.declared.fault.CommandFault.TheVariants.{OutOfMemory}
-use Rattle.commands.specs.Inputs.{IsInputFault}
-use Rattle.commands.proofs.reading.opened.Goals as goal
+use Rattle.inputs.specs.declared.fault.CommandFault.{CommandFault}
+use Rattle.inputs.specs.declared.fault.CommandFault.TheVariants.{OutOfMemory}
+use Rattle.inputs.specs.Inputs.{IsInputFault}
+use Rattle.inputs.proofs.reading.opened.Goals as goal
 
 -- memory may be wanting for any input
 no_memory : {I : Type 0} (r : Result I CommandFault) (inputs : List ℕ → Option (List ℕ)) (name : List ℕ)

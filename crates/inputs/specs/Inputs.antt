@@ -1,7 +1,7 @@
 -- What the inputs of a command give.
 use Rattle.std.specs.Prelude.{◌≡◌, ℕ, List, Option, None, IfSome, ⊤, string_bytes}
-use Rattle.commands.specs.declared.fault.CommandFault.{CommandFault}
-use Rattle.commands.specs.declared.fault.CommandFault.TheVariants.{CannotOpen, ReadFailed, OutOfMemory}
+use Rattle.inputs.specs.declared.fault.CommandFault.{CommandFault}
+use Rattle.inputs.specs.declared.fault.CommandFault.TheVariants.{CannotOpen, ReadFailed, OutOfMemory}
 
 -- the bytes are those of the input of this name, where these are known
 abbrev pub AreBytesOf : (List ℕ → Option (List ℕ)) → List ℕ → List ℕ → Type 0

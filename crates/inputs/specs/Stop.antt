@@ -1,0 +1,10 @@
+-- Why commands stop.
+use Rattle.std.specs.Prelude.{◌≡◌, ℕ, List, string_bytes}
+use Rattle.inputs.specs.declared.stop.Stop.{Stop}
+use Rattle.inputs.specs.declared.stop.Stop.TheVariants.{Refused, Fault}
+use Rattle.inputs.specs.declared.fault.CommandFault.TheVariants.{OutOfMemory}
+
+-- the line is printed, or memory is wanting
+abbrev pub IsLineStop : List ℕ → Stop → Type 0
+IsLineStop text (Refused line) = string_bytes line ≡ text
+IsLineStop text (Fault fault) = fault ≡ OutOfMemory

@@ -1,0 +1,27 @@
+//! Tests of random programs and their trials, and of the inputs of commands and of cases.
+#![tactic(auto)]
+
+#[cfg(test)]
+mod campaigns;
+#[cfg(test)]
+mod desks;
+#[cfg(test)]
+mod limits;
+#[cfg(test)]
+mod lines;
+#[cfg(test)]
+mod memory;
+#[cfg(test)]
+mod programs;
+#[cfg(test)]
+mod read_cases;
+#[cfg(test)]
+mod reproduced;
+#[cfg(test)]
+mod schedules;
+#[cfg(test)]
+mod streams;
+#[cfg(test)]
+mod texts;
+#[cfg(test)]
+mod words;
