@@ -1,5 +1,8 @@
 //! What the files of classic tests, which have the names of the field, and of programs that print back want.
 
+ghost use Rattle.std.specs.Prelude.{◌≡◌, ◌⊎◌, IsTrue};
+ghost use Rattle.case_text.specs.declared.classic.TheConstants.{DONE, VIOLATION};
+
 use crate::folder::names_in;
 use crate::printed::Printed;
 use crate::rules::{has_order, is_kept, is_run_in_order, prints_back};
@@ -29,7 +32,10 @@ pub fn file_of(rt: &HostRuntime, path: &str, ending: &str) -> io::Result<Vec<u8>
 }
 
 /// Whether a verdict was printed, with its status.
-pub fn is_verdict(found: &Printed, verdict: &[u8]) -> bool {
+pub fn is_verdict(found: &Printed, verdict: &[u8]) -> bool
+    ensures text { IsTrue result → found.now.text.items ≡ verdict.now }
+    ensures status { IsTrue result → (found.now.status ≡ DONE) ⊎ (found.now.status ≡ VIOLATION) }
+{
     let status = if verdict.starts_with(b"ordered:") {
         DONE
     } else {

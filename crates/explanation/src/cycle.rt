@@ -17,29 +17,17 @@ use litmus::Name;
 use recorder::Recording;
 use relations::{Reason, behind, first_reason};
 
-/// Adds where in a write list an event comes before another.
-fn put_in_write_list(
+/// Adds some words and the name of the address that an event writes.
+fn put_words_and_written(
     out: &mut Vec<u8>,
+    words: &[u8],
     names: &IndexSet<Name>,
     address: Option<Addr>,
 ) -> Result<(), OutOfMemory>
     ensures { OnOk result (out.new.items ≡ out.old.items
-        ++ (codes " in the write list of " ++ written_text names.now.keys address)) }
+        ++ (words.now ++ written_text names.now.keys address)) }
 {
-    put_text(out, b" in the write list of ")?;
-    put_written(out, names, address)
-}
-
-/// Adds that another event wrote a newer value.
-fn put_newer(
-    out: &mut Vec<u8>,
-    names: &IndexSet<Name>,
-    address: Option<Addr>,
-) -> Result<(), OutOfMemory>
-    ensures { OnOk result (out.new.items ≡ out.old.items
-        ++ (codes ", which wrote a newer value of " ++ written_text names.now.keys address)) }
-{
-    put_text(out, b", which wrote a newer value of ")?;
+    put_text(out, words)?;
     put_written(out, names, address)
 }
 
@@ -55,9 +43,14 @@ fn put_reason(
 {
     match reason {
         Reason::Po => { put_text(out, b" in program order") }
-        Reason::Wo => put_in_write_list(out, names, address),
+        Reason::Wo => put_words_and_written(out, b" in the write list of ", names, address),
         Reason::Rf => { put_text(out, b", which read it") }
-        Reason::Fr => put_newer(out, names, address),
+        Reason::Fr => put_words_and_written(
+            out,
+            b", which wrote a newer value of ",
+            names,
+            address,
+        ),
     }
 }
 

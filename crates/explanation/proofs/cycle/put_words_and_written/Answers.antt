@@ -1,5 +1,5 @@
 use Rattle.explanation.proofs.Texts.{two_last}
-use Rattle.explanation.proofs.cycle.put_in_write_list.Goals as goal
+use Rattle.explanation.proofs.cycle.put_words_and_written.Goals as goal
 
 pub returns : goal.returns
 returns c = two_last _ _ _ _ _ _ c.in_ok-put_text.ensures c.put_written.ensures
