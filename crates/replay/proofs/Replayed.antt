@@ -9,7 +9,7 @@ use Rattle.std.proofs.lemmas.Bool.{cases_lt, and_parts}
 use Rattle.litmus.specs.declared.op.Op.{Op}
 use Rattle.litmus.specs.declared.op.Op.TheVariants.{Fence}
 use Rattle.litmus.specs.declared.name.Name.{Name}
-use Rattle.litmus.specs.Parts.{Parts, IsWithin, parts_of}
+use Rattle.litmus.specs.Parts.{Parts, IsWithin, IsProgram, parts_of}
 use Rattle.recorder.specs.declared.event.Event.{Event}
 use Rattle.recorder.specs.declared.event.Event.TheVariants.{L, S, R, C, F}
 use Rattle.recorder.specs.Event.{read_address, written_address, is_plain_store}
@@ -37,6 +37,7 @@ use Rattle.machine.specs.Tso.{EveryRunIsTso, EveryRunIsWellFormed}
 use Rattle.std.proofs.lemmas.List.Elements.{All-nil, All-cons}
 use Rattle.machine.specs.Orderly.{placed_op, is_st, IsOrderly, EveryStateIsOrderly}
 use Rattle.recorder.specs.PlacedLaws.{placed_total, placed_at}
+use Rattle.replay.proofs.NamedProgram.{named_is_program}
 use Rattle.replay.proofs.Made.{placed_is, count_same, recorded_made}
 use Rattle.replay.proofs.Determined.{determined}
 use Rattle.replay.proofs.Going.{IsGoing, begun_going, goes_further, stores_same, waiting, waits_once}
@@ -205,11 +206,12 @@ pub record Laws : Type 0 where
       → EveryStateIsOrderly p init capacity steps
 
 module _ (law : Laws) where
-  -- the steps replay the order, on a program of so many addresses
+  -- the steps replay the order, on a lawful program of so many addresses
   steps_replay : (x : Execution) (m : List ℕ) (capacity : ℕ) (names : List Name)
-      → length names ≡ length x.write_lists → IsRecording x → IsTsoOrder x m → most_stores x.cores ≤ capacity
+      → length names ≡ length x.write_lists → IsProgram (parts_of names (program_of x) x.initial)
+      → IsRecording x → IsTsoOrder x m → most_stores x.cores ≤ capacity
       → IsReplay x m (parts_of names (program_of x) x.initial) capacity (replay_steps x m)
-  steps_replay x m capacity names named r tso room =
+  steps_replay x m capacity names named lawful r tso room =
       let p : List (List Op) = program_of x in
       let init : List ℕ = x.initial in
       let n : ℕ = length init in
@@ -234,6 +236,7 @@ module _ (law : Laws) where
       let kept : t.initial ≡ init = ap (λ (z : State). z.initial) (sym goes.1)
       ∙ (run_keeps p capacity fault.None (opening p init) steps).0 in
       record {
+        lawful = lawful;
         taken = all_of p capacity steps (opening p init) t goes.0 goes.1
             ∙ ap (λ (z : State). Ok z) (sym goes.1);
         complete = subst (λ (z : State). IsComplete p z) (sym goes.1) end;
@@ -255,27 +258,24 @@ module _ (law : Laws) where
         );
       }
 
-  -- each TSO order of a recording is replayed
+  -- each TSO order of a replayable recording is replayed
   pub every_order_is_replayed : (x : Execution) (m : List ℕ) (capacity : ℕ)
       → EveryOrderIsReplayed x m capacity
-  every_order_is_replayed x m capacity =
+  every_order_is_replayed x m capacity of =
       steps_replay x m capacity (address_names (length x.write_lists)) (names_count (length x.write_lists))
+      (named_is_program x of.recording of.numbered of.small.0 of.small.1) of.recording
 
-  -- the machine makes exactly the recordings that have a TSO order
+  -- the machine makes exactly the replayable recordings that have a TSO order
   pub makes_exactly_tso : (x : Execution) (capacity : ℕ) → MakesExactlyTso x capacity
-  makes_exactly_tso x capacity r room = (
+  makes_exactly_tso x capacity of room = (
     λ made.
-        let order : List ℕ = (led_to made.0 capacity made.1).performed in (
+        let order : List ℕ = (led_to made.0 capacity made.1).performed in
+        let fits = made_fits made.0 capacity made.1 x made.4 of.recording in (
           order,
           subst (λ (y : Execution). IsTsoOrder y order) made.4
-              (law.tso made.0.cores made.0.init capacity made.1 (made_fits made.0 capacity made.1 x made.4 r)
-              made.3),
+              (law.tso made.0.cores made.0.init capacity made.1 fits made.3),
         ),
     λ allowed.
-        let p : Parts = named_program x in
-        let replay = every_order_is_replayed x allowed.0 capacity r allowed.1 room in
-        let fits : All (λ ops. All (IsWithin (length p.names)) ops) p.cores =
-        subst (λ (n : ℕ). All (λ ops. All (IsWithin n) ops) p.cores)
-        (sym (names_count (length x.write_lists))) (recording_fits x r) in
-        (p, replay_steps x allowed.0, fits, replay.complete, replay.recording),
+        let replay = every_order_is_replayed x allowed.0 capacity of allowed.1 room in
+        (named_program x, replay_steps x allowed.0, replay.lawful, replay.complete, replay.recording),
   )

@@ -1,6 +1,6 @@
 -- That steps replay a memory order: the machine takes them all, and makes the recording again.
 use Rattle.std.specs.Prelude.{◌≡◌, ◌≤◌, ◌*◌, ◌↔◌, ℕ, List, length, Ok, All}
-use Rattle.litmus.specs.Parts.{Parts, IsWithin}
+use Rattle.litmus.specs.Parts.{Parts, IsProgram}
 use Rattle.recorder.specs.Execution.{Execution, event_count}
 use Rattle.recorder.specs.Recording.{IsRecording}
 use Rattle.recorder.specs.Tso.{IsTsoOrder}
@@ -10,17 +10,19 @@ use Rattle.machine.specs.State.{State, recorded, IsComplete}
 use Rattle.machine.specs.Step.{run}
 use Rattle.machine.specs.Taken.{all_taken, begun}
 use Rattle.machine.specs.Script.{IsStepOf}
+use Rattle.replay.specs.Numbered.{IsNumberedByFirstUse}
 use Rattle.replay.specs.Stores.{most_stores}
 use Rattle.replay.specs.Steps.{replay_steps}
-use Rattle.replay.specs.Program.{named_program}
+use Rattle.replay.specs.Program.{named_program, HasSmallValues}
 
 -- the state that steps without fault lead to from the beginning
 abbrev pub led_to : Parts → ℕ → List Step → State
 led_to p capacity steps = run p.cores capacity fault.None (begun p) steps
 
--- the steps are the program's, at most three times as many as the events, are all taken, come to the end,
--- perform this order, and make this recording
+-- the steps are the program's, which is lawful, at most three times as many as the events, are all taken, come
+-- to the end, perform this order, and make this recording
 pub record IsReplay (x : Execution) (m : List ℕ) (p : Parts) (capacity : ℕ) (steps : List Step) : Type 0 where
+  pub lawful : IsProgram p
   pub taken : all_taken p.cores capacity fault.None (begun p) steps ≡ Ok (led_to p capacity steps)
   pub complete : IsComplete p.cores (led_to p capacity steps)
   pub performed : (led_to p capacity steps).performed ≡ m
@@ -28,20 +30,25 @@ pub record IsReplay (x : Execution) (m : List ℕ) (p : Parts) (capacity : ℕ) 
   pub within : All (IsStepOf p) steps
   pub few : length steps ≤ 3 * event_count x
 
--- each TSO order of a recording is replayed, with any capacity of at least 1 that holds the stores of a
--- core
+-- a recording with values of 32 bits, whose addresses are numbered by first use, none unused
+pub record IsReplayable (x : Execution) : Type 0 where
+  pub recording : IsRecording x
+  pub small : HasSmallValues x
+  pub numbered : IsNumberedByFirstUse x
+
+-- each TSO order of a replayable recording is replayed, with any capacity of at least 1 that holds the stores of
+-- a core
 abbrev pub EveryOrderIsReplayed : Execution → List ℕ → ℕ → Type 0
-EveryOrderIsReplayed x m capacity = IsRecording x → IsTsoOrder x m → most_stores x.cores ≤ capacity
+EveryOrderIsReplayed x m capacity = IsReplayable x → IsTsoOrder x m → most_stores x.cores ≤ capacity
     → IsReplay x m (named_program x) capacity (replay_steps x m)
 
--- a program without fault makes the recording in some run, with this capacity
+-- a program makes the recording in some run without fault, with this capacity
 abbrev pub CanMake : ℕ → Execution → Type 0
 CanMake capacity x = (p : Parts) × (steps : List Step)
-    × All (λ ops. All (IsWithin (length p.names)) ops) p.cores
-    × IsComplete p.cores (led_to p capacity steps) × (recorded p.cores (led_to p capacity steps) ≡ x)
+    × IsProgram p × IsComplete p.cores (led_to p capacity steps) × (recorded p.cores (led_to p capacity steps) ≡ x)
 
--- with a capacity of at least 1 that holds the stores of a core, the machine makes exactly the
--- recordings that have a TSO order
+-- with a capacity of at least 1 that holds the stores of a core, the machine makes, among the
+-- replayable recordings, exactly those that have a TSO order
 abbrev pub MakesExactlyTso : Execution → ℕ → Type 0
-MakesExactlyTso x capacity = IsRecording x → most_stores x.cores ≤ capacity
+MakesExactlyTso x capacity = IsReplayable x → most_stores x.cores ≤ capacity
     → CanMake capacity x ↔ ((m : List ℕ) × IsTsoOrder x m)

@@ -73,6 +73,7 @@ pub fn replay_steps(
     every_order_is_replayed();
     recording.sound();
     let program = named_program(alloc, recording)?;
+    program.sound();
     let machine = Machine::new(alloc, program, most_stores(recording), Fault::None)?;
     let replay = steps_of(alloc, machine, recording, order)?;
     let Replay { machine, steps } = replay;

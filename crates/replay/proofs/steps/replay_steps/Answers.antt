@@ -1,5 +1,5 @@
 use Rattle.std.proofs.Common.{◌≡◌, ◌∙◌, ℕ, List, ap, sym, subst, length}
-use Rattle.litmus.specs.Parts.{Parts}
+use Rattle.litmus.specs.Parts.{Parts, IsProgram}
 use Rattle.recorder.specs.Execution.{Execution}
 use Rattle.machine.specs.declared.fault.Fault.TheVariants as fault
 use Rattle.machine.specs.declared.step.Step.{Step}
@@ -9,7 +9,7 @@ use Rattle.replay.specs.Stores.{most_stores}
 use Rattle.replay.specs.Steps.{order_steps, replay_steps}
 use Rattle.replay.specs.Program.{named_program}
 use Rattle.replay.specs.Replaying.{Replaying}
-use Rattle.replay.specs.Replayed.{IsReplay}
+use Rattle.replay.specs.Replayed.{IsReplay, IsReplayable}
 use Rattle.litmus.specs.AddressNameLaws.{names_count}
 use Rattle.replay.proofs.steps.replay_steps.Goals as goal
 
@@ -41,6 +41,13 @@ returns-clause-replay c = λ capacity room.
     ∙ (c.in_ok-replay.ensures.program ∙ (ap (λ (h : Configuration). h.program) c.in_ok-machine.ensures
     ∙ c.in_ok-program.ensures))) in
     let steps : c.replay.inside.steps.items ≡ replay_steps x m = returns-clause-steps c in
+    let lawful : IsProgram (named_program x) =
+    subst (λ (p : Parts). IsProgram p) c.in_ok-program.ensures c.sound-2.ensures.lawful in
+    let of : IsReplayable x = record {
+      recording = c.sound.ensures;
+      small = (lawful.values, lawful.init_values);
+      numbered = c.requires.numbered;
+    } in
     subst (λ (p : Parts). IsReplay x m p capacity c.replay.inside.steps.items) (sym program)
     (subst (λ (l : List Step). IsReplay x m (named_program x) capacity l) (sym steps)
-    (c.every_order_is_replayed.ensures.replay x m capacity c.sound.ensures c.requires.order room))
+    (c.every_order_is_replayed.ensures.replay x m capacity of c.requires.order room))
