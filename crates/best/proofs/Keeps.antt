@@ -1,22 +1,22 @@
 -- Each step keeps the bound legal.
-use Rattle.std.proofs.Common.{true≢false, ◌≡◌, ◌≢◌, ◌⊎◌, ℕ, zero, suc, ◌+◌, ◌<◌, ◌≤◌, min, Bool, true, false}
+use Rattle.std.proofs.Common.{true≢false, ◌≡◌, ◌≢◌, ◌⊎◌, ℕ, zero, suc, ◌<◌, ◌≤◌, min, true, false}
 use Rattle.std.proofs.Common.{List, [], ◌∷◌, ◌++◌, length, get_or, set, sym, refl, ap, ◌∙◌, subst, inl, inr}
 use Rattle.std.proofs.Common.{⊎_elim, arith}
-use Rattle.std.specs.Prelude.{Contains, slice_index}
-use Rattle.std.proofs.lemmas.List.{set-get_or, get_or-set_same, length-set}
-use Rattle.std.proofs.lemmas.List.Elements.{Contains-append_cases, Contains-push_cases}
+use Rattle.std.specs.Prelude.{Contains}
+use Rattle.std.proofs.lemmas.List.{get_or-set_same, length-set}
+use Rattle.std.proofs.lemmas.List.Elements.{Contains-append_cases, Contains-push_cases, Contains-push}
+use Rattle.std.proofs.lemmas.List.Elements.{Contains-append_left, Contains-append_right}
 use mathlib.Core.Logic.{dite}
 use mathlib.Core.Option.{none, some, some-injective, some-ne-none}
 use native.Mathlib.Decide.{ℕ_discrete, dec_le}
 use lib.ListN.{get_elem?}
-use Rattle.atomic_table.specs.Table.{State, Me, Step, step, keeps, stepped, Allows, Splits, Joins, opening}
-use Rattle.atomic_table.proofs.Lists.{at_set, at_snoc, set_else, set_again}
+use Rattle.atomic_table.specs.Table.{State, Me, step, keeps, stepped, Allows, Splits, Joins, opening}
+use Rattle.atomic_table.proofs.Lists.{at_set, at_snoc, at_longer, set_here, set_else}
 use Rattle.best.specs.declared.rule.Known.{Known}
-use Rattle.relations.specs.Relation.{Table, Related}
-use Rattle.relations.specs.Cycle.{IsCycle}
-use Rattle.best.specs.Rule.{IsLength, none_word, first_bound, spent_bound, joined_bounds, knows, Bounded}
-use Rattle.best.specs.Rule.{LegalBest, LowerStep}
-use Rattle.best.specs.Rule.{ReadStep}
+use Rattle.best.specs.declared.rule.View.{View}
+use Rattle.relations.specs.Relation.{Table}
+use Rattle.best.specs.Rule.{IsLength, none_word, first_view, spent_view, with_others, joined_views, knows}
+use Rattle.best.specs.Rule.{knowing, Bounded, LegalBest, IsUnset, LowerStep, ReadStep}
 
 none_in : {X : Type 0} (x : X) → Contains [] x → ⊥
 none_in x h = omega (arith, h.1)
@@ -24,14 +24,40 @@ none_in x h = omega (arith, h.1)
 off : false ≡ true → ⊥
 off e = true≢false (sym e)
 
+in_length : (l : List View) (i : ℕ) (v : View) → get_elem? l i ≡ some v → i < length l
+in_length [] i v e = absurd (some-ne-none v (sym e))
+in_length (x ∷ xs) zero v e = omega arith
+in_length (x ∷ xs) (suc i) v e = let h = in_length xs i v e in omega arith
+
+-- where a seat is the only one, all others are it
+only_one : (views : List View) (i j : ℕ) (v w : View) → length views ≡ 1 → get_elem? views i ≡ some v
+    → get_elem? views j ≡ some w → i ≡ j
+only_one views i j v w one at at' = omega (arith, one, in_length views i v at, in_length views j w at')
+
 -- a fact of each view, after the view of one seat changed
-each_set : (P : ℕ → Known → Type 0) (views : List Known) (id : ℕ) (w : Known) → P id w
-    → ((j : ℕ) (u : Known) → j ≢ id → get_elem? views j ≡ some u → P j u) → (j : ℕ) (u : Known)
+each_set : (P : ℕ → View → Type 0) (views : List View) (id : ℕ) (w : View) → P id w
+    → ((j : ℕ) (u : View) → j ≢ id → get_elem? views j ≡ some u → P j u) → (j : ℕ) (u : View)
     → get_elem? (set views id w) j ≡ some u → P j u
 each_set P views id w mine others j u e = ⊎_elim
-    (λ (x : (j ≡ id) × (w ≡ u)). subst (λ (y : ℕ × Known). P y.0 y.1) (λ i. (sym x.0 i, x.1 i)) mine)
+    (λ (x : (j ≡ id) × (w ≡ u)). subst (λ (y : ℕ × View). P y.0 y.1) (λ i. (sym x.0 i, x.1 i)) mine)
     (λ (x : (j ≢ id) × (get_elem? views j ≡ some u)). others j u x.0 x.1)
     (at_set views id j w u e)
+
+-- some view knows this length
+abbrev Owned : List View → ℕ → Type 0
+Owned views n = (i : ℕ) × (v : View) × (get_elem? views i ≡ some v) × Contains v.known.lengths n
+
+-- who knows a length still knows it where the view of one seat grew
+still : (views : List View) (id : ℕ) (v w : View) → get_elem? views id ≡ some v → (n : ℕ)
+    → (Contains v.known.lengths n → Contains w.known.lengths n) → Owned views n → Owned (set views id w) n
+still views id v w at n grows o = dite (ℕ_discrete o.0 id)
+    (λ is. let same : o.1 ≡ v = some-injective o.1 v (sym o.2 ∙ ap (get_elem? views) is ∙ at) in (
+      id,
+      w,
+      set_here views id w (in_length views id v at),
+      grows (subst (λ (x : View). Contains x.known.lengths n) same o.3),
+    ))
+    (λ ne. (o.0, o.1, set_else views id o.0 w ne ∙ o.2, o.3))
 
 knows_bounded : (v : Known) (k n m : ℕ) → Bounded v n → m ≤ n → m ≤ k → k < 65536 → Bounded (knows v k) m
 knows_bounded v k n m b less low small q h = ⊎_elim (λ x. let y = b q x in (omega (arith, y.0), y.1))
@@ -41,116 +67,199 @@ lower_bounded : (v : Known) (n m : ℕ) → Bounded v n → m ≤ n → Bounded 
 lower_bounded v n m b less q h = let y = b q h in (omega (arith, y.0), y.1)
 
 -- The word becomes n, no larger than it was, and the seat's view w
-moved : (c : Table) (s : State (Unit {0}) Known) (r : LegalBest c s) (id n : ℕ) (w : Known)
-    → n ≤ get_or s.words 0 0
-    → (n ≡ none_word) ⊎ (IsLength c n × (n < 65536)) → (w.live ≡ true → w.relation ≡ c) → Bounded w n
+moved : (c : Table) (s : State (Unit {0}) View) (r : LegalBest c s) (id n : ℕ) (v w : View)
+    → get_elem? s.views id ≡ some v → n ≤ get_or s.words 0 0
+    → (n ≡ none_word) ⊎ (IsLength c n × (n < 65536)) → (w.known.live ≡ true → w.known.relation ≡ c)
+    → Bounded w.known n → (w.alone ≡ v.alone) → (n ≢ none_word → Owned (set s.views id w) n)
     → (c' : List (ℕ × Unit {0})) → LegalBest c (stepped s 0 n id c' w keeps)
-moved c s r id n w less ok of mine c' =
+moved c s r id n v w at less ok of mine same owned c' =
     let is : get_or (set s.words 0 n) 0 0 ≡ n = get_or-set_same s.words 0 n 0 (omega (arith, r.size)) in
     record {
       size = length-set s.words 0 n ∙ r.size;
       word = subst (λ (z : ℕ). (z ≡ none_word) ⊎ (IsLength c z × (z < 65536))) (sym is) ok;
-      carried = each_set (λ j u. u.live ≡ true → u.relation ≡ c) s.views id w of (λ j u _ e. r.carried j u e);
-      bounded = subst (λ (z : ℕ). (i : ℕ) (v : Known) → get_elem? (set s.views id w) i ≡ some v → Bounded v z)
-          (sym is)
-          (each_set (λ j u. Bounded u n) s.views id w mine
-          (λ j u _ e. lower_bounded u _ n (r.bounded j u e) less));
+      carried = each_set (λ j u. u.known.live ≡ true → u.known.relation ≡ c) s.views id w of
+          (λ j u _ e. r.carried j u e);
+      bounded = subst (λ (z : ℕ). (i : ℕ) (v : View) → get_elem? (set s.views id w) i ≡ some v
+          → Bounded v.known z) (sym is)
+          (each_set (λ j u. Bounded u.known n) s.views id w mine
+          (λ j u _ e. lower_bounded u.known _ n (r.bounded j u e) less));
+      owned = subst (λ (z : ℕ). z ≢ none_word → Owned (set s.views id w) z) (sym is) owned;
+      sole = λ j u e l. length-set s.views id w ∙ each_set (λ _ u. u.alone ≡ true → length s.views ≡ 1)
+          s.views id w (λ a. r.sole id v at (sym same ∙ a)) (λ j u _ e. r.sole j u e) j u e l;
     }
 
-pub lowers : (c : Table) (slots id k : ℕ) (me : Me (Unit {0}) Known) → IsLength c k → k < 65536
+pub lowers : (c : Table) (slots id k : ℕ) (me : Me (Unit {0}) View) → IsLength c k → k < 65536
     → Allows (LegalBest c) slots id me 0 (λ n. min n k) (LowerStep (step slots 0 k 0 none) me)
-lowers c slots id k me is small s r _ at _ = let n : ℕ = get_or s.words 0 0 in let m : ℕ = min n k in
+lowers c slots id k me is small s r _ at _ =
+    let v = me.0 in
+    let w = knowing v k in
+    let n : ℕ = get_or s.words 0 0 in
+    let m : ℕ = min n k in
     let ok : (m ≡ none_word) ⊎ (IsLength c m × (m < 65536)) = elim (dec_le n k) [
       | yes le ↦ subst (λ (z : ℕ). (z ≡ none_word) ⊎ (IsLength c z × (z < 65536))) (omega arith) r.word
       | no ne ↦ inr (subst (IsLength c) (omega arith) is, omega arith)
+    ] in
+    let here : get_elem? (set s.views id w) id ≡ some w = set_here s.views id w (in_length s.views id v at) in
+    let owned : m ≢ none_word → Owned (set s.views id w) m = λ full. elim (dec_le n k) [
+      | yes le ↦ let same : n ≡ m = omega arith in subst (Owned (set s.views id w)) same
+          (still s.views id v w at n (Contains-append_left v.known.lengths (k ∷ []) n)
+          (r.owned (λ e. full (sym same ∙ e))))
+      | no ne ↦ (id, w, here, subst (Contains w.known.lengths) (omega arith) (Contains-push v.known.lengths k))
     ] in (
-      knows me.0 k,
+      w,
       keeps,
       tt,
-      moved c s r id m (knows me.0 k) (omega arith) ok (λ l. r.carried id me.0 at l)
-          (knows_bounded me.0 k n m (r.bounded id me.0 at) (omega arith) (omega arith) small) me.1,
+      moved c s r id m v w at (omega arith) ok (λ l. r.carried id v at l)
+          (knows_bounded v.known k n m (r.bounded id v at) (omega arith) (omega arith) small) refl owned me.1,
       (refl, refl),
     )
 
-pub reads : (c : Table) (slots id : ℕ) (me : Me (Unit {0}) Known) → me.0.live ≡ true
+-- what the only seat of a bound loads is a length that it knew
+sole_length : (c : Table) (s : State (Unit {0}) View) (r : LegalBest c s) (id : ℕ) (v : View)
+    → get_elem? s.views id ≡ some v → v.alone ≡ true → get_or s.words 0 0 ≢ none_word
+    → Contains v.known.lengths (get_or s.words 0 0)
+sole_length c s r id v at alone full =
+    let o = r.owned full in
+    let same : o.0 ≡ id = only_one s.views o.0 id o.1 v (r.sole id v at alone) o.2 at in
+    subst (λ (x : View). Contains x.known.lengths (get_or s.words 0 0))
+    (some-injective o.1 v (sym o.2 ∙ ap (get_elem? s.views) same ∙ at)) o.3
+
+-- so a bound that is opened is none
+pub unset : (c : Table) → IsUnset (first_view c)
+unset c s i r at = elim (ℕ_discrete (get_or s.words 0 0) none_word) [
+  | yes e ↦ e
+  | no full ↦ absurd (none_in (get_or s.words 0 0) (sole_length c s r i (first_view c) at refl full))
+]
+
+pub reads : (c : Table) (slots id : ℕ) (me : Me (Unit {0}) View) → me.0.known.live ≡ true
     → Allows (LegalBest c) slots id me 0 (λ n. n) (ReadStep (step slots 0 0 0 none) me)
-reads c slots id me live s r _ at _ = let n : ℕ = get_or s.words 0 0 in let b = r.bounded id me.0 at in
-    let of = r.carried id me.0 at in dite (ℕ_discrete n none_word)
+reads c slots id me live s r _ at _ =
+    let v = me.0 in
+    let n : ℕ = get_or s.words 0 0 in
+    let b = r.bounded id v at in
+    let of = r.carried id v at in
+    let own = sole_length c s r id v at in dite (ℕ_discrete n none_word)
     (λ hit. (
-      me.0,
+      v,
       keeps,
       tt,
-      moved c s r id n me.0 (omega arith) r.word of b me.1,
-      (refl, (b, (λ _. refl), λ not. absurd (not hit))),
+      moved c s r id n v v at (omega arith) r.word of b refl (λ full. absurd (full hit)) me.1,
+      (refl, ((b, (λ _. refl), λ not. absurd (not hit)), refl, own)),
     ))
     (λ miss.
     let is : IsLength c n × (n < 65536) = ⊎_elim (λ e. absurd (miss e)) (λ x. x) r.word in (
-      knows me.0 n,
+      knowing v n,
       keeps,
       tt,
-      moved c s r id n (knows me.0 n) (omega arith) r.word of
-          (knows_bounded me.0 n n n b (omega arith) (omega arith) is.1) me.1,
+      moved c s r id n v (knowing v n) at (omega arith) r.word of
+          (knows_bounded v.known n n n b (omega arith) (omega arith) is.1) refl
+          (λ full. still s.views id v (knowing v n) at n (Contains-append_left v.known.lengths (n ∷ []) n)
+          (r.owned full)) me.1,
       (
         refl,
         (
-          b,
-          (λ e. absurd (miss e)),
-          λ _. (
-            refl,
-            subst (λ (z : Table). IsLength z n) (sym (of live)) is.0,
-            is.1,
+          (
+            b,
+            (λ e. absurd (miss e)),
+            λ _. (
+              refl,
+              subst (λ (z : Table). IsLength z n) (sym (of live)) is.0,
+              is.1,
+            ),
           ),
+          refl,
+          own,
         ),
       ),
     ))
 
-pub begins : (c : Table) → LegalBest c (opening (none_word ∷ []) [] (first_bound c))
+pub begins : (c : Table) → LegalBest c (opening (none_word ∷ []) [] (first_view c))
 begins c = record {
   size = refl;
   word = inl refl;
-  carried = λ i v e l. ap (λ (x : Known). x.relation) (sym (only i v e));
+  carried = λ i v e l. ap (λ (x : View). x.known.relation) (sym (only i v e));
   bounded = λ i v e k h. absurd (none_in k
-      (subst (λ (x : Known). Contains x.lengths k) (sym (only i v e)) h));
+      (subst (λ (x : View). Contains x.known.lengths k) (sym (only i v e)) h));
+  owned = λ full. absurd (full refl);
+  sole = λ _ _ _ _. refl;
 }
   where
-    only : (i : ℕ) (v : Known) → get_elem? (first_bound c ∷ []) i ≡ some v → first_bound c ≡ v
-    only zero v e = some-injective (first_bound c) v e
+    only : (i : ℕ) (v : View) → get_elem? (first_view c ∷ []) i ≡ some v → first_view c ≡ v
+    only zero v e = some-injective (first_view c) v e
     only (suc i) v e = absurd (some-ne-none v (sym e))
 
-pub splits : (c : Table) (id : ℕ) (v : Known) → Splits (LegalBest c) id v v v
-splits c id v s r at = subst (λ (vs : List Known). LegalBest c record {
-  words = s.words;
-  homes =
-      s.homes;
-  views = vs ++ v ∷ [];
-}) (sym (set_again s.views id v at)) record {
-  size = r.size;
-  word = r.word;
-  carried = λ i u e l. ⊎_elim (λ x. r.carried i u x l)
-      (λ x. ap (λ (y : Known). y.relation) (sym x) ∙ r.carried id v at (ap (λ (y : Known). y.live) x ∙ l))
-      (at_snoc s.views v u i e);
-  bounded = λ i u e. ⊎_elim (λ x. r.bounded i u x)
-      (λ x. subst (λ (y : Known). Bounded y (get_or s.words 0 0)) x (r.bounded id v at))
-      (at_snoc s.views v u i e);
-}
-
-pub joins : (c : Table) (id : ℕ) (v : Known) (other : ℕ) (w : Known) → Joins (LegalBest c) id v other w
-    (joined_bounds v w) spent_bound
-joins c id v other w s r at ne at' =
-    let mid = set s.views id (joined_bounds v w) in
-    let there : get_elem? s.views other ≡ some w = sym (set_else s.views id other (joined_bounds v w) ne)
-    ∙ at' in
-    let kinds : (P : Known → Type 0) → P (joined_bounds v w) → P spent_bound
-    → ((j : ℕ) (u : Known) → get_elem? s.views j ≡ some u → P u) → (j : ℕ) (u : Known)
-    → get_elem? (set mid other spent_bound) j ≡ some u → P u
-    = λ P p q o. each_set (λ _ u. P u) mid other spent_bound q
-    (λ j u _ e. each_set (λ _ u. P u) s.views id (joined_bounds v w) p (λ j u _ e. o j u e) j u e) in
+pub splits : (c : Table) (id : ℕ) (v : View) → Splits (LegalBest c) id v (with_others v) (with_others v)
+splits c id v s r at =
+    let w = with_others v in
+    let views = set s.views id w in
+    -- a fact of each view: of the two seats', and of the others
+    let each : (P : View → Type 0) → P w
+    → ((j : ℕ) (u : View) → j ≢ id → get_elem? s.views j ≡ some u → P u)
+    → (i : ℕ) (u : View) → get_elem? (views ++ w ∷ []) i ≡ some u → P u
+    = λ P p o i u e. ⊎_elim (λ x. each_set (λ _ u. P u) s.views id w p o i u x)
+    (λ x. subst P x p) (at_snoc views w u i e) in
     record {
       size = r.size;
       word = r.word;
-      carried = kinds (λ u. u.live ≡ true → u.relation ≡ c) (λ l. r.carried id v at l)
-          (λ l. absurd (off l)) r.carried;
-      bounded = kinds (λ u. Bounded u (get_or s.words 0 0))
+      carried = each (λ u. u.known.live ≡ true → u.known.relation ≡ c) (r.carried id v at)
+          (λ j u _ e. r.carried j u e);
+      bounded = each (λ u. Bounded u.known (get_or s.words 0 0)) (r.bounded id v at)
+          (λ j u _ e. r.bounded j u e);
+      owned = λ full.
+          let t = still s.views id v w at (get_or s.words 0 0) (λ h. h) (r.owned full) in
+          (t.0, t.1, at_longer views (w ∷ []) t.0 t.1 t.2, t.3);
+      sole = λ i u e l. absurd (each (λ u. u.alone ≡ true → ⊥) (λ l. off l)
+          (λ j u ne e l. ne (only_one s.views j id u v (r.sole j u e l) e at)) i u e l);
+    }
+
+pub joins : (c : Table) (id : ℕ) (v : View) (other : ℕ) (w : View)
+    → Joins (LegalBest c) id v other w (joined_views v w) spent_view
+joins c id v other w s r at ne at' =
+    let both = joined_views v w in
+    let n : ℕ = get_or s.words 0 0 in
+    let mid = set s.views id both in
+    let there : get_elem? s.views other ≡ some w = sym (set_else s.views id other both ne) ∙ at' in
+    let here : get_elem? (set mid other spent_view) id ≡ some both = set_else mid other id spent_view
+    (λ e. ne (sym e)) ∙ set_here s.views id both (in_length s.views id v at) in
+    -- a view is the joined one, nothing, or an old one
+    let kinds : (P : View → Type 0) → P both → P spent_view
+    → ((j : ℕ) (u : View) → j ≢ id → get_elem? s.views j ≡ some u → P u) → (j : ℕ) (u : View)
+    → get_elem? (set mid other spent_view) j ≡ some u → P u
+    = λ P p q o. each_set (λ _ u. P u) mid other spent_view q
+    (λ j u _ e. each_set (λ _ u. P u) s.views id both p o j u e) in
+    record {
+      size = r.size;
+      word = r.word;
+      carried = kinds (λ u. u.known.live ≡ true → u.known.relation ≡ c) (λ l. r.carried id v at l)
+          (λ l. absurd (off l)) (λ j u _ e. r.carried j u e);
+      bounded = kinds (λ u. Bounded u.known n)
           (λ k h. ⊎_elim (λ x. r.bounded id v at k x) (λ x. r.bounded other w there k x)
-          (Contains-append_cases v.lengths w.lengths k h)) (λ k h. absurd (none_in k h)) r.bounded;
+          (Contains-append_cases v.known.lengths w.known.lengths k h)) (λ k h. absurd (none_in k h))
+          (λ j u _ e. r.bounded j u e);
+      owned = λ full. let o = r.owned full in dite (ℕ_discrete o.0 id)
+          (λ is. (
+            id,
+            both,
+            here,
+            Contains-append_left v.known.lengths w.known.lengths n
+                (subst (λ (x : View). Contains x.known.lengths n)
+                (some-injective o.1 v (sym o.2 ∙ ap (get_elem? s.views) is ∙ at)) o.3),
+          ))
+          (λ ni. dite (ℕ_discrete o.0 other)
+          (λ is. (
+            id,
+            both,
+            here,
+            Contains-append_right v.known.lengths w.known.lengths n
+                (subst (λ (x : View). Contains x.known.lengths n)
+                (some-injective o.1 w (sym o.2 ∙ ap (get_elem? s.views) is ∙ there)) o.3),
+          ))
+          (λ no. (
+            o.0,
+            o.1,
+            set_else mid other o.0 spent_view no ∙ set_else s.views id o.0 both ni ∙ o.2,
+            o.3,
+          )));
+      sole = λ i u e l. absurd (kinds (λ u. u.alone ≡ true → ⊥) (λ l. off l) (λ l. off l)
+          (λ j u ni e l. ni (only_one s.views j id u v (r.sole j u e l) e at)) i u e l);
     }

@@ -1,5 +1,5 @@
 -- What the calls of a seat say.
-use Rattle.std.specs.Prelude.{◌≡◌, ℕ, ◌≤◌, Option, Some, None, Contains}
+use Rattle.std.specs.Prelude.{◌≡◌, ℕ, ◌≤◌, true, Option, Some, None, Contains}
 use Rattle.std.specs.Arc.{arc_value}
 use Rattle.best.specs.declared.rule.Known.{Known}
 use Rattle.best.specs.declared.seat.Best.{Best}
@@ -8,7 +8,11 @@ use Rattle.best.specs.Rule.{IsLength, knows, joined_bounds}
 
 -- what a seat knows
 abbrev pub known_of : BestSeat → Known
-known_of s = s.seat.me.0
+known_of s = s.seat.me.0.known
+
+-- no other seat was ever beside it
+abbrev pub IsAlone : BestSeat → Type 0
+IsAlone s = s.seat.me.0.alone ≡ true
 
 -- the seat is of this bound
 abbrev pub IsBestSeatOf : Best → BestSeat → Type 0

@@ -1,10 +1,10 @@
 //! The calls of the shared bound.
 
-ghost use Rattle.std.specs.Prelude.{◌≡◌, ◌≤◌, ◌<◌, [], IfOk, length};
+ghost use Rattle.std.specs.Prelude.{◌≡◌, ◌≤◌, ◌<◌, [], Contains, IfOk, IfSome, length};
 ghost use Rattle.relations.specs.Relation.{Related};
 ghost use Rattle.relations.specs.Cycle.{IsCycle};
-ghost use Rattle.best.specs.Rule.{first_bound, knows, LoadsBound};
-ghost use Rattle.best.specs.Seats.{IsBestSeatOf, IsBoundRead, AreBeside, Unites, known_of};
+ghost use Rattle.best.specs.Rule.{first_bound, knows, IsUnset, LoadsView};
+ghost use Rattle.best.specs.Seats.{IsAlone, IsBestSeatOf, IsBoundRead, AreBeside, Unites, known_of};
 
 use crate::rule::{Beside, BestTable, Lowers, NONE, Reads};
 use crate::seat::{Best, BestSeat};
@@ -14,10 +14,13 @@ use std::alloc::Global;
 use std::sync::Arc;
 
 impl Best {
-    /// A bound for the cycles of a relation, and a seat that knows no length. An error is want of memory.
+    /// A bound for the cycles of a relation, which is none, and its only seat, which knows no length. An error
+    /// is want of memory.
     pub fn open(alloc: Global, relation: &Relation) -> Result<(Best, BestSeat), OutOfMemory>
         ensures seat { IfOk result (λ r. IsBestSeatOf r.0 r.1) }
         ensures new { IfOk result (λ r. known_of r.1 ≡ first_bound relation.now) }
+        ensures alone { IfOk result (λ r. IsAlone r.1) }
+        ensures none { IfOk result (λ r. IsUnset r.1.seat.me.0) }
     {
         let (table, seat) = BestTable::of_words(alloc, &[NONE], relation)?;
         let table = Arc::new(alloc, table)?;
@@ -35,18 +38,21 @@ impl Best {
         ensures seat { IsBestSeatOf self.now seat.new }
         ensures new { known_of seat.new ≡ knows (known_of seat.old) (length cycle.now) }
         ensures relation { (known_of seat.new).relation ≡ (known_of seat.old).relation }
+        ensures alone { IsAlone seat.old → IsAlone seat.new }
     {
         relation.sound();
         seat.lower(cycle);
     }
 
     /// None, only where the seat knows no length; or the length of a cycle, at most each that the
-    /// seat knows.
+    /// seat knows, and where it is the only seat one that it knows.
     pub fn read(&self, seat: &mut BestSeat) -> Option<u16>
         requires seat { IsBestSeatOf self.now seat.old }
         ensures seat { IsBestSeatOf self.now seat.new }
         ensures reads { IsBoundRead (known_of seat.old) result (known_of seat.new) }
+        ensures own { IsAlone seat.old → IfSome result (Contains (known_of seat.old).lengths) }
         ensures relation { (known_of seat.new).relation ≡ (known_of seat.old).relation }
+        ensures alone { IsAlone seat.old → IsAlone seat.new }
     {
         let found = seat.load();
         if found == NONE {
@@ -64,6 +70,7 @@ impl BestSeat {
         requires small { length cycle.now < 65536 }
         ensures same { self.new.seat.table_id ≡ self.old.seat.table_id }
         ensures new { known_of self.new ≡ knows (known_of self.old) (length cycle.now) }
+        ensures alone { IsAlone self.old → IsAlone self.new }
     {
         self.table
             .shared
@@ -72,7 +79,7 @@ impl BestSeat {
 
     fn load(&mut self) -> u64
         ensures same { self.new.seat.table_id ≡ self.old.seat.table_id }
-        ensures loads { LoadsBound (known_of self.old) result (known_of self.new) }
+        ensures loads { LoadsView self.old.seat.me.0 result self.new.seat.me.0 }
     {
         self.table.shared.load::<Reads>(&mut self.seat, 0)
     }

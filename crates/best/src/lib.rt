@@ -5,5 +5,5 @@ mod best;
 mod rule;
 mod seat;
 
-pub use rule::{BestRule, BestTable, Known};
+pub use rule::{BestRule, BestTable, Known, View};
 pub use seat::{Best, BestSeat};

@@ -18,22 +18,30 @@ pub struct Known {
     pub lengths: LinkedList<u64>,
 }
 
+/// The view of a seat. No value of it is made.
+pub struct View {
+    /// What the seat knows.
+    pub known: Known,
+    /// Whether it is the only seat of its bound: no other was ever beside it.
+    pub alone: bool,
+}
+
 /// The word is none or the length of a cycle of the relation that all seats carry, and never above
-/// a length that a seat knows.
+/// a length that a seat knows; a length is one that some seat knows.
 pub struct BestRule;
 
-impl TableRule<(), Known, Relation> for BestRule {
-    ghost use Rattle.best.specs.Rule.{LegalBest, first_bound};
+impl TableRule<(), View, Relation> for BestRule {
+    ghost use Rattle.best.specs.Rule.{LegalBest, first_view};
 
     ghost holds = { LegalBest };
 
-    ghost first = { first_bound };
+    ghost first = { first_view };
 }
 
 /// The step of `lower`.
 pub struct Lowers;
 
-impl Play<(), Known> for Lowers {
+impl Play<(), View> for Lowers {
     ghost use Rattle.best.specs.Rule.{LowerStep};
 
     ghost then = { LowerStep };
@@ -42,7 +50,7 @@ impl Play<(), Known> for Lowers {
 /// The step of `read`.
 pub struct Reads;
 
-impl Play<(), Known> for Reads {
+impl Play<(), View> for Reads {
     ghost use Rattle.best.specs.Rule.{ReadStep};
 
     ghost then = { ReadStep };
@@ -51,19 +59,21 @@ impl Play<(), Known> for Reads {
 /// A second seat knows the same, and two seats know what either knew.
 pub struct Beside;
 
-impl Split<Known> for Beside {
-    ghost left = { λ v. v };
+impl Split<View> for Beside {
+    ghost use Rattle.best.specs.Rule.{with_others};
 
-    ghost right = { λ v. v };
+    ghost left = { with_others };
+
+    ghost right = { with_others };
 }
 
-impl Join<Known> for Beside {
-    ghost use Rattle.best.specs.Rule.{joined_bounds, spent_bound};
+impl Join<View> for Beside {
+    ghost use Rattle.best.specs.Rule.{joined_views, spent_view};
 
-    ghost both = { joined_bounds };
+    ghost both = { joined_views };
 
-    ghost spent = { spent_bound };
+    ghost spent = { spent_view };
 }
 
 /// The one word, with its rule.
-pub type BestTable = Table<(), Known, Relation, BestRule, Global>;
+pub type BestTable = Table<(), View, Relation, BestRule, Global>;

@@ -3,7 +3,7 @@
 ghost use Rattle.std.specs.Prelude.{◌≡◌, true, []};
 ghost use Rattle.std.specs.Arc.{arc_value};
 
-use crate::rule::{BestTable, Known};
+use crate::rule::{BestTable, View};
 use atomic_table::Seat;
 use std::sync::Arc;
 
@@ -17,10 +17,10 @@ pub struct Best {
 #[derive(Drop)]
 pub struct BestSeat {
     pub(crate) table: Arc<BestTable>,
-    pub(crate) seat: Seat<(), Known>,
+    pub(crate) seat: Seat<(), View>,
     ghost seated: { seat.table_id ≡ (arc_value table).shared.table_id },
     ghost empty: { seat.me.1 ≡ [] },
-    ghost live: { seat.me.0.live ≡ true },
-    ghost relation: { (arc_value table).shared.key ≡ seat.me.0.relation },
+    ghost live: { seat.me.0.known.live ≡ true },
+    ghost relation: { (arc_value table).shared.key ≡ seat.me.0.known.relation },
     ghost size: { (arc_value table).shared.table_id.words ≡ 1 },
 }

@@ -14,6 +14,14 @@ pub record IsGiven (program : Parts) (capacity limit : ℕ) (t : Trace) : Type 0
   pub fault_is : t.machine.fault ≡ None
   pub limit_is : t.limit ≡ limit
 
+-- what threads that were started left is not given
+abbrev pub IsThreadError : LiveError → Type 0
+IsThreadError (Blocked b) = ⊥
+IsThreadError TraceFull = ⊥
+IsThreadError NoThread = ⊤
+IsThreadError Stranger = ⊤
+IsThreadError OutOfMemory = ⊥
+
 -- no machine was given, and not because of one step
 abbrev pub IsDriveError : LiveError → Type 0
 IsDriveError (Blocked b) = ⊥

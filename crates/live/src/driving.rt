@@ -4,7 +4,7 @@ ghost use Rattle.std.specs.Prelude.{◌≡◌, ◌↔◌, IsTrue, IfOk, IfErr};
 ghost use Rattle.recorder.specs.Tso.{IsTsoOrder};
 ghost use Rattle.machine.specs.Configuration.{recording_of, IsAtEnd};
 ghost use Rattle.live.specs.Trace.{IsTrace, IsEnded};
-ghost use Rattle.live.specs.Driven.{IsGiven, IsDriveError};
+ghost use Rattle.live.specs.Driven.{IsGiven, IsDriveError, IsThreadError};
 
 use crate::crew::Crew;
 use crate::error::LiveError;
@@ -46,16 +46,54 @@ fn crew_of(
     Ok(Crew::new(traced))
 }
 
+/// What threads left, where it is as given and at its end; else, and only then, `Stranger`.
+fn checked(
+    traced: Traced,
+    program: &Program,
+    capacity: usize,
+    limit: usize,
+) -> Result<Traced, LiveError>
+    ensures same { IfOk result (λ t. t ≡ traced) }
+    ensures ok { IfOk result (λ t. IsGiven program.now capacity limit t × IsEnded t) }
+    ensures err { IfErr result (λ e. (e ≡ LiveError.Stranger)
+        × (IsGiven program.now capacity limit traced × IsEnded traced → ⊥)) }
+{
+    if !is_run_of(&traced, program, capacity, limit) {
+        drop(traced);
+        return Err(LiveError::Stranger);
+    }
+    Ok(traced)
+}
+
+/// What the threads of a crew leave. It takes no memory of its own: `NoThread` where one was not started,
+/// else `Stranger` where what they left is not as given or not at its end.
+fn driven<R: Threads + Wait + Sync, G: Gate>(
+    rt: &R,
+    crew: Crew,
+    program: &Program,
+    capacity: usize,
+    limit: usize,
+    gate: &G,
+) -> Result<Traced, LiveError>
+    ensures ok { IfOk result (λ t. IsGiven program.now capacity limit t × IsEnded t) }
+    ensures err { IfErr result IsThreadError }
+{
+    if !crew.run(rt, program.cores() as CoreId, gate) {
+        drop(crew);
+        return Err(LiveError::NoThread);
+    }
+    checked(crew.into_traced(), program, capacity, limit)
+}
+
 /// Runs a program on a machine whose buffers have room for `capacity` stores each, by a thread for
 /// each core, one for drains and one for caches, until it is complete or has taken `limit` steps.
 /// Each step is taken under one lock. The gate is told of each core's first turn, as piece and worker
 /// of the core's number. Which steps the threads choose is not said. No clause speaks of threads, lock
 /// and gate; tests do.
 ///
-/// An error is want of memory, `NoThread` or `Stranger`. No clause tells them apart, tests do: out of
-/// memory only before the first thread, `NoThread` where a thread was not started, else `Stranger`
-/// where the machine at the end is not as given or not at its end: so it is where the capacity is 0
-/// and a store keeps the machine from its end.
+/// An error is want of memory, before the first thread, or that of the threads: `NoThread` where one was
+/// not started, else `Stranger` where the machine at the end is not as given or not at its end: so it is
+/// where the capacity is 0 and a store keeps the machine from its end.
 pub fn drive<R: Threads + Wait + Sync, G: Gate>(
     rt: &R,
     alloc: Global,
@@ -80,18 +118,13 @@ pub fn drive<R: Threads + Wait + Sync, G: Gate>(
         drop(given);
         return Err(LiveError::OutOfMemory);
     };
-    if !crew.run(rt, given.cores() as CoreId, gate) {
-        drop(crew);
-        drop(given);
-        return Err(LiveError::NoThread);
-    }
-    let traced = crew.into_traced();
-    if !is_run_of(&traced, &given, capacity, limit) {
-        drop(traced);
-        drop(given);
-        return Err(LiveError::Stranger);
-    }
+    let driven = driven(rt, crew, &given, capacity, limit, gate);
     drop(given);
-    traced.sound();
-    Ok(traced)
+    match driven {
+        Ok(traced) => {
+            traced.sound();
+            Ok(traced)
+        }
+        Err(error) => Err(error),
+    }
 }

@@ -1,8 +1,9 @@
 -- The words that a seat read one by one are those of a legal desk.
-use Rattle.std.proofs.Common.{true≢false, ◌≡◌, ◌≢◌, ◌⊎◌, ℕ, zero, suc, ◌+◌, ◌<◌, ◌≤◌, Bool, true, false, eqb}
+use Rattle.std.proofs.Common.{true≢false, ◌≡◌, ◌≢◌, ℕ, zero, suc, ◌<◌, ◌≤◌, true, false}
 use Rattle.std.proofs.Common.{List, [], ◌∷◌, ◌++◌, length, get_or, sym, refl, ap, ◌∙◌, subst, inl, inr}
-use Rattle.std.proofs.Common.{⊎_elim, arith, eq-eqb, ne_eqb, length-append}
-use Rattle.std.specs.Prelude.{Contains, slice_index}
+use Rattle.std.proofs.Common.{⊎_elim, arith, length-append}
+use Rattle.std.specs.Prelude.{Contains}
+use Rattle.std.proofs.lemmas.Bool.{cases_Bool}
 use Rattle.std.proofs.lemmas.List.{get_or_append_left, get_or_past}
 use Rattle.std.proofs.Math.Seq.{get_or-append_seam}
 use Rattle.std.proofs.lemmas.List.Elements.{Contains-append_left, Contains-push, Contains-push_cases}
@@ -11,16 +12,17 @@ use mathlib.Core.Logic.{dite}
 use mathlib.Core.Option.{some, some-injective, some-ne-none}
 use native.Mathlib.Decide.{ℕ_discrete, dec_le}
 use lib.ListN.{get_elem?}
-use Rattle.atomic_table.specs.Table.{State}
 use Rattle.trials.specs.Campaigns.{Plan}
 use Rattle.trials.specs.declared.board.View.{View}
 use Rattle.trials.specs.Codes.{IsCode}
-use Rattle.trials.specs.Board.{noticed, met, FitsAt, IsWord, Legal, Was, AreDeskWords}
+use Rattle.trials.specs.Board.{noticed, met, FitsAt, IsWord, AreDeskWords}
 use Rattle.trials.specs.Looking.{LoadsWord}
+use Rattle.trials.proofs.Keeps.{sole_share}
 
 -- w has the share of v, and has seen at least as much
 pub record Grown (v w : View) : Type 0 where
   pub live : w.live ≡ v.live
+  pub alone : w.alone ≡ v.alone
   pub campaign : w.campaign ≡ v.campaign
   pub share : w.share ≡ v.share
   pub filed : w.filed ≡ v.filed
@@ -30,6 +32,7 @@ pub record Grown (v w : View) : Type 0 where
 pub grown_same : (v : View) → Grown v v
 grown_same v = record {
   live = refl;
+  alone = refl;
   campaign = refl;
   share = refl;
   filed = refl;
@@ -47,6 +50,7 @@ grown_loads v w x k n g l = dite (ℕ_discrete n 0)
     (λ full. dite (ℕ_discrete n 1)
     (λ e. grown_is v (noticed w k) x record {
       live = g.live;
+      alone = g.alone;
       campaign = g.campaign;
       share = g.share;
       filed =
@@ -56,6 +60,7 @@ grown_loads v w x k n g l = dite (ℕ_discrete n 0)
     } (l.2 e))
     (λ more. grown_is v (met w k) x record {
       live = g.live;
+      alone = g.alone;
       campaign = g.campaign;
       share = g.share;
       filed =
@@ -78,14 +83,17 @@ grown_fits v w k n g f =
       (λ h. code (f.4 (g.read k h))),
     )
 
--- each word read so far fits the view, and so does 0 where there is no word
+-- each word read so far fits the view, and so does 0 where there is no word; the only seat of a desk has
+-- each trial whose word is not 0
 pub record ReadSoFar (v : View) (ws : List ℕ) : Type 0 where
+  pub sole : v.alone ≡ true → (j : ℕ) → j < length ws → get_or ws j 0 ≢ 0 → Contains v.share j
   pub fits : (j : ℕ) → j < length ws → FitsAt v j (get_or ws j 0)
   pub words : (j : ℕ) → j < length ws → IsWord v.campaign j (get_or ws j 0)
   pub beyond : 0 < length ws → (j : ℕ) → v.campaign.trials ≤ j → FitsAt v j 0
 
 pub nothing_read : (v : View) → ReadSoFar v []
 nothing_read v = record {
+  sole = λ _ j h. absurd (omega (arith, h));
   fits = λ j h. absurd (omega (arith, h));
   words =
       λ j h. absurd (omega (arith, h));
@@ -102,7 +110,15 @@ one_more v w x ws n g l r =
     let word : IsWord v.campaign k n = subst (λ (c : Plan). IsWord c k n) g.campaign
     (subst (IsWord w.campaign k) is (legal.words k)) in
     let len = length-append ws (n ∷ []) in
+    let has : v.alone ≡ true → n ≢ 0 → Contains v.share k = λ alone full. subst
+    (λ (xs : List ℕ). Contains xs k) g.share
+    (sole_share w.campaign s legal i k w at (g.alone ∙ alone) (λ e. full (sym is ∙ e))) in
     record {
+      sole = λ alone j h full. dite (ℕ_discrete j k)
+          (λ e. subst (Contains v.share) (sym e) (has alone
+          (λ z. full (ap (λ (q : ℕ). get_or (ws ++ n ∷ []) q 0) e ∙ last ∙ z))))
+          (λ ne. let low : j < k = omega (arith, h, len, ne) in
+          r.sole alone j low (λ z. full (get_or_append_left ws (n ∷ []) 0 j low ∙ z)));
       fits = λ j h. dite (ℕ_discrete j k)
           (λ e. subst (λ (z : ℕ × ℕ). FitsAt v z.0 z.1)
           (λ t. (sym e t, sym (ap (λ (q : ℕ). get_or (ws ++ n ∷ []) q 0) e ∙ last) t)) fit)
@@ -176,73 +192,117 @@ done_dec v ws k = elim (theirs_dec v ws k) [
   | yes t ↦ elim (ℕ_discrete (get_or ws k 0) 1) [ yes e ↦ no (λ h. h.1 e) | no ne ↦ yes (t, ne) ]
 ]
 
+one : (v : View) (P : ℕ → View → Type 0) → P 0 v → (i : ℕ) (u : View) → get_elem? (v ∷ []) i ≡ some u
+    → P i u
+one v P p zero u e = subst (P 0) (some-injective v u e) p
+one v P p (suc i) u e = absurd (some-ne-none u (sym e))
+
 two : (v w : View) (P : ℕ → View → Type 0) → P 0 v → P 1 w → (i : ℕ) (u : View) → get_elem? (v ∷ w ∷ []) i
     ≡ some u → P i u
 two v w P p q zero u e = subst (P 0) (some-injective v u e) p
 two v w P p q (suc zero) u e = subst (P 1) (some-injective w u e) q
 two v w P p q (suc (suc i)) u e = absurd (some-ne-none u (sym e))
 
-pub closing : (v : View) (ws : List ℕ) → v.live ≡ true → length ws ≡ v.campaign.trials → 0 < length ws
-    → ReadSoFar v ws → AreDeskWords v ws
-closing v ws live size some_word r =
-    let n : ℕ = length ws in
-    let share = pick (Theirs v ws) (theirs_dec v ws) n in
-    let filed = pick (Done v ws) (done_dec v ws) n in
-    let other : View = record {
-      live = true;
-      campaign = v.campaign;
-      share = share.0;
-      filed = filed.0;
-      seen =
-          [];
-      read = [];
-    } in
-    let out : (k : ℕ) → n ≤ k → get_or ws k 0 ≡ 0 = λ k h. get_or_past ws k 0 h in
-    let word : (k : ℕ) → IsWord v.campaign k (get_or ws k 0) =
-    λ k. elim (dec_le n k) [ yes h ↦ inl (out k h) | no h ↦ r.words k (omega (arith, h)) ] in
-    let mine : (k : ℕ) → FitsAt v k (get_or ws k 0) =
-    λ k. elim (dec_le n k) [
-      | yes h ↦ subst (FitsAt v k) (sym (out k h))
-          (r.beyond some_word k (omega (arith, h, size)))
-      | no h ↦ r.fits k (omega (arith, h))
-    ] in
-    let below : (k : ℕ) → get_or ws k 0 ≢ 0 → k < n =
-    λ k full. elim (dec_le n k) [ yes h ↦ absurd (full (out k h)) | no h ↦ omega (arith, h) ] in
-    let his : (k : ℕ) → FitsAt other k (get_or ws k 0) = λ k. (
-      (λ h. (share.1 k h).1.0),
-      (λ h. let d = filed.1 k h in (
-        share.2 k d.0 d.1.0,
-        ⊎_elim (λ e. absurd (d.1.0.0 e))
-            (λ y. ⊎_elim (λ e. absurd (d.1.1 e)) (λ e. e) y) (word k),
-      )),
-      (λ h not_filed. let t = share.1 k h in
-          elim (ℕ_discrete (get_or ws k 0) 1) [
-            | yes e ↦ e
-            | no ne ↦ absurd (not_filed (filed.2 k t.0 (t.1, ne)))
-          ]),
-      (λ h. absurd (none_in k h)),
-      (λ h. absurd (none_in k h)),
-    ) in
-    let each : (P : ℕ → View → Type 0) → P 0 v → P 1 other → (i : ℕ) (u : View) → get_elem? (v ∷ other ∷ []) i
-    ≡ some u → P i u = two v other in (
-      record { words = ws; homes = []; views = v ∷ other ∷ [] },
-      0,
-      record {
-        size = size;
-        words = word;
-        carried = each (λ i u. u.live ≡ true → u.campaign ≡ v.campaign) (λ _. refl) (λ _. refl);
-        fits = each (λ i u. (k : ℕ) → FitsAt u k (get_or ws k 0)) mine his;
-        alone = λ i j a b ea eb. each (λ i a. (k : ℕ) → Contains a.share k → Contains b.share k → i ≡ j)
-            (each (λ j b. (k : ℕ) → Contains v.share k → Contains b.share k → 0 ≡ j) (λ k _ _. refl)
-            (λ k h t. absurd ((share.1 k t).1.1 h)) j b eb)
-            (each (λ j b. (k : ℕ) → Contains other.share k → Contains b.share k → 1 ≡ j)
-            (λ k t h. absurd ((share.1 k t).1.1 h)) (λ k _ _. refl) j b eb)
-            i a ea;
-        owned = λ k full. elim (contains_dec v.share k) [
-          | yes h ↦ (0, v, refl, h)
-          | no ne ↦ (1, other, refl, share.2 k (below k full) (full, ne))
-        ];
-      },
-      refl,
-      refl,
-    )
+module _ (v : View) (ws : List ℕ) (size : length ws ≡ v.campaign.trials) (some_word : 0 < length ws)
+    (r : ReadSoFar v ws) where
+  out : (k : ℕ) → length ws ≤ k → get_or ws k 0 ≡ 0
+  out k h = get_or_past ws k 0 h
+
+  word : (k : ℕ) → IsWord v.campaign k (get_or ws k 0)
+  word k = elim (dec_le (length ws) k) [ yes h ↦ inl (out k h) | no h ↦ r.words k (omega (arith, h)) ]
+
+  mine : (k : ℕ) → FitsAt v k (get_or ws k 0)
+  mine k = elim (dec_le (length ws) k) [
+    | yes h ↦ subst (FitsAt v k) (sym (out k h)) (r.beyond some_word k (omega (arith, h, size)))
+    | no h ↦ r.fits k (omega (arith, h))
+  ]
+
+  below : (k : ℕ) → get_or ws k 0 ≢ 0 → k < length ws
+  below k full = elim (dec_le (length ws) k) [
+    | yes h ↦ absurd (full (out k h))
+    | no h ↦ omega (arith, h)
+  ]
+
+  -- where no other seat was ever there, this one has all trials whose words are not 0
+  closing_alone : v.live ≡ true → v.alone ≡ true → AreDeskWords v ws
+  closing_alone live alone =
+      let each : (P : ℕ → View → Type 0) → P 0 v → (i : ℕ) (u : View) → get_elem? (v ∷ []) i ≡ some u
+      → P i u = one v in (
+        record { words = ws; homes = []; views = v ∷ [] },
+        0,
+        record {
+          size = size;
+          words = word;
+          carried = each (λ i u. u.live ≡ true → u.campaign ≡ v.campaign) (λ _. refl);
+          fits = each (λ i u. (k : ℕ) → FitsAt u k (get_or ws k 0)) mine;
+          alone = λ i j a b ea eb. each (λ i a. (k : ℕ) → Contains a.share k → Contains b.share k → i ≡ j)
+              (each (λ j b. (k : ℕ) → Contains v.share k → Contains b.share k → 0 ≡ j) (λ k _ _. refl) j b eb)
+              i a ea;
+          owned = λ k full. (0, v, refl, r.sole alone k (below k full) full);
+          sole = λ _ _ _ _. refl;
+        },
+        refl,
+        refl,
+      )
+
+  -- else another has those that are not in its share
+  closing_beside : v.live ≡ true → v.alone ≡ false → AreDeskWords v ws
+  closing_beside live beside =
+      let n : ℕ = length ws in
+      let share = pick (Theirs v ws) (theirs_dec v ws) n in
+      let filed = pick (Done v ws) (done_dec v ws) n in
+      let other : View = record {
+        live = true;
+        alone = false;
+        campaign = v.campaign;
+        share = share.0;
+        filed = filed.0;
+        seen = [];
+        read = [];
+      } in
+      let his : (k : ℕ) → FitsAt other k (get_or ws k 0) = λ k. (
+        (λ h. (share.1 k h).1.0),
+        (λ h. let d = filed.1 k h in (
+          share.2 k d.0 d.1.0,
+          ⊎_elim (λ e. absurd (d.1.0.0 e))
+              (λ y. ⊎_elim (λ e. absurd (d.1.1 e)) (λ e. e) y) (word k),
+        )),
+        (λ h not_filed. let t = share.1 k h in
+            elim (ℕ_discrete (get_or ws k 0) 1) [
+              | yes e ↦ e
+              | no ne ↦ absurd (not_filed (filed.2 k t.0 (t.1, ne)))
+            ]),
+        (λ h. absurd (none_in k h)),
+        (λ h. absurd (none_in k h)),
+      ) in
+      let each : (P : ℕ → View → Type 0) → P 0 v → P 1 other → (i : ℕ) (u : View)
+      → get_elem? (v ∷ other ∷ []) i ≡ some u → P i u = two v other in (
+        record { words = ws; homes = []; views = v ∷ other ∷ [] },
+        0,
+        record {
+          size = size;
+          words = word;
+          carried = each (λ i u. u.live ≡ true → u.campaign ≡ v.campaign) (λ _. refl) (λ _. refl);
+          fits = each (λ i u. (k : ℕ) → FitsAt u k (get_or ws k 0)) mine his;
+          alone = λ i j a b ea eb. each (λ i a. (k : ℕ) → Contains a.share k → Contains b.share k → i ≡ j)
+              (each (λ j b. (k : ℕ) → Contains v.share k → Contains b.share k → 0 ≡ j) (λ k _ _. refl)
+              (λ k h t. absurd ((share.1 k t).1.1 h)) j b eb)
+              (each (λ j b. (k : ℕ) → Contains other.share k → Contains b.share k → 1 ≡ j)
+              (λ k t h. absurd ((share.1 k t).1.1 h)) (λ k _ _. refl) j b eb)
+              i a ea;
+          owned = λ k full. elim (contains_dec v.share k) [
+            | yes h ↦ (0, v, refl, h)
+            | no ne ↦ (1, other, refl, share.2 k (below k full) (full, ne))
+          ];
+          sole = each (λ i u. u.alone ≡ true → length (v ∷ other ∷ []) ≡ 1)
+              (λ l. absurd (true≢false (sym l ∙ beside))) (λ l. absurd (true≢false (sym l)));
+        },
+        refl,
+        refl,
+      )
+
+  pub closing : v.live ≡ true → AreDeskWords v ws
+  closing live = elim (cases_Bool v.alone) [
+    | inl alone ↦ closing_alone live alone
+    | inr beside ↦ closing_beside live beside
+  ]

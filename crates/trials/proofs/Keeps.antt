@@ -1,9 +1,9 @@
 -- Each step keeps the desk legal.
-use Rattle.std.proofs.Common.{true≢false, ◌≡◌, ◌≢◌, ◌⊎◌, ℕ, zero, suc, ◌+◌, ◌%◌, ◌<◌, ◌≤◌, Bool, true, false}
+use Rattle.std.proofs.Common.{true≢false, ◌≡◌, ◌≢◌, ◌⊎◌, ℕ, zero, suc, ◌<◌, ◌≤◌, Bool, true, false}
 use Rattle.std.proofs.Common.{eqb, List, [], ◌∷◌, ◌++◌, length, get_or, set, sym, refl, ap, ◌∙◌, subst, inl}
 use Rattle.std.proofs.Common.{inr, ⊎_elim, arith, eq-eqb, ne_eqb}
-use Rattle.std.specs.Prelude.{Contains, MatchBool, Option, None, Some, slice_index}
-use Rattle.std.proofs.lemmas.List.{set-get_or, get_or-set_same, get_or-set_other, length-set}
+use Rattle.std.specs.Prelude.{Contains, MatchBool, Option, None, Some}
+use Rattle.std.proofs.lemmas.List.{get_or-set_same, get_or-set_other, length-set}
 use Rattle.std.proofs.lemmas.List.Elements.{Contains-append_left, Contains-append_right}
 use Rattle.std.proofs.lemmas.List.Elements.{Contains-append_cases, Contains-push, Contains-push_cases}
 use mathlib.Core.Logic.{dite}
@@ -11,16 +11,15 @@ use mathlib.Core.Option.{none, some, some-injective, some-ne-none}
 use native.Mathlib.Decide.{ℕ_discrete}
 use lib.ListN.{get_elem?}
 use prog.Atomic.{either}
-use Rattle.atomic_table.specs.Table.{State, Me, Step, step, keeps, stepped, Allows, Splits, Joins, opening}
-use Rattle.atomic_table.proofs.Lists.{at_set, at_snoc, at_last, at_longer, set_here, set_else, set_again}
-use Rattle.atomic_table.proofs.Lists.{exchanged}
+use Rattle.atomic_table.specs.Table.{State, Me, step, keeps, stepped, Allows, Splits, Joins, opening}
+use Rattle.atomic_table.proofs.Lists.{at_set, at_snoc, at_longer, set_here, set_else}
 use Rattle.trials.specs.Campaigns.{Plan}
 use Rattle.trials.specs.declared.board.View.{View}
 use Rattle.judge.specs.declared.verdict.Verdict.{Verdict}
 use Rattle.judge.specs.declared.verdict.Verdict.TheVariants.{Ordered, Overlook, Cycle}
 use Rattle.trials.specs.Codes.{IsCode, end_code}
-use Rattle.trials.specs.Board.{first_view, spent_view, without_share, joined_views, claimed, noticed, met}
-use Rattle.trials.specs.Board.{completed}
+use Rattle.trials.specs.Board.{first_view, spent_view, with_others, without_share, joined_views, claimed}
+use Rattle.trials.specs.Board.{noticed, met, completed, AreAllOpen}
 use Rattle.trials.specs.Board.{FitsAt, IsWord, Legal, Was, ClaimStep, FileStep, LookStep}
 
 abbrev St : Type 0
@@ -31,6 +30,9 @@ My = Me (Unit {0}) View
 
 none_in : {X : Type 0} (x : X) → Contains [] x → ⊥
 none_in x h = omega (arith, h.1)
+
+off : false ≡ true → ⊥
+off e = true≢false (sym e)
 
 in_length : (l : List View) (i : ℕ) (v : View) → get_elem? l i ≡ some v → i < length l
 in_length [] i v e = absurd (some-ne-none v (sym e))
@@ -117,7 +119,7 @@ alone_set views id w was apart i j a b ea =
 pub moved : (c : Plan) (s : State (Unit {0}) View) (r : Legal c s) (id k n : ℕ) (v w : View)
     → get_elem? s.views id ≡ some v → k < c.trials
     → IsWord c k n
-    → (w.live ≡ true → w.campaign ≡ c)
+    → (w.live ≡ true → w.campaign ≡ c) → (w.alone ≡ v.alone)
     → ((j : ℕ) → j ≢ k → FitsAt w j (get_or s.words j 0)) → FitsAt w k n
     → ((j : ℕ) (u : View) → j ≢ id → get_elem? s.views j ≡ some u → FitsAt u k n)
     → ((j : ℕ) (u : View) → j ≢ id → get_elem? s.views j ≡ some u → (q : ℕ) → Contains w.share q
@@ -125,7 +127,7 @@ pub moved : (c : Plan) (s : State (Unit {0}) View) (r : Legal c s) (id k n : ℕ
     → ((q : ℕ) → Contains v.share q → Contains w.share q)
     → (n ≢ 0 → Contains w.share k ⊎ (get_or s.words k 0 ≢ 0))
     → (c' : List (ℕ × Unit {0})) → Legal c (stepped s k n id c' w keeps)
-moved c s r id k n v w at low ok camp mine_else mine others apart grows mine_now c' =
+moved c s r id k n v w at low ok camp same mine_else mine others apart grows mine_now c' =
     let wide : k < length s.words = rw r.size low in
     let here : get_elem? (set s.views id w) id ≡ some w = set_here s.views id w (in_length s.views id v at) in
     record {
@@ -147,17 +149,19 @@ moved c s r id k n v w at low ok camp mine_else mine others apart grows mine_now
           (mine_now full))
           (λ ne. let o = r.owned q (λ e. filled (get_or-set_other s.words k q n 0 ne ∙ e)) in
           still s.views id v w at grows q o.0 o.1 o.2 o.3);
+      sole = λ j u e l. length-set s.views id w ∙ each_set (λ _ u. u.alone ≡ true → length s.views ≡ 1)
+          s.views id w (λ a. r.sole id v at (sym same ∙ a)) (λ j u _ e. r.sole j u e) j u e l;
     }
 
 -- the seat's view is the same but for what it has seen, and so is the word
 pub watched : (c : Plan) (s : State (Unit {0}) View) (r : Legal c s) (id k : ℕ) (v w : View)
     → get_elem? s.views id ≡ some v → k < c.trials
-    → (w.live ≡ v.live) → (w.campaign ≡ v.campaign) → (w.share ≡ v.share)
+    → (w.live ≡ v.live) → (w.campaign ≡ v.campaign) → (w.alone ≡ v.alone) → (w.share ≡ v.share)
     → ((j : ℕ) → FitsAt w j (get_or s.words j 0))
     → (c' : List (ℕ × Unit {0})) → Legal c (stepped s k (get_or s.words k 0) id c' w keeps)
-watched c s r id k v w at low live camp share fits c' =
+watched c s r id k v w at low live camp alone share fits c' =
     moved c s r id k (get_or s.words k 0) v w at low (r.words k)
-    (λ l. camp ∙ r.carried id v at (sym live ∙ l)) (λ j _. fits j) (fits k)
+    (λ l. camp ∙ r.carried id v at (sym live ∙ l)) alone (λ j _. fits j) (fits k)
     (λ j u _ e. r.fits j u e k)
     (λ j u ne e q hw hu. ne (r.alone j id u v e at q hu (subst (λ (xs : List ℕ). Contains xs q) share hw)))
     (λ q h. subst (λ (xs : List ℕ). Contains xs q) (sym share) h)
@@ -174,7 +178,7 @@ claims_open c s r id k v at low open' c' =
     λ i u e h. let big = code_big u.campaign k (get_or s.words k 0) ((r.fits i u e k).4 h) in
     absurd (omega (arith, big, open')) in
     let f = r.fits id v at k in
-    moved c s r id k 1 v (claimed v k) at low (inr (inl refl)) (λ l. r.carried id v at l)
+    moved c s r id k 1 v (claimed v k) at low (inr (inl refl)) (λ l. r.carried id v at l) refl
     (λ j ne. let g = r.fits id v at j in (
       (λ h. ⊎_elim (λ x. g.0 x) (λ (x : k ≡ j). absurd (ne (sym x))) (Contains-push_cases v.share k j h)),
       (λ h. (Contains-append_left v.share (k ∷ []) j (g.1 h).0, (g.1 h).1)),
@@ -246,7 +250,7 @@ claims c slots id k me low live s r _ at _ = let x : ℕ = get_or s.words k 0 in
       keeps,
       tt,
       subst (λ b. Legal c (stepped s k (either b 1 x) id me.1 (noticed me.0 k) keeps)) (sym (ne_eqb x 0 miss))
-          (watched c s r id k me.0 (noticed me.0 k) at low refl refl refl
+          (watched c s r id k me.0 (noticed me.0 k) at low refl refl refl refl
           (noticed_fits s.words me.0 k (r.fits id me.0 at) miss) me.1),
       (was c s r id k me.0 live at, refl, (λ hit. absurd (miss hit)), λ _. refl),
     ))
@@ -259,7 +263,7 @@ looks c slots id k me low live s r _ at _ = let x : ℕ = get_or s.words k 0 in 
       me.0,
       keeps,
       tt,
-      watched c s r id k me.0 me.0 at low refl refl refl f me.1,
+      watched c s r id k me.0 me.0 at low refl refl refl refl f me.1,
       (w, refl, (λ _. refl), (λ e. absurd (omega (arith, hit, e))), λ not. absurd (not hit)),
     ))
     (λ full. dite (ℕ_discrete x 1)
@@ -267,7 +271,7 @@ looks c slots id k me low live s r _ at _ = let x : ℕ = get_or s.words k 0 in 
       noticed me.0 k,
       keeps,
       tt,
-      watched c s r id k me.0 (noticed me.0 k) at low refl refl refl
+      watched c s r id k me.0 (noticed me.0 k) at low refl refl refl refl
           (noticed_fits s.words me.0 k f full) me.1,
       (w, refl, (λ e. absurd (full e)), (λ _. refl), λ _ not. absurd (not one)),
     ))
@@ -279,7 +283,7 @@ looks c slots id k me low live s r _ at _ = let x : ℕ = get_or s.words k 0 in 
       met me.0 k,
       keeps,
       tt,
-      watched c s r id k me.0 (met me.0 k) at low refl refl refl
+      watched c s r id k me.0 (met me.0 k) at low refl refl refl refl
           (met_fits s.words me.0 k f full mine) me.1,
       (w, refl, (λ e. absurd (full e)), (λ e. absurd (more e)), λ _ _. (refl, mine)),
     )))
@@ -299,7 +303,7 @@ files c slots id k n me low live has unfiled is s r _ at _ =
       completed v k,
       keeps,
       tt,
-      moved c s r id k n v (completed v k) at low (inr (inr coded)) (λ l. r.carried id v at l)
+      moved c s r id k n v (completed v k) at low (inr (inr coded)) (λ l. r.carried id v at l) refl
           (λ j ne. let g = r.fits id v at j in (
             g.0,
             (λ h. ⊎_elim (λ x. g.1 x) (λ (x : k ≡ j). absurd (ne (sym x)))
@@ -345,42 +349,73 @@ begins c words size zeros = record {
   alone = λ i j v w ev ew k hv hw. absurd
       (none_in k (subst (λ (x : View). Contains x.share k) (sym (only i v ev)) hv));
   owned = λ k full. absurd (full (zeros k));
+  sole = λ _ _ _ _. refl;
 }
   where
     only : (i : ℕ) (v : View) → get_elem? (first_view c ∷ []) i ≡ some v → first_view c ≡ v
     only zero v e = some-injective (first_view c) v e
     only (suc i) v e = absurd (some-ne-none v (sym e))
 
-pub splits : (c : Plan) (id : ℕ) (v : View) → v.live ≡ true → Splits (Legal c) id v v (without_share v)
-splits c id v live s r at = subst (λ (vs : List View). Legal c record {
-  words = s.words;
-  homes =
-      s.homes;
-  views = vs ++ without_share v ∷ [];
-}) (sym (set_again s.views id v at)) record {
-  size = r.size;
-  words = r.words;
-  carried = λ i u e l. ⊎_elim (λ x. r.carried i u x l)
-      (λ x. ap (λ (y : View). y.campaign) (sym x) ∙ r.carried id v at live)
-      (at_snoc s.views (without_share v) u i e);
-  fits = λ i u e k. ⊎_elim (λ x. r.fits i u x k)
-      (λ x. subst (λ (y : View). FitsAt y k (get_or s.words k 0)) x
-      (let f = r.fits id v at k in (
-        (λ h. absurd (none_in k h)),
-        (λ h. absurd (none_in k h)),
-        (λ h. absurd (none_in k h)),
-        f.3,
-        f.4,
-      ))) (at_snoc s.views (without_share v) u i e);
-  alone = λ i j a b ea eb k ha hb. ⊎_elim
-      (λ x. ⊎_elim (λ y. r.alone i j a b x y k ha hb)
-      (λ y. absurd (none_in k (subst (λ (z : View). Contains z.share k) (sym y) hb)))
-      (at_snoc s.views (without_share v) b j eb))
-      (λ x. absurd (none_in k (subst (λ (z : View). Contains z.share k) (sym x) ha)))
-      (at_snoc s.views (without_share v) a i ea);
-  owned = λ k full. let o = r.owned k full in
-      (o.0, o.1, at_longer s.views (without_share v ∷ []) o.0 o.1 o.2, o.3);
-}
+-- where a seat is the only one, all others are it
+only_one : (s : State (Unit {0}) View) (i j : ℕ) (v w : View) → length s.views ≡ 1
+    → get_elem? s.views i ≡ some v → get_elem? s.views j ≡ some w → i ≡ j
+only_one s i j v w one at at' = omega (arith, one, in_length s.views i v at, in_length s.views j w at')
+
+-- so its share has each trial that is not open
+pub sole_share : (c : Plan) (s : State (Unit {0}) View) (r : Legal c s) (i k : ℕ) (v : View)
+    → get_elem? s.views i ≡ some v → v.alone ≡ true → get_or s.words k 0 ≢ 0 → Contains v.share k
+sole_share c s r i k v at alone full =
+    let o = r.owned k full in
+    let same : o.0 ≡ i = only_one s o.0 i o.1 v (r.sole i v at alone) o.2 at in
+    subst (λ (x : View). Contains x.share k)
+    (some-injective o.1 v (sym o.2 ∙ ap (get_elem? s.views) same ∙ at)) o.3
+
+-- and a desk that is opened has no such trial
+pub all_open : (c : Plan) → AreAllOpen (first_view c)
+all_open c s i r at k = elim (ℕ_discrete (get_or s.words k 0) 0) [
+  | yes e ↦ e
+  | no full ↦ absurd (none_in k (sole_share c s r i k (first_view c) at refl full))
+]
+
+pub splits : (c : Plan) (id : ℕ) (v : View) → v.live ≡ true
+    → Splits (Legal c) id v (with_others v) (without_share v)
+splits c id v live s r at =
+    let left = with_others v in
+    let views = set s.views id left in
+    -- a fact of each view: of the old seat's, the other old ones, and the new seat's
+    let each : (P : View → Type 0) → P left → P (without_share v)
+    → ((j : ℕ) (u : View) → j ≢ id → get_elem? s.views j ≡ some u → P u)
+    → (i : ℕ) (u : View) → get_elem? (views ++ without_share v ∷ []) i ≡ some u → P u
+    = λ P p q o i u e. ⊎_elim (λ x. each_set (λ _ w. P w) s.views id left p o i u x)
+    (λ x. subst P x q) (at_snoc views (without_share v) u i e) in
+    let nothing : (u : View) → without_share v ≡ u → (k : ℕ) → Contains u.share k → ⊥ =
+    λ u x k h. none_in k (subst (λ (z : View). Contains z.share k) (sym x) h) in
+    record {
+      size = r.size;
+      words = r.words;
+      carried = each (λ u. u.live ≡ true → u.campaign ≡ c) (λ l. r.carried id v at l)
+          (λ l. r.carried id v at l) (λ j u _ e. r.carried j u e);
+      fits = each (λ u. (k : ℕ) → FitsAt u k (get_or s.words k 0)) (λ k. r.fits id v at k)
+          (λ k. let f = r.fits id v at k in (
+            (λ h. absurd (none_in k h)),
+            (λ h. absurd (none_in k h)),
+            (λ h. absurd (none_in k h)),
+            f.3,
+            f.4,
+          )) (λ j u _ e. r.fits j u e);
+      alone = λ i j a b ea eb k ha hb. ⊎_elim
+          (λ x. ⊎_elim
+          (λ y. alone_set s.views id left r.alone
+          (λ j u ne e q hw hu. ne (r.alone j id u v e at q hu hw)) i j a b x y k ha hb)
+          (λ y. absurd (nothing b y k hb)) (at_snoc views (without_share v) b j eb))
+          (λ x. absurd (nothing a x k ha)) (at_snoc views (without_share v) a i ea);
+      owned = λ k full.
+          let o = r.owned k full in
+          let t = still s.views id v left at (λ q h. h) k o.0 o.1 o.2 o.3 in
+          (t.0, t.1, at_longer views (without_share v ∷ []) t.0 t.1 t.2, t.3);
+      sole = λ i u e l. absurd (each (λ u. u.alone ≡ true → ⊥) (λ l. off l) (λ l. off l)
+          (λ j u ne e l. ne (only_one s j id u v (r.sole j u e l) e at)) i u e l);
+    }
 
 joined_fits : (v w : View) (k n : ℕ) → w.campaign ≡ v.campaign → FitsAt v k n → FitsAt w k n
     → FitsAt (joined_views v w) k n
@@ -410,9 +445,6 @@ gone_fits k n = (
   (λ h. absurd (none_in k h)),
   λ h. absurd (none_in k h),
 )
-
-off : false ≡ true → ⊥
-off e = true≢false (sym e)
 
 pub joins : (c : Plan) (id : ℕ) (v : View) (other : ℕ) (w : View) → v.live ≡ true → w.live ≡ true
     → Joins (Legal c) id v other w (joined_views v w) spent_view
@@ -477,6 +509,8 @@ joins c id v other w lv lw s r at ne at' =
             set_else mid other o.0 spent_view no ∙ set_else s.views id o.0 both ni ∙ o.2,
             o.3,
           )));
+      sole = λ i u e l. absurd (kinds (λ _ u. u.alone ≡ true → ⊥) (λ l. off l) (λ l. off l)
+          (λ j u ni _ e l. ni (only_one s j id u v (r.sole j u e l) e at)) i u e l);
     }
 
 -- after a claim the trial was seen at least claimed, whatever it answered

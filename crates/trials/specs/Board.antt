@@ -1,5 +1,5 @@
 -- A legal desk: its words, and what each seat claimed, filed and saw.
-use Rattle.std.specs.Prelude.{◌≡◌, ◌≢◌, ◌⊎◌, ℕ, Bool, true, false, List, [], ◌∷◌, ◌++◌, length, slice_index}
+use Rattle.std.specs.Prelude.{◌≡◌, ◌≢◌, ◌⊎◌, ℕ, true, false, List, [], ◌∷◌, ◌++◌, length, slice_index}
 use Rattle.std.specs.Prelude.{Contains}
 use mathlib.Core.Option.{some}
 use lib.ListN.{get_elem?}
@@ -17,9 +17,10 @@ DeskState = State (Unit {0}) View
 abbrev pub Mine : Type 0
 Mine = Me (Unit {0}) View
 
--- the first seat: nothing claimed, nothing seen
+-- the first seat, the only one: nothing claimed, nothing seen
 abbrev pub first_view : Plan → View
-first_view p = record { live = true; campaign = p; share = []; filed = []; seen = []; read = [] }
+first_view p =
+    record { live = true; alone = true; campaign = p; share = []; filed = []; seen = []; read = [] }
 
 -- a plan that no seat carries
 abbrev pub no_plan : Plan
@@ -34,15 +35,21 @@ no_plan = record {
 
 -- a seat that was merged into another
 abbrev pub spent_view : View
-spent_view = record { live = false; campaign = no_plan; share = []; filed = []; seen = []; read = [] }
+spent_view =
+    record { live = false; alone = false; campaign = no_plan; share = []; filed = []; seen = []; read = [] }
 
--- the same seen, nothing claimed
+-- another seat stands beside it
+abbrev pub with_others : View → View
+with_others v = record v { alone = false }
+
+-- that seat: the same seen, nothing claimed
 abbrev pub without_share : View → View
-without_share v = record v { share = []; filed = [] }
+without_share v = record v { alone = false; share = []; filed = [] }
 
 -- both shares, and all that either has seen
 abbrev pub joined_views : View → View → View
 joined_views v w = record v {
+  alone = false;
   share = v.share ++ w.share;
   filed = v.filed ++ w.filed;
   seen = v.seen ++ w.seen;
@@ -89,6 +96,12 @@ pub record Legal (p : Plan) (s : DeskState) : Type 0 where
       → Contains v.share k → Contains w.share k → i ≡ j
   pub owned : (k : ℕ) → slice_index s.words k ≢ 0
       → (i : ℕ) × (v : View) × (get_elem? s.views i ≡ some v) × Contains v.share k
+  pub sole : (i : ℕ) (v : View) → get_elem? s.views i ≡ some v → v.alone ≡ true → length s.views ≡ 1
+
+-- in each legal desk in which a seat has this view all words are 0
+abbrev pub AreAllOpen : View → Type 0
+AreAllOpen v = (s : DeskState) (i : ℕ) → Legal v.campaign s → get_elem? s.views i ≡ some v
+    → (k : ℕ) → slice_index s.words k ≡ 0
 
 -- at some legal moment the seat had this view and the word of the trial was n
 abbrev pub Was : View → ℕ → ℕ → Type 0

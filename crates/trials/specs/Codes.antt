@@ -1,5 +1,7 @@
 -- The code of a trial.
-use Rattle.std.specs.Prelude.{◌≡◌, ◌<◌, ◌+◌, ◌*◌, ◌%◌, ◌^◌, ℕ, List, length, Option, None, Some, slice_index}
+use Rattle.std.specs.Prelude.{◌≡◌, ◌<◌, ◌≤◌, ◌+◌, ◌*◌, ◌%◌, ◌^◌, ℕ, List, length, Option, None, Some, ⊤}
+use Rattle.std.specs.Prelude.{slice_index}
+use Rattle.common.specs.declared.limits.TheConstants.{MAX_EVENTS}
 use Rattle.rand_core.specs.Steps.{first_words}
 use Rattle.rand_xoshiro.specs.SplitMix64.{splitmix_seed}
 use Rattle.rand_xoshiro.specs.Xoshiro256.{plus_plus, of_seed}
@@ -42,12 +44,20 @@ abbrev pub end_code : Option Verdict → ℕ
 end_code None = UNFINISHED
 end_code (Some verdict) = verdict_code verdict
 
+-- a cycle has no more events than a recording may have
+abbrev pub IsShort : Option Verdict → Type 0
+IsShort None = ⊤
+IsShort (Some (Ordered order)) = ⊤
+IsShort (Some (Overlook load store)) = ⊤
+IsShort (Some (Cycle certificate)) = length certificate.cycle.items ≤ MAX_EVENTS
+
 -- the code of trial k of a campaign
 pub record IsCode (p : Plan) (k n : ℕ) : Type 0 where
   pub end : Configuration
   pub ends : EndsIn p k end
   pub verdict : Option Verdict
   pub judged : IsEndVerdict end verdict
+  pub short : IsShort verdict
   pub code : n ≡ end_code verdict
 
 -- the codes of all trials, in order

@@ -1,5 +1,5 @@
--- A campaign has one ledger.
-use Rattle.std.specs.Prelude.{◌≡◌, ℕ, List}
+-- A campaign has one ledger, whose counts add up to its trials.
+use Rattle.std.specs.Prelude.{◌≡◌, ◌+◌, ℕ, List, sum_by}
 use Rattle.trials.specs.declared.ledger.Ledger.{Ledger}
 use Rattle.trials.specs.Campaigns.{Plan}
 use Rattle.trials.specs.Codes.{IsCode, AreCodes}
@@ -22,3 +22,8 @@ pub record IsSameLedger (l m : Ledger) : Type 0 where
 abbrev pub EveryCampaignHasOneLedger : Type 0
 EveryCampaignHasOneLedger = (p : Plan) (codes others : List ℕ) (l m : Ledger)
     → AreCodes p codes → IsLedger codes l → AreCodes p others → IsLedger others m → IsSameLedger l m
+
+-- each trial of a campaign is counted once: as ordered, unfinished, an overlook or a cycle
+abbrev pub EveryCampaignAddsUp : Type 0
+EveryCampaignAddsUp = (p : Plan) (codes : List ℕ) (l : Ledger) → AreCodes p codes → IsLedger codes l
+    → l.ordered + l.unfinished + l.overlook + sum_by (λ cycle. cycle.1) l.cycles.items ≡ p.trials

@@ -9,6 +9,8 @@ use std::collections::LinkedList;
 pub struct View {
     /// Whether it was not merged into another.
     pub live: bool,
+    /// Whether it is the only seat of its desk: no other was ever beside it.
+    pub alone: bool,
     /// The campaign of its desk.
     pub campaign: Campaign,
     /// The trials that it claimed.
@@ -63,9 +65,9 @@ impl Play<(), View> for Looks {
 pub struct Beside;
 
 impl Split<View> for Beside {
-    ghost use Rattle.trials.specs.Board.{without_share};
+    ghost use Rattle.trials.specs.Board.{with_others, without_share};
 
-    ghost left = { λ v. v };
+    ghost left = { with_others };
 
     ghost right = { without_share };
 }

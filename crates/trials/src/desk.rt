@@ -2,7 +2,7 @@
 
 ghost use Rattle.std.specs.Prelude.{◌≡◌, ◌≢◌, ◌<◌, ℕ, Bool, true, false, [], ◌==◌, length, IfOk, MatchBool};
 ghost use Rattle.std.specs.Prelude.{Contains, replicate};
-ghost use Rattle.trials.specs.Board.{first_view, claimed, noticed, completed, AreDeskWords, Was};
+ghost use Rattle.trials.specs.Board.{first_view, claimed, noticed, completed, AreAllOpen, AreDeskWords, Was};
 ghost use Rattle.trials.specs.Looking.{IsDeskSeatOf, IsLook};
 
 use crate::board::Board;
@@ -14,9 +14,11 @@ use std::alloc::Global;
 use std::sync::Arc;
 
 impl Desk {
-    /// A desk, and a seat that has claimed and seen nothing. An error is want of memory.
+    /// A desk whose words are all 0, and its only seat, which has claimed and seen nothing. Fails only if out
+    /// of memory.
     pub fn open(alloc: Global, campaign: &Campaign) -> Result<(Desk, DeskSeat), OutOfMemory>
-        ensures { IfOk result (λ r. IsDeskSeatOf r.0 r.1 × (r.1.seat.me.0 ≡ first_view campaign.now)) }
+        ensures seat { IfOk result (λ r. IsDeskSeatOf r.0 r.1 × (r.1.seat.me.0 ≡ first_view campaign.now)) }
+        ensures words { IfOk result (λ r. AreAllOpen r.1.seat.me.0) }
     {
         campaign.sound();
         let words = zeros(alloc, campaign.trials())?;

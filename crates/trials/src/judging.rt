@@ -1,7 +1,7 @@
 //! What is judged of runs.
 
 ghost use Rattle.std.specs.Prelude.{◌≡◌, IfOk};
-ghost use Rattle.trials.specs.Codes.{end_code, verdict_code};
+ghost use Rattle.trials.specs.Codes.{end_code, verdict_code, IsShort};
 ghost use Rattle.machine.specs.declared.fault.Fault.TheVariants as faults;
 ghost use Rattle.trials.specs.Judged.{begun_machine, ran, IsEndVerdict, IsLawful};
 
@@ -17,12 +17,16 @@ use std::alloc::Global;
 pub(crate) fn end_verdict(alloc: Global, machine: Machine) -> Result<Option<Verdict>, OutOfMemory>
     ensures judged { IfOk result (IsEndVerdict machine) }
     ensures lawful { IfOk result (λ verdict. machine.fault ≡ faults.None → IsLawful verdict) }
+    ensures short { IfOk result IsShort }
 {
     match machine.finish() {
-        Ok(recording) => match judge_alone(alloc, &recording) {
-            Ok(verdict) => Ok(Some(verdict)),
-            Err(error) => Err(error),
-        },
+        Ok(recording) => {
+            recording.sound();
+            match judge_alone(alloc, &recording) {
+                Ok(verdict) => Ok(Some(verdict)),
+                Err(error) => Err(error),
+            }
+        }
         Err(_unfinished) => Ok(None),
     }
 }

@@ -1,8 +1,9 @@
 //! The steps of a seat.
 
-ghost use Rattle.std.specs.Prelude.{◌≡◌, ◌≢◌, ◌<◌, ℕ, Bool, true, false, [], ◌==◌, length, IfOk, MatchBool};
+ghost use Rattle.std.specs.Prelude.{◌≡◌, ◌≢◌, ◌<◌, ℕ, Bool, true, false, [], ◌==◌, length, IfOk, OnErr, OnOk};
+ghost use Rattle.std.specs.Prelude.{MatchBool};
 ghost use Rattle.std.specs.Prelude.{Contains, replicate};
-ghost use Rattle.trials.specs.Board.{claimed, noticed, completed, without_share, joined_views};
+ghost use Rattle.trials.specs.Board.{claimed, noticed, completed, with_others, without_share, joined_views};
 ghost use Rattle.trials.specs.Board.{AreDeskWords, Was};
 ghost use Rattle.trials.specs.Looking.{LoadsWord};
 
@@ -53,10 +54,11 @@ impl DeskSeat {
     }
 
     /// A second seat, with an empty share, that has seen the same. An `Err` is that the desk's count of seats
-    /// is full.
+    /// is full, and leaves the seat as it was.
     pub fn split(&mut self) -> Result<DeskSeat, OutOfMemory>
-        ensures old { (self.new.seat.table_id ≡ self.old.seat.table_id)
-            × (self.new.seat.me.0 ≡ self.old.seat.me.0) }
+        ensures same { self.new.seat.table_id ≡ self.old.seat.table_id }
+        ensures old { OnOk result (self.new.seat.me.0 ≡ with_others self.old.seat.me.0) }
+        ensures unchanged { OnErr result (self.new.seat.me.0 ≡ self.old.seat.me.0) }
         ensures new { IfOk result (λ s. (s.seat.table_id ≡ self.old.seat.table_id)
             × (s.seat.me.0 ≡ without_share self.old.seat.me.0)) }
     {

@@ -1,3 +1,4 @@
+use Rattle.trials.proofs.AddsUp.{adds_up}
 use Rattle.trials.proofs.OneCode.{one_code, one_ledger}
 use Rattle.trials.proofs.law.a_campaign_has_one_ledger.Goals as goal
 
@@ -6,3 +7,6 @@ returns-clause-codes c = one_code
 
 pub returns-clause-ledgers : goal.returns-clause-ledgers
 returns-clause-ledgers c = one_ledger
+
+pub returns-clause-sum : goal.returns-clause-sum
+returns-clause-sum c = adds_up

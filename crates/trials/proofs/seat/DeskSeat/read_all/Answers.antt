@@ -1,4 +1,4 @@
-use Rattle.std.proofs.Common.{◌≡◌, ◌∙◌, ◌++◌, ◌∷◌, [], ℕ, List, sym, ap, subst, length, length-append, arith}
+use Rattle.std.proofs.Common.{◌≡◌, ◌∙◌, ◌∷◌, [], ℕ, List, sym, ap, subst, length, length-append, arith}
 use Rattle.trials.specs.Looking.{LoadsWord}
 use Rattle.trials.proofs.Closing.{ReadSoFar, grown_loads, one_more, closing}
 use Rattle.trials.proofs.seat.DeskSeat.read_all.Goals as goal
@@ -24,4 +24,4 @@ returns c =
     let count = c.word_count-count.ensures ∙ ap (λ b. b.shared.table_id.words) c.deref.ensures ∙ h.size in
     let size : length c.loop-k.words.items ≡ h.seat.me.0.campaign.trials =
     omega (arith, inv.0, count, c.loop-k-test.false, c.loop-k.auto.k-end) in
-    closing h.seat.me.0 c.loop-k.words.items h.live size (omega (arith, size, h.some)) inv.2
+    closing h.seat.me.0 c.loop-k.words.items size (omega (arith, size, h.some)) inv.2 h.live

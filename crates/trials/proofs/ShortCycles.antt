@@ -1,0 +1,46 @@
+-- The least cycle of a recording has no more events than it.
+use Rattle.std.proofs.Common.{◌<◌, ℕ, Option, Some, arith, subst}
+use Rattle.recorder.specs.Event.{value_read}
+use Rattle.recorder.specs.Execution.{Execution, event_count, event_at, write_list, Reads}
+use Rattle.recorder.specs.Order.{times}
+use Rattle.recorder.specs.OrderLaws.{times_in}
+use Rattle.recorder.specs.EventLaws.{Reads-event, Writes-event, source-Reads}
+use Rattle.recorder.specs.Recording.{IsRecording}
+use Rattle.recorder.specs.Tso.{Gives, IsWellFormed}
+use Rattle.relations.specs.declared.reason.Reason.{Reason}
+use Rattle.relations.specs.declared.reason.Reason.TheVariants.{Po, Wo, Rf, Fr}
+use Rattle.relations.specs.CycleLaws.{short_cycle}
+use Rattle.relations.specs.Forced.{Holds, Forced}
+use Rattle.judge.specs.declared.verdict.Verdict.{Verdict}
+use Rattle.judge.specs.declared.verdict.Verdict.TheVariants.{Ordered, Overlook, Cycle}
+use Rattle.judge.specs.Verdict.{IsVerdict}
+use Rattle.trials.specs.Codes.{IsShort}
+
+-- what stands in a write list is an event
+listed : (x : Execution) → IsWellFormed x → (a e : ℕ) → 0 < times (write_list x a) e → e < event_count x
+listed x wf a e there = Writes-event x e a ((wf.write_lists a).nothing_else e there)
+
+-- what forces a pair is among events
+holds_within : (x : Execution) → IsWellFormed x → (reason : Reason) (e f : ℕ) → Holds x reason e f
+    → (e < event_count x) × (f < event_count x)
+holds_within x wf Po e f h = let own = h.0 in (omega (arith, own.0, own.1), own.1)
+holds_within x wf Wo e f h = (
+  listed x wf h.0 e (times_in (write_list x h.0) e (omega (arith, h.1))),
+  listed x wf h.0 f (times_in (write_list x h.0) f h.1.1),
+)
+holds_within x wf Rf e f h =
+    let reads : (a : ℕ) × Reads x f a = source-Reads x f e h.0 in
+    let gives : Gives x reads.0 (Some e) (value_read (event_at x f)) =
+    subst (λ (o : Option ℕ). Gives x reads.0 o (value_read (event_at x f))) h.0
+    (wf.sources f reads.0 reads.1) in
+    (Writes-event x e reads.0 gives.0, Reads-event x f reads.0 reads.1)
+holds_within x wf Fr e f h = (Reads-event x e h.0 h.1, Writes-event x f h.0 h.2)
+
+pub short_verdict : (x : Execution) (v : Verdict) → IsRecording x → IsVerdict x v → IsShort (Some v)
+short_verdict x (Ordered order) recording is = tt
+short_verdict x (Overlook load store) recording is = tt
+short_verdict x (Cycle certificate) recording is =
+    let least = is.least.shortest in
+    let short = short_cycle (Forced x) (event_count x)
+    (λ e f h. holds_within x recording.well_formed h.0 e f h.1) certificate.cycle.items least.cycle in
+    omega (arith, least.shortest short.0 short.1, short.2, recording.within.few_events)
