@@ -11,39 +11,36 @@ use crate::edges::Edge;
 use common::{EventId, OutOfMemory};
 use judge::Verdict;
 use recorder::Recording;
-use relations::{Reason, behind, first_reason};
+use relations::{Places, Reason, behind};
 use std::alloc::Global;
 
 /// The edge from a place of a cycle to the event behind it.
-fn cycle_edge(recording: &Recording, cycle: &[EventId], i: usize) -> Edge
+fn cycle_edge(places: &Places<'_>, cycle: &[EventId], i: usize) -> Edge
     requires within { i < length cycle.now }
-    requires cycle { IsCycle (Forced recording.now) cycle.now }
-    ensures { IsCycleEdge recording.now cycle.now i result }
+    requires cycle { IsCycle (Forced places.now) cycle.now }
+    ensures { IsCycleEdge places.now cycle.now i result }
 {
     let first = cycle[i];
     let second = behind(cycle, i);
-    let Some(reason) = first_reason(recording, first, second) else {
-        unreachable!();
-    };
     Edge {
         first,
         second,
-        reason,
+        reason: places.forced_reason(first, second),
     }
 }
 
 /// The edges of a cycle.
 fn cycle_edges(
     alloc: Global,
-    recording: &Recording,
+    places: &Places<'_>,
     cycle: &[EventId],
 ) -> Result<Vec<Edge>, OutOfMemory>
-    requires { IsCycle (Forced recording.now) cycle.now }
-    ensures { IfOk result (λ edges. AreCycleEdges recording.now cycle.now (length cycle.now) edges.items) }
+    requires { IsCycle (Forced places.now) cycle.now }
+    ensures { IfOk result (λ edges. AreCycleEdges places.now cycle.now (length cycle.now) edges.items) }
 {
     let mut edges = Vec::new(alloc);
     for i in 0..cycle.len() {
-        edges.push(cycle_edge(recording, cycle, i))?;
+        edges.push(cycle_edge(places, cycle, i))?;
     }
     Ok(edges)
 }
@@ -84,6 +81,9 @@ pub(crate) fn bold_edges(
     match verdict {
         Verdict::Ordered(_) => Ok(Vec::new(alloc)),
         Verdict::Overlook { load, store } => overlook_edges(alloc, recording, *load, *store),
-        Verdict::Cycle(certificate) => cycle_edges(alloc, recording, &certificate.cycle),
+        Verdict::Cycle(certificate) => {
+            let places = Places::of(alloc, recording)?;
+            cycle_edges(alloc, &places, &certificate.cycle)
+        }
     }
 }

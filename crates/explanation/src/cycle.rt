@@ -1,8 +1,8 @@
 //! A cycle in words.
 
-ghost use Rattle.std.specs.Prelude.{◌≡◌, ◌++◌, ℕ, List, OnOk, Some, codes, length};
+ghost use Rattle.std.specs.Prelude.{◌≡◌, ◌++◌, ℕ, List, OnOk, codes, length};
 ghost use Rattle.relations.specs.Cycle.{IsCycle};
-ghost use Rattle.relations.specs.Forced.{Forced, IsReason};
+ghost use Rattle.relations.specs.Forced.{Forced};
 ghost use Rattle.explanation.specs.Events.{written_text};
 ghost use Rattle.explanation.specs.Cycle.{reason_text, reason_line, cycle_heading, IsLink, AreLinks};
 ghost use Rattle.explanation.specs.Cycle.{SaysCycle};
@@ -15,7 +15,8 @@ use common::{Addr, EventId, OutOfMemory};
 use indexmap::IndexSet;
 use litmus::Name;
 use recorder::Recording;
-use relations::{Reason, behind, first_reason};
+use relations::{Places, Reason, behind};
+use std::alloc::Global;
 
 /// Adds some words and the name of the address that an event writes.
 fn put_words_and_written(
@@ -72,30 +73,21 @@ fn put_reason_line(
     put_text(out, b"\n")
 }
 
-/// The first reason why an event comes before another.
-fn reason_of(recording: &Recording, first: EventId, second: EventId) -> Reason
-    requires { Forced recording.now first second }
-    ensures { IsReason recording.now first second (Some result) }
-{
-    match first_reason(recording, first, second) {
-        Some(reason) => reason,
-        None => unreachable!(),
-    }
-}
-
 /// Adds the lines of an event that comes before another.
 fn put_link(
     out: &mut Vec<u8>,
     recording: &Recording,
+    places: &Places<'_>,
     names: &IndexSet<Name>,
     first: EventId,
     second: EventId,
 ) -> Result<(), OutOfMemory>
-    requires { Forced recording.now first second }
+    requires places { places.now ≡ recording.now }
+    requires forced { Forced places.now first second }
     ensures { OnOk result ((link : List ℕ) × IsLink recording.now names.now.keys first second link
         × (out.new.items ≡ out.old.items ++ link)) }
 {
-    let reason = reason_of(recording, first, second);
+    let reason = places.forced_reason(first, second);
     put_line(out, recording, names, first)?;
     put_reason_line(out, recording, names, second, reason)
 }
@@ -104,16 +96,18 @@ fn put_link(
 fn put_links(
     out: &mut Vec<u8>,
     recording: &Recording,
+    places: &Places<'_>,
     names: &IndexSet<Name>,
     cycle: &[EventId],
 ) -> Result<(), OutOfMemory>
-    requires { IsCycle (Forced recording.now) cycle.now }
+    requires places { places.now ≡ recording.now }
+    requires cycle { IsCycle (Forced recording.now) cycle.now }
     ensures { OnOk result ((links : List ℕ)
         × AreLinks recording.now names.now.keys cycle.now (length cycle.now) links
         × (out.new.items ≡ out.old.items ++ links)) }
 {
     for i in 0..cycle.len() {
-        put_link(out, recording, names, cycle[i], behind(cycle, i))?;
+        put_link(out, recording, places, names, cycle[i], behind(cycle, i))?;
     }
     Ok(())
 }
@@ -133,6 +127,7 @@ fn put_heading(out: &mut Vec<u8>, count: usize) -> Result<(), OutOfMemory>
 /// Adds a cycle in words.
 pub(crate) fn put_cycle(
     out: &mut Vec<u8>,
+    alloc: Global,
     recording: &Recording,
     names: &IndexSet<Name>,
     cycle: &[EventId],
@@ -142,5 +137,6 @@ pub(crate) fn put_cycle(
         × (out.new.items ≡ out.old.items ++ text)) }
 {
     put_heading(out, cycle.len())?;
-    put_links(out, recording, names, cycle)
+    let places = Places::of(alloc, recording)?;
+    put_links(out, recording, &places, names, cycle)
 }

@@ -35,7 +35,13 @@ pub fn explanation_text(
         Verdict::Overlook { load, store } => put_overlook(
             &mut out, recording, names, *load, *store,
         )?,
-        Verdict::Cycle(certificate) => put_cycle(&mut out, recording, names, &certificate.cycle)?,
+        Verdict::Cycle(certificate) => put_cycle(
+            &mut out,
+            alloc,
+            recording,
+            names,
+            &certificate.cycle,
+        )?,
     }
     Ok(out)
 }

@@ -1,9 +1,9 @@
 -- A table of the forced pairs relates the forced pairs.
 use Rattle.std.proofs.Common.{◌≡◌, ◌<◌, ◌↔◌, inl, inr, ℕ, Bool, true, false, Option, Some, None, List, [], length}
-use Rattle.std.proofs.Common.{get_or, arith, refl, sym, ap, ◌∙◌}
+use Rattle.std.proofs.Common.{get_or, arith, refl, sym, ap, subst, ◌∙◌}
 use Rattle.std.specs.Prelude.{is_some, All}
 use Rattle.std.proofs.lemmas.Bool.{cases_lt}
-use Rattle.std.proofs.lemmas.List.{get_or_past}
+use Rattle.std.proofs.lemmas.List.{get_or_past, length-map}
 use Rattle.recorder.specs.Execution.{Execution, event_count}
 use Rattle.recorder.specs.Tso.{IsWellFormed}
 use Rattle.recorder.specs.EventLaws.{Reads-event, Writes-event}
@@ -11,21 +11,22 @@ use Rattle.relations.specs.declared.reason.Reason.{Reason}
 use Rattle.relations.specs.declared.reason.Reason.TheVariants.{Po, Wo, Rf, Fr}
 use Rattle.relations.specs.Forced.{Holds, Forced, IsReason}
 use Rattle.relations.specs.Filled.{TellsForced, AreFilled}
-use Rattle.relations.specs.Relation.{Table, relates, Related}
+use Rattle.relations.specs.declared.placed.Placed.{Placed}
+use Rattle.relations.specs.Relation.{Row, Table, table_of, sets_of, relates, Related}
 use Rattle.bitrow.specs.Bits.{is_in}
 use Rattle.relations.proofs.Filled.{filled_tells}
-use Rattle.relations.proofs.Tables.{row_size}
+use Rattle.relations.proofs.Tables.{row_size, sets_same, table_size}
 use Rattle.relations.proofs.Written.{writes_listed, source_writes, source_within}
 
 -- where each row has a place for each row, related numbers are numbers of rows
-pub related_within : (t : Table) (n : ℕ) → length t ≡ n → All (λ row. length row ≡ n) t → (e f : ℕ)
+pub related_within : (t : Table) (n : ℕ) → length t ≡ n → All (λ set. length set ≡ n) (sets_of t) → (e f : ℕ)
     → Related t e f → (e < n) × (f < n)
-related_within t n size rows e f r = elim (cases_lt e (length t)) [
+related_within t n size rows e f r = elim (cases_lt e (length (sets_of t))) [
   | inl here ↦ elim (cases_lt f n) [
-    | inl there ↦ (omega arith, there)
-    | inr past ↦ absurd (nothing (get_or_past (get_or t e []) f false (omega (arith, rows e [] here))))
+    | inl there ↦ (omega (arith, here, size, length-map t (λ (row : Row). row.after)), there)
+    | inr past ↦ absurd (nothing (get_or_past (get_or (sets_of t) e []) f false (omega (arith, rows e [] here))))
   ]
-  | inr past ↦ absurd (nothing (ap (λ (row : List Bool). is_in row f) (get_or_past t e [] past)
+  | inr past ↦ absurd (nothing (ap (λ (set : List Bool). is_in set f) (get_or_past (sets_of t) e [] past)
       ∙ get_or_past {X = Bool} [] f false (omega arith)))
 ]
   where
@@ -59,14 +60,21 @@ no_reason x e f (Some r) h forced = refl
 pub reason_tells : (x : Execution) (e f : ℕ) (o : Option Reason) → IsReason x e f o → TellsForced x e f (is_some o)
 reason_tells x e f o h = (some_reason x e f o h, no_reason x e f o h)
 
--- rows that are filled for all forced pairs relate these
-pub related_is_forced : (x : Execution) (t : Table) → IsWellFormed x → AreFilled x (Forced x) t → (e f : ℕ)
-    → Related t e f ↔ Forced x e f
-related_is_forced x t wf filled e f = (
+-- sets that are filled for all forced pairs relate these
+pub related_is_forced : (x : Execution) (ps : List Placed) (sets : List (List Bool)) → IsWellFormed x
+    → length sets ≡ length ps → AreFilled x (Forced x) sets → (e f : ℕ)
+    → Related (table_of ps sets) e f ↔ Forced x e f
+related_is_forced x ps sets wf size filled e f = (
   λ r.
-      let within = related_within t (event_count x) filled.size (row_size x (Forced x) t filled) e f r in
-      (filled_tells x e (get_or t e []) (filled.each e within.0) f).0 r,
+      let within = related_within (table_of ps sets) (event_count x) (table_size ps sets size ∙ filled.size)
+      (subst (λ (l : List (List Bool)). All (λ set. length set ≡ event_count x) l) (sym (sets_same ps sets size))
+      (row_size x (Forced x) sets filled)) e f r in
+      (tells within.0).0 (ap (λ (l : List (List Bool)). is_in (get_or l e []) f) (sym (sets_same ps sets size)) ∙ r),
   λ forced.
       let within = forced_within x wf forced.0 e f forced.1 in
-      (filled_tells x e (get_or t e []) (filled.each e within.0) f).1 forced,
+      ap (λ (l : List (List Bool)). is_in (get_or l e []) f) (sets_same ps sets size)
+      ∙ (tells within.0).1 forced,
 )
+  where
+    tells : e < event_count x → TellsForced x e f (is_in (get_or sets e []) f)
+    tells event = filled_tells x e (get_or sets e []) (filled.each e event) f

@@ -9,7 +9,6 @@ use Rattle.relations.specs.declared.placed.Placed.{Placed}
 use Rattle.relations.specs.Forced.{Forced}
 use Rattle.relations.specs.Placed.{IsPlaced, ArePlaced}
 use Rattle.relations.specs.Filled.{IsPut, TellsForced, IsFilledRow, IsOwnOrWrite, AreFilled}
-use Rattle.relations.specs.Relation.{Table}
 use Rattle.relations.proofs.Written.{source_writes}
 use Rattle.relations.proofs.Filled.{filled_fewer, filled_more, forced_split}
 
@@ -18,7 +17,7 @@ abbrev pub IsReached : Execution → ℕ → ℕ → ℕ → Type 0
 IsReached x n e f = IsOwnOrWrite x e f ⊎ ((source_of x f ≡ Some e) × (f < n))
 
 -- rows that are filled for more pairs are filled for fewer
-rows_fewer : (x : Execution) (P Q : ℕ → ℕ → Type 0) (rows : Table) → ((e f : ℕ) → Q e f → P e f)
+rows_fewer : (x : Execution) (P Q : ℕ → ℕ → Type 0) (rows : List (List Bool)) → ((e f : ℕ) → Q e f → P e f)
     → AreFilled x P rows → AreFilled x Q rows
 rows_fewer x P Q rows fewer h =
     record {
@@ -28,7 +27,7 @@ rows_fewer x P Q rows fewer h =
     }
 
 -- before the first event no event that reads is in a row
-pub no_reader : (x : Execution) (rows : Table) → AreFilled x (IsOwnOrWrite x) rows
+pub no_reader : (x : Execution) (rows : List (List Bool)) → AreFilled x (IsOwnOrWrite x) rows
     → AreFilled x (IsReached x 0) rows
 no_reader x rows h = rows_fewer x (IsOwnOrWrite x) (IsReached x 0) rows (λ e f q. elim q [
   | inl own ↦ own
@@ -36,7 +35,7 @@ no_reader x rows h = rows_fewer x (IsOwnOrWrite x) (IsReached x 0) rows (λ e f 
 ]) h
 
 -- after the last event each forced pair is in its row
-pub every_reader : (x : Execution) (n : ℕ) (rows : Table) → IsWellFormed x → event_count x ≡ n
+pub every_reader : (x : Execution) (n : ℕ) (rows : List (List Bool)) → IsWellFormed x → event_count x ≡ n
     → AreFilled x (IsReached x n) rows → AreFilled x (Forced x) rows
 every_reader x n rows wf all h =
     rows_fewer x (IsReached x n) (Forced x) rows (λ e f forced. elim (forced_split x e f forced.0 forced.1) [
@@ -45,7 +44,7 @@ every_reader x n rows wf all h =
     ]) h
 
 -- an event without a source is in no row
-pub reader_of_none : (x : Execution) (n : ℕ) (rows : Table) → source_of x n ≡ None
+pub reader_of_none : (x : Execution) (n : ℕ) (rows : List (List Bool)) → source_of x n ≡ None
     → AreFilled x (IsReached x n) rows → AreFilled x (IsReached x (n + 1)) rows
 reader_of_none x n rows none h = rows_fewer x (IsReached x n) (IsReached x (n + 1)) rows (λ e f q. elim q [
   | inl own ↦ inl own
@@ -74,7 +73,7 @@ tells_placed x ps e f d k answer placed he hf tells =
     (λ (g : ℕ). TellsForced x (get_or ps e d).number g answer) second.1 (tells first.0 second.0))
 
 -- an event with a source is in the row of its source
-pub reader_of_some : (x : Execution) (n s : ℕ) (rows : Table) (answer : Bool) (d row : List Bool)
+pub reader_of_some : (x : Execution) (n s : ℕ) (rows : List (List Bool)) (answer : Bool) (d row : List Bool)
     → s < event_count x → source_of x n ≡ Some s → TellsForced x s n answer
     → IsPut (get_or rows s d) n answer row → AreFilled x (IsReached x n) rows
     → AreFilled x (IsReached x (n + 1)) (set rows s row)

@@ -5,7 +5,6 @@ use Rattle.bitrow.specs.Bits.{is_in}
 use Rattle.relations.specs.declared.reason.Reason.TheVariants.{Wo, Fr}
 use Rattle.recorder.specs.Execution.{Execution, event_count, ProgramOrder}
 use Rattle.relations.specs.Forced.{Holds, Forced}
-use Rattle.relations.specs.Relation.{Table}
 
 -- a set with e in it or not, as the answer is, and else as it was
 pub record IsPut (old : List Bool) (e : ℕ) (answer : Bool) (new : List Bool) : Type 0 where
@@ -32,6 +31,6 @@ abbrev pub IsFilledRow : Execution → ℕ → (ℕ → Type 0) → List Bool �
 IsFilledRow x e P row = IsFilled x e P (replicate (event_count x) false) row
 
 -- such a row for each event
-pub record AreFilled (x : Execution) (P : ℕ → ℕ → Type 0) (rows : Table) : Type 0 where
+pub record AreFilled (x : Execution) (P : ℕ → ℕ → Type 0) (rows : List (List Bool)) : Type 0 where
   pub size : length rows ≡ event_count x
   pub each : (e : ℕ) → e < event_count x → IsFilledRow x e (P e) (slice_index_or rows e [])

@@ -2,7 +2,7 @@
 use Rattle.std.specs.Prelude.{◌≡◌, ◌<◌, ℕ, List, length, slice_index_or}
 use Rattle.relations.specs.declared.placed.Placed.{Placed}
 use Rattle.relations.specs.Forced.{IsNewerFrom}
-use Rattle.recorder.specs.Event.{read_address, written_address}
+use Rattle.recorder.specs.Event.{read_address, written_address, is_plain_store, is_plain_load}
 use Rattle.recorder.specs.Execution.{Execution, event_count, event_at, core_of, write_list, Reads, Writes}
 use Rattle.recorder.specs.Execution.{source_of}
 use Rattle.recorder.specs.Order.{place}
@@ -13,7 +13,8 @@ pub record IsPlaced (x : Execution) (p : Placed) : Type 0 where
   pub well_formed : IsWellFormed x
   pub within : p.number < event_count x
   pub core : p.core ≡ core_of x p.number
-  pub event : p.event ≡ event_at x p.number
+  pub is_store : p.is_store ≡ is_plain_store (event_at x p.number)
+  pub is_load : p.is_load ≡ is_plain_load (event_at x p.number)
   pub reads : p.reads ≡ read_address (event_at x p.number)
   pub writes : p.writes ≡ written_address (event_at x p.number)
   pub source : p.source ≡ source_of x p.number
@@ -23,6 +24,7 @@ pub record IsPlaced (x : Execution) (p : Placed) : Type 0 where
 
 -- the events of x, each at its number
 pub record ArePlaced (x : Execution) (ps : List Placed) : Type 0 where
+  pub well_formed : IsWellFormed x
   pub size : length ps ≡ event_count x
   pub each : (e : ℕ) (d : Placed) → e < length ps
       → IsPlaced x (slice_index_or ps e d) × ((slice_index_or ps e d).number ≡ e)

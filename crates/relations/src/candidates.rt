@@ -5,12 +5,11 @@ use crate::filling::put;
 use crate::placed::Placed;
 use bitrow::BitRow;
 use common::Addr;
-use recorder::{Event, Recording};
+use recorder::Recording;
 
 impl Placed {
     ghost use Rattle.std.specs.Prelude.{◌≡◌, ◌≤◌, ◌⊎◌, ℕ, IsSome, Some, length};
-    ghost use Rattle.recorder.specs.Event.{read_address, written_address};
-    ghost use Rattle.recorder.specs.Execution.{Execution, ProgramOrder};
+    ghost use Rattle.recorder.specs.Execution.{Execution, ProgramOrder, Reads, Writes};
     ghost use Rattle.relations.specs.declared.reason.Reason.TheVariants.{Wo, Fr};
     ghost use Rattle.relations.specs.Forced.{Holds};
     ghost use Rattle.relations.specs.Placed.{IsPlaced, ArePlaced};
@@ -18,13 +17,12 @@ impl Placed {
 
     /// The address that it reads or writes.
     fn address(&self) -> Option<Addr>
-        ensures reads { (a : ℕ) → read_address self.now.event ≡ Some a → result ≡ Some a }
-        ensures writes { (a : ℕ) → written_address self.now.event ≡ Some a → result ≡ Some a }
+        ensures { (x : Execution) (a : ℕ) → IsPlaced x self.now
+            → Reads x self.now.number a ⊎ Writes x self.now.number a → result ≡ Some a }
     {
-        match self.event {
-            Event::L { a, .. } | Event::S { a, .. } | Event::R { a, .. } | Event::C { a, .. } =>
-                Some(a),
-            Event::F => None,
+        match self.reads {
+            Some(address) => Some(address),
+            None => self.writes,
         }
     }
 
@@ -34,9 +32,9 @@ impl Placed {
         ensures writes { IsSome self.now.writes → result ≤ self.now.place }
     {
         match (self.reads, self.writes) {
-            (Some(_), Some(_)) => self.newer.min(self.place),
-            (Some(_), None) => self.newer,
-            (None, _) => self.place,
+            (Some(_), Some(_)) => self.newer.min(self.place) as usize,
+            (Some(_), None) => self.newer as usize,
+            (None, _) => self.place as usize,
         }
     }
 
@@ -46,7 +44,7 @@ impl Placed {
             → ProgramOrder x self.now.number other.now.number
             → TellsForced x self.now.number other.now.number result }
     {
-        self.event.keeps(&other.event)
+        self.keeps(other)
     }
 
     /// Puts the events behind it on its core that it is forced before into a row.

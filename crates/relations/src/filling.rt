@@ -5,7 +5,7 @@ ghost use Rattle.relations.specs.Forced.{Forced};
 ghost use Rattle.relations.specs.Placed.{IsPlaced, ArePlaced};
 ghost use Rattle.relations.specs.Filled.{IsPut, IsOwnOrWrite, IsFilledRow, AreFilled};
 
-use crate::placed::{Placed, placed_events};
+use crate::placed::Placed;
 use bitrow::BitRow;
 use common::OutOfMemory;
 use recorder::Recording;
@@ -74,11 +74,15 @@ fn put_readers(recording: &Recording, events: &[Placed], rows: &mut [BitRow])
 }
 
 /// For each event the set of the events that it is forced before.
-pub(crate) fn filled_rows(alloc: Global, recording: &Recording) -> Result<Vec<BitRow>, OutOfMemory>
+pub(crate) fn filled_rows(
+    alloc: Global,
+    recording: &Recording,
+    events: &[Placed],
+) -> Result<Vec<BitRow>, OutOfMemory>
+    requires { ArePlaced recording.now events.now }
     ensures { IfOk result (λ rows. AreFilled recording.now (Forced recording.now) rows.items) }
 {
-    let events = placed_events(alloc, recording)?;
-    let mut rows = rows_without_readers(alloc, recording, &events)?;
-    put_readers(recording, &events, rows.as_mut_slice());
+    let mut rows = rows_without_readers(alloc, recording, events)?;
+    put_readers(recording, events, rows.as_mut_slice());
     Ok(rows)
 }

@@ -5,7 +5,7 @@ use crate::reason::Reason;
 use common::Addr;
 
 impl Placed {
-    ghost use Rattle.std.specs.Prelude.{◌≡◌, ◌↔◌, IsTrue, Some};
+    ghost use Rattle.std.specs.Prelude.{◌≡◌, ◌↔◌, ◌&&◌, IsTrue, Some, false};
     ghost use Rattle.recorder.specs.Execution.{Execution, ProgramOrder};
     ghost use Rattle.relations.specs.declared.reason.Reason.TheVariants.{Po, Wo, Rf, Fr};
     ghost use Rattle.relations.specs.Forced.{Holds, IsReason};
@@ -30,12 +30,19 @@ impl Placed {
         self.number < other.number && self.core == other.core
     }
 
+    /// Whether a later event of its core may not overtake it.
+    pub(crate) fn keeps(&self, later: &Placed) -> bool
+        ensures { IsTrue result ↔ ((self.now.is_store && later.now.is_load) ≡ false) }
+    {
+        !(self.is_store && later.is_load)
+    }
+
     /// Whether memory order keeps it before another of its core.
     fn is_kept_before(&self, other: &Placed) -> bool
         ensures { (x : Execution) → IsPlaced x self.now → IsPlaced x other.now
             → IsTrue result ↔ Holds x Po self.now.number other.now.number }
     {
-        self.precedes(other) && self.event.keeps(&other.event)
+        self.precedes(other) && self.keeps(other)
     }
 
     /// Whether it stands before another in a write list.

@@ -9,12 +9,14 @@ mod neighbours;
 mod overlooks;
 mod pair;
 mod placed;
+mod places;
 mod reason;
 mod relation;
 
 pub use laws::{forced_is_exact, ordered_is_acyclic, relation_is_forced};
 pub use neighbours::behind;
 pub use overlooks::overlook;
-pub use pair::{first_reason, is_overlook};
+pub use pair::is_overlook;
+pub use places::Places;
 pub use reason::Reason;
 pub use relation::Relation;

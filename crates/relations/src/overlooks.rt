@@ -1,6 +1,6 @@
 //! Reads that overlook a store of their own core.
 
-ghost use Rattle.std.specs.Prelude.{◌≡◌, ◌≤◌, ◌<◌, ℕ, min, MatchOption, IfSome, IfNone};
+ghost use Rattle.std.specs.Prelude.{◌≡◌, ◌≤◌, ◌<◌, ◌+◌, ℕ, min, length, MatchOption, IfSome, IfNone};
 ghost use Rattle.relations.specs.Forced.{IsNewerFrom, Overlooks, IsLeastOverlook};
 
 use common::EventId;
@@ -8,7 +8,8 @@ use recorder::{Recording, place};
 
 /// The place of a list from which on its writes are newer than a source.
 pub(crate) fn newer_from(list: &[EventId], source: Option<EventId>) -> usize
-    ensures { IsNewerFrom list.now source result }
+    ensures newer { IsNewerFrom list.now source result }
+    ensures within { result ≤ length list.now + 1 }
 {
     match source {
         None => 0,

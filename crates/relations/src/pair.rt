@@ -1,33 +1,11 @@
 //! What holds of one pair of events.
 
-ghost use Rattle.std.specs.Prelude.{◌↔◌, ◌<◌, IsSome, IsTrue};
-ghost use Rattle.recorder.specs.Execution.{event_count};
-ghost use Rattle.relations.specs.Forced.{IsReason, Overlooks};
+ghost use Rattle.std.specs.Prelude.{◌↔◌, IsTrue};
+ghost use Rattle.relations.specs.Forced.{Overlooks};
 
 use crate::overlooks::newer_from;
-use crate::placed::placed_event;
-use crate::reason::Reason;
 use common::EventId;
 use recorder::{Recording, place};
-
-/// The first reason for one event before another, without a table of all pairs; none where there is
-/// none, and for a number that names no event. It can't fail for want of memory. No clause says its
-/// time: it is linear in the lengths of the write lists of their addresses.
-pub fn first_reason(recording: &Recording, first: EventId, second: EventId) -> Option<Reason>
-    ensures reason { IsReason recording.now first second result }
-    ensures events { IsSome result
-        → (first < event_count recording.now) × (second < event_count recording.now) }
-{
-    recording.sound();
-    let len = recording.len();
-    if len <= first as usize {
-        return None;
-    }
-    if len <= second as usize {
-        return None;
-    }
-    placed_event(recording, first).reason(&placed_event(recording, second))
-}
 
 /// Whether a read overlooks a store of its own core, which coherence forbids (CoWR; Nagarajan,
 /// Sorin, Hill and Wood, A Primer on Memory Consistency and Cache Coherence, second edition, chapter

@@ -1,43 +1,50 @@
 //! The relation of forced pairs.
 
 use crate::filling::filled_rows;
+use crate::placed::{Placed, placed_events};
+use crate::places::reason_between;
+use crate::reason::Reason;
 use bitrow::BitRow;
 use common::{EventId, OutOfMemory};
 use recorder::Recording;
 use std::alloc::Global;
 use std::marker::Model;
 
-/// The forced pairs of a recording: for each event the set of the events that it is forced before.
+/// The forced pairs of a recording: for each event the set of the events that it is forced before,
+/// and for each event its places in the write lists, some 20 bytes, which tell the reason of a pair.
 #[derive(Drop)]
 pub struct Relation {
     rows: Vec<BitRow>,
+    events: Vec<Placed>,
 }
 
 impl Model for Relation {
-    ghost use Rattle.relations.specs.Relation.{Table, IsSquare};
+    ghost use Rattle.relations.specs.Relation.{Table, IsRelation, table_of};
 
     ghost Value = { Table };
 
-    ghost view = { λ r. r.rows.items };
+    ghost view = { λ r. table_of r.events.items r.rows.items };
 
-    ghost invariant = { λ r. IsSquare r.rows.items };
+    ghost invariant = { λ r. IsRelation r.events.items r.rows.items };
 }
 
 impl Relation {
     ghost use Rattle.std.specs.Prelude.{◌≡◌, ◌<◌, ◌↔◌, ℕ, IsTrue, IfOk, length};
-    ghost use Rattle.recorder.specs.Execution.{event_count};
-    ghost use Rattle.relations.specs.Forced.{Forced};
-    ghost use Rattle.relations.specs.Relation.{IsSquare, Related};
+    ghost use Rattle.recorder.specs.Execution.{Execution, event_count};
+    ghost use Rattle.relations.specs.Forced.{Forced, IsReason};
+    ghost use Rattle.relations.specs.Relation.{IsSquare, IsTableOf, Related, sets_of};
 
     /// The forced pairs of a recording (Nagarajan, Sorin, Hill and Wood, A Primer on Memory
     /// Consistency and Cache Coherence, second edition, chapter 4). An `Err` is want of memory.
     pub fn of(alloc: Global, recording: &Recording) -> Result<Relation, OutOfMemory>
         ensures size { IfOk result (λ r. length r ≡ event_count recording.now) }
         ensures related { IfOk result (λ r. (e f : ℕ) → Related r e f ↔ Forced recording.now e f) }
+        ensures table { IfOk result (IsTableOf recording.now) }
     {
         recording.sound();
-        let rows = filled_rows(alloc, recording)?;
-        Ok(Relation { rows })
+        let events = placed_events(alloc, recording)?;
+        let rows = filled_rows(alloc, recording, &events)?;
+        Ok(Relation { rows, events })
     }
 
     /// What every relation keeps. It does nothing.
@@ -58,7 +65,8 @@ impl Relation {
 
     /// For each event the set of the events that it is forced before.
     pub fn successors(&self) -> &[BitRow]
-        ensures { result.now ≡ self.now }
+        ensures sets { result.now ≡ sets_of self.now }
+        ensures len { length result.now ≡ length self.now }
     {
         self.rows.as_slice()
     }
@@ -70,5 +78,13 @@ impl Relation {
         let len = self.len();
         let (first, second) = (first as usize, second as usize);
         first < len && second < len && self.rows[first].test(second)
+    }
+
+    /// The first reason why one event is forced before another; none where it is not, and for a number
+    /// that names no event. It takes constant time, which no clause says.
+    pub fn reason(&self, first: EventId, second: EventId) -> Option<Reason>
+        ensures { (x : Execution) → IsTableOf x self.now → IsReason x first second result }
+    {
+        reason_between(&self.events, first, second)
     }
 }

@@ -10,8 +10,7 @@ ghost use Rattle.report.specs.Verdict.{ArePairLines, IsCycleText};
 use crate::numbers::{put_number, put_numbers};
 use common::{EventId, OutOfMemory};
 use labels::Certificate;
-use recorder::Recording;
-use relations::{Reason, behind, first_reason};
+use relations::{Places, Reason, behind};
 
 /// The name of a reason.
 fn reason_name(reason: Reason) -> &'static [u8]
@@ -46,28 +45,25 @@ fn put_reason(
 /// Adds the line of a forced pair.
 fn put_pair(
     out: &mut Vec<u8>,
-    recording: &Recording,
+    places: &Places<'_>,
     first: EventId,
     second: EventId,
 ) -> Result<(), OutOfMemory>
-    requires { Forced recording.now first second }
-    ensures { OnOk result ((line : List ℕ) × IsPairLine recording.now first second line
+    requires { Forced places.now first second }
+    ensures { OnOk result ((line : List ℕ) × IsPairLine places.now first second line
         × (out.new.items ≡ out.old.items ++ line)) }
 {
-    let Some(reason) = first_reason(recording, first, second) else {
-        unreachable!();
-    };
-    put_reason(out, first, second, reason)
+    put_reason(out, first, second, places.forced_reason(first, second))
 }
 
 /// Adds a line for each pair of neighbours.
-fn put_pairs(out: &mut Vec<u8>, recording: &Recording, cycle: &[EventId]) -> Result<(), OutOfMemory>
-    requires { IsCycle (Forced recording.now) cycle.now }
-    ensures { OnOk result ((lines : List ℕ) × ArePairLines recording.now cycle.now (length cycle.now) lines
+fn put_pairs(out: &mut Vec<u8>, places: &Places<'_>, cycle: &[EventId]) -> Result<(), OutOfMemory>
+    requires { IsCycle (Forced places.now) cycle.now }
+    ensures { OnOk result ((lines : List ℕ) × ArePairLines places.now cycle.now (length cycle.now) lines
         × (out.new.items ≡ out.old.items ++ lines)) }
 {
     for i in 0..cycle.len() {
-        put_pair(out, recording, cycle[i], behind(cycle, i))?;
+        put_pair(out, places, cycle[i], behind(cycle, i))?;
     }
     Ok(())
 }
@@ -95,20 +91,20 @@ fn put_rows(out: &mut Vec<u8>, rows: &[Vec<u16>]) -> Result<(), OutOfMemory>
     Ok(())
 }
 
-/// Adds the text of a cycle with its labels.
+/// Adds the text of a cycle with its labels, in a recording with these places.
 pub(crate) fn put_cycle(
     out: &mut Vec<u8>,
-    recording: &Recording,
+    places: &Places<'_>,
     certificate: &Certificate,
 ) -> Result<(), OutOfMemory>
-    requires { IsCycle (Forced recording.now) certificate.now.cycle.items }
+    requires { IsCycle (Forced places.now) certificate.now.cycle.items }
     ensures { OnOk result ((text : List ℕ)
-        × IsCycleText recording.now certificate.now.cycle.items (lists_of certificate.now.rows.items) text
+        × IsCycleText places.now certificate.now.cycle.items (lists_of certificate.now.rows.items) text
         × (out.new.items ≡ out.old.items ++ text)) }
 {
     out.extend_from_slice(b"cycle of ")?;
     put_number(out, certificate.cycle.len())?;
     out.push(b'\n')?;
-    put_pairs(out, recording, &certificate.cycle)?;
+    put_pairs(out, places, &certificate.cycle)?;
     put_rows(out, &certificate.rows)
 }

@@ -9,6 +9,7 @@ use crate::numbers::{put_number, put_numbers};
 use common::{EventId, OutOfMemory};
 use judge::Verdict;
 use recorder::Recording;
+use relations::Places;
 use std::alloc::Global;
 
 /// Adds the line of an order.
@@ -49,7 +50,10 @@ pub fn verdict_text(
     match verdict {
         Verdict::Ordered(order) => put_order(&mut out, order)?,
         Verdict::Overlook { load, store } => put_overlook(&mut out, *load, *store)?,
-        Verdict::Cycle(certificate) => put_cycle(&mut out, recording, certificate)?,
+        Verdict::Cycle(certificate) => {
+            let places = Places::of(alloc, recording)?;
+            put_cycle(&mut out, &places, certificate)?
+        }
     }
     Ok(out)
 }

@@ -7,7 +7,7 @@ use Rattle.std.specs.Prelude.{false, true}
 use Rattle.std.proofs.lemmas.Bool.{cases_eq}
 use Rattle.std.proofs.lemmas.List.{get_or_past, get_or_push, get_or_append_left, map-append, length-map}
 use Rattle.bitrow.specs.Bits.{is_in}
-use Rattle.relations.specs.Relation.{Table, relates, Related}
+use Rattle.relations.specs.Relation.{Row, Table, relates, sets_of, Related}
 use Rattle.relations.specs.Cycle.{Leads, IsExactRow, AreExactRows, IsAcyclic}
 use Rattle.labels.specs.Certified.{lists_of}
 use Rattle.search.specs.Cycles.{IsLeastLength, IsShortestLength}
@@ -76,8 +76,9 @@ empty_acyclic t none (e ∷ es) cycle = leads_none es cycle
   where
     unrelated : (f : ℕ) → Related t e f → ⊥
     unrelated f r =
-        let empty : relates t e f ≡ false = ap (λ (row : List Bool). is_in row f)
-        (get_or_past t e [] (omega (arith, none))) ∙ get_or_past {X = Bool} [] f false (omega arith) in
+        let empty : relates t e f ≡ false = ap (λ (set : List Bool). is_in set f)
+        (get_or_past (sets_of t) e [] (omega (arith, none, length-map t (λ (row : Row). row.after))))
+        ∙ get_or_past {X = Bool} [] f false (omega arith) in
         let wrong : false ≡ true = sym empty ∙ r in cc
 
     leads_none : (es : List ℕ) → Leads (Related t) e es e → ⊥

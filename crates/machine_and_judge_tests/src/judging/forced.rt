@@ -1,22 +1,17 @@
 //! The reasons of forced pairs.
 
 use crate::judging::recordings::{
-    BYPASSING, EventLists, FAILED_SWAPS, LOAD_AND_STORE, SELF_SOURCE, TWIN_SWAPS, recorded, related,
+    BYPASSING, EventLists, FAILED_SWAPS, LOAD_AND_STORE, SELF_SOURCE, TWIN_SWAPS, related,
 };
 use common::EventId;
-use recorder::Recording;
-use relations::{Reason, Relation, first_reason};
+use relations::{Reason, Relation};
 use std::alloc::Global;
 use std::test::Fail;
 
 /// Whether each pair has the reason beside it, and is forced where it has one.
-fn are_forced_so(
-    recording: &Recording,
-    relation: &Relation,
-    pairs: &[(EventId, EventId, Option<Reason>)],
-) -> bool {
+fn are_forced_so(relation: &Relation, pairs: &[(EventId, EventId, Option<Reason>)]) -> bool {
     for (first, second, reason) in pairs {
-        if first_reason(recording, *first, *second) != *reason
+        if relation.reason(*first, *second) != *reason
             || relation.forced(*first, *second) != reason.is_some()
         {
             return false;
@@ -31,13 +26,10 @@ fn have_reasons(
     parts: EventLists,
     pairs: &[(EventId, EventId, Option<Reason>)],
 ) -> bool {
-    let Some(recording) = recorded(alloc, parts) else {
+    let Some(relation) = related(alloc, parts) else {
         return false;
     };
-    let Ok(relation) = Relation::of(alloc, &recording) else {
-        return false;
-    };
-    are_forced_so(&recording, &relation, pairs)
+    are_forced_so(&relation, pairs)
 }
 
 /// Pairs of bypassing, and their reasons.

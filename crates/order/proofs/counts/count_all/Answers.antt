@@ -1,7 +1,7 @@
 use Rattle.std.proofs.Common.{◌≡◌, ◌<◌, ◌≤◌, ◌+◌, ℕ, Bool, [], List, get_or, length, replicate, arith, ap}
 use Rattle.std.proofs.Common.{sym, subst, ◌∙◌}
 use Rattle.std.proofs.lemmas.List.{with_items_is, get_or_default}
-use Rattle.relations.specs.Relation.{Table, relates}
+use Rattle.relations.specs.Relation.{relates, sets_of}
 use Rattle.bitrow.specs.Bits.{is_in}
 use Rattle.order.specs.Open.{one_if}
 use Rattle.order.proofs.Waits.{AreCounts, counts_none, counts_more, counts_all, counts_most}
@@ -36,10 +36,17 @@ loop-event-preserved c =
     let were : AreCounts t d old =
     subst (λ (counts : List ℕ). AreCounts t d counts)
     (sym c.deref_mut.ensures.value) c.loop-event.invariant in
-    let row : c.index-successors-event.result ≡ get_or t d [] =
-    c.index-successors-event.is ∙ (ap (λ (rows : Table). get_or rows d c.index-successors-event.result)
-    c.successors-successors.ensures ∙ get_or_default t d c.index-successors-event.result []
-    (omega (arith, c.loop-event-test.true))) in
+    let sets : c.successors-successors.result.now ≡ sets_of t = c.successors-successors.ensures.sets in
+    let row : c.index-successors-event.result ≡ get_or (sets_of t) d [] =
+    c.index-successors-event.is
+    ∙ (ap (λ (l : List (List Bool)). get_or l d c.index-successors-event.result) sets
+    ∙ get_or_default (sets_of t) d c.index-successors-event.result []
+    (omega (
+      arith,
+      c.loop-event-test.true,
+      ap (λ (l : List (List Bool)). length l) sets,
+      c.successors-successors.ensures.len,
+    ))) in
     let added : (f : ℕ) → f < length old → get_or new f 0 ≡ get_or old f 0 + one_if (relates t d f) =
     λ f at. c.add_set.ensures.more f at
     ∙ ap (λ (s : List Bool). get_or old f 0 + one_if (is_in s f)) row in

@@ -1,6 +1,5 @@
-use Rattle.std.proofs.Common.{◌≡◌, ◌<◌, ◌+◌, Some, length, arith, sym, subst}
+use Rattle.std.proofs.Common.{◌≡◌, ◌<◌, ◌+◌, Bool, Some, List, length, arith, sym, subst}
 use Rattle.recorder.specs.Execution.{event_count, source_of}
-use Rattle.relations.specs.Relation.{Table}
 use Rattle.relations.specs.Filled.{AreFilled}
 use Rattle.relations.proofs.Written.{source_within}
 use Rattle.relations.proofs.Tables.{row_size}
@@ -61,12 +60,12 @@ loop-f-preserved c =
           let source : source_of x f ≡ Some s =
           source_placed x c.args.events.now f _ (Some s) c.requires.events within w.in-Some.is in
           let first : s < event_count x = source_within x c.sound.ensures.well_formed s f source in
-          subst (λ (rows : Table). AreFilled x (IsReached x (f + 1)) rows) (sym w.rows-is)
+          subst (λ (rows : List (List Bool)). AreFilled x (IsReached x (f + 1)) rows) (sym w.rows-is)
           (reader_of_some x f s c.loop-f.rows answer w.index-rows-first.result w.put.new.row first source
           (tells_placed x c.args.events.now s f _ _ answer c.requires.events first within
           (w.is_forced_before.ensures x)) w.put.ensures c.loop-f.invariant)
       | in_default w ↦
-          subst (λ (rows : Table). AreFilled x (IsReached x (f + 1)) rows) (sym w.rows-is)
+          subst (λ (rows : List (List Bool)). AreFilled x (IsReached x (f + 1)) rows) (sym w.rows-is)
           (reader_of_none x f c.loop-f.rows
           (source_placed x c.args.events.now f _ _ c.requires.events within w.in_default.is)
           c.loop-f.invariant)

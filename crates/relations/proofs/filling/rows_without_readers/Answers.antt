@@ -1,5 +1,5 @@
-use Rattle.std.proofs.Common.{◌≡◌, ◌++◌, ◌∷◌, [], ℕ, length, length-append, arith, sym, ap, subst, ◌∙◌}
-use Rattle.relations.specs.Relation.{Table}
+use Rattle.std.proofs.Common.{◌≡◌, ◌++◌, ◌∷◌, [], ℕ, Bool, List, length, length-append, arith, sym, ap, subst}
+use Rattle.std.proofs.Common.{◌∙◌}
 use Rattle.relations.specs.Filled.{IsOwnOrWrite, IsFilledRow}
 use Rattle.relations.proofs.Tables.{AreFilledSoFar, filled_rows_more}
 use Rattle.relations.proofs.filling.rows_without_readers.Goals as goal
@@ -16,10 +16,10 @@ loop-first-preserved c =
     (number ∙ sym c.loop-first.invariant.0) c.in_ok-row_without_readers.ensures in (
       omega (
         arith,
-        ap (λ (t : Table). length t) now,
+        ap (λ (t : List (List Bool)). length t) now,
         length-append rows (row ∷ []),
         c.loop-first.invariant.0,
       ),
-      subst (λ (t : Table). AreFilledSoFar x (IsOwnOrWrite x) t) (sym now)
+      subst (λ (t : List (List Bool)). AreFilledSoFar x (IsOwnOrWrite x) t) (sym now)
           (filled_rows_more x (IsOwnOrWrite x) rows row c.loop-first.invariant.1 last),
     )

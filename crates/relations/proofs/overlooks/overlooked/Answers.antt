@@ -11,7 +11,7 @@ loop-i-preserved c =
     let ws = c.write_list-list.result.now in
     let first = c.newer_from-first.result in
     let list = newer_list x c.sound.ensures.well_formed l c.in-Some.address ws c.source.result first
-    c.in-Some.ensures c.write_list-list.ensures c.source.ensures c.newer_from-first.ensures in
+    c.in-Some.ensures c.write_list-list.ensures c.source.ensures c.newer_from-first.ensures.newer in
     elim c.if-precedes.branch [
       | then-precedes w ↦ subst (λ (s : Option ℕ). IsLeastSoFar x l ws first (c.loop-i.i + 1) s)
           (sym w.least-is)
@@ -31,5 +31,5 @@ returns c =
     let first = c.newer_from-first.result in
     least_all x c.args.load c.in-Some.address ws first c.loop-i.i
     (newer_list x c.sound.ensures.well_formed c.args.load c.in-Some.address ws c.source.result first
-    c.in-Some.ensures c.write_list-list.ensures c.source.ensures c.newer_from-first.ensures)
+    c.in-Some.ensures c.write_list-list.ensures c.source.ensures c.newer_from-first.ensures.newer)
     c.loop-i-test.false c.loop-i.least c.loop-i.invariant

@@ -4,11 +4,11 @@ use Rattle.report.specs.Verdict.{IsPairLine, ArePairLines}
 use Rattle.report.proofs.cycle.put_pairs.Goals as goal
 
 pub put_pair-requires : goal.put_pair-requires
-put_pair-requires c = c.behind.ensures.forced c.args.recording.now c.requires
+put_pair-requires c = c.behind.ensures.forced c.args.places.now c.requires
 
 pub loop-i-preserved : goal.loop-i-preserved
 loop-i-preserved c =
-    let x = c.args.recording.now in
+    let x = c.args.places.now in
     let cycle = c.args.cycle.now in
     let i = c.loop-i.i in
     let h = c.loop-i.invariant in

@@ -3,5 +3,5 @@ use Rattle.report.specs.Verdict.{ArePairLines}
 use Rattle.report.proofs.cycle.put_pairs.Given as goal
 
 abbrev pub invariant-loop-i : goal.invariant-loop-i
-invariant-loop-i l = (lines : List ℕ) × ArePairLines l.recording l.cycle l.i lines
+invariant-loop-i l = (lines : List ℕ) × ArePairLines l.places l.cycle l.i lines
     × (l.out.items ≡ l.fn.out.items ++ lines)

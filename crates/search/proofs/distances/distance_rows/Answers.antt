@@ -1,8 +1,9 @@
-use Rattle.std.proofs.Common.{◌≡◌, ◌<◌, ◌+◌, ◌++◌, ◌∷◌, [], ℕ, List, length, get_or, min, arith}
+use Rattle.std.proofs.Common.{◌≡◌, ◌<◌, ◌+◌, ◌++◌, ◌∷◌, [], ℕ, Bool, List, length, get_or, min, arith}
 use Rattle.std.proofs.Common.{◌∙◌, inl, subst, sym, ap, length-append, Vec, Global}
-use Rattle.relations.specs.Relation.{Table, Related}
+use Rattle.relations.specs.Relation.{Related}
 use Rattle.relations.specs.Cycle.{IsExactRow}
 use Rattle.labels.specs.Certified.{lists_of}
+use Rattle.search.specs.Bits.{Marked}
 use Rattle.search.specs.Cycles.{IsCap, IsNearest, IsDistanceRow, IsLeastClosing}
 use Rattle.search.specs.Fresh.{AreEmptySets}
 use Rattle.search.proofs.Cuts.{cap_next, distance_push}
@@ -24,15 +25,12 @@ loop-source-init c = record {
 }
 
 pub add_row-requires-clause-source : goal.add_row-requires-clause-source
-add_row-requires-clause-source c = omega (
-  arith,
-  c.loop-source-test.true,
-  ap (λ (t : Table). length t) c.successors-successors.ensures,
-)
+add_row-requires-clause-source c =
+    omega (arith, c.loop-source-test.true, c.successors-successors.ensures.len)
 
 pub add_row-requires-clause-sets : goal.add_row-requires-clause-sets
-add_row-requires-clause-sets c = subst (λ (t : Table). AreEmptySets (length t) c.loop-source.sets)
-    (sym c.successors-successors.ensures) c.loop-source.invariant.sets
+add_row-requires-clause-sets c = subst (λ (n : ℕ). AreEmptySets n c.loop-source.sets)
+    (sym c.successors-successors.ensures.len) c.loop-source.invariant.sets
 
 pub returns-clause-distances : goal.returns-clause-distances
 returns-clause-distances c =
@@ -56,15 +54,16 @@ loop-source-preserved c =
     let row = added.0 in
     let is : lists_of c.add_row.new.made.items ≡ rows ++ row ∷ [] = added.1 in
     let exact : IsExactRow R n cap c.loop-source.source row =
-    subst (λ (t : Table). IsExactRow (Related t) (length t) cap c.loop-source.source row)
-    c.successors-successors.ensures added.2 in
+    subst (λ (m : ℕ). IsExactRow R m cap c.loop-source.source row) c.successors-successors.ensures.len
+    (subst (λ (sets : List (List Bool)). IsExactRow (Marked sets) (length c.successors-successors.result.now) cap
+    c.loop-source.source row) c.successors-successors.ensures.sets added.2) in
     let near : IsNearest R c.loop-source.source row cap closing =
-    subst (λ (t : Table). IsNearest (Related t) c.loop-source.source row cap closing)
-    c.successors-successors.ensures added.3 in
+    subst (λ (sets : List (List Bool)). IsNearest (Marked sets) c.loop-source.source row cap closing)
+    c.successors-successors.ensures.sets added.3 in
     let both : min c.loop-source.least closing ≡ c.min-least.result = omega arith in
     record {
-      sets = subst (λ (t : Table). AreEmptySets (length t) c.in_ok-closing.emptied)
-          c.successors-successors.ensures c.in_ok-closing.ensures.sets;
+      sets = subst (λ (n : ℕ). AreEmptySets n c.in_ok-closing.emptied) c.successors-successors.ensures.len
+          c.in_ok-closing.ensures.sets;
       cap = subst (λ (k : ℕ). IsCap R n k) (sym c.next_cap-cap.ensures)
           (cap_next R n cap c.loop-source.source closing row c.sound.ensures.within exact near
           c.loop-source.invariant.cap);

@@ -1,7 +1,8 @@
-use Rattle.std.proofs.Common.{◌≡◌, ◌∙◌, ℕ, length, ap, subst}
+use Rattle.std.proofs.Common.{◌≡◌, ◌∙◌, ℕ, Bool, List, length, ap, subst}
 use Rattle.std.specs.Option.{unwrap_or}
-use Rattle.relations.specs.Relation.{Table, Related}
+use Rattle.relations.specs.Relation.{Related}
 use Rattle.relations.specs.Cycle.{IsExactRow}
+use Rattle.search.specs.Bits.{Marked}
 use Rattle.search.specs.Cycles.{IsNearest}
 use Rattle.search.proofs.under.row_cut.Goals as goal
 
@@ -11,8 +12,11 @@ returns-clause-exact c =
     let most : c.unwrap_or-most.result ≡ unwrap_or c.args.cap n = c.unwrap_or-most.ensures
     ∙ ap (λ (k : ℕ). unwrap_or c.args.cap k) c.len.ensures in
     subst (λ (k : ℕ). IsExactRow (Related c.args.relation.now) n k c.args.source c.row_in.result.0.items) most
-    (subst (λ (t : Table). IsExactRow (Related t) (length t) c.unwrap_or-most.result c.args.source
-    c.row_in.result.0.items) c.successors.ensures c.row_in.ensures.exact)
+    (subst (λ (m : ℕ). IsExactRow (Related c.args.relation.now) m c.unwrap_or-most.result c.args.source
+    c.row_in.result.0.items) c.successors.ensures.len
+    (subst (λ (sets : List (List Bool)). IsExactRow (Marked sets) (length c.successors.result.now)
+    c.unwrap_or-most.result c.args.source c.row_in.result.0.items) c.successors.ensures.sets
+    c.row_in.ensures.exact))
 
 pub returns-clause-nearest : goal.returns-clause-nearest
 returns-clause-nearest c =
@@ -21,5 +25,5 @@ returns-clause-nearest c =
     ∙ ap (λ (k : ℕ). unwrap_or c.args.cap k) c.len.ensures in
     subst (λ (k : ℕ). IsNearest (Related c.args.relation.now) c.args.source c.row_in.result.0.items k
     c.row_in.result.1) most
-    (subst (λ (t : Table). IsNearest (Related t) c.args.source c.row_in.result.0.items c.unwrap_or-most.result
-    c.row_in.result.1) c.successors.ensures c.row_in.ensures.nearest)
+    (subst (λ (sets : List (List Bool)). IsNearest (Marked sets) c.args.source c.row_in.result.0.items
+    c.unwrap_or-most.result c.row_in.result.1) c.successors.ensures.sets c.row_in.ensures.nearest)

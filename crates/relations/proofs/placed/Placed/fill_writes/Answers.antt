@@ -1,7 +1,6 @@
 use Rattle.std.proofs.Common.{◌≡◌, ◌<◌, ◌≤◌, ◌+◌, ◌⊎◌, inl, inr, ℕ, Some, None, List, get_or, length}
-use Rattle.std.proofs.Common.{arith, ap, subst, ◌∙◌}
+use Rattle.std.proofs.Common.{arith, ap, subst}
 use Rattle.std.proofs.lemmas.Bool.{cases_lt}
-use Rattle.recorder.specs.Event.{read_address, written_address}
 use Rattle.recorder.specs.Execution.{event_count, write_list}
 use Rattle.recorder.specs.Order.{place}
 use Rattle.relations.specs.declared.reason.Reason.TheVariants.{Wo, Fr}
@@ -19,13 +18,7 @@ returns-in_default c =
     filled_none x p.number (λ f. Holds x Wo p.number f ⊎ Holds x Fr p.number f) c.args.row.now
     (λ f h.
     let used = address_used x c.requires.placed.well_formed p.number f h in
-    elim used.1 [
-      | inl reads ↦ let no : None ≡ Some used.0 =
-          c.in_default.ensures.reads used.0 (ap read_address c.requires.placed.event ∙ reads) in absurd cc
-      | inr writes ↦ let no : None ≡ Some used.0 =
-          c.in_default.ensures.writes used.0 (ap written_address c.requires.placed.event
-          ∙ writes) in absurd cc
-    ])
+    let no : None ≡ Some used.0 = c.in_default.ensures x used.0 c.requires.placed used.1 in absurd cc)
 
 pub bounds-events-f : goal.bounds-events-f
 bounds-events-f c =
@@ -87,9 +80,8 @@ returns c =
     ⊎ Holds x Fr p.number f) c.args.row.now c.loop-i.row
     (λ f h.
     let later = later_place x p first a f c.requires.placed c.first_place-first.ensures.reads
-    c.first_place-first.ensures.writes (λ b r. c.in-Some.ensures.reads b
-    (ap read_address c.requires.placed.event ∙ r))
-    (λ b w. c.in-Some.ensures.writes b (ap written_address c.requires.placed.event ∙ w)) h in (
+    c.first_place-first.ensures.writes (λ b r. c.in-Some.ensures x b c.requires.placed (inl r))
+    (λ b w. c.in-Some.ensures x b c.requires.placed (inr w)) h in (
       later.0,
       omega (
         arith,
