@@ -8,5 +8,6 @@ mod workers;
 
 pub use alone::judge_alone;
 pub use check::verify;
+pub use common::{Gate, OpenGate};
 pub use verdict::Verdict;
 pub use workers::{judge, judge_gated};

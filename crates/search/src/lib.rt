@@ -27,6 +27,7 @@ mod work;
 pub use alone::{jobs, run_alone};
 pub use certified::{shortest_cycle, shortest_cycle_by};
 pub use collect::run_jobs;
+pub use common::{Gate, OpenGate};
 pub use job::SourceJob;
 pub use label_row::LabelRow;
 pub use least::least_cycle;
