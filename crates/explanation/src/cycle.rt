@@ -1,8 +1,8 @@
 //! A cycle in words.
 
-ghost use Rattle.std.specs.Prelude.{◌≡◌, ◌++◌, ℕ, List, OnOk, codes, length};
+ghost use Rattle.std.specs.Prelude.{◌≡◌, ◌++◌, ℕ, List, OnOk, Some, codes, length};
 ghost use Rattle.relations.specs.Cycle.{IsCycle};
-ghost use Rattle.relations.specs.Forced.{Forced};
+ghost use Rattle.relations.specs.Forced.{Forced, IsReason};
 ghost use Rattle.explanation.specs.Events.{written_text};
 ghost use Rattle.explanation.specs.Cycle.{reason_text, reason_line, cycle_heading, IsLink, AreLinks};
 ghost use Rattle.explanation.specs.Cycle.{SaysCycle};
@@ -73,21 +73,19 @@ fn put_reason_line(
     put_text(out, b"\n")
 }
 
-/// Adds the lines of an event that comes before another.
+/// Adds the lines of an event that comes before another for this reason.
 fn put_link(
     out: &mut Vec<u8>,
     recording: &Recording,
-    places: &Places<'_>,
     names: &IndexSet<Name>,
     first: EventId,
     second: EventId,
+    reason: Reason,
 ) -> Result<(), OutOfMemory>
-    requires places { places.now ≡ recording.now }
-    requires forced { Forced places.now first second }
+    requires { IsReason recording.now first second (Some reason) }
     ensures { OnOk result ((link : List ℕ) × IsLink recording.now names.now.keys first second link
         × (out.new.items ≡ out.old.items ++ link)) }
 {
-    let reason = places.forced_reason(first, second);
     put_line(out, recording, names, first)?;
     put_reason_line(out, recording, names, second, reason)
 }
@@ -107,7 +105,9 @@ fn put_links(
         × (out.new.items ≡ out.old.items ++ links)) }
 {
     for i in 0..cycle.len() {
-        put_link(out, recording, places, names, cycle[i], behind(cycle, i))?;
+        let (first, second) = (cycle[i], behind(cycle, i));
+        let reason = places.forced_reason(first, second);
+        put_link(out, recording, names, first, second, reason)?;
     }
     Ok(())
 }
