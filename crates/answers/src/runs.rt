@@ -2,13 +2,14 @@
 
 ghost use Rattle.std.specs.Prelude.{IfOk};
 ghost use Rattle.recording_text.specs.Text.{recording_text};
+ghost use Rattle.judge.specs.Verdict.{IsVerdict, Verifies};
 ghost use Rattle.answers.specs.Run.{IsRunAnswer, IsSeededAnswer, IsUnfinishedAnswer, state_after};
 ghost use Rattle.answers.specs.Verdict.{IsVerdictAnswer};
 
 use crate::answer::{Answer, UNFINISHED};
 use crate::verdict::verdict_behind;
 use common::OutOfMemory;
-use judge::judge_alone;
+use judge::Verdict;
 use litmus::Program;
 use machine::{Fault, Machine, Step};
 use rand_core::SeedableRng;
@@ -16,15 +17,16 @@ use rand_xoshiro::Xoshiro256PlusPlus;
 use recorder::Recording;
 use recording_text::write_recording;
 use std::alloc::Global;
-use trials::run_seeded;
+use trials::{Judged, judged_end, run_seeded};
 
 /// The line of a recording and the verdict on it. An error is want of memory.
-fn recorded(alloc: Global, recording: &Recording) -> Result<Answer, OutOfMemory>
+fn recorded(alloc: Global, recording: &Recording, verdict: &Verdict) -> Result<Answer, OutOfMemory>
+    requires found { IsVerdict recording.now verdict.now }
+    requires verified { Verifies recording.now verdict.now }
     ensures { IfOk result (IsVerdictAnswer recording.now (recording_text recording.now)) }
 {
     let text = write_recording(alloc, recording)?;
-    let verdict = judge_alone(alloc, recording)?;
-    verdict_behind(alloc, text, recording, &verdict)
+    verdict_behind(alloc, text, recording, verdict)
 }
 
 /// That a run is unfinished. An error is want of memory.
@@ -39,9 +41,9 @@ fn unfinished(alloc: Global) -> Result<Answer, OutOfMemory>
 pub fn finished(alloc: Global, machine: Machine) -> Result<Answer, OutOfMemory>
     ensures { IfOk result (IsRunAnswer machine.fault machine.program machine.state) }
 {
-    match machine.finish() {
-        Ok(recording) => recorded(alloc, &recording),
-        Err(_unfinished) => unfinished(alloc),
+    match judged_end(alloc, machine)? {
+        Some(Judged { recording, verdict }) => recorded(alloc, &recording, &verdict),
+        None => unfinished(alloc),
     }
 }
 

@@ -2,13 +2,16 @@
 use Rattle.std.specs.Prelude.{◌≡◌, ℕ, List, length, Option, None, Some, ⊤}
 use Rattle.litmus.specs.Parts.{Parts}
 use Rattle.recorder.specs.Execution.{Execution}
+use Rattle.recorder.specs.Tso.{IsTsoOrder}
 use Rattle.machine.specs.declared.fault.Fault.{Fault}
+use Rattle.machine.specs.declared.fault.Fault.TheVariants as faults
 use Rattle.machine.specs.declared.step.Step.{Step}
 use Rattle.machine.specs.Taken.{begun}
 use Rattle.machine.specs.Configuration.{Configuration, IsAtEnd, recording_of, state_behind}
 use Rattle.judge.specs.declared.verdict.Verdict.{Verdict}
 use Rattle.judge.specs.declared.verdict.Verdict.TheVariants.{Ordered, Overlook, Cycle}
-use Rattle.judge.specs.Verdict.{IsVerdict}
+use Rattle.judge.specs.Verdict.{IsVerdict, Verifies}
+use Rattle.trials.specs.declared.judging.Judged.{Judged}
 
 -- the machine in which a program begins
 abbrev pub begun_machine : Parts → ℕ → Fault → Configuration
@@ -32,6 +35,20 @@ IsEndRecording h (Some x) = IsAtEnd h × (x ≡ recording_of h)
 abbrev pub IsEndVerdict : Configuration → Option Verdict → Type 0
 IsEndVerdict h None = IsAtEnd h → ⊥
 IsEndVerdict h (Some verdict) = IsAtEnd h × IsVerdict (recording_of h) verdict
+
+-- the recording of a complete machine and the verdict on it, which passes its check; without fault the order of what
+-- was performed is one of TSO
+pub record IsJudged (h : Configuration) (j : Judged) : Type 0 where
+  pub complete : IsAtEnd h
+  pub recording : j.recording ≡ recording_of h
+  pub verdict : IsVerdict j.recording j.verdict
+  pub verified : Verifies j.recording j.verdict
+  pub tso : h.fault ≡ faults.None → IsTsoOrder (recording_of h) h.state.performed
+
+-- none where the machine is not complete
+abbrev pub IsJudgedEnd : Configuration → Option Judged → Type 0
+IsJudgedEnd h None = IsAtEnd h → ⊥
+IsJudgedEnd h (Some j) = IsJudged h j
 
 -- no violation: an order, or none where the machine is not complete
 abbrev pub IsLawful : Option Verdict → Type 0

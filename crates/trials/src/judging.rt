@@ -3,14 +3,44 @@
 ghost use Rattle.std.specs.Prelude.{◌≡◌, IfOk};
 ghost use Rattle.trials.specs.Codes.{end_code, verdict_code, IsShort};
 ghost use Rattle.machine.specs.declared.fault.Fault.TheVariants as faults;
-ghost use Rattle.trials.specs.Judged.{begun_machine, ran, IsEndVerdict, IsLawful};
+ghost use Rattle.trials.specs.Judged.{begun_machine, ran, IsEndVerdict, IsJudgedEnd, IsLawful};
 
 use crate::code::{CYCLE, LOAD, ORDERED, OVERLOOK, UNFINISHED};
 use common::OutOfMemory;
 use judge::{Verdict, judge_alone};
 use litmus::Program;
 use machine::{Fault, Machine, Step};
+use recorder::Recording;
 use std::alloc::Global;
+
+/// A recording and the verdict on it.
+#[derive(Drop)]
+pub struct Judged {
+    /// The recording.
+    pub recording: Recording,
+    /// The verdict on it.
+    pub verdict: Verdict,
+}
+
+/// The recording of a machine and the verdict on it; none exactly where the machine is not complete. It
+/// waits for nobody. Fails only if out of memory.
+pub fn judged_end(alloc: Global, machine: Machine) -> Result<Option<Judged>, OutOfMemory>
+    ensures { IfOk result (IsJudgedEnd machine) }
+{
+    match machine.finish() {
+        Ok(recording) => match judge_alone(alloc, &recording) {
+            Ok(verdict) => Ok(Some(Judged { recording, verdict })),
+            Err(error) => {
+                drop(recording);
+                Err(error)
+            }
+        },
+        Err(unfinished) => {
+            drop(unfinished);
+            Ok(None)
+        }
+    }
+}
 
 /// The verdict on the recording of a machine; none exactly where it is not complete. An `Err` is want of
 /// memory.
@@ -19,15 +49,13 @@ pub(crate) fn end_verdict(alloc: Global, machine: Machine) -> Result<Option<Verd
     ensures lawful { IfOk result (λ verdict. machine.fault ≡ faults.None → IsLawful verdict) }
     ensures short { IfOk result IsShort }
 {
-    match machine.finish() {
-        Ok(recording) => {
+    match judged_end(alloc, machine)? {
+        Some(Judged { recording, verdict }) => {
             recording.sound();
-            match judge_alone(alloc, &recording) {
-                Ok(verdict) => Ok(Some(verdict)),
-                Err(error) => Err(error),
-            }
+            drop(recording);
+            Ok(Some(verdict))
         }
-        Err(_unfinished) => Ok(None),
+        None => Ok(None),
     }
 }
 

@@ -23,7 +23,7 @@ pub use campaign::Campaign;
 pub use campaigning::{CampaignError, run_campaign};
 pub use code::{CYCLE, LOAD, ORDERED, OVERLOOK, UNFINISHED};
 pub use filed::Filed;
-pub use judging::run_and_judge;
+pub use judging::{Judged, judged_end, run_and_judge};
 pub use law::a_campaign_has_one_ledger;
 pub use ledger::Ledger;
 pub use running::run_seeded;
