@@ -10,6 +10,7 @@ use Rattle.answers.specs.declared.answer.Answer.{Answer}
 use Rattle.inputs.specs.declared.stop.Stop.{Stop}
 use Rattle.inputs.specs.declared.stop.Stop.TheVariants.{Refused, Fault}
 use Rattle.inputs.specs.Inputs.{AreBytesOf}
+use Rattle.commands.specs.Program.{IsProgramRead}
 use Rattle.commands.specs.Tell.{IsTellingStop}
 use Rattle.commands.specs.Judge.{IsJudgeStop, IsUnread}
 use Rattle.commands.specs.Perform.{IsLiveStop, thread_fault}
@@ -30,11 +31,11 @@ telling_stop inputs o bytes (Ok answer) stop given same is = tt
 telling_stop inputs o bytes (Err s) (Refused line) given same is = rw same (inl (bytes, given, is))
 telling_stop inputs o bytes (Err s) (Fault fault) given same is = rw same (inl (rw is.2 tt))
 
--- threads left no machine
+-- threads left no machine of a program that is read
 pub thread_stop : (inputs : List ℕ → Option (List ℕ)) (o : LiveOptions) (error : LiveError)
-    → IsLiveStop inputs o (Fault (thread_fault error))
-thread_stop inputs o live.NoThread = tt
-thread_stop inputs o live.Stranger = tt
-thread_stop inputs o live.OutOfMemory = tt
-thread_stop inputs o (live.Blocked reason) = tt
-thread_stop inputs o live.TraceFull = tt
+    → IsProgramRead inputs (string_bytes o.program) → IsLiveStop inputs o (Fault (thread_fault error))
+thread_stop inputs o live.NoThread read = read
+thread_stop inputs o live.Stranger read = read
+thread_stop inputs o live.OutOfMemory read = tt
+thread_stop inputs o (live.Blocked reason) read = tt
+thread_stop inputs o live.TraceFull read = tt

@@ -30,7 +30,7 @@ use Rattle.inputs.specs.Inputs.{AreBytesOf, IsInputFault}
 use Rattle.commands.specs.Judge.{IsJudgedInput, IsJudgeStop}
 use Rattle.commands.specs.Replay.{IsReplayedInput, IsReplayStop}
 use Rattle.commands.specs.Tell.{IsTold, IsTellingStop}
-use Rattle.commands.specs.Program.{IsProgramRefused, IsProgramStop}
+use Rattle.commands.specs.Program.{IsProgramRead, IsProgramRefused, IsProgramStop}
 use Rattle.command_line.specs.Options.{AreOptions, IsFault}
 use Rattle.commands.specs.Refusal.{IsReadingStop, option_line, step_fault_name}
 use Rattle.commands.specs.Run.{IsRun, IsLive}
@@ -68,11 +68,12 @@ thread_fault live.NoThread = NoThread
 thread_fault live.Stranger = Stranger
 thread_fault other = fault.OutOfMemory
 
--- a line of refusal is that of the named program; a fault is one of reading it, or of threads
+-- a line of refusal is that of the named program; a fault is one of reading it, or, where it is read, of
+-- threads
 abbrev pub IsLiveStop : (List ℕ → Option (List ℕ)) → LiveOptions → Stop → Type 0
 IsLiveStop inputs o (Refused line) = IsProgramRefused inputs (string_bytes o.program) (Refused line)
-IsLiveStop inputs o (Fault NoThread) = ⊤
-IsLiveStop inputs o (Fault Stranger) = ⊤
+IsLiveStop inputs o (Fault NoThread) = IsProgramRead inputs (string_bytes o.program)
+IsLiveStop inputs o (Fault Stranger) = IsProgramRead inputs (string_bytes o.program)
 IsLiveStop inputs o (Fault fault) = IsInputFault inputs (string_bytes o.program) fault
 
 -- what a command answers to its options and inputs

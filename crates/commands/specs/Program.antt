@@ -13,6 +13,10 @@ pub record IsProgramAt (inputs : List ℕ → Option (List ℕ)) (name : List �
   pub given : AreBytesOf inputs name text
   pub read : reading text ≡ Ok program
 
+-- the named program is read
+abbrev pub IsProgramRead : (List ℕ → Option (List ℕ)) → List ℕ → Type 0
+IsProgramRead inputs name = (program : Parts) × IsProgramAt inputs name program
+
 -- the named program is refused
 pub record IsProgramRefused (inputs : List ℕ → Option (List ℕ)) (name : List ℕ) (stop : Stop) : Type 0 where
   pub text : List ℕ

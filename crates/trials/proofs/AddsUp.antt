@@ -15,6 +15,7 @@ use Rattle.trials.specs.Campaigns.{Plan}
 use Rattle.trials.specs.Codes.{IsCode, AreCodes, IsShort, end_code}
 use Rattle.trials.specs.Counts.{IsLedger, is_cycle_of, is_overlook, counted, cycles_below}
 
+-- 1 where it is true
 abbrev one_if : Bool → ℕ
 one_if b = cond b 1 0
 
@@ -45,6 +46,7 @@ cycles_sum codes (suc n) =
     sum_by-append (λ (c : ℕ × ℕ). c.1) (cycles_below codes n) (counted n count)
     ∙ omega (arith, cycles_sum codes n, counted_sum n count)
 
+-- of no code there is none
 no_cycles : (n : ℕ) → cycle_count [] n ≡ 0
 unfolding cycle_count
 no_cycles zero = refl
@@ -92,12 +94,14 @@ abbrev IsKind : ℕ → Type 0
 IsKind n = (n ≡ UNFINISHED) ⊎ ((n ≡ ORDERED) ⊎ (((k : ℕ) × (k ≤ MAX_EVENTS) × (n ≡ CYCLE + k))
     ⊎ (OVERLOOK ≤ n)))
 
+-- the code of a verdict is one of these
 verdict_kind : (verdict : Option Verdict) → IsShort verdict → IsKind (end_code verdict)
 verdict_kind None short = inl refl
 verdict_kind (Some (Ordered order)) short = inr (inl refl)
 verdict_kind (Some (Overlook load store)) short = inr (inr (inr (omega arith)))
 verdict_kind (Some (Cycle certificate)) short = inr (inr (inl (length certificate.cycle.items, short, refl)))
 
+-- so is that of a trial
 code_kind : (p : Plan) (k n : ℕ) → IsCode p k n → IsKind n
 code_kind p k n is = subst IsKind (sym is.code) (verdict_kind is.verdict is.short)
 
@@ -149,6 +153,7 @@ all_counted (c ∷ codes) kinds = omega (
   all_counted codes (λ k low. kinds (suc k) (omega (arith, low))),
 )
 
+-- so the counts of a ledger add up
 pub adds_up : (p : Plan) (codes : List ℕ) (l : Ledger) → AreCodes p codes → IsLedger codes l
     → l.ordered + l.unfinished + l.overlook + sum_by (λ (c : ℕ × ℕ). c.1) l.cycles.items ≡ p.trials
 adds_up p codes l are is = omega (

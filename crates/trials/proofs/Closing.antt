@@ -192,11 +192,13 @@ done_dec v ws k = elim (theirs_dec v ws k) [
   | yes t ↦ elim (ℕ_discrete (get_or ws k 0) 1) [ yes e ↦ no (λ h. h.1 e) | no ne ↦ yes (t, ne) ]
 ]
 
+-- a fact of each of one view
 one : (v : View) (P : ℕ → View → Type 0) → P 0 v → (i : ℕ) (u : View) → get_elem? (v ∷ []) i ≡ some u
     → P i u
 one v P p zero u e = subst (P 0) (some-injective v u e) p
 one v P p (suc i) u e = absurd (some-ne-none u (sym e))
 
+-- a fact of each of two
 two : (v w : View) (P : ℕ → View → Type 0) → P 0 v → P 1 w → (i : ℕ) (u : View) → get_elem? (v ∷ w ∷ []) i
     ≡ some u → P i u
 two v w P p q zero u e = subst (P 0) (some-injective v u e) p
@@ -205,18 +207,22 @@ two v w P p q (suc (suc i)) u e = absurd (some-ne-none u (sym e))
 
 module _ (v : View) (ws : List ℕ) (size : length ws ≡ v.campaign.trials) (some_word : 0 < length ws)
     (r : ReadSoFar v ws) where
+  -- beyond the words there is none
   out : (k : ℕ) → length ws ≤ k → get_or ws k 0 ≡ 0
   out k h = get_or_past ws k 0 h
 
+  -- each word is open, claimed or a code
   word : (k : ℕ) → IsWord v.campaign k (get_or ws k 0)
   word k = elim (dec_le (length ws) k) [ yes h ↦ inl (out k h) | no h ↦ r.words k (omega (arith, h)) ]
 
+  -- and fits the view
   mine : (k : ℕ) → FitsAt v k (get_or ws k 0)
   mine k = elim (dec_le (length ws) k) [
     | yes h ↦ subst (FitsAt v k) (sym (out k h)) (r.beyond some_word k (omega (arith, h, size)))
     | no h ↦ r.fits k (omega (arith, h))
   ]
 
+  -- one that is not 0 is of a trial
   below : (k : ℕ) → get_or ws k 0 ≢ 0 → k < length ws
   below k full = elim (dec_le (length ws) k) [
     | yes h ↦ absurd (full (out k h))
@@ -301,6 +307,7 @@ module _ (v : View) (ws : List ℕ) (size : length ws ≡ v.campaign.trials) (so
         refl,
       )
 
+  -- so the words are those of a legal desk
   pub closing : v.live ≡ true → AreDeskWords v ws
   closing live = elim (cases_Bool v.alone) [
     | inl alone ↦ closing_alone live alone

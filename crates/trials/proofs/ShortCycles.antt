@@ -36,6 +36,7 @@ holds_within x wf Rf e f h =
     (Writes-event x e reads.0 gives.0, Reads-event x f reads.0 reads.1)
 holds_within x wf Fr e f h = (Reads-event x e h.0 h.1, Writes-event x f h.0 h.2)
 
+-- so no least cycle is longer than a recording may be
 pub short_verdict : (x : Execution) (v : Verdict) → IsRecording x → IsVerdict x v → IsShort (Some v)
 short_verdict x (Ordered order) recording is = tt
 short_verdict x (Overlook load store) recording is = tt

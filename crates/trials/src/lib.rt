@@ -29,3 +29,4 @@ pub use ledger::Ledger;
 pub use running::run_seeded;
 pub use seat::{Desk, DeskSeat, Look};
 pub use trying::{reproduce, run_trial, trial};
+pub use workers::try_one;

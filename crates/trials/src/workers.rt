@@ -1,6 +1,6 @@
 //! Workers that claim trials one after another.
 
-ghost use Rattle.std.specs.Prelude.{◌≡◌, ◌<◌, ◌≤◌};
+ghost use Rattle.std.specs.Prelude.{◌≡◌, ◌<◌, ◌≤◌, Contains};
 ghost use Rattle.trials.specs.Looking.{IsDeskSeatOf};
 
 use crate::campaign::Campaign;
@@ -20,8 +20,9 @@ fn tell<G: Gate>(gate: &G, worker: usize, filed: &Filed) {
     }
 }
 
-/// Claims a trial, and files it where the word was open and there is memory.
-fn try_one<G: Gate>(
+/// Claims a trial, and files it where the word was open and there is memory. The gate is told of the claim, of
+/// a violation, and last of the filing.
+pub fn try_one<G: Gate>(
     alloc: Global,
     campaign: &Campaign,
     desk: &Desk,
@@ -35,6 +36,7 @@ fn try_one<G: Gate>(
     requires trial { k < campaign.now.trials }
     ensures seat { IsDeskSeatOf desk.now seat.new }
     ensures campaign { seat.new.seat.me.0.campaign ≡ campaign.now }
+    ensures later { Contains seat.new.seat.me.0.seen k }
 {
     if desk.claim(seat, k) {
         gate.begin(worker, k);

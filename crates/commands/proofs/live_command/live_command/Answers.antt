@@ -13,4 +13,5 @@ returns-clause-ok g c =
 
 pub returns-in-Err-clause-err : goal.returns-in-Err-clause-err
 returns-in-Err-clause-err g c = rw c.fault_of.ensures
-    (thread_stop (g.P.Place.bytes c.args.place.now) c.args.options.now c.in-Err.error)
+    (thread_stop (g.P.Place.bytes c.args.place.now) c.args.options.now c.in-Err.error
+    (c.in_ok-program.program, rw (sym c.as_str.ensures.value) c.in_ok-program.ensures.ok))
