@@ -1,7 +1,7 @@
 //! What the files of classic tests, which have the names of the field, and of programs that print back want.
 
-ghost use Rattle.std.specs.Prelude.{◌≡◌, ◌⊎◌, IsTrue};
-ghost use Rattle.case_text.specs.declared.classic.TheConstants.{DONE, VIOLATION};
+ghost use Rattle.std.specs.Prelude.{◌≡◌, ◌↔◌, IsTrue};
+ghost use Rattle.case_text.specs.Verdict.{status_of};
 
 use crate::folder::names_in;
 use crate::printed::Printed;
@@ -31,17 +31,23 @@ pub fn file_of(rt: &HostRuntime, path: &str, ending: &str) -> io::Result<Vec<u8>
     fs::read(rt, name.as_str())
 }
 
-/// Whether a verdict was printed, with its status.
-pub fn is_verdict(found: &Printed, verdict: &[u8]) -> bool
-    ensures text { IsTrue result → found.now.text.items ≡ verdict.now }
-    ensures status { IsTrue result → (found.now.status ≡ DONE) ⊎ (found.now.status ≡ VIOLATION) }
+/// The status that a verdict is printed with.
+fn status_of(verdict: &[u8]) -> u8
+    ensures { result ≡ status_of verdict.now }
 {
-    let status = if verdict.starts_with(b"ordered:") {
+    if verdict.starts_with(b"ordered:") {
         DONE
     } else {
         VIOLATION
-    };
-    found.status == status && found.text.as_slice() == verdict
+    }
+}
+
+/// Whether a verdict was printed, with its status.
+pub fn is_verdict(found: &Printed, verdict: &[u8]) -> bool
+    ensures { IsTrue result ↔ ((found.now.text.items ≡ verdict.now)
+        × (found.now.status ≡ status_of verdict.now)) }
+{
+    found.status == status_of(verdict) && found.text.as_slice() == verdict
 }
 
 /// Whether the order of a verdict is one of a test's recording, and its reverse is none.

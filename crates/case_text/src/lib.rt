@@ -9,6 +9,7 @@ pub mod folder;
 pub mod printed;
 mod rules;
 pub mod tally;
+pub mod wrong;
 
 pub use case::Case;
 pub use file::cases_of;

@@ -3,7 +3,6 @@
 
 ghost use Rattle.std.specs.Prelude.{◌≡◌, ◌≢◌, ◌≤◌, ◌⊎◌};
 ghost use Rattle.report.specs.Judged.{IsRefused, IsTooLong, IsWritten};
-ghost use Rattle.report.specs.declared.buffer.TheConstants.{OUT_OF_MEMORY, REFUSED, TOO_LONG, WRITTEN};
 
 use report::verdict_into;
 use std::alloc::Global;
@@ -19,12 +18,13 @@ pub extern "C" fn verdicts_judge(
     out: &mut [u8],
     len: &mut usize,
 ) -> u8
-    ensures status { result ≤ OUT_OF_MEMORY }
-    ensures written { result ≡ WRITTEN → IsWritten recording.now out.old out.new len.new }
-    ensures refused { result ≡ REFUSED → IsRefused recording.now }
-    ensures too_long { result ≡ TOO_LONG → IsTooLong recording.now out.old len.new }
-    ensures unwritten { result ≢ WRITTEN → out.new ≡ out.old }
-    ensures no_length { (result ≡ REFUSED) ⊎ (result ≡ OUT_OF_MEMORY) → len.new ≡ 0 }
+    // The numbers are those that a caller in C has: no constant stands for them.
+    ensures status { result ≤ 3 }
+    ensures written { result ≡ 0 → IsWritten recording.now out.old out.new len.new }
+    ensures refused { result ≡ 1 → IsRefused recording.now }
+    ensures too_long { result ≡ 2 → IsTooLong recording.now out.old len.new }
+    ensures unwritten { result ≢ 0 → out.new ≡ out.old }
+    ensures no_length { (result ≡ 1) ⊎ (result ≡ 3) → len.new ≡ 0 }
 {
     verdict_into(alloc, recording, out, len)
 }

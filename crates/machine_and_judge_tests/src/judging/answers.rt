@@ -1,7 +1,7 @@
 //! Answers to the bytes of recordings, from and to devices that fail.
 
 use crate::judging::recordings::{EventLists, MESSAGE_PASSING, THREE_AND_FOUR, recorded};
-use crate::judging::workers::Watch;
+use crate::judging::workers::{Watch, begins_so};
 use common::OpenGate;
 use recording_text::write_recording;
 use report::{Device, MemorySink, MemorySource, Outcome, ReportError, answer};
@@ -23,6 +23,9 @@ labels 1: 3 0 1 2
 labels 2: 2 3 0 1
 labels 3: 1 2 3 0
 ";
+
+/// The beginning of the answer to the shorter of two cycles.
+const SHORTER: &[u8] = b"cycle of 3\n4 -> 5 Rf\n5 -> 6 Po\n6 -> 4 Fr\n";
 
 /// A writer that takes so many bytes of each write.
 #[derive(Drop)]
@@ -197,24 +200,12 @@ fn a_device_may_take_a_byte_at_a_time_but_not_none(rt: HostRuntime) -> Result<()
     Ok(())
 }
 
-/// Whether the answer of two workers begins as wanted.
-fn begins_so<R: Threads + Wait + Sync>(rt: &R, alloc: Global, text: &[u8], watch: &Watch) -> bool {
-    let mut source = MemorySource::new(text);
-    let mut sink = MemorySink::new(alloc);
-    let answered = answer(rt, alloc, &mut source, &mut sink, 2, watch);
-    answered == Ok(Outcome::Violation)
-        && sink
-            .written()
-            .starts_with(b"cycle of 3\n4 -> 5 Rf\n5 -> 6 Po\n6 -> 4 Fr\n")
-}
-
 /// Whether the answer begins so while the worker that begins first is held, and each piece is done once.
 fn is_answered_past_a_held_worker<R: Threads + Wait + Sync>(rt: &R, alloc: Global) -> bool {
-    let Some(text) = text_of(alloc, THREE_AND_FOUR) else {
+    let (Some(text), Some(watch)) = (text_of(alloc, THREE_AND_FOUR), Watch::new(alloc, 7, 2)) else {
         return false;
     };
-    let watch = Watch::new();
-    begins_so(rt, alloc, text.as_slice(), &watch) && watch.is_right()
+    begins_so(rt, alloc, text.as_slice(), 2, SHORTER, &watch) && watch.is_right(2)
 }
 
 #[test]

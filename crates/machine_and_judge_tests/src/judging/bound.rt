@@ -172,14 +172,11 @@ fn a_seat_reads_what_an_ended_thread_found(rt: HostRuntime) -> Result<(), Fail> 
     Ok(())
 }
 
-/// A job for each event of two cycles, and a bound for them with its first seat.
-pub fn begun(alloc: Global) -> Option<(Vec<SourceJob>, Best, BestSeat)>
+/// A job for each event of a relation, and a bound for them with its first seat.
+pub fn begun(alloc: Global, relation: Relation) -> Option<(Vec<SourceJob>, Best, BestSeat)>
     ensures seat { IfSome result (λ r. IsBestSeatOf r.1 r.2) }
     ensures jobs { IfSome result (λ r. AreShared (known_of r.2).relation r.0.items) }
 {
-    let Some(relation) = related(alloc, THREE_AND_FOUR) else {
-        return None;
-    };
     let Ok((best, seat)) = Best::open(alloc, &relation) else {
         return None;
     };
@@ -222,7 +219,10 @@ fn are_cut(alloc: Global, jobs: &[SourceJob], best: &Best, seat: &mut BestSeat) 
 
 /// Whether rows are cut at what was found before.
 fn are_cut_at_what_was_found(alloc: Global) -> bool {
-    let Some((jobs, best, mut seat)) = begun(alloc) else {
+    let Some(relation) = related(alloc, THREE_AND_FOUR) else {
+        return false;
+    };
+    let Some((jobs, best, mut seat)) = begun(alloc, relation) else {
         return false;
     };
     are_cut(alloc, jobs.as_slice(), &best, &mut seat)

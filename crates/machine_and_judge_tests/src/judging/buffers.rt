@@ -1,6 +1,6 @@
-//! Verdicts that are written into buffers.
+//! Verdicts that are written into buffers. A status is the number that a caller in C has.
 
-use report::{REFUSED, TOO_LONG, WRITTEN, verdict_into};
+use report::verdict_into;
 use std::alloc::Global;
 use std::test::Fail;
 
@@ -21,16 +21,8 @@ fn leaves(alloc: Global, text: &[u8], out: &mut [u8], told: (u8, usize), left: &
 #[test]
 fn a_verdict_is_written_where_it_has_room(rt: HostRuntime) -> Result<(), Fail> {
     let mut out = [7u8; 27];
-    assert!(rt;
-        leaves(
-            rt.alloc(),
-            OVERLOOKED_STORE,
-            &mut out,
-            (WRITTEN, 25),
-            FILLED
-        )
-    );
-    assert!(rt; leaves(rt.alloc(), b"{}", &mut out, (REFUSED, 0), FILLED));
+    assert!(rt; leaves(rt.alloc(), OVERLOOKED_STORE, &mut out, (0, 25), FILLED));
+    assert!(rt; leaves(rt.alloc(), b"{}", &mut out, (1, 0), FILLED));
     Ok(())
 }
 
@@ -42,7 +34,7 @@ fn a_verdict_without_room_says_its_length(rt: HostRuntime) -> Result<(), Fail> {
             rt.alloc(),
             OVERLOOKED_STORE,
             &mut short,
-            (TOO_LONG, 25),
+            (2, 25),
             &[7u8; 24]
         )
     );
@@ -52,7 +44,7 @@ fn a_verdict_without_room_says_its_length(rt: HostRuntime) -> Result<(), Fail> {
             rt.alloc(),
             OVERLOOKED_STORE,
             &mut full,
-            (WRITTEN, 25),
+            (0, 25),
             &FILLED[..25]
         )
     );

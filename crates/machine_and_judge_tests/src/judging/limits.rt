@@ -1,5 +1,8 @@
 //! Recordings at their limits, and those that end too early, by the answers to their bytes.
 
+ghost use Rattle.std.specs.Prelude.{◌≤◌};
+ghost use Rattle.common.specs.declared.limits.TheConstants.{MAX_WORKERS};
+
 use common::{MAX_ADDRESSES, MAX_CORES, MAX_EVENTS, OpenGate};
 use report::{MemorySink, MemorySource, Outcome, answer};
 use std::alloc::Global;
@@ -179,33 +182,33 @@ fn a_recording_has_at_most_its_limits(rt: HostRuntime) -> Result<(), Fail> {
     Ok(())
 }
 
-/// The numbers of all events, from the last to the first.
-fn reversed(alloc: Global) -> Option<String> {
+/// The numbers of so many events, from the last to the first.
+fn reversed(alloc: Global, events: usize) -> Option<String> {
     let mut text = String::new(alloc);
-    for number in 0..MAX_EVENTS {
+    for number in 0..events {
         let comma = if number == 0 { "" } else { "," };
-        write!(text, "{comma}{}", MAX_EVENTS - 1 - number).ok()?;
+        write!(text, "{comma}{}", events - 1 - number).ok()?;
     }
     Some(text)
 }
 
-/// One core with `MAX_EVENTS` stores to one address, whose write list is their reverse.
-fn reversed_write_list(alloc: Global) -> Option<String> {
+/// One core with so many stores to one address, whose write list is their reverse.
+pub fn reversed_write_list(alloc: Global, events: usize) -> Option<String> {
     let mut text = String::from_str(alloc, r#"{"version":1,"cores":[["#).ok()?;
-    text.push_str(times(alloc, r#"{"k":"S","a":0,"w":1}"#, ",", MAX_EVENTS)?.as_str())
+    text.push_str(times(alloc, r#"{"k":"S","a":0,"w":1}"#, ",", events)?.as_str())
         .ok()?;
     text.push_str(r#"]],"writes":[["#).ok()?;
-    text.push_str(reversed(alloc)?.as_str()).ok()?;
+    text.push_str(reversed(alloc, events)?.as_str()).ok()?;
     text.push_str("]]}").ok()?;
     Some(text)
 }
 
 /// The verdict on it: the first two stores, and each label 1 but that of the row's own event.
-fn reversed_verdict(alloc: Global) -> Option<String> {
+fn reversed_verdict(alloc: Global, events: usize) -> Option<String> {
     let mut text = String::from_str(alloc, "cycle of 2\n0 -> 1 Po\n1 -> 0 Wo\n").ok()?;
-    for row in 0..MAX_EVENTS {
+    for row in 0..events {
         write!(text, "labels {row}:").ok()?;
-        for number in 0..MAX_EVENTS {
+        for number in 0..events {
             text.push_str(if number == row { " 0" } else { " 1" }).ok()?;
         }
         text.push('\n').ok()?;
@@ -213,22 +216,33 @@ fn reversed_verdict(alloc: Global) -> Option<String> {
     Some(text)
 }
 
-/// Whether the most stores in reverse have this verdict.
-fn is_cycle_of_two<R: Threads + Wait + Sync>(rt: &R, alloc: Global) -> bool {
-    let (Some(text), Some(verdict)) = (reversed_write_list(alloc), reversed_verdict(alloc)) else {
+/// Whether so many stores in reverse have this verdict by so many workers.
+fn is_cycle_of_two<R: Threads + Wait + Sync>(
+    rt: &R,
+    alloc: Global,
+    events: usize,
+    workers: usize,
+) -> bool
+    requires { (1 ≤ workers) × (workers ≤ MAX_WORKERS) }
+{
+    let (Some(text), Some(verdict)) = (
+        reversed_write_list(alloc, events),
+        reversed_verdict(alloc, events),
+    ) else {
         return false;
     };
-    is_answered(
-        rt,
-        alloc,
-        text.as_bytes(),
-        Outcome::Violation,
-        verdict.as_bytes(),
-    )
+    let mut source = MemorySource::new(text.as_bytes());
+    let mut sink = MemorySink::new(alloc);
+    let answered = answer(rt, alloc, &mut source, &mut sink, workers, &OpenGate);
+    answered == Ok(Outcome::Violation) && sink.written() == verdict.as_bytes()
 }
 
 #[test]
 fn stores_in_reverse_have_a_cycle_of_two(rt: HostRuntime) -> Result<(), Fail> {
-    assert!(rt; is_cycle_of_two(&rt, rt.alloc()));
+    assert!(rt; is_cycle_of_two(&rt, rt.alloc(), 256, 1));
+    assert!(rt; is_cycle_of_two(&rt, rt.alloc(), 256, 2));
+    assert!(rt; is_cycle_of_two(&rt, rt.alloc(), 256, 8));
+    assert!(rt; is_cycle_of_two(&rt, rt.alloc(), 256, 32));
+    assert!(rt; is_cycle_of_two(&rt, rt.alloc(), MAX_EVENTS, 1));
     Ok(())
 }

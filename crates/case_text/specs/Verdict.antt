@@ -1,0 +1,7 @@
+-- The status that a verdict is printed with.
+use Rattle.std.specs.Prelude.{ℕ, List, codes, if◌then◌else◌, nat_eq}
+use Rattle.std.specs.List.{starts_with}
+
+-- 0 for an order, 2 for what TSO does not allow
+abbrev pub status_of : List ℕ → ℕ
+status_of verdict = if starts_with nat_eq verdict (codes "ordered:") then 0 else 2
