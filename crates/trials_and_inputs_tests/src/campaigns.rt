@@ -9,7 +9,7 @@ use litmus::Shape;
 use machine::Fault;
 use std::alloc::Global;
 use std::sync::Wait;
-use std::sync::atomic::{AtomicBool, AtomicU64, Ordering};
+use std::sync::atomic::{AtomicU64, Ordering};
 use std::test::Fail;
 use std::thread;
 use std::thread::Threads;
@@ -67,7 +67,7 @@ fn a_ledger_counts_codes(rt: HostRuntime) -> Result<(), Fail> {
 }
 
 // The ledger of a campaign.
-fn ledger_by<R: Threads + Wait + Sync, G: Gate>(
+pub fn ledger_by<R: Threads + Wait + Sync, G: Gate>(
     rt: &R,
     alloc: Global,
     campaign: &Campaign,
@@ -80,92 +80,6 @@ fn ledger_by<R: Threads + Wait + Sync, G: Gate>(
         Ok(ledger) => Ok(ledger),
         Err(_) => Err("memory")?,
     }
-}
-
-// What was told of each trial, by worker w of two: 1 + w that it begins, 2 more that it is a violation, 4
-// more that it is done.
-#[derive(Drop)]
-struct Told {
-    trials: Vec<AtomicU64>,
-    others: AtomicBool,
-}
-
-// What worker w adds to begin.
-fn mark(worker: usize) -> u64 {
-    match worker {
-        0 => 1,
-        1 => 2,
-        _ => 100,
-    }
-}
-
-impl Told {
-    // A call adds to what was told of a trial before, which has to be one of these two.
-    fn add(&self, trial: usize, more: u64, either: u64, or: u64) {
-        let before = match self.trials.get(trial) {
-            Some(told) => told.fetch_add(more, Ordering::SeqCst),
-            None => 1000,
-        };
-        if before != either && before != or {
-            self.others.store(true, Ordering::SeqCst);
-        }
-    }
-
-    // How many trials were told of by numbers in these bounds.
-    fn count(&self, least: u64, most: u64) -> usize {
-        self.trials
-            .iter()
-            .filter(|told| (least..=most).contains(&told.load(Ordering::SeqCst)))
-            .count()
-    }
-}
-
-impl Gate for Told {
-    fn begin(&self, worker: usize, trial: usize) {
-        self.add(trial, mark(worker), 0, 0);
-    }
-
-    fn found(&self, worker: usize, trial: usize) {
-        self.add(trial, 2, mark(worker), mark(worker));
-    }
-
-    fn done(&self, worker: usize, trial: usize) {
-        self.add(trial, 4, mark(worker), mark(worker).wrapping_add(2));
-    }
-}
-
-fn told_of(alloc: Global, trials: usize) -> Result<Told, Fail> {
-    let mut told = Vec::new(alloc);
-    for _ in 0..trials {
-        told.push(AtomicU64::new(0))?;
-    }
-    Ok(Told {
-        trials: told,
-        others: AtomicBool::new(false),
-    })
-}
-
-// Whether 64 trials were told of, each as it begins and is done, by one worker, and 17 violations.
-fn is_told(gate: &Told) -> bool {
-    !gate.others.load(Ordering::SeqCst) && gate.count(5, 8) == 64 && gate.count(7, 8) == 17
-}
-
-// Whether two workers tell so of a campaign, and its ledger counts 17 overlooks.
-fn is_each_told<R: Threads + Wait + Sync>(
-    rt: &R,
-    alloc: Global,
-    faulty: &Campaign,
-) -> Result<bool, Fail> {
-    let gate = told_of(alloc, 64)?;
-    let ledger = ledger_by(rt, alloc, faulty, 2, &gate)?;
-    Ok(is_told(&gate) && ledger.overlook == 17)
-}
-
-#[test]
-fn each_trial_begins_once_and_is_done_once_by_one_worker(rt: HostRuntime) -> Result<(), Fail> {
-    let faulty = campaign((2, 4, 2), 64, 100_000, Fault::NoBypass)?;
-    assert!(rt; is_each_told(&rt, rt.alloc(), &faulty)?);
-    Ok(())
 }
 
 #[test]

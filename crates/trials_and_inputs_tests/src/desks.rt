@@ -1,7 +1,7 @@
 //! Two seats at a desk.
 
-ghost use Rattle.std.specs.Prelude.{◌≡◌, ◌<◌, IfOk};
-ghost use Rattle.trials.specs.Board.{first_view};
+ghost use Rattle.std.specs.Prelude.{◌≡◌, ◌<◌, IfOk, OnOk};
+ghost use Rattle.trials.specs.Board.{first_view, with_others};
 ghost use Rattle.trials.specs.Campaigns.{Plan};
 ghost use Rattle.trials.specs.Looking.{IsDeskSeatOf};
 
@@ -15,7 +15,7 @@ use std::thread::{Scope, Threads};
 use trials::{Campaign, Desk, DeskSeat, Filed, Look, trial};
 
 /// The campaign of three trials.
-fn three_trials() -> Result<Campaign, Fail>
+pub fn three_trials() -> Result<Campaign, Fail>
     ensures { IfOk result (λ short. short.trials ≡ 3) }
 {
     let short = campaign((2, 1, 1), 3, 1, Fault::None)?;
@@ -37,7 +37,7 @@ fn first_trial(alloc: Global, short: &Campaign) -> Result<Filed, Fail>
 }
 
 /// A desk, and a seat.
-fn desk_of(alloc: Global, short: &Campaign) -> Result<(Desk, DeskSeat), Fail>
+pub fn desk_of(alloc: Global, short: &Campaign) -> Result<(Desk, DeskSeat), Fail>
     ensures { IfOk result (λ r. IsDeskSeatOf r.0 r.1 × (r.1.seat.me.0 ≡ first_view short.now)) }
 {
     match Desk::open(alloc, short) {
@@ -47,12 +47,12 @@ fn desk_of(alloc: Global, short: &Campaign) -> Result<(Desk, DeskSeat), Fail>
 }
 
 /// A second seat beside one that has claimed and seen nothing, and neither has it.
-fn beside(first: &mut DeskSeat) -> Result<DeskSeat, Fail>
+pub fn beside(first: &mut DeskSeat) -> Result<DeskSeat, Fail>
     requires { (plan : Plan) × (first.old.seat.me.0 ≡ first_view plan) }
-    ensures old { (first.new.seat.table_id ≡ first.old.seat.table_id)
-        × (first.new.seat.me.0 ≡ first.old.seat.me.0) }
+    ensures same { first.new.seat.table_id ≡ first.old.seat.table_id }
+    ensures old { OnOk result (first.new.seat.me.0 ≡ with_others first.old.seat.me.0) }
     ensures new { IfOk result (λ second. (second.seat.table_id ≡ first.old.seat.table_id)
-        × (second.seat.me.0 ≡ first.old.seat.me.0)) }
+        × (second.seat.me.0 ≡ with_others first.old.seat.me.0)) }
 {
     match first.split() {
         Ok(second) => Ok(second),
@@ -75,7 +75,7 @@ fn claims(desk: &Desk, seat: &mut DeskSeat, k: usize) -> bool
 }
 
 /// What a seat sees of a trial.
-fn sees(desk: &Desk, seat: &mut DeskSeat, k: usize) -> Look
+pub fn sees(desk: &Desk, seat: &mut DeskSeat, k: usize) -> Look
     requires seat { IsDeskSeatOf desk.now seat.old }
     requires trial { k < seat.old.seat.me.0.campaign.trials }
     ensures seat { IsDeskSeatOf desk.now seat.new }
@@ -92,7 +92,7 @@ fn sees(desk: &Desk, seat: &mut DeskSeat, k: usize) -> Look
 /// Claims trial 0, which the second seat then does not, and files it; false where a claim is another.
 fn files(desk: &Desk, first: &mut DeskSeat, second: &mut DeskSeat, filed: &Filed) -> bool
     requires seats { IsDeskSeatOf desk.now first.old × IsDeskSeatOf desk.now second.old }
-    requires first { first.old.seat.me.0 ≡ first_view filed.now.campaign }
+    requires first { first.old.seat.me.0 ≡ with_others (first_view filed.now.campaign) }
     requires second { second.old.seat.me.0.campaign ≡ filed.now.campaign }
     requires trial { (filed.now.trial ≡ 0) × (filed.now.campaign.trials ≡ 3) }
     ensures seats { IsDeskSeatOf desk.now first.new × IsDeskSeatOf desk.now second.new }
@@ -176,13 +176,13 @@ fn what_a_seat_files_another_sees(rt: HostRuntime) -> Result<(), Fail> {
 /// Starts a thread that claims and files a trial.
 fn start<'s, E>(scope: &Scope<'s, E>, desk: &'s Desk, seat: DeskSeat, filed: Filed)
     requires seat { IsDeskSeatOf desk.now seat }
-    requires new { seat.seat.me.0 ≡ first_view filed.campaign }
+    requires new { seat.seat.me.0 ≡ with_others (first_view filed.campaign) }
     requires trial { filed.trial < filed.campaign.trials }
 {
     let mut seat = seat;
     let there = move ||
         requires seat { IsDeskSeatOf desk.now seat }
-        requires new { seat.seat.me.0 ≡ first_view filed.campaign }
+        requires new { seat.seat.me.0 ≡ with_others (first_view filed.campaign) }
         requires trial { filed.trial < filed.campaign.trials }
     {
         if desk.claim(&mut seat, filed.trial()) {
@@ -195,7 +195,7 @@ fn start<'s, E>(scope: &Scope<'s, E>, desk: &'s Desk, seat: DeskSeat, filed: Fil
 /// Claims and files a trial in a thread, which has ended when this returns.
 fn file_in_a_thread(rt: &(impl Threads + Wait + Sync), desk: &Desk, seat: DeskSeat, filed: Filed)
     requires seat { IsDeskSeatOf desk.now seat }
-    requires new { seat.seat.me.0 ≡ first_view filed.campaign }
+    requires new { seat.seat.me.0 ≡ with_others (first_view filed.campaign) }
     requires trial { filed.trial < filed.campaign.trials }
 {
     thread::scope(
@@ -203,7 +203,7 @@ fn file_in_a_thread(rt: &(impl Threads + Wait + Sync), desk: &Desk, seat: DeskSe
         rt,
         |scope|
             requires seat { IsDeskSeatOf desk.now seat }
-            requires new { seat.seat.me.0 ≡ first_view filed.campaign }
+            requires new { seat.seat.me.0 ≡ with_others (first_view filed.campaign) }
             requires trial { filed.trial < filed.campaign.trials }
         { start(scope, desk, seat, filed) },
     )

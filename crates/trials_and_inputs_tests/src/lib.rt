@@ -6,6 +6,10 @@ mod campaigns;
 #[cfg(test)]
 mod desks;
 #[cfg(test)]
+mod endings;
+#[cfg(test)]
+mod judged;
+#[cfg(test)]
 mod limits;
 #[cfg(test)]
 mod lines;
@@ -23,5 +27,7 @@ mod schedules;
 mod streams;
 #[cfg(test)]
 mod texts;
+#[cfg(test)]
+mod told;
 #[cfg(test)]
 mod words;

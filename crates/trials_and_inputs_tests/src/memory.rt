@@ -1,6 +1,6 @@
 //! Campaigns where a growth may be refused: the usual ledger, or none for want of memory and then the
 //! usual one. With ample memory each gives the usual ledger; `bench/refuse_growths` refuses each growth
-//! in turn.
+//! in turn, and two of them in one run.
 
 ghost use Rattle.std.specs.Prelude.{◌≤◌};
 ghost use Rattle.common.specs.declared.limits.TheConstants.{MAX_WORKERS};
@@ -13,7 +13,7 @@ use std::sync::Wait;
 use std::sync::atomic::{AtomicUsize, Ordering};
 use std::test::Fail;
 use std::thread::Threads;
-use trials::{Campaign, CampaignError, run_campaign};
+use trials::{Campaign, CampaignError, Ledger, run_campaign};
 
 /// Counts the trials that were filed.
 #[derive(Drop)]
@@ -29,29 +29,34 @@ impl Gate for Done {
     }
 }
 
-/// Whether the ledger is the usual one; none where there was no memory, and the error tells how many
-/// trials were filed.
-fn is_usual<R: Threads + Wait + Sync>(
+/// How many trials were filed where there was no memory for a campaign, as many as the gate saw; none where
+/// it gave the usual ledger.
+fn filed_without<R: Threads + Wait + Sync>(
     rt: &R,
     alloc: Global,
     campaign: &Campaign,
     workers: usize,
-) -> Option<bool>
+) -> Result<Option<usize>, Fail>
     requires { (1 ≤ workers) × (workers ≤ MAX_WORKERS) }
 {
     let gate = Done {
         count: AtomicUsize::new(0),
     };
     match run_campaign(rt, alloc, campaign, workers, &gate) {
-        Ok(ledger) => Some(ledger.trials == 3 && ledger.unfinished == 3 && ledger.first.is_none()),
+        Ok(ledger) if is_usual(&ledger) => Ok(None),
+        Ok(_) => Err("another ledger")?,
         Err(CampaignError::OutOfMemory { filed }) => {
-            if filed == gate.count.load(Ordering::SeqCst) {
-                None
-            } else {
-                Some(false)
+            if filed != gate.count.load(Ordering::SeqCst) {
+                return Err("another count")?;
             }
+            Ok(Some(filed))
         }
     }
+}
+
+/// Whether three trials are unfinished.
+fn is_usual(ledger: &Ledger) -> bool {
+    ledger.trials == 3 && ledger.unfinished == 3 && ledger.first.is_none()
 }
 
 /// Whether a campaign is run as usual, twice, where at most one growth is refused.
@@ -59,10 +64,9 @@ fn is_run<R: Threads + Wait + Sync>(rt: &R, alloc: Global, workers: usize) -> Re
     requires { (1 ≤ workers) × (workers ≤ MAX_WORKERS) }
 {
     let short = campaign((2, 1, 1), 3, 1, Fault::None)?;
-    let first = is_usual(rt, alloc, &short, workers);
-    let second = is_usual(rt, alloc, &short, workers);
-    let right = first != Some(false) && second != Some(false);
-    Ok(right && (first.is_some() || second.is_some()))
+    let first = filed_without(rt, alloc, &short, workers)?;
+    let second = filed_without(rt, alloc, &short, workers)?;
+    Ok(first.is_none() || second.is_none())
 }
 
 #[test]
@@ -70,4 +74,16 @@ fn a_ledger_or_no_memory(rt: HostRuntime) -> Result<(), Fail> {
     assert!(rt; is_run(&rt, rt.alloc(), 1)?);
     assert!(rt; is_run(&rt, rt.alloc(), 2)?);
     Ok(())
+}
+
+/// Fails where memory is wanting, and tells how many trials were filed by then.
+#[test]
+fn what_was_filed_is_told(rt: HostRuntime) -> Result<(), Fail> {
+    let short = campaign((2, 1, 1), 3, 1, Fault::None)?;
+    match filed_without(&rt, rt.alloc(), &short, 1)? {
+        None => Ok(()),
+        Some(0) => Err("none was filed")?,
+        Some(3) => Err("all were filed")?,
+        Some(_) => Err("some were filed")?,
+    }
 }

@@ -93,12 +93,21 @@ fn is_reproduced(alloc: Global, plan: &Campaign, k: usize) -> Result<bool, Fail>
     }
 }
 
+/// Whether each trial of a campaign of 64 trials is reproduced.
+fn is_each_reproduced(alloc: Global, attempts: usize, fault: Fault) -> Result<bool, Fail> {
+    let plan = campaign((2, 4, 2), 64, attempts, fault)?;
+    for k in 0..plan.trials() {
+        if !is_reproduced(alloc, &plan, k)? {
+            return Ok(false);
+        }
+    }
+    Ok(plan.trials() == 64)
+}
+
 #[test]
 fn a_trial_is_reproduced(rt: HostRuntime) -> Result<(), Fail> {
     let alloc = rt.alloc();
-    let plan = campaign((2, 4, 2), 64, 200, Fault::YoungestFirst)?;
-    'trials: for k in 0..plan.trials() {
-        assert!(rt; is_reproduced(alloc, &plan, k)?);
-    }
+    assert!(rt; is_each_reproduced(alloc, 200, Fault::YoungestFirst)?);
+    assert!(rt; is_each_reproduced(alloc, 100_000, Fault::OpenFence)?);
     Ok(())
 }
