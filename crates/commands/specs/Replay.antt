@@ -8,7 +8,7 @@ use Rattle.recording_text.specs.Reading.{IsReadingResult}
 use Rattle.recorder.specs.Tso.{IsTsoOrder}
 use Rattle.machine.specs.Script.{steps_of}
 use Rattle.machine.specs.ScriptText.{script_text}
-use Rattle.replay.specs.Numbered.{IsNumberedByFirstUse}
+use Rattle.recorder.specs.FirstUse.{IsNumberedByFirstUse}
 use Rattle.replay.specs.Program.{named_program}
 use Rattle.replay.specs.Replayed.{IsReplay}
 use Rattle.replay.specs.Steps.{replay_steps}

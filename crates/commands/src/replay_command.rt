@@ -9,7 +9,7 @@ ghost use Rattle.machine.specs.ScriptText.{script_text};
 ghost use Rattle.recording_text.specs.Reading.{IsReadingResult};
 ghost use Rattle.judge.specs.Verdict.{IsVerdict, Verifies};
 ghost use Rattle.recorder.specs.Tso.{IsTsoOrder};
-ghost use Rattle.replay.specs.Numbered.{IsNumberedByFirstUse};
+ghost use Rattle.recorder.specs.FirstUse.{IsNumberedByFirstUse};
 ghost use Rattle.commands.specs.Replay.{IsReadBack, IsReplayed, IsReplayedInput, IsReplayOf, IsReplayStop};
 ghost use Rattle.commands.specs.Replay.{IsUnreplayed, parts_text, replay_text};
 

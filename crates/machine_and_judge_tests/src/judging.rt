@@ -10,5 +10,6 @@ mod limits;
 mod memory;
 mod orders;
 mod recordings;
+mod reductions;
 mod verification;
 mod workers;

@@ -8,6 +8,7 @@ pub mod PlaceLaws
 pub mod EnumerationLaws
 pub mod Tso
 pub mod Recording
+pub mod FirstUse
 pub mod Refusals
 pub mod RefusalLaws
 pub mod Listed

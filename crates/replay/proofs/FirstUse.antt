@@ -12,7 +12,7 @@ use Rattle.recorder.specs.declared.event.Event.TheVariants.{L, S, R, C, F}
 use Rattle.recorder.specs.Event.{read_address, written_address}
 use Rattle.recorder.specs.Execution.{Execution, placed_from, event_count, event_at}
 use Rattle.replay.specs.Program.{op_of, program_of}
-use Rattle.replay.specs.Numbered.{Uses, IsNumberedByFirstUse}
+use Rattle.recorder.specs.FirstUse.{Uses, IsNumberedByFirstUse}
 use Rattle.replay.proofs.Made.{placed_is, count_same}
 use Rattle.litmus.specs.PartLaws.{use_old, use_new}
 use Rattle.recorder.specs.EventLaws.{Reads-event, Writes-event}

@@ -14,7 +14,7 @@ use Rattle.recorder.specs.Execution.{Execution}
 use Rattle.recorder.specs.Recording.{IsRecording}
 use Rattle.replay.specs.Program.{op_of, program_of}
 use Rattle.replay.specs.Stores.{most_stores}
-use Rattle.replay.specs.Numbered.{IsNumberedByFirstUse}
+use Rattle.recorder.specs.FirstUse.{IsNumberedByFirstUse}
 use Rattle.litmus.specs.AddressNames.{address_names}
 use Rattle.replay.specs.Program.{named_program}
 use Rattle.recorder.specs.PlacedLaws.{placed_total}

@@ -1,4 +1,3 @@
-pub mod Numbered
 pub mod Program
 pub mod Stores
 pub mod Steps

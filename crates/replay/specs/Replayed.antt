@@ -10,7 +10,7 @@ use Rattle.machine.specs.State.{State, recorded, IsComplete}
 use Rattle.machine.specs.Step.{run}
 use Rattle.machine.specs.Taken.{all_taken, begun}
 use Rattle.machine.specs.Script.{IsStepOf}
-use Rattle.replay.specs.Numbered.{IsNumberedByFirstUse}
+use Rattle.recorder.specs.FirstUse.{IsNumberedByFirstUse}
 use Rattle.replay.specs.Stores.{most_stores}
 use Rattle.replay.specs.Steps.{replay_steps}
 use Rattle.replay.specs.Program.{named_program, HasSmallValues}

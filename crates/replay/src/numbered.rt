@@ -2,7 +2,7 @@
 
 ghost use Rattle.std.specs.Prelude.{◌≡◌, ◌↔◌, IsTrue, map};
 ghost use Rattle.litmus.specs.Parts.{addr_of, use_addr, use_ops};
-ghost use Rattle.replay.specs.Numbered.{IsNumberedByFirstUse};
+ghost use Rattle.recorder.specs.FirstUse.{IsNumberedByFirstUse};
 ghost use Rattle.replay.specs.Program.{op_of};
 
 use recorder::{Event, Recording};

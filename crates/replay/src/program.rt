@@ -3,7 +3,7 @@
 ghost use Rattle.std.specs.Prelude.{◌≡◌, IfOk};
 ghost use Rattle.std.specs.List.{AllByRecursion};
 ghost use Rattle.litmus.specs.Parts.{IsSmall};
-ghost use Rattle.replay.specs.Numbered.{IsNumberedByFirstUse};
+ghost use Rattle.recorder.specs.FirstUse.{IsNumberedByFirstUse};
 ghost use Rattle.replay.specs.Program.{named_program};
 
 use crate::operations::cores_of;

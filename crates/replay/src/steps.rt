@@ -4,7 +4,7 @@ ghost use Rattle.std.specs.Prelude.{◌≡◌, ◌<◌, ◌≤◌, ℕ, IfOk, le
 ghost use Rattle.recorder.specs.Execution.{event_count};
 ghost use Rattle.recorder.specs.Order.{times};
 ghost use Rattle.recorder.specs.Tso.{IsTsoOrder};
-ghost use Rattle.replay.specs.Numbered.{IsNumberedByFirstUse};
+ghost use Rattle.recorder.specs.FirstUse.{IsNumberedByFirstUse};
 ghost use Rattle.replay.specs.Program.{program_of, named_program};
 ghost use Rattle.replay.specs.Stores.{most_stores};
 ghost use Rattle.replay.specs.Steps.{order_steps, replay_steps};
