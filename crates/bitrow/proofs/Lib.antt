@@ -1,4 +1,3 @@
 pub mod Bits
 pub mod Members
 pub mod Rests
-pub mod SideBySide

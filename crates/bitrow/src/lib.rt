@@ -1,7 +1,6 @@
 //! Sets of numbers below a length, as rows of bits.
 #![tactic(auto)]
 
-mod lanes;
 mod numbers;
 mod row;
 mod word_bits;

@@ -1,12 +1,10 @@
 //! Rows of bits.
 
-use crate::lanes::{move_words, or_lanes, put_lanes};
 use crate::numbers::Numbers;
-use crate::word_bits::{clear_bit, next_bit, set_bit, test_bit};
+use crate::word_bits::{and_not_words, clear_bit, next_bit, or_words, set_bit, test_bit};
 use common::OutOfMemory;
 use std::alloc::Global;
 use std::marker::Model;
-use std::simd::prelude::*;
 
 /// A set of numbers below its length.
 #[derive(Drop)]
@@ -28,8 +26,7 @@ impl Model for BitRow {
 
 impl BitRow {
     ghost use Rattle.std.specs.Prelude.{◌≡◌, ◌<◌, ◌==◌, ◌||◌, ◌&&◌, ◌↔◌, ℕ, not, false, length, IfOk, IsTrue};
-    ghost use Rattle.std.specs.Prelude.{◌⊎◌, ◌≤◌, ◌+◌, ◌*◌};
-    ghost use Rattle.bitrow.specs.Bits.{bit_of, is_in, IsNext};
+    ghost use Rattle.bitrow.specs.Bits.{is_in, IsNext};
     ghost use Rattle.bitrow.specs.Walks.{walk_of};
 
     /// The empty set of numbers below a length. An `Err` is want of memory.
@@ -67,28 +64,22 @@ impl BitRow {
         clear_bit(self.words.as_mut_slice(), number);
     }
 
-    /// Puts the numbers of as many words, of 64 numbers each, from one on into the lanes.
-    pub fn join<const N: usize>(&self, at: usize, lanes: Simd<u64, N>) -> Simd<u64, N>
-        requires lanes { length lanes ≡ N }
-        requires within { 64 * (at + N) < length self.now + 64 }
-        ensures size { length result ≡ N }
-        ensures bits { (f : ℕ) → f < 64 * N → 64 * at + f < length self.now
-            → bit_of result f ≡ (bit_of lanes.entry f || is_in self.now (64 * at + f)) }
+    /// Puts the numbers of this set into another of its length.
+    pub fn or_into(&self, into: &mut BitRow)
+        requires { length self.now ≡ length into.old }
+        ensures len { length into.new ≡ length into.old }
+        ensures numbers { (j : ℕ) → is_in into.new j ≡ (is_in into.old j || is_in self.now j) }
     {
-        or_lanes(lanes, self.words.as_slice(), at)
+        or_words(into.words.as_mut_slice(), self.words.as_slice());
     }
 
-    /// Puts the lanes in the place of as many words from one on.
-    pub fn put<const N: usize>(&mut self, at: usize, lanes: Simd<u64, N>)
-        requires lanes { length lanes ≡ N }
-        requires within { 64 * (at + N) < length self.old + 64 }
+    /// Takes the numbers of another set of its length out of this one.
+    pub fn and_not(&mut self, other: &BitRow)
+        requires { length other.now ≡ length self.old }
         ensures len { length self.new ≡ length self.old }
-        ensures here { (f : ℕ) → f < 64 * N → 64 * at + f < length self.old
-            → is_in self.new (64 * at + f) ≡ bit_of lanes.entry f }
-        ensures others { (j : ℕ) → (j < 64 * at) ⊎ (64 * (at + N) ≤ j)
-            → is_in self.new j ≡ is_in self.old j }
+        ensures numbers { (j : ℕ) → is_in self.new j ≡ (is_in self.old j && not (is_in other.now j)) }
     {
-        put_lanes(self.words.as_mut_slice(), at, lanes);
+        and_not_words(self.words.as_mut_slice(), other.words.as_slice());
     }
 
     /// Takes all numbers out of the set.
@@ -97,24 +88,6 @@ impl BitRow {
         ensures empty { (j : ℕ) → is_in self.new j ≡ false }
     {
         self.words.as_mut_slice().fill(0);
-    }
-
-    /// Moves the numbers of the set to another of its length, and takes what is then in it out of a third.
-    pub fn move_into(&mut self, into: &mut BitRow, next: &mut BitRow)
-        requires into { length into.old ≡ length self.old }
-        requires next { length next.old ≡ length self.old }
-        ensures len { length self.new ≡ length self.old }
-        ensures moved { (j : ℕ) → is_in self.new j ≡ false }
-        ensures into_len { length into.new ≡ length into.old }
-        ensures into { (j : ℕ) → is_in into.new j ≡ (is_in into.old j || is_in self.old j) }
-        ensures next_len { length next.new ≡ length next.old }
-        ensures next { (j : ℕ) → is_in next.new j ≡ (is_in next.old j && not (is_in into.new j)) }
-    {
-        move_words(
-            self.words.as_mut_slice(),
-            into.words.as_mut_slice(),
-            next.words.as_mut_slice(),
-        );
     }
 
     /// The numbers of the set in turn.

@@ -63,7 +63,9 @@ fn row_with(
         }
         take_level(rows, &level, label, &mut next, labels.as_mut_slice());
         closing = closing_with(next.test(source as usize), label, cap, closing);
-        level.move_into(&mut seen, &mut next);
+        level.or_into(&mut seen);
+        next.and_not(&seen);
+        level.clear();
         let taken = level;
         level = next;
         next = taken;

@@ -109,19 +109,19 @@ loop-label-preserved c =
     let back = written_back c.loop-label.labels.len c.take_level.new.labels c.loop-label.labels.items
     (omega arith) in
     record {
-      seen_size = omega (arith, c.move_into.ensures.into_len, c.loop-label.invariant.seen_size);
-      level_size = omega (arith, c.move_into.ensures.next_len, c.take_level.ensures.size);
-      next_size = omega (arith, c.move_into.ensures.len, c.loop-label.invariant.level_size);
+      seen_size = omega (arith, c.or_into.ensures.len, c.loop-label.invariant.seen_size);
+      level_size = omega (arith, c.and_not.ensures.len, c.take_level.ensures.size);
+      next_size = omega (arith, c.clear.ensures.len, c.loop-label.invariant.level_size);
       reached = subst (λ (row : List ℕ). IsReached R n c.args.cap c.args.source
-          (c.loop-label.label + 1) row c.move_into.new.into c.move_into.new.next c.move_into.new.self)
+          (c.loop-label.label + 1) row c.or_into.new.into c.and_not.new.self c.clear.new.self)
           (sym back)
           (reached_more R n c.args.cap c.args.source c.loop-label.label
           (marked_within c.args.rows.now c.requires.square) c.as_mut_slice-in-loop-label.result.now
           c.take_level.new.labels c.loop-label.seen c.loop-label.level c.loop-label.next
           c.loop-label-test.true c.requires.source (omega arith) reached c.take_level.ensures.labels
-          c.take_level.new.next c.move_into.new.into c.move_into.new.next c.move_into.new.self
-          c.take_level.ensures.next c.move_into.ensures.into c.move_into.ensures.next
-          c.move_into.ensures.moved);
+          c.take_level.new.next c.or_into.new.into c.and_not.new.self c.clear.new.self
+          c.take_level.ensures.next c.or_into.ensures.numbers c.and_not.ensures.numbers
+          c.clear.ensures.empty);
       closed = subst (λ (row : List ℕ). IsClosed R c.args.cap c.args.source
           (c.loop-label.label + 1) row c.closing_with-closing-in-loop-label.result)
           (sym back)
