@@ -1,2 +1,4 @@
 pub mod Bits
+pub mod Combined
+pub mod Rows
 pub mod Walks

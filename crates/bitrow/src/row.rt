@@ -1,10 +1,13 @@
 //! Rows of bits.
 
+use crate::combine::{and_not_words, or_words};
+use crate::lanes::{or_lanes, put_lanes};
 use crate::numbers::Numbers;
-use crate::word_bits::{and_not_words, clear_bit, next_bit, or_words, set_bit, test_bit};
+use crate::word_bits::{clear_bit, next_bit, set_bit, test_bit};
 use common::OutOfMemory;
 use std::alloc::Global;
 use std::marker::Model;
+use std::simd::prelude::*;
 
 /// A set of numbers below its length.
 #[derive(Drop)]
@@ -26,7 +29,8 @@ impl Model for BitRow {
 
 impl BitRow {
     ghost use Rattle.std.specs.Prelude.{◌≡◌, ◌<◌, ◌==◌, ◌||◌, ◌&&◌, ◌↔◌, ℕ, not, false, length, IfOk, IsTrue};
-    ghost use Rattle.bitrow.specs.Bits.{is_in, IsNext};
+    ghost use Rattle.std.specs.Prelude.{◌⊎◌, ◌≤◌, ◌+◌, ◌*◌};
+    ghost use Rattle.bitrow.specs.Bits.{bit_of, is_in, IsNext};
     ghost use Rattle.bitrow.specs.Walks.{walk_of};
 
     /// The empty set of numbers below a length. An `Err` is want of memory.
@@ -80,6 +84,30 @@ impl BitRow {
         ensures numbers { (j : ℕ) → is_in self.new j ≡ (is_in self.old j && not (is_in other.now j)) }
     {
         and_not_words(self.words.as_mut_slice(), other.words.as_slice());
+    }
+
+    /// Puts the numbers of as many words, of 64 numbers each, from one on into the lanes.
+    pub(crate) fn join<const N: usize>(&self, at: usize, lanes: Simd<u64, N>) -> Simd<u64, N>
+        requires lanes { length lanes ≡ N }
+        requires within { 64 * (at + N) < length self.now + 64 }
+        ensures size { length result ≡ N }
+        ensures bits { (f : ℕ) → f < 64 * N → 64 * at + f < length self.now
+            → bit_of result f ≡ (bit_of lanes.entry f || is_in self.now (64 * at + f)) }
+    {
+        or_lanes(lanes, self.words.as_slice(), at)
+    }
+
+    /// Puts the lanes in the place of as many words from one on.
+    pub(crate) fn put<const N: usize>(&mut self, at: usize, lanes: Simd<u64, N>)
+        requires lanes { length lanes ≡ N }
+        requires within { 64 * (at + N) < length self.old + 64 }
+        ensures len { length self.new ≡ length self.old }
+        ensures here { (f : ℕ) → f < 64 * N → 64 * at + f < length self.old
+            → is_in self.new (64 * at + f) ≡ bit_of lanes.entry f }
+        ensures others { (j : ℕ) → (j < 64 * at) ⊎ (64 * (at + N) ≤ j)
+            → is_in self.new j ≡ is_in self.old j }
+    {
+        put_lanes(self.words.as_mut_slice(), at, lanes);
     }
 
     /// Takes all numbers out of the set.

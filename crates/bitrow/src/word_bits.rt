@@ -45,26 +45,6 @@ pub(crate) fn clear_bit(words: &mut [u64], i: usize)
     words[i / 64] &= !(1 << (i % 64));
 }
 
-/// Makes each bit 1 that is 1 in the other words.
-pub(crate) fn or_words(words: &mut [u64], other: &[u64])
-    requires { length other.now ≡ length words.old }
-    ensures { (j : ℕ) → bit_of words.new j ≡ (bit_of words.old j || bit_of other.now j) }
-{
-    for k in 0..words.len() {
-        words[k] |= other[k];
-    }
-}
-
-/// Makes each bit 0 that is 1 in the other words.
-pub(crate) fn and_not_words(words: &mut [u64], other: &[u64])
-    requires { length other.now ≡ length words.old }
-    ensures { (j : ℕ) → bit_of words.new j ≡ (bit_of words.old j && not (bit_of other.now j)) }
-{
-    for k in 0..words.len() {
-        words[k] &= !other[k];
-    }
-}
-
 /// The first bit that is 1 in the words from one on.
 pub(crate) fn next_word(words: &[u64], from: usize) -> Option<usize>
     requires { length words.now ≤ 2 ^ 58 }

@@ -5,7 +5,7 @@ use Rattle.std.specs.Prelude.{◌==◌}
 use Rattle.std.proofs.lemmas.Bool.{cases_eq, cases_lt, eq-eqb, ne_eqb}
 use Rattle.std.proofs.lemmas.List.{get_or_past}
 use Rattle.bitrow.specs.Bits.{is_in}
-use Rattle.search.specs.Bits.{Marked, IsBitSquare}
+use Rattle.bitrow.specs.Rows.{Marked, IsBitSquare}
 use Rattle.search.proofs.Levels.{not_both, or_true}
 
 -- one number more in the row

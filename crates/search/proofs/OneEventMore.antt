@@ -3,30 +3,8 @@ use Rattle.std.proofs.Common.{◌≡◌, ◌↔◌, ◌<◌, ◌+◌, inl, inr, 
 use Rattle.std.proofs.Common.{subst, ◌∙◌}
 use Rattle.std.proofs.lemmas.Bool.{cases_eq, cases_lt}
 use Rattle.bitrow.specs.Bits.{is_in, IsNext}
-use Rattle.search.specs.Bits.{Marked}
-use Rattle.search.specs.Levels.{JoinsNext}
+use Rattle.bitrow.specs.Rows.{Marked}
 use Rattle.search.proofs.Levels.{not_both, or_true, true_or}
-
--- its row joins the next level
-pub joins_more : (rows : List (List Bool)) (level : List Bool) (i event : ℕ) (waiting next more : List Bool)
-    → IsNext level i (Some event)
-    → ((f : ℕ) → is_in more f ≡ (is_in next f || is_in (get_or rows event []) f))
-    → JoinsNext (Marked rows) level i waiting next
-    → JoinsNext (Marked rows) level (event + 1) waiting more
-joins_more rows level i event waiting next more first bits h = record {
-  joined = λ e f at is r. bits f ∙ or_true (is_in next f) (is_in (get_or rows event []) f)
-      (elim (cases_eq e event) [
-        | inl same ↦ inr (subst (λ (k : ℕ). is_in (get_or rows k []) f ≡ true) same r)
-        | inr other ↦ elim (cases_lt e i) [
-          | inl early ↦ inl (h.joined e f early is r)
-          | inr late ↦ absurd (not_both (is_in level e) is (first.3 e late (omega (arith, at, other))))
-        ]
-      ]);
-  only = λ f is. elim (true_or (is_in next f) (is_in (get_or rows event []) f) (sym (bits f) ∙ is)) [
-    | inl old ↦ h.only f old
-    | inr new ↦ inr (event, first.2, new)
-  ];
-}
 
 -- whether an event so far has v, one event more
 pub test_more : (rows : List (List Bool)) (level : List Bool) (i event v : ℕ) (before here : Bool)
