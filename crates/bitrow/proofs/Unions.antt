@@ -1,39 +1,20 @@
 -- The union of the rows that a set names, word by word and part by part.
 use Rattle.std.proofs.Common.{◌≡◌, ◌<◌, ◌≤◌, ◌+◌, ◌/◌, ◌⊎◌, inl, inr, ℕ, Bool, true, false, ◌||◌, List, []}
-use Rattle.std.proofs.Common.{Some, None, length, get_or, replicate, arith, refl, sym, ap, subst, ◌-◌, ◌∙◌}
-use Rattle.std.proofs.lemmas.Bool.{cases_eq, cases_lt}
+use Rattle.std.proofs.Common.{Some, None, length, get_or, replicate, arith, sym, ap, subst, ◌-◌, ◌∙◌}
+use Rattle.std.proofs.lemmas.Bool.{cases_eq, cases_lt, or_cases, or_left, or_right, true≢false}
 use Rattle.std.proofs.lemmas.List.{get_or_past, get_or-replicate, length-replicate}
 use Rattle.bitrow.specs.Bits.{bit_of, is_in, IsNext}
 use Rattle.bitrow.specs.Rows.{Marked, IsBitSquare, AreUnionWords, IsUnionPart, IsUnion}
+use Rattle.bitrow.specs.RowLaws.{marked_within}
 use Rattle.bitrow.proofs.Bits.{none_in}
 
 -- a test is not both true and false
-not_both : (b : Bool) → b ≡ true → b ≡ false → ⊥
-not_both b is other = let wrong : true ≡ false = sym is ∙ other in cc
+differ : (b : Bool) → b ≡ true → b ≡ false → ⊥
+differ b is other = true≢false (sym is ∙ other)
 
 -- either of two
-or_true : (a b : Bool) → (a ≡ true) ⊎ (b ≡ true) → (a || b) ≡ true
-or_true true b h = refl
-or_true false b h = elim h [ inl wrong ↦ absurd (not_both false wrong refl) | inr is ↦ is ]
-
--- and back
-true_or : (a b : Bool) → (a || b) ≡ true → (a ≡ true) ⊎ (b ≡ true)
-true_or true b h = inl refl
-true_or false b h = inr h
-
--- what is marked is within the square
-marked_within : (rows : List (List Bool)) → IsBitSquare rows → (e f : ℕ) → Marked rows e f
-    → (e < length rows) × (f < length rows)
-marked_within rows square e f is = elim (cases_lt e (length rows)) [
-  | inr past ↦ absurd (not_both (is_in (get_or rows e []) f) is
-      (ap (λ (row : List Bool). is_in row f) (get_or_past rows e [] past) ∙ get_or_past {X = Bool} [] f false
-      (omega arith)))
-  | inl below ↦ elim (cases_lt f (length rows)) [
-    | inl also ↦ (below, also)
-    | inr beyond ↦ absurd (not_both (is_in (get_or rows e []) f) is
-        (get_or_past (get_or rows e []) f false (omega (arith, beyond, square.each e below))))
-  ]
-]
+either_true : (a b : Bool) → (a ≡ true) ⊎ (b ≡ true) → (a || b) ≡ true
+either_true a b h = elim h [ inl is ↦ or_left a b is | inr is ↦ or_right a b is ]
 
 -- words of 0 have no bit
 zeros : (m j : ℕ) → bit_of (replicate m 0) j ≡ false
@@ -47,7 +28,7 @@ pub joins_none : (R : ℕ → ℕ → Type 0) (set : List Bool) (n from size m :
     → AreUnionWords R set 0 n from size (replicate m 0)
 joins_none R set n from size m = record {
   joined = λ e f at is small r. absurd (omega (arith, at));
-  only = λ f small inside is. absurd (not_both (bit_of (replicate m 0) f) is (zeros m f));
+  only = λ f small inside is. absurd (differ (bit_of (replicate m 0) f) is (zeros m f));
 }
 
 -- one number more
@@ -60,16 +41,16 @@ pub joins_more : (rows : List (List Bool)) (set : List Bool) (i number from size
 joins_more rows set i number from size words more square next bits h = record {
   joined = λ e f at is small r.
       let inside : from + f < length rows = (marked_within rows square e (from + f) r).1 in
-      bits f small inside ∙ or_true (bit_of words f) (is_in (get_or rows number []) (from + f))
+      bits f small inside ∙ either_true (bit_of words f) (is_in (get_or rows number []) (from + f))
       (elim (cases_eq e number) [
         | inl same ↦ inr (subst (λ (k : ℕ). is_in (get_or rows k []) (from + f) ≡ true) same r)
         | inr other ↦ elim (cases_lt e i) [
           | inl early ↦ inl (h.joined e f early is small r)
-          | inr late ↦ absurd (not_both (is_in set e) is
+          | inr late ↦ absurd (differ (is_in set e) is
               (next.3 e late (omega (arith, at, other))))
         ]
       ]);
-  only = λ f small inside is. elim (true_or (bit_of words f) (is_in (get_or rows number []) (from + f))
+  only = λ f small inside is. elim (or_cases (bit_of words f) (is_in (get_or rows number []) (from + f))
       (sym (bits f small inside) ∙ is)) [
         | inl old ↦ h.only f small inside old
         | inr new ↦ (number, next.2, new)
@@ -82,7 +63,7 @@ pub joins_all : (R : ℕ → ℕ → Type 0) (set : List Bool) (i n from size : 
 joins_all R set i n from size words none h = record {
   joined = λ e f at is small r. elim (cases_lt e i) [
     | inl early ↦ h.joined e f early is small r
-    | inr late ↦ absurd (not_both (is_in set e) is (none e late))
+    | inr late ↦ absurd (differ (is_in set e) is (none e late))
   ];
   only = h.only;
 }
@@ -101,7 +82,7 @@ part_put rows set from size words row square h here long = record {
       ∙ h.joined e (f - from) within.0 is (omega (arith, above, below))
       (subst (λ (k : ℕ). Marked rows e k) (sym place) r));
   only = λ f above below is. elim (cases_lt f (length rows)) [
-    | inr past ↦ absurd (not_both (is_in row f) is (get_or_past row f false (omega (arith, past, long))))
+    | inr past ↦ absurd (differ (is_in row f) is (get_or_past row f false (omega (arith, past, long))))
     | inl inside ↦
         let place : from + (f - from) ≡ f = omega (arith, above) in
         let some = h.only (f - from) (omega (arith, above, below)) (omega (arith, inside, place))
@@ -141,7 +122,7 @@ parts_all rows set to row square all long h = record {
   joined = λ e f is r. h.joined e f is r (omega arith)
       (omega (arith, all, (marked_within rows square e f r).1));
   only = λ f is. elim (cases_lt f (length rows)) [
-    | inr past ↦ absurd (not_both (is_in row f) is (get_or_past row f false (omega (arith, past, long))))
+    | inr past ↦ absurd (differ (is_in row f) is (get_or_past row f false (omega (arith, past, long))))
     | inl inside ↦ h.only f (omega arith) (omega (arith, inside, all)) is
   ];
 }

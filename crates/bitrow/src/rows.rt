@@ -66,7 +66,7 @@ fn union_part<const N: usize>(
     into.put(at, words);
 }
 
-/// The same in 1, 2, 4 or 8 words, as many as are left; the word behind them.
+/// The same in 1, 2, 4 or 8 words, as many as are left; the place after them.
 fn union_some(
     rows: &[BitRow],
     set: &BitRow,

@@ -1,6 +1,6 @@
 -- What the events of a level are related to, one event more.
-use Rattle.std.proofs.Common.{◌≡◌, ◌↔◌, ◌<◌, ◌+◌, inl, inr, ℕ, Bool, true, ◌||◌, List, [], Some, get_or, arith, sym}
-use Rattle.std.proofs.Common.{subst, ◌∙◌}
+use Rattle.std.proofs.Common.{◌≡◌, ◌↔◌, ◌<◌, ◌+◌, inl, inr, ℕ, Bool, true, ◌||◌, List, [], Some, get_or}
+use Rattle.std.proofs.Common.{arith, sym, subst, ◌∙◌}
 use Rattle.std.proofs.lemmas.Bool.{cases_eq, cases_lt}
 use Rattle.bitrow.specs.Bits.{is_in, IsNext}
 use Rattle.bitrow.specs.Rows.{Marked}

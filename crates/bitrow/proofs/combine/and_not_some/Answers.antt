@@ -16,7 +16,7 @@ returns g c =
     let out = map (bit_not w64) (chunk at n other) in
     let long : length (chunk at n words) ≡ n = length-chunk at n words c.requires.words in
     let same : length (chunk at n other) ≡ n = length-chunk at n other c.requires.other in
-    let also : length (map (bit_not w64) (chunk at n other)) ≡ n = length-map (chunk at n other) (bit_not w64) ∙ same in
+    let also : length out ≡ n = length-map (chunk at n other) (bit_not w64) ∙ same in
     lanes_combined true words other (zip2 (λ a b. bit_and a b) (chunk at n words) out) at n
     (length-zip2 (λ a b. bit_and a b) (chunk at n words) out (long ∙ sym also) ∙ long) c.requires.words
     (λ i small. lane_of (λ a b. bit_and a b) words out at n i _ c.requires.words also small

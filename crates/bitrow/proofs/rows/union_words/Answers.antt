@@ -25,37 +25,37 @@ loop-number-init g c =
 pub join-words-requires : goal.join-words-requires
 join-words-requires g c =
     let rows = c.args.rows.now in
-    let event : ℕ = c.in-Some.number in
-    let next : IsNext c.args.set.now c.loop-number.numbers.from (Some event) =
-    subst (λ (r : List Bool). IsNext r c.loop-number.numbers.from (Some event)) c.loop-number.invariant.row
+    let number : ℕ = c.in-Some.number in
+    let next : IsNext c.args.set.now c.loop-number.numbers.from (Some number) =
+    subst (λ (r : List Bool). IsNext r c.loop-number.numbers.from (Some number)) c.loop-number.invariant.row
     c.in-Some.ensures.found in
-    let at : event < length rows = omega (arith, next.1, c.requires.set) in
+    let at : number < length rows = omega (arith, next.1, c.requires.set) in
     let row : List Bool = c.index-rows-number.result in
     let long : length row ≡ length rows = ap (λ (r : List Bool). length r)
-    (c.index-rows-number.is ∙ get_or_default rows event row [] at) ∙ c.requires.square.each event at in
+    (c.index-rows-number.is ∙ get_or_default rows number row [] at) ∙ c.requires.square.each number at in
     (omega arith, (c.loop-number.invariant.size, omega (arith, c.requires.within, long)))
 
 pub loop-number-preserved : goal.loop-number-preserved
 loop-number-preserved g c =
     let rows = c.args.rows.now in
-    let level = c.args.set.now in
-    let event : ℕ = c.in-Some.number in
-    let next : IsNext level c.loop-number.numbers.from (Some event) =
-    subst (λ (r : List Bool). IsNext r c.loop-number.numbers.from (Some event)) c.loop-number.invariant.row
+    let set = c.args.set.now in
+    let number : ℕ = c.in-Some.number in
+    let next : IsNext set c.loop-number.numbers.from (Some number) =
+    subst (λ (r : List Bool). IsNext r c.loop-number.numbers.from (Some number)) c.loop-number.invariant.row
     c.in-Some.ensures.found in
-    let at : event < length rows = omega (arith, next.1, c.requires.set) in
+    let at : number < length rows = omega (arith, next.1, c.requires.set) in
     let row : List Bool = c.index-rows-number.result in
-    let row_is : row ≡ get_or rows event [] = c.index-rows-number.is ∙ get_or_default rows event row [] at in
+    let row_is : row ≡ get_or rows number [] = c.index-rows-number.is ∙ get_or_default rows number row [] at in
     let long : length row ≡ length rows = ap (λ (r : List Bool). length r) row_is
-    ∙ c.requires.square.each event at in
+    ∙ c.requires.square.each number at in
     record {
       row = search rules;
       within = search rules;
       size = c.join-words.ensures.size;
       labels = search rules;
-      words = subst (λ (i : ℕ). AreUnionWords (Marked rows) level i (length rows) (64 * c.args.at) (64 * g.row.N)
-          c.join-words.result) (sym c.in-Some.ensures.from)
-          (joins_more rows level c.loop-number.numbers.from event (64 * c.args.at) (64 * g.row.N)
+      words = subst (λ (i : ℕ). AreUnionWords (Marked rows) set i (length rows) (64 * c.args.at)
+          (64 * g.row.N) c.join-words.result) (sym c.in-Some.ensures.from)
+          (joins_more rows set c.loop-number.numbers.from number (64 * c.args.at) (64 * g.row.N)
           c.loop-number.words c.join-words.result c.requires.square next
           (λ f small inside. c.join-words.ensures.bits f small (omega (arith, inside, long))
           ∙ ap (λ (r : List Bool). bit_of c.loop-number.words f || is_in r (64 * c.args.at + f)) row_is)

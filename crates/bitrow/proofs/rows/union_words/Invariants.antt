@@ -9,7 +9,8 @@ invariant-loop-number g l = record {
   within : l.numbers.from ≤ length l.rows;
   size : length l.words ≡ g.row.N;
   labels : GetsLabel l.set l.numbers.from l.label l.fn.labels l.labels;
-  words : AreUnionWords (Marked l.rows) l.set l.numbers.from (length l.rows) (64 * l.at) (64 * g.row.N) l.words;
+  words : AreUnionWords (Marked l.rows) l.set l.numbers.from (length l.rows) (64 * l.at) (64 * g.row.N)
+      l.words;
 }
 
 abbrev pub decreases-loop-number : goal.decreases-loop-number

@@ -2,10 +2,11 @@ use Rattle.std.proofs.Common.{◌≡◌, ◌<◌, ◌+◌, inl, inr, ℕ, Bool, 
 use Rattle.std.proofs.Common.{replicate, get_or, refl, arith, sym, subst}
 use Rattle.std.proofs.lemmas.List.{get_or-replicate}
 use Rattle.relations.specs.Cycle.{IsExactRow}
+use Rattle.bitrow.specs.RowLaws.{marked_within}
 use Rattle.bitrow.specs.Rows.{Marked}
 use Rattle.search.specs.Cycles.{IsNearest}
 use Rattle.search.specs.Levels.{Closes}
-use Rattle.search.proofs.Marks.{joins_one, one_alone, marked_within}
+use Rattle.search.proofs.Marks.{joins_one, one_alone}
 use Rattle.search.proofs.Levels.{IsReached, reached_none, IsClosed, reached_more, closes_more, closes_by_next}
 use Rattle.search.proofs.Levels.{reached_exact, nearest_more, last_exact, closed_nearest, written_back}
 use Rattle.search.proofs.row.row_with.Goals as goal
