@@ -1,4 +1,6 @@
 pub mod Bits
+pub mod Combining
 pub mod Members
 pub mod Rests
 pub mod SideBySide
+pub mod Unions

@@ -1,2 +1,5 @@
 pub mod Bits
+pub mod Combined
+pub mod RowLaws
+pub mod Rows
 pub mod Walks

@@ -1,6 +1,6 @@
 //! Words that lie side by side.
 
-ghost use Rattle.std.specs.Prelude.{◌≡◌, ◌⊎◌, ◌≤◌, ◌<◌, ◌+◌, ◌*◌, ◌||◌, ◌&&◌, ℕ, false, length, not};
+ghost use Rattle.std.specs.Prelude.{◌≡◌, ◌⊎◌, ◌≤◌, ◌<◌, ◌+◌, ◌*◌, ◌||◌, ℕ, length};
 ghost use Rattle.bitrow.specs.Bits.{bit_of};
 
 use std::simd::prelude::*;
@@ -28,19 +28,4 @@ pub(crate) fn put_lanes<const N: usize>(words: &mut [u64], at: usize, lanes: Sim
     ensures others { (j : ℕ) → (j < 64 * at) ⊎ (64 * (at + N) ≤ j) → bit_of words.new j ≡ bit_of words.old j }
 {
     lanes.copy_to_slice(&mut words[at..]);
-}
-
-/// Moves the bits of some words to others, and makes what is then 1 in these 0 in the next ones.
-pub(crate) fn move_words(words: &mut [u64], into: &mut [u64], next: &mut [u64])
-    requires into { length into.old ≡ length words.old }
-    requires next { length next.old ≡ length words.old }
-    ensures moved { (j : ℕ) → bit_of words.new j ≡ false }
-    ensures into { (j : ℕ) → bit_of into.new j ≡ (bit_of into.old j || bit_of words.old j) }
-    ensures next { (j : ℕ) → bit_of next.new j ≡ (bit_of next.old j && not (bit_of into.new j)) }
-{
-    for k in 0..words.len() {
-        into[k] |= words[k];
-        next[k] &= !into[k];
-        words[k] = 0;
-    }
 }

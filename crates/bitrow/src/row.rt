@@ -1,6 +1,7 @@
 //! Rows of bits.
 
-use crate::lanes::{move_words, or_lanes, put_lanes};
+use crate::combine::{and_not_words, or_words};
+use crate::lanes::{or_lanes, put_lanes};
 use crate::numbers::Numbers;
 use crate::word_bits::{clear_bit, next_bit, set_bit, test_bit};
 use common::OutOfMemory;
@@ -67,8 +68,26 @@ impl BitRow {
         clear_bit(self.words.as_mut_slice(), number);
     }
 
+    /// Puts the numbers of this set into another of its length.
+    pub fn or_into(&self, into: &mut BitRow)
+        requires { length self.now ≡ length into.old }
+        ensures len { length into.new ≡ length into.old }
+        ensures numbers { (j : ℕ) → is_in into.new j ≡ (is_in into.old j || is_in self.now j) }
+    {
+        or_words(into.words.as_mut_slice(), self.words.as_slice());
+    }
+
+    /// Takes the numbers of another set of its length out of this one.
+    pub fn and_not(&mut self, other: &BitRow)
+        requires { length other.now ≡ length self.old }
+        ensures len { length self.new ≡ length self.old }
+        ensures numbers { (j : ℕ) → is_in self.new j ≡ (is_in self.old j && not (is_in other.now j)) }
+    {
+        and_not_words(self.words.as_mut_slice(), other.words.as_slice());
+    }
+
     /// Puts the numbers of as many words, of 64 numbers each, from one on into the lanes.
-    pub fn join<const N: usize>(&self, at: usize, lanes: Simd<u64, N>) -> Simd<u64, N>
+    pub(crate) fn join<const N: usize>(&self, at: usize, lanes: Simd<u64, N>) -> Simd<u64, N>
         requires lanes { length lanes ≡ N }
         requires within { 64 * (at + N) < length self.now + 64 }
         ensures size { length result ≡ N }
@@ -79,7 +98,7 @@ impl BitRow {
     }
 
     /// Puts the lanes in the place of as many words from one on.
-    pub fn put<const N: usize>(&mut self, at: usize, lanes: Simd<u64, N>)
+    pub(crate) fn put<const N: usize>(&mut self, at: usize, lanes: Simd<u64, N>)
         requires lanes { length lanes ≡ N }
         requires within { 64 * (at + N) < length self.old + 64 }
         ensures len { length self.new ≡ length self.old }
@@ -97,24 +116,6 @@ impl BitRow {
         ensures empty { (j : ℕ) → is_in self.new j ≡ false }
     {
         self.words.as_mut_slice().fill(0);
-    }
-
-    /// Moves the numbers of the set to another of its length, and takes what is then in it out of a third.
-    pub fn move_into(&mut self, into: &mut BitRow, next: &mut BitRow)
-        requires into { length into.old ≡ length self.old }
-        requires next { length next.old ≡ length self.old }
-        ensures len { length self.new ≡ length self.old }
-        ensures moved { (j : ℕ) → is_in self.new j ≡ false }
-        ensures into_len { length into.new ≡ length into.old }
-        ensures into { (j : ℕ) → is_in into.new j ≡ (is_in into.old j || is_in self.old j) }
-        ensures next_len { length next.new ≡ length next.old }
-        ensures next { (j : ℕ) → is_in next.new j ≡ (is_in next.old j && not (is_in into.new j)) }
-    {
-        move_words(
-            self.words.as_mut_slice(),
-            into.words.as_mut_slice(),
-            next.words.as_mut_slice(),
-        );
     }
 
     /// The numbers of the set in turn.

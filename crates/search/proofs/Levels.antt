@@ -5,8 +5,9 @@ use Rattle.std.proofs.lemmas.Bool.{cases_eq}
 use Rattle.std.proofs.lemmas.List.{take-append-le, take_all}
 use Rattle.relations.specs.Cycle.{Walk, IsExactRow}
 use Rattle.bitrow.specs.Bits.{is_in}
+use Rattle.bitrow.specs.Rows.{GetsLabel, IsUnion}
 use Rattle.search.specs.Cycles.{IsNearest}
-use Rattle.search.specs.Levels.{Closes, GetsLabel, JoinsNext, IsClosing}
+use Rattle.search.specs.Levels.{Closes, IsClosing}
 use Rattle.search.proofs.Walks.{walk_more, walk_of, grows_along}
 
 -- a test is true or false
@@ -42,7 +43,7 @@ true_and false b h = absurd (not_both false h refl)
 
 -- the events with a label below the next one were seen, and those of the level get it
 pub record IsReached (R : ℕ → ℕ → Type 0) (n k v label : ℕ) (labels : List ℕ)
-    (seen level next : List Bool) : Type 0 where
+    (seen level : List Bool) : Type 0 where
   pub one_each : length labels ≡ n
   pub seen_below : (e : ℕ) → e < n → is_in seen e ≡ true → get_or labels e 0 < label
   pub below_seen : (e : ℕ) → e < n → get_or labels e 0 < label → is_in seen e ≡ true
@@ -55,7 +56,6 @@ pub record IsReached (R : ℕ → ℕ → Type 0) (n k v label : ℕ) (labels : 
   pub grows : (e f : ℕ) → R e f → get_or labels e 0 < label
       → (get_or labels f 0 ≤ get_or labels e 0 + 1) ⊎
       ((is_in level f ≡ true) × (get_or labels e 0 + 1 ≡ label))
-  pub empty : (e : ℕ) → is_in next e ≡ false
 
 -- the least label below the next one of the events that are related to v, or else the cap
 pub record IsClosed (R : ℕ → ℕ → Type 0) (k v label : ℕ) (labels : List ℕ) (closing : ℕ) : Type 0 where
@@ -94,9 +94,9 @@ closed_nearest R n k v label closing labels within or_cap c = record {
 }
 
 module _ (R : ℕ → ℕ → Type 0) (n k v label : ℕ) (within : (e f : ℕ) → R e f → (e < n) × (f < n))
-    (labels after : List ℕ) (seen level next : List Bool)
+    (labels after : List ℕ) (seen level : List Bool)
     (less : label < k) (v_in : v < n) (size : length after ≡ length labels)
-    (h : IsReached R n k v label labels seen level next) (t : GetsLabel level n label labels after) where
+    (h : IsReached R n k v label labels seen level) (t : GetsLabel level n label labels after) where
   -- an event of the level has the cap until it is taken
   cap_of_level : (e : ℕ) → e < n → is_in level e ≡ true → get_or labels e 0 ≡ k
   cap_of_level e at is = elim (h.or_cap e at) [
@@ -271,20 +271,12 @@ module _ (R : ℕ → ℕ → Type 0) (n k v label : ℕ) (within : (e f : ℕ) 
       within or_cap_now (closes_more P closing closing_more same c step)
 
   -- a level closes where v is in the next one
-  pub closes_by_next : (more : List Bool) → JoinsNext R level n next more
-      → (is_in more v ≡ true) ↔ Closes R level v
-  closes_by_next more x = (
-    λ is. elim (x.only v is) [
-      | inl old ↦ absurd (not_both (is_in next v) old (h.empty v))
-      | inr new ↦ new
-    ],
-    λ at. x.joined at.0 v (within at.0 v at.2).0 at.1 at.2,
-  )
+  pub closes_by_next : (more : List Bool) → IsUnion R level more → (is_in more v ≡ true) ↔ Closes R level v
+  closes_by_next more x = (λ is. x.only v is, λ at. x.joined at.0 v at.1 at.2)
 
-  module _ (more seen_more level_more emptied : List Bool) (x : JoinsNext R level n next more)
+  module _ (more seen_more level_more : List Bool) (x : IsUnion R level more)
       (sees : (e : ℕ) → is_in seen_more e ≡ (is_in seen e || is_in level e))
-      (goes : (e : ℕ) → is_in level_more e ≡ (is_in more e && not (is_in seen_more e)))
-      (emptied_now : (e : ℕ) → is_in emptied e ≡ false) where
+      (goes : (e : ℕ) → is_in level_more e ≡ (is_in more e && not (is_in seen_more e))) where
     -- what was seen, or is taken, is seen
     seen_now : (e : ℕ) → (is_in seen e ≡ true) ⊎ (is_in level e ≡ true) → is_in seen_more e ≡ true
     seen_now e either = sees e ∙ or_true (is_in seen e) (is_in level e) either
@@ -311,14 +303,14 @@ module _ (R : ℕ → ℕ → Type 0) (n k v label : ℕ) (within : (e f : ℕ) 
             ]
             | inr fresh ↦ inr (
               goes f ∙ and_true (is_in more f) (is_in seen_more f)
-                  (x.joined e f e_in new.0 r) fresh,
+                  (x.joined e f new.0 r) fresh,
               omega (arith, new.1),
             )
           ]
         ]
 
     -- one level more
-    pub reached_more : IsReached R n k v (label + 1) after seen_more level_more emptied
+    pub reached_more : IsReached R n k v (label + 1) after seen_more level_more
     reached_more = record {
       one_each = size ∙ h.one_each;
       seen_below = λ e at is. elim (now_has e at) [
@@ -337,24 +329,22 @@ module _ (R : ℕ → ℕ → Type 0) (n k v label : ℕ) (within : (e f : ℕ) 
       ];
       or_cap = or_cap_now;
       walk = walk_now;
-      level_walk = λ e is. elim (x.only e (fresh_now e is).0) [
-        | inl old ↦ absurd (not_both (is_in next e) old (h.empty e))
-        | inr new ↦ walk_of R (suc label) (label + 1) v e (omega arith)
-            (walk_more R label v new.0 e (h.level_walk new.0 new.1) new.2)
-      ];
+      level_walk = λ e is.
+          let new = x.only e (fresh_now e is).0 in
+          walk_of R (suc label) (label + 1) v e (omega arith)
+          (walk_more R label v new.0 e (h.level_walk new.0 new.1) new.2);
       level_fresh = λ e is. (fresh_now e is).1;
       start = λ _. start_now;
       first = λ is. absurd (omega (arith, is));
       grows = grows_now;
-      empty = emptied_now;
     }
 
 -- before the first level
-pub reached_none : (R : ℕ → ℕ → Type 0) (n k v : ℕ) (labels : List ℕ) (seen level next : List Bool)
+pub reached_none : (R : ℕ → ℕ → Type 0) (n k v : ℕ) (labels : List ℕ) (seen level : List Bool)
     → length labels ≡ n → ((e : ℕ) → e < n → get_or labels e 0 ≡ k)
-    → ((e : ℕ) → is_in seen e ≡ false) → ((e : ℕ) → is_in next e ≡ false) → is_in level v ≡ true
-    → ((e : ℕ) → is_in level e ≡ true → v ≡ e) → IsReached R n k v 0 labels seen level next
-reached_none R n k v labels seen level next size caps unseen empty here only = record {
+    → ((e : ℕ) → is_in seen e ≡ false) → is_in level v ≡ true
+    → ((e : ℕ) → is_in level e ≡ true → v ≡ e) → IsReached R n k v 0 labels seen level
+reached_none R n k v labels seen level size caps unseen here only = record {
   one_each = size;
   seen_below = λ e at is. absurd (not_both (is_in seen e) is (unseen e));
   below_seen = λ e at below. absurd (omega (arith, below));
@@ -365,15 +355,14 @@ reached_none R n k v labels seen level next size caps unseen empty here only = r
   start = λ less. absurd (omega (arith, less));
   first = λ _. here;
   grows = λ e f r below. absurd (omega (arith, below));
-  empty = empty;
 }
 
 -- at the cap, or where the level is empty, the row is exact
-pub reached_exact : (R : ℕ → ℕ → Type 0) (n k v label : ℕ) (labels : List ℕ) (seen level next : List Bool)
+pub reached_exact : (R : ℕ → ℕ → Type 0) (n k v label : ℕ) (labels : List ℕ) (seen level : List Bool)
     → ((e f : ℕ) → R e f → (e < n) × (f < n)) → v < n → label ≤ k
-    → (label ≡ k) ⊎ ((e : ℕ) → is_in level e ≡ false) → IsReached R n k v label labels seen level next
+    → (label ≡ k) ⊎ ((e : ℕ) → is_in level e ≡ false) → IsReached R n k v label labels seen level
     → IsExactRow R n k v labels
-reached_exact R n k v label labels seen level next within v_in most ended h =
+reached_exact R n k v label labels seen level within v_in most ended h =
     exact_of R n k v labels h.one_each capped walked begins grows
   where
     capped : (e : ℕ) → e < n → get_or labels e 0 ≤ k

@@ -8,7 +8,7 @@ pub mod Labels
 pub mod Lengths
 pub mod Levels
 pub mod Marks
+mod OneEventMore
 pub mod Shortened
 pub mod Through
 pub mod Walks
-mod Parts

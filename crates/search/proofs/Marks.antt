@@ -1,11 +1,9 @@
 -- Rows of bits as they grow.
-use Rattle.std.proofs.Common.{◌≡◌, ◌<◌, inl, inr, ℕ, Bool, true, false, ◌||◌, List, [], length}
-use Rattle.std.proofs.Common.{get_or, arith, refl, sym, ap, ◌∙◌}
+use Rattle.std.proofs.Common.{◌≡◌, inl, inr, ℕ, Bool, true, false, ◌||◌, List}
+use Rattle.std.proofs.Common.{refl, sym, ap, ◌∙◌}
 use Rattle.std.specs.Prelude.{◌==◌}
-use Rattle.std.proofs.lemmas.Bool.{cases_eq, cases_lt, eq-eqb, ne_eqb}
-use Rattle.std.proofs.lemmas.List.{get_or_past}
+use Rattle.std.proofs.lemmas.Bool.{cases_eq, eq-eqb, ne_eqb}
 use Rattle.bitrow.specs.Bits.{is_in}
-use Rattle.search.specs.Bits.{Marked, IsBitSquare}
 use Rattle.search.proofs.Levels.{not_both, or_true}
 
 -- one number more in the row
@@ -29,18 +27,4 @@ pub one_alone : (row more : List Bool) (v e : ℕ) → ((j : ℕ) → is_in row 
 one_alone row more v e empty joins is = elim (cases_eq e v) [
   | inl here ↦ sym here
   | inr other ↦ absurd (not_both (is_in row e) (sym (joins_no_other row more v e joins other) ∙ is) (empty e))
-]
-
--- what is marked is within the square
-pub marked_within : (rows : List (List Bool)) → IsBitSquare rows → (e f : ℕ) → Marked rows e f
-    → (e < length rows) × (f < length rows)
-marked_within rows square e f is = elim (cases_lt e (length rows)) [
-  | inr past ↦ absurd (not_both (is_in (get_or rows e []) f) is
-      (ap (λ (row : List Bool). is_in row f) (get_or_past rows e [] past) ∙ get_or_past {X = Bool} [] f false
-      (omega arith)))
-  | inl below ↦ elim (cases_lt f (length rows)) [
-    | inl also ↦ (below, also)
-    | inr beyond ↦ absurd (not_both (is_in (get_or rows e []) f) is
-        (get_or_past (get_or rows e []) f false (omega (arith, beyond, square.each e below))))
-  ]
 ]

@@ -1,33 +1,6 @@
 -- One level of a breadth-first search.
-use Rattle.std.specs.Prelude.{◌≡◌, ◌⊎◌, ◌<◌, ◌≤◌, ◌+◌, ℕ, Bool, true, false, List, slice_index}
-use Rattle.bitrow.specs.Bits.{bit_of, is_in}
-
--- the events of the level below i got the label, and the others kept theirs
-pub record GetsLabel (level : List Bool) (i label : ℕ) (before after : List ℕ) : Type 0 where
-  pub labelled : (e : ℕ) → e < i → is_in level e ≡ true → slice_index after e ≡ label
-  pub left : (e : ℕ) → (i ≤ e) ⊎ (is_in level e ≡ false) → slice_index after e ≡ slice_index before e
-
--- what the events of the level below i are related to joined the next level
-pub record JoinsNext (R : ℕ → ℕ
-    → Type 0) (level : List Bool) (i : ℕ) (waiting next : List Bool) : Type 0 where
-  pub joined : (e f : ℕ) → e < i → is_in level e ≡ true → R e f → is_in next f ≡ true
-  pub only : (f : ℕ) → is_in next f ≡ true
-      → (is_in waiting f ≡ true) ⊎ ((e : ℕ) × (is_in level e ≡ true) × R e f)
-
--- the words have what the events of the level below i are related to, `size` of n numbers from one on
-pub record JoinsWords (R : ℕ → ℕ → Type 0) (level : List Bool) (i n from size : ℕ)
-    (words : List ℕ) : Type 0 where
-  pub joined : (e f : ℕ) → e < i → is_in level e ≡ true → f < size → R e (from + f) → bit_of words f ≡ true
-  pub only : (f : ℕ) → f < size → from + f < n → bit_of words f ≡ true
-      → (e : ℕ) × (is_in level e ≡ true) × R e (from + f)
-
--- what the events of the level are related to, from `from` on and below `to`, joined the next level
-pub record JoinsPart (R : ℕ → ℕ → Type 0) (level : List Bool) (from to : ℕ)
-    (waiting next : List Bool) : Type 0 where
-  pub joined : (e f : ℕ) → is_in level e ≡ true → R e f → from ≤ f → f < to → is_in next f ≡ true
-  pub only : (f : ℕ) → is_in next f ≡ true
-      → (is_in waiting f ≡ true) ⊎ ((e : ℕ) × (is_in level e ≡ true) × R e f)
-  pub before : (f : ℕ) → f < from → is_in next f ≡ is_in waiting f
+use Rattle.std.specs.Prelude.{◌≡◌, ◌⊎◌, ℕ, Bool, true, List}
+use Rattle.bitrow.specs.Bits.{is_in}
 
 -- an event of the level is related to v
 abbrev pub Closes : (ℕ → ℕ → Type 0) → List Bool → ℕ → Type 0

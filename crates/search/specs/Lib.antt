@@ -1,7 +1,6 @@
 pub mod Bound
 pub mod Crews
 pub mod Fresh
-pub mod Bits
 pub mod Levels
 pub mod Cycles
 pub mod SourceRow

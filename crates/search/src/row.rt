@@ -3,14 +3,14 @@
 ghost use Rattle.std.specs.Prelude.{◌≡◌, ◌<◌, ◌++◌, ◌∷◌, ℕ, List, [], length, IfOk, IsTrue};
 ghost use Rattle.labels.specs.Certified.{lists_of};
 ghost use Rattle.relations.specs.Cycle.{IsExactRow};
-ghost use Rattle.search.specs.Bits.{Marked, IsBitSquare};
+ghost use Rattle.bitrow.specs.Rows.{Marked, IsBitSquare};
 ghost use Rattle.search.specs.Cycles.{IsNearest};
 ghost use Rattle.search.specs.Fresh.{AreSets, AreEmptySets, IsFresh};
 ghost use Rattle.search.specs.Levels.{IsClosing};
 
-use crate::level::{take_last_level, take_level};
+use crate::level::take_last_level;
 use crate::room::{Room, Sets};
-use bitrow::BitRow;
+use bitrow::{BitRow, union_rows};
 use common::{EventId, OutOfMemory};
 use std::alloc::Global;
 
@@ -61,9 +61,10 @@ fn row_with(
             let closing = closing_with(closes, label, cap, closing);
             return (labels, closing, Sets { seen, level, next });
         }
-        take_level(rows, &level, label, &mut next, labels.as_mut_slice());
+        union_rows(rows, &level, label, &mut next, labels.as_mut_slice());
         closing = closing_with(next.test(source as usize), label, cap, closing);
-        level.move_into(&mut seen, &mut next);
+        level.or_into(&mut seen);
+        next.and_not(&seen);
         let taken = level;
         level = next;
         next = taken;

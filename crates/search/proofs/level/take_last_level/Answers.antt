@@ -2,8 +2,8 @@ use Rattle.std.proofs.Common.{rules, ◌≡◌, ◌<◌, ◌↔◌, ◌||◌, �
 use Rattle.std.proofs.Common.{sym, ap, subst, get_or, ◌∙◌}
 use Rattle.std.proofs.lemmas.List.{get_or_default}
 use Rattle.bitrow.specs.Bits.{is_in, IsNext}
-use Rattle.search.specs.Bits.{Marked}
-use Rattle.search.proofs.Parts.{test_more}
+use Rattle.bitrow.specs.Rows.{Marked}
+use Rattle.search.proofs.OneEventMore.{test_more}
 use Rattle.search.proofs.level.take_last_level.Goals as goal
 
 pub loop-event-preserved : goal.loop-event-preserved

@@ -1,7 +1,6 @@
 use Rattle.std.proofs.Common.{◌≡◌, ◌<◌, ◌≤◌, ◌-◌, ◌↔◌, IsTrue, ℕ, true, length}
 use Rattle.bitrow.specs.Bits.{is_in}
-use Rattle.search.specs.Bits.{Marked}
-use Rattle.search.specs.Levels.{GetsLabel}
+use Rattle.bitrow.specs.Rows.{Marked, GetsLabel}
 use Rattle.search.proofs.level.take_last_level.Given as goal
 
 abbrev pub invariant-loop-event : goal.invariant-loop-event

@@ -1,5 +1,5 @@
 use Rattle.std.proofs.Common.{◌≡◌, length}
-use Rattle.search.specs.Bits.{Marked}
+use Rattle.bitrow.specs.Rows.{Marked}
 use Rattle.search.proofs.Levels.{IsReached, IsClosed}
 use Rattle.search.proofs.row.row_with.Given as goal
 
@@ -8,7 +8,6 @@ invariant-loop-label l = record {
   seen_size : length l.seen ≡ length l.rows;
   level_size : length l.level ≡ length l.rows;
   next_size : length l.next ≡ length l.rows;
-  reached : IsReached (Marked l.rows) (length l.rows) l.cap l.source l.label l.labels.items l.seen l.level
-      l.next;
+  reached : IsReached (Marked l.rows) (length l.rows) l.cap l.source l.label l.labels.items l.seen l.level;
   closed : IsClosed (Marked l.rows) l.cap l.source l.label l.labels.items l.closing;
 }
