@@ -10,7 +10,9 @@ use Rattle.serde_json.specs.Data.{Members, object}
 use Rattle.recorder.specs.declared.event.Event.{Event}
 use Rattle.recording_text.specs.declared.draft.Draft.{Draft}
 use Rattle.recording_text.specs.declared.reading.Found.{Found}
+use Rattle.recording_text.specs.Contents.{Contents}
 use Rattle.recording_text.specs.Found.{found}
+use Rattle.recording_text.specs.Held.{HoldsCores, HoldsLists, StandsFor}
 use Rattle.recording_text.specs.Reading.{natural, number_in, value_in, event_in, list_in, at_key, values_in}
 use Rattle.recording_text.specs.Reading.{shape_of}
 use Rattle.recording_text.specs.Reading.{shape_in}
@@ -20,6 +22,7 @@ use Rattle.recording_text.specs.Fields.{count_of}
 use Rattle.recording_text.specs.Draft.{AreParts, clipped_contents, IsDraftOf}
 use Rattle.recording_text.proofs.AtKeys.{at_new, at_other, at_key_is, count_new}
 use Rattle.recording_text.proofs.Pulled.{whole_read}
+use Rattle.recording_text.proofs.Held.{none_held, some_held}
 use Rattle.recording_text.proofs.ClippedLists.{cores_clipped, writes_clipped}
 
 -- ---- one member more
@@ -34,10 +37,18 @@ version_added p o x depth ts rest g none is = record {
   adds = λ ms h. record {
     version = at_new natural (codes "version") ms g.datum x
         o g.gives is;
-    cores = at_other (list_in (list_in clipped_event)) (codes "cores") (codes "version") ms g.datum
-        (option_map (λ v. map (λ w. w.items) v.items) p.cores) refl h.cores;
-    writes = at_other (list_in (list_in clipped_number)) (codes "writes") (codes "version") ms g.datum
-        (option_map (λ v. map (λ w. w.items) v.items) p.writes) refl h.writes;
+    cores = (
+      h.cores.0,
+      at_other (list_in (list_in clipped_event)) (codes "cores") (codes "version") ms g.datum h.cores.0 refl
+          h.cores.1,
+      h.cores.2,
+    );
+    writes = (
+      h.writes.0,
+      at_other (list_in (list_in clipped_number)) (codes "writes") (codes "version") ms g.datum h.writes.0
+          refl h.writes.1,
+      h.writes.2,
+    );
     init = at_other (list_in value_in) (codes "init") (codes "version") ms g.datum
         (option_map (λ v. v.items) p.init) refl h.init;
     count = omega (
@@ -53,28 +64,34 @@ version_added p o x depth ts rest g none is = record {
 
 -- the events of each core
 pub cores_added : (p : Draft) (o : Option (Vec (Vec Event Global) Global))
-    (x : Vec (Vec Event Global) Global) (depth : ℕ) (ts rest : List Token)
-    → GivesValue (list_in (list_in clipped_event)) depth ts (map (λ w. w.items) x.items) rest → p.cores ≡ None
-    → o ≡ Some x
+    (x : Vec (Vec Event Global) Global) (xs : List (List Event)) (depth : ℕ) (ts rest : List Token)
+    → GivesValue (list_in (list_in clipped_event)) depth ts xs rest
+    → HoldsCores (map (λ w. w.items) x.items) xs → p.cores ≡ None → o ≡ Some x
     → Adds AreParts (codes "cores") depth ts rest p (record p { cores = o })
-cores_added p o x depth ts rest g none is = record {
+cores_added p o x xs depth ts rest g holds none is = record {
   datum = g.datum;
   read = g.read;
   adds = λ ms h. record {
     version = at_other natural (codes "version") (codes "cores") ms g.datum
         p.version refl h.version;
-    cores = at_new (list_in (list_in clipped_event)) (codes "cores") ms g.datum (map (λ w. w.items) x.items)
-        (option_map (λ v. map (λ w. w.items) v.items) o) g.gives
-        (ap (option_map (λ (v : Vec (Vec Event Global) Global). map (λ w. w.items) v.items)) is);
-    writes = at_other (list_in (list_in clipped_number)) (codes "writes") (codes "cores") ms g.datum
-        (option_map (λ v. map (λ w. w.items) v.items) p.writes) refl h.writes;
+    cores = (
+      Some xs,
+      at_new (list_in (list_in clipped_event)) (codes "cores") ms g.datum xs (Some xs) g.gives refl,
+      rw is holds,
+    );
+    writes = (
+      h.writes.0,
+      at_other (list_in (list_in clipped_number)) (codes "writes") (codes "cores") ms g.datum h.writes.0 refl
+          h.writes.1,
+      h.writes.2,
+    );
     init = at_other (list_in value_in) (codes "init") (codes "cores") ms g.datum
         (option_map (λ v. v.items) p.init) refl h.init;
     count = omega (
       arith,
-      count_new (list_in (list_in clipped_event)) (codes "cores") g.datum ms
-          (option_map (λ v. map (λ w. w.items) v.items) p.cores) h.cores
-          (ap (option_map (λ (v : Vec (Vec Event Global) Global). map (λ w. w.items) v.items)) none),
+      count_new (list_in (list_in clipped_event)) (codes "cores") g.datum ms h.cores.0 h.cores.1
+          (none_held HoldsCores (option_map (λ v. map (λ w. w.items) v.items) p.cores) h.cores.0 h.cores.2
+          (ap (option_map (λ (v : Vec (Vec Event Global) Global). map (λ w. w.items) v.items)) none)),
       h.count,
       ap count_of none,
       ap count_of is,
@@ -84,29 +101,34 @@ cores_added p o x depth ts rest g none is = record {
 
 -- the write lists
 pub writes_added : (p : Draft) (o : Option (Vec (Vec ℕ Global) Global)) (x : Vec (Vec ℕ Global) Global)
-    (depth : ℕ) (ts rest : List Token)
-    → GivesValue (list_in (list_in clipped_number)) depth ts (map (λ w. w.items) x.items) rest → p.writes ≡ None
-    → o ≡ Some x
+    (xs : List (List ℕ)) (depth : ℕ) (ts rest : List Token)
+    → GivesValue (list_in (list_in clipped_number)) depth ts xs rest
+    → HoldsLists (map (λ w. w.items) x.items) xs → p.writes ≡ None → o ≡ Some x
     → Adds AreParts (codes "writes") depth ts rest p (record p { writes = o })
-writes_added p o x depth ts rest g none is = record {
+writes_added p o x xs depth ts rest g holds none is = record {
   datum = g.datum;
   read = g.read;
   adds = λ ms h. record {
     version = at_other natural (codes "version") (codes "writes") ms g.datum
         p.version refl h.version;
-    cores = at_other (list_in (list_in clipped_event)) (codes "cores") (codes "writes") ms g.datum
-        (option_map (λ v. map (λ w. w.items) v.items) p.cores) refl h.cores;
-    writes = at_new (list_in (list_in clipped_number)) (codes "writes") ms g.datum
-        (map (λ w. w.items) x.items)
-        (option_map (λ v. map (λ w. w.items) v.items) o) g.gives
-        (ap (option_map (λ (v : Vec (Vec ℕ Global) Global). map (λ w. w.items) v.items)) is);
+    cores = (
+      h.cores.0,
+      at_other (list_in (list_in clipped_event)) (codes "cores") (codes "writes") ms g.datum h.cores.0 refl
+          h.cores.1,
+      h.cores.2,
+    );
+    writes = (
+      Some xs,
+      at_new (list_in (list_in clipped_number)) (codes "writes") ms g.datum xs (Some xs) g.gives refl,
+      rw is holds,
+    );
     init = at_other (list_in value_in) (codes "init") (codes "writes") ms g.datum
         (option_map (λ v. v.items) p.init) refl h.init;
     count = omega (
       arith,
-      count_new (list_in (list_in clipped_number)) (codes "writes") g.datum ms
-          (option_map (λ v. map (λ w. w.items) v.items) p.writes) h.writes
-          (ap (option_map (λ (v : Vec (Vec ℕ Global) Global). map (λ w. w.items) v.items)) none),
+      count_new (list_in (list_in clipped_number)) (codes "writes") g.datum ms h.writes.0 h.writes.1
+          (none_held HoldsLists (option_map (λ v. map (λ w. w.items) v.items) p.writes) h.writes.0 h.writes.2
+          (ap (option_map (λ (v : Vec (Vec ℕ Global) Global). map (λ w. w.items) v.items)) none)),
       h.count,
       ap count_of none,
       ap count_of is,
@@ -124,10 +146,18 @@ init_added p o x depth ts rest g none is = record {
   adds = λ ms h. record {
     version = at_other natural (codes "version") (codes "init") ms g.datum
         p.version refl h.version;
-    cores = at_other (list_in (list_in clipped_event)) (codes "cores") (codes "init") ms g.datum
-        (option_map (λ v. map (λ w. w.items) v.items) p.cores) refl h.cores;
-    writes = at_other (list_in (list_in clipped_number)) (codes "writes") (codes "init") ms g.datum
-        (option_map (λ v. map (λ w. w.items) v.items) p.writes) refl h.writes;
+    cores = (
+      h.cores.0,
+      at_other (list_in (list_in clipped_event)) (codes "cores") (codes "init") ms g.datum h.cores.0 refl
+          h.cores.1,
+      h.cores.2,
+    );
+    writes = (
+      h.writes.0,
+      at_other (list_in (list_in clipped_number)) (codes "writes") (codes "init") ms g.datum h.writes.0 refl
+          h.writes.1,
+      h.writes.2,
+    );
     init = at_new (list_in value_in) (codes "init") ms g.datum x.items
         (option_map (λ v. v.items) o) g.gives (ap (option_map (λ (v : Vec ℕ Global). v.items)) is);
     count = omega (
@@ -166,28 +196,24 @@ shape_from values (Some a) (Some b) (Some d) v cs ws hv hc hw =
     rw (av, bc, dw) refl
 
 -- the version, the cores and the write lists, with these initial values
-shaped : (values : Option (List ℕ)) (p : Draft) (ms : Members) (v : ℕ) (cs : Vec (Vec Event Global) Global)
-    (ws : Vec (Vec ℕ Global) Global) → AreParts p ms → p.version ≡ Some v → p.cores ≡ Some cs
-    → p.writes ≡ Some ws → option_map clipped_shape (shape_of values (object ms)) ≡ Some (record {
+shaped : (values : Option (List ℕ)) (p : Draft) (ms : Members) (v : ℕ) (cs : List (List Event))
+    (ws : List (List ℕ)) (h : AreParts p ms) → p.version ≡ Some v → h.cores.0 ≡ Some cs
+    → h.writes.0 ≡ Some ws → option_map clipped_shape (shape_of values (object ms)) ≡ Some (record {
       version = v;
-      cores = map (λ w. w.items) cs.items;
-      write_lists = map (λ w. w.items) ws.items;
+      cores = cs;
+      write_lists = ws;
       values = values;
     })
 unfolding shape_of
 shaped values p ms v cs ws h hv hc hw =
     shape_from values (at_key natural (codes "version") (object ms))
     (at_key (list_in (list_in event_in)) (codes "cores") (object ms))
-    (at_key (list_in (list_in number_in)) (codes "writes") (object ms)) v (map (λ w. w.items) cs.items)
-    (map (λ w. w.items) ws.items) (at_key_is natural (codes "version") ms p.version h.version ∙ hv)
+    (at_key (list_in (list_in number_in)) (codes "writes") (object ms)) v cs ws
+    (at_key_is natural (codes "version") ms p.version h.version ∙ hv)
     (sym (cores_clipped (codes "cores") (object ms))
-    ∙ at_key_is (list_in (list_in clipped_event)) (codes "cores") ms
-    (option_map (λ v. map (λ w. w.items) v.items) p.cores) h.cores
-    ∙ ap (option_map (λ (v : Vec (Vec Event Global) Global). map (λ w. w.items) v.items)) hc)
+    ∙ at_key_is (list_in (list_in clipped_event)) (codes "cores") ms h.cores.0 h.cores.1 ∙ hc)
     (sym (writes_clipped (codes "writes") (object ms))
-    ∙ at_key_is (list_in (list_in clipped_number)) (codes "writes") ms
-    (option_map (λ v. map (λ w. w.items) v.items) p.writes) h.writes
-    ∙ ap (option_map (λ (v : Vec (Vec ℕ Global) Global). map (λ w. w.items) v.items)) hw)
+    ∙ at_key_is (list_in (list_in clipped_number)) (codes "writes") ms h.writes.0 h.writes.1 ∙ hw)
 
 -- the contents, by how many keys there are
 contents_by : (values : Option (List ℕ)) (n : ℕ) (p : Draft) (ms : Members)
@@ -197,27 +223,57 @@ contents_by : (values : Option (List ℕ)) (n : ℕ) (p : Draft) (ms : Members)
 unfolding shape_in
 contents_by values n p ms count h is = rw (h.count, count, is) refl
 
--- the contents are what was found
+-- what is held of the cores that the members have
+cores_held : (p : Draft) (ms : Members) (cs : Vec (Vec Event Global) Global) (h : AreParts p ms)
+    → p.cores ≡ Some cs
+    → (xs : List (List Event)) × (h.cores.0 ≡ Some xs) × HoldsCores (map (λ w. w.items) cs.items) xs
+cores_held p ms cs h hc =
+    some_held HoldsCores (option_map (λ v. map (λ w. w.items) v.items) p.cores) h.cores.0
+    (map (λ w. w.items) cs.items) h.cores.2
+    (ap (option_map (λ (v : Vec (Vec Event Global) Global). map (λ w. w.items) v.items)) hc)
+
+-- and of the write lists
+lists_held : (p : Draft) (ms : Members) (ws : Vec (Vec ℕ Global) Global) (h : AreParts p ms)
+    → p.writes ≡ Some ws
+    → (xs : List (List ℕ)) × (h.writes.0 ≡ Some xs) × HoldsLists (map (λ w. w.items) ws.items) xs
+lists_held p ms ws h hw =
+    some_held HoldsLists (option_map (λ v. map (λ w. w.items) v.items) p.writes) h.writes.0
+    (map (λ w. w.items) ws.items) h.writes.2
+    (ap (option_map (λ (v : Vec (Vec ℕ Global) Global). map (λ w. w.items) v.items)) hw)
+
+-- what was found stands for the contents
 pub found_gives : (p : Draft) (init : Option (Vec ℕ Global)) (ms : Members) (v : ℕ)
     (cs : Vec (Vec Event Global) Global) (ws : Vec (Vec ℕ Global) Global) → AreParts p ms → p.version ≡ Some v
     → p.cores ≡ Some cs → p.writes ≡ Some ws → p.init ≡ init
-    → clipped_contents (object ms) ≡ Some (found (record
-    { version = v; cores = cs; writes = ws; init = init }))
+    → (c : Contents) × (clipped_contents (object ms) ≡ Some c)
+    × StandsFor (found (record { version = v; cores = cs; writes = ws; init = init })) c
 unfolding values_in
 found_gives p None ms v cs ws h hv hc hw hi =
-    contents_by None 3 p ms (rw (hv, hc, hw, hi) refl) h refl ∙ shaped None p ms v cs ws h hv hc hw
+    let cores = cores_held p ms cs h hc in
+    let lists = lists_held p ms ws h hw in (
+      record { version = v; cores = cores.0; write_lists = lists.0; values = None },
+      contents_by None 3 p ms (rw (hv, hc, hw, hi) refl) h refl
+          ∙ shaped None p ms v cores.0 lists.0 h hv cores.1 lists.1,
+      record { version = refl; values = refl; cores = cores.2; lists = lists.2 },
+    )
 found_gives p (Some vs) ms v cs ws h hv hc hw hi =
-    contents_by (Some vs.items) 4 p ms (rw (hv, hc, hw, hi) refl) h
-    (ap (option_map Some) (at_key_is (list_in value_in) (codes "init") ms (option_map (λ v. v.items) p.init)
-    h.init
-    ∙ ap (option_map (λ (v : Vec ℕ Global). v.items)) hi))
-    ∙ shaped (Some vs.items) p ms v cs ws h hv hc hw
+    let cores = cores_held p ms cs h hc in
+    let lists = lists_held p ms ws h hw in (
+      record { version = v; cores = cores.0; write_lists = lists.0; values = Some vs.items },
+      contents_by (Some vs.items) 4 p ms (rw (hv, hc, hw, hi) refl) h
+          (ap (option_map Some) (at_key_is (list_in value_in) (codes "init") ms
+          (option_map (λ v. v.items) p.init) h.init
+          ∙ ap (option_map (λ (v : Vec ℕ Global). v.items)) hi))
+          ∙ shaped (Some vs.items) p ms v cores.0 lists.0 h hv cores.1 lists.1,
+      record { version = refl; values = refl; cores = cores.2; lists = lists.2 },
+    )
 
--- the bytes are read so, where their tokens give what was found and nothing follows
-pub draft_read : (bytes text : List ℕ) (reader : List Token) (q : Found) → (text ≡ bytes) × IsUtf8 bytes
-    → reader ≡ tokens text → GivesValue clipped_contents max_depth reader (found q) [] → IsDraftOf bytes q
-draft_read bytes text reader q read is given =
+-- the bytes are read so, where their tokens give the contents and nothing follows
+pub draft_read : (bytes text : List ℕ) (reader : List Token) (c : Contents) (q : Found)
+    → (text ≡ bytes) × IsUtf8 bytes → reader ≡ tokens text
+    → GivesValue clipped_contents max_depth reader c [] → StandsFor (found q) c → IsDraftOf bytes q
+draft_read bytes text reader c q read is given stands =
     let all : reader ≡ tokens bytes = is ∙ ap tokens read.0 in
-    let g : GivesValue clipped_contents max_depth (tokens bytes) (found q) [] =
-    subst (λ (ts : List Token). GivesValue clipped_contents max_depth ts (found q) []) all given in
-    (g.datum, (read.1, whole_read (value max_depth (tokens bytes)) g.datum g.read), g.gives)
+    let g : GivesValue clipped_contents max_depth (tokens bytes) c [] =
+    subst (λ (ts : List Token). GivesValue clipped_contents max_depth ts c []) all given in
+    (g.datum, (read.1, whole_read (value max_depth (tokens bytes)) g.datum g.read), c, g.gives, stands)

@@ -19,3 +19,5 @@ pub mod PlainNumbers
 pub mod EventFields
 pub mod Somes
 pub mod Drafted
+pub mod Held
+pub mod HeldAnswers

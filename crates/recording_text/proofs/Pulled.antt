@@ -245,12 +245,12 @@ begun_object : (depth : ℕ) (all : List Token)
 unfolding value
 begun_object depth all = refl
 
--- the object gives what its members give
-pub gives_object : {S A : Type 0} (Are : S → Members → Type 0) (f : Data → Option A) (depth : ℕ)
+-- the object gives what these members of it give
+pub gives_object_of : {S A : Type 0} (Are : S → Members → Type 0) (f : Data → Option A) (depth : ℕ)
     (old all rest : List Token) (s : S) (x : A) → old ≡ Token.begin_object ∷ all
-    → GivesMembers Are depth all rest s → ((ms : Members) → Are s ms → f (object ms) ≡ Some x)
+    → (h : GivesMembers Are depth all rest s) → f (object h.found) ≡ Some x
     → GivesValue f (suc depth) old x rest
-gives_object Are f depth old all rest s x begins h gives =
+gives_object_of Are f depth old all rest s x begins h gives =
     let ms = converted_some (λ ms. of_members ms no_members) (members (value depth) (length all) all) h.found
     rest h.read in
     record {
@@ -258,8 +258,16 @@ gives_object Are f depth old all rest s x begins h gives =
       read = ap (converted of_json) (ap (value (suc depth)) begins
           ∙ begun_object depth all ∙ ap (parse_map json.object) ms.1)
           ∙ rw ms.2 refl;
-      gives = gives h.found h.are;
+      gives = gives;
     }
+
+-- the object gives what its members give
+pub gives_object : {S A : Type 0} (Are : S → Members → Type 0) (f : Data → Option A) (depth : ℕ)
+    (old all rest : List Token) (s : S) (x : A) → old ≡ Token.begin_object ∷ all
+    → GivesMembers Are depth all rest s → ((ms : Members) → Are s ms → f (object ms) ≡ Some x)
+    → GivesValue f (suc depth) old x rest
+gives_object Are f depth old all rest s x begins h gives =
+    gives_object_of Are f depth old all rest s x begins h (gives h.found h.are)
 
 -- ---- the whole text
 

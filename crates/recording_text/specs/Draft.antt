@@ -10,14 +10,16 @@ use Rattle.recording_text.specs.Reading.{count_members, natural, value_in, list_
 use Rattle.recording_text.specs.Clipped.{clipped_number, clipped_event, clipped_shape}
 use Rattle.recording_text.specs.Fields.{count_of}
 use Rattle.recording_text.specs.Pulled.{AtKey}
+use Rattle.recording_text.specs.Held.{HoldsCores, HoldsLists, HoldsSome, StandsFor}
+use Rattle.recorder.specs.declared.event.Event.{Event}
 
--- the members have what was read, and nothing else
+-- the members have what was read, or what that stands for, and nothing else
 pub record AreParts (p : Draft) (ms : Members) : Type 0 where
   pub version : AtKey natural (codes "version") ms p.version
-  pub cores : AtKey (list_in (list_in clipped_event)) (codes "cores") ms
-      (option_map (λ v. map (λ w. w.items) v.items) p.cores)
-  pub writes : AtKey (list_in (list_in clipped_number)) (codes "writes") ms
-      (option_map (λ v. map (λ w. w.items) v.items) p.writes)
+  pub cores : (o : Option (List (List Event))) × AtKey (list_in (list_in clipped_event)) (codes "cores") ms o
+      × HoldsSome HoldsCores (option_map (λ v. map (λ w. w.items) v.items) p.cores) o
+  pub writes : (o : Option (List (List ℕ))) × AtKey (list_in (list_in clipped_number)) (codes "writes") ms o
+      × HoldsSome HoldsLists (option_map (λ v. map (λ w. w.items) v.items) p.writes) o
   pub init : AtKey (list_in value_in) (codes "init") ms (option_map (λ v. v.items) p.init)
   pub count : count_members ms ≡ count_of p.version + count_of p.cores + count_of p.writes + count_of p.init
 
@@ -25,6 +27,7 @@ pub record AreParts (p : Draft) (ms : Members) : Type 0 where
 abbrev pub clipped_contents : Data → Option Contents
 clipped_contents d = option_map clipped_shape (shape_in d)
 
--- the bytes are read as a value that has the contents that were found
+-- the bytes are read as a value for whose contents what was found stands
 abbrev pub IsDraftOf : List ℕ → Found → Type 0
-IsDraftOf bytes q = (d : Data) × IsReadAs bytes d × (clipped_contents d ≡ Some (found q))
+IsDraftOf bytes q = (d : Data) × IsReadAs bytes d × (c : Contents) × (clipped_contents d ≡ Some c)
+    × StandsFor (found q) c

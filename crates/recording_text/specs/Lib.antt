@@ -5,5 +5,6 @@ pub mod Clipped
 pub mod Found
 pub mod Pulled
 pub mod Fields
+pub mod Held
 pub mod Draft
 pub mod Values

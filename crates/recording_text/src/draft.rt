@@ -3,7 +3,9 @@
 ghost use Rattle.std.specs.Prelude.{◌≡◌, ℕ, suc, [], Some, IfOk, IfSome};
 ghost use Rattle.serde_json.specs.Data.{Members, no_members, object};
 ghost use Rattle.serde_json.specs.Read.{max_depth};
+ghost use Rattle.recording_text.specs.Contents.{Contents};
 ghost use Rattle.recording_text.specs.Found.{found};
+ghost use Rattle.recording_text.specs.Held.{StandsFor};
 ghost use Rattle.recording_text.specs.Draft.{AreParts, clipped_contents, IsDraftOf};
 ghost use Rattle.recording_text.specs.Pulled.{Adds, GivesValue, GivesMembers};
 
@@ -78,7 +80,7 @@ impl Draft {
     /// What was found, where nothing is missing.
     fn found(self) -> Option<Found>
         ensures { IfSome result (λ q. (ms : Members) → AreParts self ms
-            → clipped_contents (object ms) ≡ Some (found q)) }
+            → (c : Contents) × (clipped_contents (object ms) ≡ Some c) × StandsFor (found q) c) }
     {
         let Draft {
             version,
@@ -115,7 +117,8 @@ fn pull_draft(alloc: Global, reader: &mut Reader<'_>) -> Result<Option<Draft>, A
 }
 
 fn pull_found(alloc: Global, reader: &mut Reader<'_>) -> Result<Option<Found>, AllocError>
-    ensures { IfOk result (λ o. IfSome o (λ q. GivesValue clipped_contents max_depth reader.old (found q) [])) }
+    ensures { IfOk result (λ o. IfSome o (λ q. (c : Contents)
+        × GivesValue clipped_contents max_depth reader.old c [] × StandsFor (found q) c)) }
 {
     if !begins_object(reader) {
         return Ok(None);

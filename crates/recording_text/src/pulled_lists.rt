@@ -1,13 +1,16 @@
-//! Lists of a recording, read from the tokens of its text. Nothing is told of one with more cores or
-//! addresses than a recording may have, so that a long text takes no room for them.
+//! Lists of a recording, read from the tokens of its text. Of more cores or addresses than a recording may
+//! have one too many is held, so that a long text takes no room for the others.
 
-ghost use Rattle.std.specs.Prelude.{ℕ, suc, map, IfOk, IfSome};
+ghost use Rattle.std.specs.Prelude.{◌++◌, ◌∷◌, [], ℕ, List, suc, map, IfOk, IfSome};
+ghost use Rattle.recorder.specs.declared.event.Event.{Event};
+ghost use Rattle.recording_text.specs.Held.{HoldsCores, HoldsLists};
 ghost use Rattle.recording_text.specs.Reading.{list_in, value_in};
 ghost use Rattle.recording_text.specs.Clipped.{clipped_event, clipped_number};
 ghost use Rattle.recording_text.specs.Pulled.{GivesValue};
 
 use crate::fields::pull_event;
 use crate::tokens::{begins_array, pull_number, pull_value};
+use crate::versions::has_failed;
 use common::{EventId, MAX_ADDRESSES, MAX_CORES};
 use json::Reader;
 use recorder::Event;
@@ -73,27 +76,53 @@ pub(crate) fn pull_values(
     Ok(Some(found))
 }
 
+/// Holds a core more; of those that are too many the first, or the last in which a compare-and-swap failed.
+fn hold_core(found: &mut Vec<Vec<Event>>, core: Vec<Event>) -> Result<(), AllocError>
+    ensures { IfOk result (λ _. (cores : List (List Event))
+        → HoldsCores (map (λ w. w.items) found.old.items) cores
+        → HoldsCores (map (λ w. w.items) found.new.items) (cores ++ core.items ∷ [])) }
+{
+    if found.len() <= MAX_CORES {
+        found.push(core)?;
+        return Ok(());
+    }
+    if has_failed(core.as_slice()) {
+        found.truncate(MAX_CORES);
+        found.push(core)?;
+    }
+    Ok(())
+}
+
+/// Holds a write list more; of those that are too many the first.
+fn hold_list(found: &mut Vec<Vec<EventId>>, list: Vec<EventId>) -> Result<(), AllocError>
+    ensures { IfOk result (λ _. (lists : List (List ℕ))
+        → HoldsLists (map (λ w. w.items) found.old.items) lists
+        → HoldsLists (map (λ w. w.items) found.new.items) (lists ++ list.items ∷ [])) }
+{
+    if found.len() <= MAX_ADDRESSES {
+        found.push(list)?;
+    }
+    Ok(())
+}
+
 /// The events of each core.
 pub(crate) fn pull_cores(
     alloc: Global,
     reader: &mut Reader<'_>,
 ) -> Result<Option<Vec<Vec<Event>>>, AllocError>
-    ensures { IfOk result (λ o. IfSome o (λ v. (depth : ℕ)
-        → GivesValue (list_in (list_in clipped_event)) (suc (suc (suc depth))) reader.old
-        (map (λ w. w.items) v.items) reader.new)) }
+    ensures { IfOk result (λ o. IfSome o (λ v. (depth : ℕ) → (cores : List (List Event))
+        × GivesValue (list_in (list_in clipped_event)) (suc (suc (suc depth))) reader.old cores reader.new
+        × HoldsCores (map (λ w. w.items) v.items) cores)) }
 {
     if !begins_array(reader) {
         return Ok(None);
     }
     let mut found = Vec::with_capacity(alloc, MAX_CORES)?;
     'items: while !reader.take_end_array() {
-        if found.len() == MAX_CORES {
-            return Ok(None);
-        }
         let Some(core) = pull_core(alloc, reader)? else {
             return Ok(None);
         };
-        found.push(core)?;
+        hold_core(&mut found, core)?;
     }
     Ok(Some(found))
 }
@@ -103,22 +132,19 @@ pub(crate) fn pull_lists(
     alloc: Global,
     reader: &mut Reader<'_>,
 ) -> Result<Option<Vec<Vec<EventId>>>, AllocError>
-    ensures { IfOk result (λ o. IfSome o (λ v. (depth : ℕ)
-        → GivesValue (list_in (list_in clipped_number)) (suc (suc depth)) reader.old
-        (map (λ w. w.items) v.items) reader.new)) }
+    ensures { IfOk result (λ o. IfSome o (λ v. (depth : ℕ) → (lists : List (List ℕ))
+        × GivesValue (list_in (list_in clipped_number)) (suc (suc depth)) reader.old lists reader.new
+        × HoldsLists (map (λ w. w.items) v.items) lists)) }
 {
     if !begins_array(reader) {
         return Ok(None);
     }
     let mut found = Vec::with_capacity(alloc, MAX_ADDRESSES)?;
     'items: while !reader.take_end_array() {
-        if found.len() == MAX_ADDRESSES {
-            return Ok(None);
-        }
         let Some(writes) = pull_writes(alloc, reader)? else {
             return Ok(None);
         };
-        found.push(writes)?;
+        hold_list(&mut found, writes)?;
     }
     Ok(Some(found))
 }

@@ -7,7 +7,8 @@ ghost use Rattle.recording_text.specs.Text.{has_failed_cas, is_of_version_1};
 
 use recorder::{Event, Recording};
 
-fn has_failed(events: &[Event]) -> bool
+/// Whether a compare-and-swap among the events failed.
+pub(crate) fn has_failed(events: &[Event]) -> bool
     ensures { result ≡ list_any is_failed_cas events.now }
 {
     events.iter().any(|event| event.is_failed_cas())

@@ -1,10 +1,9 @@
 use Rattle.std.proofs.Common.{refl, subst, List, []}
 use Rattle.json.specs.Token.{Token}
-use Rattle.recording_text.specs.Found.{found}
 use Rattle.recording_text.specs.Draft.{AreParts, clipped_contents}
 use Rattle.recording_text.specs.Pulled.{GivesMembers}
 use Rattle.recording_text.proofs.Somes.{if_some, found_is}
-use Rattle.recording_text.proofs.Pulled.{gives_object}
+use Rattle.recording_text.proofs.Pulled.{gives_object_of}
 use Rattle.recording_text.proofs.draft.pull_found.Goals as goal
 
 pub returns : goal.returns
@@ -12,8 +11,12 @@ returns c = if_some c.found.result (λ q gives.
     let all = c.begins_object.new.reader in
     let members : GivesMembers AreParts 126 all c.pull_draft.new.reader c.in-Some.draft =
     found_is _ c.in_ok-draft.field-0 c.in-Some.draft c.in-Some.is c.in_ok-draft.ensures 123 in
-    gives_object AreParts clipped_contents 126 c.args.reader.now all [] c.in-Some.draft (found q)
-    (c.if-not-begins_object.ensures refl)
-    (subst (λ (r : List Token). GivesMembers AreParts 126 all r c.in-Some.draft) c.in-None.ensures.value.0
-    members)
-    gives) c.found.ensures
+    let known : GivesMembers AreParts 126 all [] c.in-Some.draft =
+    subst (λ (r : List Token). GivesMembers AreParts 126 all r c.in-Some.draft) c.in-None.ensures.value.0
+    members in
+    let is = gives known.found known.are in (
+      is.0,
+      gives_object_of AreParts clipped_contents 126 c.args.reader.now all [] c.in-Some.draft is.0
+          (c.if-not-begins_object.ensures refl) known is.1,
+      is.2,
+    )) c.found.ensures

@@ -1,13 +1,16 @@
-use Rattle.std.proofs.Common.{ℕ, suc, map, length}
+use Rattle.std.proofs.Common.{ℕ, List, suc, map, length}
+use Rattle.recorder.specs.declared.event.Event.{Event}
 use Rattle.recording_text.specs.Reading.{list_in}
 use Rattle.recording_text.specs.Clipped.{clipped_event}
+use Rattle.recording_text.specs.Held.{HoldsCores}
 use Rattle.recording_text.proofs.Pulled.{Came}
 use Rattle.recording_text.proofs.pulled_lists.pull_cores.Given as goal
 
--- the items so far are those that were found
+-- for the items so far stand those that were found
 abbrev pub invariant-items : goal.invariant-items
-invariant-items l = (depth : ℕ) → Came (list_in clipped_event) (suc (suc depth)) l.initial.reader
-    (map (λ v. v.items) l.found.items) l.reader
+invariant-items l = (depth : ℕ) → (xs : List (List Event))
+    × Came (list_in clipped_event) (suc (suc depth)) l.initial.reader xs l.reader
+    × HoldsCores (map (λ v. v.items) l.found.items) xs
 
 abbrev pub decreases-items : goal.decreases-items
 decreases-items l = length l.reader
