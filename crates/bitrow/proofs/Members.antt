@@ -188,11 +188,3 @@ row_kept old now new after n j row seen same kept h =
           ∙ sym (members_at old n j below))))
       | inr past ↦ members_past after n j past ∙ sym (members_past old n j past)
     ])
-
--- where no bit is 1, no number is in the set
-pub none_left : (new after : List ℕ) (n : ℕ) → after ≡ new → ((j : ℕ) → bit_of new j ≡ false) → (j : ℕ)
-    → is_in (members after n) j ≡ false
-none_left new after n kept h j = elim (cases_lt j n) [
-  | inl below ↦ members_at after n j below ∙ (ap (λ (ws : List ℕ). bit_of ws j) kept ∙ h j)
-  | inr past ↦ members_past after n j past
-]
