@@ -1,21 +1,24 @@
 -- What is answered of contents for which others stand.
-use Rattle.std.proofs.Common.{◌≡◌, ◌<◌, ◌⊎◌, ◌↔◌, ◌∙◌, inl, inr, ℕ, Option, Some, IsSome, option_map, List}
+use Rattle.std.proofs.Common.{◌≡◌, ◌<◌, ◌⊎◌, ◌↔◌, ◌∙◌, inl, inr, ℕ, Option, Some, IsSome, option_map, List, [], ◌∷◌}
 use Rattle.std.proofs.Common.{map, length, refl, sym, ap, subst, arith, Result, Ok, Err, IsOk, IfOk, IfErr}
 use Rattle.std.proofs.lemmas.List.{length-map}
-use Rattle.common.specs.declared.limits.TheConstants.{MAX_CORES, MAX_ADDRESSES}
+use Rattle.std.proofs.lemmas.List.Sums.{sum_by-cons}
+use Rattle.std.specs.List.{sum_by}
+use Rattle.common.specs.declared.limits.TheConstants.{MAX_ADDRESSES}
 use Rattle.serde_json.specs.Data.{Data}
 use Rattle.recorder.specs.declared.fault.RecError.{RecError}
 use Rattle.recorder.specs.declared.fault.RecError.TheVariants.{NotJson, Shape, Version, Limits, Source, Value}
 use Rattle.recorder.specs.declared.fault.RecError.TheVariants.{WriteList, OutOfMemory}
 use Rattle.recorder.specs.declared.event.Event.{Event}
-use Rattle.recorder.specs.Execution.{Execution}
+use Rattle.recorder.specs.Execution.{Execution, event_count}
+use Rattle.recorder.specs.PlacedLaws.{placed_total}
 use Rattle.recorder.specs.Recording.{IsRecording, IsWithinLimits}
 use Rattle.recorder.specs.Refusals.{IsRefusal}
 use Rattle.recording_text.specs.Text.{IsReadAs, has_failed_cas}
 use Rattle.recording_text.specs.Contents.{Contents, told, IsVersioned}
 use Rattle.recording_text.specs.Reading.{shape_in, Tells, IsReadingResult}
 use Rattle.recording_text.specs.Clipped.{clip, clip_event, clipped_shape}
-use Rattle.recording_text.specs.Held.{HoldsCores, StandsFor}
+use Rattle.recording_text.specs.Held.{AreTooMany, HoldsCores, StandsFor}
 use Rattle.recording_text.proofs.ClippedContents.{contents_from, versioned_from}
 use Rattle.recording_text.proofs.ClippedAnswers.{answers_from, version_from}
 
@@ -35,7 +38,7 @@ versioned_by q c version values failed (inr (two, some)) =
 
 -- contents beyond the limits
 abbrev IsLarge : Contents → Type 0
-IsLarge c = (MAX_CORES < length c.cores) ⊎ (MAX_ADDRESSES < length c.write_lists)
+IsLarge c = AreTooMany c.cores ⊎ (MAX_ADDRESSES < length c.write_lists)
 
 -- contents are the same where their parts are
 same_parts : (v w : ℕ) (cores others : List (List Event)) (lists more : List (List ℕ))
@@ -57,12 +60,27 @@ same_or_large q c s = elim s.cores [
 
 -- which are not within them
 beyond : (c : Contents) → IsLarge c → IsWithinLimits (told c) → ⊥
-beyond c (inl many) within = omega (arith, many, within.few_cores)
+unfolding event_count
+beyond c (inl (inl many)) within = omega (arith, many, within.few_cores)
+beyond c (inl (inr many)) within = omega (arith, many, within.few_events, placed_total 0 c.cores)
 beyond c (inr many) within = omega (arith, many, within.few_addresses)
+
+-- clipped cores have as many events
+clipped_count : (cores : List (List Event))
+    → sum_by (λ es. length es) (map (map clip_event) cores) ≡ sum_by (λ es. length es) cores
+clipped_count [] = refl
+clipped_count (es ∷ cores) = omega (
+  arith,
+  sum_by-cons (λ (l : List Event). length l) es cores,
+  sum_by-cons (λ (l : List Event). length l) (map clip_event es) (map (map clip_event) cores),
+  length-map es clip_event,
+  clipped_count cores,
+)
 
 -- clipped contents are as large
 large_from : (c : Contents) → IsLarge (clipped_shape c) → IsLarge c
-large_from c (inl many) = inl (omega (arith, many, length-map c.cores (map clip_event)))
+large_from c (inl (inl many)) = inl (inl (omega (arith, many, length-map c.cores (map clip_event))))
+large_from c (inl (inr many)) = inl (inr (omega (arith, many, clipped_count c.cores)))
 large_from c (inr many) = inr (omega (arith, many, length-map c.write_lists (map clip)))
 
 -- the refusal of what is beyond the limits

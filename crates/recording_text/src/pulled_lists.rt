@@ -1,9 +1,9 @@
-//! Lists of a recording, read from the tokens of its text. Of more cores or addresses than a recording may
-//! have one too many is held, so that a long text takes no room for the others.
+//! Lists of a recording, read from the tokens of its text. Of more cores, events or addresses than a recording
+//! may have one too many is held, so that a long text takes no room for the others.
 
 ghost use Rattle.std.specs.Prelude.{◌++◌, ◌∷◌, [], ℕ, List, suc, map, IfOk, IfSome};
 ghost use Rattle.recorder.specs.declared.event.Event.{Event};
-ghost use Rattle.recording_text.specs.Held.{HoldsCores, HoldsLists};
+ghost use Rattle.recording_text.specs.Held.{HoldsCores, HoldsEvents, HoldsLists};
 ghost use Rattle.recording_text.specs.Reading.{list_in, value_in};
 ghost use Rattle.recording_text.specs.Clipped.{clipped_event, clipped_number};
 ghost use Rattle.recording_text.specs.Pulled.{GivesValue};
@@ -11,7 +11,7 @@ ghost use Rattle.recording_text.specs.Pulled.{GivesValue};
 use crate::fields::pull_event;
 use crate::tokens::{begins_array, pull_number, pull_value};
 use crate::versions::has_failed;
-use common::{EventId, MAX_ADDRESSES, MAX_CORES};
+use common::{EventId, MAX_ADDRESSES, MAX_CORES, MAX_EVENTS};
 use json::Reader;
 use recorder::Event;
 use std::alloc::{AllocError, Global};
@@ -19,10 +19,27 @@ use std::alloc::{AllocError, Global};
 /// For how many events or numbers a list has room at first.
 const ROOM: usize = 32;
 
+/// Holds an event more; of those that are too many the first, or the last compare-and-swap that failed.
+fn hold_event(found: &mut Vec<Event>, event: Event) -> Result<(), AllocError>
+    ensures { IfOk result (λ _. (events : List Event) → HoldsEvents found.old.items events
+        → HoldsEvents found.new.items (events ++ event ∷ [])) }
+{
+    if found.len() <= MAX_EVENTS {
+        found.push(event)?;
+        return Ok(());
+    }
+    if event.is_failed_cas() {
+        found.truncate(MAX_EVENTS);
+        found.push(event)?;
+    }
+    Ok(())
+}
+
 /// The events of a core.
 fn pull_core(alloc: Global, reader: &mut Reader<'_>) -> Result<Option<Vec<Event>>, AllocError>
-    ensures { IfOk result (λ o. IfSome o (λ v. (depth : ℕ)
-        → GivesValue (list_in clipped_event) (suc (suc depth)) reader.old v.items reader.new)) }
+    ensures { IfOk result (λ o. IfSome o (λ v. (depth : ℕ) → (events : List Event)
+        × GivesValue (list_in clipped_event) (suc (suc depth)) reader.old events reader.new
+        × HoldsEvents v.items events)) }
 {
     if !begins_array(reader) {
         return Ok(None);
@@ -32,7 +49,7 @@ fn pull_core(alloc: Global, reader: &mut Reader<'_>) -> Result<Option<Vec<Event>
         let Some(event) = pull_event(reader) else {
             return Ok(None);
         };
-        found.push(event)?;
+        hold_event(&mut found, event)?;
     }
     Ok(Some(found))
 }
@@ -78,9 +95,9 @@ pub(crate) fn pull_values(
 
 /// Holds a core more; of those that are too many the first, or the last in which a compare-and-swap failed.
 fn hold_core(found: &mut Vec<Vec<Event>>, core: Vec<Event>) -> Result<(), AllocError>
-    ensures { IfOk result (λ _. (cores : List (List Event))
-        → HoldsCores (map (λ w. w.items) found.old.items) cores
-        → HoldsCores (map (λ w. w.items) found.new.items) (cores ++ core.items ∷ [])) }
+    ensures { IfOk result (λ _. (cores : List (List Event)) (events : List Event)
+        → HoldsCores (map (λ w. w.items) found.old.items) cores → HoldsEvents core.items events
+        → HoldsCores (map (λ w. w.items) found.new.items) (cores ++ events ∷ [])) }
 {
     if found.len() <= MAX_CORES {
         found.push(core)?;

@@ -1,15 +1,24 @@
-use Rattle.std.proofs.Common.{refl, suc}
+use Rattle.std.proofs.Common.{◌++◌, ◌∷◌, [], refl, suc, inl}
 use Rattle.recording_text.specs.Clipped.{clipped_event}
-use Rattle.recording_text.proofs.Pulled.{came_more, came_shorter, came_all}
+use Rattle.recording_text.proofs.Pulled.{came_start, came_more, came_shorter, came_all}
 use Rattle.recording_text.proofs.pulled_lists.pull_core.Goals as goal
+
+pub items-init : goal.items-init
+items-init c depth = (
+  [],
+  came_start clipped_event (suc depth) c.begins_array.new.reader [] refl,
+  inl (rw c.in_ok-found.ensures.items refl),
+)
 
 pub items-preserved : goal.items-preserved
 items-preserved c depth =
-    came_more clipped_event (suc depth) c.begins_array.new.reader c.items.reader c.take_end_array.new.self
-    c.pull_event.new.reader c.items.found.items
-    c.push.new.self.items c.in-Some.event
-    (c.items.invariant depth) c.items-test.ensures (c.in-Some.ensures depth)
-    c.in_ok-push.ensures.items
+    let before = c.items.invariant depth in (
+      before.0 ++ c.in-Some.event ∷ [],
+      came_more clipped_event (suc depth) c.begins_array.new.reader c.items.reader c.take_end_array.new.self
+          c.pull_event.new.reader before.0 (before.0 ++ c.in-Some.event ∷ []) c.in-Some.event
+          before.1 c.items-test.ensures (c.in-Some.ensures depth) refl,
+      c.in_ok-hold_event.ensures before.0 before.2,
+    )
 
 pub items-smaller : goal.items-smaller
 items-smaller c =
@@ -19,6 +28,9 @@ items-smaller c =
 
 pub returns : goal.returns
 returns c depth =
-    came_all clipped_event (suc depth) c.begins_array.new.reader c.items.reader c.take_end_array.new.self
-    c.args.reader.now c.items.found.items (c.items.invariant depth) c.items-test.ensures
-    (c.if-not-begins_array.ensures refl)
+    let all = c.items.invariant depth in (
+      all.0,
+      came_all clipped_event (suc depth) c.begins_array.new.reader c.items.reader c.take_end_array.new.self
+          c.args.reader.now all.0 all.1 c.items-test.ensures (c.if-not-begins_array.ensures refl),
+      all.2,
+    )

@@ -14,21 +14,20 @@ items-init c depth = (
 
 pub items-preserved : goal.items-preserved
 items-preserved c depth =
-    let before = c.items.invariant depth in (
-      before.0 ++ c.in-Some.core.items ∷ [],
+    let before = c.items.invariant depth in
+    let core = found_is _ c.in_ok-core.field-0 c.in-Some.core c.in-Some.is c.in_ok-core.ensures depth in (
+      before.0 ++ core.0 ∷ [],
       came_more (list_in clipped_event) (suc (suc depth)) c.begins_array.new.reader c.items.reader
-          c.take_end_array.new.self c.pull_core.new.reader before.0 (before.0 ++ c.in-Some.core.items ∷ [])
-          c.in-Some.core.items before.1 c.items-test.ensures
-          (found_is _ c.in_ok-core.field-0 c.in-Some.core c.in-Some.is c.in_ok-core.ensures depth) refl,
-      c.in_ok-hold_core.ensures before.0 before.2,
+          c.take_end_array.new.self c.pull_core.new.reader before.0 (before.0 ++ core.0 ∷ [])
+          core.0 before.1 c.items-test.ensures core.1 refl,
+      c.in_ok-hold_core.ensures before.0 core.0 before.2 core.2,
     )
 
 pub items-smaller : goal.items-smaller
 items-smaller c =
+    let core = found_is _ c.in_ok-core.field-0 c.in-Some.core c.in-Some.is c.in_ok-core.ensures 0 in
     came_shorter (list_in clipped_event) (suc (suc 0)) c.items.reader c.take_end_array.new.self
-    c.pull_core.new.reader c.in-Some.core.items
-    c.items-test.ensures (found_is _ c.in_ok-core.field-0 c.in-Some.core c.in-Some.is
-    c.in_ok-core.ensures 0)
+    c.pull_core.new.reader core.0 c.items-test.ensures core.1
 
 pub returns : goal.returns
 returns c depth =
