@@ -3,7 +3,7 @@ use Rattle.std.proofs.Common.{◌∙◌, inl, subst, sym, ap, length-append, Vec
 use Rattle.relations.specs.Relation.{Related}
 use Rattle.relations.specs.Cycle.{IsExactRow}
 use Rattle.labels.specs.Certified.{lists_of}
-use Rattle.search.specs.Bits.{Marked}
+use Rattle.bitrow.specs.Rows.{Marked}
 use Rattle.search.specs.Cycles.{IsCap, IsNearest, IsDistanceRow, IsLeastClosing}
 use Rattle.search.specs.Fresh.{AreEmptySets}
 use Rattle.search.proofs.Cuts.{cap_next, distance_push}

@@ -2,7 +2,7 @@ use Rattle.std.proofs.Common.{◌≡◌, ◌∙◌, ℕ, Bool, List, length, ap,
 use Rattle.std.specs.Option.{unwrap_or}
 use Rattle.relations.specs.Relation.{Related}
 use Rattle.relations.specs.Cycle.{IsExactRow}
-use Rattle.search.specs.Bits.{Marked}
+use Rattle.bitrow.specs.Rows.{Marked}
 use Rattle.search.specs.Cycles.{IsNearest}
 use Rattle.search.proofs.under.row_cut.Goals as goal
 
