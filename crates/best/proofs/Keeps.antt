@@ -15,7 +15,7 @@ use Rattle.atomic_table.proofs.Lists.{at_set, at_snoc, at_longer, set_here, set_
 use Rattle.best.specs.declared.rule.Known.{Known}
 use Rattle.best.specs.declared.rule.View.{View}
 use Rattle.relations.specs.Relation.{Table}
-use Rattle.best.specs.Rule.{IsLength, none_word, first_view, spent_view, with_others, joined_views, knows}
+use Rattle.best.specs.Rule.{IsLength, none_word, first_bound_view, spent_bound_view, bound_with_others, joined_bound_views, knows}
 use Rattle.best.specs.Rule.{knowing, Bounded, LegalBest, IsUnset, LowerStep, ReadStep}
 
 none_in : {X : Type 0} (x : X) → Contains [] x → ⊥
@@ -125,10 +125,10 @@ sole_length c s r id v at alone full =
     (some-injective o.1 v (sym o.2 ∙ ap (get_elem? s.views) same ∙ at)) o.3
 
 -- so a bound that is opened is none
-pub unset : (c : Table) → IsUnset (first_view c)
+pub unset : (c : Table) → IsUnset (first_bound_view c)
 unset c s i r at = elim (ℕ_discrete (get_or s.words 0 0) none_word) [
   | yes e ↦ e
-  | no full ↦ absurd (none_in (get_or s.words 0 0) (sole_length c s r i (first_view c) at refl full))
+  | no full ↦ absurd (none_in (get_or s.words 0 0) (sole_length c s r i (first_bound_view c) at refl full))
 ]
 
 pub reads : (c : Table) (slots id : ℕ) (me : Me (Unit {0}) View) → me.0.known.live ≡ true
@@ -173,7 +173,7 @@ reads c slots id me live s r _ at _ =
       ),
     ))
 
-pub begins : (c : Table) → LegalBest c (opening (none_word ∷ []) [] (first_view c))
+pub begins : (c : Table) → LegalBest c (opening (none_word ∷ []) [] (first_bound_view c))
 begins c = record {
   size = refl;
   word = inl refl;
@@ -184,13 +184,13 @@ begins c = record {
   sole = λ _ _ _ _. refl;
 }
   where
-    only : (i : ℕ) (v : View) → get_elem? (first_view c ∷ []) i ≡ some v → first_view c ≡ v
-    only zero v e = some-injective (first_view c) v e
+    only : (i : ℕ) (v : View) → get_elem? (first_bound_view c ∷ []) i ≡ some v → first_bound_view c ≡ v
+    only zero v e = some-injective (first_bound_view c) v e
     only (suc i) v e = absurd (some-ne-none v (sym e))
 
-pub splits : (c : Table) (id : ℕ) (v : View) → Splits (LegalBest c) id v (with_others v) (with_others v)
+pub splits : (c : Table) (id : ℕ) (v : View) → Splits (LegalBest c) id v (bound_with_others v) (bound_with_others v)
 splits c id v s r at =
-    let w = with_others v in
+    let w = bound_with_others v in
     let views = set s.views id w in
     -- a fact of each view: of the two seats', and of the others
     let each : (P : View → Type 0) → P w
@@ -213,19 +213,19 @@ splits c id v s r at =
     }
 
 pub joins : (c : Table) (id : ℕ) (v : View) (other : ℕ) (w : View)
-    → Joins (LegalBest c) id v other w (joined_views v w) spent_view
+    → Joins (LegalBest c) id v other w (joined_bound_views v w) spent_bound_view
 joins c id v other w s r at ne at' =
-    let both = joined_views v w in
+    let both = joined_bound_views v w in
     let n : ℕ = get_or s.words 0 0 in
     let mid = set s.views id both in
     let there : get_elem? s.views other ≡ some w = sym (set_else s.views id other both ne) ∙ at' in
-    let here : get_elem? (set mid other spent_view) id ≡ some both = set_else mid other id spent_view
+    let here : get_elem? (set mid other spent_bound_view) id ≡ some both = set_else mid other id spent_bound_view
     (λ e. ne (sym e)) ∙ set_here s.views id both (in_length s.views id v at) in
     -- a view is the joined one, nothing, or an old one
-    let kinds : (P : View → Type 0) → P both → P spent_view
+    let kinds : (P : View → Type 0) → P both → P spent_bound_view
     → ((j : ℕ) (u : View) → j ≢ id → get_elem? s.views j ≡ some u → P u) → (j : ℕ) (u : View)
-    → get_elem? (set mid other spent_view) j ≡ some u → P u
-    = λ P p q o. each_set (λ _ u. P u) mid other spent_view q
+    → get_elem? (set mid other spent_bound_view) j ≡ some u → P u
+    = λ P p q o. each_set (λ _ u. P u) mid other spent_bound_view q
     (λ j u _ e. each_set (λ _ u. P u) s.views id both p o j u e) in
     record {
       size = r.size;
@@ -257,7 +257,7 @@ joins c id v other w s r at ne at' =
           (λ no. (
             o.0,
             o.1,
-            set_else mid other o.0 spent_view no ∙ set_else s.views id o.0 both ni ∙ o.2,
+            set_else mid other o.0 spent_bound_view no ∙ set_else s.views id o.0 both ni ∙ o.2,
             o.3,
           )));
       sole = λ i u e l. absurd (kinds (λ u. u.alone ≡ true → ⊥) (λ l. off l) (λ l. off l)

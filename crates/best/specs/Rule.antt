@@ -35,20 +35,20 @@ abbrev pub knows : Known → ℕ → Known
 knows v k = record { live = v.live; relation = v.relation; lengths = v.lengths ++ k ∷ [] }
 
 -- the view of the first seat, the only one
-abbrev pub first_view : Table → View
-first_view t = record { known = first_bound t; alone = true }
+abbrev pub first_bound_view : Table → View
+first_bound_view t = record { known = first_bound t; alone = true }
 
 -- the view of a seat that was merged into another
-abbrev pub spent_view : View
-spent_view = record { known = spent_bound; alone = false }
+abbrev pub spent_bound_view : View
+spent_bound_view = record { known = spent_bound; alone = false }
 
 -- another seat stands beside it
-abbrev pub with_others : View → View
-with_others v = record { known = v.known; alone = false }
+abbrev pub bound_with_others : View → View
+bound_with_others v = record { known = v.known; alone = false }
 
 -- the view of one seat for two
-abbrev pub joined_views : View → View → View
-joined_views v w = record { known = joined_bounds v.known w.known; alone = false }
+abbrev pub joined_bound_views : View → View → View
+joined_bound_views v w = record { known = joined_bounds v.known w.known; alone = false }
 
 -- one length more is known there
 abbrev pub knowing : View → ℕ → View

@@ -31,11 +31,11 @@ pub struct View {
 pub struct BestRule;
 
 impl TableRule<(), View, Relation> for BestRule {
-    ghost use Rattle.best.specs.Rule.{LegalBest, first_view};
+    ghost use Rattle.best.specs.Rule.{LegalBest, first_bound_view};
 
     ghost holds = { LegalBest };
 
-    ghost first = { first_view };
+    ghost first = { first_bound_view };
 }
 
 /// The step of `lower`.
@@ -60,19 +60,19 @@ impl Play<(), View> for Reads {
 pub struct Beside;
 
 impl Split<View> for Beside {
-    ghost use Rattle.best.specs.Rule.{with_others};
+    ghost use Rattle.best.specs.Rule.{bound_with_others};
 
-    ghost left = { with_others };
+    ghost left = { bound_with_others };
 
-    ghost right = { with_others };
+    ghost right = { bound_with_others };
 }
 
 impl Join<View> for Beside {
-    ghost use Rattle.best.specs.Rule.{joined_views, spent_view};
+    ghost use Rattle.best.specs.Rule.{joined_bound_views, spent_bound_view};
 
-    ghost both = { joined_views };
+    ghost both = { joined_bound_views };
 
-    ghost spent = { spent_view };
+    ghost spent = { spent_bound_view };
 }
 
 /// The one word, with its rule.

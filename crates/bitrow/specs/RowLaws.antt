@@ -10,7 +10,8 @@ pub marked_within : (rows : List (List Bool)) → IsBitSquare rows → (e f : �
     → (e < length rows) × (f < length rows)
 marked_within rows square e f is = elim (cases_lt e (length rows)) [
   | inr past ↦ absurd (true≢false (sym is
-      ∙ (ap (λ (row : List Bool). is_in row f) (get_or_past rows e [] past) ∙ get_or_past {X = Bool} [] f false (omega arith))))
+      ∙ (ap (λ (row : List Bool). is_in row f) (get_or_past rows e [] past)
+      ∙ get_or_past {X = Bool} [] f false (omega arith))))
   | inl below ↦ elim (cases_lt f (length rows)) [
     | inl also ↦ (below, also)
     | inr beyond ↦ absurd (true≢false (sym is

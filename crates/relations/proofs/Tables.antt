@@ -11,7 +11,7 @@ use Rattle.relations.specs.Placed.{IsPlaced, ArePlaced}
 use Rattle.relations.specs.Forced.{Forced}
 use Rattle.relations.specs.Filled.{IsFilledRow, AreFilled}
 use Rattle.bitrow.specs.Bits.{is_in}
-use Rattle.relations.specs.Relation.{Row, Table, IsRelation, table_of, sets_of, events_of, relates}
+use Rattle.relations.specs.Relation.{Row, Table, IsRelation, table_of, sets_of, placed_of, relates}
 use Rattle.recorder.specs.Execution.{Execution, event_count}
 
 -- what holds of each item holds with one more
@@ -65,7 +65,7 @@ sets_same (p ∷ ps) (set ∷ sets) size =
 
 -- and so are the events
 pub events_same : (ps : List Placed) (sets : List (List Bool)) → length sets ≡ length ps
-    → events_of (table_of ps sets) ≡ ps
+    → placed_of (table_of ps sets) ≡ ps
 events_same [] [] size = refl
 events_same [] (set ∷ sets) size = refl
 events_same (p ∷ ps) [] size = absurd (omega (arith, size))

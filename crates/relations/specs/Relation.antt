@@ -26,8 +26,8 @@ abbrev pub sets_of : Table → List (List Bool)
 sets_of t = map (λ row. row.after) t
 
 -- the event of each row
-abbrev pub events_of : Table → List Placed
-events_of t = map (λ row. row.event) t
+abbrev pub placed_of : Table → List Placed
+placed_of t = map (λ row. row.event) t
 
 -- whether e is related to f; no number that names no event is
 abbrev pub relates : Table → ℕ → ℕ → Bool
@@ -44,7 +44,7 @@ pub record IsSquare (t : Table) : Type 0 where
 
 -- its rows are those of the events of x
 abbrev pub IsTableOf : Execution → Table → Type 0
-IsTableOf x t = ArePlaced x (events_of t)
+IsTableOf x t = ArePlaced x (placed_of t)
 
 -- a set for each event, as many as there are events and no more than a recording has
 pub record IsRelation (ps : List Placed) (sets : List (List Bool)) : Type 0 where

@@ -38,7 +38,7 @@ IsEndVerdict h (Some verdict) = IsAtEnd h × IsVerdict (recording_of h) verdict
 
 -- the recording of a complete machine and the verdict on it, which passes its check; without fault the order of what
 -- was performed is one of TSO
-pub record IsJudged (h : Configuration) (j : Judged) : Type 0 where
+pub record IsJudgement (h : Configuration) (j : Judged) : Type 0 where
   pub complete : IsAtEnd h
   pub recording : j.recording ≡ recording_of h
   pub verdict : IsVerdict j.recording j.verdict
@@ -48,7 +48,7 @@ pub record IsJudged (h : Configuration) (j : Judged) : Type 0 where
 -- none where the machine is not complete
 abbrev pub IsJudgedEnd : Configuration → Option Judged → Type 0
 IsJudgedEnd h None = IsAtEnd h → ⊥
-IsJudgedEnd h (Some j) = IsJudged h j
+IsJudgedEnd h (Some j) = IsJudgement h j
 
 -- no violation: an order, or none where the machine is not complete
 abbrev pub IsLawful : Option Verdict → Type 0

@@ -3,7 +3,7 @@ use Rattle.std.proofs.lemmas.Result.{IfOk-weaker}
 use Rattle.recorder.specs.Execution.{Execution}
 use Rattle.recording_text.specs.Text.{recording_text}
 use Rattle.trials.specs.declared.judging.Judged.{Judged}
-use Rattle.trials.specs.Judged.{IsJudged, IsJudgedEnd}
+use Rattle.trials.specs.Judged.{IsJudgement, IsJudgedEnd}
 use Rattle.answers.specs.Verdict.{IsVerdictAnswer}
 use Rattle.answers.proofs.Answered.{complete_answer, unfinished_answer}
 use Rattle.answers.proofs.runs.finished.Goals as goal
@@ -20,7 +20,7 @@ returns-in-None c =
 pub returns-in-Some : goal.returns-in-Some
 returns-in-Some c =
     let machine = c.args.machine in
-    let judged : IsJudged machine c.in-Some.field-0 =
+    let judged : IsJudgement machine c.in-Some.field-0 =
     subst (λ (o : Option Judged). IsJudgedEnd machine o) c.in-Some.is c.in_ok-recording.ensures in
     IfOk-weaker c.recorded.result _ _ (λ answer found. complete_answer machine.fault machine.program
     machine.state answer judged.complete judged.tso
