@@ -40,6 +40,11 @@ pub record IsReadBack (x : Execution) (m : List ℕ) : Type 0 where
   pub script : steps_of (named_program x) (script_text (named_program x) (replay_steps x m))
       ≡ Ok (replay_steps x m)
 
+-- a machine of the recording's program, with room for the stores of a core, replays the order
+abbrev pub ReplaysOrder : Execution → List ℕ → Type 0
+ReplaysOrder x m = (capacity : ℕ) → most_stores x.cores ≤ capacity
+    → IsReplay x m (named_program x) capacity (replay_steps x m)
+
 -- the replay of a recording's least order, whose parts are read back and make the recording again
 pub record IsReplayAnswer (x : Execution) (answer : Answer) : Type 0 where
   pub order : List ℕ
@@ -47,8 +52,7 @@ pub record IsReplayAnswer (x : Execution) (answer : Answer) : Type 0 where
   pub status : answer.status ≡ DONE
   pub text : answer.text.items ≡ replay_text x order
   pub read : IsReadBack x order
-  pub replay : (capacity : ℕ) → most_stores x.cores ≤ capacity
-      → IsReplay x order (named_program x) capacity (replay_steps x order)
+  pub replay : ReplaysOrder x order
 
 -- the verdict on a recording that TSO does not allow
 pub record IsViolationAnswer (x : Execution) (answer : Answer) : Type 0 where

@@ -11,7 +11,7 @@ ghost use Rattle.judge.specs.Verdict.{IsVerdict, Verifies};
 ghost use Rattle.recorder.specs.Tso.{IsTsoOrder};
 ghost use Rattle.recorder.specs.FirstUse.{IsNumberedByFirstUse};
 ghost use Rattle.commands.specs.Replay.{IsReadBack, IsReplayed, IsReplayedInput, IsReplayOf, IsReplayStop};
-ghost use Rattle.commands.specs.Replay.{IsUnreplayed, parts_text, replay_text};
+ghost use Rattle.commands.specs.Replay.{IsUnreplayed, ReplaysOrder, parts_text, replay_text};
 
 use crate::judge_command::unread;
 use answers::{Answer, DONE, verdict_behind};
@@ -26,7 +26,7 @@ use litmus_text::print;
 use machine::{Step, steps_text};
 use recorder::Recording;
 use recording_text::read_recording;
-use replay::{every_order_is_replayed, is_numbered, most_stores, replay_steps};
+use replay::{is_numbered, most_stores, replay_steps};
 use std::alloc::{AllocError, Global};
 
 /// The line of a capacity, with an empty line behind it.
@@ -85,6 +85,7 @@ fn replay_text(
     requires order { IsTsoOrder recording.now order.now }
     ensures text { IfOk result (λ text. text.items ≡ replay_text recording.now order.now) }
     ensures read { IfOk result (λ _. IsReadBack recording.now order.now) }
+    ensures replay { IfOk result (λ _. ReplaysOrder recording.now order.now) }
 {
     recording.sound();
     let (program, steps) = replay_steps(alloc, recording, order)?;
@@ -98,8 +99,6 @@ fn replay_of(alloc: Global, recording: &Recording, verdict: &Verdict) -> Result<
     requires verified { Verifies recording.now verdict.now }
     ensures { IfOk result (IsReplayOf recording.now) }
 {
-    every_order_is_replayed();
-    recording.sound();
     match verdict {
         Verdict::Ordered(order) => {
             let text = replay_text(alloc, recording, order)?;

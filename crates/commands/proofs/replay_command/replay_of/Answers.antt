@@ -2,7 +2,7 @@ use Rattle.std.proofs.Common.{◌∙◌, inl, refl, ap, subst, List, ℕ}
 use Rattle.judge.specs.declared.verdict.Verdict.{Verdict}
 use Rattle.judge.specs.Verdict.{IsVerdict, IsOrderedVerdict}
 use Rattle.recorder.specs.Execution.{Execution}
-use Rattle.commands.specs.Replay.{replay_text, IsReadBack}
+use Rattle.commands.specs.Replay.{replay_text, IsReadBack, ReplaysOrder}
 use Rattle.commands.proofs.replay_command.replay_of.Goals as goal
 
 pub returns-in_ok-text-in-Ordered : goal.returns-in_ok-text-in-Ordered
@@ -19,6 +19,6 @@ returns-in_ok-text-in-Ordered c =
           ∙ ap (λ (l : List ℕ). replay_text x l) c.deref.ensures.value;
       read = subst (λ (l : List ℕ). IsReadBack x l) c.deref.ensures.value
           c.in_ok-text-in-Ordered.ensures.read;
-      replay = λ capacity room. c.every_order_is_replayed.ensures.replay x m capacity c.sound.ensures
-          least.order room;
+      replay = subst (λ (l : List ℕ). ReplaysOrder x l) c.deref.ensures.value
+          c.in_ok-text-in-Ordered.ensures.replay;
     })

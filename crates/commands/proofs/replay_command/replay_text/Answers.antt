@@ -7,7 +7,7 @@ use Rattle.machine.specs.ScriptText.{script_text}
 use Rattle.replay.specs.Program.{named_program}
 use Rattle.replay.specs.Steps.{replay_steps}
 use Rattle.replay.specs.Stores.{most_stores}
-use Rattle.commands.specs.Replay.{IsReadBack}
+use Rattle.commands.specs.Replay.{IsReadBack, ReplaysOrder}
 use Rattle.commands.proofs.replay_command.replay_text.Goals as goal
 
 -- the program is read back, and so is the script
@@ -18,6 +18,11 @@ read_back : {T E : Type 0} (r : Result T E) (x : Execution) (m : List ℕ)
     → IfOk r (λ _. IsReadBack x m)
 read_back (Ok text) x m program script = record { program = program; script = script }
 read_back (Err e) x m program script = tt
+
+-- what holds holds where there is a result
+also : {T E : Type 0} (r : Result T E) (P : Type 0) → P → IfOk r (λ _. P)
+also (Ok text) P p = p
+also (Err e) P p = tt
 
 pub printed-requires-clause-within : goal.printed-requires-clause-within
 printed-requires-clause-within c = rw c.deref.ensures.value
@@ -44,3 +49,12 @@ returns-clause-read c = read_back c.printed.result c.args.recording.now c.args.o
       c.deref.ensures.value,
       c.in_ok-program.ensures.steps,
     ) at c.printed.ensures.script)
+
+pub returns-clause-replay : goal.returns-clause-replay
+returns-clause-replay c =
+    let x : Execution = c.args.recording.now in
+    let m : List ℕ = c.args.order.now in
+    also c.printed.result (ReplaysOrder x m) (λ capacity room. rw (
+      c.in_ok-program.ensures.program,
+      c.in_ok-program.ensures.steps,
+    ) at (c.in_ok-program.ensures.replay capacity room))
