@@ -1,5 +1,6 @@
 pub mod Newer
 pub mod Written
+pub mod WritePlaces
 pub mod Exact
 pub mod Acyclic
 pub mod Tables

@@ -28,3 +28,8 @@ pub record ArePlaced (x : Execution) (ps : List Placed) : Type 0 where
   pub size : length ps ≡ event_count x
   pub each : (e : ℕ) (d : Placed) → e < length ps
       → IsPlaced x (slice_index_or ps e d) × ((slice_index_or ps e d).number ≡ e)
+
+-- at the number of each write of an address below n its place in the write list
+pub record AreWritePlaces (x : Execution) (n : ℕ) (places : List ℕ) : Type 0 where
+  pub size : length places ≡ event_count x
+  pub each : (e a : ℕ) → a < n → Writes x e a → slice_index_or places e 0 ≡ place (write_list x a) e

@@ -1,15 +1,13 @@
 //! Events with their places, which tell the pairs without a look into a write list.
 
-ghost use Rattle.std.specs.Prelude.{◌≡◌, ◌<◌, ℕ, IfOk};
+ghost use Rattle.std.specs.Prelude.{◌≡◌, ◌<◌, ◌+◌, ℕ, length, IfOk};
 ghost use Rattle.recorder.specs.Event.{is_plain_store, is_plain_load};
-ghost use Rattle.recorder.specs.Execution.{event_count, write_list, Reads, Writes, source_of};
-ghost use Rattle.recorder.specs.Order.{place};
+ghost use Rattle.recorder.specs.Execution.{event_count, write_list, Reads, source_of};
 ghost use Rattle.relations.specs.Forced.{IsNewerFrom};
-ghost use Rattle.relations.specs.Placed.{IsPlaced, ArePlaced};
+ghost use Rattle.relations.specs.Placed.{IsPlaced, ArePlaced, AreWritePlaces};
 
-use crate::overlooks::newer_from;
 use common::{Addr, CoreId, EventId, OutOfMemory};
-use recorder::{Event, Recording, place};
+use recorder::{Event, Recording};
 use std::alloc::Global;
 
 /// An event with its number, its core, what it does, and its places in the write lists.
@@ -50,34 +48,50 @@ fn is_load(event: &Event) -> bool
     matches!(event, Event::L { .. })
 }
 
-/// The place of an event in the write list of the address that it writes; 0 where it writes none.
-fn place_of(recording: &Recording, number: EventId) -> u16
-    ensures { (a : ℕ) → Writes recording.now number a
-        → result ≡ place (write_list recording.now a) number }
+/// Puts the places of the writes of one more address at their numbers.
+fn put_places(recording: &Recording, address: Addr, places: &mut [u16])
+    requires { AreWritePlaces recording.now address places.old }
+    ensures { AreWritePlaces recording.now (address + 1) places.new }
 {
     recording.sound();
-    match recording.written_address(number) {
-        Some(address) => place(recording.write_list(address), number) as u16,
-        None => 0,
+    let list = recording.write_list(address);
+    for i in 0..list.len() {
+        places[list[i] as usize] = i as u16;
     }
+}
+
+/// At the number of each event its place in the write list of the address that it writes; 0 where it
+/// writes none.
+fn write_places(alloc: Global, recording: &Recording) -> Result<Vec<u16>, OutOfMemory>
+    ensures { IfOk result
+        (λ places. AreWritePlaces recording.now (length recording.now.write_lists) places.items) }
+{
+    recording.sound();
+    let mut places = vec![in alloc; 0; recording.len()]?;
+    for address in 0..recording.addresses() as Addr {
+        put_places(recording, address, places.as_mut_slice());
+    }
+    Ok(places)
 }
 
 /// From which place on the writes of the address that an event reads are newer than its source;
 /// 0 where it does not read.
-fn newer_of(recording: &Recording, number: EventId) -> u16
+fn newer_of(recording: &Recording, number: EventId, places: &[u16]) -> u16
+    requires { AreWritePlaces recording.now (length recording.now.write_lists) places.now }
     ensures { (a : ℕ) → Reads recording.now number a
         → IsNewerFrom (write_list recording.now a) (source_of recording.now number) result }
 {
     recording.sound();
-    match recording.read_address(number) {
-        Some(address) => newer_from(recording.write_list(address), recording.source(number)) as u16,
+    match recording.source(number) {
+        Some(source) => places[source as usize] + 1,
         None => 0,
     }
 }
 
 /// An event with its places.
-fn placed_event(recording: &Recording, number: EventId) -> Placed
-    requires { number < event_count recording.now }
+fn placed_event(recording: &Recording, number: EventId, places: &[u16]) -> Placed
+    requires number { number < event_count recording.now }
+    requires places { AreWritePlaces recording.now (length recording.now.write_lists) places.now }
     ensures place { IsPlaced recording.now result }
     ensures number { result.number ≡ number }
 {
@@ -93,8 +107,8 @@ fn placed_event(recording: &Recording, number: EventId) -> Placed
         reads: recording.read_address(number),
         writes: recording.written_address(number),
         source: recording.source(number),
-        place: place_of(recording, number),
-        newer: newer_of(recording, number),
+        place: places[number as usize],
+        newer: newer_of(recording, number, places),
     }
 }
 
@@ -106,10 +120,11 @@ pub(crate) fn placed_events(
     ensures { IfOk result (λ ps. ArePlaced recording.now ps.items) }
 {
     recording.sound();
+    let places = write_places(alloc, recording)?;
     let len = recording.len();
     let mut events = Vec::with_capacity(alloc, len)?;
     for number in 0..len as EventId {
-        events.push(placed_event(recording, number))?;
+        events.push(placed_event(recording, number, &places))?;
     }
     Ok(events)
 }

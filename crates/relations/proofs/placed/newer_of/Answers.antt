@@ -1,12 +1,24 @@
-use Rattle.std.proofs.Common.{List, ℕ, length, arith, ap}
-use Rattle.relations.proofs.Written.{list_short}
+use Rattle.std.proofs.Common.{arith, sym, ◌∙◌}
+use Rattle.relations.proofs.Written.{source_within}
+use Rattle.relations.proofs.WritePlaces.{newer_places, source_place}
 use Rattle.relations.proofs.placed.newer_of.Goals as goal
 
-pub overflow_cast-result : goal.overflow_cast-result
-overflow_cast-result c = grind (
+pub bounds-places-source : goal.bounds-places-source
+bounds-places-source c = omega (
   arith,
-  c.newer_from.ensures.within,
-  c.sound.ensures.within.few_events,
-  ap (λ (ws : List ℕ). length ws) c.write_list.ensures,
-  list_short c.args.recording.now c.sound.ensures.well_formed c.in-Some.address,
+  c.requires.size,
+  source_within c.args.recording.now c.sound.ensures.well_formed c.in-Some.source c.args.number
+      (sym c.source.ensures ∙ c.in-Some.is),
 )
+
+pub overflow_add-result : goal.overflow_add-result
+overflow_add-result c = grind (
+  arith,
+  c.sound.ensures.within.few_events,
+  source_place c.args.recording.now c.sound.ensures c.args.places.now c.requires c.args.number c.in-Some.source
+      (sym c.source.ensures ∙ c.in-Some.is),
+)
+
+pub returns-in-Some : goal.returns-in-Some
+returns-in-Some c = newer_places c.args.recording.now c.sound.ensures c.args.places.now c.requires c.args.number
+    c.in-Some.source (sym c.source.ensures ∙ c.in-Some.is)
