@@ -1,14 +1,18 @@
 -- What clap says of words that it doesn't take.
-use Rattle.std.proofs.Common.{◌≡◌, ◌≢◌, Bool, true, false, refl, sym, subst, inl, inr, List, Option, Result}
-use Rattle.std.proofs.Common.{Ok, Err, IfErr, IfOk, IsErrAnd}
-use Rattle.clap.specs.Words.{HasKind, IsAmong, Row, Text, fault_of, kind_of, takes}
+use Rattle.std.proofs.Common.{◌≡◌, ◌≢◌, Bool, true, false, refl, sym, subst, inl, inr, List, [], Option, Result}
+use Rattle.std.proofs.Common.{Ok, Err, IfErr, IsErrAnd}
+use Rattle.clap.specs.Words.{App, HasKind, HasMatchesOf, IsAmong, Row, Text, fault_of, is_simple_and_free}
+use Rattle.clap.specs.Words.{kind_of, takes}
+use Rattle.clap.specs.declared.parser.matches.ArgMatches.{ArgMatches}
+use Rattle.std.specs.Prelude.{IsSomeAnd}
+use Rattle.command_line.specs.Entries.{HasEntries}
+use Rattle.command_line.proofs.Taken.{command_is_whole}
 use Rattle.clap.specs.declared.error.Error.{Error}
 use Rattle.clap.specs.declared.error.kind.ErrorKind.TheVariants as kinds
-use Rattle.command_line.specs.declared.options.Options.{Options}
 use Rattle.command_line.specs.declared.options.OptionFault.{OptionFault}
 use Rattle.command_line.specs.declared.options.OptionFault.TheVariants.{Clap, Refused, OutOfMemory}
-use Rattle.command_line.specs.Commands.{AreFaultless, command_of, program_app}
-use Rattle.command_line.specs.Options.{IsCommandFault, IsFault, IsSaid}
+use Rattle.command_line.specs.Commands.{program_app}
+use Rattle.command_line.specs.Options.{IsFault, IsSaid, AreTaken}
 
 -- what doesn't hold where a test passes, doesn't let it pass
 not_passed : {P : Type 0} (b : Bool) → (b ≡ true → P) → (P → ⊥) → b ≡ false
@@ -36,29 +40,29 @@ said_fault e (Clap x) words passes found said = (
 said_fault e (Refused refusal) words passes found said = absurd said
 said_fault e OutOfMemory words passes found said = tt
 
--- the same of an answer that is clap's error
-pub err_fault : (r : Result Options OptionFault) (e : Error) (words : List Text) →
-    (takes program_app words ≡ true → kind_of e ≡ kinds.OutOfMemory) → HasKind (fault_of program_app words) e
+-- the same of an answer that is clap's error, of a command that is the program's
+pub err_fault : {T : Type 0} (r : Result T OptionFault) (e : Error) (words : List Text) (app : App)
+    → app ≡ program_app → (takes app words ≡ true → kind_of e ≡ kinds.OutOfMemory)
+    → (is_simple_and_free app ≡ true → HasKind (fault_of app words) e)
     → IsErrAnd r (IsSaid e) → IfErr r (λ fault. IsFault fault words)
-err_fault (Ok o) e words passes found said = tt
-err_fault (Err f) e words passes found said = said_fault e f words passes found said
+err_fault {T} r e words app is = subst
+    (λ (x : App). (takes x words ≡ true → kind_of e ≡ kinds.OutOfMemory)
+    → (is_simple_and_free x ≡ true → HasKind (fault_of x words) e) → IsErrAnd r (IsSaid e)
+    → IfErr r (λ fault. IsFault fault words)) (sym is) (λ passes found. go r passes (found refl))
+  where
+    go : (r : Result T OptionFault) → (takes program_app words ≡ true → kind_of e ≡ kinds.OutOfMemory)
+        → HasKind (fault_of program_app words) e → IsErrAnd r (IsSaid e) → IfErr r (λ fault. IsFault fault words)
+    go (Ok x) passes found said = tt
+    go (Err f) passes found said = said_fault e f words passes found said
 
--- a fault of the command that clap reads of words that it takes
-command_fault : (f : OptionFault) (words : List Text) → AreFaultless words
-    → IsCommandFault f (command_of words) → IsFault f words
-command_fault (Clap error) words taken fault = absurd fault
-command_fault (Refused refusal) words taken fault = (taken, fault)
-command_fault OutOfMemory words taken fault = tt
-
--- the same of an answer
-pub taken_fault : (r : Result Options OptionFault) (words : List Text) (command : Option (Text × List Row))
-    → command ≡ command_of words → AreFaultless words
-    → IfErr r (λ fault. IsCommandFault fault command) → IfErr r (λ fault. IsFault fault words)
-taken_fault (Ok o) words command is taken fault = tt
-taken_fault (Err f) words command is taken fault = command_fault f words taken
-    (subst (IsCommandFault f) is fault)
-
--- what is known anyway is known where the answer is options
-pub known_ok : (r : Result Options OptionFault) (P : Type 0) → P → IfOk r (λ _. P)
-known_ok (Ok o) P is = is
-known_ok (Err f) P is = tt
+-- what is known of words that clap takes
+pub taken : (words : List Text) (m : ArgMatches) (app : App) → app ≡ program_app
+    → (is_simple_and_free app ≡ true → fault_of app words ≡ []) → HasMatchesOf app words m → AreTaken words m
+taken words m app is = subst
+    (λ (x : App). (is_simple_and_free x ≡ true → fault_of x words ≡ []) → HasMatchesOf x words m
+    → AreTaken words m) (sym is) (λ none matches. record {
+      faultless = none refl;
+      command = (matches refl).1;
+      whole = subst (λ (o : Option (Text × List Row)). IsSomeAnd o HasEntries) (sym (matches refl).1)
+          (command_is_whole words (none refl));
+    })

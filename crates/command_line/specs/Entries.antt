@@ -1,6 +1,8 @@
 -- What the entries of a command ask for: each option is its entry, or else its default.
-use Rattle.std.specs.Prelude.{◌≡◌, ◌≢◌, ℕ, Bool, List, Option, Some, None, IfSome, codes, if◌then◌else◌}
-use Rattle.std.specs.Prelude.{option_map, unwrap_or}
+use Rattle.std.specs.Prelude.{◌≡◌, ◌≢◌, ◌&&◌, ℕ, Bool, List, Option, Some, None, IfSome, codes}
+use Rattle.std.specs.Prelude.{[], ◌∷◌, ⊤, false, find, option_map, true, unwrap_or}
+use Rattle.std.specs.Option.{option_map_or}
+use Rattle.std.specs.List.{list_any}
 use Rattle.std.specs.Str.{bytes_eq}
 use Rattle.std.specs.Str.Parse.{digits_value, without_leading_plus}
 use Rattle.clap.specs.Words.{IsUnsignedIn, Row, Text, first_of, one_of}
@@ -8,9 +10,11 @@ use Rattle.clap.specs.Takes.{is_given}
 use Rattle.clap.specs.Values.{bool_text}
 use Rattle.machine.specs.declared.fault.Fault.{Fault}
 use Rattle.machine.specs.declared.fault.Fault.TheVariants as fault
-use Rattle.command_line.specs.declared.options.TheConstants.{DEFAULT_SEED, DEFAULT_TRIALS, DEFAULT_ATTEMPTS}
-use Rattle.command_line.specs.declared.options.TheConstants.{DEFAULT_BUFFER, DEFAULT_FAULT, DEFAULT_LIMIT}
-use Rattle.command_line.specs.declared.options.TheConstants.{DEFAULT_WORKERS}
+use Rattle.command_line.specs.declared.options.Limits.{Limits}
+use Rattle.command_line.specs.declared.options.TheConstants.{DEFAULT_FAULT}
+use Rattle.command_line.specs.declared.table.Takes.{Takes}
+use Rattle.command_line.specs.declared.table.Takes.TheVariants as takes
+use Rattle.command_line.specs.Commands.{commands}
 
 -- the number that a text writes
 abbrev pub number_written : Text → ℕ
@@ -19,6 +23,45 @@ number_written text = digits_value 10 (without_leading_plus text)
 -- the number that an entry's text writes, or else the default
 abbrev pub number_or : ℕ → Option Text → ℕ
 number_or default entry = unwrap_or (option_map number_written entry) default
+
+-- the number of an option
+abbrev pub number_of : Text → Limits → List Row → ℕ
+number_of id limits rows = number_or limits.default (one_of id rows)
+
+-- the number of an option that clap asks for; 0 stands for no entry
+abbrev pub size_of : Text → List Row → ℕ
+size_of id rows = number_or 0 (one_of id rows)
+
+-- --show
+abbrev pub show_of : List Row → Option ℕ
+show_of rows = option_map number_written (one_of (codes "show") rows)
+
+-- the name by which --fault asks for a fault
+abbrev pub fault_name : Fault → Text
+fault_name fault.None = codes "none"
+fault_name fault.NoBypass = codes "no-bypass"
+fault_name fault.YoungestFirst = codes "youngest-first"
+fault_name fault.OpenFence = codes "open-fence"
+fault_name fault.StaleShare = codes "stale-share"
+fault_name fault.EarlyRmw = codes "early-rmw"
+
+-- the faults, in the order of the help
+abbrev pub faults : List Fault
+faults = fault.None ∷ fault.NoBypass ∷ fault.YoungestFirst ∷ fault.OpenFence ∷ fault.StaleShare
+    ∷ fault.EarlyRmw ∷ []
+
+-- the fault of a name
+abbrev pub fault_named : Text → Option Fault
+fault_named name = find (λ f. bytes_eq name (fault_name f)) faults
+
+-- the fault that an entry's text names, or else the default
+abbrev pub fault_or : Fault → Option Text → Option Fault
+fault_or default None = Some default
+fault_or default (Some name) = fault_named name
+
+-- --fault; none where its text is no fault's name
+abbrev pub machine_fault_of : List Row → Option Fault
+machine_fault_of rows = fault_or DEFAULT_FAULT (first_of (codes "fault") rows)
 
 -- the entry, where there is one, is a number of 64 bits
 abbrev pub HasNumber : Text → List Row → Type 0
@@ -32,66 +75,48 @@ HasText id rows = first_of id rows ≢ None
 abbrev pub HasFlag : Text → List Row → Type 0
 HasFlag id rows = unwrap_or (one_of id rows) (codes "false") ≡ bool_text (is_given id rows)
 
--- --cores, which clap asks for; 0 stands for no entry
-abbrev pub cores_of : List Row → ℕ
-cores_of rows = number_or 0 (one_of (codes "cores") rows)
+abbrev pub is_number : Takes → Bool
+is_number takes.Number = true
+is_number takes.Size = true
+is_number _ = false
 
--- --ops, which clap asks for; 0 stands for no entry
-abbrev pub ops_of : List Row → ℕ
-ops_of rows = number_or 0 (one_of (codes "ops") rows)
+abbrev pub is_flag : Takes → Bool
+is_flag takes.Nothing = true
+is_flag _ = false
 
--- --addresses, which clap asks for; 0 stands for no entry
-abbrev pub addresses_of : List Row → ℕ
-addresses_of rows = number_or 0 (one_of (codes "addresses") rows)
+abbrev pub is_required : Takes → Bool
+is_required takes.Place = true
+is_required takes.Size = true
+is_required _ = false
 
--- --seed
-abbrev pub seed_of : List Row → ℕ
-seed_of rows = number_or DEFAULT_SEED (one_of (codes "seed") rows)
+-- one of these arguments and options has this name and passes the test
+abbrev pub has_option : (Takes → Bool) → Text → List (Text × Takes) → Bool
+has_option test id options = list_any (λ o. test o.1 && bytes_eq o.0 id) options
 
--- --trials
-abbrev pub trials_of : List Row → ℕ
-trials_of rows = number_or DEFAULT_TRIALS (one_of (codes "trials") rows)
+-- one of some command does
+abbrev pub is_option : (Takes → Bool) → Text → Bool
+is_option test id = list_any (λ c. has_option test id c.1) commands
 
--- --attempts
-abbrev pub attempts_of : List Row → ℕ
-attempts_of rows = number_or DEFAULT_ATTEMPTS (one_of (codes "attempts") rows)
+-- the entries, whatever the command: a number's is a number, and a flag's is the words'
+pub record AreEntries (rows : List Row) : Type 0 where
+  pub numbers : (id : Text) → is_option is_number id ≡ true → HasNumber id rows
+  pub flags : (id : Text) → is_option is_flag id ≡ true → HasFlag id rows
 
--- --limit
-abbrev pub limit_of : List Row → ℕ
-limit_of rows = number_or DEFAULT_LIMIT (one_of (codes "limit") rows)
+-- the row of the command with this name
+abbrev pub row_named : Text → Option (Text × List (Text × Takes))
+row_named name = find (λ c. bytes_eq c.0 name) commands
 
--- --buffer
-abbrev pub capacity_of : List Row → ℕ
-capacity_of rows = number_or DEFAULT_BUFFER (one_of (codes "buffer") rows)
+-- the arguments and options of the command with this name
+abbrev pub options_of : Text → List (Text × Takes)
+options_of name = option_map_or (λ c. c.1) (row_named name) []
 
--- --workers
-abbrev pub workers_of : List Row → ℕ
-workers_of rows = number_or DEFAULT_WORKERS (one_of (codes "workers") rows)
+-- no command has this name
+abbrev pub NoneNamed : Text → List (Text × List (Text × Takes)) → Type 0
+NoneNamed name [] = ⊤
+NoneNamed name (c ∷ cs) = (name ≢ c.0) × NoneNamed name cs
 
--- --show
-abbrev pub show_of : List Row → Option ℕ
-show_of rows = option_map number_written (one_of (codes "show") rows)
-
--- --quiet: whether the words have it
-abbrev pub quiet_of : List Row → Bool
-quiet_of rows = is_given (codes "quiet") rows
-
--- the fault of a name
-abbrev pub fault_named : Text → Option Fault
-fault_named name =
-    if bytes_eq name (codes "none") then Some fault.None
-    else (if bytes_eq name (codes "no-bypass") then Some fault.NoBypass
-    else (if bytes_eq name (codes "youngest-first") then Some fault.YoungestFirst
-    else (if bytes_eq name (codes "open-fence") then Some fault.OpenFence
-    else (if bytes_eq name (codes "stale-share") then Some fault.StaleShare
-    else (if bytes_eq name (codes "early-rmw") then Some fault.EarlyRmw
-    else None)))))
-
--- the fault that an entry's text names, or else the default
-abbrev pub fault_or : Fault → Option Text → Option Fault
-fault_or default None = Some default
-fault_or default (Some name) = fault_named name
-
--- --fault; none where its text is no fault's name
-abbrev pub machine_fault_of : List Row → Option Fault
-machine_fault_of rows = fault_or DEFAULT_FAULT (first_of (codes "fault") rows)
+-- what was read is one of the commands, with the entries that it requires
+pub record HasEntries (command : Text × List Row) : Type 0 where
+  pub known : NoneNamed command.0 commands → ⊥
+  pub given : (id : Text) → has_option is_required id (options_of command.0) ≡ true → HasText id command.1
+  pub entries : AreEntries command.1

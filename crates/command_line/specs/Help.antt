@@ -1,105 +1,70 @@
--- The texts of the help that name limits and defaults.
-use Rattle.std.specs.Prelude.{◌≡◌, ◌++◌, ℕ, List, Option, codes, decimal, option_map}
+-- What the help says of limits, defaults and names.
+use Rattle.std.specs.Prelude.{◌||◌, ◌&&◌, ◌++◌, ℕ, Bool, List, [], ◌∷◌, Option, codes, drop, if◌then◌else◌}
+use Rattle.std.specs.Prelude.{length, map, nat_eq, nat_lt, not, option_map, take}
+use Rattle.std.specs.Char.{digit_value}
+use Rattle.std.specs.List.{list_all}
+use Rattle.std.specs.Str.{bytes_eq}
+use Rattle.std.specs.Str.Parse.{digits_value}
+use Rattle.clap.specs.Words.{Text}
 use Rattle.clap.specs.declared.builder.arg.Arg.{Arg}
-use Rattle.common.specs.declared.limits.TheConstants.{MAX_ADDRESSES, MAX_CAPACITY, MAX_CORES, MAX_EVENTS}
-use Rattle.common.specs.declared.limits.TheConstants.{MAX_STEPS, MAX_TRIALS, MAX_WORKERS}
-use Rattle.machine.specs.declared.fault.Fault.{Fault}
-use Rattle.machine.specs.declared.fault.Fault.TheVariants as fault
-use Rattle.command_line.specs.declared.options.TheConstants.{DEFAULT_ATTEMPTS, DEFAULT_BUFFER, DEFAULT_FAULT}
-use Rattle.command_line.specs.declared.options.TheConstants.{DEFAULT_LIMIT, DEFAULT_SEED, DEFAULT_TRIALS}
-use Rattle.command_line.specs.declared.options.TheConstants.{DEFAULT_WORKERS}
+use Rattle.common.specs.declared.limits.TheConstants.{MAX_ADDRESSES, MAX_CORES, MAX_EVENTS, MAX_STEPS}
+use Rattle.command_line.specs.declared.options.TheConstants.{ATTEMPTS, BUFFER, DEFAULT_FAULT, DEFAULT_SEED}
+use Rattle.command_line.specs.declared.options.TheConstants.{LIMIT, TRIALS, WORKERS}
+use Rattle.command_line.specs.declared.table.CommandRow.{CommandRow}
+use Rattle.command_line.specs.Entries.{fault_name, faults}
 
--- --steps
-abbrev pub steps_text : List ℕ
-steps_text = codes "The script: a file of at most " ++ decimal MAX_STEPS
-    ++ codes " lines, or - for standard input; without it steps are random"
+-- what stands after the first place of a part in the text
+abbrev pub text_after : Text → Text → Text
+text_after part [] = []
+text_after part (c ∷ rest) =
+    if bytes_eq (take (length part) (c ∷ rest)) part then drop (length part) (c ∷ rest)
+    else text_after part rest
 
--- --seed
-abbrev pub seed_text : List ℕ
-seed_text = codes "The seed of what is random, any number of 64 bits [default: "
-    ++ decimal DEFAULT_SEED ++ codes "]"
+-- the digits at the start of the text
+abbrev pub leading_digits : Text → Text
+leading_digits [] = []
+leading_digits (c ∷ rest) = if nat_lt (digit_value c) 10 then c ∷ leading_digits rest else []
 
--- --attempts
-abbrev pub attempts_text : List ℕ
-attempts_text = codes "The most random steps that a run attempts, from 1 to " ++ decimal MAX_STEPS
-    ++ codes " [default: " ++ decimal DEFAULT_ATTEMPTS ++ codes "]"
+-- the number that the text names after this part
+abbrev pub number_after : Text → Text → ℕ
+number_after part text = digits_value 10 (leading_digits (text_after part text))
 
--- --buffer
-abbrev pub buffer_text : List ℕ
-buffer_text = codes "Stores that a buffer holds, from 1 to " ++ decimal MAX_CAPACITY
-    ++ codes " [default: " ++ decimal DEFAULT_BUFFER ++ codes "]"
+-- the number that the help of an option names after these words
+abbrev pub said : List (Text × Text × ℕ)
+said = (codes "steps", codes "at most ", MAX_STEPS) ∷ (codes "seed", codes "[default: ", DEFAULT_SEED)
+    ∷ (codes "cores", codes "from 1 to ", MAX_CORES) ∷ (codes "ops", codes "from 1 to ", MAX_EVENTS)
+    ∷ (codes "ops", codes "at most ", MAX_EVENTS) ∷ (codes "addresses", codes "from 1 to ", MAX_ADDRESSES)
+    ∷ (codes "trials", codes "from 1 to ", TRIALS.most)
+    ∷ (codes "trials", codes "[default: ", TRIALS.default)
+    ∷ (codes "attempts", codes "from 1 to ", ATTEMPTS.most)
+    ∷ (codes "attempts", codes "[default: ", ATTEMPTS.default)
+    ∷ (codes "limit", codes "from 1 to ", LIMIT.most) ∷ (codes "limit", codes "[default: ", LIMIT.default)
+    ∷ (codes "buffer", codes "from 1 to ", BUFFER.most)
+    ∷ (codes "buffer", codes "[default: ", BUFFER.default)
+    ∷ (codes "workers", codes "from 1 to ", WORKERS.most)
+    ∷ (codes "workers", codes "[default: ", WORKERS.default) ∷ []
 
--- --limit
-abbrev pub limit_text : List ℕ
-limit_text = codes "Steps that may be taken, from 1 to " ++ decimal MAX_STEPS
-    ++ codes " [default: " ++ decimal DEFAULT_LIMIT ++ codes "]"
+-- texts with commas between them
+abbrev pub listed : List Text → Text
+listed [] = []
+listed (text ∷ []) = text
+listed (text ∷ texts) = text ++ codes ", " ++ listed texts
 
--- --workers
-abbrev pub workers_text : List ℕ
-workers_text = codes "The most threads that share the work, from 1 to " ++ decimal MAX_WORKERS
-    ++ codes " [default: " ++ decimal DEFAULT_WORKERS ++ codes "]"
-
--- --cores
-abbrev pub cores_text : List ℕ
-cores_text = codes "Cores of each program, from 1 to " ++ decimal MAX_CORES
-
--- --ops
-abbrev pub ops_text : List ℕ
-ops_text = codes "Operations of each core, from 1 to " ++ decimal MAX_EVENTS ++ codes ", and at most "
-    ++ decimal MAX_EVENTS ++ codes " over all cores"
-
--- --addresses
-abbrev pub addresses_text : List ℕ
-addresses_text = codes "Addresses that operations are drawn from, from 1 to " ++ decimal MAX_ADDRESSES
-
--- --trials
-abbrev pub trials_text : List ℕ
-trials_text = codes "Programs that are made and run, from 1 to " ++ decimal MAX_TRIALS
-    ++ codes " [default: " ++ decimal DEFAULT_TRIALS ++ codes "]"
-
--- the name by which --fault asks for a fault
-abbrev pub fault_name : Fault → List ℕ
-fault_name fault.None = codes "none"
-fault_name fault.NoBypass = codes "no-bypass"
-fault_name fault.YoungestFirst = codes "youngest-first"
-fault_name fault.OpenFence = codes "open-fence"
-fault_name fault.StaleShare = codes "stale-share"
-fault_name fault.EarlyRmw = codes "early-rmw"
-
--- --fault
-abbrev pub fault_text : List ℕ
-fault_text =
-    codes "A fault: none, no-bypass, youngest-first, open-fence, stale-share, early-rmw [default: "
+-- what the help of --fault says
+abbrev pub fault_text : Text
+fault_text = codes "A fault: " ++ listed (map fault_name faults) ++ codes " [default: "
     ++ fault_name DEFAULT_FAULT ++ codes "]"
 
--- --program
-abbrev pub names_text : List ℕ
-names_text = codes "The program that was recorded, which names the addresses: a file, or - for standard input"
+-- the help of an argument or an option with this name says its limits, its default and its names
+abbrev pub is_right_help : Text → Text → Bool
+is_right_help id help =
+    list_all (λ s. not (bytes_eq s.0 id) || nat_eq (number_after s.1 help) s.2) said
+    && (not (bytes_eq id (codes "fault")) || bytes_eq help fault_text)
 
--- --show
-abbrev pub show_text : List ℕ
-show_text = codes "Shows trial K, from 0 and below the number of trials, instead of the counts"
-
--- --quiet
-abbrev pub quiet_text : List ℕ
-quiet_text = codes "Shows no progress on standard error"
-
--- the texts that run and live name limits by
-pub record AreRunTexts (steps seed attempts buffer limit : List ℕ) : Type 0 where
-  pub steps_is : steps ≡ steps_text
-  pub seed_is : seed ≡ seed_text
-  pub attempts_is : attempts ≡ attempts_text
-  pub buffer_is : buffer ≡ buffer_text
-  pub limit_is : limit ≡ limit_text
-
--- the texts that trials names its further limits by
-pub record AreTrialsTexts (cores ops addresses trials workers : List ℕ) : Type 0 where
-  pub cores_is : cores ≡ cores_text
-  pub ops_is : ops ≡ ops_text
-  pub addresses_is : addresses ≡ addresses_text
-  pub trials_is : trials ≡ trials_text
-  pub workers_is : workers ≡ workers_text
+-- the help of each argument and option of these commands does
+abbrev pub has_right_help : List CommandRow → Bool
+has_right_help rows = list_all (λ c. list_all (λ a. is_right_help a.name.now a.help.now) c.arguments.now) rows
 
 -- what the help says of an argument
-abbrev pub help_of : Arg → Option (List ℕ)
+abbrev pub help_of : Arg → Option Text
 help_of arg = option_map (λ text. text.now) arg.help

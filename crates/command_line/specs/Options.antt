@@ -1,11 +1,12 @@
 -- The options that the words ask for.
 use Rattle.std.specs.Prelude.{◌≡◌, ◌≢◌, ◌≤◌, ◌<◌, ℕ, List, Option, Some, None, IfSome, Ok, false, ⊤, codes}
-use Rattle.std.specs.Prelude.{option_map, string_bytes}
+use Rattle.std.specs.Prelude.{IsSomeAnd, option_map, string_bytes}
+use Rattle.clap.specs.Takes.{is_given}
 use Rattle.clap.specs.Words.{IsAmong, Row, Text, fault_of, first_of, kind_of, takes}
 use Rattle.clap.specs.declared.error.Error.{Error}
 use Rattle.clap.specs.declared.error.kind.ErrorKind.TheVariants as kinds
-use Rattle.common.specs.declared.limits.TheConstants.{MAX_CAPACITY, MAX_STEPS, MAX_TRIALS, MAX_WORKERS}
 use Rattle.litmus.specs.Shapes.{is_outside, shape_of}
+use Rattle.command_line.specs.declared.options.Limits.{Limits}
 use Rattle.command_line.specs.declared.options.Options.{Options}
 use Rattle.command_line.specs.declared.options.Options.TheVariants.{Run, Judge, Trials, Live, Replay, Explain, Draw}
 use Rattle.command_line.specs.declared.options.RunOptions.{RunOptions}
@@ -16,12 +17,14 @@ use Rattle.command_line.specs.declared.options.FileOptions.{FileOptions}
 use Rattle.command_line.specs.declared.options.ExplainOptions.{ExplainOptions}
 use Rattle.command_line.specs.declared.options.OptionFault.{OptionFault}
 use Rattle.command_line.specs.declared.options.OptionFault.TheVariants.{Clap, Refused, OutOfMemory}
+use Rattle.command_line.specs.declared.options.TheConstants.{ATTEMPTS, BUFFER, DEFAULT_SEED, LIMIT, TRIALS}
+use Rattle.command_line.specs.declared.options.TheConstants.{WORKERS}
+use Rattle.command_line.specs.declared.values.Values.{Values}
 use Rattle.command_line.specs.Commands.{AreFaultless, command_of, program_app}
-use Rattle.command_line.specs.Entries.{HasFlag, HasNumber, HasText, addresses_of, attempts_of, capacity_of}
-use Rattle.command_line.specs.Entries.{cores_of, limit_of, machine_fault_of, ops_of, quiet_of, seed_of}
-use Rattle.command_line.specs.Entries.{show_of, trials_of, workers_of}
-use Rattle.command_line.specs.Refusals.{campaign_refusal, judge_refusal, live_refusal, refusal_of}
-use Rattle.command_line.specs.Refusals.{run_refusal}
+use Rattle.command_line.specs.Entries.{HasEntries, machine_fault_of, number_of, number_or, show_of, size_of}
+use Rattle.clap.specs.Words.{one_of, subcommand_rows_of}
+use Rattle.clap.specs.declared.parser.matches.ArgMatches.{ArgMatches}
+use Rattle.command_line.specs.Refusals.{refusal_of}
 
 -- n is the number that is asked for, from 1 to the limit
 pub record IsInRange (limit asked n : ℕ) : Type 0 where
@@ -30,77 +33,66 @@ pub record IsInRange (limit asked n : ℕ) : Type 0 where
   pub most : n ≤ limit
   pub inside : is_outside limit n ≡ false
 
--- the entries of run are what it requires
-pub record HasRunEntries (rows : List Row) : Type 0 where
-  pub program : HasText (codes "PROGRAM") rows
-  pub seed : HasNumber (codes "seed") rows
-  pub attempts : HasNumber (codes "attempts") rows
-  pub buffer : HasNumber (codes "buffer") rows
+-- n is the number of an option, within its limits
+abbrev pub IsNumber : Text → Limits → List Row → ℕ → Type 0
+IsNumber id limits rows n = IsInRange limits.most (number_of id limits rows) n
 
--- each option of run is its entry, or else its default; none is refused
+-- the seed that the entries ask for
+abbrev pub seed_of : List Row → ℕ
+seed_of rows = number_or DEFAULT_SEED (one_of (codes "seed") rows)
+
+-- each number, the fault and the flag is its entry, or else its default; none is refused
+pub record AreValues (v : Values) (rows : List Row) : Type 0 where
+  pub cores : v.cores ≡ size_of (codes "cores") rows
+  pub ops : v.ops ≡ size_of (codes "ops") rows
+  pub addresses : v.addresses ≡ size_of (codes "addresses") rows
+  pub seed : v.seed ≡ seed_of rows
+  pub trials : IsNumber (codes "trials") TRIALS rows v.trials
+  pub attempts : IsNumber (codes "attempts") ATTEMPTS rows v.attempts
+  pub limit : IsNumber (codes "limit") LIMIT rows v.limit
+  pub buffer : IsNumber (codes "buffer") BUFFER rows v.buffer
+  pub workers : IsNumber (codes "workers") WORKERS rows v.workers
+  pub fault : machine_fault_of rows ≡ Some v.fault
+  pub show : v.show ≡ show_of rows
+  pub shown : IfSome v.show (λ k. k < v.trials)
+  pub quiet : v.quiet ≡ is_given (codes "quiet") rows
+
+-- each option of run is its entry, or else its default
 pub record AreRunOptions (o : RunOptions) (rows : List Row) : Type 0 where
   pub program : first_of (codes "PROGRAM") rows ≡ Some (string_bytes o.program)
   pub steps : first_of (codes "steps") rows ≡ option_map string_bytes o.steps
   pub seed : o.seed ≡ seed_of rows
-  pub attempts : IsInRange MAX_STEPS (attempts_of rows) o.attempts
-  pub buffer : IsInRange MAX_CAPACITY (capacity_of rows) o.buffer
+  pub attempts : IsNumber (codes "attempts") ATTEMPTS rows o.attempts
+  pub buffer : IsNumber (codes "buffer") BUFFER rows o.buffer
   pub fault : machine_fault_of rows ≡ Some o.fault
-  pub unrefused : run_refusal rows ≡ None
 
--- the entries of judge are what it requires
-pub record HasJudgeEntries (rows : List Row) : Type 0 where
-  pub file : HasText (codes "FILE") rows
-  pub workers : HasNumber (codes "workers") rows
-
--- each option of judge is its entry, or else its default; none is refused
+-- each option of judge is its entry, or else its default
 pub record AreJudgeOptions (o : JudgeOptions) (rows : List Row) : Type 0 where
   pub file : first_of (codes "FILE") rows ≡ Some (string_bytes o.file)
-  pub workers : IsInRange MAX_WORKERS (workers_of rows) o.workers
-  pub unrefused : judge_refusal rows ≡ None
+  pub workers : IsNumber (codes "workers") WORKERS rows o.workers
 
--- the entries of trials are what it requires
-pub record HasTrialsEntries (rows : List Row) : Type 0 where
-  pub cores : HasNumber (codes "cores") rows
-  pub ops : HasNumber (codes "ops") rows
-  pub addresses : HasNumber (codes "addresses") rows
-  pub seed : HasNumber (codes "seed") rows
-  pub trials : HasNumber (codes "trials") rows
-  pub attempts : HasNumber (codes "attempts") rows
-  pub buffer : HasNumber (codes "buffer") rows
-  pub workers : HasNumber (codes "workers") rows
-  pub show : HasNumber (codes "show") rows
-  pub quiet : HasFlag (codes "quiet") rows
-
--- each option of trials is its entry, or else its default; none is refused, so the sizes make a shape
+-- each option of trials is its entry, or else its default; the sizes make a shape
 pub record AreTrialsOptions (o : TrialsOptions) (rows : List Row) : Type 0 where
-  pub cores : o.cores ≡ cores_of rows
-  pub ops : o.ops ≡ ops_of rows
-  pub addresses : o.addresses ≡ addresses_of rows
+  pub cores : o.cores ≡ size_of (codes "cores") rows
+  pub ops : o.ops ≡ size_of (codes "ops") rows
+  pub addresses : o.addresses ≡ size_of (codes "addresses") rows
   pub shape : shape_of o.cores o.ops o.addresses
       ≡ Ok (record { cores = o.cores; ops = o.ops; addresses = o.addresses })
   pub seed : o.seed ≡ seed_of rows
-  pub trials : IsInRange MAX_TRIALS (trials_of rows) o.trials
-  pub attempts : IsInRange MAX_STEPS (attempts_of rows) o.attempts
-  pub buffer : IsInRange MAX_CAPACITY (capacity_of rows) o.buffer
+  pub trials : IsNumber (codes "trials") TRIALS rows o.trials
+  pub attempts : IsNumber (codes "attempts") ATTEMPTS rows o.attempts
+  pub buffer : IsNumber (codes "buffer") BUFFER rows o.buffer
   pub fault : machine_fault_of rows ≡ Some o.fault
-  pub workers : IsInRange MAX_WORKERS (workers_of rows) o.workers
+  pub workers : IsNumber (codes "workers") WORKERS rows o.workers
   pub show : o.show ≡ show_of rows
   pub shown : IfSome o.show (λ k. k < o.trials)
-  pub quiet : o.quiet ≡ quiet_of rows
-  pub unrefused : campaign_refusal rows ≡ None
+  pub quiet : o.quiet ≡ is_given (codes "quiet") rows
 
--- the entries of live are what it requires
-pub record HasLiveEntries (rows : List Row) : Type 0 where
-  pub program : HasText (codes "PROGRAM") rows
-  pub buffer : HasNumber (codes "buffer") rows
-  pub limit : HasNumber (codes "limit") rows
-
--- each option of live is its entry, or else its default; none is refused
+-- each option of live is its entry, or else its default
 pub record AreLiveOptions (o : LiveOptions) (rows : List Row) : Type 0 where
   pub program : first_of (codes "PROGRAM") rows ≡ Some (string_bytes o.program)
-  pub buffer : IsInRange MAX_CAPACITY (capacity_of rows) o.buffer
-  pub limit : IsInRange MAX_STEPS (limit_of rows) o.limit
-  pub unrefused : live_refusal rows ≡ None
+  pub buffer : IsNumber (codes "buffer") BUFFER rows o.buffer
+  pub limit : IsNumber (codes "limit") LIMIT rows o.limit
 
 -- the file is its entry
 abbrev pub AreFileOptions : FileOptions → List Row → Type 0
@@ -111,38 +103,26 @@ pub record AreExplainOptions (o : ExplainOptions) (rows : List Row) : Type 0 whe
   pub file : first_of (codes "FILE") rows ≡ Some (string_bytes o.file)
   pub program : first_of (codes "program") rows ≡ option_map string_bytes o.program
 
--- the options are those of the command that was read
+-- the options are those of the command with this name
+abbrev pub AreOptionsOf : Options → Text → List Row → Type 0
+AreOptionsOf (Run o) name rows = (name ≡ codes "run") × AreRunOptions o rows
+AreOptionsOf (Judge o) name rows = (name ≡ codes "judge") × AreJudgeOptions o rows
+AreOptionsOf (Trials o) name rows = (name ≡ codes "trials") × AreTrialsOptions o rows
+AreOptionsOf (Live o) name rows = (name ≡ codes "live") × AreLiveOptions o rows
+AreOptionsOf (Replay o) name rows = (name ≡ codes "replay") × AreFileOptions o rows
+AreOptionsOf (Explain o) name rows = (name ≡ codes "explain") × AreExplainOptions o rows
+AreOptionsOf (Draw o) name rows = (name ≡ codes "draw") × AreExplainOptions o rows
+
+-- the options are those of the command that was read; no entry is refused
 abbrev pub AreOptions : Options → Option (Text × List Row) → Type 0
 AreOptions o None = ⊥
-AreOptions (Run o) (Some command) = (command.0 ≡ codes "run") × AreRunOptions o command.1
-AreOptions (Judge o) (Some command) = (command.0 ≡ codes "judge") × AreJudgeOptions o command.1
-AreOptions (Trials o) (Some command) = (command.0 ≡ codes "trials") × AreTrialsOptions o command.1
-AreOptions (Live o) (Some command) = (command.0 ≡ codes "live") × AreLiveOptions o command.1
-AreOptions (Replay o) (Some command) = (command.0 ≡ codes "replay") × AreFileOptions o command.1
-AreOptions (Explain o) (Some command) = (command.0 ≡ codes "explain") × AreExplainOptions o command.1
-AreOptions (Draw o) (Some command) = (command.0 ≡ codes "draw") × AreExplainOptions o command.1
-
--- a name that is no command's
-abbrev pub IsNoCommand : Text → Type 0
-IsNoCommand name = (name ≢ codes "run") × (name ≢ codes "judge") × (name ≢ codes "trials")
-    × (name ≢ codes "live") × (name ≢ codes "replay") × (name ≢ codes "explain") × (name ≢ codes "draw")
-
--- what was read is one of the commands, with the entries that it requires
-pub record HasEntries (command : Text × List Row) : Type 0 where
-  pub known : IsNoCommand command.0 → ⊥
-  pub run : command.0 ≡ codes "run" → HasRunEntries command.1
-  pub judge : command.0 ≡ codes "judge" → HasJudgeEntries command.1
-  pub trials : command.0 ≡ codes "trials" → HasTrialsEntries command.1
-  pub live : command.0 ≡ codes "live" → HasLiveEntries command.1
-  pub replay : command.0 ≡ codes "replay" → HasText (codes "FILE") command.1
-  pub explain : command.0 ≡ codes "explain" → HasText (codes "FILE") command.1
-  pub draw : command.0 ≡ codes "draw" → HasText (codes "FILE") command.1
+AreOptions o (Some command) = (refusal_of command.1 ≡ None) × AreOptionsOf o command.0 command.1
 
 -- why the command that was read gives no options: its entries' first refusal, or want of memory
 abbrev pub IsCommandFault : OptionFault → Option (Text × List Row) → Type 0
 IsCommandFault (Clap error) command = ⊥
 IsCommandFault (Refused refusal) None = ⊥
-IsCommandFault (Refused refusal) (Some command) = refusal_of command.0 command.1 ≡ Some refusal
+IsCommandFault (Refused refusal) (Some command) = refusal_of command.1 ≡ Some refusal
 IsCommandFault OutOfMemory command = ⊤
 
 -- why the words give no options: clap finds a fault in them, or takes them and their entries are refused
@@ -157,3 +137,9 @@ abbrev pub IsSaid : Error → OptionFault → Type 0
 IsSaid e (Clap error) = (error ≡ e) × (kind_of e ≢ kinds.OutOfMemory)
 IsSaid e (Refused refusal) = ⊥
 IsSaid e OutOfMemory = kind_of e ≡ kinds.OutOfMemory
+
+-- clap takes the words, and m has the command that it reads of them, which has the entries that it requires
+pub record AreTaken (words : List Text) (m : ArgMatches) : Type 0 where
+  pub faultless : AreFaultless words
+  pub command : subcommand_rows_of m ≡ command_of words
+  pub whole : IsSomeAnd (subcommand_rows_of m) HasEntries

@@ -1,27 +1,59 @@
 //! The options of each command, and why there are none.
 
 use clap::error::ErrorKind;
+use common::{MAX_CAPACITY, MAX_STEPS, MAX_TRIALS, MAX_WORKERS};
 use litmus::ShapeError;
 use machine::Fault;
-use std::alloc::{AllocError, AllocFailed};
+use std::alloc::AllocError;
+
+/// What an option's number may be, which is 1 at least.
+#[derive(Clone, Copy, Drop)]
+pub struct Limits {
+    /// The greatest.
+    pub most: usize,
+    /// What it is where no option says it.
+    pub default: u64,
+    /// The refusal of any other.
+    pub refusal: OptionRefusal,
+}
+
+/// How many trials a campaign has.
+pub const TRIALS: Limits = Limits {
+    most: MAX_TRIALS,
+    default: 64,
+    refusal: OptionRefusal::Shape(ShapeError::K5),
+};
+
+/// How many steps a random run attempts at most.
+pub const ATTEMPTS: Limits = Limits {
+    most: MAX_STEPS,
+    default: 100_000,
+    refusal: OptionRefusal::Shape(ShapeError::K6),
+};
+
+/// How many steps threads may take.
+pub const LIMIT: Limits = Limits {
+    most: MAX_STEPS,
+    default: 100_000,
+    refusal: OptionRefusal::Shape(ShapeError::K6),
+};
+
+/// How many stores a buffer holds.
+pub const BUFFER: Limits = Limits {
+    most: MAX_CAPACITY,
+    default: 8,
+    refusal: OptionRefusal::Shape(ShapeError::K7),
+};
+
+/// How many workers there are.
+pub const WORKERS: Limits = Limits {
+    most: MAX_WORKERS,
+    default: 1,
+    refusal: OptionRefusal::Workers,
+};
 
 /// The seed where no option says it.
 pub const DEFAULT_SEED: u64 = 0;
-
-/// How many trials a campaign has where no option says it.
-pub const DEFAULT_TRIALS: usize = 64;
-
-/// How many steps a random run attempts at most where no option says it.
-pub const DEFAULT_ATTEMPTS: usize = 100_000;
-
-/// How many stores a buffer holds where no option says it.
-pub const DEFAULT_BUFFER: usize = 8;
-
-/// How many steps threads may take where no option says it.
-pub const DEFAULT_LIMIT: usize = 100_000;
-
-/// How many workers there are where no option says it.
-pub const DEFAULT_WORKERS: usize = 1;
 
 /// What is wrong with the machine where no option says it.
 pub const DEFAULT_FAULT: Fault = Fault::None;
@@ -165,17 +197,6 @@ impl From<AllocError> for OptionFault {
     }
 }
 
-impl<T: Drop> From<AllocFailed<T>> for OptionFault {
-    ghost use Rattle.std.specs.Prelude.{◌≡◌};
-    ghost use Rattle.command_line.specs.declared.options.OptionFault.TheVariants.{OutOfMemory};
-
-    ghost from_gives = { λ _ e. e ≡ OutOfMemory };
-
-    fn from(_refused: AllocFailed<T>) -> OptionFault {
-        OptionFault::OutOfMemory
-    }
-}
-
 impl From<clap::Error> for OptionFault {
     ghost use Rattle.command_line.specs.Options.{IsSaid};
 
@@ -186,5 +207,16 @@ impl From<clap::Error> for OptionFault {
             return OptionFault::OutOfMemory;
         }
         OptionFault::Clap(error)
+    }
+}
+
+impl From<OptionRefusal> for OptionFault {
+    ghost use Rattle.std.specs.Prelude.{◌≡◌};
+    ghost use Rattle.command_line.specs.declared.options.OptionFault.TheVariants.{Refused};
+
+    ghost from_gives = { λ refusal e. e ≡ Refused refusal };
+
+    fn from(refusal: OptionRefusal) -> OptionFault {
+        OptionFault::Refused(refusal)
     }
 }

@@ -1,10 +1,21 @@
-//! What the pages of the help say of the program and of each command.
+//! What the pages of the help say.
 
-/// The program in one line.
-pub const ABOUT: &str = "Runs multiprocessor programs under total store order (TSO)";
+/// What a page of the help says.
+#[derive(Clone, Copy, Drop)]
+pub struct Page {
+    /// In one line.
+    pub about: &'static str,
+    /// At length.
+    pub more: &'static str,
+    /// Of the exit status, with examples.
+    pub statuses: &'static str,
+}
 
-/// What stands below the commands of the program.
-pub const STATUSES: &str = "Exit status:
+/// The page of the program.
+pub const PROGRAM: Page = Page {
+    about: "Runs multiprocessor programs under total store order (TSO)",
+    more: "",
+    statuses: "Exit status:
   0  TSO allows the recording; of `trials`, every recording
   1  a fault of the command line, a file, memory or a thread, as standard error says
   2  the recording is a violation of TSO; of `trials`, at least one is
@@ -18,15 +29,12 @@ Examples:
   tsotest replay recording.json
   tsotest run store_buffering.litmus
   tsotest run store_buffering.litmus --steps store_buffering.steps
-  tsotest trials --cores 2 --ops 8 --addresses 2 --trials 1000";
+  tsotest trials --cores 2 --ops 8 --addresses 2 --trials 1000",
+};
 
-/// `run` in one line.
-pub const RUN_ABOUT: &str =
-    "Runs a litmus program by a script or by random steps and judges its recording";
-
-/// What `run` does.
-pub const RUN_MORE: &str =
-    "Runs a litmus program by a script or by random steps, prints its recording and judges it.
+const RUN: Page = Page {
+    about: "Runs a litmus program by a script or by random steps and judges its recording",
+    more: "Runs a litmus program by a script or by random steps, prints its recording and judges it.
 
 A program has a line `core` for each core, and behind it a line for each of its operations:
 `st NAME VALUE` stores, `ld NAME` loads, `fence` is a full fence; `swap NAME VALUE` writes,
@@ -50,10 +58,8 @@ is printed.
 A machine may be wrong in one way, and may then record a violation: with `no-bypass` loads
 don't look in their core's buffer, with `youngest-first` the youngest store drains first,
 with `open-fence` fences and with `early-rmw` read-modify-writes don't wait for an empty
-buffer, and with `stale-share` other cores keep old copies of a line that is written.";
-
-/// How `run` ends.
-pub const RUN_STATUSES: &str = "Exit status:
+buffer, and with `stale-share` other cores keep old copies of a line that is written.",
+    statuses: "Exit status:
   0  the run is complete, and TSO allows its recording
   1  a fault of the command line, a file or memory, as standard error says
   2  the run is complete, and its recording is a violation of TSO: only with a fault
@@ -61,14 +67,12 @@ pub const RUN_STATUSES: &str = "Exit status:
   4  the run is unfinished: an operation or a buffered store is left
 
 Example:
-  tsotest run store_buffering.litmus --steps store_buffering.steps";
+  tsotest run store_buffering.litmus --steps store_buffering.steps",
+};
 
-/// `judge` in one line.
-pub const JUDGE_ABOUT: &str =
-    "Judges a recording: the least order that TSO allows, or why there is none";
-
-/// What `judge` does.
-pub const JUDGE_MORE: &str = "Judges a recording.
+const JUDGE: Page = Page {
+    about: "Judges a recording: the least order that TSO allows, or why there is none",
+    more: "Judges a recording.
 
 `ordered:` and the numbers of the events are the first memory order, in dictionary order,
 that TSO allows for the recording. `overlook: load L store S` names the least read that
@@ -77,25 +81,20 @@ least such store. `cycle of K` and its lines name the first shortest cycle of pa
 events that every memory order has in order, each with its reason: Po (program order), Wo
 (write order), Rf (reads-from) or Fr (from-read). The label lines show that no cycle is
 shorter. In the last two cases TSO allows no order. The answer does not depend on the
-number of workers.";
-
-/// How `judge` ends.
-pub const JUDGE_STATUSES: &str = "Exit status:
+number of workers.",
+    statuses: "Exit status:
   0  TSO allows the recording
   1  a fault of the command line, a file or memory, as standard error says
   2  the recording is a violation of TSO
   3  the recording or a number was refused, as the line `refused: ..` says
 
 Example:
-  tsotest judge recording.json";
+  tsotest judge recording.json",
+};
 
-/// `trials` in one line.
-pub const TRIALS_ABOUT: &str =
-    "Makes random programs, runs each by random steps and counts the verdicts";
-
-/// What `trials` does.
-pub const TRIALS_MORE: &str =
-    "Makes random programs, runs each by random steps, judges the recordings and counts.
+const TRIALS: Page = Page {
+    about: "Makes random programs, runs each by random steps and counts the verdicts",
+    more: "Makes random programs, runs each by random steps, judges the recordings and counts.
 
 Trial k, from 0, draws its program and then its steps from the seed plus k. It prints, in
 this order, a line each: `trials T`, how many there were; `ordered N`, how many recordings
@@ -110,10 +109,8 @@ done and how many violations were found, until its end; with `--quiet` it shows 
 
 To look at a violation, give the same options and `--show K` with its number: then, instead
 of the counts, the trial's program is printed, an empty line, its recording and its verdict,
-as by `run`, and the exit status is that of `run`.";
-
-/// How `trials` ends.
-pub const TRIALS_STATUSES: &str = "Exit status:
+as by `run`, and the exit status is that of `run`.",
+    statuses: "Exit status:
   0  no trial is a violation, and none is unfinished
   1  a fault of the command line or memory, as standard error says
   2  at least one trial is a violation of TSO: only with a fault
@@ -122,79 +119,68 @@ pub const TRIALS_STATUSES: &str = "Exit status:
 
 Examples:
   tsotest trials --cores 2 --ops 8 --addresses 2 --fault stale-share
-  tsotest trials --cores 2 --ops 8 --addresses 2 --fault stale-share --show 0";
+  tsotest trials --cores 2 --ops 8 --addresses 2 --fault stale-share --show 0",
+};
 
-/// `live` in one line.
-pub const LIVE_ABOUT: &str = "Runs a litmus program by threads and judges its recording";
-
-/// What `live` does.
-pub const LIVE_MORE: &str = "Runs a litmus program by threads, prints its recording and judges it.
+const LIVE: Page = Page {
+    about: "Runs a litmus program by threads and judges its recording",
+    more: "Runs a litmus program by threads, prints its recording and judges it.
 
 The machine is that of `run`. A thread for each core, one for the store buffers and one for
 the caches take its steps under one lock, until the program is complete or the limit of
-steps is reached. Two runs may differ.";
-
-/// How `live` ends.
-pub const LIVE_STATUSES: &str = "Exit status:
+steps is reached. Two runs may differ.",
+    statuses: "Exit status:
   0  the run is complete, and TSO allows its recording
   1  a fault of the command line, a file, memory or a thread, as standard error says
   3  a text or a number was refused, as the line `refused: ..` says
   4  the run is unfinished: the limit of steps was reached before its end
 
 Example:
-  tsotest live store_buffering.litmus";
+  tsotest live store_buffering.litmus",
+};
 
-/// `replay` in one line.
-pub const REPLAY_ABOUT: &str = "Gives a program and a script whose run makes a recording again";
-
-/// What `replay` does.
-pub const REPLAY_MORE: &str = "Gives a program and a script whose run makes a recording again.
+const REPLAY: Page = Page {
+    about: "Gives a program and a script whose run makes a recording again",
+    more: "Gives a program and a script whose run makes a recording again.
 
 The line `buffer N` says which `--buffer` is enough. Behind an empty line stands a litmus
 program, which names its addresses a0, a1 and so on, and behind another empty line a
 script. The run performs the first memory order, in dictionary order, that TSO allows for
 the recording. A violation is answered as by `judge`. The recording's addresses have to be
-numbered in the order of their first use, and each has to be used.";
-
-/// How `replay` ends.
-pub const REPLAY_STATUSES: &str = "Exit status:
+numbered in the order of their first use, and each has to be used.",
+    statuses: "Exit status:
   0  TSO allows the recording
   1  a fault of the command line, a file or memory, as standard error says
   2  the recording is a violation of TSO
   3  the recording was refused, as the line `refused: ..` says
 
 Example:
-  tsotest replay recording.json";
+  tsotest replay recording.json",
+};
 
-/// `explain` in one line.
-pub const EXPLAIN_ABOUT: &str = "Says the verdict on a recording in words";
-
-/// What `explain` does.
-pub const EXPLAIN_MORE: &str = "Says the verdict on a recording in words.
+const EXPLAIN: Page = Page {
+    about: "Says the verdict on a recording in words",
+    more: "Says the verdict on a recording in words.
 
 Each event of the verdict has a line with its number, its core, what it did, and where a
 value that it read came from. The line below says, of a cycle, why the event comes before
 the next one, and of an order what makes its place lawful. Of an overlook there are the
 store, the load, and what the load read instead. The addresses are named a0, a1 and so on,
 or as in the program of --program, whose operations and initial values have to be those of
-the recording.";
-
-/// How `explain` ends.
-pub const EXPLAIN_STATUSES: &str = "Exit status:
+the recording.",
+    statuses: "Exit status:
   0  TSO allows the recording
   1  a fault of the command line, a file or memory, as standard error says
   2  the recording is a violation of TSO
   3  the recording or the program was refused, as the line `refused: ..` says
 
 Example:
-  tsotest explain recording.json --program store_buffering.litmus";
+  tsotest explain recording.json --program store_buffering.litmus",
+};
 
-/// `draw` in one line.
-pub const DRAW_ABOUT: &str = "Draws the verdict on a recording as a graph";
-
-/// What `draw` does.
-pub const DRAW_MORE: &str =
-    "Draws the verdict on a recording as a directed graph in the DOT language of Graphviz, of
+const DRAW: Page = Page {
+    about: "Draws the verdict on a recording as a graph",
+    more: "Draws the verdict on a recording as a directed graph in the DOT language of Graphviz, of
 which `dot -Tsvg` makes a picture.
 
 Each core has its events in program order from top to bottom, each with its number, what it
@@ -203,29 +189,27 @@ reads-from (rf), red; coherence order (co), blue; and from-read (fr), orange. Th
 cycle are bold, and of an overlook those between the store and the load. The others go to the
 next event of the core, from the write that was read, to the next write of the address, and
 to the first write that is newer than what was read. The events of an order stand in memory
-order, from top to bottom. The addresses are named as by `explain`.";
-
-/// How `draw` ends.
-pub const DRAW_STATUSES: &str = "Exit status:
+order, from top to bottom. The addresses are named as by `explain`.",
+    statuses: "Exit status:
   0  TSO allows the recording
   1  a fault of the command line, a file or memory, as standard error says
   2  the recording is a violation of TSO
   3  the recording or the program was refused, as the line `refused: ..` says
 
 Example:
-  tsotest draw recording.json --program store_buffering.litmus | dot -Tsvg > recording.svg";
+  tsotest draw recording.json --program store_buffering.litmus | dot -Tsvg > recording.svg",
+};
 
-/// What the help says of `--program`.
-pub const NAMES_TEXT: &str =
-    "The program that was recorded, which names the addresses: a file, or - for standard input";
-
-/// What the help says of `--fault`.
-pub const FAULT_TEXT: &str =
-    "A fault: none, no-bypass, youngest-first, open-fence, stale-share, early-rmw [default: none]";
-
-/// What the help says of `--show`.
-pub const SHOW_TEXT: &str =
-    "Shows trial K, from 0 and below the number of trials, instead of the counts";
-
-/// What the help says of `--quiet`.
-pub const QUIET_TEXT: &str = "Shows no progress on standard error";
+/// The page of the command with this name.
+pub fn page_of(name: &str) -> Page {
+    match name {
+        "run" => RUN,
+        "judge" => JUDGE,
+        "trials" => TRIALS,
+        "live" => LIVE,
+        "replay" => REPLAY,
+        "explain" => EXPLAIN,
+        "draw" => DRAW,
+        _ => PROGRAM,
+    }
+}

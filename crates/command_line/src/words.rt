@@ -1,16 +1,25 @@
 //! The words of a command line.
 ghost use Rattle.std.specs.Prelude.{◌≡◌, IfErr, IfOk, IsSomeAnd, map, option_map, string_bytes};
-ghost use Rattle.clap.specs.Words.{found_of, rows_of, subcommand_rows_of};
-ghost use Rattle.command_line.specs.Commands.{AreFaultless, command_of};
-ghost use Rattle.command_line.specs.Options.{AreOptions, HasEntries, IsCommandFault, IsFault};
+ghost use Rattle.clap.specs.Words.{app_of, found_of, rows_of, subcommand_rows_of};
+ghost use Rattle.command_line.specs.Commands.{AreFaultless, command_of, program_app};
+ghost use Rattle.command_line.specs.Entries.{HasEntries};
+ghost use Rattle.command_line.specs.Options.{AreOptions, IsCommandFault, IsFault, AreTaken};
 
-use crate::command::command;
+use crate::build::command;
 use crate::named::named_options;
 use crate::options::{OptionFault, Options};
-use crate::refusals::refusal_of;
-use crate::rules::Texts;
-use clap::ArgMatches;
+use crate::values::read_values;
+use clap::{ArgMatches, Command};
 use std::alloc::Global;
+
+/// What `clap` reads of the words.
+fn read<'a>(command: Command<'a>, words: &'a [String]) -> Result<ArgMatches<'a>, OptionFault>
+    requires { app_of command ≡ program_app }
+    ensures ok { IfOk result (AreTaken (map string_bytes words.entry.now)) }
+    ensures err { IfErr result (λ fault. IsFault fault (map string_bytes words.entry.now)) }
+{
+    Ok(command.try_get_matches_from(words)?)
+}
 
 /// The command that was read, with its entries.
 fn entered<'m, 'a>(matches: &'m ArgMatches<'a>) -> Option<(&'a str, &'m ArgMatches<'a>)>
@@ -28,11 +37,8 @@ fn command_options(alloc: Global, matches: &ArgMatches<'_>) -> Result<Options, O
     let Some((name, entries)) = entered(matches) else {
         unreachable!()
     };
-    if let Some(refusal) = refusal_of(name, entries) {
-        return Err(OptionFault::Refused(refusal));
-    }
-    let options = named_options(alloc, name, entries)?;
-    Ok(options)
+    let values = read_values(entries)?;
+    Ok(named_options(alloc, name, entries, &values)?)
 }
 
 /// The options that the words ask for. They come without the program's name.
@@ -41,8 +47,6 @@ pub fn options(alloc: Global, words: &[String]) -> Result<Options, OptionFault>
     ensures err { IfErr result (λ fault. IsFault fault (map string_bytes words.now)) }
     ensures taken { IfOk result (λ _. AreFaultless (map string_bytes words.now)) }
 {
-    let texts = Texts::new(alloc)?;
-    let command = command(alloc, &texts)?;
-    let matches = command.try_get_matches_from(words)?;
+    let matches = read(command(alloc)?, words)?;
     command_options(alloc, &matches)
 }

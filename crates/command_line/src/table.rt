@@ -1,0 +1,184 @@
+//! The commands, and what each takes: one row for each argument and option.
+
+/// What an argument or an option takes.
+#[derive(Clone, Copy, Drop)]
+pub enum Takes {
+    /// A name, which has to be given and stands without `--`.
+    Place,
+    /// A text, which may be left out.
+    Text,
+    /// A number of 64 bits, which may be left out.
+    Number,
+    /// A number of 64 bits that has to be given.
+    Size,
+    /// No value.
+    Nothing,
+}
+
+/// An argument or an option.
+#[derive(Clone, Copy, Drop)]
+pub struct ArgumentRow {
+    /// Its name.
+    pub name: &'static str,
+    /// What it takes.
+    pub takes: Takes,
+    /// The name of its value in the help, where it has one.
+    pub value: &'static str,
+    /// What the help says of it.
+    pub help: &'static str,
+}
+
+/// A command.
+#[derive(Clone, Copy, Drop)]
+pub struct CommandRow {
+    /// Its name.
+    pub name: &'static str,
+    /// Its arguments and options, in the order of the help.
+    pub arguments: &'static [ArgumentRow],
+}
+
+const PROGRAM: ArgumentRow = ArgumentRow {
+    name: "PROGRAM",
+    takes: Takes::Place,
+    value: "",
+    help: "The litmus program: a file, or - for standard input",
+};
+
+const FILE: ArgumentRow = ArgumentRow {
+    name: "FILE",
+    takes: Takes::Place,
+    value: "",
+    help: "The recording: a file, or - for standard input",
+};
+
+const NAMES: ArgumentRow = ArgumentRow {
+    name: "program",
+    takes: Takes::Text,
+    value: "PROGRAM",
+    help: "The program that was recorded, which names the addresses: a file, or - for standard input",
+};
+
+const STEPS: ArgumentRow = ArgumentRow {
+    name: "steps",
+    takes: Takes::Text,
+    value: "FILE",
+    help: "The script: a file of at most 1000000 lines, or - for standard input; without it steps are random",
+};
+
+const SEED: ArgumentRow = ArgumentRow {
+    name: "seed",
+    takes: Takes::Number,
+    value: "N",
+    help: "The seed of what is random, any number of 64 bits [default: 0]",
+};
+
+const CORES: ArgumentRow = ArgumentRow {
+    name: "cores",
+    takes: Takes::Size,
+    value: "N",
+    help: "Cores of each program, from 1 to 16",
+};
+
+const OPS: ArgumentRow = ArgumentRow {
+    name: "ops",
+    takes: Takes::Size,
+    value: "N",
+    help: "Operations of each core, from 1 to 512, and at most 512 over all cores",
+};
+
+const ADDRESSES: ArgumentRow = ArgumentRow {
+    name: "addresses",
+    takes: Takes::Size,
+    value: "N",
+    help: "Addresses that operations are drawn from, from 1 to 16",
+};
+
+const TRIALS: ArgumentRow = ArgumentRow {
+    name: "trials",
+    takes: Takes::Number,
+    value: "N",
+    help: "Programs that are made and run, from 1 to 65536 [default: 64]",
+};
+
+const ATTEMPTS: ArgumentRow = ArgumentRow {
+    name: "attempts",
+    takes: Takes::Number,
+    value: "N",
+    help: "The most random steps that a run attempts, from 1 to 1000000 [default: 100000]",
+};
+
+const LIMIT: ArgumentRow = ArgumentRow {
+    name: "limit",
+    takes: Takes::Number,
+    value: "N",
+    help: "Steps that may be taken, from 1 to 1000000 [default: 100000]",
+};
+
+const BUFFER: ArgumentRow = ArgumentRow {
+    name: "buffer",
+    takes: Takes::Number,
+    value: "N",
+    help: "Stores that a buffer holds, from 1 to 512 [default: 8]",
+};
+
+const FAULT: ArgumentRow = ArgumentRow {
+    name: "fault",
+    takes: Takes::Text,
+    value: "NAME",
+    help: "A fault: none, no-bypass, youngest-first, open-fence, stale-share, early-rmw [default: none]",
+};
+
+const WORKERS: ArgumentRow = ArgumentRow {
+    name: "workers",
+    takes: Takes::Number,
+    value: "N",
+    help: "The most threads that share the work, from 1 to 32 [default: 1]",
+};
+
+const SHOW: ArgumentRow = ArgumentRow {
+    name: "show",
+    takes: Takes::Number,
+    value: "K",
+    help: "Shows trial K, from 0 and below the number of trials, instead of the counts",
+};
+
+const QUIET: ArgumentRow = ArgumentRow {
+    name: "quiet",
+    takes: Takes::Nothing,
+    value: "",
+    help: "Shows no progress on standard error",
+};
+
+/// The commands, in the order of the help.
+pub const COMMANDS: &[CommandRow] = &[
+    CommandRow {
+        name: "run",
+        arguments: &[PROGRAM, STEPS, SEED, ATTEMPTS, BUFFER, FAULT],
+    },
+    CommandRow {
+        name: "judge",
+        arguments: &[FILE, WORKERS],
+    },
+    CommandRow {
+        name: "trials",
+        arguments: &[
+            CORES, OPS, ADDRESSES, SEED, TRIALS, ATTEMPTS, BUFFER, FAULT, WORKERS, SHOW, QUIET,
+        ],
+    },
+    CommandRow {
+        name: "live",
+        arguments: &[PROGRAM, BUFFER, LIMIT],
+    },
+    CommandRow {
+        name: "replay",
+        arguments: &[FILE],
+    },
+    CommandRow {
+        name: "explain",
+        arguments: &[FILE, NAMES],
+    },
+    CommandRow {
+        name: "draw",
+        arguments: &[FILE, NAMES],
+    },
+];

@@ -1,0 +1,123 @@
+//! The numbers, the fault and the flag that entries ask for, and the first refusal, K1 to K10.
+ghost use Rattle.std.specs.Prelude.{◌≡◌, ◌<◌, IfOk, IfSome, Some, codes};
+ghost use Rattle.std.specs.Result.{result_err};
+ghost use Rattle.clap.specs.Words.{found_of, rows_of};
+ghost use Rattle.command_line.specs.Entries.{AreEntries, HasNumber, machine_fault_of, number_of, show_of};
+ghost use Rattle.command_line.specs.Options.{AreValues, IsNumber};
+ghost use Rattle.command_line.specs.Refusals.{fault_refusal, number_refusal, refusal_of, refusal_of_show};
+ghost use Rattle.command_line.specs.Refusals.{sizes_refusal};
+
+use crate::entries::{fault_named, flag, maybe_text, number, number_or};
+use crate::options::{
+    ATTEMPTS, BUFFER, DEFAULT_FAULT, DEFAULT_SEED, LIMIT, Limits, OptionRefusal, TRIALS, WORKERS,
+};
+use clap::ArgMatches;
+use litmus::{Shape, is_outside};
+use machine::Fault;
+
+/// The numbers, the fault and the flag that entries ask for: where there is no entry, the default.
+#[derive(Drop)]
+pub struct Values {
+    pub cores: usize,
+    pub ops: usize,
+    pub addresses: usize,
+    pub seed: u64,
+    pub trials: usize,
+    pub attempts: usize,
+    pub limit: usize,
+    pub buffer: usize,
+    pub workers: usize,
+    pub fault: Fault,
+    pub show: Option<usize>,
+    pub quiet: bool,
+}
+
+/// The number of an option, where it is within its limits.
+fn limited(matches: &ArgMatches<'_>, id: &str, limits: Limits) -> Result<usize, OptionRefusal>
+    requires { HasNumber id.now (rows_of (found_of matches.now)) }
+    ensures ok { IfOk result (IsNumber id.now limits (rows_of (found_of matches.now))) }
+    ensures err { result_err result ≡ number_refusal id.now limits (rows_of (found_of matches.now)) }
+{
+    let asked = number_or(matches, id, limits.default) as usize;
+    if is_outside(limits.most, asked) {
+        return Err(limits.refusal);
+    }
+    Ok(asked)
+}
+
+/// K1 to K4, where there are sizes.
+fn sizes_refusal(matches: &ArgMatches<'_>) -> Option<OptionRefusal>
+    requires { AreEntries (rows_of (found_of matches.now)) }
+    ensures { result ≡ sizes_refusal (rows_of (found_of matches.now)) }
+{
+    let ops = number_or(matches, "ops", 0);
+    let addresses = number_or(matches, "addresses", 0);
+    match number(matches, "cores") {
+        Some(cores) => match Shape::new(cores as usize, ops as usize, addresses as usize) {
+            Ok(_) => None,
+            Err(refusal) => Some(OptionRefusal::Shape(refusal)),
+        },
+        None => None,
+    }
+}
+
+/// The fault that is asked for.
+fn fault(matches: &ArgMatches<'_>) -> Result<Fault, OptionRefusal>
+    ensures ok { IfOk result (λ fault. machine_fault_of (rows_of (found_of matches.now)) ≡ Some fault) }
+    ensures err { result_err result ≡ fault_refusal (rows_of (found_of matches.now)) }
+{
+    let Some(name) = maybe_text(matches, "fault") else {
+        return Ok(DEFAULT_FAULT);
+    };
+    fault_named(name).ok_or(OptionRefusal::Fault)
+}
+
+/// The trial to show, which is one of so many.
+fn show(matches: &ArgMatches<'_>, trials: usize) -> Result<Option<usize>, OptionRefusal>
+    requires { HasNumber (codes "show") (rows_of (found_of matches.now)) }
+    ensures ok { IfOk result (λ show. (show ≡ show_of (rows_of (found_of matches.now)))
+        × IfSome show (λ k. k < trials)) }
+    ensures err { result_err result ≡ refusal_of_show (show_of (rows_of (found_of matches.now))) trials }
+{
+    match number(matches, "show") {
+        Some(k) => {
+            if (k as usize) < trials {
+                return Ok(Some(k as usize));
+            }
+            Err(OptionRefusal::Show)
+        }
+        None => Ok(None),
+    }
+}
+
+/// What the entries ask for, or the first refusal, K1 to K10.
+pub fn read_values(matches: &ArgMatches<'_>) -> Result<Values, OptionRefusal>
+    requires { AreEntries (rows_of (found_of matches.now)) }
+    ensures ok { IfOk result (λ n. AreValues n (rows_of (found_of matches.now))) }
+    ensures err { result_err result ≡ refusal_of (rows_of (found_of matches.now)) }
+{
+    if let Some(refusal) = sizes_refusal(matches) {
+        return Err(refusal);
+    }
+    let trials = limited(matches, "trials", TRIALS)?;
+    let attempts = limited(matches, "attempts", ATTEMPTS)?;
+    let limit = limited(matches, "limit", LIMIT)?;
+    let buffer = limited(matches, "buffer", BUFFER)?;
+    let workers = limited(matches, "workers", WORKERS)?;
+    let fault = fault(matches)?;
+    let show = show(matches, trials)?;
+    Ok(Values {
+        cores: number_or(matches, "cores", 0) as usize,
+        ops: number_or(matches, "ops", 0) as usize,
+        addresses: number_or(matches, "addresses", 0) as usize,
+        seed: number_or(matches, "seed", DEFAULT_SEED),
+        trials,
+        attempts,
+        limit,
+        buffer,
+        workers,
+        fault,
+        show,
+        quiet: flag(matches, "quiet"),
+    })
+}
