@@ -8,6 +8,7 @@ use Rattle.relations.specs.declared.reason.Reason.{Reason}
 use Rattle.relations.specs.declared.reason.Reason.TheVariants.{Po, Wo, Rf, Fr}
 use Rattle.relations.specs.Forced.{IsReason}
 use Rattle.relations.specs.Cycle.{behind}
+use Rattle.explanation.specs.Diy.{IsDiyLine}
 use Rattle.explanation.specs.Events.{event_line, indent, written_text}
 
 -- why an event comes before another, which writes this address
@@ -39,8 +40,10 @@ abbrev pub cycle_heading : ℕ → List ℕ
 cycle_heading n = codes "No memory order explains this recording: these " ++ decimal n
     ++ (codes " events would each come before the next." ++ 10 ∷ [])
 
--- a cycle in words
+-- a cycle in words, and in those of diy
 pub record SaysCycle (x : Execution) (names : List Name) (c text : List ℕ) : Type 0 where
   pub links : List ℕ
   pub lines : AreLinks x names c (length c) links
-  pub whole : text ≡ cycle_heading (length c) ++ links
+  pub line : List ℕ
+  pub steps : IsDiyLine x c line
+  pub whole : text ≡ cycle_heading (length c) ++ (links ++ line)

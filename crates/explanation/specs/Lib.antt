@@ -1,4 +1,5 @@
 pub mod Events
+pub mod Diy
 pub mod Cycle
 pub mod Overlook
 pub mod Order

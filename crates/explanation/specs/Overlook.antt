@@ -3,6 +3,7 @@ use Rattle.std.specs.Prelude.{◌++◌, ◌∷◌, [], ℕ, List, Option, Some, 
 use Rattle.litmus.specs.declared.name.Name.{Name}
 use Rattle.recorder.specs.Event.{written_address}
 use Rattle.recorder.specs.Execution.{Execution, event_at, source_of}
+use Rattle.explanation.specs.Diy.{overlook_line}
 use Rattle.explanation.specs.Events.{event_line, indent, written_text}
 
 -- what is said first of an overlook
@@ -22,8 +23,9 @@ instead_lines x names address (Some w) = indent x
     ++ (codes "read it from " ++ decimal w ++ codes ", which is older in the write list of " ++ address)
     ++ 10 ∷ [] ++ event_line x names w
 
--- an overlook in words
+-- an overlook in words, and in those of diy
 abbrev pub overlook_text : Execution → List Name → ℕ → ℕ → List ℕ
 overlook_text x names l s = overlook_heading l s ++ event_line x names s ++ store_line x l
     ++ event_line x names l
     ++ instead_lines x names (written_text names (written_address (event_at x s))) (source_of x l)
+    ++ overlook_line (event_at x l) (event_at x s)

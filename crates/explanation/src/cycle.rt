@@ -7,6 +7,7 @@ ghost use Rattle.explanation.specs.Events.{written_text};
 ghost use Rattle.explanation.specs.Cycle.{reason_text, reason_line, cycle_heading, IsLink, AreLinks};
 ghost use Rattle.explanation.specs.Cycle.{SaysCycle};
 
+use crate::diy::put_diy;
 use crate::events::put_written;
 use crate::lines::{put_before, put_indent, put_line};
 use crate::numbers::put_text_and_number;
@@ -138,5 +139,6 @@ pub(crate) fn put_cycle(
 {
     put_heading(out, cycle.len())?;
     let places = Places::of(alloc, recording)?;
-    put_links(out, recording, &places, names, cycle)
+    put_links(out, recording, &places, names, cycle)?;
+    put_diy(out, alloc, recording, &places, cycle)
 }

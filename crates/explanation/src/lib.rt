@@ -3,6 +3,7 @@
 
 mod bold;
 mod cycle;
+mod diy;
 mod drawing;
 mod edge_lines;
 mod edges;

@@ -3,11 +3,13 @@
 ghost use Rattle.std.specs.Prelude.{◌≡◌, ◌++◌, OnOk, codes, decimal};
 ghost use Rattle.recorder.specs.Event.{written_address};
 ghost use Rattle.recorder.specs.Execution.{event_at, source_of};
+ghost use Rattle.explanation.specs.Diy.{overlook_line};
 ghost use Rattle.explanation.specs.Events.{written_text};
 ghost use Rattle.explanation.specs.Overlook.{overlook_heading, store_line, instead_lines, overlook_text};
 
+use crate::diy::put_overlook_line;
 use crate::events::put_written;
-use crate::lines::{put_before, put_indent, put_line};
+use crate::lines::{event_of, put_before, put_indent, put_line};
 use crate::numbers::{put_number, put_text_and_number};
 use crate::pieces::put_text;
 use common::{Addr, EventId, OutOfMemory};
@@ -107,6 +109,21 @@ fn put_read_instead(
     put_instead(out, recording, names, address, recording.source(load))
 }
 
+/// Adds the line of an overlook in the words of diy.
+fn put_last_line(
+    out: &mut Vec<u8>,
+    recording: &Recording,
+    load: EventId,
+    store: EventId,
+) -> Result<(), OutOfMemory>
+    ensures { OnOk result (out.new.items ≡ out.old.items
+        ++ overlook_line (event_at recording.now load) (event_at recording.now store)) }
+{
+    let (_, read) = event_of(recording, load);
+    let (_, written) = event_of(recording, store);
+    put_overlook_line(out, &read, &written)
+}
+
 /// Adds an overlook in words.
 pub(crate) fn put_overlook(
     out: &mut Vec<u8>,
@@ -122,5 +139,6 @@ pub(crate) fn put_overlook(
     put_line(out, recording, names, store)?;
     put_store_line(out, recording, load)?;
     put_line(out, recording, names, load)?;
-    put_read_instead(out, recording, names, load, store)
+    put_read_instead(out, recording, names, load, store)?;
+    put_last_line(out, recording, load, store)
 }

@@ -1,0 +1,160 @@
+-- A cycle of loads, stores and fences in the words of the tool diy, and the classic test that has it.
+use Rattle.std.specs.Prelude.{◌≡◌, ◌++◌, ◌∷◌, ◌==◌, ◌+◌, ◌&&◌, [], ℕ, zero, suc, Bool, true, false, not, List}
+use Rattle.std.specs.Prelude.{Option, Some, None, codes, filter, take, drop, length, slice_index}
+use Rattle.std.specs.Prelude.{if◌then◌else◌}
+use Rattle.std.specs.List.{flat_map, list_all}
+use Rattle.std.specs.Str.{bytes_eq}
+use Rattle.recorder.specs.declared.event.Event.{Event}
+use Rattle.recorder.specs.declared.event.Event.TheVariants.{L, S, R, C, F}
+use Rattle.recorder.specs.Event.{is_plain_store, is_plain_load}
+use Rattle.recorder.specs.Execution.{Execution, event_at, core_of}
+use Rattle.relations.specs.declared.reason.Reason.{Reason}
+use Rattle.relations.specs.declared.reason.Reason.TheVariants.{Po, Wo, Rf, Fr}
+use Rattle.relations.specs.Cycle.{behind}
+use Rattle.relations.specs.Forced.{IsReason}
+use Rattle.explanation.specs.declared.diy.Step.{Step}
+
+-- whether an event is a load, a store or a fence
+abbrev pub is_plain : Event → Bool
+is_plain (L a r s) = true
+is_plain (S a w) = true
+is_plain (R a r s w) = false
+is_plain (C a r s) = false
+is_plain F = true
+
+-- whether an event is a fence
+abbrev pub is_fence : Event → Bool
+is_fence (L a r s) = false
+is_fence (S a w) = false
+is_fence (R a r s w) = false
+is_fence (C a r s) = false
+is_fence F = true
+
+-- the address of a load or a store
+abbrev pub address_of : Event → ℕ
+address_of (L a r s) = a
+address_of (S a w) = a
+address_of (R a r s w) = a
+address_of (C a r s) = a
+address_of F = 0
+
+-- the events of a cycle that are no fence
+abbrev pub accesses : Execution → List ℕ → List ℕ
+accesses x c = filter (λ e. not (is_fence (event_at x e))) c
+
+-- the step from one access of a cycle to the next
+pub record IsStep (x : Execution) (e f : ℕ) (s : Step) : Type 0 where
+  pub reason : IsReason x e f s.reason
+  pub address : s.same_address ≡ (address_of (event_at x e) == address_of (event_at x f))
+  pub core : s.same_core ≡ (core_of x e == core_of x f)
+  pub from : s.from_store ≡ is_plain_store (event_at x e)
+  pub to : s.to_store ≡ is_plain_store (event_at x f)
+
+-- the steps from the first n accesses, each to the access behind it
+abbrev pub AreSteps : Execution → List ℕ → ℕ → List Step → Type 0
+AreSteps x as zero steps = steps ≡ []
+AreSteps x as (suc i) steps = (before : List Step) × (step : Step) × AreSteps x as i before
+    × IsStep x (slice_index as i) (behind as i) step × (steps ≡ before ++ step ∷ [])
+
+-- the letter of a store, or of a load
+abbrev pub letter : Bool → List ℕ
+letter true = codes "W"
+letter false = codes "R"
+
+-- whether the address is the same or a different one, and the letters of both accesses
+abbrev pub pair_text : Step → List ℕ
+pair_text s = (if s.same_address then codes "s" else codes "d") ++ (letter s.from_store ++ letter s.to_store)
+
+-- whether the step stays inside its core or goes outside
+abbrev pub side_text : Bool → List ℕ
+side_text true = codes "i"
+side_text false = codes "e"
+
+-- the word of a step for this reason; a step without one goes over a fence
+abbrev pub word_by : Option Reason → Step → List ℕ
+word_by None s = codes " MFence" ++ pair_text s
+word_by (Some Po) s = codes " Po" ++ pair_text s
+word_by (Some Wo) s = codes " Co" ++ side_text s.same_core
+word_by (Some Rf) s = codes " Rf" ++ side_text s.same_core
+word_by (Some Fr) s = codes " Fr" ++ side_text s.same_core
+
+-- the word of a step, behind a space
+unfoldable pub word : Step → List ℕ
+word s = word_by s.reason s
+
+-- the words of all steps of a cycle, from place i on
+unfoldable pub words_from : List Step → ℕ → List ℕ
+words_from steps i = flat_map word (drop i steps) ++ flat_map word (take i steps)
+
+-- the classic test that has the cycle of these words, begun at this step
+unfoldable pub classic_of : List ℕ → Option (List ℕ)
+classic_of words =
+    if bytes_eq words (codes " PodWW Rfe PodRR Fre") then Some (codes "MP")
+    else (if bytes_eq words (codes " PodRW Rfe PodRW Rfe") then Some (codes "LB")
+    else (if bytes_eq words (codes " PodWW Rfe PodRW Coe") then Some (codes "S")
+    else (if bytes_eq words (codes " PodWW Coe PodWW Coe") then Some (codes "2+2W")
+    else (if bytes_eq words (codes " MFencedWR Fre MFencedWR Fre") then Some (codes "SB+mfences")
+    else (if bytes_eq words (codes " PodWW Coe MFencedWR Fre") then Some (codes "R+po+mfence")
+    else (if bytes_eq words (codes " Rfe PodRW Rfe PodRR Fre") then Some (codes "WRC")
+    else (if bytes_eq words (codes " Rfe PodRW Rfe PodRW Coe") then Some (codes "WWC")
+    else (if bytes_eq words (codes " Rfe PodRR Fre MFencedWR Fre") then Some (codes "RWC+po+mfence")
+    else (if bytes_eq words (codes " Rfe PodRW Coe MFencedWR Fre") then Some (codes "WRW+WR+po+mfence")
+    else (if bytes_eq words (codes " Rfe PodRW Coe PodWW Coe") then Some (codes "WRW+2W")
+    else (if bytes_eq words (codes " Rfe PodRR Fre Rfe PodRR Fre") then Some (codes "IRIW")
+    else (if bytes_eq words (codes " Rfe PodRR Fre Rfe PodRW Coe") then Some (codes "IRRWIW")
+    else (if bytes_eq words (codes " Rfe PodRW Coe Rfe PodRW Coe") then Some (codes "IRWIW")
+    else (if bytes_eq words (codes " PodWW Rfe PodRW Rfe PodRR Fre") then Some (codes "ISA2")
+    else (if bytes_eq words (codes " PodWW Rfe PodRR Fre MFencedWR Fre") then Some (codes "W+RWC+po+po+mfence")
+    else (if bytes_eq words (codes " MFencedWR Fre MFencedWR Fre MFencedWR Fre") then Some (codes "3.SB+mfences")
+    else (if bytes_eq words (codes " PodRW Rfe PodRW Rfe PodRW Rfe") then Some (codes "3.LB")
+    else (if bytes_eq words (codes " PodWW Coe PodWW Coe PodWW Coe") then Some (codes "3.2W")
+    else (if bytes_eq words (codes " PodWW Rfe PodRW Coe MFencedWR Fre") then Some (codes "Z6.0+po+po+mfence")
+    else (if bytes_eq words (codes " PodWW Coe PodWW Rfe PodRW Coe") then Some (codes "Z6.1")
+    else (if bytes_eq words (codes " PodWW Rfe PodRW Rfe PodRW Coe") then Some (codes "Z6.2")
+    else (if bytes_eq words (codes " PodWW Coe PodWW Rfe PodRR Fre") then Some (codes "Z6.3")
+    else (if bytes_eq words (codes " PodWW Coe MFencedWR Fre MFencedWR Fre") then Some (codes "Z6.4+po+mfence+mfence")
+    else (if bytes_eq words (codes " PodWW Coe PodWW Coe MFencedWR Fre") then Some (codes "Z6.5+po+po+mfence")
+    else (if bytes_eq words (codes " Rfe PosRR Fre") then Some (codes "CoRR")
+    else (if bytes_eq words (codes " PosWW Coi") then Some (codes "CoWW")
+    else (if bytes_eq words (codes " PosRW Rfi") then Some (codes "CoRW")
+    else (if bytes_eq words (codes " Rfe PosRW Coe") then Some (codes "CoRW")
+    else None))))))))))))))))))))))))))))
+
+-- words with the name of a classic test behind them
+abbrev pub named_words : List ℕ → List ℕ → List ℕ
+named_words words name = words ++ (codes " (" ++ (name ++ codes ")"))
+
+-- the words with the name of their classic test where they are those of one, else the rest
+abbrev pub told_by : Option (List ℕ) → List ℕ → List ℕ → List ℕ
+told_by None words rest = rest
+told_by (Some name) words rest = named_words words name
+
+-- the words from the least of n places, from i on, at which they are those of a classic test, and its
+-- name; where there is none those from place 0
+abbrev pub told_from : List Step → ℕ → ℕ → List ℕ
+told_from steps i zero = words_from steps 0
+told_from steps i (suc n) =
+    told_by (classic_of (words_from steps i)) (words_from steps i) (told_from steps (i + 1) n)
+
+-- words were put behind a text with the name of their classic test, or they are those of none
+abbrev pub IsNamed : List ℕ → List ℕ → Bool → List ℕ → Type 0
+IsNamed old words true new = (name : List ℕ) × (classic_of words ≡ Some name) × (new ≡ old ++ named_words words name)
+IsNamed old words false new = (classic_of words ≡ None) × (new ≡ old)
+
+-- the line of steps
+abbrev pub diy_line : List Step → List ℕ
+diy_line steps = codes "In diy's words:" ++ (told_from steps 0 (length steps) ++ 10 ∷ [])
+
+-- the line of a cycle, if each of its events is a load, a store or a fence
+abbrev pub IsDiyLineBy : Bool → Execution → List ℕ → List ℕ → Type 0
+IsDiyLineBy true x c text = (steps : List Step) × AreSteps x (accesses x c) (length (accesses x c)) steps
+    × (text ≡ diy_line steps)
+IsDiyLineBy false x c text = text ≡ []
+
+abbrev pub IsDiyLine : Execution → List ℕ → List ℕ → Type 0
+IsDiyLine x c text = IsDiyLineBy (list_all (λ e. is_plain (event_at x e)) c) x c text
+
+-- the line of a load that overlooks a store, if it is no read-modify-write and the store none
+unfoldable pub overlook_line : Event → Event → List ℕ
+overlook_line load store = if is_plain_load load && is_plain_store store
+    then codes "In diy's words: PosWR Fri (CoWR)\n" else []

@@ -1,0 +1,319 @@
+//! A cycle of loads, stores and fences in the words of the tool diy.
+
+ghost use Rattle.std.specs.Prelude.{◌≡◌, ◌++◌, ◌==◌, ◌<◌, ◌≤◌, ℕ, List, IfOk, OnOk, length, option_map, string_bytes};
+ghost use Rattle.std.specs.List.{flat_map, list_all};
+ghost use Rattle.recorder.specs.Event.{is_plain_store};
+ghost use Rattle.recorder.specs.Execution.{event_at};
+ghost use Rattle.explanation.specs.Diy.{IsDiyLine, IsStep, AreSteps, accesses, address_of, classic_of};
+ghost use Rattle.explanation.specs.Diy.{is_fence, is_plain, letter, pair_text, side_text, told_from, word};
+ghost use Rattle.explanation.specs.Diy.{IsNamed, words_from, diy_line, overlook_line};
+
+use crate::lines::event_of;
+use crate::pieces::put_text;
+use common::{Addr, EventId, OutOfMemory};
+use recorder::{Event, Recording};
+use relations::{Places, Reason, behind};
+use std::alloc::Global;
+
+/// The step from one load or store of a cycle to the next.
+#[derive(Clone, Copy)]
+pub(crate) struct Step {
+    /// The first reason for it; none where only a fence between the two is one.
+    pub(crate) reason: Option<Reason>,
+    /// Whether both are of one address.
+    pub(crate) same_address: bool,
+    /// Whether both are on one core.
+    pub(crate) same_core: bool,
+    /// Whether the first is a store.
+    pub(crate) from_store: bool,
+    /// Whether the second is a store.
+    pub(crate) to_store: bool,
+}
+
+/// Whether an event is a load, a store or a fence.
+fn is_plain(event: &Event) -> bool
+    ensures { result ≡ is_plain event.now }
+{
+    matches!(event, Event::L { .. } | Event::S { .. } | Event::F)
+}
+
+/// Whether an event is a fence.
+fn is_fence(event: &Event) -> bool
+    ensures { result ≡ is_fence event.now }
+{
+    matches!(event, Event::F)
+}
+
+/// Whether an event is a plain store.
+fn is_store(event: &Event) -> bool
+    ensures { result ≡ is_plain_store event.now }
+{
+    matches!(event, Event::S { .. })
+}
+
+/// The address of a load or a store.
+fn address_of(event: &Event) -> Addr
+    ensures { result ≡ address_of event.now }
+{
+    match event {
+        Event::L { a, .. } | Event::S { a, .. } | Event::R { a, .. } | Event::C { a, .. } => *a,
+        Event::F => 0,
+    }
+}
+
+/// Whether each event of a cycle is a load, a store or a fence.
+fn are_plain(recording: &Recording, cycle: &[EventId]) -> bool
+    ensures { result ≡ list_all (λ e. is_plain (event_at recording.now e)) cycle.now }
+{
+    for number in cycle {
+        let (_, event) = event_of(recording, *number);
+        if !is_plain(&event) {
+            return false;
+        }
+    }
+    true
+}
+
+/// Adds an event to the accesses, unless it is a fence.
+fn add_access(
+    recording: &Recording,
+    number: EventId,
+    found: &mut Vec<EventId>,
+) -> Result<(), OutOfMemory>
+    ensures { OnOk result (found.new.items ≡ found.old.items ++ accesses recording.now (number ∷ [])) }
+{
+    let (_, event) = event_of(recording, number);
+    if !is_fence(&event) {
+        found.push(number)?;
+    }
+    Ok(())
+}
+
+/// The events of a cycle that are no fence.
+fn accesses(
+    alloc: Global,
+    recording: &Recording,
+    cycle: &[EventId],
+) -> Result<Vec<EventId>, OutOfMemory>
+    ensures { IfOk result (λ found. found.items ≡ accesses recording.now cycle.now) }
+{
+    let mut found = Vec::new(alloc);
+    for number in cycle {
+        add_access(recording, *number, &mut found)?;
+    }
+    Ok(found)
+}
+
+/// The step from one access to another.
+fn step_of(recording: &Recording, places: &Places<'_>, first: EventId, second: EventId) -> Step
+    requires { places.now ≡ recording.now }
+    ensures { IsStep recording.now first second result }
+{
+    let (core, event) = event_of(recording, first);
+    let (other_core, other) = event_of(recording, second);
+    Step {
+        reason: places.reason(first, second),
+        same_address: address_of(&event) == address_of(&other),
+        same_core: core == other_core,
+        from_store: is_store(&event),
+        to_store: is_store(&other),
+    }
+}
+
+/// The steps of a cycle, from each access to the one behind it.
+fn steps(
+    alloc: Global,
+    recording: &Recording,
+    places: &Places<'_>,
+    accesses: &[EventId],
+) -> Result<Vec<Step>, OutOfMemory>
+    requires { places.now ≡ recording.now }
+    ensures { IfOk result (λ steps. AreSteps recording.now accesses.now (length accesses.now) steps.items) }
+{
+    let mut found = Vec::new(alloc);
+    for i in 0..accesses.len() {
+        found.push(step_of(recording, places, accesses[i], behind(accesses, i)))?;
+    }
+    Ok(found)
+}
+
+/// The letter of a store, or of a load.
+fn letter(is_store: bool) -> &'static str
+    ensures { result.now ≡ letter is_store }
+{
+    if is_store { "W" } else { "R" }
+}
+
+/// Adds a word for two accesses of one core: whether the address is the same or a different one, and their letters.
+fn add_pair(words: &mut String, head: &str, step: Step) -> Result<(), OutOfMemory>
+    ensures { OnOk result (string_bytes words.new ≡ string_bytes words.old ++ (head.now ++ pair_text step)) }
+{
+    words.push_str(head)?;
+    words.push_str(if step.same_address { "s" } else { "d" })?;
+    words.push_str(letter(step.from_store))?;
+    words.push_str(letter(step.to_store))?;
+    Ok(())
+}
+
+/// Adds a word for two accesses of one address: whether the step stays inside its core or goes outside.
+fn add_side(words: &mut String, head: &str, step: Step) -> Result<(), OutOfMemory>
+    ensures { OnOk result (string_bytes words.new
+        ≡ string_bytes words.old ++ (head.now ++ side_text step.same_core)) }
+{
+    words.push_str(head)?;
+    words.push_str(if step.same_core { "i" } else { "e" })?;
+    Ok(())
+}
+
+/// Adds the word of a step.
+#[tactic(auto, unfolding(crate::specs::Diy::word))]
+fn add_word(words: &mut String, step: Step) -> Result<(), OutOfMemory>
+    ensures { OnOk result (string_bytes words.new ≡ string_bytes words.old ++ word step) }
+{
+    match step.reason {
+        None => add_pair(words, " MFence", step),
+        Some(Reason::Po) => add_pair(words, " Po", step),
+        Some(Reason::Wo) => add_side(words, " Co", step),
+        Some(Reason::Rf) => add_side(words, " Rf", step),
+        Some(Reason::Fr) => add_side(words, " Fr", step),
+    }
+}
+
+/// Adds the words of steps.
+fn add_words(words: &mut String, steps: &[Step]) -> Result<(), OutOfMemory>
+    ensures { OnOk result (string_bytes words.new ≡ string_bytes words.old ++ flat_map word steps.now) }
+{
+    for step in steps {
+        add_word(words, *step)?;
+    }
+    Ok(())
+}
+
+/// The words of all steps, from a place on.
+fn words_from(alloc: Global, steps: &[Step], at: usize) -> Result<String, OutOfMemory>
+    requires { at ≤ length steps.now }
+    ensures { IfOk result (λ words. string_bytes words ≡ words_from steps.now at) }
+{
+    let mut words = String::new(alloc);
+    add_words(&mut words, &steps[at..])?;
+    add_words(&mut words, &steps[..at])?;
+    Ok(words)
+}
+
+/// The classic test that has the cycle of these words.
+#[tactic(auto, unfolding(crate::specs::Diy::classic_of))]
+fn classic_of(words: &str) -> Option<&'static str>
+    ensures { option_map (λ name. name.now) result ≡ classic_of words.now }
+{
+    match words {
+        " PodWW Rfe PodRR Fre" => Some("MP"),
+        " PodRW Rfe PodRW Rfe" => Some("LB"),
+        " PodWW Rfe PodRW Coe" => Some("S"),
+        " PodWW Coe PodWW Coe" => Some("2+2W"),
+        " MFencedWR Fre MFencedWR Fre" => Some("SB+mfences"),
+        " PodWW Coe MFencedWR Fre" => Some("R+po+mfence"),
+        " Rfe PodRW Rfe PodRR Fre" => Some("WRC"),
+        " Rfe PodRW Rfe PodRW Coe" => Some("WWC"),
+        " Rfe PodRR Fre MFencedWR Fre" => Some("RWC+po+mfence"),
+        " Rfe PodRW Coe MFencedWR Fre" => Some("WRW+WR+po+mfence"),
+        " Rfe PodRW Coe PodWW Coe" => Some("WRW+2W"),
+        " Rfe PodRR Fre Rfe PodRR Fre" => Some("IRIW"),
+        " Rfe PodRR Fre Rfe PodRW Coe" => Some("IRRWIW"),
+        " Rfe PodRW Coe Rfe PodRW Coe" => Some("IRWIW"),
+        " PodWW Rfe PodRW Rfe PodRR Fre" => Some("ISA2"),
+        " PodWW Rfe PodRR Fre MFencedWR Fre" => Some("W+RWC+po+po+mfence"),
+        " MFencedWR Fre MFencedWR Fre MFencedWR Fre" => Some("3.SB+mfences"),
+        " PodRW Rfe PodRW Rfe PodRW Rfe" => Some("3.LB"),
+        " PodWW Coe PodWW Coe PodWW Coe" => Some("3.2W"),
+        " PodWW Rfe PodRW Coe MFencedWR Fre" => Some("Z6.0+po+po+mfence"),
+        " PodWW Coe PodWW Rfe PodRW Coe" => Some("Z6.1"),
+        " PodWW Rfe PodRW Rfe PodRW Coe" => Some("Z6.2"),
+        " PodWW Coe PodWW Rfe PodRR Fre" => Some("Z6.3"),
+        " PodWW Coe MFencedWR Fre MFencedWR Fre" => Some("Z6.4+po+mfence+mfence"),
+        " PodWW Coe PodWW Coe MFencedWR Fre" => Some("Z6.5+po+po+mfence"),
+        " Rfe PosRR Fre" => Some("CoRR"),
+        " PosWW Coi" => Some("CoWW"),
+        " PosRW Rfi" => Some("CoRW"),
+        " Rfe PosRW Coe" => Some("CoRW"),
+        _ => None,
+    }
+}
+
+/// Adds the words from a place on and the name of the classic test that they are those of; whether there is one.
+fn put_named(
+    out: &mut Vec<u8>,
+    alloc: Global,
+    steps: &[Step],
+    at: usize,
+) -> Result<bool, OutOfMemory>
+    requires { at ≤ length steps.now }
+    ensures { IfOk result (λ named. IsNamed out.old.items (words_from steps.now at) named out.new.items) }
+{
+    let words = words_from(alloc, steps, at)?;
+    let Some(name) = classic_of(words.as_str()) else {
+        return Ok(false);
+    };
+    put_text(out, words.as_bytes())?;
+    put_text(out, b" (")?;
+    put_text(out, name.as_bytes())?;
+    put_text(out, b")")?;
+    Ok(true)
+}
+
+/// Adds the words of steps, and the name of the classic test that has their cycle, if there is one.
+fn put_told(out: &mut Vec<u8>, alloc: Global, steps: &[Step]) -> Result<(), OutOfMemory>
+    ensures { OnOk result (out.new.items ≡ out.old.items ++ told_from steps.now 0 (length steps.now)) }
+{
+    for at in 0..steps.len() {
+        if put_named(out, alloc, steps, at)? {
+            return Ok(());
+        }
+    }
+    let words = words_from(alloc, steps, 0)?;
+    put_text(out, words.as_bytes())
+}
+
+/// Adds the line of steps.
+fn put_line(out: &mut Vec<u8>, alloc: Global, steps: &[Step]) -> Result<(), OutOfMemory>
+    ensures { OnOk result (out.new.items ≡ out.old.items ++ diy_line steps.now) }
+{
+    put_text(out, b"In diy's words:")?;
+    put_told(out, alloc, steps)?;
+    put_text(out, b"\n")
+}
+
+/// Adds the line of a cycle, if each of its events is a load, a store or a fence.
+pub(crate) fn put_diy(
+    out: &mut Vec<u8>,
+    alloc: Global,
+    recording: &Recording,
+    places: &Places<'_>,
+    cycle: &[EventId],
+) -> Result<(), OutOfMemory>
+    requires { places.now ≡ recording.now }
+    ensures { OnOk result ((line : List ℕ) × IsDiyLine recording.now cycle.now line
+        × (out.new.items ≡ out.old.items ++ line)) }
+{
+    if !are_plain(recording, cycle) {
+        return Ok(());
+    }
+    let accesses = accesses(alloc, recording, cycle)?;
+    let steps = steps(alloc, recording, places, &accesses)?;
+    put_line(out, alloc, &steps)
+}
+
+/// Adds the line of a load that overlooks a store, if it is no read-modify-write and the store none.
+#[tactic(auto, unfolding(crate::specs::Diy::overlook_line))]
+pub(crate) fn put_overlook_line(
+    out: &mut Vec<u8>,
+    load: &Event,
+    store: &Event,
+) -> Result<(), OutOfMemory>
+    ensures { OnOk result (out.new.items ≡ out.old.items ++ overlook_line load.now store.now) }
+{
+    if matches!(load, Event::L { .. }) && is_store(store) {
+        put_text(out, b"In diy's words: PosWR Fri (CoWR)\n")
+    } else {
+        Ok(())
+    }
+}
