@@ -5,7 +5,6 @@ use Rattle.clap.specs.Takes.{is_given}
 use Rattle.clap.specs.Words.{IsAmong, Row, Text, fault_of, first_of, kind_of, takes}
 use Rattle.clap.specs.declared.error.Error.{Error}
 use Rattle.clap.specs.declared.error.kind.ErrorKind.TheVariants as kinds
-use Rattle.litmus.specs.Shapes.{is_outside, shape_of}
 use Rattle.command_line.specs.declared.options.Limits.{Limits}
 use Rattle.command_line.specs.declared.options.Options.{Options}
 use Rattle.command_line.specs.declared.options.Options.TheVariants.{Run, Judge, Trials, Live, Replay, Explain, Draw}
@@ -21,17 +20,16 @@ use Rattle.command_line.specs.declared.options.TheConstants.{ATTEMPTS, BUFFER, D
 use Rattle.command_line.specs.declared.options.TheConstants.{WORKERS}
 use Rattle.command_line.specs.declared.values.Values.{Values}
 use Rattle.command_line.specs.Commands.{AreFaultless, command_of, program_app}
-use Rattle.command_line.specs.Entries.{HasEntries, machine_fault_of, number_of, number_or, show_of, size_of}
+use Rattle.command_line.specs.Entries.{HasEntries, machine_fault_of, number_of, number_or, show_of}
 use Rattle.clap.specs.Words.{one_of, subcommand_rows_of}
 use Rattle.clap.specs.declared.parser.matches.ArgMatches.{ArgMatches}
-use Rattle.command_line.specs.Refusals.{refusal_of}
+use Rattle.command_line.specs.Refusals.{refusal_of, shape_asked}
 
 -- n is the number that is asked for, from 1 to the limit
 pub record IsInRange (limit asked n : ℕ) : Type 0 where
   pub is_asked : n ≡ asked
   pub least : 1 ≤ n
   pub most : n ≤ limit
-  pub inside : is_outside limit n ≡ false
 
 -- n is the number of an option, within its limits
 abbrev pub IsNumber : Text → Limits → List Row → ℕ → Type 0
@@ -43,9 +41,7 @@ seed_of rows = number_or DEFAULT_SEED (one_of (codes "seed") rows)
 
 -- each number, the fault and the flag is its entry, or else its default; none is refused
 pub record AreValues (v : Values) (rows : List Row) : Type 0 where
-  pub cores : v.cores ≡ size_of (codes "cores") rows
-  pub ops : v.ops ≡ size_of (codes "ops") rows
-  pub addresses : v.addresses ≡ size_of (codes "addresses") rows
+  pub shape : shape_asked rows ≡ option_map Ok v.shape
   pub seed : v.seed ≡ seed_of rows
   pub trials : IsNumber (codes "trials") TRIALS rows v.trials
   pub attempts : IsNumber (codes "attempts") ATTEMPTS rows v.attempts
@@ -71,21 +67,17 @@ pub record AreJudgeOptions (o : JudgeOptions) (rows : List Row) : Type 0 where
   pub file : first_of (codes "FILE") rows ≡ Some (string_bytes o.file)
   pub workers : IsNumber (codes "workers") WORKERS rows o.workers
 
--- each option of trials is its entry, or else its default; the sizes make a shape
+-- each option of trials is its entry, or else its default; the sizes make the shape
 pub record AreTrialsOptions (o : TrialsOptions) (rows : List Row) : Type 0 where
-  pub cores : o.cores ≡ size_of (codes "cores") rows
-  pub ops : o.ops ≡ size_of (codes "ops") rows
-  pub addresses : o.addresses ≡ size_of (codes "addresses") rows
-  pub shape : shape_of o.cores o.ops o.addresses
-      ≡ Ok (record { cores = o.cores; ops = o.ops; addresses = o.addresses })
-  pub seed : o.seed ≡ seed_of rows
-  pub trials : IsNumber (codes "trials") TRIALS rows o.trials
-  pub attempts : IsNumber (codes "attempts") ATTEMPTS rows o.attempts
-  pub buffer : IsNumber (codes "buffer") BUFFER rows o.buffer
-  pub fault : machine_fault_of rows ≡ Some o.fault
+  pub shape : shape_asked rows ≡ Some (Ok o.campaign.shape)
+  pub seed : o.campaign.base ≡ seed_of rows
+  pub trials : IsNumber (codes "trials") TRIALS rows o.campaign.trials
+  pub attempts : IsNumber (codes "attempts") ATTEMPTS rows o.campaign.attempts
+  pub buffer : IsNumber (codes "buffer") BUFFER rows o.campaign.capacity
+  pub fault : machine_fault_of rows ≡ Some o.campaign.fault
   pub workers : IsNumber (codes "workers") WORKERS rows o.workers
   pub show : o.show ≡ show_of rows
-  pub shown : IfSome o.show (λ k. k < o.trials)
+  pub shown : IfSome o.show (λ k. k < o.campaign.trials)
   pub quiet : o.quiet ≡ is_given (codes "quiet") rows
 
 -- each option of live is its entry, or else its default

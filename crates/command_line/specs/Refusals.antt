@@ -20,11 +20,14 @@ abbrev pub refusal_in : Result Sizes ShapeError → Option OptionRefusal
 refusal_in (Ok sizes) = None
 refusal_in (Err refusal) = Some (refused.Shape refusal)
 
+-- the shape that sizes ask for, where there are sizes, or the first refusal
+abbrev pub shape_asked : List Row → Option (Result Sizes ShapeError)
+shape_asked rows = option_map (λ cores. shape_of (number_written cores) (size_of (codes "ops") rows)
+    (size_of (codes "addresses") rows)) (one_of (codes "cores") rows)
+
 -- K1 to K4, where there are sizes
 abbrev pub sizes_refusal : List Row → Option OptionRefusal
-sizes_refusal rows =
-    option_and_then (λ cores. refusal_in (shape_of cores (size_of (codes "ops") rows)
-    (size_of (codes "addresses") rows))) (option_map number_written (one_of (codes "cores") rows))
+sizes_refusal rows = option_and_then refusal_in (shape_asked rows)
 
 -- K5 to K8, of the option with this name
 abbrev pub number_refusal : Text → Limits → List Row → Option OptionRefusal

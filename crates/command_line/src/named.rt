@@ -1,6 +1,6 @@
 //! The options of the command with a name.
-ghost use Rattle.std.specs.Prelude.{◌≡◌, IfOk, None, Some, codes, option_map, string_bytes};
-ghost use Rattle.clap.specs.Words.{first_of, found_of, rows_of};
+ghost use Rattle.std.specs.Prelude.{◌≡◌, ◌≢◌, IfOk, List, None, Some, codes, option_map, string_bytes};
+ghost use Rattle.clap.specs.Words.{Row, first_of, found_of, rows_of};
 ghost use Rattle.command_line.specs.Entries.{HasEntries, HasText};
 ghost use Rattle.command_line.specs.Options.{AreValues, AreOptionsOf};
 ghost use Rattle.command_line.specs.Refusals.{refusal_of};
@@ -10,6 +10,7 @@ use crate::options::{
     ExplainOptions, FileOptions, JudgeOptions, LiveOptions, Options, RunOptions, TrialsOptions,
 };
 use crate::values::Values;
+use campaign::Campaign;
 use clap::ArgMatches;
 use std::alloc::{AllocError, Global};
 
@@ -35,6 +36,34 @@ fn maybe_given(
         Some(name) => Ok(Some(String::from_str(alloc, name)?)),
         None => Ok(None),
     }
+}
+
+/// The campaign of sizes, which have to be there.
+fn campaign_of(values: &Values) -> Campaign
+    requires sizes { values.now.shape ≢ None }
+    requires values { (rows : List Row) × AreValues values.now rows }
+    ensures shape { values.now.shape ≡ Some result.shape }
+    ensures rest { result ≡ record {
+      shape = result.shape;
+      base = values.now.seed;
+      trials = values.now.trials;
+      attempts = values.now.attempts;
+      capacity = values.now.buffer;
+      fault = values.now.fault;
+    } }
+{
+    let Some(shape) = values.shape else {
+        unreachable!()
+    };
+    shape.sound();
+    Campaign::of_plan(
+        shape,
+        values.seed,
+        values.trials,
+        values.attempts,
+        values.buffer,
+        values.fault,
+    )
 }
 
 /// The options of the command with this name.
@@ -63,14 +92,7 @@ pub fn named_options(
             workers: values.workers,
         })),
         "trials" => Ok(Options::Trials(TrialsOptions {
-            cores: values.cores,
-            ops: values.ops,
-            addresses: values.addresses,
-            seed: values.seed,
-            trials: values.trials,
-            attempts: values.attempts,
-            buffer: values.buffer,
-            fault: values.fault,
+            campaign: campaign_of(values),
             workers: values.workers,
             show: values.show,
             quiet: values.quiet,

@@ -1,5 +1,6 @@
 //! The options of each command, and why there are none.
 
+use campaign::Campaign;
 use clap::error::ErrorKind;
 use common::{MAX_CAPACITY, MAX_STEPS, MAX_TRIALS, MAX_WORKERS};
 use litmus::ShapeError;
@@ -104,29 +105,14 @@ pub struct JudgeOptions {
     pub workers: usize,
 }
 
-/// What `trials` is asked: the sizes of the programs, the trials and their runs, the workers, the
-/// trial that is shown, and whether progress is.
+/// What `trials` is asked: the campaign, the workers, the trial that is shown, and whether progress is.
 #[derive(Debug, Drop)]
 pub struct TrialsOptions {
-    /// How many cores a program has, 1 to `MAX_CORES`.
-    pub cores: usize,
-    /// How many operations a core has, 1 to `MAX_EVENTS`; over all cores at most `MAX_EVENTS`.
-    pub ops: usize,
-    /// How many addresses operations are drawn from, 1 to `MAX_ADDRESSES`.
-    pub addresses: usize,
-    /// The seed of the first trial.
-    pub seed: u64,
-    /// How many trials there are, 1 to `MAX_TRIALS`.
-    pub trials: usize,
-    /// How many steps a trial attempts at most, 1 to `MAX_STEPS`.
-    pub attempts: usize,
-    /// How many stores a buffer holds, 1 to `MAX_CAPACITY`.
-    pub buffer: usize,
-    /// What is wrong with the machine.
-    pub fault: Fault,
+    /// The campaign.
+    pub campaign: Campaign,
     /// How many workers share the trials at most, 1 to `MAX_WORKERS`.
     pub workers: usize,
-    /// The trial that is shown instead of the counts, below `trials`.
+    /// The trial that is shown instead of the counts, below the number of trials.
     pub show: Option<usize>,
     /// Whether no progress is shown.
     pub quiet: bool,

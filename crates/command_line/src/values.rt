@@ -1,11 +1,11 @@
 //! The numbers, the fault and the flag that entries ask for, and the first refusal, K1 to K10.
-ghost use Rattle.std.specs.Prelude.{◌≡◌, ◌<◌, IfOk, IfSome, Some, codes};
+ghost use Rattle.std.specs.Prelude.{◌≡◌, ◌<◌, IfOk, IfSome, Ok, Some, codes, option_map};
 ghost use Rattle.std.specs.Result.{result_err};
 ghost use Rattle.clap.specs.Words.{found_of, rows_of};
 ghost use Rattle.command_line.specs.Entries.{AreEntries, HasNumber, machine_fault_of, number_of, show_of};
 ghost use Rattle.command_line.specs.Options.{AreValues, IsNumber};
 ghost use Rattle.command_line.specs.Refusals.{fault_refusal, number_refusal, refusal_of, refusal_of_show};
-ghost use Rattle.command_line.specs.Refusals.{sizes_refusal};
+ghost use Rattle.command_line.specs.Refusals.{shape_asked, sizes_refusal};
 
 use crate::entries::{fault_named, flag, maybe_text, number, number_or};
 use crate::options::{
@@ -18,9 +18,7 @@ use machine::Fault;
 /// The numbers, the fault and the flag that entries ask for: where there is no entry, the default.
 #[derive(Drop)]
 pub struct Values {
-    pub cores: usize,
-    pub ops: usize,
-    pub addresses: usize,
+    pub shape: Option<Shape>,
     pub seed: u64,
     pub trials: usize,
     pub attempts: usize,
@@ -45,19 +43,20 @@ fn limited(matches: &ArgMatches<'_>, id: &str, limits: Limits) -> Result<usize, 
     Ok(asked)
 }
 
-/// K1 to K4, where there are sizes.
-fn sizes_refusal(matches: &ArgMatches<'_>) -> Option<OptionRefusal>
+/// The shape of the sizes, where there are sizes.
+fn shape(matches: &ArgMatches<'_>) -> Result<Option<Shape>, OptionRefusal>
     requires { AreEntries (rows_of (found_of matches.now)) }
-    ensures { result ≡ sizes_refusal (rows_of (found_of matches.now)) }
+    ensures ok { IfOk result (λ shape. shape_asked (rows_of (found_of matches.now)) ≡ option_map Ok shape) }
+    ensures err { result_err result ≡ sizes_refusal (rows_of (found_of matches.now)) }
 {
     let ops = number_or(matches, "ops", 0);
     let addresses = number_or(matches, "addresses", 0);
     match number(matches, "cores") {
         Some(cores) => match Shape::new(cores as usize, ops as usize, addresses as usize) {
-            Ok(_) => None,
-            Err(refusal) => Some(OptionRefusal::Shape(refusal)),
+            Ok(shape) => Ok(Some(shape)),
+            Err(refusal) => Err(OptionRefusal::Shape(refusal)),
         },
-        None => None,
+        None => Ok(None),
     }
 }
 
@@ -96,9 +95,7 @@ pub fn read_values(matches: &ArgMatches<'_>) -> Result<Values, OptionRefusal>
     ensures ok { IfOk result (λ n. AreValues n (rows_of (found_of matches.now))) }
     ensures err { result_err result ≡ refusal_of (rows_of (found_of matches.now)) }
 {
-    if let Some(refusal) = sizes_refusal(matches) {
-        return Err(refusal);
-    }
+    let shape = shape(matches)?;
     let trials = limited(matches, "trials", TRIALS)?;
     let attempts = limited(matches, "attempts", ATTEMPTS)?;
     let limit = limited(matches, "limit", LIMIT)?;
@@ -107,9 +104,7 @@ pub fn read_values(matches: &ArgMatches<'_>) -> Result<Values, OptionRefusal>
     let fault = fault(matches)?;
     let show = show(matches, trials)?;
     Ok(Values {
-        cores: number_or(matches, "cores", 0) as usize,
-        ops: number_or(matches, "ops", 0) as usize,
-        addresses: number_or(matches, "addresses", 0) as usize,
+        shape,
         seed: number_or(matches, "seed", DEFAULT_SEED),
         trials,
         attempts,

@@ -1,42 +1,19 @@
 //! The command `trials`.
-ghost use Rattle.std.specs.Prelude.{◌≡◌, ◌≤◌, ◌<◌, IfErr, IfOk, List};
+ghost use Rattle.std.specs.Prelude.{◌≡◌, IfErr, IfOk, List};
 ghost use Rattle.clap.specs.Words.{Row};
 ghost use Rattle.command_line.specs.Options.{AreTrialsOptions};
 ghost use Rattle.inputs.specs.declared.fault.CommandFault.TheVariants.{OutOfMemory};
 ghost use Rattle.inputs.specs.declared.stop.Stop.TheVariants.{Fault};
-ghost use Rattle.commands.specs.Trials.{IsTrials, plan_asked};
+ghost use Rattle.commands.specs.Trials.{IsTrials};
 
 use answers::{Answer, campaign_answer, shown_answer};
 use command_line::TrialsOptions;
 use common::OpenGate;
 use inputs::place::Place;
 use inputs::stop::Stop;
-use litmus::Shape;
 use std::alloc::Global;
 use std::sync::Wait;
 use std::thread::Threads;
-use trials::Campaign;
-
-/// The campaign that the options ask for.
-fn campaign_of(options: &TrialsOptions) -> Campaign
-    requires { (rows : List Row) × AreTrialsOptions options.now rows }
-    ensures { result ≡ plan_asked options.now }
-{
-    let Ok(shape) = Shape::new(options.cores, options.ops, options.addresses) else {
-        unreachable!()
-    };
-    let Ok(campaign) = Campaign::new(
-        shape,
-        options.seed,
-        options.trials,
-        options.attempts,
-        options.buffer,
-        options.fault,
-    ) else {
-        unreachable!()
-    };
-    campaign
-}
 
 /// What the campaign that the options ask for gives: its counts, or one of its trials.
 fn answer_of<R: Threads + Wait + Sync, P: Place>(
@@ -48,15 +25,14 @@ fn answer_of<R: Threads + Wait + Sync, P: Place>(
     requires { (rows : List Row) × AreTrialsOptions options.now rows }
     ensures { IfOk result (IsTrials options.now) }
 {
-    let campaign = campaign_of(options);
     match options.show {
-        Some(k) => shown_answer(alloc, &campaign, k),
+        Some(k) => shown_answer(alloc, &options.campaign, k),
         None if options.quiet => {
-            campaign_answer(rt, alloc, &campaign, options.workers, &OpenGate)
+            campaign_answer(rt, alloc, &options.campaign, options.workers, &OpenGate)
         }
         None => {
-            let progress = place.progress(options.trials);
-            campaign_answer(rt, alloc, &campaign, options.workers, &progress)
+            let progress = place.progress(options.campaign.trials());
+            campaign_answer(rt, alloc, &options.campaign, options.workers, &progress)
         }
     }
 }

@@ -7,11 +7,11 @@ ghost use Rattle.trials.specs.Counts.{IsLedger};
 ghost use Rattle.trials.specs.Looking.{IsDeskSeatOf};
 ghost use Rattle.trials.specs.declared.board.View.{View};
 
-use crate::campaign::Campaign;
 use crate::ledger::Ledger;
 use crate::seat::{Desk, DeskSeat, Look};
 use crate::trying::trial;
 use crate::workers::work_all;
+use campaign::Campaign;
 use common::{Gate, MAX_WORKERS, OutOfMemory};
 use std::alloc::Global;
 use std::sync::Wait;

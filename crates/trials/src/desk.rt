@@ -6,9 +6,9 @@ ghost use Rattle.trials.specs.Board.{first_view, claimed, noticed, completed, Ar
 ghost use Rattle.trials.specs.Looking.{IsDeskSeatOf, IsLook};
 
 use crate::board::Board;
-use crate::campaign::Campaign;
 use crate::filed::Filed;
 use crate::seat::{Desk, DeskSeat, Look};
+use campaign::Campaign;
 use common::OutOfMemory;
 use std::alloc::Global;
 use std::sync::Arc;

@@ -1,7 +1,7 @@
 //! Trials with their codes.
 
-use crate::campaign::Campaign;
 use crate::code::{ORDERED, UNFINISHED};
+use campaign::Campaign;
 use std::marker::Model;
 
 /// A trial of a campaign with its code, which its type keeps to be that of the trial.

@@ -2,7 +2,6 @@
 #![tactic(auto)]
 
 mod board;
-mod campaign;
 mod campaigning;
 mod code;
 mod desk;

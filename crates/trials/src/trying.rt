@@ -5,10 +5,10 @@ ghost use Rattle.machine.specs.Configuration.{Configuration};
 ghost use Rattle.trials.specs.Codes.{EndsIn, IsShort, generator, program_of_trial};
 ghost use Rattle.trials.specs.Judged.{IsEndRecording, IsEndVerdict};
 
-use crate::campaign::Campaign;
 use crate::filed::Filed;
 use crate::judging::{end_code, end_verdict};
 use crate::running::run_seeded;
+use campaign::Campaign;
 use common::OutOfMemory;
 use judge::Verdict;
 use litmus::Program;

@@ -3,10 +3,10 @@
 ghost use Rattle.std.specs.Prelude.{◌≡◌, ◌<◌, ◌≤◌, Contains};
 ghost use Rattle.trials.specs.Looking.{IsDeskSeatOf};
 
-use crate::campaign::Campaign;
 use crate::filed::Filed;
 use crate::seat::{Desk, DeskSeat};
 use crate::trying::trial;
+use campaign::Campaign;
 use common::Gate;
 use std::alloc::Global;
 use std::sync::Wait;

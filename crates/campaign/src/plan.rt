@@ -19,7 +19,7 @@ pub struct Campaign {
 }
 
 impl Model for Campaign {
-    ghost use Rattle.trials.specs.Campaigns.{Plan, IsPlan};
+    ghost use Rattle.campaign.specs.Campaigns.{Plan, IsPlan};
 
     ghost Value = { Plan };
 
@@ -53,7 +53,7 @@ impl Model for Campaign {
 
 impl Campaign {
     ghost use Rattle.std.specs.Prelude.{◌≡◌};
-    ghost use Rattle.trials.specs.Campaigns.{IsPlan, plan_of};
+    ghost use Rattle.campaign.specs.Campaigns.{IsPlan, plan_of};
 
     /// The campaign of 1 to `MAX_TRIALS` trials, each of 1 to `MAX_STEPS` attempts, on machines with a
     /// capacity of 1 to `MAX_CAPACITY`; else the first refusal, K5 to K7. It can't fail for want of memory.
@@ -92,6 +92,42 @@ impl Campaign {
             capacity,
             fault,
         })
+    }
+
+    /// The campaign of these numbers, which have to be within the limits.
+    pub fn of_plan(
+        shape: Shape,
+        base: u64,
+        trials: usize,
+        attempts: usize,
+        capacity: usize,
+        fault: Fault,
+    ) -> Campaign
+        requires { IsPlan (record {
+          shape = shape;
+          base = base;
+          trials = trials;
+          attempts = attempts;
+          capacity = capacity;
+          fault = fault;
+        }) }
+        ensures { result ≡ record {
+          shape = shape;
+          base = base;
+          trials = trials;
+          attempts = attempts;
+          capacity = capacity;
+          fault = fault;
+        } }
+    {
+        Campaign {
+            shape,
+            base,
+            trials,
+            attempts,
+            capacity,
+            fault,
+        }
     }
 
     /// What every campaign keeps. It does nothing.

@@ -1,0 +1,6 @@
+//! What the trials of a campaign have in common.
+#![tactic(auto)]
+
+mod plan;
+
+pub use plan::Campaign;
