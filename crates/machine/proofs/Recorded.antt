@@ -1,20 +1,13 @@
 -- The recording of a complete state is one within the limits.
-use Rattle.std.proofs.Common.{◌≡◌, ◌≤◌, ◌+◌, ℕ, suc, Option, List, [], ◌∷◌, length, arith, refl, ap}
+use Rattle.std.proofs.Common.{◌≡◌, ◌≤◌, length, arith}
 use Rattle.std.specs.List.{sum_by}
 use Rattle.common.specs.declared.limits.TheConstants.{MAX_CORES, MAX_EVENTS, MAX_ADDRESSES}
-use Rattle.litmus.specs.declared.op.Op.{Op}
 use Rattle.litmus.specs.Parts.{Parts}
 use Rattle.recorder.specs.Recording.{IsRecording}
-use Rattle.machine.specs.State.{State, cores_from, recorded, IsComplete}
+use Rattle.machine.specs.State.{State, recorded, IsComplete}
 use Rattle.recorder.specs.PlacedLaws.{placed_total}
-use Rattle.machine.specs.RecordedLaws.{count_is}
+use Rattle.machine.specs.RecordedLaws.{count_is, cores_length}
 use Rattle.machine.proofs.Data.{IsData, complete_well_formed, complete_addresses}
-
--- a recording has the cores of its program
-cores_length : (e : ℕ) (p : List (List Op)) (reads : List (ℕ × Option ℕ))
-    → length (cores_from e p reads) ≡ length p
-cores_length e [] reads = refl
-cores_length e (ops ∷ p) reads = ap suc (cores_length (e + length ops) p reads)
 
 -- the recording of a complete state is a recording
 pub complete_recording : (p : Parts) (s : State) → length p.cores ≤ MAX_CORES

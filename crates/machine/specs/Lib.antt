@@ -7,6 +7,9 @@ pub mod Taken
 pub mod Tso
 pub mod Orderly
 pub mod PlaceLaws
+pub mod FirstUseLaws
+pub mod ProgramOf
+pub mod ProgramLaws
 pub mod OneRow
 pub mod BoundedItems
 pub mod Configuration

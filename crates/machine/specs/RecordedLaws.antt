@@ -20,13 +20,19 @@ events_length e [] reads = refl
 events_length e (op ∷ ops) reads = ap suc (events_length (e + 1) ops reads)
 
 -- event i of a core is that of its operation i
-events_at : (e : ℕ) (ops : List Op) (reads : List (ℕ × Option ℕ)) (i : ℕ)
+pub events_at : (e : ℕ) (ops : List Op) (reads : List (ℕ × Option ℕ)) (i : ℕ)
     → get_or (events_from e ops reads) i F ≡ event_of (get_or ops i Fence) (get_or reads (e + i) (0, None))
 events_at e [] reads i = refl
 events_at e (op ∷ ops) reads zero = ap (λ (n : ℕ). event_of op (get_or reads n (0, None))) (omega arith)
 events_at e (op ∷ ops) reads (suc i) =
     events_at (e + 1) ops reads i ∙ ap (λ (n : ℕ). event_of (get_or ops i Fence) (get_or reads n (0, None)))
     (omega arith)
+
+-- a recording has the cores of its program
+pub cores_length : (e : ℕ) (p : List (List Op)) (reads : List (ℕ × Option ℕ))
+    → length (cores_from e p reads) ≡ length p
+cores_length e [] reads = refl
+cores_length e (ops ∷ p) reads = ap suc (cores_length (e + length ops) p reads)
 
 -- a recording has as many events as its program has operations
 pub recorded_length : (k e : ℕ) (p : List (List Op)) (reads : List (ℕ × Option ℕ))

@@ -79,6 +79,7 @@ impl Machine {
     ghost use Rattle.machine.specs.declared.fault.Fault.TheVariants as fault;
     ghost use Rattle.machine.specs.State.{opening, place_of, buffer_of, IsDone};
     ghost use Rattle.machine.specs.Configuration.{recording_of, next_event, IsAtEnd};
+    ghost use Rattle.machine.specs.ProgramOf.{IsProgramOf};
     ghost use Rattle.write_buffer.specs.Buffer.{youngest};
 
     /// A machine at the start of a program, whose store buffers have room for `capacity` stores
@@ -268,10 +269,11 @@ impl Machine {
         true
     }
 
-    /// The recording of a machine that is complete; else the machine as it is. It can't fail
-    /// for want of memory.
+    /// The recording of a machine that is complete, which is one of its program; else the machine as it
+    /// is. It can't fail for want of memory.
     pub fn finish(self) -> Result<Recording, Unfinished>
         ensures recording { IfOk result (λ r. r ≡ recording_of self) }
+        ensures program { IfOk result (λ r. IsProgramOf self.program r) }
         ensures complete { OnOk result (IsAtEnd self) }
         // Without fault, the order of what was performed is one that TSO allows.
         ensures tso { OnOk result (self.fault ≡ fault.None

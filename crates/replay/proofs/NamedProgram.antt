@@ -1,14 +1,16 @@
 -- The program of a recording is lawful, and what its building makes.
 use Rattle.std.proofs.Common.{◌≡◌, ◌<◌, ◌≤◌, ◌^◌, ℕ, suc, max, List, [], ◌∷◌, map, length, Some}
 use Rattle.std.proofs.Common.{None, IsTrue, nat_eq, count_by, get_or, drop, arith, refl, sym, ap, ◌∙◌, Vec}
-use Rattle.std.proofs.Common.{Global, option_and_then, drop-cons, drop_of_length-le, eqb-true, eq-eqb}
+use Rattle.std.proofs.Common.{Global, option_and_then, drop-cons, drop_of_length-le, eqb-true, eq-eqb, subst}
 use Rattle.std.specs.List.{AllByRecursion}
 use Rattle.std.proofs.Math.Nat.{le-max_right, max-eq_left, max-eq_right}
-use Rattle.std.proofs.lemmas.List.{length-map}
+use Rattle.std.proofs.lemmas.List.{length-map, get_or-map}
 use Rattle.common.specs.declared.limits.TheConstants.{MAX_ADDRESSES}
 use Rattle.litmus.specs.declared.op.Op.{Op}
+use Rattle.litmus.specs.declared.op.Op.TheVariants.{Fence}
 use Rattle.litmus.specs.Parts.{Small, IsSmall, IsProgram, use_ops, use_cores}
 use Rattle.recorder.specs.declared.event.Event.{Event}
+use Rattle.recorder.specs.declared.event.Event.TheVariants.{F}
 use Rattle.recorder.specs.Event.{is_plain_store}
 use Rattle.recorder.specs.Execution.{Execution}
 use Rattle.recorder.specs.Recording.{IsRecording}
@@ -18,7 +20,8 @@ use Rattle.recorder.specs.FirstUse.{IsNumberedByFirstUse}
 use Rattle.litmus.specs.AddressNames.{address_names}
 use Rattle.replay.specs.Program.{named_program}
 use Rattle.recorder.specs.PlacedLaws.{placed_total}
-use Rattle.replay.proofs.Made.{count_same}
+use Rattle.machine.specs.ProgramOf.{Makes, AreOpsOf, IsProgramOf}
+use Rattle.replay.proofs.Made.{count_same, made_again}
 use Rattle.std.proofs.lemmas.Option.{same_Some}
 use Rattle.replay.proofs.FirstUse.{program_numbered, numbered_by_program}
 use Rattle.litmus.specs.AddressNameLaws.{names_lawful, names_distinct, names_count}
@@ -42,6 +45,27 @@ named_is_program x r numbered small small_init =
       init_length = r.within.initial ∙ sym count;
       init_values = small_init;
     }
+
+-- the operations of events make these
+made_ops : (es : List Event) → AreOpsOf (map op_of es) es
+made_ops es = record {
+  one_each = length-map es op_of;
+  each = λ i h.
+      let inside : i < length es = omega (arith, h, length-map es op_of) in
+      subst (λ (op : Op). Makes op (get_or es i F)) (sym (get_or-map op_of es i F Fence inside))
+      (made_again (get_or es i F));
+}
+
+-- so a recording is one of its program
+pub named_is_of : (x : Execution) → IsProgramOf (named_program x) x
+named_is_of x = record {
+  cores = length-map x.cores (λ es. map op_of es);
+  ops = λ c h.
+      let inside : c < length x.cores = omega (arith, h, length-map x.cores (λ (es : List Event). map op_of es)) in
+      subst (λ (ops : List Op). AreOpsOf ops (get_or x.cores c []))
+      (sym (get_or-map (λ (es : List Event). map op_of es) x.cores c [] [] inside)) (made_ops (get_or x.cores c []));
+  values = refl;
+}
 
 -- a core has room for one store at least
 most_least : (cores : List (List Event)) → 1 ≤ most_stores cores

@@ -11,5 +11,6 @@ mod stores;
 
 pub use law::every_order_is_replayed;
 pub use numbered::is_numbered;
+pub use program::named_program;
 pub use steps::replay_steps;
 pub use stores::most_stores;

@@ -4,6 +4,7 @@ ghost use Rattle.std.specs.Prelude.{◌≡◌, IfOk};
 ghost use Rattle.std.specs.List.{AllByRecursion};
 ghost use Rattle.litmus.specs.Parts.{IsSmall};
 ghost use Rattle.recorder.specs.FirstUse.{IsNumberedByFirstUse};
+ghost use Rattle.machine.specs.ProgramOf.{IsProgramOf};
 ghost use Rattle.replay.specs.Program.{named_program};
 
 use crate::operations::cores_of;
@@ -24,11 +25,13 @@ fn values_of(alloc: Global, init: &[u32]) -> Result<Vec<u32>, OutOfMemory>
     Ok(values)
 }
 
-/// The program of a recording whose addresses are numbered by first use; an `Err` only where there
-/// is no memory.
-pub(crate) fn named_program(alloc: Global, recording: &Recording) -> Result<Program, OutOfMemory>
+/// The program that makes a recording whose addresses are numbered by first use, none unused: the operation
+/// that each event came from, the name `a` and its number for each address, and the initial values. An
+/// `Err` is want of memory.
+pub fn named_program(alloc: Global, recording: &Recording) -> Result<Program, OutOfMemory>
     requires { IsNumberedByFirstUse recording.now }
-    ensures { IfOk result (λ program. program ≡ named_program recording.now) }
+    ensures program { IfOk result (λ program. program ≡ named_program recording.now) }
+    ensures made { IfOk result (λ program. IsProgramOf program recording.now) }
 {
     recording.sound();
     let names = address_names(alloc, recording.addresses())?;

@@ -2,11 +2,12 @@ use Rattle.std.proofs.Common.{◌≡◌, ◌∙◌, ap, sym, subst, refl, length
 use Rattle.std.specs.List.{AllByRecursion}
 use Rattle.litmus.specs.declared.name.Name.{Name}
 use Rattle.litmus.specs.declared.op.Op.{Op}
-use Rattle.litmus.specs.Parts.{Small, IsSmall, IsProgram, parts_of}
+use Rattle.litmus.specs.Parts.{Parts, Small, IsSmall, IsProgram, parts_of}
+use Rattle.machine.specs.ProgramOf.{IsProgramOf}
 use Rattle.recorder.specs.Execution.{Execution}
-use Rattle.replay.specs.Program.{program_of}
+use Rattle.replay.specs.Program.{program_of, named_program}
 use Rattle.litmus.specs.AddressNames.{address_names}
-use Rattle.replay.proofs.NamedProgram.{named_is_program}
+use Rattle.replay.proofs.NamedProgram.{named_is_program, named_is_of}
 use Rattle.replay.proofs.program.named_program.Goals as goal
 
 pub unreachable-requires : goal.unreachable-requires
@@ -28,3 +29,18 @@ unreachable-requires c =
     (sym c.in-Ok.ensures.cores)
     (subst (λ (l : List ℕ). IsProgram (parts_of (address_names (length x.write_lists)) (program_of x) l))
     (sym init) (named_is_program x c.sound.ensures c.requires small small_init))))
+
+pub returns-clause-made : goal.returns-clause-made
+returns-clause-made c =
+    let x : Execution = c.args.recording.now in
+    let cores : List (List Op) = c.in-Ok.cores.items in
+    let init : List ℕ = c.in-Ok-values_of.init.items in
+    let names : c.in_ok-names.names.keys ≡ address_names (length x.write_lists) =
+    c.in_ok-names.ensures ∙ ap address_names c.addresses.ensures in
+    let values : init ≡ x.initial = c.in-Ok-values_of.ensures.values ∙ c.init.ensures.value in
+    let program : c.in-Some.program ≡ named_program x =
+    c.in-Some.ensures.some
+    ∙ (ap (λ (l : List Name). parts_of l cores init) names
+    ∙ (ap (λ (p : List (List Op)). parts_of (address_names (length x.write_lists)) p init) c.in-Ok.ensures.cores
+    ∙ ap (λ (l : List ℕ). parts_of (address_names (length x.write_lists)) (program_of x) l) values)) in
+    subst (λ (p : Parts). IsProgramOf p x) (sym program) (named_is_of x)

@@ -16,7 +16,7 @@ use Rattle.replay.proofs.steps.replay_steps.Goals as goal
 pub steps_of-requires-clause-names : goal.steps_of-requires-clause-names
 steps_of-requires-clause-names c =
     ap (λ (h : Configuration). length h.program.names) c.in_ok-machine.ensures
-    ∙ (ap (λ (p : Parts). length p.names) c.in_ok-program.ensures
+    ∙ (ap (λ (p : Parts). length p.names) c.in_ok-program.ensures.program
     ∙ names_count (length c.args.recording.now.write_lists))
 
 pub returns-clause-steps : goal.returns-clause-steps
@@ -30,7 +30,7 @@ returns-clause-steps c =
     (opening c.in_ok-program.program.cores c.in_ok-program.program.init) m)
     c.most_stores.ensures
     ∙ ap (λ (p : Parts). order_steps x (most_stores x.cores) fault.None (opening p.cores p.init) m)
-    c.in_ok-program.ensures)))
+    c.in_ok-program.ensures.program)))
 
 pub returns-clause-replay : goal.returns-clause-replay
 returns-clause-replay c = λ capacity room.
@@ -39,10 +39,10 @@ returns-clause-replay c = λ capacity room.
     let program : c.into_program.result ≡ named_program x =
     c.into_program.ensures ∙ (ap (λ (r : Replaying). r.machine.program) c.replay.view_is
     ∙ (c.in_ok-replay.ensures.program ∙ (ap (λ (h : Configuration). h.program) c.in_ok-machine.ensures
-    ∙ c.in_ok-program.ensures))) in
+    ∙ c.in_ok-program.ensures.program))) in
     let steps : c.replay.inside.steps.items ≡ replay_steps x m = returns-clause-steps c in
     let lawful : IsProgram (named_program x) =
-    subst (λ (p : Parts). IsProgram p) c.in_ok-program.ensures c.sound-2.ensures.lawful in
+    subst (λ (p : Parts). IsProgram p) c.in_ok-program.ensures.program c.sound-2.ensures.lawful in
     let of : IsReplayable x = record {
       recording = c.sound.ensures;
       small = (lawful.values, lawful.init_values);

@@ -1,9 +1,11 @@
-use Rattle.std.proofs.Common.{arith, sym, ap, ◌∙◌, subst, ◌≡◌, ◌≤◌, ℕ, length, map}
+use Rattle.std.proofs.Common.{arith, sym, ap, ◌∙◌, subst, refl, ◌≡◌, ◌≤◌, ℕ, length, map}
 use Rattle.std.proofs.lemmas.List.{length-map}
 use Rattle.common.specs.declared.limits.TheConstants.{MAX_ADDRESSES}
 use Rattle.machine.specs.BoundedItems.{BoundedItems}
-use Rattle.machine.specs.State.{IsComplete}
-use Rattle.machine.specs.Configuration.{BlankSize, Configuration}
+use Rattle.machine.specs.State.{State, IsComplete}
+use Rattle.machine.specs.Configuration.{BlankSize, Configuration, state_from}
+use Rattle.machine.specs.ProgramLaws.{recorded_is_of}
+use Rattle.machine.specs.ProgramOf.{IsProgramOf}
 use Rattle.machine.proofs.InOrder.{IsInOrder}
 use Rattle.machine.proofs.Complete.{complete_is_tso}
 use Rattle.machine.proofs.Reached.{reached_data, reached_in_order}
@@ -46,3 +48,18 @@ returns-clause-tso c = λ none.
     let g = reached_in_order _ _ _ _ _ fault_is c.self.invariant.reached in
     complete_is_tso _ _ end (subst (λ (h : Configuration). IsInOrder h.program.cores h.state) c.self.view_is
     g)
+
+pub returns-clause-program : goal.returns-clause-program
+returns-clause-program c =
+    let i = c.self.inside in
+    let s : State = state_from i.program.init i.units.items i.buffers.items i.caches i.writes.items i.reads.items
+    i.performed.items in
+    subst (λ (h : Configuration). IsProgramOf h.program c.new.result) c.self.view_is (rw (
+      c.new.ensures,
+      c.fill-cores.ensures.cores,
+      c.fill-cores.ensures.writes,
+      c.fill-cores.ensures.initial,
+      ap (λ (b : BlankSize). b.initial) c.self.invariant.blank_is,
+      c.lists.ensures,
+      c.as_slice.ensures.value,
+    ) (recorded_is_of i.program s refl))

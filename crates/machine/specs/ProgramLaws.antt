@@ -1,0 +1,173 @@
+-- Laws of programs and the recordings of them: each operation makes the event of its number.
+use Rattle.std.proofs.Common.{◌≡◌, ◌<◌, ◌≤◌, ◌+◌, ◌-◌, ◌==◌, ◌⊎◌, inl, inr, ℕ, zero, suc, Bool, true, false}
+use Rattle.std.proofs.Common.{cond, Option, Some, None, List, [], ◌∷◌, map, length, get_or, arith, refl, sym}
+use Rattle.std.proofs.Common.{ap, subst, ◌∙◌, length-append}
+use Rattle.std.proofs.lemmas.Bool.{cases_lt}
+use Rattle.std.proofs.lemmas.List.{get_or_append_left, get_or-append_right, get_or-map, length-map}
+use Rattle.litmus.specs.declared.op.Op.{Op}
+use Rattle.litmus.specs.declared.op.Op.TheVariants.{St, Ld, Fence, Swap, Add, Cas}
+use Rattle.litmus.specs.Parts.{Parts, addr_of}
+use Rattle.recorder.specs.declared.event.Event.{Event}
+use Rattle.recorder.specs.declared.event.Event.TheVariants.{R, C, F}
+use Rattle.recorder.specs.Event.{read_address, written_address, value_read, source}
+use Rattle.recorder.specs.EventLaws.{placed_here, placed_behind}
+use Rattle.recorder.specs.Execution.{Execution, placed_from, event_count, event_at}
+use Rattle.recorder.specs.PlacedLaws.{tagged}
+use Rattle.machine.specs.State.{State, event_of, cores_from, recorded}
+use Rattle.machine.specs.Orderly.{placed_op}
+use Rattle.machine.specs.ProgramOf.{Makes, AreOpsOf, IsProgramOf}
+use Rattle.machine.specs.RecordedLaws.{events_length, events_at, cores_length}
+use Rattle.machine.specs.FirstUseLaws.{HasAddressOf, HaveAddressesOf}
+
+-- the operation of a number, where it is on the first core
+pub op_here : (k : ℕ) (ops : List Op) (rest : List (List Op)) (i : ℕ) (d : ℕ × Op) → i < length ops
+    → get_or (placed_from k (ops ∷ rest)) i d ≡ (k, get_or ops i d.1)
+op_here k ops rest i d h =
+    get_or_append_left (map (λ op. (k, op)) ops) (placed_from (k + 1) rest) d i (rw length-map h)
+    ∙ get_or-map (λ (op : Op). (k, op)) ops i d.1 d h
+
+-- and where it is behind the first core
+pub op_behind : (k : ℕ) (ops : List Op) (rest : List (List Op)) (i : ℕ) (d : ℕ × Op) → length ops ≤ i
+    → get_or (placed_from k (ops ∷ rest)) i d ≡ get_or (placed_from (k + 1) rest) (i - length ops) d
+op_behind k ops rest i d h =
+    get_or-append_right (map (λ op. (k, op)) ops) (placed_from (k + 1) rest) (length ops) i d (tagged k ops) h
+
+-- operations that make the events of each core make the event of each number
+placed_makes : (k : ℕ) (p : List (List Op)) (cores : List (List Event)) (i : ℕ) → length p ≡ length cores
+    → ((c : ℕ) → c < length p → AreOpsOf (get_or p c []) (get_or cores c []))
+    → Makes (get_or (placed_from k p) i (0, Fence)).1 (get_or (placed_from k cores) i (0, F)).1
+placed_makes k [] [] i count are = refl
+placed_makes k [] (es ∷ cores) i count are = absurd (omega arith)
+placed_makes k (ops ∷ p) [] i count are = absurd (omega arith)
+placed_makes k (ops ∷ p) (es ∷ cores) i count are =
+    let first : AreOpsOf ops es = are 0 (omega arith) in
+    elim (cases_lt i (length ops)) [
+      | inl here ↦
+          let event : get_or (placed_from k (es ∷ cores)) i (0, F) ≡ (k, get_or es i F) =
+          placed_here k es cores i (0, F) (omega (arith, here, first.one_each)) in
+          subst (λ (z : ℕ × Op). Makes z.1 (get_or (placed_from k (es ∷ cores)) i (0, F)).1)
+          (sym (op_here k ops p i (0, Fence) here))
+          (subst (λ (z : ℕ × Event). Makes (get_or ops i Fence) z.1) (sym event) (first.each i here))
+      | inr behind ↦
+          let same : i - length es ≡ i - length ops = omega (arith, first.one_each) in
+          let event : get_or (placed_from k (es ∷ cores)) i (0, F)
+          ≡ get_or (placed_from (k + 1) cores) (i - length ops) (0, F) =
+          placed_behind k es cores i (0, F) (omega (arith, behind, first.one_each))
+          ∙ ap (λ (n : ℕ). get_or (placed_from (k + 1) cores) n (0, F)) same in
+          subst (λ (z : ℕ × Op). Makes z.1 (get_or (placed_from k (es ∷ cores)) i (0, F)).1)
+          (sym (op_behind k ops p i (0, Fence) behind))
+          (subst (λ (z : ℕ × Event).
+          Makes (get_or (placed_from (k + 1) p) (i - length ops) (0, Fence)).1 z.1) (sym event)
+          (placed_makes (k + 1) p cores (i - length ops) (omega arith)
+          (λ c h. are (suc c) (omega (arith, h)))))
+    ]
+
+-- there are as many operations as events
+placed_count : (k : ℕ) (p : List (List Op)) (cores : List (List Event)) → length p ≡ length cores
+    → ((c : ℕ) → c < length p → AreOpsOf (get_or p c []) (get_or cores c []))
+    → length (placed_from k p) ≡ length (placed_from k cores)
+placed_count k [] [] count are = refl
+placed_count k [] (es ∷ cores) count are = absurd (omega arith)
+placed_count k (ops ∷ p) [] count are = absurd (omega arith)
+placed_count k (ops ∷ p) (es ∷ cores) count are =
+    let first : AreOpsOf ops es = are 0 (omega arith) in
+    length-append (map (λ op. (k, op)) ops) (placed_from (k + 1) p)
+    ∙ (omega (
+      arith,
+      tagged k ops,
+      tagged k es,
+      first.one_each,
+      placed_count (k + 1) p cores (omega arith) (λ c h. are (suc c) (omega (arith, h))),
+    )
+    ∙ sym (length-append (map (λ e. (k, e)) es) (placed_from (k + 1) cores)))
+
+-- of a recording of a program each operation makes the event of its number
+pub event_made : (p : Parts) (x : Execution) → IsProgramOf p x → (e : ℕ)
+    → Makes (placed_op p.cores e).1 (event_at x e)
+unfolding event_at
+event_made p x is e = placed_makes 0 p.cores x.cores e is.cores is.ops
+
+-- a compare-and-swap uses its address, whether it writes or not
+either_uses : (t : Bool) (b : ℕ) (d : ℕ × Option ℕ) (v a : ℕ)
+    → (read_address (cond t (R b d.0 d.1 v) (C b d.0 d.1)) ≡ Some a)
+    ⊎ (written_address (cond t (R b d.0 d.1 v) (C b d.0 d.1)) ≡ Some a) → Some b ≡ Some a
+either_uses true b d v a (inl h) = h
+either_uses true b d v a (inr h) = h
+either_uses false b d v a (inl h) = h
+either_uses false b d v a (inr h) = absurd cc
+
+-- and it reads it
+either_reads : (t : Bool) (b : ℕ) (d : ℕ × Option ℕ) (v a : ℕ) → Some b ≡ Some a
+    → read_address (cond t (R b d.0 d.1 v) (C b d.0 d.1)) ≡ Some a
+either_reads true b d v a h = h
+either_reads false b d v a h = h
+
+-- the event that an operation makes uses its address
+own_used : (op : Op) (d : ℕ × Option ℕ) (a : ℕ)
+    → (read_address (event_of op d) ≡ Some a) ⊎ (written_address (event_of op d) ≡ Some a)
+    → addr_of op ≡ Some a
+own_used (St b v) d a (inl h) = absurd cc
+own_used (St b v) d a (inr h) = h
+own_used (Ld b) d a (inl h) = h
+own_used (Ld b) d a (inr h) = absurd cc
+own_used Fence d a (inl h) = absurd cc
+own_used Fence d a (inr h) = absurd cc
+own_used (Swap b v) d a (inl h) = h
+own_used (Swap b v) d a (inr h) = h
+own_used (Add b v) d a (inl h) = h
+own_used (Add b v) d a (inr h) = h
+own_used (Cas b e v) d a uses = either_uses (d.0 == e) b d v a uses
+
+-- and no other
+used_own : (op : Op) (d : ℕ × Option ℕ) (a : ℕ) → addr_of op ≡ Some a
+    → (read_address (event_of op d) ≡ Some a) ⊎ (written_address (event_of op d) ≡ Some a)
+used_own (St b v) d a h = inr h
+used_own (Ld b) d a h = inl h
+used_own Fence d a h = absurd cc
+used_own (Swap b v) d a h = inl h
+used_own (Add b v) d a h = inl h
+used_own (Cas b e v) d a h = inl (either_reads (d.0 == e) b d v a h)
+
+-- so the operations of a recording's program have the addresses of its events
+pub made_addresses : (p : Parts) (x : Execution) → IsProgramOf p x → HaveAddressesOf p.cores x
+unfolding event_count
+made_addresses p x is = record {
+  count = placed_count 0 p.cores x.cores is.cores is.ops;
+  each = λ e.
+      let op : Op = (placed_op p.cores e).1 in
+      let ev : Event = event_at x e in
+      subst (λ (z : Event). HasAddressOf op z) (event_made p x is e)
+      (λ a. (own_used op (value_read ev, source ev) a, used_own op (value_read ev, source ev) a));
+}
+
+-- an operation makes the event that it made
+makes_own : (op : Op) (d : ℕ × Option ℕ) → Makes op (event_of op d)
+makes_own (St a v) d = refl
+makes_own (Ld a) d = refl
+makes_own Fence d = refl
+makes_own (Swap a v) d = refl
+makes_own (Add a v) d = refl
+makes_own (Cas a e v) d = either (d.0 == e) refl
+  where
+    either : (t : Bool) → (d.0 == e) ≡ t → Makes (Cas a e v) (cond t (R a d.0 d.1 v) (C a d.0 d.1))
+    either true is = ap (λ (t : Bool). cond t (R a d.0 d.1 v) (C a d.0 d.1)) is
+    either false is = ap (λ (t : Bool). cond t (R a d.0 d.1 v) (C a d.0 d.1)) is
+
+-- the operations of each core make its events in the recording of a state
+cores_made : (e : ℕ) (p : List (List Op)) (reads : List (ℕ × Option ℕ)) (c : ℕ) → c < length p
+    → AreOpsOf (get_or p c []) (get_or (cores_from e p reads) c [])
+cores_made e [] reads c h = absurd (omega arith)
+cores_made e (ops ∷ p) reads zero h = record {
+  one_each = sym (events_length e ops reads);
+  each = λ i below. subst (λ (ev : Event). Makes (get_or ops i Fence) ev) (sym (events_at e ops reads i))
+      (makes_own (get_or ops i Fence) (get_or reads (e + i) (0, None)));
+}
+cores_made e (ops ∷ p) reads (suc c) h = cores_made (e + length ops) p reads c (omega (arith, h))
+
+-- so the recording of a state is one of the program
+pub recorded_is_of : (p : Parts) (s : State) → p.init ≡ s.initial → IsProgramOf p (recorded p.cores s)
+recorded_is_of p s values = record {
+  cores = sym (cores_length 0 p.cores s.reads);
+  ops = cores_made 0 p.cores s.reads;
+  values = values;
+}

@@ -1,0 +1,26 @@
+-- When a recording is one of a program.
+use Rattle.std.specs.Prelude.{◌≡◌, ◌<◌, ℕ, List, [], length, slice_index_or}
+use Rattle.litmus.specs.declared.op.Op.{Op}
+use Rattle.litmus.specs.declared.op.Op.TheVariants.{Fence}
+use Rattle.litmus.specs.Parts.{Parts}
+use Rattle.recorder.specs.declared.event.Event.{Event}
+use Rattle.recorder.specs.declared.event.Event.TheVariants.{F}
+use Rattle.recorder.specs.Event.{value_read, source}
+use Rattle.recorder.specs.Execution.{Execution}
+use Rattle.machine.specs.State.{event_of}
+
+-- the operation makes the event, from the value that the event read and its source
+abbrev pub Makes : Op → Event → Type 0
+Makes op e = event_of op (value_read e, source e) ≡ e
+
+-- an operation for each event, which makes it
+pub record AreOpsOf (ops : List Op) (events : List Event) : Type 0 where
+  pub one_each : length ops ≡ length events
+  pub each : (i : ℕ) → i < length ops → Makes (slice_index_or ops i Fence) (slice_index_or events i F)
+
+-- the operations of each core make its events, and the addresses begin with the program's values
+pub record IsProgramOf (p : Parts) (x : Execution) : Type 0 where
+  pub cores : length p.cores ≡ length x.cores
+  pub ops : (c : ℕ) → c < length p.cores
+      → AreOpsOf (slice_index_or p.cores c []) (slice_index_or x.cores c [])
+  pub values : p.init ≡ x.initial
