@@ -1,0 +1,56 @@
+//! The events that are kept on each core.
+
+ghost use Rattle.std.specs.Prelude.{◌≡◌, IfOk, map};
+ghost use Rattle.recorder.specs.Execution.{core_of};
+ghost use Rattle.reduction.specs.Restriction.{on_core, used_cores};
+
+use common::{CoreId, EventId, OutOfMemory};
+use recorder::Recording;
+use std::alloc::Global;
+
+/// The core of an event; 0 past the last event.
+fn core_of(recording: &Recording, number: EventId) -> CoreId
+    ensures { result ≡ core_of recording.now number }
+{
+    match recording.event(number) {
+        Some((core, _)) => core,
+        None => 0,
+    }
+}
+
+/// The events that are kept on a core.
+fn on_core(
+    alloc: Global,
+    recording: &Recording,
+    core: CoreId,
+    kept: &[EventId],
+) -> Result<Vec<EventId>, OutOfMemory>
+    ensures { IfOk result (λ events. events.items ≡ on_core recording.now core kept.now) }
+{
+    let mut events = Vec::new(alloc);
+    for number in kept {
+        if core_of(recording, *number) == core {
+            events.push(*number)?;
+        }
+    }
+    Ok(events)
+}
+
+/// The events that are kept, core by core; a core without any goes.
+pub(crate) fn used_cores(
+    alloc: Global,
+    recording: &Recording,
+    kept: &[EventId],
+) -> Result<Vec<Vec<EventId>>, OutOfMemory>
+    ensures { IfOk result (λ cores. map (λ v. v.items) cores.items ≡ used_cores recording.now kept.now) }
+{
+    recording.sound();
+    let mut cores = Vec::new(alloc);
+    for core in 0..recording.cores().len() {
+        let events = on_core(alloc, recording, core as CoreId, kept)?;
+        if !events.is_empty() {
+            cores.push(events)?;
+        }
+    }
+    Ok(cores)
+}
