@@ -12,5 +12,5 @@ pub use answer::{Answer, DONE, FAULT, REFUSED, UNFINISHED, VIOLATION};
 pub use campaigns::{campaign_answer, shown_answer};
 pub use ledger_text::campaign_text;
 pub use runs::{finished, script_answer, seeded_answer};
-pub use told::told_answer;
+pub use told::{Telling, told_answer};
 pub use verdict::{judged_answer, verdict_behind};

@@ -1,21 +1,22 @@
 -- A verdict as a picture: a directed graph in the DOT language of Graphviz.
-use Rattle.std.specs.Prelude.{◌≡◌, ◌++◌, ◌+◌, ◌-◌, [], ℕ, Bool, true, false, List, Option, Some, None}
-use Rattle.std.specs.Prelude.{codes, decimal, length, slice_index, if◌then◌else◌}
+use Rattle.std.specs.Prelude.{◌≡◌, ◌++◌, [], ℕ, Bool, true, false, List, Option, Some, None, codes, decimal, length}
+use Rattle.std.specs.Prelude.{slice_index, if◌then◌else◌}
 use Rattle.std.specs.List.{flat_map}
 use Rattle.litmus.specs.declared.name.Name.{Name}
 use Rattle.recorder.specs.Execution.{Execution, event_count}
 use Rattle.relations.specs.declared.reason.Reason.{Reason}
 use Rattle.relations.specs.declared.reason.Reason.TheVariants.{Po, Wo, Rf, Fr}
 use Rattle.judge.specs.declared.verdict.Verdict.{Verdict}
-use Rattle.judge.specs.declared.verdict.Verdict.TheVariants.{Ordered, Overlook, Cycle}
 use Rattle.explanation.specs.declared.edges.Edge.{Edge}
 use Rattle.explanation.specs.Bold.{AreBold, is_ranked}
 use Rattle.explanation.specs.Edges.{po_edge, rf_edge, co_edge, fr_edge, is_drawn}
+use Rattle.explanation.specs.Gaps.{is_gap, gap_start, gap_end}
 use Rattle.explanation.specs.Nodes.{texts_below, cluster_text}
+use Rattle.explanation.specs.Ranks.{top_line, ranks_text}
 
--- from which event an edge goes to which
-abbrev pub ends_text : ℕ → ℕ → List ℕ
-ends_text e f = codes "  e" ++ decimal e ++ codes " -> e" ++ decimal f
+-- from which event an edge goes to which; ks has the numbers that they are drawn under
+abbrev pub ends_text : List ℕ → Edge → List ℕ
+ends_text ks e = codes "  e" ++ decimal (slice_index ks e.first) ++ codes " -> e" ++ decimal (slice_index ks e.second)
 
 -- the name and the colour of an edge
 abbrev pub look_text : Reason → List ℕ
@@ -38,42 +39,46 @@ free_text false Rf = codes ", constraint=\"false\""
 free_text false Fr = codes ", constraint=\"false\""
 
 -- the line of an edge
-unfoldable pub edge_line : Bool → Bool → Edge → List ℕ
-edge_line ranked bold e = ends_text e.first e.second ++ look_text e.reason ++ style_text bold
+unfoldable pub edge_line : List ℕ → Bool → Bool → Edge → List ℕ
+edge_line ks ranked bold e = ends_text ks e ++ look_text e.reason ++ style_text bold
     ++ free_text ranked e.reason ++ codes "];\n"
 
 -- the line of an edge that is not drawn bold
-unfoldable pub thin_line : Bool → List Edge → Option Edge → List ℕ
-thin_line ranked bold None = []
-thin_line ranked bold (Some e) = if is_drawn bold e then [] else edge_line ranked false e
+unfoldable pub thin_line : List ℕ → Bool → List Edge → Option Edge → List ℕ
+thin_line ks ranked bold None = []
+thin_line ks ranked bold (Some e) = if is_drawn bold e then [] else edge_line ks ranked false e
+
+-- the lines of an edge of program order: over what is left out between its ends, or else its own
+unfoldable pub po_lines : List ℕ → Bool → List Edge → Option Edge → List ℕ
+po_lines ks ranked bold None = []
+po_lines ks ranked bold (Some e) = if is_gap ks e
+    then gap_start (slice_index ks e.first) (slice_index ks e.second) ++ gap_end (slice_index ks e.second)
+    else thin_line ks ranked bold (Some e)
 
 -- the lines of the edges of an event that are not drawn bold
-abbrev pub thin_lines : Execution → Bool → List Edge → ℕ → List ℕ
-thin_lines x ranked bold e = thin_line ranked bold (po_edge x e) ++ thin_line ranked bold (rf_edge x e)
-    ++ thin_line ranked bold (co_edge x e) ++ thin_line ranked bold (fr_edge x e)
-
--- the line that puts an event above the next one of a memory order
-abbrev pub rank_line : List ℕ → ℕ → List ℕ
-rank_line m i = ends_text (slice_index m i) (slice_index m (i + 1)) ++ codes " [style=\"invis\"];\n"
-
--- the lines that put the events of a memory order one above the other
-unfoldable pub ranks_text : Verdict → List ℕ
-ranks_text (Ordered m) = texts_below (rank_line m.items) (length m.items - 1)
-ranks_text (Overlook l s) = []
-ranks_text (Cycle c) = []
+abbrev pub thin_lines : Execution → List ℕ → Bool → List Edge → ℕ → List ℕ
+thin_lines y ks ranked bold e = po_lines ks ranked bold (po_edge y e) ++ thin_line ks ranked bold (rf_edge y e)
+    ++ thin_line ks ranked bold (co_edge y e) ++ thin_line ks ranked bold (fr_edge y e)
 
 -- the lines before the cores
 abbrev pub graph_heading : List ℕ
-graph_heading = codes "digraph recording {\n  node [shape=\"plaintext\"];\n  newrank=\"true\";\n"
+graph_heading = codes "digraph recording {\n  node [shape=\"plaintext\"];\n  newrank=\"true\";\n  top [shape=\"point\", style=\"invis\"];\n"
 
--- the picture with these edges bold
-abbrev pub drawing_text : Execution → List Name → Verdict → List Edge → List ℕ
-drawing_text x names v bold = graph_heading ++ texts_below (cluster_text x names) (length x.cores)
-    ++ ranks_text v ++ texts_below (thin_lines x (is_ranked v) bold) (event_count x)
-    ++ (flat_map (edge_line (is_ranked v) true) bold ++ codes "}\n")
+-- the lines of the nodes, and what puts them in their places
+unfoldable pub nodes_text : Execution → List Name → List ℕ → Execution → Bool → Verdict → List ℕ
+nodes_text x names ks y ranked v = graph_heading ++ texts_below (cluster_text x names ks y ranked) (length x.cores)
+    ++ top_line x ks ranked ++ ranks_text x ks v
 
--- the text is a picture of the verdict on an execution, with these names of its addresses
-pub record IsDrawing (x : Execution) (names : List Name) (v : Verdict) (text : List ℕ) : Type 0 where
+-- the picture of a verdict on y with these edges bold; event i of y is event `ks i` of x
+abbrev pub drawing_text : Execution → List Name → List ℕ → Execution → Verdict → List Edge → List ℕ
+drawing_text x names ks y v bold = nodes_text x names ks y (is_ranked v) v
+    ++ texts_below (thin_lines y ks (is_ranked v) bold) (event_count y)
+    ++ (flat_map (edge_line ks (is_ranked v) true) bold ++ codes "}\n")
+
+-- the text is a picture of the verdict on y, whose events have the numbers ks in x, with these names of the
+-- addresses of x
+pub record IsDrawing (x : Execution) (names : List Name) (ks : List ℕ) (y : Execution) (v : Verdict)
+    (text : List ℕ) : Type 0 where
   pub bold : List Edge
-  pub about : AreBold x v bold
-  pub whole : text ≡ drawing_text x names v bold
+  pub about : AreBold y v bold
+  pub whole : text ≡ drawing_text x names ks y v bold

@@ -7,6 +7,7 @@ pub mod Program
 pub mod Explanation
 pub mod Edges
 pub mod Bold
+pub mod Gaps
 pub mod Nodes
+pub mod Ranks
 pub mod Drawing
-pub mod Telling

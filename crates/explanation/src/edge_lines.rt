@@ -1,13 +1,14 @@
 //! The lines of edges.
 
-ghost use Rattle.std.specs.Prelude.{◌≡◌, ◌++◌, ◌<◌, OnOk, true};
+ghost use Rattle.std.specs.Prelude.{◌≡◌, ◌++◌, OnOk, true};
 ghost use Rattle.std.specs.List.{flat_map};
 ghost use Rattle.recorder.specs.Execution.{event_count};
 ghost use Rattle.explanation.specs.Drawing.{ends_text, look_text, style_text, free_text, edge_line, thin_line};
-ghost use Rattle.explanation.specs.Drawing.{thin_lines};
+ghost use Rattle.explanation.specs.Drawing.{po_lines, thin_lines};
 ghost use Rattle.explanation.specs.Nodes.{texts_below};
 
 use crate::edges::{Edge, co_edge, fr_edge, is_drawn, po_edge, rf_edge};
+use crate::gaps::{is_gap, number_at, put_gap_edges};
 use crate::numbers::put_text_and_number;
 use crate::pieces::put_text;
 use common::{EventId, OutOfMemory};
@@ -15,15 +16,11 @@ use recorder::Recording;
 use relations::Reason;
 
 /// Adds from which event an edge goes to which.
-pub(crate) fn put_ends(
-    out: &mut Vec<u8>,
-    first: EventId,
-    second: EventId,
-) -> Result<(), OutOfMemory>
-    ensures { OnOk result (out.new.items ≡ out.old.items ++ ends_text first second) }
+fn put_ends(out: &mut Vec<u8>, numbers: &[EventId], edge: Edge) -> Result<(), OutOfMemory>
+    ensures { OnOk result (out.new.items ≡ out.old.items ++ ends_text numbers.now edge) }
 {
-    put_text_and_number(out, b"  e", first as usize)?;
-    put_text_and_number(out, b" -> e", second as usize)
+    put_text_and_number(out, b"  e", number_at(numbers, edge.first) as usize)?;
+    put_text_and_number(out, b" -> e", number_at(numbers, edge.second) as usize)
 }
 
 /// Adds the name and the colour of an edge.
@@ -65,10 +62,16 @@ fn put_free(out: &mut Vec<u8>, ranked: bool, reason: Reason) -> Result<(), OutOf
 
 /// Adds the line of an edge.
 #[tactic(auto, unfolding(crate::specs::Drawing::edge_line))]
-fn put_edge_line(out: &mut Vec<u8>, ranked: bool, bold: bool, edge: Edge) -> Result<(), OutOfMemory>
-    ensures { OnOk result (out.new.items ≡ out.old.items ++ edge_line ranked bold edge) }
+fn put_edge_line(
+    out: &mut Vec<u8>,
+    numbers: &[EventId],
+    ranked: bool,
+    bold: bool,
+    edge: Edge,
+) -> Result<(), OutOfMemory>
+    ensures { OnOk result (out.new.items ≡ out.old.items ++ edge_line numbers.now ranked bold edge) }
 {
-    put_ends(out, edge.first, edge.second)?;
+    put_ends(out, numbers, edge)?;
     put_look(out, edge.reason)?;
     put_style(out, bold)?;
     put_free(out, ranked, edge.reason)?;
@@ -79,11 +82,12 @@ fn put_edge_line(out: &mut Vec<u8>, ranked: bool, bold: bool, edge: Edge) -> Res
 #[tactic(auto, unfolding(crate::specs::Drawing::thin_line))]
 fn put_thin_line(
     out: &mut Vec<u8>,
+    numbers: &[EventId],
     ranked: bool,
     bold: &[Edge],
     edge: Option<Edge>,
 ) -> Result<(), OutOfMemory>
-    ensures { OnOk result (out.new.items ≡ out.old.items ++ thin_line ranked bold.now edge) }
+    ensures { OnOk result (out.new.items ≡ out.old.items ++ thin_line numbers.now ranked bold.now edge) }
 {
     let Some(edge) = edge else {
         return Ok(());
@@ -91,51 +95,83 @@ fn put_thin_line(
     if is_drawn(bold, edge) {
         Ok(())
     } else {
-        put_edge_line(out, ranked, false, edge)
+        put_edge_line(out, numbers, ranked, false, edge)
+    }
+}
+
+/// Adds the lines of an edge of program order: over what is left out between its ends, or else its own.
+#[tactic(auto, unfolding(crate::specs::Drawing::po_lines))]
+fn put_po_lines(
+    out: &mut Vec<u8>,
+    numbers: &[EventId],
+    ranked: bool,
+    bold: &[Edge],
+    edge: Option<Edge>,
+) -> Result<(), OutOfMemory>
+    ensures { OnOk result (out.new.items ≡ out.old.items ++ po_lines numbers.now ranked bold.now edge) }
+{
+    let Some(edge) = edge else {
+        return Ok(());
+    };
+    if is_gap(numbers, edge) {
+        put_gap_edges(
+            out,
+            number_at(numbers, edge.first),
+            number_at(numbers, edge.second),
+        )
+    } else {
+        put_thin_line(out, numbers, ranked, bold, Some(edge))
     }
 }
 
 /// Adds the lines of the edges of an event that are not drawn bold.
 fn put_thin_lines(
     out: &mut Vec<u8>,
-    recording: &Recording,
+    rest: &Recording,
+    numbers: &[EventId],
     ranked: bool,
     bold: &[Edge],
-    number: EventId,
+    event: EventId,
 ) -> Result<(), OutOfMemory>
-    requires { number < event_count recording.now }
     ensures { OnOk result (out.new.items ≡ out.old.items
-        ++ thin_lines recording.now ranked bold.now number) }
+        ++ thin_lines rest.now numbers.now ranked bold.now event) }
 {
-    put_thin_line(out, ranked, bold, po_edge(recording, number))?;
-    put_thin_line(out, ranked, bold, rf_edge(recording, number))?;
-    put_thin_line(out, ranked, bold, co_edge(recording, number))?;
-    put_thin_line(out, ranked, bold, fr_edge(recording, number))
+    put_po_lines(out, numbers, ranked, bold, po_edge(rest, event))?;
+    put_thin_line(out, numbers, ranked, bold, rf_edge(rest, event))?;
+    put_thin_line(out, numbers, ranked, bold, co_edge(rest, event))?;
+    put_thin_line(out, numbers, ranked, bold, fr_edge(rest, event))
 }
 
 /// Adds the lines of all edges that are not drawn bold.
 pub(crate) fn put_thin(
     out: &mut Vec<u8>,
-    recording: &Recording,
+    rest: &Recording,
+    numbers: &[EventId],
     ranked: bool,
     bold: &[Edge],
 ) -> Result<(), OutOfMemory>
     ensures { OnOk result (out.new.items ≡ out.old.items
-        ++ texts_below (thin_lines recording.now ranked bold.now) (event_count recording.now)) }
+        ++ texts_below (thin_lines rest.now numbers.now ranked bold.now) (event_count rest.now)) }
 {
-    recording.sound();
-    for number in 0..recording.len() as EventId {
-        put_thin_lines(out, recording, ranked, bold, number)?;
+    rest.sound();
+    for event in 0..rest.len() as EventId {
+        put_thin_lines(out, rest, numbers, ranked, bold, event)?;
     }
     Ok(())
 }
 
 /// Adds the lines of the edges that are drawn bold.
-pub(crate) fn put_bold(out: &mut Vec<u8>, ranked: bool, bold: &[Edge]) -> Result<(), OutOfMemory>
-    ensures { OnOk result (out.new.items ≡ out.old.items ++ flat_map (edge_line ranked true) bold.now) }
+pub(crate) fn put_bold(
+    out: &mut Vec<u8>,
+    numbers: &[EventId],
+    ranked: bool,
+    bold: &[Edge],
+) -> Result<(), OutOfMemory>
+    ensures { OnOk result (out.new.items ≡ out.old.items
+        ++ flat_map (edge_line numbers.now ranked true) bold.now) }
 {
     for edge in bold {
-        put_edge_line(out, ranked, true, *edge)?;
+        put_edge_line(out, numbers, ranked, true, *edge)?;
     }
     Ok(())
 }

@@ -1,7 +1,6 @@
 //! Edges of a picture.
 
-ghost use Rattle.std.specs.Prelude.{◌≡◌, ◌<◌, slice_get};
-ghost use Rattle.recorder.specs.Execution.{event_count};
+ghost use Rattle.std.specs.Prelude.{◌≡◌, slice_get};
 ghost use Rattle.explanation.specs.Edges.{edge_to, edge_from, next_on_core, next_in_list, newer_place};
 ghost use Rattle.explanation.specs.Edges.{other_than, first_newer, po_edge, rf_edge, co_edge, fr_edge};
 ghost use Rattle.explanation.specs.Edges.{is_same_edge, is_drawn};
@@ -50,14 +49,13 @@ fn edge_from(second: EventId, reason: Reason, first: Option<EventId>) -> Option<
 /// The event behind an event on its core.
 #[tactic(auto, unfolding(crate::specs::Edges::next_on_core))]
 fn next_on_core(recording: &Recording, number: EventId) -> Option<EventId>
-    requires { number < event_count recording.now }
     ensures { result ≡ next_on_core recording.now number }
 {
     recording.sound();
-    let next = number + 1;
-    if next as usize >= recording.len() {
+    if number as usize + 1 >= recording.len() {
         return None;
     }
+    let next = number + 1;
     let (core, _) = event_of(recording, number);
     let (other, _) = event_of(recording, next);
     if other == core { Some(next) } else { None }
@@ -121,7 +119,6 @@ fn first_newer(recording: &Recording, number: EventId, address: Option<Addr>) ->
 
 /// The edge of an event to the next of its core.
 pub(crate) fn po_edge(recording: &Recording, number: EventId) -> Option<Edge>
-    requires { number < event_count recording.now }
     ensures { result ≡ po_edge recording.now number }
 {
     edge_to(number, Reason::Po, next_on_core(recording, number))

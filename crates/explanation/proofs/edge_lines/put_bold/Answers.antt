@@ -6,6 +6,6 @@ use Rattle.explanation.proofs.edge_lines.put_bold.Goals as goal
 
 pub loop-edge-preserved : goal.loop-edge-preserved
 loop-edge-preserved c =
-    next_item (edge_line c.args.ranked true) c.args.bold.now c.loop-edge.edge-index _ _ _ _
+    next_item (edge_line c.args.numbers.now c.args.ranked true) c.args.bold.now c.loop-edge.edge-index _ _ _ _
     (take_more c.args.bold.now c.loop-edge.edge-index _ c.loop-edge-test.true) c.loop-edge.invariant
     c.in_ok-put_edge_line.ensures

@@ -5,4 +5,4 @@ use Rattle.explanation.proofs.edge_lines.put_bold.Given as goal
 
 abbrev pub invariant-loop-edge : goal.invariant-loop-edge
 invariant-loop-edge l = l.out.items ≡ l.fn.out.items
-    ++ flat_map (edge_line l.ranked true) (take l.edge-index l.bold)
+    ++ flat_map (edge_line l.numbers l.ranked true) (take l.edge-index l.bold)
