@@ -1,3 +1,4 @@
+pub mod ToldWords
 pub mod Texts
 pub mod Places
 pub mod Makings

@@ -52,9 +52,9 @@ pub record IsStep (x : Execution) (e f : ℕ) (s : Step) : Type 0 where
 
 -- the steps from the first n accesses, each to the access behind it
 abbrev pub AreSteps : Execution → List ℕ → ℕ → List Step → Type 0
-AreSteps x as zero steps = steps ≡ []
-AreSteps x as (suc i) steps = (before : List Step) × (step : Step) × AreSteps x as i before
-    × IsStep x (slice_index as i) (behind as i) step × (steps ≡ before ++ step ∷ [])
+AreSteps x es zero steps = steps ≡ []
+AreSteps x es (suc i) steps = (before : List Step) × (step : Step) × AreSteps x es i before
+    × IsStep x (slice_index es i) (behind es i) step × (steps ≡ before ++ step ∷ [])
 
 -- the letter of a store, or of a load
 abbrev pub letter : Bool → List ℕ

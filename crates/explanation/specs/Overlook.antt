@@ -27,5 +27,5 @@ instead_lines x names address (Some w) = indent x
 abbrev pub overlook_text : Execution → List Name → ℕ → ℕ → List ℕ
 overlook_text x names l s = overlook_heading l s ++ event_line x names s ++ store_line x l
     ++ event_line x names l
-    ++ instead_lines x names (written_text names (written_address (event_at x s))) (source_of x l)
-    ++ overlook_line (event_at x l) (event_at x s)
+    ++ (instead_lines x names (written_text names (written_address (event_at x s))) (source_of x l)
+    ++ overlook_line (event_at x l) (event_at x s))

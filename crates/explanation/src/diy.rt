@@ -1,6 +1,7 @@
 //! A cycle of loads, stores and fences in the words of the tool diy.
 
-ghost use Rattle.std.specs.Prelude.{◌≡◌, ◌++◌, ◌==◌, ◌<◌, ◌≤◌, ℕ, List, IfOk, OnOk, length, option_map, string_bytes};
+ghost use Rattle.std.specs.Prelude.{◌≡◌, ◌++◌, ◌∷◌, ◌≤◌, [], ℕ, List, IfOk, OnOk, length, option_map};
+ghost use Rattle.std.specs.Prelude.{string_bytes};
 ghost use Rattle.std.specs.List.{flat_map, list_all};
 ghost use Rattle.recorder.specs.Event.{is_plain_store};
 ghost use Rattle.recorder.specs.Execution.{event_at};
@@ -190,6 +191,7 @@ fn add_words(words: &mut String, steps: &[Step]) -> Result<(), OutOfMemory>
 }
 
 /// The words of all steps, from a place on.
+#[tactic(auto, unfolding(crate::specs::Diy::words_from))]
 fn words_from(alloc: Global, steps: &[Step], at: usize) -> Result<String, OutOfMemory>
     requires { at ≤ length steps.now }
     ensures { IfOk result (λ words. string_bytes words ≡ words_from steps.now at) }

@@ -124,6 +124,23 @@ fn put_last_line(
     put_overlook_line(out, &read, &written)
 }
 
+/// Adds what a load read instead of a store, and the line in the words of diy.
+fn put_end(
+    out: &mut Vec<u8>,
+    recording: &Recording,
+    names: &IndexSet<Name>,
+    load: EventId,
+    store: EventId,
+) -> Result<(), OutOfMemory>
+    ensures { OnOk result (out.new.items ≡ out.old.items ++ (instead_lines recording.now names.now.keys
+        (written_text names.now.keys (written_address (event_at recording.now store)))
+        (source_of recording.now load)
+        ++ overlook_line (event_at recording.now load) (event_at recording.now store))) }
+{
+    put_read_instead(out, recording, names, load, store)?;
+    put_last_line(out, recording, load, store)
+}
+
 /// Adds an overlook in words.
 pub(crate) fn put_overlook(
     out: &mut Vec<u8>,
@@ -139,6 +156,5 @@ pub(crate) fn put_overlook(
     put_line(out, recording, names, store)?;
     put_store_line(out, recording, load)?;
     put_line(out, recording, names, load)?;
-    put_read_instead(out, recording, names, load, store)?;
-    put_last_line(out, recording, load, store)
+    put_end(out, recording, names, load, store)
 }

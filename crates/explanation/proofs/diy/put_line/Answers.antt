@@ -1,0 +1,5 @@
+use Rattle.explanation.proofs.Texts.{three_last}
+use Rattle.explanation.proofs.diy.put_line.Goals as goal
+
+pub returns : goal.returns
+returns c = three_last _ _ _ _ _ _ _ _ c.in_ok-put_text.ensures c.in_ok-put_told.ensures c.put_text-2.ensures

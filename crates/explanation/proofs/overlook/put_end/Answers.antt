@@ -1,0 +1,5 @@
+use Rattle.explanation.proofs.Texts.{two_last}
+use Rattle.explanation.proofs.overlook.put_end.Goals as goal
+
+pub returns : goal.returns
+returns c = two_last _ _ _ _ _ _ c.in_ok-put_read_instead.ensures c.put_last_line.ensures
