@@ -3,10 +3,11 @@ import re
 
 from explanations import is_said, names_of
 
-HEAD = ["digraph recording {", '  node [shape="plaintext"];', '  newrank="true";']
+HEAD = ["digraph recording {", '  node [shape="plaintext"];', '  newrank="true";', '  top [shape="point", style="invis"];']
 NODE = re.compile(r'    e(\d+) \[label="(\d+): ([^"\\]*)"\];')
+RANK = re.compile(r'  ([eh]\d+) -> (e\d+) \[minlen="(\d+)", style="invis"\];')
 EDGE = re.compile(r'  e(\d+) -> e(\d+) \[label="(po|co|rf|fr)", color="([^"]*)", fontcolor="([^"]*)"(.*)\];')
-RANK = re.compile(r'  e(\d+) -> e(\d+) \[style="invis"\];')
+OVER = re.compile(r'  ([eg]\d+) -> ([eg]\d+) \[style="dotted", arrowhead="none"\];')
 COLOURS = {"po": "black", "co": "blue", "rf": "red", "fr": "#ffa040"}
 KIND_OF = {"Po": "po", "Wo": "co", "Rf": "rf", "Fr": "fr"}
 
@@ -21,47 +22,80 @@ class Lines:
         """Whether the next line is this one, which is taken."""
         return bool(self.rest) and self.rest.pop(0) == line
 
-    def take_all(self, pattern):
-        """What the pattern finds in the next lines, as long as it does."""
-        while self.rest and (found := pattern.fullmatch(self.rest[0])):
+    def take_all(self, pattern, most=None):
+        """What the pattern finds in the next lines, as long as it does, and in no more than so many."""
+        while self.rest and most != 0 and (found := pattern.fullmatch(self.rest[0])):
             self.rest.pop(0)
+            most = most and most - 1
             yield found
 
 
-def are_clusters(lines, recording, names):
-    """Whether each core is a cluster with its events, numbered core by core."""
-    number = 0
-    for core, events in enumerate(recording["cores"]):
-        if not (lines.take(f"  subgraph cluster_{core} {{") and lines.take(f'    label="core {core}";')):
-            return False
-        nodes = list(lines.take_all(NODE))
-        if len(nodes) != len(events):
-            return False
-        for node, event in zip(nodes, events):
-            if not int(node[1]) == int(node[2]) == number or not is_said(node[3], event, names):
-                return False
-            number += 1
-        if not lines.take("  }"):
-            return False
-    return True
-
-
-def edges_of(recording):
-    """The edges of a recording: to the next event of a core, the next write, from a source, and to the first newer write."""
-    edges, number, writes = set(), 0, recording["writes"]
+def numbered(recording):
+    """The events of each core with their numbers, which go core by core."""
+    cores, number = [], 0
     for events in recording["cores"]:
-        for place, event in enumerate(events):
-            if place + 1 < len(events):
-                edges.add((number, number + 1, "po"))
-            if event["k"] in "LRC":
-                newer = writes[event["a"]]
-                if event["s"] is not None:
-                    edges.add((event["s"], number, "rf"))
-                    newer = newer[newer.index(event["s"]) + 1 :]
-                if newer and newer[0] != number:
-                    edges.add((number, newer[0], "fr"))
-            number += 1
-    return edges | {(first, second, "co") for it in writes for first, second in zip(it, it[1:])}
+        cores.append(list(enumerate(events, number)))
+        number += len(events)
+    return cores
+
+
+def drawn_of(recording, bold, order):
+    """The numbers of the events of each core that are drawn: all under an order, else those of the bold edges and their sources."""
+    cores = numbered(recording)
+    source = {number: event.get("s") for events in cores for number, event in events}
+    wanted = list(order if order is not None else {end for edge in bold for end in edge[:2]})
+    for number in wanted:
+        if source[number] is not None and source[number] not in wanted:
+            wanted.append(source[number])
+    return [[number for number, _ in events if number in wanted] for events in cores]
+
+
+def is_cluster(lines, core, drawn, said, ranked):
+    """Whether the next lines are the cluster of a core, with its drawn events and how many are left out between two of them."""
+    if not (lines.take(f"  subgraph cluster_{core} {{") and lines.take(f'    label="core {core}";')):
+        return False
+    if ranked and not lines.take(f'    h{core} [shape="point", style="invis"];'):
+        return False
+    for last, number in zip([None, *drawn], drawn):
+        left_out = 0 if last is None else number - last - 1
+        if left_out and not lines.take(f'    g{number} [label="{left_out} left out"];'):
+            return False
+        nodes = list(lines.take_all(NODE, 1))
+        if not nodes or not int(nodes[0][1]) == int(nodes[0][2]) == number or not said(nodes[0][3], number):
+            return False
+    return lines.take("  }")
+
+
+def are_ranks(found, order, drawn):
+    """Whether lines put each event of an order as far below the top as it stands in the order, and only below one of its core."""
+    places, core_of = {}, {}
+    for core, numbers in enumerate(drawn):
+        places[f"h{core}"] = 0
+        core_of.update({f"h{core}": core}, **{f"e{number}": core for number in numbers})
+    for first, second, length in found:
+        if first not in places or second in places or core_of[first] != core_of.get(second):
+            return False
+        places[second] = places[first] + int(length)
+    return all(places.get(f"e{number}") == place for place, number in enumerate(order, 1)) and len(found) == len(order)
+
+
+def edges_of(recording, drawn):
+    """The edges between drawn events, to the next one of a core, the next write, from a source, and to the first newer write; and
+    the pairs with others between them that are left out."""
+    kept = {number for numbers in drawn for number in numbers}
+    writes = [[number for number in it if number in kept] for it in recording["writes"]]
+    pairs = [pair for numbers in drawn for pair in zip(numbers, numbers[1:])]
+    gaps = [(first, second) for first, second in pairs if second > first + 1]
+    edges = {(first, second, "po") for first, second in pairs if second == first + 1}
+    for number, event in (it for events in numbered(recording) for it in events if it[0] in kept):
+        if event["k"] in "LRC":
+            newer = writes[event["a"]]
+            if event["s"] is not None:
+                edges.add((event["s"], number, "rf"))
+                newer = newer[newer.index(event["s"]) + 1 :]
+            if newer and newer[0] != number:
+                edges.add((number, newer[0], "fr"))
+    return edges | {(first, second, "co") for it in writes for first, second in zip(it, it[1:])}, gaps
 
 
 def bold_of(verdict):
@@ -89,25 +123,33 @@ def is_drawing(text, recording, verdict, program=None):
     """Whether a text draws the recording whose verdict has this text, with the names of the program if there is one."""
     names = names_of(program) if program is not None else [f"a{it}" for it in range(len(recording["writes"]))]
     bold, order = bold_of(verdict)
+    ranked = order is not None
+    drawn = drawn_of(recording, bold, order)
+    cores = [core for core, numbers in enumerate(drawn) if numbers]
+    events = [event for of_core in recording["cores"] for event in of_core]
+    said = lambda words, number: is_said(words, events[number], names)
     lines = Lines(text)
-    if not all(lines.take(it) for it in HEAD) or not are_clusters(lines, recording, names):
+    if not all(lines.take(it) for it in HEAD) or not all(is_cluster(lines, core, drawn[core], said, ranked) for core in cores):
         return False
-    ranks = [(int(it[1]), int(it[2])) for it in lines.take_all(RANK)]
-    if ranks != (list(zip(order, order[1:])) if order else []):
+    tops = "".join(f" h{core}" if ranked else f" e{drawn[core][0]}" for core in cores)
+    if not lines.take(f'  top -> {{{tops} }} [style="invis"];') or not are_ranks([it.groups() for it in lines.take_all(RANK)], order or [], drawn):
         return False
-    drawn = list(lines.take_all(EDGE))
-    edges = [(int(it[1]), int(it[2]), it[3]) for it in drawn]
+    others, gaps = edges_of(recording, drawn)
+    over = [it for first, second in gaps for it in ((f"e{first}", f"g{second}"), (f"g{second}", f"e{second}"))]
+    found = list(lines.take_all(re.compile(f"{EDGE.pattern}|{OVER.pattern}")))
+    if [(it[7], it[8]) for it in found if it[7]] != over:
+        return False
+    edge_lines = [it for it in found if it[1]]
+    edges = [(int(it[1]), int(it[2]), it[3]) for it in edge_lines]
     thin = len(edges) - len(bold)
-    lawful = all(is_edge_line(it, i >= thin, order is not None) for i, it in enumerate(drawn))
-    others = edges_of(recording) - set(bold)
-    return lawful and edges[thin:] == bold and len(set(edges)) == len(edges) and set(edges[:thin]) == others and lines.rest == ["}", ""]
+    lawful = all(is_edge_line(it, i >= thin, ranked) for i, it in enumerate(edge_lines))
+    return lawful and edges[thin:] == bold and len(set(edges)) == len(edges) and set(edges[:thin]) == others - set(bold) and lines.rest == ["}", ""]
 
 
 def is_picture(svg, text):
-    """Whether a picture has the nodes, the clusters that have any, and the edges of a drawing, and what stands beside them."""
-    text = re.sub(r'  subgraph \w+ {\n    label="[^"]*";\n  }\n', "", text)
-    named = [*re.findall(r"^    (e\d+) \[", text, re.M), *re.findall(r"^  subgraph (\w+) ", text, re.M)]
-    ends = [f"{first}->{second}" for first, second in re.findall(r"^  (e\d+) -> (e\d+) \[label", text, re.M)]
+    """Whether a picture has the nodes, the clusters and the edges of a drawing that are to be seen, and what stands beside them."""
+    named = [*re.findall(r"^    ([eg]\d+) \[", text, re.M), *re.findall(r"^  subgraph (\w+) ", text, re.M)]
+    ends = [f"{first}->{second}" for first, second in re.findall(r"^  ([eg]\d+) -> ([eg]\d+) \[(?:label|style=\"dotted\")", text, re.M)]
     plain = svg.replace("&#45;", "-").replace("&gt;", ">")
     titles = re.findall(r"<title>(.*)</title>", plain)
     texts = re.findall(r"<text [^>]*>(.*)</text>", plain)

@@ -1,5 +1,5 @@
 -- What the words of a command line are answered.
-use Rattle.std.specs.Prelude.{◌≡◌, ◌≢◌, ◌⊎◌, ℕ, List, Option, Some, None, Ok, ⊤}
+use Rattle.std.specs.Prelude.{◌≡◌, ◌≢◌, ◌⊎◌, ℕ, List, Option, Some, None, Ok, false, ⊤}
 use Rattle.std.specs.Prelude.{option_map, string_bytes}
 use Rattle.clap.specs.Words.{Text, kind_of}
 use Rattle.clap.specs.declared.error.Error.{Error}
@@ -9,8 +9,8 @@ use Rattle.live.specs.declared.error.LiveError.{LiveError}
 use Rattle.live.specs.declared.error.LiveError.TheVariants as live
 use Rattle.litmus.specs.Text.{reading}
 use Rattle.machine.specs.Script.{steps_of}
-use Rattle.explanation.specs.declared.telling.Telling.TheVariants.{Words, Picture}
 use Rattle.answers.specs.declared.answer.Answer.{Answer}
+use Rattle.answers.specs.declared.told.Telling.TheVariants.{Words, Picture}
 use Rattle.inputs.specs.declared.stop.Stop.{Stop}
 use Rattle.inputs.specs.declared.stop.Stop.TheVariants.{Refused, Fault}
 use Rattle.answers.specs.declared.answer.TheConstants.{DONE, REFUSED}
@@ -84,7 +84,7 @@ IsAnswerTo inputs (Trials o) answer = IsTrials o answer
 IsAnswerTo inputs (Live o) answer = IsLive inputs o answer
 IsAnswerTo inputs (Replay o) answer = IsReplayedInput inputs o answer
 IsAnswerTo inputs (Explain o) answer = IsTold inputs Words o answer
-IsAnswerTo inputs (Draw o) answer = IsTold inputs Picture o answer
+IsAnswerTo inputs (Draw o) answer = IsTold inputs (Picture false) o answer
 
 -- why a command with these options and inputs stops
 abbrev pub IsCommandStop : (List ℕ → Option (List ℕ)) → Options → Stop → Type 0

@@ -7,10 +7,10 @@ use Rattle.litmus.specs.Parts.{Parts}
 use Rattle.litmus.specs.Text.{reading}
 use Rattle.recorder.specs.Execution.{Execution}
 use Rattle.recording_text.specs.Reading.{IsReadingResult}
-use Rattle.explanation.specs.declared.telling.Telling.{Telling}
 use Rattle.explanation.specs.Program.{IsProgramOf}
 use Rattle.command_line.specs.declared.options.ExplainOptions.{ExplainOptions}
 use Rattle.answers.specs.declared.answer.Answer.{Answer}
+use Rattle.answers.specs.declared.told.Telling.{Telling}
 use Rattle.answers.specs.Told.{IsToldAnswer}
 use Rattle.inputs.specs.declared.stop.Stop.{Stop}
 use Rattle.inputs.specs.declared.stop.Stop.TheVariants.{Fault}

@@ -15,10 +15,9 @@ use crate::replay_command::replay_command;
 use crate::run_command::run_command;
 use crate::tell_command::tell_command;
 use crate::trials_command::trials_command;
-use answers::{Answer, DONE, REFUSED};
+use answers::{Answer, DONE, REFUSED, Telling};
 use command_line::words::options;
 use command_line::{OptionFault, Options};
-use explanation::Telling;
 use inputs::fault::CommandFault;
 use inputs::place::Place;
 use inputs::stop::Stop;
@@ -67,7 +66,7 @@ fn answer_to<R: Threads + Wait + Sync, P: Place>(
         Options::Live(live) => live_command(rt, alloc, live, place),
         Options::Replay(replay) => replay_command(alloc, replay, place),
         Options::Explain(explain) => tell_command(alloc, Telling::Words, explain, place),
-        Options::Draw(draw) => tell_command(alloc, Telling::Picture, draw, place),
+        Options::Draw(draw) => tell_command(alloc, Telling::Picture { all: false }, draw, place),
     }
 }
 

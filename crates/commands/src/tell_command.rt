@@ -6,10 +6,10 @@ ghost use Rattle.commands.specs.Tell.{AreNamesIn, IsTold, IsToldBy, IsTellingSto
 
 use crate::judge_command::recording_of;
 use crate::run_command::program_at;
-use answers::{Answer, told_answer};
+use answers::{Answer, Telling, told_answer};
 use command_line::ExplainOptions;
 use common::OutOfMemory;
-use explanation::{Telling, is_program_of};
+use explanation::is_program_of;
 use inputs::place::Place;
 use inputs::reading::text_at;
 use inputs::stop::Stop;
