@@ -8,6 +8,7 @@ use Rattle.machine.specs.declared.fault.Fault.TheVariants as faults
 use Rattle.machine.specs.declared.step.Step.{Step}
 use Rattle.machine.specs.Taken.{begun}
 use Rattle.machine.specs.Configuration.{Configuration, IsAtEnd, recording_of, state_behind}
+use Rattle.machine.specs.ProgramOf.{IsProgramOf}
 use Rattle.judge.specs.declared.verdict.Verdict.{Verdict}
 use Rattle.judge.specs.declared.verdict.Verdict.TheVariants.{Ordered, Overlook, Cycle}
 use Rattle.judge.specs.Verdict.{IsVerdict, Verifies}
@@ -36,11 +37,12 @@ abbrev pub IsEndVerdict : Configuration → Option Verdict → Type 0
 IsEndVerdict h None = IsAtEnd h → ⊥
 IsEndVerdict h (Some verdict) = IsAtEnd h × IsVerdict (recording_of h) verdict
 
--- the recording of a complete machine and the verdict on it, which passes its check; without fault the order of what
--- was performed is one of TSO
+-- the recording of a complete machine, which is one of its program, and the verdict on it, which passes its check;
+-- without fault the order of what was performed is one of TSO
 pub record IsJudgement (h : Configuration) (j : Judged) : Type 0 where
   pub complete : IsAtEnd h
   pub recording : j.recording ≡ recording_of h
+  pub program : IsProgramOf h.program j.recording
   pub verdict : IsVerdict j.recording j.verdict
   pub verified : Verifies j.recording j.verdict
   pub tso : h.fault ≡ faults.None → IsTsoOrder (recording_of h) h.state.performed
