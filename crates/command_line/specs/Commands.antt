@@ -24,12 +24,13 @@ commands = (
       (codes "cores", Size) ∷ (codes "ops", Size) ∷ (codes "addresses", Size)
           ∷ (codes "seed", Number) ∷ (codes "trials", Number) ∷ (codes "attempts", Number)
           ∷ (codes "buffer", Number) ∷ (codes "fault", Word) ∷ (codes "workers", Number)
-          ∷ (codes "show", Number) ∷ (codes "quiet", Nothing) ∷ [],
+          ∷ (codes "show", Number) ∷ (codes "reduce", Nothing) ∷ (codes "quiet", Nothing) ∷ [],
     )
     ∷ (codes "live", (codes "PROGRAM", Place) ∷ (codes "buffer", Number) ∷ (codes "limit", Number) ∷ [])
     ∷ (codes "replay", (codes "FILE", Place) ∷ [])
     ∷ (codes "explain", (codes "FILE", Place) ∷ (codes "program", Word) ∷ [])
-    ∷ (codes "draw", (codes "FILE", Place) ∷ (codes "program", Word) ∷ []) ∷ []
+    ∷ (codes "draw", (codes "FILE", Place) ∷ (codes "program", Word) ∷ (codes "all", Nothing) ∷ [])
+    ∷ (codes "reduce", (codes "FILE", Place) ∷ (codes "program", Word) ∷ []) ∷ []
 
 -- a row of the code's table
 abbrev pub row_of : CommandRow → Text × List (Text × Takes)

@@ -7,12 +7,13 @@ use Rattle.clap.specs.declared.error.Error.{Error}
 use Rattle.clap.specs.declared.error.kind.ErrorKind.TheVariants as kinds
 use Rattle.command_line.specs.declared.options.Limits.{Limits}
 use Rattle.command_line.specs.declared.options.Options.{Options}
-use Rattle.command_line.specs.declared.options.Options.TheVariants.{Run, Judge, Trials, Live, Replay, Explain, Draw}
+use Rattle.command_line.specs.declared.options.Options.TheVariants.{Run, Judge, Trials, Live, Replay, Explain, Draw, Reduce}
 use Rattle.command_line.specs.declared.options.RunOptions.{RunOptions}
 use Rattle.command_line.specs.declared.options.JudgeOptions.{JudgeOptions}
 use Rattle.command_line.specs.declared.options.TrialsOptions.{TrialsOptions}
 use Rattle.command_line.specs.declared.options.LiveOptions.{LiveOptions}
 use Rattle.command_line.specs.declared.options.FileOptions.{FileOptions}
+use Rattle.command_line.specs.declared.options.DrawOptions.{DrawOptions}
 use Rattle.command_line.specs.declared.options.ExplainOptions.{ExplainOptions}
 use Rattle.command_line.specs.declared.options.OptionFault.{OptionFault}
 use Rattle.command_line.specs.declared.options.OptionFault.TheVariants.{Clap, Refused, OutOfMemory}
@@ -39,7 +40,7 @@ IsNumber id limits rows n = IsInRange limits.most (number_of id limits rows) n
 abbrev pub seed_of : List Row → ℕ
 seed_of rows = number_or DEFAULT_SEED (one_of (codes "seed") rows)
 
--- each number, the fault and the flag is its entry, or else its default; none is refused
+-- each number, the fault and each flag is its entry, or else its default; none is refused
 pub record AreValues (v : Values) (rows : List Row) : Type 0 where
   pub shape : shape_asked rows ≡ option_map Ok v.shape
   pub seed : v.seed ≡ seed_of rows
@@ -51,7 +52,9 @@ pub record AreValues (v : Values) (rows : List Row) : Type 0 where
   pub fault : machine_fault_of rows ≡ Some v.fault
   pub show : v.show ≡ show_of rows
   pub shown : IfSome v.show (λ k. k < v.trials)
+  pub reduce : v.reduce ≡ is_given (codes "reduce") rows
   pub quiet : v.quiet ≡ is_given (codes "quiet") rows
+  pub all : v.all ≡ is_given (codes "all") rows
 
 -- each option of run is its entry, or else its default
 pub record AreRunOptions (o : RunOptions) (rows : List Row) : Type 0 where
@@ -78,6 +81,7 @@ pub record AreTrialsOptions (o : TrialsOptions) (rows : List Row) : Type 0 where
   pub workers : IsNumber (codes "workers") WORKERS rows o.workers
   pub show : o.show ≡ show_of rows
   pub shown : IfSome o.show (λ k. k < o.campaign.trials)
+  pub reduce : o.reduce ≡ is_given (codes "reduce") rows
   pub quiet : o.quiet ≡ is_given (codes "quiet") rows
 
 -- each option of live is its entry, or else its default
@@ -95,6 +99,11 @@ pub record AreExplainOptions (o : ExplainOptions) (rows : List Row) : Type 0 whe
   pub file : first_of (codes "FILE") rows ≡ Some (string_bytes o.file)
   pub program : first_of (codes "program") rows ≡ option_map string_bytes o.program
 
+-- the recording is that of its entries, and all events are drawn where the words have --all
+pub record AreDrawOptions (o : DrawOptions) (rows : List Row) : Type 0 where
+  pub recording : AreExplainOptions o.recording rows
+  pub all : o.all ≡ is_given (codes "all") rows
+
 -- the options are those of the command with this name
 abbrev pub AreOptionsOf : Options → Text → List Row → Type 0
 AreOptionsOf (Run o) name rows = (name ≡ codes "run") × AreRunOptions o rows
@@ -103,7 +112,8 @@ AreOptionsOf (Trials o) name rows = (name ≡ codes "trials") × AreTrialsOption
 AreOptionsOf (Live o) name rows = (name ≡ codes "live") × AreLiveOptions o rows
 AreOptionsOf (Replay o) name rows = (name ≡ codes "replay") × AreFileOptions o rows
 AreOptionsOf (Explain o) name rows = (name ≡ codes "explain") × AreExplainOptions o rows
-AreOptionsOf (Draw o) name rows = (name ≡ codes "draw") × AreExplainOptions o rows
+AreOptionsOf (Draw o) name rows = (name ≡ codes "draw") × AreDrawOptions o rows
+AreOptionsOf (Reduce o) name rows = (name ≡ codes "reduce") × AreExplainOptions o rows
 
 -- the options are those of the command that was read; no entry is refused
 abbrev pub AreOptions : Options → Option (Text × List Row) → Type 0

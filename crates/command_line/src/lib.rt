@@ -11,6 +11,6 @@ mod values;
 pub mod words;
 
 pub use options::{
-    ExplainOptions, FileOptions, JudgeOptions, LiveOptions, OptionFault, OptionRefusal, Options,
-    RunOptions, TrialsOptions,
+    DrawOptions, ExplainOptions, FileOptions, JudgeOptions, LiveOptions, OptionFault,
+    OptionRefusal, Options, RunOptions, TrialsOptions,
 };

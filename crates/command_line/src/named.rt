@@ -2,12 +2,13 @@
 ghost use Rattle.std.specs.Prelude.{◌≡◌, ◌≢◌, IfOk, List, None, Some, codes, option_map, string_bytes};
 ghost use Rattle.clap.specs.Words.{Row, first_of, found_of, rows_of};
 ghost use Rattle.command_line.specs.Entries.{HasEntries, HasText};
-ghost use Rattle.command_line.specs.Options.{AreValues, AreOptionsOf};
+ghost use Rattle.command_line.specs.Options.{AreExplainOptions, AreOptionsOf, AreValues};
 ghost use Rattle.command_line.specs.Refusals.{refusal_of};
 
 use crate::entries::{maybe_text, text};
 use crate::options::{
-    ExplainOptions, FileOptions, JudgeOptions, LiveOptions, Options, RunOptions, TrialsOptions,
+    DrawOptions, ExplainOptions, FileOptions, JudgeOptions, LiveOptions, Options, RunOptions,
+    TrialsOptions,
 };
 use crate::values::Values;
 use campaign::Campaign;
@@ -36,6 +37,17 @@ fn maybe_given(
         Some(name) => Ok(Some(String::from_str(alloc, name)?)),
         None => Ok(None),
     }
+}
+
+/// The recording, and the program that may name its addresses.
+fn recorded(alloc: Global, matches: &ArgMatches<'_>) -> Result<ExplainOptions, AllocError>
+    requires { HasText (codes "FILE") (rows_of (found_of matches.now)) }
+    ensures { IfOk result (λ o. AreExplainOptions o (rows_of (found_of matches.now))) }
+{
+    Ok(ExplainOptions {
+        file: given(alloc, matches, "FILE")?,
+        program: maybe_given(alloc, matches, "program")?,
+    })
 }
 
 /// The campaign of sizes, which have to be there.
@@ -95,6 +107,7 @@ pub fn named_options(
             campaign: campaign_of(values),
             workers: values.workers,
             show: values.show,
+            reduce: values.reduce,
             quiet: values.quiet,
         })),
         "live" => Ok(Options::Live(LiveOptions {
@@ -105,14 +118,12 @@ pub fn named_options(
         "replay" => Ok(Options::Replay(FileOptions {
             file: given(alloc, matches, "FILE")?,
         })),
-        "explain" => Ok(Options::Explain(ExplainOptions {
-            file: given(alloc, matches, "FILE")?,
-            program: maybe_given(alloc, matches, "program")?,
+        "explain" => Ok(Options::Explain(recorded(alloc, matches)?)),
+        "draw" => Ok(Options::Draw(DrawOptions {
+            recording: recorded(alloc, matches)?,
+            all: values.all,
         })),
-        "draw" => Ok(Options::Draw(ExplainOptions {
-            file: given(alloc, matches, "FILE")?,
-            program: maybe_given(alloc, matches, "program")?,
-        })),
+        "reduce" => Ok(Options::Reduce(recorded(alloc, matches)?)),
         _ => unreachable!(),
     }
 }

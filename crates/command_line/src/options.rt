@@ -75,7 +75,9 @@ pub enum Options {
     /// `explain`.
     Explain(ExplainOptions),
     /// `draw`.
-    Draw(ExplainOptions),
+    Draw(DrawOptions),
+    /// `reduce`.
+    Reduce(ExplainOptions),
 }
 
 /// What `run` is asked: the names of the program and of the script, and the machine and the steps of
@@ -105,7 +107,7 @@ pub struct JudgeOptions {
     pub workers: usize,
 }
 
-/// What `trials` is asked: the campaign, the workers, the trial that is shown, and whether progress is.
+/// What `trials` is asked: the campaign, the workers, the trial that is shown, and how it and progress are.
 #[derive(Debug, Drop)]
 pub struct TrialsOptions {
     /// The campaign.
@@ -114,6 +116,8 @@ pub struct TrialsOptions {
     pub workers: usize,
     /// The trial that is shown instead of the counts, below the number of trials.
     pub show: Option<usize>,
+    /// Whether of a violation that is shown only the events are that it needs.
+    pub reduce: bool,
     /// Whether no progress is shown.
     pub quiet: bool,
 }
@@ -125,13 +129,22 @@ pub struct FileOptions {
     pub file: String,
 }
 
-/// What `explain` and `draw` are asked: the name of the recording, and of the program that names its addresses.
+/// What `explain` and `reduce` are asked: the name of the recording, and of the program that names its addresses.
 #[derive(Debug, Drop)]
 pub struct ExplainOptions {
     /// The name of the recording.
     pub file: String,
     /// The name of the program; none asks for the usual names.
     pub program: Option<String>,
+}
+
+/// What `draw` is asked: the recording, and which of its events are drawn.
+#[derive(Debug, Drop)]
+pub struct DrawOptions {
+    /// The recording, and the program that names its addresses.
+    pub recording: ExplainOptions,
+    /// Whether all events are drawn, not only those that a violation needs.
+    pub all: bool,
 }
 
 /// What `live` is asked: the name of the program, the capacity of each buffer, and how many steps

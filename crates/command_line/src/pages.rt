@@ -26,6 +26,7 @@ Examples:
   tsotest judge recording.json
   tsotest explain recording.json
   tsotest draw recording.json | dot -Tsvg > recording.svg
+  tsotest reduce recording.json
   tsotest replay recording.json
   tsotest run store_buffering.litmus
   tsotest run store_buffering.litmus --steps store_buffering.steps
@@ -109,7 +110,8 @@ done and how many violations were found, until its end; with `--quiet` it shows 
 
 To look at a violation, give the same options and `--show K` with its number: then, instead
 of the counts, the trial's program is printed, an empty line, its recording and its verdict,
-as by `run`, and the exit status is that of `run`.",
+as by `run`, and the exit status is that of `run`. With `--reduce` a violation
+is cut down first, as by `reduce`.",
     statuses: "Exit status:
   0  no trial is a violation, and none is unfinished
   1  a fault of the command line or memory, as standard error says
@@ -184,12 +186,16 @@ const DRAW: Page = Page {
 which `dot -Tsvg` makes a picture.
 
 Each core has its events in program order from top to bottom, each with its number, what it
-did, and where a value that it read came from. The edges are program order (po), black;
-reads-from (rf), red; coherence order (co), blue; and from-read (fr), orange. The edges of a
-cycle are bold, and of an overlook those between the store and the load. The others go to the
-next event of the core, from the write that was read, to the next write of the address, and
-to the first write that is newer than what was read. The events of an order stand in memory
-order, from top to bottom. The addresses are named as by `explain`.",
+did, and where a value that it read came from. Of a violation only the events that it needs
+are drawn, which `reduce` prints, and how many were left out between two of a core. With
+`--all` all events are drawn.
+
+The edges are program order (po), black; reads-from (rf), red; coherence order (co), blue;
+and from-read (fr), orange. The edges of a cycle are bold, and of an overlook those between
+the store and the load. The others go to the next event of the core, from the write that was
+read, to the next write of the address, and to the first write that is newer than what was
+read. The events of an order stand in memory order, from top to bottom. The addresses are
+named as by `explain`.",
     statuses: "Exit status:
   0  TSO allows the recording
   1  a fault of the command line, a file or memory, as standard error says
@@ -198,6 +204,26 @@ order, from top to bottom. The addresses are named as by `explain`.",
 
 Example:
   tsotest draw recording.json --program store_buffering.litmus | dot -Tsvg > recording.svg",
+};
+
+const REDUCE: Page = Page {
+    about: "Cuts the recording of a violation down to the events that it needs",
+    more: "Cuts the recording of a violation down to the events that it needs.
+
+A violation needs the events of its verdict, the write that each of them read, and so on.
+The line `events` has their numbers. Behind an empty line stands a litmus program of these
+events alone, and behind another empty line their recording and its verdict, which is the
+same one with the numbers that they have there. The addresses are named a0, a1 and so on, or
+as in the program of --program, whose operations and initial values have to be those of the
+recording. A recording that TSO allows is answered as by `judge`.",
+    statuses: "Exit status:
+  0  TSO allows the recording
+  1  a fault of the command line, a file or memory, as standard error says
+  2  the recording is a violation of TSO
+  3  the recording or the program was refused, as the line `refused: ..` says
+
+Example:
+  tsotest reduce recording.json --program store_buffering.litmus",
 };
 
 /// The page of the command with this name.
@@ -210,6 +236,7 @@ pub fn page_of(name: &str) -> Page {
         "replay" => REPLAY,
         "explain" => EXPLAIN,
         "draw" => DRAW,
+        "reduce" => REDUCE,
         _ => PROGRAM,
     }
 }

@@ -142,11 +142,25 @@ const SHOW: ArgumentRow = ArgumentRow {
     help: "Shows trial K, from 0 and below the number of trials, instead of the counts",
 };
 
+const REDUCE: ArgumentRow = ArgumentRow {
+    name: "reduce",
+    takes: Takes::Nothing,
+    value: "",
+    help: "Shows of a violation only the events that it needs, with --show",
+};
+
 const QUIET: ArgumentRow = ArgumentRow {
     name: "quiet",
     takes: Takes::Nothing,
     value: "",
     help: "Shows no progress on standard error",
+};
+
+const ALL: ArgumentRow = ArgumentRow {
+    name: "all",
+    takes: Takes::Nothing,
+    value: "",
+    help: "Draws all events, not only those that a violation needs",
 };
 
 /// The commands, in the order of the help.
@@ -162,7 +176,8 @@ pub const COMMANDS: &[CommandRow] = &[
     CommandRow {
         name: "trials",
         arguments: &[
-            CORES, OPS, ADDRESSES, SEED, TRIALS, ATTEMPTS, BUFFER, FAULT, WORKERS, SHOW, QUIET,
+            CORES, OPS, ADDRESSES, SEED, TRIALS, ATTEMPTS, BUFFER, FAULT, WORKERS, SHOW, REDUCE,
+            QUIET,
         ],
     },
     CommandRow {
@@ -179,6 +194,10 @@ pub const COMMANDS: &[CommandRow] = &[
     },
     CommandRow {
         name: "draw",
+        arguments: &[FILE, NAMES, ALL],
+    },
+    CommandRow {
+        name: "reduce",
         arguments: &[FILE, NAMES],
     },
 ];

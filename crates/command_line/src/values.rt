@@ -1,4 +1,4 @@
-//! The numbers, the fault and the flag that entries ask for, and the first refusal, K1 to K10.
+//! The numbers, the fault and the flags that entries ask for, and the first refusal, K1 to K10.
 ghost use Rattle.std.specs.Prelude.{◌≡◌, ◌<◌, IfOk, IfSome, Ok, Some, codes, option_map};
 ghost use Rattle.std.specs.Result.{result_err};
 ghost use Rattle.clap.specs.Words.{found_of, rows_of};
@@ -15,7 +15,7 @@ use clap::ArgMatches;
 use litmus::{Shape, is_outside};
 use machine::Fault;
 
-/// The numbers, the fault and the flag that entries ask for: where there is no entry, the default.
+/// The numbers, the fault and the flags that entries ask for: where there is no entry, the default.
 #[derive(Drop)]
 pub struct Values {
     pub shape: Option<Shape>,
@@ -27,7 +27,9 @@ pub struct Values {
     pub workers: usize,
     pub fault: Fault,
     pub show: Option<usize>,
+    pub reduce: bool,
     pub quiet: bool,
+    pub all: bool,
 }
 
 /// The number of an option, where it is within its limits.
@@ -113,6 +115,8 @@ pub fn read_values(matches: &ArgMatches<'_>) -> Result<Values, OptionRefusal>
         workers,
         fault,
         show,
+        reduce: flag(matches, "reduce"),
         quiet: flag(matches, "quiet"),
+        all: flag(matches, "all"),
     })
 }
