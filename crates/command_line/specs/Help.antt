@@ -45,14 +45,14 @@ said = (codes "steps", codes "at most ", MAX_STEPS) ∷ (codes "seed", codes "[d
     ∷ (codes "workers", codes "[default: ", WORKERS.default) ∷ []
 
 -- texts with commas between them
-abbrev pub listed : List Text → Text
-listed [] = []
-listed (text ∷ []) = text
-listed (text ∷ texts) = text ++ codes ", " ++ listed texts
+abbrev pub with_commas : List Text → Text
+with_commas [] = []
+with_commas (text ∷ []) = text
+with_commas (text ∷ texts) = text ++ codes ", " ++ with_commas texts
 
 -- what the help of --fault says
 abbrev pub fault_text : Text
-fault_text = codes "A fault: " ++ listed (map fault_name faults) ++ codes " [default: "
+fault_text = codes "A fault: " ++ with_commas (map fault_name faults) ++ codes " [default: "
     ++ fault_name DEFAULT_FAULT ++ codes "]"
 
 -- the help of an argument or an option with this name says its limits, its default and its names

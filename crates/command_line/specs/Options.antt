@@ -41,7 +41,7 @@ abbrev pub seed_of : List Row → ℕ
 seed_of rows = number_or DEFAULT_SEED (one_of (codes "seed") rows)
 
 -- each number, the fault and each flag is its entry, or else its default; none is refused
-pub record AreValues (v : Values) (rows : List Row) : Type 0 where
+pub record AreValuesAsked (v : Values) (rows : List Row) : Type 0 where
   pub shape : shape_asked rows ≡ option_map Ok v.shape
   pub seed : v.seed ≡ seed_of rows
   pub trials : IsNumber (codes "trials") TRIALS rows v.trials

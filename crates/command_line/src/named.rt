@@ -2,7 +2,7 @@
 ghost use Rattle.std.specs.Prelude.{◌≡◌, ◌≢◌, IfOk, List, None, Some, codes, option_map, string_bytes};
 ghost use Rattle.clap.specs.Words.{Row, first_of, found_of, rows_of};
 ghost use Rattle.command_line.specs.Entries.{HasEntries, HasText};
-ghost use Rattle.command_line.specs.Options.{AreExplainOptions, AreOptionsOf, AreValues};
+ghost use Rattle.command_line.specs.Options.{AreExplainOptions, AreOptionsOf, AreValuesAsked};
 ghost use Rattle.command_line.specs.Refusals.{refusal_of};
 
 use crate::entries::{maybe_text, text};
@@ -53,7 +53,7 @@ fn recorded(alloc: Global, matches: &ArgMatches<'_>) -> Result<ExplainOptions, A
 /// The campaign of sizes, which have to be there.
 fn campaign_of(values: &Values) -> Campaign
     requires sizes { values.now.shape ≢ None }
-    requires values { (rows : List Row) × AreValues values.now rows }
+    requires values { (rows : List Row) × AreValuesAsked values.now rows }
     ensures shape { values.now.shape ≡ Some result.shape }
     ensures rest { result ≡ record {
       shape = result.shape;
@@ -86,7 +86,7 @@ pub fn named_options(
     values: &Values,
 ) -> Result<Options, AllocError>
     requires entries { HasEntries (name.now, rows_of (found_of matches.now)) }
-    requires values { AreValues values.now (rows_of (found_of matches.now)) }
+    requires values { AreValuesAsked values.now (rows_of (found_of matches.now)) }
     requires unrefused { refusal_of (rows_of (found_of matches.now)) ≡ None }
     ensures { IfOk result (λ o. AreOptionsOf o name.now (rows_of (found_of matches.now))) }
 {

@@ -3,7 +3,7 @@ ghost use Rattle.std.specs.Prelude.{◌≡◌, ◌<◌, IfOk, IfSome, Ok, Some, 
 ghost use Rattle.std.specs.Result.{result_err};
 ghost use Rattle.clap.specs.Words.{found_of, rows_of};
 ghost use Rattle.command_line.specs.Entries.{AreEntries, HasNumber, machine_fault_of, number_of, show_of};
-ghost use Rattle.command_line.specs.Options.{AreValues, IsNumber};
+ghost use Rattle.command_line.specs.Options.{AreValuesAsked, IsNumber};
 ghost use Rattle.command_line.specs.Refusals.{fault_refusal, number_refusal, refusal_of, refusal_of_show};
 ghost use Rattle.command_line.specs.Refusals.{shape_asked, sizes_refusal};
 
@@ -94,7 +94,7 @@ fn show(matches: &ArgMatches<'_>, trials: usize) -> Result<Option<usize>, Option
 /// What the entries ask for, or the first refusal, K1 to K10.
 pub fn read_values(matches: &ArgMatches<'_>) -> Result<Values, OptionRefusal>
     requires { AreEntries (rows_of (found_of matches.now)) }
-    ensures ok { IfOk result (λ n. AreValues n (rows_of (found_of matches.now))) }
+    ensures ok { IfOk result (λ n. AreValuesAsked n (rows_of (found_of matches.now))) }
     ensures err { result_err result ≡ refusal_of (rows_of (found_of matches.now)) }
 {
     let shape = shape(matches)?;
