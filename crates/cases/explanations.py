@@ -1,5 +1,6 @@
 """Reads explanations again, beside the recording, its verdict and the names of its addresses."""
 import re
+from pathlib import Path
 
 EVENT = re.compile(r"  ( *)(\d+)  core ( *)(\d+)  (.*)")
 SOURCE = r"(?:, from (?P<s>\d+)|(?P<none>, the initial value))"
@@ -17,6 +18,9 @@ REASONS = {
     "Fr": r"before {}, which wrote a newer value of {}",
 }
 IMPOSSIBLE = "No memory order explains this recording: "
+FORMATS = Path(__file__).resolve().parent.parent.parent / "docs/FORMATS.md"
+# The classic tests of docs/FORMATS.md, each with the words of its cycle.
+CLASSICS = re.findall(r"^\| (\S+) \| `((?:\w+ ?)+)` \|$", FORMATS.read_text().split("| Test | Words |\n")[1].split("\n\n")[0], re.M)
 
 
 def names_of(program):
@@ -51,6 +55,30 @@ class Reader:
     def name(self, number):
         return self.names[self.events[number]["a"]]
 
+    def word(self, first, second, reason):
+        """The word of diy for a step between two loads or stores; without a reason a fence is between them."""
+        before, behind = self.events[first], self.events[second]
+        if reason in ("Po", None):
+            letters = "".join("W" if it["k"] == "S" else "R" for it in (before, behind))
+            return ("Po" if reason else "MFence") + ("s" if before["a"] == behind["a"] else "d") + letters
+        return {"Wo": "Co"}.get(reason, reason) + ("i" if before["core"] == behind["core"] else "e")
+
+    def diy(self, pairs):
+        """The line that says a cycle of these pairs in the words of diy, if there is one."""
+        if any(self.events[it]["k"] in "RC" for it, _, _ in pairs):
+            return []
+        at = [i for i, (it, _, _) in enumerate(pairs) if self.events[it]["k"] != "F"]
+        words = []
+        for i, j in zip(at, [*at[1:], at[0]]):
+            alone = (i + 1) % len(pairs) == j
+            words.append(self.word(pairs[i][0], pairs[j][0], pairs[i][2] if alone else None))
+        for i in range(len(words)):
+            turned = " ".join(words[i:] + words[:i])
+            for name, told in CLASSICS:
+                if told == turned:
+                    return [f"In diy's words: {told} ({name})"]
+        return ["In diy's words: " + " ".join(words)]
+
     def is_line(self, line, number):
         """Whether a line is that of the event, with the recording's own data."""
         found = EVENT.fullmatch(line)
@@ -66,9 +94,9 @@ class Reader:
         return line == " " * (self.width + 4) + text
 
     def is_cycle(self, lines, pairs):
-        """Whether the lines are each event of a cycle once, and the reasons of its pairs."""
+        """Whether the lines are each event of a cycle once, and the reasons of its pairs, and the words of diy."""
         head = f"{IMPOSSIBLE}these {len(pairs)} events would each come before the next."
-        if lines[0] != head or len(lines) != 1 + 2 * len(pairs):
+        if lines[0] != head or lines[1 + 2 * len(pairs) :] != self.diy(pairs):
             return False
         for i, (first, second, reason) in enumerate(pairs):
             name = self.name(second) if reason in ("Wo", "Fr") else ""
@@ -79,10 +107,11 @@ class Reader:
         return True
 
     def is_overlook(self, lines, load, store):
-        """Whether the lines are the store, the load and what the load read."""
+        """Whether the lines are the store, the load and what the load read, and the words of diy."""
         head = f"{IMPOSSIBLE}event {load} overlooks event {store}, a newer write of its own core."
         source, name = self.events[load]["s"], self.name(store)
-        if lines[0] != head or len(lines) != (5 if source is None else 6):
+        last = self.diy([(store, load, "Po"), (load, store, "Fr")])
+        if lines[0] != head or lines[5 if source is None else 6 :] != last:
             return False
         if not (self.is_line(lines[1], store) and self.is_below(lines[2], f"before {load} in program order")):
             return False

@@ -1,7 +1,9 @@
--- The verdict on a recording in words or as a picture, as an answer.
-use Rattle.std.specs.Prelude.{◌≡◌, ℕ, Bool, true, false, List}
+-- What is told of a recording: its verdict in words or as a picture, or what is left of it.
+use Rattle.std.specs.Prelude.{◌≡◌, ℕ, Bool, true, false, Option, Some, None, List, length}
 use Rattle.std.specs.List.{range_with_len}
 use Rattle.litmus.specs.declared.name.Name.{Name}
+use Rattle.litmus.specs.AddressNames.{address_names}
+use Rattle.litmus.specs.Parts.{Parts}
 use Rattle.recorder.specs.Execution.{Execution, event_count}
 use Rattle.judge.specs.declared.verdict.Verdict.{Verdict}
 use Rattle.judge.specs.declared.verdict.Verdict.TheVariants.{Ordered, Overlook, Cycle}
@@ -11,7 +13,8 @@ use Rattle.explanation.specs.Explanation.{IsExplanation}
 use Rattle.explanation.specs.Drawing.{IsDrawing}
 use Rattle.answers.specs.declared.answer.Answer.{Answer}
 use Rattle.answers.specs.declared.told.Telling.{Telling}
-use Rattle.answers.specs.declared.told.Telling.TheVariants.{Words, Picture}
+use Rattle.answers.specs.declared.told.Telling.TheVariants.{Words, Picture, Reduction}
+use Rattle.answers.specs.Reduced.{IsReducedAnswer}
 use Rattle.answers.specs.Verdict.{verdict_status}
 
 -- the text is a picture of all events of a recording
@@ -34,15 +37,20 @@ IsPicture false x names (Ordered m) text = IsWholeDrawing x names (Ordered m) te
 IsPicture false x names (Overlook l s) text = IsReducedDrawing x names (Overlook l s) text
 IsPicture false x names (Cycle c) text = IsReducedDrawing x names (Cycle c) text
 
--- the text tells the verdict on a recording, with these names of its addresses
-abbrev pub TellsVerdict : Telling → Execution → List Name → Verdict → List ℕ → Type 0
-TellsVerdict Words x names v text = IsExplanation x names v text
-TellsVerdict (Picture all) x names v text = IsPicture all x names v text
+-- the names of the addresses of a recording: those of its program, if that is given
+abbrev pub names_of : Option Parts → Execution → List Name
+names_of (Some p) x = p.names
+names_of None x = address_names (length x.write_lists)
 
--- the verdict on a recording, told so, with these names of its addresses, and its status
-pub record IsToldAnswer (telling : Telling) (x : Execution) (names : List Name) (answer : Answer)
-    : Type 0 where
+-- a text that tells the verdict on a recording, and its status
+pub record IsTelling (tells : Verdict → List ℕ → Type 0) (x : Execution) (answer : Answer) : Type 0 where
   pub verdict : Verdict
   pub found : IsVerdict x verdict
   pub status : answer.status ≡ verdict_status verdict
-  pub told : TellsVerdict telling x names verdict answer.text.items
+  pub told : tells verdict answer.text.items
+
+-- what is told of a recording, with the names of its program, if that is given
+abbrev pub IsToldAnswer : Telling → Execution → Option Parts → Answer → Type 0
+IsToldAnswer Words x p answer = IsTelling (IsExplanation x (names_of p x)) x answer
+IsToldAnswer (Picture all) x p answer = IsTelling (IsPicture all x (names_of p x)) x answer
+IsToldAnswer Reduction x p answer = IsReducedAnswer x p answer

@@ -1,35 +1,40 @@
-//! The verdict on a recording in words or as a picture, as an answer.
+//! What is told of a recording: its verdict in words or as a picture, or what is left of it.
 
 ghost use Rattle.common.specs.declared.limits.TheConstants.{MAX_EVENTS};
-ghost use Rattle.std.specs.Prelude.{◌≡◌, ◌≤◌, IfOk};
+ghost use Rattle.std.specs.Prelude.{◌≡◌, ◌≤◌, IfOk, IfSome, option_map};
 ghost use Rattle.std.specs.List.{range_with_len};
 ghost use Rattle.judge.specs.declared.verdict.Verdict.{Verdict};
 ghost use Rattle.judge.specs.Verdict.{IsVerdict, Verifies};
 ghost use Rattle.explanation.specs.Drawing.{IsDrawing};
-ghost use Rattle.answers.specs.Told.{IsWholeDrawing, IsPicture, TellsVerdict, IsToldAnswer};
+ghost use Rattle.answers.specs.Told.{IsPicture, IsTelling, IsToldAnswer, IsWholeDrawing, names_of};
+ghost use Rattle.explanation.specs.Explanation.{IsExplanation};
+ghost use Rattle.machine.specs.ProgramOf.{IsProgramOf};
 
 use crate::answer::Answer;
+use crate::reduced::reduced_answer;
 use crate::verdict::status_of;
 use common::{EventId, OutOfMemory};
 use explanation::{drawing_text, explanation_text};
 use indexmap::IndexSet;
 use judge::{Verdict, judge_alone};
-use litmus::Name;
+use litmus::{Name, Program, address_names};
 use recorder::Recording;
 use reduction::{Reduced, reduce};
 use std::alloc::Global;
 
-/// How a verdict is told.
+/// What is told of a recording.
 #[derive(Clone, Copy, Debug, PartialEq, Eq)]
 pub enum Telling {
-    /// In words, as `explanation_text` has them.
+    /// Its verdict in words, as `explanation_text` has them.
     Words,
-    /// As a directed graph, as `drawing_text` has it.
+    /// Its verdict as a directed graph, as `drawing_text` has it.
     Picture {
         /// Whether all events are drawn of an overlook or a cycle, or those alone that it needs, as
         /// `reduce` keeps them.
         all: bool,
     },
+    /// What is left of a violation, as `reduced_answer` has it.
+    Reduction,
 }
 
 /// The numbers of so many events.
@@ -101,37 +106,70 @@ fn picture_text(
     }
 }
 
-/// The verdict on a recording, told so.
-fn telling_text(
+/// The names of the addresses of a recording: those of its program, if that is given.
+fn names_of(
     alloc: Global,
-    telling: Telling,
     recording: &Recording,
-    names: &IndexSet<Name>,
-    verdict: &Verdict,
-) -> Result<Vec<u8>, OutOfMemory>
-    requires found { IsVerdict recording.now verdict.now }
-    requires verified { Verifies recording.now verdict.now }
-    ensures { IfOk result (λ text.
-        TellsVerdict telling recording.now names.now.keys verdict.now text.items) }
+    program: Option<&Program>,
+) -> Result<IndexSet<Name>, OutOfMemory>
+    ensures { IfOk result (λ names.
+        names.keys ≡ names_of (option_map (λ p. p.now) program.entry) recording.now) }
 {
-    match telling {
-        Telling::Words => explanation_text(alloc, recording, names, verdict),
-        Telling::Picture { all } => picture_text(alloc, all, recording, names, verdict),
+    recording.sound();
+    match program {
+        Some(program) => Ok(program.names().clone()?),
+        None => address_names(alloc, recording.addresses()),
     }
 }
 
-/// The verdict on a recording, told so, with these names of its addresses, and its status. An error is
-/// want of memory.
+/// The verdict on a recording in words, and its status.
+fn words_answer(
+    alloc: Global,
+    recording: &Recording,
+    names: &IndexSet<Name>,
+) -> Result<Answer, OutOfMemory>
+    ensures { IfOk result (IsTelling (IsExplanation recording.now names.now.keys) recording.now) }
+{
+    let verdict = judge_alone(alloc, recording)?;
+    let text = explanation_text(alloc, recording, names, &verdict)?;
+    let status = status_of(&verdict);
+    Ok(Answer { status, text })
+}
+
+/// The verdict on a recording as a picture, and its status.
+fn picture_answer(
+    alloc: Global,
+    all: bool,
+    recording: &Recording,
+    names: &IndexSet<Name>,
+) -> Result<Answer, OutOfMemory>
+    ensures { IfOk result (IsTelling (IsPicture all recording.now names.now.keys) recording.now) }
+{
+    let verdict = judge_alone(alloc, recording)?;
+    let text = picture_text(alloc, all, recording, names, &verdict)?;
+    let status = status_of(&verdict);
+    Ok(Answer { status, text })
+}
+
+/// What is told of a recording, with the names that its program gives the addresses, or else with the usual
+/// ones, and the status of its verdict. An error is want of memory.
 pub fn told_answer(
     alloc: Global,
     telling: Telling,
     recording: &Recording,
-    names: &IndexSet<Name>,
+    program: Option<&Program>,
 ) -> Result<Answer, OutOfMemory>
-    ensures { IfOk result (IsToldAnswer telling recording.now names.now.keys) }
+    requires { IfSome program (λ p. IsProgramOf p.now recording.now) }
+    ensures { IfOk result
+        (IsToldAnswer telling recording.now (option_map (λ p. p.now) program.entry)) }
 {
-    let verdict = judge_alone(alloc, recording)?;
-    let text = telling_text(alloc, telling, recording, names, &verdict)?;
-    let status = status_of(&verdict);
-    Ok(Answer { status, text })
+    match telling {
+        Telling::Words => {
+            words_answer(alloc, recording, &names_of(alloc, recording, program)?)
+        }
+        Telling::Picture { all } => {
+            picture_answer(alloc, all, recording, &names_of(alloc, recording, program)?)
+        }
+        Telling::Reduction => reduced_answer(alloc, recording, program),
+    }
 }

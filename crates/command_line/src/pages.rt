@@ -110,8 +110,8 @@ done and how many violations were found, until its end; with `--quiet` it shows 
 
 To look at a violation, give the same options and `--show K` with its number: then, instead
 of the counts, the trial's program is printed, an empty line, its recording and its verdict,
-as by `run`, and the exit status is that of `run`. With `--reduce` a violation
-is cut down first, as by `reduce`.",
+as by `run`, and the exit status is that of `run`. With `--reduce` a violation is cut down
+first, as by `reduce`.",
     statuses: "Exit status:
   0  no trial is a violation, and none is unfinished
   1  a fault of the command line or memory, as standard error says
@@ -167,9 +167,10 @@ const EXPLAIN: Page = Page {
 Each event of the verdict has a line with its number, its core, what it did, and where a
 value that it read came from. The line below says, of a cycle, why the event comes before
 the next one, and of an order what makes its place lawful. Of an overlook there are the
-store, the load, and what the load read instead. The addresses are named a0, a1 and so on,
-or as in the program of --program, whose operations and initial values have to be those of
-the recording.",
+store, the load, and what the load read instead. The last line of a violation of loads,
+stores and fences is its cycle in the words of the tool diy, with the name of the classic
+test that has it. The addresses are named a0, a1 and so on, or as in the program of
+--program, whose operations and initial values have to be those of the recording.",
     statuses: "Exit status:
   0  TSO allows the recording
   1  a fault of the command line, a file or memory, as standard error says

@@ -10,7 +10,7 @@ use Rattle.live.specs.declared.error.LiveError.TheVariants as live
 use Rattle.litmus.specs.Text.{reading}
 use Rattle.machine.specs.Script.{steps_of}
 use Rattle.answers.specs.declared.answer.Answer.{Answer}
-use Rattle.answers.specs.declared.told.Telling.TheVariants.{Words, Picture}
+use Rattle.answers.specs.declared.told.Telling.TheVariants.{Words, Picture, Reduction}
 use Rattle.inputs.specs.declared.stop.Stop.{Stop}
 use Rattle.inputs.specs.declared.stop.Stop.TheVariants.{Refused, Fault}
 use Rattle.answers.specs.declared.answer.TheConstants.{DONE, REFUSED}
@@ -19,7 +19,7 @@ use Rattle.inputs.specs.declared.fault.CommandFault.TheVariants.{CommandLine, No
 use Rattle.inputs.specs.declared.fault.CommandFault.TheVariants.{WriteFailed}
 use Rattle.inputs.specs.declared.fault.CommandFault.TheVariants as fault
 use Rattle.command_line.specs.declared.options.Options.{Options}
-use Rattle.command_line.specs.declared.options.Options.TheVariants.{Run, Judge, Trials, Live, Replay, Explain, Draw}
+use Rattle.command_line.specs.declared.options.Options.TheVariants.{Run, Judge, Trials, Live, Replay, Explain, Draw, Reduce}
 use Rattle.command_line.specs.declared.options.OptionFault.{OptionFault}
 use Rattle.command_line.specs.declared.options.OptionFault.TheVariants.{Clap, OutOfMemory}
 use Rattle.command_line.specs.declared.options.OptionFault.TheVariants as refused
@@ -84,7 +84,8 @@ IsAnswerTo inputs (Trials o) answer = IsTrials o answer
 IsAnswerTo inputs (Live o) answer = IsLive inputs o answer
 IsAnswerTo inputs (Replay o) answer = IsReplayedInput inputs o answer
 IsAnswerTo inputs (Explain o) answer = IsTold inputs Words o answer
-IsAnswerTo inputs (Draw o) answer = IsTold inputs (Picture false) o answer
+IsAnswerTo inputs (Draw o) answer = IsTold inputs (Picture o.all) o.recording answer
+IsAnswerTo inputs (Reduce o) answer = IsTold inputs Reduction o answer
 
 -- why a command with these options and inputs stops
 abbrev pub IsCommandStop : (List ℕ → Option (List ℕ)) → Options → Stop → Type 0
@@ -94,7 +95,8 @@ IsCommandStop inputs (Trials o) stop = stop ≡ Fault fault.OutOfMemory
 IsCommandStop inputs (Live o) stop = IsLiveStop inputs o stop
 IsCommandStop inputs (Replay o) stop = IsReplayStop inputs o stop
 IsCommandStop inputs (Explain o) stop = IsTellingStop inputs o stop
-IsCommandStop inputs (Draw o) stop = IsTellingStop inputs o stop
+IsCommandStop inputs (Draw o) stop = IsTellingStop inputs o.recording stop
+IsCommandStop inputs (Reduce o) stop = IsTellingStop inputs o stop
 
 -- what clap says goes to standard error: it is neither help nor the version
 abbrev pub IsMistake : Error → Type 0

@@ -1,13 +1,11 @@
--- What is answered to a recording whose verdict is to be told, in words or as a picture.
-use Rattle.std.specs.Prelude.{◌≡◌, ◌⊎◌, ◌++◌, ◌∷◌, [], ℕ, List, Option, Some, None, Ok, codes, length}
+-- What is told of a recording.
+use Rattle.std.specs.Prelude.{◌≡◌, ◌⊎◌, ◌++◌, ◌∷◌, [], ℕ, List, Option, Some, None, Ok, codes}
 use Rattle.std.specs.Prelude.{option_map, string_bytes}
-use Rattle.litmus.specs.declared.name.Name.{Name}
-use Rattle.litmus.specs.AddressNames.{address_names}
 use Rattle.litmus.specs.Parts.{Parts}
 use Rattle.litmus.specs.Text.{reading}
 use Rattle.recorder.specs.Execution.{Execution}
 use Rattle.recording_text.specs.Reading.{IsReadingResult}
-use Rattle.explanation.specs.Program.{IsProgramOf}
+use Rattle.machine.specs.ProgramOf.{IsProgramOf}
 use Rattle.command_line.specs.declared.options.ExplainOptions.{ExplainOptions}
 use Rattle.answers.specs.declared.answer.Answer.{Answer}
 use Rattle.answers.specs.declared.told.Telling.{Telling}
@@ -17,32 +15,29 @@ use Rattle.inputs.specs.declared.stop.Stop.TheVariants.{Fault}
 use Rattle.inputs.specs.declared.fault.CommandFault.TheVariants.{OutOfMemory}
 use Rattle.inputs.specs.Inputs.{AreBytesOf}
 use Rattle.commands.specs.Judge.{IsRecordingStop}
-use Rattle.commands.specs.Program.{IsProgramStop}
+use Rattle.commands.specs.Program.{IsProgramAt, IsProgramStop}
 use Rattle.inputs.specs.Stop.{IsLineStop}
 
--- the names are those of the program of this name, of which the recording is one
-pub record AreNamesIn (inputs : List ℕ → Option (List ℕ)) (x : Execution) (name : List ℕ)
-    (names : List Name) : Type 0 where
-  pub text : List ℕ
-  pub given : AreBytesOf inputs name text
-  pub program : Parts
-  pub read : reading text ≡ Ok program
+-- the input of this name is the text of a program, of which the recording is one
+pub record IsOwnProgram (inputs : List ℕ → Option (List ℕ)) (x : Execution) (name : List ℕ)
+    (program : Parts) : Type 0 where
+  pub at : IsProgramAt inputs name program
   pub same : IsProgramOf program x
-  pub names_are : names ≡ program.names
 
--- the names of a recording's addresses: those of the program, where one is named
-abbrev pub AreNamesBy : (List ℕ → Option (List ℕ)) → Execution → Option (List ℕ) → List Name → Type 0
-AreNamesBy inputs x (Some name) names = AreNamesIn inputs x name names
-AreNamesBy inputs x None names = names ≡ address_names (length x.write_lists)
+-- the program of a recording, where one is named
+abbrev pub IsProgramBy : (List ℕ → Option (List ℕ)) → Execution → Option (List ℕ) → Option Parts → Type 0
+IsProgramBy inputs x (Some name) (Some program) = IsOwnProgram inputs x name program
+IsProgramBy inputs x (Some name) None = ⊥
+IsProgramBy inputs x None program = program ≡ None
 
--- the verdict on a recording, told so, with its names
+-- what is told of a recording, by its program
 pub record IsToldBy (inputs : List ℕ → Option (List ℕ)) (telling : Telling) (x : Execution)
-    (program : Option (List ℕ)) (answer : Answer) : Type 0 where
-  pub names : List Name
-  pub named : AreNamesBy inputs x program names
-  pub answered : IsToldAnswer telling x names answer
+    (name : Option (List ℕ)) (answer : Answer) : Type 0 where
+  pub program : Option Parts
+  pub named : IsProgramBy inputs x name program
+  pub answered : IsToldAnswer telling x program answer
 
--- the verdict on the recording of the named input, told so
+-- what is told of the recording of the named input
 pub record IsTold (inputs : List ℕ → Option (List ℕ)) (telling : Telling) (o : ExplainOptions)
     (answer : Answer) : Type 0 where
   pub bytes : List ℕ

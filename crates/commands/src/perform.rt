@@ -66,7 +66,11 @@ fn answer_to<R: Threads + Wait + Sync, P: Place>(
         Options::Live(live) => live_command(rt, alloc, live, place),
         Options::Replay(replay) => replay_command(alloc, replay, place),
         Options::Explain(explain) => tell_command(alloc, Telling::Words, explain, place),
-        Options::Draw(draw) => tell_command(alloc, Telling::Picture { all: false }, draw, place),
+        Options::Draw(draw) => {
+            let telling = Telling::Picture { all: draw.all };
+            tell_command(alloc, telling, &draw.recording, place)
+        }
+        Options::Reduce(reduce) => tell_command(alloc, Telling::Reduction, reduce, place),
     }
 }
 

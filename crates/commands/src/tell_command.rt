@@ -1,31 +1,27 @@
-//! The commands `explain` and `draw`.
-ghost use Rattle.std.specs.Prelude.{IfErr, IfOk, Some, length, option_map, string_bytes};
-ghost use Rattle.litmus.specs.AddressNames.{address_names};
-ghost use Rattle.answers.specs.Told.{IsToldAnswer};
-ghost use Rattle.commands.specs.Tell.{AreNamesIn, IsTold, IsToldBy, IsTellingStop, IsNamesStop};
+//! The commands `explain`, `draw` and `reduce`.
+ghost use Rattle.std.specs.Prelude.{IfErr, IfOk, Some, option_map, string_bytes};
+ghost use Rattle.commands.specs.Tell.{IsNamesStop, IsOwnProgram, IsTellingStop, IsTold, IsToldBy};
 
 use crate::judge_command::recording_of;
 use crate::run_command::program_at;
 use answers::{Answer, Telling, told_answer};
 use command_line::ExplainOptions;
-use common::OutOfMemory;
 use explanation::is_program_of;
 use inputs::place::Place;
 use inputs::reading::text_at;
 use inputs::stop::Stop;
-use litmus::{Program, address_names};
+use litmus::Program;
 use recorder::Recording;
 use std::alloc::Global;
 
 /// The program of this name, of which the recording has to be one.
-fn recorded_program<P: Place>(
+fn own_program<P: Place>(
     alloc: Global,
     recording: &Recording,
     name: &str,
     place: &mut P,
 ) -> Result<Program, Stop>
-    ensures ok { IfOk result (λ program.
-        AreNamesIn (P.bytes place.old) recording.now name.now program.names) }
+    ensures ok { IfOk result (IsOwnProgram (P.bytes place.old) recording.now name.now) }
     ensures err { IfErr result (IsNamesStop (P.bytes place.old) recording.now (Some name.now)) }
 {
     let program = program_at(alloc, place, name)?;
@@ -36,7 +32,7 @@ fn recorded_program<P: Place>(
     }
 }
 
-/// The verdict on a recording, told so, with the names that its program gives the addresses.
+/// What is told of a recording, by the program of this name.
 fn named_answer<P: Place>(
     alloc: Global,
     telling: Telling,
@@ -47,25 +43,11 @@ fn named_answer<P: Place>(
     ensures ok { IfOk result (IsToldBy (P.bytes place.old) telling recording.now (Some name.now)) }
     ensures err { IfErr result (IsNamesStop (P.bytes place.old) recording.now (Some name.now)) }
 {
-    let program = recorded_program(alloc, recording, name, place)?;
-    Ok(told_answer(alloc, telling, recording, program.names())?)
+    let program = own_program(alloc, recording, name, place)?;
+    Ok(told_answer(alloc, telling, recording, Some(&program))?)
 }
 
-/// The verdict on a recording, told so, with the usual names of the addresses.
-fn unnamed_answer(
-    alloc: Global,
-    telling: Telling,
-    recording: &Recording,
-) -> Result<Answer, OutOfMemory>
-    ensures { IfOk result (IsToldAnswer telling recording.now
-        (address_names (length recording.now.write_lists))) }
-{
-    recording.sound();
-    let names = address_names(alloc, recording.addresses())?;
-    told_answer(alloc, telling, recording, &names)
-}
-
-/// The verdict on a recording, told so, with the names that the options ask for.
+/// What is told of a recording, by the program that the options name.
 fn told<P: Place>(
     alloc: Global,
     telling: Telling,
@@ -80,11 +62,11 @@ fn told<P: Place>(
 {
     match &options.program {
         Some(name) => named_answer(alloc, telling, recording, name.as_str(), place),
-        None => Ok(unnamed_answer(alloc, telling, recording)?),
+        None => Ok(told_answer(alloc, telling, recording, None)?),
     }
 }
 
-/// Tells the verdict on the recording of a named input; it is read before the program is opened.
+/// Tells of the recording of a named input; it is read before the program is opened.
 pub fn tell_command<P: Place>(
     alloc: Global,
     telling: Telling,
