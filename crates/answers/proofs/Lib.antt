@@ -1,2 +1,3 @@
 pub mod Answered
 pub mod EventNumbers
+pub mod Violations

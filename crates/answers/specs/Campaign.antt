@@ -1,7 +1,11 @@
 -- What is answered of campaigns.
-use Rattle.std.specs.Prelude.{◌≡◌, ◌++◌, ◌∷◌, ℕ, List, if◌then◌else◌, is_some, nat_lt}
+use Rattle.std.specs.Prelude.{◌≡◌, ◌++◌, ◌∷◌, ℕ, Bool, true, false, Some, List, if◌then◌else◌, is_some, nat_lt}
+use Rattle.litmus.specs.Parts.{Parts}
 use Rattle.litmus.specs.Spelling.{spelling}
+use Rattle.relations.specs.Verdict.{HasNoOrder}
+use Rattle.machine.specs.declared.fault.Fault.{Fault}
 use Rattle.machine.specs.Configuration.{Configuration}
+use Rattle.machine.specs.State.{State, IsComplete, recorded}
 use Rattle.answers.specs.CampaignText.{campaign_text}
 use Rattle.trials.specs.declared.ledger.Ledger.{Ledger}
 use Rattle.trials.specs.Campaigns.{Plan}
@@ -9,6 +13,7 @@ use Rattle.trials.specs.Codes.{AreCodes, EndsIn, program_of_trial}
 use Rattle.trials.specs.Counts.{IsLedger}
 use Rattle.answers.specs.declared.answer.Answer.{Answer}
 use Rattle.answers.specs.declared.answer.TheConstants.{DONE, UNFINISHED, VIOLATION}
+use Rattle.answers.specs.Reduced.{IsCutAnswer}
 use Rattle.answers.specs.Run.{IsRunAnswer}
 
 -- the status of a violation where there is one, else that of an unfinished run where there is one
@@ -26,11 +31,24 @@ pub record IsCampaignAnswer (p : Plan) (answer : Answer) : Type 0 where
   pub status : answer.status ≡ campaign_status ledger
   pub text : answer.text.items ≡ campaign_text ledger
 
--- the program of trial k, an empty line, and the answer of the run of the trial
-pub record IsShownAnswer (p : Plan) (k : ℕ) (answer : Answer) : Type 0 where
+-- the program of a run, an empty line, and the answer of the run
+pub record IsWholeAnswer (fault : Fault) (p : Parts) (s : State) (answer : Answer) : Type 0 where
+  pub run : Answer
+  pub answered : IsRunAnswer fault p s run
+  pub status : answer.status ≡ run.status
+  pub text : answer.text.items ≡ spelling p ++ 10 ∷ run.text.items
+
+-- a run is complete, and no memory order of TSO explains its recording
+abbrev pub IsViolation : Parts → State → Type 0
+IsViolation p s = IsComplete p.cores s × HasNoOrder (recorded p.cores s)
+
+-- what is shown of a run: a violation is cut down to the events that it needs where that is asked for
+pub record IsShownRun (fault : Fault) (p : Parts) (s : State) (reduced : Bool) (answer : Answer) : Type 0 where
+  pub whole : (reduced ≡ true → ¬ IsViolation p s) → IsWholeAnswer fault p s answer
+  pub cut : reduced ≡ true → IsViolation p s → IsCutAnswer (recorded p.cores s) (Some p) false answer
+
+-- what is shown of the run of trial k
+pub record IsShownAnswer (p : Plan) (k : ℕ) (reduced : Bool) (answer : Answer) : Type 0 where
   pub end : Configuration
   pub ends : EndsIn p k end
-  pub run : Answer
-  pub answered : IsRunAnswer p.fault (program_of_trial p k) end.state run
-  pub status : answer.status ≡ run.status
-  pub text : answer.text.items ≡ spelling (program_of_trial p k) ++ 10 ∷ run.text.items
+  pub shown : IsShownRun p.fault (program_of_trial p k) end.state reduced answer

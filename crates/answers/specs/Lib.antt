@@ -1,5 +1,6 @@
 pub mod Verdict
 pub mod Told
 pub mod Run
+pub mod Reduced
 pub mod CampaignText
 pub mod Campaign

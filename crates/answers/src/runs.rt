@@ -2,7 +2,9 @@
 
 ghost use Rattle.std.specs.Prelude.{IfOk};
 ghost use Rattle.recording_text.specs.Text.{recording_text};
+ghost use Rattle.machine.specs.Configuration.{Configuration};
 ghost use Rattle.judge.specs.Verdict.{IsVerdict, Verifies};
+ghost use Rattle.trials.specs.Judged.{IsJudgedEnd};
 ghost use Rattle.answers.specs.Run.{IsRunAnswer, IsSeededAnswer, IsUnfinishedAnswer, state_after};
 ghost use Rattle.answers.specs.Verdict.{IsVerdictAnswer};
 
@@ -36,15 +38,26 @@ fn unfinished(alloc: Global) -> Result<Answer, OutOfMemory>
     Ok(Answer::of(alloc, UNFINISHED, "unfinished\n")?)
 }
 
+/// The line of a recording and the verdict on it, or that a run is unfinished, by what is judged of the
+/// machine in which it ends. An error is want of memory.
+pub(crate) fn ended(alloc: Global, judged: Option<Judged>) -> Result<Answer, OutOfMemory>
+    requires { (h : Configuration) × IsJudgedEnd h judged }
+    ensures { IfOk result (λ answer. (h : Configuration) → IsJudgedEnd h judged
+        → IsRunAnswer h.fault h.program h.state answer) }
+{
+    match judged {
+        Some(Judged { recording, verdict }) => recorded(alloc, &recording, &verdict),
+        None => unfinished(alloc),
+    }
+}
+
 /// The line of the recording of a complete machine and the verdict on it, or that it is unfinished. An
 /// error is want of memory.
 pub fn finished(alloc: Global, machine: Machine) -> Result<Answer, OutOfMemory>
     ensures { IfOk result (IsRunAnswer machine.fault machine.program machine.state) }
 {
-    match judged_end(alloc, machine)? {
-        Some(Judged { recording, verdict }) => recorded(alloc, &recording, &verdict),
-        None => unfinished(alloc),
-    }
+    let judged = judged_end(alloc, machine)?;
+    ended(alloc, judged)
 }
 
 /// The answer of a program that is run by a script, of which blocked steps are skipped. An error is want

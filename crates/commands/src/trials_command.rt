@@ -26,7 +26,7 @@ fn answer_of<R: Threads + Wait + Sync, P: Place>(
     ensures { IfOk result (IsTrials options.now) }
 {
     match options.show {
-        Some(k) => shown_answer(alloc, &options.campaign, k),
+        Some(k) => shown_answer(alloc, &options.campaign, k, options.reduce),
         None if options.quiet => {
             campaign_answer(rt, alloc, &options.campaign, options.workers, &OpenGate)
         }

@@ -17,7 +17,7 @@ pub use answering::answer;
 pub use buffer::{OUT_OF_MEMORY, REFUSED, TOO_LONG, WRITTEN, verdict_into};
 pub use devices::{Failed, Sink, Source};
 pub use memory::{MemorySink, MemorySource};
-pub use numbers::put_number;
+pub use numbers::{put_number, put_numbers};
 pub use outcomes::{Outcome, ReportError};
 pub use refusal::recording_line;
 pub use stream::Device;

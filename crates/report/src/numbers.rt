@@ -113,9 +113,10 @@ fn put_each(out: &mut Vec<u8>, numbers: &[u16]) -> Result<(), OutOfMemory>
     Ok(())
 }
 
-/// Adds a space before each number. Most lines of labels have digits alone, and all have short
-/// numbers, which are written without a test of the room for each of them.
-pub(crate) fn put_numbers(out: &mut Vec<u8>, numbers: &[u16]) -> Result<(), OutOfMemory>
+/// Adds the numbers to a text, in decimal, a space before each. An error is want of memory. Most lines of
+/// labels have digits alone, and all have short numbers, which are written without a test of the room for
+/// each of them.
+pub fn put_numbers(out: &mut Vec<u8>, numbers: &[u16]) -> Result<(), OutOfMemory>
     ensures { OnOk result (out.new.items ≡ out.old.items ++ numbers_text numbers.now) }
 {
     let greatest = greatest(numbers);

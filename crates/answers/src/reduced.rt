@@ -1,0 +1,161 @@
+//! Violations that are cut down to the events that they need, as answers.
+
+ghost use Rattle.std.specs.Prelude.{◌≡◌, ◌++◌, IfOk, OnOk, IfSome, IfNone, option_map, true};
+ghost use Rattle.recorder.specs.FirstUse.{IsNumberedByFirstUse};
+ghost use Rattle.machine.specs.ProgramOf.{IsProgramOf};
+ghost use Rattle.judge.specs.Verdict.{IsVerdict};
+ghost use Rattle.reduction.specs.Needed.{IsOrdered};
+ghost use Rattle.reduction.specs.Restriction.{AreClosed};
+ghost use Rattle.answers.specs.Reduced.{heading, shown_text, program_left, IsCutAnswer, IsReducedAnswer};
+ghost use Rattle.answers.specs.Verdict.{IsVerdictAnswer};
+
+use crate::answer::Answer;
+use crate::verdict::verdict_behind;
+use common::{EventId, OutOfMemory};
+use judge::{Verdict, judge_alone};
+use litmus::Program;
+use litmus_text::print;
+use recorder::Recording;
+use recording_text::write_recording;
+use reduction::{Reduced, reduce, restricted_program};
+use replay::named_program;
+use report::put_numbers;
+use std::alloc::Global;
+
+/// The line of the numbers that the kept events had, and an empty line.
+fn events_line(alloc: Global, events: &[EventId]) -> Result<Vec<u8>, OutOfMemory>
+    ensures { IfOk result (λ text. text.items ≡ heading true events.now) }
+{
+    let mut out = Vec::new(alloc);
+    out.extend_from_slice(b"events")?;
+    put_numbers(&mut out, events)?;
+    out.extend_from_slice(b"\n\n")?;
+    Ok(out)
+}
+
+/// The same where they are asked for, and else nothing.
+fn heading_of(alloc: Global, events: &[EventId], headed: bool) -> Result<Vec<u8>, OutOfMemory>
+    ensures { IfOk result (λ text. text.items ≡ heading headed events.now) }
+{
+    if headed {
+        events_line(alloc, events)
+    } else {
+        Ok(Vec::new(alloc))
+    }
+}
+
+/// Adds a program, an empty line, and the line of a recording.
+fn put_shown(
+    alloc: Global,
+    out: &mut Vec<u8>,
+    program: &Program,
+    recording: &Recording,
+) -> Result<(), OutOfMemory>
+    ensures { OnOk result (out.new.items ≡ out.old.items ++ shown_text program.now recording.now) }
+{
+    let text = print(alloc, program)?;
+    out.extend_from_slice(&text)?;
+    out.push(b'\n')?;
+    let line = write_recording(alloc, recording)?;
+    out.extend_from_slice(&line)?;
+    Ok(())
+}
+
+/// A program, an empty line, and the line of its recording with the verdict on it, behind a text.
+fn shown_behind(
+    alloc: Global,
+    mut text: Vec<u8>,
+    program: &Program,
+    recording: &Recording,
+) -> Result<Answer, OutOfMemory>
+    ensures { IfOk result
+        (IsVerdictAnswer recording.now (text.items ++ shown_text program.now recording.now)) }
+{
+    put_shown(alloc, &mut text, program, recording)?;
+    let verdict = judge_alone(alloc, recording)?;
+    verdict_behind(alloc, text, recording, &verdict)
+}
+
+/// The program of what is left of a recording: what is left of the recording's own program, if that is
+/// given.
+fn program_left(
+    alloc: Global,
+    recording: &Recording,
+    program: Option<&Program>,
+    reduced: &Reduced,
+) -> Result<Program, OutOfMemory>
+    requires closed { AreClosed recording.now reduced.now.events.items }
+    requires numbered { IsNumberedByFirstUse reduced.now.recording }
+    requires program { IfSome program (λ p. IsProgramOf p.now recording.now) }
+    ensures { IfOk result (λ p. p ≡ program_left (option_map (λ q. q.now) program.entry) recording.now
+        reduced.now.events.items reduced.now.recording) }
+{
+    match program {
+        Some(program) => restricted_program(alloc, program, recording, &reduced.events),
+        None => named_program(alloc, &reduced.recording),
+    }
+}
+
+/// What is shown of what is left of a recording.
+fn left_answer(
+    alloc: Global,
+    recording: &Recording,
+    program: Option<&Program>,
+    headed: bool,
+    reduced: &Reduced,
+) -> Result<Answer, OutOfMemory>
+    requires closed { AreClosed recording.now reduced.now.events.items }
+    requires numbered { IsNumberedByFirstUse reduced.now.recording }
+    requires program { IfSome program (λ p. IsProgramOf p.now recording.now) }
+    ensures { IfOk result (IsVerdictAnswer reduced.now.recording
+        (heading headed reduced.now.events.items ++ shown_text (program_left (option_map (λ q. q.now) program.entry)
+        recording.now reduced.now.events.items reduced.now.recording) reduced.now.recording)) }
+{
+    let text = heading_of(alloc, &reduced.events, headed)?;
+    let left = program_left(alloc, recording, program, reduced)?;
+    shown_behind(alloc, text, &left, &reduced.recording)
+}
+
+/// What is left of a violation where the events alone are kept that it needs: its program, which is what is
+/// left of the given one, an empty line, and its recording with the verdict on it, behind the numbers of
+/// its events where they are asked for; none where the verdict is an order. An error is want of memory.
+pub(crate) fn cut_answer(
+    alloc: Global,
+    recording: &Recording,
+    program: Option<&Program>,
+    verdict: &Verdict,
+    headed: bool,
+) -> Result<Option<Answer>, OutOfMemory>
+    requires found { IsVerdict recording.now verdict.now }
+    requires program { IfSome program (λ p. IsProgramOf p.now recording.now) }
+    ensures some { IfOk result (λ r. IfSome r
+        (IsCutAnswer recording.now (option_map (λ p. p.now) program.entry) headed)) }
+    ensures none { IfOk result (λ r. IfNone r (IsOrdered verdict.now)) }
+{
+    match reduce(alloc, recording, verdict)? {
+        Some(reduced) => {
+            let answer = left_answer(alloc, recording, program, headed, &reduced)?;
+            Ok(Some(answer))
+        }
+        None => Ok(None),
+    }
+}
+
+/// The line of the numbers of the events that a violation needs, an empty line, the program of these
+/// events, an empty line, and their recording with the verdict on it; `VIOLATION`. Of a recording that
+/// TSO allows, its verdict and `DONE`. The program is what is left of the given one, of which the
+/// recording has to be one, and else that which makes the reduced recording. An error is want of memory.
+pub fn reduced_answer(
+    alloc: Global,
+    recording: &Recording,
+    program: Option<&Program>,
+) -> Result<Answer, OutOfMemory>
+    requires { IfSome program (λ p. IsProgramOf p.now recording.now) }
+    ensures { IfOk result (IsReducedAnswer recording.now (option_map (λ p. p.now) program.entry)) }
+{
+    let verdict = judge_alone(alloc, recording)?;
+    match cut_answer(alloc, recording, program, &verdict, true)? {
+        Some(answer) => Ok(answer),
+        None => verdict_behind(alloc, Vec::new(alloc), recording, &verdict),
+    }
+}
