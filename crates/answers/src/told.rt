@@ -164,9 +164,7 @@ pub fn told_answer(
         (IsToldAnswer telling recording.now (option_map (λ p. p.now) program.entry)) }
 {
     match telling {
-        Telling::Words => {
-            words_answer(alloc, recording, &names_of(alloc, recording, program)?)
-        }
+        Telling::Words => { words_answer(alloc, recording, &names_of(alloc, recording, program)?) }
         Telling::Picture { all } => {
             picture_answer(alloc, all, recording, &names_of(alloc, recording, program)?)
         }
