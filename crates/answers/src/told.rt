@@ -72,7 +72,8 @@ fn reduced_drawing(
     reduced: &Reduced,
 ) -> Result<Vec<u8>, OutOfMemory>
     ensures { IfOk result (λ text. (verdict : Verdict) × IsVerdict reduced.now.recording verdict
-        × IsDrawing recording.now names.now.keys reduced.now.events.items reduced.now.recording verdict text.items) }
+        × IsDrawing recording.now names.now.keys reduced.now.events.items reduced.now.recording verdict
+        text.items) }
 {
     let verdict = judge_alone(alloc, &reduced.recording)?;
     drawing_text(

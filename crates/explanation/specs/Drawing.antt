@@ -62,7 +62,8 @@ thin_lines y ks ranked bold e = po_lines ks ranked bold (po_edge y e) ++ thin_li
 
 -- the lines before the cores
 abbrev pub graph_heading : List ℕ
-graph_heading = codes "digraph recording {\n  node [shape=\"plaintext\"];\n  newrank=\"true\";\n  top [shape=\"point\", style=\"invis\"];\n"
+graph_heading = codes "digraph recording {\n  node [shape=\"plaintext\"];\n  newrank=\"true\";\n"
+    ++ codes "  top [shape=\"point\", style=\"invis\"];\n"
 
 -- the lines of the nodes, and what puts them in their places
 unfoldable pub nodes_text : Execution → List Name → List ℕ → Execution → Bool → Verdict → List ℕ

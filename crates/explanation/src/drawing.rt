@@ -36,8 +36,9 @@ fn put_heading(out: &mut Vec<u8>) -> Result<(), OutOfMemory>
 {
     put_text(
         out,
-        b"digraph recording {\n  node [shape=\"plaintext\"];\n  newrank=\"true\";\n  top [shape=\"point\", style=\"invis\"];\n",
-    )
+        b"digraph recording {\n  node [shape=\"plaintext\"];\n  newrank=\"true\";\n",
+    )?;
+    put_text(out, b"  top [shape=\"point\", style=\"invis\"];\n")
 }
 
 /// Adds the lines of the nodes, and what puts them in their places.
