@@ -32,7 +32,7 @@ pub record IsCampaignAnswer (p : Plan) (answer : Answer) : Type 0 where
   pub text : answer.text.items ≡ campaign_text ledger
 
 -- the program of a run, an empty line, and the answer of the run
-pub record IsWholeAnswer (fault : Fault) (p : Parts) (s : State) (answer : Answer) : Type 0 where
+pub record IsWholeShown (fault : Fault) (p : Parts) (s : State) (answer : Answer) : Type 0 where
   pub run : Answer
   pub answered : IsRunAnswer fault p s run
   pub status : answer.status ≡ run.status
@@ -44,7 +44,7 @@ IsViolation p s = IsComplete p.cores s × HasNoOrder (recorded p.cores s)
 
 -- what is shown of a run: a violation is cut down to the events that it needs where that is asked for
 pub record IsShownRun (fault : Fault) (p : Parts) (s : State) (reduced : Bool) (answer : Answer) : Type 0 where
-  pub whole : (reduced ≡ true → ¬ IsViolation p s) → IsWholeAnswer fault p s answer
+  pub whole : (reduced ≡ true → ¬ IsViolation p s) → IsWholeShown fault p s answer
   pub cut : reduced ≡ true → IsViolation p s → IsCutAnswer (recorded p.cores s) (Some p) false answer
 
 -- what is shown of the run of trial k

@@ -3,7 +3,7 @@
 ghost use Rattle.std.specs.Prelude.{◌≡◌, ◌<◌, ◌++◌, ◌∷◌, IfOk, IfSome, IfNone, Some, false, true};
 ghost use Rattle.machine.specs.Configuration.{Configuration, IsAtEnd, recording_of};
 ghost use Rattle.trials.specs.Judged.{IsJudgedEnd};
-ghost use Rattle.answers.specs.Campaign.{IsShownAnswer, IsShownRun, IsWholeAnswer, IsViolation};
+ghost use Rattle.answers.specs.Campaign.{IsShownAnswer, IsShownRun, IsWholeShown, IsViolation};
 ghost use Rattle.answers.specs.Reduced.{IsCutAnswer};
 
 use crate::answer::Answer;
@@ -32,7 +32,7 @@ fn behind(mut text: Vec<u8>, answer: Answer) -> Result<Answer, OutOfMemory>
 
 /// The program of a run, an empty line, and what `finished` answers of the machine in which it ends.
 fn whole_run(alloc: Global, machine: Machine) -> Result<Answer, OutOfMemory>
-    ensures { IfOk result (IsWholeAnswer machine.fault machine.program machine.state) }
+    ensures { IfOk result (IsWholeShown machine.fault machine.program machine.state) }
 {
     let text = print(alloc, machine.program())?;
     let run = finished(alloc, machine)?;
@@ -47,7 +47,7 @@ fn whole_end(
 ) -> Result<Answer, OutOfMemory>
     requires { (h : Configuration) × IsJudgedEnd h judged }
     ensures { IfOk result (λ answer. (h : Configuration) → h.program ≡ program.now → IsJudgedEnd h judged
-        → IsWholeAnswer h.fault h.program h.state answer) }
+        → IsWholeShown h.fault h.program h.state answer) }
 {
     let text = print(alloc, program)?;
     let run = ended(alloc, judged)?;

@@ -31,12 +31,12 @@ is_fence (C a r s) = false
 is_fence F = true
 
 -- the address of a load or a store
-abbrev pub address_of : Event → ℕ
-address_of (L a r s) = a
-address_of (S a w) = a
-address_of (R a r s w) = a
-address_of (C a r s) = a
-address_of F = 0
+abbrev pub accessed : Event → ℕ
+accessed (L a r s) = a
+accessed (S a w) = a
+accessed (R a r s w) = a
+accessed (C a r s) = a
+accessed F = 0
 
 -- the events of a cycle that are no fence
 abbrev pub accesses : Execution → List ℕ → List ℕ
@@ -45,15 +45,15 @@ accesses x c = filter (λ e. not (is_fence (event_at x e))) c
 -- the step from one access of a cycle to the next
 pub record IsStep (x : Execution) (e f : ℕ) (s : Step) : Type 0 where
   pub reason : IsReason x e f s.reason
-  pub address : s.same_address ≡ (address_of (event_at x e) == address_of (event_at x f))
+  pub address : s.same_address ≡ (accessed (event_at x e) == accessed (event_at x f))
   pub core : s.same_core ≡ (core_of x e == core_of x f)
   pub from : s.from_store ≡ is_plain_store (event_at x e)
   pub to : s.to_store ≡ is_plain_store (event_at x f)
 
 -- the steps from the first n accesses, each to the access behind it
-abbrev pub AreSteps : Execution → List ℕ → ℕ → List Step → Type 0
-AreSteps x es zero steps = steps ≡ []
-AreSteps x es (suc i) steps = (before : List Step) × (step : Step) × AreSteps x es i before
+abbrev pub AreWordSteps : Execution → List ℕ → ℕ → List Step → Type 0
+AreWordSteps x es zero steps = steps ≡ []
+AreWordSteps x es (suc i) steps = (before : List Step) × (step : Step) × AreWordSteps x es i before
     × IsStep x (slice_index es i) (behind es i) step × (steps ≡ before ++ step ∷ [])
 
 -- the letter of a store, or of a load
@@ -137,9 +137,9 @@ told_from steps i (suc n) =
     told_by (classic_of (words_from steps i)) (words_from steps i) (told_from steps (i + 1) n)
 
 -- words were put behind a text with the name of their classic test, or they are those of none
-abbrev pub IsNamed : List ℕ → List ℕ → Bool → List ℕ → Type 0
-IsNamed old words true new = (name : List ℕ) × (classic_of words ≡ Some name) × (new ≡ old ++ named_words words name)
-IsNamed old words false new = (classic_of words ≡ None) × (new ≡ old)
+abbrev pub IsNamedBehind : List ℕ → List ℕ → Bool → List ℕ → Type 0
+IsNamedBehind old words true new = (name : List ℕ) × (classic_of words ≡ Some name) × (new ≡ old ++ named_words words name)
+IsNamedBehind old words false new = (classic_of words ≡ None) × (new ≡ old)
 
 -- the line of steps
 abbrev pub diy_line : List Step → List ℕ
@@ -147,7 +147,7 @@ diy_line steps = codes "In diy's words:" ++ (told_from steps 0 (length steps) ++
 
 -- the line of a cycle, if each of its events is a load, a store or a fence
 abbrev pub IsDiyLineBy : Bool → Execution → List ℕ → List ℕ → Type 0
-IsDiyLineBy true x c text = (steps : List Step) × AreSteps x (accesses x c) (length (accesses x c)) steps
+IsDiyLineBy true x c text = (steps : List Step) × AreWordSteps x (accesses x c) (length (accesses x c)) steps
     × (text ≡ diy_line steps)
 IsDiyLineBy false x c text = text ≡ []
 

@@ -5,9 +5,9 @@ ghost use Rattle.std.specs.Prelude.{string_bytes};
 ghost use Rattle.std.specs.List.{flat_map, list_all};
 ghost use Rattle.recorder.specs.Event.{is_plain_store};
 ghost use Rattle.recorder.specs.Execution.{event_at};
-ghost use Rattle.explanation.specs.Diy.{IsDiyLine, IsStep, AreSteps, accesses, address_of, classic_of};
+ghost use Rattle.explanation.specs.Diy.{IsDiyLine, IsStep, AreWordSteps, accesses, accessed, classic_of};
 ghost use Rattle.explanation.specs.Diy.{is_fence, is_plain, letter, pair_text, side_text, told_from, word};
-ghost use Rattle.explanation.specs.Diy.{IsNamed, words_from, diy_line, overlook_line};
+ghost use Rattle.explanation.specs.Diy.{IsNamedBehind, words_from, diy_line, overlook_line};
 
 use crate::lines::event_of;
 use crate::pieces::put_text;
@@ -53,8 +53,8 @@ fn is_store(event: &Event) -> bool
 }
 
 /// The address of a load or a store.
-fn address_of(event: &Event) -> Addr
-    ensures { result ≡ address_of event.now }
+fn accessed(event: &Event) -> Addr
+    ensures { result ≡ accessed event.now }
 {
     match event {
         Event::L { a, .. } | Event::S { a, .. } | Event::R { a, .. } | Event::C { a, .. } => *a,
@@ -114,7 +114,7 @@ fn step_of(recording: &Recording, places: &Places<'_>, first: EventId, second: E
     let (other_core, other) = event_of(recording, second);
     Step {
         reason: places.reason(first, second),
-        same_address: address_of(&event) == address_of(&other),
+        same_address: accessed(&event) == accessed(&other),
         same_core: core == other_core,
         from_store: is_store(&event),
         to_store: is_store(&other),
@@ -129,7 +129,7 @@ fn steps(
     accesses: &[EventId],
 ) -> Result<Vec<Step>, OutOfMemory>
     requires { places.now ≡ recording.now }
-    ensures { IfOk result (λ steps. AreSteps recording.now accesses.now (length accesses.now) steps.items) }
+    ensures { IfOk result (λ steps. AreWordSteps recording.now accesses.now (length accesses.now) steps.items) }
 {
     let mut found = Vec::new(alloc);
     for i in 0..accesses.len() {
@@ -249,7 +249,7 @@ fn put_named(
     at: usize,
 ) -> Result<bool, OutOfMemory>
     requires { at ≤ length steps.now }
-    ensures { IfOk result (λ named. IsNamed out.old.items (words_from steps.now at) named out.new.items) }
+    ensures { IfOk result (λ named. IsNamedBehind out.old.items (words_from steps.now at) named out.new.items) }
 {
     let words = words_from(alloc, steps, at)?;
     let Some(name) = classic_of(words.as_str()) else {
