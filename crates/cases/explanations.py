@@ -23,6 +23,46 @@ FORMATS = Path(__file__).resolve().parent.parent.parent / "docs/FORMATS.md"
 CLASSICS = re.findall(r"^\| (\S+) \| `((?:\w+ ?)+)` \|$", FORMATS.read_text().split("| Test | Words |\n")[1].split("\n\n")[0], re.M)
 
 
+def is_external(word):
+    return word[:2] in ("Rf", "Fr", "Co") and word.endswith("e")
+
+
+def recording_of(words):
+    """A recording whose cycle has these words of diy: a core for each way from one external step to the next, and of each address the initial value
+    where nothing else is read."""
+    turn = next((i for i, it in enumerate(words) if is_external(it)), len(words) - 1) + 1
+    words = words[turn:] + words[:turn]
+    apart = sum(it[-3:-2] == "d" for it in words)
+    cores, events, address = [[]], [], 0
+    for i, word in enumerate(words):
+        inside = word[:2] in ("Po", "MF")
+        kind = word[-2] if inside else {"Rf": "W", "Fr": "R", "Co": "W"}[word[:2]]
+        event = {"a": address % apart if apart else 0, "k": "S" if kind == "W" else "L"}
+        events.append(event)
+        cores[-1].append(event)
+        if word.startswith("MF"):
+            cores[-1].append({"k": "F"})
+        if is_external(word) and i + 1 < len(words):
+            cores.append([])
+        address += word[-3:-2] == "d"
+    number = {id(it): i for i, it in enumerate(it for core in cores for it in core)}
+    writes = [[] for _ in range(max(apart, 1))]
+    for event in events:
+        if event["k"] == "S":
+            event["w"] = number[id(event)] + 1
+            writes[event["a"]].append(number[id(event)])
+        else:
+            event |= {"r": 0, "s": None}
+    for first, second, word in zip(events, [*events[1:], events[0]], words):
+        if word.startswith("Rf"):
+            second |= {"r": first["w"], "s": number[id(first)]}
+        if word.startswith("Co"):
+            before, behind, list_ = number[id(first)], number[id(second)], writes[first["a"]]
+            list_.remove(before)
+            list_.insert(list_.index(behind), before)
+    return {"cores": cores, "version": 1, "writes": writes}
+
+
 def names_of(program):
     """The names of a litmus text, in order of first use."""
     words = [line.split() for line in program.splitlines()]
