@@ -39,9 +39,11 @@ def numbered(recording):
     return cores
 
 
-def drawn_of(recording, bold, order):
-    """The numbers of the events of each core that are drawn: all under an order, else those of the bold edges and their sources."""
+def drawn_of(recording, bold, order, whole):
+    """The numbers of the events of each core that are drawn: all of the whole and under an order, else those of the bold edges and their sources."""
     cores = numbered(recording)
+    if whole:
+        return [[number for number, _ in events] for events in cores]
     source = {number: event.get("s") for events in cores for number, event in events}
     wanted = list(order if order is not None else {end for edge in bold for end in edge[:2]})
     for number in wanted:
@@ -119,12 +121,12 @@ def is_edge_line(found, bold, ranked):
     return found[4] == found[5] == COLOURS[kind] and found[6] == wanted
 
 
-def is_drawing(text, recording, verdict, program=None):
-    """Whether a text draws the recording whose verdict has this text, with the names of the program if there is one."""
+def is_drawing(text, recording, verdict, program=None, whole=False):
+    """Whether a text draws the recording whose verdict has this text, or the whole of it, with the names of the program if there is one."""
     names = names_of(program) if program is not None else [f"a{it}" for it in range(len(recording["writes"]))]
     bold, order = bold_of(verdict)
     ranked = order is not None
-    drawn = drawn_of(recording, bold, order)
+    drawn = drawn_of(recording, bold, order, whole)
     cores = [core for core, numbers in enumerate(drawn) if numbers]
     events = [event for of_core in recording["cores"] for event in of_core]
     said = lambda words, number: is_said(words, events[number], names)
