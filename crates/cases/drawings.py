@@ -6,7 +6,7 @@ from explanations import is_said, names_of
 HEAD = ["digraph recording {", '  node [shape="plaintext"];', '  newrank="true";', '  top [shape="point", style="invis"];']
 NODE = re.compile(r'    e(\d+) \[label="(\d+): ([^"\\]*)"\];')
 RANK = re.compile(r'  ([eh]\d+) -> (e\d+) \[minlen="(\d+)", style="invis"\];')
-EDGE = re.compile(r'  e(\d+) -> e(\d+) \[label="(po|co|rf|fr)", color="([^"]*)", fontcolor="([^"]*)"(.*)\];')
+EDGE = re.compile(r'  e(\d+) -> e(\d+) \[xlabel="(po|co|rf|fr)", color="([^"]*)", fontcolor="([^"]*)"(.*)\];')
 OVER = re.compile(r'  ([eg]\d+) -> ([eg]\d+) \[style="dotted", arrowhead="none"\];')
 COLOURS = {"po": "black", "co": "blue", "rf": "red", "fr": "#ffa040"}
 KIND_OF = {"Po": "po", "Wo": "co", "Rf": "rf", "Fr": "fr"}
@@ -151,7 +151,7 @@ def is_drawing(text, recording, verdict, program=None, whole=False):
 def is_picture(svg, text):
     """Whether a picture has the nodes, the clusters and the edges of a drawing that are to be seen, and what stands beside them."""
     named = [*re.findall(r"^    ([eg]\d+) \[", text, re.M), *re.findall(r"^  subgraph (\w+) ", text, re.M)]
-    ends = [f"{first}->{second}" for first, second in re.findall(r"^  ([eg]\d+) -> ([eg]\d+) \[(?:label|style=\"dotted\")", text, re.M)]
+    ends = [f"{first}->{second}" for first, second in re.findall(r"^  ([eg]\d+) -> ([eg]\d+) \[(?:xlabel|style=\"dotted\")", text, re.M)]
     plain = svg.replace("&#45;", "-").replace("&gt;", ">")
     titles = re.findall(r"<title>(.*)</title>", plain)
     texts = re.findall(r"<text [^>]*>(.*)</text>", plain)

@@ -20,10 +20,10 @@ ends_text ks e = codes "  e" ++ decimal (slice_index ks e.first) ++ codes " -> e
 
 -- the name and the colour of an edge
 abbrev pub look_text : Reason → List ℕ
-look_text Po = codes " [label=\"po\", color=\"black\", fontcolor=\"black\""
-look_text Wo = codes " [label=\"co\", color=\"blue\", fontcolor=\"blue\""
-look_text Rf = codes " [label=\"rf\", color=\"red\", fontcolor=\"red\""
-look_text Fr = codes " [label=\"fr\", color=\"#ffa040\", fontcolor=\"#ffa040\""
+look_text Po = codes " [xlabel=\"po\", color=\"black\", fontcolor=\"black\""
+look_text Wo = codes " [xlabel=\"co\", color=\"blue\", fontcolor=\"blue\""
+look_text Rf = codes " [xlabel=\"rf\", color=\"red\", fontcolor=\"red\""
+look_text Fr = codes " [xlabel=\"fr\", color=\"#ffa040\", fontcolor=\"#ffa040\""
 
 -- how thick it is
 abbrev pub style_text : Bool → List ℕ

@@ -28,12 +28,15 @@ fn put_look(out: &mut Vec<u8>, reason: Reason) -> Result<(), OutOfMemory>
     ensures { OnOk result (out.new.items ≡ out.old.items ++ look_text reason) }
 {
     match reason {
-        Reason::Po => put_text(out, b" [label=\"po\", color=\"black\", fontcolor=\"black\""),
-        Reason::Wo => put_text(out, b" [label=\"co\", color=\"blue\", fontcolor=\"blue\""),
-        Reason::Rf => put_text(out, b" [label=\"rf\", color=\"red\", fontcolor=\"red\""),
+        Reason::Po => put_text(
+            out,
+            b" [xlabel=\"po\", color=\"black\", fontcolor=\"black\"",
+        ),
+        Reason::Wo => put_text(out, b" [xlabel=\"co\", color=\"blue\", fontcolor=\"blue\""),
+        Reason::Rf => put_text(out, b" [xlabel=\"rf\", color=\"red\", fontcolor=\"red\""),
         Reason::Fr => put_text(
             out,
-            b" [label=\"fr\", color=\"#ffa040\", fontcolor=\"#ffa040\"",
+            b" [xlabel=\"fr\", color=\"#ffa040\", fontcolor=\"#ffa040\"",
         ),
     }
 }
