@@ -8,6 +8,7 @@ import json
 import random
 import subprocess
 import sys
+import tempfile
 from concurrent.futures import ThreadPoolExecutor
 from pathlib import Path
 
@@ -189,12 +190,16 @@ def is_reduced(program, recording, verdict, file=None):
 
 
 def is_reduced_once(program, recording, verdict):
-    """Whether what is left of a violation is reduced to itself, with its program and without, and is explained and drawn."""
+    """Whether what is left of a violation is reduced to itself, is judged as it is told, and is one of the program that is left."""
     text = reduction(recording, verdict)
     source, rest = text.split("\n\n", 2)[1:]
     line, told = rest.split("\n", 1)
     _, again = answer(program, ["reduce", "-"], line)
-    return again.split("\n\n", 1)[1] == text.split("\n\n", 1)[1] and answer(program, ["judge", "-"], line) == (2, told)
+    with tempfile.NamedTemporaryFile("w") as file:
+        file.write(source + "\n")
+        file.flush()
+        ours = [answer(program, [it, "-", "--program", file.name], line)[0] for it in ("reduce", "explain", "draw")]
+    return again.split("\n\n", 1)[1] == text.split("\n\n", 1)[1] and answer(program, ["judge", "-"], line) == (2, told) and ours == [2, 2, 2]
 
 
 def of_recordings(program, seed, least):
