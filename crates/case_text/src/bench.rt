@@ -52,6 +52,10 @@ impl<'a> Place for Bench<'a> {
     fn progress(&self, _trials: usize) -> OpenGate {
         OpenGate
     }
+
+    fn explain(&mut self, meaning: String) {
+        drop(meaning);
+    }
 }
 
 /// The words of a command line without quotes.

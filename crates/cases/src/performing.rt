@@ -40,7 +40,7 @@ fn perform_on<R: Threads + Wait + Sync>(
     words: &[String],
     text: &[u8],
 ) -> Result<Printed, AllocError> {
-    let disk = Disk { rt };
+    let disk = Disk::new(rt);
     let mut place = Bench { disk, text };
     let mut out = Vec::new(rt.alloc());
     match perform(threads, rt.alloc(), words, &mut place, &mut out) {

@@ -10,7 +10,8 @@ use Rattle.command_line.proofs.Taken.{command_is_whole}
 use Rattle.clap.specs.declared.error.Error.{Error}
 use Rattle.clap.specs.declared.error.kind.ErrorKind.TheVariants as kinds
 use Rattle.command_line.specs.declared.options.OptionFault.{OptionFault}
-use Rattle.command_line.specs.declared.options.OptionFault.TheVariants.{Clap, Refused, OutOfMemory}
+use Rattle.command_line.specs.declared.options.OptionFault.TheVariants.{Clap, RefusalMeanings, StandardInputTwice, Refused}
+use Rattle.command_line.specs.declared.options.OptionFault.TheVariants.{OutOfMemory}
 use Rattle.command_line.specs.Commands.{program_app}
 use Rattle.command_line.specs.Options.{IsFault, IsSaid, AreTaken}
 
@@ -37,6 +38,8 @@ said_fault e (Clap x) words passes found said = (
       (λ (y : Error). IsAmong (kind_of y) (fault_of program_app words)) (sym said.0)
       (among e words said.1 found),
 )
+said_fault e RefusalMeanings words passes found said = absurd said
+said_fault e StandardInputTwice words passes found said = absurd said
 said_fault e (Refused refusal) words passes found said = absurd said
 said_fault e OutOfMemory words passes found said = tt
 

@@ -1,6 +1,7 @@
 -- The commands, what each takes, and what clap reads of words by them.
-use Rattle.std.specs.Prelude.{◌≡◌, IfOk, List, [], ◌∷◌, Option, Result, Some, codes, false, fold, map}
+use Rattle.std.specs.Prelude.{◌≡◌, ◌&&◌, Bool, IfOk, List, [], ◌∷◌, Option, Result, Some, codes, false, fold, map}
 use Rattle.std.specs.Prelude.{true}
+use Rattle.std.specs.Str.{bytes_eq}
 use Rattle.clap.specs.Words.{App, Row, Rule, Text, app_of, fault_of, new_app, new_rule}
 use Rattle.clap.specs.Words.{subcommand_of, with_subcommand}
 use Rattle.clap.specs.declared.builder.command.Command.{Command}
@@ -63,7 +64,11 @@ command_app c =
 abbrev pub bare_app : App
 bare_app =
     let app = new_app (codes "tsotest") in
-    record app { top = record app.top { no_binary_name = true; subcommand_required = true } }
+    record app { top = record app.top {
+      no_binary_name = true;
+      subcommand_required = true;
+      has_version = true;
+    } }
 
 -- the program with these commands
 abbrev pub with_commands : List (Text × List (Text × Takes)) → App
@@ -72,6 +77,11 @@ with_commands = fold (λ app c. with_subcommand app (command_app c).top) bare_ap
 -- the program with its commands; its name is not among the words
 abbrev pub program_app : App
 program_app = with_commands commands
+
+-- the words ask what refusals mean
+abbrev pub asks_of_refusals : List Text → Bool
+asks_of_refusals (first ∷ second ∷ []) = bytes_eq first (codes "help") && bytes_eq second (codes "refusals")
+asks_of_refusals words = false
 
 -- clap finds no fault in the words
 abbrev pub AreFaultless : List Text → Type 0

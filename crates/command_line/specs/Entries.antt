@@ -1,5 +1,5 @@
 -- What the entries of a command ask for: each option is its entry, or else its default.
-use Rattle.std.specs.Prelude.{◌≡◌, ◌≢◌, ◌&&◌, ℕ, Bool, List, Option, Some, None, IfSome, codes}
+use Rattle.std.specs.Prelude.{◌≡◌, ◌≢◌, ◌&&◌, ◌||◌, ℕ, Bool, List, Option, Some, None, IfSome, codes}
 use Rattle.std.specs.Prelude.{[], ◌∷◌, ⊤, false, find, option_map, true, unwrap_or}
 use Rattle.std.specs.Option.{option_map_or}
 use Rattle.std.specs.List.{list_any}
@@ -62,6 +62,16 @@ fault_or default (Some name) = fault_named name
 -- --fault; none where its text is no fault's name
 abbrev pub machine_fault_of : List Row → Option Fault
 machine_fault_of rows = fault_or DEFAULT_FAULT (first_of (codes "fault") rows)
+
+-- an input is standard input
+abbrev pub is_standard_input : Text → List Row → Bool
+is_standard_input id rows = option_map_or (λ name. bytes_eq name (codes "-")) (first_of id rows) false
+
+-- two inputs are
+abbrev pub names_standard_input_twice : List Row → Bool
+names_standard_input_twice rows =
+    (is_standard_input (codes "PROGRAM") rows && is_standard_input (codes "steps") rows)
+    || (is_standard_input (codes "FILE") rows && is_standard_input (codes "program") rows)
 
 -- the entry, where there is one, is a number of 64 bits
 abbrev pub HasNumber : Text → List Row → Type 0

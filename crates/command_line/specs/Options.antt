@@ -1,5 +1,5 @@
 -- The options that the words ask for.
-use Rattle.std.specs.Prelude.{◌≡◌, ◌≢◌, ◌≤◌, ◌<◌, ℕ, List, Option, Some, None, IfSome, Ok, false, ⊤, codes}
+use Rattle.std.specs.Prelude.{◌≡◌, ◌≢◌, ◌≤◌, ◌<◌, ℕ, List, Option, Some, None, IfSome, Ok, false, ⊤, codes, true}
 use Rattle.std.specs.Prelude.{IsSomeAnd, option_map, string_bytes}
 use Rattle.clap.specs.Takes.{is_given}
 use Rattle.clap.specs.Words.{IsAmong, Row, Text, fault_of, first_of, kind_of, takes}
@@ -16,12 +16,13 @@ use Rattle.command_line.specs.declared.options.FileOptions.{FileOptions}
 use Rattle.command_line.specs.declared.options.DrawOptions.{DrawOptions}
 use Rattle.command_line.specs.declared.options.ExplainOptions.{ExplainOptions}
 use Rattle.command_line.specs.declared.options.OptionFault.{OptionFault}
-use Rattle.command_line.specs.declared.options.OptionFault.TheVariants.{Clap, Refused, OutOfMemory}
+use Rattle.command_line.specs.declared.options.OptionFault.TheVariants.{Clap, RefusalMeanings, StandardInputTwice, Refused}
+use Rattle.command_line.specs.declared.options.OptionFault.TheVariants.{OutOfMemory}
 use Rattle.command_line.specs.declared.options.TheConstants.{ATTEMPTS, BUFFER, DEFAULT_SEED, LIMIT, TRIALS}
 use Rattle.command_line.specs.declared.options.TheConstants.{WORKERS}
 use Rattle.command_line.specs.declared.values.Values.{Values}
-use Rattle.command_line.specs.Commands.{AreFaultless, command_of, program_app}
-use Rattle.command_line.specs.Entries.{HasEntries, machine_fault_of, number_of, number_or, show_of}
+use Rattle.command_line.specs.Commands.{AreFaultless, asks_of_refusals, command_of, program_app}
+use Rattle.command_line.specs.Entries.{HasEntries, machine_fault_of, names_standard_input_twice, number_of, number_or, show_of}
 use Rattle.clap.specs.Words.{one_of, subcommand_rows_of}
 use Rattle.clap.specs.declared.parser.matches.ArgMatches.{ArgMatches}
 use Rattle.command_line.specs.Refusals.{refusal_of, shape_asked}
@@ -115,20 +116,29 @@ AreOptionsOf (Explain o) name rows = (name ≡ codes "explain") × AreExplainOpt
 AreOptionsOf (Draw o) name rows = (name ≡ codes "draw") × AreDrawOptions o rows
 AreOptionsOf (Reduce o) name rows = (name ≡ codes "reduce") × AreExplainOptions o rows
 
--- the options are those of the command that was read; no entry is refused
+-- the options are those of the command that was read, whose inputs are not both standard input; no entry is refused
 abbrev pub AreOptions : Options → Option (Text × List Row) → Type 0
 AreOptions o None = ⊥
-AreOptions o (Some command) = (refusal_of command.1 ≡ None) × AreOptionsOf o command.0 command.1
+AreOptions o (Some command) = (names_standard_input_twice command.1 ≡ false) × (refusal_of command.1 ≡ None)
+    × AreOptionsOf o command.0 command.1
 
--- why the command that was read gives no options: its entries' first refusal, or want of memory
+-- why the entries of the command that was read give no options: standard input is named twice, or else their first refusal
+abbrev pub IsEntryFault : OptionFault → List Row → Type 0
+IsEntryFault StandardInputTwice rows = names_standard_input_twice rows ≡ true
+IsEntryFault (Refused refusal) rows = (names_standard_input_twice rows ≡ false) × (refusal_of rows ≡ Some refusal)
+IsEntryFault other rows = ⊥
+
+-- why the command that was read gives no options: its entries, or want of memory
 abbrev pub IsCommandFault : OptionFault → Option (Text × List Row) → Type 0
-IsCommandFault (Clap error) command = ⊥
-IsCommandFault (Refused refusal) None = ⊥
-IsCommandFault (Refused refusal) (Some command) = refusal_of command.1 ≡ Some refusal
 IsCommandFault OutOfMemory command = ⊤
+IsCommandFault fault None = ⊥
+IsCommandFault fault (Some command) = IsEntryFault fault command.1
 
--- why the words give no options: clap finds a fault in them, or takes them and their entries are refused
+-- why the words give no options: they ask what refusals mean, clap finds a fault in them, or it takes them and their
+-- entries give none
 abbrev pub IsFault : OptionFault → List Text → Type 0
+IsFault RefusalMeanings words = asks_of_refusals words ≡ true
+IsFault StandardInputTwice words = AreFaultless words × IsCommandFault StandardInputTwice (command_of words)
 IsFault (Clap error) words = (takes program_app words ≡ false)
     × IsAmong (kind_of error) (fault_of program_app words)
 IsFault (Refused refusal) words = AreFaultless words × IsCommandFault (Refused refusal) (command_of words)
@@ -137,8 +147,8 @@ IsFault OutOfMemory words = ⊤
 -- what clap's error is as a fault of the options
 abbrev pub IsSaid : Error → OptionFault → Type 0
 IsSaid e (Clap error) = (error ≡ e) × (kind_of e ≢ kinds.OutOfMemory)
-IsSaid e (Refused refusal) = ⊥
 IsSaid e OutOfMemory = kind_of e ≡ kinds.OutOfMemory
+IsSaid e other = ⊥
 
 -- clap takes the words, and m has the command that it reads of them, which has the entries that it requires
 pub record AreTaken (words : List Text) (m : ArgMatches) : Type 0 where

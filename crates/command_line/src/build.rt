@@ -10,6 +10,9 @@ use crate::table::{ArgumentRow, COMMANDS, CommandRow, Takes};
 use clap::{Arg, ArgAction, Command};
 use std::alloc::{AllocError, Global};
 
+/// The version of the program.
+const VERSION: &str = "0.9.0";
+
 /// An argument or an option.
 fn arg<'a>(alloc: Global, row: &ArgumentRow) -> Arg<'a>
     ensures rule { rule_of result ≡ rule_by row.now.takes row.now.name.now }
@@ -59,6 +62,7 @@ fn bare<'a>(alloc: Global) -> Result<Command<'a>, AllocError>
     Ok(
         command
             .no_binary_name(true)
+            .version(VERSION)
             .about(PROGRAM.about)
             .after_help(PROGRAM.statuses)
             .subcommand_required(true),

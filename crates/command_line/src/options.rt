@@ -179,6 +179,10 @@ pub enum OptionRefusal {
 pub enum OptionFault {
     /// What `clap` says: a fault of the command line, or the help that was asked for.
     Clap(clap::Error),
+    /// The words ask what refusals mean.
+    RefusalMeanings,
+    /// `clap` takes the words, and `-` stands for two inputs.
+    StandardInputTwice,
     /// `clap` takes the words, and this is the first refusal of their entries.
     Refused(OptionRefusal),
     /// There is no memory.

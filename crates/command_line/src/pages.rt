@@ -19,7 +19,8 @@ pub const PROGRAM: Page = Page {
   0  TSO allows the recording; of `trials`, every recording
   1  a fault of the command line, a file, memory or a thread, as standard error says
   2  the recording is a violation of TSO; of `trials`, at least one is
-  3  a text, a number or a name was refused, as the line `refused: ..` says
+  3  a text, a number or a name was refused, as the line `refused: ..` says, and
+     `tsotest help refusals` what it means
   4  the run is unfinished; of `trials`, at least one is, and none is a violation
 
 Examples:

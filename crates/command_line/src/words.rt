@@ -1,11 +1,12 @@
 //! The words of a command line.
-ghost use Rattle.std.specs.Prelude.{◌≡◌, IfErr, IfOk, IsSomeAnd, map, option_map, string_bytes};
+ghost use Rattle.std.specs.Prelude.{◌≡◌, Err, IfErr, IfOk, IsSomeAnd, map, option_map, string_bytes, true};
 ghost use Rattle.clap.specs.Words.{app_of, found_of, rows_of, subcommand_rows_of};
-ghost use Rattle.command_line.specs.Commands.{AreFaultless, command_of, program_app};
+ghost use Rattle.command_line.specs.Commands.{AreFaultless, asks_of_refusals, command_of, program_app};
 ghost use Rattle.command_line.specs.Entries.{HasEntries};
 ghost use Rattle.command_line.specs.Options.{AreOptions, IsCommandFault, IsFault, AreTaken};
 
 use crate::build::command;
+use crate::entries::names_standard_input_twice;
 use crate::named::named_options;
 use crate::options::{OptionFault, Options};
 use crate::values::read_values;
@@ -37,8 +38,21 @@ fn command_options(alloc: Global, matches: &ArgMatches<'_>) -> Result<Options, O
     let Some((name, entries)) = entered(matches) else {
         unreachable!()
     };
+    if names_standard_input_twice(entries) {
+        return Err(OptionFault::StandardInputTwice);
+    }
     let values = read_values(entries)?;
     Ok(named_options(alloc, name, entries, &values)?)
+}
+
+/// Whether the words ask what refusals mean.
+fn asks_of_refusals(words: &[String]) -> bool
+    ensures { result ≡ asks_of_refusals (map string_bytes words.now) }
+{
+    match words {
+        [first, second] => first == "help" && second == "refusals",
+        _ => false,
+    }
 }
 
 /// The options that the words ask for. They come without the program's name.
@@ -46,7 +60,11 @@ pub fn options(alloc: Global, words: &[String]) -> Result<Options, OptionFault>
     ensures ok { IfOk result (λ o. AreOptions o (command_of (map string_bytes words.now))) }
     ensures err { IfErr result (λ fault. IsFault fault (map string_bytes words.now)) }
     ensures taken { IfOk result (λ _. AreFaultless (map string_bytes words.now)) }
+    ensures meanings { asks_of_refusals (map string_bytes words.now) ≡ true → result ≡ Err OptionFault.RefusalMeanings }
 {
+    if asks_of_refusals(words) {
+        return Err(OptionFault::RefusalMeanings);
+    }
     let matches = read(command(alloc)?, words)?;
     command_options(alloc, &matches)
 }

@@ -19,13 +19,13 @@ use Rattle.commands.specs.Run.{IsRun, IsRunBy}
 pub trials_rows : (o : TrialsOptions) (command : Option (Text × List Row)) → AreOptions (Trials o) command
     → (rows : List Row) × AreTrialsOptions o rows
 trials_rows o None are = absurd are
-trials_rows o (Some command) are = (command.1, are.1.1)
+trials_rows o (Some command) are = (command.1, are.1.1.1)
 
 -- options of judge ask for workers within the limits
 pub judge_workers : (o : JudgeOptions) (command : Option (Text × List Row)) → AreOptions (Judge o) command
     → (1 ≤ o.workers) × (o.workers ≤ MAX_WORKERS)
 judge_workers o None are = absurd are
-judge_workers o (Some command) are = (are.1.1.workers.least, are.1.1.workers.most)
+judge_workers o (Some command) are = (are.1.1.1.workers.least, are.1.1.1.workers.most)
 
 -- without a script the run is a random one
 pub seeded_run : (inputs : List ℕ → Option (List ℕ)) (o : RunOptions) (text : List ℕ) (program : Parts)

@@ -21,6 +21,6 @@ pub replay_stop : (inputs : List ℕ → Option (List ℕ)) (o : FileOptions) (b
     (r : Result Answer Stop) → AreBytesOf inputs (string_bytes o.file) bytes
     → IfErr r (IsUnreplayed bytes) → IfErr r (IsReplayStop inputs o)
 replay_stop inputs o bytes (Ok answer) given is = tt
-replay_stop inputs o bytes (Err (Refused line)) given is = (bytes, given, is)
+replay_stop inputs o bytes (Err (Refused refusal)) given is = (bytes, given, is)
 replay_stop inputs o bytes (Err (Fault fault)) given (inl unread) = rw unread.2 tt
 replay_stop inputs o bytes (Err (Fault fault)) given (inr unnumbered) = rw unnumbered.stopped tt

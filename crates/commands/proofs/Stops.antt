@@ -20,7 +20,7 @@ pub judge_stop : (inputs : List ℕ → Option (List ℕ)) (o : JudgeOptions) (b
     (r : Result Answer Stop) → AreBytesOf inputs (string_bytes o.file) bytes
     → IfErr r (IsUnread bytes) → IfErr r (IsJudgeStop inputs o)
 judge_stop inputs o bytes (Ok answer) given is = tt
-judge_stop inputs o bytes (Err (Refused line)) given is = (bytes, given, is)
+judge_stop inputs o bytes (Err (Refused refusal)) given is = (bytes, given, is)
 judge_stop inputs o bytes (Err (Fault fault)) given is = rw is.2 tt
 
 -- so there is nothing to be explained
@@ -28,7 +28,7 @@ pub telling_stop : (inputs : List ℕ → Option (List ℕ)) (o : ExplainOptions
     (r : Result Answer Stop) (stop : Stop) → AreBytesOf inputs (string_bytes o.file) bytes
     → IsErrAnd r (λ s. s ≡ stop) → IsUnread bytes stop → IfErr r (IsTellingStop inputs o)
 telling_stop inputs o bytes (Ok answer) stop given same is = tt
-telling_stop inputs o bytes (Err s) (Refused line) given same is = rw same (inl (bytes, given, is))
+telling_stop inputs o bytes (Err s) (Refused refusal) given same is = rw same (inl (bytes, given, is))
 telling_stop inputs o bytes (Err s) (Fault fault) given same is = rw same (inl (rw is.2 tt))
 
 -- threads left no machine of a program that is read

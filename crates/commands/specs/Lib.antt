@@ -1,5 +1,6 @@
 pub mod Judge
 pub mod Program
+pub mod Recording
 pub mod Replay
 pub mod Perform
 pub mod Refusal

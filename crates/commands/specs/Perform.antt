@@ -27,7 +27,8 @@ use Rattle.command_line.specs.Commands.{command_of}
 use Rattle.command_line.specs.declared.options.LiveOptions.{LiveOptions}
 use Rattle.command_line.specs.declared.options.RunOptions.{RunOptions}
 use Rattle.inputs.specs.Inputs.{AreBytesOf, IsInputFault}
-use Rattle.commands.specs.Judge.{IsJudgedInput, IsJudgeStop}
+use Rattle.commands.specs.Judge.{IsJudgedInput}
+use Rattle.commands.specs.Recording.{IsRecordingStop}
 use Rattle.commands.specs.Replay.{IsReplayedInput, IsReplayStop}
 use Rattle.commands.specs.Tell.{IsTold, IsTellingStop}
 use Rattle.commands.specs.Program.{IsProgramRead, IsProgramRefused, IsProgramStop}
@@ -38,8 +39,8 @@ use Rattle.commands.specs.Trials.{IsTrials}
 
 -- the script of this name is refused for the program, or isn't read
 abbrev pub IsScriptStop : (List ℕ → Option (List ℕ)) → Parts → List ℕ → Stop → Type 0
-IsScriptStop inputs program name (Refused line) = (text : List ℕ) × AreBytesOf inputs name text
-    × IsReadingStop step_fault_name (steps_of program text) (Refused line)
+IsScriptStop inputs program name (Refused refusal) = (text : List ℕ) × AreBytesOf inputs name text
+    × IsReadingStop step_fault_name (steps_of program text) (Refused refusal)
 IsScriptStop inputs program name (Fault fault) = IsInputFault inputs name fault
 
 -- the script of this name stops the named program, which is read
@@ -71,7 +72,7 @@ thread_fault other = fault.OutOfMemory
 -- a line of refusal is that of the named program; a fault is one of reading it, or, where it is read, of
 -- threads
 abbrev pub IsLiveStop : (List ℕ → Option (List ℕ)) → LiveOptions → Stop → Type 0
-IsLiveStop inputs o (Refused line) = IsProgramRefused inputs (string_bytes o.program) (Refused line)
+IsLiveStop inputs o (Refused refusal) = IsProgramRefused inputs (string_bytes o.program) (Refused refusal)
 IsLiveStop inputs o (Fault NoThread) = IsProgramRead inputs (string_bytes o.program)
 IsLiveStop inputs o (Fault Stranger) = IsProgramRead inputs (string_bytes o.program)
 IsLiveStop inputs o (Fault fault) = IsInputFault inputs (string_bytes o.program) fault
@@ -90,7 +91,7 @@ IsAnswerTo inputs (Reduce o) answer = IsTold inputs Reduction o answer
 -- why a command with these options and inputs stops
 abbrev pub IsCommandStop : (List ℕ → Option (List ℕ)) → Options → Stop → Type 0
 IsCommandStop inputs (Run o) stop = IsRunStop inputs o stop
-IsCommandStop inputs (Judge o) stop = IsJudgeStop inputs o stop
+IsCommandStop inputs (Judge o) stop = IsRecordingStop inputs (string_bytes o.file) stop
 IsCommandStop inputs (Trials o) stop = stop ≡ Fault fault.OutOfMemory
 IsCommandStop inputs (Live o) stop = IsLiveStop inputs o stop
 IsCommandStop inputs (Replay o) stop = IsReplayStop inputs o stop
@@ -105,15 +106,18 @@ IsMistake error = (kind_of error ≢ DisplayHelp) × (kind_of error ≢ DisplayV
 -- without options the status is that of help, which was asked for; its text no clause says
 abbrev pub IsHelp : OptionFault → Answer → Type 0
 IsHelp (Clap error) answer = (answer.status ≡ DONE) × (IsMistake error → ⊥)
+IsHelp refused.RefusalMeanings answer = answer.status ≡ DONE
+IsHelp refused.StandardInputTwice answer = ⊥
 IsHelp (refused.Refused refusal) answer = ⊥
 IsHelp OutOfMemory answer = ⊥
 
--- without options a line of refusal is that of the options, and a fault is what clap says
+-- without options a line of refusal is that of the options, and a fault is what clap says, or standard input that is
+-- named twice
 abbrev pub IsOptionStop : OptionFault → Stop → Type 0
-IsOptionStop (Clap error) (Refused line) = ⊥
-IsOptionStop (refused.Refused refusal) (Refused line) = string_bytes line ≡ option_line refusal
-IsOptionStop OutOfMemory (Refused line) = ⊥
+IsOptionStop (refused.Refused refusal) (Refused printed) = string_bytes printed.line ≡ option_line refusal
+IsOptionStop other (Refused printed) = ⊥
 IsOptionStop (Clap error) (Fault (CommandLine said)) = (said ≡ error) × IsMistake error
+IsOptionStop refused.StandardInputTwice (Fault fault.StandardInputTwice) = ⊤
 IsOptionStop other (Fault fault.OutOfMemory) = ⊤
 IsOptionStop other (Fault fault) = ⊥
 
@@ -130,7 +134,7 @@ IsStop inputs words stop = ((o : Options) × AreOptions o (command_of words) × 
 
 -- a line of refusal as it is printed, with its status
 abbrev pub IsLine : Stop → Answer → Type 0
-IsLine (Refused line) answer = (answer.status ≡ REFUSED) × (answer.text.items ≡ string_bytes line)
+IsLine (Refused refusal) answer = (answer.status ≡ REFUSED) × (answer.text.items ≡ string_bytes refusal.line)
 IsLine (Fault fault) answer = ⊥
 
 -- what is printed, with its status: an answer, or a line of refusal

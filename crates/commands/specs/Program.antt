@@ -25,5 +25,5 @@ pub record IsProgramRefused (inputs : List ℕ → Option (List ℕ)) (name : Li
 
 -- the named program is refused or isn't read
 abbrev pub IsProgramStop : (List ℕ → Option (List ℕ)) → List ℕ → Stop → Type 0
-IsProgramStop inputs name (Refused line) = IsProgramRefused inputs name (Refused line)
+IsProgramStop inputs name (Refused refusal) = IsProgramRefused inputs name (Refused refusal)
 IsProgramStop inputs name (Fault fault) = IsInputFault inputs name fault

@@ -39,8 +39,8 @@ refusal_line name k = codes "refused: " ++ name ++ codes " line " ++ decimal k +
 
 -- the stop is that of a text which reads as a fault, or memory is wanting
 abbrev pub IsReadingStop : {X F : Type 0} → (F → List ℕ) → Result X (F × ℕ) → Stop → Type 0
-IsReadingStop name (Ok x) (Refused line) = ⊥
-IsReadingStop name (Err fault) (Refused line) = string_bytes line ≡ refusal_line (name fault.0) fault.1
+IsReadingStop name (Ok x) (Refused refusal) = ⊥
+IsReadingStop name (Err fault) (Refused refusal) = string_bytes refusal.line ≡ refusal_line (name fault.0) fault.1
 IsReadingStop name reading (Fault fault) = fault ≡ OutOfMemory
 
 -- the name of the refusal of a shape or a plan
@@ -66,5 +66,5 @@ option_line refusal = codes "refused: " ++ option_refusal_name refusal ++ 10 ∷
 
 -- the stop is that of a refused recording, or memory is wanting
 abbrev pub IsRefusedAs : RecError → Stop → Type 0
-IsRefusedAs fault (Refused line) = recording_line fault ≡ Some (string_bytes line)
+IsRefusedAs fault (Refused refusal) = recording_line fault ≡ Some (string_bytes refusal.line)
 IsRefusedAs fault (Fault other) = other ≡ OutOfMemory

@@ -4,7 +4,6 @@ use Rattle.command_line.specs.declared.options.FileOptions.{FileOptions}
 use Rattle.litmus.specs.Spelling.{spelling}
 use Rattle.litmus.specs.Text.{reading}
 use Rattle.recorder.specs.Execution.{Execution}
-use Rattle.recording_text.specs.Reading.{IsReadingResult}
 use Rattle.recorder.specs.Tso.{IsTsoOrder}
 use Rattle.machine.specs.Script.{steps_of}
 use Rattle.machine.specs.ScriptText.{script_text}
@@ -16,10 +15,8 @@ use Rattle.replay.specs.Stores.{most_stores}
 use Rattle.judge.specs.Verdict.{IsOrderedVerdict}
 use Rattle.answers.specs.declared.answer.Answer.{Answer}
 use Rattle.inputs.specs.declared.stop.Stop.{Stop}
-use Rattle.inputs.specs.declared.stop.Stop.TheVariants.{Refused, Fault}
 use Rattle.answers.specs.declared.answer.TheConstants.{DONE, VIOLATION}
-use Rattle.inputs.specs.Inputs.{AreBytesOf, IsInputFault}
-use Rattle.commands.specs.Judge.{IsUnread}
+use Rattle.commands.specs.Recording.{IsRecordingAt, IsRecordingStop}
 use Rattle.inputs.specs.Stop.{IsLineStop}
 use Rattle.answers.specs.Verdict.{IsVerdictAnswer}
 
@@ -64,38 +61,22 @@ pub record IsViolationAnswer (x : Execution) (answer : Answer) : Type 0 where
 abbrev pub IsReplayOf : Execution → Answer → Type 0
 IsReplayOf x answer = IsReplayAnswer x answer ⊎ IsViolationAnswer x answer
 
--- the bytes give a recording whose addresses are numbered by first use, and its replay or its
--- violation is answered
-pub record IsReplayed (bytes : List ℕ) (answer : Answer) : Type 0 where
+-- the recording of the named input, whose addresses are numbered by first use, is replayed, or is a violation
+pub record IsReplayedInput (inputs : List ℕ
+    → Option (List ℕ)) (o : FileOptions) (answer : Answer) : Type 0 where
   pub recording : Execution
-  pub read : IsReadingResult bytes (Ok recording)
+  pub at : IsRecordingAt inputs (string_bytes o.file) recording
   pub numbered : IsNumberedByFirstUse recording
   pub answered : IsReplayOf recording answer
 
--- the line of addresses that are not numbered by first use, or memory is wanting
-abbrev pub IsUnnumberedStop : Stop → Type 0
-IsUnnumberedStop stop = IsLineStop (codes "refused: N8" ++ 10 ∷ []) stop
-
--- the bytes give a recording whose addresses are not numbered by first use
-pub record IsUnnumbered (bytes : List ℕ) (stop : Stop) : Type 0 where
+-- the addresses of the recording of the named input are not numbered by first use; memory alone is left open
+pub record IsUnnumbered (inputs : List ℕ → Option (List ℕ)) (name : List ℕ) (stop : Stop) : Type 0 where
   pub recording : Execution
-  pub read : IsReadingResult bytes (Ok recording)
+  pub at : IsRecordingAt inputs name recording
   pub unnumbered : ¬ IsNumberedByFirstUse recording
-  pub stopped : IsUnnumberedStop stop
+  pub stopped : IsLineStop (codes "refused: N8" ++ 10 ∷ []) stop
 
--- the stop is that of the refusal that the bytes have, or that of addresses that are not numbered
-abbrev pub IsUnreplayed : List ℕ → Stop → Type 0
-IsUnreplayed bytes stop = IsUnread bytes stop ⊎ IsUnnumbered bytes stop
-
--- the replay of the named input
-pub record IsReplayedInput (inputs : List ℕ
-    → Option (List ℕ)) (o : FileOptions) (answer : Answer) : Type 0 where
-  pub bytes : List ℕ
-  pub given : AreBytesOf inputs (string_bytes o.file) bytes
-  pub replayed : IsReplayed bytes answer
-
--- a line of refusal is that of the named input; a fault is one of reading it
+-- why the recording of the named input is not replayed
 abbrev pub IsReplayStop : (List ℕ → Option (List ℕ)) → FileOptions → Stop → Type 0
-IsReplayStop inputs o (Refused line) = (bytes : List ℕ) × AreBytesOf inputs (string_bytes o.file) bytes
-    × IsUnreplayed bytes (Refused line)
-IsReplayStop inputs o (Fault fault) = IsInputFault inputs (string_bytes o.file) fault
+IsReplayStop inputs o stop = IsRecordingStop inputs (string_bytes o.file) stop
+    ⊎ IsUnnumbered inputs (string_bytes o.file) stop

@@ -1,10 +1,8 @@
 -- What is told of a recording.
-use Rattle.std.specs.Prelude.{◌≡◌, ◌⊎◌, ◌++◌, ◌∷◌, [], ℕ, List, Option, Some, None, Ok, codes}
+use Rattle.std.specs.Prelude.{◌≡◌, ◌⊎◌, ◌++◌, ◌∷◌, [], ℕ, List, Option, Some, None, codes}
 use Rattle.std.specs.Prelude.{option_map, string_bytes}
 use Rattle.litmus.specs.Parts.{Parts}
-use Rattle.litmus.specs.Text.{reading}
 use Rattle.recorder.specs.Execution.{Execution}
-use Rattle.recording_text.specs.Reading.{IsReadingResult}
 use Rattle.machine.specs.ProgramOf.{IsProgramOf}
 use Rattle.command_line.specs.declared.options.ExplainOptions.{ExplainOptions}
 use Rattle.answers.specs.declared.answer.Answer.{Answer}
@@ -13,9 +11,8 @@ use Rattle.answers.specs.Told.{IsToldAnswer}
 use Rattle.inputs.specs.declared.stop.Stop.{Stop}
 use Rattle.inputs.specs.declared.stop.Stop.TheVariants.{Fault}
 use Rattle.inputs.specs.declared.fault.CommandFault.TheVariants.{OutOfMemory}
-use Rattle.inputs.specs.Inputs.{AreBytesOf}
-use Rattle.commands.specs.Judge.{IsRecordingStop}
 use Rattle.commands.specs.Program.{IsProgramAt, IsProgramStop}
+use Rattle.commands.specs.Recording.{IsRecordingAt, IsRecordingStop}
 use Rattle.inputs.specs.Stop.{IsLineStop}
 
 -- the input of this name is the text of a program, of which the recording is one
@@ -40,25 +37,17 @@ pub record IsToldBy (inputs : List ℕ → Option (List ℕ)) (telling : Telling
 -- what is told of the recording of the named input
 pub record IsTold (inputs : List ℕ → Option (List ℕ)) (telling : Telling) (o : ExplainOptions)
     (answer : Answer) : Type 0 where
-  pub bytes : List ℕ
-  pub given : AreBytesOf inputs (string_bytes o.file) bytes
   pub recording : Execution
-  pub read : IsReadingResult bytes (Ok recording)
+  pub at : IsRecordingAt inputs (string_bytes o.file) recording
   pub told : IsToldBy inputs telling recording (option_map string_bytes o.program) answer
 
--- the line of a program of which the recording is none, or memory is wanting
-abbrev pub IsOtherStop : Stop → Type 0
-IsOtherStop stop = IsLineStop (codes "refused: N9" ++ 10 ∷ []) stop
-
--- the recording is none of the program of this name
+-- the recording is none of the program of this name; memory alone is left open
 pub record IsOther (inputs : List ℕ → Option (List ℕ)) (x : Execution) (name : List ℕ) (stop : Stop)
     : Type 0 where
-  pub text : List ℕ
-  pub given : AreBytesOf inputs name text
   pub program : Parts
-  pub read : reading text ≡ Ok program
+  pub at : IsProgramAt inputs name program
   pub other : ¬ IsProgramOf program x
-  pub stopped : IsOtherStop stop
+  pub stopped : IsLineStop (codes "refused: N9" ++ 10 ∷ []) stop
 
 -- why the verdict on a recording that is read is not told: its program is refused or isn't read, or is another one
 abbrev pub IsNamesStop : (List ℕ → Option (List ℕ)) → Execution → Option (List ℕ) → Stop → Type 0
@@ -68,10 +57,8 @@ IsNamesStop inputs x None stop = stop ≡ Fault OutOfMemory
 -- the recording of the named input is read, and stops because of its program
 pub record IsStoppedByNames (inputs : List ℕ → Option (List ℕ)) (o : ExplainOptions) (stop : Stop)
     : Type 0 where
-  pub bytes : List ℕ
-  pub given : AreBytesOf inputs (string_bytes o.file) bytes
   pub recording : Execution
-  pub read : IsReadingResult bytes (Ok recording)
+  pub at : IsRecordingAt inputs (string_bytes o.file) recording
   pub stops : IsNamesStop inputs recording (option_map string_bytes o.program) stop
 
 -- why no verdict is told: the recording is not read, and then no program is opened, or its program

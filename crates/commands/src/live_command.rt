@@ -4,7 +4,7 @@ ghost use Rattle.live.specs.Driven.{IsDriveError};
 ghost use Rattle.commands.specs.Perform.{IsLiveStop, thread_fault};
 ghost use Rattle.commands.specs.Run.{IsLive};
 
-use crate::run_command::program_at;
+use crate::named::program_at;
 use answers::{Answer, finished};
 use command_line::LiveOptions;
 use common::OpenGate;

@@ -10,7 +10,8 @@ ghost use Rattle.commands.specs.Perform.{IsPrinted, IsOptionStop, IsStop};
 
 use crate::judge_command::judge_command;
 use crate::live_command::live_command;
-use crate::refusal::option_line;
+use crate::meanings::{REFUSAL_MEANINGS, explained};
+use crate::refusal::option_refusal;
 use crate::replay_command::replay_command;
 use crate::run_command::run_command;
 use crate::tell_command::tell_command;
@@ -20,7 +21,7 @@ use command_line::words::options;
 use command_line::{OptionFault, Options};
 use inputs::fault::CommandFault;
 use inputs::place::Place;
-use inputs::stop::Stop;
+use inputs::stop::{Refusal, Stop};
 use std::alloc::Global;
 use std::io;
 use std::io::Write;
@@ -43,7 +44,12 @@ fn without_options(alloc: Global, fault: OptionFault) -> Result<Answer, Stop>
                 text: text.into_bytes(),
             })
         }
-        OptionFault::Refused(refusal) => Err(Stop::Refused(option_line(alloc, refusal)?)),
+        OptionFault::RefusalMeanings => Ok(Answer {
+            status: DONE,
+            text: String::from_str(alloc, REFUSAL_MEANINGS)?.into_bytes(),
+        }),
+        OptionFault::StandardInputTwice => Err(Stop::Fault(CommandFault::StandardInputTwice)),
+        OptionFault::Refused(refusal) => Err(Stop::Refused(option_refusal(alloc, refusal)?)),
         OptionFault::OutOfMemory => Err(Stop::Fault(CommandFault::OutOfMemory)),
     }
 }
@@ -90,7 +96,7 @@ fn answered<R: Threads + Wait + Sync, P: Place>(
     }
 }
 
-/// The answer, or the line of a refusal.
+/// The answer, or the line of a refusal, whose meaning the place is told.
 fn whole_answer<R: Threads + Wait + Sync, P: Place>(
     rt: &R,
     alloc: Global,
@@ -103,10 +109,16 @@ fn whole_answer<R: Threads + Wait + Sync, P: Place>(
 {
     match answered(rt, alloc, words, place) {
         Ok(answer) => Ok(answer),
-        Err(Stop::Refused(line)) => Ok(Answer {
-            status: REFUSED,
-            text: line.into_bytes(),
-        }),
+        Err(Stop::Refused(refusal)) => {
+            if let Ok(Some(meaning)) = explained(alloc, &refusal) {
+                place.explain(meaning);
+            }
+            let Refusal { line, quote: _ } = refusal;
+            Ok(Answer {
+                status: REFUSED,
+                text: line.into_bytes(),
+            })
+        }
         Err(Stop::Fault(fault)) => Err(fault),
     }
 }

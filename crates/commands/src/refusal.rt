@@ -3,7 +3,9 @@ ghost use Rattle.std.specs.Prelude.{◌≡◌, IfOk, string_bytes};
 ghost use Rattle.commands.specs.Refusal.{line_fault_name, option_line, option_refusal_name};
 ghost use Rattle.commands.specs.Refusal.{refusal_line, shape_error_name, step_fault_name};
 
+use crate::meanings::quoted;
 use command_line::OptionRefusal;
+use inputs::stop::Refusal;
 use litmus::{LineFault, ShapeError};
 use machine::StepFault;
 use std::alloc::{AllocError, Global};
@@ -37,10 +39,25 @@ pub fn step_fault_name(fault: StepFault) -> &'static str
 }
 
 /// The line that is printed for a line of a text, counted from 1.
-pub fn refusal_line(alloc: Global, name: &str, line: usize) -> Result<String, AllocError>
+fn refusal_line(alloc: Global, name: &str, line: usize) -> Result<String, AllocError>
     ensures { IfOk result (λ text. string_bytes text ≡ refusal_line name.now line) }
 {
     format!(in alloc; "refused: {name} line {line}\n")
+}
+
+/// What is printed for a line of a text, counted from 1.
+pub fn line_refusal(
+    alloc: Global,
+    name: &str,
+    line: usize,
+    text: &[u8],
+) -> Result<Refusal, AllocError>
+    ensures { IfOk result (λ refusal. string_bytes refusal.line ≡ refusal_line name.now line) }
+{
+    Ok(Refusal {
+        line: refusal_line(alloc, name, line)?,
+        quote: Some(quoted(alloc, text, line)?),
+    })
 }
 
 /// What is printed for a refusal of a shape or a plan.
@@ -71,9 +88,17 @@ fn option_refusal_name(refusal: OptionRefusal) -> &'static str
 }
 
 /// The line that is printed for refused options.
-pub fn option_line(alloc: Global, refusal: OptionRefusal) -> Result<String, AllocError>
+fn option_line(alloc: Global, refusal: OptionRefusal) -> Result<String, AllocError>
     ensures { IfOk result (λ text. string_bytes text ≡ option_line refusal) }
 {
     let name = option_refusal_name(refusal);
     format!(in alloc; "refused: {name}\n")
+}
+
+/// What is printed for refused options.
+pub fn option_refusal(alloc: Global, refusal: OptionRefusal) -> Result<Refusal, AllocError>
+    ensures { IfOk result (λ printed. string_bytes printed.line ≡ option_line refusal) }
+{
+    let line = option_line(alloc, refusal)?;
+    Ok(Refusal { line, quote: None })
 }

@@ -6,26 +6,23 @@ ghost use Rattle.litmus.specs.Spelling.{spelling};
 ghost use Rattle.litmus.specs.Text.{reading};
 ghost use Rattle.machine.specs.Script.{IsStepOf, steps_of};
 ghost use Rattle.machine.specs.ScriptText.{script_text};
-ghost use Rattle.recording_text.specs.Reading.{IsReadingResult};
 ghost use Rattle.judge.specs.Verdict.{IsVerdict, Verifies};
 ghost use Rattle.recorder.specs.Tso.{IsTsoOrder};
 ghost use Rattle.recorder.specs.FirstUse.{IsNumberedByFirstUse};
-ghost use Rattle.commands.specs.Replay.{IsReadBack, IsReplayed, IsReplayedInput, IsReplayOf, IsReplayStop};
-ghost use Rattle.commands.specs.Replay.{IsUnreplayed, ReplaysOrder, parts_text, replay_text};
+ghost use Rattle.commands.specs.Replay.{IsReadBack, IsReplayedInput, IsReplayOf, IsReplayStop, ReplaysOrder};
+ghost use Rattle.commands.specs.Replay.{parts_text, replay_text};
 
-use crate::judge_command::unread;
+use crate::named::recording_at;
 use answers::{Answer, DONE, verdict_behind};
 use command_line::FileOptions;
 use common::{EventId, OutOfMemory};
 use inputs::place::Place;
-use inputs::reading::text_at;
 use inputs::stop::Stop;
 use judge::{Verdict, judge_alone};
 use litmus::{Program, has_one_text};
 use litmus_text::print;
 use machine::{Step, steps_text};
 use recorder::Recording;
-use recording_text::read_recording;
 use replay::{is_numbered, most_stores, replay_steps};
 use std::alloc::{AllocError, Global};
 
@@ -119,35 +116,7 @@ fn replay(alloc: Global, recording: &Recording) -> Result<Answer, OutOfMemory>
     replay_of(alloc, recording, &verdict)
 }
 
-/// The recording that the bytes are, whose addresses are numbered by first use, or the line of their refusal.
-fn numbered(alloc: Global, bytes: &[u8]) -> Result<Recording, Stop>
-    ensures read { IfOk result (λ recording. IsReadingResult bytes.now (Ok recording)) }
-    ensures numbered { IfOk result (λ recording. IsNumberedByFirstUse recording) }
-    ensures err { IfErr result (IsUnreplayed bytes.now) }
-{
-    match read_recording(alloc, bytes) {
-        Ok(recording) => {
-            if is_numbered(&recording) {
-                Ok(recording)
-            } else {
-                Err(Stop::of_line(alloc, "refused: N8\n"))
-            }
-        }
-        Err(refusal) => Err(unread(alloc, refusal)?),
-    }
-}
-
-/// The replay of the recording that the bytes are, or the verdict on it where it is a violation, or
-/// the line of their refusal.
-fn replayed(alloc: Global, bytes: &[u8]) -> Result<Answer, Stop>
-    ensures ok { IfOk result (IsReplayed bytes.now) }
-    ensures err { IfErr result (IsUnreplayed bytes.now) }
-{
-    let recording = numbered(alloc, bytes)?;
-    Ok(replay(alloc, &recording)?)
-}
-
-/// Replays the recording of a named input.
+/// Replays the recording of a named input, whose addresses have to be numbered by first use.
 pub fn replay_command<P: Place>(
     alloc: Global,
     options: &FileOptions,
@@ -156,6 +125,10 @@ pub fn replay_command<P: Place>(
     ensures ok { IfOk result (IsReplayedInput (P.bytes place.old) options.now) }
     ensures err { IfErr result (IsReplayStop (P.bytes place.old) options.now) }
 {
-    let bytes = text_at(alloc, place, options.file.as_str())?;
-    replayed(alloc, bytes.as_slice())
+    let recording = recording_at(alloc, place, options.file.as_str())?;
+    if is_numbered(&recording) {
+        Ok(replay(alloc, &recording)?)
+    } else {
+        Err(Stop::of_line(alloc, "refused: N8\n"))
+    }
 }

@@ -1,52 +1,24 @@
 //! The command `run`.
 ghost use Rattle.std.specs.Prelude.{◌≡◌, ℕ, List, IfErr, IfOk, Ok};
-ghost use Rattle.litmus.specs.Text.{reading};
 ghost use Rattle.machine.specs.Script.{steps_of};
 ghost use Rattle.inputs.specs.Inputs.{AreBytesOf};
-ghost use Rattle.commands.specs.Program.{IsProgramAt, IsProgramStop};
-ghost use Rattle.commands.specs.Refusal.{IsReadingStop, line_fault_name, step_fault_name};
+ghost use Rattle.commands.specs.Refusal.{IsReadingStop, step_fault_name};
 ghost use Rattle.commands.specs.Perform.{IsRunStop, IsScriptStop};
 ghost use Rattle.commands.specs.Run.{IsRun, IsScriptAnswer};
 
-use crate::refusal::{line_fault_name, refusal_line, step_fault_name};
+use crate::named::program_at;
+use crate::refusal::{line_refusal, step_fault_name};
 use answers::{Answer, script_answer, seeded_answer};
 use command_line::RunOptions;
 use inputs::fault::CommandFault;
 use inputs::place::Place;
 use inputs::reading::text_at;
 use inputs::stop::Stop;
-use litmus::{LitmusError, Program};
-use litmus_text::parse;
+use litmus::Program;
 use machine::{Step, StepsError, parse_steps};
 use std::alloc::Global;
 
-/// The program of a text, or the line that is printed for its first line at fault.
-fn program_of(alloc: Global, text: &[u8]) -> Result<Program, Stop>
-    ensures ok { IfOk result (λ program. reading text.now ≡ Ok program) }
-    ensures err { IfErr result (IsReadingStop line_fault_name (reading text.now)) }
-{
-    match parse(alloc, text) {
-        Ok(program) => Ok(program),
-        Err(LitmusError::OutOfMemory) => Err(Stop::Fault(CommandFault::OutOfMemory)),
-        Err(LitmusError::AtLine(fault, line)) => Err(Stop::Refused(refusal_line(
-            alloc,
-            line_fault_name(fault),
-            line,
-        )?)),
-    }
-}
-
-/// The program of a named input, or why it is not read.
-pub fn program_at<P: Place>(alloc: Global, place: &mut P, name: &str) -> Result<Program, Stop>
-    ensures ok { IfOk result (λ program. IsProgramAt (P.bytes place.old) name.now program) }
-    ensures err { IfErr result (IsProgramStop (P.bytes place.old) name.now) }
-    ensures kept { P.bytes place.new ≡ P.bytes place.old }
-{
-    let text = text_at(alloc, place, name)?;
-    program_of(alloc, text.as_slice())
-}
-
-/// The steps of a script for a program, or the line that is printed for its first line at fault.
+/// The steps of a script for a program, or the refusal of its first line at fault.
 fn steps_of(alloc: Global, text: &[u8], program: &Program) -> Result<Vec<Step>, Stop>
     ensures ok { IfOk result (λ steps. steps_of program.now text.now ≡ Ok steps.items) }
     ensures err { IfErr result (IsReadingStop step_fault_name (steps_of program.now text.now)) }
@@ -54,10 +26,11 @@ fn steps_of(alloc: Global, text: &[u8], program: &Program) -> Result<Vec<Step>, 
     match parse_steps(alloc, text, program) {
         Ok(steps) => Ok(steps),
         Err(StepsError::OutOfMemory) => Err(Stop::Fault(CommandFault::OutOfMemory)),
-        Err(StepsError::AtLine(fault, line)) => Err(Stop::Refused(refusal_line(
+        Err(StepsError::AtLine(fault, line)) => Err(Stop::Refused(line_refusal(
             alloc,
             step_fault_name(fault),
             line,
+            text,
         )?)),
     }
 }

@@ -2,13 +2,11 @@
 ghost use Rattle.std.specs.Prelude.{IfErr, IfOk, Some, option_map, string_bytes};
 ghost use Rattle.commands.specs.Tell.{IsNamesStop, IsOwnProgram, IsTellingStop, IsTold, IsToldBy};
 
-use crate::judge_command::recording_of;
-use crate::run_command::program_at;
+use crate::named::{program_at, recording_at};
 use answers::{Answer, Telling, told_answer};
 use command_line::ExplainOptions;
 use explanation::is_program_of;
 use inputs::place::Place;
-use inputs::reading::text_at;
 use inputs::stop::Stop;
 use litmus::Program;
 use recorder::Recording;
@@ -76,7 +74,6 @@ pub fn tell_command<P: Place>(
     ensures ok { IfOk result (IsTold (P.bytes place.old) telling options.now) }
     ensures err { IfErr result (IsTellingStop (P.bytes place.old) options.now) }
 {
-    let bytes = text_at(alloc, place, options.file.as_str())?;
-    let recording = recording_of(alloc, bytes.as_slice())?;
+    let recording = recording_at(alloc, place, options.file.as_str())?;
     told(alloc, telling, &recording, options, place)
 }

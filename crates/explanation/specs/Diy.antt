@@ -1,7 +1,7 @@
 -- A cycle of loads, stores and fences in the words of the tool diy, and the classic test that has it.
 use Rattle.std.specs.Prelude.{◌≡◌, ◌++◌, ◌∷◌, ◌==◌, ◌+◌, ◌&&◌, [], ℕ, zero, suc, Bool, true, false, not, List}
-use Rattle.std.specs.Prelude.{Option, Some, None, codes, filter, take, drop, length, slice_index}
-use Rattle.std.specs.Prelude.{if◌then◌else◌}
+use Rattle.std.specs.Prelude.{Option, Some, None, codes, filter, find, take, drop, length, option_map}
+use Rattle.std.specs.Prelude.{if◌then◌else◌, slice_index}
 use Rattle.std.specs.List.{flat_map, list_all}
 use Rattle.std.specs.Str.{bytes_eq}
 use Rattle.recorder.specs.declared.event.Event.{Event}
@@ -86,39 +86,42 @@ word s = word_by s.reason s
 unfoldable pub words_from : List Step → ℕ → List ℕ
 words_from steps i = flat_map word (drop i steps) ++ flat_map word (take i steps)
 
--- the classic test that has the cycle of these words, begun at this step
+-- the words of the cycles of classic tests, each with its test
+unfoldable pub classics : List (List ℕ × List ℕ)
+classics =
+    (codes " PodWW Rfe PodRR Fre", codes "MP")
+    ∷ (codes " PodRW Rfe PodRW Rfe", codes "LB")
+    ∷ (codes " PodWW Rfe PodRW Coe", codes "S")
+    ∷ (codes " PodWW Coe PodWW Coe", codes "2+2W")
+    ∷ (codes " MFencedWR Fre MFencedWR Fre", codes "SB+mfences")
+    ∷ (codes " PodWW Coe MFencedWR Fre", codes "R+po+mfence")
+    ∷ (codes " Rfe PodRW Rfe PodRR Fre", codes "WRC")
+    ∷ (codes " Rfe PodRW Rfe PodRW Coe", codes "WWC")
+    ∷ (codes " Rfe PodRR Fre MFencedWR Fre", codes "RWC+po+mfence")
+    ∷ (codes " Rfe PodRW Coe MFencedWR Fre", codes "WRW+WR+po+mfence")
+    ∷ (codes " Rfe PodRW Coe PodWW Coe", codes "WRW+2W")
+    ∷ (codes " Rfe PodRR Fre Rfe PodRR Fre", codes "IRIW")
+    ∷ (codes " Rfe PodRR Fre Rfe PodRW Coe", codes "IRRWIW")
+    ∷ (codes " Rfe PodRW Coe Rfe PodRW Coe", codes "IRWIW")
+    ∷ (codes " PodWW Rfe PodRW Rfe PodRR Fre", codes "ISA2")
+    ∷ (codes " PodWW Rfe PodRR Fre MFencedWR Fre", codes "W+RWC+po+po+mfence")
+    ∷ (codes " MFencedWR Fre MFencedWR Fre MFencedWR Fre", codes "3.SB+mfences")
+    ∷ (codes " PodRW Rfe PodRW Rfe PodRW Rfe", codes "3.LB")
+    ∷ (codes " PodWW Coe PodWW Coe PodWW Coe", codes "3.2W")
+    ∷ (codes " PodWW Rfe PodRW Coe MFencedWR Fre", codes "Z6.0+po+po+mfence")
+    ∷ (codes " PodWW Coe PodWW Rfe PodRW Coe", codes "Z6.1")
+    ∷ (codes " PodWW Rfe PodRW Rfe PodRW Coe", codes "Z6.2")
+    ∷ (codes " PodWW Coe PodWW Rfe PodRR Fre", codes "Z6.3")
+    ∷ (codes " PodWW Coe MFencedWR Fre MFencedWR Fre", codes "Z6.4+po+mfence+mfence")
+    ∷ (codes " PodWW Coe PodWW Coe MFencedWR Fre", codes "Z6.5+po+po+mfence")
+    ∷ (codes " Rfe PosRR Fre", codes "CoRR")
+    ∷ (codes " PosWW Coi", codes "CoWW")
+    ∷ (codes " PosRW Rfi", codes "CoRW")
+    ∷ (codes " Rfe PosRW Coe", codes "CoRW") ∷ []
+
+-- the classic test that has the cycle of these words
 unfoldable pub classic_of : List ℕ → Option (List ℕ)
-classic_of words =
-    if bytes_eq words (codes " PodWW Rfe PodRR Fre") then Some (codes "MP")
-    else (if bytes_eq words (codes " PodRW Rfe PodRW Rfe") then Some (codes "LB")
-    else (if bytes_eq words (codes " PodWW Rfe PodRW Coe") then Some (codes "S")
-    else (if bytes_eq words (codes " PodWW Coe PodWW Coe") then Some (codes "2+2W")
-    else (if bytes_eq words (codes " MFencedWR Fre MFencedWR Fre") then Some (codes "SB+mfences")
-    else (if bytes_eq words (codes " PodWW Coe MFencedWR Fre") then Some (codes "R+po+mfence")
-    else (if bytes_eq words (codes " Rfe PodRW Rfe PodRR Fre") then Some (codes "WRC")
-    else (if bytes_eq words (codes " Rfe PodRW Rfe PodRW Coe") then Some (codes "WWC")
-    else (if bytes_eq words (codes " Rfe PodRR Fre MFencedWR Fre") then Some (codes "RWC+po+mfence")
-    else (if bytes_eq words (codes " Rfe PodRW Coe MFencedWR Fre") then Some (codes "WRW+WR+po+mfence")
-    else (if bytes_eq words (codes " Rfe PodRW Coe PodWW Coe") then Some (codes "WRW+2W")
-    else (if bytes_eq words (codes " Rfe PodRR Fre Rfe PodRR Fre") then Some (codes "IRIW")
-    else (if bytes_eq words (codes " Rfe PodRR Fre Rfe PodRW Coe") then Some (codes "IRRWIW")
-    else (if bytes_eq words (codes " Rfe PodRW Coe Rfe PodRW Coe") then Some (codes "IRWIW")
-    else (if bytes_eq words (codes " PodWW Rfe PodRW Rfe PodRR Fre") then Some (codes "ISA2")
-    else (if bytes_eq words (codes " PodWW Rfe PodRR Fre MFencedWR Fre") then Some (codes "W+RWC+po+po+mfence")
-    else (if bytes_eq words (codes " MFencedWR Fre MFencedWR Fre MFencedWR Fre") then Some (codes "3.SB+mfences")
-    else (if bytes_eq words (codes " PodRW Rfe PodRW Rfe PodRW Rfe") then Some (codes "3.LB")
-    else (if bytes_eq words (codes " PodWW Coe PodWW Coe PodWW Coe") then Some (codes "3.2W")
-    else (if bytes_eq words (codes " PodWW Rfe PodRW Coe MFencedWR Fre") then Some (codes "Z6.0+po+po+mfence")
-    else (if bytes_eq words (codes " PodWW Coe PodWW Rfe PodRW Coe") then Some (codes "Z6.1")
-    else (if bytes_eq words (codes " PodWW Rfe PodRW Rfe PodRW Coe") then Some (codes "Z6.2")
-    else (if bytes_eq words (codes " PodWW Coe PodWW Rfe PodRR Fre") then Some (codes "Z6.3")
-    else (if bytes_eq words (codes " PodWW Coe MFencedWR Fre MFencedWR Fre") then Some (codes "Z6.4+po+mfence+mfence")
-    else (if bytes_eq words (codes " PodWW Coe PodWW Coe MFencedWR Fre") then Some (codes "Z6.5+po+po+mfence")
-    else (if bytes_eq words (codes " Rfe PosRR Fre") then Some (codes "CoRR")
-    else (if bytes_eq words (codes " PosWW Coi") then Some (codes "CoWW")
-    else (if bytes_eq words (codes " PosRW Rfi") then Some (codes "CoRW")
-    else (if bytes_eq words (codes " Rfe PosRW Coe") then Some (codes "CoRW")
-    else None))))))))))))))))))))))))))))
+classic_of words = option_map (λ c. c.1) (find (λ c. bytes_eq words c.0) classics)
 
 -- words with the name of a classic test behind them
 abbrev pub named_words : List ℕ → List ℕ → List ℕ
@@ -138,7 +141,8 @@ told_from steps i (suc n) =
 
 -- words were put behind a text with the name of their classic test, or they are those of none
 abbrev pub IsNamedBehind : List ℕ → List ℕ → Bool → List ℕ → Type 0
-IsNamedBehind old words true new = (name : List ℕ) × (classic_of words ≡ Some name) × (new ≡ old ++ named_words words name)
+IsNamedBehind old words true new =
+    (name : List ℕ) × (classic_of words ≡ Some name) × (new ≡ old ++ named_words words name)
 IsNamedBehind old words false new = (classic_of words ≡ None) × (new ≡ old)
 
 -- the line of steps

@@ -203,7 +203,7 @@ fn words_from(alloc: Global, steps: &[Step], at: usize) -> Result<String, OutOfM
 }
 
 /// The classic test that has the cycle of these words.
-#[tactic(auto, unfolding(crate::specs::Diy::classic_of))]
+#[tactic(auto, unfolding(crate::specs::Diy::classic_of, crate::specs::Diy::classics))]
 fn classic_of(words: &str) -> Option<&'static str>
     ensures { option_map (λ name. name.now) result ≡ classic_of words.now }
 {

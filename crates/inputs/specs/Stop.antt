@@ -6,5 +6,5 @@ use Rattle.inputs.specs.declared.fault.CommandFault.TheVariants.{OutOfMemory}
 
 -- the line is printed, or memory is wanting
 abbrev pub IsLineStop : List ℕ → Stop → Type 0
-IsLineStop text (Refused line) = string_bytes line ≡ text
+IsLineStop text (Refused refusal) = string_bytes refusal.line ≡ text
 IsLineStop text (Fault fault) = fault ≡ OutOfMemory

@@ -14,6 +14,9 @@ pub enum CommandFault {
     /// The words are not a command.
     #[error("{0}")]
     CommandLine(clap::Error),
+    /// The command line names standard input for two inputs.
+    #[error("tsotest: standard input is named for two inputs")]
+    StandardInputTwice,
     /// A word of the command line is not UTF-8.
     #[error("tsotest: the command line is not text")]
     NotText,

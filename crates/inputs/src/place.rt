@@ -29,7 +29,7 @@ pub trait InputBytes {
         ensures unknown { IfErr result (λ _. remaining self.old ≡ None) };
 }
 
-/// Gives inputs by name, and is told how far a campaign is.
+/// Gives inputs by name, and is told how far a campaign is and what a refusal means.
 pub trait Place {
     ghost use Rattle.std.specs.Prelude.{◌≡◌, ℕ, List, Option, None, IfErr, IfOk};
     ghost use Rattle.std.specs.Io.KnownBytes.{Keeps};
@@ -54,4 +54,7 @@ pub trait Place {
 
     /// What is told of a campaign of so many trials while it lasts.
     fn progress(&self, trials: usize) -> Self::Progress;
+
+    /// Takes what a refusal means, as a line for a person.
+    fn explain(&mut self, meaning: String);
 }

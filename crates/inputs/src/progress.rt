@@ -62,7 +62,7 @@ fn millis(time: Duration) -> u64 {
 }
 
 /// Whether standard error is a terminal.
-fn is_shown(rt: &HostRuntime) -> bool {
+pub(crate) fn is_shown(rt: &HostRuntime) -> bool {
     rt.stderr().is_terminal()
 }
 

@@ -5,11 +5,20 @@ use crate::fault::CommandFault;
 use common::OutOfMemory;
 use std::alloc::{AllocError, AllocFailed, Global};
 
+/// What is printed of a text, a number or a name that is refused.
+#[derive(Debug, Drop)]
+pub struct Refusal {
+    /// The line that is printed.
+    pub line: String,
+    /// The line of the input that is at fault, between quotation marks, where it is one line.
+    pub quote: Option<String>,
+}
+
 /// Why a command stops before its usual answer.
 #[derive(Debug, Drop)]
 pub enum Stop {
-    /// A text, a number or a name is refused: the line to print.
-    Refused(String),
+    /// A text, a number or a name is refused.
+    Refused(Refusal),
     /// A fault: the program ends with status `FAULT`.
     Fault(CommandFault),
 }
@@ -20,7 +29,7 @@ impl Stop {
         ensures { IsLineStop line.now result }
     {
         match String::from_str(alloc, line) {
-            Ok(line) => Stop::Refused(line),
+            Ok(line) => Stop::Refused(Refusal { line, quote: None }),
             Err(_) => Stop::Fault(CommandFault::OutOfMemory),
         }
     }

@@ -2,6 +2,7 @@ pub mod Event
 pub mod Execution
 pub mod EventLaws
 pub mod PlacedLaws
+pub mod CoreLaws
 pub mod Order
 pub mod OrderLaws
 pub mod PlaceLaws

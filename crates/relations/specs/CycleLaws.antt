@@ -5,7 +5,12 @@ use Rattle.std.proofs.lemmas.Bool.{cases_eq}
 use Rattle.recorder.specs.Order.{times}
 use Rattle.recorder.specs.OrderLaws.{times_here, times_there, times_nil, cases_times}
 use Rattle.recorder.specs.EnumerationLaws.{distinct_below}
-use Rattle.relations.specs.Cycle.{Leads, IsCycle, ComesFirst}
+use Rattle.relations.specs.Cycle.{Leads, Walk, IsCycle, ComesFirst}
+
+-- one step more at the end of a walk
+pub walk_more : (R : ℕ → ℕ → Type 0) (n e f g : ℕ) → Walk R n e f → R f g → Walk R (suc n) e g
+walk_more R zero e f g w r = (g, subst (λ (x : ℕ). R x g) (sym w) r, refl)
+walk_more R (suc n) e f g w r = (w.0, w.1, walk_more R n w.0 f g w.2 r)
 
 -- p comes first as far as it goes; where m goes on behind p, it goes on with x or more. So p with x
 -- comes first

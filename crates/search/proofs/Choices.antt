@@ -4,9 +4,9 @@ use Rattle.std.proofs.Common.{length, get_or, arith, refl, sym, ap, subst, â—Œâˆ
 use Rattle.std.proofs.lemmas.Bool.{cases_eq, cases_lt}
 use Rattle.relations.specs.Cycle.{Leads, IsCycle, IsShortest, ComesFirst, IsLeastCycle, Walk}
 use Rattle.relations.specs.Cycle.{IsCappedDistance, AreExactRows}
-use Rattle.relations.specs.CycleLaws.{first_more}
+use Rattle.relations.specs.CycleLaws.{first_more, walk_more}
 use Rattle.search.specs.Cycles.{IsShortestLength, IsLeastWith, ClosesAt, GoesOn}
-use Rattle.search.proofs.Walks.{walk_more, walk_of, walk_of_path}
+use Rattle.search.proofs.Walks.{walk_of, walk_of_path}
 use Rattle.search.proofs.Lengths.{last_step, cycle_of_walk}
 
 -- the last event of a path

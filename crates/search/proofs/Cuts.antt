@@ -6,9 +6,9 @@ use Rattle.std.proofs.lemmas.Bool.{cases_eq, cases_lt}
 use Rattle.std.proofs.lemmas.List.{get_or_past, get_or_push, get_or_append_left, take-append-le, take_all}
 use Rattle.relations.specs.Cycle.{IsCycle, IsShortest, IsCertificate, IsCappedDistance, IsExactRow}
 use Rattle.relations.specs.Cycle.{AreExactRows, IsAcyclic}
-use Rattle.relations.specs.CycleLaws.{short_cycle}
+use Rattle.relations.specs.CycleLaws.{short_cycle, walk_more}
 use Rattle.search.specs.Cycles.{IsCap, IsNearest, IsDistanceRow, AreDistanceRows, AreCut, IsShortestLength}
-use Rattle.search.proofs.Walks.{walk_more, walk_of, cut_distance}
+use Rattle.search.proofs.Walks.{walk_of, cut_distance}
 use Rattle.search.proofs.Lengths.{cycle_of_walk}
 
 -- the rows below i are cut, and the others as they were

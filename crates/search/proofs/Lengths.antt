@@ -3,9 +3,9 @@ use Rattle.std.proofs.Common.{◌≡◌, ◌<◌, ◌≤◌, ◌+◌, inl, inr, 
 use Rattle.std.proofs.Common.{Vec, Global, arith, refl, sym, ap, subst, ◌∙◌}
 use Rattle.std.proofs.lemmas.Bool.{cases_eq, cases_lt}
 use Rattle.relations.specs.Cycle.{Leads, IsCycle, Walk, IsAcyclic}
-use Rattle.relations.specs.CycleLaws.{short_cycle}
+use Rattle.relations.specs.CycleLaws.{short_cycle, walk_more}
 use Rattle.search.specs.Cycles.{AreDistanceRows, IsNearest, IsLeastClosing, IsShortestLength}
-use Rattle.search.proofs.Walks.{walk_more, walk_of, path_of_walk}
+use Rattle.search.proofs.Walks.{walk_of, path_of_walk}
 use Rattle.std.proofs.lemmas.List.{get_or-map, get_or_append_left, get_or_push}
 
 -- the last event of a path, with the steps to it

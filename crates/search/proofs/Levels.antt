@@ -8,7 +8,8 @@ use Rattle.bitrow.specs.Bits.{is_in}
 use Rattle.bitrow.specs.Rows.{GetsLabel, IsUnion}
 use Rattle.search.specs.Cycles.{IsNearest}
 use Rattle.search.specs.Levels.{Closes, IsClosing}
-use Rattle.search.proofs.Walks.{walk_more, walk_of, grows_along}
+use Rattle.relations.specs.CycleLaws.{walk_more}
+use Rattle.search.proofs.Walks.{walk_of, grows_along}
 
 -- a test is true or false
 pub cases_bool : (b : Bool) → (b ≡ true) ⊎ (b ≡ false)

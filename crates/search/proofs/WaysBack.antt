@@ -4,7 +4,8 @@ use Rattle.std.proofs.Common.{None, length, reverse, get_or, arith, refl, sym, a
 use Rattle.std.proofs.lemmas.List.{reverse-append, length-reverse}
 use Rattle.relations.specs.Cycle.{Leads, IsCycle, Walk, IsCappedDistance, IsExactRow}
 use Rattle.search.specs.Cycles.{IsLeastWith, ClosesAt}
-use Rattle.search.proofs.Walks.{walk_more, walk_of}
+use Rattle.relations.specs.CycleLaws.{walk_more}
+use Rattle.search.proofs.Walks.{walk_of}
 
 -- an event before this one, with the label
 abbrev pub ComesFrom : (ℕ → ℕ → Type 0) → List ℕ → ℕ → ℕ → ℕ → Type 0

@@ -1,0 +1,25 @@
+-- A named recording, and why it is not read.
+use Rattle.std.specs.Prelude.{ℕ, List, Option, Ok, Err}
+use Rattle.recorder.specs.declared.fault.RecError.{RecError}
+use Rattle.recorder.specs.Execution.{Execution}
+use Rattle.recording_text.specs.Reading.{IsReadingResult}
+use Rattle.inputs.specs.declared.stop.Stop.{Stop}
+use Rattle.inputs.specs.declared.stop.Stop.TheVariants.{Refused, Fault}
+use Rattle.inputs.specs.Inputs.{AreBytesOf, IsInputFault}
+use Rattle.commands.specs.Refusal.{IsRefusedAs}
+
+-- the bytes of the input of this name give the recording
+pub record IsRecordingAt (inputs : List ℕ → Option (List ℕ)) (name : List ℕ) (x : Execution) : Type 0 where
+  pub bytes : List ℕ
+  pub given : AreBytesOf inputs name bytes
+  pub read : IsReadingResult bytes (Ok x)
+
+-- the stop is that of the refusal that the bytes have; memory alone is left open
+abbrev pub IsUnread : List ℕ → Stop → Type 0
+IsUnread bytes stop = (fault : RecError) × IsReadingResult bytes (Err fault) × IsRefusedAs fault stop
+
+-- the named input is no recording, or isn't read
+abbrev pub IsRecordingStop : (List ℕ → Option (List ℕ)) → List ℕ → Stop → Type 0
+IsRecordingStop inputs name (Refused refusal) = (bytes : List ℕ) × AreBytesOf inputs name bytes
+    × IsUnread bytes (Refused refusal)
+IsRecordingStop inputs name (Fault fault) = IsInputFault inputs name fault

@@ -1,0 +1,101 @@
+//! What refusals mean, for a person at a terminal.
+
+use inputs::stop::Refusal;
+use std::alloc::{AllocError, Global};
+
+/// The most bytes of an input's line that are quoted.
+const LONGEST: usize = 64;
+
+/// What each refusal means and, between brackets, what to know about it. N is the number that the refusal has.
+pub const REFUSAL_MEANINGS: &str = "A line `refused: ..` of standard output names one of these. N is the number that it has.
+
+Of a program, whose lines are counted from 1:
+L1   line N is no line of a program (words are parted by one space, each line ends with a newline, `core` comes before operations and `init` after them)
+L2   line N begins a seventeenth core (a program has at most 16 cores)
+L3   line N is a 513th operation (a program has at most 512 operations)
+L4   line N uses a seventeenth address (a program has at most 16 addresses)
+L5   line N has a value above 4294967295 (values have 32 bits, the expected ones of `cas` too)
+L6   line N is an `init` of a name that no operation uses (addresses are what operations use)
+L7   line N is an `init` out of its order (each address has at most one, in the order in which operations first use them)
+L8   line N is an `init` of value 0 (an address without `init` begins with 0)
+
+Of a script, whose lines are counted from 1:
+S1   line N is no step (steps are `exec C`, `drain C`, `gets C NAME`, `getm C NAME` and `put C NAME`, with one space between words and a newline after each)
+S2   line N names a core that the program does not have (cores are numbered from 0)
+S3   line N names an address that the program does not have (addresses have the names that operations use)
+S4   line N is past the 1000000th (a script has at most 1000000 lines)
+
+Of a recording:
+N1   the text is not JSON (a recording is one JSON object)
+N2   the JSON has not the shape of a recording, or a value above 4294967295 (keys are `cores`, `writes`, `version` and perhaps `init`, and of an event those of its kind)
+N3   the version is neither 1 nor 2, or is not the one of what stands beside it (version 2 has `init`, version 1 neither `init` nor an event `C`)
+N4   there are more than 16 cores, 512 events or 16 write lists, an address without a write list, or not an initial value for each write list (version 1 has no initial values)
+N5   event N has a source that is no write to its address (a source is the number of the event whose value was read, or null for the initial value)
+N6   event N read another value than its source wrote (without a source it is the initial value, which is 0 in version 1)
+N7   address N has a write list that is not that of its writes (each event that writes the address stands there once, and nothing else)
+N8   the addresses are not numbered by first use (the first address that an event uses is 0, the next new one 1, and none is unused)
+N9   the recording is not one of the program (cores, operations, values written and initial values are to be those of the program that was run)
+
+Of options:
+K1   `--cores` is not from 1 to 16 (a program has at most 16 cores)
+K2   `--ops` is not from 1 to 512 (it counts the operations of each core)
+K3   `--addresses` is not from 1 to 16 (a program has at most 16 addresses)
+K4   `--cores` times `--ops` is above 512 (a program has at most 512 operations)
+K5   `--trials` is not from 1 to 65536 (trial K has the seed plus K, so a larger campaign is several, whose seeds follow each other)
+K6   `--attempts` or `--limit` is not from 1 to 1000000 (it counts steps)
+K7   `--buffer` is not from 1 to 512 (it counts the stores that a buffer holds)
+K8   `--workers` is not from 1 to 32 (it counts threads)
+K9   `--fault` is none of the six names (they are none, no-bypass, youngest-first, open-fence, stale-share and early-rmw)
+K10  `--show` is not below `--trials` (trials are numbered from 0)
+";
+
+/// What is said of the refusal with this name.
+fn meaning_of(name: &str) -> Option<&'static str> {
+    for line in REFUSAL_MEANINGS.lines() {
+        if let Some((first, meaning)) = line.split_once(' ') {
+            if first == name {
+                return Some(meaning.trim_start());
+            }
+        }
+    }
+    None
+}
+
+/// What a refusal means, as a line for a person; none where its line is not one of the refusals'.
+/// An error is want of memory.
+pub fn explained(alloc: Global, refusal: &Refusal) -> Result<Option<String>, AllocError> {
+    let Some(words) = refusal.line.trim_end().strip_prefix("refused: ") else {
+        return Ok(None);
+    };
+    let (name, counted) = words.split_once(' ').unwrap_or((words, ""));
+    let Some((said, advice)) = meaning_of(name).and_then(|meaning| meaning.split_once(" (")) else {
+        return Ok(None);
+    };
+    let said = match said.split_once(" N ") {
+        Some((_, rest)) => format!(in alloc; "{counted} {rest}")?,
+        None => String::from_str(alloc, said)?,
+    };
+    let line = match &refusal.quote {
+        Some(quote) => format!(in alloc; "tsotest: {name}: {said}: {quote} ({advice}")?,
+        None => format!(in alloc; "tsotest: {name}: {said} ({advice}")?,
+    };
+    Ok(Some(line))
+}
+
+/// A line of a text, counted from 1; the empty one where there is none.
+fn line_at(text: &[u8], line: usize) -> &[u8] {
+    let mut lines = text.split(|byte| *byte == b'\n').skip(line.saturating_sub(1));
+    lines.next().unwrap_or(b"")
+}
+
+/// A line of a text, counted from 1, between quotation marks, with escapes for what is not printed. Of a long
+/// one it is the beginning.
+pub fn quoted(alloc: Global, text: &[u8], line: usize) -> Result<String, AllocError> {
+    let whole = line_at(text, line);
+    match whole.get(..LONGEST) {
+        Some(beginning) if whole.len() > LONGEST => {
+            format!(in alloc; "\"{}..\"", beginning.escape_ascii())
+        }
+        _ => format!(in alloc; "\"{}\"", whole.escape_ascii()),
+    }
+}

@@ -1,0 +1,77 @@
+//! The program or the recording that a named input is.
+ghost use Rattle.std.specs.Prelude.{◌≡◌, IfErr, IfOk, Ok};
+ghost use Rattle.litmus.specs.Text.{reading};
+ghost use Rattle.recording_text.specs.Reading.{IsReadingResult};
+ghost use Rattle.commands.specs.Program.{IsProgramAt, IsProgramStop};
+ghost use Rattle.commands.specs.Recording.{IsRecordingAt, IsRecordingStop, IsUnread};
+ghost use Rattle.commands.specs.Refusal.{IsReadingStop, IsRefusedAs, line_fault_name};
+
+use crate::refusal::{line_fault_name, line_refusal};
+use inputs::fault::CommandFault;
+use inputs::place::Place;
+use inputs::reading::text_at;
+use inputs::stop::{Refusal, Stop};
+use litmus::{LitmusError, Program};
+use litmus_text::parse;
+use recorder::{RecError, Recording};
+use recording_text::read_recording;
+use report::recording_line;
+use std::alloc::{AllocError, Global};
+
+/// The program of a text, or the refusal of its first line at fault.
+fn program_of(alloc: Global, text: &[u8]) -> Result<Program, Stop>
+    ensures ok { IfOk result (λ program. reading text.now ≡ Ok program) }
+    ensures err { IfErr result (IsReadingStop line_fault_name (reading text.now)) }
+{
+    match parse(alloc, text) {
+        Ok(program) => Ok(program),
+        Err(LitmusError::OutOfMemory) => Err(Stop::Fault(CommandFault::OutOfMemory)),
+        Err(LitmusError::AtLine(fault, line)) => Err(Stop::Refused(line_refusal(
+            alloc,
+            line_fault_name(fault),
+            line,
+            text,
+        )?)),
+    }
+}
+
+/// The program of a named input, or why it is not read.
+pub fn program_at<P: Place>(alloc: Global, place: &mut P, name: &str) -> Result<Program, Stop>
+    ensures ok { IfOk result (λ program. IsProgramAt (P.bytes place.old) name.now program) }
+    ensures err { IfErr result (IsProgramStop (P.bytes place.old) name.now) }
+    ensures kept { P.bytes place.new ≡ P.bytes place.old }
+{
+    let text = text_at(alloc, place, name)?;
+    program_of(alloc, text.as_slice())
+}
+
+/// Why bytes are no recording.
+fn unread(alloc: Global, refusal: RecError) -> Result<Stop, AllocError>
+    ensures { IfOk result (IsRefusedAs refusal) }
+{
+    match recording_line(alloc, refusal)? {
+        Some(line) => Ok(Stop::Refused(Refusal { line, quote: None })),
+        None => Ok(Stop::Fault(CommandFault::OutOfMemory)),
+    }
+}
+
+/// The recording that the bytes are, or their refusal.
+fn recording_of(alloc: Global, bytes: &[u8]) -> Result<Recording, Stop>
+    ensures ok { IfOk result (λ recording. IsReadingResult bytes.now (Ok recording)) }
+    ensures err { IfErr result (IsUnread bytes.now) }
+{
+    match read_recording(alloc, bytes) {
+        Ok(recording) => Ok(recording),
+        Err(refusal) => Err(unread(alloc, refusal)?),
+    }
+}
+
+/// The recording of a named input, or why it is not read.
+pub fn recording_at<P: Place>(alloc: Global, place: &mut P, name: &str) -> Result<Recording, Stop>
+    ensures ok { IfOk result (λ recording. IsRecordingAt (P.bytes place.old) name.now recording) }
+    ensures err { IfErr result (IsRecordingStop (P.bytes place.old) name.now) }
+    ensures kept { P.bytes place.new ≡ P.bytes place.old }
+{
+    let bytes = text_at(alloc, place, name)?;
+    recording_of(alloc, bytes.as_slice())
+}
