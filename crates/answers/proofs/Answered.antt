@@ -3,10 +3,10 @@ use Rattle.std.proofs.Common.{◌≡◌, ◌++◌, ◌∷◌, [], inl, inr, ℕ,
 use Rattle.std.specs.Prelude.{codes}
 use Rattle.rand_xoshiro.specs.SplitMix64.{splitmix_seed}
 use Rattle.rand_xoshiro.specs.Xoshiro256.{of_seed}
-use Rattle.litmus.specs.Parts.{Parts}
-use Rattle.recorder.specs.Execution.{Execution}
-use Rattle.recording_text.specs.Text.{recording_text}
-use Rattle.recorder.specs.Tso.{IsTsoOrder}
+use Rattle.program.specs.Parts.{Parts}
+use Rattle.recording.specs.Execution.{Execution}
+use Rattle.recorder.specs.Text.{recording_text}
+use Rattle.recording.specs.Tso.{IsTsoOrder}
 use Rattle.machine.specs.declared.fault.Fault.{Fault}
 use Rattle.machine.specs.declared.fault.Fault.TheVariants as faults
 use Rattle.machine.specs.Configuration.{Configuration}

@@ -1,8 +1,8 @@
 -- What is answered of a violation, and of what is left of it.
 use Rattle.std.proofs.Common.{◌≡◌, ◌++◌, [], ℕ, Bool, true, Option, Some, None, List, refl, subst, ◌∙◌}
 use Rattle.std.specs.Prelude.{IfSome, IfNone}
-use Rattle.litmus.specs.Parts.{Parts}
-use Rattle.recorder.specs.Execution.{Execution}
+use Rattle.program.specs.Parts.{Parts}
+use Rattle.recording.specs.Execution.{Execution}
 use Rattle.relations.specs.Verdict.{HasNoOrder}
 use Rattle.judge.specs.declared.verdict.Verdict.{Verdict}
 use Rattle.judge.specs.declared.verdict.Verdict.TheVariants.{Ordered, Overlook, Cycle}

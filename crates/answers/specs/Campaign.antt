@@ -1,7 +1,7 @@
 -- What is answered of campaigns.
 use Rattle.std.specs.Prelude.{◌≡◌, ◌++◌, ◌∷◌, ℕ, Bool, true, false, Some, List, if◌then◌else◌, is_some, nat_lt}
-use Rattle.litmus.specs.Parts.{Parts}
-use Rattle.litmus.specs.Spelling.{spelling}
+use Rattle.program.specs.Parts.{Parts}
+use Rattle.program.specs.Spelling.{spelling}
 use Rattle.relations.specs.Verdict.{HasNoOrder}
 use Rattle.machine.specs.declared.fault.Fault.{Fault}
 use Rattle.machine.specs.Configuration.{Configuration}

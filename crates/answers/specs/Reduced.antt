@@ -1,10 +1,10 @@
 -- What is answered of a violation that is cut down to the events that it needs.
 use Rattle.std.specs.Prelude.{◌≡◌, ◌++◌, ◌∷◌, [], ℕ, Bool, true, false, Option, Some, None, List, codes}
-use Rattle.litmus.specs.Parts.{Parts}
-use Rattle.litmus.specs.Spelling.{spelling}
-use Rattle.recorder.specs.Execution.{Execution}
-use Rattle.recorder.specs.Tso.{IsTsoOrder}
-use Rattle.recording_text.specs.Text.{recording_text}
+use Rattle.program.specs.Parts.{Parts}
+use Rattle.program.specs.Spelling.{spelling}
+use Rattle.recording.specs.Execution.{Execution}
+use Rattle.recording.specs.Tso.{IsTsoOrder}
+use Rattle.recorder.specs.Text.{recording_text}
 use Rattle.relations.specs.Verdict.{HasNoOrder}
 use Rattle.judge.specs.declared.verdict.Verdict.{Verdict}
 use Rattle.judge.specs.Verdict.{IsVerdict}

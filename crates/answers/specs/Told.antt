@@ -1,10 +1,10 @@
 -- What is told of a recording: its verdict in words or as a picture, or what is left of it.
 use Rattle.std.specs.Prelude.{◌≡◌, ℕ, Bool, true, false, Option, Some, None, List, length}
 use Rattle.std.specs.List.{range_with_len}
-use Rattle.litmus.specs.declared.name.Name.{Name}
-use Rattle.litmus.specs.AddressNames.{address_names}
-use Rattle.litmus.specs.Parts.{Parts}
-use Rattle.recorder.specs.Execution.{Execution, event_count}
+use Rattle.program.specs.declared.name.Name.{Name}
+use Rattle.program.specs.AddressNames.{address_names}
+use Rattle.program.specs.Parts.{Parts}
+use Rattle.recording.specs.Execution.{Execution, event_count}
 use Rattle.judge.specs.declared.verdict.Verdict.{Verdict}
 use Rattle.judge.specs.declared.verdict.Verdict.TheVariants.{Ordered, Overlook, Cycle}
 use Rattle.judge.specs.Verdict.{IsVerdict}

@@ -1,6 +1,6 @@
 -- The status of a verdict, and the answer that is printed of it.
 use Rattle.std.specs.Prelude.{◌≡◌, ◌++◌, ℕ, List}
-use Rattle.recorder.specs.Execution.{Execution}
+use Rattle.recording.specs.Execution.{Execution}
 use Rattle.judge.specs.declared.verdict.Verdict.{Verdict}
 use Rattle.judge.specs.declared.verdict.Verdict.TheVariants.{Ordered, Overlook, Cycle}
 use Rattle.judge.specs.Verdict.{IsVerdict}

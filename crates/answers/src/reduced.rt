@@ -1,7 +1,7 @@
 //! Violations that are cut down to the events that they need, as answers.
 
 ghost use Rattle.std.specs.Prelude.{◌≡◌, ◌++◌, IfOk, OnOk, IfSome, IfNone, option_map, true};
-ghost use Rattle.recorder.specs.FirstUse.{IsNumberedByFirstUse};
+ghost use Rattle.recording.specs.FirstUse.{IsNumberedByFirstUse};
 ghost use Rattle.machine.specs.ProgramOf.{IsProgramOf};
 ghost use Rattle.judge.specs.Verdict.{IsVerdict};
 ghost use Rattle.reduction.specs.Needed.{IsOrdered};
@@ -13,10 +13,10 @@ use crate::answer::Answer;
 use crate::verdict::verdict_behind;
 use common::{EventId, OutOfMemory};
 use judge::{Verdict, judge_alone};
-use litmus::Program;
-use litmus_text::print;
-use recorder::Recording;
-use recording_text::write_recording;
+use program::Program;
+use litmus::print;
+use recording::Recording;
+use recorder::write_recording;
 use reduction::{Reduced, reduce, restricted_program};
 use replay::named_program;
 use report::put_numbers;

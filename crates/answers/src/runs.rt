@@ -1,7 +1,7 @@
 //! What is answered of runs.
 
 ghost use Rattle.std.specs.Prelude.{IfOk};
-ghost use Rattle.recording_text.specs.Text.{recording_text};
+ghost use Rattle.recorder.specs.Text.{recording_text};
 ghost use Rattle.machine.specs.Configuration.{Configuration};
 ghost use Rattle.judge.specs.Verdict.{IsVerdict, Verifies};
 ghost use Rattle.trials.specs.Judged.{IsJudgedEnd};
@@ -12,12 +12,12 @@ use crate::answer::{Answer, UNFINISHED};
 use crate::verdict::verdict_behind;
 use common::OutOfMemory;
 use judge::Verdict;
-use litmus::Program;
+use program::Program;
 use machine::{Fault, Machine, Step};
 use rand_core::SeedableRng;
 use rand_xoshiro::Xoshiro256PlusPlus;
-use recorder::Recording;
-use recording_text::write_recording;
+use recording::Recording;
+use recorder::write_recording;
 use std::alloc::Global;
 use trials::{Judged, judged_end, run_seeded};
 

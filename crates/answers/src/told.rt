@@ -17,8 +17,8 @@ use common::{EventId, OutOfMemory};
 use explanation::{drawing_text, explanation_text};
 use indexmap::IndexSet;
 use judge::{Verdict, judge_alone};
-use litmus::{Name, Program, address_names};
-use recorder::Recording;
+use program::{Name, Program, address_names};
+use recording::Recording;
 use reduction::{Reduced, reduce};
 use std::alloc::Global;
 

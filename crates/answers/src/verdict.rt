@@ -7,7 +7,7 @@ ghost use Rattle.answers.specs.Verdict.{IsVerdictAnswer, verdict_status};
 use crate::answer::{Answer, DONE, VIOLATION};
 use common::{MAX_WORKERS, OutOfMemory};
 use judge::{Verdict, judge};
-use recorder::Recording;
+use recording::Recording;
 use report::verdict_text;
 use std::alloc::Global;
 use std::sync::Wait;

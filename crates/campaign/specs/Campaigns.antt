@@ -1,9 +1,9 @@
 -- What the trials of a campaign have in common.
 use Rattle.std.specs.Prelude.{◌<◌, ◌≤◌, ℕ, Result, Ok, Err, if◌then◌else◌}
 use Rattle.common.specs.declared.limits.TheConstants.{MAX_TRIALS, MAX_STEPS, MAX_CAPACITY}
-use Rattle.litmus.specs.declared.shape_error.ShapeError.{ShapeError}
-use Rattle.litmus.specs.declared.shape_error.ShapeError.TheVariants.{K5, K6, K7}
-use Rattle.litmus.specs.Shapes.{Sizes, IsShape, is_outside}
+use Rattle.program.specs.declared.shape_error.ShapeError.{ShapeError}
+use Rattle.program.specs.declared.shape_error.ShapeError.TheVariants.{K5, K6, K7}
+use Rattle.program.specs.Shapes.{Sizes, IsShape, is_outside}
 use Rattle.machine.specs.declared.fault.Fault.{Fault}
 
 -- the shape of the programs, the first seed, how many trials there are, how many steps each

@@ -1,7 +1,7 @@
 //! Campaigns.
 
 use common::{MAX_CAPACITY, MAX_STEPS, MAX_TRIALS};
-use litmus::{Shape, ShapeError, is_outside};
+use program::{Shape, ShapeError, is_outside};
 use machine::Fault;
 use std::marker::Model;
 

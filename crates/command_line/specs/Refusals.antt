@@ -3,8 +3,8 @@ use Rattle.std.specs.Prelude.{ℕ, List, Option, Some, None, Result, Ok, Err, co
 use Rattle.std.specs.Prelude.{nat_lt, option_and_then, option_map}
 use Rattle.std.specs.Option.{option_or}
 use Rattle.clap.specs.Words.{Row, Text, one_of}
-use Rattle.litmus.specs.declared.shape_error.ShapeError.{ShapeError}
-use Rattle.litmus.specs.Shapes.{Sizes, is_outside, shape_of}
+use Rattle.program.specs.declared.shape_error.ShapeError.{ShapeError}
+use Rattle.program.specs.Shapes.{Sizes, is_outside, shape_of}
 use Rattle.command_line.specs.declared.options.Limits.{Limits}
 use Rattle.command_line.specs.declared.options.OptionRefusal.{OptionRefusal}
 use Rattle.command_line.specs.declared.options.OptionRefusal.TheVariants as refused

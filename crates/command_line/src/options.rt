@@ -3,7 +3,7 @@
 use campaign::Campaign;
 use clap::error::ErrorKind;
 use common::{MAX_CAPACITY, MAX_STEPS, MAX_TRIALS, MAX_WORKERS};
-use litmus::ShapeError;
+use program::ShapeError;
 use machine::Fault;
 use std::alloc::AllocError;
 

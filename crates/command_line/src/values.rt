@@ -12,7 +12,7 @@ use crate::options::{
     ATTEMPTS, BUFFER, DEFAULT_FAULT, DEFAULT_SEED, LIMIT, Limits, OptionRefusal, TRIALS, WORKERS,
 };
 use clap::ArgMatches;
-use litmus::{Shape, is_outside};
+use program::{Shape, is_outside};
 use machine::Fault;
 
 /// The numbers, the fault and the flags that entries ask for: where there is no entry, the default.

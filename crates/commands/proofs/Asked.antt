@@ -10,8 +10,8 @@ use Rattle.command_line.specs.declared.options.RunOptions.{RunOptions}
 use Rattle.command_line.specs.declared.options.TrialsOptions.{TrialsOptions}
 use Rattle.command_line.specs.Options.{AreOptions, AreTrialsOptions}
 use Rattle.common.specs.declared.limits.TheConstants.{MAX_WORKERS}
-use Rattle.litmus.specs.Parts.{Parts}
-use Rattle.litmus.specs.Text.{reading}
+use Rattle.program.specs.Parts.{Parts}
+use Rattle.program.specs.Text.{reading}
 use Rattle.inputs.specs.Inputs.{AreBytesOf}
 use Rattle.commands.specs.Run.{IsRun, IsRunBy}
 

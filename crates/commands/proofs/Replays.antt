@@ -2,7 +2,7 @@
 use Rattle.std.proofs.Common.{◌≡◌, inl, inr, refl, ℕ, List, Option, Result, Ok, Err, IfErr, IsErrAnd}
 use Rattle.std.specs.Prelude.{string_bytes}
 use Rattle.command_line.specs.declared.options.FileOptions.{FileOptions}
-use Rattle.recorder.specs.declared.fault.RecError.TheVariants as rec
+use Rattle.recording.specs.declared.fault.RecError.TheVariants as rec
 use Rattle.answers.specs.declared.answer.Answer.{Answer}
 use Rattle.inputs.specs.declared.stop.Stop.{Stop}
 use Rattle.inputs.specs.declared.stop.Stop.TheVariants.{Refused, Fault}

@@ -2,8 +2,8 @@
 use Rattle.std.proofs.Common.{◌≡◌, inl, inr, ℕ, List, Option, Ok, subst, ◌∙◌}
 use Rattle.std.specs.Prelude.{string_bytes}
 use Rattle.command_line.specs.declared.options.LiveOptions.{LiveOptions}
-use Rattle.litmus.specs.Parts.{Parts}
-use Rattle.litmus.specs.Text.{reading}
+use Rattle.program.specs.Parts.{Parts}
+use Rattle.program.specs.Text.{reading}
 use Rattle.machine.specs.declared.fault.Fault.{Fault}
 use Rattle.machine.specs.declared.fault.Fault.TheVariants.{None}
 use Rattle.machine.specs.State.{IsComplete}

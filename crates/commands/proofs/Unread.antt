@@ -1,6 +1,6 @@
 -- Why a recording was not read.
 use Rattle.std.proofs.Common.{◌≡◌, ℕ, List, Result, Ok, Err, IfErr, IsErrAnd, refl}
-use Rattle.recorder.specs.declared.fault.RecError.TheVariants as rec
+use Rattle.recording.specs.declared.fault.RecError.TheVariants as rec
 use Rattle.answers.specs.declared.answer.Answer.{Answer}
 use Rattle.inputs.specs.declared.stop.Stop.{Stop}
 use Rattle.inputs.specs.declared.stop.Stop.TheVariants.{Fault}

@@ -1,7 +1,7 @@
 -- What judge answers.
 use Rattle.std.specs.Prelude.{[], ℕ, List, Option, string_bytes}
 use Rattle.command_line.specs.declared.options.JudgeOptions.{JudgeOptions}
-use Rattle.recorder.specs.Execution.{Execution}
+use Rattle.recording.specs.Execution.{Execution}
 use Rattle.answers.specs.declared.answer.Answer.{Answer}
 use Rattle.answers.specs.Verdict.{IsVerdictAnswer}
 use Rattle.commands.specs.Recording.{IsRecordingAt}

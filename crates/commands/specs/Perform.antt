@@ -4,10 +4,10 @@ use Rattle.std.specs.Prelude.{option_map, string_bytes}
 use Rattle.clap.specs.Words.{Text, kind_of}
 use Rattle.clap.specs.declared.error.Error.{Error}
 use Rattle.clap.specs.declared.error.kind.ErrorKind.TheVariants.{DisplayHelp, DisplayVersion}
-use Rattle.litmus.specs.Parts.{Parts}
+use Rattle.program.specs.Parts.{Parts}
 use Rattle.live.specs.declared.error.LiveError.{LiveError}
 use Rattle.live.specs.declared.error.LiveError.TheVariants as live
-use Rattle.litmus.specs.Text.{reading}
+use Rattle.program.specs.Text.{reading}
 use Rattle.machine.specs.Script.{steps_of}
 use Rattle.answers.specs.declared.answer.Answer.{Answer}
 use Rattle.answers.specs.declared.told.Telling.TheVariants.{Words, Picture, Reduction}

@@ -1,7 +1,7 @@
 -- A named program, and why it is not read.
 use Rattle.std.specs.Prelude.{◌≡◌, ℕ, List, Option, Ok}
-use Rattle.litmus.specs.Parts.{Parts}
-use Rattle.litmus.specs.Text.{reading}
+use Rattle.program.specs.Parts.{Parts}
+use Rattle.program.specs.Text.{reading}
 use Rattle.inputs.specs.declared.stop.Stop.{Stop}
 use Rattle.inputs.specs.declared.stop.Stop.TheVariants.{Refused, Fault}
 use Rattle.inputs.specs.Inputs.{AreBytesOf, IsInputFault}

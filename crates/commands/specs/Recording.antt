@@ -1,8 +1,8 @@
 -- A named recording, and why it is not read.
 use Rattle.std.specs.Prelude.{ℕ, List, Option, Ok, Err}
-use Rattle.recorder.specs.declared.fault.RecError.{RecError}
-use Rattle.recorder.specs.Execution.{Execution}
-use Rattle.recording_text.specs.Reading.{IsReadingResult}
+use Rattle.recording.specs.declared.fault.RecError.{RecError}
+use Rattle.recording.specs.Execution.{Execution}
+use Rattle.recorder.specs.Reading.{IsReadingResult}
 use Rattle.inputs.specs.declared.stop.Stop.{Stop}
 use Rattle.inputs.specs.declared.stop.Stop.TheVariants.{Refused, Fault}
 use Rattle.inputs.specs.Inputs.{AreBytesOf, IsInputFault}

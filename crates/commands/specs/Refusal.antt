@@ -1,13 +1,13 @@
 -- The lines of refused texts.
 use Rattle.std.specs.Prelude.{◌≡◌, ◌++◌, ◌∷◌, [], ℕ, List, Some, Result, Ok, Err, codes}
 use Rattle.std.specs.Prelude.{decimal, string_bytes}
-use Rattle.litmus.specs.declared.fault.LineFault.{LineFault}
-use Rattle.litmus.specs.declared.fault.LineFault.TheVariants.{L1, L2, L3, L4, L5, L6, L7, L8}
+use Rattle.program.specs.declared.fault.LineFault.{LineFault}
+use Rattle.program.specs.declared.fault.LineFault.TheVariants.{L1, L2, L3, L4, L5, L6, L7, L8}
 use Rattle.machine.specs.declared.script_fault.StepFault.{StepFault}
 use Rattle.machine.specs.declared.script_fault.StepFault.TheVariants.{S1, S2, S3, S4}
-use Rattle.recorder.specs.declared.fault.RecError.{RecError}
-use Rattle.litmus.specs.declared.shape_error.ShapeError.{ShapeError}
-use Rattle.litmus.specs.declared.shape_error.ShapeError.TheVariants.{K1, K2, K3, K4, K5, K6, K7}
+use Rattle.recording.specs.declared.fault.RecError.{RecError}
+use Rattle.program.specs.declared.shape_error.ShapeError.{ShapeError}
+use Rattle.program.specs.declared.shape_error.ShapeError.TheVariants.{K1, K2, K3, K4, K5, K6, K7}
 use Rattle.command_line.specs.declared.options.OptionRefusal.{OptionRefusal}
 use Rattle.command_line.specs.declared.options.OptionRefusal.TheVariants as refused
 use Rattle.report.specs.Refusal.{recording_line}

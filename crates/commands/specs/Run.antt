@@ -4,8 +4,8 @@ use Rattle.answers.specs.declared.answer.Answer.{Answer}
 use Rattle.answers.specs.Run.{IsRunAnswer, IsSeededAnswer, state_after}
 use Rattle.command_line.specs.declared.options.LiveOptions.{LiveOptions}
 use Rattle.command_line.specs.declared.options.RunOptions.{RunOptions}
-use Rattle.litmus.specs.Parts.{Parts}
-use Rattle.litmus.specs.Text.{reading}
+use Rattle.program.specs.Parts.{Parts}
+use Rattle.program.specs.Text.{reading}
 use Rattle.machine.specs.declared.fault.Fault.TheVariants as fault
 use Rattle.machine.specs.declared.step.Step.{Step}
 use Rattle.machine.specs.State.{State, IsComplete}

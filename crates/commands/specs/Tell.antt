@@ -1,8 +1,8 @@
 -- What is told of a recording.
 use Rattle.std.specs.Prelude.{◌≡◌, ◌⊎◌, ◌++◌, ◌∷◌, [], ℕ, List, Option, Some, None, codes}
 use Rattle.std.specs.Prelude.{option_map, string_bytes}
-use Rattle.litmus.specs.Parts.{Parts}
-use Rattle.recorder.specs.Execution.{Execution}
+use Rattle.program.specs.Parts.{Parts}
+use Rattle.recording.specs.Execution.{Execution}
 use Rattle.machine.specs.ProgramOf.{IsProgramOf}
 use Rattle.command_line.specs.declared.options.ExplainOptions.{ExplainOptions}
 use Rattle.answers.specs.declared.answer.Answer.{Answer}

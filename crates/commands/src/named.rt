@@ -1,7 +1,7 @@
 //! The program or the recording that a named input is.
 ghost use Rattle.std.specs.Prelude.{◌≡◌, IfErr, IfOk, Ok};
-ghost use Rattle.litmus.specs.Text.{reading};
-ghost use Rattle.recording_text.specs.Reading.{IsReadingResult};
+ghost use Rattle.program.specs.Text.{reading};
+ghost use Rattle.recorder.specs.Reading.{IsReadingResult};
 ghost use Rattle.commands.specs.Program.{IsProgramAt, IsProgramStop};
 ghost use Rattle.commands.specs.Recording.{IsRecordingAt, IsRecordingStop, IsUnread};
 ghost use Rattle.commands.specs.Refusal.{IsReadingStop, IsRefusedAs, line_fault_name};
@@ -11,10 +11,10 @@ use inputs::fault::CommandFault;
 use inputs::place::Place;
 use inputs::reading::text_at;
 use inputs::stop::{Refusal, Stop};
-use litmus::{LitmusError, Program};
-use litmus_text::parse;
-use recorder::{RecError, Recording};
-use recording_text::read_recording;
+use program::{LitmusError, Program};
+use litmus::parse;
+use recording::{RecError, Recording};
+use recorder::read_recording;
 use report::recording_line;
 use std::alloc::{AllocError, Global};
 

@@ -6,7 +6,7 @@ ghost use Rattle.commands.specs.Refusal.{refusal_line, shape_error_name, step_fa
 use crate::meanings::quoted;
 use command_line::OptionRefusal;
 use inputs::stop::Refusal;
-use litmus::{LineFault, ShapeError};
+use program::{LineFault, ShapeError};
 use machine::StepFault;
 use std::alloc::{AllocError, Global};
 

@@ -2,13 +2,13 @@
 ghost use Rattle.std.specs.Prelude.{◌≡◌, ◌≤◌, ◌++◌, ◌∷◌, [], All, IfErr, IfOk, Ok, codes, decimal, length};
 ghost use Rattle.std.specs.Prelude.{string_bytes};
 ghost use Rattle.common.specs.declared.limits.TheConstants.{MAX_STEPS};
-ghost use Rattle.litmus.specs.Spelling.{spelling};
-ghost use Rattle.litmus.specs.Text.{reading};
+ghost use Rattle.program.specs.Spelling.{spelling};
+ghost use Rattle.program.specs.Text.{reading};
 ghost use Rattle.machine.specs.Script.{IsStepOf, steps_of};
 ghost use Rattle.machine.specs.ScriptText.{script_text};
 ghost use Rattle.judge.specs.Verdict.{IsVerdict, Verifies};
-ghost use Rattle.recorder.specs.Tso.{IsTsoOrder};
-ghost use Rattle.recorder.specs.FirstUse.{IsNumberedByFirstUse};
+ghost use Rattle.recording.specs.Tso.{IsTsoOrder};
+ghost use Rattle.recording.specs.FirstUse.{IsNumberedByFirstUse};
 ghost use Rattle.commands.specs.Replay.{IsReadBack, IsReplayedInput, IsReplayOf, IsReplayStop, ReplaysOrder};
 ghost use Rattle.commands.specs.Replay.{parts_text, replay_text};
 
@@ -19,10 +19,10 @@ use common::{EventId, OutOfMemory};
 use inputs::place::Place;
 use inputs::stop::Stop;
 use judge::{Verdict, judge_alone};
-use litmus::{Program, has_one_text};
-use litmus_text::print;
+use program::{Program, has_one_text};
+use litmus::print;
 use machine::{Step, steps_text};
-use recorder::Recording;
+use recording::Recording;
 use replay::{is_numbered, most_stores, replay_steps};
 use std::alloc::{AllocError, Global};
 

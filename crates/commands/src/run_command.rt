@@ -14,7 +14,7 @@ use inputs::fault::CommandFault;
 use inputs::place::Place;
 use inputs::reading::text_at;
 use inputs::stop::Stop;
-use litmus::Program;
+use program::Program;
 use machine::{Step, StepsError, parse_steps};
 use std::alloc::Global;
 

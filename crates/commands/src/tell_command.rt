@@ -8,8 +8,8 @@ use command_line::ExplainOptions;
 use explanation::is_program_of;
 use inputs::place::Place;
 use inputs::stop::Stop;
-use litmus::Program;
-use recorder::Recording;
+use program::Program;
+use recording::Recording;
 use std::alloc::Global;
 
 /// The program of this name, of which the recording has to be one.

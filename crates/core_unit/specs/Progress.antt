@@ -1,6 +1,6 @@
 -- How far a core has come.
 use Rattle.std.specs.Prelude.{ℕ, List, ◌+◌, Option, option_map, slice_get}
-use Rattle.litmus.specs.declared.op.Op.{Op}
+use Rattle.program.specs.declared.op.Op.{Op}
 
 -- the number of the core's first event, and how many of its operations it has executed
 pub record Progress : Type 0 where

@@ -2,8 +2,8 @@
 use Rattle.std.proofs.Common.{◌<◌, ◌+◌, ℕ, List, length, get_or, arith, subst, inl, inr}
 use Rattle.std.proofs.lemmas.Bool.{cases_eq}
 use Rattle.std.proofs.lemmas.List.{get_or_default}
-use Rattle.litmus.specs.declared.op.Op.{Op}
-use Rattle.recorder.specs.declared.event.Event.{Event}
+use Rattle.program.specs.declared.op.Op.{Op}
+use Rattle.recording.specs.declared.event.Event.{Event}
 use Rattle.explanation.specs.Program.{Makes}
 
 -- what stands at a place does not hang on what stands past the end

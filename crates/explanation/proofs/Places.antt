@@ -2,11 +2,11 @@
 use Rattle.std.proofs.Common.{◌≡◌, ◌≤◌, ℕ, inl, inr, List, [], ◌∷◌, length, ap, arith}
 use Rattle.std.proofs.lemmas.Bool.{cases_eq}
 use Rattle.std.proofs.lemmas.List.{get_or_past}
-use Rattle.recorder.specs.declared.event.Event.{Event}
-use Rattle.recorder.specs.declared.event.Event.TheVariants.{F}
-use Rattle.recorder.specs.Execution.{Execution, placed_from, event_count, event_at, core_of}
-use Rattle.recorder.specs.Order.{place}
-use Rattle.recorder.specs.OrderLaws.{place_nil, place_here, place_there}
+use Rattle.recording.specs.declared.event.Event.{Event}
+use Rattle.recording.specs.declared.event.Event.TheVariants.{F}
+use Rattle.recording.specs.Execution.{Execution, placed_from, event_count, event_at, core_of}
+use Rattle.recording.specs.Order.{place}
+use Rattle.recording.specs.OrderLaws.{place_nil, place_here, place_there}
 
 -- it is a fence
 pub past_event : (x : Execution) (e : ℕ) → event_count x ≤ e → event_at x e ≡ F

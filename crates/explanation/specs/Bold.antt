@@ -1,7 +1,7 @@
 -- The edges that a verdict is about.
 use Rattle.std.specs.Prelude.{◌≡◌, ◌++◌, ◌∷◌, [], ℕ, zero, suc, Bool, true, false, List, Some, length}
 use Rattle.std.specs.Prelude.{slice_index}
-use Rattle.recorder.specs.Execution.{Execution}
+use Rattle.recording.specs.Execution.{Execution}
 use Rattle.relations.specs.declared.reason.Reason.TheVariants.{Po, Fr}
 use Rattle.relations.specs.Cycle.{behind}
 use Rattle.relations.specs.Forced.{IsReason}

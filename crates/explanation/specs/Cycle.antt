@@ -1,9 +1,9 @@
 -- A cycle in words: each of its events, and why it comes before the next.
 use Rattle.std.specs.Prelude.{◌≡◌, ◌++◌, ◌∷◌, [], ℕ, zero, suc, List, Some, codes, decimal, length}
 use Rattle.std.specs.Prelude.{slice_index}
-use Rattle.litmus.specs.declared.name.Name.{Name}
-use Rattle.recorder.specs.Event.{written_address}
-use Rattle.recorder.specs.Execution.{Execution, event_at}
+use Rattle.program.specs.declared.name.Name.{Name}
+use Rattle.recording.specs.Event.{written_address}
+use Rattle.recording.specs.Execution.{Execution, event_at}
 use Rattle.relations.specs.declared.reason.Reason.{Reason}
 use Rattle.relations.specs.declared.reason.Reason.TheVariants.{Po, Wo, Rf, Fr}
 use Rattle.relations.specs.Forced.{IsReason}

@@ -4,10 +4,10 @@ use Rattle.std.specs.Prelude.{Option, Some, None, codes, filter, find, take, dro
 use Rattle.std.specs.Prelude.{if◌then◌else◌, slice_index}
 use Rattle.std.specs.List.{flat_map, list_all}
 use Rattle.std.specs.Str.{bytes_eq}
-use Rattle.recorder.specs.declared.event.Event.{Event}
-use Rattle.recorder.specs.declared.event.Event.TheVariants.{L, S, R, C, F}
-use Rattle.recorder.specs.Event.{is_plain_store, is_plain_load}
-use Rattle.recorder.specs.Execution.{Execution, event_at, core_of}
+use Rattle.recording.specs.declared.event.Event.{Event}
+use Rattle.recording.specs.declared.event.Event.TheVariants.{L, S, R, C, F}
+use Rattle.recording.specs.Event.{is_plain_store, is_plain_load}
+use Rattle.recording.specs.Execution.{Execution, event_at, core_of}
 use Rattle.relations.specs.declared.reason.Reason.{Reason}
 use Rattle.relations.specs.declared.reason.Reason.TheVariants.{Po, Wo, Rf, Fr}
 use Rattle.relations.specs.Cycle.{behind}

@@ -2,8 +2,8 @@
 use Rattle.std.specs.Prelude.{◌≡◌, ◌++◌, [], ℕ, Bool, true, false, List, Option, Some, None, codes, decimal, length}
 use Rattle.std.specs.Prelude.{slice_index, if◌then◌else◌}
 use Rattle.std.specs.List.{flat_map}
-use Rattle.litmus.specs.declared.name.Name.{Name}
-use Rattle.recorder.specs.Execution.{Execution, event_count}
+use Rattle.program.specs.declared.name.Name.{Name}
+use Rattle.recording.specs.Execution.{Execution, event_count}
 use Rattle.relations.specs.declared.reason.Reason.{Reason}
 use Rattle.relations.specs.declared.reason.Reason.TheVariants.{Po, Wo, Rf, Fr}
 use Rattle.judge.specs.declared.verdict.Verdict.{Verdict}

@@ -2,9 +2,9 @@
 use Rattle.std.specs.Prelude.{◌+◌, ◌==◌, ◌&&◌, ℕ, Bool, Option, Some, None, List, nat_lt, slice_get}
 use Rattle.std.specs.Prelude.{if◌then◌else◌}
 use Rattle.std.specs.List.{list_any}
-use Rattle.recorder.specs.Event.{read_address, written_address}
-use Rattle.recorder.specs.Execution.{Execution, event_count, event_at, core_of, write_list, source_of}
-use Rattle.recorder.specs.Order.{place}
+use Rattle.recording.specs.Event.{read_address, written_address}
+use Rattle.recording.specs.Execution.{Execution, event_count, event_at, core_of, write_list, source_of}
+use Rattle.recording.specs.Order.{place}
 use Rattle.relations.specs.declared.reason.Reason.{Reason}
 use Rattle.relations.specs.declared.reason.Reason.TheVariants.{Po, Wo, Rf, Fr}
 use Rattle.explanation.specs.declared.edges.Edge.{Edge}

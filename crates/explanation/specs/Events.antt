@@ -1,12 +1,12 @@
 -- What is said of an event: a line with its number, its core, its operation and its values.
 use Rattle.std.specs.Prelude.{◌++◌, ◌∷◌, ◌-◌, [], ℕ, Option, Some, None, List, codes, decimal, length}
 use Rattle.std.specs.Prelude.{replicate}
-use Rattle.litmus.specs.declared.name.Name.{Name}
-use Rattle.litmus.specs.Names.{name_text}
-use Rattle.litmus.specs.Spelling.{name_at}
-use Rattle.recorder.specs.declared.event.Event.{Event}
-use Rattle.recorder.specs.declared.event.Event.TheVariants.{L, S, R, C, F}
-use Rattle.recorder.specs.Execution.{Execution, event_count, event_at, core_of}
+use Rattle.program.specs.declared.name.Name.{Name}
+use Rattle.program.specs.Names.{name_text}
+use Rattle.program.specs.Spelling.{name_at}
+use Rattle.recording.specs.declared.event.Event.{Event}
+use Rattle.recording.specs.declared.event.Event.TheVariants.{L, S, R, C, F}
+use Rattle.recording.specs.Execution.{Execution, event_count, event_at, core_of}
 
 -- how many digits a number has
 abbrev pub digits : ℕ → ℕ

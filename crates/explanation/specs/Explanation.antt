@@ -1,7 +1,7 @@
 -- A verdict in words.
 use Rattle.std.specs.Prelude.{◌≡◌, ℕ, List}
-use Rattle.litmus.specs.declared.name.Name.{Name}
-use Rattle.recorder.specs.Execution.{Execution}
+use Rattle.program.specs.declared.name.Name.{Name}
+use Rattle.recording.specs.Execution.{Execution}
 use Rattle.judge.specs.declared.verdict.Verdict.{Verdict}
 use Rattle.judge.specs.declared.verdict.Verdict.TheVariants.{Ordered, Overlook, Cycle}
 use Rattle.explanation.specs.Order.{order_text}

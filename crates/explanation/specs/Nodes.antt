@@ -2,9 +2,9 @@
 use Rattle.std.specs.Prelude.{◌++◌, ◌==◌, [], ℕ, zero, suc, Bool, true, false, Option, List, codes, decimal, is_some}
 use Rattle.std.specs.Prelude.{slice_index, if◌then◌else◌}
 use Rattle.std.specs.List.{find}
-use Rattle.litmus.specs.declared.name.Name.{Name}
-use Rattle.recorder.specs.declared.event.Event.{Event}
-use Rattle.recorder.specs.Execution.{Execution, event_count, event_at, core_of}
+use Rattle.program.specs.declared.name.Name.{Name}
+use Rattle.recording.specs.declared.event.Event.{Event}
+use Rattle.recording.specs.Execution.{Execution, event_count, event_at, core_of}
 use Rattle.explanation.specs.Edges.{po_edge}
 use Rattle.explanation.specs.Events.{event_text}
 use Rattle.explanation.specs.Gaps.{gap_text}

@@ -2,11 +2,11 @@
 use Rattle.std.specs.Prelude.{◌++◌, ◌∷◌, ◌-◌, ◌==◌, [], ℕ, List, Option, Some, None, codes, decimal}
 use Rattle.std.specs.Prelude.{nat_lt, slice_index, if◌then◌else◌}
 use Rattle.std.specs.List.{flat_map}
-use Rattle.litmus.specs.declared.name.Name.{Name}
-use Rattle.recorder.specs.declared.event.Event.{Event}
-use Rattle.recorder.specs.declared.event.Event.TheVariants.{L, S, R, C, F}
-use Rattle.recorder.specs.Execution.{Execution, event_at, write_list}
-use Rattle.recorder.specs.Order.{place}
+use Rattle.program.specs.declared.name.Name.{Name}
+use Rattle.recording.specs.declared.event.Event.{Event}
+use Rattle.recording.specs.declared.event.Event.TheVariants.{L, S, R, C, F}
+use Rattle.recording.specs.Execution.{Execution, event_at, write_list}
+use Rattle.recording.specs.Order.{place}
 use Rattle.explanation.specs.Events.{event_line, indent, address_text}
 
 -- where the write of a value stands in the order m: before the event, or behind it, and then the value was

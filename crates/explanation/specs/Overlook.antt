@@ -1,8 +1,8 @@
 -- An overlook in words: the store, the load, and what the load read instead.
 use Rattle.std.specs.Prelude.{◌++◌, ◌∷◌, [], ℕ, List, Option, Some, None, codes, decimal}
-use Rattle.litmus.specs.declared.name.Name.{Name}
-use Rattle.recorder.specs.Event.{written_address}
-use Rattle.recorder.specs.Execution.{Execution, event_at, source_of}
+use Rattle.program.specs.declared.name.Name.{Name}
+use Rattle.recording.specs.Event.{written_address}
+use Rattle.recording.specs.Execution.{Execution, event_at, source_of}
 use Rattle.explanation.specs.Diy.{overlook_line}
 use Rattle.explanation.specs.Events.{event_line, indent, written_text}
 

@@ -2,7 +2,7 @@
 -- order from top to bottom.
 use Rattle.std.specs.Prelude.{◌++◌, ◌==◌, ◌+◌, ◌-◌, [], ℕ, zero, suc, Bool, true, false, Option, Some, None, List}
 use Rattle.std.specs.Prelude.{codes, decimal, length, slice_index, if◌then◌else◌}
-use Rattle.recorder.specs.Execution.{Execution, core_of}
+use Rattle.recording.specs.Execution.{Execution, core_of}
 use Rattle.judge.specs.declared.verdict.Verdict.{Verdict}
 use Rattle.judge.specs.declared.verdict.Verdict.TheVariants.{Ordered, Overlook, Cycle}
 use Rattle.explanation.specs.Nodes.{texts_below, first_on_core}

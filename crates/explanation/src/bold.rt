@@ -10,7 +10,7 @@ ghost use Rattle.explanation.specs.Bold.{IsCycleEdge, AreCycleEdges, AreBold};
 use crate::edges::Edge;
 use common::{EventId, OutOfMemory};
 use judge::Verdict;
-use recorder::Recording;
+use recording::Recording;
 use relations::{Places, Reason, behind};
 use std::alloc::Global;
 

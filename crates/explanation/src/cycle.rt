@@ -14,8 +14,8 @@ use crate::numbers::put_text_and_number;
 use crate::pieces::put_text;
 use common::{Addr, EventId, OutOfMemory};
 use indexmap::IndexSet;
-use litmus::Name;
-use recorder::Recording;
+use program::Name;
+use recording::Recording;
 use relations::{Places, Reason, behind};
 use std::alloc::Global;
 

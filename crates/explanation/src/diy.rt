@@ -3,8 +3,8 @@
 ghost use Rattle.std.specs.Prelude.{◌≡◌, ◌++◌, ◌∷◌, ◌≤◌, [], ℕ, List, IfOk, OnOk, length, option_map};
 ghost use Rattle.std.specs.Prelude.{string_bytes};
 ghost use Rattle.std.specs.List.{flat_map, list_all};
-ghost use Rattle.recorder.specs.Event.{is_plain_store};
-ghost use Rattle.recorder.specs.Execution.{event_at};
+ghost use Rattle.recording.specs.Event.{is_plain_store};
+ghost use Rattle.recording.specs.Execution.{event_at};
 ghost use Rattle.explanation.specs.Diy.{IsDiyLine, IsStep, AreWordSteps, accesses, accessed, classic_of};
 ghost use Rattle.explanation.specs.Diy.{is_fence, is_plain, letter, pair_text, side_text, told_from, word};
 ghost use Rattle.explanation.specs.Diy.{IsNamedBehind, words_from, diy_line, overlook_line};
@@ -12,7 +12,7 @@ ghost use Rattle.explanation.specs.Diy.{IsNamedBehind, words_from, diy_line, ove
 use crate::lines::event_of;
 use crate::pieces::put_text;
 use common::{Addr, EventId, OutOfMemory};
-use recorder::{Event, Recording};
+use recording::{Event, Recording};
 use relations::{Places, Reason, behind};
 use std::alloc::Global;
 

@@ -15,8 +15,8 @@ use crate::ranks::{put_ranks, put_top};
 use common::{EventId, OutOfMemory};
 use indexmap::IndexSet;
 use judge::Verdict;
-use litmus::Name;
-use recorder::Recording;
+use program::Name;
+use recording::Recording;
 use std::alloc::Global;
 
 /// Whether the ranks are those of a memory order.

@@ -2,7 +2,7 @@
 
 ghost use Rattle.std.specs.Prelude.{◌≡◌, ◌++◌, OnOk, true};
 ghost use Rattle.std.specs.List.{flat_map};
-ghost use Rattle.recorder.specs.Execution.{event_count};
+ghost use Rattle.recording.specs.Execution.{event_count};
 ghost use Rattle.explanation.specs.Drawing.{ends_text, look_text, style_text, free_text, edge_line, thin_line};
 ghost use Rattle.explanation.specs.Drawing.{po_lines, thin_lines};
 ghost use Rattle.explanation.specs.Nodes.{texts_below};
@@ -12,7 +12,7 @@ use crate::gaps::{is_gap, number_at, put_gap_edges};
 use crate::numbers::put_text_and_number;
 use crate::pieces::put_text;
 use common::{EventId, OutOfMemory};
-use recorder::Recording;
+use recording::Recording;
 use relations::Reason;
 
 /// Adds from which event an edge goes to which.

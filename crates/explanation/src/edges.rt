@@ -7,7 +7,7 @@ ghost use Rattle.explanation.specs.Edges.{is_same_edge, is_drawn};
 
 use crate::lines::event_of;
 use common::{Addr, EventId};
-use recorder::{Recording, place};
+use recording::{Recording, place};
 use relations::Reason;
 
 /// An edge from one event to another, with the reason for it.

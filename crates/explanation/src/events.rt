@@ -1,15 +1,15 @@
 //! What an event did.
 
 ghost use Rattle.std.specs.Prelude.{◌≡◌, ◌++◌, ◌∷◌, OnOk, Some, codes, decimal};
-ghost use Rattle.recorder.specs.declared.event.Event.TheVariants.{L, S, R, C};
+ghost use Rattle.recording.specs.declared.event.Event.TheVariants.{L, S, R, C};
 ghost use Rattle.explanation.specs.Events.{address_text, written_text, source_text, read_text, event_text};
 
 use crate::numbers::put_text_and_number;
 use crate::pieces::put_text;
 use common::{Addr, EventId, OutOfMemory};
 use indexmap::IndexSet;
-use litmus::Name;
-use recorder::Event;
+use program::Name;
+use recording::Event;
 
 /// Adds the name of an address.
 pub(crate) fn put_address(

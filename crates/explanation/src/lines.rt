@@ -1,7 +1,7 @@
 //! The lines of events.
 
 ghost use Rattle.std.specs.Prelude.{◌≡◌, ◌++◌, OnOk, codes, decimal};
-ghost use Rattle.recorder.specs.Execution.{event_at, core_of};
+ghost use Rattle.recording.specs.Execution.{event_at, core_of};
 ghost use Rattle.explanation.specs.Events.{event_width, core_width, aligned, event_line, indent};
 
 use crate::events::put_event;
@@ -9,8 +9,8 @@ use crate::numbers::{digits, put_aligned, put_spaces, put_text_and_number};
 use crate::pieces::put_text;
 use common::{CoreId, EventId, OutOfMemory};
 use indexmap::IndexSet;
-use litmus::Name;
-use recorder::{Event, Recording};
+use program::Name;
+use recording::{Event, Recording};
 
 /// How many digits the greatest number of an event has.
 fn event_width(recording: &Recording) -> usize

@@ -12,8 +12,8 @@ use crate::numbers::{put_number, put_text_and_number};
 use crate::pieces::put_text;
 use common::{Addr, EventId, OutOfMemory};
 use indexmap::IndexSet;
-use litmus::Name;
-use recorder::{Event, Recording, place};
+use program::Name;
+use recording::{Event, Recording, place};
 
 /// Adds that no write of an address is before an event.
 fn put_no_write(out: &mut Vec<u8>, names: &IndexSet<Name>, address: Addr) -> Result<(), OutOfMemory>

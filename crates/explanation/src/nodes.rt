@@ -1,7 +1,7 @@
 //! The events of a picture, a cluster for each core that has a drawn event.
 
 ghost use Rattle.std.specs.Prelude.{◌≡◌, ◌++◌, ◌<◌, OnOk, length, slice_index};
-ghost use Rattle.recorder.specs.Execution.{event_count, event_at};
+ghost use Rattle.recording.specs.Execution.{event_count, event_at};
 ghost use Rattle.explanation.specs.Nodes.{texts_below, first_on_core, node_heading, node_line, node_lines};
 ghost use Rattle.explanation.specs.Nodes.{node_of_core, cluster_heading, head_line, cluster_lines, cluster_text};
 
@@ -13,8 +13,8 @@ use crate::numbers::put_text_and_number;
 use crate::pieces::put_text;
 use common::{EventId, OutOfMemory};
 use indexmap::IndexSet;
-use litmus::Name;
-use recorder::{Event, Recording};
+use program::Name;
+use recording::{Event, Recording};
 
 /// The first of the numbers that is an event of a core.
 pub(crate) fn first_on_core(

@@ -1,8 +1,8 @@
 //! An overlook in words.
 
 ghost use Rattle.std.specs.Prelude.{◌≡◌, ◌++◌, OnOk, codes, decimal};
-ghost use Rattle.recorder.specs.Event.{written_address};
-ghost use Rattle.recorder.specs.Execution.{event_at, source_of};
+ghost use Rattle.recording.specs.Event.{written_address};
+ghost use Rattle.recording.specs.Execution.{event_at, source_of};
 ghost use Rattle.explanation.specs.Diy.{overlook_line};
 ghost use Rattle.explanation.specs.Events.{written_text};
 ghost use Rattle.explanation.specs.Overlook.{overlook_heading, store_line, instead_lines, overlook_text};
@@ -14,8 +14,8 @@ use crate::numbers::{put_number, put_text_and_number};
 use crate::pieces::put_text;
 use common::{Addr, EventId, OutOfMemory};
 use indexmap::IndexSet;
-use litmus::Name;
-use recorder::Recording;
+use program::Name;
+use recording::Recording;
 
 /// Adds what is said first of an overlook.
 fn put_heading(out: &mut Vec<u8>, load: EventId, store: EventId) -> Result<(), OutOfMemory>

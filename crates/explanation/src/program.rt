@@ -3,9 +3,9 @@
 ghost use Rattle.std.specs.Prelude.{◌≡◌, ◌↔◌, IsTrue};
 ghost use Rattle.explanation.specs.Program.{Makes, AreOpsOf, IsProgramOf};
 
-use litmus::{Op, Program};
+use program::{Op, Program};
 use machine::event_of;
-use recorder::{Event, Recording};
+use recording::{Event, Recording};
 
 /// Whether an operation makes an event, from the value that the event read and its source.
 fn makes(op: Op, event: &Event) -> bool

@@ -12,7 +12,7 @@ use crate::numbers::put_text_and_number;
 use crate::pieces::put_text;
 use common::{EventId, OutOfMemory};
 use judge::Verdict;
-use recorder::Recording;
+use recording::Recording;
 
 /// Adds the topmost node of a core whose first drawn event is this one.
 fn put_top_node(

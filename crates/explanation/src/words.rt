@@ -10,8 +10,8 @@ use crate::overlook::put_overlook;
 use common::OutOfMemory;
 use indexmap::IndexSet;
 use judge::Verdict;
-use litmus::Name;
-use recorder::Recording;
+use program::Name;
+use recording::Recording;
 use std::alloc::Global;
 
 /// A verdict that holds of the recording, in words, with these names of its addresses: of a cycle each

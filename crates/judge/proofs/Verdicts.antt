@@ -1,6 +1,6 @@
 -- What a table of the forced pairs gives is what the forced pairs have.
 use Rattle.std.proofs.Common.{◌≡◌, ℕ, List, length, subst}
-use Rattle.recorder.specs.Execution.{Execution, event_count}
+use Rattle.recording.specs.Execution.{Execution, event_count}
 use Rattle.relations.specs.Forced.{Forced}
 use Rattle.relations.specs.Relation.{Table, Related}
 use Rattle.relations.specs.Cycle.{IsCycle, IsLeastCycle, AreExactRows, IsCertificate}
@@ -8,7 +8,7 @@ use Rattle.relations.specs.Respects.{IsLeastOrder}
 use Rattle.relations.specs.Verdict.{HasNoOrder, HasNoOverlook}
 use Rattle.relations.specs.Laws.{Agree, EveryOrderRespects, EveryRespectingIsOrder, OrderedIsAcyclic}
 use Rattle.relations.specs.Laws.{LeastOrdersAgree, LeastCyclesAgree, ExactRowsAgree, CertificatesAgree}
-use Rattle.recorder.specs.Tso.{IsWellFormed}
+use Rattle.recording.specs.Tso.{IsWellFormed}
 use Rattle.labels.specs.Certified.{lists_of}
 use Rattle.labels.specs.declared.certificate.Certificate.{Certificate}
 use Rattle.judge.specs.Verdict.{IsCycleVerdict, IsLeastCertificate, IsOrderedVerdict}

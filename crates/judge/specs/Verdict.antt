@@ -1,7 +1,7 @@
 -- What is judged of an execution, and what the check of a verdict asks.
 use Rattle.std.specs.Prelude.{ℕ, List, length}
-use Rattle.recorder.specs.Execution.{Execution, event_count}
-use Rattle.recorder.specs.Tso.{IsTsoOrder}
+use Rattle.recording.specs.Execution.{Execution, event_count}
+use Rattle.recording.specs.Tso.{IsTsoOrder}
 use Rattle.relations.specs.Forced.{Forced, Overlooks, IsLeastOverlook}
 use Rattle.relations.specs.Relation.{Table, Related}
 use Rattle.relations.specs.Cycle.{ComesFirst, IsShortest, IsLeastCycle, AreExactRows, IsCertificate}

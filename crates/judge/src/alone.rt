@@ -10,7 +10,7 @@ use crate::verdict::Verdict;
 use common::OutOfMemory;
 use labels::Certificate;
 use order::build;
-use recorder::Recording;
+use recording::Recording;
 use relations::{Relation, forced_is_exact, ordered_is_acyclic, overlook, relation_is_forced};
 use search::shortest_cycle;
 use std::alloc::Global;

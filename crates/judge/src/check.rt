@@ -5,7 +5,7 @@ ghost use Rattle.judge.specs.Verdict.{Verifies, Means};
 
 use crate::verdict::Verdict;
 use common::OutOfMemory;
-use recorder::Recording;
+use recording::Recording;
 use relations::{Relation, forced_is_exact, is_overlook, ordered_is_acyclic, relation_is_forced};
 use std::alloc::Global;
 

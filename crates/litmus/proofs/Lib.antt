@@ -1,11 +1,4 @@
-pub mod Values
-pub mod OnLists
-pub mod ManyNames
-pub mod OneLine
-pub mod OneStep
-pub mod OneDraft
-pub mod OneText
-pub mod Cuts
-pub mod CoresAgain
-pub mod Again
-pub mod Soundness
+pub mod Initial
+pub mod Parsing
+pub mod Drawn
+pub mod NextWords

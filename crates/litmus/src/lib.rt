@@ -1,29 +1,17 @@
-//! Litmus programs, and the law of their texts.
+//! Litmus programs, their texts, and random ones.
 #![tactic(auto)]
 
-mod fault;
-mod lawful;
+mod builder;
+mod growing;
 mod line;
-mod line_error;
-mod name;
-mod naming;
-mod number;
-mod one_text;
-mod op;
-mod program;
-mod same;
-mod shape;
-mod shape_error;
+mod random;
+mod reader;
+mod text;
+mod writing;
 
-pub use fault::{LineFault, LitmusError};
-pub use lawful::are_below;
-pub use line::{Write, space_in};
-pub use line_error::LineError;
-pub use name::{Name, name_at};
-pub use naming::{address_name, address_names};
-pub use number::{Number, decimal};
-pub use one_text::has_one_text;
-pub use op::{Op, Ops};
-pub use program::Program;
-pub use shape::{Shape, is_outside};
-pub use shape_error::ShapeError;
+pub use common::{Addr, CoreId, EventId, Gate, OpenGate};
+pub use common::{MAX_ADDRESSES, MAX_CAPACITY, MAX_CORES, MAX_EVENTS, MAX_STEPS, MAX_TRIALS, MAX_WORKERS};
+pub use program::{LitmusError, Name, Op, Program, Shape, ShapeError};
+pub use random::generate;
+pub use text::parse;
+pub use writing::print;

@@ -1,6 +1,6 @@
 -- What threads that drive a machine give.
 use Rattle.std.specs.Prelude.{◌≡◌, ℕ, ⊤}
-use Rattle.litmus.specs.Parts.{Parts}
+use Rattle.program.specs.Parts.{Parts}
 use Rattle.machine.specs.declared.fault.Fault.TheVariants.{None}
 use Rattle.live.specs.declared.error.LiveError.{LiveError}
 use Rattle.live.specs.declared.error.LiveError.TheVariants.{Blocked, TraceFull, NoThread, Stranger}

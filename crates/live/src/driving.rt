@@ -1,7 +1,7 @@
 //! Threads that drive a machine to its end.
 
 ghost use Rattle.std.specs.Prelude.{◌≡◌, ◌↔◌, IsTrue, IfOk, IfErr};
-ghost use Rattle.recorder.specs.Tso.{IsTsoOrder};
+ghost use Rattle.recording.specs.Tso.{IsTsoOrder};
 ghost use Rattle.machine.specs.Configuration.{recording_of, IsAtEnd};
 ghost use Rattle.live.specs.Trace.{IsTrace, IsEnded};
 ghost use Rattle.live.specs.Driven.{IsGiven, IsDriveError, IsThreadError};
@@ -10,7 +10,7 @@ use crate::crew::Crew;
 use crate::error::LiveError;
 use crate::traced::Traced;
 use common::{CoreId, Gate, OutOfMemory};
-use litmus::Program;
+use program::Program;
 use machine::{Fault, Machine};
 use std::alloc::Global;
 use std::sync::Wait;

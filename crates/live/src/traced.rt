@@ -39,7 +39,7 @@ impl Drop for Traced {
 impl Traced {
     ghost use Rattle.std.specs.Prelude.{◌≡◌, ◌≤◌, ◌<◌, ◌↔◌, [], IsTrue, IfOk, IfErr, OnOk, OnErr, Ok, Err};
     ghost use Rattle.std.specs.Prelude.{length};
-    ghost use Rattle.recorder.specs.Tso.{IsTsoOrder};
+    ghost use Rattle.recording.specs.Tso.{IsTsoOrder};
     ghost use Rattle.machine.specs.declared.fault.Fault.TheVariants as fault;
     ghost use Rattle.machine.specs.Configuration.{recording_of, IsAtEnd};
     ghost use Rattle.machine.specs.Taken.{begun};

@@ -5,7 +5,7 @@ ghost use Rattle.std.specs.Prelude.{◌<◌, length};
 use crate::error::LiveError;
 use crate::traced::Traced;
 use common::{Addr, CoreId};
-use litmus::Op;
+use program::Op;
 use machine::{Blocked, Machine, Step};
 
 /// What came of a thread's turn.

@@ -8,8 +8,8 @@ use Rattle.std.proofs.lemmas.List.{get_or-append_right}
 use Rattle.std.proofs.lemmas.List.Sums.{sum_by-cons}
 use Rattle.std.proofs.lemmas.Bool.{cases_lt}
 use Rattle.common.specs.declared.limits.TheConstants.{MAX_EVENTS}
-use Rattle.litmus.specs.declared.op.Op.{Op}
-use Rattle.litmus.specs.Parts.{Parts, IsWithin, op_count}
+use Rattle.program.specs.declared.op.Op.{Op}
+use Rattle.program.specs.Parts.{Parts, IsWithin, op_count}
 use Rattle.write_buffer.specs.Buffer.{Buffer}
 use Rattle.core_unit.specs.Progress.{Progress}
 use Rattle.machine.specs.BoundedItems.{BoundedItems}

@@ -7,15 +7,15 @@ use Rattle.std.specs.Prelude.{◌==◌}
 use Rattle.std.specs.List.{All, filter}
 use Rattle.std.proofs.lemmas.List.{get_or_past, map-append}
 use Rattle.std.proofs.lemmas.Bool.{cases_eq, cases_lt, eq-eqb}
-use Rattle.litmus.specs.declared.op.Op.{Op}
-use Rattle.litmus.specs.declared.op.Op.TheVariants.{St, Ld, Fence, Swap, Add, Cas}
-use Rattle.litmus.specs.Parts.{IsWithin}
-use Rattle.recorder.specs.Event.{written_address, source, value_read, value_written}
-use Rattle.recorder.specs.Execution.{placed_from, event_at, write_list, Reads, Writes}
-use Rattle.recorder.specs.Order.{times}
-use Rattle.recorder.specs.Tso.{Gives, IsWellFormed}
-use Rattle.recorder.specs.OrderLaws.{times_nil, times_here, times_append}
-use Rattle.recorder.specs.EventLaws.{Reads-event, Writes-event}
+use Rattle.program.specs.declared.op.Op.{Op}
+use Rattle.program.specs.declared.op.Op.TheVariants.{St, Ld, Fence, Swap, Add, Cas}
+use Rattle.program.specs.Parts.{IsWithin}
+use Rattle.recording.specs.Event.{written_address, source, value_read, value_written}
+use Rattle.recording.specs.Execution.{placed_from, event_at, write_list, Reads, Writes}
+use Rattle.recording.specs.Order.{times}
+use Rattle.recording.specs.Tso.{Gives, IsWellFormed}
+use Rattle.recording.specs.OrderLaws.{times_nil, times_here, times_append}
+use Rattle.recording.specs.EventLaws.{Reads-event, Writes-event}
 use Rattle.write_buffer.specs.declared.entry.Entry.{Entry}
 use Rattle.write_buffer.specs.Buffer.{youngest, or_else}
 use Rattle.machine.specs.declared.step.Step.{Step}

@@ -9,13 +9,13 @@ use Rattle.std.proofs.lemmas.List.{map-set, get_or_default, get_or-map, length-m
 use Rattle.std.proofs.lemmas.Option.{slice_get_within, get_or_from_slice_get}
 use Rattle.std.proofs.lemmas.Bool.{cases_eq, lt-ltb}
 use Rattle.common.specs.declared.limits.TheConstants.{MAX_EVENTS}
-use Rattle.litmus.specs.declared.op.Op.{Op}
-use Rattle.litmus.specs.declared.op.Op.TheVariants.{St, Ld, Fence}
-use Rattle.litmus.specs.Parts.{Parts, IsWithin, op_count}
+use Rattle.program.specs.declared.op.Op.{Op}
+use Rattle.program.specs.declared.op.Op.TheVariants.{St, Ld, Fence}
+use Rattle.program.specs.Parts.{Parts, IsWithin, op_count}
 use Rattle.write_buffer.specs.declared.entry.Entry.{Entry}
 use Rattle.write_buffer.specs.Buffer.{Buffer}
 use Rattle.core_unit.specs.Progress.{Progress}
-use Rattle.recorder.specs.Event.{value_written}
+use Rattle.recording.specs.Event.{value_written}
 use Rattle.moesi.specs.declared.error.CacheError.{CacheError}
 use Rattle.machine.specs.declared.blocked.Blocked.TheVariants.{B5}
 use Rattle.moesi.specs.State as moesi
@@ -26,7 +26,7 @@ use Rattle.machine.specs.State.{first_event, event_of}
 use Rattle.machine.specs.Step.{exec, read_modify_written, read_unmodified, IsAt, forwarded_or_read}
 use Rattle.machine.specs.BoundedItems.{BoundedItems}
 use Rattle.machine.specs.Configuration.{IsSound, IsEntry, state_from, places_of}
-use Rattle.recorder.specs.PlacedLaws.{placed_at, placed_total}
+use Rattle.recording.specs.PlacedLaws.{placed_at, placed_total}
 use Rattle.machine.proofs.Static.{first_within}
 
 -- each core is within its operations, so all together are

@@ -3,16 +3,16 @@ use Rattle.std.proofs.Common.{◌≡◌, ◌≢◌, ◌<◌, ◌+◌, ◌⊎◌,
 use Rattle.std.proofs.Common.{◌∷◌, ◌++◌, map, length, get_or, slice_set, arith, sym, ap, subst, ◌∙◌}
 use Rattle.std.proofs.Common.{get_or-set_same, get_or-set_other}
 use Rattle.std.proofs.lemmas.List.{map-append}
-use Rattle.litmus.specs.declared.op.Op.{Op}
-use Rattle.litmus.specs.declared.op.Op.TheVariants.{Fence}
+use Rattle.program.specs.declared.op.Op.{Op}
+use Rattle.program.specs.declared.op.Op.TheVariants.{Fence}
 use Rattle.write_buffer.specs.declared.entry.Entry.{Entry}
-use Rattle.recorder.specs.Event.{written_address}
+use Rattle.recording.specs.Event.{written_address}
 use Rattle.machine.specs.State.{State, place_of, buffer_of, first_event, event_of}
 use Rattle.machine.proofs.Seen.{IsCounted, IsOrdered, seen, IsNewest}
 use Rattle.machine.proofs.Counting.{counted_kept, Issues, issue_counts, Performs, perform_counts}
 use Rattle.machine.proofs.Ordering.{ordered_kept, issue_orders, perform_orders}
 use Rattle.machine.proofs.Rewritten.{counted_rewritten, ordered_rewritten, newest_rewritten}
-use Rattle.recorder.specs.PlacedLaws.{placed_at}
+use Rattle.recording.specs.PlacedLaws.{placed_at}
 use Rattle.machine.proofs.Static.{static_of, snapshot_of, placed_op, op_reads, is_st, is_ld}
 
 -- core c is at the operation op, whose event is b

@@ -2,9 +2,9 @@
 -- last writes.
 use Rattle.std.proofs.Common.{◌≡◌, ◌<◌, inl, inr, ℕ, Option, Some, None, Ok, List, [], ◌∷◌, length, get_or}
 use Rattle.std.proofs.Common.{slice_set, arith, refl, sym, ap, subst, ◌∙◌, get_or-set_same, get_or-set_other}
-use Rattle.litmus.specs.declared.op.Op.{Op}
-use Rattle.litmus.specs.declared.op.Op.TheVariants.{St, Ld, Fence}
-use Rattle.recorder.specs.Event.{written_address}
+use Rattle.program.specs.declared.op.Op.{Op}
+use Rattle.program.specs.declared.op.Op.TheVariants.{St, Ld, Fence}
+use Rattle.recording.specs.Event.{written_address}
 use Rattle.write_buffer.specs.declared.entry.Entry.{Entry}
 use Rattle.write_buffer.specs.Buffer.{youngest}
 use Rattle.moesi.specs.State as moesi

@@ -4,15 +4,15 @@ use Rattle.std.proofs.Common.{List, [], ◌∷◌, ◌++◌, map, get_or, arith,
 use Rattle.std.specs.Prelude.{◌==◌}
 use Rattle.std.proofs.lemmas.Bool.{cases_eq, eq-eqb}
 use Rattle.std.proofs.lemmas.Bool.Decides.{nat_tests}
-use Rattle.recorder.specs.Order.{times, Before}
-use Rattle.recorder.specs.OrderLaws.{place_in, place_here, place_there, times_here, times_there, times_nil}
-use Rattle.recorder.specs.OrderLaws.{times_append, cases_times, before_in_right, left_before_right}
-use Rattle.litmus.specs.declared.op.Op.{Op}
+use Rattle.recording.specs.Order.{times, Before}
+use Rattle.recording.specs.OrderLaws.{place_in, place_here, place_there, times_here, times_there, times_nil}
+use Rattle.recording.specs.OrderLaws.{times_append, cases_times, before_in_right, left_before_right}
+use Rattle.program.specs.declared.op.Op.{Op}
 use Rattle.write_buffer.specs.declared.entry.Entry.{Entry}
 use Rattle.write_buffer.specs.Buffer.{youngest, or_else}
 use Rattle.machine.specs.State.{State, event_of}
 use Rattle.machine.proofs.Seen.{IsNewest}
-use Rattle.recorder.specs.Event.{written_address}
+use Rattle.recording.specs.Event.{written_address}
 use Rattle.machine.proofs.Static.{static_of, done_by}
 use Rattle.machine.proofs.Drains.{AreStores}
 

@@ -3,9 +3,9 @@ use Rattle.std.proofs.Common.{◌≡◌, ◌≢◌, ◌<◌, ◌≤◌, ◌+◌,
 use Rattle.std.proofs.Common.{None, List, [], ◌∷◌, ◌++◌, arith, refl, sym, ap, subst, ◌∙◌}
 use Rattle.std.specs.List.{filter}
 use Rattle.std.proofs.lemmas.Bool.{cases_eq}
-use Rattle.recorder.specs.Order.{place, times, Before}
-use Rattle.recorder.specs.OrderLaws.{place_in, times_in, place_here, place_there, place_nil, times_here}
-use Rattle.recorder.specs.OrderLaws.{times_there, times_nil, times_append, cases_times, before_in_left}
+use Rattle.recording.specs.Order.{place, times, Before}
+use Rattle.recording.specs.OrderLaws.{place_in, times_in, place_here, place_there, place_nil, times_here}
+use Rattle.recording.specs.OrderLaws.{times_there, times_nil, times_append, cases_times, before_in_left}
 use Rattle.machine.proofs.Seen.{Static, IsNewest}
 
 -- the last of a list

@@ -1,8 +1,8 @@
 -- Each fault changes one row of the table of steps.
 use Rattle.std.proofs.Common.{◌≡◌, ℕ, false, cond, Option, Some, None, Result, Err, List, [], refl, ap}
 use Rattle.std.proofs.Common.{slice_get, slice_index_or, nat_lt, length}
-use Rattle.litmus.specs.declared.op.Op.{Op}
-use Rattle.litmus.specs.declared.op.Op.TheVariants.{St, Ld, Fence, Swap, Add, Cas}
+use Rattle.program.specs.declared.op.Op.{Op}
+use Rattle.program.specs.declared.op.Op.TheVariants.{St, Ld, Fence, Swap, Add, Cas}
 use Rattle.machine.specs.declared.fault.Fault.{Fault}
 use Rattle.machine.specs.declared.fault.Fault.TheVariants as fault
 use Rattle.machine.specs.declared.step.Step.TheVariants.{Exec, Drain, GetS, GetM, Put}

@@ -5,19 +5,19 @@ use Rattle.std.specs.Prelude.{◌==◌}
 use Rattle.std.specs.List.{All, sum_by}
 use Rattle.std.proofs.lemmas.List.{length-replicate, get_or-replicate, get_or_past, length-map}
 use Rattle.std.proofs.lemmas.Bool.{cases_lt}
-use Rattle.recorder.specs.Execution.{placed_from}
-use Rattle.recorder.specs.Order.{times}
-use Rattle.recorder.specs.OrderLaws.{times_nil}
-use Rattle.litmus.specs.declared.op.Op.{Op}
-use Rattle.litmus.specs.declared.op.Op.TheVariants.{St, Ld, Fence, Swap, Add, Cas}
+use Rattle.recording.specs.Execution.{placed_from}
+use Rattle.recording.specs.Order.{times}
+use Rattle.recording.specs.OrderLaws.{times_nil}
+use Rattle.program.specs.declared.op.Op.{Op}
+use Rattle.program.specs.declared.op.Op.TheVariants.{St, Ld, Fence, Swap, Add, Cas}
 use Rattle.write_buffer.specs.declared.entry.Entry.{Entry}
 use Rattle.machine.specs.State.{opening, event_of}
-use Rattle.litmus.specs.Parts.{IsWithin}
-use Rattle.recorder.specs.declared.event.Event.TheVariants.{R, C}
-use Rattle.recorder.specs.Event.{written_address}
+use Rattle.program.specs.Parts.{IsWithin}
+use Rattle.recording.specs.declared.event.Event.TheVariants.{R, C}
+use Rattle.recording.specs.Event.{written_address}
 use Rattle.moesi.specs.Block.{block_with}
 use Rattle.moesi.specs.CacheLaws.{opening_with_is_coherent}
-use Rattle.recorder.specs.PlacedLaws.{located, placed_total}
+use Rattle.recording.specs.PlacedLaws.{located, placed_total}
 use Rattle.machine.specs.PlaceLaws.{event_behind, event_op}
 use Rattle.machine.proofs.Static.{static_of, snapshot_of, placed_op, op_reads}
 use Rattle.machine.proofs.Newest.{last_of, last_nil}

@@ -2,10 +2,10 @@
 use Rattle.std.proofs.Common.{◌≡◌, ◌≤◌, length, arith}
 use Rattle.std.specs.List.{sum_by}
 use Rattle.common.specs.declared.limits.TheConstants.{MAX_CORES, MAX_EVENTS, MAX_ADDRESSES}
-use Rattle.litmus.specs.Parts.{Parts}
-use Rattle.recorder.specs.Recording.{IsRecording}
+use Rattle.program.specs.Parts.{Parts}
+use Rattle.recording.specs.Recording.{IsRecording}
 use Rattle.machine.specs.State.{State, recorded, IsComplete}
-use Rattle.recorder.specs.PlacedLaws.{placed_total}
+use Rattle.recording.specs.PlacedLaws.{placed_total}
 use Rattle.machine.specs.RecordedLaws.{count_is, cores_length}
 use Rattle.machine.proofs.Data.{IsData, complete_well_formed, complete_addresses}
 

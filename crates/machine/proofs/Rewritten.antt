@@ -1,7 +1,7 @@
 -- What an event writes may depend on what it reads: until it is executed, nothing looks at it.
 use Rattle.std.proofs.Common.{◌≡◌, ◌≢◌, ◌<◌, ◌⊎◌, inl, inr, ℕ, Option, Some, None, arith, sym, ap, ◌∙◌}
-use Rattle.recorder.specs.Order.{times, Before}
-use Rattle.recorder.specs.OrderLaws.{times_in}
+use Rattle.recording.specs.Order.{times, Before}
+use Rattle.recording.specs.OrderLaws.{times_in}
 use Rattle.machine.proofs.Seen.{Static, Snapshot, seen, Own, CanSee, IsLast, IsNewest, IsCounted, IsOrdered}
 use Rattle.machine.proofs.Seen.{performed_is_seen}
 

@@ -5,9 +5,9 @@ use Rattle.std.proofs.Common.{slice_index_or, arith, refl, sym, ap, subst, ◌�
 use Rattle.std.specs.Prelude.{◌==◌}
 use Rattle.std.proofs.lemmas.Bool.{ltb-true}
 use Rattle.std.proofs.lemmas.Option.{slice_get_within, get_or_from_slice_get}
-use Rattle.litmus.specs.declared.op.Op.{Op}
-use Rattle.litmus.specs.declared.op.Op.TheVariants.{St, Ld, Fence, Swap, Add, Cas}
-use Rattle.recorder.specs.Event.{written_address}
+use Rattle.program.specs.declared.op.Op.{Op}
+use Rattle.program.specs.declared.op.Op.TheVariants.{St, Ld, Fence, Swap, Add, Cas}
+use Rattle.recording.specs.Event.{written_address}
 use Rattle.moesi.specs.State as moesi
 use Rattle.moesi.specs.Laws.{IsTransaction, IsAnyTransaction}
 use Rattle.moesi.specs.declared.error.CacheError.{CacheError}

@@ -8,11 +8,11 @@ use Rattle.std.proofs.lemmas.List.{length-append}
 use Rattle.std.proofs.lemmas.List.Elements.{All-nil, All-push}
 use Rattle.std.proofs.lemmas.Option.{cond_some}
 use Rattle.common.specs.declared.limits.TheConstants.{MAX_STEPS}
-use Rattle.litmus.specs.declared.name.Name.{Name}
-use Rattle.litmus.specs.Names.{name_eq}
-use Rattle.litmus.specs.Parts.{Parts}
-use Rattle.litmus.specs.TestLaws.{cases_of}
-use Rattle.litmus.specs.ReadingLaws.{kept}
+use Rattle.program.specs.declared.name.Name.{Name}
+use Rattle.program.specs.Names.{name_eq}
+use Rattle.program.specs.Parts.{Parts}
+use Rattle.program.specs.TestLaws.{cases_of}
+use Rattle.program.specs.ReadingLaws.{kept}
 use Rattle.machine.specs.declared.script_line.Own.{Own}
 use Rattle.machine.specs.declared.script_line.Own.TheVariants.{Exec, Drain}
 use Rattle.machine.specs.declared.script_line.Transaction.{Transaction}

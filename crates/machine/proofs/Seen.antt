@@ -2,9 +2,9 @@
 use Rattle.std.proofs.Common.{◌≡◌, ◌≢◌, ◌<◌, ◌≤◌, ◌+◌, ◌⊎◌, inl, inr, ℕ, Bool, true, false, ◌&&◌, Option}
 use Rattle.std.proofs.Common.{Some, None, List, ◌∷◌, ◌++◌, arith, refl, sym, ap, subst}
 use Rattle.std.proofs.lemmas.Bool.{cases_eq}
-use Rattle.recorder.specs.Order.{times, Before}
-use Rattle.recorder.specs.OrderLaws.{place_in, times_in, times_here, times_there, times_append}
-use Rattle.recorder.specs.OrderLaws.{place_append_left, place_append_right, cases_times, inserted, removed}
+use Rattle.recording.specs.Order.{times, Before}
+use Rattle.recording.specs.OrderLaws.{place_in, times_in, times_here, times_there, times_append}
+use Rattle.recording.specs.OrderLaws.{place_append_left, place_append_right, cases_times, inserted, removed}
 
 -- what is known of the events: their number, their cores, what they write and read, and which are plain
 -- stores or loads

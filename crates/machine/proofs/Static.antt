@@ -3,11 +3,11 @@ use Rattle.std.proofs.Common.{◌≡◌, ◌<◌, ◌≤◌, ◌+◌, ℕ, zero,
 use Rattle.std.proofs.Common.{◌∷◌, map, take, length, get_or, arith, ap, ◌∙◌}
 use Rattle.std.specs.List.{sum_by}
 use Rattle.std.proofs.lemmas.List.Sums.{sum_by-cons}
-use Rattle.recorder.specs.Execution.{placed_from}
-use Rattle.recorder.specs.declared.event.Event.{Event}
-use Rattle.recorder.specs.Event.{written_address}
-use Rattle.litmus.specs.declared.op.Op.{Op}
-use Rattle.litmus.specs.declared.op.Op.TheVariants.{St, Ld, Fence, Swap, Add, Cas}
+use Rattle.recording.specs.Execution.{placed_from}
+use Rattle.recording.specs.declared.event.Event.{Event}
+use Rattle.recording.specs.Event.{written_address}
+use Rattle.program.specs.declared.op.Op.{Op}
+use Rattle.program.specs.declared.op.Op.TheVariants.{St, Ld, Fence, Swap, Add, Cas}
 use Rattle.machine.specs.State.{State, place_of, buffer_of, first_event, event_of}
 pub use Rattle.machine.specs.Orderly.{placed_op, is_st, is_ld}
 use Rattle.machine.proofs.Seen.{Static, Snapshot}

@@ -4,11 +4,11 @@ use Rattle.std.proofs.Common.{◌≡◌, ◌<◌, ◌≤◌, ◌+◌, inl, inr, 
 use Rattle.std.proofs.Common.{map, length, get_or, slice_set, arith, refl, sym, ap, subst, ◌∙◌}
 use Rattle.std.proofs.Common.{get_or-set_same, get_or-set_other, length-set}
 use Rattle.std.proofs.lemmas.Bool.{cases_eq}
-use Rattle.litmus.specs.declared.op.Op.{Op}
-use Rattle.litmus.specs.declared.op.Op.TheVariants.{St, Ld, Fence}
-use Rattle.recorder.specs.Event.{written_address}
-use Rattle.recorder.specs.Order.{times}
-use Rattle.recorder.specs.OrderLaws.{times_append, cases_times}
+use Rattle.program.specs.declared.op.Op.{Op}
+use Rattle.program.specs.declared.op.Op.TheVariants.{St, Ld, Fence}
+use Rattle.recording.specs.Event.{written_address}
+use Rattle.recording.specs.Order.{times}
+use Rattle.recording.specs.OrderLaws.{times_append, cases_times}
 use Rattle.write_buffer.specs.declared.entry.Entry.{Entry}
 use Rattle.moesi.specs.State as moesi
 use Rattle.moesi.specs.Laws.{IsAnyTransaction}

@@ -3,8 +3,8 @@ use Rattle.std.proofs.Common.{◌≡◌, ◌<◌, ◌≤◌, ◌-◌, ◌==◌, 
 use Rattle.std.proofs.Common.{slice_range, arith, refl, sym, ◌∙◌, length-drop, length-take-le}
 use Rattle.std.proofs.lemmas.List.{drop_all}
 use Rattle.std.proofs.lemmas.Bool.{eq-eqb, ne_eqb}
-use Rattle.litmus.specs.Reading.{Reading}
-use Rattle.litmus.specs.ReadingLaws.{ReadsOn}
+use Rattle.program.specs.Reading.{Reading}
+use Rattle.program.specs.ReadingLaws.{ReadsOn}
 
 module _ {S F : Type 0} (step : S → List ℕ → Result S F) (unended : F) (text : List ℕ) (whole : Reading S F)
     (k : ℕ) (s : S) (start i : ℕ) (reads : ReadsOn step unended text whole k s start i)

@@ -1,6 +1,6 @@
 -- What a transaction does to the parts of a machine.
 use Rattle.std.proofs.Common.{◌≡◌, ℕ, true, Option, Ok, Err, List, length, refl, ◌∙◌}
-use Rattle.litmus.specs.Parts.{Parts}
+use Rattle.program.specs.Parts.{Parts}
 use Rattle.write_buffer.specs.Buffer.{Buffer}
 use Rattle.core_unit.specs.Progress.{Progress}
 use Rattle.moesi.specs.State as moesi

@@ -10,9 +10,9 @@ use Rattle.std.proofs.lemmas.Bool.{cases_eq, eq-eqb, eqb-true}
 use Rattle.std.proofs.Math.Dec.{eqb}
 use Rattle.std.proofs.lemmas.List.{append-nil}
 use Rattle.std.proofs.lemmas.Bool.Decides.{nat_tests}
-use Rattle.litmus.specs.declared.op.Op.{Op}
-use Rattle.recorder.specs.Event.{written_address}
-use Rattle.recorder.specs.Order.{times}
+use Rattle.program.specs.declared.op.Op.{Op}
+use Rattle.recording.specs.Event.{written_address}
+use Rattle.recording.specs.Order.{times}
 use Rattle.write_buffer.specs.declared.entry.Entry.{Entry}
 use Rattle.write_buffer.specs.Buffer.{youngest}
 use Rattle.moesi.specs.State as moesi

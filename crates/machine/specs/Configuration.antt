@@ -2,8 +2,8 @@
 use Rattle.std.specs.Prelude.{◌≡◌, ◌+◌, ◌<◌, ◌≤◌, ℕ, Bool, Option, Result, List, [], length, map, sum, sum_by}
 use Rattle.std.specs.Prelude.{slice_index, slice_index_or, All}
 use Rattle.common.specs.declared.limits.TheConstants.{MAX_EVENTS}
-use Rattle.litmus.specs.declared.op.Op.{Op}
-use Rattle.litmus.specs.Parts.{Parts, IsWithin, op_count}
+use Rattle.program.specs.declared.op.Op.{Op}
+use Rattle.program.specs.Parts.{Parts, IsWithin, op_count}
 use Rattle.write_buffer.specs.declared.entry.Entry.{Entry}
 use Rattle.write_buffer.specs.Buffer.{Buffer}
 use Rattle.core_unit.specs.Progress.{Progress}
@@ -12,7 +12,7 @@ use Rattle.machine.specs.declared.fault.Fault.{Fault}
 use Rattle.machine.specs.declared.step.Step.{Step}
 use Rattle.machine.specs.BoundedItems.{BoundedItems}
 use Rattle.machine.specs.declared.blocked.Blocked.{Blocked}
-use Rattle.recorder.specs.Execution.{Execution}
+use Rattle.recording.specs.Execution.{Execution}
 use Rattle.machine.specs.State.{State, first_event, place_of, opening, recorded, IsComplete}
 use Rattle.machine.specs.Step.{exec, taken, run, has, IsAt}
 

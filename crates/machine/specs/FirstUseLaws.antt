@@ -5,15 +5,15 @@ use Rattle.std.proofs.Common.{◌++◌, map, length, get_or, arith, refl, sym, a
 use Rattle.std.proofs.lemmas.List.{length-map, map-append}
 use Rattle.std.proofs.lemmas.Bool.{cases_lt, cases_eq}
 use Rattle.std.proofs.Math.ListN as lists
-use Rattle.litmus.specs.declared.op.Op.{Op}
-use Rattle.litmus.specs.declared.op.Op.TheVariants.{Fence}
-use Rattle.litmus.specs.Parts.{addr_of, use_addr, use_ops, use_cores}
-use Rattle.recorder.specs.declared.event.Event.{Event}
-use Rattle.recorder.specs.Event.{read_address, written_address}
-use Rattle.recorder.specs.Execution.{Execution, placed_from, event_count, event_at}
-use Rattle.recorder.specs.FirstUse.{Uses, IsNumberedByFirstUse}
-use Rattle.litmus.specs.PartLaws.{use_old, use_new}
-use Rattle.recorder.specs.EventLaws.{Reads-event, Writes-event}
+use Rattle.program.specs.declared.op.Op.{Op}
+use Rattle.program.specs.declared.op.Op.TheVariants.{Fence}
+use Rattle.program.specs.Parts.{addr_of, use_addr, use_ops, use_cores}
+use Rattle.recording.specs.declared.event.Event.{Event}
+use Rattle.recording.specs.Event.{read_address, written_address}
+use Rattle.recording.specs.Execution.{Execution, placed_from, event_count, event_at}
+use Rattle.recording.specs.FirstUse.{Uses, IsNumberedByFirstUse}
+use Rattle.program.specs.PartLaws.{use_old, use_new}
+use Rattle.recording.specs.EventLaws.{Reads-event, Writes-event}
 use Rattle.std.proofs.lemmas.Option.{option_and_then_some, same_Some}
 use Rattle.std.proofs.lemmas.Bool.Decides.{nat_tests}
 use Rattle.machine.specs.Orderly.{placed_op}

@@ -1,7 +1,7 @@
 -- The cores of a machine at its start.
 use Rattle.std.specs.Prelude.{◌≡◌, ◌<◌, ℕ, List, length, slice_index_or}
-use Rattle.litmus.specs.declared.op.Op.{Op}
-use Rattle.litmus.specs.Parts.{op_count}
+use Rattle.program.specs.declared.op.Op.{Op}
+use Rattle.program.specs.Parts.{op_count}
 use Rattle.core_unit.specs.Progress.{Progress}
 use Rattle.machine.specs.State.{first_event}
 

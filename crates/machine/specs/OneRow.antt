@@ -1,8 +1,8 @@
 -- Which row of the table of steps each fault changes.
 use Rattle.std.specs.Prelude.{◌≡◌, ℕ, Bool, true, false, List, [], Option, None, Some, slice_get}
 use Rattle.std.specs.Prelude.{slice_index_or}
-use Rattle.litmus.specs.declared.op.Op.{Op}
-use Rattle.litmus.specs.declared.op.Op.TheVariants.{Ld, Fence, Swap, Add, Cas}
+use Rattle.program.specs.declared.op.Op.{Op}
+use Rattle.program.specs.declared.op.Op.TheVariants.{Ld, Fence, Swap, Add, Cas}
 use Rattle.machine.specs.declared.fault.Fault.{Fault}
 use Rattle.machine.specs.declared.fault.Fault.TheVariants.{NoBypass, YoungestFirst, OpenFence, StaleShare}
 use Rattle.machine.specs.declared.fault.Fault.TheVariants.{EarlyRmw}

@@ -1,11 +1,11 @@
 -- What holds of every state that a run without fault leads to.
 use Rattle.std.specs.Prelude.{◌≡◌, ◌<◌, ◌≤◌, ◌+◌, ◌&&◌, ℕ, Bool, true, false, List, [], ◌∷◌, ◌++◌, map, take}
 use Rattle.std.specs.Prelude.{length, slice_index_or, sum, sum_by, count_by, All}
-use Rattle.litmus.specs.declared.op.Op.{Op}
-use Rattle.litmus.specs.declared.op.Op.TheVariants.{St, Ld, Fence, Swap, Add, Cas}
-use Rattle.litmus.specs.Parts.{IsWithin}
-use Rattle.recorder.specs.Execution.{placed_from}
-use Rattle.recorder.specs.Order.{times, Before}
+use Rattle.program.specs.declared.op.Op.{Op}
+use Rattle.program.specs.declared.op.Op.TheVariants.{St, Ld, Fence, Swap, Add, Cas}
+use Rattle.program.specs.Parts.{IsWithin}
+use Rattle.recording.specs.Execution.{placed_from}
+use Rattle.recording.specs.Order.{times, Before}
 use Rattle.write_buffer.specs.declared.entry.Entry.{Entry}
 use Rattle.moesi.specs.State as moesi
 use Rattle.machine.specs.declared.fault.Fault.TheVariants as fault

@@ -1,9 +1,9 @@
 -- Laws of where the events of a program stand on their cores.
 use Rattle.std.proofs.Common.{◌≡◌, ◌<◌, ◌≤◌, ◌+◌, ℕ, List, [], length, get_or, arith, sym, ap, subst, ◌∙◌}
-use Rattle.litmus.specs.declared.op.Op.{Op}
-use Rattle.litmus.specs.declared.op.Op.TheVariants.{Fence}
-use Rattle.recorder.specs.Execution.{placed_from}
-use Rattle.recorder.specs.PlacedLaws.{placed_at, located}
+use Rattle.program.specs.declared.op.Op.{Op}
+use Rattle.program.specs.declared.op.Op.TheVariants.{Fence}
+use Rattle.recording.specs.Execution.{placed_from}
+use Rattle.recording.specs.PlacedLaws.{placed_at, located}
 use Rattle.machine.specs.State.{first_event}
 use Rattle.machine.specs.Orderly.{placed_op}
 

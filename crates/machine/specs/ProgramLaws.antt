@@ -4,15 +4,15 @@ use Rattle.std.proofs.Common.{cond, Option, Some, None, List, [], ◌∷◌, map
 use Rattle.std.proofs.Common.{ap, subst, ◌∙◌, length-append}
 use Rattle.std.proofs.lemmas.Bool.{cases_lt}
 use Rattle.std.proofs.lemmas.List.{get_or_append_left, get_or-append_right, get_or-map, length-map}
-use Rattle.litmus.specs.declared.op.Op.{Op}
-use Rattle.litmus.specs.declared.op.Op.TheVariants.{St, Ld, Fence, Swap, Add, Cas}
-use Rattle.litmus.specs.Parts.{Parts, addr_of}
-use Rattle.recorder.specs.declared.event.Event.{Event}
-use Rattle.recorder.specs.declared.event.Event.TheVariants.{R, C, F}
-use Rattle.recorder.specs.Event.{read_address, written_address, value_read, source}
-use Rattle.recorder.specs.EventLaws.{placed_here, placed_behind}
-use Rattle.recorder.specs.Execution.{Execution, placed_from, event_count, event_at}
-use Rattle.recorder.specs.PlacedLaws.{tagged}
+use Rattle.program.specs.declared.op.Op.{Op}
+use Rattle.program.specs.declared.op.Op.TheVariants.{St, Ld, Fence, Swap, Add, Cas}
+use Rattle.program.specs.Parts.{Parts, addr_of}
+use Rattle.recording.specs.declared.event.Event.{Event}
+use Rattle.recording.specs.declared.event.Event.TheVariants.{R, C, F}
+use Rattle.recording.specs.Event.{read_address, written_address, value_read, source}
+use Rattle.recording.specs.EventLaws.{placed_here, placed_behind}
+use Rattle.recording.specs.Execution.{Execution, placed_from, event_count, event_at}
+use Rattle.recording.specs.PlacedLaws.{tagged}
 use Rattle.machine.specs.State.{State, event_of, cores_from, recorded}
 use Rattle.machine.specs.Orderly.{placed_op}
 use Rattle.machine.specs.ProgramOf.{Makes, AreOpsOf, IsProgramOf}

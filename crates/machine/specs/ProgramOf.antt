@@ -1,12 +1,12 @@
 -- When a recording is one of a program.
 use Rattle.std.specs.Prelude.{◌≡◌, ◌<◌, ℕ, List, [], length, slice_index_or}
-use Rattle.litmus.specs.declared.op.Op.{Op}
-use Rattle.litmus.specs.declared.op.Op.TheVariants.{Fence}
-use Rattle.litmus.specs.Parts.{Parts}
-use Rattle.recorder.specs.declared.event.Event.{Event}
-use Rattle.recorder.specs.declared.event.Event.TheVariants.{F}
-use Rattle.recorder.specs.Event.{value_read, source}
-use Rattle.recorder.specs.Execution.{Execution}
+use Rattle.program.specs.declared.op.Op.{Op}
+use Rattle.program.specs.declared.op.Op.TheVariants.{Fence}
+use Rattle.program.specs.Parts.{Parts}
+use Rattle.recording.specs.declared.event.Event.{Event}
+use Rattle.recording.specs.declared.event.Event.TheVariants.{F}
+use Rattle.recording.specs.Event.{value_read, source}
+use Rattle.recording.specs.Execution.{Execution}
 use Rattle.machine.specs.State.{event_of}
 
 -- the operation makes the event, from the value that the event read and its source

@@ -4,12 +4,12 @@ use Rattle.std.proofs.Common.{◌++◌}
 use Rattle.std.proofs.Common.{map, length, get_or, arith, refl, sym, ap, ◌∙◌, length-append}
 use Rattle.std.proofs.lemmas.Bool.{cases_lt}
 use Rattle.std.proofs.lemmas.List.{get_or_append_left, get_or-append_right, get_or-map, length-map}
-use Rattle.recorder.specs.declared.event.Event.{Event}
-use Rattle.recorder.specs.declared.event.Event.TheVariants.{F}
-use Rattle.recorder.specs.Execution.{placed_from, event_count, event_at, core_of}
-use Rattle.recorder.specs.PlacedLaws.{tagged}
-use Rattle.litmus.specs.declared.op.Op.{Op}
-use Rattle.litmus.specs.declared.op.Op.TheVariants.{Fence}
+use Rattle.recording.specs.declared.event.Event.{Event}
+use Rattle.recording.specs.declared.event.Event.TheVariants.{F}
+use Rattle.recording.specs.Execution.{placed_from, event_count, event_at, core_of}
+use Rattle.recording.specs.PlacedLaws.{tagged}
+use Rattle.program.specs.declared.op.Op.{Op}
+use Rattle.program.specs.declared.op.Op.TheVariants.{Fence}
 use Rattle.machine.specs.State.{State, event_of, events_from, cores_from, recorded}
 use Rattle.machine.specs.Orderly.{placed_op}
 

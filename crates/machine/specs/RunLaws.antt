@@ -1,6 +1,6 @@
 -- Laws of runs.
 use Rattle.std.proofs.Common.{◌≡◌, ℕ, List, [], ◌∷◌, ◌++◌, refl}
-use Rattle.litmus.specs.declared.op.Op.{Op}
+use Rattle.program.specs.declared.op.Op.{Op}
 use Rattle.machine.specs.declared.fault.Fault.{Fault}
 use Rattle.machine.specs.declared.step.Step.{Step}
 use Rattle.machine.specs.State.{State}

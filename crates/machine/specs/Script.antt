@@ -2,10 +2,10 @@
 use Rattle.std.specs.Prelude.{◌<◌, ◌++◌, ◌∷◌, [], ℕ, List, nat_lt, length, position, Option, None, Some}
 use Rattle.std.specs.Prelude.{Result, Ok, Err, if◌then◌else◌}
 use Rattle.common.specs.declared.limits.TheConstants.{MAX_STEPS}
-use Rattle.litmus.specs.declared.name.Name.{Name}
-use Rattle.litmus.specs.Names.{name_eq}
-use Rattle.litmus.specs.Parts.{Parts}
-use Rattle.litmus.specs.Reading.{Reading, read_from}
+use Rattle.program.specs.declared.name.Name.{Name}
+use Rattle.program.specs.Names.{name_eq}
+use Rattle.program.specs.Parts.{Parts}
+use Rattle.program.specs.Reading.{Reading, read_from}
 use Rattle.machine.specs.declared.step.Step.{Step}
 use Rattle.machine.specs.declared.step.Step.TheVariants.{Exec, Drain, GetS, GetM, Put}
 use Rattle.machine.specs.declared.script_fault.StepFault.{StepFault}

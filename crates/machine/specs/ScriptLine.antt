@@ -1,10 +1,10 @@
 -- What one line of a step script says.
 use Rattle.std.specs.Prelude.{ℕ, List, ◌+◌, position, take, drop, codes, Option, None, option_map}
 use Rattle.std.specs.Prelude.{option_and_then, if◌then◌else◌}
-use Rattle.litmus.specs.declared.name.Name.{Name}
-use Rattle.litmus.specs.Names.{name_of}
-use Rattle.litmus.specs.Lines.{begins, is_space}
-use Rattle.litmus.specs.Numbers.{decimal_of}
+use Rattle.program.specs.declared.name.Name.{Name}
+use Rattle.program.specs.Names.{name_of}
+use Rattle.program.specs.Lines.{begins, is_space}
+use Rattle.program.specs.Numbers.{decimal_of}
 use Rattle.machine.specs.declared.script_line.Own.{Own}
 use Rattle.machine.specs.declared.script_line.Own.TheVariants.{Exec, Drain}
 use Rattle.machine.specs.declared.script_line.Transaction.{Transaction}

@@ -1,6 +1,6 @@
 -- What the code's words for a line of a step script say.
 use Rattle.std.specs.Prelude.{◌≡◌}
-use Rattle.litmus.specs.Numbers.{IsValue}
+use Rattle.program.specs.Numbers.{IsValue}
 use Rattle.machine.specs.declared.script_line.Said.{Said}
 use Rattle.machine.specs.declared.script_line.Said.TheVariants.{Own, Transaction}
 use Rattle.machine.specs.ScriptLine.{ScriptLine, own_line, transaction_line}

@@ -1,7 +1,7 @@
 -- Lists of steps of which none is blocked.
 use Rattle.std.specs.Prelude.{ℕ, List, [], ◌∷◌, Result, Ok, Err}
-use Rattle.litmus.specs.declared.op.Op.{Op}
-use Rattle.litmus.specs.Parts.{Parts}
+use Rattle.program.specs.declared.op.Op.{Op}
+use Rattle.program.specs.Parts.{Parts}
 use Rattle.machine.specs.declared.fault.Fault.{Fault}
 use Rattle.machine.specs.declared.step.Step.{Step}
 use Rattle.machine.specs.declared.blocked.Blocked.{Blocked}

@@ -1,8 +1,8 @@
 -- What every run keeps.
 use Rattle.std.specs.Prelude.{ℕ, List, All, length}
-use Rattle.recorder.specs.Tso.{IsTsoOrder, IsWellFormed}
-use Rattle.litmus.specs.declared.op.Op.{Op}
-use Rattle.litmus.specs.Parts.{IsWithin}
+use Rattle.recording.specs.Tso.{IsTsoOrder, IsWellFormed}
+use Rattle.program.specs.declared.op.Op.{Op}
+use Rattle.program.specs.Parts.{IsWithin}
 use Rattle.machine.specs.declared.fault.Fault.{Fault}
 use Rattle.machine.specs.declared.fault.Fault.TheVariants as fault
 use Rattle.machine.specs.declared.step.Step.{Step}

@@ -4,8 +4,8 @@ use crate::bounded::BoundedList;
 use crate::makes::bounded_lists;
 use crate::record::{record_all, unwrap_all};
 use common::{EventId, OutOfMemory};
-use litmus::Ops;
-use recorder::Event;
+use program::Ops;
+use recording::Event;
 use std::alloc::Global;
 use std::marker::Model;
 
@@ -49,7 +49,7 @@ impl Drop for Blank {
 
 impl Blank {
     ghost use Rattle.std.specs.Prelude.{◌≡◌, ◌≤◌, length, map, IfOk};
-    ghost use Rattle.litmus.specs.Parts.{op_count};
+    ghost use Rattle.program.specs.Parts.{op_count};
     ghost use Rattle.machine.specs.Configuration.{BlankSize};
     ghost use Rattle.machine.specs.State.{cores_from};
 

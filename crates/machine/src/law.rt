@@ -1,7 +1,7 @@
 //! The machine is TSO.
 
 ghost use Rattle.std.specs.Prelude.{ℕ, List};
-ghost use Rattle.litmus.specs.declared.op.Op.{Op};
+ghost use Rattle.program.specs.declared.op.Op.{Op};
 ghost use Rattle.machine.specs.declared.step.Step.{Step};
 ghost use Rattle.machine.specs.declared.fault.Fault.{Fault};
 ghost use Rattle.machine.specs.OneRow.{EveryFaultChangesOneRow};

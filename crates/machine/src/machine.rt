@@ -6,9 +6,9 @@ use crate::fault::Fault;
 use crate::makes::{Cores, Room, cores_of, room_for};
 use common::{Addr, CoreId, EventId, OutOfMemory};
 use core_unit::CoreUnit;
-use litmus::{Op, Program};
+use program::{Op, Program};
 use moesi::{Caches, Line};
-use recorder::Recording;
+use recording::Recording;
 use std::alloc::Global;
 use std::marker::Model;
 use write_buffer::{Entry, WriteBuffer};
@@ -74,7 +74,7 @@ impl Model for Machine {
 impl Machine {
     ghost use Rattle.std.specs.Prelude.{◌≡◌, ◌<◌, ◌↔◌, [], IsTrue, IfOk, OnOk, OnErr, IfErr, IfSome, length};
     ghost use Rattle.std.specs.Prelude.{slice_get, slice_index_or, option_map};
-    ghost use Rattle.recorder.specs.Tso.{IsTsoOrder};
+    ghost use Rattle.recording.specs.Tso.{IsTsoOrder};
     ghost use Rattle.moesi.specs.State.{line_of, memory_of};
     ghost use Rattle.machine.specs.declared.fault.Fault.TheVariants as fault;
     ghost use Rattle.machine.specs.State.{opening, place_of, buffer_of, IsDone};

@@ -1,7 +1,7 @@
 //! The parts of a new machine.
 
 ghost use Rattle.std.specs.Prelude.{◌≡◌, ◌≤◌, ◌++◌, ◌∷◌, [], length, replicate, IfOk, OnOk, None};
-ghost use Rattle.litmus.specs.Parts.{op_count};
+ghost use Rattle.program.specs.Parts.{op_count};
 ghost use Rattle.moesi.specs.State.{opening_with};
 ghost use Rattle.machine.specs.Made.{AreUnits};
 
@@ -9,7 +9,7 @@ use crate::blank::Blank;
 use crate::bounded::BoundedList;
 use common::{EventId, MAX_EVENTS, OutOfMemory};
 use core_unit::CoreUnit;
-use litmus::Ops;
+use program::Ops;
 use moesi::Caches;
 use std::alloc::Global;
 use write_buffer::WriteBuffer;

@@ -1,13 +1,13 @@
 //! From what events read to a recording.
 
 ghost use Rattle.std.specs.Prelude.{◌≡◌, ◌+◌, ◌≤◌, ◌++◌, [], length, map, All};
-ghost use Rattle.litmus.specs.Parts.{op_count};
+ghost use Rattle.program.specs.Parts.{op_count};
 ghost use Rattle.machine.specs.State.{event_of, events_from, cores_from};
 
 use crate::bounded::BoundedList;
 use common::EventId;
-use litmus::{Op, Ops};
-use recorder::Event;
+use program::{Op, Ops};
+use recording::Event;
 
 /// The event that an operation makes, from the value that it read and its source.
 pub fn event_of(op: Op, read: (u32, Option<EventId>)) -> Event

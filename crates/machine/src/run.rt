@@ -4,11 +4,11 @@ use crate::blocked::Blocked;
 use crate::machine::Machine;
 use crate::step::Step;
 use common::{CoreId, EventId};
-use litmus::Op;
+use program::Op;
 
 impl Machine {
     ghost use Rattle.std.specs.Prelude.{◌≡◌, Ok, Err, IfOk, OnOk, OnErr, IfErr, length};
-    ghost use Rattle.litmus.specs.Parts.{IsWithin};
+    ghost use Rattle.program.specs.Parts.{IsWithin};
     ghost use Rattle.machine.specs.declared.step.Step.TheVariants.{Exec};
     ghost use Rattle.machine.specs.Configuration.{answer_of, state_behind, IsNextOf};
 

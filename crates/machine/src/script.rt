@@ -1,15 +1,15 @@
 //! From a step script to its steps.
 
 ghost use Rattle.std.specs.Prelude.{◌≡◌, ◌≤◌, ℕ, [], All, IfOk, length};
-ghost use Rattle.litmus.specs.Numbers.{IsValue};
-ghost use Rattle.litmus.specs.Reading.{Answers, AnswersLine, read_from, seen_as};
+ghost use Rattle.program.specs.Numbers.{IsValue};
+ghost use Rattle.program.specs.Reading.{Answers, AnswersLine, read_from, seen_as};
 ghost use Rattle.machine.specs.Script.{core_in, address_in, with_step, line_step, steps_of, IsStepOf};
 
 use crate::script_fault::{StepFault, StepsError};
 use crate::script_line::{Said, own_step, script_line_of, transaction_step};
 use crate::step::Step;
 use common::{Addr, CoreId, MAX_STEPS};
-use litmus::{Name, Number, Program};
+use program::{Name, Number, Program};
 use std::alloc::Global;
 
 fn core_in(program: &Program, number: Number) -> Option<CoreId>

@@ -1,6 +1,6 @@
 //! Why a step script is refused.
 
-use litmus::LineError;
+use program::LineError;
 
 /// Why a line of a step script is refused. Where several apply to one line, the first in this order
 /// is answered.

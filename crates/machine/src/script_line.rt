@@ -1,14 +1,14 @@
 //! What one line of a step script says.
 
 ghost use Rattle.std.specs.Prelude.{◌≡◌};
-ghost use Rattle.litmus.specs.Reading.{SaysOption};
+ghost use Rattle.program.specs.Reading.{SaysOption};
 ghost use Rattle.machine.specs.ScriptLine.{own_of, transaction_of, script_line_of, own_step};
 ghost use Rattle.machine.specs.ScriptLine.{transaction_step};
 ghost use Rattle.machine.specs.ScriptSaid.{SaysScriptLine};
 
 use crate::step::Step;
 use common::{Addr, CoreId};
-use litmus::{Name, Number, decimal, space_in};
+use program::{Name, Number, decimal, space_in};
 
 /// The kind of a step that a core takes alone.
 #[derive(Clone, Copy)]

@@ -7,14 +7,14 @@ use crate::blocked::Blocked;
 use crate::machine::Machine;
 use crate::record::event_of;
 use common::{Addr, CoreId, EventId};
-use litmus::Op;
+use program::Op;
 use moesi::CacheError;
 use write_buffer::Entry;
 
 impl Machine {
     ghost use Rattle.std.specs.Prelude.{◌≡◌, ◌≢◌, ◌<◌, ◌⊎◌, Ok, Err, IsTrue, IsFalse, OnOk, OnErr, IfErr};
     ghost use Rattle.std.specs.Prelude.{length};
-    ghost use Rattle.litmus.specs.declared.op.Op.TheVariants.{St, Ld, Fence, Cas};
+    ghost use Rattle.program.specs.declared.op.Op.TheVariants.{St, Ld, Fence, Cas};
     ghost use Rattle.machine.specs.declared.step.Step.TheVariants.{Drain};
     ghost use Rattle.machine.specs.Step.{read_modify_written, read_unmodified};
     ghost use Rattle.moesi.specs.Lines.{is_valid};

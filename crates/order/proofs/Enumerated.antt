@@ -2,10 +2,10 @@
 use Rattle.std.proofs.Common.{◌≡◌, ◌<◌, ◌≤◌, inl, inr, ℕ, List, [], get_or, length, arith, ap, sym, subst}
 use Rattle.std.proofs.lemmas.Bool.{cases_eq, cases_lt}
 use Rattle.std.proofs.lemmas.List.{get_or_past}
-use Rattle.recorder.specs.Order.{place, Before, Enumerates}
-use Rattle.recorder.specs.Execution.{Execution, event_count, write_list, Kept}
-use Rattle.recorder.specs.OrderLaws.{place_in, place_one}
-use Rattle.recorder.specs.PlaceLaws.{at_place, times_at, place_at}
+use Rattle.recording.specs.Order.{place, Before, Enumerates}
+use Rattle.recording.specs.Execution.{Execution, event_count, write_list, Kept}
+use Rattle.recording.specs.OrderLaws.{place_in, place_one}
+use Rattle.recording.specs.PlaceLaws.{at_place, times_at, place_at}
 
 -- the list holds each event once and nothing else
 abbrev pub IsTotal : Execution → List ℕ → Type 0

@@ -2,14 +2,14 @@
 use Rattle.std.proofs.Common.{◌≡◌, ◌≢◌, ◌<◌, ◌≤◌, inl, inr, ℕ, List, [], ◌∷◌, ◌++◌, get_or, length, arith}
 use Rattle.std.proofs.Common.{refl, sym, ap, ◌∙◌, subst}
 use Rattle.std.proofs.lemmas.Bool.{cases_eq, cases_lt}
-use Rattle.recorder.specs.Order.{place, times, Before}
-use Rattle.recorder.specs.OrderLaws.{times_here, times_nil, times_append, place_here, place_append_right}
-use Rattle.recorder.specs.OrderLaws.{cases_times, before_in_left, left_before_right}
+use Rattle.recording.specs.Order.{place, times, Before}
+use Rattle.recording.specs.OrderLaws.{times_here, times_nil, times_append, place_here, place_append_right}
+use Rattle.recording.specs.OrderLaws.{cases_times, before_in_left, left_before_right}
 use Rattle.relations.specs.Relation.{Table, Related}
 use Rattle.relations.specs.Cycle.{ComesFirst, IsCycle}
 use Rattle.relations.specs.Respects.{Respects, IsLeastOrder}
 use Rattle.relations.specs.CycleLaws.{first_more}
-use Rattle.recorder.specs.EnumerationLaws.{length_total, missing, all_listed}
+use Rattle.recording.specs.EnumerationLaws.{length_total, missing, all_listed}
 use Rattle.relations.specs.CycleLaws.{cycle_of}
 use Rattle.order.specs.Open.{waits, IsOpen}
 use Rattle.order.proofs.Waits.{waits_none, all_placed, open_before, times_other, times_own}

@@ -2,12 +2,12 @@
 use Rattle.std.proofs.Common.{◌≢◌, ◌<◌, ◌≤◌, ◌+◌, ◌⊎◌, inl, inr, ℕ, Option, Some, None, List, get_or, length}
 use Rattle.std.proofs.Common.{arith, ap, sym, subst, ◌∙◌}
 use Rattle.std.proofs.lemmas.Bool.{cases_eq}
-use Rattle.recorder.specs.Order.{place}
-use Rattle.recorder.specs.Execution.{Execution, Writes, ProgramOrder}
-use Rattle.recorder.specs.Tso.{Visible, IsLastVisible}
-use Rattle.recorder.specs.OrderLaws.{place_one}
-use Rattle.recorder.specs.EventLaws.{Writes-event}
-use Rattle.recorder.specs.PlaceLaws.{at_place}
+use Rattle.recording.specs.Order.{place}
+use Rattle.recording.specs.Execution.{Execution, Writes, ProgramOrder}
+use Rattle.recording.specs.Tso.{Visible, IsLastVisible}
+use Rattle.recording.specs.OrderLaws.{place_one}
+use Rattle.recording.specs.EventLaws.{Writes-event}
+use Rattle.recording.specs.PlaceLaws.{at_place}
 use Rattle.order.proofs.Enumerated.{IsTotal, own_place, in_place}
 
 -- a write at one place is visible to a read at another if it stands earlier or is before it on its core

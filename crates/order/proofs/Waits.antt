@@ -4,8 +4,8 @@ use Rattle.std.proofs.Common.{◌&&◌, eqb, replicate, List, [], ◌∷◌, ◌
 use Rattle.std.proofs.Common.{◌∙◌, subst}
 use Rattle.std.proofs.lemmas.Bool.{cases_eq, cases_Bool, eq-eqb, ne_eqb}
 use Rattle.std.proofs.lemmas.List.{length-replicate, get_or-replicate}
-use Rattle.recorder.specs.Order.{times}
-use Rattle.recorder.specs.OrderLaws.{times_here, times_there, times_nil, times_append, cases_times}
+use Rattle.recording.specs.Order.{times}
+use Rattle.recording.specs.OrderLaws.{times_here, times_there, times_nil, times_append, cases_times}
 use Rattle.relations.specs.Relation.{Table, relates, Related}
 use Rattle.order.specs.Open.{waits, one_if, IsOpen}
 

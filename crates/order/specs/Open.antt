@@ -2,7 +2,7 @@
 use Rattle.std.specs.Prelude.{◌≡◌, ◌↔◌, ◌<◌, ◌+◌, ◌==◌, ◌&&◌, ℕ, zero, suc, Bool, true, false, List, length}
 use Rattle.std.specs.Prelude.{slice_index}
 use Rattle.bitrow.specs.Bits.{is_in}
-use Rattle.recorder.specs.Order.{times}
+use Rattle.recording.specs.Order.{times}
 use Rattle.relations.specs.Relation.{Table, relates}
 
 -- 1 where the test holds, else 0

@@ -1,11 +1,11 @@
 //! Kept pairs.
 
 ghost use Rattle.std.specs.Prelude.{◌≡◌, ◌<◌, ◌↔◌, ℕ, IsTrue, length, slice_index};
-ghost use Rattle.recorder.specs.Order.{Before, Enumerates};
-ghost use Rattle.recorder.specs.Execution.{event_count, Kept};
+ghost use Rattle.recording.specs.Order.{Before, Enumerates};
+ghost use Rattle.recording.specs.Execution.{event_count, Kept};
 
 use common::EventId;
-use recorder::Recording;
+use recording::Recording;
 
 /// Whether no event behind the one at a place is kept before it.
 fn keeps_behind(recording: &Recording, order: &[EventId], at: usize) -> bool

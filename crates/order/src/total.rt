@@ -1,11 +1,11 @@
 //! Lists of all events.
 
 ghost use Rattle.std.specs.Prelude.{◌≡◌, ◌<◌, ◌↔◌, ℕ, IsTrue};
-ghost use Rattle.recorder.specs.Order.{times, Enumerates};
-ghost use Rattle.recorder.specs.Execution.{event_count};
+ghost use Rattle.recording.specs.Order.{times, Enumerates};
+ghost use Rattle.recording.specs.Execution.{event_count};
 
 use common::EventId;
-use recorder::{Recording, times};
+use recording::{Recording, times};
 
 /// Whether each event stands once.
 fn holds_each(recording: &Recording, order: &[EventId]) -> bool

@@ -1,7 +1,7 @@
 //! Memory orders of TSO.
 
 ghost use Rattle.std.specs.Prelude.{◌↔◌, IsTrue};
-ghost use Rattle.recorder.specs.Tso.{IsTsoOrder};
+ghost use Rattle.recording.specs.Tso.{IsTsoOrder};
 ghost use Rattle.relations.specs.Verdict.{RespectsForced, HasNoOverlook};
 
 use crate::kept::keeps_order;
@@ -9,7 +9,7 @@ use crate::total::is_total;
 use crate::values::gives_values;
 use crate::written::keeps_writes;
 use common::EventId;
-use recorder::Recording;
+use recording::Recording;
 use relations::forced_is_exact;
 
 /// Whether a list of any numbers is a memory order that TSO allows for the recording: each event

@@ -1,13 +1,13 @@
 //! Values.
 
 ghost use Rattle.std.specs.Prelude.{◌≡◌, ◌<◌, ◌↔◌, ℕ, IsTrue, length, slice_index};
-ghost use Rattle.recorder.specs.Order.{Enumerates};
-ghost use Rattle.recorder.specs.Execution.{event_count};
-ghost use Rattle.recorder.specs.Tso.{Visible, IsLastVisible};
+ghost use Rattle.recording.specs.Order.{Enumerates};
+ghost use Rattle.recording.specs.Execution.{event_count};
+ghost use Rattle.recording.specs.Tso.{Visible, IsLastVisible};
 ghost use Rattle.order.specs.Values.{HasLastVisible};
 
 use common::{Addr, EventId};
-use recorder::Recording;
+use recording::Recording;
 
 /// Whether the write at place `i` is visible to the read at place `at`.
 fn is_visible(recording: &Recording, order: &[EventId], at: usize, address: Addr, i: usize) -> bool

@@ -1,11 +1,11 @@
 //! Write lists.
 
 ghost use Rattle.std.specs.Prelude.{◌≡◌, ◌<◌, ◌≤◌, ◌↔◌, ℕ, IsTrue};
-ghost use Rattle.recorder.specs.Order.{times, Before};
-ghost use Rattle.recorder.specs.Execution.{write_list};
+ghost use Rattle.recording.specs.Order.{times, Before};
+ghost use Rattle.recording.specs.Execution.{write_list};
 
 use common::{Addr, EventId};
-use recorder::{Recording, stands_before};
+use recording::{Recording, stands_before};
 
 /// Whether a write list, whose writes differ, stands in order.
 fn keeps_list(list: &[EventId], order: &[EventId]) -> bool

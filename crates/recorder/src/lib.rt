@@ -1,19 +1,17 @@
-//! Recordings of executions, and what TSO allows of them.
+//! Recordings, their texts, and recordings that are read of texts.
 #![tactic(auto)]
 
-mod copies;
-mod event;
-mod fault;
-mod listed;
-mod lists;
-mod numbered;
-mod parts;
-mod readers;
-mod recording;
-mod refusal;
-mod rules;
+mod digits;
+mod draft;
+mod fields;
+mod items;
+mod pulled_lists;
+mod reading;
+mod text;
+mod tokens;
+mod values;
+mod versions;
 
-pub use event::Event;
-pub use fault::RecError;
-pub use lists::{place, stands_before, times};
-pub use recording::Recording;
+pub use reading::read_recording;
+pub use recording::{Event, RecError, Recording};
+pub use text::write_recording;

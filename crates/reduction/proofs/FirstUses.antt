@@ -3,13 +3,13 @@ use Rattle.std.proofs.Common.{◌≡◌, ◌<◌, ◌≤◌, ◌-◌, ◌⊎◌,
 use Rattle.std.proofs.Common.{length, get_or, arith, ap, sym, subst, refl, ◌∙◌, length-append}
 use Rattle.std.proofs.lemmas.Bool.{cases_lt}
 use Rattle.std.proofs.lemmas.List.{get_or_append_left, get_or-append_right, length-map}
-use Rattle.recorder.specs.EventLaws.{Reads-event, Writes-event}
-use Rattle.recorder.specs.Execution.{Execution, event_at, write_list, Reads, Writes}
-use Rattle.recorder.specs.Order.{place, times}
-use Rattle.recorder.specs.OrderLaws.{place_in, cases_times}
-use Rattle.recorder.specs.PlaceLaws.{place_at, times_at}
-use Rattle.recorder.specs.Tso.{IsWellFormed}
-use Rattle.recorder.specs.FirstUse.{IsNumberedByFirstUse}
+use Rattle.recording.specs.EventLaws.{Reads-event, Writes-event}
+use Rattle.recording.specs.Execution.{Execution, event_at, write_list, Reads, Writes}
+use Rattle.recording.specs.Order.{place, times}
+use Rattle.recording.specs.OrderLaws.{place_in, cases_times}
+use Rattle.recording.specs.PlaceLaws.{place_at, times_at}
+use Rattle.recording.specs.Tso.{IsWellFormed}
+use Rattle.recording.specs.FirstUse.{IsNumberedByFirstUse}
 use Rattle.reduction.specs.Laws.{IsPart}
 use Rattle.reduction.specs.Restriction.{AreClosed, address_of, with_address, with_addresses, addresses_of, kept_of}
 use Rattle.reduction.proofs.Places.{number_at}

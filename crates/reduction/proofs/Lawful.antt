@@ -6,21 +6,21 @@ use Rattle.std.proofs.lemmas.Bool.{cases_order}
 use Rattle.std.proofs.lemmas.List.{get_or-map, length-map, map-append, map_push, take-append-drop, take_more}
 use Rattle.std.proofs.lemmas.List.Elements.{All-from_recursion}
 use Rattle.std.proofs.lemmas.Map.Keys.{IsDistinct-from_apart, apart_from_distinct}
-use Rattle.litmus.specs.declared.name.Name.{Name}
-use Rattle.litmus.specs.declared.op.Op.{Op}
-use Rattle.litmus.specs.NameLaws.{name_laws}
-use Rattle.litmus.specs.NameListLaws.{not_before}
-use Rattle.litmus.specs.Steps.{names_with}
-use Rattle.litmus.specs.Names.{AreLawful, name_eq, name_of, name_text, no_name}
-use Rattle.litmus.specs.Parts.{Parts, Small, IsSmall, IsProgram, parts_of}
-use Rattle.litmus.specs.Spelling.{name_at}
-use Rattle.recorder.specs.Execution.{Execution, write_list, initial_value}
-use Rattle.recorder.specs.FirstUse.{IsNumberedByFirstUse}
-use Rattle.recorder.specs.Order.{place, times}
-use Rattle.recorder.specs.OrderLaws.{times_here}
-use Rattle.recorder.specs.PlaceLaws.{place_at, times_at}
-use Rattle.recorder.specs.PlacedLaws.{placed_total}
-use Rattle.recorder.specs.Recording.{IsRecording}
+use Rattle.program.specs.declared.name.Name.{Name}
+use Rattle.program.specs.declared.op.Op.{Op}
+use Rattle.program.specs.NameLaws.{name_laws}
+use Rattle.program.specs.NameListLaws.{not_before}
+use Rattle.program.specs.Steps.{names_with}
+use Rattle.program.specs.Names.{AreLawful, name_eq, name_of, name_text, no_name}
+use Rattle.program.specs.Parts.{Parts, Small, IsSmall, IsProgram, parts_of}
+use Rattle.program.specs.Spelling.{name_at}
+use Rattle.recording.specs.Execution.{Execution, write_list, initial_value}
+use Rattle.recording.specs.FirstUse.{IsNumberedByFirstUse}
+use Rattle.recording.specs.Order.{place, times}
+use Rattle.recording.specs.OrderLaws.{times_here}
+use Rattle.recording.specs.PlaceLaws.{place_at, times_at}
+use Rattle.recording.specs.PlacedLaws.{placed_total}
+use Rattle.recording.specs.Recording.{IsRecording}
 use Rattle.machine.specs.FirstUseLaws.{HaveAddressesOf, numbered_counts}
 use Rattle.machine.specs.Orderly.{placed_op}
 use Rattle.machine.specs.ProgramLaws.{made_addresses}

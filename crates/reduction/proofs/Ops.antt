@@ -6,14 +6,14 @@ use Rattle.std.specs.List.{AllByRecursion}
 use Rattle.std.proofs.lemmas.Bool.{cases_lt}
 use Rattle.std.proofs.lemmas.List.{get_or-map, length-map}
 use Rattle.std.proofs.lemmas.List.Elements.{All-from_recursion}
-use Rattle.litmus.specs.declared.op.Op.{Op}
-use Rattle.litmus.specs.declared.op.Op.TheVariants.{St, Ld, Fence, Swap, Add, Cas}
-use Rattle.litmus.specs.Parts.{Parts, Small, IsSmall}
-use Rattle.recorder.specs.declared.event.Event.{Event}
-use Rattle.recorder.specs.declared.event.Event.TheVariants.{R, C, F}
-use Rattle.recorder.specs.Event.{value_read, source}
-use Rattle.recorder.specs.Execution.{Execution, placed_from, event_at}
-use Rattle.recorder.specs.Order.{place}
+use Rattle.program.specs.declared.op.Op.{Op}
+use Rattle.program.specs.declared.op.Op.TheVariants.{St, Ld, Fence, Swap, Add, Cas}
+use Rattle.program.specs.Parts.{Parts, Small, IsSmall}
+use Rattle.recording.specs.declared.event.Event.{Event}
+use Rattle.recording.specs.declared.event.Event.TheVariants.{R, C, F}
+use Rattle.recording.specs.Event.{value_read, source}
+use Rattle.recording.specs.Execution.{Execution, placed_from, event_at}
+use Rattle.recording.specs.Order.{place}
 use Rattle.machine.specs.Orderly.{placed_op}
 use Rattle.machine.specs.ProgramLaws.{op_here, op_behind, event_made}
 use Rattle.machine.specs.ProgramOf.{Makes, AreOpsOf, IsProgramOf}

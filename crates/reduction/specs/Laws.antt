@@ -1,9 +1,9 @@
 -- What a restriction has of the whole execution.
 use Rattle.std.specs.Prelude.{◌≡◌, ◌<◌, ◌↔◌, ℕ, List, map, length, slice_index, All}
-use Rattle.recorder.specs.Execution.{Execution, event_count, event_at, write_list, initial_value, ProgramOrder}
-use Rattle.recorder.specs.FirstUse.{IsNumberedByFirstUse}
-use Rattle.recorder.specs.Order.{place, times}
-use Rattle.recorder.specs.Tso.{IsWellFormed}
+use Rattle.recording.specs.Execution.{Execution, event_count, event_at, write_list, initial_value, ProgramOrder}
+use Rattle.recording.specs.FirstUse.{IsNumberedByFirstUse}
+use Rattle.recording.specs.Order.{place, times}
+use Rattle.recording.specs.Tso.{IsWellFormed}
 use Rattle.relations.specs.Cycle.{IsLeastCycle}
 use Rattle.relations.specs.Forced.{Forced, Overlooks, IsLeastOverlook}
 use Rattle.relations.specs.Verdict.{HasNoOverlook, HasNoOrder}

@@ -1,11 +1,11 @@
 -- What is left of a program of which the operations of some events alone are kept.
 use Rattle.std.specs.Prelude.{ℕ, List, map}
-use Rattle.litmus.specs.declared.op.Op.{Op}
-use Rattle.litmus.specs.declared.op.Op.TheVariants.{St, Ld, Fence, Swap, Add, Cas}
-use Rattle.litmus.specs.Parts.{Parts}
-use Rattle.litmus.specs.Spelling.{name_at}
-use Rattle.recorder.specs.Execution.{Execution, initial_value}
-use Rattle.recorder.specs.Order.{place}
+use Rattle.program.specs.declared.op.Op.{Op}
+use Rattle.program.specs.declared.op.Op.TheVariants.{St, Ld, Fence, Swap, Add, Cas}
+use Rattle.program.specs.Parts.{Parts}
+use Rattle.program.specs.Spelling.{name_at}
+use Rattle.recording.specs.Execution.{Execution, initial_value}
+use Rattle.recording.specs.Order.{place}
 use Rattle.machine.specs.Orderly.{placed_op}
 use Rattle.reduction.specs.Restriction.{addresses_of, used_cores}
 

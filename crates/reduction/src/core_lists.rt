@@ -1,11 +1,11 @@
 //! The events that are kept on each core.
 
 ghost use Rattle.std.specs.Prelude.{◌≡◌, IfOk, map};
-ghost use Rattle.recorder.specs.Execution.{core_of};
+ghost use Rattle.recording.specs.Execution.{core_of};
 ghost use Rattle.reduction.specs.Restriction.{on_core, used_cores};
 
 use common::{CoreId, EventId, OutOfMemory};
-use recorder::Recording;
+use recording::Recording;
 use std::alloc::Global;
 
 /// The core of an event; 0 past the last event.

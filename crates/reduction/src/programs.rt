@@ -3,9 +3,9 @@
 ghost use Rattle.common.specs.declared.limits.TheConstants.{MAX_EVENTS};
 ghost use Rattle.std.specs.Prelude.{◌≡◌, ◌≤◌, IfOk, map, length};
 ghost use Rattle.std.specs.List.{IsDistinct};
-ghost use Rattle.litmus.specs.Names.{name_eq};
-ghost use Rattle.litmus.specs.Spelling.{name_at};
-ghost use Rattle.recorder.specs.Order.{place};
+ghost use Rattle.program.specs.Names.{name_eq};
+ghost use Rattle.program.specs.Spelling.{name_at};
+ghost use Rattle.recording.specs.Order.{place};
 ghost use Rattle.machine.specs.Orderly.{placed_op};
 ghost use Rattle.machine.specs.ProgramOf.{IsProgramOf};
 ghost use Rattle.reduction.specs.Restriction.{AreClosed, restriction};
@@ -17,8 +17,8 @@ use crate::events::number_in;
 use crate::writes::values_of;
 use common::{Addr, EventId, OutOfMemory};
 use indexmap::IndexSet;
-use litmus::{Name, Op, Ops, Program, name_at};
-use recorder::Recording;
+use program::{Name, Op, Ops, Program, name_at};
+use recording::Recording;
 use std::alloc::Global;
 
 /// The operation of a number, counted core by core; a fence past the last operation.

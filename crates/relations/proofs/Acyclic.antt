@@ -1,6 +1,6 @@
 -- Where an order has the related pairs in order, there is no cycle.
 use Rattle.std.proofs.Common.{◌<◌, ℕ, List, [], ◌∷◌, arith}
-use Rattle.recorder.specs.Order.{place, Before}
+use Rattle.recording.specs.Order.{place, Before}
 use Rattle.relations.specs.Cycle.{Leads}
 use Rattle.relations.specs.Laws.{OrderedIsAcyclic}
 

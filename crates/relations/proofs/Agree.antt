@@ -4,9 +4,9 @@ use Rattle.std.proofs.Common.{get_or, arith, refl, sym, ap, subst, ◌∙◌}
 use Rattle.std.specs.Prelude.{is_some, All}
 use Rattle.std.proofs.lemmas.Bool.{cases_lt}
 use Rattle.std.proofs.lemmas.List.{get_or_past, length-map}
-use Rattle.recorder.specs.Execution.{Execution, event_count}
-use Rattle.recorder.specs.Tso.{IsWellFormed}
-use Rattle.recorder.specs.EventLaws.{Reads-event, Writes-event}
+use Rattle.recording.specs.Execution.{Execution, event_count}
+use Rattle.recording.specs.Tso.{IsWellFormed}
+use Rattle.recording.specs.EventLaws.{Reads-event, Writes-event}
 use Rattle.relations.specs.declared.reason.Reason.{Reason}
 use Rattle.relations.specs.declared.reason.Reason.TheVariants.{Po, Wo, Rf, Fr}
 use Rattle.relations.specs.Forced.{Holds, Forced, IsReason}

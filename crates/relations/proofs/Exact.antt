@@ -2,13 +2,13 @@
 use Rattle.std.proofs.Common.{◌≡◌, ◌≢◌, ◌<◌, ◌⊎◌, inl, inr, ℕ, Option, Some, None, List, arith, refl, sym, ap}
 use Rattle.std.proofs.Common.{subst}
 use Rattle.std.proofs.lemmas.Bool.{cases_eq, cases_lt}
-use Rattle.recorder.specs.Execution.{Execution, event_count, event_at, core_of, write_list, Reads, Writes}
-use Rattle.recorder.specs.Execution.{source_of, ProgramOrder}
-use Rattle.recorder.specs.Order.{place, times, Before, Enumerates}
-use Rattle.recorder.specs.Tso.{Gives, IsWellFormed, Visible, IsLastVisible, IsTsoOrder}
-use Rattle.recorder.specs.Event.{value_read}
-use Rattle.recorder.specs.OrderLaws.{compare_places}
-use Rattle.recorder.specs.EventLaws.{Reads-event, Writes-event, source-Reads}
+use Rattle.recording.specs.Execution.{Execution, event_count, event_at, core_of, write_list, Reads, Writes}
+use Rattle.recording.specs.Execution.{source_of, ProgramOrder}
+use Rattle.recording.specs.Order.{place, times, Before, Enumerates}
+use Rattle.recording.specs.Tso.{Gives, IsWellFormed, Visible, IsLastVisible, IsTsoOrder}
+use Rattle.recording.specs.Event.{value_read}
+use Rattle.recording.specs.OrderLaws.{compare_places}
+use Rattle.recording.specs.EventLaws.{Reads-event, Writes-event, source-Reads}
 use Rattle.relations.specs.declared.reason.Reason.{Reason}
 use Rattle.relations.specs.declared.reason.Reason.TheVariants.{Po, Wo, Rf, Fr}
 use Rattle.relations.specs.Forced.{IsOlder, Holds, Overlooks}

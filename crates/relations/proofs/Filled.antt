@@ -5,7 +5,7 @@ use Rattle.std.proofs.lemmas.Bool.{cases_eq, cases_lt}
 use Rattle.std.proofs.lemmas.List.{get_or-replicate, get_or_past, length-replicate}
 use Rattle.bitrow.specs.Bits.{is_in}
 use Rattle.relations.specs.declared.reason.Reason.{Reason}
-use Rattle.recorder.specs.Execution.{Execution, event_count, source_of}
+use Rattle.recording.specs.Execution.{Execution, event_count, source_of}
 use Rattle.relations.specs.Forced.{Holds, Forced}
 use Rattle.relations.specs.declared.reason.Reason.TheVariants.{Po, Wo, Rf, Fr}
 use Rattle.relations.specs.Filled.{IsPut, TellsForced, IsFilled, IsOwnOrWrite, IsFilledRow}

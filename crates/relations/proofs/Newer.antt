@@ -3,12 +3,12 @@ use Rattle.std.proofs.Common.{◌≡◌, ◌<◌, ◌≤◌, ◌+◌, ◌↔◌,
 use Rattle.std.proofs.Common.{get_or, length, arith, sym, ap, subst, ◌∙◌}
 use Rattle.std.specs.Prelude.{MatchOption}
 use Rattle.std.proofs.lemmas.Bool.{cases_eq, cases_lt}
-use Rattle.recorder.specs.Event.{read_address}
-use Rattle.recorder.specs.Execution.{Execution, event_at, write_list, Reads, Writes, source_of, ProgramOrder}
-use Rattle.recorder.specs.Order.{place, Enumerates}
-use Rattle.recorder.specs.Tso.{IsWellFormed}
-use Rattle.recorder.specs.OrderLaws.{place_nil, place_here, place_there, place_in}
-use Rattle.recorder.specs.PlaceLaws.{at_place, times_at, place_at}
+use Rattle.recording.specs.Event.{read_address}
+use Rattle.recording.specs.Execution.{Execution, event_at, write_list, Reads, Writes, source_of, ProgramOrder}
+use Rattle.recording.specs.Order.{place, Enumerates}
+use Rattle.recording.specs.Tso.{IsWellFormed}
+use Rattle.recording.specs.OrderLaws.{place_nil, place_here, place_there, place_in}
+use Rattle.recording.specs.PlaceLaws.{at_place, times_at, place_at}
 use Rattle.relations.specs.Forced.{IsOlder, Overlooks, IsNewerFrom}
 
 -- a place is within the list, or its length

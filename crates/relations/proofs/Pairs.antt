@@ -1,9 +1,9 @@
 -- What the places of two events tell is what holds of the pair.
 use Rattle.std.proofs.Common.{◌≡◌, ◌<◌, ◌≤◌, ◌↔◌, ◌⊎◌, inl, inr, ℕ, Some, arith, length, subst, ap, ◌∙◌}
 use Rattle.std.specs.Prelude.{is_some, IsSome}
-use Rattle.recorder.specs.Execution.{Execution, write_list, Reads, Writes, source_of}
-use Rattle.recorder.specs.Order.{place, Before}
-use Rattle.recorder.specs.OrderLaws.{place_in}
+use Rattle.recording.specs.Execution.{Execution, write_list, Reads, Writes, source_of}
+use Rattle.recording.specs.Order.{place, Before}
+use Rattle.recording.specs.OrderLaws.{place_in}
 use Rattle.relations.specs.declared.placed.Placed.{Placed}
 use Rattle.relations.specs.declared.reason.Reason.TheVariants.{Wo, Fr}
 use Rattle.relations.specs.Forced.{IsOlder, Holds}

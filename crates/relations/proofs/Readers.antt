@@ -3,8 +3,8 @@ use Rattle.std.proofs.Common.{◌≡◌, ◌<◌, ◌+◌, ◌⊎◌, inl, inr, 
 use Rattle.std.proofs.Common.{arith, sym, ap, subst, ◌∙◌, get_or-set_other, get_or-set_same, length-set}
 use Rattle.std.proofs.lemmas.Bool.{cases_eq}
 use Rattle.std.proofs.lemmas.List.{get_or_default}
-use Rattle.recorder.specs.Execution.{Execution, event_count, source_of}
-use Rattle.recorder.specs.Tso.{IsWellFormed}
+use Rattle.recording.specs.Execution.{Execution, event_count, source_of}
+use Rattle.recording.specs.Tso.{IsWellFormed}
 use Rattle.relations.specs.declared.placed.Placed.{Placed}
 use Rattle.relations.specs.Forced.{Forced}
 use Rattle.relations.specs.Placed.{IsPlaced, ArePlaced}

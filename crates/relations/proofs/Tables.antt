@@ -12,7 +12,7 @@ use Rattle.relations.specs.Forced.{Forced}
 use Rattle.relations.specs.Filled.{IsFilledRow, AreFilled}
 use Rattle.bitrow.specs.Bits.{is_in}
 use Rattle.relations.specs.Relation.{Row, Table, IsRelation, table_of, sets_of, placed_of, relates}
-use Rattle.recorder.specs.Execution.{Execution, event_count}
+use Rattle.recording.specs.Execution.{Execution, event_count}
 
 -- what holds of each item holds with one more
 each_more : {A : Type 0} (P : ℕ → A → Type 0) (xs : List A) (y d : A)

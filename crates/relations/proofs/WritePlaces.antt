@@ -4,13 +4,13 @@ use Rattle.std.proofs.Common.{replicate}
 use Rattle.std.proofs.Common.{arith, sym, ap, subst, ◌∙◌, length-set, get_or-set_same, get_or-set_other}
 use Rattle.std.proofs.lemmas.Bool.{cases_eq}
 use Rattle.std.proofs.lemmas.List.{length-replicate}
-use Rattle.recorder.specs.Event.{value_read}
-use Rattle.recorder.specs.Execution.{Execution, event_count, event_at, write_list, Reads, Writes, source_of}
-use Rattle.recorder.specs.Order.{place}
-use Rattle.recorder.specs.Recording.{IsRecording}
-use Rattle.recorder.specs.Tso.{Gives, IsWellFormed}
-use Rattle.recorder.specs.OrderLaws.{place_in}
-use Rattle.recorder.specs.PlaceLaws.{at_place, place_at, times_at}
+use Rattle.recording.specs.Event.{value_read}
+use Rattle.recording.specs.Execution.{Execution, event_count, event_at, write_list, Reads, Writes, source_of}
+use Rattle.recording.specs.Order.{place}
+use Rattle.recording.specs.Recording.{IsRecording}
+use Rattle.recording.specs.Tso.{Gives, IsWellFormed}
+use Rattle.recording.specs.OrderLaws.{place_in}
+use Rattle.recording.specs.PlaceLaws.{at_place, place_at, times_at}
 use Rattle.relations.specs.Forced.{IsOlder, IsNewerFrom}
 use Rattle.relations.specs.Placed.{AreWritePlaces}
 use Rattle.relations.proofs.Written.{list_short, listed_event, source_writes, writes_one}

@@ -2,9 +2,9 @@
 use Rattle.std.proofs.Common.{◌≡◌, ◌<◌, ◌≤◌, ◌+◌, ◌⊎◌, inl, inr, ℕ, zero, suc, List, [], ◌∷◌, ◌++◌, length}
 use Rattle.std.proofs.Common.{arith, refl, sym, ap, subst, ◌∙◌}
 use Rattle.std.proofs.lemmas.Bool.{cases_eq}
-use Rattle.recorder.specs.Order.{times}
-use Rattle.recorder.specs.OrderLaws.{times_here, times_there, times_nil, cases_times}
-use Rattle.recorder.specs.EnumerationLaws.{distinct_below}
+use Rattle.recording.specs.Order.{times}
+use Rattle.recording.specs.OrderLaws.{times_here, times_there, times_nil, cases_times}
+use Rattle.recording.specs.EnumerationLaws.{distinct_below}
 use Rattle.relations.specs.Cycle.{Leads, Walk, IsCycle, ComesFirst}
 
 -- one step more at the end of a walk

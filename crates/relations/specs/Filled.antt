@@ -3,7 +3,7 @@ use Rattle.std.specs.Prelude.{◌≡◌, ◌≢◌, ◌<◌, ◌⊎◌, ◌↔�
 use Rattle.std.specs.Prelude.{slice_index_or}
 use Rattle.bitrow.specs.Bits.{is_in}
 use Rattle.relations.specs.declared.reason.Reason.TheVariants.{Wo, Fr}
-use Rattle.recorder.specs.Execution.{Execution, event_count, ProgramOrder}
+use Rattle.recording.specs.Execution.{Execution, event_count, ProgramOrder}
 use Rattle.relations.specs.Forced.{Holds, Forced}
 
 -- a set with e in it or not, as the answer is, and else as it was

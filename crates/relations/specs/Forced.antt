@@ -2,8 +2,8 @@
 use Rattle.std.specs.Prelude.{◌≡◌, ◌≢◌, ◌⊎◌, ◌<◌, ◌≤◌, ◌↔◌, ℕ, Option, Some, None, List, length}
 use Rattle.relations.specs.declared.reason.Reason.{Reason}
 use Rattle.relations.specs.declared.reason.Reason.TheVariants.{Po, Wo, Rf, Fr}
-use Rattle.recorder.specs.Execution.{Execution, write_list, Reads, Writes, source_of, ProgramOrder, Kept}
-use Rattle.recorder.specs.Order.{place, Before}
+use Rattle.recording.specs.Execution.{Execution, write_list, Reads, Writes, source_of, ProgramOrder, Kept}
+use Rattle.recording.specs.Order.{place, Before}
 
 -- a source comes before the write w in the write list: none is the initial value, before all writes
 abbrev pub IsOlder : List ℕ → Option ℕ → ℕ → Type 0

@@ -1,7 +1,7 @@
 -- What forced pairs, overlooks and memory orders have to do with one another.
 use Rattle.std.specs.Prelude.{◌↔◌, ℕ, List}
-use Rattle.recorder.specs.Execution.{Execution}
-use Rattle.recorder.specs.Tso.{IsTsoOrder, IsWellFormed}
+use Rattle.recording.specs.Execution.{Execution}
+use Rattle.recording.specs.Tso.{IsTsoOrder, IsWellFormed}
 use Rattle.relations.specs.Cycle.{IsCycle, IsAcyclic, IsLeastCycle, AreExactRows, IsCertificate}
 use Rattle.relations.specs.Respects.{Respects, IsLeastOrder}
 use Rattle.relations.specs.Verdict.{RespectsForced, HasNoOverlook}

@@ -2,11 +2,11 @@
 use Rattle.std.specs.Prelude.{◌≡◌, ◌<◌, ℕ, List, length, slice_index_or}
 use Rattle.relations.specs.declared.placed.Placed.{Placed}
 use Rattle.relations.specs.Forced.{IsNewerFrom}
-use Rattle.recorder.specs.Event.{read_address, written_address, is_plain_store, is_plain_load}
-use Rattle.recorder.specs.Execution.{Execution, event_count, event_at, core_of, write_list, Reads, Writes}
-use Rattle.recorder.specs.Execution.{source_of}
-use Rattle.recorder.specs.Order.{place}
-use Rattle.recorder.specs.Tso.{IsWellFormed}
+use Rattle.recording.specs.Event.{read_address, written_address, is_plain_store, is_plain_load}
+use Rattle.recording.specs.Execution.{Execution, event_count, event_at, core_of, write_list, Reads, Writes}
+use Rattle.recording.specs.Execution.{source_of}
+use Rattle.recording.specs.Order.{place}
+use Rattle.recording.specs.Tso.{IsWellFormed}
 
 -- an event of the well-formed execution x, with its places in the write lists
 pub record IsPlaced (x : Execution) (p : Placed) : Type 0 where

@@ -2,7 +2,7 @@
 use Rattle.std.specs.Prelude.{◌≡◌, ◌≤◌, ℕ, Bool, true, List, [], ◌∷◌, map, length, slice_index_or, All}
 use Rattle.common.specs.declared.limits.TheConstants.{MAX_EVENTS}
 use Rattle.bitrow.specs.Bits.{is_in}
-use Rattle.recorder.specs.Execution.{Execution}
+use Rattle.recording.specs.Execution.{Execution}
 use Rattle.relations.specs.declared.placed.Placed.{Placed}
 use Rattle.relations.specs.Placed.{ArePlaced}
 

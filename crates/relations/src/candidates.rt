@@ -5,11 +5,11 @@ use crate::filling::put;
 use crate::placed::Placed;
 use bitrow::BitRow;
 use common::Addr;
-use recorder::Recording;
+use recording::Recording;
 
 impl Placed {
     ghost use Rattle.std.specs.Prelude.{◌≡◌, ◌≤◌, ◌⊎◌, ℕ, IsSome, Some, length};
-    ghost use Rattle.recorder.specs.Execution.{Execution, ProgramOrder, Reads, Writes};
+    ghost use Rattle.recording.specs.Execution.{Execution, ProgramOrder, Reads, Writes};
     ghost use Rattle.relations.specs.declared.reason.Reason.TheVariants.{Wo, Fr};
     ghost use Rattle.relations.specs.Forced.{Holds};
     ghost use Rattle.relations.specs.Placed.{IsPlaced, ArePlaced};

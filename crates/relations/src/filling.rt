@@ -8,7 +8,7 @@ ghost use Rattle.relations.specs.Filled.{IsPut, IsOwnOrWrite, IsFilledRow, AreFi
 use crate::placed::Placed;
 use bitrow::BitRow;
 use common::OutOfMemory;
-use recorder::Recording;
+use recording::Recording;
 use std::alloc::Global;
 
 /// Puts an event into a row, or takes it out.

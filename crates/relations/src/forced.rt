@@ -6,7 +6,7 @@ use common::Addr;
 
 impl Placed {
     ghost use Rattle.std.specs.Prelude.{◌≡◌, ◌↔◌, ◌&&◌, IsTrue, Some, false};
-    ghost use Rattle.recorder.specs.Execution.{Execution, ProgramOrder};
+    ghost use Rattle.recording.specs.Execution.{Execution, ProgramOrder};
     ghost use Rattle.relations.specs.declared.reason.Reason.TheVariants.{Po, Wo, Rf, Fr};
     ghost use Rattle.relations.specs.Forced.{Holds, IsReason};
     ghost use Rattle.relations.specs.Placed.{IsPlaced};

@@ -1,7 +1,7 @@
 //! Neighbours in a cycle.
 
 ghost use Rattle.std.specs.Prelude.{◌≡◌, ◌<◌, length, slice_index};
-ghost use Rattle.recorder.specs.Execution.{Execution};
+ghost use Rattle.recording.specs.Execution.{Execution};
 ghost use Rattle.relations.specs.Cycle.{IsCycle, behind};
 ghost use Rattle.relations.specs.Forced.{Forced};
 

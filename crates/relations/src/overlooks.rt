@@ -4,7 +4,7 @@ ghost use Rattle.std.specs.Prelude.{◌≡◌, ◌≤◌, ◌<◌, ◌+◌, ℕ,
 ghost use Rattle.relations.specs.Forced.{IsNewerFrom, Overlooks, IsLeastOverlook};
 
 use common::EventId;
-use recorder::{Recording, place};
+use recording::{Recording, place};
 
 /// The place of a list from which on its writes are newer than a source.
 pub(crate) fn newer_from(list: &[EventId], source: Option<EventId>) -> usize

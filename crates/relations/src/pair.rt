@@ -5,7 +5,7 @@ ghost use Rattle.relations.specs.Forced.{Overlooks};
 
 use crate::overlooks::newer_from;
 use common::EventId;
-use recorder::{Recording, place};
+use recording::{Recording, place};
 
 /// Whether a read overlooks a store of its own core, which coherence forbids (CoWR; Nagarajan,
 /// Sorin, Hill and Wood, A Primer on Memory Consistency and Cache Coherence, second edition, chapter

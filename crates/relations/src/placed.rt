@@ -1,13 +1,13 @@
 //! Events with their places, which tell the pairs without a look into a write list.
 
 ghost use Rattle.std.specs.Prelude.{◌≡◌, ◌<◌, ◌+◌, ℕ, length, IfOk};
-ghost use Rattle.recorder.specs.Event.{is_plain_store, is_plain_load};
-ghost use Rattle.recorder.specs.Execution.{event_count, write_list, Reads, source_of};
+ghost use Rattle.recording.specs.Event.{is_plain_store, is_plain_load};
+ghost use Rattle.recording.specs.Execution.{event_count, write_list, Reads, source_of};
 ghost use Rattle.relations.specs.Forced.{IsNewerFrom};
 ghost use Rattle.relations.specs.Placed.{IsPlaced, ArePlaced, AreWritePlaces};
 
 use common::{Addr, CoreId, EventId, OutOfMemory};
-use recorder::{Event, Recording};
+use recording::{Event, Recording};
 use std::alloc::Global;
 
 /// An event with its number, its core, what it does, and its places in the write lists.

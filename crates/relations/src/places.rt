@@ -1,14 +1,14 @@
 //! Why pairs of events are forced, from the places of the events.
 
 ghost use Rattle.std.specs.Prelude.{ℕ};
-ghost use Rattle.recorder.specs.Execution.{Execution};
+ghost use Rattle.recording.specs.Execution.{Execution};
 ghost use Rattle.relations.specs.Forced.{IsReason};
 ghost use Rattle.relations.specs.Placed.{ArePlaced};
 
 use crate::placed::{Placed, placed_events};
 use crate::reason::Reason;
 use common::{EventId, OutOfMemory};
-use recorder::Recording;
+use recording::Recording;
 use std::alloc::Global;
 use std::marker::Model;
 
@@ -36,7 +36,7 @@ pub struct Places<'a> {
 }
 
 impl<'a> Model for Places<'a> {
-    ghost use Rattle.recorder.specs.Execution.{Execution};
+    ghost use Rattle.recording.specs.Execution.{Execution};
     ghost use Rattle.relations.specs.Placed.{ArePlaced};
 
     ghost Value = { Execution };

@@ -6,7 +6,7 @@ use crate::places::reason_between;
 use crate::reason::Reason;
 use bitrow::BitRow;
 use common::{EventId, OutOfMemory};
-use recorder::Recording;
+use recording::Recording;
 use std::alloc::Global;
 use std::marker::Model;
 
@@ -30,7 +30,7 @@ impl Model for Relation {
 
 impl Relation {
     ghost use Rattle.std.specs.Prelude.{◌≡◌, ◌<◌, ◌↔◌, ℕ, IsTrue, IfOk, length};
-    ghost use Rattle.recorder.specs.Execution.{Execution, event_count};
+    ghost use Rattle.recording.specs.Execution.{Execution, event_count};
     ghost use Rattle.relations.specs.Forced.{Forced, IsReason};
     ghost use Rattle.relations.specs.Relation.{IsSquare, IsTableOf, Related, sets_of};
 

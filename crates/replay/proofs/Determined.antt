@@ -6,19 +6,19 @@ use Rattle.std.specs.List.{sum}
 use Rattle.std.proofs.lemmas.List.{length-map}
 use Rattle.std.proofs.lemmas.Bool.{cases_eq, cases_Bool, and_parts}
 use Rattle.std.proofs.Math.ListN as lists
-use Rattle.recorder.specs.declared.event.Event.{Event}
-use Rattle.recorder.specs.declared.event.Event.TheVariants.{F}
-use Rattle.recorder.specs.Event.{read_address, written_address, source, value_read, value_written}
-use Rattle.recorder.specs.Event.{is_plain_store, is_plain_load}
-use Rattle.recorder.specs.Execution.{Execution, placed_from, event_at, write_list, Reads, Writes, source_of}
-use Rattle.recorder.specs.Execution.{ProgramOrder}
-use Rattle.recorder.specs.Order.{place, times, Before, Enumerates}
-use Rattle.recorder.specs.Tso.{Gives, IsWellFormed, Visible, IsLastVisible, IsTsoOrder}
-use Rattle.recorder.specs.OrderLaws.{times_here, times_there, times_nil, times_in, cases_times}
-use Rattle.recorder.specs.OrderLaws.{left_before_right, before_in_right}
+use Rattle.recording.specs.declared.event.Event.{Event}
+use Rattle.recording.specs.declared.event.Event.TheVariants.{F}
+use Rattle.recording.specs.Event.{read_address, written_address, source, value_read, value_written}
+use Rattle.recording.specs.Event.{is_plain_store, is_plain_load}
+use Rattle.recording.specs.Execution.{Execution, placed_from, event_at, write_list, Reads, Writes, source_of}
+use Rattle.recording.specs.Execution.{ProgramOrder}
+use Rattle.recording.specs.Order.{place, times, Before, Enumerates}
+use Rattle.recording.specs.Tso.{Gives, IsWellFormed, Visible, IsLastVisible, IsTsoOrder}
+use Rattle.recording.specs.OrderLaws.{times_here, times_there, times_nil, times_in, cases_times}
+use Rattle.recording.specs.OrderLaws.{left_before_right, before_in_right}
 use Rattle.machine.specs.State.{event_of}
 use Rattle.replay.specs.Program.{op_of}
-use Rattle.recorder.specs.PlacedLaws.{placed_at}
+use Rattle.recording.specs.PlacedLaws.{placed_at}
 use Rattle.replay.proofs.Made.{made_again, made_unread, made_reads, made_given, store_unread, IsMade}
 
 -- Lists that one order sorts

@@ -1,12 +1,12 @@
 -- The program of a recording counts its addresses exactly where they are numbered by first use.
 use Rattle.std.proofs.Common.{◌≡◌, ◌<◌, ◌⊎◌, inl, inr, ℕ, Some, length, sym, subst}
-use Rattle.litmus.specs.declared.op.Op.{Op}
-use Rattle.litmus.specs.Parts.{addr_of, use_cores}
-use Rattle.recorder.specs.declared.event.Event.{Event}
-use Rattle.recorder.specs.declared.event.Event.TheVariants.{L, S, R, C, F}
-use Rattle.recorder.specs.Event.{read_address, written_address}
-use Rattle.recorder.specs.Execution.{Execution, event_at}
-use Rattle.recorder.specs.FirstUse.{Uses, IsNumberedByFirstUse}
+use Rattle.program.specs.declared.op.Op.{Op}
+use Rattle.program.specs.Parts.{addr_of, use_cores}
+use Rattle.recording.specs.declared.event.Event.{Event}
+use Rattle.recording.specs.declared.event.Event.TheVariants.{L, S, R, C, F}
+use Rattle.recording.specs.Event.{read_address, written_address}
+use Rattle.recording.specs.Execution.{Execution, event_at}
+use Rattle.recording.specs.FirstUse.{Uses, IsNumberedByFirstUse}
 use Rattle.machine.specs.FirstUseLaws as laws
 use Rattle.machine.specs.FirstUseLaws.{HasAddressOf, HaveAddressesOf}
 use Rattle.replay.specs.Program.{op_of, program_of}

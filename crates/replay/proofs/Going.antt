@@ -4,13 +4,13 @@ use Rattle.std.proofs.Common.{[], ◌∷◌, map, take, length, get_or, arith, r
 use Rattle.std.specs.List.{All, count_by}
 use Rattle.std.proofs.lemmas.List.Sums.{sum_by-cons}
 use Rattle.std.proofs.lemmas.Bool.{cases_eq}
-use Rattle.litmus.specs.declared.op.Op.{Op}
-use Rattle.litmus.specs.declared.op.Op.TheVariants.{St, Fence}
-use Rattle.litmus.specs.Parts.{IsWithin}
-use Rattle.recorder.specs.declared.event.Event.{Event}
-use Rattle.recorder.specs.Event.{is_plain_store}
-use Rattle.recorder.specs.Order.{times}
-use Rattle.recorder.specs.OrderLaws.{times_nil, times_there, times_append}
+use Rattle.program.specs.declared.op.Op.{Op}
+use Rattle.program.specs.declared.op.Op.TheVariants.{St, Fence}
+use Rattle.program.specs.Parts.{IsWithin}
+use Rattle.recording.specs.declared.event.Event.{Event}
+use Rattle.recording.specs.Event.{is_plain_store}
+use Rattle.recording.specs.Order.{times}
+use Rattle.recording.specs.OrderLaws.{times_nil, times_there, times_append}
 use Rattle.write_buffer.specs.declared.entry.Entry.{Entry}
 use Rattle.machine.specs.declared.fault.Fault.TheVariants as fault
 use Rattle.machine.specs.declared.step.Step.{Step}

@@ -4,14 +4,14 @@ use Rattle.std.proofs.Common.{None, Result, Ok, Err, List, [], ◌∷◌, length
 use Rattle.std.proofs.Common.{arith, refl, sym, ap, subst, ◌∙◌, length-set}
 use Rattle.std.specs.List.{All}
 use Rattle.std.proofs.lemmas.List.{get_or_default, length-replicate}
-use Rattle.litmus.specs.declared.op.Op.{Op}
-use Rattle.litmus.specs.declared.op.Op.TheVariants.{St, Ld, Fence, Swap, Add, Cas}
-use Rattle.litmus.specs.Parts.{Parts, IsWithin}
-use Rattle.recorder.specs.declared.event.Event.TheVariants.{R, C}
-use Rattle.recorder.specs.Event.{read_address, written_address}
-use Rattle.recorder.specs.Execution.{Execution, event_at}
-use Rattle.recorder.specs.Recording.{IsRecording}
-use Rattle.recorder.specs.PlacedLaws.{placed_at}
+use Rattle.program.specs.declared.op.Op.{Op}
+use Rattle.program.specs.declared.op.Op.TheVariants.{St, Ld, Fence, Swap, Add, Cas}
+use Rattle.program.specs.Parts.{Parts, IsWithin}
+use Rattle.recording.specs.declared.event.Event.TheVariants.{R, C}
+use Rattle.recording.specs.Event.{read_address, written_address}
+use Rattle.recording.specs.Execution.{Execution, event_at}
+use Rattle.recording.specs.Recording.{IsRecording}
+use Rattle.recording.specs.PlacedLaws.{placed_at}
 use Rattle.moesi.specs.declared.error.CacheError.{CacheError}
 use Rattle.write_buffer.specs.declared.entry.Entry.{Entry}
 use Rattle.machine.specs.declared.fault.Fault.{Fault}

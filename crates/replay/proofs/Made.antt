@@ -5,12 +5,12 @@ use Rattle.std.proofs.Common.{map, length, get_or, arith, refl, sym, ap, subst, 
 use Rattle.std.proofs.lemmas.List.{map-append, length-map, get_or_past}
 use Rattle.std.proofs.lemmas.Bool.{cases_lt, ne_eqb}
 use Rattle.std.proofs.Math.ListN as lists
-use Rattle.litmus.specs.declared.op.Op.{Op}
-use Rattle.litmus.specs.declared.op.Op.TheVariants.{Fence}
-use Rattle.recorder.specs.declared.event.Event.{Event}
-use Rattle.recorder.specs.declared.event.Event.TheVariants.{L, S, R, C, F}
-use Rattle.recorder.specs.Event.{read_address, source, value_read, is_plain_store}
-use Rattle.recorder.specs.Execution.{Execution, placed_from, event_count, event_at, core_of}
+use Rattle.program.specs.declared.op.Op.{Op}
+use Rattle.program.specs.declared.op.Op.TheVariants.{Fence}
+use Rattle.recording.specs.declared.event.Event.{Event}
+use Rattle.recording.specs.declared.event.Event.TheVariants.{L, S, R, C, F}
+use Rattle.recording.specs.Event.{read_address, source, value_read, is_plain_store}
+use Rattle.recording.specs.Execution.{Execution, placed_from, event_count, event_at, core_of}
 use Rattle.machine.specs.State.{State, event_of, cores_from, recorded}
 use Rattle.replay.specs.Program.{op_of, program_of}
 use Rattle.machine.specs.Orderly.{placed_op, is_st}

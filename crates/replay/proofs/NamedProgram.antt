@@ -6,25 +6,25 @@ use Rattle.std.specs.List.{AllByRecursion}
 use Rattle.std.proofs.Math.Nat.{le-max_right, max-eq_left, max-eq_right}
 use Rattle.std.proofs.lemmas.List.{length-map, get_or-map}
 use Rattle.common.specs.declared.limits.TheConstants.{MAX_ADDRESSES}
-use Rattle.litmus.specs.declared.op.Op.{Op}
-use Rattle.litmus.specs.declared.op.Op.TheVariants.{Fence}
-use Rattle.litmus.specs.Parts.{Small, IsSmall, IsProgram, use_ops, use_cores}
-use Rattle.recorder.specs.declared.event.Event.{Event}
-use Rattle.recorder.specs.declared.event.Event.TheVariants.{F}
-use Rattle.recorder.specs.Event.{is_plain_store}
-use Rattle.recorder.specs.Execution.{Execution}
-use Rattle.recorder.specs.Recording.{IsRecording}
+use Rattle.program.specs.declared.op.Op.{Op}
+use Rattle.program.specs.declared.op.Op.TheVariants.{Fence}
+use Rattle.program.specs.Parts.{Small, IsSmall, IsProgram, use_ops, use_cores}
+use Rattle.recording.specs.declared.event.Event.{Event}
+use Rattle.recording.specs.declared.event.Event.TheVariants.{F}
+use Rattle.recording.specs.Event.{is_plain_store}
+use Rattle.recording.specs.Execution.{Execution}
+use Rattle.recording.specs.Recording.{IsRecording}
 use Rattle.replay.specs.Program.{op_of, program_of}
 use Rattle.replay.specs.Stores.{most_stores}
-use Rattle.recorder.specs.FirstUse.{IsNumberedByFirstUse}
-use Rattle.litmus.specs.AddressNames.{address_names}
+use Rattle.recording.specs.FirstUse.{IsNumberedByFirstUse}
+use Rattle.program.specs.AddressNames.{address_names}
 use Rattle.replay.specs.Program.{named_program}
-use Rattle.recorder.specs.PlacedLaws.{placed_total}
+use Rattle.recording.specs.PlacedLaws.{placed_total}
 use Rattle.machine.specs.ProgramOf.{Makes, AreOpsOf, IsProgramOf}
 use Rattle.replay.proofs.Made.{count_same, made_again}
 use Rattle.std.proofs.lemmas.Option.{same_Some}
 use Rattle.replay.proofs.FirstUse.{program_numbered, numbered_by_program}
-use Rattle.litmus.specs.AddressNameLaws.{names_lawful, names_distinct, names_count}
+use Rattle.program.specs.AddressNameLaws.{names_lawful, names_distinct, names_count}
 
 -- the names, the operations and the initial values of a recording are a program
 pub named_is_program : (x : Execution) → IsRecording x → IsNumberedByFirstUse x

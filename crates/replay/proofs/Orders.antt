@@ -4,12 +4,12 @@ use Rattle.std.proofs.Common.{replicate, arith, refl, sym, ap, subst, ◌∙◌,
 use Rattle.std.proofs.Common.{append-nil}
 use Rattle.std.specs.List.{sum, count_by}
 use Rattle.std.proofs.lemmas.List.{length-replicate}
-use Rattle.litmus.specs.declared.op.Op.{Op}
-use Rattle.recorder.specs.declared.event.Event.{Event}
-use Rattle.recorder.specs.declared.event.Event.TheVariants.{L, S, R, C, F}
-use Rattle.recorder.specs.Event.{is_plain_store}
-use Rattle.recorder.specs.Execution.{Execution, event_at, core_of}
-use Rattle.recorder.specs.Tso.{IsTsoOrder}
+use Rattle.program.specs.declared.op.Op.{Op}
+use Rattle.recording.specs.declared.event.Event.{Event}
+use Rattle.recording.specs.declared.event.Event.TheVariants.{L, S, R, C, F}
+use Rattle.recording.specs.Event.{is_plain_store}
+use Rattle.recording.specs.Execution.{Execution, event_at, core_of}
+use Rattle.recording.specs.Tso.{IsTsoOrder}
 use Rattle.machine.specs.declared.fault.Fault.TheVariants as fault
 use Rattle.machine.specs.declared.step.Step.{Step}
 use Rattle.machine.specs.declared.step.Step.TheVariants.{Exec}

@@ -6,18 +6,18 @@ use Rattle.std.proofs.Math.Nat.{le-max_left, le-max_right}
 use Rattle.std.proofs.lemmas.List.{get_or_default, get_or_past}
 use Rattle.std.proofs.lemmas.List.Sums.{sum_by-cons}
 use Rattle.std.proofs.lemmas.Bool.{cases_lt, and_parts}
-use Rattle.litmus.specs.declared.op.Op.{Op}
-use Rattle.litmus.specs.declared.op.Op.TheVariants.{Fence}
-use Rattle.litmus.specs.declared.name.Name.{Name}
-use Rattle.litmus.specs.Parts.{Parts, IsWithin, IsProgram, parts_of}
-use Rattle.recorder.specs.declared.event.Event.{Event}
-use Rattle.recorder.specs.declared.event.Event.TheVariants.{L, S, R, C, F}
-use Rattle.recorder.specs.Event.{read_address, written_address, is_plain_store}
-use Rattle.recorder.specs.Execution.{Execution, placed_from, event_at}
-use Rattle.recorder.specs.Order.{times}
-use Rattle.recorder.specs.Recording.{IsRecording}
-use Rattle.recorder.specs.Tso.{IsTsoOrder, IsWellFormed}
-use Rattle.recorder.specs.OrderLaws.{times_here, times_append}
+use Rattle.program.specs.declared.op.Op.{Op}
+use Rattle.program.specs.declared.op.Op.TheVariants.{Fence}
+use Rattle.program.specs.declared.name.Name.{Name}
+use Rattle.program.specs.Parts.{Parts, IsWithin, IsProgram, parts_of}
+use Rattle.recording.specs.declared.event.Event.{Event}
+use Rattle.recording.specs.declared.event.Event.TheVariants.{L, S, R, C, F}
+use Rattle.recording.specs.Event.{read_address, written_address, is_plain_store}
+use Rattle.recording.specs.Execution.{Execution, placed_from, event_at}
+use Rattle.recording.specs.Order.{times}
+use Rattle.recording.specs.Recording.{IsRecording}
+use Rattle.recording.specs.Tso.{IsTsoOrder, IsWellFormed}
+use Rattle.recording.specs.OrderLaws.{times_here, times_append}
 use Rattle.write_buffer.specs.declared.entry.Entry.{Entry}
 use Rattle.machine.specs.declared.fault.Fault.TheVariants as fault
 use Rattle.machine.specs.declared.step.Step.{Step}
@@ -27,16 +27,16 @@ use Rattle.replay.specs.Program.{op_of, program_of}
 use Rattle.replay.specs.Stores.{most_stores}
 use Rattle.replay.specs.Steps.{replay_steps}
 use Rattle.replay.specs.Replayed.{IsReplay, EveryOrderIsReplayed, led_to, MakesExactlyTso}
-use Rattle.litmus.specs.AddressNames.{address_names}
+use Rattle.program.specs.AddressNames.{address_names}
 use Rattle.replay.specs.Program.{named_program}
-use Rattle.litmus.specs.AddressNameLaws.{names_count}
+use Rattle.program.specs.AddressNameLaws.{names_count}
 use Rattle.machine.specs.declared.blocked.Blocked.{Blocked}
 use Rattle.machine.specs.declared.step.Step.TheVariants.{Exec, Drain, GetS, GetM, Put}
 use Rattle.machine.specs.Script.{IsStepOf}
 use Rattle.machine.specs.Tso.{EveryRunIsTso, EveryRunIsWellFormed}
 use Rattle.std.proofs.lemmas.List.Elements.{All-nil, All-cons}
 use Rattle.machine.specs.Orderly.{placed_op, is_st, IsOrderly, EveryStateIsOrderly}
-use Rattle.recorder.specs.PlacedLaws.{placed_total, placed_at}
+use Rattle.recording.specs.PlacedLaws.{placed_total, placed_at}
 use Rattle.replay.proofs.NamedProgram.{named_is_program}
 use Rattle.replay.proofs.Made.{placed_is, count_same, recorded_made}
 use Rattle.replay.proofs.Determined.{determined}

@@ -1,9 +1,9 @@
 -- A machine that takes steps and writes them down, step by step.
 use Rattle.std.proofs.Common.{◌≡◌, ◌+◌, ℕ, zero, suc, Result, Ok, Err, OnOk, List, [], ◌∷◌, ◌++◌, replicate}
 use Rattle.std.proofs.Common.{arith, refl, sym, ap, ◌∙◌, append_assoc, append-nil}
-use Rattle.litmus.specs.declared.op.Op.{Op}
-use Rattle.recorder.specs.declared.event.Event.{Event}
-use Rattle.recorder.specs.Execution.{Execution, core_of, event_at}
+use Rattle.program.specs.declared.op.Op.{Op}
+use Rattle.recording.specs.declared.event.Event.{Event}
+use Rattle.recording.specs.Execution.{Execution, core_of, event_at}
 use Rattle.machine.specs.declared.fault.Fault.{Fault}
 use Rattle.machine.specs.declared.step.Step.{Step}
 use Rattle.machine.specs.State.{State}

@@ -6,17 +6,17 @@ use Rattle.std.proofs.Common.{length-append}
 use Rattle.std.specs.List.{sum, count_by}
 use Rattle.std.proofs.lemmas.List.Sums.{sum_by-set}
 use Rattle.std.proofs.lemmas.Bool.{cases_eq, cases_lt, lt-ltb, cases_Bool, and_parts, and_right}
-use Rattle.litmus.specs.declared.op.Op.{Op}
-use Rattle.litmus.specs.declared.op.Op.TheVariants.{St, Ld, Fence, Swap, Add, Cas}
-use Rattle.litmus.specs.Parts.{IsWithin}
-use Rattle.recorder.specs.declared.event.Event.TheVariants.{L, S, R, C, F}
-use Rattle.recorder.specs.Event.{is_plain_store, is_plain_load}
-use Rattle.recorder.specs.Execution.{Execution, placed_from, event_count, event_at, core_of}
-use Rattle.recorder.specs.Order.{times, Before}
-use Rattle.recorder.specs.Tso.{IsTsoOrder}
-use Rattle.recorder.specs.OrderLaws.{cases_times, place_here, place_there, times_here, times_nil}
-use Rattle.recorder.specs.OrderLaws.{times_append}
-use Rattle.recorder.specs.OrderLaws.{place_append_right}
+use Rattle.program.specs.declared.op.Op.{Op}
+use Rattle.program.specs.declared.op.Op.TheVariants.{St, Ld, Fence, Swap, Add, Cas}
+use Rattle.program.specs.Parts.{IsWithin}
+use Rattle.recording.specs.declared.event.Event.TheVariants.{L, S, R, C, F}
+use Rattle.recording.specs.Event.{is_plain_store, is_plain_load}
+use Rattle.recording.specs.Execution.{Execution, placed_from, event_count, event_at, core_of}
+use Rattle.recording.specs.Order.{times, Before}
+use Rattle.recording.specs.Tso.{IsTsoOrder}
+use Rattle.recording.specs.OrderLaws.{cases_times, place_here, place_there, times_here, times_nil}
+use Rattle.recording.specs.OrderLaws.{times_append}
+use Rattle.recording.specs.OrderLaws.{place_append_right}
 use Rattle.moesi.specs.State as moesi
 use Rattle.moesi.specs.Lines.{is_exclusive}
 use Rattle.write_buffer.specs.declared.entry.Entry.{Entry}
@@ -31,7 +31,7 @@ use Rattle.machine.specs.Step.{with_caches, rmw_value, read_modify_written, read
 use Rattle.replay.specs.Program.{op_of, program_of}
 use Rattle.replay.specs.Steps.{execute_to, get_to_write, get_to_read}
 use Rattle.machine.specs.Orderly.{placed_op, is_st, is_ld, AreStores, seen_by, IsOrderly}
-use Rattle.recorder.specs.PlacedLaws.{placed_at}
+use Rattle.recording.specs.PlacedLaws.{placed_at}
 use Rattle.machine.specs.PlaceLaws.{event_behind, event_before}
 use Rattle.replay.proofs.Made.{store_same, placed_is, count_same, core_there}
 use Rattle.replay.proofs.Going.{IsGoing, goes_further, waiting, stores_wait, waits_once}

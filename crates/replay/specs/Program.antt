@@ -2,13 +2,13 @@
 -- initial values.
 use Rattle.std.specs.Prelude.{◌+◌, ◌%◌, ◌^◌, List, map, length}
 use Rattle.std.specs.List.{AllByRecursion}
-use Rattle.litmus.specs.declared.op.Op.{Op}
-use Rattle.litmus.specs.declared.op.Op.TheVariants.{St, Ld, Fence, Swap, Cas}
-use Rattle.litmus.specs.AddressNames.{address_names}
-use Rattle.litmus.specs.Parts.{Parts, parts_of, Small, IsSmall}
-use Rattle.recorder.specs.declared.event.Event.{Event}
-use Rattle.recorder.specs.declared.event.Event.TheVariants.{L, S, R, C, F}
-use Rattle.recorder.specs.Execution.{Execution}
+use Rattle.program.specs.declared.op.Op.{Op}
+use Rattle.program.specs.declared.op.Op.TheVariants.{St, Ld, Fence, Swap, Cas}
+use Rattle.program.specs.AddressNames.{address_names}
+use Rattle.program.specs.Parts.{Parts, parts_of, Small, IsSmall}
+use Rattle.recording.specs.declared.event.Event.{Event}
+use Rattle.recording.specs.declared.event.Event.TheVariants.{L, S, R, C, F}
+use Rattle.recording.specs.Execution.{Execution}
 
 -- the operation that an event came from; a read-modify-write is a swap of what it wrote, and a
 -- compare-and-swap that failed expects another value than it read

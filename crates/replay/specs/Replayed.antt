@@ -1,16 +1,16 @@
 -- That steps replay a memory order: the machine takes them all, and makes the recording again.
 use Rattle.std.specs.Prelude.{◌≡◌, ◌≤◌, ◌*◌, ◌↔◌, ℕ, List, length, Ok, All}
-use Rattle.litmus.specs.Parts.{Parts, IsProgram}
-use Rattle.recorder.specs.Execution.{Execution, event_count}
-use Rattle.recorder.specs.Recording.{IsRecording}
-use Rattle.recorder.specs.Tso.{IsTsoOrder}
+use Rattle.program.specs.Parts.{Parts, IsProgram}
+use Rattle.recording.specs.Execution.{Execution, event_count}
+use Rattle.recording.specs.Recording.{IsRecording}
+use Rattle.recording.specs.Tso.{IsTsoOrder}
 use Rattle.machine.specs.declared.fault.Fault.TheVariants as fault
 use Rattle.machine.specs.declared.step.Step.{Step}
 use Rattle.machine.specs.State.{State, recorded, IsComplete}
 use Rattle.machine.specs.Step.{run}
 use Rattle.machine.specs.Taken.{all_taken, begun}
 use Rattle.machine.specs.Script.{IsStepOf}
-use Rattle.recorder.specs.FirstUse.{IsNumberedByFirstUse}
+use Rattle.recording.specs.FirstUse.{IsNumberedByFirstUse}
 use Rattle.replay.specs.Stores.{most_stores}
 use Rattle.replay.specs.Steps.{replay_steps}
 use Rattle.replay.specs.Program.{named_program, HasSmallValues}

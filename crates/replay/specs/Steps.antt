@@ -1,10 +1,10 @@
 -- The steps that make a recording again, from a memory order of it.
 use Rattle.std.specs.Prelude.{◌+◌, ◌-◌, ℕ, if◌then◌else◌, Option, Some, None, List, [], ◌∷◌, ◌++◌}
 use Rattle.std.specs.Prelude.{replicate}
-use Rattle.litmus.specs.declared.op.Op.{Op}
-use Rattle.recorder.specs.declared.event.Event.{Event}
-use Rattle.recorder.specs.declared.event.Event.TheVariants.{L, S, R, C, F}
-use Rattle.recorder.specs.Execution.{Execution, core_of, event_at}
+use Rattle.program.specs.declared.op.Op.{Op}
+use Rattle.recording.specs.declared.event.Event.{Event}
+use Rattle.recording.specs.declared.event.Event.TheVariants.{L, S, R, C, F}
+use Rattle.recording.specs.Execution.{Execution, core_of, event_at}
 use Rattle.write_buffer.specs.declared.entry.Entry.{Entry}
 use Rattle.write_buffer.specs.Buffer.{youngest}
 use Rattle.moesi.specs.Lines.{is_valid, is_exclusive}

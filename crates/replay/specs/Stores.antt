@@ -1,7 +1,7 @@
 -- The stores of a core.
 use Rattle.std.specs.Prelude.{ℕ, max, List, [], ◌∷◌, count_by}
-use Rattle.recorder.specs.declared.event.Event.{Event}
-use Rattle.recorder.specs.Event.{is_plain_store}
+use Rattle.recording.specs.declared.event.Event.{Event}
+use Rattle.recording.specs.Event.{is_plain_store}
 
 -- the greatest number of plain stores on one core, and at least 1
 abbrev pub most_stores : List (List Event) → ℕ

@@ -1,7 +1,7 @@
 //! What TSO allows, the machine does.
 
 ghost use Rattle.std.specs.Prelude.{ℕ, List};
-ghost use Rattle.recorder.specs.Execution.{Execution};
+ghost use Rattle.recording.specs.Execution.{Execution};
 ghost use Rattle.replay.specs.Replayed.{EveryOrderIsReplayed, MakesExactlyTso};
 
 use machine::{every_run_is_tso, every_state_is_orderly};

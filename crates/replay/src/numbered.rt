@@ -1,11 +1,11 @@
 //! Whether addresses are numbered by first use.
 
 ghost use Rattle.std.specs.Prelude.{◌≡◌, ◌↔◌, IsTrue, map};
-ghost use Rattle.litmus.specs.Parts.{addr_of, use_addr, use_ops};
-ghost use Rattle.recorder.specs.FirstUse.{IsNumberedByFirstUse};
+ghost use Rattle.program.specs.Parts.{addr_of, use_addr, use_ops};
+ghost use Rattle.recording.specs.FirstUse.{IsNumberedByFirstUse};
 ghost use Rattle.replay.specs.Program.{op_of};
 
-use recorder::{Event, Recording};
+use recording::{Event, Recording};
 
 /// How many addresses are used after an event, where so many were before it; none where it uses one
 /// before its turn.

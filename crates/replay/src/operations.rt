@@ -2,12 +2,12 @@
 
 ghost use Rattle.std.specs.Prelude.{◌≡◌, IfOk, map};
 ghost use Rattle.std.specs.List.{AllByRecursion};
-ghost use Rattle.litmus.specs.Parts.{Small};
+ghost use Rattle.program.specs.Parts.{Small};
 ghost use Rattle.replay.specs.Program.{op_of, program_of};
 
 use common::OutOfMemory;
-use litmus::{Op, Ops};
-use recorder::{Event, Recording};
+use program::{Op, Ops};
+use recording::{Event, Recording};
 use std::alloc::Global;
 
 /// The operation that an event came from; a read-modify-write is a swap of what it wrote, and a

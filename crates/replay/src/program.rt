@@ -2,15 +2,15 @@
 
 ghost use Rattle.std.specs.Prelude.{◌≡◌, IfOk};
 ghost use Rattle.std.specs.List.{AllByRecursion};
-ghost use Rattle.litmus.specs.Parts.{IsSmall};
-ghost use Rattle.recorder.specs.FirstUse.{IsNumberedByFirstUse};
+ghost use Rattle.program.specs.Parts.{IsSmall};
+ghost use Rattle.recording.specs.FirstUse.{IsNumberedByFirstUse};
 ghost use Rattle.machine.specs.ProgramOf.{IsProgramOf};
 ghost use Rattle.replay.specs.Program.{named_program};
 
 use crate::operations::cores_of;
 use common::OutOfMemory;
-use litmus::{Program, address_names};
-use recorder::Recording;
+use program::{Program, address_names};
+use recording::Recording;
 use std::alloc::Global;
 
 /// The initial values, in memory of their own.

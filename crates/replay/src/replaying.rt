@@ -5,7 +5,7 @@ ghost use Rattle.replay.specs.Steps.{executed_before};
 
 use common::{Addr, CoreId, EventId, OutOfMemory};
 use machine::{Machine, Step};
-use recorder::Event;
+use recording::Event;
 use std::marker::Model;
 
 /// A machine that takes steps, with the steps that it has taken.
@@ -25,7 +25,7 @@ impl Model for Replay {
 
 impl Replay {
     ghost use Rattle.std.specs.Prelude.{◌≡◌, ◌<◌, ◌⊎◌, ◌∷◌, [], ℕ, Some, OnOk, length};
-    ghost use Rattle.recorder.specs.Event.{read_address, written_address};
+    ghost use Rattle.recording.specs.Event.{read_address, written_address};
     ghost use Rattle.write_buffer.specs.Buffer.{youngest};
     ghost use Rattle.machine.specs.State.{buffer_of};
     ghost use Rattle.replay.specs.Steps.{execute_to, get_to_write, get_to_read, perform, turn};

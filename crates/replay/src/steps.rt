@@ -1,10 +1,10 @@
 //! Steps that perform a memory order.
 
 ghost use Rattle.std.specs.Prelude.{◌≡◌, ◌<◌, ◌≤◌, ℕ, IfOk, length};
-ghost use Rattle.recorder.specs.Execution.{event_count};
-ghost use Rattle.recorder.specs.Order.{times};
-ghost use Rattle.recorder.specs.Tso.{IsTsoOrder};
-ghost use Rattle.recorder.specs.FirstUse.{IsNumberedByFirstUse};
+ghost use Rattle.recording.specs.Execution.{event_count};
+ghost use Rattle.recording.specs.Order.{times};
+ghost use Rattle.recording.specs.Tso.{IsTsoOrder};
+ghost use Rattle.recording.specs.FirstUse.{IsNumberedByFirstUse};
 ghost use Rattle.replay.specs.Program.{program_of, named_program};
 ghost use Rattle.replay.specs.Stores.{most_stores};
 ghost use Rattle.replay.specs.Steps.{order_steps, replay_steps};
@@ -15,9 +15,9 @@ use crate::program::named_program;
 use crate::replaying::Replay;
 use crate::stores::most_stores;
 use common::{EventId, OutOfMemory};
-use litmus::Program;
+use program::Program;
 use machine::{Fault, Machine, Step};
-use recorder::Recording;
+use recording::Recording;
 use std::alloc::Global;
 
 /// The steps that perform a memory order of a recording, on a machine of its program; an `Err` only

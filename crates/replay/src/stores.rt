@@ -1,10 +1,10 @@
 //! How many stores a core has.
 
 ghost use Rattle.std.specs.Prelude.{◌≡◌, count_by};
-ghost use Rattle.recorder.specs.Event.{is_plain_store};
+ghost use Rattle.recording.specs.Event.{is_plain_store};
 ghost use Rattle.replay.specs.Stores.{most_stores};
 
-use recorder::{Event, Recording};
+use recording::{Event, Recording};
 
 /// How many events are plain stores.
 fn stores_in(events: &[Event]) -> usize

@@ -1,9 +1,9 @@
 -- What is answered to the bytes of a recording.
 use Rattle.std.specs.Prelude.{◌≡◌, ℕ, List, Option, Some, Ok, Err, take}
 use Rattle.std.specs.Io.KnownBytes.{Appends, Consumes}
-use Rattle.recorder.specs.declared.fault.RecError.{RecError}
-use Rattle.recorder.specs.Execution.{Execution}
-use Rattle.recording_text.specs.Reading.{IsReadingResult}
+use Rattle.recording.specs.declared.fault.RecError.{RecError}
+use Rattle.recording.specs.Execution.{Execution}
+use Rattle.recorder.specs.Reading.{IsReadingResult}
 use Rattle.judge.specs.declared.verdict.Verdict.{Verdict}
 use Rattle.judge.specs.declared.verdict.Verdict.TheVariants as verdict
 use Rattle.judge.specs.Verdict.{IsVerdict}

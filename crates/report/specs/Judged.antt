@@ -1,9 +1,9 @@
 -- What is known after the bytes of a recording were judged.
 use Rattle.std.specs.Prelude.{◌≡◌, ◌≢◌, ◌≤◌, ◌<◌, ◌++◌, ℕ, List, Ok, Err, drop, length}
-use Rattle.recorder.specs.declared.fault.RecError.{RecError}
-use Rattle.recorder.specs.declared.fault.RecError.TheVariants.{OutOfMemory}
-use Rattle.recorder.specs.Execution.{Execution}
-use Rattle.recording_text.specs.Reading.{IsReadingResult}
+use Rattle.recording.specs.declared.fault.RecError.{RecError}
+use Rattle.recording.specs.declared.fault.RecError.TheVariants.{OutOfMemory}
+use Rattle.recording.specs.Execution.{Execution}
+use Rattle.recorder.specs.Reading.{IsReadingResult}
 use Rattle.judge.specs.declared.verdict.Verdict.{Verdict}
 use Rattle.judge.specs.Verdict.{IsVerdict}
 use Rattle.report.specs.Verdict.{IsVerdictText}

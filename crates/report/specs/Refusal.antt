@@ -1,8 +1,8 @@
 -- The line of a refused recording.
 use Rattle.std.specs.Prelude.{◌++◌, ◌∷◌, [], ℕ, List, Option, Some, None, codes, decimal}
-use Rattle.recorder.specs.declared.fault.RecError.{RecError}
-use Rattle.recorder.specs.declared.fault.RecError.TheVariants.{NotJson, Shape, Version, Limits, Source, Value}
-use Rattle.recorder.specs.declared.fault.RecError.TheVariants.{WriteList, OutOfMemory}
+use Rattle.recording.specs.declared.fault.RecError.{RecError}
+use Rattle.recording.specs.declared.fault.RecError.TheVariants.{NotJson, Shape, Version, Limits, Source, Value}
+use Rattle.recording.specs.declared.fault.RecError.TheVariants.{WriteList, OutOfMemory}
 
 -- the line that is printed of a refused recording
 abbrev pub refused_as : List ℕ → Option (List ℕ)

@@ -13,7 +13,7 @@ use crate::refusal::recording_line;
 use crate::verdict::verdict_text;
 use common::{Gate, MAX_WORKERS, OutOfMemory};
 use judge::{Verdict, judge_gated};
-use recording_text::read_recording;
+use recorder::read_recording;
 use std::alloc::Global;
 use std::sync::Wait;
 use std::thread::Threads;

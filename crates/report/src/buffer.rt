@@ -6,8 +6,8 @@ ghost use Rattle.report.specs.Judged.{IsRefused, IsTextOfBytes, IsTextOfVerdict,
 use crate::verdict::verdict_text;
 use common::OutOfMemory;
 use judge::judge_alone;
-use recorder::{RecError, Recording};
-use recording_text::read_recording;
+use recording::{RecError, Recording};
+use recorder::read_recording;
 use std::alloc::Global;
 
 /// The text of the verdict was written.

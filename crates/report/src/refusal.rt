@@ -3,7 +3,7 @@
 ghost use Rattle.std.specs.Prelude.{◌≡◌, IfOk, option_map, string_bytes};
 ghost use Rattle.report.specs.Refusal.{recording_line};
 
-use recorder::RecError;
+use recording::RecError;
 use std::alloc::{AllocError, Global};
 
 /// The line that is printed for a refused recording; none for want of memory.

@@ -8,7 +8,7 @@ use crate::cycle::put_cycle;
 use crate::numbers::{put_number, put_numbers};
 use common::{EventId, OutOfMemory};
 use judge::Verdict;
-use recorder::Recording;
+use recording::Recording;
 use relations::Places;
 use std::alloc::Global;
 

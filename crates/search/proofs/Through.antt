@@ -5,10 +5,10 @@ use Rattle.std.proofs.Common.{Some, IfSome, MatchOption}
 use Rattle.std.specs.Option.{unwrap_or}
 use Rattle.std.proofs.lemmas.Bool.{cases_eq}
 use Rattle.std.proofs.lemmas.List.{get_or_append_left}
-use Rattle.recorder.specs.Order.{times}
-use Rattle.recorder.specs.OrderLaws.{times_here, times_there, times_nil, cases_times}
+use Rattle.recording.specs.Order.{times}
+use Rattle.recording.specs.OrderLaws.{times_here, times_there, times_nil, cases_times}
 use Rattle.relations.specs.Cycle.{Leads, IsCycle, Walk, IsExactRow}
-use Rattle.recorder.specs.EnumerationLaws.{distinct_below}
+use Rattle.recording.specs.EnumerationLaws.{distinct_below}
 use Rattle.search.specs.Cycles.{IsNearest}
 use Rattle.search.specs.Bound.{Covers}
 use Rattle.search.proofs.Lengths.{last_step}

@@ -4,7 +4,7 @@ use Rattle.std.proofs.Common.{◌∙◌}
 use Rattle.std.proofs.lemmas.List.{map-append}
 use Rattle.rand_core.specs.Steps.{first_words}
 use Rattle.rand_xoshiro.specs.Xoshiro256.{plus_plus}
-use Rattle.litmus_text.specs.Random.{after_words}
+use Rattle.litmus.specs.Random.{after_words}
 use Rattle.machine.specs.declared.step.Step.{Step}
 use Rattle.machine.specs.Configuration.{Configuration, state_behind}
 use Rattle.machine.specs.State.{State}

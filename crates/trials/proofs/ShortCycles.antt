@@ -1,12 +1,12 @@
 -- The least cycle of a recording has no more events than it.
 use Rattle.std.proofs.Common.{◌<◌, ℕ, Option, Some, arith, subst}
-use Rattle.recorder.specs.Event.{value_read}
-use Rattle.recorder.specs.Execution.{Execution, event_count, event_at, write_list, Reads}
-use Rattle.recorder.specs.Order.{times}
-use Rattle.recorder.specs.OrderLaws.{times_in}
-use Rattle.recorder.specs.EventLaws.{Reads-event, Writes-event, source-Reads}
-use Rattle.recorder.specs.Recording.{IsRecording}
-use Rattle.recorder.specs.Tso.{Gives, IsWellFormed}
+use Rattle.recording.specs.Event.{value_read}
+use Rattle.recording.specs.Execution.{Execution, event_count, event_at, write_list, Reads}
+use Rattle.recording.specs.Order.{times}
+use Rattle.recording.specs.OrderLaws.{times_in}
+use Rattle.recording.specs.EventLaws.{Reads-event, Writes-event, source-Reads}
+use Rattle.recording.specs.Recording.{IsRecording}
+use Rattle.recording.specs.Tso.{Gives, IsWellFormed}
 use Rattle.relations.specs.declared.reason.Reason.{Reason}
 use Rattle.relations.specs.declared.reason.Reason.TheVariants.{Po, Wo, Rf, Fr}
 use Rattle.relations.specs.CycleLaws.{short_cycle}

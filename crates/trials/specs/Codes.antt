@@ -5,8 +5,8 @@ use Rattle.common.specs.declared.limits.TheConstants.{MAX_EVENTS}
 use Rattle.rand_core.specs.Steps.{first_words}
 use Rattle.rand_xoshiro.specs.SplitMix64.{splitmix_seed}
 use Rattle.rand_xoshiro.specs.Xoshiro256.{plus_plus, of_seed}
-use Rattle.litmus.specs.Parts.{Parts}
-use Rattle.litmus_text.specs.Random.{after_words, program_of_words}
+use Rattle.program.specs.Parts.{Parts}
+use Rattle.litmus.specs.Random.{after_words, program_of_words}
 use Rattle.machine.specs.Configuration.{Configuration}
 use Rattle.judge.specs.declared.verdict.Verdict.{Verdict}
 use Rattle.judge.specs.declared.verdict.Verdict.TheVariants.{Ordered, Overlook, Cycle}

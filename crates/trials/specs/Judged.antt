@@ -1,8 +1,8 @@
 -- What is judged of a machine in which a run ends.
 use Rattle.std.specs.Prelude.{◌≡◌, ℕ, List, length, Option, None, Some, ⊤}
-use Rattle.litmus.specs.Parts.{Parts}
-use Rattle.recorder.specs.Execution.{Execution}
-use Rattle.recorder.specs.Tso.{IsTsoOrder}
+use Rattle.program.specs.Parts.{Parts}
+use Rattle.recording.specs.Execution.{Execution}
+use Rattle.recording.specs.Tso.{IsTsoOrder}
 use Rattle.machine.specs.declared.fault.Fault.{Fault}
 use Rattle.machine.specs.declared.fault.Fault.TheVariants as faults
 use Rattle.machine.specs.declared.step.Step.{Step}

@@ -8,9 +8,9 @@ ghost use Rattle.trials.specs.Judged.{begun_machine, ran, IsEndVerdict, IsJudged
 use crate::code::{CYCLE, LOAD, ORDERED, OVERLOOK, UNFINISHED};
 use common::OutOfMemory;
 use judge::{Verdict, judge_alone};
-use litmus::Program;
+use program::Program;
 use machine::{Fault, Machine, Step};
-use recorder::Recording;
+use recording::Recording;
 use std::alloc::Global;
 
 /// A recording and the verdict on it.

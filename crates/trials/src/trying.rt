@@ -11,12 +11,12 @@ use crate::running::run_seeded;
 use campaign::Campaign;
 use common::OutOfMemory;
 use judge::Verdict;
-use litmus::Program;
-use litmus_text::generate;
+use program::Program;
+use litmus::generate;
 use machine::Machine;
 use rand_core::SeedableRng;
 use rand_xoshiro::Xoshiro256PlusPlus;
-use recorder::Recording;
+use recording::Recording;
 use std::alloc::Global;
 
 /// The generator of a trial: seeded by the first seed and the number of the trial, modulo 2^64.

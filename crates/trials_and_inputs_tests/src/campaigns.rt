@@ -5,7 +5,7 @@ ghost use Rattle.common.specs.declared.limits.TheConstants.{MAX_WORKERS};
 
 use answers::campaign_text;
 use common::{Gate, OpenGate};
-use litmus::Shape;
+use program::Shape;
 use machine::Fault;
 use std::alloc::Global;
 use std::sync::Wait;

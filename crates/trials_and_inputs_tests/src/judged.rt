@@ -2,7 +2,7 @@
 
 use common::EventId;
 use judge::Verdict;
-use litmus_text::parse;
+use litmus::parse;
 use machine::{Fault, Step};
 use std::alloc::Global;
 use std::test::Fail;

@@ -1,8 +1,8 @@
 //! Programs at their limits, and past them.
 
 use common::{MAX_ADDRESSES, MAX_CORES, MAX_EVENTS};
-use litmus::{LineFault, LitmusError};
-use litmus_text::parse;
+use program::{LineFault, LitmusError};
+use litmus::parse;
 use std::alloc::Global;
 use std::fmt::Write;
 use std::test::Fail;

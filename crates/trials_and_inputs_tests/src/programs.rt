@@ -2,8 +2,8 @@
 
 use crate::words::generator;
 use common::{MAX_ADDRESSES, MAX_CORES, MAX_EVENTS, OutOfMemory};
-use litmus::{Program, Shape, ShapeError};
-use litmus_text::{generate, print};
+use program::{Program, Shape, ShapeError};
+use litmus::{generate, print};
 use rand_core::SeedableRng;
 use rand_core::utils::NextWord;
 use rand_xoshiro::Xoshiro256PlusPlus;

@@ -2,7 +2,7 @@
 
 use crate::words::generator;
 use common::{Addr, CoreId};
-use litmus_text::parse;
+use litmus::parse;
 use machine::{Blocked, Fault, Machine, Step};
 use std::alloc::Global;
 use std::test::Fail;

@@ -3,7 +3,7 @@
 use crate::judging::recordings::{EventLists, MESSAGE_PASSING, THREE_AND_FOUR, recorded};
 use crate::judging::workers::{Watch, begins_so};
 use common::OpenGate;
-use recording_text::write_recording;
+use recorder::write_recording;
 use report::{Device, MemorySink, MemorySource, Outcome, ReportError, answer};
 use std::alloc::Global;
 use std::io;

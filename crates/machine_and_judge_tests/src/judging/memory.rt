@@ -6,8 +6,8 @@ ghost use Rattle.std.specs.Prelude.{◌≤◌};
 ghost use Rattle.common.specs.declared.limits.TheConstants.{MAX_WORKERS};
 
 use judge::judge;
-use recorder::{RecError, Recording};
-use recording_text::read_recording;
+use recording::{RecError, Recording};
+use recorder::read_recording;
 use report::verdict_text;
 use std::alloc::Global;
 use std::sync::Wait;

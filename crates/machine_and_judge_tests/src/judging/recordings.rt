@@ -1,7 +1,7 @@
 //! Recordings by the names that the field gives them.
 
 use common::EventId;
-use recorder::{Event, Recording};
+use recording::{Event, Recording};
 use relations::Relation;
 use std::alloc::Global;
 

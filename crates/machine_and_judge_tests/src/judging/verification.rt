@@ -7,7 +7,7 @@ use crate::judging::recordings::{
 use common::{EventId, MAX_WORKERS};
 use judge::{Verdict, judge, judge_alone, verify};
 use labels::Certificate;
-use recorder::Recording;
+use recording::Recording;
 use std::alloc::Global;
 use std::sync::Wait;
 use std::test::Fail;

@@ -4,8 +4,8 @@
 
 use crate::machines::plain::{STORE_BUFFERING, performs_an_order};
 use common::OpenGate;
-use litmus::{LitmusError, Program};
-use litmus_text::parse;
+use program::{LitmusError, Program};
+use litmus::parse;
 use live::{LiveError, drive};
 use std::alloc::Global;
 use std::sync::Wait;

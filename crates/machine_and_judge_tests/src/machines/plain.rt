@@ -2,12 +2,12 @@
 //! calls themselves such a test took minutes to prove.
 
 use common::{EventId, Gate};
-use litmus::Program;
-use litmus_text::parse;
+use program::Program;
+use litmus::parse;
 use live::drive;
 use machine::{Blocked, Machine, Step};
 use order::check;
-use recorder::Recording;
+use recording::Recording;
 use std::alloc::{AllocError, Global};
 use std::sync::Wait;
 use std::test::Fail;

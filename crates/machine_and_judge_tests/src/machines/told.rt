@@ -4,7 +4,7 @@ use crate::machines::plain::{is_driven, program, recording_of};
 use common::{EventId, Gate, OpenGate};
 use live::drive;
 use machine::{Machine, Step};
-use recorder::{Event, Recording};
+use recording::{Event, Recording};
 use std::alloc::Global;
 use std::sync::Wait;
 use std::sync::atomic::{AtomicBool, AtomicU64, Ordering};

@@ -1,5 +1,5 @@
 use Rattle.std.proofs.Common.{◌++◌, ℕ, List, subst, IfOk, ap, ◌∙◌}
-use Rattle.litmus.specs.Parts.{Parts}
+use Rattle.program.specs.Parts.{Parts}
 use Rattle.answers.specs.Reduced.{heading, shown_text}
 use Rattle.answers.specs.Verdict.{IsVerdictAnswer}
 use Rattle.answers.proofs.reduced.left_answer.Goals as goal

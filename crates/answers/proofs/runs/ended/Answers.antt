@@ -1,7 +1,7 @@
 use Rattle.std.proofs.Common.{Option, subst}
 use Rattle.std.proofs.lemmas.Result.{IfOk-weaker}
-use Rattle.recorder.specs.Execution.{Execution}
-use Rattle.recording_text.specs.Text.{recording_text}
+use Rattle.recording.specs.Execution.{Execution}
+use Rattle.recorder.specs.Text.{recording_text}
 use Rattle.trials.specs.declared.judging.Judged.{Judged}
 use Rattle.trials.specs.Judged.{IsJudgement, IsJudgedEnd}
 use Rattle.answers.specs.Verdict.{IsVerdictAnswer}

@@ -1,6 +1,6 @@
 use Rattle.std.proofs.Common.{◌++◌, ◌∷◌, ℕ, List, ap, ◌∙◌, sym}
 use Rattle.std.proofs.lemmas.Result.{IfOk-weaker}
-use Rattle.litmus.specs.Spelling.{spelling}
+use Rattle.program.specs.Spelling.{spelling}
 use Rattle.answers.proofs.shown.whole_end.Goals as goal
 
 pub returns : goal.returns

@@ -1,7 +1,7 @@
 use Rattle.std.proofs.Common.{◌≡◌, ℕ, List, Result, Ok, Err, IfOk, arith}
-use Rattle.recorder.specs.Execution.{Execution}
-use Rattle.litmus.specs.Spelling.{spelling}
-use Rattle.litmus.specs.Text.{reading}
+use Rattle.recording.specs.Execution.{Execution}
+use Rattle.program.specs.Spelling.{spelling}
+use Rattle.program.specs.Text.{reading}
 use Rattle.machine.specs.Script.{steps_of}
 use Rattle.machine.specs.ScriptText.{script_text}
 use Rattle.replay.specs.Program.{named_program}

@@ -1,6 +1,6 @@
 use Rattle.std.proofs.Common.{◌≡◌, ◌++◌, ◌+◌, ℕ, List, Some, suc, get_or, arith, ap, refl, sym, subst, ◌∙◌}
 use Rattle.std.proofs.lemmas.List.{append_assoc}
-use Rattle.recorder.specs.Execution.{Execution}
+use Rattle.recording.specs.Execution.{Execution}
 use Rattle.relations.specs.Forced.{Forced, IsReason}
 use Rattle.explanation.specs.Cycle.{IsLink, AreLinks}
 use Rattle.explanation.proofs.cycle.put_links.Goals as goal

@@ -1,6 +1,6 @@
 use Rattle.std.proofs.Common.{◌≡◌, true, take}
 use Rattle.std.specs.List.{list_all}
-use Rattle.recorder.specs.Execution.{event_at}
+use Rattle.recording.specs.Execution.{event_at}
 use Rattle.explanation.specs.Diy.{is_plain}
 use Rattle.explanation.proofs.diy.are_plain.Given as goal
 

@@ -1,7 +1,7 @@
 use Rattle.std.proofs.Common.{get_or, arith}
 use Rattle.std.proofs.lemmas.Bool.{false≢true}
-use Rattle.litmus.specs.declared.op.Op.TheVariants.{Fence}
-use Rattle.recorder.specs.declared.event.Event.TheVariants.{F}
+use Rattle.program.specs.declared.op.Op.TheVariants.{Fence}
+use Rattle.recording.specs.declared.event.Event.TheVariants.{F}
 use Rattle.explanation.specs.Program.{Makes}
 use Rattle.explanation.proofs.Makings.{makes_at, one_more}
 use Rattle.explanation.proofs.program.are_ops_of.Goals as goal

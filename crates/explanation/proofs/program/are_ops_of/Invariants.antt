@@ -1,6 +1,6 @@
 use Rattle.std.proofs.Common.{◌<◌, ℕ, get_or}
-use Rattle.litmus.specs.declared.op.Op.TheVariants.{Fence}
-use Rattle.recorder.specs.declared.event.Event.TheVariants.{F}
+use Rattle.program.specs.declared.op.Op.TheVariants.{Fence}
+use Rattle.recording.specs.declared.event.Event.TheVariants.{F}
 use Rattle.explanation.specs.Program.{Makes}
 use Rattle.explanation.proofs.program.are_ops_of.Given as goal
 

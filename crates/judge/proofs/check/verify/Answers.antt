@@ -1,5 +1,5 @@
 use Rattle.std.proofs.Common.{◌↔◌, IsTrue, ℕ, sym, subst}
-use Rattle.recorder.specs.Execution.{event_count}
+use Rattle.recording.specs.Execution.{event_count}
 use Rattle.relations.specs.Relation.{Related}
 use Rattle.relations.specs.Cycle.{IsCertificate}
 use Rattle.labels.specs.Certified.{lists_of}

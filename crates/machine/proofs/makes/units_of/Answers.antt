@@ -1,6 +1,6 @@
 use Rattle.std.proofs.Common.{arith, ap, ◌∙◌, ◌++◌, ◌∷◌, [], length, List, length-append}
 use Rattle.std.proofs.lemmas.List.{get_or_read}
-use Rattle.litmus.specs.declared.op.Op.{Op}
+use Rattle.program.specs.declared.op.Op.{Op}
 use Rattle.core_unit.specs.Progress.{Progress}
 use Rattle.machine.proofs.Static.{first_more}
 use Rattle.machine.proofs.Begins.{unit_more}

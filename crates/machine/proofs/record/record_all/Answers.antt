@@ -3,8 +3,8 @@ use Rattle.std.proofs.Common.{List, Option, Some, append_assoc, append-nil, leng
 use Rattle.std.proofs.lemmas.List.{map-append, drop_all}
 use Rattle.std.proofs.lemmas.List.Sums.{sum_by_more, sum_by-take-le, get_or-le-sum_by}
 use Rattle.std.proofs.lemmas.List.Elements.{All-pop}
-use Rattle.recorder.specs.declared.event.Event.{Event}
-use Rattle.litmus.specs.declared.op.Op.{Op}
+use Rattle.recording.specs.declared.event.Event.{Event}
+use Rattle.program.specs.declared.op.Op.{Op}
 use Rattle.machine.specs.BoundedItems.{BoundedItems}
 use Rattle.machine.specs.State.{events_from, cores_from}
 use Rattle.machine.proofs.record.record_all.Goals as goal

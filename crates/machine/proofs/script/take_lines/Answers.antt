@@ -1,4 +1,4 @@
-use Rattle.litmus.specs.ReadingLaws.{byte_read, line_read}
+use Rattle.program.specs.ReadingLaws.{byte_read, line_read}
 use Rattle.machine.specs.declared.script_fault.StepFault.TheVariants.{S1}
 use Rattle.machine.specs.Script.{line_step}
 use Rattle.machine.proofs.TextEnds.{within_line, behind_line}

@@ -1,6 +1,6 @@
 use Rattle.std.proofs.Common.{[]}
-use Rattle.litmus.specs.Reading.{read_from}
-use Rattle.litmus.specs.ReadingLaws.{ReadsOn}
+use Rattle.program.specs.Reading.{read_from}
+use Rattle.program.specs.ReadingLaws.{ReadsOn}
 use Rattle.machine.specs.declared.script_fault.StepFault.TheVariants.{S1}
 use Rattle.machine.specs.Script.{line_step}
 use Rattle.machine.proofs.script.take_lines.Given as goal

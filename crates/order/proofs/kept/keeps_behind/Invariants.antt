@@ -1,5 +1,5 @@
 use Rattle.std.proofs.Common.{◌<◌, ℕ, slice_index}
-use Rattle.recorder.specs.Execution.{Kept}
+use Rattle.recording.specs.Execution.{Kept}
 use Rattle.order.proofs.kept.keeps_behind.Given as goal
 
 abbrev pub invariant-loop-i : goal.invariant-loop-i

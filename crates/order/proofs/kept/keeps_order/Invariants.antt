@@ -1,5 +1,5 @@
 use Rattle.std.proofs.Common.{◌<◌, ℕ, length, slice_index}
-use Rattle.recorder.specs.Execution.{Kept}
+use Rattle.recording.specs.Execution.{Kept}
 use Rattle.order.proofs.kept.keeps_order.Given as goal
 
 abbrev pub invariant-loop-at : goal.invariant-loop-at

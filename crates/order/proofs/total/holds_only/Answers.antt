@@ -1,8 +1,8 @@
 use Rattle.std.proofs.Common.{false, true, refl, ◌≡◌, ◌<◌, ℕ, arith, slice_index, subst}
-use Rattle.recorder.specs.Order.{place}
-use Rattle.recorder.specs.Execution.{event_count}
-use Rattle.recorder.specs.OrderLaws.{place_in}
-use Rattle.recorder.specs.PlaceLaws.{at_place, times_at}
+use Rattle.recording.specs.Order.{place}
+use Rattle.recording.specs.Execution.{event_count}
+use Rattle.recording.specs.OrderLaws.{place_in}
+use Rattle.recording.specs.PlaceLaws.{at_place, times_at}
 use Rattle.order.proofs.total.holds_only.Goals as goal
 
 pub returns-then-order-i : goal.returns-then-order-i

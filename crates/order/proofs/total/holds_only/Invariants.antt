@@ -1,5 +1,5 @@
 use Rattle.std.proofs.Common.{◌<◌, ℕ, slice_index}
-use Rattle.recorder.specs.Execution.{event_count}
+use Rattle.recording.specs.Execution.{event_count}
 use Rattle.order.proofs.total.holds_only.Given as goal
 
 abbrev pub invariant-loop-i : goal.invariant-loop-i

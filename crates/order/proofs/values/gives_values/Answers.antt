@@ -1,9 +1,9 @@
 use Rattle.std.proofs.Common.{refl, arith, ◌<◌, ℕ, length, subst, sym}
-use Rattle.recorder.specs.Order.{place}
-use Rattle.recorder.specs.Execution.{Reads, source_of}
-use Rattle.recorder.specs.Tso.{IsLastVisible}
-use Rattle.recorder.specs.EventLaws.{Reads-event}
-use Rattle.recorder.specs.PlaceLaws.{at_place}
+use Rattle.recording.specs.Order.{place}
+use Rattle.recording.specs.Execution.{Reads, source_of}
+use Rattle.recording.specs.Tso.{IsLastVisible}
+use Rattle.recording.specs.EventLaws.{Reads-event}
+use Rattle.recording.specs.PlaceLaws.{at_place}
 use Rattle.order.proofs.Enumerated.{in_place}
 use Rattle.order.proofs.values.gives_values.Goals as goal
 

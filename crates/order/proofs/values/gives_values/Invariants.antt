@@ -1,6 +1,6 @@
 use Rattle.std.proofs.Common.{◌<◌, ℕ, slice_index}
-use Rattle.recorder.specs.Execution.{Reads, source_of}
-use Rattle.recorder.specs.Tso.{IsLastVisible}
+use Rattle.recording.specs.Execution.{Reads, source_of}
+use Rattle.recording.specs.Tso.{IsLastVisible}
 use Rattle.order.proofs.values.gives_values.Given as goal
 
 abbrev pub invariant-loop-at : goal.invariant-loop-at

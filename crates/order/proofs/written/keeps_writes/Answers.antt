@@ -1,7 +1,7 @@
 use Rattle.std.proofs.Common.{false, true, refl, ◌≡◌, inl, inr, ℕ, arith, sym, subst}
 use Rattle.std.proofs.lemmas.Bool.{cases_eq, cases_lt}
-use Rattle.recorder.specs.Order.{Before}
-use Rattle.recorder.specs.Execution.{write_list}
+use Rattle.recording.specs.Order.{Before}
+use Rattle.recording.specs.Execution.{write_list}
 use Rattle.order.proofs.Enumerated.{past_lists}
 use Rattle.order.proofs.written.keeps_writes.Goals as goal
 

@@ -1,6 +1,6 @@
 use Rattle.std.proofs.Common.{◌<◌, ℕ}
-use Rattle.recorder.specs.Order.{Before}
-use Rattle.recorder.specs.Execution.{write_list}
+use Rattle.recording.specs.Order.{Before}
+use Rattle.recording.specs.Execution.{write_list}
 use Rattle.order.proofs.written.keeps_writes.Given as goal
 
 abbrev pub invariant-loop-address : goal.invariant-loop-address

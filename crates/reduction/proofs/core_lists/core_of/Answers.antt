@@ -1,5 +1,5 @@
 use Rattle.std.proofs.Common.{sym}
-use Rattle.recorder.specs.CoreLaws.{core_past}
+use Rattle.recording.specs.CoreLaws.{core_past}
 use Rattle.reduction.proofs.core_lists.core_of.Goals as goal
 
 pub returns-in-None : goal.returns-in-None

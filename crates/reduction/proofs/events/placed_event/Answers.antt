@@ -1,6 +1,6 @@
 use Rattle.std.proofs.Common.{sym, ap}
-use Rattle.recorder.specs.Order.{place}
-use Rattle.recorder.specs.EventLaws.{event_past}
+use Rattle.recording.specs.Order.{place}
+use Rattle.recording.specs.EventLaws.{event_past}
 use Rattle.reduction.specs.Restriction.{renumbered}
 use Rattle.reduction.proofs.events.placed_event.Goals as goal
 

@@ -1,6 +1,6 @@
 use Rattle.std.proofs.Common.{◌≡◌, drop, get_or}
-use Rattle.litmus.specs.declared.op.Op.TheVariants.{Fence}
-use Rattle.recorder.specs.Execution.{placed_from}
+use Rattle.program.specs.declared.op.Op.TheVariants.{Fence}
+use Rattle.recording.specs.Execution.{placed_from}
 use Rattle.machine.specs.Orderly.{placed_op}
 use Rattle.reduction.proofs.programs.op_at.Given as goal
 

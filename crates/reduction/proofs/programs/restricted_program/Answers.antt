@@ -1,8 +1,8 @@
 use Rattle.std.proofs.Common.{◌≡◌, ◌∙◌, ℕ, List, Vec, Global, map, length, arith, ap, sym, subst}
 use Rattle.std.specs.List.{IsDistinct}
-use Rattle.litmus.specs.Names.{name_eq}
-use Rattle.litmus.specs.Parts.{Parts, IsProgram, parts_of}
-use Rattle.litmus.specs.Spelling.{name_at}
+use Rattle.program.specs.Names.{name_eq}
+use Rattle.program.specs.Parts.{Parts, IsProgram, parts_of}
+use Rattle.program.specs.Spelling.{name_at}
 use Rattle.machine.specs.ProgramOf.{IsProgramOf}
 use Rattle.reduction.specs.Restriction.{restriction}
 use Rattle.reduction.specs.RestrictedProgram.{restricted_program}

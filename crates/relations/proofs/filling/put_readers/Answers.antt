@@ -1,5 +1,5 @@
 use Rattle.std.proofs.Common.{◌≡◌, ◌<◌, ◌+◌, Bool, Some, List, length, arith, sym, subst}
-use Rattle.recorder.specs.Execution.{event_count, source_of}
+use Rattle.recording.specs.Execution.{event_count, source_of}
 use Rattle.relations.specs.Filled.{AreFilled}
 use Rattle.relations.proofs.Written.{source_within}
 use Rattle.relations.proofs.Tables.{row_size}

@@ -1,6 +1,6 @@
 use Rattle.std.proofs.Common.{◌≡◌, ◌+◌, ℕ, get_or, arith, subst}
 use Rattle.std.proofs.lemmas.List.{get_or_default, get_or_past}
-use Rattle.recorder.specs.Execution.{Execution}
+use Rattle.recording.specs.Execution.{Execution}
 use Rattle.relations.specs.Cycle.{IsCycle, behind}
 use Rattle.relations.specs.Forced.{Forced}
 use Rattle.relations.proofs.InCycles.{neighbours}

@@ -1,6 +1,6 @@
 use Rattle.std.proofs.Common.{◌<◌, inl, inr, ℕ, arith, subst, sym}
 use Rattle.std.proofs.lemmas.Bool.{cases_lt, cases_eq}
-use Rattle.recorder.specs.Execution.{event_count}
+use Rattle.recording.specs.Execution.{event_count}
 use Rattle.relations.specs.Forced.{Overlooks}
 use Rattle.relations.proofs.overlooks.overlook.Goals as goal
 

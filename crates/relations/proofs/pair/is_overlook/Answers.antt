@@ -1,6 +1,6 @@
 use Rattle.std.proofs.Common.{arith}
 use Rattle.std.proofs.lemmas.Bool.{leb-true, le-leb}
-use Rattle.recorder.specs.OrderLaws.{place_in}
+use Rattle.recording.specs.OrderLaws.{place_in}
 use Rattle.relations.proofs.Newer.{newer_list, place_overlooked}
 use Rattle.relations.proofs.pair.is_overlook.Goals as goal
 

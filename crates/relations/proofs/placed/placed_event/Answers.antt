@@ -1,5 +1,5 @@
 use Rattle.std.proofs.Common.{inr, ap, ◌∙◌}
-use Rattle.recorder.specs.Event.{is_plain_store, is_plain_load}
+use Rattle.recording.specs.Event.{is_plain_store, is_plain_load}
 use Rattle.relations.proofs.placed.placed_event.Goals as goal
 
 pub returns-clause-place : goal.returns-clause-place

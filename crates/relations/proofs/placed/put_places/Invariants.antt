@@ -1,6 +1,6 @@
 use Rattle.std.proofs.Common.{◌≡◌, ◌<◌, ℕ, get_or}
-use Rattle.recorder.specs.Execution.{write_list}
-use Rattle.recorder.specs.Order.{place}
+use Rattle.recording.specs.Execution.{write_list}
+use Rattle.recording.specs.Order.{place}
 use Rattle.relations.specs.Placed.{AreWritePlaces}
 use Rattle.relations.proofs.placed.put_places.Given as goal
 

@@ -1,6 +1,6 @@
 use Rattle.std.proofs.Common.{◌≡◌, ◌∙◌, ap, sym, subst, None, map, List, Vec, Global}
-use Rattle.litmus.specs.Parts.{use_ops}
-use Rattle.recorder.specs.declared.event.Event.{Event}
+use Rattle.program.specs.Parts.{use_ops}
+use Rattle.recording.specs.declared.event.Event.{Event}
 use Rattle.replay.specs.Program.{op_of}
 use Rattle.replay.proofs.NamedProgram.{is_numbered_end, is_not_numbered}
 use Rattle.replay.proofs.numbered.is_numbered.Goals as goal

@@ -1,5 +1,5 @@
 use Rattle.std.proofs.Common.{◌≡◌, map, drop}
-use Rattle.litmus.specs.Parts.{use_ops}
+use Rattle.program.specs.Parts.{use_ops}
 use Rattle.replay.specs.Program.{op_of}
 use Rattle.replay.proofs.numbered.used_in.Given as goal
 

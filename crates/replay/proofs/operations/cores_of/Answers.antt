@@ -1,7 +1,7 @@
 use Rattle.std.proofs.Common.{◌≡◌, ◌∙◌, ◌++◌, [], map, drop, ap, sym, List, Vec, Global, append-nil}
 use Rattle.std.proofs.Common.{drop_of_length-le}
-use Rattle.litmus.specs.declared.op.Op.{Op}
-use Rattle.recorder.specs.declared.event.Event.{Event}
+use Rattle.program.specs.declared.op.Op.{Op}
+use Rattle.recording.specs.declared.event.Event.{Event}
 use Rattle.replay.specs.Program.{op_of}
 use Rattle.replay.proofs.NamedProgram.{program_lists}
 use Rattle.replay.proofs.operations.cores_of.Goals as goal

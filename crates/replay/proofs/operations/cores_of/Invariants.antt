@@ -1,6 +1,6 @@
 use Rattle.std.proofs.Common.{◌≡◌, ◌++◌, map, drop}
 use Rattle.std.specs.List.{AllByRecursion}
-use Rattle.litmus.specs.Parts.{Small}
+use Rattle.program.specs.Parts.{Small}
 use Rattle.replay.specs.Program.{op_of}
 use Rattle.replay.proofs.operations.cores_of.Given as goal
 

@@ -1,12 +1,12 @@
 use Rattle.std.proofs.Common.{◌≡◌, ◌∙◌, ap, sym, subst, refl, length, ℕ, List}
 use Rattle.std.specs.List.{AllByRecursion}
-use Rattle.litmus.specs.declared.name.Name.{Name}
-use Rattle.litmus.specs.declared.op.Op.{Op}
-use Rattle.litmus.specs.Parts.{Parts, Small, IsSmall, IsProgram, parts_of}
+use Rattle.program.specs.declared.name.Name.{Name}
+use Rattle.program.specs.declared.op.Op.{Op}
+use Rattle.program.specs.Parts.{Parts, Small, IsSmall, IsProgram, parts_of}
 use Rattle.machine.specs.ProgramOf.{IsProgramOf}
-use Rattle.recorder.specs.Execution.{Execution}
+use Rattle.recording.specs.Execution.{Execution}
 use Rattle.replay.specs.Program.{program_of, named_program}
-use Rattle.litmus.specs.AddressNames.{address_names}
+use Rattle.program.specs.AddressNames.{address_names}
 use Rattle.replay.proofs.NamedProgram.{named_is_program, named_is_of}
 use Rattle.replay.proofs.program.named_program.Goals as goal
 

@@ -1,6 +1,6 @@
 use Rattle.std.proofs.Common.{◌≡◌, ◌++◌, drop}
 use Rattle.std.specs.List.{AllByRecursion}
-use Rattle.litmus.specs.Parts.{IsSmall}
+use Rattle.program.specs.Parts.{IsSmall}
 use Rattle.replay.proofs.program.values_of.Given as goal
 
 abbrev pub invariant-loop-value : goal.invariant-loop-value

@@ -1,6 +1,6 @@
 use Rattle.std.proofs.Common.{◌≡◌, ◌∙◌, ℕ, List, ap, sym, subst, length}
-use Rattle.litmus.specs.Parts.{Parts, IsProgram}
-use Rattle.recorder.specs.Execution.{Execution}
+use Rattle.program.specs.Parts.{Parts, IsProgram}
+use Rattle.recording.specs.Execution.{Execution}
 use Rattle.machine.specs.declared.fault.Fault.TheVariants as fault
 use Rattle.machine.specs.declared.step.Step.{Step}
 use Rattle.machine.specs.State.{opening}
@@ -10,7 +10,7 @@ use Rattle.replay.specs.Steps.{order_steps, replay_steps}
 use Rattle.replay.specs.Program.{named_program}
 use Rattle.replay.specs.Replaying.{Replaying}
 use Rattle.replay.specs.Replayed.{IsReplay, IsReplayable}
-use Rattle.litmus.specs.AddressNameLaws.{names_count}
+use Rattle.program.specs.AddressNameLaws.{names_count}
 use Rattle.replay.proofs.steps.replay_steps.Goals as goal
 
 pub steps_of-requires-clause-names : goal.steps_of-requires-clause-names

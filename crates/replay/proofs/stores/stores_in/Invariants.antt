@@ -1,5 +1,5 @@
 use Rattle.std.proofs.Common.{◌≡◌, ◌≤◌, ◌+◌, count_by, drop}
-use Rattle.recorder.specs.Event.{is_plain_store}
+use Rattle.recording.specs.Event.{is_plain_store}
 use Rattle.replay.proofs.stores.stores_in.Given as goal
 
 abbrev pub invariant-loop-event : goal.invariant-loop-event

@@ -3,9 +3,9 @@ use Rattle.std.proofs.Common.{sym, ap, ◌∙◌, subst}
 use borrow.Author.Count.{below_more}
 use Rattle.rand_core.specs.Steps.{first_words}
 use Rattle.rand_xoshiro.specs.Xoshiro256.{plus_plus}
-use Rattle.litmus.specs.declared.name.Name.{Name}
-use Rattle.litmus.specs.Parts.{Parts}
-use Rattle.litmus_text.specs.Random.{after_words}
+use Rattle.program.specs.declared.name.Name.{Name}
+use Rattle.program.specs.Parts.{Parts}
+use Rattle.litmus.specs.Random.{after_words}
 use Rattle.machine.specs.declared.step.Step.{Step}
 use Rattle.machine.specs.Configuration.{Configuration, IsAtEnd}
 use Rattle.trials.specs.Judged.{ran}

@@ -1,5 +1,5 @@
 use Rattle.std.proofs.Common.{◌≡◌, ◌<◌, ◌≤◌, ℕ, false}
-use Rattle.litmus_text.specs.Random.{after_words}
+use Rattle.litmus.specs.Random.{after_words}
 use Rattle.machine.specs.Configuration.{IsAtEnd}
 use Rattle.trials.specs.Schedule.{configuration_behind}
 use Rattle.trials.proofs.running.run_by.Given as goal

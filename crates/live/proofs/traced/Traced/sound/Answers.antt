@@ -1,6 +1,6 @@
 use Rattle.std.proofs.Common.{subst, sym, ◌≡◌, ℕ, All, length}
-use Rattle.litmus.specs.Parts.{Parts, IsWithin}
-use Rattle.recorder.specs.Tso.{IsTsoOrder}
+use Rattle.program.specs.Parts.{Parts, IsWithin}
+use Rattle.recording.specs.Tso.{IsTsoOrder}
 use Rattle.machine.specs.declared.fault.Fault.{Fault}
 use Rattle.machine.specs.declared.fault.Fault.TheVariants as fault
 use Rattle.machine.specs.State.{State, recorded, IsComplete}

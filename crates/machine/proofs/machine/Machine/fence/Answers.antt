@@ -1,5 +1,5 @@
 use Rattle.std.proofs.Common.{sym, ◌∙◌, refl, subst}
-use Rattle.litmus.specs.declared.op.Op.TheVariants.{Fence}
+use Rattle.program.specs.declared.op.Op.TheVariants.{Fence}
 use Rattle.machine.specs.Configuration.{Configuration}
 use Rattle.machine.specs.Step.{IsAt}
 use Rattle.machine.proofs.Executed as executed

@@ -1,5 +1,5 @@
 use Rattle.std.proofs.Common.{arith, sym, ap, ◌∙◌, refl, subst, ◌<◌, ℕ, length-set}
-use Rattle.litmus.specs.declared.op.Op.TheVariants.{Ld}
+use Rattle.program.specs.declared.op.Op.TheVariants.{Ld}
 use Rattle.machine.specs.Configuration.{Configuration}
 use Rattle.machine.specs.Step.{IsAt, forwarded_or_read}
 use Rattle.machine.proofs.Executed as executed

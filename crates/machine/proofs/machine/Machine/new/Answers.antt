@@ -1,5 +1,5 @@
 use Rattle.std.proofs.Common.{refl, sym, ap, subst, ◌∙◌, ◌≡◌, ℕ, length, List}
-use Rattle.litmus.specs.declared.op.Op.{Op}
+use Rattle.program.specs.declared.op.Op.{Op}
 use Rattle.machine.specs.State.{State}
 use Rattle.machine.specs.Made.{AreUnits}
 use Rattle.machine.proofs.Begins.{is_machine, opening_held}

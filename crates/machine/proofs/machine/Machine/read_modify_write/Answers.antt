@@ -1,5 +1,5 @@
 use Rattle.std.proofs.Common.{arith, refl, sym, ap, ◌∙◌, ◌≡◌, ◌<◌, ℕ, Ok, Err, subst, length, length-set}
-use Rattle.recorder.specs.Event.{value_written}
+use Rattle.recording.specs.Event.{value_written}
 use Rattle.moesi.specs.State as moesi
 use Rattle.machine.specs.declared.blocked.Blocked.TheVariants.{B5}
 use Rattle.machine.specs.State.{event_of}

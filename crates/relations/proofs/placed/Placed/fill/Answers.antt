@@ -1,5 +1,5 @@
 use Rattle.std.proofs.Common.{◌⊎◌, ℕ}
-use Rattle.recorder.specs.Execution.{ProgramOrder}
+use Rattle.recording.specs.Execution.{ProgramOrder}
 use Rattle.relations.specs.declared.reason.Reason.TheVariants.{Wo, Fr}
 use Rattle.relations.specs.Forced.{Holds}
 use Rattle.relations.specs.Filled.{IsOwnOrWrite}

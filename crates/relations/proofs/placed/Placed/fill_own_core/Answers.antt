@@ -1,6 +1,6 @@
 use Rattle.std.proofs.Common.{◌≡◌, ◌<◌, ◌+◌, inl, inr, ℕ, arith, sym, ap, subst, ◌∙◌}
 use Rattle.std.proofs.lemmas.Bool.{cases_lt}
-use Rattle.recorder.specs.Execution.{ProgramOrder, core_of}
+use Rattle.recording.specs.Execution.{ProgramOrder, core_of}
 use Rattle.relations.specs.Filled.{TellsForced}
 use Rattle.relations.proofs.Cores.{behind_past}
 use Rattle.relations.proofs.Filled.{filled_fewer, filled_more}

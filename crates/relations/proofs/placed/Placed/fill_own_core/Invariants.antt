@@ -1,5 +1,5 @@
 use Rattle.std.proofs.Common.{◌≡◌, ◌<◌, length}
-use Rattle.recorder.specs.Execution.{Execution, ProgramOrder}
+use Rattle.recording.specs.Execution.{Execution, ProgramOrder}
 use Rattle.relations.specs.Placed.{IsPlaced, ArePlaced}
 use Rattle.relations.specs.Filled.{IsFilled}
 use Rattle.relations.proofs.placed.Placed.fill_own_core.Given as goal

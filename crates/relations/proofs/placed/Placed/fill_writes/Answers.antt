@@ -1,8 +1,8 @@
 use Rattle.std.proofs.Common.{◌≡◌, ◌<◌, ◌≤◌, ◌+◌, ◌⊎◌, inl, inr, ℕ, Some, None, List, get_or, length}
 use Rattle.std.proofs.Common.{arith, ap, subst}
 use Rattle.std.proofs.lemmas.Bool.{cases_lt}
-use Rattle.recorder.specs.Execution.{event_count, write_list}
-use Rattle.recorder.specs.Order.{place}
+use Rattle.recording.specs.Execution.{event_count, write_list}
+use Rattle.recording.specs.Order.{place}
 use Rattle.relations.specs.declared.reason.Reason.TheVariants.{Wo, Fr}
 use Rattle.relations.specs.Filled.{TellsForced}
 use Rattle.relations.specs.Forced.{Holds}

@@ -1,6 +1,6 @@
 use Rattle.std.proofs.Common.{◌<◌, ◌≤◌}
-use Rattle.recorder.specs.Execution.{write_list}
-use Rattle.recorder.specs.Order.{place}
+use Rattle.recording.specs.Execution.{write_list}
+use Rattle.recording.specs.Order.{place}
 use Rattle.relations.specs.Filled.{IsFilled}
 use Rattle.relations.proofs.placed.Placed.fill_writes.Given as goal
 

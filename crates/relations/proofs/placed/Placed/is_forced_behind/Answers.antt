@@ -1,7 +1,7 @@
 use Rattle.std.proofs.Common.{◌≡◌, ◌&&◌, Bool, false, inl, inr, subst, sym}
 use Rattle.std.proofs.lemmas.Bool.{cases_Bool, iff_false, true_from_ne_false}
-use Rattle.recorder.specs.Event.{is_plain_store, is_plain_load}
-use Rattle.recorder.specs.Execution.{event_at}
+use Rattle.recording.specs.Event.{is_plain_store, is_plain_load}
+use Rattle.recording.specs.Execution.{event_at}
 use Rattle.relations.specs.declared.reason.Reason.TheVariants.{Po}
 use Rattle.relations.proofs.Written.{unkept_none}
 use Rattle.relations.proofs.placed.Placed.is_forced_behind.Goals as goal

@@ -1,6 +1,6 @@
 use Rattle.std.proofs.Common.{◌≡◌, Some, sym, ◌∙◌, subst, ℕ, arith}
 use Rattle.std.proofs.lemmas.Bool.{both_ways, not-true, not_from_false, false_from_ne_true, leb-true}
-use Rattle.recorder.specs.Execution.{write_list, Reads, source_of}
+use Rattle.recording.specs.Execution.{write_list, Reads, source_of}
 use Rattle.relations.specs.Forced.{IsOlder}
 use Rattle.relations.proofs.Pairs.{read_pair}
 use Rattle.relations.proofs.placed.Placed.is_read_before.Goals as goal

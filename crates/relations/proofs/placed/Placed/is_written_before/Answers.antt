@@ -1,6 +1,6 @@
 use Rattle.std.proofs.Common.{◌≡◌, None, Some, sym, ◌∙◌, subst, ℕ}
 use Rattle.std.proofs.lemmas.Bool.{both_ways, false≢true, ltb-true, lt-ltb}
-use Rattle.recorder.specs.Execution.{Writes}
+use Rattle.recording.specs.Execution.{Writes}
 use Rattle.relations.proofs.Written.{writes_one}
 use Rattle.relations.proofs.Pairs.{written_pair, written_both}
 use Rattle.relations.proofs.placed.Placed.is_written_before.Goals as goal

@@ -1,5 +1,5 @@
 use Rattle.std.proofs.Common.{ap, inl, inr}
-use Rattle.recorder.specs.Event.{read_address, written_address}
+use Rattle.recording.specs.Event.{read_address, written_address}
 use Rattle.replay.proofs.replaying.Replay.perform.Goals as goal
 
 pub get_to_write-requires-clause-address : goal.get_to_write-requires-clause-address

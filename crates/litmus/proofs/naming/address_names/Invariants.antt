@@ -1,6 +1,0 @@
-use Rattle.std.proofs.Common.{◌≡◌}
-use Rattle.litmus.specs.AddressNames.{address_names}
-use Rattle.litmus.proofs.naming.address_names.Given as goal
-
-abbrev pub invariant-loop-number : goal.invariant-loop-number
-invariant-loop-number l = l.names.keys ≡ address_names l.number

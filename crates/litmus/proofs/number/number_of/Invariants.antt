@@ -1,9 +1,0 @@
-use Rattle.std.proofs.Common.{◌≡◌, ◌<◌, ◌^◌, drop}
-use Rattle.litmus.specs.Numbers.{value_from}
-use Rattle.litmus.proofs.number.number_of.Given as goal
-
-abbrev pub invariant-loop-b : goal.invariant-loop-b
-invariant-loop-b l = record {
-  small : l.total < 2 ^ 32;
-  value : value_from l.total (drop l.b-index l.text) ≡ value_from 0 l.text;
-}

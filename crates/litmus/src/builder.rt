@@ -1,0 +1,170 @@
+//! The names and operations so far.
+
+ghost use Rattle.std.specs.Prelude.{◌≡◌};
+ghost use Rattle.program.specs.Steps.{write_op};
+
+use common::{Addr, MAX_ADDRESSES, MAX_CORES, MAX_EVENTS};
+use indexmap::IndexSet;
+use program::{LineFault, LitmusError, Name, Number, Op, Ops, Write, are_below};
+use std::alloc::Global;
+
+/// The names in order of first use, and the operations of each core.
+#[derive(Drop)]
+pub struct Builder {
+    pub names: IndexSet<Name>,
+    pub cores: Vec<Ops>,
+}
+
+impl Builder {
+    ghost use Rattle.std.specs.Prelude.{◌≡◌, ◌≤◌, ◌<◌, ◌^◌, ℕ, Err, Ok, None, Result, OnOk, IfOk, IfErr};
+    ghost use Rattle.std.specs.Prelude.{length};
+    ghost use Rattle.program.specs.Parts.{Body};
+    ghost use Rattle.program.specs.declared.fault.LineFault.{LineFault};
+    ghost use Rattle.program.specs.declared.line_error.LineError.TheVariants.{OutOfMemory};
+    ghost use Rattle.program.specs.Steps.{empty, core_step, fence_step, load_step, write_step, op_fault};
+    ghost use Rattle.program.specs.Steps.{at_name, names_with, name_number, with_op, write_op, compare_step};
+    ghost use Rattle.program.specs.Numbers.{IsValue};
+    ghost use Rattle.program.specs.Reading.{AnswersLine, seen_as};
+    ghost use Rattle.program.specs.declared.line.Write.{Write};
+    ghost use Rattle.litmus.specs.Built.{state};
+
+    pub fn new(alloc: Global) -> Builder
+        ensures { state result ≡ empty }
+    {
+        Builder {
+            names: IndexSet::new(alloc),
+            cores: Vec::new(alloc),
+        }
+    }
+
+    /// A line `core`.
+    #[tactic(auto, unfolding(program::specs::Steps::core_step))]
+    pub fn begin_core(&mut self, alloc: Global, number: usize) -> Result<(), LitmusError>
+        ensures { AnswersLine (seen_as result (λ _. state self.new)) number
+            (core_step (state self.old)) }
+    {
+        if MAX_CORES <= self.cores.len() {
+            return Err(LitmusError::AtLine(LineFault::L2, number));
+        }
+        self.add_core(alloc)?;
+        Ok(())
+    }
+
+    fn op_fault(&self) -> Option<LineFault>
+        ensures value { result ≡ op_fault (state self.now) }
+        ensures some_core { result ≡ None → 0 < length self.now.cores.items }
+    {
+        if self.cores.is_empty() {
+            return Some(LineFault::L1);
+        }
+        if !are_below(&self.cores, MAX_EVENTS) {
+            return Some(LineFault::L3);
+        }
+        None
+    }
+
+    fn push(&mut self, op: Op) -> Result<(), LitmusError>
+        requires { 0 < length self.old.cores.items }
+        ensures ok { OnOk result (self.new.cores.items ≡ with_op self.old.cores.items op) }
+        ensures err { IfErr result (λ e. e ≡ OutOfMemory) }
+        ensures names { self.new.names ≡ self.old.names }
+    {
+        self.add(op)?;
+        Ok(())
+    }
+
+    /// A line `fence`.
+    #[tactic(auto, unfolding(program::specs::Steps::fence_step))]
+    pub fn fence(&mut self, number: usize) -> Result<(), LitmusError>
+        ensures { AnswersLine (seen_as result (λ _. state self.new)) number
+            (fence_step (state self.old)) }
+    {
+        if let Some(fault) = self.op_fault() {
+            return Err(LitmusError::AtLine(fault, number));
+        }
+        self.push(Op::Fence)
+    }
+
+    /// The address of a name, where an operation with it may come; else the line's fault.
+    fn address_of(&mut self, name: Name, number: usize) -> Result<Addr, LitmusError>
+        ensures ok { OnOk result ((r : Result Body LineFault) →
+            at_name (state self.old) name r ≡ r) }
+        ensures err { IfErr result (λ e. (r : Result Body LineFault) →
+            AnswersLine (Err e) number (at_name (state self.old) name r)) }
+        ensures address { IfOk result (λ addr. addr ≡ name_number self.old.names.keys name) }
+        ensures names { OnOk result (self.new.names.keys ≡ names_with self.old.names.keys name) }
+        ensures cores { self.new.cores.items ≡ self.old.cores.items }
+        ensures some_core { OnOk result (0 < length self.new.cores.items) }
+    {
+        if let Some(fault) = self.op_fault() {
+            return Err(LitmusError::AtLine(fault, number));
+        }
+        let (addr, _) = self.names.insert_full(name)?;
+        if MAX_ADDRESSES < self.names.len() {
+            return Err(LitmusError::AtLine(LineFault::L4, number));
+        }
+        Ok(addr as Addr)
+    }
+
+    /// A line `ld`.
+    #[tactic(auto, unfolding(program::specs::Steps::load_step))]
+    pub fn load(&mut self, name: Name, number: usize) -> Result<(), LitmusError>
+        ensures { AnswersLine (seen_as result (λ _. state self.new)) number
+            (load_step (state self.old) name) }
+    {
+        let addr = self.address_of(name, number)?;
+        self.push(Op::Ld(addr))
+    }
+
+    /// A line `st`, `swap` or `add`. The addresses are tested before the value.
+    #[tactic(auto, unfolding(program::specs::Steps::write_step))]
+    pub fn write(
+        &mut self,
+        write: Write,
+        name: Name,
+        value: Number,
+        number: usize,
+    ) -> Result<(), LitmusError>
+        ensures { (n : ℕ) → IsValue value n →
+            AnswersLine (seen_as result (λ _. state self.new)) number
+            (write_step (state self.old) write name n) }
+    {
+        let addr = self.address_of(name, number)?;
+        match value {
+            Number::Value(value) => self.push(write_op(write, addr, value)),
+            Number::TooLarge => Err(LitmusError::AtLine(LineFault::L5, number)),
+        }
+    }
+
+    /// A line `cas`. The addresses are tested before the values.
+    #[tactic(auto, unfolding(program::specs::Steps::compare_step))]
+    pub fn compare(
+        &mut self,
+        name: Name,
+        expected: Number,
+        value: Number,
+        number: usize,
+    ) -> Result<(), LitmusError>
+        ensures { (e n : ℕ) → IsValue expected e → IsValue value n →
+            AnswersLine (seen_as result (λ _. state self.new)) number
+            (compare_step (state self.old) name e n) }
+    {
+        let addr = self.address_of(name, number)?;
+        match (expected, value) {
+            (Number::Value(expected), Number::Value(value)) => {
+                self.push(Op::Cas(addr, expected, value))
+            }
+            _ => Err(LitmusError::AtLine(LineFault::L5, number)),
+        }
+    }
+}
+
+fn write_op(write: Write, addr: Addr, value: u32) -> Op
+    ensures { result ≡ write_op write addr value }
+{
+    match write {
+        Write::Store => Op::St(addr, value),
+        Write::Swap => Op::Swap(addr, value),
+        Write::Add => Op::Add(addr, value),
+    }
+}

@@ -1,4 +1,0 @@
-pub mod Initial
-pub mod Parsing
-pub mod Drawn
-pub mod NextWords

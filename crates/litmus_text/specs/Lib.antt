@@ -1,3 +1,0 @@
-pub mod Said
-pub mod Built
-pub mod Random

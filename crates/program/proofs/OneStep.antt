@@ -1,0 +1,208 @@
+-- After each line of a core there are the names and operations of a program, and the line is their text.
+use Rattle.std.proofs.Common.{◌≡◌, ℕ, ◌<◌, ◌==◌, ◌^◌, ◌&&◌, nat_lt, List, [], ◌∷◌, ◌++◌, length, Bool}
+use Rattle.std.proofs.Common.{true, false, cond, Option, Some, None, Result, Ok, Err, refl, arith, sym, ap}
+use Rattle.std.proofs.Common.{◌∙◌, codes}
+use Rattle.std.specs.List.{AllByRecursion}
+use Rattle.std.proofs.lemmas.Bool.{ltb-true, ltb-false, eqb-false}
+use Rattle.std.proofs.lemmas.List.{length-append, append-nil}
+use Rattle.std.proofs.lemmas.Grind.{flat_map-append}
+use Rattle.program.specs.declared.name.Name.{Name}
+use Rattle.program.specs.declared.op.Op.{Op}
+use Rattle.program.specs.declared.op.Op.TheVariants.{Ld, Fence, Cas}
+use Rattle.program.specs.declared.line.Write.{Write}
+use Rattle.program.specs.declared.line.Write.TheVariants as writes
+use Rattle.program.specs.declared.fault.LineFault.{LineFault}
+use Rattle.program.specs.declared.fault.LineFault.TheVariants.{L1, L2, L3, L4, L5}
+use Rattle.common.specs.declared.limits.TheConstants.{MAX_CORES, MAX_EVENTS, MAX_ADDRESSES}
+use Rattle.program.specs.Names.{name_of, name_text}
+use Rattle.program.specs.Lines.{load_line, write_line, compare_line}
+use Rattle.program.specs.Parts.{Small, Body, IsBody, op_count, addr_of, use_addr}
+use Rattle.program.specs.Steps.{names_with, name_number, with_op, write_op, op_fault, unless, core_step}
+use Rattle.program.specs.Steps.{fence_step, load_step, write_step, compare_step}
+use Rattle.program.specs.Spelling.{body_text, core_text, op_text, line_text, name_at}
+use Rattle.program.specs.NameListLaws.{one_name, all_push}
+use Rattle.program.specs.CoreLaws.{Grown, grown, count-append, use_cores-push}
+
+-- a line that was read
+abbrev pub done : Body → Result Body LineFault
+done p = Ok p
+
+-- two programs that are one answer
+ok_is : (p q : Body) → done p ≡ done q → p ≡ q
+ok_is p q e = cc
+
+-- a test that was passed
+test_ok : (b : Bool) (p : Body) (f : LineFault) (q : Body) → cond b (done p) (Err f) ≡ done q →
+    (b ≡ true) × (p ≡ q)
+test_ok true p f q e = (refl, ok_is p q e)
+test_ok false p f q e = absurd cc
+
+-- a fault that was not met
+guard_ok : (b : Bool) (r : Result Body LineFault) (f : LineFault) (q : Body) → cond b (Err f) r
+    ≡ done q → (b ≡ false) × (r ≡ done q)
+guard_ok true r f q e = absurd cc
+guard_ok false r f q e = (refl, e)
+
+-- no fault came first
+unless_ok : (o : Option LineFault) (r : Result Body LineFault) (q : Body) → unless o r ≡ done q →
+    (o ≡ None) × (r ≡ done q)
+unless_ok None r q e = (refl, e)
+unless_ok (Some f) r q e = absurd cc
+
+-- both tests for an operation were passed
+room_in : (a b : Bool) (f g : LineFault) → cond a (Some f) (cond b None (Some g)) ≡ None →
+    (a ≡ false) × (b ≡ true)
+room_in true b f g e = absurd cc
+room_in false true f g e = (refl, refl)
+room_in false false f g e = absurd cc
+
+-- where an operation may come there is a core, and room
+pub op_room : (p : Body) → op_fault p ≡ None → (0 < length p.cores) ×
+    (op_count p.cores < MAX_EVENTS)
+op_room p e =
+    let r = room_in (length p.cores == 0) (nat_lt (op_count p.cores) MAX_EVENTS) L1 L3 e in
+    let other = eqb-false (length p.cores) 0 r.0 in (omega (arith, other), ltb-true _ _ r.1)
+
+-- what holds after a line
+pub record Keeps (p : Body) (line : List ℕ) (q : Body) : Type 0 where
+  pub body : IsBody q
+  pub text : body_text q ≡ body_text p ++ (line ++ 10 ∷ [])
+
+-- one operation more is one line more
+keeps_op : (p : Body) (line : List ℕ) (op : Op) (more : List Name) (text : List ℕ) →
+    Grown p.names p.cores op more (with_op p.cores op) → op_text more op ≡ text ++ 10 ∷ [] → text
+    ≡ line →
+    Keeps p line (record { names = more; cores = with_op p.cores op })
+keeps_op p line op more text g this is =
+    record { body = g.body; text = g.text ∙ rw this (rw is refl) }
+
+-- after the line of a core there is a body
+pub keeps_core : (p q : Body) (line : List ℕ) → IsBody p → codes "core" ≡ line → core_step p
+    ≡ Ok q → Keeps p line q
+unfolding core_step
+keeps_core p q line h is e =
+    let t = test_ok (nat_lt (length p.cores) MAX_CORES)
+    (record p { cores = p.cores ++ [] ∷ [] }) L2 q e in
+    let few = ltb-true _ _ t.0 in
+    rw (← t.1) (record {
+      body = record {
+        few_cores = omega (arith, few, length-append p.cores ([] ∷ []));
+        few_ops = omega (arith, h.few_ops, count-append p.cores []);
+        few_names = h.few_names;
+        values = all_push (AllByRecursion Small) p.cores [] h.values tt;
+        lawful = h.lawful;
+        distinct = h.distinct;
+        numbered = use_cores-push 0 p.cores [] ∙ rw h.numbered refl;
+      };
+      text = flat_map-append (core_text p.names) p.cores ([] ∷ [])
+          ∙ ap (λ t'. body_text p ++ (t' ++ 10 ∷ [])) is;
+    })
+
+-- after the line of a fence there is a body
+pub keeps_fence : (p q : Body) (line : List ℕ) → IsBody p → codes "fence" ≡ line → fence_step p
+    ≡ Ok q → Keeps p line q
+unfolding fence_step
+keeps_fence p q line h is e =
+    let u = unless_ok (op_fault p) (done (record p { cores = with_op p.cores Fence })) q e in
+    let room = op_room p u.0 in
+    let g = grown p.names p.names [] p.cores Fence h room.0 room.1 (sym (append-nil p.names)) refl
+    h.few_names h.lawful h.distinct tt in
+    rw (← ok_is _ _ u.1) (keeps_op p line Fence p.names (codes "fence") g refl is)
+
+-- after the line of a load there is a body
+pub keeps_load : (p q : Body) (line : List ℕ) (name : Name) → IsBody p → name_of (name_text name)
+    ≡ Some name → line_text (load_line name) ≡ line → load_step p name ≡ Ok q → Keeps p line q
+unfolding load_step
+keeps_load p q line name h named is e =
+    let more = names_with p.names name in
+    let op = Ld (name_number p.names name) in
+    let after : Body = record { names = more; cores = with_op p.cores op } in
+    let u = unless_ok (op_fault p)
+    (cond (nat_lt MAX_ADDRESSES (length more)) (Err L4) (done after)) q e in
+    let room = op_room p u.0 in
+    let few = guard_ok (nat_lt MAX_ADDRESSES (length more)) (done after) L4 q u.1 in
+    let n = one_name p.names name h.lawful h.distinct named in
+    let g = grown p.names more n.extra p.cores op h room.0 room.1 n.kept n.used
+    (ltb-false _ _ few.0) n.lawful n.distinct tt in
+    let this : op_text more op ≡ line_text (load_line name) ++ 10 ∷ [] =
+    ap (λ (m : Name). line_text (load_line m) ++ 10 ∷ []) n.there in
+    rw (← ok_is after q few.1) (keeps_op p line op more (line_text (load_line name)) g this is)
+
+-- the text of a write
+written_text : (write : Write) (names : List Name) (a n : ℕ) → op_text names (write_op write a n)
+    ≡ line_text (write_line write (name_at names a) n) ++ 10 ∷ []
+written_text writes.Store names a n = refl
+written_text writes.Swap names a n = refl
+written_text writes.Add names a n = refl
+
+-- the address of a write
+written_addr : (write : Write) (a n : ℕ) → addr_of (write_op write a n) ≡ Some a
+written_addr writes.Store a n = refl
+written_addr writes.Swap a n = refl
+written_addr writes.Add a n = refl
+
+-- the value of a write
+written_small : (write : Write) (a n : ℕ) → n < 2 ^ 32 → Small (write_op write a n)
+written_small writes.Store a n h = h
+written_small writes.Swap a n h = h
+written_small writes.Add a n h = h
+
+-- after the line of a write there is a body
+pub keeps_write : (p q : Body) (line : List ℕ) (write : Write) (name : Name) (n : ℕ) → IsBody p →
+    name_of (name_text name) ≡ Some name →
+    (n < 2 ^ 32 → line_text (write_line write name n) ≡ line) →
+    write_step p write name n ≡ Ok q → Keeps p line q
+unfolding write_step
+keeps_write p q line write name n h named is e =
+    let more = names_with p.names name in
+    let a = name_number p.names name in
+    let op = write_op write a n in
+    let after : Body = record { names = more; cores = with_op p.cores op } in
+    let u = unless_ok (op_fault p)
+    (cond (nat_lt MAX_ADDRESSES (length more)) (Err L4)
+    (cond (nat_lt n (2 ^ 32)) (done after) (Err L5))) q e in
+    let room = op_room p u.0 in
+    let few = guard_ok (nat_lt MAX_ADDRESSES (length more))
+    (cond (nat_lt n (2 ^ 32)) (done after) (Err L5)) L4 q u.1 in
+    let fits = test_ok (nat_lt n (2 ^ 32)) after L5 q few.1 in
+    let small : n < 2 ^ 32 = ltb-true _ _ fits.0 in
+    let m = one_name p.names name h.lawful h.distinct named in
+    let used : use_addr (length p.names) (addr_of op) ≡ Some (length more) =
+    rw (written_addr write a n) m.used in
+    let g = grown p.names more m.extra p.cores op h room.0 room.1 m.kept used (ltb-false _ _ few.0)
+    m.lawful m.distinct (written_small write a n small) in
+    let this : op_text more op ≡ line_text (write_line write name n) ++ 10 ∷ [] =
+    written_text write more a n
+    ∙ ap (λ (o : Name). line_text (write_line write o n) ++ 10 ∷ []) m.there in
+    rw (← fits.1) (keeps_op p line op more (line_text (write_line write name n)) g this (is small))
+
+-- both values fit
+both_fit : (a b : Bool) → (a && b) ≡ true → (a ≡ true) × (b ≡ true)
+both_fit true b e = (refl, e)
+both_fit false b e = absurd cc
+
+-- after the line of a compare-and-swap there is a body
+pub keeps_compare : (p q : Body) (line : List ℕ) (name : Name) (v n : ℕ) → IsBody p →
+    name_of (name_text name) ≡ Some name →
+    ((v < 2 ^ 32) × (n < 2 ^ 32) → line_text (compare_line name v n) ≡ line) →
+    compare_step p name v n ≡ Ok q → Keeps p line q
+unfolding compare_step
+keeps_compare p q line name v n h named is e =
+    let more = names_with p.names name in
+    let a = name_number p.names name in
+    let op = Cas a v n in
+    let after : Body = record { names = more; cores = with_op p.cores op } in
+    let fit = nat_lt v (2 ^ 32) && nat_lt n (2 ^ 32) in
+    let u = unless_ok (op_fault p)
+    (cond (nat_lt MAX_ADDRESSES (length more)) (Err L4) (cond fit (done after) (Err L5))) q e in
+    let room = op_room p u.0 in
+    let few = guard_ok (nat_lt MAX_ADDRESSES (length more)) (cond fit (done after) (Err L5)) L4 q u.1 in
+    let fits = test_ok fit after L5 q few.1 in
+    let both = both_fit (nat_lt v (2 ^ 32)) (nat_lt n (2 ^ 32)) fits.0 in
+    let small : (v < 2 ^ 32) × (n < 2 ^ 32) = (ltb-true _ _ both.0, ltb-true _ _ both.1) in
+    let m = one_name p.names name h.lawful h.distinct named in
+    let g = grown p.names more m.extra p.cores op h room.0 room.1 m.kept m.used (ltb-false _ _ few.0)
+    m.lawful m.distinct small in
+    let this : op_text more op ≡ line_text (compare_line name v n) ++ 10 ∷ [] =
+    ap (λ (o : Name). line_text (compare_line o v n) ++ 10 ∷ []) m.there in
+    rw (← fits.1) (keeps_op p line op more (line_text (compare_line name v n)) g this (is small))

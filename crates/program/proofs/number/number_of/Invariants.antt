@@ -1,0 +1,9 @@
+use Rattle.std.proofs.Common.{◌≡◌, ◌<◌, ◌^◌, drop}
+use Rattle.program.specs.Numbers.{value_from}
+use Rattle.program.proofs.number.number_of.Given as goal
+
+abbrev pub invariant-loop-b : goal.invariant-loop-b
+invariant-loop-b l = record {
+  small : l.total < 2 ^ 32;
+  value : value_from l.total (drop l.b-index l.text) ≡ value_from 0 l.text;
+}

@@ -1,0 +1,29 @@
+//! Litmus programs, and the law of their texts.
+#![tactic(auto)]
+
+mod fault;
+mod lawful;
+mod line;
+mod line_error;
+mod name;
+mod naming;
+mod number;
+mod one_text;
+mod op;
+mod program;
+mod same;
+mod shape;
+mod shape_error;
+
+pub use fault::{LineFault, LitmusError};
+pub use lawful::are_below;
+pub use line::{Write, space_in};
+pub use line_error::LineError;
+pub use name::{Name, name_at};
+pub use naming::{address_name, address_names};
+pub use number::{Number, decimal};
+pub use one_text::has_one_text;
+pub use op::{Op, Ops};
+pub use program::Program;
+pub use shape::{Shape, is_outside};
+pub use shape_error::ShapeError;

@@ -1,0 +1,73 @@
+-- What is answered of a clipped execution is the answer of the execution.
+use Rattle.std.proofs.Common.{◌≡◌, ◌↔◌, ℕ, Some, option_map, List, refl, sym, ap, subst, ◌∙◌}
+use Rattle.std.proofs.Common.{Result, Ok, Err, IsOk, IfOk, IfErr}
+use Rattle.serde_json.specs.Data.{Data}
+use Rattle.recording.specs.declared.fault.RecError.{RecError}
+use Rattle.recording.specs.declared.fault.RecError.TheVariants.{NotJson, Shape, Version, Limits, Source, Value}
+use Rattle.recording.specs.declared.fault.RecError.TheVariants.{WriteList, OutOfMemory}
+use Rattle.recording.specs.Execution.{Execution}
+use Rattle.recording.specs.Recording.{IsRecording}
+use Rattle.recording.specs.Refusals.{IsRefusal}
+use Rattle.recorder.specs.Contents.{Contents, told, IsVersioned}
+use Rattle.recorder.specs.Reading.{shape_in, Tells, IsReadingResult}
+use Rattle.recorder.specs.Text.{IsReadAs}
+use Rattle.recorder.specs.Clipped.{clipped, clipped_shape}
+use Rattle.recorder.proofs.ClippedContents.{contents_from, versioned_from, versioned_to, told_clipped}
+use Rattle.recorder.proofs.ClippedRecording.{recording_from}
+use Rattle.recorder.proofs.ClippedRefusals.{refusal_from}
+
+-- the first refusal is an answer
+refused : (bytes : List ℕ) (d : Data) (x : Execution) (e : RecError) → IsReadAs bytes d → Tells d x
+    → IsRefusal x e → IsReadingResult bytes (Err e)
+refused bytes d x Limits reads tells is = (d, reads, (x, tells, is))
+refused bytes d x (Source e) reads tells is = (d, reads, (x, tells, is))
+refused bytes d x (Value e) reads tells is = (d, reads, (x, tells, is))
+refused bytes d x (WriteList a) reads tells is = (d, reads, (x, tells, is))
+refused bytes d x NotJson reads tells is = absurd is
+refused bytes d x Shape reads tells is = absurd is
+refused bytes d x Version reads tells is = absurd is
+refused bytes d x OutOfMemory reads tells is = absurd is
+
+-- and so is a recording
+read : (bytes : List ℕ) (d : Data) (x z : Execution) → IsReadAs bytes d → Tells d x → z ≡ clipped x
+    → IsRecording (clipped x) → IsReadingResult bytes (Ok z)
+read bytes d x z reads tells held is =
+    let same : z ≡ x = held ∙ recording_from x is in (
+      d,
+      reads,
+      subst (λ (y : Execution). Tells d y) (sym same) tells,
+      subst IsRecording (sym held) is,
+    )
+
+-- what the contents that are held give, where their version is right, is an answer
+pub answers_from : (bytes : List ℕ) (d : Data) (q : Contents) (x : Execution) (r : Result Execution RecError)
+    → IsReadAs bytes d → Some q ≡ option_map clipped_shape (shape_in d) → IsVersioned q → x ≡ told q
+    → IsOk r ↔ IsRecording x → IfOk r (λ z. z ≡ x) → IfErr r (λ e. IsRefusal x e)
+    → IsReadingResult bytes r
+answers_from bytes d q x r reads is versioned held exact ok err =
+    let from = contents_from (shape_in d) q is in
+    let tells : Tells d (told from.0) = record {
+      contents = from.0;
+      shape = from.1;
+      versioned = versioned_from from.0 (subst IsVersioned (sym from.2) versioned);
+      same = refl;
+    } in
+    let parts : clipped (told from.0) ≡ x = sym (told_clipped from.0) ∙ (ap told from.2 ∙ sym held) in
+    go (told from.0) tells parts r exact ok err
+  where
+    go : (y : Execution) → Tells d y → clipped y ≡ x → (s : Result Execution RecError)
+        → IsOk s ↔ IsRecording x → IfOk s (λ z. z ≡ x) → IfErr s (λ e. IsRefusal x e)
+        → IsReadingResult bytes s
+    go y tells parts (Ok z) exact ok err =
+        read bytes d y z reads tells (ok ∙ sym parts) (subst IsRecording (sym parts) (exact.0 refl))
+    go y tells parts (Err e) exact ok err =
+        refused bytes d y e reads tells (refusal_from y e
+        (subst (λ (z : Execution). IsRefusal z e) (sym parts) err))
+
+-- where the version of what is held is wrong, that is the answer
+pub version_from : (bytes : List ℕ) (d : Data) (q : Contents) → IsReadAs bytes d
+    → Some q ≡ option_map clipped_shape (shape_in d) → (IsVersioned q → ⊥)
+    → IsReadingResult bytes (Err Version)
+version_from bytes d q reads is wrong =
+    let from = contents_from (shape_in d) q is in
+    (d, reads, (from.0, from.1, λ right. wrong (subst IsVersioned from.2 (versioned_to from.0 right))))

@@ -1,0 +1,58 @@
+-- The contents of a text, clipped, are of the same version and tell the clipped execution.
+use Rattle.std.proofs.Common.{◌≡◌, inl, inr, ℕ, Option, Some, None, option_map, List, [], ◌∷◌, map}
+use Rattle.std.proofs.Common.{refl, sym, ap, ◌∙◌, replicate}
+use Rattle.std.proofs.lemmas.List.{length-map}
+use Rattle.std.specs.List.{list_any}
+use Rattle.recording.specs.declared.event.Event.{Event}
+use Rattle.recording.specs.declared.event.Event.TheVariants.{L, S, R, C, F}
+use Rattle.recording.specs.Recording.{executed}
+use Rattle.recording.specs.Event.{is_failed_cas}
+use Rattle.recorder.specs.Text.{has_failed_cas}
+use Rattle.recorder.specs.Contents.{Contents, initial_values, told, IsVersioned}
+use Rattle.recorder.specs.Clipped.{clip, clip_event, clipped, clipped_shape}
+
+-- clipped contents come from contents
+pub contents_from : (o : Option Contents) (q : Contents) → Some q ≡ option_map clipped_shape o
+    → (c : Contents) × (o ≡ Some c) × (clipped_shape c ≡ q)
+contents_from None q is = absurd cc
+contents_from (Some c) q is = let same : q ≡ clipped_shape c = cc in (c, refl, sym same)
+
+-- a compare-and-swap that failed is one
+failed_clipped : (v : Event) → is_failed_cas (clip_event v) ≡ is_failed_cas v
+failed_clipped (L a r s) = refl
+failed_clipped (S a w) = refl
+failed_clipped (R a r s w) = refl
+failed_clipped (C a r s) = refl
+failed_clipped F = refl
+
+-- a core has one where it had one
+core_clipped : (es : List Event) → list_any is_failed_cas (map clip_event es) ≡ list_any is_failed_cas es
+core_clipped [] = refl
+core_clipped (e ∷ es) = rw (failed_clipped e, core_clipped es) refl
+
+-- and so it is with all cores
+cores_clipped : (cores : List (List Event)) → has_failed_cas (map (map clip_event) cores) ≡ has_failed_cas cores
+cores_clipped [] = refl
+cores_clipped (es ∷ rest) = rw (core_clipped es, cores_clipped rest) refl
+
+-- contents whose clipped form has what its version has have it
+pub versioned_from : (c : Contents) → IsVersioned (clipped_shape c) → IsVersioned c
+versioned_from c (inl (one, none, fails)) = inl (one, none, sym (cores_clipped c.cores) ∙ fails)
+versioned_from c (inr two) = inr two
+
+-- and the other way round
+pub versioned_to : (c : Contents) → IsVersioned c → IsVersioned (clipped_shape c)
+versioned_to c (inl (one, none, fails)) = inl (one, none, cores_clipped c.cores ∙ fails)
+versioned_to c (inr two) = inr two
+
+-- the initial values are the same
+values_same : (values : Option (List ℕ)) (lists : List (List ℕ))
+    → initial_values values (map (map clip) lists) ≡ initial_values values lists
+values_same None lists = ap (λ (n : ℕ). replicate n 0) (length-map lists (map clip))
+values_same (Some values) lists = refl
+
+-- the execution is the clipped one
+pub told_clipped : (c : Contents) → told (clipped_shape c) ≡ clipped (told c)
+told_clipped c =
+    ap (λ (values : List ℕ). executed (map (map clip_event) c.cores) (map (map clip) c.write_lists) values)
+    (values_same c.values c.write_lists)

@@ -1,0 +1,97 @@
+-- Within the limits a clipped execution reads and writes the same addresses.
+use Rattle.std.proofs.Common.{◌≡◌, ◌<◌, ◌⊎◌, ◌^◌, ◌-◌, inl, inr, ℕ, Some, option_map, map, length, arith, sym}
+use Rattle.std.proofs.Common.{ap, ◌∙◌}
+use Rattle.std.proofs.lemmas.List.{length-map}
+use Rattle.recording.specs.Event.{read_address, written_address}
+use Rattle.recording.specs.Execution.{Execution, event_at, Reads, Writes}
+use Rattle.recording.specs.Recording.{IsWithinLimits}
+use Rattle.recorder.specs.Clipped.{clip, clip_event, clipped}
+use Rattle.recording.specs.EventLaws.{Writes-event}
+use Rattle.recorder.proofs.Clipped.{events_fit, addresses_fit, small, unclipped, clipped_from, count_clipped}
+use Rattle.recorder.proofs.Clipped.{reads_clipped, writes_clipped}
+
+-- a clipped execution has as many write lists
+lists_count : (x : Execution) → length (clipped x).write_lists ≡ length x.write_lists
+lists_count x = length-map x.write_lists (map clip)
+
+-- a clipped execution within the limits was within them
+pub within_from : (x : Execution) → IsWithinLimits (clipped x) → IsWithinLimits x
+within_from x is = record {
+  few_cores = omega (arith, is.few_cores, length-map x.cores (map clip_event));
+  few_events = omega (arith, is.few_events, count_clipped x);
+  few_addresses = omega (arith, is.few_addresses, lists_count x);
+  addresses = λ e a uses. elim uses [
+    | inl reads ↦
+        let below = is.addresses e (clip a) (inl (reads_clipped x e ∙ ap (option_map clip) reads)) in
+        omega (
+          arith,
+          below,
+          lists_count x,
+          unclipped a
+              (omega (arith, below, is.few_addresses, addresses_fit)),
+        )
+    | inr writes ↦
+        let below = is.addresses e (clip a) (inr (writes_clipped x e ∙ ap (option_map clip) writes)) in
+        omega (
+          arith,
+          below,
+          lists_count x,
+          unclipped a
+              (omega (arith, below, is.few_addresses, addresses_fit)),
+        )
+  ];
+  initial = is.initial ∙ lists_count x;
+}
+
+-- within the limits no address that is used is clipped
+pub fits : (x : Execution) → IsWithinLimits x → (e a : ℕ) → Reads x e a ⊎ Writes x e a → clip a ≡ a
+fits x within e a uses = small a (omega (
+  arith,
+  within.addresses e a uses,
+  within.few_addresses,
+  addresses_fit,
+))
+
+-- so what was read is read
+pub reads_to : (x : Execution) → IsWithinLimits x → (e a : ℕ) → Reads x e a → Reads (clipped x) e a
+reads_to x within e a reads = reads_clipped x e
+    ∙ (ap (option_map clip) reads ∙ ap Some (fits x within e a (inl reads)))
+
+-- and the other way round
+pub reads_from : (x : Execution) → IsWithinLimits x → (e a : ℕ) → Reads (clipped x) e a → Reads x e a
+reads_from x within e a reads =
+    let from = clipped_from (read_address (event_at x e)) a (sym (reads_clipped x e) ∙ reads) in
+    from.1 ∙ ap Some (sym (fits x within e from.0 (inl from.1)) ∙ sym from.2)
+
+-- what was written is written
+pub writes_to : (x : Execution) → IsWithinLimits x → (e a : ℕ) → Writes x e a → Writes (clipped x) e a
+writes_to x within e a writes = writes_clipped x e
+    ∙ (ap (option_map clip) writes ∙ ap Some (fits x within e a (inr writes)))
+
+-- and the other way round
+pub writes_from : (x : Execution) → IsWithinLimits x → (e a : ℕ) → Writes (clipped x) e a → Writes x e a
+writes_from x within e a writes =
+    let from = clipped_from (written_address (event_at x e)) a (sym (writes_clipped x e) ∙ writes) in
+    from.1 ∙ ap Some (sym (fits x within e from.0 (inr from.1)) ∙ sym from.2)
+
+-- an execution within the limits stays within them
+pub within_to : (x : Execution) → IsWithinLimits x → IsWithinLimits (clipped x)
+within_to x is = record {
+  few_cores = omega (arith, is.few_cores, length-map x.cores (map clip_event));
+  few_events = omega (arith, is.few_events, count_clipped x);
+  few_addresses = omega (arith, is.few_addresses, lists_count x);
+  addresses = λ e a uses. omega (
+    arith,
+    lists_count x,
+    is.addresses e a (elim uses [
+      | inl reads ↦ inl (reads_from x is e a reads)
+      | inr writes ↦ inr
+          (writes_from x is e a writes)
+    ]),
+  );
+  initial = is.initial ∙ sym (lists_count x);
+}
+
+-- what writes has a number below the greatest of 16 bits
+pub writer_fits : (x : Execution) → IsWithinLimits x → (e a : ℕ) → Writes x e a → e < 2 ^ 16 - 1
+writer_fits x within e a writes = omega (arith, Writes-event x e a writes, within.few_events, events_fit)

@@ -1,0 +1,85 @@
+-- Where a clipped execution is a recording, nothing was clipped.
+use Rattle.std.proofs.Common.{◌≡◌, ◌<◌, ◌+◌, ◌-◌, inl, inr, ℕ, Some, option_map, List, [], ◌∷◌, map, length}
+use Rattle.std.proofs.Common.{get_or, arith, refl, sym, ap, subst, ◌∙◌}
+use Rattle.std.proofs.lemmas.List.{length-map, ext_get_or, get_or-map}
+use Rattle.recording.specs.declared.event.Event.{Event}
+use Rattle.recording.specs.declared.event.Event.TheVariants.{L, S, R, C, F}
+use Rattle.recording.specs.Event.{read_address, written_address, source}
+use Rattle.recording.specs.Execution.{Execution, placed_from, event_at, write_list}
+use Rattle.recording.specs.Recording.{IsRecording, IsWithinLimits}
+use Rattle.recording.specs.Refusals.{HasSource}
+use Rattle.recorder.specs.Clipped.{clip, clip_event, clipped}
+use Rattle.recording.specs.EventLaws.{placed_here, placed_behind}
+use Rattle.recording.specs.RefusalLaws.{source_of_recording}
+use Rattle.recorder.proofs.Clipped.{sources_clipped}
+use Rattle.recorder.proofs.ClippedLimits.{within_from, fits}
+use Rattle.recorder.proofs.ClippedRefusals.{source_from, source_fits, list_from}
+
+-- a list of items that g leaves as they are is left as it is
+map_fixed : {A : Type 0} (g : A → A) (d : A) (xs : List A)
+    → ((i : ℕ) → i < length xs → g (get_or xs i d) ≡ get_or xs i d) → map g xs ≡ xs
+map_fixed g d xs fixed =
+    ext_get_or d (map g xs) xs (length-map xs g)
+    (λ i at. let within : i < length xs = omega (arith, at, length-map xs g) in get_or-map g xs i d d within
+    ∙ fixed i within)
+
+-- an event is not clipped where its addresses and its source are not
+event_fixed : (v : Event) → ((a : ℕ) → read_address v ≡ Some a
+    → (clip a ≡ a) × (option_map clip (source v) ≡ source v))
+    → ((a : ℕ) → written_address v ≡ Some a → clip a ≡ a) → clip_event v ≡ v
+event_fixed (L a r s) reads writes = rw ((reads a refl).0, (reads a refl).1) refl
+event_fixed (S a w) reads writes = rw (writes a refl) refl
+event_fixed (R a r s w) reads writes = rw ((reads a refl).0, (reads a refl).1) refl
+event_fixed (C a r s) reads writes = rw ((reads a refl).0, (reads a refl).1) refl
+event_fixed F reads writes = refl
+
+-- cores are not clipped where no event is
+cores_fixed : (k : ℕ) (cores : List (List Event))
+    → ((e : ℕ) → clip_event (get_or (placed_from k cores) e (0, F)).1
+    ≡ (get_or (placed_from k cores) e (0, F)).1) → map (map clip_event) cores ≡ cores
+cores_fixed k [] fixed = refl
+cores_fixed k (es ∷ rest) fixed = rw (
+  map_fixed clip_event F es (λ i at. subst (λ (p : ℕ × Event). clip_event p.1 ≡ p.1)
+      (placed_here k es rest i (0, F) at) (fixed i)),
+  cores_fixed (k + 1) rest (λ e. subst (λ (p : ℕ × Event). clip_event p.1 ≡ p.1) (behind e)
+      (fixed (length es + e))),
+) refl
+  where
+    behind : (e : ℕ) → get_or (placed_from k (es ∷ rest)) (length es + e) (0, F)
+        ≡ get_or (placed_from (k + 1) rest) e (0, F)
+    behind e =
+        let same : length es + e - length es ≡ e = omega arith in
+        placed_behind k es rest (length es + e) (0, F) (omega arith)
+        ∙ ap (λ (i : ℕ). get_or (placed_from (k + 1) rest) i (0, F)) same
+
+-- no event is clipped within the limits, where each read has its source
+event_kept : (x : Execution) → IsWithinLimits x → ((e : ℕ) → HasSource x e) → (e : ℕ)
+    → clip_event (event_at x e) ≡ event_at x e
+event_kept x within sources e =
+    event_fixed (event_at x e)
+    (λ a reads. (
+      fits x within e a (inl reads),
+      sym (sources_clipped x e)
+          ∙ source_fits x within e a (sources e) reads,
+    ))
+    (λ a writes. fits x within e a (inr writes))
+
+-- write lists are not clipped where no number is
+lists_fixed : (x : Execution) → ((a : ℕ) → map clip (write_list x a) ≡ write_list x a)
+    → map (map clip) x.write_lists ≡ x.write_lists
+unfolding write_list
+lists_fixed x fixed = map_fixed (map clip) [] x.write_lists (λ a at. fixed a)
+
+-- an execution is not clipped where no event and no write list is
+execution_fixed : (x : Execution) → ((e : ℕ) → clip_event (event_at x e) ≡ event_at x e)
+    → ((a : ℕ) → map clip (write_list x a) ≡ write_list x a) → clipped x ≡ x
+unfolding event_at
+execution_fixed x events lists = rw (cores_fixed 0 x.cores events, lists_fixed x lists) refl
+
+-- an execution whose clipped form is a recording was not clipped
+pub recording_from : (x : Execution) → IsRecording (clipped x) → clipped x ≡ x
+recording_from x is =
+    let within : IsWithinLimits x = within_from x is.within in
+    execution_fixed x (event_kept x within (λ e. source_from x within e
+    (source_of_recording (clipped x) is e))) (λ a.
+    (list_from x within a (is.well_formed.write_lists a)).0)

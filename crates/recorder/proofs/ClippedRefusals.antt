@@ -1,0 +1,165 @@
+-- What is refused of a clipped execution is refused of the execution.
+use Rattle.std.proofs.Common.{◌≡◌, ◌<◌, ◌↔◌, ◌^◌, ◌-◌, inl, inr, ℕ, Option, Some, None, option_map, List, []}
+use Rattle.std.proofs.Common.{◌∷◌, map, arith, refl, sym, ap, subst, ◌∙◌}
+use Rattle.std.proofs.lemmas.Bool.{cases_eq}
+use Rattle.recording.specs.declared.fault.RecError.{RecError}
+use Rattle.recording.specs.declared.fault.RecError.TheVariants.{NotJson, Shape, Version, Limits, Source, Value}
+use Rattle.recording.specs.declared.fault.RecError.TheVariants.{WriteList, OutOfMemory}
+use Rattle.recording.specs.Event.{value_read}
+use Rattle.recording.specs.Execution.{Execution, event_at, write_list, source_of, Reads, Writes}
+use Rattle.recording.specs.Order.{times}
+use Rattle.recording.specs.Refusals.{HasSource, HasValue, HasWriteList, IsLeastWithout, IsRefusal}
+use Rattle.recording.specs.Recording.{IsWithinLimits}
+use Rattle.recording.specs.Tso.{IsValueOf}
+use Rattle.recorder.specs.Clipped.{clip, clipped}
+use Rattle.recording.specs.OrderLaws.{times_here, times_there}
+use Rattle.recorder.proofs.Clipped.{small, unclipped, clipped_from, list_clipped, sources_clipped}
+use Rattle.recorder.proofs.Clipped.{values_read_clipped, values_written_clipped}
+use Rattle.recorder.proofs.ClippedLimits.{within_from, within_to, reads_to, reads_from, writes_to}
+use Rattle.recorder.proofs.ClippedLimits.{writes_from, writer_fits}
+
+-- where a clipped event has its source, the event has it
+pub source_from : (x : Execution) → IsWithinLimits x → (e : ℕ) → HasSource (clipped x) e → HasSource x e
+source_from x within e has a s reads is =
+    let writes : Writes x (clip s) a =
+    writes_from x within (clip s) a (has a (clip s) (reads_to x within e a reads)
+    (sources_clipped x e ∙ ap (option_map clip) is)) in
+    subst (λ (t : ℕ). Writes x t a) (unclipped s (writer_fits x within (clip s) a writes)) writes
+
+-- and the other way round
+source_to : (x : Execution) → IsWithinLimits x → (e : ℕ) → HasSource x e → HasSource (clipped x) e
+source_to x within e has a t reads is =
+    let from = clipped_from (source_of x e) t (sym (sources_clipped x e) ∙ is) in
+    let writes : Writes x from.0 a = has a from.0 (reads_from x within e a reads) from.1 in
+    writes_to x within t a (subst (λ (s : ℕ). Writes x s a)
+    (sym (from.2 ∙ small from.0 (writer_fits x within from.0 a writes))) writes)
+
+-- where each read has its source, no source is clipped
+pub source_fits : (x : Execution) → IsWithinLimits x → (e a : ℕ) → HasSource x e → Reads x e a
+    → source_of (clipped x) e ≡ source_of x e
+source_fits x within e a has reads = sources_clipped x e
+    ∙ fixed (source_of x e) (λ s is. small s (writer_fits x within s a (has a s reads is)))
+  where
+    fixed : (o : Option ℕ) → ((s : ℕ) → o ≡ Some s → clip s ≡ s) → option_map clip o ≡ o
+    fixed None same = refl
+    fixed (Some s) same = ap Some (same s refl)
+
+-- what a source gives is as it was
+value_same : (x : Execution) (a : ℕ) (o : Option ℕ) (v w : ℕ) → v ≡ w
+    → IsValueOf (clipped x) a o v ↔ IsValueOf x a o w
+value_same x a None v w same = (λ is. sym same ∙ is, λ is. same ∙ is)
+value_same x a (Some s) v w same = (
+  λ is. sym (values_written_clipped x s)
+      ∙ (is ∙ same),
+  λ is. values_written_clipped x s ∙ (is ∙ sym same),
+)
+
+-- where a clipped event has its value, the event has it
+pub value_from : (x : Execution) → IsWithinLimits x → (e : ℕ) → HasSource x e → HasValue (clipped x) e
+    → HasValue x e
+value_from x within e source has a reads =
+    (value_same x a (source_of x e) (value_read (event_at (clipped x) e)) (value_read (event_at x e))
+    (values_read_clipped x e)).0
+    (subst (λ (o : Option ℕ). IsValueOf (clipped x) a o (value_read (event_at (clipped x) e)))
+    (source_fits x within e a source reads) (has a (reads_to x within e a reads)))
+
+-- and the other way round
+value_to : (x : Execution) → IsWithinLimits x → (e : ℕ) → HasSource x e → HasValue x e
+    → HasValue (clipped x) e
+value_to x within e source has a reads =
+    let before = reads_from x within e a reads in
+    subst (λ (o : Option ℕ). IsValueOf (clipped x) a o (value_read (event_at (clipped x) e)))
+    (sym (source_fits x within e a source before))
+    ((value_same x a (source_of x e) (value_read (event_at (clipped x) e)) (value_read (event_at x e))
+    (values_read_clipped x e)).1 (has a before))
+
+-- what stands behind the first number stands in the list
+stands_behind : (x : ℕ) (xs : List ℕ) (e : ℕ) → 0 < times xs e → 0 < times (x ∷ xs) e
+stands_behind x xs e stands = elim (cases_eq x e) [
+  | inl same ↦ omega (arith, times_here xs x e same)
+  | inr other ↦ omega (arith, times_there xs x e other, stands)
+]
+
+-- a list whose clipped numbers are below the greatest of 16 bits was not clipped
+list_unclipped : (xs : List ℕ) → ((e : ℕ) → 0 < times (map clip xs) e → e < 2 ^ 16 - 1) → map clip xs ≡ xs
+list_unclipped [] below = refl
+list_unclipped (x ∷ xs) below =
+    let first : clip x ≡ x = unclipped x (below (clip x) (omega (
+      arith,
+      times_here (map clip xs) (clip x) (clip x) refl,
+    ))) in
+    rw (first, list_unclipped xs (λ e stands. below e (stands_behind (clip x) (map clip xs) e stands))) refl
+
+-- a list of numbers below the greatest of 16 bits is not clipped
+list_small : (xs : List ℕ) → ((e : ℕ) → 0 < times xs e → e < 2 ^ 16 - 1) → map clip xs ≡ xs
+list_small [] below = refl
+list_small (x ∷ xs) below =
+    let first : clip x ≡ x = small x (below x (omega (arith, times_here xs x x refl))) in
+    rw (first, list_small xs (λ e stands. below e (stands_behind x xs e stands))) refl
+
+-- a write list that a clipped execution has was not clipped, and the execution has it
+pub list_from : (x : Execution) → IsWithinLimits x → (a : ℕ) → HasWriteList (clipped x) a
+    → (map clip (write_list x a) ≡ write_list x a) × HasWriteList x a
+list_from x within a has =
+    let same : map clip (write_list x a) ≡ write_list x a =
+    list_unclipped (write_list x a) (λ e stands. writer_fits x within e a
+    (writes_from x within e a (has.nothing_else e
+    (subst (λ (ws : List ℕ). 0 < times ws e) (sym (list_clipped x a)) stands)))) in
+    let all : write_list (clipped x) a ≡ write_list x a = list_clipped x a ∙ same in (
+      same,
+      record {
+        once = λ e writes. subst (λ (ws : List ℕ). times ws e ≡ 1) all
+            (has.once e (writes_to x within e a writes));
+        nothing_else = λ e stands. writes_from x within e a
+            (has.nothing_else e (subst (λ (ws : List ℕ). 0 < times ws e) (sym all) stands));
+      },
+    )
+
+-- and the other way round
+list_to : (x : Execution) → IsWithinLimits x → (a : ℕ) → HasWriteList x a → HasWriteList (clipped x) a
+list_to x within a has =
+    let same : map clip (write_list x a) ≡ write_list x a =
+    list_small (write_list x a) (λ e stands. writer_fits x within e a (has.nothing_else e stands)) in
+    let all : write_list (clipped x) a ≡ write_list x a = list_clipped x a ∙ same in
+    record {
+      once = λ e writes. subst (λ (ws : List ℕ). times ws e ≡ 1) (sym all)
+          (has.once e (writes_from x within e a writes));
+      nothing_else = λ e stands. writes_to x within e a
+          (has.nothing_else e (subst (λ (ws : List ℕ). 0 < times ws e) all stands));
+    }
+
+-- the least number without P is the least without Q, where both hold of the same numbers
+least_same : (P Q : ℕ → Type 0) (n : ℕ) → ((m : ℕ) → P m → Q m) → ((m : ℕ) → Q m → P m) → IsLeastWithout P n
+    → IsLeastWithout Q n
+least_same P Q n to from least = (λ q. least.0 (from n q), λ m below. to m (least.1 m below))
+
+-- each refusal of a clipped execution is the refusal of the execution
+pub refusal_from : (x : Execution) (r : RecError) → IsRefusal (clipped x) r → IsRefusal x r
+refusal_from x Limits past = λ within. past (within_to x within)
+refusal_from x (Source e) (clips, least) =
+    let within = within_from x clips in (
+      within,
+      least_same (HasSource (clipped x)) (HasSource x) e (source_from x within)
+          (source_to x within) least,
+    )
+refusal_from x (Value e) (clips, sources, least) =
+    let within = within_from x clips in
+    let has : (f : ℕ) → HasSource x f = λ f. source_from x within f (sources f) in (
+      within,
+      has,
+      least_same (HasValue (clipped x)) (HasValue x) e (λ f. value_from x within f (has f))
+          (λ f. value_to x within f (has f)) least,
+    )
+refusal_from x (WriteList a) (clips, sources, values, least) =
+    let within = within_from x clips in
+    let has : (f : ℕ) → HasSource x f = λ f. source_from x within f (sources f) in (
+      within,
+      has,
+      λ f. value_from x within f (has f) (values f),
+      least_same (HasWriteList (clipped x)) (HasWriteList x) a (λ b is. (list_from x within b is).1)
+          (list_to x within) least,
+    )
+refusal_from x NotJson wrong = wrong
+refusal_from x Shape wrong = wrong
+refusal_from x Version wrong = wrong
+refusal_from x OutOfMemory wrong = wrong

@@ -1,5 +1,0 @@
-use Rattle.recorder.proofs.Finds.{IsBehind}
-use Rattle.recorder.proofs.parts.RecordingParts.event.Given as goal
-
-abbrev pub invariant-loop-core : goal.invariant-loop-core
-invariant-loop-core l = IsBehind l.self.cores l.core l.rest l.number

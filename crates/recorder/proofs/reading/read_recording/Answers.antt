@@ -1,0 +1,10 @@
+use Rattle.recorder.proofs.Somes.{found_is}
+use Rattle.recorder.proofs.reading.read_recording.Goals as goal
+
+pub returns-in-Some : goal.returns-in-Some
+returns-in-Some c =
+    c.recording_of.ensures c.args.bytes.now
+    (found_is _ c.in-Ok.drafted c.in-Some.found c.in-Some.is c.in-Ok.ensures)
+
+pub returns : goal.returns
+returns c = c.recording_of-2.ensures c.args.bytes.now c.in_ok-found.ensures.found

@@ -1,0 +1,22 @@
+use Rattle.std.proofs.Common.{◌∙◌, sym}
+use Rattle.recorder.specs.Reading.{value_in}
+use Rattle.recorder.proofs.Each.{front_start, front_more, front_none, front_all}
+use Rattle.recorder.proofs.reading.values_in.Goals as goal
+
+pub loop-value-init : goal.loop-value-init
+loop-value-init c = front_start c.new-found.result.items _ c.new-found.ensures.items
+
+pub loop-value-preserved : goal.loop-value-preserved
+loop-value-preserved c =
+    front_more value_in c.args.list.now c.loop-value.value-index c.value-item.result c.in-Some.number
+    c.loop-value.found.items c.push.new.self.items _ c.loop-value-test.true c.value-item.is
+    (sym c.value_in.ensures ∙ c.in-Some.is) c.in_ok-push.ensures.items c.loop-value.invariant
+
+pub returns-in_default : goal.returns-in_default
+returns-in_default c =
+    front_none value_in c.args.list.now c.loop-value.value-index c.value-item.result c.loop-value.found.items
+    _ c.loop-value-test.true c.value-item.is (sym c.value_in.ensures ∙ c.in_default.is) c.loop-value.invariant
+
+pub returns : goal.returns
+returns c = front_all value_in c.args.list.now c.loop-value.value-index c.loop-value.found.items _
+    c.loop-value-test.false c.loop-value.invariant

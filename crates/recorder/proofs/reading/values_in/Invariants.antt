@@ -1,0 +1,11 @@
+use Rattle.std.proofs.Common.{◌≡◌, drop}
+use Rattle.serde_json.specs.View.{items_view}
+use Rattle.recorder.specs.Reading.{each, value_in}
+use Rattle.recorder.proofs.Each.{with_front}
+use Rattle.recorder.proofs.reading.values_in.Given as goal
+
+-- what was found, and what is left gives, is what all gives
+abbrev pub invariant-loop-value : goal.invariant-loop-value
+invariant-loop-value l =
+    with_front l.found.items (each value_in (items_view (drop l.value-index l.list)))
+    ≡ each value_in (items_view l.list)

@@ -1,0 +1,146 @@
+//! The contents of a recording's text, read from its tokens.
+
+ghost use Rattle.std.specs.Prelude.{◌≡◌, ℕ, suc, [], Some, IfOk, IfSome};
+ghost use Rattle.serde_json.specs.Data.{Members, no_members, object};
+ghost use Rattle.serde_json.specs.Read.{max_depth};
+ghost use Rattle.recorder.specs.Contents.{Contents};
+ghost use Rattle.recorder.specs.Found.{found};
+ghost use Rattle.recorder.specs.Held.{StandsFor};
+ghost use Rattle.recorder.specs.Draft.{AreParts, clipped_contents, IsDraftOf};
+ghost use Rattle.recorder.specs.Pulled.{Adds, GivesValue, GivesMembers};
+
+use crate::fields::once;
+use crate::pulled_lists::{pull_cores, pull_lists, pull_values};
+use crate::reading::Found;
+use crate::tokens::{begins_object, pull_natural};
+use common::EventId;
+use json::{Reader, Scratch};
+use recording::Event;
+use std::alloc::{AllocError, Global};
+
+/// The members that were read of a recording.
+struct Draft {
+    version: Option<u64>,
+    cores: Option<Vec<Vec<Event>>>,
+    writes: Option<Vec<Vec<EventId>>>,
+    init: Option<Vec<u32>>,
+}
+
+impl Drop for Draft {
+    fn drop(self) {
+        let Draft {
+            version: _,
+            cores: _,
+            writes: _,
+            init: _,
+        } = self;
+    }
+}
+
+impl Draft {
+    fn new() -> Draft
+        ensures { AreParts result no_members }
+    {
+        Draft {
+            version: None,
+            cores: None,
+            writes: None,
+            init: None,
+        }
+    }
+
+    /// Reads one member more, of a key that is new.
+    fn pull(
+        &mut self,
+        alloc: Global,
+        key: &str,
+        reader: &mut Reader<'_>,
+    ) -> Result<Option<()>, AllocError>
+        ensures { IfOk result (λ o. IfSome o (λ _. (depth : ℕ)
+            → Adds AreParts key.now (suc (suc (suc depth))) reader.old reader.new self.old self.new)) }
+    {
+        match key {
+            "version" => Ok(once(&mut self.version, pull_natural(reader))),
+            "cores" => {
+                let cores = pull_cores(alloc, reader)?;
+                Ok(once(&mut self.cores, cores))
+            }
+            "writes" => {
+                let writes = pull_lists(alloc, reader)?;
+                Ok(once(&mut self.writes, writes))
+            }
+            "init" => {
+                let init = pull_values(alloc, reader)?;
+                Ok(once(&mut self.init, init))
+            }
+            _ => Ok(None),
+        }
+    }
+
+    /// What was found, where nothing is missing.
+    fn found(self) -> Option<Found>
+        ensures { IfSome result (λ q. (ms : Members) → AreParts self ms
+            → (c : Contents) × (clipped_contents (object ms) ≡ Some c) × StandsFor (found q) c) }
+    {
+        let Draft {
+            version,
+            cores,
+            writes,
+            init,
+        } = self;
+        Some(Found {
+            version: version?,
+            cores: cores?,
+            writes: writes?,
+            init,
+        })
+    }
+}
+
+/// The members of an object that has begun.
+fn pull_draft(alloc: Global, reader: &mut Reader<'_>) -> Result<Option<Draft>, AllocError>
+    ensures { IfOk result (λ o. IfSome o (λ p. (depth : ℕ)
+        → GivesMembers AreParts (suc (suc (suc depth))) reader.old reader.new p)) }
+{
+    let mut draft = Draft::new();
+    'members: loop {
+        let Ok(key) = reader.next_key() else {
+            return Ok(None);
+        };
+        let Some(key) = key else {
+            return Ok(Some(draft));
+        };
+        let Some(()) = draft.pull(alloc, key, reader)? else {
+            return Ok(None);
+        };
+    }
+}
+
+fn pull_found(alloc: Global, reader: &mut Reader<'_>) -> Result<Option<Found>, AllocError>
+    ensures { IfOk result (λ o. IfSome o (λ q. (c : Contents)
+        × GivesValue clipped_contents max_depth reader.old c [] × StandsFor (found q) c)) }
+{
+    if !begins_object(reader) {
+        return Ok(None);
+    }
+    let Some(draft) = pull_draft(alloc, reader)? else {
+        return Ok(None);
+    };
+    let None = reader.next() else {
+        return Ok(None);
+    };
+    Ok(draft.found())
+}
+
+/// What a text in the simplest form has; nothing is told of other texts.
+pub(crate) fn drafted(alloc: Global, bytes: &[u8]) -> Result<Option<Found>, AllocError>
+    ensures { IfOk result (λ o. IfSome o (λ q. IsDraftOf bytes.now q)) }
+{
+    let Ok(text) = str::from_utf8(bytes) else {
+        return Ok(None);
+    };
+    let mut scratch = Scratch::new(alloc);
+    let mut reader = Reader::new(text, &mut scratch)?;
+    let found = pull_found(alloc, &mut reader)?;
+    Ok(found)
+}

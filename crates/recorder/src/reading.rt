@@ -1,0 +1,301 @@
+//! Reading the text of a recording.
+
+ghost use Rattle.std.specs.Prelude.{◌≡◌, ◌↔◌, ℕ, List, Err, IfOk, IfErr, IsTrue, option_map, map, codes};
+ghost use Rattle.serde_json.specs.View.{view, items_view};
+ghost use Rattle.recorder.specs.Contents.{initial_values, IsVersioned};
+ghost use Rattle.recorder.specs.Found.{found};
+ghost use Rattle.recorder.specs.Draft.{IsDraftOf};
+ghost use Rattle.recorder.specs.Reading.{each, list_in, number_in, value_in, event_in, at_key, values_in};
+ghost use Rattle.recorder.specs.Reading.{shape_of, shape_in, IsReadingResult};
+ghost use Rattle.recorder.specs.Text.{IsReadAs};
+ghost use Rattle.recorder.specs.Clipped.{clip, clip_event, clipped_shape, clipped_number, clipped_event};
+
+use crate::draft::drafted;
+use crate::items::{event_in, keys_of, number_in, value_in};
+use crate::versions::has_failed_cas;
+use common::EventId;
+use recording::{Event, RecError, Recording};
+use serde_json::Value;
+use std::alloc::{AllocError, Global};
+
+/// The version, the events of each core, the write lists and perhaps the initial values, which may
+/// break every rule.
+#[derive(Drop)]
+pub(crate) struct Found {
+    pub(crate) version: u64,
+    pub(crate) cores: Vec<Vec<Event>>,
+    pub(crate) writes: Vec<Vec<EventId>>,
+    pub(crate) init: Option<Vec<u32>>,
+}
+
+impl Found {
+    /// Whether it has what its version has.
+    fn is_versioned(&self) -> bool
+        ensures { IsTrue result ↔ IsVersioned (found self.now) }
+    {
+        match &self.init {
+            Some(_) => self.version == 2,
+            None => self.version == 1 && !has_failed_cas(self.cores.as_slice()),
+        }
+    }
+}
+
+fn events_in(alloc: Global, list: &[Value]) -> Result<Option<Vec<Event>>, AllocError>
+    ensures { IfOk result (λ o. option_map (λ v. v.items) o ≡ each clipped_event (items_view list.now)) }
+{
+    let mut found = Vec::new(alloc);
+    for value in list {
+        let Some(event) = event_in(value) else {
+            return Ok(None);
+        };
+        found.push(event)?;
+    }
+    Ok(Some(found))
+}
+
+fn numbers_in(alloc: Global, list: &[Value]) -> Result<Option<Vec<EventId>>, AllocError>
+    ensures { IfOk result (λ o. option_map (λ v. v.items) o ≡ each clipped_number (items_view list.now)) }
+{
+    let mut found = Vec::new(alloc);
+    for value in list {
+        let Some(number) = number_in(value) else {
+            return Ok(None);
+        };
+        found.push(number)?;
+    }
+    Ok(Some(found))
+}
+
+fn core_in(alloc: Global, value: &Value) -> Result<Option<Vec<Event>>, AllocError>
+    ensures { IfOk result (λ o. option_map (λ v. v.items) o ≡ list_in clipped_event (view value.now)) }
+{
+    let Some(list) = value.as_array() else {
+        return Ok(None);
+    };
+    events_in(alloc, list.as_slice())
+}
+
+fn writes_in(alloc: Global, value: &Value) -> Result<Option<Vec<EventId>>, AllocError>
+    ensures { IfOk result (λ o. option_map (λ v. v.items) o ≡ list_in clipped_number (view value.now)) }
+{
+    let Some(list) = value.as_array() else {
+        return Ok(None);
+    };
+    numbers_in(alloc, list.as_slice())
+}
+
+fn cores_in(alloc: Global, list: &[Value]) -> Result<Option<Vec<Vec<Event>>>, AllocError>
+    ensures { IfOk result (λ o. option_map (λ v. map (λ w. w.items) v.items) o
+        ≡ each (list_in clipped_event) (items_view list.now)) }
+{
+    let mut found = Vec::new(alloc);
+    for value in list {
+        let Some(core) = core_in(alloc, value)? else {
+            return Ok(None);
+        };
+        found.push(core)?;
+    }
+    Ok(Some(found))
+}
+
+fn lists_in(alloc: Global, list: &[Value]) -> Result<Option<Vec<Vec<EventId>>>, AllocError>
+    ensures { IfOk result (λ o. option_map (λ v. map (λ w. w.items) v.items) o
+        ≡ each (list_in clipped_number) (items_view list.now)) }
+{
+    let mut found = Vec::new(alloc);
+    for value in list {
+        let Some(writes) = writes_in(alloc, value)? else {
+            return Ok(None);
+        };
+        found.push(writes)?;
+    }
+    Ok(Some(found))
+}
+
+#[tactic(auto, using(crate::proofs::ClippedLists::cores_clipped))]
+fn cores_at(alloc: Global, value: &Value) -> Result<Option<Vec<Vec<Event>>>, AllocError>
+    ensures { IfOk result (λ o. option_map (λ v. map (λ w. w.items) v.items) o
+        ≡ option_map (map (map clip_event))
+        (at_key (list_in (list_in event_in)) (codes "cores") (view value.now))) }
+{
+    let Some(list) = value.get("cores").and_then(Value::as_array) else {
+        return Ok(None);
+    };
+    cores_in(alloc, list.as_slice())
+}
+
+#[tactic(auto, using(crate::proofs::ClippedLists::writes_clipped))]
+fn lists_at(alloc: Global, value: &Value) -> Result<Option<Vec<Vec<EventId>>>, AllocError>
+    ensures { IfOk result (λ o. option_map (λ v. map (λ w. w.items) v.items) o
+        ≡ option_map (map (map clip))
+        (at_key (list_in (list_in number_in)) (codes "writes") (view value.now))) }
+{
+    let Some(list) = value.get("writes").and_then(Value::as_array) else {
+        return Ok(None);
+    };
+    lists_in(alloc, list.as_slice())
+}
+
+fn values_in(alloc: Global, list: &[Value]) -> Result<Option<Vec<u32>>, AllocError>
+    ensures { IfOk result (λ o. option_map (λ v. v.items) o ≡ each value_in (items_view list.now)) }
+{
+    let mut found = Vec::new(alloc);
+    for value in list {
+        let Some(number) = value_in(value) else {
+            return Ok(None);
+        };
+        found.push(number)?;
+    }
+    Ok(Some(found))
+}
+
+fn values_at(alloc: Global, value: &Value) -> Result<Option<Vec<u32>>, AllocError>
+    ensures { IfOk result (λ o. option_map (λ v. v.items) o
+        ≡ at_key (list_in value_in) (codes "init") (view value.now)) }
+{
+    let Some(list) = value.get("init").and_then(Value::as_array) else {
+        return Ok(None);
+    };
+    values_in(alloc, list.as_slice())
+}
+
+#[tactic(auto, unfolding(crate::specs::Reading::values_in))]
+fn init_in(
+    alloc: Global,
+    keys: usize,
+    value: &Value,
+) -> Result<Option<Option<Vec<u32>>>, AllocError>
+    ensures { IfOk result (λ o. option_map (option_map (λ v. v.items)) o
+        ≡ values_in keys (view value.now)) }
+{
+    if keys == 3 {
+        return Ok(Some(None));
+    }
+    if keys != 4 {
+        return Ok(None);
+    }
+    let Some(init) = values_at(alloc, value)? else {
+        return Ok(None);
+    };
+    Ok(Some(Some(init)))
+}
+
+#[tactic(auto, unfolding(crate::specs::Reading::shape_of))]
+fn shape_of(
+    alloc: Global,
+    init: Option<Vec<u32>>,
+    value: &Value,
+) -> Result<Option<Found>, AllocError>
+    ensures { IfOk result (λ o. option_map found o
+        ≡ option_map clipped_shape (shape_of (option_map (λ v. v.items) init) (view value.now))) }
+{
+    let Some(version) = value.get("version").and_then(Value::as_u64) else {
+        return Ok(None);
+    };
+    let Some(cores) = cores_at(alloc, value)? else {
+        return Ok(None);
+    };
+    let Some(writes) = lists_at(alloc, value)? else {
+        return Ok(None);
+    };
+    Ok(Some(Found {
+        version,
+        cores,
+        writes,
+        init,
+    }))
+}
+
+#[tactic(auto, unfolding(crate::specs::Reading::shape_in))]
+fn shape_in(alloc: Global, value: &Value) -> Result<Option<Found>, AllocError>
+    ensures { IfOk result (λ o. option_map found o ≡ option_map clipped_shape (shape_in (view value.now))) }
+{
+    let Some(keys) = keys_of(value) else {
+        return Ok(None);
+    };
+    let Some(init) = init_in(alloc, keys, value)? else {
+        return Ok(None);
+    };
+    shape_of(alloc, init, value)
+}
+
+/// The initial values that were read; where none were, 0 for each write list.
+fn initial_values(
+    alloc: Global,
+    init: Option<Vec<u32>>,
+    writes: &[Vec<EventId>],
+) -> Result<Vec<u32>, AllocError>
+    ensures { IfOk result (λ v. v.items
+        ≡ initial_values (option_map (λ w. w.items) init) (map (λ w. w.items) writes.now)) }
+{
+    match init {
+        Some(init) => Ok(init),
+        None => vec![in alloc; 0; writes.len()],
+    }
+}
+
+/// The whole value of a text, or that it is no JSON; or want of memory.
+fn tree_of(alloc: Global, bytes: &[u8]) -> Result<Value, RecError>
+    ensures tree { IfOk result (λ v. IsReadAs bytes.now (view v)) }
+    ensures err { IfErr result (λ e. IsReadingResult bytes.now (Err e)) }
+{
+    match Value::from_slice(alloc, bytes) {
+        Ok(value) => Ok(value),
+        Err(e) => Err(if e.is_memory() {
+            RecError::OutOfMemory
+        } else {
+            RecError::NotJson
+        }),
+    }
+}
+
+/// The contents of a text by its whole value, or the first refusal of the JSON and its shape; or want of
+/// memory.
+fn found_in_tree(alloc: Global, bytes: &[u8]) -> Result<Found, RecError>
+    ensures found { IfOk result (λ q. IsDraftOf bytes.now q) }
+    ensures err { IfErr result (λ e. IsReadingResult bytes.now (Err e)) }
+{
+    let value = tree_of(alloc, bytes)?;
+    let Ok(found) = shape_in(alloc, &value) else {
+        return Err(RecError::OutOfMemory);
+    };
+    let Some(found) = found else {
+        return Err(RecError::Shape);
+    };
+    Ok(found)
+}
+
+/// The recording of these contents, or the first refusal of the version, and what `Recording::from_parts`
+/// refuses; or want of memory.
+fn recording_of(alloc: Global, contents: Found) -> Result<Recording, RecError>
+    ensures { (bytes : List ℕ) → IsDraftOf bytes contents → IsReadingResult bytes result }
+{
+    if !contents.is_versioned() {
+        return Err(RecError::Version);
+    }
+    let Found {
+        cores,
+        writes,
+        init,
+        ..
+    } = contents;
+    let Ok(init) = initial_values(alloc, init, writes.as_slice()) else {
+        return Err(RecError::OutOfMemory);
+    };
+    Recording::from_parts(cores, writes, init)
+}
+
+/// The recording that the bytes give, or the first refusal: of the JSON, its shape, the version, and what
+/// `Recording::from_parts` refuses; or want of memory.
+pub fn read_recording(alloc: Global, bytes: &[u8]) -> Result<Recording, RecError>
+    ensures { IsReadingResult bytes.now result }
+{
+    let Ok(drafted) = drafted(alloc, bytes) else {
+        return Err(RecError::OutOfMemory);
+    };
+    if let Some(found) = drafted {
+        return recording_of(alloc, found);
+    }
+    let found = found_in_tree(alloc, bytes)?;
+    recording_of(alloc, found)
+}

@@ -1,0 +1,253 @@
+//! The JSON value of a recording.
+
+ghost use Rattle.std.specs.Prelude.{◌≡◌, IfOk, Some, map, codes};
+ghost use Rattle.serde_json.specs.Data.{put, string, object};
+ghost use Rattle.serde_json.specs.View.{view, members_view};
+ghost use Rattle.recording.specs.declared.event.Event.TheVariants.{S, R, F};
+ghost use Rattle.recorder.specs.Reading.{number_in, value_in, event_in, list_in, Tells};
+ghost use Rattle.recorder.specs.Text.{number_data, list_data, source_data, event_data, data_1, data_2, data_of};
+ghost use Rattle.recorder.specs.Values.{read_members, cores_member, with_writes};
+ghost use Rattle.recorder.specs.Values.{AreCoresAgain, AreWritesAgain, IsInitAgain, ArePartsAgain};
+
+use crate::versions::is_of_version_1;
+use common::{Addr, EventId};
+use recording::{Event, Recording};
+use serde_json::{Map, Value, put};
+use std::alloc::{AllocError, Global};
+
+/// The members with one more.
+fn with(
+    alloc: Global,
+    members: Map<String, Value>,
+    key: &str,
+    value: Value,
+) -> Result<Map<String, Value>, AllocError>
+    ensures { IfOk result (λ m. members_view m.entries ≡ put key.now (view value) (members_view members.entries)) }
+{
+    let mut members = members;
+    put(&mut members, alloc, key, value)?;
+    Ok(members)
+}
+
+/// The members with a text.
+fn with_text(
+    alloc: Global,
+    members: Map<String, Value>,
+    key: &str,
+    text: &str,
+) -> Result<Map<String, Value>, AllocError>
+    ensures { IfOk result (λ m. members_view m.entries ≡ put key.now (string text.now) (members_view members.entries)) }
+{
+    let text = String::from_str(alloc, text)?;
+    with(alloc, members, key, Value::String(text))
+}
+
+fn source_value(source: Option<EventId>) -> Value
+    ensures { view result ≡ source_data source }
+{
+    match source {
+        Some(write) => Value::from(write),
+        None => Value::Null,
+    }
+}
+
+/// The members of an event of this kind that reads.
+fn read_members(
+    alloc: Global,
+    kind: &str,
+    a: Addr,
+    r: u32,
+    s: Option<EventId>,
+) -> Result<Map<String, Value>, AllocError>
+    ensures { IfOk result (λ m. members_view m.entries ≡ read_members kind.now a r s) }
+{
+    let members = with(alloc, Map::new(alloc), "a", Value::from(a))?;
+    let members = with_text(alloc, members, "k", kind)?;
+    let members = with(alloc, members, "r", Value::from(r))?;
+    with(alloc, members, "s", source_value(s))
+}
+
+fn read_value(
+    alloc: Global,
+    kind: &str,
+    a: Addr,
+    r: u32,
+    s: Option<EventId>,
+) -> Result<Value, AllocError>
+    ensures { IfOk result (λ v. view v ≡ object (read_members kind.now a r s)) }
+{
+    let members = read_members(alloc, kind, a, r, s)?;
+    Ok(Value::Object(members))
+}
+
+fn store_value(alloc: Global, a: Addr, w: u32) -> Result<Value, AllocError>
+    ensures { IfOk result (λ v. view v ≡ event_data (S a w)) }
+{
+    let members = with(alloc, Map::new(alloc), "a", Value::from(a))?;
+    let members = with_text(alloc, members, "k", "S")?;
+    let members = with(alloc, members, "w", Value::from(w))?;
+    Ok(Value::Object(members))
+}
+
+fn rmw_value(
+    alloc: Global,
+    a: Addr,
+    r: u32,
+    s: Option<EventId>,
+    w: u32,
+) -> Result<Value, AllocError>
+    ensures { IfOk result (λ v. view v ≡ event_data (R a r s w)) }
+{
+    let members = read_members(alloc, "R", a, r, s)?;
+    let members = with(alloc, members, "w", Value::from(w))?;
+    Ok(Value::Object(members))
+}
+
+fn fence_value(alloc: Global) -> Result<Value, AllocError>
+    ensures { IfOk result (λ v. view v ≡ event_data F) }
+{
+    let members = with_text(alloc, Map::new(alloc), "k", "F")?;
+    Ok(Value::Object(members))
+}
+
+fn event_value(alloc: Global, event: &Event) -> Result<Value, AllocError>
+    ensures value { IfOk result (λ v. view v ≡ event_data event.now) }
+    ensures again { IfOk result (λ _. event_in (event_data event.now) ≡ Some event.now) }
+{
+    match *event {
+        Event::L { a, r, s } => read_value(alloc, "L", a, r, s),
+        Event::S { a, w } => store_value(alloc, a, w),
+        Event::R { a, r, s, w } => rmw_value(alloc, a, r, s, w),
+        Event::C { a, r, s } => read_value(alloc, "C", a, r, s),
+        Event::F => fence_value(alloc),
+    }
+}
+
+fn core_value(alloc: Global, events: &[Event]) -> Result<Value, AllocError>
+    ensures value { IfOk result (λ v. view v ≡ list_data event_data events.now) }
+    ensures again { IfOk result (λ _. list_in event_in (list_data event_data events.now) ≡ Some events.now) }
+{
+    let mut values = Vec::with_capacity(alloc, events.len())?;
+    for event in events {
+        values.push(event_value(alloc, event)?)?;
+    }
+    Ok(Value::Array(values))
+}
+
+fn cores_value(alloc: Global, cores: &[Vec<Event>]) -> Result<Value, AllocError>
+    ensures value { IfOk result (λ v. view v
+        ≡ list_data (list_data event_data) (map (λ w. w.items) cores.now)) }
+    ensures again { let lists = map (λ w. w.items) cores.now
+        in IfOk result (λ _. list_in (list_in event_in) (list_data (list_data event_data) lists)
+        ≡ Some lists) }
+{
+    let mut values = Vec::with_capacity(alloc, cores.len())?;
+    for events in cores {
+        values.push(core_value(alloc, events.as_slice())?)?;
+    }
+    Ok(Value::Array(values))
+}
+
+fn list_value(alloc: Global, writes: &[EventId]) -> Result<Value, AllocError>
+    ensures value { IfOk result (λ v. view v ≡ list_data number_data writes.now) }
+    ensures again { IfOk result (λ _. list_in number_in (list_data number_data writes.now)
+        ≡ Some writes.now) }
+{
+    let mut values = Vec::with_capacity(alloc, writes.len())?;
+    for write in writes {
+        values.push(Value::from(*write))?;
+    }
+    Ok(Value::Array(values))
+}
+
+fn lists_value(alloc: Global, lists: &[Vec<EventId>]) -> Result<Value, AllocError>
+    ensures value { IfOk result (λ v. view v
+        ≡ list_data (list_data number_data) (map (λ w. w.items) lists.now)) }
+    ensures again { let numbers = map (λ w. w.items) lists.now
+        in IfOk result (λ _. list_in (list_in number_in) (list_data (list_data number_data) numbers)
+        ≡ Some numbers) }
+{
+    let mut values = Vec::with_capacity(alloc, lists.len())?;
+    for writes in lists {
+        values.push(list_value(alloc, writes.as_slice())?)?;
+    }
+    Ok(Value::Array(values))
+}
+
+fn init_value(alloc: Global, init: &[u32]) -> Result<Value, AllocError>
+    ensures value { IfOk result (λ v. view v ≡ list_data number_data init.now) }
+    ensures again { IfOk result (λ _. list_in value_in (list_data number_data init.now) ≡ Some init.now) }
+{
+    let mut values = Vec::with_capacity(alloc, init.len())?;
+    for value in init {
+        values.push(Value::from(*value))?;
+    }
+    Ok(Value::Array(values))
+}
+
+/// The member that both versions have first.
+fn with_cores(alloc: Global, recording: &Recording) -> Result<Map<String, Value>, AllocError>
+    ensures value { IfOk result (λ m. members_view m.entries ≡ cores_member recording.now) }
+    ensures again { IfOk result (λ _. AreCoresAgain recording.now) }
+{
+    let cores = cores_value(alloc, recording.cores())?;
+    with(alloc, Map::new(alloc), "cores", cores)
+}
+
+/// The object with the member that both versions have last.
+fn with_writes(
+    alloc: Global,
+    members: Map<String, Value>,
+    recording: &Recording,
+) -> Result<Value, AllocError>
+    ensures value { IfOk result (λ v. view v ≡ with_writes (members_view members.entries) recording.now) }
+    ensures again { IfOk result (λ _. AreWritesAgain recording.now) }
+{
+    let writes = lists_value(alloc, recording.writes())?;
+    let members = with(alloc, members, "writes", writes)?;
+    Ok(Value::Object(members))
+}
+
+fn with_init(
+    alloc: Global,
+    members: Map<String, Value>,
+    recording: &Recording,
+) -> Result<Map<String, Value>, AllocError>
+    ensures value { IfOk result (λ m. members_view m.entries
+        ≡ put (codes "init") (list_data number_data recording.now.initial) (members_view members.entries)) }
+    ensures again { IfOk result (λ _. IsInitAgain recording.now) }
+{
+    let init = init_value(alloc, recording.init())?;
+    with(alloc, members, "init", init)
+}
+
+fn value_1(alloc: Global, recording: &Recording) -> Result<Value, AllocError>
+    ensures value { IfOk result (λ v. view v ≡ data_1 recording.now) }
+    ensures again { IfOk result (λ _. ArePartsAgain recording.now) }
+{
+    let members = with_cores(alloc, recording)?;
+    let members = with(alloc, members, "version", Value::from(1u64))?;
+    with_writes(alloc, members, recording)
+}
+
+fn value_2(alloc: Global, recording: &Recording) -> Result<Value, AllocError>
+    ensures value { IfOk result (λ v. view v ≡ data_2 recording.now) }
+    ensures again { IfOk result (λ _. ArePartsAgain recording.now) }
+    ensures init { IfOk result (λ _. IsInitAgain recording.now) }
+{
+    let members = with_cores(alloc, recording)?;
+    let members = with_init(alloc, members, recording)?;
+    let members = with(alloc, members, "version", Value::from(2u64))?;
+    with_writes(alloc, members, recording)
+}
+
+pub(crate) fn value_of(alloc: Global, recording: &Recording) -> Result<Value, AllocError>
+    ensures value { IfOk result (λ v. view v ≡ data_of recording.now) }
+    ensures again { IfOk result (λ _. Tells (data_of recording.now) recording.now) }
+{
+    recording.sound();
+    if is_of_version_1(recording) {
+        return value_1(alloc, recording);
+    }
+    value_2(alloc, recording)
+}

@@ -1,0 +1,16 @@
+pub mod Event
+pub mod Execution
+pub mod EventLaws
+pub mod PlacedLaws
+pub mod CoreLaws
+pub mod Order
+pub mod OrderLaws
+pub mod PlaceLaws
+pub mod EnumerationLaws
+pub mod Tso
+pub mod Recording
+pub mod FirstUse
+pub mod Refusals
+pub mod RefusalLaws
+pub mod Listed
+pub mod Numbered

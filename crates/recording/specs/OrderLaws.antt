@@ -1,0 +1,237 @@
+-- Laws of places and times in a list.
+use Rattle.std.proofs.Common.{◌≡◌, ◌≢◌, ◌<◌, ◌≤◌, ◌+◌, ◌⊎◌, inl, inr, ℕ, List, [], ◌∷◌, ◌++◌, length, arith}
+use Rattle.std.proofs.Common.{refl, sym, length-append}
+use Rattle.std.proofs.lemmas.Bool.{cases_eq, cases_lt}
+use Rattle.std.proofs.lemmas.Bool.Decides.{nat_tests}
+use Rattle.recording.specs.Order.{place, times, Before}
+
+-- the first number of a list has place 0
+pub place_here : (xs : List ℕ) (x e : ℕ) → x ≡ e → place (x ∷ xs) e ≡ 0
+unfolding place
+place_here xs x e h = grind (arith, nat_tests)
+
+-- any other number has its place behind it
+pub place_there : (xs : List ℕ) (x e : ℕ) → x ≢ e → place (x ∷ xs) e ≡ place xs e + 1
+unfolding place
+place_there xs x e h = grind (arith, nat_tests)
+
+-- a number stands once more in a list that begins with it
+pub times_here : (xs : List ℕ) (x e : ℕ) → x ≡ e → times (x ∷ xs) e ≡ times xs e + 1
+unfolding times
+times_here xs x e h = grind (arith, nat_tests)
+
+-- and as often in a list that begins with another
+pub times_there : (xs : List ℕ) (x e : ℕ) → x ≢ e → times (x ∷ xs) e ≡ times xs e
+unfolding times
+times_there xs x e h = grind (arith, nat_tests)
+
+-- nothing stands in the empty list
+pub times_nil : (e : ℕ) → times [] e ≡ 0
+unfolding times
+times_nil e = refl
+
+-- the place in the empty list is its length
+pub place_nil : (e : ℕ) → place [] e ≡ 0
+unfolding place
+place_nil e = refl
+
+-- what stands in a list has a place in it
+pub place_in : (xs : List ℕ) (e : ℕ) → 0 < times xs e → place xs e < length xs
+place_in [] e h = omega (arith, times_nil e)
+place_in (x ∷ xs) e h = elim (cases_eq x e) [
+  | inl same ↦ omega (arith, place_here xs x e same)
+  | inr other ↦ omega (
+    arith,
+    place_there xs x e other,
+    times_there xs x e other,
+    place_in xs e (omega (arith, times_there xs x e other)),
+  )
+]
+
+-- and the other way round
+pub times_in : (xs : List ℕ) (e : ℕ) → place xs e < length xs → 0 < times xs e
+times_in [] e h = omega (arith, place_nil e)
+times_in (x ∷ xs) e h = elim (cases_eq x e) [
+  | inl same ↦ omega (arith, times_here xs x e same)
+  | inr other ↦ omega (
+    arith,
+    times_there xs x e other,
+    times_in xs e (omega (arith, place_there xs x e other)),
+  )
+]
+
+-- two numbers of which one stands in the list have one place only if they are one
+pub place_one : (xs : List ℕ) (e f : ℕ) → place xs e ≡ place xs f → place xs e < length xs → e ≡ f
+place_one [] e f h l = absurd (omega (arith, place_nil e))
+place_one (x ∷ xs) e f h l = elim (cases_eq x e) [
+  | inl e_here ↦ elim (cases_eq x f) [
+    | inl f_here ↦ omega arith
+    | inr f_there ↦ absurd (omega (arith, place_here xs x e e_here, place_there xs x f f_there))
+  ]
+  | inr e_there ↦ elim (cases_eq x f) [
+    | inl f_here ↦ absurd (omega (arith, place_there xs x e e_there, place_here xs x f f_here))
+    | inr f_there ↦ place_one xs e f (omega (arith, place_there xs x e e_there, place_there xs x f f_there))
+        (omega (arith, place_there xs x e e_there))
+  ]
+]
+
+-- what stands in the left part keeps its place
+pub place_append_left : (xs ys : List ℕ) (e : ℕ) → 0 < times xs e → place (xs ++ ys) e ≡ place xs e
+place_append_left [] ys e h = absurd (omega (arith, times_nil e))
+place_append_left (x ∷ xs) ys e h = elim (cases_eq x e) [
+  | inl same ↦ omega (arith, place_here xs x e same, place_here (xs ++ ys) x e same)
+  | inr other ↦ omega (
+    arith,
+    place_there xs x e other,
+    place_there (xs ++ ys) x e other,
+    place_append_left xs ys e (omega (arith, times_there xs x e other)),
+  )
+]
+
+-- what does not has its place in the right part
+pub place_append_right : (xs ys : List ℕ) (e : ℕ) → times xs e ≡ 0
+    → place (xs ++ ys) e ≡ length xs + place ys e
+place_append_right [] ys e h = omega arith
+place_append_right (x ∷ xs) ys e h = elim (cases_eq x e) [
+  | inl same ↦ absurd (omega (arith, times_here xs x e same))
+  | inr other ↦ omega (
+    arith,
+    place_there (xs ++ ys) x e other,
+    place_append_right xs ys e (omega (arith, times_there xs x e other)),
+  )
+]
+
+-- a number stands as often as in both parts together
+pub times_append : (xs ys : List ℕ) (e : ℕ) → times (xs ++ ys) e ≡ times xs e + times ys e
+times_append [] ys e = omega (arith, times_nil e)
+times_append (x ∷ xs) ys e = elim (cases_eq x e) [
+  | inl same ↦ omega (arith, times_here xs x e same, times_here (xs ++ ys) x e same, times_append xs ys e)
+  | inr other ↦ omega (
+    arith,
+    times_there xs x e other,
+    times_there (xs ++ ys) x e other,
+    times_append xs ys e,
+  )
+]
+
+-- of two that stand in a list one stands before the other, or they are one
+pub compare_places : (xs : List ℕ) (e f : ℕ) → 0 < times xs e → 0 < times xs f
+    → Before xs e f ⊎ ((e ≡ f) ⊎ Before xs f e)
+compare_places xs e f he hf =
+    let le : place xs e < length xs = place_in xs e he in
+    let lf : place xs f < length xs = place_in xs f hf in
+    elim (cases_eq (place xs e) (place xs f)) [
+      | inl same ↦ inr (inl (place_one xs e f same le))
+      | inr other ↦ either le lf other
+    ]
+  where
+    either : place xs e < length xs → place xs f < length xs → (place xs e ≡ place xs f → ⊥)
+        → Before xs e f ⊎ ((e ≡ f) ⊎ Before xs f e)
+    either le lf other = grind arith
+
+-- a number stands in a list, or not
+pub cases_times : (xs : List ℕ) (e : ℕ) → (times xs e ≡ 0) ⊎ (0 < times xs e)
+cases_times xs e = elim (cases_lt 0 (times xs e)) [ inl there ↦ inr there | inr none ↦ inl (omega arith) ]
+
+-- what stands in the left part stands before what stands in the right part alone
+pub left_before_right : (u v : List ℕ) (e f : ℕ) → 0 < times u e → times u f ≡ 0 → 0 < times v f
+    → Before (u ++ v) e f
+left_before_right u v e f he none hf = (
+  omega (arith, place_append_left u v e he, place_append_right u v f none, place_in u e he),
+  omega (arith, place_append_right u v f none, length-append u v, place_in v f hf),
+)
+
+-- a pair of the left part is a pair of the whole
+pub before_in_left : (u v : List ℕ) (e f : ℕ) → Before u e f → Before (u ++ v) e f
+before_in_left u v e f h =
+    let le : 0 < times u e = times_in u e (omega arith) in
+    let lf : 0 < times u f = times_in u f h.1 in (
+      omega (arith, place_append_left u v e le, place_append_left u v f lf, h),
+      omega (arith, place_append_left u v f lf, length-append u v, h),
+    )
+
+-- a pair of the right part, where neither stands in the left one, is a pair of the whole
+pub before_in_right : (u v : List ℕ) (e f : ℕ) → times u e ≡ 0 → times u f ≡ 0 → Before v e f
+    → Before (u ++ v) e f
+before_in_right u v e f ne nf h = (
+  omega (arith, place_append_right u v e ne, place_append_right u v f nf, h),
+  omega (arith, place_append_right u v f nf, length-append u v, h),
+)
+
+-- with b put between the two parts, what stood in the right part moves by one
+moved : (u v : List ℕ) (b e : ℕ) → e ≢ b → times u e ≡ 0
+    → (place (u ++ b ∷ v) e ≡ place (u ++ v) e + 1) × (length u ≤ place (u ++ v) e)
+moved u v b e other none = (
+  omega (
+    arith,
+    place_append_right u (b ∷ v) e none,
+    place_append_right u v e none,
+    place_there v b e (λ s. other (sym s)),
+  ),
+  omega (arith, place_append_right u v e none),
+)
+
+-- what stands in the left part stays
+stayed : (u v : List ℕ) (b e : ℕ) → 0 < times u e
+    → (place (u ++ b ∷ v) e ≡ place u e) × (place (u ++ v) e ≡ place u e)
+stayed u v b e left = (place_append_left u (b ∷ v) e left, place_append_left u v e left)
+
+-- the list is longer by one
+longer : (u v : List ℕ) (b : ℕ) → length (u ++ b ∷ v) ≡ length (u ++ v) + 1
+longer u v b = omega (arith, length-append u (b ∷ v), length-append u v)
+
+-- to put b between the two parts changes no pair of others
+pub inserted : (u v : List ℕ) (b e f : ℕ) → e ≢ b → f ≢ b → Before (u ++ v) e f → Before (u ++ b ∷ v) e f
+inserted u v b e f eb fb h = elim (cases_times u e) [
+  | inl none ↦ elim (cases_times u f) [
+    | inl f_none ↦ (
+      omega (arith, h, moved u v b e eb none, moved u v b f fb f_none),
+      omega (arith, h, moved u v b f fb f_none, longer u v b),
+    )
+    | inr f_left ↦ absurd (omega (
+      arith,
+      h,
+      moved u v b e eb none,
+      stayed u v b f f_left,
+      place_in u f f_left,
+    ))
+  ]
+  | inr left ↦ elim (cases_times u f) [
+    | inl f_none ↦ (
+      omega (arith, stayed u v b e left, moved u v b f fb f_none, place_in u e left),
+      omega (arith, h, moved u v b f fb f_none, longer u v b),
+    )
+    | inr f_left ↦ (
+      omega (arith, h, stayed u v b e left, stayed u v b f f_left),
+      omega (arith, h, stayed u v b f f_left, longer u v b),
+    )
+  ]
+]
+
+-- and the other way round
+pub removed : (u v : List ℕ) (b e f : ℕ) → e ≢ b → f ≢ b → Before (u ++ b ∷ v) e f → Before (u ++ v) e f
+removed u v b e f eb fb h = elim (cases_times u e) [
+  | inl none ↦ elim (cases_times u f) [
+    | inl f_none ↦ (
+      omega (arith, h, moved u v b e eb none, moved u v b f fb f_none),
+      omega (arith, h, moved u v b f fb f_none, longer u v b),
+    )
+    | inr f_left ↦ absurd (omega (
+      arith,
+      h,
+      moved u v b e eb none,
+      stayed u v b f f_left,
+      place_in u f f_left,
+    ))
+  ]
+  | inr left ↦ elim (cases_times u f) [
+    | inl f_none ↦ (
+      omega (arith, stayed u v b e left, moved u v b f fb f_none, place_in u e left),
+      omega (arith, h, moved u v b f fb f_none, longer u v b),
+    )
+    | inr f_left ↦ (
+      omega (arith, h, stayed u v b e left, stayed u v b f f_left),
+      omega (arith, h, stayed u v b f f_left, place_in u f f_left, length-append u v),
+    )
+  ]
+]

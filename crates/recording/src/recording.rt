@@ -1,0 +1,157 @@
+//! Recordings.
+
+use crate::copies::{copied_cores, copied_values, copied_writes};
+use crate::event::Event;
+use crate::fault::RecError;
+use crate::parts::RecordingParts;
+use common::{Addr, CoreId, EventId};
+use std::alloc::Global;
+use std::marker::Model;
+
+/// A recording: the events of each core in program order, and for each address its writes in memory order
+/// and its initial value.
+#[derive(Drop)]
+pub struct Recording {
+    parts: RecordingParts,
+}
+
+impl Model for Recording {
+    ghost use Rattle.recording.specs.Execution.{Execution};
+    ghost use Rattle.recording.specs.Recording.{IsRecording};
+
+    ghost Value = { Execution };
+
+    ghost view = { λ r. r.parts };
+
+    ghost invariant = { λ r. IsRecording r.parts };
+}
+
+impl Recording {
+    ghost use Rattle.std.specs.Prelude.{◌≡◌, ◌≤◌, ◌<◌, map, ◌↔◌, ◌⊎◌, MatchOption, length, IsOk, IsTrue};
+    ghost use Rattle.std.specs.Prelude.{IfOk, IfErr};
+    ghost use Rattle.recording.specs.Execution.{event_count, event_at, core_of, write_list, Writes};
+    ghost use Rattle.recording.specs.Recording.{executed, IsRecording};
+    ghost use Rattle.recording.specs.Refusals.{IsRefusal};
+    ghost use Rattle.recording.specs.declared.fault.RecError.TheVariants.{OutOfMemory};
+
+    /// The recording of these events, write lists and initial values, which have to be one (`from_parts`
+    /// tests it).
+    pub fn new(cores: Vec<Vec<Event>>, writes: Vec<Vec<EventId>>, init: Vec<u32>) -> Recording
+        requires { IsRecording
+            (executed (map (λ v. v.items) cores.items) (map (λ v. v.items) writes.items) init.items) }
+        ensures { result
+            ≡ executed (map (λ v. v.items) cores.items) (map (λ v. v.items) writes.items) init.items }
+    {
+        Recording {
+            parts: RecordingParts::new(cores, writes, init),
+        }
+    }
+
+    /// The recording of these events, write lists and initial values, or the first refusal: of the
+    /// limits, of the least event without its source, of the least event without the value of its
+    /// source, of the least address without its write list.
+    pub fn from_parts(
+        cores: Vec<Vec<Event>>,
+        writes: Vec<Vec<EventId>>,
+        init: Vec<u32>,
+    ) -> Result<Recording, RecError>
+        ensures exact { IsOk result ↔ IsRecording
+            (executed (map (λ v. v.items) cores.items) (map (λ v. v.items) writes.items) init.items) }
+        ensures ok { IfOk result (λ r. r
+            ≡ executed (map (λ v. v.items) cores.items) (map (λ v. v.items) writes.items) init.items) }
+        ensures err { IfErr result (λ e. IsRefusal
+            (executed (map (λ v. v.items) cores.items) (map (λ v. v.items) writes.items) init.items) e) }
+    {
+        let parts = RecordingParts::new(cores, writes, init);
+        match parts.refusal() {
+            Some(refusal) => Err(refusal),
+            None => Ok(Recording { parts }),
+        }
+    }
+
+    /// The recording of copies of these events, write lists and initial values, or the first refusal,
+    /// as `from_parts` has it; `OutOfMemory` where there is none for a copy.
+    pub fn from_lists(
+        alloc: Global,
+        cores: &[&[Event]],
+        writes: &[&[EventId]],
+        init: &[u32],
+    ) -> Result<Recording, RecError>
+        ensures ok { IfOk result (λ r. r
+            ≡ executed (map (λ s. s.now) cores.now) (map (λ s. s.now) writes.now) init.now) }
+        ensures err { IfErr result (λ e. (e ≡ OutOfMemory)
+            ⊎ IsRefusal (executed (map (λ s. s.now) cores.now) (map (λ s. s.now) writes.now) init.now) e) }
+    {
+        let cores = copied_cores(alloc, cores)?;
+        let writes = copied_writes(alloc, writes)?;
+        let init = copied_values(alloc, init)?;
+        Recording::from_parts(cores, writes, init)
+    }
+
+    /// What every recording keeps. It does nothing.
+    pub fn sound(&self)
+        ensures { IsRecording self.now }
+    {
+        let _parts = &self.parts;
+    }
+
+    /// The events of each core, in program order.
+    pub fn cores(&self) -> &[Vec<Event>]
+        ensures { map (λ v. v.items) result.now ≡ self.now.cores }
+    {
+        self.parts.cores()
+    }
+
+    /// For each address the numbers of its writes, in memory order.
+    pub fn writes(&self) -> &[Vec<EventId>]
+        ensures { map (λ v. v.items) result.now ≡ self.now.write_lists }
+    {
+        self.parts.writes()
+    }
+
+    /// For each address the value that it begins with.
+    pub fn init(&self) -> &[u32]
+        ensures value { result.now ≡ self.now.initial }
+        ensures count { length result.now ≡ length self.now.write_lists }
+    {
+        self.parts.init()
+    }
+
+    /// How many events there are.
+    pub fn len(&self) -> usize
+        ensures { result ≡ event_count self.now }
+    {
+        self.parts.len()
+    }
+
+    /// The core and the event of a number; none past the last event.
+    pub fn event(&self, number: EventId) -> Option<(CoreId, &Event)>
+        ensures { MatchOption result (event_count self.now ≤ number)
+            (λ p. (number < event_count self.now) × (p.0 ≡ core_of self.now number)
+            × (p.1.now ≡ event_at self.now number)) }
+    {
+        self.parts.event(number)
+    }
+
+    /// Whether an event writes an address; false past the last event.
+    pub fn writes_to(&self, number: EventId, address: Addr) -> bool
+        ensures { IsTrue result ↔ Writes self.now number address }
+    {
+        self.parts.writes_to(number, address)
+    }
+
+    /// How many addresses have a write list.
+    pub fn addresses(&self) -> usize
+        ensures { result ≡ length self.now.write_lists }
+    {
+        self.parts.writes().len()
+    }
+
+    /// The writes of an address, in memory order, which is the coherence order (co) of the address;
+    /// none where there is no such address.
+    pub fn write_list(&self, address: Addr) -> &[EventId]
+        ensures { result.now ≡ write_list self.now address }
+    {
+        self.parts.write_list(address)
+    }
+}
