@@ -17,32 +17,32 @@ use Rattle.judge.specs.Verdict.{IsVerdict}
 use Rattle.report.specs.Verdict.{IsVerdictText}
 use Rattle.trials.specs.Judged.{begun_machine}
 use Rattle.trials.specs.Schedule.{IsRandomRun}
-use Rattle.answers.specs.declared.answer.Answer.{Answer}
-use Rattle.answers.specs.declared.answer.TheConstants.{DONE, UNFINISHED}
-use Rattle.answers.specs.Verdict.{IsVerdictAnswer, verdict_status}
+use Rattle.report.specs.declared.printed.Answer.{Answer}
+use Rattle.report.specs.declared.outcome.Outcome.TheVariants as outcome
+use Rattle.report.specs.Answer.{IsVerdictAnswer, outcome_of}
 use Rattle.answers.specs.Run.{IsOrderedAnswer, IsRunAnswer, IsSeededAnswer}
 
 -- what TSO allows has its least order
 ordered_answer : (x : Execution) (m : List ℕ) (answer : Answer) → IsTsoOrder x m
     → IsVerdictAnswer x (recording_text x) answer → IsOrderedAnswer x answer
-ordered_answer x m answer tso is = go is.verdict is.found is.status is.printed
+ordered_answer x m answer tso is = go is.verdict is.found is.outcome is.printed
   where
-    go : (v : Verdict) → IsVerdict x v → answer.status ≡ verdict_status v → IsVerdictText x v is.lines
+    go : (v : Verdict) → IsVerdict x v → answer.outcome ≡ outcome_of v → IsVerdictText x v is.lines
         → IsOrderedAnswer x answer
-    go (Ordered order) found status printed = record {
+    go (Ordered order) found outcome printed = record {
       order = order.items;
       least = found;
-      status = status;
+      outcome = outcome;
       text = is.text ∙ ap (λ (lines : List ℕ). recording_text x ++ lines) printed;
     }
-    go (Overlook load store) found status printed = absurd (found.no_order m tso)
-    go (Cycle certificate) found status printed = absurd (found.no_order m tso)
+    go (Overlook load store) found outcome printed = absurd (found.no_order m tso)
+    go (Cycle certificate) found outcome printed = absurd (found.no_order m tso)
 
--- no verdict has the status of an unfinished run
-verdict_is_final : (v : Verdict) → verdict_status v ≡ UNFINISHED → ⊥
-verdict_is_final (Ordered order) e = omega (arith, e)
-verdict_is_final (Overlook load store) e = omega (arith, e)
-verdict_is_final (Cycle certificate) e = omega (arith, e)
+-- no verdict comes out as an unfinished run
+verdict_is_final : (v : Verdict) → outcome_of v ≡ outcome.Unfinished → ⊥
+verdict_is_final (Ordered order) e = let clash : outcome.Ordered ≡ outcome.Unfinished = e in cc
+verdict_is_final (Overlook load store) e = let clash : outcome.Violation ≡ outcome.Unfinished = e in cc
+verdict_is_final (Cycle certificate) e = let clash : outcome.Violation ≡ outcome.Unfinished = e in cc
 
 -- the recording of a complete run and the verdict on it are the answer of the run
 pub complete_answer : (fault : Fault) (p : Parts) (s : State) (answer : Answer) → IsComplete p.cores s
@@ -52,25 +52,25 @@ pub complete_answer : (fault : Fault) (p : Parts) (s : State) (answer : Answer) 
 complete_answer fault p s answer end tso found = record {
   judged = λ complete. found;
   unfinished = λ left. absurd (left end);
-  incomplete = λ status complete. verdict_is_final found.verdict (sym found.status ∙ status);
+  incomplete = λ left complete. verdict_is_final found.verdict (sym found.outcome ∙ left);
   faultless = λ none.
       let made : IsOrderedAnswer (recorded p.cores s) answer =
       ordered_answer (recorded p.cores s) s.performed answer (tso none) found in
-      record { status = inl made.status; done = λ complete. made; tso = λ done. tso none };
+      record { outcome = inl made.outcome; done = λ complete. made; tso = λ done. tso none };
 }
 
 -- and of another one that it is unfinished
 pub unfinished_answer : (fault : Fault) (p : Parts) (s : State) (answer : Answer)
-    → (IsComplete p.cores s → ⊥) → answer.status ≡ UNFINISHED
+    → (IsComplete p.cores s → ⊥) → answer.outcome ≡ outcome.Unfinished
     → answer.text.items ≡ codes "unfinished" ++ 10 ∷ [] → IsRunAnswer fault p s answer
-unfinished_answer fault p s answer left status text = record {
+unfinished_answer fault p s answer left is text = record {
   judged = λ complete. absurd (left complete);
-  unfinished = λ still. record { status = status; text = text };
+  unfinished = λ still. record { outcome = is; text = text };
   incomplete = λ same. left;
   faultless = λ none. record {
-    status = inr status;
+    outcome = inr is;
     done = λ complete. absurd (left complete);
-    tso = λ done. let bad : UNFINISHED ≡ DONE = sym status ∙ done in absurd (omega (arith, bad));
+    tso = λ done. absurd (let clash : outcome.Unfinished ≡ outcome.Ordered = sym is ∙ done in cc);
   };
 }
 

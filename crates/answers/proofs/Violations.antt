@@ -8,10 +8,10 @@ use Rattle.judge.specs.declared.verdict.Verdict.{Verdict}
 use Rattle.judge.specs.declared.verdict.Verdict.TheVariants.{Ordered, Overlook, Cycle}
 use Rattle.judge.specs.Verdict.{IsVerdict}
 use Rattle.reduction.specs.Needed.{IsReduction, IsSameVerdict, IsOrdered}
-use Rattle.answers.specs.declared.answer.Answer.{Answer}
-use Rattle.answers.specs.declared.answer.TheConstants.{VIOLATION}
+use Rattle.report.specs.declared.printed.Answer.{Answer}
+use Rattle.report.specs.declared.outcome.Outcome.TheVariants.{Violation}
 use Rattle.answers.specs.Reduced.{heading, shown_text, program_left, IsCutAnswer, IsReducedAnswer}
-use Rattle.answers.specs.Verdict.{IsVerdictAnswer, verdict_status}
+use Rattle.report.specs.Answer.{IsVerdictAnswer, outcome_of}
 
 -- what is known of an answer, if there is one
 pub some_of : {A : Type 0} (P : A → Type 0) (o : Option A) (a : A) → o ≡ Some a → IfSome o P → P a
@@ -35,14 +35,14 @@ ordered_has x (Overlook l s) found is none = is
 ordered_has x (Cycle c) found is none = is
 
 -- the verdict on what is left is that of a violation
-left_status : (v w : Verdict) (ks : List ℕ) → IsSameVerdict ks v w → verdict_status w ≡ VIOLATION
-left_status (Ordered m) w ks same = absurd same
-left_status (Overlook l s) (Ordered m) ks same = absurd same
-left_status (Overlook l s) (Overlook k t) ks same = refl
-left_status (Overlook l s) (Cycle d) ks same = absurd same
-left_status (Cycle c) (Ordered m) ks same = absurd same
-left_status (Cycle c) (Overlook k t) ks same = absurd same
-left_status (Cycle c) (Cycle d) ks same = refl
+left_violates : (v w : Verdict) (ks : List ℕ) → IsSameVerdict ks v w → outcome_of w ≡ Violation
+left_violates (Ordered m) w ks same = absurd same
+left_violates (Overlook l s) (Ordered m) ks same = absurd same
+left_violates (Overlook l s) (Overlook k t) ks same = refl
+left_violates (Overlook l s) (Cycle d) ks same = absurd same
+left_violates (Cycle c) (Ordered m) ks same = absurd same
+left_violates (Cycle c) (Overlook k t) ks same = absurd same
+left_violates (Cycle c) (Cycle d) ks same = refl
 
 -- what is left of a violation is shown with its verdict
 pub cut_answer : (x : Execution) (p : Option Parts) (headed : Bool) (v : Verdict) (ks : List ℕ) (y : Execution)
@@ -55,7 +55,7 @@ cut_answer x p headed v ks y answer found r shown = record {
   events = ks;
   rest = y;
   reduction = r;
-  status = shown.status ∙ left_status v shown.verdict ks (r.only shown.verdict shown.found);
+  outcome = shown.outcome ∙ left_violates v shown.verdict ks (r.only shown.verdict shown.found);
   shown = shown;
 }
 

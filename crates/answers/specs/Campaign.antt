@@ -11,31 +11,32 @@ use Rattle.trials.specs.declared.ledger.Ledger.{Ledger}
 use Rattle.trials.specs.Campaigns.{Plan}
 use Rattle.trials.specs.Codes.{AreCodes, EndsIn, program_of_trial}
 use Rattle.trials.specs.Counts.{IsLedger}
-use Rattle.answers.specs.declared.answer.Answer.{Answer}
-use Rattle.answers.specs.declared.answer.TheConstants.{DONE, UNFINISHED, VIOLATION}
+use Rattle.report.specs.declared.printed.Answer.{Answer}
+use Rattle.report.specs.declared.outcome.Outcome.{Outcome}
+use Rattle.report.specs.declared.outcome.Outcome.TheVariants.{Done, Unfinished, Violation}
 use Rattle.answers.specs.Reduced.{IsCutAnswer}
 use Rattle.answers.specs.Run.{IsRunAnswer}
 
--- the status of a violation where there is one, else that of an unfinished run where there is one
-abbrev pub campaign_status : Ledger → ℕ
-campaign_status l =
-    if is_some l.first then VIOLATION
-    else (if nat_lt 0 l.unfinished then UNFINISHED else DONE)
+-- a violation where there is one, else an unfinished run where there is one
+abbrev pub campaign_outcome : Ledger → Outcome
+campaign_outcome l =
+    if is_some l.first then Violation
+    else (if nat_lt 0 l.unfinished then Unfinished else Done)
 
--- the text and the status of the ledger of all trials of a campaign
+-- the text of the ledger of all trials of a campaign, and how they came out
 pub record IsCampaignAnswer (p : Plan) (answer : Answer) : Type 0 where
   pub codes : List ℕ
   pub all : AreCodes p codes
   pub ledger : Ledger
   pub counted : IsLedger codes ledger
-  pub status : answer.status ≡ campaign_status ledger
+  pub outcome : answer.outcome ≡ campaign_outcome ledger
   pub text : answer.text.items ≡ campaign_text ledger
 
 -- the program of a run, an empty line, and the answer of the run
 pub record IsWholeShown (fault : Fault) (p : Parts) (s : State) (answer : Answer) : Type 0 where
   pub run : Answer
   pub answered : IsRunAnswer fault p s run
-  pub status : answer.status ≡ run.status
+  pub outcome : answer.outcome ≡ run.outcome
   pub text : answer.text.items ≡ spelling p ++ 10 ∷ run.text.items
 
 -- a run is complete, and no memory order of TSO explains its recording

@@ -1,4 +1,3 @@
-pub mod Verdict
 pub mod Told
 pub mod Run
 pub mod Reduced

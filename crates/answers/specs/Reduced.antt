@@ -12,9 +12,9 @@ use Rattle.reduction.specs.Needed.{IsReduction}
 use Rattle.reduction.specs.RestrictedProgram.{restricted_program}
 use Rattle.replay.specs.Program.{named_program}
 use Rattle.report.specs.Verdict.{numbers_text}
-use Rattle.answers.specs.declared.answer.Answer.{Answer}
-use Rattle.answers.specs.declared.answer.TheConstants.{VIOLATION}
-use Rattle.answers.specs.Verdict.{IsVerdictAnswer}
+use Rattle.report.specs.declared.printed.Answer.{Answer}
+use Rattle.report.specs.declared.outcome.Outcome.TheVariants.{Violation}
+use Rattle.report.specs.Answer.{IsVerdictAnswer}
 
 -- the line of the numbers that the kept events had, and an empty line, where they are asked for
 abbrev pub heading : Bool → List ℕ → List ℕ
@@ -38,7 +38,7 @@ pub record IsCutAnswer (x : Execution) (p : Option Parts) (headed : Bool) (answe
   pub events : List ℕ
   pub rest : Execution
   pub reduction : IsReduction x verdict events rest
-  pub status : answer.status ≡ VIOLATION
+  pub outcome : answer.outcome ≡ Violation
   pub shown : IsVerdictAnswer rest (heading headed events ++ shown_text (program_left p x events rest) rest) answer
 
 -- what is left of a violation, with the numbers of its events; of another recording the verdict on it

@@ -15,27 +15,27 @@ use Rattle.judge.specs.Verdict.{IsOrderedVerdict}
 use Rattle.report.specs.Verdict.{order_line}
 use Rattle.trials.specs.Judged.{begun_machine}
 use Rattle.trials.specs.Schedule.{IsRandomRun}
-use Rattle.answers.specs.declared.answer.Answer.{Answer}
-use Rattle.answers.specs.declared.answer.TheConstants.{DONE, UNFINISHED}
-use Rattle.answers.specs.Verdict.{IsVerdictAnswer}
+use Rattle.report.specs.declared.printed.Answer.{Answer}
+use Rattle.report.specs.declared.outcome.Outcome.TheVariants.{Ordered, Unfinished}
+use Rattle.report.specs.Answer.{IsVerdictAnswer}
 
 -- a recording and the least order that TSO allows for it
 pub record IsOrderedAnswer (x : Execution) (answer : Answer) : Type 0 where
   pub order : List ℕ
   pub least : IsOrderedVerdict x order
-  pub status : answer.status ≡ DONE
+  pub outcome : answer.outcome ≡ Ordered
   pub text : answer.text.items ≡ recording_text x ++ order_line order
 
 -- of a machine without fault: the recording of a run that is complete and its least order, and what was
 -- performed is an order that TSO allows
 pub record IsFaultlessAnswer (p : Parts) (s : State) (answer : Answer) : Type 0 where
-  pub status : (answer.status ≡ DONE) ⊎ (answer.status ≡ UNFINISHED)
+  pub outcome : (answer.outcome ≡ Ordered) ⊎ (answer.outcome ≡ Unfinished)
   pub done : IsComplete p.cores s → IsOrderedAnswer (recorded p.cores s) answer
-  pub tso : answer.status ≡ DONE → IsTsoOrder (recorded p.cores s) s.performed
+  pub tso : answer.outcome ≡ Ordered → IsTsoOrder (recorded p.cores s) s.performed
 
 -- that a run is unfinished
 pub record IsUnfinishedAnswer (answer : Answer) : Type 0 where
-  pub status : answer.status ≡ UNFINISHED
+  pub outcome : answer.outcome ≡ Unfinished
   pub text : answer.text.items ≡ codes "unfinished" ++ 10 ∷ []
 
 -- the recording of a run that is complete and the verdict on it, or that the run is unfinished
@@ -43,7 +43,7 @@ pub record IsRunAnswer (fault : Fault) (p : Parts) (s : State) (answer : Answer)
   pub judged : IsComplete p.cores s
       → IsVerdictAnswer (recorded p.cores s) (recording_text (recorded p.cores s)) answer
   pub unfinished : (IsComplete p.cores s → ⊥) → IsUnfinishedAnswer answer
-  pub incomplete : answer.status ≡ UNFINISHED → IsComplete p.cores s → ⊥
+  pub incomplete : answer.outcome ≡ Unfinished → IsComplete p.cores s → ⊥
   pub faultless : fault ≡ faults.None → IsFaultlessAnswer p s answer
 
 -- the state of a program after a script, of which the steps that are blocked are skipped

@@ -11,11 +11,11 @@ use Rattle.judge.specs.Verdict.{IsVerdict}
 use Rattle.reduction.specs.Needed.{IsReduction}
 use Rattle.explanation.specs.Explanation.{IsExplanation}
 use Rattle.explanation.specs.Drawing.{IsDrawing}
-use Rattle.answers.specs.declared.answer.Answer.{Answer}
+use Rattle.report.specs.declared.printed.Answer.{Answer}
+use Rattle.report.specs.Answer.{outcome_of}
 use Rattle.answers.specs.declared.told.Telling.{Telling}
 use Rattle.answers.specs.declared.told.Telling.TheVariants.{Words, Picture, Reduction}
 use Rattle.answers.specs.Reduced.{IsReducedAnswer}
-use Rattle.answers.specs.Verdict.{verdict_status}
 
 -- the text is a picture of all events of a recording
 abbrev pub IsWholeDrawing : Execution → List Name → Verdict → List ℕ → Type 0
@@ -42,11 +42,11 @@ abbrev pub names_of : Option Parts → Execution → List Name
 names_of (Some p) x = p.names
 names_of None x = address_names (length x.write_lists)
 
--- a text that tells the verdict on a recording, and its status
+-- a text that tells the verdict on a recording, and how it comes out
 pub record IsTelling (tells : Verdict → List ℕ → Type 0) (x : Execution) (answer : Answer) : Type 0 where
   pub verdict : Verdict
   pub found : IsVerdict x verdict
-  pub status : answer.status ≡ verdict_status verdict
+  pub outcome : answer.outcome ≡ outcome_of verdict
   pub told : tells verdict answer.text.items
 
 -- what is told of a recording, with the names of its program, if that is given

@@ -1,31 +1,31 @@
 //! What is answered of campaigns.
 
 ghost use Rattle.std.specs.Prelude.{◌≡◌, ◌≤◌, IfOk};
-ghost use Rattle.answers.specs.Campaign.{IsCampaignAnswer, campaign_status};
+ghost use Rattle.answers.specs.Campaign.{IsCampaignAnswer, campaign_outcome};
 
-use crate::answer::{Answer, DONE, UNFINISHED, VIOLATION};
 use crate::ledger_text::campaign_text;
 use common::{Gate, MAX_WORKERS, OutOfMemory};
+use report::{Answer, Outcome};
 use std::alloc::Global;
 use std::sync::Wait;
 use std::thread::Threads;
 use trials::{Campaign, Ledger, run_campaign};
 
-/// The status of a ledger: a violation comes before an unfinished run.
-fn status_of(ledger: &Ledger) -> u8
-    ensures { result ≡ campaign_status ledger.now }
+/// How a ledger comes out: a violation comes before an unfinished run.
+fn outcome_of(ledger: &Ledger) -> Outcome
+    ensures { result ≡ campaign_outcome ledger.now }
 {
     if ledger.first.is_some() {
-        VIOLATION
+        Outcome::Violation
     } else if ledger.unfinished > 0 {
-        UNFINISHED
+        Outcome::Unfinished
     } else {
-        DONE
+        Outcome::Done
     }
 }
 
-/// The text of a campaign's ledger, and `VIOLATION` where a trial violates TSO, else `UNFINISHED` where
-/// one is unfinished, else `DONE`, by 1 to `MAX_WORKERS` workers; the gate is told of each claim, each
+/// The text of a campaign's ledger, and `Violation` where a trial violates TSO, else `Unfinished` where
+/// one is unfinished, else `Done`, by 1 to `MAX_WORKERS` workers; the gate is told of each claim, each
 /// violation and each filing. An error is want of memory.
 pub fn campaign_answer<R: Threads + Wait + Sync, G: Gate>(
     rt: &R,
@@ -41,6 +41,6 @@ pub fn campaign_answer<R: Threads + Wait + Sync, G: Gate>(
         return Err(OutOfMemory);
     };
     let text = campaign_text(alloc, &ledger)?;
-    let status = status_of(&ledger);
-    Ok(Answer { status, text })
+    let outcome = outcome_of(&ledger);
+    Ok(Answer { outcome, text })
 }

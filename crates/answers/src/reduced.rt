@@ -7,19 +7,17 @@ ghost use Rattle.judge.specs.Verdict.{IsVerdict};
 ghost use Rattle.reduction.specs.Needed.{IsOrdered};
 ghost use Rattle.reduction.specs.Restriction.{AreClosed};
 ghost use Rattle.answers.specs.Reduced.{heading, shown_text, program_left, IsCutAnswer, IsReducedAnswer};
-ghost use Rattle.answers.specs.Verdict.{IsVerdictAnswer};
+ghost use Rattle.report.specs.Answer.{IsVerdictAnswer};
 
-use crate::answer::Answer;
-use crate::verdict::verdict_behind;
 use common::{EventId, OutOfMemory};
 use judge::{Verdict, judge_alone};
-use program::Program;
 use litmus::print;
-use recording::Recording;
+use program::Program;
 use recorder::write_recording;
+use recording::Recording;
 use reduction::{Reduced, reduce, restricted_program};
 use replay::named_program;
-use report::put_numbers;
+use report::{Answer, put_numbers, verdict_answer};
 use std::alloc::Global;
 
 /// The line of the numbers that the kept events had, and an empty line.
@@ -73,7 +71,7 @@ fn shown_behind(
 {
     put_shown(alloc, &mut text, program, recording)?;
     let verdict = judge_alone(alloc, recording)?;
-    verdict_behind(alloc, text, recording, &verdict)
+    verdict_answer(alloc, text, recording, &verdict)
 }
 
 /// The program of what is left of a recording: what is left of the recording's own program, if that is
@@ -142,8 +140,8 @@ pub(crate) fn cut_answer(
 }
 
 /// The line of the numbers of the events that a violation needs, an empty line, the program of these
-/// events, an empty line, and their recording with the verdict on it; `VIOLATION`. Of a recording that
-/// TSO allows, its verdict and `DONE`. The program is what is left of the given one, of which the
+/// events, an empty line, and their recording with the verdict on it; a `Violation`. Of a recording that
+/// TSO allows, its verdict. The program is what is left of the given one, of which the
 /// recording has to be one, and else that which makes the reduced recording. An error is want of memory.
 pub fn reduced_answer(
     alloc: Global,
@@ -156,6 +154,6 @@ pub fn reduced_answer(
     let verdict = judge_alone(alloc, recording)?;
     match cut_answer(alloc, recording, program, &verdict, true)? {
         Some(answer) => Ok(answer),
-        None => verdict_behind(alloc, Vec::new(alloc), recording, &verdict),
+        None => verdict_answer(alloc, Vec::new(alloc), recording, &verdict),
     }
 }

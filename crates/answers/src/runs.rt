@@ -6,18 +6,17 @@ ghost use Rattle.machine.specs.Configuration.{Configuration};
 ghost use Rattle.judge.specs.Verdict.{IsVerdict, Verifies};
 ghost use Rattle.trials.specs.Judged.{IsJudgedEnd};
 ghost use Rattle.answers.specs.Run.{IsRunAnswer, IsSeededAnswer, IsUnfinishedAnswer, state_after};
-ghost use Rattle.answers.specs.Verdict.{IsVerdictAnswer};
+ghost use Rattle.report.specs.Answer.{IsVerdictAnswer};
 
-use crate::answer::{Answer, UNFINISHED};
-use crate::verdict::verdict_behind;
 use common::OutOfMemory;
 use judge::Verdict;
-use program::Program;
 use machine::{Fault, Machine, Step};
+use program::Program;
 use rand_core::SeedableRng;
 use rand_xoshiro::Xoshiro256PlusPlus;
-use recording::Recording;
 use recorder::write_recording;
+use recording::Recording;
+use report::{Answer, Outcome, verdict_answer};
 use std::alloc::Global;
 use trials::{Judged, judged_end, run_seeded};
 
@@ -28,14 +27,14 @@ fn recorded(alloc: Global, recording: &Recording, verdict: &Verdict) -> Result<A
     ensures { IfOk result (IsVerdictAnswer recording.now (recording_text recording.now)) }
 {
     let text = write_recording(alloc, recording)?;
-    verdict_behind(alloc, text, recording, verdict)
+    verdict_answer(alloc, text, recording, verdict)
 }
 
 /// That a run is unfinished. An error is want of memory.
 fn unfinished(alloc: Global) -> Result<Answer, OutOfMemory>
     ensures { IfOk result IsUnfinishedAnswer }
 {
-    Ok(Answer::of(alloc, UNFINISHED, "unfinished\n")?)
+    Ok(Answer::of(alloc, Outcome::Unfinished, "unfinished\n")?)
 }
 
 /// The line of a recording and the verdict on it, or that a run is unfinished, by what is judged of the

@@ -6,28 +6,28 @@ ghost use Rattle.trials.specs.Judged.{IsJudgedEnd};
 ghost use Rattle.answers.specs.Campaign.{IsShownAnswer, IsShownRun, IsWholeShown, IsViolation};
 ghost use Rattle.answers.specs.Reduced.{IsCutAnswer};
 
-use crate::answer::Answer;
 use crate::reduced::cut_answer;
 use crate::runs::{ended, finished};
 use common::OutOfMemory;
-use program::Program;
 use litmus::print;
 use machine::Machine;
+use program::Program;
+use report::Answer;
 use std::alloc::Global;
 use trials::{Campaign, Judged, judged_end, run_trial};
 
 /// An answer behind a text and an empty line.
 fn behind(mut text: Vec<u8>, answer: Answer) -> Result<Answer, OutOfMemory>
     ensures { IfOk result
-        (λ a. (a.status ≡ answer.status) × (a.text.items ≡ text.items ++ 10 ∷ answer.text.items)) }
+        (λ a. (a.outcome ≡ answer.outcome) × (a.text.items ≡ text.items ++ 10 ∷ answer.text.items)) }
 {
     let Answer {
-        status,
+        outcome,
         text: lines,
     } = answer;
     text.push(b'\n')?;
     text.extend_from_slice(&lines)?;
-    Ok(Answer { status, text })
+    Ok(Answer { outcome, text })
 }
 
 /// The program of a run, an empty line, and what `finished` answers of the machine in which it ends.

@@ -10,9 +10,7 @@ ghost use Rattle.answers.specs.Told.{IsPicture, IsTelling, IsToldAnswer, IsWhole
 ghost use Rattle.explanation.specs.Explanation.{IsExplanation};
 ghost use Rattle.machine.specs.ProgramOf.{IsProgramOf};
 
-use crate::answer::Answer;
 use crate::reduced::reduced_answer;
-use crate::verdict::status_of;
 use common::{EventId, OutOfMemory};
 use explanation::{drawing_text, explanation_text};
 use indexmap::IndexSet;
@@ -20,6 +18,7 @@ use judge::{Verdict, judge_alone};
 use program::{Name, Program, address_names};
 use recording::Recording;
 use reduction::{Reduced, reduce};
+use report::{Answer, outcome_of};
 use std::alloc::Global;
 
 /// What is told of a recording.
@@ -123,7 +122,7 @@ fn names_of(
     }
 }
 
-/// The verdict on a recording in words, and its status.
+/// The verdict on a recording in words.
 fn words_answer(
     alloc: Global,
     recording: &Recording,
@@ -133,11 +132,11 @@ fn words_answer(
 {
     let verdict = judge_alone(alloc, recording)?;
     let text = explanation_text(alloc, recording, names, &verdict)?;
-    let status = status_of(&verdict);
-    Ok(Answer { status, text })
+    let outcome = outcome_of(&verdict);
+    Ok(Answer { outcome, text })
 }
 
-/// The verdict on a recording as a picture, and its status.
+/// The verdict on a recording as a picture.
 fn picture_answer(
     alloc: Global,
     all: bool,
@@ -148,12 +147,12 @@ fn picture_answer(
 {
     let verdict = judge_alone(alloc, recording)?;
     let text = picture_text(alloc, all, recording, names, &verdict)?;
-    let status = status_of(&verdict);
-    Ok(Answer { status, text })
+    let outcome = outcome_of(&verdict);
+    Ok(Answer { outcome, text })
 }
 
 /// What is told of a recording, with the names that its program gives the addresses, or else with the usual
-/// ones, and the status of its verdict. An error is want of memory.
+/// ones; it comes out as its verdict. Fails only if out of memory.
 pub fn told_answer(
     alloc: Global,
     telling: Telling,

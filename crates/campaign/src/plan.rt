@@ -1,8 +1,8 @@
 //! Campaigns.
 
 use common::{MAX_CAPACITY, MAX_STEPS, MAX_TRIALS};
-use program::{Shape, ShapeError, is_outside};
 use machine::Fault;
+use program::{Shape, ShapeError, is_outside};
 use std::marker::Model;
 
 /// What the trials of a campaign have in common: the shape of their programs, the seed of the first,

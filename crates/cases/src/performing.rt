@@ -1,11 +1,11 @@
 //! Command lines of cases, performed.
 
-use answers::FAULT;
-use case_text::bench::{Bench, words_of};
-use case_text::printed::Printed;
+use crate::bench::{Bench, words_of};
+use crate::printed::Printed;
+use commands::fault::CommandFault;
 use commands::perform::perform;
-use inputs::disk::Disk;
-use inputs::fault::CommandFault;
+use devices::MemorySink;
+use report::Outcome;
 use std::alloc::{AllocError, Global};
 use std::io;
 use std::sync::Wait;
@@ -21,14 +21,11 @@ fn said_of(alloc: Global, fault: CommandFault) -> Result<String, AllocError> {
 }
 
 /// What a command printed that ended with a fault.
-fn with_fault(
-    alloc: Global,
-    mut text: Vec<u8>,
-    fault: CommandFault,
-) -> Result<Printed, AllocError> {
+fn with_fault(alloc: Global, printed: &[u8], fault: CommandFault) -> Result<Printed, AllocError> {
+    let mut text = Vec::from_slice(alloc, printed)?;
     text.extend_from_slice(said_of(alloc, fault)?.as_bytes())?;
     Ok(Printed {
-        status: FAULT,
+        status: Outcome::Fault.status(),
         text,
     })
 }
@@ -40,12 +37,14 @@ fn perform_on<R: Threads + Wait + Sync>(
     words: &[String],
     text: &[u8],
 ) -> Result<Printed, AllocError> {
-    let disk = Disk::new(rt);
-    let mut place = Bench { disk, text };
-    let mut out = Vec::new(rt.alloc());
+    let mut place = Bench::new(rt, text);
+    let mut out = MemorySink::new(rt.alloc());
     match perform(threads, rt.alloc(), words, &mut place, &mut out) {
-        Ok(status) => Ok(Printed { status, text: out }),
-        Err(fault) => with_fault(rt.alloc(), out, fault),
+        Ok(outcome) => Ok(Printed {
+            status: outcome.status(),
+            text: Vec::from_slice(rt.alloc(), out.written())?,
+        }),
+        Err(fault) => with_fault(rt.alloc(), out.written(), fault),
     }
 }
 

@@ -64,11 +64,13 @@ command_app c =
 abbrev pub bare_app : App
 bare_app =
     let app = new_app (codes "tsotest") in
-    record app { top = record app.top {
-      no_binary_name = true;
-      subcommand_required = true;
-      has_version = true;
-    } }
+    record app {
+      top = record app.top {
+        no_binary_name = true;
+        subcommand_required = true;
+        has_version = true;
+      };
+    }
 
 -- the program with these commands
 abbrev pub with_commands : List (Text × List (Text × Takes)) → App

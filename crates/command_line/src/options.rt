@@ -3,8 +3,8 @@
 use campaign::Campaign;
 use clap::error::ErrorKind;
 use common::{MAX_CAPACITY, MAX_STEPS, MAX_TRIALS, MAX_WORKERS};
-use program::ShapeError;
 use machine::Fault;
+use program::ShapeError;
 use std::alloc::AllocError;
 
 /// What an option's number may be, which is 1 at least.

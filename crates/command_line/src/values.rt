@@ -12,8 +12,8 @@ use crate::options::{
     ATTEMPTS, BUFFER, DEFAULT_FAULT, DEFAULT_SEED, LIMIT, Limits, OptionRefusal, TRIALS, WORKERS,
 };
 use clap::ArgMatches;
-use program::{Shape, is_outside};
 use machine::Fault;
+use program::{Shape, is_outside};
 
 /// The numbers, the fault and the flags that entries ask for: where there is no entry, the default.
 #[derive(Drop)]

@@ -50,7 +50,7 @@ fn asks_of_refusals(words: &[String]) -> bool
     ensures { result ≡ asks_of_refusals (map string_bytes words.now) }
 {
     match words {
-        [first, second] => first == "help" && second == "refusals",
+        [first, second] => first.as_str() == "help" && second.as_str() == "refusals",
         _ => false,
     }
 }

@@ -1,6 +1,6 @@
 pub mod Asked
-pub mod Unread
 pub mod Printed
 pub mod Threaded
 pub mod Stops
-pub mod Replays
+pub mod Asking
+pub mod Given

@@ -1,32 +1,132 @@
--- What is printed, from what a command answers.
-use Rattle.std.proofs.Common.{◌≡◌, ℕ, List, Option, Result, Ok, Err, IfOk, IfErr, IsErrAnd, inl}
-use Rattle.clap.specs.Words.{Text}
-use Rattle.answers.specs.declared.answer.Answer.{Answer}
-use Rattle.inputs.specs.declared.stop.Stop.{Stop}
-use Rattle.inputs.specs.declared.stop.Stop.TheVariants.{Fault}
-use Rattle.inputs.specs.declared.fault.CommandFault.{CommandFault}
+-- What is printed, from what is answered.
+use Rattle.std.proofs.Common.{◌≡◌, ◌∷◌, [], inl, inr, sym, subst, ℕ, List, Option, Result, Ok, Err, IfOk, IfErr}
+use Rattle.std.specs.Prelude.{string_bytes}
+use Rattle.command_line.specs.declared.options.JudgeOptions.{JudgeOptions}
+use Rattle.command_line.specs.declared.options.OptionFault.{OptionFault}
 use Rattle.command_line.specs.declared.options.Options.{Options}
-use Rattle.command_line.specs.Commands.{command_of}
-use Rattle.command_line.specs.Options.{AreOptions}
-use Rattle.commands.specs.Perform.{IsAnswerTo, IsAnswered, IsCommandStop, IsFaultOf, IsStop}
+use Rattle.command_line.specs.declared.options.Options.TheVariants.{Judge}
+use Rattle.devices.specs.declared.place.Tally.{Tally}
+use Rattle.report.specs.declared.outcome.Outcome.{Outcome}
+use Rattle.report.specs.declared.printed.Answer.{Answer}
+use Rattle.commands.specs.declared.fault.CommandFault.{CommandFault}
+use Rattle.commands.specs.declared.fault.CommandFault.TheVariants.{CommandLine, StandardInputTwice, NotText}
+use Rattle.commands.specs.declared.fault.CommandFault.TheVariants.{CannotOpen, ReadFailed, WriteFailed, NoThread}
+use Rattle.commands.specs.declared.fault.CommandFault.TheVariants.{Stranger, OutOfMemory}
+use Rattle.commands.specs.declared.stop.Stop.{Stop}
+use Rattle.commands.specs.declared.stop.Stop.TheVariants.{Fault}
+use Rattle.commands.specs.Inputs.{AreRead, AreStopped, Reads, ReadsAll, Seen, seen}
+use Rattle.commands.specs.Judge.{IsJudgedInput, IsJudgeFault}
+use Rattle.commands.specs.Names.{names_of}
+use Rattle.commands.specs.Output.{IsBegun, IsPut}
+use Rattle.commands.specs.Perform.{IsAnswerTo, IsCommandStop, IsFaultFor, IsHelp, IsOptionStop, IsPrintedFor}
+use Rattle.commands.specs.Perform.{IsPrintedWithout, IsShown}
 
--- the answer to the options of the words is that of the words
-pub answer_of_words : (inputs : List ℕ → Option (List ℕ)) (r : Result Answer Stop) (o : Options)
-    (words : List Text) → AreOptions o (command_of words)
-    → IfOk r (IsAnswerTo inputs o) → IfOk r (IsAnswered inputs words)
-answer_of_words inputs (Ok answer) o words are is = inl (o, are, is)
-answer_of_words inputs (Err stop) o words are is = tt
+-- what judge writes is what is printed for its options
+pub judged_printed : (inputs : List ℕ → Option (List ℕ)) (o : JudgeOptions) (s : Seen)
+    (before after : Option (List ℕ)) (r : Result Outcome CommandFault)
+    → IfOk r (IsPut (IsJudgedInput inputs o) before after) → ReadsAll (string_bytes o.file ∷ []) s r
+    → IfOk r (IsPut (IsPrintedFor inputs (Judge o) s) before after)
+judged_printed inputs o s before after (Ok outcome) put read = record {
+  answer = put.answer;
+  is = inl (put.is, read);
+  outcome_is = put.outcome_is;
+  written = put.written;
+}
+judged_printed inputs o s before after (Err fault) put read = tt
 
--- so is why their command stops
-pub stop_of_words : (inputs : List ℕ → Option (List ℕ)) (r : Result Answer Stop) (o : Options)
-    (words : List Text) → AreOptions o (command_of words)
-    → IfErr r (IsCommandStop inputs o) → IfErr r (IsStop inputs words)
-stop_of_words inputs (Ok answer) o words are is = tt
-stop_of_words inputs (Err stop) o words are is = inl (o, are, is)
+-- and so is what it began to write
+pub judged_begun : (inputs : List ℕ → Option (List ℕ)) (o : JudgeOptions) (s : Seen)
+    (before after : Option (List ℕ)) (r : Result Outcome CommandFault)
+    → (r ≡ Err WriteFailed → IsBegun (IsJudgedInput inputs o) before after)
+    → ReadsAll (string_bytes o.file ∷ []) s r → r ≡ Err WriteFailed
+    → IsBegun (IsPrintedFor inputs (Judge o) s) before after
+judged_begun inputs o s before after r begun reads failed =
+    let b = begun failed in record {
+      answer = b.answer;
+      is = inl (b.is, subst (λ (x : Result Outcome CommandFault). ReadsAll (string_bytes o.file ∷ []) s x) failed reads);
+      count = b.count;
+      written = b.written;
+    }
 
--- a fault of the answer is why nothing is printed
-pub fault_of_words : (inputs : List ℕ → Option (List ℕ)) (r : Result ℕ CommandFault) (words : List Text)
-    (fault : CommandFault)
-    → IsErrAnd r (λ e. e ≡ fault) → IsStop inputs words (Fault fault) → IfErr r (IsFaultOf inputs words)
-fault_of_words inputs (Ok status) words fault same is = tt
-fault_of_words inputs (Err e) words fault same is = rw same (inl is)
+-- and why it writes nothing
+pub judged_fault : (inputs : List ℕ → Option (List ℕ)) (o : JudgeOptions) (s : Seen)
+    (r : Result Outcome CommandFault) → IfErr r (IsJudgeFault inputs o) → ReadsAll (string_bytes o.file ∷ []) s r
+    → IfErr r (IsFaultFor inputs (Judge o) s)
+judged_fault inputs o s (Ok outcome) is reads = tt
+judged_fault inputs o s (Err (CommandLine error)) is reads = (is, reads)
+judged_fault inputs o s (Err StandardInputTwice) is reads = (is, reads)
+judged_fault inputs o s (Err NotText) is reads = (is, reads)
+judged_fault inputs o s (Err (CannotOpen name)) is reads = (is, reads)
+judged_fault inputs o s (Err ReadFailed) is reads = (is, reads)
+judged_fault inputs o s (Err WriteFailed) is reads = tt
+judged_fault inputs o s (Err NoThread) is reads = (is, reads)
+judged_fault inputs o s (Err Stranger) is reads = (is, reads)
+judged_fault inputs o s (Err OutOfMemory) is reads = (is, reads)
+
+-- what is shown of what another command answers
+pub shown_printed : (inputs : List ℕ → Option (List ℕ)) (o : Options) (s : Seen) (answered : Result Answer Stop)
+    (printed : Answer) → IfOk answered (IsAnswerTo inputs o) → IfErr answered (IsCommandStop inputs o)
+    → Reads (names_of o) s answered → IsShown answered printed → IsPrintedFor inputs o s printed
+shown_printed inputs o s (Ok answer) printed is stop reads shown =
+    inl (subst (λ (a : Answer). IsAnswerTo inputs o a) (sym shown) is, reads)
+shown_printed inputs o s (Err stop) printed is stops reads shown = inr (stop, stops, reads, shown)
+
+-- the same after the place was told what is refused
+pub shown_after : (inputs : List ℕ → Option (List ℕ)) (o : Options) (a b c : Option (List (List ℕ)))
+    (t u v : Tally) (answered : Result Answer Stop) (printed : Answer) → c ≡ b → v ≡ u
+    → IfOk answered (IsAnswerTo inputs o) → IfErr answered (IsCommandStop inputs o)
+    → Reads (names_of o) (seen a b t u) answered → IsShown answered printed
+    → IsPrintedFor inputs o (seen a c t v) printed
+shown_after inputs o a b c t u v answered printed asked tally is stops reads shown =
+    subst (λ (y : Tally). IsPrintedFor inputs o (seen a c t y) printed) (sym tally)
+    (subst (λ (x : Option (List (List ℕ))). IsPrintedFor inputs o (seen a x t u) printed) (sym asked)
+    (shown_printed inputs o (seen a b t u) answered printed is stops reads shown))
+
+-- what is put is put as more than it is known for
+pub put_more : (P Q : Answer → Type 0) (before after : Option (List ℕ)) (r : Result Outcome CommandFault)
+    → ((answer : Answer) → P answer → Q answer) → IfOk r (IsPut P before after) → IfOk r (IsPut Q before after)
+put_more P Q before after (Ok outcome) more put = record {
+  answer = put.answer;
+  is = more put.answer put.is;
+  outcome_is = put.outcome_is;
+  written = put.written;
+}
+put_more P Q before after (Err fault) more put = tt
+
+pub begun_more : (P Q : Answer → Type 0) (before after : Option (List ℕ))
+    → ((answer : Answer) → P answer → Q answer) → IsBegun P before after → IsBegun Q before after
+begun_more P Q before after more begun = record {
+  answer = begun.answer;
+  is = more begun.answer begun.is;
+  count = begun.count;
+  written = begun.written;
+}
+
+-- a fault is why nothing is printed
+pub shown_fault : (inputs : List ℕ → Option (List ℕ)) (o : Options) (s : Seen) (fault : CommandFault)
+    → IsCommandStop inputs o (Fault fault) → AreStopped (names_of o) (Fault fault) s → IsFaultFor inputs o s fault
+shown_fault inputs o s (CommandLine error) is stopped = (is, stopped)
+shown_fault inputs o s StandardInputTwice is stopped = (is, stopped)
+shown_fault inputs o s NotText is stopped = (is, stopped)
+shown_fault inputs o s (CannotOpen name) is stopped = (is, stopped)
+shown_fault inputs o s ReadFailed is stopped = (is, stopped)
+shown_fault inputs o s WriteFailed is stopped = tt
+shown_fault inputs o s NoThread is stopped = (is, stopped)
+shown_fault inputs o s Stranger is stopped = (is, stopped)
+shown_fault inputs o s OutOfMemory is stopped = (is, stopped)
+
+-- so is one that is answered
+pub answered_fault : (inputs : List ℕ → Option (List ℕ)) (o : Options) (s : Seen) (answered : Result Answer Stop)
+    (fault : CommandFault) → IfErr answered (IsCommandStop inputs o) → Reads (names_of o) s answered
+    → answered ≡ Err (Fault fault) → IsFaultFor inputs o s fault
+answered_fault inputs o s answered fault stops reads is = shown_fault inputs o s fault
+    (subst (λ (r : Result Answer Stop). IfErr r (IsCommandStop inputs o)) is stops)
+    (subst (λ (r : Result Answer Stop). Reads (names_of o) s r) is reads)
+
+-- what is shown without options
+pub shown_without : (fault : OptionFault) (s : Seen) (answered : Result Answer Stop) (printed : Answer)
+    → IfOk answered (IsHelp fault) → IfErr answered (IsOptionStop fault) → AreRead [] s → IsShown answered printed
+    → IsPrintedWithout fault s printed
+shown_without fault s (Ok answer) printed is stop read shown =
+    (inl (subst (λ (a : Answer). IsHelp fault a) (sym shown) is), read)
+shown_without fault s (Err stop) printed is stops read shown = (inr (stop, stops, shown), read)

@@ -1,14 +1,20 @@
 -- What judge answers.
-use Rattle.std.specs.Prelude.{[], ℕ, List, Option, string_bytes}
+use Rattle.std.specs.Prelude.{ℕ, List, Option, string_bytes, ⊤}
 use Rattle.command_line.specs.declared.options.JudgeOptions.{JudgeOptions}
-use Rattle.recording.specs.Execution.{Execution}
-use Rattle.answers.specs.declared.answer.Answer.{Answer}
-use Rattle.answers.specs.Verdict.{IsVerdictAnswer}
-use Rattle.commands.specs.Recording.{IsRecordingAt}
+use Rattle.report.specs.declared.printed.Answer.{Answer}
+use Rattle.report.specs.Answer.{IsAnswerOf}
+use Rattle.commands.specs.declared.fault.CommandFault.{CommandFault}
+use Rattle.commands.specs.declared.fault.CommandFault.TheVariants.{WriteFailed}
+use Rattle.commands.specs.Inputs.{AreBytesOf, IsInputFault}
 
--- the verdict on the recording of the named input
+-- why nothing is answered: the named input isn't read, or a write failed
+abbrev pub IsJudgeFault : (List ℕ → Option (List ℕ)) → JudgeOptions → CommandFault → Type 0
+IsJudgeFault inputs o WriteFailed = ⊤
+IsJudgeFault inputs o fault = IsInputFault inputs (string_bytes o.file) fault
+
+-- the answer to the bytes of the named input: the verdict on the recording that they are, or their refusal
 pub record IsJudgedInput (inputs : List ℕ
     → Option (List ℕ)) (o : JudgeOptions) (answer : Answer) : Type 0 where
-  pub recording : Execution
-  pub at : IsRecordingAt inputs (string_bytes o.file) recording
-  pub answered : IsVerdictAnswer recording [] answer
+  pub bytes : List ℕ
+  pub given : AreBytesOf inputs (string_bytes o.file) bytes
+  pub answered : IsAnswerOf bytes answer

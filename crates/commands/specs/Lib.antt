@@ -1,3 +1,7 @@
+pub mod Inputs
+pub mod Stop
+pub mod Names
+pub mod Output
 pub mod Judge
 pub mod Program
 pub mod Recording

@@ -1,5 +1,5 @@
 -- What the words of a command line are answered.
-use Rattle.std.specs.Prelude.{◌≡◌, ◌≢◌, ◌⊎◌, ℕ, List, Option, Some, None, Ok, false, ⊤}
+use Rattle.std.specs.Prelude.{◌≡◌, ◌≢◌, ◌⊎◌, ◌+◌, [], ℕ, List, Option, Some, None, Result, Ok, Err, ⊤}
 use Rattle.std.specs.Prelude.{option_map, string_bytes}
 use Rattle.clap.specs.Words.{Text, kind_of}
 use Rattle.clap.specs.declared.error.Error.{Error}
@@ -9,15 +9,17 @@ use Rattle.live.specs.declared.error.LiveError.{LiveError}
 use Rattle.live.specs.declared.error.LiveError.TheVariants as live
 use Rattle.program.specs.Text.{reading}
 use Rattle.machine.specs.Script.{steps_of}
-use Rattle.answers.specs.declared.answer.Answer.{Answer}
+use Rattle.report.specs.declared.printed.Answer.{Answer}
 use Rattle.answers.specs.declared.told.Telling.TheVariants.{Words, Picture, Reduction}
-use Rattle.inputs.specs.declared.stop.Stop.{Stop}
-use Rattle.inputs.specs.declared.stop.Stop.TheVariants.{Refused, Fault}
-use Rattle.answers.specs.declared.answer.TheConstants.{DONE, REFUSED}
-use Rattle.inputs.specs.declared.fault.CommandFault.{CommandFault}
-use Rattle.inputs.specs.declared.fault.CommandFault.TheVariants.{CommandLine, NoThread, Stranger}
-use Rattle.inputs.specs.declared.fault.CommandFault.TheVariants.{WriteFailed}
-use Rattle.inputs.specs.declared.fault.CommandFault.TheVariants as fault
+use Rattle.commands.specs.declared.stop.Stop.{Stop}
+use Rattle.commands.specs.declared.stop.Stop.TheVariants.{Refused, Fault}
+use Rattle.report.specs.declared.outcome.Outcome.TheVariants.{Done}
+use Rattle.report.specs.declared.outcome.Outcome.TheVariants as Outcome
+use Rattle.devices.specs.declared.place.Tally.{Tally}
+use Rattle.commands.specs.declared.fault.CommandFault.{CommandFault}
+use Rattle.commands.specs.declared.fault.CommandFault.TheVariants.{CommandLine, NoThread, Stranger}
+use Rattle.commands.specs.declared.fault.CommandFault.TheVariants.{WriteFailed}
+use Rattle.commands.specs.declared.fault.CommandFault.TheVariants as fault
 use Rattle.command_line.specs.declared.options.Options.{Options}
 use Rattle.command_line.specs.declared.options.Options.TheVariants.{Run, Judge, Trials, Live, Replay, Explain, Draw, Reduce}
 use Rattle.command_line.specs.declared.options.OptionFault.{OptionFault}
@@ -26,9 +28,9 @@ use Rattle.command_line.specs.declared.options.OptionFault.TheVariants as refuse
 use Rattle.command_line.specs.Commands.{command_of}
 use Rattle.command_line.specs.declared.options.LiveOptions.{LiveOptions}
 use Rattle.command_line.specs.declared.options.RunOptions.{RunOptions}
-use Rattle.inputs.specs.Inputs.{AreBytesOf, IsInputFault}
-use Rattle.commands.specs.Judge.{IsJudgedInput}
-use Rattle.commands.specs.Recording.{IsRecordingStop}
+use Rattle.commands.specs.Inputs.{AreBytesOf, AreRead, AreStopped, IsInputFault, Seen, failed_reads}
+use Rattle.commands.specs.Names.{names_of}
+use Rattle.commands.specs.Judge.{IsJudgedInput, IsJudgeFault}
 use Rattle.commands.specs.Replay.{IsReplayedInput, IsReplayStop}
 use Rattle.commands.specs.Tell.{IsTold, IsTellingStop}
 use Rattle.commands.specs.Program.{IsProgramRead, IsProgramRefused, IsProgramStop}
@@ -91,7 +93,8 @@ IsAnswerTo inputs (Reduce o) answer = IsTold inputs Reduction o answer
 -- why a command with these options and inputs stops
 abbrev pub IsCommandStop : (List ℕ → Option (List ℕ)) → Options → Stop → Type 0
 IsCommandStop inputs (Run o) stop = IsRunStop inputs o stop
-IsCommandStop inputs (Judge o) stop = IsRecordingStop inputs (string_bytes o.file) stop
+IsCommandStop inputs (Judge o) (Refused refusal) = ⊥
+IsCommandStop inputs (Judge o) (Fault fault) = IsJudgeFault inputs o fault
 IsCommandStop inputs (Trials o) stop = stop ≡ Fault fault.OutOfMemory
 IsCommandStop inputs (Live o) stop = IsLiveStop inputs o stop
 IsCommandStop inputs (Replay o) stop = IsReplayStop inputs o stop
@@ -103,13 +106,11 @@ IsCommandStop inputs (Reduce o) stop = IsTellingStop inputs o stop
 abbrev pub IsMistake : Error → Type 0
 IsMistake error = (kind_of error ≢ DisplayHelp) × (kind_of error ≢ DisplayVersion)
 
--- without options the status is that of help, which was asked for; its text no clause says
+-- without options help was asked for; its text no clause says
 abbrev pub IsHelp : OptionFault → Answer → Type 0
-IsHelp (Clap error) answer = (answer.status ≡ DONE) × (IsMistake error → ⊥)
-IsHelp refused.RefusalMeanings answer = answer.status ≡ DONE
-IsHelp refused.StandardInputTwice answer = ⊥
-IsHelp (refused.Refused refusal) answer = ⊥
-IsHelp OutOfMemory answer = ⊥
+IsHelp (Clap error) answer = (answer.outcome ≡ Done) × (IsMistake error → ⊥)
+IsHelp refused.RefusalMeanings answer = answer.outcome ≡ Done
+IsHelp other answer = ⊥
 
 -- without options a line of refusal is that of the options, and a fault is what clap says, or standard input that is
 -- named twice
@@ -121,27 +122,52 @@ IsOptionStop refused.StandardInputTwice (Fault fault.StandardInputTwice) = ⊤
 IsOptionStop other (Fault fault.OutOfMemory) = ⊤
 IsOptionStop other (Fault fault) = ⊥
 
--- the answer of the command that the words ask for, or help
-abbrev pub IsAnswered : (List ℕ → Option (List ℕ)) → List Text → Answer → Type 0
-IsAnswered inputs words answer =
-    ((o : Options) × AreOptions o (command_of words) × IsAnswerTo inputs o answer)
-    ⊎ ((fault : OptionFault) × IsFault fault words × IsHelp fault answer)
-
--- why the command that the words ask for stops, or why they ask for none
-abbrev pub IsStop : (List ℕ → Option (List ℕ)) → List Text → Stop → Type 0
-IsStop inputs words stop = ((o : Options) × AreOptions o (command_of words) × IsCommandStop inputs o stop)
-    ⊎ ((fault : OptionFault) × IsFault fault words × IsOptionStop fault stop)
-
--- a line of refusal as it is printed, with its status
+-- a line of refusal as it is printed
 abbrev pub IsLine : Stop → Answer → Type 0
-IsLine (Refused refusal) answer = (answer.status ≡ REFUSED) × (answer.text.items ≡ string_bytes refusal.line)
+IsLine (Refused refusal) answer = (answer.outcome ≡ Outcome.Refused) × (answer.text.items ≡ string_bytes refusal.line)
 IsLine (Fault fault) answer = ⊥
 
--- what is printed, with its status: an answer, or a line of refusal
-abbrev pub IsPrinted : (List ℕ → Option (List ℕ)) → List Text → Answer → Type 0
-IsPrinted inputs words answer = IsAnswered inputs words answer
-    ⊎ ((stop : Stop) × IsStop inputs words stop × IsLine stop answer)
+-- what is printed for what is answered
+abbrev pub IsShown : Result Answer Stop → Answer → Type 0
+IsShown (Ok answer) printed = printed ≡ answer
+IsShown (Err stop) printed = IsLine stop printed
 
--- why nothing is printed: the command that the words ask for has a fault, or writing has
-abbrev pub IsFaultOf : (List ℕ → Option (List ℕ)) → List Text → CommandFault → Type 0
-IsFaultOf inputs words fault = IsStop inputs words (Fault fault) ⊎ (fault ≡ WriteFailed)
+-- the options are those of another command than judge
+abbrev pub IsNoJudge : Options → Type 0
+IsNoJudge (Judge o) = ⊥
+IsNoJudge other = ⊤
+
+-- what is printed for these options: the answer of their command, by all of its inputs, or the line of a refusal, by the
+-- inputs up to it
+abbrev pub IsPrintedFor : (List ℕ → Option (List ℕ)) → Options → Seen → Answer → Type 0
+IsPrintedFor inputs o s answer = (IsAnswerTo inputs o answer × AreRead (names_of o) s)
+    ⊎ ((stop : Stop) × IsCommandStop inputs o stop × AreStopped (names_of o) stop s × IsLine stop answer)
+
+-- why nothing is printed for these options, or not all
+abbrev pub IsFaultFor : (List ℕ → Option (List ℕ)) → Options → Seen → CommandFault → Type 0
+IsFaultFor inputs o s WriteFailed = ⊤
+IsFaultFor inputs o s fault = IsCommandStop inputs o (Fault fault) × AreStopped (names_of o) (Fault fault) s
+
+-- what is printed without options, for which no input is opened: help, or the line of a refusal
+abbrev pub IsPrintedWithout : OptionFault → Seen → Answer → Type 0
+IsPrintedWithout fault s answer =
+    (IsHelp fault answer ⊎ ((stop : Stop) × IsOptionStop fault stop × IsLine stop answer)) × AreRead [] s
+
+-- what is printed for the words
+abbrev pub IsPrinted : (List ℕ → Option (List ℕ)) → List Text → Seen → Answer → Type 0
+IsPrinted inputs words s answer =
+    ((o : Options) × AreOptions o (command_of words) × IsPrintedFor inputs o s answer)
+    ⊎ ((fault : OptionFault) × IsFault fault words × IsPrintedWithout fault s answer)
+
+-- why nothing is printed for the words, or not all
+abbrev pub IsFaultOf : (List ℕ → Option (List ℕ)) → List Text → Seen → CommandFault → Type 0
+IsFaultOf inputs words s fault =
+    ((o : Options) × AreOptions o (command_of words) × IsFaultFor inputs o s fault)
+    ⊎ ((f : OptionFault) × IsFault f words × (IsOptionStop f (Fault fault) ⊎ (fault ≡ WriteFailed)) × AreRead [] s)
+
+-- the tally after a command: each input that was opened was taken back, a read failed exactly where this is the fault, and
+-- without a fault each input was read to its end
+abbrev pub Tallies : {X : Type 0} → Tally → Tally → Result X CommandFault → Type 0
+Tallies before after (Ok x) = after ≡ before
+Tallies before after (Err fault) = (after.lent ≡ before.lent)
+    × (after.failed ≡ before.failed + failed_reads (Fault fault))

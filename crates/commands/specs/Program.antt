@@ -2,9 +2,9 @@
 use Rattle.std.specs.Prelude.{◌≡◌, ℕ, List, Option, Ok}
 use Rattle.program.specs.Parts.{Parts}
 use Rattle.program.specs.Text.{reading}
-use Rattle.inputs.specs.declared.stop.Stop.{Stop}
-use Rattle.inputs.specs.declared.stop.Stop.TheVariants.{Refused, Fault}
-use Rattle.inputs.specs.Inputs.{AreBytesOf, IsInputFault}
+use Rattle.commands.specs.declared.stop.Stop.{Stop}
+use Rattle.commands.specs.declared.stop.Stop.TheVariants.{Refused, Fault}
+use Rattle.commands.specs.Inputs.{AreBytesOf, IsInputFault}
 use Rattle.commands.specs.Refusal.{IsReadingStop, line_fault_name}
 
 -- the input of this name is the text of the program

@@ -13,12 +13,12 @@ use Rattle.replay.specs.Replayed.{IsReplay}
 use Rattle.replay.specs.Steps.{replay_steps}
 use Rattle.replay.specs.Stores.{most_stores}
 use Rattle.judge.specs.Verdict.{IsOrderedVerdict}
-use Rattle.answers.specs.declared.answer.Answer.{Answer}
-use Rattle.inputs.specs.declared.stop.Stop.{Stop}
-use Rattle.answers.specs.declared.answer.TheConstants.{DONE, VIOLATION}
+use Rattle.report.specs.declared.printed.Answer.{Answer}
+use Rattle.commands.specs.declared.stop.Stop.{Stop}
+use Rattle.report.specs.declared.outcome.Outcome.TheVariants.{Done, Violation}
 use Rattle.commands.specs.Recording.{IsRecordingAt, IsRecordingStop}
-use Rattle.inputs.specs.Stop.{IsLineStop}
-use Rattle.answers.specs.Verdict.{IsVerdictAnswer}
+use Rattle.commands.specs.Stop.{IsLineStop}
+use Rattle.report.specs.Answer.{IsVerdictAnswer}
 
 -- a capacity, the text of a program and a script, with an empty line between them
 abbrev pub parts_text : ℕ → List ℕ → List ℕ → List ℕ
@@ -46,7 +46,7 @@ ReplaysOrder x m = (capacity : ℕ) → most_stores x.cores ≤ capacity
 pub record IsReplayAnswer (x : Execution) (answer : Answer) : Type 0 where
   pub order : List ℕ
   pub least : IsOrderedVerdict x order
-  pub status : answer.status ≡ DONE
+  pub outcome : answer.outcome ≡ Done
   pub text : answer.text.items ≡ replay_text x order
   pub read : IsReadBack x order
   pub replay : ReplaysOrder x order
@@ -54,7 +54,7 @@ pub record IsReplayAnswer (x : Execution) (answer : Answer) : Type 0 where
 -- the verdict on a recording that TSO does not allow
 pub record IsViolationAnswer (x : Execution) (answer : Answer) : Type 0 where
   pub no_order : (m : List ℕ) → ¬ IsTsoOrder x m
-  pub status : answer.status ≡ VIOLATION
+  pub outcome : answer.outcome ≡ Violation
   pub answered : IsVerdictAnswer x [] answer
 
 -- the replay of a recording, or its violation

@@ -1,6 +1,6 @@
 -- What a program's run is answered.
 use Rattle.std.specs.Prelude.{◌≡◌, ◌⊎◌, ℕ, List, Option, Some, None, Ok, length, option_map, string_bytes}
-use Rattle.answers.specs.declared.answer.Answer.{Answer}
+use Rattle.report.specs.declared.printed.Answer.{Answer}
 use Rattle.answers.specs.Run.{IsRunAnswer, IsSeededAnswer, state_after}
 use Rattle.command_line.specs.declared.options.LiveOptions.{LiveOptions}
 use Rattle.command_line.specs.declared.options.RunOptions.{RunOptions}
@@ -11,7 +11,7 @@ use Rattle.machine.specs.declared.step.Step.{Step}
 use Rattle.machine.specs.State.{State, IsComplete}
 use Rattle.machine.specs.Taken.{all_taken, begun}
 use Rattle.machine.specs.Script.{steps_of}
-use Rattle.inputs.specs.Inputs.{AreBytesOf}
+use Rattle.commands.specs.Inputs.{AreBytesOf}
 
 -- the answer of a program and the script of this name
 pub record IsScriptAnswer (inputs : List ℕ → Option (List ℕ)) (o : RunOptions) (program : Parts)

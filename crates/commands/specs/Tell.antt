@@ -5,15 +5,15 @@ use Rattle.program.specs.Parts.{Parts}
 use Rattle.recording.specs.Execution.{Execution}
 use Rattle.machine.specs.ProgramOf.{IsProgramOf}
 use Rattle.command_line.specs.declared.options.ExplainOptions.{ExplainOptions}
-use Rattle.answers.specs.declared.answer.Answer.{Answer}
+use Rattle.report.specs.declared.printed.Answer.{Answer}
 use Rattle.answers.specs.declared.told.Telling.{Telling}
 use Rattle.answers.specs.Told.{IsToldAnswer}
-use Rattle.inputs.specs.declared.stop.Stop.{Stop}
-use Rattle.inputs.specs.declared.stop.Stop.TheVariants.{Fault}
-use Rattle.inputs.specs.declared.fault.CommandFault.TheVariants.{OutOfMemory}
+use Rattle.commands.specs.declared.stop.Stop.{Stop}
+use Rattle.commands.specs.declared.stop.Stop.TheVariants.{Fault}
+use Rattle.commands.specs.declared.fault.CommandFault.TheVariants.{OutOfMemory}
 use Rattle.commands.specs.Program.{IsProgramAt, IsProgramStop}
 use Rattle.commands.specs.Recording.{IsRecordingAt, IsRecordingStop}
-use Rattle.inputs.specs.Stop.{IsLineStop}
+use Rattle.commands.specs.Stop.{IsLineStop}
 
 -- the input of this name is the text of a program, of which the recording is one
 pub record IsOwnProgram (inputs : List ℕ → Option (List ℕ)) (x : Execution) (name : List ℕ)

@@ -1,31 +1,52 @@
 //! The command `judge`.
-ghost use Rattle.std.specs.Prelude.{◌≤◌, IfErr, IfOk, string_bytes};
-ghost use Rattle.commands.specs.Judge.{IsJudgedInput};
-ghost use Rattle.commands.specs.Recording.{IsRecordingStop};
+ghost use Rattle.std.specs.Prelude.{◌≡◌, ◌≢◌, ◌≤◌, ◌∷◌, [], Err, IfErr, IfOk, string_bytes};
+ghost use Rattle.devices.specs.Bytes.{CanGrow};
+ghost use Rattle.commands.specs.Inputs.{CanRead, ReadsAll, seen};
+ghost use Rattle.commands.specs.Judge.{IsJudgeFault, IsJudgedInput};
+ghost use Rattle.commands.specs.Output.{CountsWrites, IsBegun, IsPut};
 
-use crate::named::recording_at;
-use answers::{Answer, judged_answer};
+use crate::fault::CommandFault;
+use crate::inputs::opened;
+use crate::output::flush;
 use command_line::JudgeOptions;
-use common::MAX_WORKERS;
-use inputs::place::Place;
-use inputs::stop::Stop;
+use common::{MAX_WORKERS, OpenGate};
+use devices::{Place, Sink};
+use report::{Outcome, ReportError, answer};
 use std::alloc::Global;
 use std::sync::Wait;
 use std::thread::Threads;
 
-/// Judges the recording of a named input, by as many workers as the options say.
-pub fn judge_command<R: Threads + Wait + Sync, P: Place>(
+/// Judges the recording of a named input, by as many workers as the options say, and writes the answer.
+pub fn judge_command<R: Threads + Wait + Sync, P: Place, W: Sink>(
     rt: &R,
     alloc: Global,
     options: &JudgeOptions,
     place: &mut P,
-) -> Result<Answer, Stop>
-    requires { (1 ≤ options.now.workers) × (options.now.workers ≤ MAX_WORKERS) }
-    ensures ok { IfOk result (IsJudgedInput (P.bytes place.old) options.now) }
-    ensures err { IfErr result (IsRecordingStop (P.bytes place.old) (string_bytes options.now.file)) }
+    out: &mut W,
+) -> Result<Outcome, CommandFault>
+    requires workers { (1 ≤ options.now.workers) × (options.now.workers ≤ MAX_WORKERS) }
+    requires inputs { CanRead (P.tally place.old) }
+    requires output { CanGrow (W.write_failures out.old) }
+    ensures whole { IfOk result (IsPut (IsJudgedInput (P.bytes place.old) options.now) (W.written out.old)
+        (W.written out.new)) }
+    ensures begun { result ≡ Err CommandFault.WriteFailed → IsBegun (IsJudgedInput (P.bytes place.old) options.now)
+        (W.written out.old) (W.written out.new) }
+    ensures fault { IfErr result (IsJudgeFault (P.bytes place.old) options.now) }
+    ensures reads { ReadsAll (string_bytes options.now.file ∷ []) (seen (P.asked place.old) (P.asked place.new)
+        (P.tally place.old) (P.tally place.new)) result }
+    ensures writes { CountsWrites (W.write_failures out.old) (W.write_failures out.new) result }
+    ensures unwritten { IfErr result (λ fault. fault ≢ CommandFault.WriteFailed → out.new ≡ out.old) }
 {
-    let recording = recording_at(alloc, place, options.file.as_str())?;
-    let answer = judged_answer(rt, alloc, &recording, options.workers);
-    drop(recording);
-    Ok(answer?)
+    let mut input = opened(alloc, place, options.file.as_str())?;
+    let answered = answer(rt, alloc, &mut input, out, options.workers, &OpenGate);
+    place.take_back(input);
+    match answered {
+        Ok(outcome) => {
+            flush(out)?;
+            Ok(outcome)
+        }
+        Err(ReportError::ReadFailed) => Err(CommandFault::ReadFailed),
+        Err(ReportError::WriteFailed) => Err(CommandFault::WriteFailed),
+        Err(ReportError::OutOfMemory) => Err(CommandFault::OutOfMemory),
+    }
 }

@@ -1,17 +1,19 @@
 //! The command `live`.
-ghost use Rattle.std.specs.Prelude.{◌≡◌, IfErr, IfOk};
+ghost use Rattle.std.specs.Prelude.{◌≡◌, ◌∷◌, [], IfErr, IfOk, string_bytes};
 ghost use Rattle.live.specs.Driven.{IsDriveError};
+ghost use Rattle.commands.specs.Inputs.{CanRead, Reads, seen};
 ghost use Rattle.commands.specs.Perform.{IsLiveStop, thread_fault};
 ghost use Rattle.commands.specs.Run.{IsLive};
 
+use crate::fault::CommandFault;
 use crate::named::program_at;
-use answers::{Answer, finished};
+use crate::stop::Stop;
+use answers::finished;
 use command_line::LiveOptions;
 use common::OpenGate;
-use inputs::fault::CommandFault;
-use inputs::place::Place;
-use inputs::stop::Stop;
+use devices::Place;
 use live::{LiveError, drive};
+use report::Answer;
 use std::alloc::Global;
 use std::sync::Wait;
 use std::thread::Threads;
@@ -36,8 +38,11 @@ pub fn live_command<R: Threads + Wait + Sync, P: Place>(
     options: &LiveOptions,
     place: &mut P,
 ) -> Result<Answer, Stop>
+    requires { CanRead (P.tally place.old) }
     ensures ok { IfOk result (IsLive (P.bytes place.old) options.now) }
     ensures err { IfErr result (IsLiveStop (P.bytes place.old) options.now) }
+    ensures reads { Reads (string_bytes options.now.program ∷ []) (seen (P.asked place.old) (P.asked place.new)
+        (P.tally place.old) (P.tally place.new)) result }
 {
     let program = program_at(alloc, place, options.program.as_str())?;
     let traced = match drive(rt, alloc, program, options.buffer, options.limit, &OpenGate) {

@@ -1,13 +1,13 @@
 //! What refusals mean, for a person at a terminal.
 
-use inputs::stop::Refusal;
 use std::alloc::{AllocError, Global};
 
 /// The most bytes of an input's line that are quoted.
 const LONGEST: usize = 64;
 
 /// What each refusal means and, between brackets, what to know about it. N is the number that the refusal has.
-pub const REFUSAL_MEANINGS: &str = "A line `refused: ..` of standard output names one of these. N is the number that it has.
+pub const REFUSAL_MEANINGS: &str =
+    "A line `refused: ..` of standard output names one of these. N is the number that it has.
 
 Of a program, whose lines are counted from 1:
 L1   line N is no line of a program (words are parted by one space, each line ends with a newline, `core` comes before operations and `init` after them)
@@ -61,10 +61,14 @@ fn meaning_of(name: &str) -> Option<&'static str> {
     None
 }
 
-/// What a refusal means, as a line for a person; none where its line is not one of the refusals'.
-/// An error is want of memory.
-pub fn explained(alloc: Global, refusal: &Refusal) -> Result<Option<String>, AllocError> {
-    let Some(words) = refusal.line.trim_end().strip_prefix("refused: ") else {
+/// What a printed text means for a person, where it is the line of a refusal; with the line of the input that is
+/// refused, where one is. Fails only if out of memory.
+pub fn explained(
+    alloc: Global,
+    printed: &str,
+    line: Option<&str>,
+) -> Result<Option<String>, AllocError> {
+    let Some(words) = printed.trim_end().strip_prefix("refused: ") else {
         return Ok(None);
     };
     let (name, counted) = words.split_once(' ').unwrap_or((words, ""));
@@ -75,16 +79,18 @@ pub fn explained(alloc: Global, refusal: &Refusal) -> Result<Option<String>, All
         Some((_, rest)) => format!(in alloc; "{counted} {rest}")?,
         None => String::from_str(alloc, said)?,
     };
-    let line = match &refusal.quote {
-        Some(quote) => format!(in alloc; "tsotest: {name}: {said}: {quote} ({advice}")?,
+    let meaning = match line {
+        Some(line) => format!(in alloc; "tsotest: {name}: {said}: {line} ({advice}")?,
         None => format!(in alloc; "tsotest: {name}: {said} ({advice}")?,
     };
-    Ok(Some(line))
+    Ok(Some(meaning))
 }
 
 /// A line of a text, counted from 1; the empty one where there is none.
 fn line_at(text: &[u8], line: usize) -> &[u8] {
-    let mut lines = text.split(|byte| *byte == b'\n').skip(line.saturating_sub(1));
+    let mut lines = text
+        .split(|byte| *byte == b'\n')
+        .skip(line.saturating_sub(1));
     lines.next().unwrap_or(b"")
 }
 

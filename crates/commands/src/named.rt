@@ -1,20 +1,21 @@
 //! The program or the recording that a named input is.
-ghost use Rattle.std.specs.Prelude.{◌≡◌, IfErr, IfOk, Ok};
+ghost use Rattle.std.specs.Prelude.{◌≡◌, ◌∷◌, [], IfErr, IfOk, Ok};
 ghost use Rattle.program.specs.Text.{reading};
 ghost use Rattle.recorder.specs.Reading.{IsReadingResult};
+ghost use Rattle.commands.specs.Inputs.{CanRead, Reads, seen};
 ghost use Rattle.commands.specs.Program.{IsProgramAt, IsProgramStop};
 ghost use Rattle.commands.specs.Recording.{IsRecordingAt, IsRecordingStop, IsUnread};
 ghost use Rattle.commands.specs.Refusal.{IsReadingStop, IsRefusedAs, line_fault_name};
 
+use crate::fault::CommandFault;
+use crate::inputs::text_at;
 use crate::refusal::{line_fault_name, line_refusal};
-use inputs::fault::CommandFault;
-use inputs::place::Place;
-use inputs::reading::text_at;
-use inputs::stop::{Refusal, Stop};
-use program::{LitmusError, Program};
+use crate::stop::{Refusal, Stop};
+use devices::Place;
 use litmus::parse;
-use recording::{RecError, Recording};
+use program::{LitmusError, Program};
 use recorder::read_recording;
+use recording::{RecError, Recording};
 use report::recording_line;
 use std::alloc::{AllocError, Global};
 
@@ -37,8 +38,11 @@ fn program_of(alloc: Global, text: &[u8]) -> Result<Program, Stop>
 
 /// The program of a named input, or why it is not read.
 pub fn program_at<P: Place>(alloc: Global, place: &mut P, name: &str) -> Result<Program, Stop>
+    requires { CanRead (P.tally place.old) }
     ensures ok { IfOk result (λ program. IsProgramAt (P.bytes place.old) name.now program) }
     ensures err { IfErr result (IsProgramStop (P.bytes place.old) name.now) }
+    ensures reads { Reads (name.now ∷ []) (seen (P.asked place.old) (P.asked place.new)
+        (P.tally place.old) (P.tally place.new)) result }
     ensures kept { P.bytes place.new ≡ P.bytes place.old }
 {
     let text = text_at(alloc, place, name)?;
@@ -68,8 +72,11 @@ fn recording_of(alloc: Global, bytes: &[u8]) -> Result<Recording, Stop>
 
 /// The recording of a named input, or why it is not read.
 pub fn recording_at<P: Place>(alloc: Global, place: &mut P, name: &str) -> Result<Recording, Stop>
+    requires { CanRead (P.tally place.old) }
     ensures ok { IfOk result (λ recording. IsRecordingAt (P.bytes place.old) name.now recording) }
     ensures err { IfErr result (IsRecordingStop (P.bytes place.old) name.now) }
+    ensures reads { Reads (name.now ∷ []) (seen (P.asked place.old) (P.asked place.new)
+        (P.tally place.old) (P.tally place.new)) result }
     ensures kept { P.bytes place.new ≡ P.bytes place.old }
 {
     let bytes = text_at(alloc, place, name)?;

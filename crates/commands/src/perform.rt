@@ -1,30 +1,32 @@
 //! From the words of a command line to what is printed.
-ghost use Rattle.std.specs.Prelude.{◌≡◌, ◌≢◌, IfErr, IfOk, List, OnOk, Option, map, string_bytes};
-ghost use Rattle.std.specs.Io.KnownBytes.{Appends};
+ghost use Rattle.std.specs.Prelude.{◌≡◌, ◌≢◌, ◌⊎◌, [], Err, IfErr, IfNone, IfOk, IfSome, List, Option, map};
+ghost use Rattle.std.specs.Prelude.{string_bytes};
 ghost use Rattle.clap.specs.Words.{Row, Text};
 ghost use Rattle.command_line.specs.Options.{AreOptions};
-ghost use Rattle.answers.specs.declared.answer.Answer.{Answer};
-ghost use Rattle.inputs.specs.declared.stop.Stop.{Stop};
-ghost use Rattle.commands.specs.Perform.{IsAnswerTo, IsAnswered, IsCommandStop, IsFaultOf, IsHelp};
-ghost use Rattle.commands.specs.Perform.{IsPrinted, IsOptionStop, IsStop};
+ghost use Rattle.devices.specs.Bytes.{CanGrow};
+ghost use Rattle.commands.specs.Inputs.{AreRead, CanRead, Reads, seen};
+ghost use Rattle.commands.specs.Names.{names_of};
+ghost use Rattle.commands.specs.Output.{CountsWrites, IsBegun, IsPut};
+ghost use Rattle.commands.specs.Perform.{IsAnswerTo, IsCommandStop, IsFaultFor, IsFaultOf, IsHelp, IsNoJudge};
+ghost use Rattle.commands.specs.Perform.{IsOptionStop, IsPrinted, IsPrintedFor, IsPrintedWithout, IsShown, Tallies};
 
+use crate::fault::CommandFault;
 use crate::judge_command::judge_command;
 use crate::live_command::live_command;
-use crate::meanings::{REFUSAL_MEANINGS, explained};
+use crate::meanings::REFUSAL_MEANINGS;
+use crate::output::put;
 use crate::refusal::option_refusal;
 use crate::replay_command::replay_command;
 use crate::run_command::run_command;
+use crate::stop::{Refusal, Stop};
 use crate::tell_command::tell_command;
 use crate::trials_command::trials_command;
-use answers::{Answer, DONE, REFUSED, Telling};
+use answers::Telling;
 use command_line::words::options;
-use command_line::{OptionFault, Options};
-use inputs::fault::CommandFault;
-use inputs::place::Place;
-use inputs::stop::{Refusal, Stop};
+use command_line::{JudgeOptions, OptionFault, Options};
+use devices::{Place, Sink};
+use report::{Answer, Outcome};
 use std::alloc::Global;
-use std::io;
-use std::io::Write;
 use std::sync::Wait;
 use std::thread::Threads;
 
@@ -40,34 +42,35 @@ fn without_options(alloc: Global, fault: OptionFault) -> Result<Answer, Stop>
             }
             let text = format!(in alloc; "{error}")?;
             Ok(Answer {
-                status: DONE,
+                outcome: Outcome::Done,
                 text: text.into_bytes(),
             })
         }
-        OptionFault::RefusalMeanings => Ok(Answer {
-            status: DONE,
-            text: String::from_str(alloc, REFUSAL_MEANINGS)?.into_bytes(),
-        }),
+        OptionFault::RefusalMeanings => Ok(Answer::of(alloc, Outcome::Done, REFUSAL_MEANINGS)?),
         OptionFault::StandardInputTwice => Err(Stop::Fault(CommandFault::StandardInputTwice)),
         OptionFault::Refused(refusal) => Err(Stop::Refused(option_refusal(alloc, refusal)?)),
         OptionFault::OutOfMemory => Err(Stop::Fault(CommandFault::OutOfMemory)),
     }
 }
 
-/// What the command answers that these options ask for.
+/// What the command answers that these options ask for, which are not those of `judge`.
 fn answer_to<R: Threads + Wait + Sync, P: Place>(
     rt: &R,
     alloc: Global,
     options: &Options,
     place: &mut P,
 ) -> Result<Answer, Stop>
-    requires { (command : Option (Text × List Row)) × AreOptions options.now command }
+    requires options { (command : Option (Text × List Row)) × AreOptions options.now command }
+    requires told { IsNoJudge options.now }
+    requires inputs { CanRead (P.tally place.old) }
     ensures ok { IfOk result (IsAnswerTo (P.bytes place.old) options.now) }
     ensures err { IfErr result (IsCommandStop (P.bytes place.old) options.now) }
+    ensures reads { Reads (names_of options.now) (seen (P.asked place.old) (P.asked place.new)
+        (P.tally place.old) (P.tally place.new)) result }
 {
     match options {
         Options::Run(run) => run_command(alloc, run, place),
-        Options::Judge(judge) => judge_command(rt, alloc, judge, place),
+        Options::Judge(_) => unreachable!(),
         Options::Trials(trials) => trials_command(rt, alloc, trials, place),
         Options::Live(live) => live_command(rt, alloc, live, place),
         Options::Replay(replay) => replay_command(alloc, replay, place),
@@ -80,42 +83,21 @@ fn answer_to<R: Threads + Wait + Sync, P: Place>(
     }
 }
 
-/// What the command answers that the words ask for, or the help.
-fn answered<R: Threads + Wait + Sync, P: Place>(
-    rt: &R,
-    alloc: Global,
-    words: &[String],
-    place: &mut P,
-) -> Result<Answer, Stop>
-    ensures ok { IfOk result (IsAnswered (P.bytes place.old) (map string_bytes words.now)) }
-    ensures err { IfErr result (IsStop (P.bytes place.old) (map string_bytes words.now)) }
+/// What the command answers or why it stops, as what is printed; the place is told of a line that is refused.
+fn shown<P: Place>(place: &mut P, answered: Result<Answer, Stop>) -> Result<Answer, CommandFault>
+    ensures ok { IfOk result (IsShown answered) }
+    ensures err { IfErr result (λ fault. answered ≡ Err (Stop.Fault fault)) }
+    ensures tally { P.tally place.new ≡ P.tally place.old }
+    ensures asked { P.asked place.new ≡ P.asked place.old }
 {
-    match options(alloc, words) {
-        Ok(options) => answer_to(rt, alloc, &options, place),
-        Err(fault) => without_options(alloc, fault),
-    }
-}
-
-/// The answer, or the line of a refusal, whose meaning the place is told.
-fn whole_answer<R: Threads + Wait + Sync, P: Place>(
-    rt: &R,
-    alloc: Global,
-    words: &[String],
-    place: &mut P,
-) -> Result<Answer, CommandFault>
-    ensures ok { IfOk result (IsPrinted (P.bytes place.old) (map string_bytes words.now)) }
-    ensures err { IfErr result
-        (λ fault. IsStop (P.bytes place.old) (map string_bytes words.now) (Stop.Fault fault)) }
-{
-    match answered(rt, alloc, words, place) {
+    match answered {
         Ok(answer) => Ok(answer),
-        Err(Stop::Refused(refusal)) => {
-            if let Ok(Some(meaning)) = explained(alloc, &refusal) {
-                place.explain(meaning);
+        Err(Stop::Refused(Refusal { line, quote })) => {
+            if let Some(quote) = quote {
+                place.refuse(quote);
             }
-            let Refusal { line, quote: _ } = refusal;
             Ok(Answer {
-                status: REFUSED,
+                outcome: Outcome::Refused,
                 text: line.into_bytes(),
             })
         }
@@ -123,34 +105,95 @@ fn whole_answer<R: Threads + Wait + Sync, P: Place>(
     }
 }
 
-fn put<W: Write>(out: &mut W, text: &[u8]) -> io::Result<()>
-    ensures { OnOk result (Appends (W.contents out.old) (W.contents out.new) text.now) }
+/// The options of `judge`, where these are its.
+fn judging(options: &Options) -> Option<&JudgeOptions>
+    ensures some { IfSome result (λ o. options.now ≡ Options.Judge o.now) }
+    ensures none { IfNone result (IsNoJudge options.now) }
 {
-    out.write_all(text)?;
-    out.flush()
+    match options {
+        Options::Judge(judge) => Some(judge),
+        _ => None,
+    }
 }
 
-/// Does what the words ask, writes what the command prints and answers its exit status. The words
-/// come without the program's name, and nothing is written before the whole answer stands. An error is
-/// a fault of the command line, an input that isn't read, threads under `live`, want of memory, or a
-/// write that failed.
-pub fn perform<R: Threads + Wait + Sync, P: Place, W: Write>(
+/// Prints what these options ask for.
+fn performed<R: Threads + Wait + Sync, P: Place, W: Sink>(
+    rt: &R,
+    alloc: Global,
+    options: &Options,
+    place: &mut P,
+    out: &mut W,
+) -> Result<Outcome, CommandFault>
+    requires options { (command : Option (Text × List Row)) × AreOptions options.now command }
+    requires inputs { CanRead (P.tally place.old) }
+    requires output { CanGrow (W.write_failures out.old) }
+    ensures printed { IfOk result (IsPut (IsPrintedFor (P.bytes place.old) options.now (seen (P.asked place.old)
+        (P.asked place.new) (P.tally place.old) (P.tally place.new))) (W.written out.old) (W.written out.new)) }
+    ensures begun { result ≡ Err CommandFault.WriteFailed → IsBegun (IsPrintedFor (P.bytes place.old) options.now
+        (seen (P.asked place.old) (P.asked place.new) (P.tally place.old) (P.tally place.new))) (W.written out.old)
+        (W.written out.new) }
+    ensures fault { IfErr result (IsFaultFor (P.bytes place.old) options.now (seen (P.asked place.old)
+        (P.asked place.new) (P.tally place.old) (P.tally place.new))) }
+    ensures writes { CountsWrites (W.write_failures out.old) (W.write_failures out.new) result }
+    ensures unwritten { IfErr result (λ fault. fault ≢ CommandFault.WriteFailed → out.new ≡ out.old) }
+{
+    if let Some(judge) = judging(options) {
+        return judge_command(rt, alloc, judge, place, out);
+    }
+    let answered = answer_to(rt, alloc, options, place);
+    let answer = shown(place, answered)?;
+    put(out, &answer)
+}
+
+/// Prints what is said without options: help, or why there are none.
+fn explained_options<P: Place, W: Sink>(
+    alloc: Global,
+    fault: OptionFault,
+    place: &mut P,
+    out: &mut W,
+) -> Result<Outcome, CommandFault>
+    requires { CanGrow (W.write_failures out.old) }
+    ensures printed { IfOk result (IsPut (IsPrintedWithout fault (seen (P.asked place.old) (P.asked place.new)
+        (P.tally place.old) (P.tally place.new))) (W.written out.old) (W.written out.new)) }
+    ensures begun { result ≡ Err CommandFault.WriteFailed → IsBegun (IsPrintedWithout fault (seen (P.asked place.old)
+        (P.asked place.new) (P.tally place.old) (P.tally place.new))) (W.written out.old) (W.written out.new) }
+    ensures fault { IfErr result (λ f. IsOptionStop fault (Stop.Fault f) ⊎ (f ≡ CommandFault.WriteFailed)) }
+    ensures read { AreRead [] (seen (P.asked place.old) (P.asked place.new) (P.tally place.old) (P.tally place.new)) }
+    ensures writes { CountsWrites (W.write_failures out.old) (W.write_failures out.new) result }
+    ensures unwritten { IfErr result (λ f. f ≢ CommandFault.WriteFailed → out.new ≡ out.old) }
+{
+    let answer = shown(place, without_options(alloc, fault))?;
+    put(out, &answer)
+}
+
+/// Does what the words ask, writes what the command prints and answers how it came out. The words
+/// come without the program's name. An error is a fault of the command line, an input that isn't read,
+/// threads under `live`, want of memory, or a write that failed; nothing is written before the whole answer
+/// stands.
+pub fn perform<R: Threads + Wait + Sync, P: Place, W: Sink>(
     rt: &R,
     alloc: Global,
     words: &[String],
     place: &mut P,
     out: &mut W,
-) -> Result<u8, CommandFault>
-    ensures printed { IfOk result (λ status. (answer : Answer)
-        × IsPrinted (P.bytes place.old) (map string_bytes words.now) answer
-        × (status ≡ answer.status) × Appends (W.contents out.old) (W.contents out.new) answer.text.items) }
-    ensures fault { IfErr result (IsFaultOf (P.bytes place.old) (map string_bytes words.now)) }
+) -> Result<Outcome, CommandFault>
+    requires inputs { CanRead (P.tally place.old) }
+    requires output { CanGrow (W.write_failures out.old) }
+    ensures printed { IfOk result (IsPut (IsPrinted (P.bytes place.old) (map string_bytes words.now)
+        (seen (P.asked place.old) (P.asked place.new) (P.tally place.old) (P.tally place.new))) (W.written out.old)
+        (W.written out.new)) }
+    ensures begun { result ≡ Err CommandFault.WriteFailed → IsBegun (IsPrinted (P.bytes place.old)
+        (map string_bytes words.now) (seen (P.asked place.old) (P.asked place.new) (P.tally place.old)
+        (P.tally place.new))) (W.written out.old) (W.written out.new) }
+    ensures fault { IfErr result (IsFaultOf (P.bytes place.old) (map string_bytes words.now)
+        (seen (P.asked place.old) (P.asked place.new) (P.tally place.old) (P.tally place.new))) }
+    ensures reads { Tallies (P.tally place.old) (P.tally place.new) result }
+    ensures writes { CountsWrites (W.write_failures out.old) (W.write_failures out.new) result }
     // An error leaves the sink as it was, unless a write failed.
     ensures unwritten { IfErr result (λ fault. fault ≢ CommandFault.WriteFailed → out.new ≡ out.old) }
 {
-    let answer = whole_answer(rt, alloc, words, place)?;
-    match put(out, answer.text.as_slice()) {
-        Ok(()) => Ok(answer.status),
-        Err(_) => Err(CommandFault::WriteFailed),
+    match options(alloc, words) {
+        Ok(options) => performed(rt, alloc, &options, place, out),
+        Err(fault) => explained_options(alloc, fault, place, out),
     }
 }

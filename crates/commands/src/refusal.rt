@@ -4,10 +4,10 @@ ghost use Rattle.commands.specs.Refusal.{line_fault_name, option_line, option_re
 ghost use Rattle.commands.specs.Refusal.{refusal_line, shape_error_name, step_fault_name};
 
 use crate::meanings::quoted;
+use crate::stop::Refusal;
 use command_line::OptionRefusal;
-use inputs::stop::Refusal;
-use program::{LineFault, ShapeError};
 use machine::StepFault;
+use program::{LineFault, ShapeError};
 use std::alloc::{AllocError, Global};
 
 /// What is printed for a fault of a program's line.

@@ -9,21 +9,22 @@ ghost use Rattle.machine.specs.ScriptText.{script_text};
 ghost use Rattle.judge.specs.Verdict.{IsVerdict, Verifies};
 ghost use Rattle.recording.specs.Tso.{IsTsoOrder};
 ghost use Rattle.recording.specs.FirstUse.{IsNumberedByFirstUse};
+ghost use Rattle.commands.specs.Inputs.{CanRead, Reads, seen};
 ghost use Rattle.commands.specs.Replay.{IsReadBack, IsReplayedInput, IsReplayOf, IsReplayStop, ReplaysOrder};
 ghost use Rattle.commands.specs.Replay.{parts_text, replay_text};
 
 use crate::named::recording_at;
-use answers::{Answer, DONE, verdict_behind};
+use crate::stop::Stop;
 use command_line::FileOptions;
 use common::{EventId, OutOfMemory};
-use inputs::place::Place;
-use inputs::stop::Stop;
+use devices::Place;
 use judge::{Verdict, judge_alone};
-use program::{Program, has_one_text};
 use litmus::print;
 use machine::{Step, steps_text};
+use program::{Program, has_one_text};
 use recording::Recording;
 use replay::{is_numbered, most_stores, replay_steps};
+use report::{Answer, Outcome, verdict_answer};
 use std::alloc::{AllocError, Global};
 
 /// The line of a capacity, with an empty line behind it.
@@ -99,10 +100,13 @@ fn replay_of(alloc: Global, recording: &Recording, verdict: &Verdict) -> Result<
     match verdict {
         Verdict::Ordered(order) => {
             let text = replay_text(alloc, recording, order)?;
-            Ok(Answer { status: DONE, text })
+            Ok(Answer {
+                outcome: Outcome::Done,
+                text,
+            })
         }
         Verdict::Overlook { .. } | Verdict::Cycle(_) => {
-            verdict_behind(alloc, Vec::new(alloc), recording, verdict)
+            verdict_answer(alloc, Vec::new(alloc), recording, verdict)
         }
     }
 }
@@ -122,8 +126,11 @@ pub fn replay_command<P: Place>(
     options: &FileOptions,
     place: &mut P,
 ) -> Result<Answer, Stop>
+    requires { CanRead (P.tally place.old) }
     ensures ok { IfOk result (IsReplayedInput (P.bytes place.old) options.now) }
     ensures err { IfErr result (IsReplayStop (P.bytes place.old) options.now) }
+    ensures reads { Reads (string_bytes options.now.file ∷ []) (seen (P.asked place.old) (P.asked place.new)
+        (P.tally place.old) (P.tally place.new)) result }
 {
     let recording = recording_at(alloc, place, options.file.as_str())?;
     if is_numbered(&recording) {

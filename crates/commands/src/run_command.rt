@@ -1,21 +1,23 @@
 //! The command `run`.
-ghost use Rattle.std.specs.Prelude.{◌≡◌, ℕ, List, IfErr, IfOk, Ok};
+ghost use Rattle.std.specs.Prelude.{◌≡◌, ◌∷◌, [], ℕ, List, IfErr, IfOk, Ok};
 ghost use Rattle.machine.specs.Script.{steps_of};
-ghost use Rattle.inputs.specs.Inputs.{AreBytesOf};
+ghost use Rattle.commands.specs.Inputs.{AreBytesOf, CanRead, Reads, seen};
+ghost use Rattle.commands.specs.Names.{run_names};
 ghost use Rattle.commands.specs.Refusal.{IsReadingStop, step_fault_name};
 ghost use Rattle.commands.specs.Perform.{IsRunStop, IsScriptStop};
 ghost use Rattle.commands.specs.Run.{IsRun, IsScriptAnswer};
 
+use crate::fault::CommandFault;
+use crate::inputs::text_at;
 use crate::named::program_at;
 use crate::refusal::{line_refusal, step_fault_name};
-use answers::{Answer, script_answer, seeded_answer};
+use crate::stop::Stop;
+use answers::{script_answer, seeded_answer};
 use command_line::RunOptions;
-use inputs::fault::CommandFault;
-use inputs::place::Place;
-use inputs::reading::text_at;
-use inputs::stop::Stop;
-use program::Program;
+use devices::Place;
 use machine::{Step, StepsError, parse_steps};
+use program::Program;
+use report::Answer;
 use std::alloc::Global;
 
 /// The steps of a script for a program, or the refusal of its first line at fault.
@@ -42,9 +44,12 @@ fn steps_at<P: Place>(
     name: &str,
     place: &mut P,
 ) -> Result<Vec<Step>, Stop>
+    requires { CanRead (P.tally place.old) }
     ensures ok { IfOk result (λ steps. (text : List ℕ) × AreBytesOf (P.bytes place.old) name.now text
         × (steps_of program.now text ≡ Ok steps.items)) }
     ensures err { IfErr result (IsScriptStop (P.bytes place.old) program.now name.now) }
+    ensures reads { Reads (name.now ∷ []) (seen (P.asked place.old) (P.asked place.new)
+        (P.tally place.old) (P.tally place.new)) result }
 {
     let text = text_at(alloc, place, name)?;
     steps_of(alloc, text.as_slice(), program)
@@ -58,8 +63,11 @@ fn script_run<P: Place>(
     name: &str,
     place: &mut P,
 ) -> Result<Answer, Stop>
+    requires { CanRead (P.tally place.old) }
     ensures ok { IfOk result (IsScriptAnswer (P.bytes place.old) options.now program name.now) }
     ensures err { IfErr result (IsScriptStop (P.bytes place.old) program name.now) }
+    ensures reads { Reads (name.now ∷ []) (seen (P.asked place.old) (P.asked place.new)
+        (P.tally place.old) (P.tally place.new)) result }
 {
     let steps = steps_at(alloc, &program, name, place)?;
     Ok(script_answer(
@@ -78,8 +86,11 @@ pub fn run_command<P: Place>(
     options: &RunOptions,
     place: &mut P,
 ) -> Result<Answer, Stop>
+    requires { CanRead (P.tally place.old) }
     ensures ok { IfOk result (IsRun (P.bytes place.old) options.now) }
     ensures err { IfErr result (IsRunStop (P.bytes place.old) options.now) }
+    ensures reads { Reads (run_names options.now) (seen (P.asked place.old) (P.asked place.new)
+        (P.tally place.old) (P.tally place.new)) result }
 {
     let program = program_at(alloc, place, options.program.as_str())?;
     match &options.steps {

@@ -1,15 +1,18 @@
 //! The commands `explain`, `draw` and `reduce`.
-ghost use Rattle.std.specs.Prelude.{IfErr, IfOk, Some, option_map, string_bytes};
+ghost use Rattle.std.specs.Prelude.{◌∷◌, [], IfErr, IfOk, Some, option_map, string_bytes};
+ghost use Rattle.commands.specs.Inputs.{CanRead, Reads, seen};
+ghost use Rattle.commands.specs.Names.{maybe_name, tell_names};
 ghost use Rattle.commands.specs.Tell.{IsNamesStop, IsOwnProgram, IsTellingStop, IsTold, IsToldBy};
 
 use crate::named::{program_at, recording_at};
-use answers::{Answer, Telling, told_answer};
+use crate::stop::Stop;
+use answers::{Telling, told_answer};
 use command_line::ExplainOptions;
+use devices::Place;
 use explanation::is_program_of;
-use inputs::place::Place;
-use inputs::stop::Stop;
 use program::Program;
 use recording::Recording;
+use report::Answer;
 use std::alloc::Global;
 
 /// The program of this name, of which the recording has to be one.
@@ -19,8 +22,11 @@ fn own_program<P: Place>(
     name: &str,
     place: &mut P,
 ) -> Result<Program, Stop>
+    requires { CanRead (P.tally place.old) }
     ensures ok { IfOk result (IsOwnProgram (P.bytes place.old) recording.now name.now) }
     ensures err { IfErr result (IsNamesStop (P.bytes place.old) recording.now (Some name.now)) }
+    ensures reads { Reads (name.now ∷ []) (seen (P.asked place.old) (P.asked place.new)
+        (P.tally place.old) (P.tally place.new)) result }
 {
     let program = program_at(alloc, place, name)?;
     if is_program_of(&program, recording) {
@@ -38,8 +44,11 @@ fn named_answer<P: Place>(
     name: &str,
     place: &mut P,
 ) -> Result<Answer, Stop>
+    requires { CanRead (P.tally place.old) }
     ensures ok { IfOk result (IsToldBy (P.bytes place.old) telling recording.now (Some name.now)) }
     ensures err { IfErr result (IsNamesStop (P.bytes place.old) recording.now (Some name.now)) }
+    ensures reads { Reads (name.now ∷ []) (seen (P.asked place.old) (P.asked place.new)
+        (P.tally place.old) (P.tally place.new)) result }
 {
     let program = own_program(alloc, recording, name, place)?;
     Ok(told_answer(alloc, telling, recording, Some(&program))?)
@@ -53,10 +62,13 @@ fn told<P: Place>(
     options: &ExplainOptions,
     place: &mut P,
 ) -> Result<Answer, Stop>
+    requires { CanRead (P.tally place.old) }
     ensures ok { IfOk result (IsToldBy (P.bytes place.old) telling recording.now
         (option_map string_bytes options.now.program)) }
     ensures err { IfErr result (IsNamesStop (P.bytes place.old) recording.now
         (option_map string_bytes options.now.program)) }
+    ensures reads { Reads (maybe_name (option_map string_bytes options.now.program)) (seen (P.asked place.old) (P.asked place.new)
+        (P.tally place.old) (P.tally place.new)) result }
 {
     match &options.program {
         Some(name) => named_answer(alloc, telling, recording, name.as_str(), place),
@@ -71,8 +83,11 @@ pub fn tell_command<P: Place>(
     options: &ExplainOptions,
     place: &mut P,
 ) -> Result<Answer, Stop>
+    requires { CanRead (P.tally place.old) }
     ensures ok { IfOk result (IsTold (P.bytes place.old) telling options.now) }
     ensures err { IfErr result (IsTellingStop (P.bytes place.old) options.now) }
+    ensures reads { Reads (tell_names options.now) (seen (P.asked place.old) (P.asked place.new)
+        (P.tally place.old) (P.tally place.new)) result }
 {
     let recording = recording_at(alloc, place, options.file.as_str())?;
     told(alloc, telling, &recording, options, place)

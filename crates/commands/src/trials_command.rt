@@ -2,15 +2,16 @@
 ghost use Rattle.std.specs.Prelude.{◌≡◌, IfErr, IfOk, List};
 ghost use Rattle.clap.specs.Words.{Row};
 ghost use Rattle.command_line.specs.Options.{AreTrialsOptions};
-ghost use Rattle.inputs.specs.declared.fault.CommandFault.TheVariants.{OutOfMemory};
-ghost use Rattle.inputs.specs.declared.stop.Stop.TheVariants.{Fault};
+ghost use Rattle.commands.specs.declared.fault.CommandFault.TheVariants.{OutOfMemory};
+ghost use Rattle.commands.specs.declared.stop.Stop.TheVariants.{Fault};
 ghost use Rattle.commands.specs.Trials.{IsTrials};
 
-use answers::{Answer, campaign_answer, shown_answer};
+use crate::stop::Stop;
+use answers::{campaign_answer, shown_answer};
 use command_line::TrialsOptions;
 use common::OpenGate;
-use inputs::place::Place;
-use inputs::stop::Stop;
+use devices::Place;
+use report::Answer;
 use std::alloc::Global;
 use std::sync::Wait;
 use std::thread::Threads;

@@ -15,10 +15,10 @@ mod nodes;
 mod numbers;
 mod overlook;
 mod pieces;
-mod program;
+mod program_of;
 mod ranks;
 mod words;
 
 pub use drawing::drawing_text;
-pub use program::is_program_of;
+pub use program_of::is_program_of;
 pub use words::explanation_text;

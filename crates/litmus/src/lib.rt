@@ -9,8 +9,10 @@ mod reader;
 mod text;
 mod writing;
 
-pub use common::{Addr, CoreId, EventId, Gate, OpenGate};
-pub use common::{MAX_ADDRESSES, MAX_CAPACITY, MAX_CORES, MAX_EVENTS, MAX_STEPS, MAX_TRIALS, MAX_WORKERS};
+pub use common::{
+    Addr, CoreId, EventId, Gate, MAX_ADDRESSES, MAX_CAPACITY, MAX_CORES, MAX_EVENTS, MAX_STEPS,
+    MAX_TRIALS, MAX_WORKERS, OpenGate,
+};
 pub use program::{LitmusError, Name, Op, Program, Shape, ShapeError};
 pub use random::generate;
 pub use text::parse;

@@ -5,8 +5,8 @@ ghost use Rattle.std.specs.Prelude.{◌<◌, length};
 use crate::error::LiveError;
 use crate::traced::Traced;
 use common::{Addr, CoreId};
-use program::Op;
 use machine::{Blocked, Machine, Step};
+use program::Op;
 
 /// What came of a thread's turn.
 #[derive(Clone, Copy)]

@@ -9,8 +9,8 @@ use crate::blank::Blank;
 use crate::bounded::BoundedList;
 use common::{EventId, MAX_EVENTS, OutOfMemory};
 use core_unit::CoreUnit;
-use program::Ops;
 use moesi::Caches;
+use program::Ops;
 use std::alloc::Global;
 use write_buffer::WriteBuffer;
 

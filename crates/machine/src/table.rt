@@ -7,8 +7,8 @@ use crate::blocked::Blocked;
 use crate::machine::Machine;
 use crate::record::event_of;
 use common::{Addr, CoreId, EventId};
-use program::Op;
 use moesi::CacheError;
+use program::Op;
 use write_buffer::Entry;
 
 impl Machine {

@@ -3,7 +3,6 @@
 mod answers;
 mod bits;
 mod bound;
-mod buffers;
 mod certificates;
 mod forced;
 mod limits;

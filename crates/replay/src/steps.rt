@@ -11,12 +11,12 @@ ghost use Rattle.replay.specs.Steps.{order_steps, replay_steps};
 ghost use Rattle.replay.specs.Replayed.{IsReplay};
 
 use crate::law::every_order_is_replayed;
-use crate::program::named_program;
+use crate::naming::named_program;
 use crate::replaying::Replay;
 use crate::stores::most_stores;
 use common::{EventId, OutOfMemory};
-use program::Program;
 use machine::{Fault, Machine, Step};
+use program::Program;
 use recording::Recording;
 use std::alloc::Global;
 

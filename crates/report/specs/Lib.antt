@@ -1,5 +1,4 @@
-pub mod Answer
-pub mod Devices
-pub mod Refusal
+pub mod Outcomes
 pub mod Verdict
-pub mod Judged
+pub mod Refusal
+pub mod Answer

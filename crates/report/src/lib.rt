@@ -2,23 +2,17 @@
 #![tactic(auto)]
 
 mod answering;
-mod buffer;
 mod cycle;
-mod devices;
-mod memory;
 mod numbers;
-mod outcomes;
-mod passing;
+mod outcome;
+mod printed;
 mod refusal;
-mod stream;
 mod verdict;
 
-pub use answering::answer;
-pub use buffer::{OUT_OF_MEMORY, REFUSED, TOO_LONG, WRITTEN, verdict_into};
-pub use devices::{Failed, Sink, Source};
-pub use memory::{MemorySink, MemorySource};
+pub use answering::{answer, answer_alone, read_or_refuse};
+pub use devices::{Device, Failed, MemorySink, MemorySource, Sink, Source};
 pub use numbers::{put_number, put_numbers};
-pub use outcomes::{Outcome, ReportError};
+pub use outcome::{Outcome, ReportError};
+pub use printed::{Answer, outcome_of, verdict_answer};
 pub use refusal::recording_line;
-pub use stream::Device;
 pub use verdict::verdict_text;

@@ -8,8 +8,8 @@ ghost use Rattle.trials.specs.Judged.{begun_machine, ran, IsEndVerdict, IsJudged
 use crate::code::{CYCLE, LOAD, ORDERED, OVERLOOK, UNFINISHED};
 use common::OutOfMemory;
 use judge::{Verdict, judge_alone};
-use program::Program;
 use machine::{Fault, Machine, Step};
+use program::Program;
 use recording::Recording;
 use std::alloc::Global;
 

@@ -2,10 +2,22 @@
 #![tactic(auto)]
 
 ghost use Rattle.std.specs.Prelude.{◌≡◌, ◌≢◌, ◌≤◌, ◌⊎◌};
-ghost use Rattle.report.specs.Judged.{IsRefused, IsTooLong, IsWritten};
+ghost use Rattle.verdicts.specs.Judged.{IsRefused, IsTooLong, IsWritten};
 
-use report::verdict_into;
+#[cfg(test)]
+mod buffers;
+
+use report::{Answer, Outcome, answer_alone};
 use std::alloc::Global;
+
+/// The text of the verdict was written.
+const WRITTEN: u8 = 0;
+/// The bytes are no recording.
+const REFUSED: u8 = 1;
+/// The text of the verdict is longer than the buffer.
+const TOO_LONG: u8 = 2;
+/// There is no memory.
+const OUT_OF_MEMORY: u8 = 3;
 
 /// Writes the text of the verdict on the recording that the bytes give to the front of `out`, of which
 /// the rest stays, and its length in bytes to `len`. The answer is 0 where it was written, 1 where the
@@ -26,5 +38,17 @@ pub extern "C" fn verdicts_judge(
     ensures unwritten { result ≢ 0 → out.new ≡ out.old }
     ensures no_length { (result ≡ 1) ⊎ (result ≡ 3) → len.new ≡ 0 }
 {
-    verdict_into(alloc, recording, out, len)
+    *len = 0;
+    let Ok(Answer { outcome, text }) = answer_alone(alloc, recording) else {
+        return OUT_OF_MEMORY;
+    };
+    if outcome == Outcome::Refused {
+        return REFUSED;
+    }
+    *len = text.len();
+    if out.len() < text.len() {
+        return TOO_LONG;
+    }
+    out[..text.len()].copy_from_slice(&text);
+    WRITTEN
 }

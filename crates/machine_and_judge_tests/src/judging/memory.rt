@@ -6,8 +6,8 @@ ghost use Rattle.std.specs.Prelude.{◌≤◌};
 ghost use Rattle.common.specs.declared.limits.TheConstants.{MAX_WORKERS};
 
 use judge::judge;
-use recording::{RecError, Recording};
 use recorder::read_recording;
+use recording::{RecError, Recording};
 use report::verdict_text;
 use std::alloc::Global;
 use std::sync::Wait;

@@ -6,8 +6,8 @@ use crate::judging::recordings::{
 };
 use common::EventId;
 use judge::judge_alone;
-use recording::Recording;
 use recorder::write_recording;
+use recording::Recording;
 use reduction::{Reduced, reduce};
 use std::alloc::Global;
 use std::test::Fail;

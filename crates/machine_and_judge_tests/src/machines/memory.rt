@@ -4,9 +4,9 @@
 
 use crate::machines::plain::{STORE_BUFFERING, performs_an_order};
 use common::OpenGate;
-use program::{LitmusError, Program};
 use litmus::parse;
 use live::{LiveError, drive};
+use program::{LitmusError, Program};
 use std::alloc::Global;
 use std::sync::Wait;
 use std::test::Fail;

@@ -2,11 +2,11 @@
 //! calls themselves such a test took minutes to prove.
 
 use common::{EventId, Gate};
-use program::Program;
 use litmus::parse;
 use live::drive;
 use machine::{Blocked, Machine, Step};
 use order::check;
+use program::Program;
 use recording::Recording;
 use std::alloc::{AllocError, Global};
 use std::sync::Wait;

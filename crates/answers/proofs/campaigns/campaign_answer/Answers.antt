@@ -6,6 +6,6 @@ returns g c = record {
   all = c.in-Ok.ensures.1;
   ledger = c.in-Ok.ledger;
   counted = c.in-Ok.ensures.2;
-  status = c.status_of-status.ensures;
+  outcome = c.outcome_of-outcome.ensures;
   text = c.in_ok-text.ensures;
 }

@@ -4,7 +4,7 @@ use Rattle.recording.specs.Execution.{Execution}
 use Rattle.recorder.specs.Text.{recording_text}
 use Rattle.trials.specs.declared.judging.Judged.{Judged}
 use Rattle.trials.specs.Judged.{IsJudgement, IsJudgedEnd}
-use Rattle.answers.specs.Verdict.{IsVerdictAnswer}
+use Rattle.report.specs.Answer.{IsVerdictAnswer}
 use Rattle.answers.proofs.Answered.{complete_answer, unfinished_answer}
 use Rattle.answers.proofs.runs.ended.Goals as goal
 
@@ -12,7 +12,7 @@ use Rattle.answers.proofs.runs.ended.Goals as goal
 pub returns-in-None : goal.returns-in-None
 returns-in-None c =
     IfOk-weaker c.unfinished.result _ _ (λ answer made h judged. unfinished_answer h.fault h.program h.state answer
-    (subst (λ (o : Option Judged). IsJudgedEnd h o) c.in-None.is judged) made.status made.text) c.unfinished.ensures
+    (subst (λ (o : Option Judged). IsJudgedEnd h o) c.in-None.is judged) made.outcome made.text) c.unfinished.ensures
 
 -- the machine is complete
 pub returns-in-Some : goal.returns-in-Some

@@ -9,7 +9,7 @@ returns c =
     IfOk-weaker c.behind.result _ _ (λ answer is h program judged. record {
       run = run;
       answered = c.in_ok-run.ensures h judged;
-      status = is.0;
+      outcome = is.0;
       text = is.1 ∙ ap (λ (l : List ℕ). l ++ 10 ∷ run.text.items) (c.in_ok-text.ensures ∙ ap spelling (sym program));
     }) c.behind.ensures
 

@@ -10,6 +10,6 @@ returns c =
     IfOk-weaker c.behind.result _ _ (λ answer is. record {
       run = run;
       answered = c.in_ok-run.ensures;
-      status = is.0;
+      outcome = is.0;
       text = is.1 ∙ ap (λ (l : List ℕ). l ++ 10 ∷ run.text.items) text;
     }) c.behind.ensures

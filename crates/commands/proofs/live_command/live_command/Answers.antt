@@ -1,4 +1,5 @@
 use Rattle.std.proofs.Common.{sym}
+use Rattle.commands.proofs.Asking.{memory_stopped}
 use Rattle.commands.proofs.Stops.{thread_stop}
 use Rattle.commands.proofs.Threaded.{live_answer}
 use Rattle.commands.proofs.live_command.live_command.Goals as goal
@@ -15,3 +16,7 @@ pub returns-in-Err-clause-err : goal.returns-in-Err-clause-err
 returns-in-Err-clause-err g c = rw c.fault_of.ensures
     (thread_stop (g.P.Place.bytes c.args.place.now) c.args.options.now c.in-Err.error
     (c.in_ok-program.program, rw (sym c.as_str.ensures.value) c.in_ok-program.ensures.ok))
+
+pub returns-in_err-finished-clause-reads : goal.returns-in_err-finished-clause-reads
+returns-in_err-finished-clause-reads g c = memory_stopped c.from_residual-in_err-finished.result _ _
+    (rw (sym c.as_str.ensures.value) c.in_ok-program.ensures.reads) c.from_residual-in_err-finished.ensures.1

@@ -1,10 +1,18 @@
-use Rattle.commands.proofs.Asked.{judge_workers, trials_rows}
+use Rattle.std.proofs.Common.{subst, sym}
+use Rattle.command_line.specs.declared.options.Options.{Options}
+use Rattle.commands.specs.Inputs.{Reads, seen}
+use Rattle.commands.specs.Names.{names_of}
+use Rattle.commands.proofs.Asked.{trials_rows}
+use Rattle.commands.proofs.Asking.{none_read}
 use Rattle.commands.proofs.perform.answer_to.Goals as goal
 
-pub judge_command-requires-after_bounds : goal.judge_command-requires-after_bounds
-judge_command-requires-after_bounds g c κs within = judge_workers c.in-Judge.judge c.requires.0
-    (rw (← c.in-Judge.is) c.requires.1)
-
 pub trials_command-requires-after_bounds : goal.trials_command-requires-after_bounds
-trials_command-requires-after_bounds g c κs within = trials_rows c.in-Trials.trials c.requires.0
-    (rw (← c.in-Trials.is) c.requires.1)
+trials_command-requires-after_bounds g c κs within = trials_rows c.in-Trials.trials c.requires.options.0
+    (rw (← c.in-Trials.is) c.requires.options.1)
+
+pub returns-in-Trials-clause-reads : goal.returns-in-Trials-clause-reads
+returns-in-Trials-clause-reads g c = subst (λ (o : Options). Reads (names_of o)
+    (seen (g.P.Place.asked c.args.place.now) (g.P.Place.asked c.args.place.now) (g.P.Place.tally c.args.place.now)
+    (g.P.Place.tally c.args.place.now)) c.trials_command.result) (sym c.in-Trials.is)
+    (none_read c.trials_command.result (g.P.Place.asked c.args.place.now) (g.P.Place.tally c.args.place.now)
+    c.trials_command.ensures.err)

@@ -1,17 +1,19 @@
-use Rattle.std.proofs.Common.{map, refl, sym}
-use Rattle.std.specs.Prelude.{string_bytes}
-use Rattle.commands.proofs.Printed.{fault_of_words}
+use Rattle.std.proofs.Common.{inl, inr}
+use Rattle.commands.proofs.Printed.{begun_more, put_more}
 use Rattle.commands.proofs.perform.perform.Goals as goal
 
 pub returns-in-Ok-clause-printed : goal.returns-in-Ok-clause-printed
-returns-in-Ok-clause-printed g c = (
-  c.in_ok-answer.answer,
-  c.in_ok-answer.ensures.ok,
-  refl,
-  rw (sym c.as_slice.ensures.value) c.in-Ok.ensures,
-)
+returns-in-Ok-clause-printed g c = put_more _ _ _ _ c.performed.result
+    (λ answer is. inl (c.in-Ok.options, c.in-Ok.ensures.ok, is)) c.performed.ensures.printed
 
-pub returns-in_err-answer-clause-fault : goal.returns-in_err-answer-clause-fault
-returns-in_err-answer-clause-fault g c = fault_of_words (g.P.Place.bytes c.args.place.now)
-    c.from_residual.result (map string_bytes c.args.words.now) c.in_err-answer.field-0.0
-    c.from_residual.ensures.1 c.in_err-answer.ensures.err
+pub returns-in-Ok-clause-begun : goal.returns-in-Ok-clause-begun
+returns-in-Ok-clause-begun g c failed = begun_more _ _ _ _
+    (λ answer is. inl (c.in-Ok.options, c.in-Ok.ensures.ok, is)) (c.performed.ensures.begun failed)
+
+pub returns-in-Err-clause-printed : goal.returns-in-Err-clause-printed
+returns-in-Err-clause-printed g c = put_more _ _ _ _ c.explained_options.result
+    (λ answer is. inr (c.in-Err.fault, c.in-Err.ensures.err, is)) c.explained_options.ensures.printed
+
+pub returns-in-Err-clause-begun : goal.returns-in-Err-clause-begun
+returns-in-Err-clause-begun g c failed = begun_more _ _ _ _
+    (λ answer is. inr (c.in-Err.fault, c.in-Err.ensures.err, is)) (c.explained_options.ensures.begun failed)

@@ -14,7 +14,7 @@ returns-in_ok-text-in-Ordered c =
     inl (record {
       order = m;
       least = least;
-      status = refl;
+      outcome = refl;
       text = c.in_ok-text-in-Ordered.ensures.text
           ∙ ap (λ (l : List ℕ). replay_text x l) c.deref.ensures.value;
       read = subst (λ (l : List ℕ). IsReadBack x l) c.deref.ensures.value

@@ -1,9 +1,19 @@
-use Rattle.std.proofs.Common.{sym}
-use Rattle.commands.proofs.Stops.{telling_stop}
+use Rattle.std.proofs.Common.{◌∷◌, [], sym}
+use Rattle.std.specs.Prelude.{option_map, string_bytes}
+use Rattle.commands.specs.Names.{maybe_name}
+use Rattle.commands.proofs.Asking.{reads_then, stopped_again}
 use Rattle.commands.proofs.tell_command.tell_command.Goals as goal
 
-pub returns-in_err-recording-clause-err : goal.returns-in_err-recording-clause-err
-returns-in_err-recording-clause-err g c = telling_stop (g.P.Place.bytes c.args.place.now) c.args.options.now
-    c.as_slice.result.now c.from_residual-in_err-recording.result c.in_err-recording.field-0.0
-    (rw c.as_slice.ensures.value (rw (sym c.as_str.ensures.value) c.in_ok-bytes.ensures.given))
-    c.from_residual-in_err-recording.ensures.1 c.in_err-recording.ensures.err
+pub returns-in_err-recording-clause-reads : goal.returns-in_err-recording-clause-reads
+returns-in_err-recording-clause-reads g c =
+    stopped_again c.from_residual.result (string_bytes c.args.options.now.file ∷ [])
+    (maybe_name (option_map string_bytes c.args.options.now.program)) c.in_err-recording.field-0.0 _
+    (rw (sym c.as_str.ensures.value) c.in_err-recording.ensures.reads) c.from_residual.ensures.1
+
+pub returns-clause-reads : goal.returns-clause-reads
+returns-clause-reads g c =
+    reads_then c.told.result (string_bytes c.args.options.now.file ∷ [])
+    (maybe_name (option_map string_bytes c.args.options.now.program)) (g.P.Place.asked c.args.place.now)
+    (g.P.Place.asked c.recording_at.new.place) (g.P.Place.asked c.told.new.place) (g.P.Place.tally c.args.place.now)
+    (g.P.Place.tally c.recording_at.new.place) (g.P.Place.tally c.told.new.place)
+    (rw (sym c.as_str.ensures.value) c.in_ok-recording.ensures.reads) c.told.ensures.reads

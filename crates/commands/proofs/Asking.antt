@@ -1,0 +1,98 @@
+-- What was read by parts of a command.
+use Rattle.std.proofs.Common.{◌≡◌, ◌+◌, ◌++◌, ◌∙◌, [], ℕ, List, Option, Some, None, Result, Ok, Err, ap, arith, append_assoc}
+use Rattle.std.proofs.Common.{IfErr, IsErrAnd, refl, subst, sym}
+use Rattle.std.proofs.lemmas.List.{append-nil}
+use Rattle.devices.specs.declared.place.Tally.{Tally}
+use Rattle.devices.specs.Places.{Notes}
+use Rattle.commands.specs.declared.fault.CommandFault.TheVariants.{OutOfMemory}
+use Rattle.commands.specs.declared.stop.Stop.{Stop}
+use Rattle.commands.specs.declared.stop.Stop.TheVariants.{Refused, Fault}
+use Rattle.commands.specs.Inputs.{AreEnded, AreRead, AreStopped, Reads, Seen, failed_reads, seen}
+
+-- nothing was asked for
+pub notes_none : (told : Option (List (List ℕ))) → Notes told told []
+notes_none None = tt
+notes_none (Some names) = sym (append-nil names)
+
+-- some names were asked for, then others
+notes_then : (a b c : Option (List (List ℕ))) (xs ys : List (List ℕ)) → Notes a b xs → Notes b c ys
+    → Notes a c (xs ++ ys)
+notes_then None b c xs ys first then = tt
+notes_then (Some a) None c xs ys first then = absurd first
+notes_then (Some a) (Some b) None xs ys first then = absurd then
+notes_then (Some a) (Some b) (Some c) xs ys first then =
+    then ∙ ap (λ (l : List (List ℕ)). l ++ ys) first ∙ append_assoc a xs ys
+
+-- where all was read, no read failed
+pub stopped_later : (names : List (List ℕ)) (stop : Stop) (s : Seen) → failed_reads stop ≡ 0 → AreRead names s
+    → AreStopped names stop s
+stopped_later names stop s none read = record {
+  front = names;
+  rest = [];
+  parts = sym (append-nil names);
+  asked = read.0;
+  lent = ap (λ (t : Tally). t.lent) read.1;
+  failed = omega (arith, none, ap (λ (t : Tally). t.failed) read.1);
+  ended = go stop;
+}
+  where
+    go : (stop : Stop) → AreEnded stop s
+    go (Refused refusal) = ap (λ (t : Tally). t.unended) read.1
+    go (Fault fault) = tt
+
+-- without memory all was read
+pub memory_stopped : {X : Type 0} (r : Result X Stop) (names : List (List ℕ)) (s : Seen) → AreRead names s
+    → IsErrAnd r (λ stop. stop ≡ Fault OutOfMemory) → Reads names s r
+memory_stopped (Ok x) names s read wanting = absurd wanting
+memory_stopped (Err stop) names s read wanting =
+    subst (λ (t : Stop). AreStopped names t s) (sym wanting) (stopped_later names (Fault OutOfMemory) s refl read)
+
+-- what stops before more names would be asked for
+pub stopped_before : (xs ys : List (List ℕ)) (stop : Stop) (s : Seen) → AreStopped xs stop s
+    → AreStopped (xs ++ ys) stop s
+stopped_before xs ys stop s h = record {
+  front = h.front;
+  rest = h.rest ++ ys;
+  parts = ap (λ (l : List (List ℕ)). l ++ ys) h.parts ∙ append_assoc h.front h.rest ys;
+  asked = h.asked;
+  lent = h.lent;
+  failed = h.failed;
+  ended = h.ended;
+}
+
+-- the same of what hands the stop on
+pub stopped_again : {X : Type 0} (r : Result X Stop) (xs ys : List (List ℕ)) (stop : Stop) (s : Seen)
+    → AreStopped xs stop s → IsErrAnd r (λ e. e ≡ stop) → Reads (xs ++ ys) s r
+stopped_again (Ok x) xs ys stop s h same = absurd same
+stopped_again (Err e) xs ys stop s h same =
+    subst (λ (t : Stop). AreStopped (xs ++ ys) t s) (sym same) (stopped_before xs ys stop s h)
+
+-- without memory nothing was to be read
+pub none_read : {X : Type 0} (r : Result X Stop) (a : Option (List (List ℕ))) (t : Tally)
+    → IfErr r (λ stop. stop ≡ Fault OutOfMemory) → Reads [] (seen a a t t) r
+none_read (Ok x) a t wanting = (notes_none a, refl)
+none_read (Err stop) a t wanting = subst (λ (e : Stop). AreStopped [] e (seen a a t t)) (sym wanting)
+    (stopped_later [] (Fault OutOfMemory) (seen a a t t) refl (notes_none a, refl))
+
+-- what stops after others were read
+stopped_after : (xs ys : List (List ℕ)) (stop : Stop) (a b c : Option (List (List ℕ))) (t u v : Tally)
+    → AreRead xs (seen a b t u) → AreStopped ys stop (seen b c u v) → AreStopped (xs ++ ys) stop (seen a c t v)
+stopped_after xs ys stop a b c t u v read h = record {
+  front = xs ++ h.front;
+  rest = h.rest;
+  parts = ap (λ (l : List (List ℕ)). xs ++ l) h.parts ∙ sym (append_assoc xs h.front h.rest);
+  asked = notes_then a b c xs h.front read.0 h.asked;
+  lent = h.lent ∙ ap (λ (t : Tally). t.lent) read.1;
+  failed = omega (arith, h.failed, ap (λ (t : Tally). t.failed) read.1);
+  ended = go stop h.ended;
+}
+  where
+    go : (stop : Stop) → AreEnded stop (seen b c u v) → AreEnded stop (seen a c t v)
+    go (Refused refusal) same = same ∙ ap (λ (t : Tally). t.unended) read.1
+    go (Fault fault) same = tt
+
+-- some were read, then others or not
+pub reads_then : {X : Type 0} (r : Result X Stop) (xs ys : List (List ℕ)) (a b c : Option (List (List ℕ)))
+    (t u v : Tally) → AreRead xs (seen a b t u) → Reads ys (seen b c u v) r → Reads (xs ++ ys) (seen a c t v) r
+reads_then (Ok x) xs ys a b c t u v read h = (notes_then a b c xs ys read.0 h.0, h.1 ∙ read.1)
+reads_then (Err stop) xs ys a b c t u v read h = stopped_after xs ys stop a b c t u v read h

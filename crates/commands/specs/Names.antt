@@ -1,0 +1,30 @@
+-- The names of the inputs of commands, in the order in which they are opened.
+use Rattle.std.specs.Prelude.{◌∷◌, [], ℕ, List, Option, None, Some, option_map, string_bytes}
+use Rattle.command_line.specs.declared.options.Options.{Options}
+use Rattle.command_line.specs.declared.options.Options.TheVariants.{Run, Judge, Trials, Live, Replay, Explain, Draw, Reduce}
+use Rattle.command_line.specs.declared.options.RunOptions.{RunOptions}
+use Rattle.command_line.specs.declared.options.ExplainOptions.{ExplainOptions}
+
+-- a name, where there is one
+abbrev pub maybe_name : Option (List ℕ) → List (List ℕ)
+maybe_name None = []
+maybe_name (Some name) = name ∷ []
+
+-- the program, then the script where one is named
+abbrev pub run_names : RunOptions → List (List ℕ)
+run_names o = string_bytes o.program ∷ maybe_name (option_map string_bytes o.steps)
+
+-- the recording, then the program where one is named
+abbrev pub tell_names : ExplainOptions → List (List ℕ)
+tell_names o = string_bytes o.file ∷ maybe_name (option_map string_bytes o.program)
+
+-- those of any command
+abbrev pub names_of : Options → List (List ℕ)
+names_of (Run o) = run_names o
+names_of (Judge o) = string_bytes o.file ∷ []
+names_of (Trials o) = []
+names_of (Live o) = string_bytes o.program ∷ []
+names_of (Replay o) = string_bytes o.file ∷ []
+names_of (Explain o) = tell_names o
+names_of (Draw o) = tell_names o.recording
+names_of (Reduce o) = tell_names o

@@ -1,0 +1,31 @@
+-- What is written of an answer.
+use Rattle.std.specs.Prelude.{◌≡◌, ◌+◌, ℕ, List, Option, Result, Ok, Err, take}
+use Rattle.std.specs.Io.KnownBytes.{Appends}
+use Rattle.report.specs.declared.printed.Answer.{Answer}
+use Rattle.report.specs.declared.outcome.Outcome.{Outcome}
+use Rattle.commands.specs.declared.fault.CommandFault.{CommandFault}
+use Rattle.commands.specs.declared.fault.CommandFault.TheVariants.{WriteFailed}
+
+-- such an answer was written, whole, and came out so
+pub record IsPut (Is : Answer → Type 0) (before after : Option (List ℕ)) (outcome : Outcome) : Type 0 where
+  pub answer : Answer
+  pub is : Is answer
+  pub outcome_is : outcome ≡ answer.outcome
+  pub written : Appends before after answer.text.items
+
+-- the first bytes of such an answer were written
+pub record IsBegun (Is : Answer → Type 0) (before after : Option (List ℕ)) : Type 0 where
+  pub answer : Answer
+  pub is : Is answer
+  pub count : ℕ
+  pub written : Appends before after (take count answer.text.items)
+
+-- how many writes failed
+abbrev pub failed_writes : CommandFault → ℕ
+failed_writes WriteFailed = 1
+failed_writes other = 0
+
+-- a count of failed writes after a command
+abbrev pub CountsWrites : {X : Type 0} → ℕ → ℕ → Result X CommandFault → Type 0
+CountsWrites before after (Ok x) = after ≡ before
+CountsWrites before after (Err fault) = after ≡ before + failed_writes fault

@@ -1,0 +1,95 @@
+//! What ends the program with status 1.
+ghost use Rattle.std.specs.Prelude.{◌≡◌, ◌↔◌, ◌⊎◌, true};
+ghost use Rattle.std.specs.IoError.{error_kind};
+
+use common::OutOfMemory;
+use std::alloc::{AllocError, AllocFailed};
+use std::io;
+use std::io::ErrorKind;
+use thiserror::Error;
+
+/// A fault that is no answer of a command. Its text goes to standard error.
+#[derive(Debug, Drop, Error)]
+pub enum CommandFault {
+    /// The words are not a command.
+    #[error("{0}")]
+    CommandLine(clap::Error),
+    /// The command line names standard input for two inputs.
+    #[error("tsotest: standard input is named for two inputs")]
+    StandardInputTwice,
+    /// A word of the command line is not UTF-8.
+    #[error("tsotest: the command line is not text")]
+    NotText,
+    /// No file of this name can be opened.
+    #[error("tsotest: cannot open {0}")]
+    CannotOpen(String),
+    /// An opened input can't be read to its end.
+    #[error("tsotest: read failed")]
+    ReadFailed,
+    /// Standard output takes no more bytes.
+    #[error("tsotest: write failed")]
+    WriteFailed,
+    /// A thread was not started.
+    #[error("tsotest: no thread")]
+    NoThread,
+    /// Threads left no run of the program.
+    #[error("tsotest: stranger")]
+    Stranger,
+    /// There is no memory.
+    #[error("tsotest: out of memory")]
+    OutOfMemory,
+}
+
+/// Whether the error is want of memory.
+fn wants_memory(error: io::Error) -> bool
+    ensures { (result ≡ true) ↔ (error_kind error ≡ ErrorKind.OutOfMemory) }
+{
+    error.kind() == ErrorKind::OutOfMemory
+}
+
+impl CommandFault {
+    /// Why the words of the command line could not be had.
+    pub fn of_words(error: io::Error) -> CommandFault
+        ensures one { (result ≡ CommandFault.OutOfMemory) ⊎ (result ≡ CommandFault.NotText) }
+        ensures kind { (result ≡ CommandFault.OutOfMemory) ↔ (error_kind error ≡ ErrorKind.OutOfMemory) }
+    {
+        if wants_memory(error) {
+            CommandFault::OutOfMemory
+        } else {
+            CommandFault::NotText
+        }
+    }
+}
+
+impl From<OutOfMemory> for CommandFault {
+    ghost use Rattle.std.specs.Prelude.{◌≡◌};
+    ghost use Rattle.commands.specs.declared.fault.CommandFault.TheVariants.{OutOfMemory};
+
+    ghost from_gives = { λ _ e. e ≡ OutOfMemory };
+
+    fn from(_refused: OutOfMemory) -> CommandFault {
+        CommandFault::OutOfMemory
+    }
+}
+
+impl From<AllocError> for CommandFault {
+    ghost use Rattle.std.specs.Prelude.{◌≡◌};
+    ghost use Rattle.commands.specs.declared.fault.CommandFault.TheVariants.{OutOfMemory};
+
+    ghost from_gives = { λ _ e. e ≡ OutOfMemory };
+
+    fn from(_refused: AllocError) -> CommandFault {
+        CommandFault::OutOfMemory
+    }
+}
+
+impl<T: Drop> From<AllocFailed<T>> for CommandFault {
+    ghost use Rattle.std.specs.Prelude.{◌≡◌};
+    ghost use Rattle.commands.specs.declared.fault.CommandFault.TheVariants.{OutOfMemory};
+
+    ghost from_gives = { λ _ e. e ≡ OutOfMemory };
+
+    fn from(_refused: AllocFailed<T>) -> CommandFault {
+        CommandFault::OutOfMemory
+    }
+}

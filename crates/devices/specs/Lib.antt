@@ -1,0 +1,3 @@
+pub mod Bytes
+pub mod Places
+pub mod Progress

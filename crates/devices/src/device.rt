@@ -1,0 +1,103 @@
+//! Readers and writers as sources and sinks.
+
+use crate::bytes::{Failed, Sink, Source};
+use std::io::{Read, Write};
+
+/// A reader as a source, or a writer as a sink, which tells the bytes that it tells. A call that was
+/// interrupted has failed, and so has a write of no byte.
+#[derive(Drop)]
+pub struct Device<T> {
+    inner: T,
+    ended: bool,
+    failures: u64,
+}
+
+impl<T> Device<T> {
+    ghost use Rattle.std.specs.Prelude.{◌≡◌, false};
+
+    /// A device that has not failed yet.
+    pub fn new(inner: T) -> Device<T>
+        ensures inner { result.inner ≡ inner }
+        ensures ended { result.ended ≡ false }
+        ensures failures { result.failures ≡ 0 }
+    {
+        Device {
+            inner,
+            ended: false,
+            failures: 0,
+        }
+    }
+
+    /// Whether the end was met.
+    pub fn is_ended(&self) -> bool
+        ensures { result ≡ self.now.ended }
+    {
+        self.ended
+    }
+
+    /// How many calls failed.
+    pub fn failures(&self) -> u64
+        ensures { result ≡ self.now.failures }
+    {
+        self.failures
+    }
+
+    /// The reader or writer.
+    pub fn into_inner(self) -> T
+        ensures { result ≡ self.inner }
+    {
+        let Device {
+            inner,
+            ended: _,
+            failures: _,
+        } = self;
+        inner
+    }
+}
+
+impl<T: Read> Source for Device<T> {
+    ghost left = { λ d. T.remaining d.inner };
+
+    ghost is_ended = { λ d. d.ended };
+
+    ghost read_failures = { λ d. d.failures };
+
+    fn pull(&mut self, buf: &mut [u8]) -> Result<usize, Failed> {
+        match self.inner.read(buf) {
+            Ok(n) => {
+                self.ended = n == 0 && !buf.is_empty();
+                Ok(n)
+            }
+            Err(_) => {
+                self.failures += 1;
+                Err(Failed)
+            }
+        }
+    }
+}
+
+impl<T: Write> Sink for Device<T> {
+    ghost written = { λ d. T.contents d.inner };
+
+    ghost write_failures = { λ d. d.failures };
+
+    fn push(&mut self, text: &[u8]) -> Result<usize, Failed> {
+        match self.inner.write(text) {
+            Ok(n) if n > 0 || text.is_empty() => Ok(n),
+            _ => {
+                self.failures += 1;
+                Err(Failed)
+            }
+        }
+    }
+
+    fn flush(&mut self) -> Result<(), Failed> {
+        match self.inner.flush() {
+            Ok(()) => Ok(()),
+            Err(_) => {
+                self.failures += 1;
+                Err(Failed)
+            }
+        }
+    }
+}

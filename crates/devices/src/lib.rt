@@ -1,0 +1,22 @@
+//! What gives and what takes bytes: devices, texts in memory, and inputs by their names.
+#![tactic(auto)]
+
+mod bytes;
+mod device;
+mod disk;
+#[cfg(test)]
+mod lines;
+mod memory;
+mod noted;
+mod place;
+mod progress;
+mod whole;
+
+pub use bytes::{Failed, Sink, Source};
+pub use device::Device;
+pub use disk::{Disk, Opened};
+pub use memory::{MemorySink, MemorySource};
+pub use noted::Noted;
+pub use place::{InputFault, Place, Tally};
+pub use progress::{BETWEEN_LINES, FIRST_LINE, Line, Progress, line_due};
+pub use whole::{ReadError, read_all, write_all};

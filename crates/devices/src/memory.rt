@@ -1,0 +1,145 @@
+//! Sources and sinks in memory.
+
+use crate::bytes::{Failed, Sink, Source};
+use std::alloc::Global;
+use std::io::Read;
+
+/// Bytes in memory as a source, which may fail behind some of them.
+#[derive(Drop)]
+pub struct MemorySource<'a> {
+    rest: &'a [u8],
+    before_failing: usize,
+    ended: bool,
+    failures: u64,
+}
+
+impl<'a> MemorySource<'a> {
+    ghost use Rattle.std.specs.Prelude.{◌≡◌, false};
+
+    /// These bytes, all of which are given, which is tested.
+    pub fn new(bytes: &'a [u8]) -> MemorySource<'a>
+        ensures rest { result.rest ≡ bytes.entry }
+        ensures fails { result.before_failing ≡ 18446744073709551615 }
+        ensures ended { result.ended ≡ false }
+        ensures failures { result.failures ≡ 0 }
+    {
+        MemorySource::failing(bytes, usize::MAX)
+    }
+
+    /// These bytes; behind the first so many of them each read fails, which is tested.
+    pub fn failing(bytes: &'a [u8], before_failing: usize) -> MemorySource<'a>
+        ensures rest { result.rest ≡ bytes.entry }
+        ensures fails { result.before_failing ≡ before_failing }
+        ensures ended { result.ended ≡ false }
+        ensures failures { result.failures ≡ 0 }
+    {
+        MemorySource {
+            rest: bytes,
+            before_failing,
+            ended: false,
+            failures: 0,
+        }
+    }
+
+    /// Whether the end was met.
+    pub fn is_ended(&self) -> bool
+        ensures { result ≡ self.now.ended }
+    {
+        self.ended
+    }
+
+    /// How many reads failed.
+    pub fn failures(&self) -> u64
+        ensures { result ≡ self.now.failures }
+    {
+        self.failures
+    }
+}
+
+impl Source for MemorySource<'_> {
+    ghost use Rattle.std.specs.Prelude.{Some};
+
+    ghost left = { λ s. Some s.rest.now };
+
+    ghost is_ended = { λ s. s.ended };
+
+    ghost read_failures = { λ s. s.failures };
+
+    fn pull(&mut self, buf: &mut [u8]) -> Result<usize, Failed> {
+        if self.before_failing == 0 {
+            self.failures += 1;
+            return Err(Failed);
+        }
+        let room = buf.len().min(self.before_failing);
+        match self.rest.read(&mut buf[..room]) {
+            Ok(n) => {
+                self.before_failing -= n;
+                self.ended = n == 0 && room > 0;
+                Ok(n)
+            }
+            Err(_) => {
+                self.failures += 1;
+                Err(Failed)
+            }
+        }
+    }
+}
+
+/// Bytes in memory as a sink, which may fail behind some of them, and fails where there is no memory.
+#[derive(Drop)]
+pub struct MemorySink {
+    written: Vec<u8>,
+    before_failing: usize,
+    failures: u64,
+}
+
+impl MemorySink {
+    ghost use Rattle.std.specs.Prelude.{◌≡◌, []};
+
+    /// Nothing yet; all bytes are taken, while there is memory, which is tested.
+    pub fn new(alloc: Global) -> MemorySink
+        ensures written { result.written.items ≡ [] }
+        ensures failures { result.failures ≡ 0 }
+        ensures fails { result.before_failing ≡ 18446744073709551615 }
+    {
+        MemorySink::failing(alloc, usize::MAX)
+    }
+
+    /// Nothing yet; behind the first so many bytes each write fails, which is tested.
+    pub fn failing(alloc: Global, before_failing: usize) -> MemorySink
+        ensures written { result.written.items ≡ [] }
+        ensures failures { result.failures ≡ 0 }
+        ensures fails { result.before_failing ≡ before_failing }
+    {
+        MemorySink {
+            written: Vec::new(alloc),
+            before_failing,
+            failures: 0,
+        }
+    }
+
+    /// The bytes that were written.
+    pub fn written(&self) -> &[u8]
+        ensures { result.now ≡ self.now.written.items }
+    {
+        &self.written
+    }
+}
+
+impl Sink for MemorySink {
+    ghost use Rattle.std.specs.Prelude.{Some};
+
+    ghost written = { λ s. Some s.written.items };
+
+    ghost write_failures = { λ s. s.failures };
+
+    fn push(&mut self, text: &[u8]) -> Result<usize, Failed> {
+        let n = text.len().min(self.before_failing);
+        if n < text.len().min(1) || self.written.extend_from_slice(&text[..n]).is_err() {
+            self.failures += 1;
+            return Err(Failed);
+        }
+        self.before_failing -= n;
+        Ok(n)
+    }
+}

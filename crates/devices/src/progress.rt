@@ -1,0 +1,159 @@
+//! The progress of a campaign, on a terminal.
+ghost use Rattle.std.specs.Prelude.{◌≡◌};
+ghost use Rattle.devices.specs.Progress.{line_due};
+
+use common::Gate;
+use std::fmt;
+use std::fmt::{Display, Formatter, Write};
+use std::io::IsTerminal;
+use std::sync::atomic::{AtomicU64, AtomicUsize, Ordering};
+use std::time::{Duration, Instant};
+
+/// After so many milliseconds a campaign shows its first line.
+pub const FIRST_LINE: u64 = 500;
+
+/// So many milliseconds at least lie between two lines.
+pub const BETWEEN_LINES: u64 = 250;
+
+/// What takes the longest line away.
+const BLANKS: &str = "\r                                       \r";
+
+/// How far a campaign is.
+#[derive(Clone, Copy, Debug, PartialEq, Eq)]
+pub struct Line {
+    /// How many trials are done.
+    pub done: usize,
+    /// How many there are.
+    pub trials: usize,
+    /// How many violations were found.
+    pub found: usize,
+}
+
+impl Display for Line {
+    fn fmt<W: Write>(&self, f: &mut Formatter<W>) -> fmt::Result {
+        let noun = if self.found == 1 {
+            "violation"
+        } else {
+            "violations"
+        };
+        write!(
+            f,
+            "\r{} of {} trials, {} {noun}",
+            self.done, self.trials, self.found
+        )
+    }
+}
+
+/// The line that is due so many milliseconds after the beginning, if any. The last one was written at
+/// `last`; 0 stands for none.
+pub fn line_due(is_terminal: bool, elapsed: u64, last: u64, line: Line) -> Option<Line>
+    ensures { result ≡ line_due is_terminal elapsed last line }
+{
+    if is_terminal && elapsed >= FIRST_LINE && elapsed.saturating_sub(last) >= BETWEEN_LINES {
+        return Some(line);
+    }
+    None
+}
+
+fn millis(time: Duration) -> u64 {
+    time.as_secs()
+        .saturating_mul(1000)
+        .saturating_add(time.subsec_millis() as u64)
+}
+
+/// Whether standard error is a terminal.
+pub(crate) fn is_shown(rt: &HostRuntime) -> bool {
+    rt.stderr().is_terminal()
+}
+
+/// The time at which a campaign begins, where there is a clock.
+fn beginning(rt: &HostRuntime) -> Option<Instant> {
+    Instant::now(rt).ok()
+}
+
+/// Shows how far a campaign is, on standard error where that is a terminal. Its end takes the line away.
+/// Without a clock it shows nothing.
+pub struct Progress<'a> {
+    rt: &'a HostRuntime,
+    is_terminal: bool,
+    begun: Option<Instant>,
+    trials: usize,
+    done: AtomicUsize,
+    found: AtomicUsize,
+    last: AtomicU64,
+}
+
+impl<'a> Progress<'a> {
+    /// That of a campaign of so many trials, which begins.
+    pub fn new(rt: &'a HostRuntime, trials: usize) -> Progress<'a> {
+        Progress {
+            rt,
+            is_terminal: is_shown(rt),
+            begun: beginning(rt),
+            trials,
+            done: AtomicUsize::new(0),
+            found: AtomicUsize::new(0),
+            last: AtomicU64::new(0),
+        }
+    }
+
+    fn line(&self) -> Line {
+        Line {
+            done: self.done.load(Ordering::SeqCst),
+            trials: self.trials,
+            found: self.found.load(Ordering::SeqCst),
+        }
+    }
+
+    /// Writes the line that is due at this time. Of threads that would write it, one does.
+    fn show(&self, elapsed: u64) {
+        let last = self.last.load(Ordering::SeqCst);
+        let Some(line) = line_due(self.is_terminal, elapsed, last, self.line()) else {
+            return;
+        };
+        let claim = self
+            .last
+            .compare_exchange(last, elapsed, Ordering::SeqCst, Ordering::SeqCst);
+        if claim.is_ok() {
+            let _ = eprint!(self.rt; "{line}");
+        }
+    }
+}
+
+impl Gate for Progress<'_> {
+    fn begin(&self, _worker: usize, _piece: usize) {}
+
+    fn done(&self, _worker: usize, _piece: usize) {
+        if !self.is_terminal {
+            return;
+        }
+        self.done.fetch_add(1, Ordering::SeqCst);
+        if let Some(begun) = self.begun {
+            if let Ok(elapsed) = begun.elapsed(self.rt) {
+                self.show(millis(elapsed));
+            }
+        }
+    }
+
+    fn found(&self, _worker: usize, _piece: usize) {
+        self.found.fetch_add(1, Ordering::SeqCst);
+    }
+}
+
+// Here all workers are done, so that none writes a line behind the blanks.
+impl Drop for Progress<'_> {
+    fn drop(self) {
+        if self.last.load(Ordering::SeqCst) > 0 {
+            let _ = eprint!(self.rt; "{BLANKS}");
+        }
+        let Progress {
+            rt: _,
+            is_terminal: _,
+            begun: _,
+            trials: _,
+            done: _,
+            found: _,
+            last: _,
+        } = self;
+    }
+}

@@ -1,0 +1,96 @@
+//! Whole texts from sources and to sinks.
+
+ghost use Rattle.std.specs.Prelude.{◌≡◌, ◌≢◌, ◌<◌, ℕ, true, IfErr, IfOk, OnErr, OnOk, length, take};
+ghost use Rattle.std.specs.Io.KnownBytes.{Appends, Consumes, IsAtEnd};
+ghost use Rattle.devices.specs.Bytes.{CanGrow, Counts, CountsReads, Gathers};
+
+use crate::bytes::{Failed, Sink, Source};
+use std::alloc::Global;
+
+/// Why not all bytes of a source were read.
+#[derive(Clone, Copy, Debug, PartialEq, Eq)]
+pub enum ReadError {
+    /// A read failed.
+    ReadFailed,
+    /// There was no memory.
+    OutOfMemory,
+}
+
+/// How many bytes are asked for at once.
+const PIECE: usize = 65_536;
+
+/// Adds what a source gives next; false at its end.
+fn gather<R: Source>(
+    source: &mut R,
+    piece: &mut [u8],
+    bytes: &mut Vec<u8>,
+) -> Result<bool, ReadError>
+    requires failures { CanGrow (R.read_failures source.old) }
+    requires room { 0 < length piece.old }
+    ensures kept { length piece.new ≡ length piece.old }
+    ensures gathered { OnOk result (Gathers (R.left source.old) (R.left source.new)
+        bytes.old.items bytes.new.items) }
+    ensures more { IfOk result (λ more. more ≡ true → length bytes.old.items < length bytes.new.items) }
+    ensures met { IfOk result (λ more. more ≢ true → R.is_ended source.new ≡ true) }
+    ensures all { IfOk result (λ more. more ≢ true → IsAtEnd (R.left source.new)) }
+    ensures count { CountsReads (R.read_failures source.old) (R.read_failures source.new) result }
+{
+    match source.pull(piece) {
+        Ok(n) => {
+            let Ok(()) = bytes.extend_from_slice(&piece[..n]) else {
+                return Err(ReadError::OutOfMemory);
+            };
+            Ok(n > 0)
+        }
+        Err(Failed) => Err(ReadError::ReadFailed),
+    }
+}
+
+/// Adds all that a source gives until its end, piece by piece.
+fn gather_all<R: Source>(
+    source: &mut R,
+    piece: &mut [u8],
+    bytes: &mut Vec<u8>,
+) -> Result<(), ReadError>
+    requires failures { CanGrow (R.read_failures source.old) }
+    requires room { 0 < length piece.old }
+    ensures gathered { OnOk result (Gathers (R.left source.old) (R.left source.new)
+        bytes.old.items bytes.new.items) }
+    ensures met { OnOk result (R.is_ended source.new ≡ true) }
+    ensures all { OnOk result (IsAtEnd (R.left source.new)) }
+    ensures count { CountsReads (R.read_failures source.old) (R.read_failures source.new) result }
+{
+    'pieces: while gather(source, piece, bytes)? {}
+    Ok(())
+}
+
+/// All bytes that a source gives until its end. An error is a read that failed, or want of memory.
+pub fn read_all<R: Source>(alloc: Global, source: &mut R) -> Result<Vec<u8>, ReadError>
+    requires { CanGrow (R.read_failures source.old) }
+    ensures ok { IfOk result (λ bytes. Consumes (R.left source.old) (R.left source.new) bytes.items) }
+    ensures met { OnOk result (R.is_ended source.new ≡ true) }
+    ensures all { OnOk result (IsAtEnd (R.left source.new)) }
+    ensures count { CountsReads (R.read_failures source.old) (R.read_failures source.new) result }
+{
+    let mut bytes = Vec::new(alloc);
+    let Ok(mut piece) = Vec::from_elem(alloc, 0u8, PIECE) else {
+        return Err(ReadError::OutOfMemory);
+    };
+    gather_all(source, &mut piece, &mut bytes)?;
+    Ok(bytes)
+}
+
+/// Writes all bytes of a text. An error is a write that failed, after a beginning of the text.
+pub fn write_all<W: Sink>(sink: &mut W, text: &[u8]) -> Result<(), Failed>
+    requires { CanGrow (W.write_failures sink.old) }
+    ensures ok { OnOk result (Appends (W.written sink.old) (W.written sink.new) text.now) }
+    ensures err { OnErr result
+        ((n : ℕ) × Appends (W.written sink.old) (W.written sink.new) (take n text.now)) }
+    ensures count { Counts (W.write_failures sink.old) (W.write_failures sink.new) result }
+{
+    let mut at = 0;
+    'parts: while at < text.len() {
+        at += sink.push(&text[at..])?;
+    }
+    Ok(())
+}

@@ -1,0 +1,46 @@
+use Rattle.std.proofs.Common.{◌≡◌, ◌∙◌, ap, sym, subst, refl, length, ℕ, List}
+use Rattle.std.specs.List.{AllByRecursion}
+use Rattle.program.specs.declared.name.Name.{Name}
+use Rattle.program.specs.declared.op.Op.{Op}
+use Rattle.program.specs.Parts.{Parts, Small, IsSmall, IsProgram, parts_of}
+use Rattle.machine.specs.ProgramOf.{IsProgramOf}
+use Rattle.recording.specs.Execution.{Execution}
+use Rattle.replay.specs.Program.{program_of, named_program}
+use Rattle.program.specs.AddressNames.{address_names}
+use Rattle.replay.proofs.NamedProgram.{named_is_program, named_is_of}
+use Rattle.replay.proofs.naming.named_program.Goals as goal
+
+pub unreachable-requires : goal.unreachable-requires
+unreachable-requires c =
+    let x : Execution = c.args.recording.now in
+    let small : AllByRecursion (AllByRecursion Small) (program_of x) =
+    subst (λ (p : List (List Op)). AllByRecursion (AllByRecursion Small) p) c.in-Ok.ensures.cores
+    c.in-Ok.ensures.small in
+    let names : c.in_ok-names.names.keys ≡ address_names (length x.write_lists) =
+    c.in_ok-names.ensures ∙ ap address_names c.addresses.ensures in
+    let init : c.in-Ok-values_of.init.items ≡ x.initial = c.in-Ok-values_of.ensures.values ∙ c.init.ensures.value in
+    let small_init : AllByRecursion IsSmall x.initial =
+    subst (λ (l : List ℕ). AllByRecursion IsSmall l) init c.in-Ok-values_of.ensures.small in
+    c.in-None.ensures.none refl
+    (subst (λ (l : List Name). IsProgram (parts_of l c.in-Ok.cores.items c.in-Ok-values_of.init.items))
+    (sym names)
+    (subst (λ (p : List (List Op)). IsProgram
+    (parts_of (address_names (length x.write_lists)) p c.in-Ok-values_of.init.items))
+    (sym c.in-Ok.ensures.cores)
+    (subst (λ (l : List ℕ). IsProgram (parts_of (address_names (length x.write_lists)) (program_of x) l))
+    (sym init) (named_is_program x c.sound.ensures c.requires small small_init))))
+
+pub returns-clause-made : goal.returns-clause-made
+returns-clause-made c =
+    let x : Execution = c.args.recording.now in
+    let cores : List (List Op) = c.in-Ok.cores.items in
+    let init : List ℕ = c.in-Ok-values_of.init.items in
+    let names : c.in_ok-names.names.keys ≡ address_names (length x.write_lists) =
+    c.in_ok-names.ensures ∙ ap address_names c.addresses.ensures in
+    let values : init ≡ x.initial = c.in-Ok-values_of.ensures.values ∙ c.init.ensures.value in
+    let program : c.in-Some.program ≡ named_program x =
+    c.in-Some.ensures.some
+    ∙ (ap (λ (l : List Name). parts_of l cores init) names
+    ∙ (ap (λ (p : List (List Op)). parts_of (address_names (length x.write_lists)) p init) c.in-Ok.ensures.cores
+    ∙ ap (λ (l : List ℕ). parts_of (address_names (length x.write_lists)) (program_of x) l) values)) in
+    subst (λ (p : Parts). IsProgramOf p x) (sym program) (named_is_of x)

@@ -1,0 +1,25 @@
+//! Tests of random programs and their trials.
+#![tactic(auto)]
+
+#[cfg(test)]
+mod campaigns;
+#[cfg(test)]
+mod desks;
+#[cfg(test)]
+mod endings;
+#[cfg(test)]
+mod judged;
+#[cfg(test)]
+mod limits;
+#[cfg(test)]
+mod memory;
+#[cfg(test)]
+mod programs;
+#[cfg(test)]
+mod reproduced;
+#[cfg(test)]
+mod schedules;
+#[cfg(test)]
+mod told;
+#[cfg(test)]
+mod words;

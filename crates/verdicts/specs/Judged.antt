@@ -1,0 +1,23 @@
+-- What is known after the bytes of a recording were judged.
+use Rattle.std.specs.Prelude.{◌≡◌, ◌≤◌, ◌<◌, ◌++◌, ℕ, List, drop, length}
+use Rattle.report.specs.declared.printed.Answer.{Answer}
+use Rattle.report.specs.Answer.{IsJudgedAnswer, IsRefusedAnswer}
+
+-- the bytes give no recording, and not for want of memory
+abbrev pub IsRefused : List ℕ → Type 0
+IsRefused bytes = (answer : Answer) × IsRefusedAnswer bytes answer
+
+-- the text of the verdict, n bytes long, stands in front of what else the buffer had
+pub record IsWritten (bytes old new : List ℕ) (n : ℕ) : Type 0 where
+  pub answer : Answer
+  pub judged : IsJudgedAnswer bytes answer
+  pub length_is : n ≡ length answer.text.items
+  pub within : n ≤ length old
+  pub written : new ≡ answer.text.items ++ drop n old
+
+-- the text of the verdict, n bytes long, has no room in the buffer
+pub record IsTooLong (bytes old : List ℕ) (n : ℕ) : Type 0 where
+  pub answer : Answer
+  pub judged : IsJudgedAnswer bytes answer
+  pub length_is : n ≡ length answer.text.items
+  pub longer : length old < n

@@ -1,0 +1,52 @@
+//! Verdicts that are written into buffers. A status is the number that a caller in C has.
+
+use crate::verdicts_judge;
+use std::alloc::Global;
+use std::test::Fail;
+
+const OVERLOOKED_STORE: &[u8] =
+    b"{\"cores\":[[{\"a\":0,\"k\":\"S\",\"w\":1},{\"a\":0,\"k\":\"L\",\"r\":0,\"s\":null}]],\"version\":1,\"writes\":[[0]]}\n";
+
+/// Its verdict, and what the buffer had behind it.
+const FILLED: &[u8] = b"overlook: load 1 store 0\n\x07\x07";
+
+/// Whether the verdict on a text is answered so, with this length, which is told whatever it was before, and
+/// leaves this buffer.
+fn leaves(alloc: Global, text: &[u8], out: &mut [u8], told: (u8, usize), left: &[u8]) -> bool {
+    let mut len = 7;
+    let status = verdicts_judge(alloc, text, out, &mut len);
+    status == told.0 && len == told.1 && &*out == left
+}
+
+#[test]
+fn a_verdict_is_written_where_it_has_room(rt: HostRuntime) -> Result<(), Fail> {
+    let mut out = [7u8; 27];
+    assert!(rt; leaves(rt.alloc(), OVERLOOKED_STORE, &mut out, (0, 25), FILLED));
+    assert!(rt; leaves(rt.alloc(), b"{}", &mut out, (1, 0), FILLED));
+    Ok(())
+}
+
+#[test]
+fn a_verdict_without_room_says_its_length(rt: HostRuntime) -> Result<(), Fail> {
+    let mut short = [7u8; 24];
+    assert!(rt;
+        leaves(
+            rt.alloc(),
+            OVERLOOKED_STORE,
+            &mut short,
+            (2, 25),
+            &[7u8; 24]
+        )
+    );
+    let mut full = [7u8; 25];
+    assert!(rt;
+        leaves(
+            rt.alloc(),
+            OVERLOOKED_STORE,
+            &mut full,
+            (0, 25),
+            &FILLED[..25]
+        )
+    );
+    Ok(())
+}
