@@ -67,7 +67,7 @@ fn the_line_that_is_refused_is_quoted(rt: HostRuntime) -> Result<(), Fail> {
     let all = [whole("wrong", b"core\nst \x07\"x\" 1\n")];
     let mut texts = Texts::new(&all);
     let (_, printed) = performed(&rt, rt.alloc(), "run wrong", &mut texts)?;
-    assert!(rt; printed.as_slice() == b"refused: L1 line 2\n");
+    assert!(rt; printed.as_slice() == b"refused: L1 line 2\n".as_slice());
     assert!(rt; matches!(&texts.line, Some(line) if line.as_str() == "\"st \\x07\\\"x\\\" 1\""));
     Ok(())
 }

@@ -31,7 +31,8 @@ commands = (
     ∷ (codes "replay", (codes "FILE", Place) ∷ [])
     ∷ (codes "explain", (codes "FILE", Place) ∷ (codes "program", Word) ∷ [])
     ∷ (codes "draw", (codes "FILE", Place) ∷ (codes "program", Word) ∷ (codes "all", Nothing) ∷ [])
-    ∷ (codes "reduce", (codes "FILE", Place) ∷ (codes "program", Word) ∷ []) ∷ []
+    ∷ (codes "reduce", (codes "FILE", Place) ∷ (codes "program", Word) ∷ [])
+    ∷ (codes "verify", (codes "RECORDING", Place) ∷ (codes "VERDICT", Place) ∷ (codes "workers", Number) ∷ []) ∷ []
 
 -- a row of the code's table
 abbrev pub row_of : CommandRow → Text × List (Text × Takes)

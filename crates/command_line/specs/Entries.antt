@@ -72,6 +72,7 @@ abbrev pub names_standard_input_twice : List Row → Bool
 names_standard_input_twice rows =
     (is_standard_input (codes "PROGRAM") rows && is_standard_input (codes "steps") rows)
     || (is_standard_input (codes "FILE") rows && is_standard_input (codes "program") rows)
+    || (is_standard_input (codes "RECORDING") rows && is_standard_input (codes "VERDICT") rows)
 
 -- the entry, where there is one, is a number of 64 bits
 abbrev pub HasNumber : Text → List Row → Type 0

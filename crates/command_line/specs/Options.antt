@@ -8,6 +8,8 @@ use Rattle.clap.specs.declared.error.kind.ErrorKind.TheVariants as kinds
 use Rattle.command_line.specs.declared.options.Limits.{Limits}
 use Rattle.command_line.specs.declared.options.Options.{Options}
 use Rattle.command_line.specs.declared.options.Options.TheVariants.{Run, Judge, Trials, Live, Replay, Explain, Draw, Reduce}
+use Rattle.command_line.specs.declared.options.Options.TheVariants.{Verify}
+use Rattle.command_line.specs.declared.options.VerifyOptions.{VerifyOptions}
 use Rattle.command_line.specs.declared.options.RunOptions.{RunOptions}
 use Rattle.command_line.specs.declared.options.JudgeOptions.{JudgeOptions}
 use Rattle.command_line.specs.declared.options.TrialsOptions.{TrialsOptions}
@@ -105,6 +107,12 @@ pub record AreDrawOptions (o : DrawOptions) (rows : List Row) : Type 0 where
   pub recording : AreExplainOptions o.recording rows
   pub all : o.all ≡ is_given (codes "all") rows
 
+-- each option of verify is its entry, or else its default
+pub record AreVerifyOptions (o : VerifyOptions) (rows : List Row) : Type 0 where
+  pub recording : first_of (codes "RECORDING") rows ≡ Some (string_bytes o.recording)
+  pub verdict : first_of (codes "VERDICT") rows ≡ Some (string_bytes o.verdict)
+  pub workers : IsNumber (codes "workers") WORKERS rows o.workers
+
 -- the options are those of the command with this name
 abbrev pub AreOptionsOf : Options → Text → List Row → Type 0
 AreOptionsOf (Run o) name rows = (name ≡ codes "run") × AreRunOptions o rows
@@ -115,6 +123,7 @@ AreOptionsOf (Replay o) name rows = (name ≡ codes "replay") × AreFileOptions 
 AreOptionsOf (Explain o) name rows = (name ≡ codes "explain") × AreExplainOptions o rows
 AreOptionsOf (Draw o) name rows = (name ≡ codes "draw") × AreDrawOptions o rows
 AreOptionsOf (Reduce o) name rows = (name ≡ codes "reduce") × AreExplainOptions o rows
+AreOptionsOf (Verify o) name rows = (name ≡ codes "verify") × AreVerifyOptions o rows
 
 -- the options are those of the command that was read, whose inputs are not both standard input; no entry is refused
 abbrev pub AreOptions : Options → Option (Text × List Row) → Type 0

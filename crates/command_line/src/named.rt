@@ -8,7 +8,7 @@ ghost use Rattle.command_line.specs.Refusals.{refusal_of};
 use crate::entries::{maybe_text, text};
 use crate::options::{
     DrawOptions, ExplainOptions, FileOptions, JudgeOptions, LiveOptions, Options, RunOptions,
-    TrialsOptions,
+    TrialsOptions, VerifyOptions,
 };
 use crate::values::Values;
 use campaign::Campaign;
@@ -124,6 +124,11 @@ pub fn named_options(
             all: values.all,
         })),
         "reduce" => Ok(Options::Reduce(recorded(alloc, matches)?)),
+        "verify" => Ok(Options::Verify(VerifyOptions {
+            recording: given(alloc, matches, "RECORDING")?,
+            verdict: given(alloc, matches, "VERDICT")?,
+            workers: values.workers,
+        })),
         _ => unreachable!(),
     }
 }

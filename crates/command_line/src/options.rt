@@ -78,6 +78,8 @@ pub enum Options {
     Draw(DrawOptions),
     /// `reduce`.
     Reduce(ExplainOptions),
+    /// `verify`.
+    Verify(VerifyOptions),
 }
 
 /// What `run` is asked: the names of the program and of the script, and the machine and the steps of
@@ -145,6 +147,17 @@ pub struct DrawOptions {
     pub recording: ExplainOptions,
     /// Whether all events are drawn, not only those that a violation needs.
     pub all: bool,
+}
+
+/// What `verify` is asked: the names of the recording and of the text of a verdict, and how many workers check its labels.
+#[derive(Debug, Drop)]
+pub struct VerifyOptions {
+    /// The name of the recording.
+    pub recording: String,
+    /// The name of the text.
+    pub verdict: String,
+    /// How many workers check the labels at most, 1 to `MAX_WORKERS`.
+    pub workers: usize,
 }
 
 /// What `live` is asked: the name of the program, the capacity of each buffer, and how many steps

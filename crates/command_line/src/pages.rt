@@ -228,6 +228,24 @@ Example:
   tsotest reduce recording.json --program store_buffering.litmus",
 };
 
+const VERIFY: Page = Page {
+    about: "Checks whether the text of a verdict holds of a recording, whoever gave it",
+    more: "Checks whether the text of a verdict holds of a recording, whoever gave it.
+
+A verdict carries its proof. An order holds if it is any order that TSO allows, an overlook
+if the load overlooks the store, and a cycle if each pair has its reason and the labels show
+that no cycle is shorter. The answer is `holds`, or `does not hold: line N`, where line N is
+the first at fault, or `does not hold` where lines are missing.",
+    statuses: "Exit status:
+  0  the verdict holds
+  1  a fault of the command line, a file or memory, as standard error says
+  2  it does not hold
+  3  the recording or a number was refused, as the line `refused: ..` says
+
+Example:
+  tsotest verify recording.json recording.verdict",
+};
+
 /// The page of the command with this name.
 pub fn page_of(name: &str) -> Page {
     match name {
@@ -239,6 +257,7 @@ pub fn page_of(name: &str) -> Page {
         "explain" => EXPLAIN,
         "draw" => DRAW,
         "reduce" => REDUCE,
+        "verify" => VERIFY,
         _ => PROGRAM,
     }
 }

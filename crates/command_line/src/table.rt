@@ -51,6 +51,20 @@ const FILE: ArgumentRow = ArgumentRow {
     help: "The recording: a file, or - for standard input",
 };
 
+const RECORDING: ArgumentRow = ArgumentRow {
+    name: "RECORDING",
+    takes: Takes::Place,
+    value: "",
+    help: "The recording: a file, or - for standard input",
+};
+
+const VERDICT: ArgumentRow = ArgumentRow {
+    name: "VERDICT",
+    takes: Takes::Place,
+    value: "",
+    help: "The text of a verdict: a file, or - for standard input",
+};
+
 const NAMES: ArgumentRow = ArgumentRow {
     name: "program",
     takes: Takes::Text,
@@ -199,5 +213,9 @@ pub const COMMANDS: &[CommandRow] = &[
     CommandRow {
         name: "reduce",
         arguments: &[FILE, NAMES],
+    },
+    CommandRow {
+        name: "verify",
+        arguments: &[RECORDING, VERDICT, WORKERS],
     },
 ];

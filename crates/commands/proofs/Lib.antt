@@ -4,3 +4,4 @@ pub mod Threaded
 pub mod Stops
 pub mod Asking
 pub mod Given
+pub mod Findings

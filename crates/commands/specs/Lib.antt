@@ -11,3 +11,4 @@ pub mod Refusal
 pub mod Run
 pub mod Tell
 pub mod Trials
+pub mod Verify

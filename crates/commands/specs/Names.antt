@@ -2,6 +2,8 @@
 use Rattle.std.specs.Prelude.{◌∷◌, [], ℕ, List, Option, None, Some, option_map, string_bytes}
 use Rattle.command_line.specs.declared.options.Options.{Options}
 use Rattle.command_line.specs.declared.options.Options.TheVariants.{Run, Judge, Trials, Live, Replay, Explain, Draw, Reduce}
+use Rattle.command_line.specs.declared.options.Options.TheVariants.{Verify}
+use Rattle.command_line.specs.declared.options.VerifyOptions.{VerifyOptions}
 use Rattle.command_line.specs.declared.options.RunOptions.{RunOptions}
 use Rattle.command_line.specs.declared.options.ExplainOptions.{ExplainOptions}
 
@@ -18,6 +20,10 @@ run_names o = string_bytes o.program ∷ maybe_name (option_map string_bytes o.s
 abbrev pub tell_names : ExplainOptions → List (List ℕ)
 tell_names o = string_bytes o.file ∷ maybe_name (option_map string_bytes o.program)
 
+-- the recording, then the text of a verdict
+abbrev pub verify_names : VerifyOptions → List (List ℕ)
+verify_names o = string_bytes o.recording ∷ string_bytes o.verdict ∷ []
+
 -- those of any command
 abbrev pub names_of : Options → List (List ℕ)
 names_of (Run o) = run_names o
@@ -28,3 +34,4 @@ names_of (Replay o) = string_bytes o.file ∷ []
 names_of (Explain o) = tell_names o
 names_of (Draw o) = tell_names o.recording
 names_of (Reduce o) = tell_names o
+names_of (Verify o) = verify_names o

@@ -22,6 +22,7 @@ use Rattle.commands.specs.declared.fault.CommandFault.TheVariants.{WriteFailed}
 use Rattle.commands.specs.declared.fault.CommandFault.TheVariants as fault
 use Rattle.command_line.specs.declared.options.Options.{Options}
 use Rattle.command_line.specs.declared.options.Options.TheVariants.{Run, Judge, Trials, Live, Replay, Explain, Draw, Reduce}
+use Rattle.command_line.specs.declared.options.Options.TheVariants.{Verify}
 use Rattle.command_line.specs.declared.options.OptionFault.{OptionFault}
 use Rattle.command_line.specs.declared.options.OptionFault.TheVariants.{Clap, OutOfMemory}
 use Rattle.command_line.specs.declared.options.OptionFault.TheVariants as refused
@@ -38,6 +39,7 @@ use Rattle.command_line.specs.Options.{AreOptions, IsFault}
 use Rattle.commands.specs.Refusal.{IsReadingStop, option_line, step_fault_name}
 use Rattle.commands.specs.Run.{IsRun, IsLive}
 use Rattle.commands.specs.Trials.{IsTrials}
+use Rattle.commands.specs.Verify.{IsVerified, IsVerifyStop}
 
 -- the script of this name is refused for the program, or isn't read
 abbrev pub IsScriptStop : (List ℕ → Option (List ℕ)) → Parts → List ℕ → Stop → Type 0
@@ -89,6 +91,7 @@ IsAnswerTo inputs (Replay o) answer = IsReplayedInput inputs o answer
 IsAnswerTo inputs (Explain o) answer = IsTold inputs Words o answer
 IsAnswerTo inputs (Draw o) answer = IsTold inputs (Picture o.all) o.recording answer
 IsAnswerTo inputs (Reduce o) answer = IsTold inputs Reduction o answer
+IsAnswerTo inputs (Verify o) answer = IsVerified inputs o answer
 
 -- why a command with these options and inputs stops
 abbrev pub IsCommandStop : (List ℕ → Option (List ℕ)) → Options → Stop → Type 0
@@ -101,6 +104,7 @@ IsCommandStop inputs (Replay o) stop = IsReplayStop inputs o stop
 IsCommandStop inputs (Explain o) stop = IsTellingStop inputs o stop
 IsCommandStop inputs (Draw o) stop = IsTellingStop inputs o.recording stop
 IsCommandStop inputs (Reduce o) stop = IsTellingStop inputs o stop
+IsCommandStop inputs (Verify o) stop = IsVerifyStop inputs o stop
 
 -- what clap says goes to standard error: it is neither help nor the version
 abbrev pub IsMistake : Error → Type 0

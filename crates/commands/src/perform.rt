@@ -21,6 +21,7 @@ use crate::run_command::run_command;
 use crate::stop::{Refusal, Stop};
 use crate::tell_command::tell_command;
 use crate::trials_command::trials_command;
+use crate::verify_command::verify_command;
 use answers::Telling;
 use command_line::words::options;
 use command_line::{JudgeOptions, OptionFault, Options};
@@ -80,6 +81,7 @@ fn answer_to<R: Threads + Wait + Sync, P: Place>(
             tell_command(alloc, telling, &draw.recording, place)
         }
         Options::Reduce(reduce) => tell_command(alloc, Telling::Reduction, reduce, place),
+        Options::Verify(verify) => verify_command(rt, alloc, verify, place),
     }
 }
 

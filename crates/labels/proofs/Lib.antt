@@ -1,4 +1,3 @@
 pub mod Agreed
-pub mod Certificates
 pub mod Pairs
 pub mod Rows

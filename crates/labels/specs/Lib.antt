@@ -1,2 +1,3 @@
 pub mod Certified
 pub mod Agreed
+pub mod CertificateLaws

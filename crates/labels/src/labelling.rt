@@ -82,8 +82,9 @@ fn closes(relation: &Relation, size: usize, v: EventId, labels: &[u16]) -> bool
     true
 }
 
-/// Whether labels of any number show that no cycle through `v` is shorter than the length.
-pub(crate) fn is_labelling(relation: &Relation, size: usize, v: EventId, labels: &[u16]) -> bool
+/// Whether labels of any number show that no cycle through `v` is shorter than the length. The event
+/// `v` has to be there.
+pub fn is_labelling(relation: &Relation, size: usize, v: EventId, labels: &[u16]) -> bool
     requires { v < length relation.now }
     ensures { IsTrue result
         ↔ IsLabelling (Related relation.now) size (length relation.now) v labels.now }

@@ -8,5 +8,6 @@ mod parallel;
 mod shortest;
 
 pub use certificate::Certificate;
+pub use labelling::is_labelling;
 pub use parallel::check_par;
 pub use shortest::check;

@@ -4,7 +4,7 @@ use Rattle.relations.specs.Cycle.{IsCycle}
 use Rattle.labels.specs.Certified.{lists_of}
 use Rattle.labels.specs.Agreed.{AreShaped, AllAgree}
 use Rattle.labels.proofs.Agreed.{agreed_certify, certified_agree}
-use Rattle.labels.proofs.Certificates.{certificates_are_shortest}
+use Rattle.labels.specs.CertificateLaws.{certificates_are_shortest}
 use Rattle.labels.proofs.parallel.check_par.Goals as goal
 
 pub returns-clause-exact : goal.returns-clause-exact

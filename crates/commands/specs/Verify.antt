@@ -1,0 +1,36 @@
+-- What verify answers.
+use Rattle.std.specs.Prelude.{◌≡◌, ◌⊎◌, ◌++◌, ◌∷◌, [], ℕ, List, Option, codes, string_bytes}
+use Rattle.command_line.specs.declared.options.VerifyOptions.{VerifyOptions}
+use Rattle.recording.specs.Execution.{Execution}
+use Rattle.report.specs.declared.outcome.Outcome.TheVariants.{Done, Violation}
+use Rattle.report.specs.declared.printed.Answer.{Answer}
+use Rattle.verification.specs.Proof.{IsProof}
+use Rattle.commands.specs.declared.stop.Stop.{Stop}
+use Rattle.commands.specs.declared.stop.Stop.TheVariants.{Refused, Fault}
+use Rattle.commands.specs.Inputs.{AreBytesOf, IsInputFault}
+use Rattle.commands.specs.Recording.{IsRecordingAt, IsRecordingStop}
+
+-- a text holds exactly where it is that of a verdict that passes its check; which line is at fault no clause says
+pub record IsCheckAnswer (x : Execution) (text : List ℕ) (answer : Answer) : Type 0 where
+  pub holds : IsProof x text → (answer.outcome ≡ Done) × (answer.text.items ≡ codes "holds" ++ 10 ∷ [])
+  pub fails : (IsProof x text → ⊥) → (answer.outcome ≡ Violation)
+      × ((rest : List ℕ) × (answer.text.items ≡ codes "does not hold" ++ rest))
+
+-- the answer to the text of the second input, of the recording of the first
+pub record IsVerified (inputs : List ℕ
+    → Option (List ℕ)) (o : VerifyOptions) (answer : Answer) : Type 0 where
+  pub recording : Execution
+  pub at : IsRecordingAt inputs (string_bytes o.recording) recording
+  pub text : List ℕ
+  pub given : AreBytesOf inputs (string_bytes o.verdict) text
+  pub answered : IsCheckAnswer recording text answer
+
+-- the text of this name isn't read, or there is no memory
+abbrev pub IsTextStop : (List ℕ → Option (List ℕ)) → List ℕ → Stop → Type 0
+IsTextStop inputs name (Refused refusal) = ⊥
+IsTextStop inputs name (Fault fault) = IsInputFault inputs name fault
+
+-- why a text is not checked: the recording is refused or isn't read, or the text isn't
+abbrev pub IsVerifyStop : (List ℕ → Option (List ℕ)) → VerifyOptions → Stop → Type 0
+IsVerifyStop inputs o stop = IsRecordingStop inputs (string_bytes o.recording) stop
+    ⊎ IsTextStop inputs (string_bytes o.verdict) stop

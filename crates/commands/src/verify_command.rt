@@ -1,0 +1,83 @@
+//! The command `verify`.
+ghost use Rattle.std.specs.Prelude.{◌≡◌, ◌↔◌, ◌∷◌, [], ℕ, List, IfErr, IfOk, string_bytes};
+ghost use Rattle.recording.specs.Execution.{Execution};
+ghost use Rattle.verification.specs.declared.finding.Finding.TheVariants.{Holds};
+ghost use Rattle.verification.specs.Proof.{IsProof};
+ghost use Rattle.commands.specs.Inputs.{AreBytesOf, CanRead, Reads, seen};
+ghost use Rattle.commands.specs.Names.{verify_names};
+ghost use Rattle.commands.specs.Verify.{IsCheckAnswer, IsTextStop, IsVerified, IsVerifyStop};
+
+use crate::inputs::text_at;
+use crate::named::recording_at;
+use crate::stop::Stop;
+use command_line::VerifyOptions;
+use devices::Place;
+use recording::Recording;
+use report::{Answer, Outcome};
+use std::alloc::{AllocError, Global};
+use std::sync::Wait;
+use std::thread::Threads;
+use verification::{Finding, check_text};
+
+/// What is answered to a finding.
+fn finding_answer(alloc: Global, finding: Finding) -> Result<Answer, AllocError>
+    ensures { IfOk result (λ answer. (x : Execution) → (text : List ℕ) → (finding ≡ Holds) ↔ IsProof x text
+        → IsCheckAnswer x text answer) }
+{
+    match finding {
+        Finding::Holds => Answer::of(alloc, Outcome::Done, "holds\n"),
+        Finding::FaultAt(line) => {
+            let text = format!(in alloc; "does not hold: line {line}\n")?;
+            Ok(Answer {
+                outcome: Outcome::Violation,
+                text: text.into_bytes(),
+            })
+        }
+        Finding::EndsEarly => Answer::of(alloc, Outcome::Violation, "does not hold\n"),
+    }
+}
+
+/// What is answered to the text of this name, of a recording.
+fn checked<R: Threads + Wait + Sync, P: Place>(
+    rt: &R,
+    alloc: Global,
+    recording: &Recording,
+    name: &str,
+    workers: usize,
+    place: &mut P,
+) -> Result<Answer, Stop>
+    requires { CanRead (P.tally place.old) }
+    ensures ok { IfOk result (λ answer. (text : List ℕ) × AreBytesOf (P.bytes place.old) name.now text
+        × IsCheckAnswer recording.now text answer) }
+    ensures err { IfErr result (IsTextStop (P.bytes place.old) name.now) }
+    ensures reads { Reads (name.now ∷ []) (seen (P.asked place.old) (P.asked place.new)
+        (P.tally place.old) (P.tally place.new)) result }
+{
+    let text = text_at(alloc, place, name)?;
+    let finding = check_text(rt, alloc, recording, text.as_slice(), workers)?;
+    Ok(finding_answer(alloc, finding)?)
+}
+
+/// Checks whether the text of one named input is that of a verdict that holds of the recording of another.
+pub fn verify_command<R: Threads + Wait + Sync, P: Place>(
+    rt: &R,
+    alloc: Global,
+    options: &VerifyOptions,
+    place: &mut P,
+) -> Result<Answer, Stop>
+    requires { CanRead (P.tally place.old) }
+    ensures ok { IfOk result (IsVerified (P.bytes place.old) options.now) }
+    ensures err { IfErr result (IsVerifyStop (P.bytes place.old) options.now) }
+    ensures reads { Reads (verify_names options.now) (seen (P.asked place.old) (P.asked place.new)
+        (P.tally place.old) (P.tally place.new)) result }
+{
+    let recording = recording_at(alloc, place, options.recording.as_str())?;
+    checked(
+        rt,
+        alloc,
+        &recording,
+        options.verdict.as_str(),
+        options.workers,
+        place,
+    )
+}

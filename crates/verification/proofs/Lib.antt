@@ -1,0 +1,6 @@
+pub mod Digits
+pub mod Texts
+pub mod Pairs
+pub mod Labels
+pub mod Heads
+pub mod Certificates

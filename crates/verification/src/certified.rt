@@ -1,0 +1,147 @@
+//! The check of the lines of a cycle and its labels.
+
+ghost use Rattle.std.specs.Prelude.{◌≡◌, ◌≢◌, ◌<◌, ◌≤◌, ◌++◌, ◌∷◌, ◌↔◌, ℕ, List, Some, IfOk, IfSome, IsTrue};
+ghost use Rattle.std.specs.Prelude.{MatchOption, codes, decimal, length};
+ghost use Rattle.common.specs.declared.limits.TheConstants.{MAX_EVENTS};
+ghost use Rattle.recording.specs.Execution.{event_count};
+ghost use Rattle.relations.specs.Forced.{Forced};
+ghost use Rattle.relations.specs.Relation.{Related};
+ghost use Rattle.labels.specs.Certified.{Certifies};
+ghost use Rattle.report.specs.Verdict.{ArePairLines};
+ghost use Rattle.verification.specs.declared.finding.Finding.TheVariants.{Holds};
+ghost use Rattle.verification.specs.Proof.{AreShort, IsJudged, IsProof};
+
+use crate::cursor::Cursor;
+use crate::cycle::pairs;
+use crate::finding::Finding;
+use crate::rows::rows;
+use common::{EventId, MAX_EVENTS, OutOfMemory};
+use labels::{Certificate, check, check_par, is_labelling};
+use recording::Recording;
+use relations::{Places, Relation, relation_is_forced};
+use std::alloc::Global;
+use std::thread::Threads;
+
+/// Takes the length of a cycle of at most so many events, and the end of its line.
+fn length_line(rest: &mut Cursor<'_>, most: usize) -> Option<usize>
+    requires { most ≤ MAX_EVENTS }
+    ensures found { IfSome result (λ k. (0 < k) × (k ≤ most) × (rest.old ≡ decimal k ++ 10 ∷ rest.new)) }
+    ensures only { (k : ℕ) (more : List ℕ) → 0 < k → k ≤ most → rest.old ≡ decimal k ++ 10 ∷ more
+        → (result ≡ Some k) × (rest.new ≡ more) }
+{
+    let Some(number) = rest.number() else {
+        return None;
+    };
+    let size = number as usize;
+    if size == 0 {
+        return None;
+    }
+    if most < size {
+        return None;
+    }
+    if !rest.take(b"\n") {
+        return None;
+    }
+    Some(size)
+}
+
+/// Takes the length of a cycle of at most so many events, and the lines of its pairs.
+fn cycle(
+    rest: &mut Cursor<'_>,
+    alloc: Global,
+    places: &Places<'_>,
+    most: usize,
+) -> Result<Option<Vec<EventId>>, OutOfMemory>
+    requires { most ≤ MAX_EVENTS }
+    ensures found { IfOk result (λ r. IfSome r (λ c. (lines : List ℕ)
+        × ArePairLines places.now c.items (length c.items) lines
+        × (rest.old ≡ decimal (length c.items) ++ 10 ∷ (lines ++ rest.new)))) }
+    ensures only { IfOk result (λ r. (c lines more : List ℕ) → 0 < length c → length c ≤ most → AreShort c
+        → ArePairLines places.now c (length c) lines
+        → rest.old ≡ decimal (length c) ++ 10 ∷ (lines ++ more)
+        → MatchOption r ⊥ (λ v. v.items ≡ c) × (rest.new ≡ more)) }
+{
+    let Some(size) = length_line(rest, most) else {
+        return Ok(None);
+    };
+    pairs(rest, alloc, places, size)
+}
+
+/// Whether the rows certify the cycle, by threads where there is more than one worker.
+fn certifies<R: Threads + Sync>(
+    rt: &R,
+    relation: &Relation,
+    certificate: &Certificate,
+    workers: usize,
+) -> bool
+    ensures { IsTrue result ↔ Certifies relation.now certificate.now }
+{
+    if workers > 1 {
+        return check_par(rt, relation, certificate);
+    }
+    check(relation, certificate)
+}
+
+/// The line of the first row that is at fault; where none is, the line that began last.
+fn fault_of(rest: &Cursor<'_>, relation: &Relation, certificate: &Certificate) -> Finding
+    ensures { result ≢ Holds }
+{
+    relation.sound();
+    let size = certificate.cycle.len();
+    for v in 0..certificate.rows.len() {
+        if v < relation.len() && !is_labelling(relation, size, v as EventId, &certificate.rows[v]) {
+            return Finding::FaultAt(size.wrapping_add(v).wrapping_add(2));
+        }
+    }
+    rest.fault()
+}
+
+/// Whether what is left is a cycle of forced pairs with labels that show that none is shorter.
+fn check_certificate<R: Threads + Sync>(
+    rt: &R,
+    alloc: Global,
+    places: &Places<'_>,
+    relation: &Relation,
+    rest: &mut Cursor<'_>,
+    workers: usize,
+) -> Result<Finding, OutOfMemory>
+    requires related { (e f : ℕ) → Related relation.now e f ↔ Forced places.now e f }
+    requires size { length relation.now ≡ event_count places.now }
+    ensures { IfOk result (λ f. (f ≡ Holds) ↔ IsProof places.now (codes "cycle of " ++ rest.old)) }
+{
+    relation.sound();
+    relation_is_forced();
+    let count = relation.len();
+    let Some(events) = cycle(rest, alloc, places, count)? else {
+        return Ok(rest.fault());
+    };
+    let mut certificate = Certificate {
+        cycle: events,
+        rows: Vec::new(alloc),
+    };
+    let all = rows(rest, alloc, count, &mut certificate.rows)?;
+    if !all {
+        return Ok(fault_of(rest, relation, &certificate));
+    }
+    if !certifies(rt, relation, &certificate, workers) {
+        return Ok(fault_of(rest, relation, &certificate));
+    }
+    Ok(rest.end())
+}
+
+/// Whether what is left is the cycle and the labels of a verdict that holds. Fails only if out of memory.
+pub(crate) fn check_cycle<R: Threads + Sync>(
+    rt: &R,
+    alloc: Global,
+    recording: &Recording,
+    rest: &mut Cursor<'_>,
+    workers: usize,
+) -> Result<Finding, OutOfMemory>
+    ensures exact { IfOk result (λ f. (f ≡ Holds) ↔ IsProof recording.now (codes "cycle of " ++ rest.old)) }
+    ensures judged { IfOk result (λ f. IsJudged recording.now (codes "cycle of " ++ rest.old) → f ≡ Holds) }
+{
+    let relation = Relation::of(alloc, recording)?;
+    relation.sound();
+    let places = Places::of(alloc, recording)?;
+    check_certificate(rt, alloc, &places, &relation, rest, workers)
+}

@@ -1,0 +1,17 @@
+//! Whether a text is that of a verdict that holds of a recording.
+#![tactic(auto)]
+
+mod certified;
+mod cursor;
+mod cycle;
+#[cfg(test)]
+mod examples;
+mod finding;
+mod numbers;
+mod ordered;
+mod overlooked;
+mod rows;
+mod text;
+
+pub use finding::Finding;
+pub use text::check_text;

@@ -1,0 +1,47 @@
+//! Numbers, a space before each, and the end of their line.
+
+ghost use Rattle.std.specs.Prelude.{◌≡◌, ◌<◌, ◌^◌, ◌++◌, ◌∷◌, ℕ, List, Some, IfOk, IfSome, MatchOption, false, decimal};
+ghost use Rattle.program.specs.Numbers.{is_digit};
+ghost use Rattle.report.specs.Verdict.{numbers_text};
+ghost use Rattle.verification.specs.Proof.{IsRow};
+
+use crate::cursor::Cursor;
+use common::OutOfMemory;
+use std::alloc::Global;
+
+/// Takes a space and a number.
+fn spaced(rest: &mut Cursor<'_>) -> Option<u16>
+    ensures found { IfSome result (λ n. (n < 2 ^ 16) × (rest.old ≡ 32 ∷ (decimal n ++ rest.new))) }
+    ensures only { (n b : ℕ) (more : List ℕ) → n < 2 ^ 16 → is_digit b ≡ false
+        → rest.old ≡ 32 ∷ (decimal n ++ b ∷ more) → (result ≡ Some n) × (rest.new ≡ b ∷ more) }
+{
+    if !rest.take(b" ") {
+        return None;
+    }
+    rest.number()
+}
+
+/// Takes so many numbers, a space before each, and the end of the line.
+pub(crate) fn numbers(
+    rest: &mut Cursor<'_>,
+    alloc: Global,
+    count: usize,
+) -> Result<Option<Vec<u16>>, OutOfMemory>
+    ensures found { IfOk result (λ r. IfSome r (λ v. IsRow count v.items
+        × (rest.old ≡ numbers_text v.items ++ 10 ∷ rest.new))) }
+    ensures only { IfOk result (λ r. (ns more : List ℕ) → IsRow count ns
+        → rest.old ≡ numbers_text ns ++ 10 ∷ more
+        → MatchOption r ⊥ (λ v. v.items ≡ ns) × (rest.new ≡ more)) }
+{
+    let mut numbers = Vec::with_capacity(alloc, count)?;
+    for i in 0..count {
+        let Some(number) = spaced(rest) else {
+            return Ok(None);
+        };
+        numbers.push(number)?;
+    }
+    if !rest.take(b"\n") {
+        return Ok(None);
+    }
+    Ok(Some(numbers))
+}

@@ -1,0 +1,44 @@
+//! The check of a text.
+
+ghost use Rattle.std.specs.Prelude.{◌≡◌, ◌↔◌, IfOk};
+ghost use Rattle.verification.specs.declared.finding.Finding.TheVariants.{Holds};
+ghost use Rattle.verification.specs.Proof.{IsJudged, IsProof};
+
+use crate::certified::check_cycle;
+use crate::cursor::Cursor;
+use crate::finding::Finding;
+use crate::ordered::check_order;
+use crate::overlooked::check_overlook;
+use common::OutOfMemory;
+use recording::Recording;
+use std::alloc::Global;
+use std::thread::Threads;
+
+/// Whether a text is that of a verdict that holds of a recording, whoever wrote it: the line of any memory
+/// order of TSO, of any read that overlooks a store, or any shortest cycle of forced pairs, each with its
+/// first reason, and labels of at most 16 bits that show that none is shorter. With more than one worker the
+/// labels are checked by threads. Else the first line that is at fault, given those before it: a row of labels
+/// is where it doesn't show that no cycle through its event is shorter. Any bytes will do. The memory that it
+/// takes goes with the square of the number of events, however long the text is. Fails only if out of memory.
+pub fn check_text<R: Threads + Sync>(
+    rt: &R,
+    alloc: Global,
+    recording: &Recording,
+    text: &[u8],
+    workers: usize,
+) -> Result<Finding, OutOfMemory>
+    ensures exact { IfOk result (λ f. (f ≡ Holds) ↔ IsProof recording.now text.now) }
+    ensures judged { IfOk result (λ f. IsJudged recording.now text.now → f ≡ Holds) }
+{
+    let mut rest = Cursor::new(text);
+    if rest.take(b"ordered:") {
+        return check_order(alloc, recording, &mut rest);
+    }
+    if rest.take(b"overlook: load ") {
+        return Ok(check_overlook(recording, &mut rest));
+    }
+    if rest.take(b"cycle of ") {
+        return check_cycle(rt, alloc, recording, &mut rest, workers);
+    }
+    Ok(rest.fault())
+}
