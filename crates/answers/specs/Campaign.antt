@@ -6,11 +6,11 @@ use Rattle.relations.specs.Verdict.{HasNoOrder}
 use Rattle.machine.specs.declared.fault.Fault.{Fault}
 use Rattle.machine.specs.Configuration.{Configuration}
 use Rattle.machine.specs.State.{State, IsComplete, recorded}
-use Rattle.answers.specs.CampaignText.{campaign_text}
-use Rattle.trials.specs.declared.ledger.Ledger.{Ledger}
+use Rattle.ledger.specs.declared.ledger.Ledger.{Ledger}
+use Rattle.ledger.specs.Counts.{IsLedger}
+use Rattle.report.specs.Counted.{campaign_text}
 use Rattle.trials.specs.Campaigns.{Plan}
 use Rattle.trials.specs.Codes.{AreCodes, EndsIn, program_of_trial}
-use Rattle.trials.specs.Counts.{IsLedger}
 use Rattle.report.specs.declared.printed.Answer.{Answer}
 use Rattle.report.specs.declared.outcome.Outcome.{Outcome}
 use Rattle.report.specs.declared.outcome.Outcome.TheVariants.{Done, Unfinished, Violation}
@@ -21,7 +21,7 @@ use Rattle.answers.specs.Run.{IsRunAnswer}
 abbrev pub campaign_outcome : Ledger → Outcome
 campaign_outcome l =
     if is_some l.first then Violation
-    else (if nat_lt 0 l.unfinished then Unfinished else Done)
+    else (if nat_lt 0 l.unjudged then Unfinished else Done)
 
 -- the text of the ledger of all trials of a campaign, and how they came out
 pub record IsCampaignAnswer (p : Plan) (answer : Answer) : Type 0 where

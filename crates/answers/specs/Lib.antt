@@ -1,5 +1,4 @@
 pub mod Told
 pub mod Run
 pub mod Reduced
-pub mod CampaignText
 pub mod Campaign

@@ -3,9 +3,8 @@
 ghost use Rattle.std.specs.Prelude.{◌≡◌, ◌≤◌, IfOk};
 ghost use Rattle.answers.specs.Campaign.{IsCampaignAnswer, campaign_outcome};
 
-use crate::ledger_text::campaign_text;
 use common::{Gate, MAX_WORKERS, OutOfMemory};
-use report::{Answer, Outcome};
+use report::{Answer, Outcome, campaign_text};
 use std::alloc::Global;
 use std::sync::Wait;
 use std::thread::Threads;
@@ -17,7 +16,7 @@ fn outcome_of(ledger: &Ledger) -> Outcome
 {
     if ledger.first.is_some() {
         Outcome::Violation
-    } else if ledger.unfinished > 0 {
+    } else if ledger.unjudged > 0 {
         Outcome::Unfinished
     } else {
         Outcome::Done

@@ -2,14 +2,12 @@
 #![tactic(auto)]
 
 mod campaigns;
-mod ledger_text;
 mod reduced;
 mod runs;
 mod shown;
 mod told;
 
 pub use campaigns::campaign_answer;
-pub use ledger_text::campaign_text;
 pub use reduced::reduced_answer;
 pub use runs::{finished, script_answer, seeded_answer};
 pub use shown::shown_answer;

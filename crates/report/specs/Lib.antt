@@ -1,4 +1,5 @@
 pub mod Outcomes
 pub mod Verdict
+pub mod Counted
 pub mod Refusal
 pub mod Answer

@@ -2,6 +2,7 @@
 #![tactic(auto)]
 
 mod answering;
+mod counted;
 mod cycle;
 mod numbers;
 mod outcome;
@@ -10,6 +11,7 @@ mod refusal;
 mod verdict;
 
 pub use answering::{answer, answer_alone, read_or_refuse};
+pub use counted::{campaign_text, survey_text};
 pub use devices::{Device, Failed, MemorySink, MemorySource, Sink, Source};
 pub use numbers::{put_number, put_numbers};
 pub use outcome::{Outcome, ReportError};

@@ -1,21 +1,24 @@
 -- A trial has one code.
-use Rattle.std.proofs.Common.{◌≡◌, ◌<◌, ◌≤◌, inl, inr, ℕ, List, length, get_or, refl, sym, ap, ◌∙◌, subst}
-use Rattle.std.proofs.Common.{arith}
+use Rattle.std.proofs.Common.{◌≡◌, ◌<◌, ◌≤◌, inl, inr, ℕ, List, get_or, refl, sym, ap, ◌∙◌, subst}
+use Rattle.std.proofs.Common.{◌+◌, arith, sum}
 use Rattle.std.specs.Prelude.{Option, Some, None}
 use Rattle.std.proofs.lemmas.Bool.{cases_lt}
+use Rattle.std.proofs.lemmas.Bool.Decides.{nat_tests}
 use Rattle.std.proofs.lemmas.List.{ext_get_or}
-use Rattle.recording.specs.Execution.{Execution}
+use Rattle.common.specs.declared.limits.TheConstants.{MAX_EVENTS}
 use Rattle.machine.specs.Configuration.{Configuration, IsAtEnd, recording_of}
 use Rattle.judge.specs.declared.verdict.Verdict.{Verdict}
 use Rattle.judge.specs.declared.verdict.Verdict.TheVariants.{Ordered, Overlook, Cycle}
-use Rattle.judge.specs.Verdict.{IsVerdict}
-use Rattle.relations.specs.Forced.{IsLeastOverlook}
-use Rattle.trials.specs.declared.ledger.Ledger.{Ledger}
+use Rattle.ledger.specs.declared.code.TheConstants.{CYCLE, OVERLOOK}
+use Rattle.ledger.specs.declared.ledger.Ledger.{Ledger}
+use Rattle.ledger.specs.FindingLaws.{one_finding}
+use Rattle.ledger.specs.Findings.{finding_code}
+use Rattle.ledger.specs.Counts.{IsLedger, IsSameLedger}
+use Rattle.ledger.specs.LedgerLaws as laws
 use Rattle.trials.specs.Campaigns.{Plan}
-use Rattle.trials.specs.Codes.{IsCode, AreCodes, verdict_code, end_code}
-use Rattle.trials.specs.Counts.{IsLedger}
+use Rattle.trials.specs.Codes.{IsCode, AreCodes, IsShort, end_code}
 use Rattle.trials.specs.Judged.{IsEndVerdict}
-use Rattle.trials.specs.OneLedger.{IsSameLedger}
+use Rattle.trials.specs.OneLedger.{HasItsKind}
 use Rattle.trials.specs.Schedule.{IsRandomRun, configuration_behind}
 
 module _ (attempts : ℕ) (h : Configuration) (rng : List ℕ) where
@@ -43,46 +46,13 @@ module _ (attempts : ℕ) (h : Configuration) (rng : List ℕ) where
       → IsRandomRun attempts h rng f s → e ≡ f
   one_end e f r s x y = x.leads ∙ (ap (configuration_behind h rng) (one_length e f r s x y) ∙ sym y.leads)
 
--- the least overlook is one
-one_overlook : (x : Execution) (l s k t : ℕ) → IsLeastOverlook x l s → IsLeastOverlook x k t → (l ≡ k)
-    × (s ≡ t)
-one_overlook x l s k t one two = elim (one.least k t two.overlooks) [
-  | inl less ↦ elim (two.least l s one.overlooks) [
-    | inl more ↦ absurd (omega (arith, less, more))
-    | inr same ↦ absurd (omega (arith, less, same.0))
-  ]
-  | inr same ↦ elim (two.least l s one.overlooks) [
-    | inl more ↦ absurd (omega (arith, more, same.0))
-    | inr back ↦ (same.0, omega (arith, same.1, back.1))
-  ]
-]
-
--- the verdicts on an execution have one code
-one_verdict : (x : Execution) (v w : Verdict) → IsVerdict x v → IsVerdict x w
-    → verdict_code v ≡ verdict_code w
-one_verdict x (Ordered m) (Ordered n) one two = refl
-one_verdict x (Ordered m) (Overlook k t) one two = absurd (two.no_order m.items one.order)
-one_verdict x (Ordered m) (Cycle d) one two = absurd (two.no_order m.items one.order)
-one_verdict x (Overlook l s) (Ordered n) one two = absurd (one.no_order n.items two.order)
-one_verdict x (Overlook l s) (Overlook k t) one two =
-    let same = one_overlook x l s k t one.least two.least in
-    omega (arith, same.0, same.1)
-one_verdict x (Overlook l s) (Cycle d) one two = absurd (two.no_overlook l s one.least.overlooks)
-one_verdict x (Cycle c) (Ordered n) one two = absurd (one.no_order n.items two.order)
-one_verdict x (Cycle c) (Overlook k t) one two = absurd (one.no_overlook k t two.least.overlooks)
-one_verdict x (Cycle c) (Cycle d) one two = omega (
-  arith,
-  one.least.shortest.shortest d.cycle.items two.least.shortest.cycle,
-  two.least.shortest.shortest c.cycle.items one.least.shortest.cycle,
-)
-
 -- so has what is judged of a machine
 one_judged : (h : Configuration) (v w : Option Verdict) → IsEndVerdict h v → IsEndVerdict h w
     → end_code v ≡ end_code w
 one_judged h None None one two = refl
 one_judged h None (Some w) one two = absurd (one two.0)
 one_judged h (Some v) None one two = absurd (two one.0)
-one_judged h (Some v) (Some w) one two = one_verdict (recording_of h) v w one.1 two.1
+one_judged h (Some v) (Some w) one two = ap finding_code (one_finding (recording_of h) v w one.1 two.1)
 
 -- and a trial
 pub one_code : (p : Plan) (k n m : ℕ) → IsCode p k n → IsCode p k m → n ≡ m
@@ -100,14 +70,29 @@ one_list p codes others x y = ext_get_or 0 codes others (x.size ∙ sym y.size)
 -- and one ledger
 pub one_ledger : (p : Plan) (codes others : List ℕ) (l m : Ledger) → AreCodes p codes → IsLedger codes l
     → AreCodes p others → IsLedger others m → IsSameLedger l m
-one_ledger p codes others l m x one y two =
-    let there : IsLedger codes m = subst (λ (list : List ℕ). IsLedger list m)
-    (sym (one_list p codes others x y)) two in
-    record {
-      trials = one.trials ∙ sym there.trials;
-      ordered = one.ordered ∙ sym there.ordered;
-      unfinished = one.unfinished ∙ sym there.unfinished;
-      overlook = one.overlook ∙ sym there.overlook;
-      cycles = one.cycles ∙ sym there.cycles;
-      first = one.first ∙ sym there.first;
-    }
+one_ledger p codes others l m x one y two = laws.one_ledger codes l m one (subst (λ (list : List ℕ). IsLedger list m)
+    (sym (one_list p codes others x y)) two)
+
+-- an overlook is a violation
+overlook_kind : (n : ℕ) → OVERLOOK ≤ n → HasItsKind n
+overlook_kind n high = (grind (arith, nat_tests, high), grind (arith, nat_tests, high))
+
+-- and a cycle of no more events than a recording may have
+cycle_kind : (k : ℕ) → k ≤ MAX_EVENTS → HasItsKind (CYCLE + k)
+cycle_kind k short = (grind (arith, nat_tests, short), grind (arith, nat_tests, short))
+
+-- so has every end of a run its kind
+end_kind : (verdict : Option Verdict) → IsShort verdict → HasItsKind (end_code verdict)
+end_kind None short = (refl, refl)
+end_kind (Some (Ordered order)) short = (refl, refl)
+end_kind (Some (Overlook load store)) short = overlook_kind _ (omega arith)
+end_kind (Some (Cycle certificate)) short = cycle_kind _ short
+
+-- and every trial
+pub one_kind : (p : Plan) (k n : ℕ) → IsCode p k n → HasItsKind n
+one_kind p k n is = subst HasItsKind (sym is.code) (end_kind is.verdict is.short)
+
+-- and the counts add up to the trials
+pub adds_up : (p : Plan) (codes : List ℕ) (l : Ledger) → AreCodes p codes → IsLedger codes l
+    → l.ordered + l.unjudged + l.overlook + sum l.cycles.items ≡ p.trials
+adds_up p codes l are is = omega (arith, laws.adds_up codes l is, is.total, are.size)

@@ -1,7 +1,6 @@
 -- The code of a trial.
-use Rattle.std.specs.Prelude.{◌≡◌, ◌<◌, ◌≤◌, ◌+◌, ◌*◌, ◌%◌, ◌^◌, ℕ, List, length, Option, None, Some, ⊤}
+use Rattle.std.specs.Prelude.{◌≡◌, ◌<◌, ◌+◌, ◌*◌, ◌%◌, ◌^◌, ℕ, List, length, Option, None, Some, ⊤}
 use Rattle.std.specs.Prelude.{slice_index}
-use Rattle.common.specs.declared.limits.TheConstants.{MAX_EVENTS}
 use Rattle.rand_core.specs.Steps.{first_words}
 use Rattle.rand_xoshiro.specs.SplitMix64.{splitmix_seed}
 use Rattle.rand_xoshiro.specs.Xoshiro256.{plus_plus, of_seed}
@@ -9,8 +8,9 @@ use Rattle.program.specs.Parts.{Parts}
 use Rattle.litmus.specs.Random.{after_words, program_of_words}
 use Rattle.machine.specs.Configuration.{Configuration}
 use Rattle.judge.specs.declared.verdict.Verdict.{Verdict}
-use Rattle.judge.specs.declared.verdict.Verdict.TheVariants.{Ordered, Overlook, Cycle}
-use Rattle.trials.specs.declared.code.TheConstants.{UNFINISHED, ORDERED, CYCLE, OVERLOOK, LOAD}
+use Rattle.ledger.specs.declared.code.TheConstants.{UNFINISHED}
+use Rattle.ledger.specs.Findings.{finding_code, finding_of}
+use Rattle.ledger.specs.Findings as findings
 use Rattle.trials.specs.Campaigns.{Plan}
 use Rattle.trials.specs.Judged.{IsEndVerdict, begun_machine}
 use Rattle.trials.specs.Schedule.{IsRandomRun}
@@ -33,23 +33,15 @@ EndsIn p k h = (rest : List ℕ) × IsRandomRun p.attempts
     (begun_machine (program_of_trial p k) p.capacity p.fault) (after_words (event_words p) (generator p k)) h
     rest
 
--- the code of a verdict: an order, its load and store, or the length of its cycle
-abbrev pub verdict_code : Verdict → ℕ
-verdict_code (Ordered order) = ORDERED
-verdict_code (Overlook load store) = OVERLOOK + LOAD * load + store
-verdict_code (Cycle certificate) = CYCLE + length certificate.cycle.items
-
 -- the code of what is judged of a machine in which a trial ends
 abbrev pub end_code : Option Verdict → ℕ
 end_code None = UNFINISHED
-end_code (Some verdict) = verdict_code verdict
+end_code (Some verdict) = finding_code (finding_of verdict)
 
 -- a cycle has no more events than a recording may have
 abbrev pub IsShort : Option Verdict → Type 0
 IsShort None = ⊤
-IsShort (Some (Ordered order)) = ⊤
-IsShort (Some (Overlook load store)) = ⊤
-IsShort (Some (Cycle certificate)) = length certificate.cycle.items ≤ MAX_EVENTS
+IsShort (Some verdict) = findings.IsShort verdict
 
 -- the code of trial k of a campaign
 pub record IsCode (p : Plan) (k n : ℕ) : Type 0 where

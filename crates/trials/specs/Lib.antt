@@ -5,5 +5,4 @@ pub mod Codes
 pub mod Filing
 pub mod Board
 pub mod Looking
-pub mod Counts
 pub mod OneLedger

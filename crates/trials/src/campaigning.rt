@@ -1,18 +1,18 @@
 //! Campaigns run by workers.
 
 ghost use Rattle.std.specs.Prelude.{◌≡◌, ◌<◌, ◌≤◌, ℕ, List, IfOk};
+ghost use Rattle.ledger.specs.Counts.{IsLedger};
 ghost use Rattle.trials.specs.Board.{AreDeskWords, IsWord};
 ghost use Rattle.trials.specs.Codes.{AreCodes, IsCode};
-ghost use Rattle.trials.specs.Counts.{IsLedger};
 ghost use Rattle.trials.specs.Looking.{IsDeskSeatOf};
 ghost use Rattle.trials.specs.declared.board.View.{View};
 
-use crate::ledger::Ledger;
 use crate::seat::{Desk, DeskSeat, Look};
 use crate::trying::trial;
 use crate::workers::work_all;
 use campaign::Campaign;
 use common::{Gate, MAX_WORKERS, OutOfMemory};
+use ledger::Ledger;
 use std::alloc::Global;
 use std::sync::Wait;
 use std::thread::Threads;

@@ -1,7 +1,7 @@
 //! Trials with their codes.
 
-use crate::code::{ORDERED, UNFINISHED};
 use campaign::Campaign;
+use ledger::is_violation;
 use std::marker::Model;
 
 /// A trial of a campaign with its code, which its type keeps to be that of the trial.
@@ -26,7 +26,7 @@ impl Model for Filed {
 impl Filed {
     ghost use Rattle.std.specs.Prelude.{◌≡◌};
     ghost use Rattle.trials.specs.Codes.{IsCode};
-    ghost use Rattle.trials.specs.Counts.{is_violation};
+    ghost use Rattle.ledger.specs.Kinds.{is_violation};
 
     /// The trial with this code.
     pub(crate) fn new(campaign: &Campaign, trial: usize, code: u64) -> Filed
@@ -60,6 +60,6 @@ impl Filed {
     pub fn is_violation(&self) -> bool
         ensures { result ≡ is_violation self.now.code }
     {
-        self.code != UNFINISHED && self.code != ORDERED
+        is_violation(self.code)
     }
 }

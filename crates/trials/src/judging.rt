@@ -1,13 +1,13 @@
 //! What is judged of runs.
 
 ghost use Rattle.std.specs.Prelude.{◌≡◌, IfOk};
-ghost use Rattle.trials.specs.Codes.{end_code, verdict_code, IsShort};
+ghost use Rattle.trials.specs.Codes.{end_code, IsShort};
 ghost use Rattle.machine.specs.declared.fault.Fault.TheVariants as faults;
 ghost use Rattle.trials.specs.Judged.{begun_machine, ran, IsEndVerdict, IsJudgedEnd, IsLawful};
 
-use crate::code::{CYCLE, LOAD, ORDERED, OVERLOOK, UNFINISHED};
 use common::OutOfMemory;
 use judge::{Verdict, judge_alone};
+use ledger::{Finding, UNFINISHED};
 use machine::{Fault, Machine, Step};
 use program::Program;
 use recording::Recording;
@@ -77,25 +77,13 @@ pub fn run_and_judge(
     end_verdict(alloc, machine)
 }
 
-/// The code of a verdict.
-fn verdict_code(verdict: &Verdict) -> u64
-    ensures { result ≡ verdict_code verdict.now }
-{
-    match verdict {
-        Verdict::Ordered(_) => ORDERED,
-        Verdict::Overlook { load, store } => {
-            OVERLOOK + LOAD * u64::from(*load) + u64::from(*store)
-        }
-        Verdict::Cycle(certificate) => CYCLE + certificate.cycle.len() as u64,
-    }
-}
-
 /// The code of a trial by what is judged of the machine in which it ends.
 pub(crate) fn end_code(verdict: Option<Verdict>) -> u64
+    requires { IsShort verdict }
     ensures { result ≡ end_code verdict }
 {
     match verdict {
-        Some(verdict) => verdict_code(&verdict),
+        Some(verdict) => Finding::of(&verdict).code(),
         None => UNFINISHED,
     }
 }

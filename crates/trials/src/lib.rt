@@ -3,13 +3,11 @@
 
 mod board;
 mod campaigning;
-mod code;
 mod desk;
 mod divisor;
 mod filed;
 mod judging;
 mod law;
-mod ledger;
 mod running;
 mod schedule;
 mod seat;
@@ -20,11 +18,10 @@ mod workers;
 pub use board::{Board, DeskRule, View};
 pub use campaign::Campaign;
 pub use campaigning::{CampaignError, run_campaign};
-pub use code::{CYCLE, LOAD, ORDERED, OVERLOOK, UNFINISHED};
 pub use filed::Filed;
 pub use judging::{Judged, judged_end, run_and_judge};
 pub use law::a_campaign_has_one_ledger;
-pub use ledger::Ledger;
+pub use ledger::{CYCLE, LOAD, Ledger, ORDERED, OVERLOOK, UNFINISHED};
 pub use running::run_seeded;
 pub use seat::{Desk, DeskSeat, Look};
 pub use trying::{reproduce, run_trial, trial};

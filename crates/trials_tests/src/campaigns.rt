@@ -3,10 +3,10 @@
 ghost use Rattle.std.specs.Prelude.{◌≤◌};
 ghost use Rattle.common.specs.declared.limits.TheConstants.{MAX_WORKERS};
 
-use answers::campaign_text;
 use common::{Gate, OpenGate};
 use machine::Fault;
 use program::Shape;
+use report::campaign_text;
 use std::alloc::Global;
 use std::sync::Wait;
 use std::sync::atomic::{AtomicU64, Ordering};
@@ -33,11 +33,11 @@ pub fn campaign(
 
 // Whether the ledger counts one order, one unfinished run, one overlook and two cycles of 6.
 fn has_counts(ledger: &Ledger) -> bool {
-    ledger.trials == 5
+    ledger.total == 5
         && ledger.ordered == 1
-        && ledger.unfinished == 1
+        && ledger.unjudged == 1
         && ledger.overlook == 1
-        && ledger.cycles.as_slice() == [(6, 2)].as_slice()
+        && ledger.cycles.get(6) == Some(&2)
         && ledger.first == Some(2)
 }
 
@@ -86,7 +86,7 @@ pub fn ledger_by<R: Threads + Wait + Sync, G: Gate>(
 fn a_trial_of_one_attempt_is_unfinished(rt: HostRuntime) -> Result<(), Fail> {
     let short = campaign((2, 1, 1), 3, 1, Fault::None)?;
     let ledger = ledger_by(&rt, rt.alloc(), &short, 1, &OpenGate)?;
-    assert!(rt; ledger.trials == 3 && ledger.unfinished == 3 && ledger.first.is_none());
+    assert!(rt; ledger.total == 3 && ledger.unjudged == 3 && ledger.first.is_none());
     Ok(())
 }
 
@@ -117,10 +117,10 @@ impl Gate for Held {
 
 // Whether two ledgers of 64 trials say the same.
 fn are_equal(held: &Ledger, alone: &Ledger) -> bool {
-    held.trials == 64
-        && alone.trials == 64
+    held.total == 64
+        && alone.total == 64
         && held.ordered == alone.ordered
-        && held.unfinished == alone.unfinished
+        && held.unjudged == alone.unjudged
         && held.overlook == alone.overlook
         && held.first == alone.first
         && held.cycles.as_slice() == alone.cycles.as_slice()

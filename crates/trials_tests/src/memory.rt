@@ -56,7 +56,7 @@ fn filed_without<R: Threads + Wait + Sync>(
 
 /// Whether three trials are unfinished.
 fn is_usual(ledger: &Ledger) -> bool {
-    ledger.trials == 3 && ledger.unfinished == 3 && ledger.first.is_none()
+    ledger.total == 3 && ledger.unjudged == 3 && ledger.first.is_none()
 }
 
 /// Whether a campaign is run as usual, twice, where at most one growth is refused.

@@ -116,11 +116,10 @@ type Kinds = (usize, usize, usize);
 
 /// Whether a ledger has this many.
 fn has_kinds(ledger: &Ledger, kinds: Kinds) -> bool {
-    let cycles = match kinds.2 {
-        0 => ledger.cycles.as_slice().is_empty(),
-        count => ledger.cycles.as_slice() == [(2, count)].as_slice(),
-    };
-    ledger.unfinished == kinds.0 && ledger.overlook == kinds.1 && cycles
+    ledger.unjudged == kinds.0
+        && ledger.overlook == kinds.1
+        && ledger.cycles.get(2) == Some(&kinds.2)
+        && ledger.cycles.iter().filter(|count| **count > 0).count() == kinds.2.min(1)
 }
 
 /// Whether so many workers tell so of a campaign with these attempts and this fault, and it has these kinds.

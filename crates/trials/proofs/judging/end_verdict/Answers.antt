@@ -1,7 +1,7 @@
 use Rattle.std.proofs.Common.{Option, subst}
 use Rattle.trials.specs.declared.judging.Judged.{Judged}
 use Rattle.trials.specs.Judged.{IsJudgement, IsJudgedEnd}
-use Rattle.trials.proofs.ShortCycles.{short_verdict}
+use Rattle.ledger.specs.FindingLaws.{short_verdict}
 use Rattle.trials.proofs.judging.end_verdict.Goals as goal
 
 pub returns-in-Some-clause-short : goal.returns-in-Some-clause-short

@@ -1,9 +1,11 @@
-use Rattle.trials.proofs.AddsUp.{adds_up}
-use Rattle.trials.proofs.OneCode.{one_code, one_ledger}
+use Rattle.trials.proofs.OneCode.{one_code, one_kind, one_ledger, adds_up}
 use Rattle.trials.proofs.law.a_campaign_has_one_ledger.Goals as goal
 
 pub returns-clause-codes : goal.returns-clause-codes
 returns-clause-codes c = one_code
+
+pub returns-clause-kinds : goal.returns-clause-kinds
+returns-clause-kinds c = one_kind
 
 pub returns-clause-ledgers : goal.returns-clause-ledgers
 returns-clause-ledgers c = one_ledger

@@ -1,5 +1,5 @@
--- The least cycle of a recording has no more events than it.
-use Rattle.std.proofs.Common.{◌<◌, ℕ, Option, Some, arith, subst}
+-- Laws of what is found: the verdicts on a recording find the same, and no cycle that is too long.
+use Rattle.std.proofs.Common.{◌≡◌, ◌<◌, ℕ, Option, Some, arith, refl, ap, inl, inr, length, subst, ◌∙◌}
 use Rattle.recording.specs.Event.{value_read}
 use Rattle.recording.specs.Execution.{Execution, event_count, event_at, write_list, Reads}
 use Rattle.recording.specs.Order.{times}
@@ -10,11 +10,46 @@ use Rattle.recording.specs.Tso.{Gives, IsWellFormed}
 use Rattle.relations.specs.declared.reason.Reason.{Reason}
 use Rattle.relations.specs.declared.reason.Reason.TheVariants.{Po, Wo, Rf, Fr}
 use Rattle.relations.specs.CycleLaws.{short_cycle}
-use Rattle.relations.specs.Forced.{Holds, Forced}
+use Rattle.relations.specs.Forced.{Holds, Forced, IsLeastOverlook}
 use Rattle.judge.specs.declared.verdict.Verdict.{Verdict}
 use Rattle.judge.specs.declared.verdict.Verdict.TheVariants.{Ordered, Overlook, Cycle}
 use Rattle.judge.specs.Verdict.{IsVerdict}
-use Rattle.trials.specs.Codes.{IsShort}
+use Rattle.ledger.specs.declared.finding.Finding.TheVariants as finding
+use Rattle.ledger.specs.Findings.{IsShort, finding_of}
+
+-- the least overlook is one
+one_overlook : (x : Execution) (l s k t : ℕ) → IsLeastOverlook x l s → IsLeastOverlook x k t → (l ≡ k)
+    × (s ≡ t)
+one_overlook x l s k t one two = elim (one.least k t two.overlooks) [
+  | inl less ↦ elim (two.least l s one.overlooks) [
+    | inl more ↦ absurd (omega (arith, less, more))
+    | inr same ↦ absurd (omega (arith, less, same.0))
+  ]
+  | inr same ↦ elim (two.least l s one.overlooks) [
+    | inl more ↦ absurd (omega (arith, more, same.0))
+    | inr back ↦ (same.0, omega (arith, same.1, back.1))
+  ]
+]
+
+-- so its verdicts find the same
+pub one_finding : (x : Execution) (v w : Verdict) → IsVerdict x v → IsVerdict x w → finding_of v ≡ finding_of w
+one_finding x (Ordered m) (Ordered n) one two = refl
+one_finding x (Ordered m) (Overlook k t) one two = absurd (two.no_order m.items one.order)
+one_finding x (Ordered m) (Cycle d) one two = absurd (two.no_order m.items one.order)
+one_finding x (Overlook l s) (Ordered n) one two = absurd (one.no_order n.items two.order)
+one_finding x (Overlook l s) (Overlook k t) one two =
+    let same = one_overlook x l s k t one.least two.least in
+    ap (λ (e : ℕ). finding.Overlook e s) same.0 ∙ ap (λ (e : ℕ). finding.Overlook k e) same.1
+one_finding x (Overlook l s) (Cycle d) one two = absurd (two.no_overlook l s one.least.overlooks)
+one_finding x (Cycle c) (Ordered n) one two = absurd (one.no_order n.items two.order)
+one_finding x (Cycle c) (Overlook k t) one two = absurd (one.no_overlook k t two.least.overlooks)
+one_finding x (Cycle c) (Cycle d) one two =
+    let same : length c.cycle.items ≡ length d.cycle.items = omega (
+      arith,
+      one.least.shortest.shortest d.cycle.items two.least.shortest.cycle,
+      two.least.shortest.shortest c.cycle.items one.least.shortest.cycle,
+    ) in
+    ap (λ (n : ℕ). finding.Cycle n) same
 
 -- what stands in a write list is an event
 listed : (x : Execution) → IsWellFormed x → (a e : ℕ) → 0 < times (write_list x a) e → e < event_count x
@@ -37,7 +72,7 @@ holds_within x wf Rf e f h =
 holds_within x wf Fr e f h = (Reads-event x e h.0 h.1, Writes-event x f h.0 h.2)
 
 -- so no least cycle is longer than a recording may be
-pub short_verdict : (x : Execution) (v : Verdict) → IsRecording x → IsVerdict x v → IsShort (Some v)
+pub short_verdict : (x : Execution) (v : Verdict) → IsRecording x → IsVerdict x v → IsShort v
 short_verdict x (Ordered order) recording is = tt
 short_verdict x (Overlook load store) recording is = tt
 short_verdict x (Cycle certificate) recording is =

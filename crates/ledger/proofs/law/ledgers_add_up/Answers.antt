@@ -1,0 +1,11 @@
+use Rattle.ledger.specs.LedgerLaws.{adds_up, joined, one_ledger}
+use Rattle.ledger.proofs.law.ledgers_add_up.Goals as goal
+
+pub returns-clause-one : goal.returns-clause-one
+returns-clause-one c = one_ledger
+
+pub returns-clause-sum : goal.returns-clause-sum
+returns-clause-sum c = adds_up
+
+pub returns-clause-joined : goal.returns-clause-joined
+returns-clause-joined c = joined

@@ -1,0 +1,6 @@
+pub mod Findings
+pub mod FindingLaws
+pub mod Kinds
+pub mod Counts
+pub mod Joined
+pub mod LedgerLaws

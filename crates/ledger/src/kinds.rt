@@ -1,0 +1,28 @@
+//! Kinds of codes.
+
+ghost use Rattle.std.specs.Prelude.{◌≡◌};
+ghost use Rattle.ledger.specs.Kinds.{is_cycle, is_violation, is_unjudged};
+
+use crate::code::{CYCLE, ORDERED, OVERLOOK};
+use common::MAX_EVENTS;
+
+/// Whether it is the code of a cycle.
+fn is_cycle(code: u64) -> bool
+    ensures { result ≡ is_cycle code }
+{
+    CYCLE <= code && code <= CYCLE + MAX_EVENTS as u64
+}
+
+/// Whether it is the code of an overlook or a cycle.
+pub fn is_violation(code: u64) -> bool
+    ensures { result ≡ is_violation code }
+{
+    is_cycle(code) || code >= OVERLOOK
+}
+
+/// Whether it is the code of what has no verdict: an unfinished run or a refused recording.
+pub(crate) fn is_unjudged(code: u64) -> bool
+    ensures { result ≡ is_unjudged code }
+{
+    code != ORDERED && !is_violation(code)
+}

@@ -1,0 +1,45 @@
+-- The texts of ledgers.
+use Rattle.std.specs.Prelude.{◌++◌, ◌∷◌, [], ◌==◌, ℕ, zero, suc, List, Option, None, Some, codes, decimal, length}
+use Rattle.std.specs.Prelude.{slice_index, if◌then◌else◌}
+use Rattle.ledger.specs.declared.ledger.Ledger.{Ledger}
+
+-- the line of how many there are of a kind
+abbrev pub count_line : List ℕ → ℕ → List ℕ
+count_line name count = name ++ 32 ∷ (decimal count ++ 10 ∷ [])
+
+-- the line of a length of cycles and how many recordings have one, unless none has
+abbrev pub cycle_line : ℕ → ℕ → List ℕ
+cycle_line cycle count =
+    if count == 0 then []
+    else codes "cycle " ++ decimal cycle ++ codes ": " ++ decimal count ++ 10 ∷ []
+
+-- the lines of the lengths below n
+unfoldable pub cycle_lines : List ℕ → ℕ → List ℕ
+cycle_lines counts zero = []
+cycle_lines counts (suc n) = cycle_lines counts n ++ cycle_line n (slice_index counts n)
+
+-- what is printed of a place, or of none
+abbrev pub place_name : List ℕ → Option ℕ → List ℕ
+place_name noun None = codes "none"
+place_name noun (Some place) = noun ++ 32 ∷ decimal place
+
+-- the line of the first of a kind
+abbrev pub first_line : List ℕ → List ℕ → Option ℕ → List ℕ
+first_line name noun first = codes "first " ++ name ++ codes ": " ++ place_name noun first ++ 10 ∷ []
+
+-- how many there are in all and of which kinds, the lengths of cycles, and the first violation
+abbrev pub ledger_text : List ℕ → List ℕ → List ℕ → Ledger → List ℕ
+ledger_text all unjudged noun l =
+    count_line all l.total ++ count_line (codes "ordered") l.ordered ++ count_line unjudged l.unjudged
+    ++ count_line (codes "overlook") l.overlook ++ cycle_lines l.cycles.items (length l.cycles.items)
+    ++ first_line (codes "violation") noun l.first
+
+-- that of the trials of a campaign
+abbrev pub campaign_text : Ledger → List ℕ
+campaign_text l = ledger_text (codes "trials") (codes "unfinished") (codes "trial") l
+
+-- that of the recordings of a survey, with the first that is refused
+abbrev pub survey_text : Ledger → List ℕ
+survey_text l =
+    ledger_text (codes "recordings") (codes "refused") (codes "recording") l
+    ++ first_line (codes "refused") (codes "recording") l.first_unjudged
