@@ -1,23 +1,15 @@
 -- What is answered to findings.
-use Rattle.std.proofs.Common.{◌≡◌, ◌↔◌, ◌++◌, ◌∷◌, [], ℕ, List, refl}
+use Rattle.std.proofs.Common.{◌≡◌, ◌↔◌, ◌++◌, ℕ, List}
 use Rattle.std.specs.Prelude.{codes}
 use Rattle.recording.specs.Execution.{Execution}
-use Rattle.report.specs.declared.outcome.Outcome.TheVariants.{Done, Violation}
+use Rattle.report.specs.declared.outcome.Outcome.TheVariants.{Violation}
 use Rattle.report.specs.declared.printed.Answer.{Answer}
 use Rattle.verification.specs.declared.finding.Finding.{Finding}
-use Rattle.verification.specs.declared.finding.Finding.TheVariants.{Holds, FaultAt, EndsEarly}
+use Rattle.verification.specs.declared.finding.Finding.TheVariants.{Holds}
 use Rattle.verification.specs.Proof.{IsProof}
 use Rattle.commands.specs.Verify.{IsCheckAnswer}
 
--- that a text holds
-pub holds_answer : (x : Execution) (text : List ℕ) (answer : Answer) → (Holds ≡ Holds) ↔ IsProof x text
-    → answer.outcome ≡ Done → answer.text.items ≡ codes "holds" ++ 10 ∷ [] → IsCheckAnswer x text answer
-holds_answer x text answer exact done printed = record {
-  holds = λ is. (done, printed);
-  fails = λ no. absurd (no (exact.0 refl));
-}
-
--- that it does not
+-- that a text does not hold
 pub fails_answer : (x : Execution) (text : List ℕ) (finding : Finding) (answer : Answer) (rest : List ℕ)
     → (finding ≡ Holds → ⊥) → (finding ≡ Holds) ↔ IsProof x text → answer.outcome ≡ Violation
     → answer.text.items ≡ codes "does not hold" ++ rest → IsCheckAnswer x text answer

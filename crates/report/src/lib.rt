@@ -17,4 +17,4 @@ pub use numbers::{put_number, put_numbers};
 pub use outcome::{Outcome, ReportError};
 pub use printed::{Answer, outcome_of, verdict_answer};
 pub use refusal::recording_line;
-pub use verdict::verdict_text;
+pub use verdict::{put_overlook, verdict_text};

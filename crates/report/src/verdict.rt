@@ -22,8 +22,8 @@ fn put_order(out: &mut Vec<u8>, order: &[EventId]) -> Result<(), OutOfMemory>
     Ok(())
 }
 
-/// Adds the line of an overlook.
-fn put_overlook(out: &mut Vec<u8>, load: EventId, store: EventId) -> Result<(), OutOfMemory>
+/// Adds the line of an overlook. Fails only if out of memory.
+pub fn put_overlook(out: &mut Vec<u8>, load: EventId, store: EventId) -> Result<(), OutOfMemory>
     ensures { OnOk result (out.new.items ≡ out.old.items ++ overlook_line load store) }
 {
     out.extend_from_slice(b"overlook: load ")?;

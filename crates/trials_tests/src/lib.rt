@@ -1,4 +1,4 @@
-//! Tests of random programs and their trials.
+//! Tests of random programs and their trials, and of surveys.
 #![tactic(auto)]
 
 #[cfg(test)]
@@ -19,6 +19,8 @@ mod programs;
 mod reproduced;
 #[cfg(test)]
 mod schedules;
+#[cfg(test)]
+mod surveyed;
 #[cfg(test)]
 mod told;
 #[cfg(test)]

@@ -1,0 +1,164 @@
+-- What is found at places and in lines.
+use Rattle.std.proofs.Common.{◌≡◌, ◌<◌, ◌≤◌, ◌+◌, ◌++◌, ◌^◌, ℕ, suc, List, [], ◌∷◌, Option, Some, IfSome}
+use Rattle.std.proofs.Common.{Bor, arith, sym, ap, ◌∙◌, subst, get_or, length, length-append, map, set, refl}
+use Rattle.std.proofs.Common.{Bool, true, false}
+use Rattle.std.proofs.KnownBytes.{Appends-nil, Appends-trans}
+use Rattle.std.specs.Io.KnownBytes.{Appends}
+use Rattle.std.proofs.lemmas.List.{get_or-set_same, get_or-set_other, get_or_append_left, get_or-append-add}
+use Rattle.std.proofs.lemmas.List.{append_assoc, append-nil, map-append, length-map}
+use mathlib.Core.Logic.{dite}
+use native.Mathlib.Decide.{ℕ_discrete}
+use borrow.Author.Count.{below_more}
+use Rattle.ledger.specs.declared.finding.Finding.{Finding}
+use Rattle.ledger.specs.declared.ledger.Ledger.{Ledger}
+use Rattle.ledger.specs.Counts.{IsLedger}
+use Rattle.ledger.specs.Findings.{finding_code}
+use Rattle.ledger.specs.Joined.{CanJoin, IsJoined}
+use Rattle.ledger.specs.LedgerLaws.{joined}
+use Rattle.surveys.specs.Claims.{ArePlaces, AreFoundBelow, IsFoundAt}
+use Rattle.surveys.specs.Found.{IsLineFinding, AreFindings, codes_of}
+use Rattle.surveys.specs.LineLaws.{few_lines}
+use Rattle.surveys.specs.Lines.{IsCut, lines}
+use Rattle.surveys.specs.Surveys.{IsSurveyOfLines, IsSurvey, IsSurveyUpTo, told_text}
+use Rattle.surveys.specs.Each.{each_text}
+use Rattle.surveys.proofs.EachText.{each_append}
+
+-- what was found is put to its place
+pub placed : (ls : List (Bor (List ℕ))) (ps : List (Option Finding)) (k : ℕ) (f : Finding) → length ps ≡ length ls
+    → ArePlaces ls ps → IsFoundAt ls k f → ArePlaces ls (set ps k (Some f))
+placed ls ps k f size places found i e low = dite (ℕ_discrete i k)
+    (λ same. subst (λ (j : ℕ). IfSome (get_or (set ps k (Some f)) j e) (IsFoundAt ls j)) (sym same)
+    (subst (λ (o : Option Finding). IfSome o (IsFoundAt ls k))
+    (sym (get_or-set_same ps k (Some f) e (omega (arith, size, found.0)))) found))
+    (λ other. subst (λ (o : Option Finding). IfSome o (IsFoundAt ls i))
+    (sym (get_or-set_other ps k i (Some f) e other)) (places i e low))
+
+-- what is found in one line more
+pub one_found : (ls : List (Bor (List ℕ))) (fs : List Finding) (i : ℕ) (f : Finding) → length fs ≡ i
+    → AreFoundBelow ls i fs → IsFoundAt ls i f → AreFoundBelow ls (i + 1) (fs ++ f ∷ [])
+one_found ls fs i f size so_far found k d e low =
+    below_more (λ (j : ℕ). IsLineFinding (get_or ls j d).now (get_or (fs ++ f ∷ []) j e)) i
+    (λ j less. subst (IsLineFinding (get_or ls j d).now)
+    (sym (get_or_append_left fs (f ∷ []) e j (omega (arith, less, size)))) (so_far j d e less))
+    (subst (IsLineFinding (get_or ls i d).now) (sym (last_of fs f i e size)) (found.1 d)) k low
+  where
+    last_of : (gs : List Finding) (g : Finding) (n : ℕ) (x : Finding) → length gs ≡ n
+        → get_or (gs ++ g ∷ []) n x ≡ g
+    last_of gs g n x is = subst (λ (m : ℕ). get_or (gs ++ g ∷ []) m x ≡ g) (omega (arith, is))
+        (get_or-append-add gs (g ∷ []) 0 x)
+
+-- what is found in every line
+pub all_found : (ls : List (Bor (List ℕ))) (fs : List Finding) → length fs ≡ length ls
+    → AreFoundBelow ls (length ls) fs → AreFindings (map (λ l. l.now) ls) fs
+all_found [] [] size each = tt
+all_found [] (f ∷ fs) size each = absurd (omega (arith, size))
+all_found (l ∷ ls) [] size each = absurd (omega (arith, size))
+all_found (l ∷ ls) (f ∷ fs) size each = (
+  each 0 l f (omega arith),
+  all_found ls fs (omega (arith, size)) (λ i d e low. each (suc i) d e (omega (arith, low))),
+)
+
+-- what is found in lines and in more lines
+pub findings_append : (ls ms : List (List ℕ)) (xs ys : List Finding) → AreFindings ls xs → AreFindings ms ys
+    → AreFindings (ls ++ ms) (xs ++ ys)
+findings_append [] ms [] ys a b = b
+findings_append [] ms (x ∷ xs) ys a b = absurd a
+findings_append (l ∷ ls) ms [] ys a b = absurd a
+findings_append (l ∷ ls) ms (x ∷ xs) ys a b = (a.0, findings_append ls ms xs ys a.1 b)
+
+-- as much as there are lines
+findings_length : (ls : List (List ℕ)) (xs : List Finding) → AreFindings ls xs → length xs ≡ length ls
+findings_length [] [] a = omega arith
+findings_length [] (x ∷ xs) a = absurd a
+findings_length (l ∷ ls) [] a = absurd a
+findings_length (l ∷ ls) (x ∷ xs) a = omega (arith, findings_length ls xs a.1)
+
+-- what is told of two lists
+told_append : (each : Bool) (xs ys : List Finding) → told_text each 0 (xs ++ ys)
+    ≡ told_text each 0 xs ++ told_text each (length xs) ys
+told_append false xs ys = refl
+told_append true xs ys = each_append 0 xs ys ∙ ap (λ (n : ℕ). each_text 0 xs ++ each_text n ys) (omega arith)
+
+-- a survey counts as many as there are lines
+survey_size : (ls : List (List ℕ)) (l : Ledger) (each : Bool) (u v : Option (List ℕ)) (s : IsSurveyOfLines ls l each u v)
+    → (l.total ≡ length s.findings) × (length s.findings ≡ length ls)
+survey_size ls l each u v s = (
+  s.counted.total ∙ length-map s.findings finding_code,
+  findings_length ls s.findings s.found,
+)
+
+-- before the first line
+pub none_counted : (l : Ledger) (each : Bool) (u : Option (List ℕ)) → IsLedger [] l → IsSurvey [] l each u u
+none_counted l each u none = record {
+  findings = [];
+  found = tt;
+  counted = none;
+  told = nothing each;
+}
+  where
+    nothing : (b : Bool) → Appends u u (told_text b 0 [])
+    nothing false = Appends-nil u
+    nothing true = Appends-nil u
+
+module _ (all bytes rest : List ℕ) (ls : List (List ℕ)) (fs : List Finding) (l : Ledger) (each : Bool)
+    (u v : Option (List ℕ)) (so_far : IsSurveyUpTo all bytes l each u v) (cut : IsCut bytes ls rest)
+    (found : AreFindings ls fs) where
+  -- there are no more lines than bytes
+  pub few_found : l.total + length fs ≤ length all
+  few_found =
+      let size = survey_size so_far.front l each u v so_far.survey in
+      omega (
+        arith,
+        size.0,
+        size.1,
+        findings_length ls fs found,
+        few_lines all,
+        ap (λ (parts : List (List ℕ)). length parts) so_far.cut,
+        length-append so_far.front (lines bytes),
+        ap (λ (parts : List (List ℕ)). length parts) cut,
+        length-append ls (lines rest),
+      )
+
+  -- so their codes can be counted
+  pub part_joins : (m : Ledger) → IsLedger (codes_of fs) m → length all < 2 ^ 64 → CanJoin l m
+  part_joins m counted few = record {
+    xs = codes_of so_far.survey.findings;
+    ys = codes_of fs;
+    left = so_far.survey.counted;
+    right = counted;
+    few = omega (
+      arith,
+      length-map so_far.survey.findings finding_code,
+      length-map fs finding_code,
+      (survey_size so_far.front l each u v so_far.survey).0,
+      few_found,
+      few,
+    );
+  }
+
+  -- and are then surveyed
+  pub part_joined : (m both : Ledger) (w : Option (List ℕ)) → IsLedger (codes_of fs) m → IsJoined l m both
+      → Appends v w (told_text each l.total fs) → IsSurveyUpTo all rest both each u w
+  part_joined m both w counted join told =
+      let old : List Finding = so_far.survey.findings in
+      record {
+        front = so_far.front ++ ls;
+        cut = so_far.cut ∙ (ap (λ (parts : List (List ℕ)). so_far.front ++ parts) cut
+            ∙ sym (append_assoc so_far.front ls (lines rest)));
+        survey = record {
+          findings = old ++ fs;
+          found = findings_append so_far.front ls old fs so_far.survey.found found;
+          counted = subst (λ (codes : List ℕ). IsLedger codes both) (sym (map-append finding_code old fs))
+              (joined (codes_of old) (codes_of fs) l m both so_far.survey.counted counted join);
+          told = subst (λ (text : List ℕ). Appends u w text) (sym (told_append each old fs))
+              (Appends-trans u v w (told_text each 0 old) (told_text each (length old) fs) so_far.survey.told
+              (subst (λ (n : ℕ). Appends v w (told_text each n fs))
+              (survey_size so_far.front l each u v so_far.survey).0 told));
+        };
+      }
+
+-- up to nothing are all lines
+pub all_counted : (bytes : List ℕ) (l : Ledger) (each : Bool) (u v : Option (List ℕ))
+    → IsSurveyUpTo bytes [] l each u v → IsSurvey bytes l each u v
+all_counted bytes l each u v is = subst (λ (ls : List (List ℕ)). IsSurveyOfLines ls l each u v)
+    (sym (is.cut ∙ append-nil is.front)) is.survey

@@ -1,0 +1,6 @@
+pub mod OneLine
+pub mod EachText
+pub mod Found
+pub mod Tallied
+pub mod Blocks
+pub mod Shown

@@ -1,0 +1,235 @@
+-- A line is found block by block.
+use Rattle.std.proofs.Common.{◌≡◌, ◌+◌, ◌<◌, ◌≤◌, ◌++◌, ◌∷◌, [], ℕ, true, false, List, Option, Some, None, arith, ap, refl, sym, subst, ◌∙◌}
+use Rattle.std.proofs.Common.{length, length-append, get_or, take, drop, append_assoc, append-nil, filter}
+use Rattle.std.proofs.Common.{IfSome, Vec, Global, lt-ltb, le-ltb}
+use Rattle.std.proofs.KnownBytes.{Consumes-nil, Consumes-trans}
+use Rattle.std.proofs.lemmas.List.{get_or_append_left, get_or-append-add, length-take, take-append-drop}
+use Rattle.std.specs.Io.KnownBytes.{Consumes, IsAtEnd}
+use Rattle.devices.specs.Bytes.{Gathers}
+use Rattle.surveys.specs.Lines.{IsCut, IsSplit, IsWhole, is_some_line, lines}
+use Rattle.surveys.specs.LineLaws.{whole_append, whole_nil}
+use Rattle.surveys.specs.declared.showing.Sought.{Sought}
+use Rattle.surveys.specs.declared.showing.Sought.TheVariants.{Found, Later}
+use Rattle.surveys.specs.Shown.{IsBefore, IsLineAt, IsSought, IsSoughtFirst}
+
+-- a line after others
+pub line_behind : (all front back : List ℕ) (k m : ℕ) (line : List ℕ) → lines all ≡ lines front ++ lines back
+    → IsLineAt back m line → k ≡ length (lines front) + m → IsLineAt all k line
+line_behind all front back k m line cut at is = (
+  omega (
+    arith,
+    at.0,
+    is,
+    ap (λ (ls : List (List ℕ)). length ls) cut,
+    length-append (lines front) (lines back),
+  ),
+  ap (λ (ls : List (List ℕ)). get_or ls k []) cut ∙ (ap (λ (n : ℕ). get_or (lines front ++ lines back) n []) is
+      ∙ (get_or-append-add (lines front) (lines back) m [] ∙ at.1)),
+)
+
+-- a line before others
+pub line_before : (all front back : List ℕ) (k : ℕ) (line : List ℕ) → lines all ≡ lines front ++ lines back
+    → IsLineAt front k line → IsLineAt all k line
+line_before all front back k line cut at = (
+  omega (
+    arith,
+    at.0,
+    ap (λ (ls : List (List ℕ)). length ls) cut,
+    length-append (lines front) (lines back),
+  ),
+  ap (λ (ls : List (List ℕ)). get_or ls k []) cut
+      ∙ (get_or_append_left (lines front) (lines back) [] k at.0 ∙ at.1),
+)
+
+-- which number a line has after the first lines of the bytes
+pub record IsLater (bytes rest : List ℕ) (k m : ℕ) : Type 0 where
+  pub front : List (List ℕ)
+  pub cut : IsCut bytes front rest
+  pub count : k ≡ length front + m
+
+-- at first its own
+pub later_nil : (bytes : List ℕ) (k : ℕ) → IsLater bytes bytes k k
+later_nil bytes k = record { front = []; cut = refl; count = omega arith }
+
+-- at last that after all of them
+pub later_all : (bytes rest : List ℕ) (k m : ℕ) → IsLater bytes rest k m → rest ≡ [] → k ≡ length (lines bytes) + m
+later_all bytes rest k m is nothing = omega (
+  arith,
+  is.count,
+  ap (λ (ls : List (List ℕ)). length ls) (is.cut
+      ∙ (ap (λ (left : List ℕ). is.front ++ lines left) nothing ∙ append-nil is.front)),
+)
+
+-- a line that counts
+one_line : (line : List ℕ) → 0 < length line → filter is_some_line (line ∷ []) ≡ line ∷ []
+one_line line some = let yes : is_some_line line ≡ true = lt-ltb 0 (length line) some in rw yes refl
+
+-- a line that counts as none
+no_line : (line : List ℕ) → length line ≡ 0 → filter is_some_line (line ∷ []) ≡ []
+no_line line none = let no : is_some_line line ≡ false = le-ltb 0 (length line) (omega (arith, none)) in rw no refl
+
+-- the next line
+next_line : (bytes rest line more : List ℕ) (front : List (List ℕ)) → IsCut bytes front rest → IsSplit rest line more
+    → IsCut bytes (front ++ filter is_some_line (line ∷ [])) more
+next_line bytes rest line more front cut split = cut ∙ (ap (λ (ls : List (List ℕ)). front ++ ls) split.cut
+    ∙ sym (append_assoc front (filter is_some_line (line ∷ [])) (lines more)))
+
+-- goes by as none
+pub later_none : (bytes rest line more : List ℕ) (k m : ℕ) → IsLater bytes rest k m → IsSplit rest line more
+    → length line ≡ 0 → IsLater bytes more k m
+later_none bytes rest line more k m is split none = record {
+  front = is.front ++ filter is_some_line (line ∷ []);
+  cut = next_line bytes rest line more is.front is.cut split;
+  count = omega (
+    arith,
+    is.count,
+    length-append is.front (filter is_some_line (line ∷ [])),
+    ap (λ (ls : List (List ℕ)). length ls) (no_line line none),
+  );
+}
+
+-- or as one
+pub later_one : (bytes rest line more : List ℕ) (k m n : ℕ) → IsLater bytes rest k m → IsSplit rest line more
+    → 0 < length line → m ≡ n + 1 → IsLater bytes more k n
+later_one bytes rest line more k m n is split some more_by_one = record {
+  front = is.front ++ filter is_some_line (line ∷ []);
+  cut = next_line bytes rest line more is.front is.cut split;
+  count = omega (
+    arith,
+    is.count,
+    more_by_one,
+    length-append is.front (filter is_some_line (line ∷ [])),
+    ap (λ (ls : List (List ℕ)). length ls) (one_line line some),
+  );
+}
+
+-- or is the one that is sought
+pub found_here : (bytes rest line more : List ℕ) (k m : ℕ) → IsLater bytes rest k m → IsSplit rest line more
+    → 0 < length line → m ≡ 0 → IsLineAt bytes k line
+found_here bytes rest line more k m is split some here =
+    let cut : lines bytes ≡ is.front ++ (line ∷ lines more) = is.cut
+    ∙ ap (λ (ls : List (List ℕ)). is.front ++ ls) (split.cut
+    ∙ ap (λ (ls : List (List ℕ)). ls ++ lines more) (one_line line some)) in (
+      omega (
+        arith,
+        is.count,
+        here,
+        ap (λ (ls : List (List ℕ)). length ls) cut,
+        length-append is.front (line ∷ lines more),
+      ),
+      ap (λ (ls : List (List ℕ)). get_or ls k []) cut
+          ∙ (ap (λ (n : ℕ). get_or (is.front ++ (line ∷ lines more)) n []) (is.count
+          ∙ ap (λ (n : ℕ). length is.front + n) here) ∙ get_or-append-add is.front (line ∷ lines more) 0 []),
+    )
+
+-- a block is cut where a line begins
+pub sought_first : (block seen rest part : List ℕ) (end k : ℕ) (sought : Sought) → seen ≡ block
+    → rest ≡ drop end block → part ≡ take end block → end ≤ length seen → IsWhole (take end seen)
+    → IsSought part k sought → IsSoughtFirst block rest k sought end
+sought_first block seen rest part end k sought same is_rest is_part within whole is = record {
+  front = take end block;
+  cut = sym (take-append-drop end block) ∙ ap (λ (t : List ℕ). take end block ++ t) (sym is_rest);
+  whole = subst (λ (bytes : List ℕ). IsWhole (take end bytes)) same whole;
+  is = subst (λ (bytes : List ℕ). IsSought bytes k sought) is_part is;
+  size = omega (arith, length-take end block, within, ap (λ (bytes : List ℕ). length bytes) same);
+}
+
+-- before the first block
+pub not_yet : (u : Option (List ℕ)) (k : ℕ) → IsBefore u u [] k k 0
+not_yet u k = record {
+  front = [];
+  whole = whole_nil;
+  read = Consumes-nil u;
+  before = omega arith;
+  size = refl;
+}
+
+module _ (u v w : Option (List ℕ)) (k m n : ℕ) (old block : List ℕ) (is : IsBefore u v old k m n)
+    (gathered : Gathers v w old block) where
+  -- what was read with the filled block
+  filled : Consumes u w (is.front ++ block)
+  filled = subst (λ (t : List ℕ). Consumes u w t) (append_assoc is.front old gathered.0
+      ∙ ap (λ (t : List ℕ). is.front ++ t) (sym gathered.2))
+      (Consumes-trans u v w (is.front ++ old) gathered.0 is.read gathered.1)
+
+  -- the line is not in the first bytes of the block
+  pub not_there : (rest : List ℕ) (j size total : ℕ) (sought : Sought) → IsSoughtFirst block rest m sought size
+      → sought ≡ Later j → total ≡ n + size → IsBefore u w rest k j total
+  not_there rest j size total sought first later sum =
+      let there : m ≡ length (lines first.front) + j =
+      subst (λ (s : Sought). IsSought first.front m s) later first.is in
+      record {
+        front = is.front ++ first.front;
+        whole = whole_append is.front first.front is.whole first.whole;
+        read = subst (λ (t : List ℕ). Consumes u w t) (ap (λ (t : List ℕ). is.front ++ t) first.cut
+            ∙ sym (append_assoc is.front first.front rest)) filled;
+        before = omega (
+          arith,
+          is.before,
+          there,
+          ap (λ (ls : List (List ℕ)). length ls) (is.whole first.front),
+          length-append (lines is.front) (lines first.front),
+        );
+        size = omega (arith, sum, is.size, first.size, length-append is.front first.front);
+      }
+
+  -- no byte was lost
+  pub none_lost : (rest : List ℕ) (size : ℕ) (sought : Sought) → IsSoughtFirst block rest m sought size
+      → size + length rest ≡ length block
+  none_lost rest size sought first = omega (
+    arith,
+    first.size,
+    ap (λ (t : List ℕ). length t) first.cut,
+    length-append first.front rest,
+  )
+
+  -- it is there
+  pub there : (rest : List ℕ) (size : ℕ) (sought : Sought) (line : Vec ℕ Global) → IsSoughtFirst block rest m sought size
+      → sought ≡ Found line → IfSome u (λ bytes. IsLineAt bytes k line.items)
+  there rest size sought line first found = in_all u w filled
+    where
+      at : IsLineAt first.front m line.items
+      at = subst (λ (s : Sought). IsSought first.front m s) found first.is
+
+      in_all : (x y : Option (List ℕ)) → Consumes x y (is.front ++ block)
+          → IfSome x (λ bytes. IsLineAt bytes k line.items)
+      in_all None y read = tt
+      in_all (Some xs) None read = absurd read
+      in_all (Some xs) (Some ys) read = line_behind xs is.front (first.front ++ (rest ++ ys)) k m line.items
+          (ap lines whole ∙ is.whole (first.front ++ (rest ++ ys)))
+          (line_before (first.front ++ (rest ++ ys)) first.front (rest ++ ys) m line.items (first.whole (rest ++ ys)) at)
+          is.before
+        where
+          whole : xs ≡ is.front ++ (first.front ++ (rest ++ ys))
+          whole = read ∙ (ap (λ (t : List ℕ). (is.front ++ t) ++ ys) first.cut
+              ∙ (append_assoc is.front (first.front ++ rest) ys
+              ∙ ap (λ (t : List ℕ). is.front ++ t) (append_assoc first.front rest ys)))
+
+  -- or in the last block
+  pub at_last : IsAtEnd w → (line : List ℕ) → IsLineAt block m line → IfSome u (λ bytes. IsLineAt bytes k line)
+  at_last end line at = in_all u w filled end
+    where
+      in_all : (x y : Option (List ℕ)) → Consumes x y (is.front ++ block) → IsAtEnd y
+          → IfSome x (λ bytes. IsLineAt bytes k line)
+      in_all None y read ended = tt
+      in_all (Some xs) None read ended = absurd read
+      in_all (Some xs) (Some ys) read ended = line_behind xs is.front block k m line
+          (ap lines (read ∙ (ap (λ (t : List ℕ). (is.front ++ block) ++ t) ended ∙ append-nil (is.front ++ block)))
+          ∙ is.whole block) at is.before
+
+  -- or nowhere
+  pub nowhere : IsAtEnd w → (j : ℕ) → m ≡ length (lines block) + j → IfSome u (λ bytes. length (lines bytes) ≤ k)
+  nowhere end j past = in_all u w filled end
+    where
+      in_all : (x y : Option (List ℕ)) → Consumes x y (is.front ++ block) → IsAtEnd y
+          → IfSome x (λ bytes. length (lines bytes) ≤ k)
+      in_all None y read ended = tt
+      in_all (Some xs) None read ended = absurd read
+      in_all (Some xs) (Some ys) read ended = omega (
+        arith,
+        is.before,
+        past,
+        ap (λ (ls : List (List ℕ)). length ls) (ap lines (read ∙ (ap (λ (t : List ℕ). (is.front ++ block) ++ t) ended
+            ∙ append-nil (is.front ++ block))) ∙ is.whole block),
+        length-append (lines is.front) (lines block),
+      )

@@ -1,0 +1,13 @@
+use Rattle.std.proofs.Common.{◌≡◌, length}
+use Rattle.surveys.specs.Surveys.{GoesOn}
+use Rattle.surveys.proofs.counting.count_all.Given as goal
+
+abbrev pub invariant-parts : goal.invariant-parts
+invariant-parts g l = record {
+  on :
+      GoesOn l.bytes l.rest l.each l.fn.ledger (g.W.Sink.written l.fn.sink) l.ledger (g.W.Sink.written l.sink);
+  writes : g.W.Sink.write_failures l.sink ≡ g.W.Sink.write_failures l.fn.sink;
+}
+
+abbrev pub decreases-parts : goal.decreases-parts
+decreases-parts g l = length l.rest

@@ -1,0 +1,57 @@
+use Rattle.std.proofs.Common.{◌∙◌, List, ℕ, arith, refl, subst, sym}
+use Rattle.surveys.specs.declared.showing.Sought.{Sought}
+use Rattle.surveys.specs.Shown.{IsBefore, IsSought}
+use Rattle.surveys.proofs.Shown.{at_last, none_lost, not_there, not_yet, nowhere, there}
+use Rattle.surveys.proofs.showing.line_from.Goals as goal
+
+pub filled-init : goal.filled-init
+filled-init g c =
+    let left = g.R.Source.left c.args.source.now in
+    let before = subst (λ (bytes : List ℕ). IsBefore left left bytes c.args.number c.args.number 0)
+    (sym c.new-block.ensures.items) (not_yet left c.args.number) in
+    record { before = before; reads = refl; size = refl }
+
+pub returns-in-Found-clause-known : goal.returns-in-Found-clause-known
+returns-in-Found-clause-known g c =
+    there _ (g.R.Source.left c.filled.source) _ c.args.number c.filled.left c.filled.counted c.filled.block.items
+    c.fill.new.block.items c.filled.invariant.before c.in_ok-fill.ensures.gathered c.line_in_whole.new.block.items
+    c.in_ok-sought.end c.in_ok-sought.sought _ c.in_ok-sought.ensures c.in-Found.is
+
+pub filled-smaller : goal.filled-smaller
+filled-smaller g c = omega (
+  arith,
+  none_lost _ (g.R.Source.left c.filled.source) _ c.args.number c.filled.left c.filled.counted
+      c.filled.block.items c.fill.new.block.items c.filled.invariant.before c.in_ok-fill.ensures.gathered
+      c.line_in_whole.new.block.items c.in_ok-sought.end c.in_ok-sought.sought c.in_ok-sought.ensures,
+  c.in_ok-fill.ensures.more c.if-branch.true,
+  c.in-Some.ensures,
+)
+
+pub filled-preserved : goal.filled-preserved
+filled-preserved g c = record {
+  before =
+      not_there _ (g.R.Source.left c.filled.source) _ c.args.number c.filled.left c.filled.counted
+      c.filled.block.items c.fill.new.block.items c.filled.invariant.before c.in_ok-fill.ensures.gathered
+      c.line_in_whole.new.block.items c.in-Later.later c.in_ok-sought.end c.in-Some.total c.in_ok-sought.sought
+      c.in_ok-sought.ensures c.in-Later.is (omega (arith, c.in-Some.ensures));
+  reads = c.in_ok-fill.ensures.count ∙ c.filled.invariant.reads;
+  size = c.fill.ensures.kept ∙ c.filled.invariant.size;
+}
+
+pub returns-in-Found-2-clause-known : goal.returns-in-Found-2-clause-known
+returns-in-Found-2-clause-known g c =
+    at_last _ (g.R.Source.left c.filled.source) _ c.args.number c.filled.left c.filled.counted
+    c.filled.block.items c.fill.new.block.items c.filled.invariant.before c.in_ok-fill.ensures.gathered
+    (c.in_ok-fill.ensures.all (λ e. let no = c.if-branch.false in absurd cc)) _
+    (subst (λ (s : Sought). IsSought c.fill.new.block.items c.filled.left s) c.in-Found-2.is
+    (subst (λ (bytes : List ℕ). IsSought bytes c.filled.left c.in_ok-line.field-0) c.deref.ensures.value
+    c.in_ok-line.ensures))
+
+pub returns-clause-known : goal.returns-clause-known
+returns-clause-known g c =
+    nowhere _ (g.R.Source.left c.filled.source) _ c.args.number c.filled.left c.filled.counted
+    c.filled.block.items c.fill.new.block.items c.filled.invariant.before c.in_ok-fill.ensures.gathered
+    (c.in_ok-fill.ensures.all (λ e. let no = c.if-branch.false in absurd cc)) c.in-Later-2.field-0
+    (subst (λ (s : Sought). IsSought c.fill.new.block.items c.filled.left s) c.in-Later-2.is
+    (subst (λ (bytes : List ℕ). IsSought bytes c.filled.left c.in_ok-line.field-0) c.deref.ensures.value
+    c.in_ok-line.ensures))

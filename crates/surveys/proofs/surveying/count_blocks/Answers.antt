@@ -1,0 +1,44 @@
+use Rattle.std.proofs.Common.{◌∙◌, arith, List, ℕ, subst, refl, sym}
+use Rattle.surveys.specs.Tallies.{Ends, IsUnderWay}
+use Rattle.surveys.proofs.Blocks.{all_read, begun, gone_on, same_size}
+use Rattle.surveys.proofs.surveying.count_blocks.Goals as goal
+
+pub filled-init : goal.filled-init
+filled-init g c =
+    let left = g.R.Source.left c.args.source.now in
+    let told = g.W.Sink.written c.args.sink.now in
+    let way : IsUnderWay c.args.each left left c.args.ledger.now 0 c.new-block.result.items told told =
+    subst (λ (bytes : List ℕ). IsUnderWay c.args.each left left c.args.ledger.now 0 bytes told told)
+    (sym c.new-block.ensures.items) (begun c.args.each left told c.args.ledger.now c.requires.none) in
+    record { way = way; reads = refl; writes = refl; size = refl }
+
+pub filled-preserved : goal.filled-preserved
+filled-preserved g c = record {
+  way =
+      gone_on c.args.each _ (g.R.Source.left c.filled.source) _ _ _ c.filled.ledger c.filled.counted
+      c.filled.block.items c.fill.new.block.items c.filled.invariant.way c.in_ok-fill.ensures.gathered
+      c.count_whole.new.ledger c.in_ok-counted.counted c.count_whole.new.block.items _
+      c.in_ok-counted.ensures.ok;
+  reads = c.in_ok-fill.ensures.count ∙ c.filled.invariant.reads;
+  writes = c.in_ok-counted.ensures.writes ∙ c.filled.invariant.writes;
+  size = c.fill.ensures.kept ∙ c.filled.invariant.size;
+}
+
+pub filled-smaller : goal.filled-smaller
+filled-smaller g c = omega (
+  arith,
+  same_size c.args.each _ (g.R.Source.left c.filled.source) _ _ _ c.filled.ledger c.filled.counted
+      c.filled.block.items c.fill.new.block.items c.filled.invariant.way c.in_ok-fill.ensures.gathered
+      c.count_whole.new.ledger c.in_ok-counted.counted c.count_whole.new.block.items _
+      c.in_ok-counted.ensures.ok,
+  c.in_ok-fill.ensures.more c.if-branch.true,
+)
+
+pub returns-clause-whole : goal.returns-clause-whole
+returns-clause-whole g c =
+    let was = g.W.Sink.written c.filled.sink in
+    let is = g.W.Sink.written c.count_part.new.sink in
+    all_read c.args.each _ (g.R.Source.left c.filled.source) _ _ was c.filled.ledger c.filled.counted
+    c.filled.block.items c.fill.new.block.items c.filled.invariant.way c.in_ok-fill.ensures.gathered
+    c.count_part.new.ledger is (subst (λ (bytes : List ℕ). Ends c.args.each bytes c.filled.ledger c.filled.counted was
+    c.count_part.new.ledger is) c.deref.ensures.value c.in_ok-count_part.ensures.ends)

@@ -1,0 +1,36 @@
+-- The text of what is found in each recording.
+use Rattle.std.specs.Prelude.{◌+◌, ◌++◌, ◌∷◌, [], ℕ, List, Option, None, Some, codes, decimal}
+use Rattle.recording.specs.declared.fault.RecError.{RecError}
+use Rattle.ledger.specs.declared.finding.Finding.{Finding}
+use Rattle.ledger.specs.declared.finding.Finding.TheVariants.{Ordered, Overlook, Cycle, Refused}
+use Rattle.report.specs.Refusal.{recording_line}
+use Rattle.report.specs.Verdict.{overlook_line}
+
+-- the line of the length of a cycle
+abbrev pub cycle_line : ℕ → List ℕ
+cycle_line n = codes "cycle of " ++ decimal n ++ 10 ∷ []
+
+-- a line, if there is one
+abbrev pub line_or_none : Option (List ℕ) → List ℕ
+line_or_none None = []
+line_or_none (Some line) = line
+
+-- the line of a refusal
+abbrev pub refusal_line : RecError → List ℕ
+refusal_line refusal = line_or_none (recording_line refusal)
+
+-- the line of what is found
+abbrev pub finding_line : Finding → List ℕ
+finding_line Ordered = codes "ordered" ++ 10 ∷ []
+finding_line (Overlook load store) = overlook_line load store
+finding_line (Cycle n) = cycle_line n
+finding_line (Refused refusal) = refusal_line refusal
+
+-- the number of a recording and what is found in it
+abbrev pub each_line : ℕ → Finding → List ℕ
+each_line number finding = decimal number ++ 32 ∷ finding_line finding
+
+-- the lines of recordings, of which the first has this number
+abbrev pub each_text : ℕ → List Finding → List ℕ
+each_text first [] = []
+each_text first (finding ∷ findings) = each_line first finding ++ each_text (first + 1) findings

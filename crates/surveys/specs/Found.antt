@@ -1,0 +1,47 @@
+-- What is found in lines.
+use Rattle.std.specs.Prelude.{◌≡◌, ◌≢◌, ℕ, List, Result, Ok, Err, map}
+use Rattle.std.specs.List.{AllZip}
+use Rattle.recording.specs.Execution.{Execution}
+use Rattle.recording.specs.declared.fault.RecError.{RecError}
+use Rattle.recording.specs.declared.fault.RecError.TheVariants.{OutOfMemory}
+use Rattle.recorder.specs.Reading.{IsReadingResult}
+use Rattle.judge.specs.declared.verdict.Verdict.{Verdict}
+use Rattle.judge.specs.Verdict.{IsVerdict}
+use Rattle.ledger.specs.declared.finding.Finding.{Finding}
+use Rattle.ledger.specs.declared.finding.Finding.TheVariants.{Refused}
+use Rattle.ledger.specs.Findings.{finding_code, finding_of}
+
+-- the verdict on the recording that the bytes give
+pub record IsJudged (bytes : List ℕ) (verdict : Verdict) : Type 0 where
+  pub recording : Execution
+  pub read : IsReadingResult bytes (Ok recording)
+  pub found : IsVerdict recording verdict
+
+-- the refusal that the bytes have; want of memory is none
+pub record IsRefused (bytes : List ℕ) (refusal : RecError) : Type 0 where
+  pub read : IsReadingResult bytes (Err refusal)
+  pub known : refusal ≢ OutOfMemory
+
+-- what the bytes of a line give: a verdict, or a refusal
+abbrev pub IsGiven : List ℕ → Result Verdict RecError → Type 0
+IsGiven bytes (Ok verdict) = IsJudged bytes verdict
+IsGiven bytes (Err refusal) = IsRefused bytes refusal
+
+-- what it finds
+abbrev pub given_finding : Result Verdict RecError → Finding
+given_finding (Ok verdict) = finding_of verdict
+given_finding (Err refusal) = Refused refusal
+
+-- what is found in the bytes of a line
+pub record IsLineFinding (bytes : List ℕ) (finding : Finding) : Type 0 where
+  pub given : Result Verdict RecError
+  pub is_given : IsGiven bytes given
+  pub finds : finding ≡ given_finding given
+
+-- what is found in lines, in order
+abbrev pub AreFindings : List (List ℕ) → List Finding → Type 0
+AreFindings lines findings = AllZip IsLineFinding lines findings
+
+-- its codes
+abbrev pub codes_of : List Finding → List ℕ
+codes_of findings = map finding_code findings

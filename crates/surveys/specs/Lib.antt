@@ -1,0 +1,10 @@
+pub mod Lines
+pub mod LineLaws
+pub mod Found
+pub mod Claims
+pub mod Each
+pub mod Surveys
+pub mod Tallies
+pub mod Shown
+pub mod OneSurvey
+pub mod FoundLaws

@@ -1,0 +1,31 @@
+-- One line of many.
+use Rattle.std.specs.Prelude.{◌≡◌, ◌+◌, ◌<◌, ◌++◌, [], ℕ, List, Option, length, slice_index_or}
+use Rattle.std.specs.Io.KnownBytes.{Consumes}
+use Rattle.surveys.specs.Lines.{IsWhole, lines}
+use Rattle.surveys.specs.declared.showing.Sought.{Sought}
+use Rattle.surveys.specs.declared.showing.Sought.TheVariants.{Found, Later}
+
+-- the line of this number
+abbrev pub IsLineAt : List ℕ → ℕ → List ℕ → Type 0
+IsLineAt bytes k line = (k < length (lines bytes)) × (slice_index_or (lines bytes) k [] ≡ line)
+
+-- it, or which number it has after these bytes
+abbrev pub IsSought : List ℕ → ℕ → Sought → Type 0
+IsSought bytes k (Found line) = IsLineAt bytes k line.items
+IsSought bytes k (Later m) = k ≡ length (lines bytes) + m
+
+-- the same of the first bytes of a block, n of them, after which a line begins
+pub record IsSoughtFirst (block rest : List ℕ) (k : ℕ) (sought : Sought) (n : ℕ) : Type 0 where
+  pub front : List ℕ
+  pub cut : block ≡ front ++ rest
+  pub whole : IsWhole front
+  pub is : IsSought front k sought
+  pub size : n ≡ length front
+
+-- of what was read so far, the first bytes, n of them, have the lines before it, and the others are in the block
+pub record IsBefore (left_before left_now : Option (List ℕ)) (block : List ℕ) (k later n : ℕ) : Type 0 where
+  pub front : List ℕ
+  pub whole : IsWhole front
+  pub read : Consumes left_before left_now (front ++ block)
+  pub before : k ≡ length (lines front) + later
+  pub size : n ≡ length front

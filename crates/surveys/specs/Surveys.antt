@@ -1,0 +1,66 @@
+-- What a survey counts, and what it tells.
+use Rattle.std.specs.Prelude.{◌≡◌, ◌+◌, ℕ, [], List, Option, Result, Ok, Err, Bool, if◌then◌else◌}
+use Rattle.std.specs.Io.KnownBytes.{Appends, Consumes}
+use Rattle.ledger.specs.declared.finding.Finding.{Finding}
+use Rattle.ledger.specs.declared.ledger.Ledger.{Ledger}
+use Rattle.ledger.specs.Counts.{IsLedger}
+use Rattle.surveys.specs.declared.error.SurveyError.{SurveyError}
+use Rattle.surveys.specs.declared.error.SurveyError.TheVariants.{ReadFailed, WriteFailed}
+use Rattle.surveys.specs.Each.{each_text}
+use Rattle.surveys.specs.Found.{AreFindings, codes_of}
+use Rattle.surveys.specs.Lines.{IsCut, lines}
+
+-- what is told of recordings, of which the first has this number: of each its line, or nothing
+abbrev pub told_text : Bool → ℕ → List Finding → List ℕ
+told_text each first findings = if each then each_text first findings else []
+
+-- what is found in lines, in order: the ledger of its codes, and what is told of it
+pub record IsSurveyOfLines (all : List (List ℕ)) (ledger : Ledger) (each : Bool) (before after : Option (List ℕ))
+    : Type 0 where
+  pub findings : List Finding
+  pub found : AreFindings all findings
+  pub counted : IsLedger (codes_of findings) ledger
+  pub told : Appends before after (told_text each 0 findings)
+
+-- in all lines of the bytes
+abbrev pub IsSurvey : List ℕ → Ledger → Bool → Option (List ℕ) → Option (List ℕ) → Type 0
+IsSurvey bytes ledger each before after = IsSurveyOfLines (lines bytes) ledger each before after
+
+-- in all lines of the bytes but those of the rest
+pub record IsSurveyUpTo (bytes rest : List ℕ) (ledger : Ledger) (each : Bool) (before after : Option (List ℕ))
+    : Type 0 where
+  pub front : List (List ℕ)
+  pub cut : IsCut bytes front rest
+  pub survey : IsSurveyOfLines front ledger each before after
+
+-- what is surveyed up to some bytes of whatever, is then up to what comes after
+abbrev pub GoesOn : List ℕ → List ℕ → Bool → Ledger → Option (List ℕ) → Ledger → Option (List ℕ) → Type 0
+GoesOn bytes rest each old was new is = (all : List ℕ) (start : Option (List ℕ))
+    → IsSurveyUpTo all bytes old each start was → IsSurveyUpTo all rest new each start is
+
+-- in all lines of the bytes that were read
+pub record IsSurveyOfRead (left_before left_after : Option (List ℕ)) (ledger : Ledger) (each : Bool)
+    (before after : Option (List ℕ)) : Type 0 where
+  pub bytes : List ℕ
+  pub read : Consumes left_before left_after bytes
+  pub survey : IsSurvey bytes ledger each before after
+
+-- how many reads failed
+abbrev pub failed_reads : SurveyError → ℕ
+failed_reads ReadFailed = 1
+failed_reads other = 0
+
+-- how many writes failed
+abbrev pub failed_writes : SurveyError → ℕ
+failed_writes WriteFailed = 1
+failed_writes other = 0
+
+-- a count of failed reads after a survey
+abbrev pub CountsReads : {X : Type 0} → ℕ → ℕ → Result X SurveyError → Type 0
+CountsReads before after (Ok x) = after ≡ before
+CountsReads before after (Err error) = after ≡ before + failed_reads error
+
+-- a count of failed writes after a survey
+abbrev pub CountsWrites : {X : Type 0} → ℕ → ℕ → Result X SurveyError → Type 0
+CountsWrites before after (Ok x) = after ≡ before
+CountsWrites before after (Err error) = after ≡ before + failed_writes error

@@ -1,0 +1,105 @@
+//! Lines that workers claim one at a time.
+
+ghost use Rattle.std.specs.Prelude.{◌≡◌, ◌<◌, All, IfOk, IfSome, length};
+ghost use Rattle.surveys.specs.Claims.{AreClaims, IsFoundAt};
+
+use crate::judged::finding_of_line;
+use common::{Gate, OutOfMemory};
+use ledger::Finding;
+use std::alloc::Global;
+use std::sync::atomic::{AtomicUsize, Ordering};
+use std::thread;
+use std::thread::Threads;
+
+/// A line that a worker claimed, and what it found there.
+#[derive(Clone, Copy, Drop)]
+pub(crate) struct Claim {
+    /// The place of the line.
+    pub place: usize,
+    /// What was found.
+    pub finding: Finding,
+}
+
+/// The next place; none where all are claimed.
+fn next_place(next: &AtomicUsize, places: usize) -> Option<usize>
+    ensures { IfSome result (λ place. place < places) }
+{
+    let place = next.fetch_add(1, Ordering::Relaxed);
+    if place < places { Some(place) } else { None }
+}
+
+/// Tells the gate of a violation.
+fn tell<G: Gate>(gate: &G, worker: usize, piece: usize, finding: Finding) {
+    match finding {
+        Finding::Overlook { .. } | Finding::Cycle(_) => gate.found(worker, piece),
+        _ => {}
+    }
+}
+
+/// Judges a line, of which the gate is told under this number.
+fn judge_one<G: Gate>(
+    alloc: Global,
+    lines: &[&[u8]],
+    place: usize,
+    gate: &G,
+    worker: usize,
+    piece: usize,
+) -> Result<Claim, OutOfMemory>
+    requires { place < length lines.now }
+    ensures { IfOk result (λ claim. IsFoundAt lines.now claim.place claim.finding) }
+{
+    gate.begin(worker, piece);
+    let finding = finding_of_line(alloc, lines[place])?;
+    tell(gate, worker, piece, finding);
+    gate.done(worker, piece);
+    Ok(Claim { place, finding })
+}
+
+/// Claims lines and judges them until none is left, or memory runs out. The first line has this number.
+fn judge_claims<G: Gate>(
+    alloc: Global,
+    lines: &[&[u8]],
+    next: &AtomicUsize,
+    first: usize,
+    gate: &G,
+    worker: usize,
+) -> Vec<Claim>
+    ensures { AreClaims lines.now result.items }
+{
+    let mut claims = Vec::new(alloc);
+    for _ in 0..lines.len() {
+        let Some(place) = next_place(next, lines.len()) else {
+            break;
+        };
+        let piece = first.wrapping_add(place);
+        let Ok(claim) = judge_one(alloc, lines, place, gate, worker, piece) else {
+            break;
+        };
+        let Ok(()) = claims.push(claim) else {
+            break;
+        };
+    }
+    claims
+}
+
+/// What so many workers find in the lines that they claim, the first of which has this number. Fails only if
+/// out of memory.
+pub(crate) fn claims_by<R: Threads + Sync, G: Gate>(
+    rt: &R,
+    alloc: Global,
+    lines: &[&[u8]],
+    first: usize,
+    workers: usize,
+    gate: &G,
+) -> Result<Vec<Vec<Claim>>, OutOfMemory>
+    ensures { IfOk result (λ hauls. All (λ haul. AreClaims lines.now haul.items) hauls.items) }
+{
+    let next = AtomicUsize::new(0);
+    let hauls = thread::map_indices(
+        rt,
+        alloc,
+        workers,
+        &|worker| { judge_claims(alloc, lines, &next, first, gate, worker) },
+    )?;
+    Ok(hauls)
+}

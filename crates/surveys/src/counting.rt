@@ -1,0 +1,194 @@
+//! What is found in many lines, and their ledger.
+
+ghost use Rattle.std.specs.Prelude.{◌≡◌, ◌<◌, ◌+◌, ◌^◌, [], ℕ, List, Option, All, IfErr, IfOk, OnOk};
+ghost use Rattle.std.specs.Prelude.{length, map};
+ghost use Rattle.std.specs.Io.KnownBytes.{Appends};
+ghost use Rattle.devices.specs.Bytes.{CanGrow};
+ghost use Rattle.ledger.specs.Counts.{IsLedger};
+ghost use Rattle.surveys.specs.Claims.{AreClaims, ArePlaces, IsFoundAt};
+ghost use Rattle.surveys.specs.Found.{AreFindings, codes_of};
+ghost use Rattle.surveys.specs.Surveys.{CountsWrites, GoesOn, IsSurveyUpTo, failed_reads, told_text};
+
+use crate::claims::{Claim, claims_by};
+use crate::each::each_text;
+use crate::error::SurveyError;
+use crate::judged::finding_of_line;
+use crate::lines::next_lines;
+use common::{Gate, OutOfMemory};
+use devices::{Failed, Sink, write_all};
+use ledger::{Finding, Ledger};
+use std::alloc::Global;
+use std::thread::Threads;
+
+/// Puts what a worker found to its places.
+fn put_claims(places: &mut [Option<Finding>], lines: &[&[u8]], claims: &[Claim])
+    requires size { length places.old ≡ length lines.now }
+    requires places { ArePlaces lines.now places.old }
+    requires claims { AreClaims lines.now claims.now }
+    ensures size { length places.new ≡ length lines.now }
+    ensures places { ArePlaces lines.now places.new }
+{
+    for claim in claims {
+        places[claim.place] = Some(claim.finding);
+    }
+}
+
+/// Puts what all workers found to its places.
+fn put_hauls(places: &mut [Option<Finding>], lines: &[&[u8]], hauls: &[Vec<Claim>])
+    requires size { length places.old ≡ length lines.now }
+    requires places { ArePlaces lines.now places.old }
+    requires claims { All (λ haul. AreClaims lines.now haul.items) hauls.now }
+    ensures size { length places.new ≡ length lines.now }
+    ensures places { ArePlaces lines.now places.new }
+{
+    for haul in hauls {
+        put_claims(places, lines, haul);
+    }
+}
+
+/// What is found at a place, which is judged here where it is empty.
+fn finding_at(
+    alloc: Global,
+    lines: &[&[u8]],
+    places: &[Option<Finding>],
+    i: usize,
+) -> Result<Finding, OutOfMemory>
+    requires at { i < length lines.now }
+    requires size { length places.now ≡ length lines.now }
+    requires places { ArePlaces lines.now places.now }
+    ensures { IfOk result (IsFoundAt lines.now i) }
+{
+    match places[i] {
+        Some(finding) => Ok(finding),
+        None => finding_of_line(alloc, lines[i]),
+    }
+}
+
+/// What is found at all places.
+fn all_findings(
+    alloc: Global,
+    lines: &[&[u8]],
+    places: &[Option<Finding>],
+) -> Result<Vec<Finding>, OutOfMemory>
+    requires size { length places.now ≡ length lines.now }
+    requires places { ArePlaces lines.now places.now }
+    ensures { IfOk result (λ findings. AreFindings (map (λ l. l.now) lines.now) findings.items) }
+{
+    let mut findings = Vec::new(alloc);
+    for i in 0..lines.len() {
+        findings.push(finding_at(alloc, lines, places, i)?)?;
+    }
+    Ok(findings)
+}
+
+/// What is found in lines, in order, by so many workers. Each claims a line at a time, and what they leave out
+/// the calling thread judges, which is a worker too. The gate is told of each claim, each
+/// violation and each end, by the number of the line, where the first has this one. Fails only if out of memory.
+pub fn findings_of<R: Threads + Sync, G: Gate>(
+    rt: &R,
+    alloc: Global,
+    lines: &[&[u8]],
+    first: usize,
+    workers: usize,
+    gate: &G,
+) -> Result<Vec<Finding>, OutOfMemory>
+    ensures { IfOk result (λ findings. AreFindings (map (λ l. l.now) lines.now) findings.items) }
+{
+    let hauls = claims_by(rt, alloc, lines, first, workers, gate)?;
+    let mut places = Vec::from_elem(alloc, None, lines.len())?;
+    put_hauls(&mut places, lines, &hauls);
+    all_findings(alloc, lines, &places)
+}
+
+/// The ledger of what is found, in order. Fails only if out of memory.
+fn ledger_of(alloc: Global, findings: &[Finding]) -> Result<Ledger, OutOfMemory>
+    ensures { IfOk result (IsLedger (codes_of findings.now)) }
+{
+    let mut codes = Vec::with_capacity(alloc, findings.len())?;
+    for finding in findings {
+        codes.push(finding.code())?;
+    }
+    Ledger::count(alloc, &codes)
+}
+
+/// Writes the lines of what is found, the first of which has this number, where each is told.
+fn tell<W: Sink>(
+    alloc: Global,
+    sink: &mut W,
+    each: bool,
+    first: usize,
+    findings: &[Finding],
+) -> Result<(), SurveyError>
+    requires numbers { first + length findings.now < 2 ^ 64 }
+    requires writes { CanGrow (W.write_failures sink.old) }
+    ensures ok { OnOk result
+        (Appends (W.written sink.old) (W.written sink.new) (told_text each first findings.now)) }
+    ensures reads { IfErr result (λ e. failed_reads e ≡ 0) }
+    ensures writes { CountsWrites (W.write_failures sink.old) (W.write_failures sink.new) result }
+{
+    if !each {
+        return Ok(());
+    }
+    let text = each_text(alloc, first, findings)?;
+    match write_all(sink, &text) {
+        Ok(()) => Ok(()),
+        Err(Failed) => Err(SurveyError::WriteFailed),
+    }
+}
+
+/// Adds the first lines of the bytes to the ledger of those before them, where they are told too, and answers
+/// what comes after them.
+fn count_some<'a, R: Threads + Sync, W: Sink, G: Gate>(
+    rt: &R,
+    alloc: Global,
+    sink: &mut W,
+    each: bool,
+    ledger: &mut Ledger,
+    bytes: &'a [u8],
+    workers: usize,
+    gate: &G,
+) -> Result<&'a [u8], SurveyError>
+    requires some { 0 < length bytes.now }
+    requires writes { CanGrow (W.write_failures sink.old) }
+    requires part { (all : List ℕ) × (start : Option (List ℕ)) × (length all < 2 ^ 64)
+        × IsSurveyUpTo all bytes.now ledger.old each start (W.written sink.old) }
+    ensures shorter { IfOk result (λ rest. length rest.now < length bytes.now) }
+    ensures ok { IfOk result (λ rest. GoesOn bytes.now rest.now each
+        ledger.old (W.written sink.old) ledger.new (W.written sink.new)) }
+    ensures reads { IfErr result (λ e. failed_reads e ≡ 0) }
+    ensures writes { CountsWrites (W.write_failures sink.old) (W.write_failures sink.new) result }
+{
+    let (lines, rest) = next_lines(alloc, bytes)?;
+    let first = ledger.total;
+    let findings = findings_of(rt, alloc, &lines, first, workers, gate)?;
+    let more = ledger_of(alloc, &findings)?;
+    tell(alloc, sink, each, first, &findings)?;
+    ledger.add(&more);
+    Ok(rest)
+}
+
+/// Adds all lines of the bytes to the ledger of those before them, where they are told too.
+pub(crate) fn count_all<R: Threads + Sync, W: Sink, G: Gate>(
+    rt: &R,
+    alloc: Global,
+    sink: &mut W,
+    each: bool,
+    ledger: &mut Ledger,
+    bytes: &[u8],
+    workers: usize,
+    gate: &G,
+) -> Result<(), SurveyError>
+    requires writes { CanGrow (W.write_failures sink.old) }
+    requires part { (all : List ℕ) × (start : Option (List ℕ)) × (length all < 2 ^ 64)
+        × IsSurveyUpTo all bytes.now ledger.old each start (W.written sink.old) }
+    ensures ok { OnOk result (GoesOn bytes.now [] each
+        ledger.old (W.written sink.old) ledger.new (W.written sink.new)) }
+    ensures reads { IfErr result (λ e. failed_reads e ≡ 0) }
+    ensures writes { CountsWrites (W.write_failures sink.old) (W.write_failures sink.new) result }
+{
+    let mut rest = bytes;
+    'parts: while !rest.is_empty() {
+        rest = count_some(rt, alloc, sink, each, ledger, rest, workers, gate)?;
+    }
+    Ok(())
+}

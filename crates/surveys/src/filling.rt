@@ -1,0 +1,103 @@
+//! Blocks of bytes that a source gives.
+
+ghost use Rattle.std.specs.Prelude.{◌≡◌, ◌≢◌, ◌<◌, ◌≤◌, true, IfErr, IfOk, OnOk, drop, length, take};
+ghost use Rattle.std.specs.Io.KnownBytes.{IsAtEnd};
+ghost use Rattle.devices.specs.Bytes.{CanGrow, Gathers};
+ghost use Rattle.surveys.specs.Lines.{IsWhole};
+ghost use Rattle.surveys.specs.Surveys.{CountsReads, failed_writes};
+
+use crate::error::SurveyError;
+use devices::{Failed, Source};
+use memchr::memrchr;
+
+/// How many bytes are asked for at once.
+pub(crate) const PIECE: usize = 65_536;
+
+/// How many bytes a block has at least, but for the last one.
+const BLOCK: usize = 4_194_304;
+
+/// Adds what a source gives next to a block, and answers how many bytes, none at its end.
+fn pull_more<R: Source>(
+    source: &mut R,
+    piece: &mut [u8],
+    block: &mut Vec<u8>,
+) -> Result<usize, SurveyError>
+    requires failures { CanGrow (R.read_failures source.old) }
+    requires room { 0 < length piece.old }
+    ensures kept { length piece.new ≡ length piece.old }
+    ensures gathered { OnOk result (Gathers (R.left source.old) (R.left source.new)
+        block.old.items block.new.items) }
+    ensures more { IfOk result (λ n. n ≢ 0 → length block.old.items < length block.new.items) }
+    ensures met { IfOk result (λ n. n ≡ 0 → R.is_ended source.new ≡ true) }
+    ensures all { IfOk result (λ n. n ≡ 0 → IsAtEnd (R.left source.new)) }
+    ensures count { CountsReads (R.read_failures source.old) (R.read_failures source.new) result }
+    ensures writes { IfErr result (λ e. failed_writes e ≡ 0) }
+{
+    match source.pull(piece) {
+        Ok(n) => {
+            let Ok(()) = block.extend_from_slice(&piece[..n]) else {
+                return Err(SurveyError::OutOfMemory);
+            };
+            Ok(n)
+        }
+        Err(Failed) => Err(SurveyError::ReadFailed),
+    }
+}
+
+/// Fills up a block, or, where it is to be prompt, takes what there is; false where the source has ended.
+pub(crate) fn fill<R: Source>(
+    source: &mut R,
+    piece: &mut [u8],
+    block: &mut Vec<u8>,
+    prompt: bool,
+) -> Result<bool, SurveyError>
+    requires failures { CanGrow (R.read_failures source.old) }
+    requires room { 0 < length piece.old }
+    ensures kept { length piece.new ≡ length piece.old }
+    ensures gathered { OnOk result (Gathers (R.left source.old) (R.left source.new)
+        block.old.items block.new.items) }
+    ensures more { IfOk result (λ more. more ≡ true → length block.old.items < length block.new.items) }
+    ensures met { IfOk result (λ more. more ≢ true → R.is_ended source.new ≡ true) }
+    ensures all { IfOk result (λ more. more ≢ true → IsAtEnd (R.left source.new)) }
+    ensures count { CountsReads (R.read_failures source.old) (R.read_failures source.new) result }
+    ensures writes { IfErr result (λ e. failed_writes e ≡ 0) }
+{
+    let first = pull_more(source, piece, block)?;
+    if first == 0 {
+        return Ok(false);
+    }
+    let mut is_full = first == piece.len();
+    'pieces: while block.len() < BLOCK && (is_full || !prompt) {
+        let next = pull_more(source, piece, block)?;
+        if next == 0 {
+            return Ok(false);
+        }
+        is_full = next == piece.len();
+    }
+    Ok(true)
+}
+
+/// The place after the last end of a line that comes after so many bytes, 0 where there is none.
+pub(crate) fn last_end(block: &[u8], seen: usize) -> usize
+    ensures within { result ≤ length block.now }
+    ensures whole { IsWhole (take result block.now) }
+{
+    let from = seen.min(block.len());
+    match memrchr(b'\n', &block[from..]) {
+        Some(end) => from + end + 1,
+        None => 0,
+    }
+}
+
+/// Takes bytes away from the front of a block, which keeps its room.
+pub(crate) fn keep_rest(block: &mut Vec<u8>, end: usize)
+    requires { end ≤ length block.old.items }
+    ensures { block.new.items ≡ drop end block.old.items }
+{
+    if end == 0 {
+        return;
+    }
+    let kept = block.len() - end;
+    block.copy_within(end.., 0);
+    block.truncate(kept);
+}

@@ -1,0 +1,49 @@
+//! What is found in a line.
+
+ghost use Rattle.std.specs.Prelude.{◌≡◌, ◌≢◌, IfOk};
+ghost use Rattle.judge.specs.declared.verdict.Verdict.{Verdict};
+ghost use Rattle.judge.specs.Verdict.{IsVerdict};
+ghost use Rattle.ledger.specs.Findings.{finding_of};
+ghost use Rattle.ledger.specs.declared.finding.Finding.TheVariants.{Refused};
+ghost use Rattle.recording.specs.declared.fault.RecError.TheVariants as refusals;
+ghost use Rattle.surveys.specs.Found.{IsLineFinding};
+
+use common::OutOfMemory;
+use judge::judge_alone;
+use ledger::Finding;
+use recorder::read_recording;
+use recording::{RecError, Recording};
+use std::alloc::Global;
+
+/// What a refusal finds; want of memory is none.
+fn refused(refusal: RecError) -> Result<Finding, OutOfMemory>
+    ensures { IfOk result (λ f. (f ≡ Refused refusal) × (refusal ≢ refusals.OutOfMemory)) }
+{
+    match refusal {
+        RecError::OutOfMemory => Err(OutOfMemory),
+        _ => Ok(Finding::Refused(refusal)),
+    }
+}
+
+/// What the verdict on a recording finds.
+fn found_in(alloc: Global, recording: &Recording) -> Result<Finding, OutOfMemory>
+    ensures { IfOk result (λ f. (verdict : Verdict) × IsVerdict recording.now verdict
+        × (f ≡ finding_of verdict)) }
+{
+    recording.sound();
+    match judge_alone(alloc, recording) {
+        Ok(verdict) => Ok(Finding::of(&verdict)),
+        Err(error) => Err(error),
+    }
+}
+
+/// What is found in the recording that the bytes of a line give, or its refusal. It waits for nobody. Fails only
+/// if out of memory.
+pub fn finding_of_line(alloc: Global, bytes: &[u8]) -> Result<Finding, OutOfMemory>
+    ensures { IfOk result (IsLineFinding bytes.now) }
+{
+    match read_recording(alloc, bytes) {
+        Ok(recording) => found_in(alloc, &recording),
+        Err(refusal) => refused(refusal),
+    }
+}

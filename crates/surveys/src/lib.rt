@@ -1,0 +1,24 @@
+//! Surveys of many recordings, one a line.
+#![tactic(auto)]
+
+mod claims;
+mod counting;
+mod each;
+mod error;
+mod filling;
+mod judged;
+mod law;
+mod lines;
+mod showing;
+mod surveying;
+
+pub use counting::findings_of;
+pub use each::each_text;
+pub use error::SurveyError;
+pub use judged::finding_of_line;
+pub use law::a_survey_is_one;
+pub use ledger::{Finding, Ledger};
+pub use lines::next_lines;
+pub use report::survey_text;
+pub use showing::line_of;
+pub use surveying::survey;

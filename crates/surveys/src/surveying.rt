@@ -1,0 +1,168 @@
+//! The survey of a source.
+
+ghost use Rattle.std.specs.Prelude.{◌≡◌, ◌<◌, ℕ, List, Option, true, [], IfErr, IfOk, IfSome, OnOk};
+ghost use Rattle.std.specs.Prelude.{length};
+ghost use Rattle.std.specs.Io.KnownBytes.{IsAtEnd};
+ghost use Rattle.devices.specs.Bytes.{CanGrow};
+ghost use Rattle.ledger.specs.Counts.{IsLedger};
+ghost use Rattle.surveys.specs.Lines.{IsWhole};
+ghost use Rattle.surveys.specs.Surveys.{CountsReads, CountsWrites, IsSurvey, IsSurveyOfRead};
+ghost use Rattle.surveys.specs.Surveys.{failed_reads};
+ghost use Rattle.surveys.specs.Tallies.{Ends, Grows, IsTallied, IsTally};
+
+use crate::counting::count_all;
+use crate::error::SurveyError;
+use crate::filling::{PIECE, fill, keep_rest, last_end};
+use common::Gate;
+use devices::{Sink, Source};
+use ledger::Ledger;
+use std::alloc::Global;
+use std::thread::Threads;
+
+/// Adds the lines of the next bytes to a ledger, and their number to the number of bytes.
+fn count_part<R: Threads + Sync, W: Sink, G: Gate>(
+    rt: &R,
+    alloc: Global,
+    sink: &mut W,
+    each: bool,
+    ledger: &mut Ledger,
+    counted: usize,
+    part: &[u8],
+    workers: usize,
+    gate: &G,
+) -> Result<usize, SurveyError>
+    requires writes { CanGrow (W.write_failures sink.old) }
+    requires tally { (front : List ℕ) × (start : Option (List ℕ))
+        × IsTally each front ledger.old counted start (W.written sink.old) }
+    ensures grows { IfOk result (λ n. IsWhole part.now
+        → Grows each part.now ledger.old counted (W.written sink.old) ledger.new n (W.written sink.new)) }
+    ensures ends { OnOk result
+        (Ends each part.now ledger.old counted (W.written sink.old) ledger.new (W.written sink.new)) }
+    ensures reads { IfErr result (λ e. failed_reads e ≡ 0) }
+    ensures writes { CountsWrites (W.write_failures sink.old) (W.write_failures sink.new) result }
+{
+    let Some(total) = counted.checked_add(part.len()) else {
+        return Err(SurveyError::TooLong);
+    };
+    count_all(rt, alloc, sink, each, ledger, part, workers, gate)?;
+    Ok(total)
+}
+
+/// Adds the whole lines of a block, of which so many bytes have no end of a line, to a ledger, and leaves what
+/// comes after them.
+fn count_whole<R: Threads + Sync, W: Sink, G: Gate>(
+    rt: &R,
+    alloc: Global,
+    sink: &mut W,
+    each: bool,
+    ledger: &mut Ledger,
+    counted: usize,
+    block: &mut Vec<u8>,
+    seen: usize,
+    workers: usize,
+    gate: &G,
+) -> Result<usize, SurveyError>
+    requires writes { CanGrow (W.write_failures sink.old) }
+    requires tally { (front : List ℕ) × (start : Option (List ℕ))
+        × IsTally each front ledger.old counted start (W.written sink.old) }
+    ensures ok { IfOk result (λ n. IsTallied each block.old.items block.new.items
+        ledger.old counted (W.written sink.old) ledger.new n (W.written sink.new)) }
+    ensures reads { IfErr result (λ e. failed_reads e ≡ 0) }
+    ensures writes { CountsWrites (W.write_failures sink.old) (W.write_failures sink.new) result }
+{
+    let end = last_end(block, seen);
+    let total = count_part(
+        rt,
+        alloc,
+        sink,
+        each,
+        ledger,
+        counted,
+        &block[..end],
+        workers,
+        gate,
+    )?;
+    keep_rest(block, end);
+    Ok(total)
+}
+
+/// Adds the lines of all that a source gives to an empty ledger, block by block.
+fn count_blocks<T: Threads + Sync, R: Source, W: Sink, G: Gate>(
+    rt: &T,
+    alloc: Global,
+    source: &mut R,
+    sink: &mut W,
+    each: bool,
+    piece: &mut [u8],
+    ledger: &mut Ledger,
+    workers: usize,
+    gate: &G,
+) -> Result<(), SurveyError>
+    requires reads { CanGrow (R.read_failures source.old) }
+    requires writes { CanGrow (W.write_failures sink.old) }
+    requires room { 0 < length piece.old }
+    requires none { IsLedger [] ledger.old }
+    ensures whole { OnOk result (IsSurveyOfRead (R.left source.old) (R.left source.new) ledger.new
+        each (W.written sink.old) (W.written sink.new)) }
+    ensures met { OnOk result (R.is_ended source.new ≡ true) }
+    ensures all { OnOk result (IsAtEnd (R.left source.new)) }
+    ensures reads { CountsReads (R.read_failures source.old) (R.read_failures source.new) result }
+    ensures writes { CountsWrites (W.write_failures sink.old) (W.write_failures sink.new) result }
+{
+    let mut block = Vec::new(alloc);
+    let mut counted = 0;
+    let mut seen = 0;
+    'filled: while fill(source, piece, &mut block, each)? {
+        counted = count_whole(
+            rt, alloc, sink, each, ledger, counted, &mut block, seen, workers, gate,
+        )?;
+        seen = block.len();
+    }
+    count_part(
+        rt, alloc, sink, each, ledger, counted, &block, workers, gate,
+    )?;
+    Ok(())
+}
+
+/// Reads the lines of a source to its end, a recording each, judges them by so many workers, and counts them in
+/// order; where each is told, its line is written to the sink. The calling thread is a worker, and does what
+/// others leave out. The gate is told as by `findings_of`, by the numbers of the recordings, from 0. `ReadFailed`
+/// exactly where a read failed, and `WriteFailed` where a write did. The memory is that of a block, or of the
+/// longest line, whatever the length.
+pub fn survey<T: Threads + Sync, R: Source, W: Sink, G: Gate>(
+    rt: &T,
+    alloc: Global,
+    source: &mut R,
+    sink: &mut W,
+    each: bool,
+    workers: usize,
+    gate: &G,
+) -> Result<Ledger, SurveyError>
+    requires reads { CanGrow (R.read_failures source.old) }
+    requires writes { CanGrow (W.write_failures sink.old) }
+    ensures whole { IfOk result (λ ledger. IsSurveyOfRead (R.left source.old) (R.left source.new) ledger
+        each (W.written sink.old) (W.written sink.new)) }
+    ensures known { IfOk result (λ ledger. IfSome (R.left source.old) (λ bytes. IsSurvey bytes ledger
+        each (W.written sink.old) (W.written sink.new))) }
+    ensures met { OnOk result (R.is_ended source.new ≡ true) }
+    ensures all { OnOk result (IsAtEnd (R.left source.new)) }
+    ensures reads { CountsReads (R.read_failures source.old) (R.read_failures source.new) result }
+    ensures writes { CountsWrites (W.write_failures sink.old) (W.write_failures sink.new) result }
+{
+    let mut ledger = Ledger::count(alloc, &[])?;
+    let Ok(mut piece) = Vec::from_elem(alloc, 0u8, PIECE) else {
+        return Err(SurveyError::OutOfMemory);
+    };
+    count_blocks(
+        rt,
+        alloc,
+        source,
+        sink,
+        each,
+        &mut piece,
+        &mut ledger,
+        workers,
+        gate,
+    )?;
+    Ok(ledger)
+}

@@ -1,0 +1,104 @@
+//! Surveys of recordings, one a line.
+
+use common::OpenGate;
+use report::{MemorySink, MemorySource, survey_text};
+use std::alloc::Global;
+use std::test::Fail;
+use std::thread::Threads;
+use surveys::{SurveyError, line_of, survey};
+
+/// An order, nothing, an order, an overlook, a cycle, an order, a load without its source, and no end.
+const LINES: &[u8] =
+    b"{\"cores\":[[{\"a\":0,\"k\":\"S\",\"w\":1}]],\"version\":1,\"writes\":[[0]]}\n\n\
+    {\"cores\":[[{\"a\":0,\"k\":\"S\",\"w\":2}]],\"version\":1,\"writes\":[[0]]}\n\
+    {\"cores\":[[{\"a\":0,\"k\":\"S\",\"w\":1},{\"a\":0,\"k\":\"L\",\"r\":0,\"s\":null}]],\"version\":1,\"writes\":[[0]]}\n\
+    {\"cores\":[[{\"a\":0,\"k\":\"S\",\"w\":1},{\"a\":1,\"k\":\"S\",\"w\":1}],[{\"a\":1,\"k\":\"L\",\"r\":1,\"s\":1},\
+    {\"a\":0,\"k\":\"L\",\"r\":0,\"s\":null}]],\"version\":1,\"writes\":[[0],[1]]}\n\
+    {\"cores\":[[{\"a\":0,\"k\":\"S\",\"w\":3}]],\"version\":1,\"writes\":[[0]]}\n\
+    {\"cores\":[[{\"a\":0,\"k\":\"S\",\"w\":1},{\"a\":0,\"k\":\"L\",\"r\":1,\"s\":1}]],\"version\":1,\"writes\":[[0]]}";
+
+/// The text of their ledger.
+const COUNTS: &[u8] = b"recordings 6\nordered 3\nrefused 1\noverlook 1\ncycle 4: 1\n\
+    first violation: recording 2\nfirst refused: recording 5\n";
+
+/// What is told of each.
+const EACH: &[u8] = b"0 ordered\n1 ordered\n2 overlook: load 1 store 0\n3 cycle of 4\n4 ordered\n\
+    5 refused: N5 event 1\n";
+
+/// The text of the ledger of no line.
+const NONE: &[u8] = b"recordings 0\nordered 0\nrefused 0\noverlook 0\n\
+    first violation: none\nfirst refused: none\n";
+
+/// Whether so many workers count these lines so, and tell so of each.
+fn is_surveyed<R: Threads + Sync>(
+    rt: &R,
+    alloc: Global,
+    lines: &[u8],
+    workers: usize,
+    counts: &[u8],
+    each: &[u8],
+) -> bool {
+    let mut source = MemorySource::new(lines);
+    let mut sink = MemorySink::new(alloc);
+    let Ok(ledger) = survey(rt, alloc, &mut source, &mut sink, true, workers, &OpenGate) else {
+        return false;
+    };
+    let Ok(text) = survey_text(alloc, &ledger) else {
+        return false;
+    };
+    text.as_slice() == counts && sink.written() == each
+}
+
+#[test]
+fn lines_are_counted_and_told(rt: HostRuntime) -> Result<(), Fail> {
+    assert!(rt; is_surveyed(&rt, rt.alloc(), LINES, 1, COUNTS, EACH));
+    assert!(rt; is_surveyed(&rt, rt.alloc(), LINES, 3, COUNTS, EACH));
+    assert!(rt; is_surveyed(&rt, rt.alloc(), b"\n\n", 2, NONE, b""));
+    Ok(())
+}
+
+/// Whether a read that fails after so many bytes is told, whatever was written before.
+fn is_failed<R: Threads + Sync>(rt: &R, alloc: Global, length: usize) -> bool {
+    let mut source = MemorySource::failing(LINES, length);
+    let mut sink = MemorySink::new(alloc);
+    match survey(rt, alloc, &mut source, &mut sink, true, 2, &OpenGate) {
+        Err(error) => error == SurveyError::ReadFailed && EACH.starts_with(sink.written()),
+        Ok(_) => false,
+    }
+}
+
+#[test]
+fn a_failed_read_is_told(rt: HostRuntime) -> Result<(), Fail> {
+    assert!(rt; is_failed(&rt, rt.alloc(), 0));
+    assert!(rt; is_failed(&rt, rt.alloc(), 200));
+    Ok(())
+}
+
+/// Whether the line of this number is this one.
+fn is_line(alloc: Global, number: usize, line: &[u8]) -> bool {
+    let mut source = MemorySource::new(LINES);
+    match line_of(alloc, &mut source, number) {
+        Ok(Some(found)) => found.as_slice() == line,
+        _ => false,
+    }
+}
+
+/// Whether there is no line of this number.
+fn is_none(alloc: Global, number: usize) -> bool {
+    let mut source = MemorySource::new(LINES);
+    match line_of(alloc, &mut source, number) {
+        Ok(found) => found.is_none(),
+        Err(_) => false,
+    }
+}
+
+/// The line of number 1.
+const SECOND: &[u8] =
+    b"{\"cores\":[[{\"a\":0,\"k\":\"S\",\"w\":2}]],\"version\":1,\"writes\":[[0]]}";
+
+#[test]
+fn a_line_is_found_by_its_number(rt: HostRuntime) -> Result<(), Fail> {
+    assert!(rt; is_line(rt.alloc(), 1, SECOND));
+    assert!(rt; is_none(rt.alloc(), 6));
+    Ok(())
+}
