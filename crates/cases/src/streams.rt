@@ -18,17 +18,31 @@ const SCRIPT: &[u8] = b"exec 0\nexec 0\ngetm 0 x\ndrain 0\n";
 const RECORDING: &[u8] =
     b"{\"cores\":[[{\"a\":0,\"k\":\"S\",\"w\":1},{\"a\":0,\"k\":\"L\",\"r\":1,\"s\":0}]],\"version\":1,\"writes\":[[0]]}\n";
 
-/// What a command line over texts comes to, what it printed, and how many inputs it asked for.
-fn performed<R: Threads + Wait + Sync>(
+/// What became of a command line: how it came out, what it printed, and the texts.
+#[derive(Drop)]
+struct Performed<'a> {
+    came_out: Result<Outcome, CommandFault>,
+    printed: Vec<u8>,
+    texts: Texts<'a>,
+}
+
+/// What becomes of a command line over texts.
+fn performed<'a, R: Threads + Wait + Sync>(
     rt: &R,
     alloc: Global,
     line: &str,
-    texts: &mut Texts<'_>,
-) -> Result<(Result<Outcome, CommandFault>, Vec<u8>), AllocError> {
+    all: &'a [Text<'a>],
+) -> Result<Performed<'a>, AllocError> {
     let words = words_of(alloc, line)?;
+    let mut texts = Texts::new(all);
     let mut out = MemorySink::new(alloc);
-    let came_out = perform(rt, alloc, words.as_slice(), texts, &mut out);
-    Ok((came_out, Vec::from_slice(alloc, out.written())?))
+    let came_out = perform(rt, alloc, words.as_slice(), &mut texts, &mut out);
+    let printed = Vec::from_slice(alloc, out.written())?;
+    Ok(Performed {
+        came_out,
+        printed,
+        texts,
+    })
 }
 
 #[test]
@@ -53,11 +67,10 @@ fn inputs_are_opened_in_their_order_and_once(rt: HostRuntime) -> Result<(), Fail
         ("help", Outcome::Done, 0),
         ("run program --buffer 0", Outcome::Refused, 0),
     ] {
-        let mut texts = Texts::new(&all);
-        let (came_out, _) = performed(&rt, alloc, line, &mut texts)?;
-        assert!(rt; matches!(came_out, Ok(found) if found == outcome));
-        assert!(rt; texts.asked == asked);
-        assert!(rt; texts.is_tally(0, 0));
+        let found = performed(&rt, alloc, line, &all)?;
+        assert!(rt; matches!(found.came_out, Ok(it) if it == outcome));
+        assert!(rt; found.texts.asked == asked);
+        assert!(rt; found.texts.is_tally(0, 0));
     }
     Ok(())
 }
@@ -65,10 +78,11 @@ fn inputs_are_opened_in_their_order_and_once(rt: HostRuntime) -> Result<(), Fail
 #[test]
 fn the_line_that_is_refused_is_quoted(rt: HostRuntime) -> Result<(), Fail> {
     let all = [whole("wrong", b"core\nst \x07\"x\" 1\n")];
-    let mut texts = Texts::new(&all);
-    let (_, printed) = performed(&rt, rt.alloc(), "run wrong", &mut texts)?;
-    assert!(rt; printed.as_slice() == b"refused: L1 line 2\n".as_slice());
-    assert!(rt; matches!(&texts.line, Some(line) if line.as_str() == "\"st \\x07\\\"x\\\" 1\""));
+    let found = performed(&rt, rt.alloc(), "run wrong", &all)?;
+    assert!(rt; found.printed.as_slice() == b"refused: L1 line 2\n".as_slice());
+    assert!(rt;
+        matches!(&found.texts.line, Some(line) if line.as_str() == "\"st \\x07\\\"x\\\" 1\"")
+    );
     Ok(())
 }
 
@@ -91,10 +105,10 @@ fn is_broken<R: Threads + Wait + Sync>(
                 whole: count,
             },
         ];
-        let mut texts = Texts::new(&all);
-        let (came_out, printed) = performed(rt, alloc, line, &mut texts)?;
-        let is_fault = matches!(came_out, Err(CommandFault::ReadFailed));
-        if !is_fault || !printed.is_empty() || texts.asked != asked || !texts.is_tally(1, 1) {
+        let found = performed(rt, alloc, line, &all)?;
+        let is_fault = matches!(found.came_out, Err(CommandFault::ReadFailed));
+        let is_told = found.texts.asked == asked && found.texts.is_tally(1, 1);
+        if !is_fault || !found.printed.is_empty() || !is_told {
             return Ok(false);
         }
     }
@@ -136,12 +150,10 @@ fn a_read_that_is_interrupted_has_failed(rt: HostRuntime) -> Result<(), Fail> {
 #[test]
 fn what_is_not_opened_has_its_own_fault(rt: HostRuntime) -> Result<(), Fail> {
     let alloc = rt.alloc();
-    let mut texts = Texts::new(&[]);
-    let (came_out, _) = performed(&rt, alloc, "judge nowhere", &mut texts)?;
-    assert!(rt; matches!(came_out, Err(CommandFault::CannotOpen(_))));
-    let mut texts = Texts::new(&[]);
-    let (came_out, _) = performed(&rt, alloc, "judge full", &mut texts)?;
-    assert!(rt; matches!(came_out, Err(CommandFault::OutOfMemory)));
+    let nowhere = performed(&rt, alloc, "judge nowhere", &[])?;
+    assert!(rt; matches!(nowhere.came_out, Err(CommandFault::CannotOpen(_))));
+    let full = performed(&rt, alloc, "judge full", &[])?;
+    assert!(rt; matches!(full.came_out, Err(CommandFault::OutOfMemory)));
     Ok(())
 }
 
@@ -174,12 +186,12 @@ fn a_write_that_is_interrupted_has_failed(rt: HostRuntime) -> Result<(), Fail> {
     let alloc = rt.alloc();
     for line in ["judge it", "explain it", "replay it"] {
         let all = [whole("it", RECORDING)];
-        let mut texts = Texts::new(&all);
-        let (_, text) = performed(&rt, alloc, line, &mut texts)?;
+        let found = performed(&rt, alloc, line, &all)?;
+        let text = found.printed.as_slice();
         for count in 0..text.len() {
-            assert!(rt; is_cut(&rt, alloc, line, text.as_slice(), count, false)?);
+            assert!(rt; is_cut(&rt, alloc, line, text, count, false)?);
         }
-        assert!(rt; is_cut(&rt, alloc, line, text.as_slice(), usize::MAX, true)?);
+        assert!(rt; is_cut(&rt, alloc, line, text, usize::MAX, true)?);
     }
     Ok(())
 }
