@@ -131,7 +131,8 @@ AreOptions o None = ⊥
 AreOptions o (Some command) = (names_standard_input_twice command.1 ≡ false) × (refusal_of command.1 ≡ None)
     × AreOptionsOf o command.0 command.1
 
--- why the entries of the command that was read give no options: standard input is named twice, or else their first refusal
+-- why the entries of the command that was read give no options: standard input is named twice, or else their first
+-- refusal
 abbrev pub IsEntryFault : OptionFault → List Row → Type 0
 IsEntryFault StandardInputTwice rows = names_standard_input_twice rows ≡ true
 IsEntryFault (Refused refusal) rows = (names_standard_input_twice rows ≡ false) × (refusal_of rows ≡ Some refusal)

@@ -149,7 +149,8 @@ pub struct DrawOptions {
     pub all: bool,
 }
 
-/// What `verify` is asked: the names of the recording and of the text of a verdict, and how many workers check its labels.
+/// What `verify` is asked: the names of the recording and of the text of a verdict, and how many workers check its
+/// labels.
 #[derive(Debug, Drop)]
 pub struct VerifyOptions {
     /// The name of the recording.

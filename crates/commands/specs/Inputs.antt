@@ -36,8 +36,8 @@ pub record Seen : Type 0 where
 abbrev pub seen : Option (List (List ℕ)) → Option (List (List ℕ)) → Tally → Tally → Seen
 seen a b t u = record { asked_before = a; asked_after = b; before = t; after = u }
 
--- the inputs of these names were asked for, in this order, each once; each was read to its end, without a failed read, and
--- taken back
+-- the inputs of these names were asked for, in this order, each once; each was read to its end, without a failed read,
+-- and taken back
 abbrev pub AreRead : List (List ℕ) → Seen → Type 0
 AreRead names s = Notes s.asked_before s.asked_after names × (s.after ≡ s.before)
 

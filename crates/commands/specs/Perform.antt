@@ -141,8 +141,8 @@ abbrev pub IsNoJudge : Options → Type 0
 IsNoJudge (Judge o) = ⊥
 IsNoJudge other = ⊤
 
--- what is printed for these options: the answer of their command, by all of its inputs, or the line of a refusal, by the
--- inputs up to it
+-- what is printed for these options: the answer of their command, by all of its inputs, or the line of a refusal, by
+-- the inputs up to it
 abbrev pub IsPrintedFor : (List ℕ → Option (List ℕ)) → Options → Seen → Answer → Type 0
 IsPrintedFor inputs o s answer = (IsAnswerTo inputs o answer × AreRead (names_of o) s)
     ⊎ ((stop : Stop) × IsCommandStop inputs o stop × AreStopped (names_of o) stop s × IsLine stop answer)
@@ -169,8 +169,8 @@ IsFaultOf inputs words s fault =
     ((o : Options) × AreOptions o (command_of words) × IsFaultFor inputs o s fault)
     ⊎ ((f : OptionFault) × IsFault f words × (IsOptionStop f (Fault fault) ⊎ (fault ≡ WriteFailed)) × AreRead [] s)
 
--- the tally after a command: each input that was opened was taken back, a read failed exactly where this is the fault, and
--- without a fault each input was read to its end
+-- the tally after a command: each input that was opened was taken back, a read failed exactly where this is the fault,
+-- and without a fault each input was read to its end
 abbrev pub Tallies : {X : Type 0} → Tally → Tally → Result X CommandFault → Type 0
 Tallies before after (Ok x) = after ≡ before
 Tallies before after (Err fault) = (after.lent ≡ before.lent)

@@ -67,8 +67,8 @@ fn told<P: Place>(
         (option_map string_bytes options.now.program)) }
     ensures err { IfErr result (IsNamesStop (P.bytes place.old) recording.now
         (option_map string_bytes options.now.program)) }
-    ensures reads { Reads (maybe_name (option_map string_bytes options.now.program)) (seen (P.asked place.old) (P.asked place.new)
-        (P.tally place.old) (P.tally place.new)) result }
+    ensures reads { Reads (maybe_name (option_map string_bytes options.now.program)) (seen (P.asked place.old)
+        (P.asked place.new) (P.tally place.old) (P.tally place.new)) result }
 {
     match &options.program {
         Some(name) => named_answer(alloc, telling, recording, name.as_str(), place),

@@ -1,6 +1,8 @@
 //! What gives and what takes bytes: devices, texts in memory, and inputs by their names.
 #![tactic(auto)]
 
+#[cfg(test)]
+mod breaking;
 mod bytes;
 mod device;
 mod disk;

@@ -6,7 +6,8 @@ use std::alloc::Global;
 /// The most bytes that are noted.
 const MOST: usize = 64;
 
-/// A sink, and the first bytes that it took, at most 64. They are those of its first `push`, and none where there is no memory.
+/// A sink, and the first bytes that it took, at most 64: those of its first `push`, and none where there is no
+/// memory.
 #[derive(Drop)]
 pub struct Noted<T> {
     inner: T,

@@ -40,8 +40,8 @@ pub fn outcome_of(verdict: &Verdict) -> Outcome
     }
 }
 
-/// The text of a verdict that is the recording's and passes its check, after a text that is printed before it. Fails only
-/// if out of memory.
+/// The text of a verdict that is the recording's and passes its check, after a text that is printed before it. Fails
+/// only if out of memory.
 pub fn verdict_answer(
     alloc: Global,
     mut text: Vec<u8>,
