@@ -3,12 +3,19 @@
 //! compares the texts.
 //!
 //! judging [--spaced] [EVENTS [KIND [SEED]]]
+//! judging --lines EVENTS COUNT
+//! judging --survey FILE THREADS
+//! judging --library FILE
 //!
 //! `bench/judge_in_process` builds it against the static library of the crate `verdicts` and runs it.
 //! With EVENTS it prints a recording of so many events instead: of the kind `ordered`, `cyclic`,
 //! `overlook` or `ring`, or else a cyclic one, from the seed SEED, or else 0. With `--spaced` the texts
 //! have their keys in another order and a blank behind each comma and colon; the reader of one layout is
 //! then left out.
+//!
+//! With `--lines` it prints so many recordings of so many events, one a line, of which three of four are
+//! ordered and the others of the other kinds; with `--survey` it counts the verdicts of such a file, by
+//! threads; with `--library` it judges each line of it by one call of the library and prints the seconds.
 
 mod by_key;
 mod forced;
@@ -19,6 +26,7 @@ mod newer;
 mod plain;
 mod reader;
 mod recording;
+mod survey;
 mod table;
 mod text;
 mod timing;
@@ -26,6 +34,7 @@ mod tree;
 
 use kinds::{Kind, recording};
 use std::hint::black_box;
+use std::io::Write;
 use table::Line;
 use text::Form;
 use timing::Program;
@@ -108,11 +117,41 @@ fn time_all(form: Form) {
     table::print_growth(&lines, &SIZES);
 }
 
+/// Recordings of all kinds.
+fn print_lines(events: usize, count: usize) {
+    let mut out = std::io::BufWriter::new(std::io::stdout());
+    for seed in 0..count as u64 {
+        let kind = match seed % 12 {
+            3 => Kind::Cyclic,
+            7 => Kind::Overlook,
+            11 => Kind::Ring,
+            _ => Kind::Ordered,
+        };
+        let text = Form::Own.text(&recording(events, kind, seed));
+        writeln!(out, "{text}").expect("a line is written");
+    }
+}
+
+/// The seconds that the library takes for the recordings of a file, one call each.
+fn time_library(file: &str) {
+    let text = std::fs::read_to_string(file).expect("a file");
+    let mut out = vec![0; ROOM];
+    let begun = std::time::Instant::now();
+    for line in text.lines() {
+        black_box(library::judge(black_box(line), &mut out));
+    }
+    println!("{}", begun.elapsed().as_secs_f64());
+}
+
 fn main() {
     let (flags, words): (Vec<String>, Vec<String>) = std::env::args()
         .skip(1)
         .partition(|word| word.starts_with("--"));
+    let number = |at: usize| words[at].parse::<usize>().expect("a number");
     let form = match flags.as_slice() {
+        [flag] if flag == "--lines" => return print_lines(number(0), number(1)),
+        [flag] if flag == "--survey" => return survey::print(&words[0], number(1)),
+        [flag] if flag == "--library" => return time_library(&words[0]),
         [] => Form::Own,
         [flag] if flag == "--spaced" => Form::Spaced,
         _ => panic!("no such option"),

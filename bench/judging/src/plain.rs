@@ -18,6 +18,26 @@ pub fn judge(recording: &Recording) -> Vec<u8> {
     }
 }
 
+/// The kind of a verdict.
+pub enum Kind {
+    Ordered,
+    Overlook,
+    Cycle(usize),
+}
+
+/// The kind of the verdict on a recording.
+pub fn kind(recording: &Recording) -> Kind {
+    let newer = Newer::of(recording);
+    if newer.overlook().is_some() {
+        return Kind::Overlook;
+    }
+    let forced = Forced::of(recording, &newer);
+    match forced.order() {
+        Some(_) => Kind::Ordered,
+        None => Kind::Cycle(forced.cycle().events.len()),
+    }
+}
+
 fn order_text(order: &[usize]) -> Vec<u8> {
     let mut out = b"ordered:".to_vec();
     push_numbers(&mut out, order.iter().copied());

@@ -17,11 +17,11 @@ use Rattle.report.specs.declared.outcome.Outcome.TheVariants.{Done, Unfinished, 
 use Rattle.answers.specs.Reduced.{IsCutAnswer}
 use Rattle.answers.specs.Run.{IsRunAnswer}
 
--- a violation where there is one, else an unfinished run where there is one
-abbrev pub campaign_outcome : Ledger → Outcome
-campaign_outcome l =
+-- a violation where there is one, else how what has no verdict comes out, where there is such
+abbrev pub ledger_outcome : Outcome → Ledger → Outcome
+ledger_outcome unjudged l =
     if is_some l.first then Violation
-    else (if nat_lt 0 l.unjudged then Unfinished else Done)
+    else (if nat_lt 0 l.unjudged then unjudged else Done)
 
 -- the text of the ledger of all trials of a campaign, and how they came out
 pub record IsCampaignAnswer (p : Plan) (answer : Answer) : Type 0 where
@@ -29,7 +29,7 @@ pub record IsCampaignAnswer (p : Plan) (answer : Answer) : Type 0 where
   pub all : AreCodes p codes
   pub ledger : Ledger
   pub counted : IsLedger codes ledger
-  pub outcome : answer.outcome ≡ campaign_outcome ledger
+  pub outcome : answer.outcome ≡ ledger_outcome Unfinished ledger
   pub text : answer.text.items ≡ campaign_text ledger
 
 -- the program of a run, an empty line, and the answer of the run

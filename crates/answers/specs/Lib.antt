@@ -2,3 +2,4 @@ pub mod Told
 pub mod Run
 pub mod Reduced
 pub mod Campaign
+pub mod Survey

@@ -1,23 +1,25 @@
-//! What is answered of campaigns.
+//! What is answered of campaigns and of surveys.
 
 ghost use Rattle.std.specs.Prelude.{◌≡◌, ◌≤◌, IfOk};
-ghost use Rattle.answers.specs.Campaign.{IsCampaignAnswer, campaign_outcome};
+ghost use Rattle.report.specs.declared.outcome.Outcome.TheVariants.{Unfinished};
+ghost use Rattle.answers.specs.Campaign.{IsCampaignAnswer, ledger_outcome};
+ghost use Rattle.answers.specs.Survey.{IsSurveyAnswer};
 
 use common::{Gate, MAX_WORKERS, OutOfMemory};
-use report::{Answer, Outcome, campaign_text};
+use report::{Answer, Outcome, campaign_text, survey_text};
 use std::alloc::Global;
 use std::sync::Wait;
 use std::thread::Threads;
 use trials::{Campaign, Ledger, run_campaign};
 
-/// How a ledger comes out: a violation comes before an unfinished run.
-fn outcome_of(ledger: &Ledger) -> Outcome
-    ensures { result ≡ campaign_outcome ledger.now }
+/// How a ledger comes out: a violation comes before what has no verdict, which comes out so.
+fn outcome_of(ledger: &Ledger, unjudged: Outcome) -> Outcome
+    ensures { result ≡ ledger_outcome unjudged ledger.now }
 {
     if ledger.first.is_some() {
         Outcome::Violation
     } else if ledger.unjudged > 0 {
-        Outcome::Unfinished
+        unjudged
     } else {
         Outcome::Done
     }
@@ -40,6 +42,25 @@ pub fn campaign_answer<R: Threads + Wait + Sync, G: Gate>(
         return Err(OutOfMemory);
     };
     let text = campaign_text(alloc, &ledger)?;
-    let outcome = outcome_of(&ledger);
+    let outcome = outcome_of(&ledger, Outcome::Unfinished);
+    Ok(Answer { outcome, text })
+}
+
+/// The text of a survey's ledger, after an empty line where lines of recordings come before it, and `Violation`
+/// where a recording violates TSO, else `Refused` where one is refused, else `Done`. Fails only if out of memory.
+pub fn survey_answer(
+    alloc: Global,
+    ledger: &Ledger,
+    after_lines: bool,
+) -> Result<Answer, OutOfMemory>
+    ensures { IfOk result (IsSurveyAnswer after_lines ledger.now) }
+{
+    let counts = survey_text(alloc, ledger)?;
+    let mut text = Vec::new(alloc);
+    if after_lines {
+        text.push(b'\n')?;
+    }
+    text.extend_from_slice(&counts)?;
+    let outcome = outcome_of(ledger, Outcome::Refused);
     Ok(Answer { outcome, text })
 }

@@ -7,8 +7,8 @@ mod runs;
 mod shown;
 mod told;
 
-pub use campaigns::campaign_answer;
-pub use reduced::reduced_answer;
+pub use campaigns::{campaign_answer, survey_answer};
+pub use reduced::{line_answer, reduced_answer};
 pub use runs::{finished, script_answer, seeded_answer};
 pub use shown::shown_answer;
 pub use told::{Telling, told_answer};

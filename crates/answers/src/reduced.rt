@@ -7,6 +7,7 @@ ghost use Rattle.judge.specs.Verdict.{IsVerdict};
 ghost use Rattle.reduction.specs.Needed.{IsOrdered};
 ghost use Rattle.reduction.specs.Restriction.{AreClosed};
 ghost use Rattle.answers.specs.Reduced.{heading, shown_text, program_left, IsCutAnswer, IsReducedAnswer};
+ghost use Rattle.answers.specs.Survey.{IsLineAnswer};
 ghost use Rattle.report.specs.Answer.{IsVerdictAnswer};
 
 use common::{EventId, OutOfMemory};
@@ -17,7 +18,7 @@ use recorder::write_recording;
 use recording::Recording;
 use reduction::{Reduced, reduce, restricted_program};
 use replay::named_program;
-use report::{Answer, put_numbers, verdict_answer};
+use report::{Answer, answer_alone, put_numbers, read_or_refuse, verdict_answer};
 use std::alloc::Global;
 
 /// The line of the numbers that the kept events had, and an empty line.
@@ -155,5 +156,19 @@ pub fn reduced_answer(
     match cut_answer(alloc, recording, program, &verdict, true)? {
         Some(answer) => Ok(answer),
         None => verdict_answer(alloc, Vec::new(alloc), recording, &verdict),
+    }
+}
+
+/// The answer to the bytes of one recording: the text of its verdict or the line of its refusal, or with `reduce`
+/// what is left of its violation. Fails only if out of memory.
+pub fn line_answer(alloc: Global, bytes: &[u8], reduce: bool) -> Result<Answer, OutOfMemory>
+    ensures { IfOk result (IsLineAnswer reduce bytes.now) }
+{
+    if !reduce {
+        return answer_alone(alloc, bytes);
+    }
+    match read_or_refuse(alloc, bytes)? {
+        Ok(recording) => reduced_answer(alloc, &recording, None),
+        Err(refused) => Ok(refused),
     }
 }

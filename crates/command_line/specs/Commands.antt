@@ -32,7 +32,13 @@ commands = (
     ∷ (codes "explain", (codes "FILE", Place) ∷ (codes "program", Word) ∷ [])
     ∷ (codes "draw", (codes "FILE", Place) ∷ (codes "program", Word) ∷ (codes "all", Nothing) ∷ [])
     ∷ (codes "reduce", (codes "FILE", Place) ∷ (codes "program", Word) ∷ [])
-    ∷ (codes "verify", (codes "RECORDING", Place) ∷ (codes "VERDICT", Place) ∷ (codes "workers", Number) ∷ []) ∷ []
+    ∷ (codes "verify", (codes "RECORDING", Place) ∷ (codes "VERDICT", Place) ∷ (codes "workers", Number) ∷ [])
+    ∷ (
+      codes "survey",
+      (codes "FILE", Place) ∷ (codes "workers", Number) ∷ (codes "each", Nothing) ∷ (codes "show", Number)
+          ∷ (codes "reduce", Nothing) ∷ (codes "quiet", Nothing) ∷ [],
+    )
+    ∷ []
 
 -- a row of the code's table
 abbrev pub row_of : CommandRow → Text × List (Text × Takes)

@@ -1,6 +1,6 @@
 -- The options that the words ask for.
 use Rattle.std.specs.Prelude.{◌≡◌, ◌≢◌, ◌≤◌, ◌<◌, ℕ, List, Option, Some, None, IfSome, Ok, false, ⊤, codes, true}
-use Rattle.std.specs.Prelude.{IsSomeAnd, option_map, string_bytes}
+use Rattle.std.specs.Prelude.{IsSomeAnd, is_some, option_map, string_bytes}
 use Rattle.clap.specs.Takes.{is_given}
 use Rattle.clap.specs.Words.{IsAmong, Row, Text, fault_of, first_of, kind_of, takes}
 use Rattle.clap.specs.declared.error.Error.{Error}
@@ -8,8 +8,9 @@ use Rattle.clap.specs.declared.error.kind.ErrorKind.TheVariants as kinds
 use Rattle.command_line.specs.declared.options.Limits.{Limits}
 use Rattle.command_line.specs.declared.options.Options.{Options}
 use Rattle.command_line.specs.declared.options.Options.TheVariants.{Run, Judge, Trials, Live, Replay, Explain, Draw, Reduce}
-use Rattle.command_line.specs.declared.options.Options.TheVariants.{Verify}
+use Rattle.command_line.specs.declared.options.Options.TheVariants.{Verify, Survey}
 use Rattle.command_line.specs.declared.options.VerifyOptions.{VerifyOptions}
+use Rattle.command_line.specs.declared.options.SurveyOptions.{SurveyOptions}
 use Rattle.command_line.specs.declared.options.RunOptions.{RunOptions}
 use Rattle.command_line.specs.declared.options.JudgeOptions.{JudgeOptions}
 use Rattle.command_line.specs.declared.options.TrialsOptions.{TrialsOptions}
@@ -54,10 +55,11 @@ pub record AreValuesAsked (v : Values) (rows : List Row) : Type 0 where
   pub workers : IsNumber (codes "workers") WORKERS rows v.workers
   pub fault : machine_fault_of rows ≡ Some v.fault
   pub show : v.show ≡ show_of rows
-  pub shown : IfSome v.show (λ k. k < v.trials)
+  pub shown : is_some v.shape ≡ true → IfSome v.show (λ k. k < v.trials)
   pub reduce : v.reduce ≡ is_given (codes "reduce") rows
   pub quiet : v.quiet ≡ is_given (codes "quiet") rows
   pub all : v.all ≡ is_given (codes "all") rows
+  pub each : v.each ≡ is_given (codes "each") rows
 
 -- each option of run is its entry, or else its default
 pub record AreRunOptions (o : RunOptions) (rows : List Row) : Type 0 where
@@ -113,6 +115,15 @@ pub record AreVerifyOptions (o : VerifyOptions) (rows : List Row) : Type 0 where
   pub verdict : first_of (codes "VERDICT") rows ≡ Some (string_bytes o.verdict)
   pub workers : IsNumber (codes "workers") WORKERS rows o.workers
 
+-- each option of survey is its entry, or else its default
+pub record AreSurveyOptions (o : SurveyOptions) (rows : List Row) : Type 0 where
+  pub file : first_of (codes "FILE") rows ≡ Some (string_bytes o.file)
+  pub each : o.each ≡ is_given (codes "each") rows
+  pub show : o.show ≡ show_of rows
+  pub reduce : o.reduce ≡ is_given (codes "reduce") rows
+  pub workers : IsNumber (codes "workers") WORKERS rows o.workers
+  pub quiet : o.quiet ≡ is_given (codes "quiet") rows
+
 -- the options are those of the command with this name
 abbrev pub AreOptionsOf : Options → Text → List Row → Type 0
 AreOptionsOf (Run o) name rows = (name ≡ codes "run") × AreRunOptions o rows
@@ -124,6 +135,7 @@ AreOptionsOf (Explain o) name rows = (name ≡ codes "explain") × AreExplainOpt
 AreOptionsOf (Draw o) name rows = (name ≡ codes "draw") × AreDrawOptions o rows
 AreOptionsOf (Reduce o) name rows = (name ≡ codes "reduce") × AreExplainOptions o rows
 AreOptionsOf (Verify o) name rows = (name ≡ codes "verify") × AreVerifyOptions o rows
+AreOptionsOf (Survey o) name rows = (name ≡ codes "survey") × AreSurveyOptions o rows
 
 -- the options are those of the command that was read, whose inputs are not both standard input; no entry is refused
 abbrev pub AreOptions : Options → Option (Text × List Row) → Type 0

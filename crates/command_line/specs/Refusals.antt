@@ -1,5 +1,5 @@
 -- The first refusal of entries, K1 to K10.
-use Rattle.std.specs.Prelude.{ℕ, List, Option, Some, None, Result, Ok, Err, codes, if◌then◌else◌, is_some}
+use Rattle.std.specs.Prelude.{ℕ, Bool, true, List, Option, Some, None, Result, Ok, Err, codes, if◌then◌else◌, is_some}
 use Rattle.std.specs.Prelude.{nat_lt, option_and_then, option_map}
 use Rattle.std.specs.Option.{option_or}
 use Rattle.clap.specs.Words.{Row, Text, one_of}
@@ -37,14 +37,15 @@ number_refusal id limits rows = outside limits (number_of id limits rows)
 abbrev pub fault_refusal : List Row → Option OptionRefusal
 fault_refusal rows = if is_some (machine_fault_of rows) then None else Some refused.Fault
 
--- K10: the trial that is asked for is not below the number of trials
-abbrev pub refusal_of_show : Option ℕ → ℕ → Option OptionRefusal
-refusal_of_show None trials = None
-refusal_of_show (Some k) trials = if nat_lt k trials then None else Some refused.Show
+-- K10: the trial that is asked for is not below the number of trials, where there are trials
+abbrev pub refusal_of_show : Bool → Option ℕ → ℕ → Option OptionRefusal
+refusal_of_show true (Some k) trials = if nat_lt k trials then None else Some refused.Show
+refusal_of_show other show trials = None
 
--- K10
+-- K10; sizes are those of trials
 abbrev pub show_refusal : List Row → Option OptionRefusal
-show_refusal rows = refusal_of_show (show_of rows) (number_of (codes "trials") TRIALS rows)
+show_refusal rows =
+    refusal_of_show (is_some (shape_asked rows)) (show_of rows) (number_of (codes "trials") TRIALS rows)
 
 -- K1 to K10; what has no entry is not refused
 abbrev pub refusal_of : List Row → Option OptionRefusal

@@ -12,5 +12,5 @@ pub mod words;
 
 pub use options::{
     DrawOptions, ExplainOptions, FileOptions, JudgeOptions, LiveOptions, OptionFault,
-    OptionRefusal, Options, RunOptions, TrialsOptions, VerifyOptions,
+    OptionRefusal, Options, RunOptions, SurveyOptions, TrialsOptions, VerifyOptions,
 };

@@ -2,13 +2,14 @@
 ghost use Rattle.std.specs.Prelude.{◌≡◌, ◌≢◌, IfOk, List, None, Some, codes, option_map, string_bytes};
 ghost use Rattle.clap.specs.Words.{Row, first_of, found_of, rows_of};
 ghost use Rattle.command_line.specs.Entries.{HasEntries, HasText};
-ghost use Rattle.command_line.specs.Options.{AreExplainOptions, AreOptionsOf, AreValuesAsked};
+ghost use Rattle.command_line.specs.Options.{AreExplainOptions, AreOptionsOf, AreRunOptions};
+ghost use Rattle.command_line.specs.Options.{AreSurveyOptions, AreValuesAsked};
 ghost use Rattle.command_line.specs.Refusals.{refusal_of};
 
 use crate::entries::{maybe_text, text};
 use crate::options::{
     DrawOptions, ExplainOptions, FileOptions, JudgeOptions, LiveOptions, Options, RunOptions,
-    TrialsOptions, VerifyOptions,
+    SurveyOptions, TrialsOptions, VerifyOptions,
 };
 use crate::values::Values;
 use campaign::Campaign;
@@ -78,6 +79,46 @@ fn campaign_of(values: &Values) -> Campaign
     )
 }
 
+/// The options of `run`.
+fn run_options(
+    alloc: Global,
+    matches: &ArgMatches<'_>,
+    values: &Values,
+) -> Result<RunOptions, AllocError>
+    requires program { HasText (codes "PROGRAM") (rows_of (found_of matches.now)) }
+    requires values { AreValuesAsked values.now (rows_of (found_of matches.now)) }
+    ensures { IfOk result (λ o. AreRunOptions o (rows_of (found_of matches.now))) }
+{
+    Ok(RunOptions {
+        program: given(alloc, matches, "PROGRAM")?,
+        steps: maybe_given(alloc, matches, "steps")?,
+        seed: values.seed,
+        attempts: values.attempts,
+        buffer: values.buffer,
+        fault: values.fault,
+    })
+}
+
+/// The options of `survey`.
+fn survey_options(
+    alloc: Global,
+    matches: &ArgMatches<'_>,
+    values: &Values,
+) -> Result<SurveyOptions, AllocError>
+    requires file { HasText (codes "FILE") (rows_of (found_of matches.now)) }
+    requires values { AreValuesAsked values.now (rows_of (found_of matches.now)) }
+    ensures { IfOk result (λ o. AreSurveyOptions o (rows_of (found_of matches.now))) }
+{
+    Ok(SurveyOptions {
+        file: given(alloc, matches, "FILE")?,
+        each: values.each,
+        show: values.show,
+        reduce: values.reduce,
+        workers: values.workers,
+        quiet: values.quiet,
+    })
+}
+
 /// The options of the command with this name.
 pub fn named_options(
     alloc: Global,
@@ -91,14 +132,7 @@ pub fn named_options(
     ensures { IfOk result (λ o. AreOptionsOf o name.now (rows_of (found_of matches.now))) }
 {
     match name {
-        "run" => Ok(Options::Run(RunOptions {
-            program: given(alloc, matches, "PROGRAM")?,
-            steps: maybe_given(alloc, matches, "steps")?,
-            seed: values.seed,
-            attempts: values.attempts,
-            buffer: values.buffer,
-            fault: values.fault,
-        })),
+        "run" => Ok(Options::Run(run_options(alloc, matches, values)?)),
         "judge" => Ok(Options::Judge(JudgeOptions {
             file: given(alloc, matches, "FILE")?,
             workers: values.workers,
@@ -129,6 +163,7 @@ pub fn named_options(
             verdict: given(alloc, matches, "VERDICT")?,
             workers: values.workers,
         })),
+        "survey" => Ok(Options::Survey(survey_options(alloc, matches, values)?)),
         _ => unreachable!(),
     }
 }

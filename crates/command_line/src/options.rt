@@ -80,6 +80,8 @@ pub enum Options {
     Reduce(ExplainOptions),
     /// `verify`.
     Verify(VerifyOptions),
+    /// `survey`.
+    Survey(SurveyOptions),
 }
 
 /// What `run` is asked: the names of the program and of the script, and the machine and the steps of
@@ -159,6 +161,23 @@ pub struct VerifyOptions {
     pub verdict: String,
     /// How many workers check the labels at most, 1 to `MAX_WORKERS`.
     pub workers: usize,
+}
+
+/// What `survey` is asked: the name of the recordings, what is told of them, and the workers.
+#[derive(Debug, Drop)]
+pub struct SurveyOptions {
+    /// The name of the recordings.
+    pub file: String,
+    /// Whether each recording has a line, before the counts.
+    pub each: bool,
+    /// The recording that is shown instead of the lines and the counts, from 0.
+    pub show: Option<usize>,
+    /// Whether of a violation that is shown only the events are that it needs.
+    pub reduce: bool,
+    /// How many workers share the recordings at most, 1 to `MAX_WORKERS`.
+    pub workers: usize,
+    /// Whether no progress is shown.
+    pub quiet: bool,
 }
 
 /// What `live` is asked: the name of the program, the capacity of each buffer, and how many steps

@@ -246,6 +246,37 @@ Example:
   tsotest verify recording.json recording.verdict",
 };
 
+const SURVEY: Page = Page {
+    about: "Judges many recordings, one a line, and counts the verdicts",
+    more: "Judges many recordings, one a line, and counts the verdicts.
+
+What `run`, `live` and `trials --show` print as a recording is one line. Recordings are
+numbered from 0; an empty line is none. It prints, in this order, a line each:
+`recordings N`, how many there are; `ordered N`, how many TSO allows; `refused N`, how many
+are none; `overlook N` and, for each length K that occurs, in ascending order, `cycle K: N`,
+as `trials`; `first violation: recording K` and `first refused: recording K`, or `none`.
+
+With `--each` each recording has a line first, such as `0 ordered`, `1 overlook: load 1
+store 0`, `2 cycle of 4` or `3 refused: N5 event 1`, as soon as it and those before it are
+judged; then comes an empty line. With `--show K` only recording K is answered, as by
+`judge`, or with `--reduce` as by `reduce`. Memory is that of some megabytes, or of the
+longest line, however long the input is. The answer does not depend on the number of
+workers.
+
+Where standard error is a terminal, a survey that lasts shows there how many recordings are
+done and how many violations were found, until its end; with `--quiet` it shows nothing.",
+    statuses: "Exit status:
+  0  TSO allows each recording
+  1  a fault of the command line, a file or memory, as standard error says
+  2  at least one recording is a violation of TSO
+  3  no recording is a violation, and at least one was refused; or there is no recording K,
+     or a number was refused, as the line `refused: ..` says
+
+Examples:
+  cat nightly/*.json | tsotest survey - --workers 4
+  tsotest survey nightly.jsonl --show 2 --reduce",
+};
+
 /// The page of the command with this name.
 pub fn page_of(name: &str) -> Page {
     match name {
@@ -258,6 +289,7 @@ pub fn page_of(name: &str) -> Page {
         "draw" => DRAW,
         "reduce" => REDUCE,
         "verify" => VERIFY,
+        "survey" => SURVEY,
         _ => PROGRAM,
     }
 }

@@ -58,6 +58,13 @@ const RECORDING: ArgumentRow = ArgumentRow {
     help: "The recording: a file, or - for standard input",
 };
 
+const RECORDINGS: ArgumentRow = ArgumentRow {
+    name: "FILE",
+    takes: Takes::Place,
+    value: "",
+    help: "The recordings, one a line: a file, or - for standard input",
+};
+
 const VERDICT: ArgumentRow = ArgumentRow {
     name: "VERDICT",
     takes: Takes::Place,
@@ -156,6 +163,20 @@ const SHOW: ArgumentRow = ArgumentRow {
     help: "Shows trial K, from 0 and below the number of trials, instead of the counts",
 };
 
+const SHOW_RECORDING: ArgumentRow = ArgumentRow {
+    name: "show",
+    takes: Takes::Number,
+    value: "K",
+    help: "Shows the verdict on recording K, from 0, instead of the counts",
+};
+
+const EACH: ArgumentRow = ArgumentRow {
+    name: "each",
+    takes: Takes::Nothing,
+    value: "",
+    help: "Prints a line for each recording, as soon as those before it are judged, before the counts",
+};
+
 const REDUCE: ArgumentRow = ArgumentRow {
     name: "reduce",
     takes: Takes::Nothing,
@@ -217,5 +238,9 @@ pub const COMMANDS: &[CommandRow] = &[
     CommandRow {
         name: "verify",
         arguments: &[RECORDING, VERDICT, WORKERS],
+    },
+    CommandRow {
+        name: "survey",
+        arguments: &[RECORDINGS, WORKERS, EACH, SHOW_RECORDING, REDUCE, QUIET],
     },
 ];

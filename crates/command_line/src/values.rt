@@ -1,5 +1,5 @@
 //! The numbers, the fault and the flags that entries ask for, and the first refusal, K1 to K10.
-ghost use Rattle.std.specs.Prelude.{◌≡◌, ◌<◌, IfOk, IfSome, Ok, Some, codes, option_map};
+ghost use Rattle.std.specs.Prelude.{◌≡◌, ◌<◌, IfOk, IfSome, Ok, Some, codes, option_map, true};
 ghost use Rattle.std.specs.Result.{result_err};
 ghost use Rattle.clap.specs.Words.{found_of, rows_of};
 ghost use Rattle.command_line.specs.Entries.{AreEntries, HasNumber, machine_fault_of, number_of, show_of};
@@ -30,6 +30,7 @@ pub struct Values {
     pub reduce: bool,
     pub quiet: bool,
     pub all: bool,
+    pub each: bool,
 }
 
 /// The number of an option, where it is within its limits.
@@ -73,19 +74,24 @@ fn fault(matches: &ArgMatches<'_>) -> Result<Fault, OptionRefusal>
     fault_named(name).ok_or(OptionRefusal::Fault)
 }
 
-/// The trial to show, which is one of so many.
-fn show(matches: &ArgMatches<'_>, trials: usize) -> Result<Option<usize>, OptionRefusal>
+/// What is to be shown: of a campaign, one of so many trials.
+fn show(
+    matches: &ArgMatches<'_>,
+    is_campaign: bool,
+    trials: usize,
+) -> Result<Option<usize>, OptionRefusal>
     requires { HasNumber (codes "show") (rows_of (found_of matches.now)) }
     ensures ok { IfOk result (λ show. (show ≡ show_of (rows_of (found_of matches.now)))
-        × IfSome show (λ k. k < trials)) }
-    ensures err { result_err result ≡ refusal_of_show (show_of (rows_of (found_of matches.now))) trials }
+        × (is_campaign ≡ true → IfSome show (λ k. k < trials))) }
+    ensures err { result_err result
+        ≡ refusal_of_show is_campaign (show_of (rows_of (found_of matches.now))) trials }
 {
     match number(matches, "show") {
         Some(k) => {
-            if (k as usize) < trials {
-                return Ok(Some(k as usize));
+            if is_campaign && trials <= k as usize {
+                return Err(OptionRefusal::Show);
             }
-            Err(OptionRefusal::Show)
+            Ok(Some(k as usize))
         }
         None => Ok(None),
     }
@@ -104,7 +110,7 @@ pub fn read_values(matches: &ArgMatches<'_>) -> Result<Values, OptionRefusal>
     let buffer = limited(matches, "buffer", BUFFER)?;
     let workers = limited(matches, "workers", WORKERS)?;
     let fault = fault(matches)?;
-    let show = show(matches, trials)?;
+    let show = show(matches, shape.is_some(), trials)?;
     Ok(Values {
         shape,
         seed: number_or(matches, "seed", DEFAULT_SEED),
@@ -118,5 +124,6 @@ pub fn read_values(matches: &ArgMatches<'_>) -> Result<Values, OptionRefusal>
         reduce: flag(matches, "reduce"),
         quiet: flag(matches, "quiet"),
         all: flag(matches, "all"),
+        each: flag(matches, "each"),
     })
 }

@@ -4,35 +4,64 @@ use Rattle.std.specs.Prelude.{string_bytes}
 use Rattle.command_line.specs.declared.options.JudgeOptions.{JudgeOptions}
 use Rattle.command_line.specs.declared.options.OptionFault.{OptionFault}
 use Rattle.command_line.specs.declared.options.Options.{Options}
-use Rattle.command_line.specs.declared.options.Options.TheVariants.{Judge}
+use Rattle.command_line.specs.declared.options.Options.TheVariants.{Judge, Survey}
+use Rattle.command_line.specs.declared.options.SurveyOptions.{SurveyOptions}
 use Rattle.devices.specs.declared.place.Tally.{Tally}
 use Rattle.report.specs.declared.outcome.Outcome.{Outcome}
 use Rattle.report.specs.declared.printed.Answer.{Answer}
 use Rattle.commands.specs.declared.fault.CommandFault.{CommandFault}
 use Rattle.commands.specs.declared.fault.CommandFault.TheVariants.{CommandLine, StandardInputTwice, NotText}
-use Rattle.commands.specs.declared.fault.CommandFault.TheVariants.{CannotOpen, ReadFailed, WriteFailed, NoThread}
+use Rattle.commands.specs.declared.fault.CommandFault.TheVariants.{CannotOpen, ReadFailed, TooLong, WriteFailed, NoThread}
 use Rattle.commands.specs.declared.fault.CommandFault.TheVariants.{Stranger, OutOfMemory}
 use Rattle.commands.specs.declared.stop.Stop.{Stop}
 use Rattle.commands.specs.declared.stop.Stop.TheVariants.{Fault}
-use Rattle.commands.specs.Inputs.{AreRead, AreStopped, Reads, ReadsAll, Seen, seen}
+use Rattle.commands.specs.Inputs.{AreRead, AreStopped, Reads, ReadsAll, ReadsInput, Seen, seen}
 use Rattle.commands.specs.Judge.{IsJudgedInput, IsJudgeFault}
 use Rattle.commands.specs.Names.{names_of}
 use Rattle.commands.specs.Output.{IsBegun, IsPut}
 use Rattle.commands.specs.Perform.{IsAnswerTo, IsCommandStop, IsFaultFor, IsHelp, IsOptionStop, IsPrintedFor}
 use Rattle.commands.specs.Perform.{IsPrintedWithout, IsShown}
+use Rattle.commands.specs.Survey.{IsEachFault}
 
--- what judge writes is what is printed for its options
-pub judged_printed : (inputs : List ℕ → Option (List ℕ)) (o : JudgeOptions) (s : Seen)
-    (before after : Option (List ℕ)) (r : Result Outcome CommandFault)
-    → IfOk r (IsPut (IsJudgedInput inputs o) before after) → ReadsAll (string_bytes o.file ∷ []) s r
-    → IfOk r (IsPut (IsPrintedFor inputs (Judge o) s) before after)
-judged_printed inputs o s before after (Ok outcome) put read = record {
+-- what a command writes itself is what is printed for its options
+pub written_printed : (inputs : List ℕ → Option (List ℕ)) (o : Options) (s : Seen) (before after : Option (List ℕ))
+    (r : Result Outcome CommandFault) → IfOk r (IsPut (IsAnswerTo inputs o) before after)
+    → IfOk r (λ outcome. AreRead (names_of o) s) → IfOk r (IsPut (IsPrintedFor inputs o s) before after)
+written_printed inputs o s before after (Ok outcome) put read = record {
   answer = put.answer;
   is = inl (put.is, read);
   outcome_is = put.outcome_is;
   written = put.written;
 }
-judged_printed inputs o s before after (Err fault) put read = tt
+written_printed inputs o s before after (Err fault) put read = tt
+
+-- all was read where judge answers
+pub judged_read : {X : Type 0} (names : List (List ℕ)) (s : Seen) (r : Result X CommandFault) → ReadsAll names s r
+    → IfOk r (λ x. AreRead names s)
+judged_read names s (Ok x) read = read
+judged_read names s (Err fault) reads = tt
+
+-- and where survey does
+pub surveyed_read : {X : Type 0} (name : List ℕ) (s : Seen) (r : Result X CommandFault) → ReadsInput name s r
+    → IfOk r (λ x. AreRead (name ∷ []) s)
+surveyed_read name s (Ok x) read = read
+surveyed_read name s (Err fault) reads = tt
+
+-- why a survey that tells each recording writes nothing, or not all
+pub surveyed_fault : (inputs : List ℕ → Option (List ℕ)) (o : SurveyOptions) (s : Seen)
+    (r : Result Outcome CommandFault) → IfErr r (IsEachFault inputs o) → ReadsInput (string_bytes o.file) s r
+    → IfErr r (IsFaultFor inputs (Survey o) s)
+surveyed_fault inputs o s (Ok outcome) is reads = tt
+surveyed_fault inputs o s (Err (CommandLine error)) is reads = (is, reads)
+surveyed_fault inputs o s (Err StandardInputTwice) is reads = (is, reads)
+surveyed_fault inputs o s (Err NotText) is reads = (is, reads)
+surveyed_fault inputs o s (Err (CannotOpen name)) is reads = (is, reads)
+surveyed_fault inputs o s (Err ReadFailed) is reads = (is, reads)
+surveyed_fault inputs o s (Err TooLong) is reads = (is, reads)
+surveyed_fault inputs o s (Err WriteFailed) is reads = tt
+surveyed_fault inputs o s (Err NoThread) is reads = (is, reads)
+surveyed_fault inputs o s (Err Stranger) is reads = (is, reads)
+surveyed_fault inputs o s (Err OutOfMemory) is reads = (is, reads)
 
 -- and so is what it began to write
 pub judged_begun : (inputs : List ℕ → Option (List ℕ)) (o : JudgeOptions) (s : Seen)
@@ -58,6 +87,7 @@ judged_fault inputs o s (Err StandardInputTwice) is reads = (is, reads)
 judged_fault inputs o s (Err NotText) is reads = (is, reads)
 judged_fault inputs o s (Err (CannotOpen name)) is reads = (is, reads)
 judged_fault inputs o s (Err ReadFailed) is reads = (is, reads)
+judged_fault inputs o s (Err TooLong) is reads = (is, reads)
 judged_fault inputs o s (Err WriteFailed) is reads = tt
 judged_fault inputs o s (Err NoThread) is reads = (is, reads)
 judged_fault inputs o s (Err Stranger) is reads = (is, reads)
@@ -110,6 +140,7 @@ shown_fault inputs o s StandardInputTwice is stopped = (is, stopped)
 shown_fault inputs o s NotText is stopped = (is, stopped)
 shown_fault inputs o s (CannotOpen name) is stopped = (is, stopped)
 shown_fault inputs o s ReadFailed is stopped = (is, stopped)
+shown_fault inputs o s TooLong is stopped = (is, stopped)
 shown_fault inputs o s WriteFailed is stopped = tt
 shown_fault inputs o s NoThread is stopped = (is, stopped)
 shown_fault inputs o s Stranger is stopped = (is, stopped)

@@ -12,3 +12,4 @@ pub mod Run
 pub mod Tell
 pub mod Trials
 pub mod Verify
+pub mod Survey

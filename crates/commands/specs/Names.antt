@@ -2,7 +2,7 @@
 use Rattle.std.specs.Prelude.{◌∷◌, [], ℕ, List, Option, None, Some, option_map, string_bytes}
 use Rattle.command_line.specs.declared.options.Options.{Options}
 use Rattle.command_line.specs.declared.options.Options.TheVariants.{Run, Judge, Trials, Live, Replay, Explain, Draw, Reduce}
-use Rattle.command_line.specs.declared.options.Options.TheVariants.{Verify}
+use Rattle.command_line.specs.declared.options.Options.TheVariants.{Verify, Survey}
 use Rattle.command_line.specs.declared.options.VerifyOptions.{VerifyOptions}
 use Rattle.command_line.specs.declared.options.RunOptions.{RunOptions}
 use Rattle.command_line.specs.declared.options.ExplainOptions.{ExplainOptions}
@@ -35,3 +35,4 @@ names_of (Explain o) = tell_names o
 names_of (Draw o) = tell_names o.recording
 names_of (Reduce o) = tell_names o
 names_of (Verify o) = verify_names o
+names_of (Survey o) = string_bytes o.file ∷ []

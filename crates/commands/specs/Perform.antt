@@ -22,7 +22,7 @@ use Rattle.commands.specs.declared.fault.CommandFault.TheVariants.{WriteFailed}
 use Rattle.commands.specs.declared.fault.CommandFault.TheVariants as fault
 use Rattle.command_line.specs.declared.options.Options.{Options}
 use Rattle.command_line.specs.declared.options.Options.TheVariants.{Run, Judge, Trials, Live, Replay, Explain, Draw, Reduce}
-use Rattle.command_line.specs.declared.options.Options.TheVariants.{Verify}
+use Rattle.command_line.specs.declared.options.Options.TheVariants.{Verify, Survey}
 use Rattle.command_line.specs.declared.options.OptionFault.{OptionFault}
 use Rattle.command_line.specs.declared.options.OptionFault.TheVariants.{Clap, OutOfMemory}
 use Rattle.command_line.specs.declared.options.OptionFault.TheVariants as refused
@@ -40,6 +40,7 @@ use Rattle.commands.specs.Refusal.{IsReadingStop, option_line, step_fault_name}
 use Rattle.commands.specs.Run.{IsRun, IsLive}
 use Rattle.commands.specs.Trials.{IsTrials}
 use Rattle.commands.specs.Verify.{IsVerified, IsVerifyStop}
+use Rattle.commands.specs.Survey.{IsSurveyOf, IsSurveyStop, TellsEach}
 
 -- the script of this name is refused for the program, or isn't read
 abbrev pub IsScriptStop : (List ℕ → Option (List ℕ)) → Parts → List ℕ → Stop → Type 0
@@ -92,6 +93,7 @@ IsAnswerTo inputs (Explain o) answer = IsTold inputs Words o answer
 IsAnswerTo inputs (Draw o) answer = IsTold inputs (Picture o.all) o.recording answer
 IsAnswerTo inputs (Reduce o) answer = IsTold inputs Reduction o answer
 IsAnswerTo inputs (Verify o) answer = IsVerified inputs o answer
+IsAnswerTo inputs (Survey o) answer = IsSurveyOf inputs o answer
 
 -- why a command with these options and inputs stops
 abbrev pub IsCommandStop : (List ℕ → Option (List ℕ)) → Options → Stop → Type 0
@@ -105,6 +107,7 @@ IsCommandStop inputs (Explain o) stop = IsTellingStop inputs o stop
 IsCommandStop inputs (Draw o) stop = IsTellingStop inputs o.recording stop
 IsCommandStop inputs (Reduce o) stop = IsTellingStop inputs o stop
 IsCommandStop inputs (Verify o) stop = IsVerifyStop inputs o stop
+IsCommandStop inputs (Survey o) stop = IsSurveyStop inputs o stop
 
 -- what clap says goes to standard error: it is neither help nor the version
 abbrev pub IsMistake : Error → Type 0
@@ -140,6 +143,15 @@ IsShown (Err stop) printed = IsLine stop printed
 abbrev pub IsNoJudge : Options → Type 0
 IsNoJudge (Judge o) = ⊥
 IsNoJudge other = ⊤
+
+-- a part of the answer is printed before the input's end: the lines of a survey that tells each recording
+abbrev pub PrintsEarly : Options → Type 0
+PrintsEarly (Survey o) = TellsEach o
+PrintsEarly other = ⊥
+
+-- what the words ask for is printed when all of it is known
+abbrev pub PrintsAtOnce : List Text → Type 0
+PrintsAtOnce words = (o : Options) → AreOptions o (command_of words) → PrintsEarly o → ⊥
 
 -- what is printed for these options: the answer of their command, by all of its inputs, or the line of a refusal, by
 -- the inputs up to it

@@ -26,6 +26,9 @@ pub enum CommandFault {
     /// An opened input can't be read to its end.
     #[error("tsotest: read failed")]
     ReadFailed,
+    /// No number of 64 bits counts the bytes of an input.
+    #[error("tsotest: the input is too long")]
+    TooLong,
     /// Standard output takes no more bytes.
     #[error("tsotest: write failed")]
     WriteFailed,

@@ -47,6 +47,7 @@ K7   `--buffer` is not from 1 to 512 (it counts the stores that a buffer holds)
 K8   `--workers` is not from 1 to 32 (it counts threads)
 K9   `--fault` is none of the six names (they are none, no-bypass, youngest-first, open-fence, stale-share and early-rmw)
 K10  `--show` is not below `--trials` (trials are numbered from 0)
+K11  `--show` is not below the number of recordings (recordings are numbered from 0)
 ";
 
 /// What is said of the refusal with this name.

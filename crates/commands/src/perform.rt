@@ -8,7 +8,9 @@ ghost use Rattle.commands.specs.Inputs.{AreRead, CanRead, Reads, seen};
 ghost use Rattle.commands.specs.Names.{names_of};
 ghost use Rattle.commands.specs.Output.{CountsWrites, IsBegun, IsPut};
 ghost use Rattle.commands.specs.Perform.{IsAnswerTo, IsCommandStop, IsFaultFor, IsFaultOf, IsHelp, IsNoJudge};
-ghost use Rattle.commands.specs.Perform.{IsOptionStop, IsPrinted, IsPrintedFor, IsPrintedWithout, IsShown, Tallies};
+ghost use Rattle.commands.specs.Perform.{IsOptionStop, IsPrinted, IsPrintedFor, IsPrintedWithout, IsShown};
+ghost use Rattle.commands.specs.Perform.{PrintsAtOnce, PrintsEarly, Tallies};
+ghost use Rattle.commands.specs.Survey.{TellsEach};
 
 use crate::fault::CommandFault;
 use crate::judge_command::judge_command;
@@ -19,12 +21,13 @@ use crate::refusal::option_refusal;
 use crate::replay_command::replay_command;
 use crate::run_command::run_command;
 use crate::stop::{Refusal, Stop};
+use crate::survey_command::{each_command, survey_command};
 use crate::tell_command::tell_command;
 use crate::trials_command::trials_command;
 use crate::verify_command::verify_command;
 use answers::Telling;
 use command_line::words::options;
-use command_line::{JudgeOptions, OptionFault, Options};
+use command_line::{JudgeOptions, OptionFault, Options, SurveyOptions};
 use devices::{Place, Sink};
 use report::{Answer, Outcome};
 use std::alloc::Global;
@@ -54,7 +57,8 @@ fn without_options(alloc: Global, fault: OptionFault) -> Result<Answer, Stop>
     }
 }
 
-/// What the command answers that these options ask for, which are not those of `judge`.
+/// What the command answers that these options ask for, which are not those of `judge`, or of a survey that tells each
+/// recording.
 fn answer_to<R: Threads + Wait + Sync, P: Place>(
     rt: &R,
     alloc: Global,
@@ -63,6 +67,7 @@ fn answer_to<R: Threads + Wait + Sync, P: Place>(
 ) -> Result<Answer, Stop>
     requires options { (command : Option (Text × List Row)) × AreOptions options.now command }
     requires told { IsNoJudge options.now }
+    requires whole { PrintsEarly options.now → ⊥ }
     requires inputs { CanRead (P.tally place.old) }
     ensures ok { IfOk result (IsAnswerTo (P.bytes place.old) options.now) }
     ensures err { IfErr result (IsCommandStop (P.bytes place.old) options.now) }
@@ -82,6 +87,7 @@ fn answer_to<R: Threads + Wait + Sync, P: Place>(
         }
         Options::Reduce(reduce) => tell_command(alloc, Telling::Reduction, reduce, place),
         Options::Verify(verify) => verify_command(rt, alloc, verify, place),
+        Options::Survey(survey) => survey_command(rt, alloc, survey, place),
     }
 }
 
@@ -118,6 +124,17 @@ fn judging(options: &Options) -> Option<&JudgeOptions>
     }
 }
 
+/// The options of `survey`, where these are its and each recording is told.
+fn telling_each(options: &Options) -> Option<&SurveyOptions>
+    ensures some { IfSome result (λ o. (options.now ≡ Options.Survey o.now) × TellsEach o.now) }
+    ensures none { IfNone result (PrintsEarly options.now → ⊥) }
+{
+    match options {
+        Options::Survey(survey) if survey.each && survey.show.is_none() => Some(survey),
+        _ => None,
+    }
+}
+
 /// Prints what these options ask for.
 fn performed<R: Threads + Wait + Sync, P: Place, W: Sink>(
     rt: &R,
@@ -131,16 +148,20 @@ fn performed<R: Threads + Wait + Sync, P: Place, W: Sink>(
     requires output { CanGrow (W.write_failures out.old) }
     ensures printed { IfOk result (IsPut (IsPrintedFor (P.bytes place.old) options.now (seen (P.asked place.old)
         (P.asked place.new) (P.tally place.old) (P.tally place.new))) (W.written out.old) (W.written out.new)) }
-    ensures begun { result ≡ Err CommandFault.WriteFailed → IsBegun (IsPrintedFor (P.bytes place.old) options.now
-        (seen (P.asked place.old) (P.asked place.new) (P.tally place.old) (P.tally place.new))) (W.written out.old)
-        (W.written out.new) }
+    ensures begun { result ≡ Err CommandFault.WriteFailed → (PrintsEarly options.now → ⊥) → IsBegun (IsPrintedFor
+        (P.bytes place.old) options.now (seen (P.asked place.old) (P.asked place.new) (P.tally place.old)
+        (P.tally place.new))) (W.written out.old) (W.written out.new) }
     ensures fault { IfErr result (IsFaultFor (P.bytes place.old) options.now (seen (P.asked place.old)
         (P.asked place.new) (P.tally place.old) (P.tally place.new))) }
     ensures writes { CountsWrites (W.write_failures out.old) (W.write_failures out.new) result }
-    ensures unwritten { IfErr result (λ fault. fault ≢ CommandFault.WriteFailed → out.new ≡ out.old) }
+    ensures unwritten { IfErr result (λ fault. fault ≢ CommandFault.WriteFailed → (PrintsEarly options.now → ⊥)
+        → out.new ≡ out.old) }
 {
     if let Some(judge) = judging(options) {
         return judge_command(rt, alloc, judge, place, out);
+    }
+    if let Some(survey) = telling_each(options) {
+        return each_command(rt, alloc, survey, place, out);
     }
     let answered = answer_to(rt, alloc, options, place);
     let answer = shown(place, answered)?;
@@ -171,7 +192,7 @@ fn explained_options<P: Place, W: Sink>(
 /// Does what the words ask, writes what the command prints and answers how it came out. The words
 /// come without the program's name. An error is a fault of the command line, an input that isn't read,
 /// threads under `live`, want of memory, or a write that failed; nothing is written before the whole answer
-/// stands.
+/// stands, but the lines of `survey --each`.
 pub fn perform<R: Threads + Wait + Sync, P: Place, W: Sink>(
     rt: &R,
     alloc: Global,
@@ -184,15 +205,16 @@ pub fn perform<R: Threads + Wait + Sync, P: Place, W: Sink>(
     ensures printed { IfOk result (IsPut (IsPrinted (P.bytes place.old) (map string_bytes words.now)
         (seen (P.asked place.old) (P.asked place.new) (P.tally place.old) (P.tally place.new))) (W.written out.old)
         (W.written out.new)) }
-    ensures begun { result ≡ Err CommandFault.WriteFailed → IsBegun (IsPrinted (P.bytes place.old)
-        (map string_bytes words.now) (seen (P.asked place.old) (P.asked place.new) (P.tally place.old)
-        (P.tally place.new))) (W.written out.old) (W.written out.new) }
+    ensures begun { result ≡ Err CommandFault.WriteFailed → PrintsAtOnce (map string_bytes words.now) → IsBegun
+        (IsPrinted (P.bytes place.old) (map string_bytes words.now) (seen (P.asked place.old) (P.asked place.new)
+        (P.tally place.old) (P.tally place.new))) (W.written out.old) (W.written out.new) }
     ensures fault { IfErr result (IsFaultOf (P.bytes place.old) (map string_bytes words.now)
         (seen (P.asked place.old) (P.asked place.new) (P.tally place.old) (P.tally place.new))) }
     ensures reads { Tallies (P.tally place.old) (P.tally place.new) result }
     ensures writes { CountsWrites (W.write_failures out.old) (W.write_failures out.new) result }
-    // An error leaves the sink as it was, unless a write failed.
-    ensures unwritten { IfErr result (λ fault. fault ≢ CommandFault.WriteFailed → out.new ≡ out.old) }
+    // An error leaves the sink as it was, unless a write failed or lines of recordings came before it.
+    ensures unwritten { IfErr result (λ fault. fault ≢ CommandFault.WriteFailed
+        → PrintsAtOnce (map string_bytes words.now) → out.new ≡ out.old) }
 {
     match options(alloc, words) {
         Ok(options) => performed(rt, alloc, &options, place, out),

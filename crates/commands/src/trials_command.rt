@@ -32,7 +32,7 @@ fn answer_of<R: Threads + Wait + Sync, P: Place>(
             campaign_answer(rt, alloc, &options.campaign, options.workers, &OpenGate)
         }
         None => {
-            let progress = place.progress(options.campaign.trials());
+            let progress = place.progress(Some(options.campaign.trials()));
             campaign_answer(rt, alloc, &options.campaign, options.workers, &progress)
         }
     }

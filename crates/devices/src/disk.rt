@@ -99,8 +99,8 @@ impl<'a> Place for Disk<'a> {
         self.tally.take_back(input.is_ended(), input.failures());
     }
 
-    fn progress(&self, pieces: usize) -> Progress<'a> {
-        Progress::new(self.rt, pieces)
+    fn progress(&self, trials: Option<usize>) -> Progress<'a> {
+        Progress::new(self.rt, trials)
     }
 
     fn refuse(&mut self, line: String) {

@@ -7,7 +7,7 @@ use std::test::Fail;
 fn with(done: usize, found: usize) -> Line {
     Line {
         done,
-        trials: 65536,
+        trials: Some(65536),
         found,
     }
 }
@@ -30,6 +30,17 @@ fn lines_stand_on_one_row(rt: HostRuntime) -> Result<(), Fail> {
             "\r65536 of 65536 trials, 65536 violations"
         )?
     );
+    Ok(())
+}
+
+#[test]
+fn lines_of_surveys_have_no_whole(rt: HostRuntime) -> Result<(), Fail> {
+    let line = Line {
+        done: 70000,
+        trials: None,
+        found: 1,
+    };
+    assert!(rt; is(rt.alloc(), line, "\r70000 recordings, 1 violation")?);
     Ok(())
 }
 

@@ -1,4 +1,4 @@
-//! The progress of a campaign, on a terminal.
+//! The progress of a campaign or a survey, on a terminal.
 ghost use Rattle.std.specs.Prelude.{◌≡◌};
 ghost use Rattle.devices.specs.Progress.{line_due};
 
@@ -9,22 +9,22 @@ use std::io::IsTerminal;
 use std::sync::atomic::{AtomicU64, AtomicUsize, Ordering};
 use std::time::{Duration, Instant};
 
-/// After so many milliseconds a campaign shows its first line.
+/// After so many milliseconds the first line is shown.
 pub const FIRST_LINE: u64 = 500;
 
 /// So many milliseconds at least lie between two lines.
 pub const BETWEEN_LINES: u64 = 250;
 
 /// What takes the longest line away.
-const BLANKS: &str = "\r                                       \r";
+const BLANKS: &str = "\r                                                                \r";
 
-/// How far a campaign is.
+/// How far a campaign is, or a survey.
 #[derive(Clone, Copy, Debug, PartialEq, Eq)]
 pub struct Line {
-    /// How many trials are done.
+    /// How many trials or recordings are done.
     pub done: usize,
-    /// How many there are.
-    pub trials: usize,
+    /// How many trials there are; none of a survey, whose recordings are not known before its end.
+    pub trials: Option<usize>,
     /// How many violations were found.
     pub found: usize,
 }
@@ -36,11 +36,16 @@ impl Display for Line {
         } else {
             "violations"
         };
-        write!(
-            f,
-            "\r{} of {} trials, {} {noun}",
-            self.done, self.trials, self.found
-        )
+        match self.trials {
+            Some(trials) => {
+                write!(
+                    f,
+                    "\r{} of {trials} trials, {} {noun}",
+                    self.done, self.found
+                )
+            }
+            None => { write!(f, "\r{} recordings, {} {noun}", self.done, self.found) }
+        }
     }
 }
 
@@ -66,26 +71,26 @@ pub(crate) fn is_shown(rt: &HostRuntime) -> bool {
     rt.stderr().is_terminal()
 }
 
-/// The time at which a campaign begins, where there is a clock.
+/// The time at which work begins, where there is a clock.
 fn beginning(rt: &HostRuntime) -> Option<Instant> {
     Instant::now(rt).ok()
 }
 
-/// Shows how far a campaign is, on standard error where that is a terminal. Its end takes the line away.
+/// Shows how far work is, on standard error where that is a terminal. Its end takes the line away.
 /// Without a clock it shows nothing.
 pub struct Progress<'a> {
     rt: &'a HostRuntime,
     is_terminal: bool,
     begun: Option<Instant>,
-    trials: usize,
+    trials: Option<usize>,
     done: AtomicUsize,
     found: AtomicUsize,
     last: AtomicU64,
 }
 
 impl<'a> Progress<'a> {
-    /// That of a campaign of so many trials, which begins.
-    pub fn new(rt: &'a HostRuntime, trials: usize) -> Progress<'a> {
+    /// That of a campaign of so many trials, or of a survey, which begins.
+    pub fn new(rt: &'a HostRuntime, trials: Option<usize>) -> Progress<'a> {
         Progress {
             rt,
             is_terminal: is_shown(rt),

@@ -1,16 +1,16 @@
 -- A line is found block by block.
 use Rattle.std.proofs.Common.{◌≡◌, ◌+◌, ◌<◌, ◌≤◌, ◌++◌, ◌∷◌, [], ℕ, true, false, List, Option, Some, None, arith, ap, refl, sym, subst, ◌∙◌}
 use Rattle.std.proofs.Common.{length, length-append, get_or, take, drop, append_assoc, append-nil, filter}
-use Rattle.std.proofs.Common.{IfSome, Vec, Global, lt-ltb, le-ltb}
+use Rattle.std.proofs.Common.{Vec, Global, lt-ltb, le-ltb}
 use Rattle.std.proofs.KnownBytes.{Consumes-nil, Consumes-trans}
 use Rattle.std.proofs.lemmas.List.{get_or_append_left, get_or-append-add, length-take, take-append-drop}
-use Rattle.std.specs.Io.KnownBytes.{Consumes, IsAtEnd}
+use Rattle.std.specs.Io.KnownBytes.{Consumes}
 use Rattle.devices.specs.Bytes.{Gathers}
 use Rattle.surveys.specs.Lines.{IsCut, IsSplit, IsWhole, is_some_line, lines}
 use Rattle.surveys.specs.LineLaws.{whole_append, whole_nil}
 use Rattle.surveys.specs.declared.showing.Sought.{Sought}
 use Rattle.surveys.specs.declared.showing.Sought.TheVariants.{Found, Later}
-use Rattle.surveys.specs.Shown.{IsBefore, IsLineAt, IsSought, IsSoughtFirst}
+use Rattle.surveys.specs.Shown.{IsBefore, IsLineAt, IsLineOfRead, IsRead, IsSought, IsSoughtFirst}
 
 -- a line after others
 pub line_behind : (all front back : List ℕ) (k m : ℕ) (line : List ℕ) → lines all ≡ lines front ++ lines back
@@ -183,53 +183,45 @@ module _ (u v w : Option (List ℕ)) (k m n : ℕ) (old block : List ℕ) (is : 
     length-append first.front rest,
   )
 
-  -- it is there
-  pub there : (rest : List ℕ) (size : ℕ) (sought : Sought) (line : Vec ℕ Global) → IsSoughtFirst block rest m sought size
-      → sought ≡ Found line → IfSome u (λ bytes. IsLineAt bytes k line.items)
-  there rest size sought line first found = in_all u w filled
-    where
-      at : IsLineAt first.front m line.items
-      at = subst (λ (s : Sought). IsSought first.front m s) found first.is
-
-      in_all : (x y : Option (List ℕ)) → Consumes x y (is.front ++ block)
-          → IfSome x (λ bytes. IsLineAt bytes k line.items)
-      in_all None y read = tt
-      in_all (Some xs) None read = absurd read
-      in_all (Some xs) (Some ys) read = line_behind xs is.front (first.front ++ (rest ++ ys)) k m line.items
-          (ap lines whole ∙ is.whole (first.front ++ (rest ++ ys)))
-          (line_before (first.front ++ (rest ++ ys)) first.front (rest ++ ys) m line.items (first.whole (rest ++ ys)) at)
-          is.before
-        where
-          whole : xs ≡ is.front ++ (first.front ++ (rest ++ ys))
-          whole = read ∙ (ap (λ (t : List ℕ). (is.front ++ t) ++ ys) first.cut
-              ∙ (append_assoc is.front (first.front ++ rest) ys
-              ∙ ap (λ (t : List ℕ). is.front ++ t) (append_assoc first.front rest ys)))
+  -- it is there, and the rest was read
+  pub there : (x : Option (List ℕ)) (more rest : List ℕ) (size : ℕ) (sought : Sought) (line : Vec ℕ Global)
+      → Consumes w x more → IsSoughtFirst block rest m sought size → sought ≡ Found line
+      → IsLineOfRead u x k (Some line.items)
+  there x more rest size sought line read first found = record {
+    bytes = (is.front ++ block) ++ more;
+    read = Consumes-trans u w x (is.front ++ block) more filled read;
+    is = line_behind ((is.front ++ block) ++ more) is.front (block ++ more) k m line.items
+        (ap lines (append_assoc is.front block more) ∙ is.whole (block ++ more))
+        (line_before (block ++ more) first.front (rest ++ more) m line.items
+        (ap (λ (t : List ℕ). lines (t ++ more)) first.cut ∙ (ap lines (append_assoc first.front rest more)
+        ∙ first.whole (rest ++ more))) (subst (λ (s : Sought). IsSought first.front m s) found first.is)) is.before;
+  }
 
   -- or in the last block
-  pub at_last : IsAtEnd w → (line : List ℕ) → IsLineAt block m line → IfSome u (λ bytes. IsLineAt bytes k line)
-  at_last end line at = in_all u w filled end
-    where
-      in_all : (x y : Option (List ℕ)) → Consumes x y (is.front ++ block) → IsAtEnd y
-          → IfSome x (λ bytes. IsLineAt bytes k line)
-      in_all None y read ended = tt
-      in_all (Some xs) None read ended = absurd read
-      in_all (Some xs) (Some ys) read ended = line_behind xs is.front block k m line
-          (ap lines (read ∙ (ap (λ (t : List ℕ). (is.front ++ block) ++ t) ended ∙ append-nil (is.front ++ block)))
-          ∙ is.whole block) at is.before
+  pub at_last : (line : List ℕ) → IsLineAt block m line → IsLineOfRead u w k (Some line)
+  at_last line at = record {
+    bytes = is.front ++ block;
+    read = filled;
+    is = line_behind (is.front ++ block) is.front block k m line (is.whole block) at is.before;
+  }
 
   -- or nowhere
-  pub nowhere : IsAtEnd w → (j : ℕ) → m ≡ length (lines block) + j → IfSome u (λ bytes. length (lines bytes) ≤ k)
-  nowhere end j past = in_all u w filled end
-    where
-      in_all : (x y : Option (List ℕ)) → Consumes x y (is.front ++ block) → IsAtEnd y
-          → IfSome x (λ bytes. length (lines bytes) ≤ k)
-      in_all None y read ended = tt
-      in_all (Some xs) None read ended = absurd read
-      in_all (Some xs) (Some ys) read ended = omega (
-        arith,
-        is.before,
-        past,
-        ap (λ (ls : List (List ℕ)). length ls) (ap lines (read ∙ (ap (λ (t : List ℕ). (is.front ++ block) ++ t) ended
-            ∙ append-nil (is.front ++ block))) ∙ is.whole block),
-        length-append (lines is.front) (lines block),
-      )
+  pub nowhere : (j : ℕ) → m ≡ length (lines block) + j → IsLineOfRead u w k None
+  nowhere j past = record {
+    bytes = is.front ++ block;
+    read = filled;
+    is = omega (
+      arith,
+      is.before,
+      past,
+      ap (λ (ls : List (List ℕ)). length ls) (is.whole block),
+      length-append (lines is.front) (lines block),
+    );
+  }
+
+-- what was read, and then more
+pub read_on : (u v w : Option (List ℕ)) (old block : List ℕ) → IsRead u v → Gathers v w old block → IsRead u w
+read_on u v w old block read gathered = (
+  read.0 ++ gathered.0,
+  Consumes-trans u v w read.0 gathered.0 read.1 gathered.1,
+)

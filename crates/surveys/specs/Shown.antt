@@ -1,5 +1,5 @@
 -- One line of many.
-use Rattle.std.specs.Prelude.{◌≡◌, ◌+◌, ◌<◌, ◌++◌, [], ℕ, List, Option, length, slice_index_or}
+use Rattle.std.specs.Prelude.{◌≡◌, ◌+◌, ◌<◌, ◌≤◌, ◌++◌, [], ℕ, List, Option, None, Some, length, slice_index_or}
 use Rattle.std.specs.Io.KnownBytes.{Consumes}
 use Rattle.surveys.specs.Lines.{IsWhole, lines}
 use Rattle.surveys.specs.declared.showing.Sought.{Sought}
@@ -8,6 +8,21 @@ use Rattle.surveys.specs.declared.showing.Sought.TheVariants.{Found, Later}
 -- the line of this number
 abbrev pub IsLineAt : List ℕ → ℕ → List ℕ → Type 0
 IsLineAt bytes k line = (k < length (lines bytes)) × (slice_index_or (lines bytes) k [] ≡ line)
+
+-- it, or that there are not so many
+abbrev pub IsLineOf : List ℕ → ℕ → Option (List ℕ) → Type 0
+IsLineOf bytes k None = length (lines bytes) ≤ k
+IsLineOf bytes k (Some line) = IsLineAt bytes k line
+
+-- the same of the bytes that were read
+pub record IsLineOfRead (left_before left_after : Option (List ℕ)) (k : ℕ) (line : Option (List ℕ)) : Type 0 where
+  pub bytes : List ℕ
+  pub read : Consumes left_before left_after bytes
+  pub is : IsLineOf bytes k line
+
+-- some bytes were read
+abbrev pub IsRead : Option (List ℕ) → Option (List ℕ) → Type 0
+IsRead left_before left_after = (bytes : List ℕ) × Consumes left_before left_after bytes
 
 -- it, or which number it has after these bytes
 abbrev pub IsSought : List ℕ → ℕ → Sought → Type 0

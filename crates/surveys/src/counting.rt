@@ -1,6 +1,6 @@
 //! What is found in many lines, and their ledger.
 
-ghost use Rattle.std.specs.Prelude.{◌≡◌, ◌<◌, ◌+◌, ◌^◌, [], ℕ, List, Option, All, IfErr, IfOk, OnOk};
+ghost use Rattle.std.specs.Prelude.{◌≡◌, ◌≢◌, ◌<◌, ◌+◌, ◌^◌, [], ℕ, List, Option, All, IfErr, IfOk, OnOk, true};
 ghost use Rattle.std.specs.Prelude.{length, map};
 ghost use Rattle.std.specs.Io.KnownBytes.{Appends};
 ghost use Rattle.devices.specs.Bytes.{CanGrow};
@@ -19,6 +19,12 @@ use devices::{Failed, Sink, write_all};
 use ledger::{Finding, Ledger};
 use std::alloc::Global;
 use std::thread::Threads;
+
+/// How many lines are judged at once at most.
+const LINES: usize = 16_384;
+
+/// The same where each is told as soon as those before it are judged.
+const TOLD_LINES: usize = 64;
 
 /// Puts what a worker found to its places.
 fn put_claims(places: &mut [Option<Finding>], lines: &[&[u8]], claims: &[Claim])
@@ -111,7 +117,7 @@ fn ledger_of(alloc: Global, findings: &[Finding]) -> Result<Ledger, OutOfMemory>
     Ledger::count(alloc, &codes)
 }
 
-/// Writes the lines of what is found, the first of which has this number, where each is told.
+/// Writes the lines of what is found, the first of which has this number, where each is told, and hands them on.
 fn tell<W: Sink>(
     alloc: Global,
     sink: &mut W,
@@ -125,15 +131,24 @@ fn tell<W: Sink>(
         (Appends (W.written sink.old) (W.written sink.new) (told_text each first findings.now)) }
     ensures reads { IfErr result (λ e. failed_reads e ≡ 0) }
     ensures writes { CountsWrites (W.write_failures sink.old) (W.write_failures sink.new) result }
+    ensures silent { each ≢ true → sink.new ≡ sink.old }
 {
     if !each {
         return Ok(());
     }
     let text = each_text(alloc, first, findings)?;
-    match write_all(sink, &text) {
+    let Ok(()) = write_all(sink, &text) else {
+        return Err(SurveyError::WriteFailed);
+    };
+    match sink.flush() {
         Ok(()) => Ok(()),
         Err(Failed) => Err(SurveyError::WriteFailed),
     }
+}
+
+/// How many lines are judged at once.
+fn lines_at_once(each: bool) -> usize {
+    if each { TOLD_LINES } else { LINES }
 }
 
 /// Adds the first lines of the bytes to the ledger of those before them, where they are told too, and answers
@@ -157,8 +172,9 @@ fn count_some<'a, R: Threads + Sync, W: Sink, G: Gate>(
         ledger.old (W.written sink.old) ledger.new (W.written sink.new)) }
     ensures reads { IfErr result (λ e. failed_reads e ≡ 0) }
     ensures writes { CountsWrites (W.write_failures sink.old) (W.write_failures sink.new) result }
+    ensures silent { each ≢ true → sink.new ≡ sink.old }
 {
-    let (lines, rest) = next_lines(alloc, bytes)?;
+    let (lines, rest) = next_lines(alloc, bytes, lines_at_once(each))?;
     let first = ledger.total;
     let findings = findings_of(rt, alloc, &lines, first, workers, gate)?;
     let more = ledger_of(alloc, &findings)?;
@@ -185,6 +201,7 @@ pub(crate) fn count_all<R: Threads + Sync, W: Sink, G: Gate>(
         ledger.old (W.written sink.old) ledger.new (W.written sink.new)) }
     ensures reads { IfErr result (λ e. failed_reads e ≡ 0) }
     ensures writes { CountsWrites (W.write_failures sink.old) (W.write_failures sink.new) result }
+    ensures silent { each ≢ true → sink.new ≡ sink.old }
 {
     let mut rest = bytes;
     'parts: while !rest.is_empty() {

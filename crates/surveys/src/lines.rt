@@ -8,9 +8,6 @@ use common::OutOfMemory;
 use memchr::memchr;
 use std::alloc::Global;
 
-/// How many lines are judged at once at most.
-const LINES: usize = 16_384;
-
 /// Adds a line, unless it is empty.
 fn add_line<'a>(found: &mut Vec<&'a [u8]>, line: &'a [u8]) -> Result<(), OutOfMemory>
     ensures { OnOk result (map (λ l. l.now) found.new.items
@@ -34,11 +31,12 @@ pub(crate) fn split_line<'a>(bytes: &'a [u8]) -> (&'a [u8], &'a [u8])
     }
 }
 
-/// The first lines of some bytes, without the empty ones, and what comes after them: nothing, or as many lines
-/// were found as are judged at once. Fails only if out of memory.
+/// The first lines of some bytes, without the empty ones, so many at most, and what comes after them: nothing,
+/// or as many lines were found. Fails only if out of memory.
 pub fn next_lines<'a>(
     alloc: Global,
     bytes: &'a [u8],
+    most: usize,
 ) -> Result<(Vec<&'a [u8]>, &'a [u8]), OutOfMemory>
     requires { 0 < length bytes.now }
     ensures cut { IfOk result (λ r. IsCut bytes.now (map (λ l. l.now) r.0.items) r.1.now) }
@@ -47,7 +45,7 @@ pub fn next_lines<'a>(
     let mut found = Vec::new(alloc);
     let (line, mut rest) = split_line(bytes);
     add_line(&mut found, line)?;
-    'lines: while !rest.is_empty() && found.len() < LINES {
+    'lines: while !rest.is_empty() && found.len() < most {
         let (line, more) = split_line(rest);
         add_line(&mut found, line)?;
         rest = more;

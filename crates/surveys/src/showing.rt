@@ -1,10 +1,10 @@
 //! One line of a source.
 
-ghost use Rattle.std.specs.Prelude.{◌≡◌, ◌≤◌, ◌<◌, ℕ, IfErr, IfOk, IfSome, MatchOption, length};
+ghost use Rattle.std.specs.Prelude.{◌≡◌, ◌<◌, true, IfErr, IfOk, OnOk, length, option_map};
+ghost use Rattle.std.specs.Io.KnownBytes.{IsAtEnd};
 ghost use Rattle.devices.specs.Bytes.{CanGrow};
-ghost use Rattle.surveys.specs.Lines.{lines};
-ghost use Rattle.surveys.specs.Shown.{IsLineAt, IsSought, IsSoughtFirst};
-ghost use Rattle.surveys.specs.Surveys.{CountsReads, failed_reads};
+ghost use Rattle.surveys.specs.Shown.{IsLineOfRead, IsRead, IsSought, IsSoughtFirst};
+ghost use Rattle.surveys.specs.Surveys.{CountsReads, failed_reads, failed_writes};
 
 use crate::error::SurveyError;
 use crate::filling::{PIECE, fill, keep_rest, last_end};
@@ -66,7 +66,33 @@ fn line_in_whole(
     Ok((sought, end))
 }
 
-/// The same of all that a source gives.
+/// Reads what a source still gives, by way of a block.
+fn read_rest<R: Source>(
+    source: &mut R,
+    piece: &mut [u8],
+    block: &mut Vec<u8>,
+) -> Result<(), SurveyError>
+    requires failures { CanGrow (R.read_failures source.old) }
+    requires room { 0 < length piece.old }
+    ensures read { OnOk result (IsRead (R.left source.old) (R.left source.new)) }
+    ensures met { OnOk result (R.is_ended source.new ≡ true) }
+    ensures all { OnOk result (IsAtEnd (R.left source.new)) }
+    ensures reads { CountsReads (R.read_failures source.old) (R.read_failures source.new) result }
+    ensures writes { IfErr result (λ e. failed_writes e ≡ 0) }
+{
+    let mut counted = 0usize;
+    block.clear();
+    'filled: while fill(source, piece, block, true)? {
+        let Some(total) = counted.checked_add(block.len()) else {
+            return Err(SurveyError::TooLong);
+        };
+        counted = total;
+        block.clear();
+    }
+    Ok(())
+}
+
+/// The same of all that a source gives, which is read to its end.
 fn line_from<R: Source>(
     alloc: Global,
     source: &mut R,
@@ -75,9 +101,12 @@ fn line_from<R: Source>(
 ) -> Result<Option<Vec<u8>>, SurveyError>
     requires failures { CanGrow (R.read_failures source.old) }
     requires room { 0 < length piece.old }
-    ensures known { IfOk result (λ line. IfSome (R.left source.old) (λ bytes.
-        MatchOption line (length (lines bytes) ≤ number) (λ v. IsLineAt bytes number v.items))) }
+    ensures read { IfOk result (λ line. IsLineOfRead (R.left source.old) (R.left source.new) number
+        (option_map (λ v. v.items) line)) }
+    ensures met { OnOk result (R.is_ended source.new ≡ true) }
+    ensures all { OnOk result (IsAtEnd (R.left source.new)) }
     ensures reads { CountsReads (R.read_failures source.old) (R.read_failures source.new) result }
+    ensures writes { IfErr result (λ e. failed_writes e ≡ 0) }
 {
     let mut block = Vec::new(alloc);
     let mut left = number;
@@ -86,7 +115,10 @@ fn line_from<R: Source>(
     'filled: while fill(source, piece, &mut block, false)? {
         let (sought, end) = line_in_whole(alloc, &mut block, seen, left)?;
         left = match sought {
-            Sought::Found(line) => return Ok(Some(line)),
+            Sought::Found(line) => {
+                read_rest(source, piece, &mut block)?;
+                return Ok(Some(line));
+            }
             Sought::Later(later) => later,
         };
         let Some(total) = counted.checked_add(end) else {
@@ -102,16 +134,20 @@ fn line_from<R: Source>(
 }
 
 /// The line of this number, from 0, of all that a source gives; none where there are not so many. Empty lines
-/// count as none. No more is read than it needs. `ReadFailed` exactly where a read failed.
+/// count as none. The source is read to its end. `ReadFailed` exactly where a read failed. The memory is that of a
+/// block, or of the longest line, whatever the length.
 pub fn line_of<R: Source>(
     alloc: Global,
     source: &mut R,
     number: usize,
 ) -> Result<Option<Vec<u8>>, SurveyError>
     requires { CanGrow (R.read_failures source.old) }
-    ensures known { IfOk result (λ line. IfSome (R.left source.old) (λ bytes.
-        MatchOption line (length (lines bytes) ≤ number) (λ v. IsLineAt bytes number v.items))) }
+    ensures read { IfOk result (λ line. IsLineOfRead (R.left source.old) (R.left source.new) number
+        (option_map (λ v. v.items) line)) }
+    ensures met { OnOk result (R.is_ended source.new ≡ true) }
+    ensures all { OnOk result (IsAtEnd (R.left source.new)) }
     ensures reads { CountsReads (R.read_failures source.old) (R.read_failures source.new) result }
+    ensures writes { IfErr result (λ e. failed_writes e ≡ 0) }
 {
     let Ok(mut piece) = Vec::from_elem(alloc, 0u8, PIECE) else {
         return Err(SurveyError::OutOfMemory);

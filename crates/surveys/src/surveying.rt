@@ -1,6 +1,6 @@
 //! The survey of a source.
 
-ghost use Rattle.std.specs.Prelude.{◌≡◌, ◌<◌, ℕ, List, Option, true, [], IfErr, IfOk, IfSome, OnOk};
+ghost use Rattle.std.specs.Prelude.{◌≡◌, ◌≢◌, ◌<◌, ℕ, List, Option, true, [], IfErr, IfOk, IfSome, OnOk};
 ghost use Rattle.std.specs.Prelude.{length};
 ghost use Rattle.std.specs.Io.KnownBytes.{IsAtEnd};
 ghost use Rattle.devices.specs.Bytes.{CanGrow};
@@ -40,6 +40,7 @@ fn count_part<R: Threads + Sync, W: Sink, G: Gate>(
         (Ends each part.now ledger.old counted (W.written sink.old) ledger.new (W.written sink.new)) }
     ensures reads { IfErr result (λ e. failed_reads e ≡ 0) }
     ensures writes { CountsWrites (W.write_failures sink.old) (W.write_failures sink.new) result }
+    ensures silent { each ≢ true → sink.new ≡ sink.old }
 {
     let Some(total) = counted.checked_add(part.len()) else {
         return Err(SurveyError::TooLong);
@@ -69,6 +70,7 @@ fn count_whole<R: Threads + Sync, W: Sink, G: Gate>(
         ledger.old counted (W.written sink.old) ledger.new n (W.written sink.new)) }
     ensures reads { IfErr result (λ e. failed_reads e ≡ 0) }
     ensures writes { CountsWrites (W.write_failures sink.old) (W.write_failures sink.new) result }
+    ensures silent { each ≢ true → sink.new ≡ sink.old }
 {
     let end = last_end(block, seen);
     let total = count_part(
@@ -108,6 +110,7 @@ fn count_blocks<T: Threads + Sync, R: Source, W: Sink, G: Gate>(
     ensures all { OnOk result (IsAtEnd (R.left source.new)) }
     ensures reads { CountsReads (R.read_failures source.old) (R.read_failures source.new) result }
     ensures writes { CountsWrites (W.write_failures sink.old) (W.write_failures sink.new) result }
+    ensures silent { each ≢ true → sink.new ≡ sink.old }
 {
     let mut block = Vec::new(alloc);
     let mut counted = 0;
@@ -127,7 +130,7 @@ fn count_blocks<T: Threads + Sync, R: Source, W: Sink, G: Gate>(
 /// Reads the lines of a source to its end, a recording each, judges them by so many workers, and counts them in
 /// order; where each is told, its line is written to the sink. The calling thread is a worker, and does what
 /// others leave out. The gate is told as by `findings_of`, by the numbers of the recordings, from 0. `ReadFailed`
-/// exactly where a read failed, and `WriteFailed` where a write did. The memory is that of a block, or of the
+/// exactly where a read failed, and `WriteFailed` where a write did; where none is told, nothing is written. The memory is that of a block, or of the
 /// longest line, whatever the length.
 pub fn survey<T: Threads + Sync, R: Source, W: Sink, G: Gate>(
     rt: &T,
@@ -148,6 +151,7 @@ pub fn survey<T: Threads + Sync, R: Source, W: Sink, G: Gate>(
     ensures all { OnOk result (IsAtEnd (R.left source.new)) }
     ensures reads { CountsReads (R.read_failures source.old) (R.read_failures source.new) result }
     ensures writes { CountsWrites (W.write_failures sink.old) (W.write_failures sink.new) result }
+    ensures silent { each ≢ true → sink.new ≡ sink.old }
 {
     let mut ledger = Ledger::count(alloc, &[])?;
     let Ok(mut piece) = Vec::from_elem(alloc, 0u8, PIECE) else {

@@ -11,11 +11,13 @@ filled-init g c =
     (sym c.new-block.ensures.items) (not_yet left c.args.number) in
     record { before = before; reads = refl; size = refl }
 
-pub returns-in-Found-clause-known : goal.returns-in-Found-clause-known
-returns-in-Found-clause-known g c =
-    there _ (g.R.Source.left c.filled.source) _ c.args.number c.filled.left c.filled.counted c.filled.block.items
-    c.fill.new.block.items c.filled.invariant.before c.in_ok-fill.ensures.gathered c.line_in_whole.new.block.items
-    c.in_ok-sought.end c.in_ok-sought.sought _ c.in_ok-sought.ensures c.in-Found.is
+pub returns-in_ok-read_rest-in-Found-clause-read : goal.returns-in_ok-read_rest-in-Found-clause-read
+returns-in_ok-read_rest-in-Found-clause-read g c =
+    there _ (g.R.Source.left c.filled.source) (g.R.Source.left c.fill.new.source) c.args.number c.filled.left
+    c.filled.counted c.filled.block.items c.fill.new.block.items c.filled.invariant.before
+    c.in_ok-fill.ensures.gathered (g.R.Source.left c.read_rest.new.source) c.in_ok-read_rest.ensures.read.0
+    c.line_in_whole.new.block.items c.in_ok-sought.end c.in_ok-sought.sought _ c.in_ok-read_rest.ensures.read.1
+    c.in_ok-sought.ensures c.in-Found.is
 
 pub filled-smaller : goal.filled-smaller
 filled-smaller g c = omega (
@@ -38,20 +40,19 @@ filled-preserved g c = record {
   size = c.fill.ensures.kept ∙ c.filled.invariant.size;
 }
 
-pub returns-in-Found-2-clause-known : goal.returns-in-Found-2-clause-known
-returns-in-Found-2-clause-known g c =
+pub returns-in-Found-2-clause-read : goal.returns-in-Found-2-clause-read
+returns-in-Found-2-clause-read g c =
     at_last _ (g.R.Source.left c.filled.source) _ c.args.number c.filled.left c.filled.counted
-    c.filled.block.items c.fill.new.block.items c.filled.invariant.before c.in_ok-fill.ensures.gathered
-    (c.in_ok-fill.ensures.all (λ e. let no = c.if-branch.false in absurd cc)) _
+    c.filled.block.items c.fill.new.block.items c.filled.invariant.before c.in_ok-fill.ensures.gathered _
     (subst (λ (s : Sought). IsSought c.fill.new.block.items c.filled.left s) c.in-Found-2.is
     (subst (λ (bytes : List ℕ). IsSought bytes c.filled.left c.in_ok-line.field-0) c.deref.ensures.value
     c.in_ok-line.ensures))
 
-pub returns-clause-known : goal.returns-clause-known
-returns-clause-known g c =
+pub returns-clause-read : goal.returns-clause-read
+returns-clause-read g c =
     nowhere _ (g.R.Source.left c.filled.source) _ c.args.number c.filled.left c.filled.counted
     c.filled.block.items c.fill.new.block.items c.filled.invariant.before c.in_ok-fill.ensures.gathered
-    (c.in_ok-fill.ensures.all (λ e. let no = c.if-branch.false in absurd cc)) c.in-Later-2.field-0
+    c.in-Later-2.field-0
     (subst (λ (s : Sought). IsSought c.fill.new.block.items c.filled.left s) c.in-Later-2.is
     (subst (λ (bytes : List ℕ). IsSought bytes c.filled.left c.in_ok-line.field-0) c.deref.ensures.value
     c.in_ok-line.ensures))

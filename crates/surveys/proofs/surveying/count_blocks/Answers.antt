@@ -10,7 +10,7 @@ filled-init g c =
     let way : IsUnderWay c.args.each left left c.args.ledger.now 0 c.new-block.result.items told told =
     subst (λ (bytes : List ℕ). IsUnderWay c.args.each left left c.args.ledger.now 0 bytes told told)
     (sym c.new-block.ensures.items) (begun c.args.each left told c.args.ledger.now c.requires.none) in
-    record { way = way; reads = refl; writes = refl; size = refl }
+    record { way = way; reads = refl; writes = refl; silent = λ quiet. refl; size = refl }
 
 pub filled-preserved : goal.filled-preserved
 filled-preserved g c = record {
@@ -21,6 +21,7 @@ filled-preserved g c = record {
       c.in_ok-counted.ensures.ok;
   reads = c.in_ok-fill.ensures.count ∙ c.filled.invariant.reads;
   writes = c.in_ok-counted.ensures.writes ∙ c.filled.invariant.writes;
+  silent = λ quiet. c.count_whole.ensures.silent quiet ∙ c.filled.invariant.silent quiet;
   size = c.fill.ensures.kept ∙ c.filled.invariant.size;
 }
 

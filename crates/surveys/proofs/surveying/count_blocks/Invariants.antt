@@ -1,4 +1,4 @@
-use Rattle.std.proofs.Common.{◌≡◌, ◌+◌, ◌-◌, ◌^◌, length}
+use Rattle.std.proofs.Common.{◌≡◌, ◌≢◌, ◌+◌, ◌-◌, ◌^◌, length, true}
 use Rattle.surveys.specs.Tallies.{IsUnderWay}
 use Rattle.surveys.proofs.surveying.count_blocks.Given as goal
 
@@ -9,6 +9,7 @@ invariant-filled g l = record {
       l.block.items (g.W.Sink.written l.fn.sink) (g.W.Sink.written l.sink);
   reads : g.R.Source.read_failures l.source ≡ g.R.Source.read_failures l.fn.source;
   writes : g.W.Sink.write_failures l.sink ≡ g.W.Sink.write_failures l.fn.sink;
+  silent : l.each ≢ true → l.sink ≡ l.fn.sink;
   size : length l.piece ≡ length l.fn.piece;
 }
 

@@ -1,0 +1,31 @@
+-- What is answered of surveys.
+use Rattle.std.specs.Prelude.{◌≡◌, ◌⊎◌, ◌++◌, ◌∷◌, [], ℕ, List, Bool, None, Ok, if◌then◌else◌, true, false}
+use Rattle.recording.specs.Execution.{Execution}
+use Rattle.recorder.specs.Reading.{IsReadingResult}
+use Rattle.ledger.specs.declared.ledger.Ledger.{Ledger}
+use Rattle.report.specs.Answer.{IsAnswerOf, IsRefusedAnswer}
+use Rattle.report.specs.Counted.{survey_text}
+use Rattle.report.specs.declared.printed.Answer.{Answer}
+use Rattle.report.specs.declared.outcome.Outcome.TheVariants.{Refused}
+use Rattle.answers.specs.Campaign.{ledger_outcome}
+use Rattle.answers.specs.Reduced.{IsReducedAnswer}
+
+-- an empty line, where lines come before it
+abbrev pub empty_line : Bool → List ℕ
+empty_line after_lines = if after_lines then 10 ∷ [] else []
+
+-- the counts of a ledger, and how they come out
+pub record IsSurveyAnswer (after_lines : Bool) (l : Ledger) (answer : Answer) : Type 0 where
+  pub outcome : answer.outcome ≡ ledger_outcome Refused l
+  pub text : answer.text.items ≡ empty_line after_lines ++ survey_text l
+
+-- the recording that the bytes are is reduced
+pub record IsReducedLine (bytes : List ℕ) (answer : Answer) : Type 0 where
+  pub recording : Execution
+  pub read : IsReadingResult bytes (Ok recording)
+  pub reduced : IsReducedAnswer recording None answer
+
+-- what is answered to the bytes of one recording: its verdict, or what is left of its violation, or its refusal
+abbrev pub IsLineAnswer : Bool → List ℕ → Answer → Type 0
+IsLineAnswer false bytes answer = IsAnswerOf bytes answer
+IsLineAnswer true bytes answer = IsReducedLine bytes answer ⊎ IsRefusedAnswer bytes answer

@@ -1,0 +1,92 @@
+-- What survey answers.
+use Rattle.std.specs.Prelude.{◌≡◌, ◌≤◌, ◌++◌, ◌∷◌, [], ℕ, List, Option, None, Some, Bool, true, codes, length, string_bytes}
+use Rattle.std.specs.Prelude.{⊤}
+use Rattle.command_line.specs.declared.options.SurveyOptions.{SurveyOptions}
+use Rattle.ledger.specs.declared.finding.Finding.{Finding}
+use Rattle.ledger.specs.declared.ledger.Ledger.{Ledger}
+use Rattle.ledger.specs.Counts.{IsLedger}
+use Rattle.surveys.specs.Found.{AreFindings, codes_of}
+use Rattle.surveys.specs.Lines.{lines}
+use Rattle.surveys.specs.Shown.{IsLineAt, IsLineOf}
+use Rattle.surveys.specs.Surveys.{IsSurvey, told_text}
+use Rattle.report.specs.declared.printed.Answer.{Answer}
+use Rattle.answers.specs.Survey.{IsLineAnswer, IsSurveyAnswer}
+use Rattle.commands.specs.declared.fault.CommandFault.{CommandFault}
+use Rattle.commands.specs.declared.fault.CommandFault.TheVariants.{TooLong, WriteFailed}
+use Rattle.commands.specs.declared.stop.Stop.{Stop}
+use Rattle.commands.specs.declared.stop.Stop.TheVariants.{Refused, Fault}
+use Rattle.commands.specs.Inputs.{AreBytesOf, IsInputFault}
+
+-- a line of each recording is printed before the input's end
+abbrev pub TellsEach : SurveyOptions → Type 0
+TellsEach o = (o.each ≡ true) × (o.show ≡ None)
+
+-- what is found in the lines of the named input is counted, and told where each is
+pub record IsCountedInput (inputs : List ℕ → Option (List ℕ)) (name : List ℕ) (each : Bool)
+    (before after : Option (List ℕ)) (ledger : Ledger) : Type 0 where
+  pub bytes : List ℕ
+  pub given : AreBytesOf inputs name bytes
+  pub survey : IsSurvey bytes ledger each before after
+
+-- the lines of the named input's recordings, where each is told, and the counts of what is found in them
+pub record IsSurveyed (inputs : List ℕ → Option (List ℕ)) (name : List ℕ) (each : Bool) (answer : Answer) : Type 0 where
+  pub bytes : List ℕ
+  pub given : AreBytesOf inputs name bytes
+  pub findings : List Finding
+  pub found : AreFindings (lines bytes) findings
+  pub ledger : Ledger
+  pub counted : IsLedger (codes_of findings) ledger
+  pub counts : Answer
+  pub answered : IsSurveyAnswer each ledger counts
+  pub outcome : answer.outcome ≡ counts.outcome
+  pub text : answer.text.items ≡ told_text each 0 findings ++ counts.text.items
+
+-- the answer to recording k of the named input
+pub record IsShownLine (inputs : List ℕ → Option (List ℕ)) (o : SurveyOptions) (k : ℕ) (answer : Answer) : Type 0 where
+  pub bytes : List ℕ
+  pub given : AreBytesOf inputs (string_bytes o.file) bytes
+  pub line : List ℕ
+  pub at : IsLineAt bytes k line
+  pub answered : IsLineAnswer o.reduce line answer
+
+-- the answer, by the recording that is to be shown
+abbrev pub IsSurveyBy : (List ℕ → Option (List ℕ)) → SurveyOptions → Option ℕ → Answer → Type 0
+IsSurveyBy inputs o None answer = IsSurveyed inputs (string_bytes o.file) o.each answer
+IsSurveyBy inputs o (Some k) answer = IsShownLine inputs o k answer
+
+-- the answer of survey
+abbrev pub IsSurveyOf : (List ℕ → Option (List ℕ)) → SurveyOptions → Answer → Type 0
+IsSurveyOf inputs o answer = IsSurveyBy inputs o o.show answer
+
+-- the line of recording k of the named input, or none where there are not so many
+pub record IsLineOfInput (inputs : List ℕ → Option (List ℕ)) (name : List ℕ) (k : ℕ) (line : Option (List ℕ))
+    : Type 0 where
+  pub bytes : List ℕ
+  pub given : AreBytesOf inputs name bytes
+  pub is : IsLineOf bytes k line
+
+-- the named input has no recording of the number that is asked for
+abbrev pub IsPastTheEnd : (List ℕ → Option (List ℕ)) → SurveyOptions → Option ℕ → Type 0
+IsPastTheEnd inputs o None = ⊥
+IsPastTheEnd inputs o (Some k) = (bytes : List ℕ) × AreBytesOf inputs (string_bytes o.file) bytes
+    × (length (lines bytes) ≤ k)
+
+-- why the named input is not surveyed: it isn't read, or no number counts its bytes
+abbrev pub IsSurveyFault : (List ℕ → Option (List ℕ)) → SurveyOptions → CommandFault → Type 0
+IsSurveyFault inputs o TooLong = ⊤
+IsSurveyFault inputs o fault = IsInputFault inputs (string_bytes o.file) fault
+
+-- why not all of it is told: it is not surveyed, or a write failed
+abbrev pub IsEachFault : (List ℕ → Option (List ℕ)) → SurveyOptions → CommandFault → Type 0
+IsEachFault inputs o WriteFailed = ⊤
+IsEachFault inputs o fault = IsSurveyFault inputs o fault
+
+-- why nothing is surveyed: there is no recording with the number that is asked for, or the input isn't read
+abbrev pub IsSurveyStopBy : (List ℕ → Option (List ℕ)) → SurveyOptions → Option ℕ → Stop → Type 0
+IsSurveyStopBy inputs o show (Refused refusal) = IsPastTheEnd inputs o show
+    × (string_bytes refusal.line ≡ codes "refused: K11" ++ 10 ∷ [])
+IsSurveyStopBy inputs o show (Fault fault) = IsSurveyFault inputs o fault
+
+-- why survey stops
+abbrev pub IsSurveyStop : (List ℕ → Option (List ℕ)) → SurveyOptions → Stop → Type 0
+IsSurveyStop inputs o stop = IsSurveyStopBy inputs o o.show stop

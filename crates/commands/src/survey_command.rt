@@ -1,0 +1,188 @@
+//! The command `survey`.
+ghost use Rattle.std.specs.Prelude.{◌≡◌, ◌≢◌, ◌∷◌, [], IfErr, IfOk, OnOk, Some, false, option_map, string_bytes, true};
+ghost use Rattle.std.specs.Io.KnownBytes.{IsAtEnd};
+ghost use Rattle.devices.specs.Bytes.{CanGrow};
+ghost use Rattle.surveys.specs.Surveys.{IsSurveyOfRead};
+ghost use Rattle.surveys.specs.Surveys.{CountsReads as CountsFailedReads, CountsWrites as CountsFailedWrites};
+ghost use Rattle.commands.specs.Inputs.{CanRead, Reads, ReadsInput, seen};
+ghost use Rattle.commands.specs.Output.{CountsWrites, IsPut};
+ghost use Rattle.commands.specs.Survey.{IsCountedInput, IsEachFault, IsLineOfInput, IsSurveyBy, IsSurveyFault};
+ghost use Rattle.commands.specs.Survey.{IsSurveyOf, IsSurveyStop, IsSurveyStopBy, IsSurveyed, TellsEach};
+
+use crate::fault::CommandFault;
+use crate::inputs::opened;
+use crate::output::put;
+use crate::stop::Stop;
+use answers::{line_answer, survey_answer};
+use command_line::SurveyOptions;
+use common::OpenGate;
+use devices::{MemorySink, Place, Sink};
+use report::{Answer, Outcome};
+use std::alloc::Global;
+use std::thread::Threads;
+use surveys::{Ledger, SurveyError, line_of, survey};
+
+/// The survey of an opened input, of which progress is shown unless the options are quiet.
+fn surveyed<R: Threads + Sync, P: Place, W: Sink>(
+    rt: &R,
+    alloc: Global,
+    options: &SurveyOptions,
+    place: &P,
+    input: &mut P::Input,
+    out: &mut W,
+    each: bool,
+) -> Result<Ledger, SurveyError>
+    requires reads { CanGrow (P.Input.read_failures input.old) }
+    requires writes { CanGrow (W.write_failures out.old) }
+    ensures whole { IfOk result (λ ledger. IsSurveyOfRead (P.Input.left input.old) (P.Input.left input.new) ledger
+        each (W.written out.old) (W.written out.new)) }
+    ensures met { OnOk result (P.Input.is_ended input.new ≡ true) }
+    ensures all { OnOk result (IsAtEnd (P.Input.left input.new)) }
+    ensures reads { CountsFailedReads (P.Input.read_failures input.old) (P.Input.read_failures input.new) result }
+    ensures writes { CountsFailedWrites (W.write_failures out.old) (W.write_failures out.new) result }
+    ensures silent { each ≢ true → out.new ≡ out.old }
+{
+    if options.quiet {
+        return survey(rt, alloc, input, out, each, options.workers, &OpenGate);
+    }
+    let progress = place.progress(None);
+    survey(rt, alloc, input, out, each, options.workers, &progress)
+}
+
+/// Counts the recordings of the named input, and writes the line of each where it is told.
+fn counted<R: Threads + Sync, P: Place, W: Sink>(
+    rt: &R,
+    alloc: Global,
+    options: &SurveyOptions,
+    place: &mut P,
+    out: &mut W,
+    each: bool,
+) -> Result<Ledger, CommandFault>
+    requires inputs { CanRead (P.tally place.old) }
+    requires output { CanGrow (W.write_failures out.old) }
+    ensures ok { IfOk result (IsCountedInput (P.bytes place.old) (string_bytes options.now.file) each
+        (W.written out.old) (W.written out.new)) }
+    ensures fault { IfErr result (IsEachFault (P.bytes place.old) options.now) }
+    ensures reads { ReadsInput (string_bytes options.now.file) (seen (P.asked place.old) (P.asked place.new)
+        (P.tally place.old) (P.tally place.new)) result }
+    ensures writes { CountsWrites (W.write_failures out.old) (W.write_failures out.new) result }
+    ensures silent { each ≢ true → out.new ≡ out.old }
+{
+    let mut input = opened(alloc, place, options.file.as_str())?;
+    let surveyed = surveyed(rt, alloc, options, place, &mut input, out, each);
+    place.take_back(input);
+    match surveyed {
+        Ok(ledger) => Ok(ledger),
+        Err(SurveyError::ReadFailed) => Err(CommandFault::ReadFailed),
+        Err(SurveyError::WriteFailed) => Err(CommandFault::WriteFailed),
+        Err(SurveyError::OutOfMemory) => Err(CommandFault::OutOfMemory),
+        Err(SurveyError::TooLong) => Err(CommandFault::TooLong),
+    }
+}
+
+/// Counts the recordings of the named input; their lines and the counts are written, the lines as soon as they are
+/// known.
+pub fn each_command<R: Threads + Sync, P: Place, W: Sink>(
+    rt: &R,
+    alloc: Global,
+    options: &SurveyOptions,
+    place: &mut P,
+    out: &mut W,
+) -> Result<Outcome, CommandFault>
+    requires told { TellsEach options.now }
+    requires inputs { CanRead (P.tally place.old) }
+    requires output { CanGrow (W.write_failures out.old) }
+    ensures whole { IfOk result (IsPut (IsSurveyOf (P.bytes place.old) options.now) (W.written out.old)
+        (W.written out.new)) }
+    ensures fault { IfErr result (IsEachFault (P.bytes place.old) options.now) }
+    ensures reads { ReadsInput (string_bytes options.now.file) (seen (P.asked place.old) (P.asked place.new)
+        (P.tally place.old) (P.tally place.new)) result }
+    ensures writes { CountsWrites (W.write_failures out.old) (W.write_failures out.new) result }
+{
+    let ledger = counted(rt, alloc, options, place, out, true)?;
+    let counts = survey_answer(alloc, &ledger, true)?;
+    put(out, &counts)
+}
+
+/// Counts the recordings of the named input, of which none is told.
+fn counts_answer<R: Threads + Sync, P: Place>(
+    rt: &R,
+    alloc: Global,
+    options: &SurveyOptions,
+    place: &mut P,
+) -> Result<Answer, CommandFault>
+    requires { CanRead (P.tally place.old) }
+    ensures ok { IfOk result (IsSurveyed (P.bytes place.old) (string_bytes options.now.file) false) }
+    ensures fault { IfErr result (IsSurveyFault (P.bytes place.old) options.now) }
+    ensures reads { ReadsInput (string_bytes options.now.file) (seen (P.asked place.old) (P.asked place.new)
+        (P.tally place.old) (P.tally place.new)) result }
+{
+    let mut out = MemorySink::new(alloc);
+    let ledger = counted(rt, alloc, options, place, &mut out, false)?;
+    Ok(survey_answer(alloc, &ledger, false)?)
+}
+
+/// The line of recording `k` of the named input; none where there are not so many.
+fn line_at<P: Place>(
+    alloc: Global,
+    options: &SurveyOptions,
+    k: usize,
+    place: &mut P,
+) -> Result<Option<Vec<u8>>, CommandFault>
+    requires { CanRead (P.tally place.old) }
+    ensures ok { IfOk result (λ line. IsLineOfInput (P.bytes place.old) (string_bytes options.now.file) k
+        (option_map (λ v. v.items) line)) }
+    ensures fault { IfErr result (IsSurveyFault (P.bytes place.old) options.now) }
+    ensures reads { ReadsInput (string_bytes options.now.file) (seen (P.asked place.old) (P.asked place.new)
+        (P.tally place.old) (P.tally place.new)) result }
+{
+    let mut input = opened(alloc, place, options.file.as_str())?;
+    let line = line_of(alloc, &mut input, k);
+    place.take_back(input);
+    match line {
+        Ok(line) => Ok(line),
+        Err(SurveyError::ReadFailed) => Err(CommandFault::ReadFailed),
+        Err(SurveyError::WriteFailed) => unreachable!(),
+        Err(SurveyError::OutOfMemory) => Err(CommandFault::OutOfMemory),
+        Err(SurveyError::TooLong) => Err(CommandFault::TooLong),
+    }
+}
+
+/// What is answered to recording `k` of the named input.
+fn shown_line<P: Place>(
+    alloc: Global,
+    options: &SurveyOptions,
+    k: usize,
+    place: &mut P,
+) -> Result<Answer, Stop>
+    requires { CanRead (P.tally place.old) }
+    ensures ok { IfOk result (IsSurveyBy (P.bytes place.old) options.now (Some k)) }
+    ensures err { IfErr result (IsSurveyStopBy (P.bytes place.old) options.now (Some k)) }
+    ensures reads { Reads (string_bytes options.now.file ∷ []) (seen (P.asked place.old) (P.asked place.new)
+        (P.tally place.old) (P.tally place.new)) result }
+{
+    match line_at(alloc, options, k, place)? {
+        Some(line) => Ok(line_answer(alloc, line.as_slice(), options.reduce)?),
+        None => Err(Stop::of_line(alloc, "refused: K11\n")),
+    }
+}
+
+/// Counts the recordings of the named input, or answers one of them.
+pub fn survey_command<R: Threads + Sync, P: Place>(
+    rt: &R,
+    alloc: Global,
+    options: &SurveyOptions,
+    place: &mut P,
+) -> Result<Answer, Stop>
+    requires told { TellsEach options.now → ⊥ }
+    requires inputs { CanRead (P.tally place.old) }
+    ensures ok { IfOk result (IsSurveyOf (P.bytes place.old) options.now) }
+    ensures err { IfErr result (IsSurveyStop (P.bytes place.old) options.now) }
+    ensures reads { Reads (string_bytes options.now.file ∷ []) (seen (P.asked place.old) (P.asked place.new)
+        (P.tally place.old) (P.tally place.new)) result }
+{
+    match options.show {
+        Some(k) => shown_line(alloc, options, k, place),
+        None => Ok(counts_answer(rt, alloc, options, place)?),
+    }
+}
