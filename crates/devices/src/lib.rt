@@ -1,13 +1,9 @@
 //! What gives and what takes bytes: devices, texts in memory, and inputs by their names.
 #![tactic(auto)]
 
-#[cfg(test)]
-mod breaking;
 mod bytes;
 mod device;
 mod disk;
-#[cfg(test)]
-mod lines;
 mod memory;
 mod noted;
 mod place;

@@ -3,6 +3,7 @@
 mod answers;
 mod bits;
 mod bound;
+mod breaking;
 mod certificates;
 mod forced;
 mod limits;

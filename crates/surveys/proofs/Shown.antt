@@ -61,15 +61,15 @@ later_all bytes rest k m is nothing = omega (
 )
 
 -- a line that counts
-one_line : (line : List ℕ) → 0 < length line → filter is_some_line (line ∷ []) ≡ line ∷ []
+pub one_line : (line : List ℕ) → 0 < length line → filter is_some_line (line ∷ []) ≡ line ∷ []
 one_line line some = let yes : is_some_line line ≡ true = lt-ltb 0 (length line) some in rw yes refl
 
 -- a line that counts as none
-no_line : (line : List ℕ) → length line ≡ 0 → filter is_some_line (line ∷ []) ≡ []
+pub no_line : (line : List ℕ) → length line ≡ 0 → filter is_some_line (line ∷ []) ≡ []
 no_line line none = let no : is_some_line line ≡ false = le-ltb 0 (length line) (omega (arith, none)) in rw no refl
 
 -- the next line
-next_line : (bytes rest line more : List ℕ) (front : List (List ℕ)) → IsCut bytes front rest → IsSplit rest line more
+pub next_line : (bytes rest line more : List ℕ) (front : List (List ℕ)) → IsCut bytes front rest → IsSplit rest line more
     → IsCut bytes (front ++ filter is_some_line (line ∷ [])) more
 next_line bytes rest line more front cut split = cut ∙ (ap (λ (ls : List (List ℕ)). front ++ ls) split.cut
     ∙ sym (append_assoc front (filter is_some_line (line ∷ [])) (lines more)))

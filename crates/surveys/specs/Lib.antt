@@ -8,3 +8,4 @@ pub mod Tallies
 pub mod Shown
 pub mod OneSurvey
 pub mod FoundLaws
+pub mod Coded

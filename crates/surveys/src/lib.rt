@@ -2,6 +2,7 @@
 #![tactic(auto)]
 
 mod claims;
+mod coded;
 mod counting;
 mod each;
 mod error;
@@ -12,6 +13,7 @@ mod lines;
 mod showing;
 mod surveying;
 
+pub use coded::codes_of_lines;
 pub use counting::findings_of;
 pub use each::each_text;
 pub use error::SurveyError;

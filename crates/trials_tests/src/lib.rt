@@ -16,6 +16,8 @@ mod memory;
 #[cfg(test)]
 mod programs;
 #[cfg(test)]
+mod progress_lines;
+#[cfg(test)]
 mod reproduced;
 #[cfg(test)]
 mod schedules;

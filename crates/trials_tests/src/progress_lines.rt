@@ -1,5 +1,5 @@
 //! Lines of progress, without a terminal.
-use crate::progress::{Line, line_due};
+use devices::{Line, line_due};
 use std::alloc::{AllocError, Global};
 use std::test::Fail;
 

@@ -1,9 +1,6 @@
 //! Readers and writers that break: one call is interrupted, after each count of bytes, or each call after it fails.
 
-use crate::bytes::{Failed, Sink};
-use crate::device::Device;
-use crate::memory::MemorySource;
-use crate::whole::{ReadError, read_all, write_all};
+use devices::{Device, Failed, MemorySource, ReadError, Sink, read_all, write_all};
 use std::alloc::Global;
 use std::io;
 use std::io::{ErrorKind, Read, Write};

@@ -1,0 +1,40 @@
+//! The codes of many recordings in memory.
+
+ghost use Rattle.std.specs.Prelude.{◌≡◌, ◌++◌, ◌∷◌, [], List, IfOk, OnOk, filter};
+ghost use Rattle.ledger.specs.declared.finding.Finding.{Finding};
+ghost use Rattle.surveys.specs.Coded.{AreLineCodes};
+ghost use Rattle.surveys.specs.Found.{AreFindings, codes_of};
+ghost use Rattle.surveys.specs.Lines.{is_some_line};
+
+use crate::judged::finding_of_line;
+use crate::lines::split_line;
+use common::OutOfMemory;
+use std::alloc::Global;
+
+/// Adds the code of what is found in a line, unless it is empty.
+fn add_code(alloc: Global, codes: &mut Vec<u64>, line: &[u8]) -> Result<(), OutOfMemory>
+    ensures { OnOk result ((found : List Finding) × AreFindings (filter is_some_line (line.now ∷ [])) found
+        × (codes.new.items ≡ codes.old.items ++ codes_of found)) }
+{
+    if line.is_empty() {
+        return Ok(());
+    }
+    let finding = finding_of_line(alloc, line)?;
+    codes.push(finding.code())?;
+    Ok(())
+}
+
+/// The codes of what is found in the lines of some bytes, in order, as `Finding::code` has them; an empty line has
+/// none. It waits for nobody and starts no thread. Fails only if out of memory.
+pub fn codes_of_lines(alloc: Global, bytes: &[u8]) -> Result<Vec<u64>, OutOfMemory>
+    ensures { IfOk result (λ codes. AreLineCodes bytes.now codes.items) }
+{
+    let mut codes = Vec::new(alloc);
+    let mut rest = bytes;
+    'lines: while !rest.is_empty() {
+        let (line, more) = split_line(rest);
+        add_code(alloc, &mut codes, line)?;
+        rest = more;
+    }
+    Ok(codes)
+}
