@@ -1,10 +1,10 @@
 //! One line of a source.
 
 ghost use Rattle.std.specs.Prelude.{◌≡◌, ◌≤◌, ◌<◌, ℕ, IfErr, IfOk, IfSome, MatchOption, length};
-ghost use Rattle.devices.specs.Bytes.{CanGrow};
+ghost use Rattle.devices.specs.Bytes.{CanGrow, CountsBy};
 ghost use Rattle.surveys.specs.Lines.{lines};
 ghost use Rattle.surveys.specs.Shown.{IsLineAt, IsSought, IsSoughtFirst};
-ghost use Rattle.surveys.specs.Surveys.{CountsReads, failed_reads};
+ghost use Rattle.surveys.specs.Surveys.{failed_reads};
 
 use crate::error::SurveyError;
 use crate::filling::{PIECE, fill, keep_rest, last_end};
@@ -77,7 +77,7 @@ fn line_from<R: Source>(
     requires room { 0 < length piece.old }
     ensures known { IfOk result (λ line. IfSome (R.left source.old) (λ bytes.
         MatchOption line (length (lines bytes) ≤ number) (λ v. IsLineAt bytes number v.items))) }
-    ensures reads { CountsReads (R.read_failures source.old) (R.read_failures source.new) result }
+    ensures reads { CountsBy failed_reads (R.read_failures source.old) (R.read_failures source.new) result }
 {
     let mut block = Vec::new(alloc);
     let mut left = number;
@@ -111,7 +111,7 @@ pub fn line_of<R: Source>(
     requires { CanGrow (R.read_failures source.old) }
     ensures known { IfOk result (λ line. IfSome (R.left source.old) (λ bytes.
         MatchOption line (length (lines bytes) ≤ number) (λ v. IsLineAt bytes number v.items))) }
-    ensures reads { CountsReads (R.read_failures source.old) (R.read_failures source.new) result }
+    ensures reads { CountsBy failed_reads (R.read_failures source.old) (R.read_failures source.new) result }
 {
     let Ok(mut piece) = Vec::from_elem(alloc, 0u8, PIECE) else {
         return Err(SurveyError::OutOfMemory);
