@@ -1,6 +1,6 @@
 -- Each step keeps the bound legal.
 use Rattle.std.proofs.Common.{true≢false, ◌≡◌, ◌≢◌, ◌⊎◌, ℕ, zero, suc, ◌<◌, ◌≤◌, min, true, false}
-use Rattle.std.proofs.Common.{List, [], ◌∷◌, ◌++◌, length, get_or, set, sym, refl, ap, ◌∙◌, subst, inl, inr}
+use Rattle.std.proofs.Common.{List, [], ◌∷◌, ◌++◌, length, get_or, set, sym, refl, ap, ◌∙◌, subst, inr}
 use Rattle.std.proofs.Common.{⊎_elim, arith}
 use Rattle.std.specs.Prelude.{Contains}
 use Rattle.std.proofs.lemmas.List.{get_or-set_same, length-set}
@@ -10,7 +10,7 @@ use mathlib.Core.Logic.{dite}
 use mathlib.Core.Option.{none, some, some-injective, some-ne-none}
 use native.Mathlib.Decide.{ℕ_discrete, dec_le}
 use lib.ListN.{get_elem?}
-use Rattle.atomic_table.specs.Table.{State, Me, step, keeps, stepped, Allows, Splits, Joins, opening}
+use Rattle.atomic_table.specs.Table.{State, Me, step, keeps, stepped, Allows, Splits, Joins}
 use Rattle.atomic_table.proofs.Lists.{at_set, at_snoc, at_longer, set_here, set_else}
 use Rattle.best.specs.declared.rule.Known.{Known}
 use Rattle.best.specs.declared.rule.View.{View}
@@ -172,21 +172,6 @@ reads c slots id me live s r _ at _ =
         ),
       ),
     ))
-
-pub begins : (c : Table) → LegalBest c (opening (none_word ∷ []) [] (first_bound_view c))
-begins c = record {
-  size = refl;
-  word = inl refl;
-  carried = λ i v e l. ap (λ (x : View). x.known.relation) (sym (only i v e));
-  bounded = λ i v e k h. absurd (none_in k
-      (subst (λ (x : View). Contains x.known.lengths k) (sym (only i v e)) h));
-  owned = λ full. absurd (full refl);
-  sole = λ _ _ _ _. refl;
-}
-  where
-    only : (i : ℕ) (v : View) → get_elem? (first_bound_view c ∷ []) i ≡ some v → first_bound_view c ≡ v
-    only zero v e = some-injective (first_bound_view c) v e
-    only (suc i) v e = absurd (some-ne-none v (sym e))
 
 pub splits : (c : Table) (id : ℕ) (v : View) → Splits (LegalBest c) id v (bound_with_others v) (bound_with_others v)
 splits c id v s r at =

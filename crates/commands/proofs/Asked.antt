@@ -1,15 +1,13 @@
 -- What options ask for.
-use Rattle.std.proofs.Common.{◌≡◌, ◌≤◌, ap, sym, subst, ℕ, List, Option, Some, None, Ok}
+use Rattle.std.proofs.Common.{◌≡◌, ap, sym, subst, ℕ, List, Option, Some, None, Ok}
 use Rattle.std.specs.Prelude.{option_map, string_bytes}
 use Rattle.clap.specs.Words.{Row, Text}
 use Rattle.report.specs.declared.printed.Answer.{Answer}
 use Rattle.answers.specs.Run.{IsSeededAnswer}
-use Rattle.command_line.specs.declared.options.Options.TheVariants.{Judge, Trials}
-use Rattle.command_line.specs.declared.options.JudgeOptions.{JudgeOptions}
+use Rattle.command_line.specs.declared.options.Options.TheVariants.{Trials}
 use Rattle.command_line.specs.declared.options.RunOptions.{RunOptions}
 use Rattle.command_line.specs.declared.options.TrialsOptions.{TrialsOptions}
 use Rattle.command_line.specs.Options.{AreOptions, AreTrialsOptions}
-use Rattle.common.specs.declared.limits.TheConstants.{MAX_WORKERS}
 use Rattle.program.specs.Parts.{Parts}
 use Rattle.program.specs.Text.{reading}
 use Rattle.commands.specs.Inputs.{AreBytesOf}
@@ -20,12 +18,6 @@ pub trials_rows : (o : TrialsOptions) (command : Option (Text × List Row)) → 
     → (rows : List Row) × AreTrialsOptions o rows
 trials_rows o None are = absurd are
 trials_rows o (Some command) are = (command.1, are.2.1)
-
--- options of judge ask for workers within the limits
-pub judge_workers : (o : JudgeOptions) (command : Option (Text × List Row)) → AreOptions (Judge o) command
-    → (1 ≤ o.workers) × (o.workers ≤ MAX_WORKERS)
-judge_workers o None are = absurd are
-judge_workers o (Some command) are = (are.2.1.workers.least, are.2.1.workers.most)
 
 -- without a script the run is a random one
 pub seeded_run : (inputs : List ℕ → Option (List ℕ)) (o : RunOptions) (text : List ℕ) (program : Parts)

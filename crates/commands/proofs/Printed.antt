@@ -4,24 +4,19 @@ use Rattle.std.specs.Prelude.{string_bytes}
 use Rattle.command_line.specs.declared.options.JudgeOptions.{JudgeOptions}
 use Rattle.command_line.specs.declared.options.OptionFault.{OptionFault}
 use Rattle.command_line.specs.declared.options.Options.{Options}
-use Rattle.command_line.specs.declared.options.Options.TheVariants.{Judge, Survey}
-use Rattle.command_line.specs.declared.options.SurveyOptions.{SurveyOptions}
+use Rattle.command_line.specs.declared.options.Options.TheVariants.{Judge}
 use Rattle.devices.specs.declared.place.Tally.{Tally}
 use Rattle.report.specs.declared.outcome.Outcome.{Outcome}
 use Rattle.report.specs.declared.printed.Answer.{Answer}
 use Rattle.commands.specs.declared.fault.CommandFault.{CommandFault}
-use Rattle.commands.specs.declared.fault.CommandFault.TheVariants.{CommandLine, StandardInputTwice, NotText}
-use Rattle.commands.specs.declared.fault.CommandFault.TheVariants.{CannotOpen, ReadFailed, TooLong, WriteFailed, NoThread}
-use Rattle.commands.specs.declared.fault.CommandFault.TheVariants.{Stranger, OutOfMemory}
+use Rattle.commands.specs.declared.fault.CommandFault.TheVariants.{WriteFailed}
 use Rattle.commands.specs.declared.stop.Stop.{Stop}
-use Rattle.commands.specs.declared.stop.Stop.TheVariants.{Fault}
-use Rattle.commands.specs.Inputs.{AreRead, AreStopped, Reads, ReadsAll, ReadsInput, Seen, seen}
-use Rattle.commands.specs.Judge.{IsJudgedInput, IsJudgeFault}
+use Rattle.commands.specs.Inputs.{AreRead, Reads, ReadsAll, ReadsInput, Seen, seen}
+use Rattle.commands.specs.Judge.{IsJudgedInput}
 use Rattle.commands.specs.Names.{names_of}
 use Rattle.commands.specs.Output.{IsBegun, IsPut}
-use Rattle.commands.specs.Perform.{IsAnswerTo, IsCommandStop, IsFaultFor, IsHelp, IsOptionStop, IsPrintedFor}
+use Rattle.commands.specs.Perform.{IsAnswerTo, IsCommandStop, IsHelp, IsOptionStop, IsPrintedFor}
 use Rattle.commands.specs.Perform.{IsPrintedWithout, IsShown}
-use Rattle.commands.specs.Survey.{IsEachFault}
 
 -- what a command writes itself is what is printed for its options
 pub written_printed : (inputs : List ℕ → Option (List ℕ)) (o : Options) (s : Seen) (before after : Option (List ℕ))
@@ -47,22 +42,6 @@ pub surveyed_read : {X : Type 0} (name : List ℕ) (s : Seen) (r : Result X Comm
 surveyed_read name s (Ok x) read = read
 surveyed_read name s (Err fault) reads = tt
 
--- why a survey that tells each recording writes nothing, or not all
-pub surveyed_fault : (inputs : List ℕ → Option (List ℕ)) (o : SurveyOptions) (s : Seen)
-    (r : Result Outcome CommandFault) → IfErr r (IsEachFault inputs o) → ReadsInput (string_bytes o.file) s r
-    → IfErr r (IsFaultFor inputs (Survey o) s)
-surveyed_fault inputs o s (Ok outcome) is reads = tt
-surveyed_fault inputs o s (Err (CommandLine error)) is reads = (is, reads)
-surveyed_fault inputs o s (Err StandardInputTwice) is reads = (is, reads)
-surveyed_fault inputs o s (Err NotText) is reads = (is, reads)
-surveyed_fault inputs o s (Err (CannotOpen name)) is reads = (is, reads)
-surveyed_fault inputs o s (Err ReadFailed) is reads = (is, reads)
-surveyed_fault inputs o s (Err TooLong) is reads = (is, reads)
-surveyed_fault inputs o s (Err WriteFailed) is reads = tt
-surveyed_fault inputs o s (Err NoThread) is reads = (is, reads)
-surveyed_fault inputs o s (Err Stranger) is reads = (is, reads)
-surveyed_fault inputs o s (Err OutOfMemory) is reads = (is, reads)
-
 -- and so is what it began to write
 pub judged_begun : (inputs : List ℕ → Option (List ℕ)) (o : JudgeOptions) (s : Seen)
     (before after : Option (List ℕ)) (r : Result Outcome CommandFault)
@@ -76,22 +55,6 @@ judged_begun inputs o s before after r begun reads failed =
       count = b.count;
       written = b.written;
     }
-
--- and why it writes nothing
-pub judged_fault : (inputs : List ℕ → Option (List ℕ)) (o : JudgeOptions) (s : Seen)
-    (r : Result Outcome CommandFault) → IfErr r (IsJudgeFault inputs o) → ReadsAll (string_bytes o.file ∷ []) s r
-    → IfErr r (IsFaultFor inputs (Judge o) s)
-judged_fault inputs o s (Ok outcome) is reads = tt
-judged_fault inputs o s (Err (CommandLine error)) is reads = (is, reads)
-judged_fault inputs o s (Err StandardInputTwice) is reads = (is, reads)
-judged_fault inputs o s (Err NotText) is reads = (is, reads)
-judged_fault inputs o s (Err (CannotOpen name)) is reads = (is, reads)
-judged_fault inputs o s (Err ReadFailed) is reads = (is, reads)
-judged_fault inputs o s (Err TooLong) is reads = (is, reads)
-judged_fault inputs o s (Err WriteFailed) is reads = tt
-judged_fault inputs o s (Err NoThread) is reads = (is, reads)
-judged_fault inputs o s (Err Stranger) is reads = (is, reads)
-judged_fault inputs o s (Err OutOfMemory) is reads = (is, reads)
 
 -- what is shown of what another command answers
 pub shown_printed : (inputs : List ℕ → Option (List ℕ)) (o : Options) (s : Seen) (answered : Result Answer Stop)
@@ -131,28 +94,6 @@ begun_more P Q before after more begun = record {
   count = begun.count;
   written = begun.written;
 }
-
--- a fault is why nothing is printed
-pub shown_fault : (inputs : List ℕ → Option (List ℕ)) (o : Options) (s : Seen) (fault : CommandFault)
-    → IsCommandStop inputs o (Fault fault) → AreStopped (names_of o) (Fault fault) s → IsFaultFor inputs o s fault
-shown_fault inputs o s (CommandLine error) is stopped = (is, stopped)
-shown_fault inputs o s StandardInputTwice is stopped = (is, stopped)
-shown_fault inputs o s NotText is stopped = (is, stopped)
-shown_fault inputs o s (CannotOpen name) is stopped = (is, stopped)
-shown_fault inputs o s ReadFailed is stopped = (is, stopped)
-shown_fault inputs o s TooLong is stopped = (is, stopped)
-shown_fault inputs o s WriteFailed is stopped = tt
-shown_fault inputs o s NoThread is stopped = (is, stopped)
-shown_fault inputs o s Stranger is stopped = (is, stopped)
-shown_fault inputs o s OutOfMemory is stopped = (is, stopped)
-
--- so is one that is answered
-pub answered_fault : (inputs : List ℕ → Option (List ℕ)) (o : Options) (s : Seen) (answered : Result Answer Stop)
-    (fault : CommandFault) → IfErr answered (IsCommandStop inputs o) → Reads (names_of o) s answered
-    → answered ≡ Err (Fault fault) → IsFaultFor inputs o s fault
-answered_fault inputs o s answered fault stops reads is = shown_fault inputs o s fault
-    (subst (λ (r : Result Answer Stop). IfErr r (IsCommandStop inputs o)) is stops)
-    (subst (λ (r : Result Answer Stop). Reads (names_of o) s r) is reads)
 
 -- what is shown without options
 pub shown_without : (fault : OptionFault) (s : Seen) (answered : Result Answer Stop) (printed : Answer)

@@ -1,5 +1,5 @@
 -- What is written of an answer.
-use Rattle.std.specs.Prelude.{◌≡◌, ◌+◌, ℕ, List, Option, Result, Ok, Err, take}
+use Rattle.std.specs.Prelude.{◌≡◌, ℕ, List, Option, take}
 use Rattle.std.specs.Io.KnownBytes.{Appends}
 use Rattle.report.specs.declared.printed.Answer.{Answer}
 use Rattle.report.specs.declared.outcome.Outcome.{Outcome}
@@ -24,8 +24,3 @@ pub record IsBegun (Is : Answer → Type 0) (before after : Option (List ℕ)) :
 abbrev pub failed_writes : CommandFault → ℕ
 failed_writes WriteFailed = 1
 failed_writes other = 0
-
--- a count of failed writes after a command
-abbrev pub CountsWrites : {X : Type 0} → ℕ → ℕ → Result X CommandFault → Type 0
-CountsWrites before after (Ok x) = after ≡ before
-CountsWrites before after (Err fault) = after ≡ before + failed_writes fault

@@ -1,9 +1,9 @@
 //! The command `judge`.
 ghost use Rattle.std.specs.Prelude.{◌≡◌, ◌≢◌, ◌≤◌, ◌∷◌, [], Err, IfErr, IfOk, string_bytes};
-ghost use Rattle.devices.specs.Bytes.{CanGrow};
+ghost use Rattle.devices.specs.Bytes.{CanGrow, CountsBy};
 ghost use Rattle.commands.specs.Inputs.{CanRead, ReadsAll, seen};
 ghost use Rattle.commands.specs.Judge.{IsJudgeFault, IsJudgedInput};
-ghost use Rattle.commands.specs.Output.{CountsWrites, IsBegun, IsPut};
+ghost use Rattle.commands.specs.Output.{IsBegun, IsPut, failed_writes};
 
 use crate::fault::CommandFault;
 use crate::inputs::opened;
@@ -34,7 +34,7 @@ pub fn judge_command<R: Threads + Wait + Sync, P: Place, W: Sink>(
     ensures fault { IfErr result (IsJudgeFault (P.bytes place.old) options.now) }
     ensures reads { ReadsAll (string_bytes options.now.file ∷ []) (seen (P.asked place.old) (P.asked place.new)
         (P.tally place.old) (P.tally place.new)) result }
-    ensures writes { CountsWrites (W.write_failures out.old) (W.write_failures out.new) result }
+    ensures writes { CountsBy failed_writes (W.write_failures out.old) (W.write_failures out.new) result }
     ensures unwritten { IfErr result (λ fault. fault ≢ CommandFault.WriteFailed → out.new ≡ out.old) }
 {
     let mut input = opened(alloc, place, options.file.as_str())?;

@@ -3,10 +3,10 @@ ghost use Rattle.std.specs.Prelude.{◌≡◌, ◌≢◌, ◌⊎◌, [], Err, If
 ghost use Rattle.std.specs.Prelude.{string_bytes};
 ghost use Rattle.clap.specs.Words.{Row, Text};
 ghost use Rattle.command_line.specs.Options.{AreOptions};
-ghost use Rattle.devices.specs.Bytes.{CanGrow};
+ghost use Rattle.devices.specs.Bytes.{CanGrow, CountsBy};
 ghost use Rattle.commands.specs.Inputs.{AreRead, CanRead, Reads, seen};
 ghost use Rattle.commands.specs.Names.{names_of};
-ghost use Rattle.commands.specs.Output.{CountsWrites, IsBegun, IsPut};
+ghost use Rattle.commands.specs.Output.{IsBegun, IsPut, failed_writes};
 ghost use Rattle.commands.specs.Perform.{IsAnswerTo, IsCommandStop, IsFaultFor, IsFaultOf, IsHelp, IsNoJudge};
 ghost use Rattle.commands.specs.Perform.{IsOptionStop, IsPrinted, IsPrintedFor, IsPrintedWithout, IsShown};
 ghost use Rattle.commands.specs.Perform.{PrintsAtOnce, PrintsEarly, Tallies};
@@ -153,7 +153,7 @@ fn performed<R: Threads + Wait + Sync, P: Place, W: Sink>(
         (P.tally place.new))) (W.written out.old) (W.written out.new) }
     ensures fault { IfErr result (IsFaultFor (P.bytes place.old) options.now (seen (P.asked place.old)
         (P.asked place.new) (P.tally place.old) (P.tally place.new))) }
-    ensures writes { CountsWrites (W.write_failures out.old) (W.write_failures out.new) result }
+    ensures writes { CountsBy failed_writes (W.write_failures out.old) (W.write_failures out.new) result }
     ensures unwritten { IfErr result (λ fault. fault ≢ CommandFault.WriteFailed → (PrintsEarly options.now → ⊥)
         → out.new ≡ out.old) }
 {
@@ -182,7 +182,7 @@ fn explained_options<P: Place, W: Sink>(
         (P.asked place.new) (P.tally place.old) (P.tally place.new))) (W.written out.old) (W.written out.new) }
     ensures fault { IfErr result (λ f. IsOptionStop fault (Stop.Fault f) ⊎ (f ≡ CommandFault.WriteFailed)) }
     ensures read { AreRead [] (seen (P.asked place.old) (P.asked place.new) (P.tally place.old) (P.tally place.new)) }
-    ensures writes { CountsWrites (W.write_failures out.old) (W.write_failures out.new) result }
+    ensures writes { CountsBy failed_writes (W.write_failures out.old) (W.write_failures out.new) result }
     ensures unwritten { IfErr result (λ f. f ≢ CommandFault.WriteFailed → out.new ≡ out.old) }
 {
     let answer = shown(place, without_options(alloc, fault))?;
@@ -211,7 +211,7 @@ pub fn perform<R: Threads + Wait + Sync, P: Place, W: Sink>(
     ensures fault { IfErr result (IsFaultOf (P.bytes place.old) (map string_bytes words.now)
         (seen (P.asked place.old) (P.asked place.new) (P.tally place.old) (P.tally place.new))) }
     ensures reads { Tallies (P.tally place.old) (P.tally place.new) result }
-    ensures writes { CountsWrites (W.write_failures out.old) (W.write_failures out.new) result }
+    ensures writes { CountsBy failed_writes (W.write_failures out.old) (W.write_failures out.new) result }
     // An error leaves the sink as it was, unless a write failed or lines of recordings came before it.
     ensures unwritten { IfErr result (λ fault. fault ≢ CommandFault.WriteFailed
         → PrintsAtOnce (map string_bytes words.now) → out.new ≡ out.old) }

@@ -15,6 +15,11 @@ abbrev pub Counts : {X E : Type 0} → ℕ → ℕ → Result X E → Type 0
 Counts before after (Ok x) = after ≡ before
 Counts before after (Err failed) = after ≡ before + 1
 
+-- the same of a call whose error says how many failed
+abbrev pub CountsBy : {X E : Type 0} → (E → ℕ) → ℕ → ℕ → Result X E → Type 0
+CountsBy how_many before after (Ok x) = after ≡ before
+CountsBy how_many before after (Err error) = after ≡ before + how_many error
+
 -- no byte is given exactly where the end is met, if there is room for one
 abbrev pub MeetsEnd : {E : Type 0} → Bool → Result ℕ E → List ℕ → Type 0
 MeetsEnd ended (Ok n) buf = 0 < length buf → (n ≡ 0) ↔ (ended ≡ true)
@@ -34,8 +39,3 @@ Gathers left_before left_after before after =
 abbrev pub failed_reads : ReadError → ℕ
 failed_reads ReadFailed = 1
 failed_reads OutOfMemory = 0
-
--- a count of failed reads after all was read, or not
-abbrev pub CountsReads : {X : Type 0} → ℕ → ℕ → Result X ReadError → Type 0
-CountsReads before after (Ok x) = after ≡ before
-CountsReads before after (Err error) = after ≡ before + failed_reads error

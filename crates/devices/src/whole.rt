@@ -2,7 +2,7 @@
 
 ghost use Rattle.std.specs.Prelude.{◌≡◌, ◌≢◌, ◌<◌, ℕ, true, IfErr, IfOk, OnErr, OnOk, length, take};
 ghost use Rattle.std.specs.Io.KnownBytes.{Appends, Consumes, IsAtEnd};
-ghost use Rattle.devices.specs.Bytes.{CanGrow, Counts, CountsReads, Gathers};
+ghost use Rattle.devices.specs.Bytes.{CanGrow, Counts, CountsBy, Gathers, failed_reads};
 
 use crate::bytes::{Failed, Sink, Source};
 use std::alloc::Global;
@@ -33,7 +33,7 @@ fn gather<R: Source>(
     ensures more { IfOk result (λ more. more ≡ true → length bytes.old.items < length bytes.new.items) }
     ensures met { IfOk result (λ more. more ≢ true → R.is_ended source.new ≡ true) }
     ensures all { IfOk result (λ more. more ≢ true → IsAtEnd (R.left source.new)) }
-    ensures count { CountsReads (R.read_failures source.old) (R.read_failures source.new) result }
+    ensures count { CountsBy failed_reads (R.read_failures source.old) (R.read_failures source.new) result }
 {
     match source.pull(piece) {
         Ok(n) => {
@@ -58,7 +58,7 @@ fn gather_all<R: Source>(
         bytes.old.items bytes.new.items) }
     ensures met { OnOk result (R.is_ended source.new ≡ true) }
     ensures all { OnOk result (IsAtEnd (R.left source.new)) }
-    ensures count { CountsReads (R.read_failures source.old) (R.read_failures source.new) result }
+    ensures count { CountsBy failed_reads (R.read_failures source.old) (R.read_failures source.new) result }
 {
     'pieces: while gather(source, piece, bytes)? {}
     Ok(())
@@ -70,7 +70,7 @@ pub fn read_all<R: Source>(alloc: Global, source: &mut R) -> Result<Vec<u8>, Rea
     ensures ok { IfOk result (λ bytes. Consumes (R.left source.old) (R.left source.new) bytes.items) }
     ensures met { OnOk result (R.is_ended source.new ≡ true) }
     ensures all { OnOk result (IsAtEnd (R.left source.new)) }
-    ensures count { CountsReads (R.read_failures source.old) (R.read_failures source.new) result }
+    ensures count { CountsBy failed_reads (R.read_failures source.old) (R.read_failures source.new) result }
 {
     let mut bytes = Vec::new(alloc);
     let Ok(mut piece) = Vec::from_elem(alloc, 0u8, PIECE) else {

@@ -22,10 +22,6 @@ pub four : (o p q r s a b c d : List ℕ) → p ≡ o ++ a → q ≡ p ++ b → 
     → s ≡ o ++ (a ++ b ++ c ++ d)
 four o p q r s a b c d h i j k = two o r s (a ++ b ++ c) d (three o p q r a b c h i j) k
 
-pub five : (o p q r s t a b c d e : List ℕ) → p ≡ o ++ a → q ≡ p ++ b → r ≡ q ++ c → s ≡ r ++ d
-    → t ≡ s ++ e → t ≡ o ++ (a ++ b ++ c ++ d ++ e)
-five o p q r s t a b c d e h i j k l = two o s t (a ++ b ++ c ++ d) e (four o p q r s a b c d h i j k) l
-
 -- two pieces, of which the last is added at the end
 pub two_last : {X E : Type 0} (x : Result X E) (o p q a b : List ℕ) → p ≡ o ++ a → OnOk x (q ≡ p ++ b)
     → OnOk x (q ≡ o ++ (a ++ b))

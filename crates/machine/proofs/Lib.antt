@@ -21,7 +21,6 @@ pub mod Drained
 pub mod Transacted
 pub mod Reached
 pub mod Begins
-pub mod Steps
 pub mod Ends
 pub mod ScriptText
 pub mod Recorded

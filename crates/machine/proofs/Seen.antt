@@ -3,7 +3,7 @@ use Rattle.std.proofs.Common.{◌≡◌, ◌≢◌, ◌<◌, ◌≤◌, ◌+◌,
 use Rattle.std.proofs.Common.{Some, None, List, ◌∷◌, ◌++◌, arith, refl, sym, ap, subst}
 use Rattle.std.proofs.lemmas.Bool.{cases_eq}
 use Rattle.recording.specs.Order.{times, Before}
-use Rattle.recording.specs.OrderLaws.{place_in, times_in, times_here, times_there, times_append}
+use Rattle.recording.specs.OrderLaws.{place_in, times_in, times_append}
 use Rattle.recording.specs.OrderLaws.{place_append_left, place_append_right, cases_times, inserted, removed}
 
 -- what is known of the events: their number, their cores, what they write and read, and which are plain
@@ -179,12 +179,3 @@ is_last_grown p e a unmoved eb there s old h = h
 is_last_grown p {b} e a (moved u v fresh left hidden) eb there s old h =
     is_last_same p u v b e a eb fresh (left e there) (hidden e there refl) s
     (λ w is wb. omega (arith, old w is, fresh, ap (times (u ++ v)) wb)) h
-
--- b more in the middle of a list
-pub times_inserted : (u v : List ℕ) (b e : ℕ) → e ≢ b → times (u ++ b ∷ v) e ≡ times (u ++ v) e
-times_inserted u v b e eb =
-    omega (arith, times_append u (b ∷ v) e, times_append u v e, times_there v b e (λ s. eb (sym s)))
-
--- b itself stands once more
-pub times_inserted_here : (u v : List ℕ) (b : ℕ) → times (u ++ b ∷ v) b ≡ times (u ++ v) b + 1
-times_inserted_here u v b = omega (arith, times_append u (b ∷ v) b, times_append u v b, times_here v b b refl)

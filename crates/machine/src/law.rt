@@ -27,8 +27,7 @@ pub fn every_state_is_orderly()
         → EveryStateIsOrderly program init capacity steps }
 {}
 
-/// Each fault changes one row of the table of steps, and leaves the others as they are. It does
-/// nothing.
-pub fn faults_change_one_row()
+/// What holds of the faults. It does nothing.
+pub(crate) fn faults_change_one_row()
     ensures { EveryFaultChangesOneRow }
 {}

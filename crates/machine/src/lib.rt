@@ -20,7 +20,7 @@ mod transactions;
 
 pub use blocked::Blocked;
 pub use fault::Fault;
-pub use law::{every_run_is_tso, every_state_is_orderly, faults_change_one_row};
+pub use law::{every_run_is_tso, every_state_is_orderly};
 pub use machine::{Machine, Unfinished};
 pub use record::event_of;
 pub use script::parse_steps;

@@ -1,6 +1,7 @@
 //! Steps that the machine takes, and runs.
 
 use crate::blocked::Blocked;
+use crate::law::faults_change_one_row;
 use crate::machine::Machine;
 use crate::step::Step;
 use common::{CoreId, EventId};
@@ -11,6 +12,7 @@ impl Machine {
     ghost use Rattle.program.specs.Parts.{IsWithin};
     ghost use Rattle.machine.specs.declared.step.Step.TheVariants.{Exec};
     ghost use Rattle.machine.specs.Configuration.{answer_of, state_behind, IsNextOf};
+    ghost use Rattle.machine.specs.OneRow.{EveryFaultChangesOneRow};
 
     /// The next operation of a core, and the number of its event.
     fn next_op(&self, core: CoreId) -> Result<(Op, EventId), Blocked>
@@ -47,13 +49,16 @@ impl Machine {
         }
     }
 
-    /// Takes one step, or answers the first guard that is false and changes nothing.
+    /// Takes one step, or answers the first guard that is false and changes nothing. Each fault changes one
+    /// row of the table of steps, and leaves the others as they are.
     pub fn step(&mut self, step: Step) -> Result<(), Blocked>
         ensures ok { OnOk result (answer_of self.old step ≡ Ok self.new.state) }
         ensures blocked { IfErr result (λ b. answer_of self.old step ≡ Err b) }
         ensures rest { OnOk result (self.new ≡ record self.old { state = self.new.state }) }
         ensures unchanged { OnErr result (self.new ≡ self.old) }
+        ensures faults { EveryFaultChangesOneRow }
     {
+        faults_change_one_row();
         match step {
             Step::Exec(core) => self.exec(core),
             Step::Drain(core) => self.drain(core),

@@ -4,6 +4,7 @@ ghost use Rattle.std.specs.Prelude.{◌≡◌, length};
 
 use crate::cell::Cell;
 use crate::error::CacheError;
+use crate::laws::{coherent_caches, copies_of_caches};
 use crate::line::Line;
 use crate::rows;
 use crate::word::{INVALID, unpack, written};
@@ -45,6 +46,12 @@ impl Caches {
     ghost use Rattle.moesi.specs.State.{opening_caches, opening_with, block_of, line_of, memory_of};
     ghost use Rattle.moesi.specs.State.{get_s, get_m, get_m_stale, put, read, write};
     ghost use Rattle.moesi.specs.Coherent.{IsCoherent};
+    ghost use Rattle.moesi.specs.Laws.{OpeningIsCoherent, OpeningWithIsCoherent, EveryCallKeepsCoherence};
+    ghost use Rattle.moesi.specs.Laws.{EveryCopyIsCurrent, EveryReadIsCurrent};
+    ghost use Rattle.moesi.specs.Laws.{EveryTransactionKeepsCurrent, EveryWriteSetsCurrent};
+    ghost use Rattle.moesi.specs.Laws.{EveryCopyWasThere, EveryWriteAddsItself};
+    ghost use Rattle.moesi.specs.Laws.{OpeningHasEmptyLines, OpeningWithHasEmptyLines};
+    ghost use Rattle.moesi.specs.Laws.{EveryCallKeepsEmptyLines};
 
     /// Caches of so many cores where no line is valid, over so many addresses with value 0 and no
     /// event; out of memory where there is none, also for so many that no memory could hold them.
@@ -64,9 +71,23 @@ impl Caches {
     /// Caches of so many cores where no line is valid, over as many addresses as there are initial values,
     /// each with its value and no event; out of memory where there is none, also for so many that no
     /// memory could hold them.
+    ///
+    /// The opening caches are coherent, whatever memory begins with, and every call but the faulty
+    /// `get_m_stale` keeps them so. In coherent caches a valid line has the current data, GetS, GetM and
+    /// Put don't change what is current, and a write sets it at its address alone (invariants of single
+    /// writer and of data value: Nagarajan, Sorin, Hill and Wood, A Primer on Memory Consistency and Cache
+    /// Coherence, second edition, chapter 2).
     pub fn with_init(alloc: Global, cores: usize, init: &[u32]) -> Result<Caches, OutOfMemory>
-        ensures { IfOk result (λ s. s ≡ opening_with cores init.now) }
+        ensures ok { IfOk result (λ s. s ≡ opening_with cores init.now) }
+        ensures opening { OpeningIsCoherent }
+        ensures opening_with { OpeningWithIsCoherent }
+        ensures copies { EveryCopyIsCurrent }
+        ensures reads { EveryReadIsCurrent }
+        ensures transactions { EveryTransactionKeepsCurrent }
+        ensures writes { EveryWriteSetsCurrent }
+        ensures coherence { EveryCallKeepsCoherence }
     {
+        coherent_caches();
         let addresses = init.len();
         let Some(size) = words_for(cores, addresses) else {
             return Err(OutOfMemory);
@@ -149,6 +170,9 @@ impl Caches {
 
     /// GetM with a fault: other lines in S stay as they are, with their old data, so that the caches
     /// may be no longer coherent. C2 where the core's line is M or E; then nothing changes.
+    ///
+    /// In any caches, coherent or not, data were there before a call or are what it wrote, and a line in I
+    /// has value 0 and no event, at first and after every call.
     pub fn get_m_stale(&mut self, core: CoreId, addr: Addr) -> Result<(), CacheError>
         requires core { core < self.old.cores }
         requires address { addr < length self.old.blocks }
@@ -157,7 +181,13 @@ impl Caches {
         ensures unchanged { OnErr result (self.new ≡ self.old) }
         ensures cores { self.new.cores ≡ self.old.cores }
         ensures addresses { length self.new.blocks ≡ length self.old.blocks }
+        ensures transactions { EveryCopyWasThere }
+        ensures writes { EveryWriteAddsItself }
+        ensures opening { OpeningHasEmptyLines }
+        ensures opening_with { OpeningWithHasEmptyLines }
+        ensures empty { EveryCallKeepsEmptyLines }
     {
+        copies_of_caches();
         rows::get_m_stale(
             &mut self.words,
             self.cores,

@@ -12,5 +12,4 @@ mod words;
 
 pub use caches::Caches;
 pub use error::CacheError;
-pub use laws::{coherent_caches, copies_of_caches};
 pub use line::Line;

@@ -118,7 +118,3 @@ names_more n old new name small so_far this with_it =
     with_it ∙ (ap (λ (l : List Name). names_with l name) so_far
     ∙ (ap (λ (m : Name). names_with (address_names n) m) this
     ∙ (whole ∙ ap address_names (let e : suc n ≡ n + 1 = omega arith in e))))
-
--- one name, found twice
-pub some_name : {a b : Name} → Some a ≡ Some b → a ≡ b
-some_name h = cc

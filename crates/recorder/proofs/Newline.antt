@@ -11,8 +11,7 @@ use Rattle.std.proofs.lemmas.List.{take-append-le, drop-append-le}
 use Rattle.std.proofs.lemmas.List.Sums.{prefix_len-le-length}
 use Rattle.json.specs.Token.{boolean, null}
 use Rattle.json.specs.Lex.{Mode, between, in_word, in_string, in_escape, Class, quote, backslash, operator}
-use Rattle.json.specs.Lex.{space, other, class, Lexeme, token, string_token, lex_byte, lex, punctuate, fresh}
-use Rattle.json.specs.Lex.{tokens}
+use Rattle.json.specs.Lex.{space, other, class, Lexeme, token, string_token, lex_byte, lex}
 use Rattle.json.specs.Text.{Within, plain, after_backslash, after_u, after_high, content, code_unit}
 use Rattle.json.specs.Text.{short_escape, is_high_surrogate, is_low_surrogate, prepend}
 use Rattle.json.specs.Word.{ends_word, after_digits, after_minus, after_sign, after_whole, after_fraction}
@@ -228,10 +227,6 @@ lex_nl in_string [] = refl
 lex_nl in_escape [] = refl
 lex_nl m (x ∷ xs) = byte_nl m (class x) x xs (λ next. lex next (xs ++ 10 ∷ [])) (λ next. lex next xs)
     (λ next. lex_nl next xs)
-
--- the tokens are the same
-pub tokens_newline : (text : List ℕ) → tokens (text ++ 10 ∷ []) ≡ tokens text
-tokens_newline text = ap (punctuate fresh) (lex_nl between text)
 
 -- and so is the value that is read
 pub read_newline : (text : List ℕ) → read (text ++ 10 ∷ []) ≡ read text

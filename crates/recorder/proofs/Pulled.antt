@@ -1,8 +1,7 @@
 -- Reading values, lists and objects token by token.
 use Rattle.std.proofs.Common.{◌≡◌, ◌<◌, ◌≤◌, ◌-◌, ℕ, suc, List, [], ◌∷◌, ◌++◌, length, Option, Some, None}
-use Rattle.std.proofs.Common.{option_map, option_and_then, map, Vec, Global, refl, ap, ◌∙◌, arith}
+use Rattle.std.proofs.Common.{option_map, option_and_then, refl, ap, ◌∙◌, arith}
 use Rattle.std.proofs.Common.{append-nil, append_assoc}
-use Rattle.std.proofs.lemmas.List.{map-append}
 use Rattle.json.specs.Token.{Token}
 use Rattle.json.specs.Json as json
 use Rattle.json.specs.Json.{parse_map, after_end_array, read_key, items, members, value, if_last}
@@ -158,11 +157,6 @@ pub came_shorter : {A : Type 0} (f : Data → Option A) (depth : ℕ) (ts same m
     → (after_end_array ts ≡ None) × (same ≡ ts) → GivesValue f depth same x mid → length mid < length ts
 came_shorter f depth ts same mid x test one =
     rw (← test.1) (value_takes depth same mid one.datum one.read)
-
--- one vector more, by its items
-pub items_pushed : {A : Type 0} (vs ws : List (Vec A Global)) (v : Vec A Global) → ws ≡ vs ++ v ∷ []
-    → map (λ w. w.items) ws ≡ map (λ w. w.items) vs ++ v.items ∷ []
-items_pushed vs ws v push = ap (map (λ w. w.items)) push ∙ map-append (λ w. w.items) vs (v ∷ [])
 
 -- at the bracket all are read
 pub came_all : {A : Type 0} (f : Data → Option A) (depth : ℕ) (all ts rest old : List Token) (xs : List A)

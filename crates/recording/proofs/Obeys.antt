@@ -10,7 +10,7 @@ use Rattle.recording.specs.Execution.{Execution, event_at, initial_value, source
 use Rattle.recording.specs.Refusals.{HasValue}
 use Rattle.recording.specs.Tso.{IsValueOf}
 use Rattle.recording.specs.Order.{place, times}
-use Rattle.recording.specs.OrderLaws.{place_here, place_there, times_here, times_there, times_nil, place_nil}
+use Rattle.recording.specs.OrderLaws.{place_here, place_there, times_here, times_there, times_nil}
 use Rattle.recording.specs.OrderLaws.{place_in, cases_times}
 use Rattle.recording.specs.PlaceLaws.{at_place}
 
@@ -79,14 +79,6 @@ value_none x e a begins read reads from i r = (
       subst (λ (o : Option ℕ). IsValueOf x a o (value_read (event_at x e))) from
       (all a reads) in eq-eqb read begins (r ∙ same ∙ sym i),
 )
-
--- a place is at most the length
-pub place_within : (xs : List ℕ) (e : ℕ) → place xs e ≤ length xs
-place_within [] e = omega (arith, place_nil e)
-place_within (x ∷ xs) e = elim (cases_eq x e) [
-  | inl same ↦ omega (arith, place_here xs x e same)
-  | inr other ↦ omega (arith, place_there xs x e other, place_within xs e)
-]
 
 -- each number stands where it first stands
 abbrev pub ArePlaces : List ℕ → Type 0

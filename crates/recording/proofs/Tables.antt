@@ -1,9 +1,7 @@
 -- How a table of all events is filled, core by core.
 use Rattle.std.proofs.Common.{◌≡◌, ◌<◌, ◌≤◌, ◌+◌, ◌-◌, ◌⊎◌, inl, inr, ℕ, zero, suc, List, [], length}
-use Rattle.std.proofs.Common.{replicate, get_or, slice_set, arith, refl, sym, ap, subst, ◌∙◌}
-use Rattle.std.proofs.Common.{get_or-set_same, get_or-set_other}
-use Rattle.std.proofs.lemmas.Bool.{cases_eq, cases_lt}
-use Rattle.std.proofs.lemmas.List.{length-set}
+use Rattle.std.proofs.Common.{replicate, get_or, arith, refl, sym, ap, subst, ◌∙◌}
+use Rattle.std.proofs.lemmas.Bool.{cases_lt}
 use Rattle.recording.specs.declared.event.Event.{Event}
 use Rattle.recording.specs.declared.event.Event.TheVariants.{F}
 use Rattle.recording.specs.Execution.{Execution, event_count, event_at}
@@ -16,26 +14,6 @@ pub record IsPut (first : ℕ) (es old table : List Event) (i : ℕ) : Type 0 wh
   pub size : length table ≡ length old
   pub here : (j : ℕ) → j < i → numbered table (first + j) ≡ numbered es j
   pub others : (e : ℕ) → (e < first) ⊎ (first + i ≤ e) → numbered table e ≡ numbered old e
-
--- one event more
-pub put_more : (first : ℕ) (es old table : List Event) (i : ℕ) → first + i < length old
-    → IsPut first es old table i → IsPut first es old (slice_set table (first + i) (numbered es i)) (i + 1)
-put_more first es old table i at put = record {
-  size = length-set table (first + i) (numbered es i) ∙ put.size;
-  here = λ j below. elim (cases_eq j i) [
-    | inl same ↦ ap (λ (k : ℕ). numbered (slice_set table (first + i) (numbered es i)) (first + k)) same
-        ∙ (get_or-set_same table (first + i) (numbered es i) F (omega (arith, at, put.size))
-        ∙ ap (numbered es) (sym same))
-    | inr other ↦ get_or-set_other table (first + i) (first + j) (numbered es i) F (omega arith)
-        ∙ put.here j (omega arith)
-  ];
-  others = λ e apart. elim apart [
-    | inl before ↦ get_or-set_other table (first + i) e (numbered es i) F (omega arith)
-        ∙ put.others e (inl before)
-    | inr behind ↦ get_or-set_other table (first + i) e (numbered es i) F (omega arith)
-        ∙ put.others e (inr (omega arith))
-  ];
-}
 
 -- the table has the events of the first k cores, so many as the number says, and fences behind them
 pub record IsFilled (x : Execution) (k first : ℕ) (table : List Event) : Type 0 where

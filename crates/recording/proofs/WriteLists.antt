@@ -22,17 +22,6 @@ pub record IsWalked (W : ℕ → Type 0) (xs : List ℕ) (old marks : List Bool)
   pub marked : (e : ℕ) → W e → IsTrue (is_marked marks e) ↔ (place xs e < i)
   pub others : (e : ℕ) → ¬ W e → is_marked marks e ≡ is_marked old e
 
--- before the walk no number with W is marked
-pub walk_start : (W : ℕ → Type 0) (xs : List ℕ) (marks : List Bool)
-    → ((e : ℕ) → W e → is_marked marks e ≡ false) → IsWalked W xs marks marks 0
-walk_start W xs marks none = record {
-  size = refl;
-  writes = λ j h. absurd (omega arith);
-  places = λ j h. absurd (omega arith);
-  marked = λ e w. (λ t. absurd (let is = none e w in cc), λ h. absurd (omega arith));
-  others = λ e no. refl;
-}
-
 -- a number with W that is not marked first stands here
 first_here : (W : ℕ → Type 0) (xs : List ℕ) (old marks : List Bool) (i : ℕ) → IsWalked W xs old marks i
     → i < length xs → W (get_or xs i 0) → is_marked marks (get_or xs i 0) ≡ false

@@ -1,11 +1,9 @@
 //! Recordings.
 
-use crate::copies::{copied_cores, copied_values, copied_writes};
 use crate::event::Event;
 use crate::fault::RecError;
 use crate::parts::RecordingParts;
 use common::{Addr, CoreId, EventId};
-use std::alloc::Global;
 use std::marker::Model;
 
 /// A recording: the events of each core in program order, and for each address its writes in memory order
@@ -27,12 +25,11 @@ impl Model for Recording {
 }
 
 impl Recording {
-    ghost use Rattle.std.specs.Prelude.{◌≡◌, ◌≤◌, ◌<◌, map, ◌↔◌, ◌⊎◌, MatchOption, length, IsOk, IsTrue};
+    ghost use Rattle.std.specs.Prelude.{◌≡◌, ◌≤◌, ◌<◌, map, ◌↔◌, MatchOption, length, IsOk, IsTrue};
     ghost use Rattle.std.specs.Prelude.{IfOk, IfErr};
     ghost use Rattle.recording.specs.Execution.{event_count, event_at, core_of, write_list, Writes};
     ghost use Rattle.recording.specs.Recording.{executed, IsRecording};
     ghost use Rattle.recording.specs.Refusals.{IsRefusal};
-    ghost use Rattle.recording.specs.declared.fault.RecError.TheVariants.{OutOfMemory};
 
     /// The recording of these events, write lists and initial values, which have to be one (`from_parts`
     /// tests it).
@@ -67,25 +64,6 @@ impl Recording {
             Some(refusal) => Err(refusal),
             None => Ok(Recording { parts }),
         }
-    }
-
-    /// The recording of copies of these events, write lists and initial values, or the first refusal,
-    /// as `from_parts` has it; `OutOfMemory` where there is none for a copy.
-    pub fn from_lists(
-        alloc: Global,
-        cores: &[&[Event]],
-        writes: &[&[EventId]],
-        init: &[u32],
-    ) -> Result<Recording, RecError>
-        ensures ok { IfOk result (λ r. r
-            ≡ executed (map (λ s. s.now) cores.now) (map (λ s. s.now) writes.now) init.now) }
-        ensures err { IfErr result (λ e. (e ≡ OutOfMemory)
-            ⊎ IsRefusal (executed (map (λ s. s.now) cores.now) (map (λ s. s.now) writes.now) init.now) e) }
-    {
-        let cores = copied_cores(alloc, cores)?;
-        let writes = copied_writes(alloc, writes)?;
-        let init = copied_values(alloc, init)?;
-        Recording::from_parts(cores, writes, init)
     }
 
     /// What every recording keeps. It does nothing.

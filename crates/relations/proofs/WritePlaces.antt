@@ -1,9 +1,7 @@
 -- The places of writes in their write lists, put at their numbers one by one.
 use Rattle.std.proofs.Common.{◌≡◌, ◌≢◌, ◌<◌, ◌≤◌, ◌+◌, ◌↔◌, inl, inr, ℕ, Option, Some, List, get_or, set, length}
-use Rattle.std.proofs.Common.{replicate}
 use Rattle.std.proofs.Common.{arith, sym, ap, subst, ◌∙◌, length-set, get_or-set_same, get_or-set_other}
 use Rattle.std.proofs.lemmas.Bool.{cases_eq}
-use Rattle.std.proofs.lemmas.List.{length-replicate}
 use Rattle.recording.specs.Event.{value_read}
 use Rattle.recording.specs.Execution.{Execution, event_count, event_at, write_list, Reads, Writes, source_of}
 use Rattle.recording.specs.Order.{place}
@@ -14,13 +12,6 @@ use Rattle.recording.specs.PlaceLaws.{at_place, place_at, times_at}
 use Rattle.relations.specs.Forced.{IsOlder, IsNewerFrom}
 use Rattle.relations.specs.Placed.{AreWritePlaces}
 use Rattle.relations.proofs.Written.{list_short, listed_event, source_writes, writes_one}
-
--- below address 0 there are none
-pub no_places : (x : Execution) (places : List ℕ) → places ≡ replicate (event_count x) 0 → AreWritePlaces x 0 places
-no_places x places zeros = record {
-  size = ap (λ (ps : List ℕ). length ps) zeros ∙ length-replicate (event_count x) 0;
-  each = λ e a h w. absurd (omega (arith, h));
-}
 
 -- a write is listed at its place
 listed_writes : (x : Execution) → IsWellFormed x → (a i : ℕ) → i < length (write_list x a)

@@ -1,6 +1,6 @@
 -- A machine that takes steps and writes them down, step by step.
 use Rattle.std.proofs.Common.{◌≡◌, ◌+◌, ℕ, zero, suc, Result, Ok, Err, OnOk, List, [], ◌∷◌, ◌++◌, replicate}
-use Rattle.std.proofs.Common.{arith, refl, sym, ap, ◌∙◌, append_assoc, append-nil}
+use Rattle.std.proofs.Common.{arith, refl, sym, ap, ◌∙◌, append_assoc}
 use Rattle.program.specs.declared.op.Op.{Op}
 use Rattle.recording.specs.declared.event.Event.{Event}
 use Rattle.recording.specs.Execution.{Execution, core_of, event_at}
@@ -39,11 +39,6 @@ then_steps r s t xs ys first second = second
 pub ok_then : {A B T E : Type 0} (r : Result T E) → (A → B) → OnOk r A → OnOk r B
 ok_then (Ok x) f h = f h
 ok_then (Err e) f h = tt
-
--- no steps
-pub no_steps : (r : Replaying) → r ≡ with_steps r []
-no_steps r = ap (λ (l : List Step). let z : Replaying = record { machine = r.machine; steps = l } in z)
-    (sym (append-nil r.steps))
 
 -- one copy more
 replicate_more : (n : ℕ) (x : Step) → replicate n x ++ x ∷ [] ≡ replicate (n + 1) x

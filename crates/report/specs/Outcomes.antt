@@ -1,5 +1,5 @@
--- Exit statuses, and counts of what failed.
-use Rattle.std.specs.Prelude.{◌≡◌, ◌+◌, ℕ, Result, Ok, Err}
+-- Exit statuses, and how much failed.
+use Rattle.std.specs.Prelude.{ℕ}
 use Rattle.devices.specs.declared.whole.ReadError.{ReadError}
 use Rattle.devices.specs.declared.whole.ReadError.TheVariants as read
 use Rattle.report.specs.declared.outcome.Outcome.{Outcome}
@@ -30,13 +30,3 @@ failed_reads other = 0
 abbrev pub failed_writes : ReportError → ℕ
 failed_writes WriteFailed = 1
 failed_writes other = 0
-
--- a count of failed reads after an answer
-abbrev pub CountsReads : {X : Type 0} → ℕ → ℕ → Result X ReportError → Type 0
-CountsReads before after (Ok x) = after ≡ before
-CountsReads before after (Err error) = after ≡ before + failed_reads error
-
--- a count of failed writes after an answer
-abbrev pub CountsWrites : {X : Type 0} → ℕ → ℕ → Result X ReportError → Type 0
-CountsWrites before after (Ok x) = after ≡ before
-CountsWrites before after (Err error) = after ≡ before + failed_writes error

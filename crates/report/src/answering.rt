@@ -2,10 +2,10 @@
 
 ghost use Rattle.std.specs.Prelude.{◌≡◌, ◌≢◌, ◌≤◌, true, Err, IfErr, IfOk, OnOk};
 ghost use Rattle.std.specs.Io.KnownBytes.{IsAtEnd};
-ghost use Rattle.devices.specs.Bytes.{CanGrow};
+ghost use Rattle.devices.specs.Bytes.{CanGrow, CountsBy};
 ghost use Rattle.report.specs.declared.outcome.ReportError.{ReportError};
 ghost use Rattle.report.specs.Answer.{IsAnswerBegun, IsAnswerOf, IsReadOrRefused, IsWholeAnswer};
-ghost use Rattle.report.specs.Outcomes.{CountsReads, CountsWrites};
+ghost use Rattle.report.specs.Outcomes.{failed_reads, failed_writes};
 
 use crate::outcome::{Outcome, ReportError};
 use crate::printed::{Answer, verdict_answer};
@@ -90,8 +90,8 @@ pub fn answer<T: Threads + Wait + Sync, R: Source, W: Sink, G: Gate>(
     ensures all { OnOk result (IsAtEnd (R.left source.new)) }
     ensures read_before { result ≡ Err ReportError.WriteFailed → (R.is_ended source.new ≡ true)
         × IsAtEnd (R.left source.new) }
-    ensures read_count { CountsReads (R.read_failures source.old) (R.read_failures source.new) result }
-    ensures write_count { CountsWrites (W.write_failures sink.old) (W.write_failures sink.new) result }
+    ensures read_count { CountsBy failed_reads (R.read_failures source.old) (R.read_failures source.new) result }
+    ensures write_count { CountsBy failed_writes (W.write_failures sink.old) (W.write_failures sink.new) result }
     ensures begun { result ≡ Err ReportError.WriteFailed → IsAnswerBegun (R.left source.old)
         (R.left source.new) (W.written sink.old) (W.written sink.new) }
     ensures unwritten { IfErr result (λ e. e ≢ ReportError.WriteFailed → sink.new ≡ sink.old) }

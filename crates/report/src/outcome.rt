@@ -7,6 +7,15 @@ use common::OutOfMemory;
 use devices::ReadError;
 use thiserror::Error;
 
+/// What `verdicts_judge` answers where it wrote the text of the verdict.
+pub const WRITTEN: u8 = 0;
+/// What `verdicts_judge` answers of bytes that are no recording.
+pub const REFUSED: u8 = 1;
+/// What `verdicts_judge` answers where the text of the verdict is longer than the buffer.
+pub const TOO_LONG: u8 = 2;
+/// What `verdicts_judge` answers where there is no memory.
+pub const OUT_OF_MEMORY: u8 = 3;
+
 /// How a command came out.
 #[derive(Clone, Copy, Debug, PartialEq, Eq)]
 pub enum Outcome {

@@ -8,11 +8,11 @@ use Rattle.best.specs.declared.seat.Best.{Best}
 use Rattle.best.specs.declared.seat.BestSeat.{BestSeat}
 use Rattle.best.specs.declared.rule.Known.{Known}
 use Rattle.best.specs.Seats.{AreBeside, known_of}
-use Rattle.search.specs.SourceRow.{SourceRow, Job}
+use Rattle.search.specs.SourceRow.{SourceRow}
 use Rattle.search.specs.Bound.{Covers, IsSeatFor, Keeps, lengths_of}
 use Rattle.search.specs.declared.crew.Crew.{Crew}
 use Rattle.search.specs.declared.crew.Haul.{Haul}
-use Rattle.search.specs.Crews.{IsRowFor, IsCrew, IsCrewFor, IsHaulOf, IsHaulFor}
+use Rattle.search.specs.Crews.{IsRowFor, IsCrewFor, IsHaulOf, IsHaulFor}
 
 -- what is covered stays so
 pub covers_kept : (R : ℕ → ℕ → Type 0) (before after : List ℕ) (v : ℕ) → Keeps before after
@@ -40,14 +40,6 @@ perhaps_pushed P false xs ys x is all one = subst (All P) (sym is) all
 pub seat_beside : (b : Best) (t : Table) (s r : BestSeat) → AreBeside s r × (known_of r ≡ known_of s)
     → IsSeatFor b t s → IsSeatFor b t r
 seat_beside b t s r is of = (is.0 ∙ of.0, ap (λ (v : Known). v.relation) is.1 ∙ of.1)
-
--- a crew for a relation is one for what its seat carries
-pub crew_of : (b : Best) (t : Table) (c : Crew) → IsCrewFor b t c → IsCrew b c
-crew_of b t c h = (
-  h.0.0,
-  subst (λ (r : Table). All (λ (job : Job). job.relation ≡ r) c.jobs.items)
-      (sym h.0.1) h.1,
-)
 
 -- and its haul is one for the relation
 pub haul_for : (b : Best) (t : Table) (c : Crew) (h : Haul) → IsCrewFor b t c → IsHaulOf c h → IsHaulFor b t h

@@ -1,6 +1,6 @@
 -- What a seat knows after the calls of the bound.
 use Rattle.std.proofs.Common.{◌≡◌, ◌≤◌, ℕ, Option, None, Some, List, [], ◌∷◌, ◌++◌}
-use Rattle.std.proofs.Common.{length, IfSome, Contains, arith, refl, sym, ap, subst}
+use Rattle.std.proofs.Common.{length, IfSome, Contains, arith, refl, sym, subst}
 use Rattle.std.specs.Option.{unwrap_or}
 use Rattle.std.proofs.lemmas.List.Elements.{Contains-append_left, Contains-append_right}
 use Rattle.relations.specs.Relation.{Table, Related}
@@ -22,11 +22,6 @@ knows_keeps v w k is q h = subst (λ (x : Known). Contains x.lengths q) (sym is)
 -- and it is known
 pub knows_it : (v w : Known) (k : ℕ) → w ≡ knows v k → Contains w.lengths k
 knows_it v w k is = subst (λ (x : Known). Contains x.lengths k) (sym is) (in_snoc v.lengths k)
-
--- a read keeps the relation
-pub read_relation : (v w : Known) (o : Option ℕ) → IsBoundRead v o w → w.relation ≡ v.relation
-read_relation v w None h = ap (λ (x : Known). x.relation) h.0
-read_relation v w (Some n) h = ap (λ (x : Known). x.relation) h.0
 
 -- and what was known
 pub read_keeps : (v w : Known) (o : Option ℕ) → IsBoundRead v o w → Keeps v.lengths w.lengths

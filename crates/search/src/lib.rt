@@ -31,5 +31,5 @@ pub use common::{Gate, OpenGate};
 pub use job::SourceJob;
 pub use label_row::LabelRow;
 pub use least::least_cycle;
-pub use lists::{into_lists, least_length};
+pub use lists::least_length;
 pub use under::row_under;

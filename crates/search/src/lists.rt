@@ -21,7 +21,7 @@ pub fn least_length(rows: &[LabelRow]) -> Option<u16>
 }
 
 /// The numbers of each row, given away.
-pub fn into_lists(alloc: Global, rows: Vec<LabelRow>) -> Result<Vec<Vec<u16>>, OutOfMemory>
+pub(crate) fn into_lists(alloc: Global, rows: Vec<LabelRow>) -> Result<Vec<Vec<u16>>, OutOfMemory>
     ensures { IfOk result (λ lists. lists_of lists.items ≡ numbers_of rows.items) }
 {
     let mut lists = Vec::with_capacity(alloc, rows.len())?;

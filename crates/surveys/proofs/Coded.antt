@@ -7,7 +7,7 @@ use Rattle.surveys.specs.Coded.{AreCodes, AreCodesUpTo, AreLineCodes}
 use Rattle.surveys.specs.Found.{AreFindings, codes_of}
 use Rattle.surveys.specs.Lines.{IsCut, IsSplit, is_some_line, lines}
 use Rattle.surveys.proofs.Found.{findings_append}
-use Rattle.surveys.proofs.Shown.{next_line, no_line, one_line}
+use Rattle.surveys.proofs.Shown.{next_line}
 
 -- before the first line
 pub none_coded : (bytes : List ℕ) → AreCodesUpTo bytes bytes []

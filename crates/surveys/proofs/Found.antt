@@ -1,51 +1,23 @@
 -- What is found at places and in lines.
-use Rattle.std.proofs.Common.{◌≡◌, ◌<◌, ◌≤◌, ◌+◌, ◌++◌, ◌^◌, ℕ, suc, List, [], ◌∷◌, Option, Some, IfSome}
-use Rattle.std.proofs.Common.{Bor, arith, sym, ap, ◌∙◌, subst, get_or, length, length-append, map, set, refl}
+use Rattle.std.proofs.Common.{◌≡◌, ◌<◌, ◌≤◌, ◌+◌, ◌++◌, ◌^◌, ℕ, suc, List, [], ◌∷◌, Option}
+use Rattle.std.proofs.Common.{Bor, arith, sym, ap, ◌∙◌, subst, length, length-append, map, refl}
 use Rattle.std.proofs.Common.{Bool, true, false}
 use Rattle.std.proofs.KnownBytes.{Appends-nil, Appends-trans}
 use Rattle.std.specs.Io.KnownBytes.{Appends}
-use Rattle.std.proofs.lemmas.List.{get_or-set_same, get_or-set_other, get_or_append_left, get_or-append-add}
 use Rattle.std.proofs.lemmas.List.{append_assoc, append-nil, map-append, length-map}
-use mathlib.Core.Logic.{dite}
-use native.Mathlib.Decide.{ℕ_discrete}
-use borrow.Author.Count.{below_more}
 use Rattle.ledger.specs.declared.finding.Finding.{Finding}
 use Rattle.ledger.specs.declared.ledger.Ledger.{Ledger}
 use Rattle.ledger.specs.Counts.{IsLedger}
 use Rattle.ledger.specs.Findings.{finding_code}
 use Rattle.ledger.specs.Joined.{CanJoin, IsJoined}
 use Rattle.ledger.specs.LedgerLaws.{joined}
-use Rattle.surveys.specs.Claims.{ArePlaces, AreFoundBelow, IsFoundAt}
-use Rattle.surveys.specs.Found.{IsLineFinding, AreFindings, codes_of}
+use Rattle.surveys.specs.Claims.{AreFoundBelow}
+use Rattle.surveys.specs.Found.{AreFindings, codes_of}
 use Rattle.surveys.specs.LineLaws.{few_lines}
 use Rattle.surveys.specs.Lines.{IsCut, lines}
 use Rattle.surveys.specs.Surveys.{IsSurveyOfLines, IsSurvey, IsSurveyUpTo, told_text}
 use Rattle.surveys.specs.Each.{each_text}
 use Rattle.surveys.proofs.EachText.{each_append}
-
--- what was found is put to its place
-pub placed : (ls : List (Bor (List ℕ))) (ps : List (Option Finding)) (k : ℕ) (f : Finding) → length ps ≡ length ls
-    → ArePlaces ls ps → IsFoundAt ls k f → ArePlaces ls (set ps k (Some f))
-placed ls ps k f size places found i e low = dite (ℕ_discrete i k)
-    (λ same. subst (λ (j : ℕ). IfSome (get_or (set ps k (Some f)) j e) (IsFoundAt ls j)) (sym same)
-    (subst (λ (o : Option Finding). IfSome o (IsFoundAt ls k))
-    (sym (get_or-set_same ps k (Some f) e (omega (arith, size, found.0)))) found))
-    (λ other. subst (λ (o : Option Finding). IfSome o (IsFoundAt ls i))
-    (sym (get_or-set_other ps k i (Some f) e other)) (places i e low))
-
--- what is found in one line more
-pub one_found : (ls : List (Bor (List ℕ))) (fs : List Finding) (i : ℕ) (f : Finding) → length fs ≡ i
-    → AreFoundBelow ls i fs → IsFoundAt ls i f → AreFoundBelow ls (i + 1) (fs ++ f ∷ [])
-one_found ls fs i f size so_far found k d e low =
-    below_more (λ (j : ℕ). IsLineFinding (get_or ls j d).now (get_or (fs ++ f ∷ []) j e)) i
-    (λ j less. subst (IsLineFinding (get_or ls j d).now)
-    (sym (get_or_append_left fs (f ∷ []) e j (omega (arith, less, size)))) (so_far j d e less))
-    (subst (IsLineFinding (get_or ls i d).now) (sym (last_of fs f i e size)) (found.1 d)) k low
-  where
-    last_of : (gs : List Finding) (g : Finding) (n : ℕ) (x : Finding) → length gs ≡ n
-        → get_or (gs ++ g ∷ []) n x ≡ g
-    last_of gs g n x is = subst (λ (m : ℕ). get_or (gs ++ g ∷ []) m x ≡ g) (omega (arith, is))
-        (get_or-append-add gs (g ∷ []) 0 x)
 
 -- what is found in every line
 pub all_found : (ls : List (Bor (List ℕ))) (fs : List Finding) → length fs ≡ length ls

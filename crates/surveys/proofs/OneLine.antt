@@ -2,7 +2,7 @@
 use Rattle.std.proofs.Common.{◌≡◌, ◌+◌, ◌-◌, ◌<◌, ℕ, false, List, [], ◌∷◌, ◌++◌, filter, take, drop}
 use Rattle.std.proofs.Common.{length, get_or, arith, sym, ap, ◌∙◌, Some, None, All}
 use Rattle.std.proofs.lemmas.Bool.{false_from_ne_true, eqb-true}
-use Rattle.std.proofs.lemmas.List.{take-append-drop, drop_more, get_or-take, length-take, append_assoc, append-nil}
+use Rattle.std.proofs.lemmas.List.{take-append-drop, drop_more, get_or-take, length-take, append-nil}
 use Rattle.std.proofs.lemmas.List.{take_rest, length-drop}
 use Rattle.std.proofs.lemmas.List.Elements.{All-from_get_or}
 use Rattle.memchr.specs.Find.{IsFirstByte, is_byte}
@@ -46,11 +46,3 @@ split_none bytes none some = record {
   cut = last_line bytes none ∙ sym (append-nil (filter is_some_line (bytes ∷ [])));
   shorter = some;
 }
-
--- one line more was found
-pub one_more : (old new all : List (List ℕ)) (bytes line rest : List ℕ) → IsSplit bytes line rest
-    → all ≡ old ++ lines bytes → new ≡ old ++ filter is_some_line (line ∷ []) → all ≡ new ++ lines rest
-one_more old new all bytes line rest split so_far with_it =
-    so_far ∙ (ap (λ (ls : List (List ℕ)). old ++ ls) split.cut
-    ∙ (sym (append_assoc old (filter is_some_line (line ∷ [])) (lines rest))
-    ∙ ap (λ (ls : List (List ℕ)). ls ++ lines rest) (sym with_it)))

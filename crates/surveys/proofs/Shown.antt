@@ -1,5 +1,5 @@
 -- A line is found block by block.
-use Rattle.std.proofs.Common.{◌≡◌, ◌+◌, ◌<◌, ◌≤◌, ◌++◌, ◌∷◌, [], ℕ, true, false, List, Option, Some, None, arith, ap, refl, sym, subst, ◌∙◌}
+use Rattle.std.proofs.Common.{◌≡◌, ◌+◌, ◌<◌, ◌≤◌, ◌++◌, ◌∷◌, [], ℕ, true, List, Option, Some, None, arith, ap, refl, sym, subst, ◌∙◌}
 use Rattle.std.proofs.Common.{length, length-append, get_or, take, drop, append_assoc, append-nil, filter}
 use Rattle.std.proofs.Common.{Vec, Global, lt-ltb, le-ltb}
 use Rattle.std.proofs.KnownBytes.{Consumes-nil, Consumes-trans}
@@ -47,46 +47,15 @@ pub record IsLater (bytes rest : List ℕ) (k m : ℕ) : Type 0 where
   pub cut : IsCut bytes front rest
   pub count : k ≡ length front + m
 
--- at first its own
-pub later_nil : (bytes : List ℕ) (k : ℕ) → IsLater bytes bytes k k
-later_nil bytes k = record { front = []; cut = refl; count = omega arith }
-
--- at last that after all of them
-pub later_all : (bytes rest : List ℕ) (k m : ℕ) → IsLater bytes rest k m → rest ≡ [] → k ≡ length (lines bytes) + m
-later_all bytes rest k m is nothing = omega (
-  arith,
-  is.count,
-  ap (λ (ls : List (List ℕ)). length ls) (is.cut
-      ∙ (ap (λ (left : List ℕ). is.front ++ lines left) nothing ∙ append-nil is.front)),
-)
-
 -- a line that counts
 pub one_line : (line : List ℕ) → 0 < length line → filter is_some_line (line ∷ []) ≡ line ∷ []
 one_line line some = let yes : is_some_line line ≡ true = lt-ltb 0 (length line) some in rw yes refl
-
--- a line that counts as none
-pub no_line : (line : List ℕ) → length line ≡ 0 → filter is_some_line (line ∷ []) ≡ []
-no_line line none = let no : is_some_line line ≡ false = le-ltb 0 (length line) (omega (arith, none)) in rw no refl
 
 -- the next line
 pub next_line : (bytes rest line more : List ℕ) (front : List (List ℕ)) → IsCut bytes front rest → IsSplit rest line more
     → IsCut bytes (front ++ filter is_some_line (line ∷ [])) more
 next_line bytes rest line more front cut split = cut ∙ (ap (λ (ls : List (List ℕ)). front ++ ls) split.cut
     ∙ sym (append_assoc front (filter is_some_line (line ∷ [])) (lines more)))
-
--- goes by as none
-pub later_none : (bytes rest line more : List ℕ) (k m : ℕ) → IsLater bytes rest k m → IsSplit rest line more
-    → length line ≡ 0 → IsLater bytes more k m
-later_none bytes rest line more k m is split none = record {
-  front = is.front ++ filter is_some_line (line ∷ []);
-  cut = next_line bytes rest line more is.front is.cut split;
-  count = omega (
-    arith,
-    is.count,
-    length-append is.front (filter is_some_line (line ∷ [])),
-    ap (λ (ls : List (List ℕ)). length ls) (no_line line none),
-  );
-}
 
 -- or as one
 pub later_one : (bytes rest line more : List ℕ) (k m n : ℕ) → IsLater bytes rest k m → IsSplit rest line more
@@ -102,25 +71,6 @@ later_one bytes rest line more k m n is split some more_by_one = record {
     ap (λ (ls : List (List ℕ)). length ls) (one_line line some),
   );
 }
-
--- or is the one that is sought
-pub found_here : (bytes rest line more : List ℕ) (k m : ℕ) → IsLater bytes rest k m → IsSplit rest line more
-    → 0 < length line → m ≡ 0 → IsLineAt bytes k line
-found_here bytes rest line more k m is split some here =
-    let cut : lines bytes ≡ is.front ++ (line ∷ lines more) = is.cut
-    ∙ ap (λ (ls : List (List ℕ)). is.front ++ ls) (split.cut
-    ∙ ap (λ (ls : List (List ℕ)). ls ++ lines more) (one_line line some)) in (
-      omega (
-        arith,
-        is.count,
-        here,
-        ap (λ (ls : List (List ℕ)). length ls) cut,
-        length-append is.front (line ∷ lines more),
-      ),
-      ap (λ (ls : List (List ℕ)). get_or ls k []) cut
-          ∙ (ap (λ (n : ℕ). get_or (is.front ++ (line ∷ lines more)) n []) (is.count
-          ∙ ap (λ (n : ℕ). length is.front + n) here) ∙ get_or-append-add is.front (line ∷ lines more) 0 []),
-    )
 
 -- a block is cut where a line begins
 pub sought_first : (block seen rest part : List ℕ) (end k : ℕ) (sought : Sought) → seen ≡ block

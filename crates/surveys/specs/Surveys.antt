@@ -1,5 +1,5 @@
 -- What a survey counts, and what it tells.
-use Rattle.std.specs.Prelude.{◌≡◌, ◌+◌, ℕ, [], List, Option, Result, Ok, Err, Bool, if◌then◌else◌}
+use Rattle.std.specs.Prelude.{ℕ, [], List, Option, Bool, if◌then◌else◌}
 use Rattle.std.specs.Io.KnownBytes.{Appends, Consumes}
 use Rattle.ledger.specs.declared.finding.Finding.{Finding}
 use Rattle.ledger.specs.declared.ledger.Ledger.{Ledger}
@@ -54,13 +54,3 @@ failed_reads other = 0
 abbrev pub failed_writes : SurveyError → ℕ
 failed_writes WriteFailed = 1
 failed_writes other = 0
-
--- a count of failed reads after a survey
-abbrev pub CountsReads : {X : Type 0} → ℕ → ℕ → Result X SurveyError → Type 0
-CountsReads before after (Ok x) = after ≡ before
-CountsReads before after (Err error) = after ≡ before + failed_reads error
-
--- a count of failed writes after a survey
-abbrev pub CountsWrites : {X : Type 0} → ℕ → ℕ → Result X SurveyError → Type 0
-CountsWrites before after (Ok x) = after ≡ before
-CountsWrites before after (Err error) = after ≡ before + failed_writes error

@@ -3,11 +3,11 @@
 ghost use Rattle.std.specs.Prelude.{◌≡◌, ◌≢◌, ◌<◌, ◌+◌, ◌^◌, [], ℕ, List, Option, All, IfErr, IfOk, OnOk, true};
 ghost use Rattle.std.specs.Prelude.{length, map};
 ghost use Rattle.std.specs.Io.KnownBytes.{Appends};
-ghost use Rattle.devices.specs.Bytes.{CanGrow};
+ghost use Rattle.devices.specs.Bytes.{CanGrow, CountsBy};
 ghost use Rattle.ledger.specs.Counts.{IsLedger};
 ghost use Rattle.surveys.specs.Claims.{AreClaims, ArePlaces, IsFoundAt};
 ghost use Rattle.surveys.specs.Found.{AreFindings, codes_of};
-ghost use Rattle.surveys.specs.Surveys.{CountsWrites, GoesOn, IsSurveyUpTo, failed_reads, told_text};
+ghost use Rattle.surveys.specs.Surveys.{GoesOn, IsSurveyUpTo, failed_reads, failed_writes, told_text};
 
 use crate::claims::{Claim, claims_by};
 use crate::each::each_text;
@@ -130,7 +130,7 @@ fn tell<W: Sink>(
     ensures ok { OnOk result
         (Appends (W.written sink.old) (W.written sink.new) (told_text each first findings.now)) }
     ensures reads { IfErr result (λ e. failed_reads e ≡ 0) }
-    ensures writes { CountsWrites (W.write_failures sink.old) (W.write_failures sink.new) result }
+    ensures writes { CountsBy failed_writes (W.write_failures sink.old) (W.write_failures sink.new) result }
     ensures silent { each ≢ true → sink.new ≡ sink.old }
 {
     if !each {
@@ -171,7 +171,7 @@ fn count_some<'a, R: Threads + Sync, W: Sink, G: Gate>(
     ensures ok { IfOk result (λ rest. GoesOn bytes.now rest.now each
         ledger.old (W.written sink.old) ledger.new (W.written sink.new)) }
     ensures reads { IfErr result (λ e. failed_reads e ≡ 0) }
-    ensures writes { CountsWrites (W.write_failures sink.old) (W.write_failures sink.new) result }
+    ensures writes { CountsBy failed_writes (W.write_failures sink.old) (W.write_failures sink.new) result }
     ensures silent { each ≢ true → sink.new ≡ sink.old }
 {
     let (lines, rest) = next_lines(alloc, bytes, lines_at_once(each))?;
@@ -200,7 +200,7 @@ pub(crate) fn count_all<R: Threads + Sync, W: Sink, G: Gate>(
     ensures ok { OnOk result (GoesOn bytes.now [] each
         ledger.old (W.written sink.old) ledger.new (W.written sink.new)) }
     ensures reads { IfErr result (λ e. failed_reads e ≡ 0) }
-    ensures writes { CountsWrites (W.write_failures sink.old) (W.write_failures sink.new) result }
+    ensures writes { CountsBy failed_writes (W.write_failures sink.old) (W.write_failures sink.new) result }
     ensures silent { each ≢ true → sink.new ≡ sink.old }
 {
     let mut rest = bytes;

@@ -2,9 +2,9 @@
 
 ghost use Rattle.std.specs.Prelude.{◌≡◌, ◌≢◌, ◌<◌, ◌≤◌, true, IfErr, IfOk, OnOk, drop, length, take};
 ghost use Rattle.std.specs.Io.KnownBytes.{IsAtEnd};
-ghost use Rattle.devices.specs.Bytes.{CanGrow, Gathers};
+ghost use Rattle.devices.specs.Bytes.{CanGrow, CountsBy, Gathers};
 ghost use Rattle.surveys.specs.Lines.{IsWhole};
-ghost use Rattle.surveys.specs.Surveys.{CountsReads, failed_writes};
+ghost use Rattle.surveys.specs.Surveys.{failed_reads, failed_writes};
 
 use crate::error::SurveyError;
 use devices::{Failed, Source};
@@ -30,7 +30,7 @@ fn pull_more<R: Source>(
     ensures more { IfOk result (λ n. n ≢ 0 → length block.old.items < length block.new.items) }
     ensures met { IfOk result (λ n. n ≡ 0 → R.is_ended source.new ≡ true) }
     ensures all { IfOk result (λ n. n ≡ 0 → IsAtEnd (R.left source.new)) }
-    ensures count { CountsReads (R.read_failures source.old) (R.read_failures source.new) result }
+    ensures count { CountsBy failed_reads (R.read_failures source.old) (R.read_failures source.new) result }
     ensures writes { IfErr result (λ e. failed_writes e ≡ 0) }
 {
     match source.pull(piece) {
@@ -59,7 +59,7 @@ pub(crate) fn fill<R: Source>(
     ensures more { IfOk result (λ more. more ≡ true → length block.old.items < length block.new.items) }
     ensures met { IfOk result (λ more. more ≢ true → R.is_ended source.new ≡ true) }
     ensures all { IfOk result (λ more. more ≢ true → IsAtEnd (R.left source.new)) }
-    ensures count { CountsReads (R.read_failures source.old) (R.read_failures source.new) result }
+    ensures count { CountsBy failed_reads (R.read_failures source.old) (R.read_failures source.new) result }
     ensures writes { IfErr result (λ e. failed_writes e ≡ 0) }
 {
     let first = pull_more(source, piece, block)?;

@@ -2,9 +2,9 @@
 
 ghost use Rattle.std.specs.Prelude.{◌≡◌, ◌<◌, true, IfErr, IfOk, OnOk, length, option_map};
 ghost use Rattle.std.specs.Io.KnownBytes.{IsAtEnd};
-ghost use Rattle.devices.specs.Bytes.{CanGrow};
+ghost use Rattle.devices.specs.Bytes.{CanGrow, CountsBy};
 ghost use Rattle.surveys.specs.Shown.{IsLineOfRead, IsRead, IsSought, IsSoughtFirst};
-ghost use Rattle.surveys.specs.Surveys.{CountsReads, failed_reads, failed_writes};
+ghost use Rattle.surveys.specs.Surveys.{failed_reads, failed_writes};
 
 use crate::error::SurveyError;
 use crate::filling::{PIECE, fill, keep_rest, last_end};
@@ -77,7 +77,7 @@ fn read_rest<R: Source>(
     ensures read { OnOk result (IsRead (R.left source.old) (R.left source.new)) }
     ensures met { OnOk result (R.is_ended source.new ≡ true) }
     ensures all { OnOk result (IsAtEnd (R.left source.new)) }
-    ensures reads { CountsReads (R.read_failures source.old) (R.read_failures source.new) result }
+    ensures reads { CountsBy failed_reads (R.read_failures source.old) (R.read_failures source.new) result }
     ensures writes { IfErr result (λ e. failed_writes e ≡ 0) }
 {
     let mut counted = 0usize;
@@ -105,7 +105,7 @@ fn line_from<R: Source>(
         (option_map (λ v. v.items) line)) }
     ensures met { OnOk result (R.is_ended source.new ≡ true) }
     ensures all { OnOk result (IsAtEnd (R.left source.new)) }
-    ensures reads { CountsReads (R.read_failures source.old) (R.read_failures source.new) result }
+    ensures reads { CountsBy failed_reads (R.read_failures source.old) (R.read_failures source.new) result }
     ensures writes { IfErr result (λ e. failed_writes e ≡ 0) }
 {
     let mut block = Vec::new(alloc);
@@ -146,7 +146,7 @@ pub fn line_of<R: Source>(
         (option_map (λ v. v.items) line)) }
     ensures met { OnOk result (R.is_ended source.new ≡ true) }
     ensures all { OnOk result (IsAtEnd (R.left source.new)) }
-    ensures reads { CountsReads (R.read_failures source.old) (R.read_failures source.new) result }
+    ensures reads { CountsBy failed_reads (R.read_failures source.old) (R.read_failures source.new) result }
     ensures writes { IfErr result (λ e. failed_writes e ≡ 0) }
 {
     let Ok(mut piece) = Vec::from_elem(alloc, 0u8, PIECE) else {

@@ -3,11 +3,10 @@
 ghost use Rattle.std.specs.Prelude.{◌≡◌, ◌≢◌, ◌<◌, ℕ, List, Option, true, [], IfErr, IfOk, IfSome, OnOk};
 ghost use Rattle.std.specs.Prelude.{length};
 ghost use Rattle.std.specs.Io.KnownBytes.{IsAtEnd};
-ghost use Rattle.devices.specs.Bytes.{CanGrow};
+ghost use Rattle.devices.specs.Bytes.{CanGrow, CountsBy};
 ghost use Rattle.ledger.specs.Counts.{IsLedger};
 ghost use Rattle.surveys.specs.Lines.{IsWhole};
-ghost use Rattle.surveys.specs.Surveys.{CountsReads, CountsWrites, IsSurvey, IsSurveyOfRead};
-ghost use Rattle.surveys.specs.Surveys.{failed_reads};
+ghost use Rattle.surveys.specs.Surveys.{IsSurvey, IsSurveyOfRead, failed_reads, failed_writes};
 ghost use Rattle.surveys.specs.Tallies.{Ends, Grows, IsTallied, IsTally};
 
 use crate::counting::count_all;
@@ -39,7 +38,7 @@ fn count_part<R: Threads + Sync, W: Sink, G: Gate>(
     ensures ends { OnOk result
         (Ends each part.now ledger.old counted (W.written sink.old) ledger.new (W.written sink.new)) }
     ensures reads { IfErr result (λ e. failed_reads e ≡ 0) }
-    ensures writes { CountsWrites (W.write_failures sink.old) (W.write_failures sink.new) result }
+    ensures writes { CountsBy failed_writes (W.write_failures sink.old) (W.write_failures sink.new) result }
     ensures silent { each ≢ true → sink.new ≡ sink.old }
 {
     let Some(total) = counted.checked_add(part.len()) else {
@@ -69,7 +68,7 @@ fn count_whole<R: Threads + Sync, W: Sink, G: Gate>(
     ensures ok { IfOk result (λ n. IsTallied each block.old.items block.new.items
         ledger.old counted (W.written sink.old) ledger.new n (W.written sink.new)) }
     ensures reads { IfErr result (λ e. failed_reads e ≡ 0) }
-    ensures writes { CountsWrites (W.write_failures sink.old) (W.write_failures sink.new) result }
+    ensures writes { CountsBy failed_writes (W.write_failures sink.old) (W.write_failures sink.new) result }
     ensures silent { each ≢ true → sink.new ≡ sink.old }
 {
     let end = last_end(block, seen);
@@ -108,8 +107,8 @@ fn count_blocks<T: Threads + Sync, R: Source, W: Sink, G: Gate>(
         each (W.written sink.old) (W.written sink.new)) }
     ensures met { OnOk result (R.is_ended source.new ≡ true) }
     ensures all { OnOk result (IsAtEnd (R.left source.new)) }
-    ensures reads { CountsReads (R.read_failures source.old) (R.read_failures source.new) result }
-    ensures writes { CountsWrites (W.write_failures sink.old) (W.write_failures sink.new) result }
+    ensures reads { CountsBy failed_reads (R.read_failures source.old) (R.read_failures source.new) result }
+    ensures writes { CountsBy failed_writes (W.write_failures sink.old) (W.write_failures sink.new) result }
     ensures silent { each ≢ true → sink.new ≡ sink.old }
 {
     let mut block = Vec::new(alloc);
@@ -149,8 +148,8 @@ pub fn survey<T: Threads + Sync, R: Source, W: Sink, G: Gate>(
         each (W.written sink.old) (W.written sink.new))) }
     ensures met { OnOk result (R.is_ended source.new ≡ true) }
     ensures all { OnOk result (IsAtEnd (R.left source.new)) }
-    ensures reads { CountsReads (R.read_failures source.old) (R.read_failures source.new) result }
-    ensures writes { CountsWrites (W.write_failures sink.old) (W.write_failures sink.new) result }
+    ensures reads { CountsBy failed_reads (R.read_failures source.old) (R.read_failures source.new) result }
+    ensures writes { CountsBy failed_writes (W.write_failures sink.old) (W.write_failures sink.new) result }
     ensures silent { each ≢ true → sink.new ≡ sink.old }
 {
     let mut ledger = Ledger::count(alloc, &[])?;

@@ -29,18 +29,6 @@ pub record Grown (v w : View) : Type 0 where
   pub seen : (q : ℕ) → Contains v.seen q → Contains w.seen q
   pub read : (q : ℕ) → Contains v.read q → Contains w.read q
 
-pub grown_same : (v : View) → Grown v v
-grown_same v = record {
-  live = refl;
-  alone = refl;
-  campaign = refl;
-  share = refl;
-  filed = refl;
-  seen = λ q h. h;
-  read =
-      λ q h. h;
-}
-
 grown_is : (v w x : View) → Grown v w → x ≡ w → Grown v x
 grown_is v w x g e = subst (Grown v) (sym e) g
 
@@ -90,15 +78,6 @@ pub record ReadSoFar (v : View) (ws : List ℕ) : Type 0 where
   pub fits : (j : ℕ) → j < length ws → FitsAt v j (get_or ws j 0)
   pub words : (j : ℕ) → j < length ws → IsWord v.campaign j (get_or ws j 0)
   pub beyond : 0 < length ws → (j : ℕ) → v.campaign.trials ≤ j → FitsAt v j 0
-
-pub nothing_read : (v : View) → ReadSoFar v []
-nothing_read v = record {
-  sole = λ _ j h. absurd (omega (arith, h));
-  fits = λ j h. absurd (omega (arith, h));
-  words =
-      λ j h. absurd (omega (arith, h));
-  beyond = λ h. absurd (omega (arith, h));
-}
 
 pub one_more : (v w x : View) (ws : List ℕ) (n : ℕ) → Grown v w → LoadsWord w (length ws) n x → ReadSoFar v ws
     → ReadSoFar v (ws ++ n ∷ [])

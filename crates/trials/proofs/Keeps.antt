@@ -11,7 +11,7 @@ use mathlib.Core.Option.{none, some, some-injective, some-ne-none}
 use native.Mathlib.Decide.{ℕ_discrete}
 use lib.ListN.{get_elem?}
 use prog.Atomic.{either}
-use Rattle.atomic_table.specs.Table.{State, Me, step, keeps, stepped, Allows, Splits, Joins, opening}
+use Rattle.atomic_table.specs.Table.{State, Me, step, keeps, stepped, Allows, Splits, Joins}
 use Rattle.atomic_table.proofs.Lists.{at_set, at_snoc, at_longer, set_here, set_else}
 use Rattle.trials.specs.Campaigns.{Plan}
 use Rattle.trials.specs.declared.board.View.{View}
@@ -21,12 +21,6 @@ use Rattle.trials.specs.Codes.{IsCode, end_code}
 use Rattle.trials.specs.Board.{first_view, spent_view, with_others, without_share, joined_views, claimed}
 use Rattle.trials.specs.Board.{noticed, met, completed, AreAllOpen}
 use Rattle.trials.specs.Board.{FitsAt, IsWord, Legal, Was, ClaimStep, FileStep, LookStep}
-
-abbrev St : Type 0
-St = State (Unit {0}) View
-
-abbrev My : Type 0
-My = Me (Unit {0}) View
 
 none_in : {X : Type 0} (x : X) → Contains [] x → ⊥
 none_in x h = omega (arith, h.1)
@@ -332,29 +326,6 @@ files c slots id k n me low live has unfiled is s r _ at _ =
           (λ _. inl has) me.1,
       (refl, refl),
     )
-
-pub begins : (c : Plan) (words : List ℕ) → length words ≡ c.trials → ((k : ℕ) → get_or words k 0 ≡ 0)
-    → Legal c (opening words [] (first_view c))
-begins c words size zeros = record {
-  size = size;
-  words = λ k. inl (zeros k);
-  carried = λ i v e l. ap (λ (x : View). x.campaign) (sym (only i v e));
-  fits = λ i v e k. subst (λ (x : View). FitsAt x k (get_or words k 0)) (only i v e) (
-    (λ h. absurd (none_in k h)),
-    (λ h. absurd (none_in k h)),
-    (λ h. absurd (none_in k h)),
-    (λ h. absurd (none_in k h)),
-    λ h. absurd (none_in k h),
-  );
-  alone = λ i j v w ev ew k hv hw. absurd
-      (none_in k (subst (λ (x : View). Contains x.share k) (sym (only i v ev)) hv));
-  owned = λ k full. absurd (full (zeros k));
-  sole = λ _ _ _ _. refl;
-}
-  where
-    only : (i : ℕ) (v : View) → get_elem? (first_view c ∷ []) i ≡ some v → first_view c ≡ v
-    only zero v e = some-injective (first_view c) v e
-    only (suc i) v e = absurd (some-ne-none v (sym e))
 
 -- where a seat is the only one, all others are it
 only_one : (s : State (Unit {0}) View) (i j : ℕ) (v w : View) → length s.views ≡ 1

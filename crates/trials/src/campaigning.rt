@@ -5,8 +5,11 @@ ghost use Rattle.ledger.specs.Counts.{IsLedger};
 ghost use Rattle.trials.specs.Board.{AreDeskWords, IsWord};
 ghost use Rattle.trials.specs.Codes.{AreCodes, IsCode};
 ghost use Rattle.trials.specs.Looking.{IsDeskSeatOf};
+ghost use Rattle.trials.specs.OneLedger.{EveryTrialHasOneCode, EveryCampaignHasOneLedger};
+ghost use Rattle.trials.specs.OneLedger.{EveryCampaignAddsUp, EveryTrialHasItsKind};
 ghost use Rattle.trials.specs.declared.board.View.{View};
 
+use crate::law::a_campaign_has_one_ledger;
 use crate::seat::{Desk, DeskSeat, Look};
 use crate::trying::trial;
 use crate::workers::work_all;
@@ -94,6 +97,11 @@ fn ledger_of(
 /// worker 0 and another one that isn't started is done without. Each worker claims trials in ascending order,
 /// from the first of its share on, and then those before it; the gate is told of each claim, each violation
 /// and each filing. What they left out the calling thread computes. An `Err` is want of memory.
+///
+/// A trial of a campaign has one code, however often and wherever it is run, so any two ledgers of a
+/// campaign's codes say the same. What has no verdict are its unfinished trials, and a violation is what is
+/// neither one of these nor ordered. Its counts of ordered and unfinished trials, of overlooks and of cycles
+/// of each length add up to the trials of the campaign.
 pub fn run_campaign<R: Threads + Wait + Sync, G: Gate>(
     rt: &R,
     alloc: Global,
@@ -102,8 +110,13 @@ pub fn run_campaign<R: Threads + Wait + Sync, G: Gate>(
     gate: &G,
 ) -> Result<Ledger, CampaignError>
     requires { (1 ≤ workers) × (workers ≤ MAX_WORKERS) }
-    ensures { IfOk result (λ l. (codes : List ℕ) × AreCodes campaign.now codes × IsLedger codes l) }
+    ensures counted { IfOk result (λ l. (codes : List ℕ) × AreCodes campaign.now codes × IsLedger codes l) }
+    ensures codes { EveryTrialHasOneCode }
+    ensures kinds { EveryTrialHasItsKind }
+    ensures ledgers { EveryCampaignHasOneLedger }
+    ensures sum { EveryCampaignAddsUp }
 {
+    a_campaign_has_one_ledger();
     let Ok((desk, seat)) = Desk::open(alloc, campaign) else {
         return Err(CampaignError::OutOfMemory { filed: 0 });
     };

@@ -20,7 +20,6 @@ pub use campaign::Campaign;
 pub use campaigning::{CampaignError, run_campaign};
 pub use filed::Filed;
 pub use judging::{Judged, judged_end, run_and_judge};
-pub use law::a_campaign_has_one_ledger;
 pub use ledger::{CYCLE, LOAD, Ledger, ORDERED, OVERLOOK, UNFINISHED};
 pub use running::run_seeded;
 pub use seat::{Desk, DeskSeat, Look};

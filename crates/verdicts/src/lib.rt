@@ -7,17 +7,8 @@ ghost use Rattle.verdicts.specs.Judged.{IsRefused, IsTooLong, IsWritten};
 #[cfg(test)]
 mod buffers;
 
-use report::{Answer, Outcome, answer_alone};
+use report::{Answer, OUT_OF_MEMORY, Outcome, REFUSED, TOO_LONG, WRITTEN, answer_alone};
 use std::alloc::Global;
-
-/// The text of the verdict was written.
-const WRITTEN: u8 = 0;
-/// The bytes are no recording.
-const REFUSED: u8 = 1;
-/// The text of the verdict is longer than the buffer.
-const TOO_LONG: u8 = 2;
-/// There is no memory.
-const OUT_OF_MEMORY: u8 = 3;
 
 /// Writes the text of the verdict on the recording that the bytes give to the front of `out`, of which
 /// the rest stays, and its length in bytes to `len`. The answer is 0 where it was written, 1 where the

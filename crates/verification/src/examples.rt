@@ -58,6 +58,21 @@ const HEAD: &[u8] = b"cycle of 4\n0 -> 1 Po\n1 -> 2 Rf\n2 -> 3 Po\n3 -> 0 Fr\n";
 /// The labels of message passing.
 const ROWS: &[u8] = b"labels 0: 0 1 2 3\nlabels 1: 3 0 1 2\nlabels 2: 2 3 0 1\nlabels 3: 1 2 3 0\n";
 
+/// Copies of some lists.
+fn copied<T: Copy>(alloc: Global, lists: &[&[T]]) -> Option<Vec<Vec<T>>> {
+    let mut copies = Vec::new(alloc);
+    for list in lists {
+        copies.push(Vec::from_slice(alloc, *list).ok()?).ok()?;
+    }
+    Some(copies)
+}
+
+/// The recording of these events and write lists, where x and y begin with 0.
+fn recorded(alloc: Global, cores: &[&[Event]], writes: &[&[EventId]]) -> Option<Recording> {
+    let init = vec![in alloc; 0; 2].ok()?;
+    Recording::from_parts(copied(alloc, cores)?, copied(alloc, writes)?, init).ok()
+}
+
 /// What is found of a text that stands in two parts, by so many workers.
 fn found<R: Threads + Wait + Sync>(
     rt: &R,
@@ -81,7 +96,7 @@ fn passes<R: Threads + Wait + Sync>(
     rest: &[u8],
     wanted: Finding,
 ) -> bool {
-    let Ok(recording) = Recording::from_lists(alloc, &MESSAGE_PASSING, &FIRST_CORE, &[0, 0]) else {
+    let Some(recording) = recorded(alloc, &MESSAGE_PASSING, &FIRST_CORE) else {
         return false;
     };
     found(rt, alloc, &recording, head, rest, 1) == Some(wanted)
@@ -90,7 +105,7 @@ fn passes<R: Threads + Wait + Sync>(
 
 /// Whether this is found of a text on store buffering.
 fn buffers<R: Threads + Wait + Sync>(rt: &R, alloc: Global, text: &[u8], wanted: Finding) -> bool {
-    let Ok(recording) = Recording::from_lists(alloc, &STORE_BUFFERING, &EACH_CORE, &[0, 0]) else {
+    let Some(recording) = recorded(alloc, &STORE_BUFFERING, &EACH_CORE) else {
         return false;
     };
     found(rt, alloc, &recording, text, b"", 1) == Some(wanted)

@@ -141,10 +141,20 @@ pub const TWO_CYCLES: EventLists = (
     &[0, 0],
 );
 
+/// Copies of some lists.
+fn copied<T: Copy>(alloc: Global, lists: &[&[T]]) -> Option<Vec<Vec<T>>> {
+    let mut copies = Vec::new(alloc);
+    for list in lists {
+        copies.push(Vec::from_slice(alloc, *list).ok()?).ok()?;
+    }
+    Some(copies)
+}
+
 /// The recording of some parts, which is not refused.
 pub fn recorded(alloc: Global, parts: EventLists) -> Option<Recording> {
     let (cores, writes, init) = parts;
-    Recording::from_lists(alloc, cores, writes, init).ok()
+    let init = Vec::from_slice(alloc, init).ok()?;
+    Recording::from_parts(copied(alloc, cores)?, copied(alloc, writes)?, init).ok()
 }
 
 /// The forced pairs of a recording.

@@ -1,13 +1,13 @@
-use Rattle.std.proofs.Common.{◌≡◌, Err, IfErr, IfOk, List, Option, Result, ℕ, subst, sym}
+use Rattle.std.proofs.Common.{◌≡◌, Err, IfOk, List, Option, Result, ℕ, subst, sym}
 use Rattle.command_line.specs.declared.options.Options.{Options}
 use Rattle.command_line.specs.declared.options.Options.TheVariants.{Judge, Survey}
 use Rattle.report.specs.declared.outcome.Outcome.{Outcome}
 use Rattle.commands.specs.declared.fault.CommandFault.{CommandFault}
 use Rattle.commands.specs.Inputs.{Seen, seen}
 use Rattle.commands.specs.Output.{IsBegun, IsPut}
-use Rattle.commands.specs.Perform.{IsFaultFor, IsPrintedFor}
+use Rattle.commands.specs.Perform.{IsPrintedFor}
 use Rattle.commands.proofs.Given.{begun_of, put_of}
-use Rattle.commands.proofs.Printed.{judged_begun, judged_read, shown_after, surveyed_fault, surveyed_read, written_printed}
+use Rattle.commands.proofs.Printed.{judged_begun, judged_read, shown_after, surveyed_read, written_printed}
 use Rattle.commands.proofs.perform.performed.Goals as goal
 
 pub returns-in-Some-clause-printed : goal.returns-in-Some-clause-printed
@@ -39,14 +39,6 @@ returns-in-Some-2-clause-printed g c =
     (written_printed (g.P.Place.bytes c.args.place.now) (Survey c.in-Some-2.survey.now) s
     (g.W.Sink.written c.args.out.now) (g.W.Sink.written c.each_command.new.out) c.each_command.result
     c.each_command.ensures.whole (surveyed_read _ s c.each_command.result c.each_command.ensures.reads))
-
-pub returns-in-Some-2-clause-fault : goal.returns-in-Some-2-clause-fault
-returns-in-Some-2-clause-fault g c =
-    let s : Seen = seen (g.P.Place.asked c.args.place.now) (g.P.Place.asked c.each_command.new.place)
-    (g.P.Place.tally c.args.place.now) (g.P.Place.tally c.each_command.new.place) in
-    subst (λ (o : Options). IfErr c.each_command.result (IsFaultFor (g.P.Place.bytes c.args.place.now) o s))
-    (sym c.in-Some-2.ensures.some.0) (surveyed_fault (g.P.Place.bytes c.args.place.now) c.in-Some-2.survey.now s
-    c.each_command.result c.each_command.ensures.fault c.each_command.ensures.reads)
 
 pub returns-clause-printed : goal.returns-clause-printed
 returns-clause-printed g c =

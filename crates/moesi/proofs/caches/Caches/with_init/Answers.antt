@@ -5,8 +5,8 @@ use Rattle.moesi.proofs.Answered.{zeros}
 use Rattle.moesi.proofs.Filled.{filled_words}
 use Rattle.moesi.proofs.caches.Caches.with_init.Goals as goal
 
-pub returns : goal.returns
-returns c =
+pub returns-clause-ok : goal.returns-clause-ok
+returns-clause-ok c =
     ap (caches_in c.args.cores (length c.args.init.now))
     (with_items_is c.in_ok-words.words c.fill_memory.new.words (omega arith))
     ∙ filled_words c.args.cores c.args.init.now c.fill_memory.new.words
