@@ -5,3 +5,4 @@ pub mod Stops
 pub mod Asking
 pub mod Given
 pub mod Findings
+pub mod Held
