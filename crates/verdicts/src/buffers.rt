@@ -1,6 +1,6 @@
-//! Verdicts that are written into buffers. A status is the number that a caller in C has.
+//! Verdicts that are written into buffers, and checked. A status is the number that a caller in C has.
 
-use crate::verdicts_judge;
+use crate::{verdicts_judge, verdicts_verify};
 use std::alloc::Global;
 use std::test::Fail;
 
@@ -48,5 +48,14 @@ fn a_verdict_without_room_says_its_length(rt: HostRuntime) -> Result<(), Fail> {
             &FILLED[..25]
         )
     );
+    Ok(())
+}
+
+#[test]
+fn a_text_holds_or_not(rt: HostRuntime) -> Result<(), Fail> {
+    let alloc = rt.alloc();
+    assert!(rt; verdicts_verify(alloc, OVERLOOKED_STORE, b"overlook: load 1 store 0\n") == 0);
+    assert!(rt; verdicts_verify(alloc, OVERLOOKED_STORE, b"overlook: load 0 store 1\n") == 2);
+    assert!(rt; verdicts_verify(alloc, b"{}", b"overlook: load 1 store 0\n") == 1);
     Ok(())
 }

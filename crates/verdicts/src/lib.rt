@@ -2,20 +2,25 @@
 #![tactic(auto)]
 
 ghost use Rattle.std.specs.Prelude.{◌≡◌, ◌≢◌, ◌≤◌, ◌⊎◌};
-ghost use Rattle.verdicts.specs.Judged.{IsRefused, IsTooLong, IsWritten};
+ghost use Rattle.verdicts.specs.Judged.{FailsFor, HoldsOf, IsRefused, IsTooLong, IsWritten};
 
 #[cfg(test)]
 mod buffers;
 
-use report::{Answer, Outcome, answer_alone};
+use report::{Answer, Outcome, answer_alone, read_or_refuse};
 use std::alloc::Global;
+use verification::{Finding, check_text_alone};
 
 /// The text of the verdict was written.
 const WRITTEN: u8 = 0;
+/// The text holds of the recording.
+const HOLDS: u8 = 0;
 /// The bytes are no recording.
 const REFUSED: u8 = 1;
 /// The text of the verdict is longer than the buffer.
 const TOO_LONG: u8 = 2;
+/// The text doesn't hold of the recording.
+const FAILS: u8 = 2;
 /// There is no memory.
 const OUT_OF_MEMORY: u8 = 3;
 
@@ -51,4 +56,30 @@ pub extern "C" fn verdicts_judge(
     }
     out[..text.len()].copy_from_slice(&text);
     WRITTEN
+}
+
+/// Whether a text is that of a verdict that holds of the recording that the bytes give, whoever gave it, by
+/// `check_text_alone`. The answer is 0 where it is, 1 where the bytes are no recording, 2 where it is not, and 3
+/// where there is no memory. It waits for nobody and starts no thread.
+#[unsafe(no_mangle)]
+pub extern "C" fn verdicts_verify(alloc: Global, recording: &[u8], verdict: &[u8]) -> u8
+    // The numbers are those that a caller in C has: no constant stands for them.
+    ensures status { result ≤ 3 }
+    ensures holds { result ≡ 0 → HoldsOf recording.now verdict.now }
+    ensures refused { result ≡ 1 → IsRefused recording.now }
+    ensures fails { result ≡ 2 → FailsFor recording.now verdict.now }
+{
+    let Ok(read) = read_or_refuse(alloc, recording) else {
+        return OUT_OF_MEMORY;
+    };
+    let Ok(known) = read else {
+        return REFUSED;
+    };
+    let Ok(finding) = check_text_alone(alloc, &known, verdict) else {
+        return OUT_OF_MEMORY;
+    };
+    if finding == Finding::Holds {
+        return HOLDS;
+    }
+    FAILS
 }

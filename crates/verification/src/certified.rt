@@ -159,3 +159,22 @@ pub(crate) fn check_cycle<R: Threads + Sync>(
         Err(fault) => Ok(fault),
     }
 }
+
+/// The same on the calling thread.
+pub(crate) fn check_cycle_alone(
+    alloc: Global,
+    recording: &Recording,
+    rest: &mut Cursor<'_>,
+) -> Result<Finding, OutOfMemory>
+    ensures { IfOk result (λ f. (f ≡ Holds) ↔ IsProof recording.now (codes "cycle of " ++ rest.old)) }
+{
+    let relation = Relation::of(alloc, recording)?;
+    let places = Places::of(alloc, recording)?;
+    match read_certificate(rest, alloc, &places, &relation)? {
+        Ok(certificate) => {
+            let passes = check(&relation, &certificate);
+            Ok(finding_of(rest, &relation, &certificate, passes))
+        }
+        Err(fault) => Ok(fault),
+    }
+}

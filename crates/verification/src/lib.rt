@@ -16,4 +16,4 @@ mod text;
 
 pub use finding::Finding;
 pub use law::every_verdict_holds;
-pub use text::check_text;
+pub use text::{check_text, check_text_alone};

@@ -4,7 +4,7 @@ ghost use Rattle.std.specs.Prelude.{◌≡◌, ◌++◌, ◌↔◌, ℕ, List, I
 ghost use Rattle.verification.specs.declared.finding.Finding.TheVariants.{Holds};
 ghost use Rattle.verification.specs.Proof.{IsJudged, IsProof};
 
-use crate::certified::check_cycle;
+use crate::certified::{check_cycle, check_cycle_alone};
 use crate::cursor::Cursor;
 use crate::finding::Finding;
 use crate::law::every_verdict_holds;
@@ -54,6 +54,24 @@ pub fn check_text<R: Threads + Sync>(
     let mut rest = Cursor::new(text);
     if rest.take(b"cycle of ") {
         return check_cycle(rt, alloc, recording, &mut rest, workers);
+    }
+    check_line(alloc, recording, &mut rest)
+}
+
+/// The same, and it waits for nobody and starts no thread.
+pub fn check_text_alone(
+    alloc: Global,
+    recording: &Recording,
+    text: &[u8],
+) -> Result<Finding, OutOfMemory>
+    ensures exact { IfOk result (λ f. (f ≡ Holds) ↔ IsProof recording.now text.now) }
+    ensures judged { IfOk result (λ f. IsJudged recording.now text.now → f ≡ Holds) }
+{
+    recording.sound();
+    every_verdict_holds();
+    let mut rest = Cursor::new(text);
+    if rest.take(b"cycle of ") {
+        return check_cycle_alone(alloc, recording, &mut rest);
     }
     check_line(alloc, recording, &mut rest)
 }
