@@ -6,3 +6,4 @@ pub mod Asking
 pub mod Given
 pub mod Findings
 pub mod Surveyed
+pub mod Held

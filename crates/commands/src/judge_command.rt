@@ -15,8 +15,10 @@ use report::{Outcome, ReportError, answer};
 use std::alloc::Global;
 use std::sync::Wait;
 use std::thread::Threads;
+use verification::every_verdict_holds;
 
-/// Judges the recording of a named input, by as many workers as the options say, and writes the answer.
+/// Judges the recording of a named input, by as many workers as the options say, and writes the answer. Unless it is a
+/// refusal, it holds, as `check_text` says of it too.
 pub fn judge_command<R: Threads + Wait + Sync, P: Place, W: Sink>(
     rt: &R,
     alloc: Global,
@@ -37,6 +39,7 @@ pub fn judge_command<R: Threads + Wait + Sync, P: Place, W: Sink>(
     ensures writes { CountsBy failed_writes (W.write_failures out.old) (W.write_failures out.new) result }
     ensures unwritten { IfErr result (λ fault. fault ≢ CommandFault.WriteFailed → out.new ≡ out.old) }
 {
+    every_verdict_holds();
     let mut input = opened(alloc, place, options.file.as_str())?;
     let answered = answer(rt, alloc, &mut input, out, options.workers, &OpenGate);
     place.take_back(input);

@@ -2,7 +2,7 @@
 use Rattle.std.proofs.Common.{◌≡◌, ◌<◌, ◌≤◌, ◌++◌, ◌∷◌, ℕ, List, [], zero, suc, inl, inr, codes, decimal, length}
 use Rattle.std.proofs.Common.{get_or, arith, ap, sym, subst, ◌∙◌, append_assoc, append-nil}
 use Rattle.std.proofs.lemmas.Bool.{cases_lt}
-use Rattle.std.proofs.lemmas.List.{append_cancel_left, get_or_default, get_or_past}
+use Rattle.std.proofs.lemmas.List.{append_cancel_left, get_or_past}
 use Rattle.recording.specs.Execution.{Execution, event_count}
 use Rattle.relations.specs.Forced.{Forced}
 use Rattle.relations.specs.Cycle.{IsCertificate, IsCycle, Leads}
@@ -12,9 +12,9 @@ use Rattle.labels.specs.CertificateLaws.{certificates_are_shortest}
 use Rattle.labels.specs.declared.certificate.Certificate.{Certificate}
 use Rattle.judge.specs.declared.verdict.Verdict.{Verdict}
 use Rattle.judge.specs.declared.verdict.Verdict.TheVariants.{Ordered, Overlook, Cycle}
-use Rattle.judge.specs.Verdict.{IsCycleVerdict, IsVerdict, Verifies}
+use Rattle.judge.specs.Verdict.{Verifies}
 use Rattle.report.specs.Verdict.{ArePairLines, IsVerdictText, labels_text}
-use Rattle.verification.specs.Proof.{AreRows, AreShort, HasShortLabels, IsJudged, IsProof}
+use Rattle.verification.specs.Proof.{AreRows, AreShort, HasShortLabels, IsProof}
 use Rattle.verification.proofs.Heads.{one_byte}
 
 -- what a relation of numbers below n leads along is below n
@@ -97,40 +97,6 @@ module _ (x : Execution) (n : ℕ) (size : event_count x ≡ n) (few : n ≤ 512
           let other : 99 ≡ 111 = one_byte (codes "cycle of " ++ rest) _ 0 printed in absurd (omega (arith, other))
       of_verdict (Cycle c) printed verified short =
           (c.cycle.items, lists_of c.rows.items, parts c rest printed verified short)
-
-  -- the labels of the judge's verdict are short
-  verdict_short : (c : Certificate) → IsCycleVerdict x c.cycle.items (lists_of c.rows.items) → (v : ℕ)
-      → AreShort (get_or (lists_of c.rows.items) v [])
-  verdict_short c found v = elim (cases_lt v n) [
-    | inl low ↦ λ k d inside.
-        let row = get_or (lists_of c.rows.items) v [] in
-        let exact = found.exact.exact v (omega (arith, low, size)) in
-        let other : (d : List ℕ) × IsCycle (Forced x) d × (length d ≤ n) =
-        short_cycle (Forced x) n within c.cycle.items found.least.shortest.cycle in
-        omega (
-          arith,
-          few,
-          other.2,
-          found.least.shortest.shortest other.0 other.1,
-          (exact.labels k (omega (arith, inside, exact.one_each))).cap,
-          get_or_default row k d 0 inside,
-        )
-    | inr past ↦ subst AreShort
-        (sym (get_or_past (lists_of c.rows.items) v [] (omega (arith, past, size, found.exact.one_each))))
-        (λ k d none. absurd (omega (arith, none)))
-  ]
-
-  -- the judge's text that begins as a cycle is a proof
-  pub judged_cycle : (text : List ℕ) → IsJudged x text → IsProof x text
-  judged_cycle text judged = of_verdict judged.verdict judged.printed judged.verified judged.found
-    where
-      of_verdict : (v : Verdict) → IsVerdictText x v text → Verifies x v → IsVerdict x v → IsProof x text
-      of_verdict (Ordered m) printed verified found =
-          record { verdict = Ordered m; printed = printed; verified = verified; short = tt }
-      of_verdict (Overlook l s) printed verified found =
-          record { verdict = Overlook l s; printed = printed; verified = verified; short = tt }
-      of_verdict (Cycle c) printed verified found =
-          record { verdict = Cycle c; printed = printed; verified = verified; short = verdict_short c found }
 
   -- the proof of a cycle
   pub proof_of_cycle : (c : Certificate) (rest lines : List ℕ)

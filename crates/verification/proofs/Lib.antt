@@ -4,3 +4,4 @@ pub mod Pairs
 pub mod Labels
 pub mod Heads
 pub mod Certificates
+pub mod Judged

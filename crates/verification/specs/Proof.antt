@@ -1,11 +1,17 @@
 -- What a text has to be, that it holds of an execution.
-use Rattle.std.specs.Prelude.{◌≡◌, ◌<◌, ◌^◌, ℕ, List, [], length, slice_index_or, All, ⊤}
+use Rattle.std.specs.Prelude.{◌≡◌, ◌≢◌, ◌<◌, ◌^◌, ◌++◌, ◌↔◌, ℕ, List, [], length, slice_index_or, All, ⊤}
+use Rattle.std.specs.Prelude.{Result, Ok, Err, codes}
 use Rattle.recording.specs.Execution.{Execution}
-use Rattle.labels.specs.Certified.{lists_of}
+use Rattle.recording.specs.Recording.{IsRecording}
+use Rattle.relations.specs.Relation.{Table}
+use Rattle.labels.specs.Certified.{lists_of, Certifies}
+use Rattle.labels.specs.declared.certificate.Certificate.{Certificate}
 use Rattle.judge.specs.declared.verdict.Verdict.{Verdict}
 use Rattle.judge.specs.declared.verdict.Verdict.TheVariants.{Ordered, Overlook, Cycle}
 use Rattle.judge.specs.Verdict.{IsVerdict, Verifies}
 use Rattle.report.specs.Verdict.{IsVerdictText}
+use Rattle.verification.specs.declared.finding.Finding.{Finding}
+use Rattle.verification.specs.declared.finding.Finding.TheVariants.{Holds}
 
 -- numbers of 16 bits
 abbrev pub AreShort : List ℕ → Type 0
@@ -34,9 +40,18 @@ pub record IsProof (x : Execution) (text : List ℕ) : Type 0 where
   pub verified : Verifies x verdict
   pub short : HasShortLabels verdict
 
--- the text of the verdict on an execution, which passes its check
+-- what is read of the lines of a cycle: a certificate, with which they are a proof exactly where it certifies and
+-- nothing is left, or the fault of what is no proof
+abbrev pub IsReadCycle : Execution → Table → List ℕ → List ℕ → Result Certificate Finding → Type 0
+IsReadCycle x t before after (Ok c) = IsProof x (codes "cycle of " ++ before) ↔ (Certifies t c × (after ≡ []))
+IsReadCycle x t before after (Err fault) = (fault ≢ Holds) × ¬ IsProof x (codes "cycle of " ++ before)
+
+-- the text of the verdict on an execution
 pub record IsJudged (x : Execution) (text : List ℕ) : Type 0 where
   pub verdict : Verdict
   pub printed : IsVerdictText x verdict text
-  pub verified : Verifies x verdict
   pub found : IsVerdict x verdict
+
+-- the text of the verdict on a recording is a proof
+abbrev pub EveryVerdictHolds : Type 0
+EveryVerdictHolds = (x : Execution) (text : List ℕ) → IsRecording x → IsJudged x text → IsProof x text

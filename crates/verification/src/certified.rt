@@ -1,7 +1,7 @@
 //! The check of the lines of a cycle and its labels.
 
 ghost use Rattle.std.specs.Prelude.{◌≡◌, ◌≢◌, ◌<◌, ◌≤◌, ◌++◌, ◌∷◌, ◌↔◌, ℕ, List, Some, IfOk, IfSome, IsTrue};
-ghost use Rattle.std.specs.Prelude.{MatchOption, codes, decimal, length};
+ghost use Rattle.std.specs.Prelude.{[], MatchOption, codes, decimal, length};
 ghost use Rattle.common.specs.declared.limits.TheConstants.{MAX_EVENTS};
 ghost use Rattle.recording.specs.Execution.{event_count};
 ghost use Rattle.relations.specs.Forced.{Forced};
@@ -9,7 +9,7 @@ ghost use Rattle.relations.specs.Relation.{Related};
 ghost use Rattle.labels.specs.Certified.{Certifies};
 ghost use Rattle.report.specs.Verdict.{ArePairLines};
 ghost use Rattle.verification.specs.declared.finding.Finding.TheVariants.{Holds};
-ghost use Rattle.verification.specs.Proof.{AreShort, IsJudged, IsProof};
+ghost use Rattle.verification.specs.Proof.{AreShort, IsProof, IsReadCycle};
 
 use crate::cursor::Cursor;
 use crate::cycle::pairs;
@@ -96,24 +96,22 @@ fn fault_of(rest: &Cursor<'_>, relation: &Relation, certificate: &Certificate) -
     rest.fault()
 }
 
-/// Whether what is left is a cycle of forced pairs with labels that show that none is shorter.
-fn check_certificate<R: Threads + Sync>(
-    rt: &R,
+/// Takes a cycle of forced pairs and a row of labels for each event, whatever these are; else finds the fault.
+fn read_certificate(
+    rest: &mut Cursor<'_>,
     alloc: Global,
     places: &Places<'_>,
     relation: &Relation,
-    rest: &mut Cursor<'_>,
-    workers: usize,
-) -> Result<Finding, OutOfMemory>
+) -> Result<Result<Certificate, Finding>, OutOfMemory>
     requires related { (e f : ℕ) → Related relation.now e f ↔ Forced places.now e f }
     requires size { length relation.now ≡ event_count places.now }
-    ensures { IfOk result (λ f. (f ≡ Holds) ↔ IsProof places.now (codes "cycle of " ++ rest.old)) }
+    ensures { IfOk result (IsReadCycle places.now relation.now rest.old rest.new) }
 {
     relation.sound();
     relation_is_forced();
     let count = relation.len();
     let Some(events) = cycle(rest, alloc, places, count)? else {
-        return Ok(rest.fault());
+        return Ok(Err(rest.fault()));
     };
     let mut certificate = Certificate {
         cycle: events,
@@ -121,12 +119,24 @@ fn check_certificate<R: Threads + Sync>(
     };
     let all = rows(rest, alloc, count, &mut certificate.rows)?;
     if !all {
-        return Ok(fault_of(rest, relation, &certificate));
+        return Ok(Err(fault_of(rest, relation, &certificate)));
     }
-    if !certifies(rt, relation, &certificate, workers) {
-        return Ok(fault_of(rest, relation, &certificate));
+    Ok(Ok(certificate))
+}
+
+/// What is found of a certificate that passes its check, or doesn't, and of what is left.
+fn finding_of(
+    rest: &mut Cursor<'_>,
+    relation: &Relation,
+    certificate: &Certificate,
+    passes: bool,
+) -> Finding
+    ensures { (result ≡ Holds) ↔ (IsTrue passes × (rest.old ≡ [])) }
+{
+    if !passes {
+        return fault_of(rest, relation, certificate);
     }
-    Ok(rest.end())
+    rest.end()
 }
 
 /// Whether what is left is the cycle and the labels of a verdict that holds. Fails only if out of memory.
@@ -137,11 +147,34 @@ pub(crate) fn check_cycle<R: Threads + Sync>(
     rest: &mut Cursor<'_>,
     workers: usize,
 ) -> Result<Finding, OutOfMemory>
-    ensures exact { IfOk result (λ f. (f ≡ Holds) ↔ IsProof recording.now (codes "cycle of " ++ rest.old)) }
-    ensures judged { IfOk result (λ f. IsJudged recording.now (codes "cycle of " ++ rest.old) → f ≡ Holds) }
+    ensures { IfOk result (λ f. (f ≡ Holds) ↔ IsProof recording.now (codes "cycle of " ++ rest.old)) }
 {
     let relation = Relation::of(alloc, recording)?;
-    relation.sound();
     let places = Places::of(alloc, recording)?;
-    check_certificate(rt, alloc, &places, &relation, rest, workers)
+    match read_certificate(rest, alloc, &places, &relation)? {
+        Ok(certificate) => {
+            let passes = certifies(rt, &relation, &certificate, workers);
+            Ok(finding_of(rest, &relation, &certificate, passes))
+        }
+        Err(fault) => Ok(fault),
+    }
+}
+
+/// The same on the calling thread.
+pub(crate) fn check_cycle_alone(
+    alloc: Global,
+    recording: &Recording,
+    rest: &mut Cursor<'_>,
+) -> Result<Finding, OutOfMemory>
+    ensures { IfOk result (λ f. (f ≡ Holds) ↔ IsProof recording.now (codes "cycle of " ++ rest.old)) }
+{
+    let relation = Relation::of(alloc, recording)?;
+    let places = Places::of(alloc, recording)?;
+    match read_certificate(rest, alloc, &places, &relation)? {
+        Ok(certificate) => {
+            let passes = check(&relation, &certificate);
+            Ok(finding_of(rest, &relation, &certificate, passes))
+        }
+        Err(fault) => Ok(fault),
+    }
 }

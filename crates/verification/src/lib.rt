@@ -7,6 +7,7 @@ mod cycle;
 #[cfg(test)]
 mod examples;
 mod finding;
+mod law;
 mod numbers;
 mod ordered;
 mod overlooked;
@@ -14,4 +15,5 @@ mod rows;
 mod text;
 
 pub use finding::Finding;
-pub use text::check_text;
+pub use law::every_verdict_holds;
+pub use text::{check_text, check_text_alone};

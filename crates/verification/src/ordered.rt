@@ -1,15 +1,23 @@
 //! The check of the line of an order.
 
-ghost use Rattle.std.specs.Prelude.{◌≡◌, ◌++◌, ◌↔◌, IfOk, codes};
+ghost use Rattle.std.specs.Prelude.{◌≡◌, ◌++◌, ◌↔◌, IfOk, IsTrue, codes};
+ghost use Rattle.recording.specs.Tso.{IsTsoOrder};
 ghost use Rattle.verification.specs.declared.finding.Finding.TheVariants.{Holds};
 ghost use Rattle.verification.specs.Proof.{IsProof};
 
 use crate::cursor::Cursor;
 use crate::finding::Finding;
 use crate::numbers::numbers;
-use common::OutOfMemory;
+use common::{EventId, OutOfMemory};
 use recording::Recording;
 use std::alloc::Global;
+
+/// Whether a list of any numbers is a memory order of TSO.
+fn is_tso_order(recording: &Recording, events: &[EventId]) -> bool
+    ensures { IsTrue result ↔ IsTsoOrder recording.now events.now }
+{
+    order::check(recording, events)
+}
 
 /// Whether what is left is the order of a verdict that holds. Fails only if out of memory.
 pub(crate) fn check_order(
@@ -23,7 +31,7 @@ pub(crate) fn check_order(
     let Some(events) = numbers(rest, alloc, recording.len())? else {
         return Ok(rest.fault());
     };
-    if !order::check(recording, &events) {
+    if !is_tso_order(recording, &events) {
         return Ok(rest.fault());
     }
     Ok(rest.end())

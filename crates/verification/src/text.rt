@@ -1,18 +1,37 @@
 //! The check of a text.
 
-ghost use Rattle.std.specs.Prelude.{◌≡◌, ◌↔◌, IfOk};
+ghost use Rattle.std.specs.Prelude.{◌≡◌, ◌++◌, ◌↔◌, ℕ, List, IfOk, codes};
 ghost use Rattle.verification.specs.declared.finding.Finding.TheVariants.{Holds};
 ghost use Rattle.verification.specs.Proof.{IsJudged, IsProof};
 
-use crate::certified::check_cycle;
+use crate::certified::{check_cycle, check_cycle_alone};
 use crate::cursor::Cursor;
 use crate::finding::Finding;
+use crate::law::every_verdict_holds;
 use crate::ordered::check_order;
 use crate::overlooked::check_overlook;
 use common::OutOfMemory;
 use recording::Recording;
 use std::alloc::Global;
 use std::thread::Threads;
+
+/// Whether a text that doesn't begin as a cycle is that of a verdict that holds. Fails only if out of memory.
+fn check_line(
+    alloc: Global,
+    recording: &Recording,
+    rest: &mut Cursor<'_>,
+) -> Result<Finding, OutOfMemory>
+    requires { (more : List ℕ) → rest.old ≡ codes "cycle of " ++ more → ⊥ }
+    ensures { IfOk result (λ f. (f ≡ Holds) ↔ IsProof recording.now rest.old) }
+{
+    if rest.take(b"ordered:") {
+        return check_order(alloc, recording, rest);
+    }
+    if rest.take(b"overlook: load ") {
+        return Ok(check_overlook(recording, rest));
+    }
+    Ok(rest.fault())
+}
 
 /// Whether a text is that of a verdict that holds of a recording, whoever wrote it: the line of any memory
 /// order of TSO, of any read that overlooks a store, or any shortest cycle of forced pairs, each with its
@@ -30,15 +49,29 @@ pub fn check_text<R: Threads + Sync>(
     ensures exact { IfOk result (λ f. (f ≡ Holds) ↔ IsProof recording.now text.now) }
     ensures judged { IfOk result (λ f. IsJudged recording.now text.now → f ≡ Holds) }
 {
+    recording.sound();
+    every_verdict_holds();
     let mut rest = Cursor::new(text);
-    if rest.take(b"ordered:") {
-        return check_order(alloc, recording, &mut rest);
-    }
-    if rest.take(b"overlook: load ") {
-        return Ok(check_overlook(recording, &mut rest));
-    }
     if rest.take(b"cycle of ") {
         return check_cycle(rt, alloc, recording, &mut rest, workers);
     }
-    Ok(rest.fault())
+    check_line(alloc, recording, &mut rest)
+}
+
+/// The same, and it waits for nobody and starts no thread.
+pub fn check_text_alone(
+    alloc: Global,
+    recording: &Recording,
+    text: &[u8],
+) -> Result<Finding, OutOfMemory>
+    ensures exact { IfOk result (λ f. (f ≡ Holds) ↔ IsProof recording.now text.now) }
+    ensures judged { IfOk result (λ f. IsJudged recording.now text.now → f ≡ Holds) }
+{
+    recording.sound();
+    every_verdict_holds();
+    let mut rest = Cursor::new(text);
+    if rest.take(b"cycle of ") {
+        return check_cycle_alone(alloc, recording, &mut rest);
+    }
+    check_line(alloc, recording, &mut rest)
 }

@@ -1,0 +1,76 @@
+-- The text of the verdict on a recording is a proof.
+use Rattle.std.proofs.Common.{◌≡◌, ◌<◌, ◌≤◌, ◌↔◌, ℕ, List, [], inl, inr, length, get_or, arith, refl, sym, subst}
+use Rattle.std.specs.Prelude.{Result, IfOk}
+use Rattle.std.proofs.lemmas.Bool.{cases_lt}
+use Rattle.std.proofs.lemmas.List.{get_or_default, get_or_past}
+use Rattle.std.proofs.lemmas.Result.{IfOk-weaker}
+use Rattle.common.specs.declared.memory.OutOfMemory.{OutOfMemory}
+use Rattle.recording.specs.Execution.{Execution, event_count}
+use Rattle.recording.specs.Recording.{IsRecording}
+use Rattle.relations.specs.Forced.{Forced}
+use Rattle.relations.specs.Cycle.{IsCycle}
+use Rattle.relations.specs.CycleLaws.{short_cycle}
+use Rattle.relations.proofs.Agree.{forced_within}
+use Rattle.labels.specs.Certified.{lists_of}
+use Rattle.labels.specs.declared.certificate.Certificate.{Certificate}
+use Rattle.search.proofs.Cuts.{exact_certifies}
+use Rattle.judge.specs.declared.verdict.Verdict.{Verdict}
+use Rattle.judge.specs.declared.verdict.Verdict.TheVariants.{Ordered, Overlook, Cycle}
+use Rattle.judge.specs.Verdict.{IsCycleVerdict, IsOrderedVerdict, IsOverlookVerdict, IsVerdict}
+use Rattle.report.specs.Verdict.{IsVerdictText}
+use Rattle.verification.specs.declared.finding.Finding.{Finding}
+use Rattle.verification.specs.declared.finding.Finding.TheVariants.{Holds}
+use Rattle.verification.specs.Proof.{AreShort, EveryVerdictHolds, IsJudged, IsProof}
+
+module _ (x : Execution) (is : IsRecording x) where
+  -- forced pairs are pairs of events
+  within : (e f : ℕ) → Forced x e f → (e < event_count x) × (f < event_count x)
+  within e f forced = forced_within x is.well_formed forced.0 e f forced.1
+
+  -- the labels of the verdict are at most the length of its cycle, and so short
+  labels_short : (c : Certificate) → IsCycleVerdict x c.cycle.items (lists_of c.rows.items) → (v : ℕ)
+      → AreShort (get_or (lists_of c.rows.items) v [])
+  labels_short c found v = elim (cases_lt v (event_count x)) [
+    | inl low ↦ λ k d inside.
+        let exact = found.exact.exact v low in
+        let other : (d : List ℕ) × IsCycle (Forced x) d × (length d ≤ event_count x) =
+        short_cycle (Forced x) (event_count x) within c.cycle.items found.least.shortest.cycle in
+        let few : event_count x ≤ 512 = is.within.few_events in
+        omega (
+          arith,
+          few,
+          other.2,
+          found.least.shortest.shortest other.0 other.1,
+          (exact.labels k (omega (arith, inside, exact.one_each))).cap,
+          get_or_default (get_or (lists_of c.rows.items) v []) k d 0 inside,
+        )
+    | inr past ↦ subst AreShort
+        (sym (get_or_past (lists_of c.rows.items) v [] (omega (arith, past, found.exact.one_each))))
+        (λ k d none. absurd (omega (arith, none)))
+  ]
+
+  -- the text of a verdict is a proof
+  proof_of : (text : List ℕ) (v : Verdict) → IsVerdictText x v text → IsVerdict x v → IsProof x text
+  proof_of text (Ordered m) printed found =
+      let ordered : IsOrderedVerdict x m.items = found in
+      record { verdict = Ordered m; printed = printed; verified = ordered.order; short = tt }
+  proof_of text (Overlook l s) printed found =
+      let overlook : IsOverlookVerdict x l s = found in
+      record { verdict = Overlook l s; printed = printed; verified = overlook.least.overlooks; short = tt }
+  proof_of text (Cycle c) printed found =
+      let cycle : IsCycleVerdict x c.cycle.items (lists_of c.rows.items) = found in record {
+        verdict = Cycle c;
+        printed = printed;
+        verified = exact_certifies (Forced x) (event_count x) (length c.cycle.items) (lists_of c.rows.items)
+            c.cycle.items within cycle.least.shortest refl cycle.exact;
+        short = labels_short c cycle;
+      }
+
+-- the law
+pub judged_is_proof : EveryVerdictHolds
+judged_is_proof x text is judged = proof_of x is text judged.verdict judged.printed judged.found
+
+-- so what is said of a text exactly where it is a proof is said of that of the verdict
+pub judged_holds : (x : Execution) (text : List ℕ) → IsRecording x → EveryVerdictHolds → (r : Result Finding OutOfMemory)
+    → IfOk r (λ f. (f ≡ Holds) ↔ IsProof x text) → IfOk r (λ f. IsJudged x text → f ≡ Holds)
+judged_holds x text is law r exact = IfOk-weaker r _ _ (λ f says judged. says.1 (law x text is judged)) exact
