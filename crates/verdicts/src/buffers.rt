@@ -61,7 +61,8 @@ fn a_text_holds_or_not(rt: HostRuntime) -> Result<(), Fail> {
 }
 
 /// Two orders with an empty line between them, an overlook, and no recording.
-const LINES: &[u8] = b"{\"cores\":[[{\"a\":0,\"k\":\"S\",\"w\":1}]],\"version\":1,\"writes\":[[0]]}\n\n\
+const LINES: &[u8] =
+    b"{\"cores\":[[{\"a\":0,\"k\":\"S\",\"w\":1}]],\"version\":1,\"writes\":[[0]]}\n\n\
     {\"cores\":[],\"version\":1,\"writes\":[]}\n\
     {\"cores\":[[{\"a\":0,\"k\":\"S\",\"w\":1},{\"a\":0,\"k\":\"L\",\"r\":0,\"s\":null}]],\"version\":1,\"writes\":[[0]]}\n{}";
 

@@ -8,7 +8,8 @@ ghost use Rattle.verdicts.specs.Judged.{AreTooMany, AreWritten, FailsFor, HoldsO
 mod buffers;
 
 use report::{
-    Answer, FAILS, HOLDS, OUT_OF_MEMORY, Outcome, REFUSED, TOO_LONG, WRITTEN, answer_alone, read_or_refuse,
+    Answer, FAILS, HOLDS, OUT_OF_MEMORY, Outcome, REFUSED, TOO_LONG, WRITTEN, answer_alone,
+    read_or_refuse,
 };
 use std::alloc::Global;
 use surveys::codes_of_lines;

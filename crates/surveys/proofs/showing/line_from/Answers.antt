@@ -11,8 +11,8 @@ filled-init g c =
     (sym c.new-block.ensures.items) (not_yet left c.args.number) in
     record { before = before; reads = refl; size = refl }
 
-pub returns-in_ok-read_rest-in-Found-clause-read : goal.returns-in_ok-read_rest-in-Found-clause-read
-returns-in_ok-read_rest-in-Found-clause-read g c =
+pub returns-in-Found-clause-read : goal.returns-in-Found-clause-read
+returns-in-Found-clause-read g c =
     there _ (g.R.Source.left c.filled.source) (g.R.Source.left c.fill.new.source) c.args.number c.filled.left
     c.filled.counted c.filled.block.items c.fill.new.block.items c.filled.invariant.before
     c.in_ok-fill.ensures.gathered (g.R.Source.left c.read_rest.new.source) c.in_ok-read_rest.ensures.read.0

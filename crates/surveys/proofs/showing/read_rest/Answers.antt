@@ -7,7 +7,7 @@ pub filled-init : goal.filled-init
 filled-init g c = record {
   read = ([], Consumes-nil (g.R.Source.left c.args.source.now));
   reads = refl;
-  empty = c.clear.ensures;
+  empty = c.clear.ensures.items;
   size = refl;
 }
 
@@ -16,7 +16,7 @@ filled-preserved g c = record {
   read = read_on _ (g.R.Source.left c.filled.source) _ c.filled.block.items c.fill.new.block.items
       c.filled.invariant.read c.in_ok-fill.ensures.gathered;
   reads = c.in_ok-fill.ensures.count ∙ c.filled.invariant.reads;
-  empty = c.clear-2.ensures;
+  empty = c.clear-in-filled.ensures.items;
   size = c.fill.ensures.kept ∙ c.filled.invariant.size;
 }
 
