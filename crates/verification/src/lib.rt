@@ -4,8 +4,6 @@
 mod certified;
 mod cursor;
 mod cycle;
-#[cfg(test)]
-mod examples;
 mod finding;
 mod law;
 mod numbers;
