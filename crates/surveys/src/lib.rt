@@ -18,7 +18,6 @@ pub use counting::findings_of;
 pub use each::each_text;
 pub use error::SurveyError;
 pub use judged::finding_of_line;
-pub use law::a_survey_is_one;
 pub use ledger::{Finding, Ledger};
 pub use lines::next_lines;
 pub use report::survey_text;

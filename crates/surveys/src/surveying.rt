@@ -6,12 +6,15 @@ ghost use Rattle.std.specs.Io.KnownBytes.{IsAtEnd};
 ghost use Rattle.devices.specs.Bytes.{CanGrow, CountsBy};
 ghost use Rattle.ledger.specs.Counts.{IsLedger};
 ghost use Rattle.surveys.specs.Lines.{IsWhole};
+ghost use Rattle.surveys.specs.OneSurvey.{EveryLineHasOneFinding, EverySurveyCountsTheSame};
+ghost use Rattle.surveys.specs.OneSurvey.{EverySurveyTellsTheSame};
 ghost use Rattle.surveys.specs.Surveys.{IsSurvey, IsSurveyOfRead, failed_reads, failed_writes};
 ghost use Rattle.surveys.specs.Tallies.{Ends, Grows, IsTallied, IsTally};
 
 use crate::counting::count_all;
 use crate::error::SurveyError;
 use crate::filling::{PIECE, fill, keep_rest, last_end};
+use crate::law::a_survey_is_one;
 use common::Gate;
 use devices::{Sink, Source};
 use ledger::Ledger;
@@ -130,7 +133,8 @@ fn count_blocks<T: Threads + Sync, R: Source, W: Sink, G: Gate>(
 /// order; where each is told, its line is written to the sink. The calling thread is a worker, and does what
 /// others leave out. The gate is told as by `findings_of`, by the numbers of the recordings, from 0. `ReadFailed`
 /// exactly where a read failed, and `WriteFailed` where a write did; where none is told, nothing is written. The memory is that of a block, or of the
-/// longest line, whatever the length.
+/// longest line, whatever the length. One thing is found in a line, however often and by however many workers it is
+/// judged, so any two surveys of the same bytes count and tell the same.
 pub fn survey<T: Threads + Sync, R: Source, W: Sink, G: Gate>(
     rt: &T,
     alloc: Global,
@@ -151,7 +155,11 @@ pub fn survey<T: Threads + Sync, R: Source, W: Sink, G: Gate>(
     ensures reads { CountsBy failed_reads (R.read_failures source.old) (R.read_failures source.new) result }
     ensures writes { CountsBy failed_writes (W.write_failures sink.old) (W.write_failures sink.new) result }
     ensures silent { each ≢ true → sink.new ≡ sink.old }
+    ensures findings { EveryLineHasOneFinding }
+    ensures counts { EverySurveyCountsTheSame }
+    ensures texts { EverySurveyTellsTheSame }
 {
+    a_survey_is_one();
     let mut ledger = Ledger::count(alloc, &[])?;
     let Ok(mut piece) = Vec::from_elem(alloc, 0u8, PIECE) else {
         return Err(SurveyError::OutOfMemory);
