@@ -74,20 +74,20 @@ fn a_failed_read_is_told(rt: HostRuntime) -> Result<(), Fail> {
     Ok(())
 }
 
-/// Whether the line of this number is this one.
+/// Whether the line of this number is this one, and all was read.
 fn is_line(alloc: Global, number: usize, line: &[u8]) -> bool {
     let mut source = MemorySource::new(LINES);
     match line_of(alloc, &mut source, number) {
-        Ok(Some(found)) => found.as_slice() == line,
+        Ok(Some(found)) => found.as_slice() == line && source.is_ended(),
         _ => false,
     }
 }
 
-/// Whether there is no line of this number.
+/// Whether there is no line of this number, and all was read.
 fn is_none(alloc: Global, number: usize) -> bool {
     let mut source = MemorySource::new(LINES);
     match line_of(alloc, &mut source, number) {
-        Ok(found) => found.is_none(),
+        Ok(found) => found.is_none() && source.is_ended(),
         Err(_) => false,
     }
 }
