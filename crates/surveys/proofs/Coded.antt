@@ -3,7 +3,7 @@ use Rattle.std.proofs.Common.{◌≡◌, ◌++◌, ◌∷◌, ◌∙◌, [], ℕ
 use Rattle.std.proofs.lemmas.List.{append-nil, map-append}
 use Rattle.ledger.specs.declared.finding.Finding.{Finding}
 use Rattle.ledger.specs.Findings.{finding_code}
-use Rattle.surveys.specs.Coded.{AreCodes, AreCodesUpTo, AreLineCodes}
+use Rattle.surveys.specs.Coded.{AreFindingCodes, AreCodesUpTo, AreLineCodes}
 use Rattle.surveys.specs.Found.{AreFindings, codes_of}
 use Rattle.surveys.specs.Lines.{IsCut, IsSplit, is_some_line, lines}
 use Rattle.surveys.proofs.Found.{findings_append}
@@ -15,7 +15,7 @@ none_coded bytes = ([], refl, record { findings = []; found = tt; are = refl })
 
 -- after the last
 pub all_coded : (bytes rest codes : List ℕ) → rest ≡ [] → AreCodesUpTo bytes rest codes → AreLineCodes bytes codes
-all_coded bytes rest codes nothing is = subst (λ (ls : List (List ℕ)). AreCodes ls codes)
+all_coded bytes rest codes nothing is = subst (λ (ls : List (List ℕ)). AreFindingCodes ls codes)
     (sym (is.1 ∙ (ap (λ (left : List ℕ). is.0 ++ lines left) nothing ∙ append-nil is.0))) is.2
 
 -- with the codes of the next line

@@ -5,15 +5,15 @@ use Rattle.surveys.specs.Found.{AreFindings, codes_of}
 use Rattle.surveys.specs.Lines.{IsCut, lines}
 
 -- the codes of what is found in lines, in order
-pub record AreCodes (all : List (List ℕ)) (codes : List ℕ) : Type 0 where
+pub record AreFindingCodes (all : List (List ℕ)) (codes : List ℕ) : Type 0 where
   pub findings : List Finding
   pub found : AreFindings all findings
   pub are : codes ≡ codes_of findings
 
 -- in all lines of the bytes
 abbrev pub AreLineCodes : List ℕ → List ℕ → Type 0
-AreLineCodes bytes codes = AreCodes (lines bytes) codes
+AreLineCodes bytes codes = AreFindingCodes (lines bytes) codes
 
 -- in all lines of the bytes but those of the rest
 abbrev pub AreCodesUpTo : List ℕ → List ℕ → List ℕ → Type 0
-AreCodesUpTo bytes rest codes = (front : List (List ℕ)) × IsCut bytes front rest × AreCodes front codes
+AreCodesUpTo bytes rest codes = (front : List (List ℕ)) × IsCut bytes front rest × AreFindingCodes front codes

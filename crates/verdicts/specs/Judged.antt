@@ -43,7 +43,7 @@ pub record AreWritten (bytes old new : List ℕ) (n : ℕ) : Type 0 where
   pub written : new ≡ codes ++ drop n old
 
 -- the codes of the recordings of the lines, n of them, have no room in the buffer
-pub record AreTooMany (bytes old : List ℕ) (n : ℕ) : Type 0 where
+pub record AreTooManyCodes (bytes old : List ℕ) (n : ℕ) : Type 0 where
   pub codes : List ℕ
   pub are : AreLineCodes bytes codes
   pub count : n ≡ length codes

@@ -2,7 +2,7 @@
 #![tactic(auto)]
 
 ghost use Rattle.std.specs.Prelude.{◌≡◌, ◌≢◌, ◌≤◌, ◌⊎◌};
-ghost use Rattle.verdicts.specs.Judged.{AreTooMany, AreWritten, FailsFor, HoldsOf, IsRefused, IsTooLong, IsWritten};
+ghost use Rattle.verdicts.specs.Judged.{AreTooManyCodes, AreWritten, FailsFor, HoldsOf, IsRefused, IsTooLong, IsWritten};
 
 #[cfg(test)]
 mod buffers;
@@ -91,7 +91,7 @@ pub extern "C" fn verdicts_survey(
     // The numbers are those that a caller in C has: no constant stands for them.
     ensures status { (result ≡ 0) ⊎ (result ≡ 2) ⊎ (result ≡ 3) }
     ensures written { result ≡ 0 → AreWritten lines.now codes.old codes.new count.new }
-    ensures too_many { result ≡ 2 → AreTooMany lines.now codes.old count.new }
+    ensures too_many { result ≡ 2 → AreTooManyCodes lines.now codes.old count.new }
     ensures unwritten { result ≢ 0 → codes.new ≡ codes.old }
     ensures no_count { result ≡ 3 → count.new ≡ 0 }
 {
