@@ -1,3 +1,2 @@
-pub mod Agreed
-pub mod Pairs
+pub mod Below
 pub mod Rows

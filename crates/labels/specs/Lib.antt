@@ -1,3 +1,2 @@
 pub mod Certified
-pub mod Agreed
 pub mod CertificateLaws

@@ -19,7 +19,7 @@ fn largest(labels: &[u16]) -> u16
 }
 
 /// Whether the label grows by one at most from an event to each that it is forced before.
-pub(crate) fn grows_from(relation: &Relation, from: EventId, labels: &[u16]) -> bool
+fn grows_from(relation: &Relation, from: EventId, labels: &[u16]) -> bool
     requires from { from < length relation.now }
     requires one_each { length labels.now ≡ length relation.now }
     ensures { IsTrue result ↔ ((f : ℕ) → Related relation.now from f
@@ -52,13 +52,7 @@ fn grows(relation: &Relation, labels: &[u16]) -> bool
 }
 
 /// Whether an event, where it is forced before `v`, has a label of at least the length less one.
-pub(crate) fn closes_from(
-    relation: &Relation,
-    size: usize,
-    from: EventId,
-    v: EventId,
-    labels: &[u16],
-) -> bool
+fn closes_from(relation: &Relation, size: usize, from: EventId, v: EventId, labels: &[u16]) -> bool
     requires from { from < length relation.now }
     requires one_each { length labels.now ≡ length relation.now }
     ensures { IsTrue result ↔ (Related relation.now from v
