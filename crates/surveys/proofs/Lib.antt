@@ -4,4 +4,4 @@ pub mod Found
 pub mod Tallied
 pub mod Blocks
 pub mod Shown
-pub mod Coded
+pub mod LineCodes
