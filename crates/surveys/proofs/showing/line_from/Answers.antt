@@ -15,8 +15,8 @@ pub returns-in-Found-clause-read : goal.returns-in-Found-clause-read
 returns-in-Found-clause-read g c =
     there _ (g.R.Source.left c.filled.source) (g.R.Source.left c.fill.new.source) c.args.number c.filled.left
     c.filled.counted c.filled.block.items c.fill.new.block.items c.filled.invariant.before
-    c.in_ok-fill.ensures.gathered (g.R.Source.left c.read_rest.new.source) c.in_ok-read_rest.ensures.read.0
-    c.line_in_whole.new.block.items c.in_ok-sought.end c.in_ok-sought.sought _ c.in_ok-read_rest.ensures.read.1
+    c.in_ok-fill.ensures.gathered (g.R.Source.left c.read_rest.new.source) c.in_ok-read_rest-in-Found.ensures.read.0
+    c.line_in_whole.new.block.items c.in_ok-sought.end c.in_ok-sought.sought _ c.in_ok-read_rest-in-Found.ensures.read.1
     c.in_ok-sought.ensures c.in-Found.is
 
 pub filled-smaller : goal.filled-smaller
