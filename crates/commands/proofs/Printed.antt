@@ -1,10 +1,14 @@
 -- What is printed, from what is answered.
-use Rattle.std.proofs.Common.{◌≡◌, ◌∷◌, [], inl, inr, sym, subst, ℕ, List, Option, Result, Ok, Err, IfOk, IfErr}
+use Rattle.std.proofs.Common.{◌≡◌, ◌≢◌, ◌∷◌, [], inl, inr, sym, subst, ℕ, List, Option, Result, Ok, Err, IfOk, IfErr}
 use Rattle.std.specs.Prelude.{string_bytes}
 use Rattle.command_line.specs.declared.options.JudgeOptions.{JudgeOptions}
 use Rattle.command_line.specs.declared.options.OptionFault.{OptionFault}
 use Rattle.command_line.specs.declared.options.Options.{Options}
-use Rattle.command_line.specs.declared.options.Options.TheVariants.{Judge}
+use Rattle.command_line.specs.declared.options.Options.TheVariants.{Judge, Survey}
+use Rattle.command_line.specs.declared.options.SurveyOptions.{SurveyOptions}
+use Rattle.command_line.specs.Commands.{command_of}
+use Rattle.command_line.specs.Options.{AreOptions, IsFault}
+use Rattle.clap.specs.Words.{Text}
 use Rattle.devices.specs.declared.place.Tally.{Tally}
 use Rattle.report.specs.declared.outcome.Outcome.{Outcome}
 use Rattle.report.specs.declared.printed.Answer.{Answer}
@@ -16,31 +20,67 @@ use Rattle.commands.specs.Judge.{IsJudgedInput}
 use Rattle.commands.specs.Names.{names_of}
 use Rattle.commands.specs.Output.{IsBegun, IsPut}
 use Rattle.commands.specs.Perform.{IsAnswerTo, IsCommandStop, IsHelp, IsOptionStop, IsPrintedFor}
-use Rattle.commands.specs.Perform.{IsPrintedWithout, IsShown}
+use Rattle.commands.specs.Perform.{IsPrintedWithout, IsShown, IsWritten, IsWrittenFor}
+use Rattle.commands.specs.Survey.{IsEachWritten}
 
 -- what a command writes itself is what is printed for its options
 pub written_printed : (inputs : List ℕ → Option (List ℕ)) (o : Options) (s : Seen) (before after : Option (List ℕ))
     (r : Result Outcome CommandFault) → IfOk r (IsPut (IsAnswerTo inputs o) before after)
-    → IfOk r (λ outcome. AreRead (names_of o) s) → IfOk r (IsPut (IsPrintedFor inputs o s) before after)
-written_printed inputs o s before after (Ok outcome) put read = record {
+    → IfOk r (λ outcome. AreRead (names_of o) s) → IfOk r (IsWrittenFor inputs o s before after)
+written_printed inputs o s before after (Ok outcome) put read = inl (record {
   answer = put.answer;
   is = inl (put.is, read);
   outcome_is = put.outcome_is;
   written = put.written;
-}
+})
 written_printed inputs o s before after (Err fault) put read = tt
+
+-- so is what is put for them
+pub put_written : (inputs : List ℕ → Option (List ℕ)) (o : Options) (s : Seen) (before after : Option (List ℕ))
+    (r : Result Outcome CommandFault) → IfOk r (IsPut (IsPrintedFor inputs o s) before after)
+    → IfOk r (IsWrittenFor inputs o s before after)
+put_written inputs o s before after (Ok outcome) put = inl put
+put_written inputs o s before after (Err fault) put = tt
+
+-- and so are the lines of recordings
+pub told_written : (inputs : List ℕ → Option (List ℕ)) (o : SurveyOptions) (s : Seen) (before after : Option (List ℕ))
+    (r : Result Outcome CommandFault) → IfOk r (IsEachWritten inputs o before after)
+    → ReadsInput (string_bytes o.file) s r → IfOk r (IsWrittenFor inputs (Survey o) s before after)
+told_written inputs o s before after (Ok outcome) written read = inr (written, read)
+told_written inputs o s before after (Err fault) written reads = tt
+
+-- what is written for options is written for the words that give them
+pub words_written : (inputs : List ℕ → Option (List ℕ)) (words : List Text) (o : Options) (s : Seen)
+    (before after : Option (List ℕ)) (r : Result Outcome CommandFault) → AreOptions o (command_of words)
+    → IfOk r (IsWrittenFor inputs o s before after) → IfOk r (IsWritten inputs words s before after)
+words_written inputs words o s before after (Ok outcome) are written = elim written [
+  | inl put ↦ inl (record {
+    answer = put.answer;
+    is = inl (o, are, put.is);
+    outcome_is = put.outcome_is;
+    written = put.written;
+  })
+  | inr told ↦ inr (o, are, told)
+]
+words_written inputs words o s before after (Err fault) are written = tt
+
+-- and what is written without options
+pub fault_written : (inputs : List ℕ → Option (List ℕ)) (words : List Text) (f : OptionFault) (s : Seen)
+    (before after : Option (List ℕ)) (r : Result Outcome CommandFault) → IsFault f words
+    → IfOk r (IsPut (IsPrintedWithout f s) before after) → IfOk r (IsWritten inputs words s before after)
+fault_written inputs words f s before after (Ok outcome) is put = inl (record {
+  answer = put.answer;
+  is = inr (f, is, put.is);
+  outcome_is = put.outcome_is;
+  written = put.written;
+})
+fault_written inputs words f s before after (Err fault) is put = tt
 
 -- all was read where judge answers
 pub judged_read : {X : Type 0} (names : List (List ℕ)) (s : Seen) (r : Result X CommandFault) → ReadsAll names s r
     → IfOk r (λ x. AreRead names s)
 judged_read names s (Ok x) read = read
 judged_read names s (Err fault) reads = tt
-
--- and where survey does
-pub surveyed_read : {X : Type 0} (name : List ℕ) (s : Seen) (r : Result X CommandFault) → ReadsInput name s r
-    → IfOk r (λ x. AreRead (name ∷ []) s)
-surveyed_read name s (Ok x) read = read
-surveyed_read name s (Err fault) reads = tt
 
 -- and so is what it began to write
 pub judged_begun : (inputs : List ℕ → Option (List ℕ)) (o : JudgeOptions) (s : Seen)
@@ -75,17 +115,7 @@ shown_after inputs o a b c t u v answered printed asked tally is stops reads sho
     (subst (λ (x : Option (List (List ℕ))). IsPrintedFor inputs o (seen a x t u) printed) (sym asked)
     (shown_printed inputs o (seen a b t u) answered printed is stops reads shown))
 
--- what is put is put as more than it is known for
-pub put_more : (P Q : Answer → Type 0) (before after : Option (List ℕ)) (r : Result Outcome CommandFault)
-    → ((answer : Answer) → P answer → Q answer) → IfOk r (IsPut P before after) → IfOk r (IsPut Q before after)
-put_more P Q before after (Ok outcome) more put = record {
-  answer = put.answer;
-  is = more put.answer put.is;
-  outcome_is = put.outcome_is;
-  written = put.written;
-}
-put_more P Q before after (Err fault) more put = tt
-
+-- what is begun is begun as more than it is known for
 pub begun_more : (P Q : Answer → Type 0) (before after : Option (List ℕ))
     → ((answer : Answer) → P answer → Q answer) → IsBegun P before after → IsBegun Q before after
 begun_more P Q before after more begun = record {
@@ -94,6 +124,13 @@ begun_more P Q before after more begun = record {
   count = begun.count;
   written = begun.written;
 }
+
+-- nothing is written where all of the answer is printed at once
+pub unwritten_more : (r : Result Outcome CommandFault) (early at_once same : Type 0) → (at_once → early → ⊥)
+    → IfErr r (λ fault. fault ≢ WriteFailed → (early → ⊥) → same)
+    → IfErr r (λ fault. fault ≢ WriteFailed → at_once → same)
+unwritten_more (Ok outcome) early at_once same not is = tt
+unwritten_more (Err fault) early at_once same not is = λ other once. is other (not once)
 
 -- what is shown without options
 pub shown_without : (fault : OptionFault) (s : Seen) (answered : Result Answer Stop) (printed : Answer)

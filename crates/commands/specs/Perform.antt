@@ -1,5 +1,5 @@
 -- What the words of a command line are answered.
-use Rattle.std.specs.Prelude.{◌≡◌, ◌≢◌, ◌⊎◌, ◌+◌, [], ℕ, List, Option, Some, None, Result, Ok, Err, ⊤}
+use Rattle.std.specs.Prelude.{◌≡◌, ◌≢◌, ◌⊎◌, ◌+◌, ◌∷◌, [], ℕ, List, Option, Some, None, Result, Ok, Err, ⊤}
 use Rattle.std.specs.Prelude.{option_map, string_bytes}
 use Rattle.clap.specs.Words.{Text, kind_of}
 use Rattle.clap.specs.declared.error.Error.{Error}
@@ -13,8 +13,9 @@ use Rattle.report.specs.declared.printed.Answer.{Answer}
 use Rattle.answers.specs.declared.told.Telling.TheVariants.{Words, Picture, Reduction}
 use Rattle.commands.specs.declared.stop.Stop.{Stop}
 use Rattle.commands.specs.declared.stop.Stop.TheVariants.{Refused, Fault}
+use Rattle.report.specs.declared.outcome.Outcome.{Outcome}
 use Rattle.report.specs.declared.outcome.Outcome.TheVariants.{Done}
-use Rattle.report.specs.declared.outcome.Outcome.TheVariants as Outcome
+use Rattle.report.specs.declared.outcome.Outcome.TheVariants as out
 use Rattle.devices.specs.declared.place.Tally.{Tally}
 use Rattle.commands.specs.declared.fault.CommandFault.{CommandFault}
 use Rattle.commands.specs.declared.fault.CommandFault.TheVariants.{CommandLine, NoThread, Stranger}
@@ -40,7 +41,8 @@ use Rattle.commands.specs.Refusal.{IsReadingStop, option_line, step_fault_name}
 use Rattle.commands.specs.Run.{IsRun, IsLive}
 use Rattle.commands.specs.Trials.{IsTrials}
 use Rattle.commands.specs.Verify.{IsVerified, IsVerifyStop}
-use Rattle.commands.specs.Survey.{IsSurveyOf, IsSurveyStop, TellsEach}
+use Rattle.commands.specs.Output.{IsPut}
+use Rattle.commands.specs.Survey.{IsEachWritten, IsSurveyOf, IsSurveyStop, TellsEach}
 
 -- the script of this name is refused for the program, or isn't read
 abbrev pub IsScriptStop : (List ℕ → Option (List ℕ)) → Parts → List ℕ → Stop → Type 0
@@ -131,7 +133,7 @@ IsOptionStop other (Fault fault) = ⊥
 
 -- a line of refusal as it is printed
 abbrev pub IsLine : Stop → Answer → Type 0
-IsLine (Refused refusal) answer = (answer.outcome ≡ Outcome.Refused) × (answer.text.items ≡ string_bytes refusal.line)
+IsLine (Refused refusal) answer = (answer.outcome ≡ out.Refused) × (answer.text.items ≡ string_bytes refusal.line)
 IsLine (Fault fault) answer = ⊥
 
 -- what is printed for what is answered
@@ -159,6 +161,19 @@ abbrev pub IsPrintedFor : (List ℕ → Option (List ℕ)) → Options → Seen 
 IsPrintedFor inputs o s answer = (IsAnswerTo inputs o answer × AreRead (names_of o) s)
     ⊎ ((stop : Stop) × IsCommandStop inputs o stop × AreStopped (names_of o) stop s × IsLine stop answer)
 
+-- the lines of recordings and their counts were written, by all of the input
+abbrev pub IsToldFor : (List ℕ → Option (List ℕ)) → Options → Seen → Option (List ℕ) → Option (List ℕ) → Outcome
+    → Type 0
+IsToldFor inputs (Survey o) s before after outcome = IsEachWritten inputs o before after outcome
+    × AreRead (string_bytes o.file ∷ []) s
+IsToldFor inputs other s before after outcome = ⊥
+
+-- what was written for these options, and how it came out
+abbrev pub IsWrittenFor : (List ℕ → Option (List ℕ)) → Options → Seen → Option (List ℕ) → Option (List ℕ)
+    → Outcome → Type 0
+IsWrittenFor inputs o s before after outcome = IsPut (IsPrintedFor inputs o s) before after outcome
+    ⊎ IsToldFor inputs o s before after outcome
+
 -- why nothing is printed for these options, or not all
 abbrev pub IsFaultFor : (List ℕ → Option (List ℕ)) → Options → Seen → CommandFault → Type 0
 IsFaultFor inputs o s WriteFailed = ⊤
@@ -174,6 +189,12 @@ abbrev pub IsPrinted : (List ℕ → Option (List ℕ)) → List Text → Seen �
 IsPrinted inputs words s answer =
     ((o : Options) × AreOptions o (command_of words) × IsPrintedFor inputs o s answer)
     ⊎ ((fault : OptionFault) × IsFault fault words × IsPrintedWithout fault s answer)
+
+-- what was written for the words, and how it came out
+abbrev pub IsWritten : (List ℕ → Option (List ℕ)) → List Text → Seen → Option (List ℕ) → Option (List ℕ) → Outcome
+    → Type 0
+IsWritten inputs words s before after outcome = IsPut (IsPrinted inputs words s) before after outcome
+    ⊎ ((o : Options) × AreOptions o (command_of words) × IsToldFor inputs o s before after outcome)
 
 -- why nothing is printed for the words, or not all
 abbrev pub IsFaultOf : (List ℕ → Option (List ℕ)) → List Text → Seen → CommandFault → Type 0

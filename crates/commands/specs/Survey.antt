@@ -1,6 +1,7 @@
 -- What survey answers.
-use Rattle.std.specs.Prelude.{◌≡◌, ◌≤◌, ◌++◌, ◌∷◌, [], ℕ, List, Option, None, Some, Bool, true, codes, length, string_bytes}
+use Rattle.std.specs.Prelude.{◌≡◌, ◌≢◌, ◌≤◌, ◌++◌, ◌∷◌, [], ℕ, List, Option, None, Some, Bool, true, false, codes, length, string_bytes}
 use Rattle.std.specs.Prelude.{⊤}
+use Rattle.std.specs.Io.KnownBytes.{Appends}
 use Rattle.command_line.specs.declared.options.SurveyOptions.{SurveyOptions}
 use Rattle.ledger.specs.declared.finding.Finding.{Finding}
 use Rattle.ledger.specs.declared.ledger.Ledger.{Ledger}
@@ -8,8 +9,13 @@ use Rattle.ledger.specs.Counts.{IsLedger}
 use Rattle.surveys.specs.Found.{AreFindings, codes_of}
 use Rattle.surveys.specs.Lines.{lines}
 use Rattle.surveys.specs.Shown.{IsLineAt, IsLineOf}
-use Rattle.surveys.specs.Surveys.{IsSurvey, told_text}
+use Rattle.surveys.specs.Each.{each_text}
+use Rattle.surveys.specs.Surveys.{IsSurvey}
+use Rattle.report.specs.Counted.{survey_text}
 use Rattle.report.specs.declared.printed.Answer.{Answer}
+use Rattle.report.specs.declared.outcome.Outcome.{Outcome}
+use Rattle.report.specs.declared.outcome.Outcome.TheVariants as out
+use Rattle.answers.specs.Campaign.{ledger_outcome}
 use Rattle.answers.specs.Survey.{IsLineAnswer, IsSurveyAnswer}
 use Rattle.commands.specs.declared.fault.CommandFault.{CommandFault}
 use Rattle.commands.specs.declared.fault.CommandFault.TheVariants.{TooLong, WriteFailed}
@@ -28,18 +34,28 @@ pub record IsCountedInput (inputs : List ℕ → Option (List ℕ)) (name : List
   pub given : AreBytesOf inputs name bytes
   pub survey : IsSurvey bytes ledger each before after
 
--- the lines of the named input's recordings, where each is told, and the counts of what is found in them
-pub record IsSurveyed (inputs : List ℕ → Option (List ℕ)) (name : List ℕ) (each : Bool) (answer : Answer) : Type 0 where
+-- the counts of what is found in the lines of the named input
+pub record IsSurveyed (inputs : List ℕ → Option (List ℕ)) (name : List ℕ) (answer : Answer) : Type 0 where
   pub bytes : List ℕ
   pub given : AreBytesOf inputs name bytes
   pub findings : List Finding
   pub found : AreFindings (lines bytes) findings
   pub ledger : Ledger
   pub counted : IsLedger (codes_of findings) ledger
-  pub counts : Answer
-  pub answered : IsSurveyAnswer each ledger counts
-  pub outcome : answer.outcome ≡ counts.outcome
-  pub text : answer.text.items ≡ told_text each 0 findings ++ counts.text.items
+  pub answered : IsSurveyAnswer false ledger answer
+
+-- a line of what is found in each line of the named input was written, in order, an empty line, and their counts
+pub record IsEachWritten (inputs : List ℕ → Option (List ℕ)) (o : SurveyOptions) (before after : Option (List ℕ))
+    (outcome : Outcome) : Type 0 where
+  pub tells : TellsEach o
+  pub bytes : List ℕ
+  pub given : AreBytesOf inputs (string_bytes o.file) bytes
+  pub findings : List Finding
+  pub found : AreFindings (lines bytes) findings
+  pub ledger : Ledger
+  pub counted : IsLedger (codes_of findings) ledger
+  pub outcome_is : outcome ≡ ledger_outcome out.Refused ledger
+  pub written : Appends before after (each_text 0 findings ++ 10 ∷ survey_text ledger)
 
 -- the answer to recording k of the named input
 pub record IsShownLine (inputs : List ℕ → Option (List ℕ)) (o : SurveyOptions) (k : ℕ) (answer : Answer) : Type 0 where
@@ -51,10 +67,10 @@ pub record IsShownLine (inputs : List ℕ → Option (List ℕ)) (o : SurveyOpti
 
 -- the answer, by the recording that is to be shown
 abbrev pub IsSurveyBy : (List ℕ → Option (List ℕ)) → SurveyOptions → Option ℕ → Answer → Type 0
-IsSurveyBy inputs o None answer = IsSurveyed inputs (string_bytes o.file) o.each answer
+IsSurveyBy inputs o None answer = (o.each ≢ true) × IsSurveyed inputs (string_bytes o.file) answer
 IsSurveyBy inputs o (Some k) answer = IsShownLine inputs o k answer
 
--- the answer of survey
+-- the answer of survey, where no recording is told
 abbrev pub IsSurveyOf : (List ℕ → Option (List ℕ)) → SurveyOptions → Answer → Type 0
 IsSurveyOf inputs o answer = IsSurveyBy inputs o o.show answer
 

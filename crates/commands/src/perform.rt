@@ -9,7 +9,7 @@ ghost use Rattle.commands.specs.Names.{names_of};
 ghost use Rattle.commands.specs.Output.{IsBegun, IsPut, failed_writes};
 ghost use Rattle.commands.specs.Perform.{IsAnswerTo, IsCommandStop, IsFaultFor, IsFaultOf, IsHelp, IsNoJudge};
 ghost use Rattle.commands.specs.Perform.{IsOptionStop, IsPrinted, IsPrintedFor, IsPrintedWithout, IsShown};
-ghost use Rattle.commands.specs.Perform.{PrintsAtOnce, PrintsEarly, Tallies};
+ghost use Rattle.commands.specs.Perform.{IsWritten, IsWrittenFor, PrintsAtOnce, PrintsEarly, Tallies};
 ghost use Rattle.commands.specs.Survey.{TellsEach};
 
 use crate::fault::CommandFault;
@@ -146,13 +146,14 @@ fn performed<R: Threads + Wait + Sync, P: Place, W: Sink>(
     requires options { (command : Option (Text × List Row)) × AreOptions options.now command }
     requires inputs { CanRead (P.tally place.old) }
     requires output { CanGrow (W.write_failures out.old) }
-    ensures printed { IfOk result (IsPut (IsPrintedFor (P.bytes place.old) options.now (seen (P.asked place.old)
-        (P.asked place.new) (P.tally place.old) (P.tally place.new))) (W.written out.old) (W.written out.new)) }
+    ensures printed { IfOk result (IsWrittenFor (P.bytes place.old) options.now (seen (P.asked place.old)
+        (P.asked place.new) (P.tally place.old) (P.tally place.new)) (W.written out.old) (W.written out.new)) }
     ensures begun { result ≡ Err CommandFault.WriteFailed → (PrintsEarly options.now → ⊥) → IsBegun (IsPrintedFor
         (P.bytes place.old) options.now (seen (P.asked place.old) (P.asked place.new) (P.tally place.old)
         (P.tally place.new))) (W.written out.old) (W.written out.new) }
     ensures fault { IfErr result (IsFaultFor (P.bytes place.old) options.now (seen (P.asked place.old)
         (P.asked place.new) (P.tally place.old) (P.tally place.new))) }
+    ensures reads { Tallies (P.tally place.old) (P.tally place.new) result }
     ensures writes { CountsBy failed_writes (W.write_failures out.old) (W.write_failures out.new) result }
     ensures unwritten { IfErr result (λ fault. fault ≢ CommandFault.WriteFailed → (PrintsEarly options.now → ⊥)
         → out.new ≡ out.old) }
@@ -202,8 +203,8 @@ pub fn perform<R: Threads + Wait + Sync, P: Place, W: Sink>(
 ) -> Result<Outcome, CommandFault>
     requires inputs { CanRead (P.tally place.old) }
     requires output { CanGrow (W.write_failures out.old) }
-    ensures printed { IfOk result (IsPut (IsPrinted (P.bytes place.old) (map string_bytes words.now)
-        (seen (P.asked place.old) (P.asked place.new) (P.tally place.old) (P.tally place.new))) (W.written out.old)
+    ensures printed { IfOk result (IsWritten (P.bytes place.old) (map string_bytes words.now)
+        (seen (P.asked place.old) (P.asked place.new) (P.tally place.old) (P.tally place.new)) (W.written out.old)
         (W.written out.new)) }
     ensures begun { result ≡ Err CommandFault.WriteFailed → PrintsAtOnce (map string_bytes words.now) → IsBegun
         (IsPrinted (P.bytes place.old) (map string_bytes words.now) (seen (P.asked place.old) (P.asked place.new)

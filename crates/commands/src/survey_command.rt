@@ -5,9 +5,9 @@ ghost use Rattle.devices.specs.Bytes.{CanGrow, CountsBy};
 ghost use Rattle.surveys.specs.Surveys.{IsSurveyOfRead};
 ghost use Rattle.surveys.specs.Surveys as errors;
 ghost use Rattle.commands.specs.Inputs.{CanRead, Reads, ReadsInput, seen};
-ghost use Rattle.commands.specs.Output.{IsPut, failed_writes};
-ghost use Rattle.commands.specs.Survey.{IsCountedInput, IsEachFault, IsLineOfInput, IsSurveyBy, IsSurveyFault};
-ghost use Rattle.commands.specs.Survey.{IsSurveyOf, IsSurveyStop, IsSurveyStopBy, IsSurveyed, TellsEach};
+ghost use Rattle.commands.specs.Output.{failed_writes};
+ghost use Rattle.commands.specs.Survey.{IsCountedInput, IsEachFault, IsEachWritten, IsLineOfInput, IsSurveyBy};
+ghost use Rattle.commands.specs.Survey.{IsSurveyFault, IsSurveyOf, IsSurveyStop, IsSurveyStopBy, IsSurveyed, TellsEach};
 
 use crate::fault::CommandFault;
 use crate::inputs::opened;
@@ -92,7 +92,7 @@ pub fn each_command<R: Threads + Sync, P: Place, W: Sink>(
     requires told { TellsEach options.now }
     requires inputs { CanRead (P.tally place.old) }
     requires output { CanGrow (W.write_failures out.old) }
-    ensures whole { IfOk result (IsPut (IsSurveyOf (P.bytes place.old) options.now) (W.written out.old)
+    ensures whole { IfOk result (IsEachWritten (P.bytes place.old) options.now (W.written out.old)
         (W.written out.new)) }
     ensures fault { IfErr result (IsEachFault (P.bytes place.old) options.now) }
     ensures reads { ReadsInput (string_bytes options.now.file) (seen (P.asked place.old) (P.asked place.new)
@@ -112,7 +112,7 @@ fn counts_answer<R: Threads + Sync, P: Place>(
     place: &mut P,
 ) -> Result<Answer, CommandFault>
     requires { CanRead (P.tally place.old) }
-    ensures ok { IfOk result (IsSurveyed (P.bytes place.old) (string_bytes options.now.file) false) }
+    ensures ok { IfOk result (IsSurveyed (P.bytes place.old) (string_bytes options.now.file)) }
     ensures fault { IfErr result (IsSurveyFault (P.bytes place.old) options.now) }
     ensures reads { ReadsInput (string_bytes options.now.file) (seen (P.asked place.old) (P.asked place.new)
         (P.tally place.old) (P.tally place.new)) result }

@@ -1,19 +1,31 @@
 use Rattle.std.proofs.Common.{inl, inr}
-use Rattle.commands.proofs.Printed.{begun_more, put_more}
+use Rattle.commands.specs.Inputs.{seen}
+use Rattle.commands.proofs.Printed.{begun_more, fault_written, unwritten_more, words_written}
 use Rattle.commands.proofs.perform.perform.Goals as goal
 
 pub returns-in-Ok-clause-printed : goal.returns-in-Ok-clause-printed
-returns-in-Ok-clause-printed g c = put_more _ _ _ _ c.performed.result
-    (λ answer is. inl (c.in-Ok.options, c.in-Ok.ensures.ok, is)) c.performed.ensures.printed
+returns-in-Ok-clause-printed g c =
+    words_written (g.P.Place.bytes c.args.place.now) _ c.in-Ok.options
+    (seen (g.P.Place.asked c.args.place.now) (g.P.Place.asked c.performed.new.place)
+    (g.P.Place.tally c.args.place.now) (g.P.Place.tally c.performed.new.place)) (g.W.Sink.written c.args.out.now)
+    (g.W.Sink.written c.performed.new.out) c.performed.result c.in-Ok.ensures.ok c.performed.ensures.printed
 
 pub returns-in-Ok-clause-begun : goal.returns-in-Ok-clause-begun
 returns-in-Ok-clause-begun g c failed at_once = begun_more _ _ _ _
     (λ answer is. inl (c.in-Ok.options, c.in-Ok.ensures.ok, is))
     (c.performed.ensures.begun failed (at_once c.in-Ok.options c.in-Ok.ensures.ok))
 
+pub returns-in-Ok-clause-unwritten : goal.returns-in-Ok-clause-unwritten
+returns-in-Ok-clause-unwritten g c = unwritten_more c.performed.result _ _ _
+    (λ at_once early. at_once c.in-Ok.options c.in-Ok.ensures.ok early) c.performed.ensures.unwritten
+
 pub returns-in-Err-clause-printed : goal.returns-in-Err-clause-printed
-returns-in-Err-clause-printed g c = put_more _ _ _ _ c.explained_options.result
-    (λ answer is. inr (c.in-Err.fault, c.in-Err.ensures.err, is)) c.explained_options.ensures.printed
+returns-in-Err-clause-printed g c =
+    fault_written (g.P.Place.bytes c.args.place.now) _ c.in-Err.fault
+    (seen (g.P.Place.asked c.args.place.now) (g.P.Place.asked c.explained_options.new.place)
+    (g.P.Place.tally c.args.place.now) (g.P.Place.tally c.explained_options.new.place))
+    (g.W.Sink.written c.args.out.now) (g.W.Sink.written c.explained_options.new.out) c.explained_options.result
+    c.in-Err.ensures.err c.explained_options.ensures.printed
 
 pub returns-in-Err-clause-begun : goal.returns-in-Err-clause-begun
 returns-in-Err-clause-begun g c failed at_once = begun_more _ _ _ _
