@@ -1,11 +1,11 @@
-use Rattle.std.proofs.Common.{inl, inr}
+use Rattle.std.proofs.Common.{inl, inr, map, string_bytes}
 use Rattle.commands.specs.Inputs.{seen}
 use Rattle.commands.proofs.Printed.{begun_more, fault_written, unwritten_more, words_written}
 use Rattle.commands.proofs.perform.perform.Goals as goal
 
 pub returns-in-Ok-clause-printed : goal.returns-in-Ok-clause-printed
 returns-in-Ok-clause-printed g c =
-    words_written (g.P.Place.bytes c.args.place.now) _ c.in-Ok.options
+    words_written (g.P.Place.bytes c.args.place.now) (map string_bytes c.args.words.now) c.in-Ok.options
     (seen (g.P.Place.asked c.args.place.now) (g.P.Place.asked c.performed.new.place)
     (g.P.Place.tally c.args.place.now) (g.P.Place.tally c.performed.new.place)) (g.W.Sink.written c.args.out.now)
     (g.W.Sink.written c.performed.new.out) c.performed.result c.in-Ok.ensures.ok c.performed.ensures.printed
@@ -21,7 +21,7 @@ returns-in-Ok-clause-unwritten g c = unwritten_more c.performed.result _ _ _
 
 pub returns-in-Err-clause-printed : goal.returns-in-Err-clause-printed
 returns-in-Err-clause-printed g c =
-    fault_written (g.P.Place.bytes c.args.place.now) _ c.in-Err.fault
+    fault_written (g.P.Place.bytes c.args.place.now) (map string_bytes c.args.words.now) c.in-Err.fault
     (seen (g.P.Place.asked c.args.place.now) (g.P.Place.asked c.explained_options.new.place)
     (g.P.Place.tally c.args.place.now) (g.P.Place.tally c.explained_options.new.place))
     (g.W.Sink.written c.args.out.now) (g.W.Sink.written c.explained_options.new.out) c.explained_options.result
