@@ -10,7 +10,7 @@ use Rattle.judge.specs.declared.verdict.Verdict.TheVariants.{Ordered, Overlook, 
 use Rattle.judge.specs.Verdict.{IsVerdict}
 use Rattle.reduction.specs.Needed.{IsReduction}
 use Rattle.explanation.specs.Explanation.{IsExplanation}
-use Rattle.explanation.specs.Drawing.{IsDrawing}
+use Rattle.drawing.specs.Drawing.{IsDrawing}
 use Rattle.report.specs.declared.printed.Answer.{Answer}
 use Rattle.report.specs.Answer.{outcome_of}
 use Rattle.answers.specs.declared.told.Telling.{Telling}

@@ -5,14 +5,15 @@ ghost use Rattle.std.specs.Prelude.{◌≡◌, ◌≤◌, IfOk, IfSome, option_m
 ghost use Rattle.std.specs.List.{range_with_len};
 ghost use Rattle.judge.specs.declared.verdict.Verdict.{Verdict};
 ghost use Rattle.judge.specs.Verdict.{IsVerdict, Verifies};
-ghost use Rattle.explanation.specs.Drawing.{IsDrawing};
+ghost use Rattle.drawing.specs.Drawing.{IsDrawing};
 ghost use Rattle.answers.specs.Told.{IsPicture, IsTelling, IsToldAnswer, IsWholeDrawing, names_of};
 ghost use Rattle.explanation.specs.Explanation.{IsExplanation};
 ghost use Rattle.machine.specs.ProgramOf.{IsProgramOf};
 
 use crate::reduced::reduced_answer;
 use common::{EventId, OutOfMemory};
-use explanation::{drawing_text, explanation_text};
+use drawing::drawing_text;
+use explanation::explanation_text;
 use indexmap::IndexSet;
 use judge::{Verdict, judge_alone};
 use program::{Name, Program, address_names};

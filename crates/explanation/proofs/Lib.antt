@@ -1,4 +1,2 @@
 pub mod ToldWords
-pub mod Texts
-pub mod Places
 pub mod Makings

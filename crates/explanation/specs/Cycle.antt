@@ -9,7 +9,7 @@ use Rattle.relations.specs.declared.reason.Reason.TheVariants.{Po, Wo, Rf, Fr}
 use Rattle.relations.specs.Forced.{IsReason}
 use Rattle.relations.specs.Cycle.{behind}
 use Rattle.explanation.specs.Diy.{IsDiyLine}
-use Rattle.explanation.specs.Events.{event_line, indent, written_text}
+use Rattle.event_texts.specs.Events.{event_line, indent, written_text}
 
 -- why an event comes before another, which writes this address
 abbrev pub reason_text : Reason → List ℕ → List ℕ

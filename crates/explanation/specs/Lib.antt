@@ -1,13 +1,6 @@
-pub mod Events
 pub mod Diy
 pub mod Cycle
 pub mod Overlook
 pub mod Order
 pub mod Program
 pub mod Explanation
-pub mod Edges
-pub mod Bold
-pub mod Gaps
-pub mod Nodes
-pub mod Ranks
-pub mod Drawing

@@ -7,7 +7,7 @@ use Rattle.recording.specs.declared.event.Event.{Event}
 use Rattle.recording.specs.declared.event.Event.TheVariants.{L, S, R, C, F}
 use Rattle.recording.specs.Execution.{Execution, event_at, write_list}
 use Rattle.recording.specs.Order.{place}
-use Rattle.explanation.specs.Events.{event_line, indent, address_text}
+use Rattle.event_texts.specs.Events.{event_line, indent, address_text}
 
 -- where the write of a value stands in the order m: before the event, or behind it, and then the value was
 -- forwarded

@@ -4,7 +4,7 @@ use Rattle.program.specs.declared.name.Name.{Name}
 use Rattle.recording.specs.Event.{written_address}
 use Rattle.recording.specs.Execution.{Execution, event_at, source_of}
 use Rattle.explanation.specs.Diy.{overlook_line}
-use Rattle.explanation.specs.Events.{event_line, indent, written_text}
+use Rattle.event_texts.specs.Events.{event_line, indent, written_text}
 
 -- what is said first of an overlook
 abbrev pub overlook_heading : ℕ → ℕ → List ℕ

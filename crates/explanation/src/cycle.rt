@@ -3,16 +3,13 @@
 ghost use Rattle.std.specs.Prelude.{◌≡◌, ◌++◌, ℕ, List, OnOk, Some, codes, length};
 ghost use Rattle.relations.specs.Cycle.{IsCycle};
 ghost use Rattle.relations.specs.Forced.{Forced, IsReason};
-ghost use Rattle.explanation.specs.Events.{written_text};
+ghost use Rattle.event_texts.specs.Events.{written_text};
 ghost use Rattle.explanation.specs.Cycle.{reason_text, reason_line, cycle_heading, IsLink, AreLinks};
 ghost use Rattle.explanation.specs.Cycle.{SaysCycle};
 
 use crate::diy::put_diy;
-use crate::events::put_written;
-use crate::lines::{put_before, put_indent, put_line};
-use crate::numbers::put_text_and_number;
-use crate::pieces::put_text;
 use common::{Addr, EventId, OutOfMemory};
+use event_texts::{put_before, put_indent, put_line, put_text, put_text_and_number, put_written};
 use indexmap::IndexSet;
 use program::Name;
 use recording::Recording;

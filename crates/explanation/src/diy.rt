@@ -9,9 +9,8 @@ ghost use Rattle.explanation.specs.Diy.{IsDiyLine, IsStep, AreWordSteps, accesse
 ghost use Rattle.explanation.specs.Diy.{is_fence, is_plain, letter, pair_text, side_text, told_from, word};
 ghost use Rattle.explanation.specs.Diy.{IsNamedBehind, words_from, diy_line, overlook_line};
 
-use crate::lines::event_of;
-use crate::pieces::put_text;
 use common::{Addr, EventId, OutOfMemory};
+use event_texts::{event_of, put_text};
 use recording::{Event, Recording};
 use relations::{Places, Reason, behind};
 use std::alloc::Global;

@@ -2,15 +2,12 @@
 
 ghost use Rattle.std.specs.Prelude.{◌≡◌, ◌++◌, OnOk, codes, decimal};
 ghost use Rattle.std.specs.List.{flat_map};
-ghost use Rattle.explanation.specs.Events.{address_text};
+ghost use Rattle.event_texts.specs.Events.{address_text};
 ghost use Rattle.explanation.specs.Order.{source_words, read_line, write_words, write_line, fence_line};
 ghost use Rattle.explanation.specs.Order.{lawful_lines, placed_lines, order_text};
 
-use crate::events::put_address;
-use crate::lines::{event_of, put_indent, put_line};
-use crate::numbers::{put_number, put_text_and_number};
-use crate::pieces::put_text;
 use common::{Addr, EventId, OutOfMemory};
+use event_texts::{event_of, put_address, put_indent, put_line, put_number, put_text, put_text_and_number};
 use indexmap::IndexSet;
 use program::Name;
 use recording::{Event, Recording, place};

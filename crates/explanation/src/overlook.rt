@@ -4,15 +4,12 @@ ghost use Rattle.std.specs.Prelude.{◌≡◌, ◌++◌, OnOk, codes, decimal};
 ghost use Rattle.recording.specs.Event.{written_address};
 ghost use Rattle.recording.specs.Execution.{event_at, source_of};
 ghost use Rattle.explanation.specs.Diy.{overlook_line};
-ghost use Rattle.explanation.specs.Events.{written_text};
+ghost use Rattle.event_texts.specs.Events.{written_text};
 ghost use Rattle.explanation.specs.Overlook.{overlook_heading, store_line, instead_lines, overlook_text};
 
 use crate::diy::put_overlook_line;
-use crate::events::put_written;
-use crate::lines::{event_of, put_before, put_indent, put_line};
-use crate::numbers::{put_number, put_text_and_number};
-use crate::pieces::put_text;
 use common::{Addr, EventId, OutOfMemory};
+use event_texts::{event_of, put_before, put_indent, put_line, put_number, put_text, put_text_and_number, put_written};
 use indexmap::IndexSet;
 use program::Name;
 use recording::Recording;

@@ -1,13 +1,14 @@
 -- What a table of the forced pairs gives is what the forced pairs have.
-use Rattle.std.proofs.Common.{◌≡◌, ℕ, List, length, subst}
+use Rattle.std.proofs.Common.{◌≡◌, ℕ, List, length, sym, subst}
 use Rattle.recording.specs.Execution.{Execution, event_count}
 use Rattle.relations.specs.Forced.{Forced}
 use Rattle.relations.specs.Relation.{Table, Related}
 use Rattle.relations.specs.Cycle.{IsCycle, IsLeastCycle, AreExactRows, IsCertificate}
-use Rattle.relations.specs.Respects.{IsLeastOrder}
-use Rattle.relations.specs.Verdict.{HasNoOrder, HasNoOverlook}
+use Rattle.relations.specs.CycleLaws.{cycle_into}
+use Rattle.relations.specs.Respects.{Respects, IsLeastOrder}
+use Rattle.relations.specs.Verdict.{HasNoOrder, HasNoOverlook, RespectsForced}
 use Rattle.relations.specs.Laws.{Agree, EveryOrderRespects, EveryRespectingIsOrder, OrderedIsAcyclic}
-use Rattle.relations.specs.Laws.{LeastOrdersAgree, LeastCyclesAgree, ExactRowsAgree, CertificatesAgree}
+use Rattle.relations.specs.Laws.{LeastCyclesAgree, ExactRowsAgree, CertificatesAgree}
 use Rattle.recording.specs.Tso.{IsWellFormed}
 use Rattle.labels.specs.Certified.{lists_of}
 use Rattle.labels.specs.declared.certificate.Certificate.{Certificate}
@@ -20,13 +21,10 @@ no_order x formed respects acyclic c cycle m tso = acyclic (event_count x) m (re
 
 module _ (x : Execution) (t : Table) (related : Agree (Related t) (Forced x))
     (size : length t ≡ event_count x) where
-  -- the first order
-  pub least_order : LeastOrdersAgree (Related t) (Forced x) → (s : Table) → s ≡ t → (m : List ℕ)
-      → IsLeastOrder (Related s) (length s) m → IsLeastOrder (Forced x) (event_count x) m
-  least_order agree s same m least =
-      let here : IsLeastOrder (Related t) (length t) m =
-      subst (λ (u : Table). IsLeastOrder (Related u) (length u) m) same least in
-      (agree related (event_count x) m).0 (subst (λ (n : ℕ). IsLeastOrder (Related t) n m) size here)
+  -- a cycle of forced pairs is one of the same table
+  pub cyclic : (s : Table) → s ≡ t → (c : List ℕ) × IsCycle (Forced x) c → (c : List ℕ) × IsCycle (Related s) c
+  cyclic s same c = subst (λ (u : Table). (d : List ℕ) × IsCycle (Related u) d) (sym same)
+      (c.0, cycle_into (Forced x) (Related t) (λ e f forced. (related e f).1 forced) c.0 c.1)
 
   -- the certificate of the same table
   same_certificate : (s : Table) → s ≡ t → (c : Certificate) → IsLeastCertificate s c → IsLeastCertificate t c
@@ -56,20 +54,6 @@ module _ (x : Execution) (t : Table) (related : Agree (Related t) (Forced x))
       (subst (λ (n : ℕ). IsCertificate (Related t) n c.cycle.items (lists_of c.rows.items)) size
       (same_certificate s same c least).certified)
 
-  -- the verdict of the first order
-  pub ordered_verdict : LeastOrdersAgree (Related t) (Forced x) → EveryOrderRespects x
-      → EveryRespectingIsOrder x → OrderedIsAcyclic (Forced x) → IsWellFormed x → HasNoOverlook x
-      → (s : Table) → s ≡ t → (m : List ℕ) → IsLeastOrder (Related s) (length s) m → IsOrderedVerdict x m
-  ordered_verdict agree respects enough acyclic formed none s same m found =
-      let least = least_order agree s same m found in
-      record {
-        order = enough m formed none least.respects;
-        first = λ other tso. least.least other (respects other formed tso).0;
-        least = least;
-        no_overlook = none;
-        no_cycle = acyclic (event_count x) m least.respects;
-      }
-
   -- the verdict of a certificate
   pub cycle_verdict : LeastCyclesAgree (Related t) (Forced x) → ExactRowsAgree (Related t) (Forced x)
       → EveryOrderRespects x → OrderedIsAcyclic (Forced x) → IsWellFormed x → HasNoOverlook x
@@ -83,3 +67,24 @@ module _ (x : Execution) (t : Table) (related : Agree (Related t) (Forced x))
         no_overlook = none;
         no_order = no_order x formed respects acyclic c.cycle.items least.shortest.cycle;
       }
+
+-- the verdict of the first order of forced pairs from which all follow
+pub ordered_verdict : (x : Execution) (t : Table) → length t ≡ event_count x
+    → ((e f : ℕ) → Related t e f → Forced x e f)
+    → ((m : List ℕ) → Respects (Related t) (event_count x) m → RespectsForced x m)
+    → EveryOrderRespects x → EveryRespectingIsOrder x → OrderedIsAcyclic (Forced x) → IsWellFormed x
+    → HasNoOverlook x → (m : List ℕ) → IsLeastOrder (Related t) (length t) m → IsOrderedVerdict x m
+ordered_verdict x t size forced follow respects enough acyclic formed none m found =
+    let here : IsLeastOrder (Related t) (event_count x) m =
+    subst (λ (n : ℕ). IsLeastOrder (Related t) n m) size found in
+    let all : RespectsForced x m = follow m here.respects in
+    record {
+      order = enough m formed none all;
+      first = λ other tso. here.least other (fewer other (respects other formed tso).0);
+      least = record { respects = all; least = λ other r. here.least other (fewer other r) };
+      no_overlook = none;
+      no_cycle = acyclic (event_count x) m all;
+    }
+  where
+    fewer : (other : List ℕ) → RespectsForced x other → Respects (Related t) (event_count x) other
+    fewer other r = record { total = r.total; related = λ e f h. r.related e f (forced e f h) }

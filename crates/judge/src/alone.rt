@@ -1,9 +1,11 @@
 //! The judge on the calling thread.
 
-ghost use Rattle.std.specs.Prelude.{ℕ, List, IfOk};
+ghost use Rattle.std.specs.Prelude.{ℕ, List, IfNone, IfOk, IfSome};
 ghost use Rattle.std.specs.Arc.{arc_value};
 ghost use Rattle.relations.specs.Cycle.{IsCycle};
+ghost use Rattle.relations.specs.Forced.{Forced};
 ghost use Rattle.relations.specs.Relation.{Related};
+ghost use Rattle.relations.specs.Verdict.{HasNoOverlook};
 ghost use Rattle.judge.specs.Verdict.{IsVerdict, IsLeastCertificate, Verifies};
 
 use crate::verdict::Verdict;
@@ -15,6 +17,31 @@ use relations::{Relation, forced_is_exact, ordered_is_acyclic, overlook, relatio
 use search::shortest_cycle;
 use std::alloc::Global;
 use std::sync::Arc;
+
+/// The verdict on a recording that has an overlook or a memory order; none where it has no overlook and a cycle. An
+/// error is want of memory.
+pub(crate) fn acyclic_verdict(
+    alloc: Global,
+    recording: &Recording,
+) -> Result<Option<Verdict>, OutOfMemory>
+    ensures verdict { IfOk result (λ found. IfSome found (IsVerdict recording.now)) }
+    ensures verified { IfOk result (λ found. IfSome found (Verifies recording.now)) }
+    ensures no_overlook { IfOk result (λ found. IfNone found (HasNoOverlook recording.now)) }
+    ensures cyclic { IfOk result (λ found. IfNone found
+        ((c : List ℕ) × IsCycle (Forced recording.now) c)) }
+{
+    recording.sound();
+    forced_is_exact();
+    ordered_is_acyclic();
+    if let Some((load, store)) = overlook(recording) {
+        return Ok(Some(Verdict::Overlook { load, store }));
+    }
+    let direct = Relation::direct(alloc, recording)?;
+    match build(alloc, &direct)? {
+        Some(order) => Ok(Some(Verdict::Ordered(order))),
+        None => Ok(None),
+    }
+}
 
 /// The certificate of a relation that has a cycle.
 fn least_certificate(alloc: Global, relation: &Arc<Relation>) -> Result<Certificate, OutOfMemory>
@@ -39,12 +66,11 @@ pub fn judge_alone(alloc: Global, recording: &Recording) -> Result<Verdict, OutO
     forced_is_exact();
     ordered_is_acyclic();
     relation_is_forced();
-    if let Some((load, store)) = overlook(recording) {
-        return Ok(Verdict::Overlook { load, store });
-    }
-    let relation = Arc::new(alloc, Relation::of(alloc, recording)?)?;
-    match build(alloc, &relation)? {
-        Some(order) => Ok(Verdict::Ordered(order)),
-        None => Ok(Verdict::Cycle(least_certificate(alloc, &relation)?)),
+    match acyclic_verdict(alloc, recording)? {
+        Some(verdict) => Ok(verdict),
+        None => {
+            let relation = Arc::new(alloc, Relation::of(alloc, recording)?)?;
+            Ok(Verdict::Cycle(least_certificate(alloc, &relation)?))
+        }
     }
 }

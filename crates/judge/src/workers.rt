@@ -6,12 +6,12 @@ ghost use Rattle.relations.specs.Cycle.{IsCycle};
 ghost use Rattle.relations.specs.Relation.{Related};
 ghost use Rattle.judge.specs.Verdict.{IsVerdict, IsLeastCertificate, Verifies};
 
+use crate::alone::acyclic_verdict;
 use crate::verdict::Verdict;
 use common::{Gate, MAX_WORKERS, OpenGate, OutOfMemory};
 use labels::Certificate;
-use order::build;
 use recording::Recording;
-use relations::{Relation, forced_is_exact, ordered_is_acyclic, overlook, relation_is_forced};
+use relations::{Relation, forced_is_exact, ordered_is_acyclic, relation_is_forced};
 use search::shortest_cycle_by;
 use std::alloc::Global;
 use std::sync::{Arc, Wait};
@@ -53,13 +53,13 @@ pub fn judge_gated<R: Threads + Wait + Sync, G: Gate>(
     forced_is_exact();
     ordered_is_acyclic();
     relation_is_forced();
-    if let Some((load, store)) = overlook(recording) {
-        return Ok(Verdict::Overlook { load, store });
-    }
-    let relation = Arc::new(alloc, Relation::of(alloc, recording)?)?;
-    match build(alloc, &relation)? {
-        Some(order) => Ok(Verdict::Ordered(order)),
-        None => Ok(Verdict::Cycle(least_certificate_by(rt, alloc, &relation, workers, gate)?)),
+    match acyclic_verdict(alloc, recording)? {
+        Some(verdict) => Ok(verdict),
+        None => {
+            let relation = Arc::new(alloc, Relation::of(alloc, recording)?)?;
+            let certificate = least_certificate_by(rt, alloc, &relation, workers, gate)?;
+            Ok(Verdict::Cycle(certificate))
+        }
     }
 }
 

@@ -14,7 +14,7 @@ use Rattle.relations.specs.Filled.{TellsForced, AreFilled}
 use Rattle.relations.specs.declared.placed.Placed.{Placed}
 use Rattle.relations.specs.Relation.{Row, Table, table_of, sets_of, relates, Related}
 use Rattle.bitrow.specs.Bits.{is_in}
-use Rattle.relations.proofs.Filled.{filled_tells}
+use Rattle.relations.proofs.Filled.{filled_forced}
 use Rattle.relations.proofs.Tables.{row_size, sets_same, table_size}
 use Rattle.relations.proofs.Written.{writes_listed, source_writes, source_within}
 
@@ -60,21 +60,28 @@ no_reason x e f (Some r) h forced = refl
 pub reason_tells : (x : Execution) (e f : ℕ) (o : Option Reason) → IsReason x e f o → TellsForced x e f (is_some o)
 reason_tells x e f o h = (some_reason x e f o h, no_reason x e f o h)
 
+-- sets that are filled relate forced pairs alone, and all of those that they are filled for
+module _ (x : Execution) (ps : List Placed) (sets : List (List Bool)) (P : ℕ → ℕ → Type 0)
+    (wf : IsWellFormed x) (size : length sets ≡ length ps) (filled : AreFilled x P sets) where
+  pub related_forced : (e f : ℕ) → Related (table_of ps sets) e f → Forced x e f
+  related_forced e f r =
+      let within = related_within (table_of ps sets) (event_count x) (table_size ps sets size ∙ filled.size)
+      (subst (λ (l : List (List Bool)). All (λ set. length set ≡ event_count x) l) (sym (sets_same ps sets size))
+      (row_size x P sets filled)) e f r in
+      filled_forced x e (P e) (get_or sets e []) (filled.each e within.0) f
+      (ap (λ (l : List (List Bool)). is_in (get_or l e []) f) (sym (sets_same ps sets size)) ∙ r)
+
+  pub pair_related : (e f : ℕ) → P e f → Forced x e f → Related (table_of ps sets) e f
+  pair_related e f pair forced =
+      let within = forced_within x wf forced.0 e f forced.1 in
+      ap (λ (l : List (List Bool)). is_in (get_or l e []) f) (sets_same ps sets size)
+      ∙ ((filled.each e within.0).filled f pair).1 forced
+
 -- sets that are filled for all forced pairs relate these
 pub related_is_forced : (x : Execution) (ps : List Placed) (sets : List (List Bool)) → IsWellFormed x
     → length sets ≡ length ps → AreFilled x (Forced x) sets → (e f : ℕ)
     → Related (table_of ps sets) e f ↔ Forced x e f
 related_is_forced x ps sets wf size filled e f = (
-  λ r.
-      let within = related_within (table_of ps sets) (event_count x) (table_size ps sets size ∙ filled.size)
-      (subst (λ (l : List (List Bool)). All (λ set. length set ≡ event_count x) l) (sym (sets_same ps sets size))
-      (row_size x (Forced x) sets filled)) e f r in
-      (tells within.0).0 (ap (λ (l : List (List Bool)). is_in (get_or l e []) f) (sym (sets_same ps sets size)) ∙ r),
-  λ forced.
-      let within = forced_within x wf forced.0 e f forced.1 in
-      ap (λ (l : List (List Bool)). is_in (get_or l e []) f) (sets_same ps sets size)
-      ∙ (tells within.0).1 forced,
+  related_forced x ps sets (Forced x) wf size filled e f,
+  λ forced. pair_related x ps sets (Forced x) wf size filled e f forced forced,
 )
-  where
-    tells : e < event_count x → TellsForced x e f (is_in (get_or sets e []) f)
-    tells event = filled_tells x e (get_or sets e []) (filled.each e event) f

@@ -69,7 +69,7 @@ every_order_respects x m wf t =
     (record { total = t.total; related = λ e f h. forced_before x m wf t h.0 e f h.1 }, no_overlook x m t)
 
 -- two events are in program order, or not
-program_order_or_not : (x : Execution) (e f : ℕ) → ProgramOrder x e f ⊎ ¬ ProgramOrder x e f
+pub program_order_or_not : (x : Execution) (e f : ℕ) → ProgramOrder x e f ⊎ ¬ ProgramOrder x e f
 program_order_or_not x e f = elim (cases_lt e f) [
   | inl order ↦ elim (cases_lt f (event_count x)) [
     | inl event ↦ elim (cases_eq (core_of x e) (core_of x f)) [

@@ -90,13 +90,10 @@ filled_row x e P old new size empty h = record {
   ];
 }
 
--- a row that is filled for all that an event is forced before tells it for each event
-pub filled_tells : (x : Execution) (e : ℕ) (row : List Bool) → IsFilledRow x e (Forced x e) row
-    → (f : ℕ) → TellsForced x e f (is_in row f)
-filled_tells x e row h f = elim (h.others f) [
-  | inl exact ↦ exact
-  | inr same ↦ (
-    λ is. absurd (let no : false ≡ true = sym (same ∙ nothing x f) ∙ is in cc),
-    λ forced. (h.filled f forced).1 forced,
-  )
+-- what a row tells is forced
+pub filled_forced : (x : Execution) (e : ℕ) (P : ℕ → Type 0) (row : List Bool) → IsFilledRow x e P row → (f : ℕ)
+    → is_in row f ≡ true → Forced x e f
+filled_forced x e P row h f is = elim (h.others f) [
+  | inl exact ↦ exact.0 is
+  | inr same ↦ absurd (let no : false ≡ true = sym (same ∙ nothing x f) ∙ is in cc)
 ]

@@ -11,3 +11,5 @@ pub mod Filled
 pub mod Cores
 pub mod Readers
 pub mod InCycles
+pub mod Follow
+pub mod Next

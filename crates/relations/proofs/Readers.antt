@@ -1,5 +1,5 @@
 -- Rows as the events that read are put into them.
-use Rattle.std.proofs.Common.{◌≡◌, ◌<◌, ◌+◌, ◌⊎◌, inl, inr, ℕ, Bool, Option, Some, None, List, [], get_or, set}
+use Rattle.std.proofs.Common.{◌≡◌, ◌<◌, ◌+◌, ◌⊎◌, inl, inr, ℕ, Bool, true, Option, Some, None, List, [], get_or, set}
 use Rattle.std.proofs.Common.{arith, sym, ap, subst, ◌∙◌, get_or-set_other, get_or-set_same, length-set}
 use Rattle.std.proofs.lemmas.Bool.{cases_eq}
 use Rattle.std.proofs.lemmas.List.{get_or_default}
@@ -8,16 +8,17 @@ use Rattle.recording.specs.Tso.{IsWellFormed}
 use Rattle.relations.specs.declared.placed.Placed.{Placed}
 use Rattle.relations.specs.Forced.{Forced}
 use Rattle.relations.specs.Placed.{IsPlaced, ArePlaced}
-use Rattle.relations.specs.Filled.{IsPut, TellsForced, IsFilledRow, IsOwnOrWrite, AreFilled}
+use Rattle.relations.specs.Filled.{IsPut, TellsForced, IsFilledRow, AreFilled}
+use Rattle.relations.specs.Direct.{IsCandidate, IsPair}
 use Rattle.relations.proofs.Written.{source_writes}
 use Rattle.relations.proofs.Filled.{filled_fewer, filled_more, forced_split}
 
--- f is behind e on its core, a write that e is before, or an event below n that reads from e
-abbrev pub IsReached : Execution → ℕ → ℕ → ℕ → Type 0
-IsReached x n e f = IsOwnOrWrite x e f ⊎ ((source_of x f ≡ Some e) × (f < n))
+-- e may be forced before f without being read, or f is an event below n that reads from e
+abbrev pub IsReached : Execution → Bool → ℕ → ℕ → ℕ → Type 0
+IsReached x all n e f = IsCandidate all x e f ⊎ ((source_of x f ≡ Some e) × (f < n))
 
 -- rows that are filled for more pairs are filled for fewer
-rows_fewer : (x : Execution) (P Q : ℕ → ℕ → Type 0) (rows : List (List Bool)) → ((e f : ℕ) → Q e f → P e f)
+pub rows_fewer : (x : Execution) (P Q : ℕ → ℕ → Type 0) (rows : List (List Bool)) → ((e f : ℕ) → Q e f → P e f)
     → AreFilled x P rows → AreFilled x Q rows
 rows_fewer x P Q rows fewer h =
     record {
@@ -27,26 +28,31 @@ rows_fewer x P Q rows fewer h =
     }
 
 -- before the first event no event that reads is in a row
-pub no_reader : (x : Execution) (rows : List (List Bool)) → AreFilled x (IsOwnOrWrite x) rows
-    → AreFilled x (IsReached x 0) rows
-no_reader x rows h = rows_fewer x (IsOwnOrWrite x) (IsReached x 0) rows (λ e f q. elim q [
+pub no_reader : (x : Execution) (all : Bool) (rows : List (List Bool)) → AreFilled x (IsCandidate all x) rows
+    → AreFilled x (IsReached x all 0) rows
+no_reader x all rows h = rows_fewer x (IsCandidate all x) (IsReached x all 0) rows (λ e f q. elim q [
   | inl own ↦ own
   | inr reads ↦ absurd (omega (arith, reads.1))
 ]) h
 
--- after the last event each forced pair is in its row
-pub every_reader : (x : Execution) (n : ℕ) (rows : List (List Bool)) → IsWellFormed x → event_count x ≡ n
-    → AreFilled x (IsReached x n) rows → AreFilled x (Forced x) rows
-every_reader x n rows wf all h =
-    rows_fewer x (IsReached x n) (Forced x) rows (λ e f forced. elim (forced_split x e f forced.0 forced.1) [
-      | inl own ↦ inl own
-      | inr reads ↦ inr (reads, omega (arith, all, (source_writes x wf e f reads).0))
-    ]) h
+-- after the last event each pair is in its row
+pub every_reader : (x : Execution) (all : Bool) (n : ℕ) (rows : List (List Bool)) → IsWellFormed x
+    → event_count x ≡ n → AreFilled x (IsReached x all n) rows → AreFilled x (IsPair all x) rows
+every_reader x all n rows wf count h = rows_fewer x (IsReached x all n) (IsPair all x) rows (λ e f pair. elim pair [
+  | inl own ↦ inl own
+  | inr reads ↦ inr (reads, omega (arith, count, (source_writes x wf e f reads).0))
+]) h
+
+-- a forced pair is among all pairs
+pub all_forced : (x : Execution) (rows : List (List Bool)) → AreFilled x (IsPair true x) rows
+    → AreFilled x (Forced x) rows
+all_forced x rows h = rows_fewer x (IsPair true x) (Forced x) rows
+    (λ e f forced. forced_split x e f forced.0 forced.1) h
 
 -- an event without a source is in no row
-pub reader_of_none : (x : Execution) (n : ℕ) (rows : List (List Bool)) → source_of x n ≡ None
-    → AreFilled x (IsReached x n) rows → AreFilled x (IsReached x (n + 1)) rows
-reader_of_none x n rows none h = rows_fewer x (IsReached x n) (IsReached x (n + 1)) rows (λ e f q. elim q [
+pub reader_of_none : (x : Execution) (all : Bool) (n : ℕ) (rows : List (List Bool)) → source_of x n ≡ None
+    → AreFilled x (IsReached x all n) rows → AreFilled x (IsReached x all (n + 1)) rows
+reader_of_none x all n rows none h = rows_fewer x (IsReached x all n) (IsReached x all (n + 1)) rows (λ e f q. elim q [
   | inl own ↦ inl own
   | inr reads ↦ elim (cases_eq f n) [
     | inl one ↦ absurd (let no : None ≡ Some e = sym none ∙ (ap (source_of x) (sym one) ∙ reads.0) in cc)
@@ -73,18 +79,18 @@ tells_placed x ps e f d k answer placed he hf tells =
     (λ (g : ℕ). TellsForced x (get_or ps e d).number g answer) second.1 (tells first.0 second.0))
 
 -- an event with a source is in the row of its source
-pub reader_of_some : (x : Execution) (n s : ℕ) (rows : List (List Bool)) (answer : Bool) (d row : List Bool)
-    → s < event_count x → source_of x n ≡ Some s → TellsForced x s n answer
-    → IsPut (get_or rows s d) n answer row → AreFilled x (IsReached x n) rows
-    → AreFilled x (IsReached x (n + 1)) (set rows s row)
-reader_of_some x n s rows answer d row at is tells put h = record {
+pub reader_of_some : (x : Execution) (all : Bool) (n s : ℕ) (rows : List (List Bool)) (answer : Bool)
+    (d row : List Bool) → s < event_count x → source_of x n ≡ Some s → TellsForced x s n answer
+    → IsPut (get_or rows s d) n answer row → AreFilled x (IsReached x all n) rows
+    → AreFilled x (IsReached x all (n + 1)) (set rows s row)
+reader_of_some x all n s rows answer d row at is tells put h = record {
   size = length-set rows s row ∙ h.size;
   each = λ e event. elim (cases_eq e s) [
     | inl one ↦
-        subst (λ (g : ℕ). IsFilledRow x g (IsReached x (n + 1) g) (get_or (set rows s row) g [])) (sym one)
-        (subst (λ (v : List Bool). IsFilledRow x s (IsReached x (n + 1) s) v)
+        subst (λ (g : ℕ). IsFilledRow x g (IsReached x all (n + 1) g) (get_or (set rows s row) g [])) (sym one)
+        (subst (λ (v : List Bool). IsFilledRow x s (IsReached x all (n + 1) s) v)
         (sym (get_or-set_same rows s row [] (omega (arith, h.size, at))))
-        (filled_more x s (IsReached x n s) (IsReached x (n + 1) s) _ (get_or rows s d) row n answer put tells
+        (filled_more x s (IsReached x all n s) (IsReached x all (n + 1) s) _ (get_or rows s d) row n answer put tells
         (λ f q. elim q [
           | inl own ↦ inl (inl own)
           | inr reads ↦ elim (cases_eq f n) [
@@ -92,12 +98,12 @@ reader_of_some x n s rows answer d row at is tells put h = record {
             | inr earlier ↦ inl
                 (inr (reads.0, omega arith))
           ]
-        ]) (subst (λ (v : List Bool). IsFilledRow x s (IsReached x n s) v)
+        ]) (subst (λ (v : List Bool). IsFilledRow x s (IsReached x all n s) v)
         (get_or_default rows s [] d (omega (arith, h.size, at))) (h.each s at))))
     | inr other ↦
-        subst (λ (v : List Bool). IsFilledRow x e (IsReached x (n + 1) e) v)
+        subst (λ (v : List Bool). IsFilledRow x e (IsReached x all (n + 1) e) v)
         (sym (get_or-set_other rows s e row [] other))
-        (filled_fewer x e (IsReached x n e) (IsReached x (n + 1) e) _ (get_or rows e []) (λ f q. elim q [
+        (filled_fewer x e (IsReached x all n e) (IsReached x all (n + 1) e) _ (get_or rows e []) (λ f q. elim q [
           | inl own ↦ inl own
           | inr reads ↦ elim (cases_eq f n) [
             | inl last ↦ absurd (other (let both : Some e ≡ Some s = sym reads.0

@@ -8,7 +8,6 @@ use Rattle.std.specs.Prelude.{All}
 use Rattle.common.specs.declared.limits.TheConstants.{MAX_EVENTS}
 use Rattle.relations.specs.declared.placed.Placed.{Placed}
 use Rattle.relations.specs.Placed.{IsPlaced, ArePlaced}
-use Rattle.relations.specs.Forced.{Forced}
 use Rattle.relations.specs.Filled.{IsFilledRow, AreFilled}
 use Rattle.bitrow.specs.Bits.{is_in}
 use Rattle.relations.specs.Relation.{Row, Table, IsRelation, table_of, sets_of, placed_of, relates}
@@ -115,9 +114,9 @@ set_tells ps sets t seen r e f set is at =
     (sym (sets_same ps sets r.size) ∙ ap sets_of seen)
 
 -- the rows of a recording are a relation
-pub relation_of_filled : (x : Execution) (ps : List Placed) (sets : List (List Bool))
-    → event_count x ≤ MAX_EVENTS → ArePlaced x ps → AreFilled x (Forced x) sets → IsRelation ps sets
-relation_of_filled x ps sets few placed h =
+pub relation_of_filled : (x : Execution) (P : ℕ → ℕ → Type 0) (ps : List Placed) (sets : List (List Bool))
+    → event_count x ≤ MAX_EVENTS → ArePlaced x ps → AreFilled x P sets → IsRelation ps sets
+relation_of_filled x P ps sets few placed h =
     let size : length sets ≡ length ps = h.size ∙ sym placed.size in
     let count : length (table_of ps sets) ≡ event_count x = table_size ps sets size ∙ h.size in
     record {
@@ -125,7 +124,7 @@ relation_of_filled x ps sets few placed h =
       square = record {
         rows = subst (λ (l : List (List Bool)). All (λ set. length set ≡ length (table_of ps sets)) l)
             (sym (sets_same ps sets size))
-            (subst (λ (n : ℕ). All (λ set. length set ≡ n) sets) (sym count) (row_size x (Forced x) sets h));
+            (subst (λ (n : ℕ). All (λ set. length set ≡ n) sets) (sym count) (row_size x P sets h));
         few = omega (arith, few, count);
       };
     }

@@ -146,3 +146,14 @@ short_cycle R n within (e ∷ es) h = cycle_of R (λ x. (e ≡ x) ⊎ (0 < times
   where
     behind : (x : ℕ) → (e ≡ x) ⊎ (0 < times es x) → (d : ℕ) × ((e ≡ d) ⊎ (0 < times es d)) × R d x
     behind x on = before_on R e es e x h (elim on [ inl is ↦ inr (sym is) | inr there ↦ inl there ])
+
+-- neighbours that are related in the one are related in the other, where each pair of the one is a pair of the other
+leads_into : (R S : ℕ → ℕ → Type 0) → ((e f : ℕ) → R e f → S e f) → (e : ℕ) (es : List ℕ) (back : ℕ)
+    → Leads R e es back → Leads S e es back
+leads_into R S into e [] back h = into e back h
+leads_into R S into e (f ∷ fs) back h = (into e f h.0, leads_into R S into f fs back h.1)
+
+-- a cycle of the one is a cycle of the other
+pub cycle_into : (R S : ℕ → ℕ → Type 0) → ((e f : ℕ) → R e f → S e f) → (c : List ℕ) → IsCycle R c → IsCycle S c
+cycle_into R S into [] h = h
+cycle_into R S into (e ∷ es) h = leads_into R S into e es e h

@@ -44,3 +44,7 @@ Overlooks x l s = (a : ℕ) × Reads x l a × Writes x s a × ProgramOrder x s l
 pub record IsLeastOverlook (x : Execution) (l s : ℕ) : Type 0 where
   pub overlooks : Overlooks x l s
   pub least : (k t : ℕ) → Overlooks x k t → (l < k) ⊎ ((l ≡ k) × (s ≤ t))
+
+-- what is before e on its core stands from number start on
+abbrev pub IsCoreStart : Execution → ℕ → ℕ → Type 0
+IsCoreStart x start e = (s : ℕ) → ProgramOrder x s e ↔ ((start ≤ s) × (s < e))

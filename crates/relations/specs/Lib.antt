@@ -1,6 +1,7 @@
 pub mod Forced
 pub mod Placed
 pub mod Filled
+pub mod Direct
 pub mod Relation
 pub mod Cycle
 pub mod CycleLaws

@@ -1,9 +1,9 @@
 //! The rows of all events.
 
-ghost use Rattle.std.specs.Prelude.{◌<◌, IfOk, length};
-ghost use Rattle.relations.specs.Forced.{Forced};
+ghost use Rattle.std.specs.Prelude.{◌≡◌, ◌<◌, Bool, IfOk, length};
 ghost use Rattle.relations.specs.Placed.{IsPlaced, ArePlaced};
-ghost use Rattle.relations.specs.Filled.{IsPut, IsOwnOrWrite, IsFilledRow, AreFilled};
+ghost use Rattle.relations.specs.Filled.{IsPut, IsFilledRow, AreFilled};
+ghost use Rattle.relations.specs.Direct.{IsCandidate, IsPair};
 
 use crate::placed::Placed;
 use bitrow::BitRow;
@@ -23,20 +23,21 @@ pub(crate) fn put(row: &mut BitRow, event: usize, is_forced: bool)
     }
 }
 
-/// The row of one event, without the events that read from it.
+/// The row of one event, with all or the next of what it is forced before, without the events that read from it.
 fn row_without_readers(
     alloc: Global,
     recording: &Recording,
     first: &Placed,
     events: &[Placed],
+    all: bool,
 ) -> Result<BitRow, OutOfMemory>
     requires first { IsPlaced recording.now first.now }
     requires events { ArePlaced recording.now events.now }
     ensures { IfOk result (λ row. IsFilledRow recording.now first.now.number
-        (IsOwnOrWrite recording.now first.now.number) row) }
+        (IsCandidate all recording.now first.now.number) row) }
 {
     let mut row = BitRow::new(alloc, events.len())?;
-    first.fill(recording, events, &mut row);
+    first.fill(recording, events, all, &mut row);
     Ok(row)
 }
 
@@ -45,23 +46,26 @@ fn rows_without_readers(
     alloc: Global,
     recording: &Recording,
     events: &[Placed],
+    all: bool,
 ) -> Result<Vec<BitRow>, OutOfMemory>
     requires { ArePlaced recording.now events.now }
     ensures { IfOk result (λ rows.
-        AreFilled recording.now (IsOwnOrWrite recording.now) rows.items) }
+        AreFilled recording.now (IsCandidate all recording.now) rows.items) }
 {
     let mut rows = Vec::with_capacity(alloc, events.len())?;
     for first in events {
-        rows.push(row_without_readers(alloc, recording, first, events)?)?;
+        rows.push(row_without_readers(alloc, recording, first, events, all)?)?;
     }
     Ok(rows)
 }
 
-/// Puts each event that reads from another into the row of that one.
+/// Puts each event that reads from another into the row of that one where that is forced before it.
 fn put_readers(recording: &Recording, events: &[Placed], rows: &mut [BitRow])
     requires events { ArePlaced recording.now events.now }
-    requires rows { AreFilled recording.now (IsOwnOrWrite recording.now) rows.old }
-    ensures { AreFilled recording.now (Forced recording.now) rows.new }
+    requires rows { (all : Bool) × AreFilled recording.now (IsCandidate all recording.now) rows.old }
+    ensures size { length rows.new ≡ length rows.old }
+    ensures pairs { (all : Bool) → AreFilled recording.now (IsCandidate all recording.now) rows.old
+        → AreFilled recording.now (IsPair all recording.now) rows.new }
 {
     recording.sound();
     for f in 0..recording.len() {
@@ -73,16 +77,17 @@ fn put_readers(recording: &Recording, events: &[Placed], rows: &mut [BitRow])
     }
 }
 
-/// For each event the set of the events that it is forced before.
+/// For each event the set of the events that it is forced before: all, or the next, and those that read from it.
 pub(crate) fn filled_rows(
     alloc: Global,
     recording: &Recording,
     events: &[Placed],
+    all: bool,
 ) -> Result<Vec<BitRow>, OutOfMemory>
     requires { ArePlaced recording.now events.now }
-    ensures { IfOk result (λ rows. AreFilled recording.now (Forced recording.now) rows.items) }
+    ensures { IfOk result (λ rows. AreFilled recording.now (IsPair all recording.now) rows.items) }
 {
-    let mut rows = rows_without_readers(alloc, recording, events)?;
+    let mut rows = rows_without_readers(alloc, recording, events, all)?;
     put_readers(recording, events, rows.as_mut_slice());
     Ok(rows)
 }

@@ -1,7 +1,8 @@
 //! Reads that overlook a store of their own core.
 
-ghost use Rattle.std.specs.Prelude.{◌≡◌, ◌≤◌, ◌<◌, ◌+◌, ℕ, min, length, MatchOption, IfSome, IfNone};
-ghost use Rattle.relations.specs.Forced.{IsNewerFrom, Overlooks, IsLeastOverlook};
+ghost use Rattle.std.specs.Prelude.{◌≡◌, ◌≤◌, ◌<◌, ◌+◌, ◌↔◌, ℕ, min, length, MatchOption, IfSome, IfNone, IsTrue};
+ghost use Rattle.recording.specs.Execution.{Execution, ProgramOrder};
+ghost use Rattle.relations.specs.Forced.{IsCoreStart, IsNewerFrom, Overlooks, IsLeastOverlook};
 
 use common::EventId;
 use recording::{Recording, place};
@@ -27,8 +28,16 @@ fn lesser(least: Option<EventId>, store: EventId) -> EventId
     }
 }
 
-/// The least store that an event, if it reads, overlooks.
-fn overlooked(recording: &Recording, load: EventId) -> Option<EventId>
+/// Whether an event is earlier than another on a core whose first event this is.
+fn is_earlier(start: EventId, first: EventId, second: EventId) -> bool
+    ensures { (x : Execution) → IsCoreStart x start second → IsTrue result ↔ ProgramOrder x first second }
+{
+    start <= first && first < second
+}
+
+/// The least store that an event, if it reads, overlooks, where its core begins with `start`.
+fn overlooked(recording: &Recording, start: EventId, load: EventId) -> Option<EventId>
+    requires { IsCoreStart recording.now start load }
     ensures { MatchOption result ((s : ℕ) → ¬ Overlooks recording.now load s)
         (λ s. Overlooks recording.now load s × ((t : ℕ) → Overlooks recording.now load t → s ≤ t)) }
 {
@@ -40,7 +49,7 @@ fn overlooked(recording: &Recording, load: EventId) -> Option<EventId>
     let first = newer_from(list, recording.source(load));
     let mut least = None;
     for i in first..list.len() {
-        if recording.precedes(list[i], load) {
+        if is_earlier(start, list[i], load) {
             least = Some(lesser(least, list[i]));
         }
     }
@@ -57,8 +66,12 @@ pub fn overlook(recording: &Recording) -> Option<(EventId, EventId)>
     ensures none { IfNone result ((l s : ℕ) → ¬ Overlooks recording.now l s) }
 {
     recording.sound();
+    let mut start = 0;
     for load in 0..recording.len() as EventId {
-        if let Some(store) = overlooked(recording, load) {
+        if !recording.precedes(start, load) {
+            start = load;
+        }
+        if let Some(store) = overlooked(recording, start, load) {
             return Some((load, store));
         }
     }

@@ -10,8 +10,8 @@ use recording::Recording;
 use std::alloc::Global;
 use std::marker::Model;
 
-/// The forced pairs of a recording: for each event the set of the events that it is forced before,
-/// and for each event its places in the write lists, some 20 bytes, which tell the reason of a pair.
+/// Forced pairs of a recording, all or those from which all follow: for each event a set of events that it is
+/// forced before, and for each event its places in the write lists, some 20 bytes, which tell the reason of a pair.
 #[derive(Drop)]
 pub struct Relation {
     rows: Vec<BitRow>,
@@ -29,10 +29,12 @@ impl Model for Relation {
 }
 
 impl Relation {
-    ghost use Rattle.std.specs.Prelude.{◌≡◌, ◌<◌, ◌↔◌, ℕ, IsTrue, IfOk, length};
+    ghost use Rattle.std.specs.Prelude.{◌≡◌, ◌<◌, ◌↔◌, ℕ, List, IsTrue, IfOk, length};
     ghost use Rattle.recording.specs.Execution.{Execution, event_count};
     ghost use Rattle.relations.specs.Forced.{Forced, IsReason};
     ghost use Rattle.relations.specs.Relation.{IsSquare, IsTableOf, Related, sets_of};
+    ghost use Rattle.relations.specs.Respects.{Respects};
+    ghost use Rattle.relations.specs.Verdict.{HasNoOverlook, RespectsForced};
 
     /// The forced pairs of a recording (Nagarajan, Sorin, Hill and Wood, A Primer on Memory
     /// Consistency and Cache Coherence, second edition, chapter 4). An `Err` is want of memory.
@@ -43,7 +45,22 @@ impl Relation {
     {
         recording.sound();
         let events = placed_events(alloc, recording)?;
-        let rows = filled_rows(alloc, recording, &events)?;
+        let rows = filled_rows(alloc, recording, &events, true)?;
+        Ok(Relation { rows, events })
+    }
+
+    /// Some of the forced pairs of a recording, from which all follow where no read overlooks a store of its
+    /// own core: an order that has these in order has all in order. Each event has at most four, besides those
+    /// to the events that read from it. An `Err` is want of memory.
+    pub fn direct(alloc: Global, recording: &Recording) -> Result<Relation, OutOfMemory>
+        ensures size { IfOk result (λ r. length r ≡ event_count recording.now) }
+        ensures forced { IfOk result (λ r. (e f : ℕ) → Related r e f → Forced recording.now e f) }
+        ensures enough { IfOk result (λ r. HasNoOverlook recording.now → (m : List ℕ)
+            → Respects (Related r) (event_count recording.now) m → RespectsForced recording.now m) }
+    {
+        recording.sound();
+        let events = placed_events(alloc, recording)?;
+        let rows = filled_rows(alloc, recording, &events, false)?;
         Ok(Relation { rows, events })
     }
 

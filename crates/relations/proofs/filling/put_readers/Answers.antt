@@ -1,4 +1,4 @@
-use Rattle.std.proofs.Common.{◌≡◌, ◌<◌, ◌+◌, Bool, Some, List, length, arith, sym, subst}
+use Rattle.std.proofs.Common.{◌≡◌, ◌<◌, ◌+◌, Bool, Some, List, length, arith, sym, subst, ◌∙◌}
 use Rattle.recording.specs.Execution.{event_count, source_of}
 use Rattle.relations.specs.Filled.{AreFilled}
 use Rattle.relations.proofs.Written.{source_within}
@@ -15,7 +15,7 @@ bounds-rows-first c =
     let s = c.in-Some.source in
     let source = source_placed x c.args.events.now f _ (Some s) c.requires.events
     (omega (arith, c.loop-f-test.true, c.len-f-end.ensures)) c.in-Some.is in
-    omega (arith, c.loop-f.invariant.size, source_within x c.sound.ensures.well_formed s f source)
+    omega (arith, (c.loop-f.invariant c.requires.rows.0 c.requires.rows.1).size, source_within x c.sound.ensures.well_formed s f source)
 
 pub bounds-events-first : goal.bounds-events-first
 bounds-events-first c =
@@ -35,21 +35,22 @@ put-requires c =
     (omega (arith, c.loop-f-test.true, c.len-f-end.ensures)) c.in-Some.is in
     let first : s < length c.loop-f.rows = omega (
       arith,
-      c.loop-f.invariant.size,
+      (c.loop-f.invariant c.requires.rows.0 c.requires.rows.1).size,
       source_within x c.sound.ensures.well_formed s f source,
     ) in
     omega (
       arith,
       c.loop-f-test.true,
       c.len-f-end.ensures,
-      row_size x (IsReached x f) c.loop-f.rows c.loop-f.invariant s c.index-rows-first.result first,
+      row_size x (IsReached x c.requires.rows.0 f) c.loop-f.rows
+          (c.loop-f.invariant c.requires.rows.0 c.requires.rows.1) s c.index-rows-first.result first,
     )
 
 pub loop-f-init : goal.loop-f-init
-loop-f-init c = no_reader c.args.recording.now c.args.rows.now c.requires.rows
+loop-f-init c = λ all filled. no_reader c.args.recording.now all c.args.rows.now filled
 
 pub loop-f-preserved : goal.loop-f-preserved
-loop-f-preserved c =
+loop-f-preserved c = λ all filled.
     let x = c.args.recording.now in
     let f = c.loop-f.f in
     let within : f < event_count x = omega (arith, c.loop-f-test.true, c.len-f-end.ensures) in
@@ -60,18 +61,23 @@ loop-f-preserved c =
           let source : source_of x f ≡ Some s =
           source_placed x c.args.events.now f _ (Some s) c.requires.events within w.in-Some.is in
           let first : s < event_count x = source_within x c.sound.ensures.well_formed s f source in
-          subst (λ (rows : List (List Bool)). AreFilled x (IsReached x (f + 1)) rows) (sym w.rows-is)
-          (reader_of_some x f s c.loop-f.rows answer w.index-rows-first.result w.put.new.row first source
+          subst (λ (rows : List (List Bool)). AreFilled x (IsReached x all (f + 1)) rows) (sym w.rows-is)
+          (reader_of_some x all f s c.loop-f.rows answer w.index-rows-first.result w.put.new.row first source
           (tells_placed x c.args.events.now s f _ _ answer c.requires.events first within
-          (w.is_forced_before.ensures x)) w.put.ensures c.loop-f.invariant)
+          (w.is_forced_before.ensures x)) w.put.ensures (c.loop-f.invariant all filled))
       | in_default w ↦
-          subst (λ (rows : List (List Bool)). AreFilled x (IsReached x (f + 1)) rows) (sym w.rows-is)
-          (reader_of_none x f c.loop-f.rows
+          subst (λ (rows : List (List Bool)). AreFilled x (IsReached x all (f + 1)) rows) (sym w.rows-is)
+          (reader_of_none x all f c.loop-f.rows
           (source_placed x c.args.events.now f _ _ c.requires.events within w.in_default.is)
-          c.loop-f.invariant)
+          (c.loop-f.invariant all filled))
     ]
 
-pub returns : goal.returns
-returns c =
-    every_reader c.args.recording.now c.loop-f.f c.loop-f.rows c.sound.ensures.well_formed
-    (omega (arith, c.loop-f-test.false, c.len-f-end.ensures, c.loop-f.auto.f-end)) c.loop-f.invariant
+pub returns-clause-size : goal.returns-clause-size
+returns-clause-size c =
+    (c.loop-f.invariant c.requires.rows.0 c.requires.rows.1).size ∙ sym c.requires.rows.1.size
+
+pub returns-clause-pairs : goal.returns-clause-pairs
+returns-clause-pairs c = λ all filled.
+    every_reader c.args.recording.now all c.loop-f.f c.loop-f.rows c.sound.ensures.well_formed
+    (omega (arith, c.loop-f-test.false, c.len-f-end.ensures, c.loop-f.auto.f-end))
+    (c.loop-f.invariant all filled)

@@ -1,7 +1,7 @@
 use Rattle.std.proofs.Common.{◌+◌, sym, subst, Option, ℕ}
 use Rattle.std.proofs.lemmas.Bool.{iff_false}
 use Rattle.relations.proofs.Newer.{IsLeastSoFar, newer_list, overlooked_at, least_here, least_more, least_all}
-use Rattle.relations.proofs.overlooks.overlooked.Goals.{then-precedes, else-precedes}
+use Rattle.relations.proofs.overlooks.overlooked.Goals.{then-is_earlier, else-is_earlier}
 use Rattle.relations.proofs.overlooks.overlooked.Goals as goal
 
 pub loop-i-preserved : goal.loop-i-preserved
@@ -12,16 +12,16 @@ loop-i-preserved c =
     let first = c.newer_from-first.result in
     let list = newer_list x c.sound.ensures.well_formed l c.in-Some.address ws c.source.result first
     c.in-Some.ensures c.write_list-list.ensures c.source.ensures c.newer_from-first.ensures.newer in
-    elim c.if-precedes.branch [
-      | then-precedes w ↦ subst (λ (s : Option ℕ). IsLeastSoFar x l ws first (c.loop-i.i + 1) s)
+    elim c.if-is_earlier.branch [
+      | then-is_earlier w ↦ subst (λ (s : Option ℕ). IsLeastSoFar x l ws first (c.loop-i.i + 1) s)
           (sym w.least-is)
           (least_here x l ws first c.loop-i.i c.loop-i.least w.lesser.result
           (overlooked_at x l c.in-Some.address ws first c.loop-i.i list c.loop-i.auto.i c.loop-i-test.true
-          (c.precedes.ensures.0 w.if-precedes.true)) w.lesser.ensures c.loop-i.invariant)
-      | else-precedes w ↦ subst (λ (s : Option ℕ). IsLeastSoFar x l ws first (c.loop-i.i + 1) s)
+          ((c.is_earlier.ensures x c.requires).0 w.if-is_earlier.true)) w.lesser.ensures c.loop-i.invariant)
+      | else-is_earlier w ↦ subst (λ (s : Option ℕ). IsLeastSoFar x l ws first (c.loop-i.i + 1) s)
           (sym w.least-is)
           (least_more x l ws first c.loop-i.i c.loop-i.least
-          (iff_false c.precedes.ensures w.if-precedes.false) c.loop-i.invariant)
+          (iff_false (c.is_earlier.ensures x c.requires) w.if-is_earlier.false) c.loop-i.invariant)
     ]
 
 pub returns : goal.returns

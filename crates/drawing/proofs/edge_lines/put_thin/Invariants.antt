@@ -1,0 +1,8 @@
+use Rattle.std.proofs.Common.{◌≡◌, ◌++◌}
+use Rattle.drawing.specs.Drawing.{thin_lines}
+use Rattle.event_texts.specs.Below.{texts_below}
+use Rattle.drawing.proofs.edge_lines.put_thin.Given as goal
+
+abbrev pub invariant-loop-event : goal.invariant-loop-event
+invariant-loop-event l = l.out.items ≡ l.fn.out.items
+    ++ texts_below (thin_lines l.rest l.numbers l.ranked l.bold) l.event

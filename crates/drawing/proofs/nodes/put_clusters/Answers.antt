@@ -1,0 +1,8 @@
+use Rattle.drawing.specs.Nodes.{cluster_text}
+use Rattle.event_texts.specs.TextLaws.{next_text}
+use Rattle.drawing.proofs.nodes.put_clusters.Goals as goal
+
+pub loop-core-preserved : goal.loop-core-preserved
+loop-core-preserved c = next_text
+    (cluster_text c.args.recording.now c.args.names.now.keys c.args.numbers.now c.args.rest.now c.args.ranked)
+    c.loop-core.core _ _ _ c.loop-core.invariant c.in_ok-put_cluster.ensures

@@ -1,0 +1,8 @@
+use Rattle.drawing.specs.Nodes.{node_of_core}
+use Rattle.event_texts.specs.TextLaws.{next_text}
+use Rattle.drawing.proofs.nodes.put_nodes.Goals as goal
+
+pub loop-i-preserved : goal.loop-i-preserved
+loop-i-preserved c = next_text
+    (node_of_core c.args.recording.now c.args.names.now.keys c.args.numbers.now c.args.rest.now c.args.core)
+    c.loop-i.i _ _ _ c.loop-i.invariant c.in_ok-put_node_of_core.ensures

@@ -1,0 +1,86 @@
+-- A verdict as a picture: a directed graph in the DOT language of Graphviz.
+use Rattle.std.specs.Prelude.{◌≡◌, ◌++◌, [], ℕ, Bool, true, false, List, Option, Some, None, codes, decimal, length}
+use Rattle.std.specs.Prelude.{slice_index, if◌then◌else◌}
+use Rattle.std.specs.List.{flat_map}
+use Rattle.program.specs.declared.name.Name.{Name}
+use Rattle.recording.specs.Execution.{Execution, event_count}
+use Rattle.relations.specs.declared.reason.Reason.{Reason}
+use Rattle.relations.specs.declared.reason.Reason.TheVariants.{Po, Wo, Rf, Fr}
+use Rattle.judge.specs.declared.verdict.Verdict.{Verdict}
+use Rattle.drawing.specs.declared.edges.Edge.{Edge}
+use Rattle.drawing.specs.Bold.{AreBold, is_ranked}
+use Rattle.drawing.specs.Edges.{po_edge, rf_edge, co_edge, fr_edge, is_drawn}
+use Rattle.drawing.specs.Gaps.{is_gap, gap_start, gap_end}
+use Rattle.event_texts.specs.Below.{texts_below}
+use Rattle.drawing.specs.Nodes.{cluster_text}
+use Rattle.drawing.specs.Ranks.{top_line, ranks_text}
+
+-- from which event an edge goes to which; ks has the numbers that they are drawn under
+abbrev pub ends_text : List ℕ → Edge → List ℕ
+ends_text ks e = codes "  e" ++ decimal (slice_index ks e.first) ++ codes " -> e" ++ decimal (slice_index ks e.second)
+
+-- the name and the colour of an edge
+abbrev pub look_text : Reason → List ℕ
+look_text Po = codes " [xlabel=\"po\", color=\"black\", fontcolor=\"black\""
+look_text Wo = codes " [xlabel=\"co\", color=\"blue\", fontcolor=\"blue\""
+look_text Rf = codes " [xlabel=\"rf\", color=\"red\", fontcolor=\"red\""
+look_text Fr = codes " [xlabel=\"fr\", color=\"#ffa040\", fontcolor=\"#ffa040\""
+
+-- how thick it is
+abbrev pub style_text : Bool → List ℕ
+style_text true = codes ", style=\"bold\""
+style_text false = []
+
+-- that it puts no event above another: program order alone does, where there is no memory order
+abbrev pub free_text : Bool → Reason → List ℕ
+free_text true r = codes ", constraint=\"false\""
+free_text false Po = []
+free_text false Wo = codes ", constraint=\"false\""
+free_text false Rf = codes ", constraint=\"false\""
+free_text false Fr = codes ", constraint=\"false\""
+
+-- the line of an edge
+unfoldable pub edge_line : List ℕ → Bool → Bool → Edge → List ℕ
+edge_line ks ranked bold e = ends_text ks e ++ look_text e.reason ++ style_text bold
+    ++ free_text ranked e.reason ++ codes "];\n"
+
+-- the line of an edge that is not drawn bold
+unfoldable pub thin_line : List ℕ → Bool → List Edge → Option Edge → List ℕ
+thin_line ks ranked bold None = []
+thin_line ks ranked bold (Some e) = if is_drawn bold e then [] else edge_line ks ranked false e
+
+-- the lines of an edge of program order: over what is left out between its ends, or else its own
+unfoldable pub po_lines : List ℕ → Bool → List Edge → Option Edge → List ℕ
+po_lines ks ranked bold None = []
+po_lines ks ranked bold (Some e) = if is_gap ks e
+    then gap_start (slice_index ks e.first) (slice_index ks e.second) ++ gap_end (slice_index ks e.second)
+    else thin_line ks ranked bold (Some e)
+
+-- the lines of the edges of an event that are not drawn bold
+abbrev pub thin_lines : Execution → List ℕ → Bool → List Edge → ℕ → List ℕ
+thin_lines y ks ranked bold e = po_lines ks ranked bold (po_edge y e) ++ thin_line ks ranked bold (rf_edge y e)
+    ++ thin_line ks ranked bold (co_edge y e) ++ thin_line ks ranked bold (fr_edge y e)
+
+-- the lines before the cores
+abbrev pub graph_heading : List ℕ
+graph_heading = codes "digraph recording {\n  node [shape=\"plaintext\"];\n  newrank=\"true\";\n"
+    ++ codes "  top [shape=\"point\", style=\"invis\"];\n"
+
+-- the lines of the nodes, and what puts them in their places
+unfoldable pub nodes_text : Execution → List Name → List ℕ → Execution → Bool → Verdict → List ℕ
+nodes_text x names ks y ranked v = graph_heading ++ texts_below (cluster_text x names ks y ranked) (length x.cores)
+    ++ top_line x ks ranked ++ ranks_text x ks v
+
+-- the picture of a verdict on y with these edges bold; event i of y is event `ks i` of x
+abbrev pub drawing_text : Execution → List Name → List ℕ → Execution → Verdict → List Edge → List ℕ
+drawing_text x names ks y v bold = nodes_text x names ks y (is_ranked v) v
+    ++ texts_below (thin_lines y ks (is_ranked v) bold) (event_count y)
+    ++ (flat_map (edge_line ks (is_ranked v) true) bold ++ codes "}\n")
+
+-- the text is a picture of the verdict on y, whose events have the numbers ks in x, with these names of the
+-- addresses of x
+pub record IsDrawing (x : Execution) (names : List Name) (ks : List ℕ) (y : Execution) (v : Verdict)
+    (text : List ℕ) : Type 0 where
+  pub bold : List Edge
+  pub about : AreBold y v bold
+  pub whole : text ≡ drawing_text x names ks y v bold

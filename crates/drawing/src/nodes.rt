@@ -1,0 +1,175 @@
+//! The events of a picture, a cluster for each core that has a drawn event.
+
+ghost use Rattle.std.specs.Prelude.{◌≡◌, ◌++◌, ◌<◌, OnOk, length, slice_index};
+ghost use Rattle.recording.specs.Execution.{event_count, event_at};
+ghost use Rattle.event_texts.specs.Below.{texts_below};
+ghost use Rattle.drawing.specs.Nodes.{first_on_core, node_heading, node_line, node_lines};
+ghost use Rattle.drawing.specs.Nodes.{node_of_core, cluster_heading, head_line, cluster_lines, cluster_text};
+
+use crate::edges::po_edge;
+use crate::gaps::{number_at, put_gap_text};
+use common::{EventId, OutOfMemory};
+use event_texts::{event_of, put_event, put_text, put_text_and_number};
+use indexmap::IndexSet;
+use program::Name;
+use recording::{Event, Recording};
+
+/// The first of the numbers that is an event of a core.
+pub(crate) fn first_on_core(
+    recording: &Recording,
+    numbers: &[EventId],
+    core: usize,
+) -> Option<EventId>
+    ensures { result ≡ first_on_core recording.now numbers.now core }
+{
+    numbers
+        .iter()
+        .copied()
+        .find(|number| event_of(recording, *number).0 as usize == core)
+}
+
+/// Adds the beginning of the line of an event.
+fn put_node_heading(out: &mut Vec<u8>, number: EventId) -> Result<(), OutOfMemory>
+    ensures { OnOk result (out.new.items ≡ out.old.items ++ node_heading number) }
+{
+    put_text_and_number(out, b"    e", number as usize)?;
+    put_text_and_number(out, b" [label=\"", number as usize)?;
+    put_text(out, b": ")
+}
+
+/// Adds the line of an event.
+fn put_node(
+    out: &mut Vec<u8>,
+    names: &IndexSet<Name>,
+    number: EventId,
+    event: &Event,
+) -> Result<(), OutOfMemory>
+    ensures { OnOk result (out.new.items ≡ out.old.items ++ node_line names.now.keys number event.now) }
+{
+    put_node_heading(out, number)?;
+    put_event(out, names, event)?;
+    put_text(out, b"\"];\n")
+}
+
+/// Adds the line of an event of the rest that is one of this core, and of what is left out behind it.
+#[tactic(auto, unfolding(crate::specs::Nodes::node_of_core))]
+fn put_node_of_core(
+    out: &mut Vec<u8>,
+    recording: &Recording,
+    names: &IndexSet<Name>,
+    numbers: &[EventId],
+    rest: &Recording,
+    core: usize,
+    i: EventId,
+) -> Result<(), OutOfMemory>
+    ensures { OnOk result (out.new.items ≡ out.old.items
+        ++ node_of_core recording.now names.now.keys numbers.now rest.now core i) }
+{
+    let number = number_at(numbers, i);
+    let (own, event) = event_of(recording, number);
+    if own as usize != core {
+        return Ok(());
+    }
+    put_node(out, names, number, &event)?;
+    put_gap_text(out, numbers, po_edge(rest, i))
+}
+
+/// Adds the lines of the events of a core.
+fn put_nodes(
+    out: &mut Vec<u8>,
+    recording: &Recording,
+    names: &IndexSet<Name>,
+    numbers: &[EventId],
+    rest: &Recording,
+    core: usize,
+) -> Result<(), OutOfMemory>
+    ensures { OnOk result (out.new.items ≡ out.old.items
+        ++ texts_below (node_of_core recording.now names.now.keys numbers.now rest.now core)
+        (event_count rest.now)) }
+{
+    rest.sound();
+    for i in 0..rest.len() as EventId {
+        put_node_of_core(out, recording, names, numbers, rest, core, i)?;
+    }
+    Ok(())
+}
+
+/// Adds the first lines of a core.
+fn put_cluster_heading(out: &mut Vec<u8>, core: usize) -> Result<(), OutOfMemory>
+    ensures { OnOk result (out.new.items ≡ out.old.items ++ cluster_heading core) }
+{
+    put_text_and_number(out, b"  subgraph cluster_", core)?;
+    put_text_and_number(out, b" {\n    label=\"core ", core)?;
+    put_text(out, b"\";\n")
+}
+
+/// Adds the invisible node above the events of a core, in a picture of a memory order.
+fn put_head(out: &mut Vec<u8>, ranked: bool, core: usize) -> Result<(), OutOfMemory>
+    ensures { OnOk result (out.new.items ≡ out.old.items ++ head_line ranked core) }
+{
+    if ranked {
+        put_text_and_number(out, b"    h", core)?;
+        put_text(out, b" [shape=\"point\", style=\"invis\"];\n")
+    } else {
+        Ok(())
+    }
+}
+
+/// Adds the lines of a core.
+fn put_cluster_lines(
+    out: &mut Vec<u8>,
+    recording: &Recording,
+    names: &IndexSet<Name>,
+    numbers: &[EventId],
+    rest: &Recording,
+    ranked: bool,
+    core: usize,
+) -> Result<(), OutOfMemory>
+    ensures { OnOk result (out.new.items ≡ out.old.items
+        ++ cluster_lines recording.now names.now.keys numbers.now rest.now ranked core) }
+{
+    put_cluster_heading(out, core)?;
+    put_head(out, ranked, core)?;
+    put_nodes(out, recording, names, numbers, rest, core)?;
+    put_text(out, b"  }\n")
+}
+
+/// Adds the lines of a core that has a drawn event.
+#[tactic(auto, unfolding(crate::specs::Nodes::cluster_text))]
+fn put_cluster(
+    out: &mut Vec<u8>,
+    recording: &Recording,
+    names: &IndexSet<Name>,
+    numbers: &[EventId],
+    rest: &Recording,
+    ranked: bool,
+    core: usize,
+) -> Result<(), OutOfMemory>
+    ensures { OnOk result (out.new.items ≡ out.old.items
+        ++ cluster_text recording.now names.now.keys numbers.now rest.now ranked core) }
+{
+    if first_on_core(recording, numbers, core).is_some() {
+        put_cluster_lines(out, recording, names, numbers, rest, ranked, core)
+    } else {
+        Ok(())
+    }
+}
+
+/// Adds the lines of each core that has a drawn event.
+pub(crate) fn put_clusters(
+    out: &mut Vec<u8>,
+    recording: &Recording,
+    names: &IndexSet<Name>,
+    numbers: &[EventId],
+    rest: &Recording,
+    ranked: bool,
+) -> Result<(), OutOfMemory>
+    ensures { OnOk result (out.new.items ≡ out.old.items
+        ++ texts_below (cluster_text recording.now names.now.keys numbers.now rest.now ranked)
+        (length recording.now.cores)) }
+{
+    for core in 0..recording.cores().len() {
+        put_cluster(out, recording, names, numbers, rest, ranked, core)?;
+    }
+    Ok(())
+}

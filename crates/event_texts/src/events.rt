@@ -1,0 +1,142 @@
+//! What an event did.
+
+ghost use Rattle.std.specs.Prelude.{◌≡◌, ◌++◌, ◌∷◌, OnOk, Some, codes, decimal};
+ghost use Rattle.recording.specs.declared.event.Event.TheVariants.{L, S, R, C};
+ghost use Rattle.event_texts.specs.Events.{address_text, written_text, source_text, read_text, event_text};
+
+use crate::numbers::put_text_and_number;
+use crate::pieces::put_text;
+use common::{Addr, EventId, OutOfMemory};
+use indexmap::IndexSet;
+use program::Name;
+use recording::Event;
+
+/// Adds the name of an address.
+pub fn put_address(
+    out: &mut Vec<u8>,
+    names: &IndexSet<Name>,
+    address: Addr,
+) -> Result<(), OutOfMemory>
+    ensures { OnOk result (out.new.items ≡ out.old.items ++ address_text names.now.keys address) }
+{
+    let Some(name) = names.get_index(address as usize) else {
+        return Ok(());
+    };
+    put_text(out, name.text())
+}
+
+/// Adds the name of the address that an event writes.
+pub fn put_written(
+    out: &mut Vec<u8>,
+    names: &IndexSet<Name>,
+    address: Option<Addr>,
+) -> Result<(), OutOfMemory>
+    ensures { OnOk result (out.new.items ≡ out.old.items ++ written_text names.now.keys address) }
+{
+    match address {
+        Some(address) => put_address(out, names, address),
+        None => Ok(()),
+    }
+}
+
+/// Adds where a value came from.
+fn put_source(out: &mut Vec<u8>, source: Option<EventId>) -> Result<(), OutOfMemory>
+    ensures { OnOk result (out.new.items ≡ out.old.items ++ source_text source) }
+{
+    let Some(source) = source else {
+        return put_text(out, b", the initial value");
+    };
+    put_text_and_number(out, b", from ", source as usize)
+}
+
+/// Adds an address that was read, the value, and where it came from.
+fn put_read(
+    out: &mut Vec<u8>,
+    names: &IndexSet<Name>,
+    read: (Addr, u32, Option<EventId>),
+) -> Result<(), OutOfMemory>
+    ensures { OnOk result (out.new.items ≡ out.old.items ++ read_text names.now.keys read.0 read.1 read.2) }
+{
+    let (address, value, source) = read;
+    put_address(out, names, address)?;
+    put_text_and_number(out, b" = ", value as usize)?;
+    put_source(out, source)
+}
+
+/// Adds what a load did.
+#[tactic(auto, unfolding(crate::specs::Events::event_text))]
+fn put_load(
+    out: &mut Vec<u8>,
+    names: &IndexSet<Name>,
+    read: (Addr, u32, Option<EventId>),
+) -> Result<(), OutOfMemory>
+    ensures { OnOk result (out.new.items ≡ out.old.items
+        ++ event_text names.now.keys (L read.0 read.1 read.2)) }
+{
+    put_text(out, b"ld ")?;
+    put_read(out, names, read)
+}
+
+/// Adds what a store did.
+#[tactic(auto, unfolding(crate::specs::Events::event_text))]
+fn put_store(
+    out: &mut Vec<u8>,
+    names: &IndexSet<Name>,
+    address: Addr,
+    value: u32,
+) -> Result<(), OutOfMemory>
+    ensures { OnOk result (out.new.items ≡ out.old.items ++ event_text names.now.keys (S address value)) }
+{
+    put_text(out, b"st ")?;
+    put_address(out, names, address)?;
+    put_text_and_number(out, b" ", value as usize)
+}
+
+/// Adds what a read-modify-write did.
+#[tactic(auto, unfolding(crate::specs::Events::event_text))]
+fn put_rmw(
+    out: &mut Vec<u8>,
+    names: &IndexSet<Name>,
+    read: (Addr, u32, Option<EventId>),
+    value: u32,
+) -> Result<(), OutOfMemory>
+    ensures { OnOk result (out.new.items ≡ out.old.items
+        ++ event_text names.now.keys (R read.0 read.1 read.2 value)) }
+{
+    put_text(out, b"rmw ")?;
+    put_read(out, names, read)?;
+    put_text_and_number(out, b", wrote ", value as usize)
+}
+
+/// Adds what a compare-and-swap did that failed.
+#[tactic(auto, unfolding(crate::specs::Events::event_text))]
+fn put_failed_cas(
+    out: &mut Vec<u8>,
+    names: &IndexSet<Name>,
+    read: (Addr, u32, Option<EventId>),
+) -> Result<(), OutOfMemory>
+    ensures { OnOk result (out.new.items ≡ out.old.items
+        ++ event_text names.now.keys (C read.0 read.1 read.2)) }
+{
+    put_text(out, b"cas ")?;
+    put_read(out, names, read)?;
+    put_text(out, b", wrote nothing")
+}
+
+/// Adds what an event did.
+#[tactic(auto, unfolding(crate::specs::Events::event_text))]
+pub fn put_event(
+    out: &mut Vec<u8>,
+    names: &IndexSet<Name>,
+    event: &Event,
+) -> Result<(), OutOfMemory>
+    ensures { OnOk result (out.new.items ≡ out.old.items ++ event_text names.now.keys event.now) }
+{
+    match event {
+        Event::L { a, r, s } => put_load(out, names, (*a, *r, *s)),
+        Event::S { a, w } => put_store(out, names, *a, *w),
+        Event::R { a, r, s, w } => put_rmw(out, names, (*a, *r, *s), *w),
+        Event::C { a, r, s } => put_failed_cas(out, names, (*a, *r, *s)),
+        Event::F => { put_text(out, b"fence") }
+    }
+}

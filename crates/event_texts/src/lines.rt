@@ -1,0 +1,87 @@
+//! The lines of events.
+
+ghost use Rattle.std.specs.Prelude.{◌≡◌, ◌++◌, OnOk, codes, decimal};
+ghost use Rattle.recording.specs.Execution.{event_at, core_of};
+ghost use Rattle.event_texts.specs.Events.{event_width, core_width, aligned, event_line, indent};
+
+use crate::events::put_event;
+use crate::numbers::{digits, put_aligned, put_spaces, put_text_and_number};
+use crate::pieces::put_text;
+use common::{CoreId, EventId, OutOfMemory};
+use indexmap::IndexSet;
+use program::Name;
+use recording::{Event, Recording};
+
+/// How many digits the greatest number of an event has.
+fn event_width(recording: &Recording) -> usize
+    ensures { result ≡ event_width recording.now }
+{
+    digits(recording.len().saturating_sub(1))
+}
+
+/// How many digits the greatest number of a core has.
+fn core_width(recording: &Recording) -> usize
+    ensures { result ≡ core_width recording.now }
+{
+    digits(recording.cores().len().saturating_sub(1))
+}
+
+/// The core of an event and what it did; a number past the last event is a fence of core 0.
+pub fn event_of(recording: &Recording, number: EventId) -> (CoreId, Event)
+    ensures core { result.0 ≡ core_of recording.now number }
+    ensures event { result.1 ≡ event_at recording.now number }
+{
+    match recording.event(number) {
+        Some((core, event)) => (core, *event),
+        None => (0, Event::F),
+    }
+}
+
+/// Adds the number of an event and its core.
+fn put_place(
+    out: &mut Vec<u8>,
+    recording: &Recording,
+    number: EventId,
+    core: CoreId,
+) -> Result<(), OutOfMemory>
+    ensures { OnOk result (out.new.items ≡ out.old.items ++ (codes "  "
+        ++ aligned (event_width recording.now) number ++ codes "  core "
+        ++ aligned (core_width recording.now) core ++ codes "  ")) }
+{
+    put_text(out, b"  ")?;
+    put_aligned(out, event_width(recording), number as usize)?;
+    put_text(out, b"  core ")?;
+    put_aligned(out, core_width(recording), core as usize)?;
+    put_text(out, b"  ")
+}
+
+/// Adds the line of an event.
+#[tactic(auto, unfolding(crate::specs::Events::event_line))]
+pub fn put_line(
+    out: &mut Vec<u8>,
+    recording: &Recording,
+    names: &IndexSet<Name>,
+    number: EventId,
+) -> Result<(), OutOfMemory>
+    ensures { OnOk result (out.new.items ≡ out.old.items ++ event_line recording.now names.now.keys number) }
+{
+    let (core, event) = event_of(recording, number);
+    put_place(out, recording, number, core)?;
+    put_event(out, names, &event)?;
+    put_text(out, b"\n")
+}
+
+/// Adds the spaces before what is said of the event above.
+pub fn put_indent(out: &mut Vec<u8>, recording: &Recording) -> Result<(), OutOfMemory>
+    ensures { OnOk result (out.new.items ≡ out.old.items ++ indent recording.now) }
+{
+    put_spaces(out, event_width(recording))?;
+    put_text(out, b"    ")
+}
+
+/// Adds which event it comes before.
+pub fn put_before(out: &mut Vec<u8>, number: EventId) -> Result<(), OutOfMemory>
+    ensures { OnOk result (out.new.items ≡ out.old.items ++ (codes "before " ++ decimal number)) }
+{
+    put_text_and_number(out, b"before ", number as usize)
+}

@@ -1,6 +1,0 @@
-use Rattle.std.proofs.Common.{arith}
-use Rattle.explanation.proofs.Places.{place_inside}
-use Rattle.explanation.proofs.edges.next_in_list.Goals as goal
-
-pub overflow_add-place : goal.overflow_add-place
-overflow_add-place c = grind (arith, place_inside c.write_list-list.result.now c.args.number)

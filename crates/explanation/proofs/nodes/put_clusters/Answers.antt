@@ -1,8 +1,0 @@
-use Rattle.explanation.specs.Nodes.{cluster_text}
-use Rattle.explanation.proofs.Texts.{next_text}
-use Rattle.explanation.proofs.nodes.put_clusters.Goals as goal
-
-pub loop-core-preserved : goal.loop-core-preserved
-loop-core-preserved c = next_text
-    (cluster_text c.args.recording.now c.args.names.now.keys c.args.numbers.now c.args.rest.now c.args.ranked)
-    c.loop-core.core _ _ _ c.loop-core.invariant c.in_ok-put_cluster.ensures

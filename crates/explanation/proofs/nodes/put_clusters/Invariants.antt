@@ -1,7 +1,0 @@
-use Rattle.std.proofs.Common.{◌≡◌, ◌++◌}
-use Rattle.explanation.specs.Nodes.{texts_below, cluster_text}
-use Rattle.explanation.proofs.nodes.put_clusters.Given as goal
-
-abbrev pub invariant-loop-core : goal.invariant-loop-core
-invariant-loop-core l = l.out.items ≡ l.fn.out.items
-    ++ texts_below (cluster_text l.recording l.names.keys l.numbers l.rest l.ranked) l.core

@@ -1,8 +1,0 @@
-use Rattle.explanation.specs.Nodes.{node_of_core}
-use Rattle.explanation.proofs.Texts.{next_text}
-use Rattle.explanation.proofs.nodes.put_nodes.Goals as goal
-
-pub loop-i-preserved : goal.loop-i-preserved
-loop-i-preserved c = next_text
-    (node_of_core c.args.recording.now c.args.names.now.keys c.args.numbers.now c.args.rest.now c.args.core)
-    c.loop-i.i _ _ _ c.loop-i.invariant c.in_ok-put_node_of_core.ensures

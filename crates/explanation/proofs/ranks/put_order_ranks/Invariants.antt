@@ -1,8 +1,0 @@
-use Rattle.std.proofs.Common.{◌≡◌, ◌++◌}
-use Rattle.explanation.specs.Nodes.{texts_below}
-use Rattle.explanation.specs.Ranks.{core_ranks}
-use Rattle.explanation.proofs.ranks.put_order_ranks.Given as goal
-
-abbrev pub invariant-loop-core : goal.invariant-loop-core
-invariant-loop-core l = l.out.items ≡ l.fn.out.items
-    ++ texts_below (core_ranks l.recording l.numbers l.order) l.core
