@@ -16,15 +16,15 @@ use Rattle.ledger.specs.Counts.{AreCounts}
 use Rattle.ledger.specs.Joined.{EveryTwoListsJoin, EveryLedgerAddsUp, EveryListHasOneLedger, first_of}
 
 -- a count of two lists joined
-count_append : (p : ℕ → Bool) (xs ys : List ℕ) → count_by p (xs ++ ys) ≡ count_by p xs + count_by p ys
+pub count_append : (p : ℕ → Bool) (xs ys : List ℕ) → count_by p (xs ++ ys) ≡ count_by p xs + count_by p ys
 count_append p xs ys = sum_by-append (λ x. cond (p x) 1 0) xs ys
 
 -- a count of one more in front
-count_cons : (p : ℕ → Bool) (x : ℕ) (xs : List ℕ) → count_by p (x ∷ xs) ≡ cond (p x) 1 0 + count_by p xs
+pub count_cons : (p : ℕ → Bool) (x : ℕ) (xs : List ℕ) → count_by p (x ∷ xs) ≡ cond (p x) 1 0 + count_by p xs
 count_cons p x xs = sum_by-cons (λ x. cond (p x) 1 0) x xs
 
 -- where one passes, its place
-position_some : (p : ℕ → Bool) (xs : List ℕ) (a : ℕ) → position_or_len p xs ≡ a → a < length xs
+pub position_some : (p : ℕ → Bool) (xs : List ℕ) (a : ℕ) → position_or_len p xs ≡ a → a < length xs
     → position p xs ≡ Some a
 position_some p xs a is low =
     let t : nat_lt (position_or_len p xs) (length xs) ≡ true = lt-ltb _ _ (omega (arith, is, low)) in

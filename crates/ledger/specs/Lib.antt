@@ -4,3 +4,5 @@ pub mod Kinds
 pub mod Counts
 pub mod Joined
 pub mod LedgerLaws
+pub mod Real
+pub mod RealLaws

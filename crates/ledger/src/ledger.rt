@@ -32,7 +32,7 @@ pub struct Ledger {
 }
 
 impl Ledger {
-    ghost use Rattle.std.specs.Prelude.{IfOk};
+    ghost use Rattle.std.specs.Prelude.{◌<◌, ◌+◌, ◌^◌, ◌↔◌, IfOk, IsTrue};
     ghost use Rattle.ledger.specs.Counts.{IsLedger};
     ghost use Rattle.ledger.specs.Joined.{CanJoin, IsJoined};
 
@@ -51,6 +51,13 @@ impl Ledger {
             first: first_violation(codes),
             first_unjudged: first_unjudged(codes),
         })
+    }
+
+    /// Whether the codes of both are fewer than 2^64.
+    pub fn can_add(&self, other: &Ledger) -> bool
+        ensures { IsTrue result ↔ self.now.total + other.now.total < 2 ^ 64 }
+    {
+        self.total.checked_add(other.total).is_some()
     }
 
     /// Adds the ledger of the codes that come after those of this one. Both are ledgers of codes, of fewer than

@@ -3,6 +3,7 @@
 
 mod code;
 mod finding;
+mod fitting;
 mod kinds;
 mod law;
 mod ledger;
