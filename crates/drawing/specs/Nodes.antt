@@ -1,10 +1,11 @@
 -- The events of a picture: a cluster for each core that has a drawn event.
-use Rattle.std.specs.Prelude.{◌++◌, ◌==◌, [], ℕ, zero, suc, Bool, true, false, Option, List, codes, decimal, is_some}
+use Rattle.std.specs.Prelude.{◌++◌, ◌==◌, [], ℕ, Bool, true, false, Option, List, codes, decimal, is_some}
 use Rattle.std.specs.Prelude.{slice_index, if◌then◌else◌}
 use Rattle.std.specs.List.{find}
 use Rattle.program.specs.declared.name.Name.{Name}
 use Rattle.recording.specs.declared.event.Event.{Event}
 use Rattle.recording.specs.Execution.{Execution, event_count, event_at, core_of}
+use Rattle.event_texts.specs.Below.{texts_below}
 use Rattle.drawing.specs.Edges.{po_edge}
 use Rattle.event_texts.specs.Events.{event_text}
 use Rattle.drawing.specs.Gaps.{gap_text}

@@ -24,11 +24,7 @@ pub fn put_number(out: &mut Vec<u8>, number: usize) -> Result<(), OutOfMemory>
 }
 
 /// Adds a text and a number behind it.
-pub fn put_text_and_number(
-    out: &mut Vec<u8>,
-    text: &[u8],
-    number: usize,
-) -> Result<(), OutOfMemory>
+pub fn put_text_and_number(out: &mut Vec<u8>, text: &[u8], number: usize) -> Result<(), OutOfMemory>
     ensures { OnOk result (out.new.items ≡ out.old.items ++ (text.now ++ decimal number)) }
 {
     put_text(out, text)?;
