@@ -3,12 +3,14 @@
 
 mod campaigns;
 mod reduced;
+mod refusals;
 mod runs;
 mod shown;
 mod told;
 
 pub use campaigns::{campaign_answer, survey_answer};
 pub use reduced::{line_answer, reduced_answer};
+pub use refusals::line_fault_name;
 pub use runs::{finished, script_answer, seeded_answer};
 pub use shown::shown_answer;
 pub use told::{Telling, told_answer};

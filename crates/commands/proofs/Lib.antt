@@ -4,6 +4,5 @@ pub mod Threaded
 pub mod Stops
 pub mod Asking
 pub mod Given
-pub mod Findings
 pub mod Surveyed
 pub mod Held

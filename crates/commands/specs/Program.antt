@@ -5,7 +5,8 @@ use Rattle.program.specs.Text.{reading}
 use Rattle.commands.specs.declared.stop.Stop.{Stop}
 use Rattle.commands.specs.declared.stop.Stop.TheVariants.{Refused, Fault}
 use Rattle.commands.specs.Inputs.{AreBytesOf, IsInputFault}
-use Rattle.commands.specs.Refusal.{IsReadingStop, line_fault_name}
+use Rattle.answers.specs.Refusals.{line_fault_name}
+use Rattle.commands.specs.Refusal.{IsReadingStop}
 
 -- the input of this name is the text of the program
 pub record IsProgramAt (inputs : List ℕ → Option (List ℕ)) (name : List ℕ) (program : Parts) : Type 0 where

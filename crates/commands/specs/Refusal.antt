@@ -1,8 +1,6 @@
 -- The lines of refused texts.
 use Rattle.std.specs.Prelude.{◌≡◌, ◌++◌, ◌∷◌, [], ℕ, List, Some, Result, Ok, Err, codes}
 use Rattle.std.specs.Prelude.{decimal, string_bytes}
-use Rattle.program.specs.declared.fault.LineFault.{LineFault}
-use Rattle.program.specs.declared.fault.LineFault.TheVariants.{L1, L2, L3, L4, L5, L6, L7, L8}
 use Rattle.machine.specs.declared.script_fault.StepFault.{StepFault}
 use Rattle.machine.specs.declared.script_fault.StepFault.TheVariants.{S1, S2, S3, S4}
 use Rattle.recording.specs.declared.fault.RecError.{RecError}
@@ -14,17 +12,6 @@ use Rattle.report.specs.Refusal.{recording_line}
 use Rattle.commands.specs.declared.stop.Stop.{Stop}
 use Rattle.commands.specs.declared.stop.Stop.TheVariants.{Refused, Fault}
 use Rattle.commands.specs.declared.fault.CommandFault.TheVariants.{OutOfMemory}
-
--- what is printed for a fault of a program's line
-abbrev pub line_fault_name : LineFault → List ℕ
-line_fault_name L1 = codes "L1"
-line_fault_name L2 = codes "L2"
-line_fault_name L3 = codes "L3"
-line_fault_name L4 = codes "L4"
-line_fault_name L5 = codes "L5"
-line_fault_name L6 = codes "L6"
-line_fault_name L7 = codes "L7"
-line_fault_name L8 = codes "L8"
 
 -- what is printed for a fault of a script's line
 abbrev pub step_fault_name : StepFault → List ℕ

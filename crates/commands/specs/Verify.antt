@@ -1,20 +1,13 @@
 -- What verify answers.
-use Rattle.std.specs.Prelude.{◌≡◌, ◌⊎◌, ◌++◌, ◌∷◌, [], ℕ, List, Option, codes, string_bytes}
+use Rattle.std.specs.Prelude.{◌⊎◌, ℕ, List, Option, string_bytes}
 use Rattle.command_line.specs.declared.options.VerifyOptions.{VerifyOptions}
 use Rattle.recording.specs.Execution.{Execution}
-use Rattle.report.specs.declared.outcome.Outcome.TheVariants.{Done, Violation}
 use Rattle.report.specs.declared.printed.Answer.{Answer}
-use Rattle.verification.specs.Proof.{IsProof}
+use Rattle.verification.specs.Checked.{IsCheckAnswer}
 use Rattle.commands.specs.declared.stop.Stop.{Stop}
 use Rattle.commands.specs.declared.stop.Stop.TheVariants.{Refused, Fault}
 use Rattle.commands.specs.Inputs.{AreBytesOf, IsInputFault}
 use Rattle.commands.specs.Recording.{IsRecordingAt, IsRecordingStop}
-
--- a text holds exactly where it is that of a verdict that passes its check; which line is at fault no clause says
-pub record IsCheckAnswer (x : Execution) (text : List ℕ) (answer : Answer) : Type 0 where
-  pub holds : IsProof x text → (answer.outcome ≡ Done) × (answer.text.items ≡ codes "holds" ++ 10 ∷ [])
-  pub fails : (IsProof x text → ⊥) → (answer.outcome ≡ Violation)
-      × ((rest : List ℕ) × (answer.text.items ≡ codes "does not hold" ++ rest))
 
 -- the answer to the text of the second input, of the recording of the first
 pub record IsVerified (inputs : List ℕ

@@ -5,12 +5,14 @@ ghost use Rattle.recorder.specs.Reading.{IsReadingResult};
 ghost use Rattle.commands.specs.Inputs.{CanRead, Reads, seen};
 ghost use Rattle.commands.specs.Program.{IsProgramAt, IsProgramStop};
 ghost use Rattle.commands.specs.Recording.{IsRecordingAt, IsRecordingStop, IsUnread};
-ghost use Rattle.commands.specs.Refusal.{IsReadingStop, IsRefusedAs, line_fault_name};
+ghost use Rattle.answers.specs.Refusals.{line_fault_name};
+ghost use Rattle.commands.specs.Refusal.{IsReadingStop, IsRefusedAs};
 
 use crate::fault::CommandFault;
 use crate::inputs::text_at;
-use crate::refusal::{line_fault_name, line_refusal};
+use crate::refusal::line_refusal;
 use crate::stop::{Refusal, Stop};
+use answers::line_fault_name;
 use devices::Place;
 use litmus::parse;
 use program::{LitmusError, Program};

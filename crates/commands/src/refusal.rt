@@ -1,30 +1,14 @@
 //! The lines of refused texts.
 ghost use Rattle.std.specs.Prelude.{◌≡◌, IfOk, string_bytes};
-ghost use Rattle.commands.specs.Refusal.{line_fault_name, option_line, option_refusal_name};
+ghost use Rattle.commands.specs.Refusal.{option_line, option_refusal_name};
 ghost use Rattle.commands.specs.Refusal.{refusal_line, shape_error_name, step_fault_name};
 
 use crate::meanings::quoted;
 use crate::stop::Refusal;
 use command_line::OptionRefusal;
 use machine::StepFault;
-use program::{LineFault, ShapeError};
+use program::ShapeError;
 use std::alloc::{AllocError, Global};
-
-/// What is printed for a fault of a program's line.
-pub fn line_fault_name(fault: LineFault) -> &'static str
-    ensures { result.now ≡ line_fault_name fault }
-{
-    match fault {
-        LineFault::L1 => "L1",
-        LineFault::L2 => "L2",
-        LineFault::L3 => "L3",
-        LineFault::L4 => "L4",
-        LineFault::L5 => "L5",
-        LineFault::L6 => "L6",
-        LineFault::L7 => "L7",
-        LineFault::L8 => "L8",
-    }
-}
 
 /// What is printed for a fault of a script's line.
 pub fn step_fault_name(fault: StepFault) -> &'static str

@@ -1,11 +1,9 @@
 //! The command `verify`.
-ghost use Rattle.std.specs.Prelude.{◌≡◌, ◌↔◌, ◌∷◌, [], ℕ, List, IfErr, IfOk, string_bytes};
-ghost use Rattle.recording.specs.Execution.{Execution};
-ghost use Rattle.verification.specs.declared.finding.Finding.TheVariants.{Holds};
-ghost use Rattle.verification.specs.Proof.{IsProof};
+ghost use Rattle.std.specs.Prelude.{◌∷◌, [], IfErr, IfOk, string_bytes};
+ghost use Rattle.verification.specs.Checked.{IsCheckAnswer};
 ghost use Rattle.commands.specs.Inputs.{AreBytesOf, CanRead, Reads, seen};
 ghost use Rattle.commands.specs.Names.{verify_names};
-ghost use Rattle.commands.specs.Verify.{IsCheckAnswer, IsTextStop, IsVerified, IsVerifyStop};
+ghost use Rattle.commands.specs.Verify.{IsTextStop, IsVerified, IsVerifyStop};
 
 use crate::inputs::text_at;
 use crate::named::recording_at;
@@ -13,29 +11,11 @@ use crate::stop::Stop;
 use command_line::VerifyOptions;
 use devices::Place;
 use recording::Recording;
-use report::{Answer, Outcome};
-use std::alloc::{AllocError, Global};
+use report::Answer;
+use std::alloc::Global;
 use std::sync::Wait;
 use std::thread::Threads;
-use verification::{Finding, check_text};
-
-/// What is answered to a finding.
-fn finding_answer(alloc: Global, finding: Finding) -> Result<Answer, AllocError>
-    ensures { IfOk result (λ answer. (x : Execution) → (text : List ℕ) → (finding ≡ Holds) ↔ IsProof x text
-        → IsCheckAnswer x text answer) }
-{
-    match finding {
-        Finding::Holds => Answer::of(alloc, Outcome::Done, "holds\n"),
-        Finding::FaultAt(line) => {
-            let text = format!(in alloc; "does not hold: line {line}\n")?;
-            Ok(Answer {
-                outcome: Outcome::Violation,
-                text: text.into_bytes(),
-            })
-        }
-        Finding::EndsEarly => Answer::of(alloc, Outcome::Violation, "does not hold\n"),
-    }
-}
+use verification::{check_text, finding_answer};
 
 /// What is answered to the text of this name, of a recording.
 fn checked<R: Threads + Wait + Sync, P: Place>(

@@ -17,4 +17,4 @@ pub use memory::{MemorySink, MemorySource};
 pub use noted::Noted;
 pub use place::{InputFault, Place, Tally};
 pub use progress::{BETWEEN_LINES, FIRST_LINE, Line, Progress, line_due};
-pub use whole::{ReadError, read_all, write_all};
+pub use whole::{ReadError, read_all, read_more, write_all};

@@ -19,20 +19,21 @@ pub enum ReadError {
 /// How many bytes are asked for at once.
 const PIECE: usize = 65_536;
 
-/// Adds what a source gives next; false at its end.
-fn gather<R: Source>(
+/// Adds what a source gives next, as much as the piece has room for at most, and answers how many bytes these are, none
+/// at its end. An error is a read that failed, or want of memory.
+pub fn read_more<R: Source>(
     source: &mut R,
     piece: &mut [u8],
     bytes: &mut Vec<u8>,
-) -> Result<bool, ReadError>
+) -> Result<usize, ReadError>
     requires failures { CanGrow (R.read_failures source.old) }
     requires room { 0 < length piece.old }
     ensures kept { length piece.new ≡ length piece.old }
     ensures gathered { OnOk result (Gathers (R.left source.old) (R.left source.new)
         bytes.old.items bytes.new.items) }
-    ensures more { IfOk result (λ more. more ≡ true → length bytes.old.items < length bytes.new.items) }
-    ensures met { IfOk result (λ more. more ≢ true → R.is_ended source.new ≡ true) }
-    ensures all { IfOk result (λ more. more ≢ true → IsAtEnd (R.left source.new)) }
+    ensures more { IfOk result (λ n. n ≢ 0 → length bytes.old.items < length bytes.new.items) }
+    ensures met { IfOk result (λ n. n ≡ 0 → R.is_ended source.new ≡ true) }
+    ensures all { IfOk result (λ n. n ≡ 0 → IsAtEnd (R.left source.new)) }
     ensures count { CountsBy failed_reads (R.read_failures source.old) (R.read_failures source.new) result }
 {
     match source.pull(piece) {
@@ -40,7 +41,7 @@ fn gather<R: Source>(
             let Ok(()) = bytes.extend_from_slice(&piece[..n]) else {
                 return Err(ReadError::OutOfMemory);
             };
-            Ok(n > 0)
+            Ok(n)
         }
         Err(Failed) => Err(ReadError::ReadFailed),
     }
@@ -60,7 +61,7 @@ fn gather_all<R: Source>(
     ensures all { OnOk result (IsAtEnd (R.left source.new)) }
     ensures count { CountsBy failed_reads (R.read_failures source.old) (R.read_failures source.new) result }
 {
-    'pieces: while gather(source, piece, bytes)? {}
+    'pieces: while read_more(source, piece, bytes)? > 0 {}
     Ok(())
 }
 

@@ -5,7 +5,9 @@ use Rattle.ledger.specs.declared.finding.Finding.{Finding}
 use Rattle.ledger.specs.declared.ledger.Ledger.{Ledger}
 use Rattle.ledger.specs.Counts.{IsLedger}
 use Rattle.surveys.specs.declared.error.SurveyError.{SurveyError}
-use Rattle.surveys.specs.declared.error.SurveyError.TheVariants.{ReadFailed, WriteFailed}
+use Rattle.devices.specs.declared.whole.ReadError.{ReadError}
+use Rattle.devices.specs.declared.whole.ReadError.TheVariants as errors
+use Rattle.surveys.specs.declared.error.SurveyError.TheVariants.{ReadFailed, WriteFailed, OutOfMemory}
 use Rattle.surveys.specs.Each.{each_text}
 use Rattle.surveys.specs.Found.{AreFindings, codes_of}
 use Rattle.surveys.specs.Lines.{IsCut, lines}
@@ -44,6 +46,11 @@ pub record IsSurveyOfRead (left_before left_after : Option (List ℕ)) (ledger :
   pub bytes : List ℕ
   pub read : Consumes left_before left_after bytes
   pub survey : IsSurvey bytes ledger each before after
+
+-- what is said of a source that was not read
+abbrev pub unread : ReadError → SurveyError
+unread errors.ReadFailed = ReadFailed
+unread errors.OutOfMemory = OutOfMemory
 
 -- how many reads failed
 abbrev pub failed_reads : SurveyError → ℕ

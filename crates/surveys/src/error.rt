@@ -1,6 +1,7 @@
 //! Why there is no survey.
 
 use common::OutOfMemory;
+use devices::ReadError;
 use thiserror::Error;
 
 /// Why there is no survey.
@@ -28,5 +29,19 @@ impl From<OutOfMemory> for SurveyError {
 
     fn from(_refused: OutOfMemory) -> SurveyError {
         SurveyError::OutOfMemory
+    }
+}
+
+impl From<ReadError> for SurveyError {
+    ghost use Rattle.std.specs.Prelude.{◌≡◌};
+    ghost use Rattle.surveys.specs.Surveys.{unread};
+
+    ghost from_gives = { λ error e. e ≡ unread error };
+
+    fn from(error: ReadError) -> SurveyError {
+        match error {
+            ReadError::ReadFailed => SurveyError::ReadFailed,
+            ReadError::OutOfMemory => SurveyError::OutOfMemory,
+        }
     }
 }

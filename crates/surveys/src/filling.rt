@@ -7,7 +7,7 @@ ghost use Rattle.surveys.specs.Lines.{IsWhole};
 ghost use Rattle.surveys.specs.Surveys.{failed_reads, failed_writes};
 
 use crate::error::SurveyError;
-use devices::{Failed, Source};
+use devices::{Source, read_more};
 use memchr::memrchr;
 
 /// How many bytes are asked for at once.
@@ -15,34 +15,6 @@ pub(crate) const PIECE: usize = 65_536;
 
 /// How many bytes a block has at least, but for the last one.
 const BLOCK: usize = 4_194_304;
-
-/// Adds what a source gives next to a block, and answers how many bytes, none at its end.
-fn pull_more<R: Source>(
-    source: &mut R,
-    piece: &mut [u8],
-    block: &mut Vec<u8>,
-) -> Result<usize, SurveyError>
-    requires failures { CanGrow (R.read_failures source.old) }
-    requires room { 0 < length piece.old }
-    ensures kept { length piece.new ≡ length piece.old }
-    ensures gathered { OnOk result (Gathers (R.left source.old) (R.left source.new)
-        block.old.items block.new.items) }
-    ensures more { IfOk result (λ n. n ≢ 0 → length block.old.items < length block.new.items) }
-    ensures met { IfOk result (λ n. n ≡ 0 → R.is_ended source.new ≡ true) }
-    ensures all { IfOk result (λ n. n ≡ 0 → IsAtEnd (R.left source.new)) }
-    ensures count { CountsBy failed_reads (R.read_failures source.old) (R.read_failures source.new) result }
-    ensures writes { IfErr result (λ e. failed_writes e ≡ 0) }
-{
-    match source.pull(piece) {
-        Ok(n) => {
-            let Ok(()) = block.extend_from_slice(&piece[..n]) else {
-                return Err(SurveyError::OutOfMemory);
-            };
-            Ok(n)
-        }
-        Err(Failed) => Err(SurveyError::ReadFailed),
-    }
-}
 
 /// Fills up a block, or, where it is to be prompt, takes what there is; false where the source has ended.
 pub(crate) fn fill<R: Source>(
@@ -62,13 +34,13 @@ pub(crate) fn fill<R: Source>(
     ensures count { CountsBy failed_reads (R.read_failures source.old) (R.read_failures source.new) result }
     ensures writes { IfErr result (λ e. failed_writes e ≡ 0) }
 {
-    let first = pull_more(source, piece, block)?;
+    let first = read_more(source, piece, block)?;
     if first == 0 {
         return Ok(false);
     }
     let mut is_full = first == piece.len();
     'pieces: while block.len() < BLOCK && (is_full || !prompt) {
-        let next = pull_more(source, piece, block)?;
+        let next = read_more(source, piece, block)?;
         if next == 0 {
             return Ok(false);
         }

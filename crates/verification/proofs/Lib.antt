@@ -5,3 +5,4 @@ pub mod Labels
 pub mod Heads
 pub mod Certificates
 pub mod Judged
+pub mod Findings

@@ -1,1 +1,2 @@
 pub mod Proof
+pub mod Checked

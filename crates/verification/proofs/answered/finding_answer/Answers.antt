@@ -2,8 +2,8 @@ use Rattle.std.proofs.Common.{◌≡◌, ◌++◌, ◌∷◌, ◌∙◌, [], ref
 use Rattle.std.specs.Prelude.{codes, decimal, string_bytes}
 use Rattle.std.proofs.lemmas.Result.{IfOk-weaker}
 use Rattle.verification.specs.declared.finding.Finding.TheVariants.{Holds, FaultAt, EndsEarly}
-use Rattle.commands.proofs.Findings.{fails_answer}
-use Rattle.commands.proofs.verify_command.finding_answer.Goals as goal
+use Rattle.verification.proofs.Findings.{fails_answer}
+use Rattle.verification.proofs.answered.finding_answer.Goals as goal
 
 pub returns-in_ok-text-in-FaultAt : goal.returns-in_ok-text-in-FaultAt
 returns-in_ok-text-in-FaultAt c x text exact =

@@ -7,7 +7,7 @@ use Rattle.report.specs.declared.printed.Answer.{Answer}
 use Rattle.verification.specs.declared.finding.Finding.{Finding}
 use Rattle.verification.specs.declared.finding.Finding.TheVariants.{Holds}
 use Rattle.verification.specs.Proof.{IsProof}
-use Rattle.commands.specs.Verify.{IsCheckAnswer}
+use Rattle.verification.specs.Checked.{IsCheckAnswer}
 
 -- that a text does not hold
 pub fails_answer : (x : Execution) (text : List ℕ) (finding : Finding) (answer : Answer) (rest : List ℕ)
