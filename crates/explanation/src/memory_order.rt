@@ -7,7 +7,9 @@ ghost use Rattle.explanation.specs.Order.{source_words, read_line, write_words, 
 ghost use Rattle.explanation.specs.Order.{lawful_lines, placed_lines, order_text};
 
 use common::{Addr, EventId, OutOfMemory};
-use event_texts::{event_of, put_address, put_indent, put_line, put_number, put_text, put_text_and_number};
+use event_texts::{
+    event_of, put_address, put_indent, put_line, put_number, put_text, put_text_and_number,
+};
 use indexmap::IndexSet;
 use program::Name;
 use recording::{Event, Recording, place};
