@@ -1,0 +1,27 @@
+-- Lines, and what stands behind them.
+use Rattle.std.proofs.Common.{◌≡◌, ◌∙◌, ◌<◌, ◌++◌, ◌∷◌, [], ℕ, List, Option, Some, ap, append_assoc}
+use Rattle.std.proofs.Common.{codes, decimal, arith, nat_eq, ne_eqb, false}
+use Rattle.report.specs.Counted.{count_line, cycle_line, first_line, place_name}
+
+-- a line of how many there are
+pub count_then : (name : List ℕ) (n : ℕ) (more : List ℕ)
+    → count_line name n ++ more ≡ name ++ (32 ∷ (decimal n ++ 10 ∷ more))
+count_then name n more = append_assoc name (32 ∷ (decimal n ++ 10 ∷ [])) more
+    ∙ ap (λ (t : List ℕ). name ++ (32 ∷ t)) (append_assoc (decimal n) (10 ∷ []) more)
+
+-- a line of a length of cycles
+pub cycle_then : (k n : ℕ) (more : List ℕ) → 0 < n
+    → cycle_line k n ++ more ≡ codes "cycle " ++ (decimal k ++ (codes ": " ++ (decimal n ++ 10 ∷ more)))
+cycle_then k n more some =
+    let fails : nat_eq n 0 ≡ false = ne_eqb n 0 (λ e. omega (arith, e, some)) in
+    rw fails (simp append_assoc)
+
+-- the line of a first place
+pub first_then : (name noun : List ℕ) (first : Option ℕ) (more : List ℕ) → first_line name noun first ++ more
+    ≡ codes "first " ++ (name ++ (codes ": " ++ (place_name noun first ++ 10 ∷ more)))
+first_then name noun first more = simp append_assoc
+
+-- what is printed of a place
+pub place_then : (noun : List ℕ) (n : ℕ) (more : List ℕ)
+    → place_name noun (Some n) ++ more ≡ noun ++ (32 ∷ (decimal n ++ more))
+place_then noun n more = append_assoc noun (32 ∷ decimal n) more

@@ -1,0 +1,185 @@
+-- Whole texts, part by part.
+use Rattle.std.proofs.Common.{◌≡◌, ◌∙◌, ◌<◌, ◌^◌, ◌+◌, ◌++◌, ◌∷◌, [], ℕ, List, Option, None, Some}
+use Rattle.std.proofs.Common.{ap, append_assoc, arith, codes, get_or, inl, inr, length, refl, sum}
+use Rattle.std.proofs.Common.{eq-eqb, false, nat_eq, ne_eqb, true}
+use Rattle.std.proofs.lemmas.Bool.{cases_lt}
+use Rattle.std.proofs.lemmas.List.{get_or_past}
+use Rattle.std.proofs.lemmas.List.Sums.{count_by-le-length}
+use Rattle.common.specs.declared.limits.TheConstants.{MAX_EVENTS}
+use Rattle.ledger.specs.declared.ledger.Ledger.{Ledger}
+use Rattle.ledger.specs.Counts.{AddsUp, IsLedger}
+use Rattle.ledger.specs.Kinds.{is_ordered, is_unjudged, is_overlook, is_cycle_of}
+use Rattle.ledger.specs.LedgerLaws.{adds_up}
+use Rattle.ledger.specs.Real.{AreApart, HasCodes, IsFirstOf, violation_count}
+use Rattle.ledger.specs.RealLaws.{firsts_fit, fitting_has_codes}
+use Rattle.report.specs.Counted.{count_line, cycle_lines, first_line, ledger_text, place_name}
+use Rattle.merging.specs.declared.kind.Kind.{Kind}
+use Rattle.merging.specs.declared.kind.Kind.TheVariants.{Campaign, Survey}
+use Rattle.merging.specs.Parts.{HasSameCounts, IsShort, IsShortPlace, count_lines, other_place, place_beside}
+use Rattle.merging.specs.Parts.{tail, told_place}
+use Rattle.merging.specs.Tells.{Tells, TellsUnjudged}
+use Rattle.merging.specs.Texts.{all_name, noun, text_of, unjudged_name}
+use Rattle.merging.proofs.LineTexts.{first_then}
+
+-- what was found is what was sought
+pub same_some : {A : Type 0} (a b : A) → Some a ≡ Some b → a ≡ b
+same_some a b same = cc
+
+-- the line of a first place without its first byte, and what stands behind it
+abbrev pub first_back : List ℕ → List ℕ → Option ℕ → List ℕ → List ℕ
+first_back name noun first more = codes "irst " ++ (name ++ (codes ": " ++ (place_name noun first ++ 10 ∷ more)))
+
+pub first_begins : (name noun : List ℕ) (first : Option ℕ) (more : List ℕ)
+    → first_line name noun first ++ more ≡ 102 ∷ first_back name noun first more
+first_begins name noun first more = first_then name noun first more
+
+-- the lines up to that of the first violation
+pub ledger_then : (kind : Kind) (l : Ledger) (more : List ℕ) → length l.cycles.items ≡ MAX_EVENTS + 1
+    → ledger_text (all_name kind) (unjudged_name kind) (noun kind) l ++ more
+    ≡ count_lines kind l.total l.ordered l.unjudged l.overlook (cycle_lines l.cycles.items (MAX_EVENTS + 1)
+    ++ 102 ∷ first_back (codes "violation") (noun kind) l.first more)
+ledger_then kind l more size =
+    six (count_line (all_name kind) l.total) (count_line (codes "ordered") l.ordered)
+    (count_line (unjudged_name kind) l.unjudged) (count_line (codes "overlook") l.overlook)
+    (cycle_lines l.cycles.items (length l.cycles.items)) (first_line (codes "violation") (noun kind) l.first) more
+    ∙ ap (λ (t : List ℕ). count_lines kind l.total l.ordered l.unjudged l.overlook t)
+    (ap (λ (n : ℕ). cycle_lines l.cycles.items n ++ (first_line (codes "violation") (noun kind) l.first ++ more)) size
+    ∙ ap (λ (t : List ℕ). cycle_lines l.cycles.items (MAX_EVENTS + 1) ++ t)
+    (first_begins (codes "violation") (noun kind) l.first more))
+  where
+    six : (a b c d e f g : List ℕ) → (((((a ++ b) ++ c) ++ d) ++ e) ++ f) ++ g ≡ a ++ (b ++ (c ++ (d ++ (e ++ (f ++ g)))))
+    six a b c d e f g = simp append_assoc
+
+-- a text, and what stands behind the line of the first violation
+pub text_then : (kind : Kind) (l : Ledger) (more : List ℕ) → text_of kind l ++ more
+    ≡ ledger_text (all_name kind) (unjudged_name kind) (noun kind) l ++ (tail kind l.first_unjudged ++ more)
+text_then Campaign l more = refl
+text_then Survey l more = append_assoc (ledger_text (all_name Survey) (unjudged_name Survey) (noun Survey) l)
+    (tail Survey l.first_unjudged) more
+
+-- a place below a number of 64 bits
+short_place : (count total : ℕ) (o : Option ℕ) → total < 2 ^ 64 → IsFirstOf count total o → IsShortPlace o
+short_place count total None few fits = tt
+short_place count total (Some i) few fits = omega (arith, few, fits.0, fits.1)
+
+-- what few codes have has 64 bits
+pub short_ledger : (codes : List ℕ) (l : Ledger) → IsLedger codes l → length codes < 2 ^ 64 → IsShort l
+short_ledger codes l is few =
+    let fits = firsts_fit codes l is in
+    let total : l.total < 2 ^ 64 = omega (arith, is.total, few) in record {
+      total = total;
+      ordered = omega (arith, is.ordered, few, count_by-le-length is_ordered codes);
+      unjudged = omega (arith, is.unjudged, few, count_by-le-length is_unjudged codes);
+      overlook = omega (arith, is.overlook, few, count_by-le-length is_overlook codes);
+      lengths = is.lengths;
+      cycles = λ n. elim (cases_lt n (MAX_EVENTS + 1)) [
+        | inl low ↦ omega (
+          arith,
+          is.cycles n (omega (arith, low)),
+          few,
+          count_by-le-length (is_cycle_of n) codes,
+        )
+        | inr past ↦ omega (arith, get_or_past l.cycles.items n 0 (omega (arith, past, is.lengths)))
+      ];
+      first = short_place (violation_count l) l.total l.first total fits.violation;
+      first_unjudged = short_place l.unjudged l.total l.first_unjudged total fits.unjudged;
+    }
+
+-- the same counts add up as well
+sums_again : (l m : Ledger) → HasSameCounts l m → AddsUp m → AddsUp l
+sums_again l m same sums = omega (
+  arith,
+  same.total,
+  same.ordered,
+  same.unjudged,
+  same.overlook,
+  ap sum same.cycles,
+  sums,
+)
+
+-- no place is apart from each
+apart_none : (ordered : ℕ) (first : Option ℕ) → AreApart ordered first None
+apart_none ordered None = tt
+apart_none ordered (Some i) = tt
+
+-- a place that is not the first violation's fits
+other_fits : (unjudged total ordered violations : ℕ) (first : Option ℕ) → 0 < unjudged
+    → ordered + unjudged + violations ≡ total → IsFirstOf violations total first
+    → IsFirstOf unjudged total (Some (other_place first)) × AreApart ordered first (Some (other_place first))
+other_fits u total ordered violations None some sums fits = ((some, omega (arith, sums)), tt)
+other_fits u total ordered violations (Some i) some sums fits = elim (cases_lt 0 i) [
+  | inl behind ↦ let other : nat_eq i 0 ≡ false = ne_eqb i 0 (λ e. omega (arith, e, behind)) in
+      rw other ((some, omega (arith, sums)), ((λ same. omega (arith, same, behind)), inr (omega arith)))
+  | inr not ↦ let here : nat_eq i 0 ≡ true = eq-eqb i 0 (omega (arith, not)) in
+      rw here ((some, omega (arith, sums, fits.0)), ((λ same. omega (arith, same, not)), inl (omega (arith, not))))
+]
+
+-- a place beside the first violation fits, or none where none is needed
+beside_fits : (unjudged total ordered violations : ℕ) (first : Option ℕ) → ordered + unjudged + violations ≡ total
+    → IsFirstOf violations total first → IsFirstOf unjudged total (place_beside first unjudged)
+    × AreApart ordered first (place_beside first unjudged)
+beside_fits u total ordered violations first sums fits = elim (cases_lt 0 u) [
+  | inl some ↦ let more : nat_eq u 0 ≡ false = ne_eqb u 0 (λ e. omega (arith, e, some)) in
+      rw more (other_fits u total ordered violations first some sums fits)
+  | inr not ↦ let none : nat_eq u 0 ≡ true = eq-eqb u 0 (omega (arith, not)) in
+      rw none (omega (arith, not), apart_none ordered first)
+]
+
+-- a text that some codes have is that of the ledger of some codes, which is read of it
+pub real_again : (kind : Kind) (codes : List ℕ) (l m : Ledger) → IsLedger codes m
+    → length l.cycles.items ≡ MAX_EVENTS + 1 → HasSameCounts l m
+    → l.first_unjudged ≡ told_place kind (place_beside l.first l.unjudged) m.first_unjudged → HasCodes l
+real_again Campaign codes l m is size same place =
+    let fits = firsts_fit codes m is in
+    let sums : AddsUp l = sums_again l m same (adds_up codes m is) in
+    let counted : violation_count l ≡ violation_count m = omega (arith, same.overlook, ap sum same.cycles) in
+    let first : IsFirstOf (violation_count l) l.total l.first =
+    rw (counted, same.total, same.first) fits.violation in
+    let beside = beside_fits l.unjudged l.total l.ordered (violation_count l) l.first (omega (arith, sums)) first in
+    fitting_has_codes l size sums (record {
+      violation = first;
+      unjudged = rw place beside.0;
+      apart = rw place beside.1;
+    })
+real_again Survey codes l m is size same place = record {
+  codes = codes;
+  is = record {
+    total = same.total ∙ is.total;
+    ordered = same.ordered ∙ is.ordered;
+    unjudged = same.unjudged ∙ is.unjudged;
+    overlook = same.overlook ∙ is.overlook;
+    lengths = size;
+    cycles = λ n within. ap (λ (xs : List ℕ). get_or xs n 0) same.cycles ∙ is.cycles n within;
+    first = same.first ∙ is.first;
+    first_unjudged = place ∙ is.first_unjudged;
+  };
+}
+
+-- and it tells of these codes
+pub tells_again : (kind : Kind) (codes : List ℕ) (l m : Ledger) → IsLedger codes m
+    → length l.cycles.items ≡ MAX_EVENTS + 1 → HasSameCounts l m
+    → l.first_unjudged ≡ told_place kind (place_beside l.first l.unjudged) m.first_unjudged → Tells kind codes l
+tells_again kind codes l m is size same place = record {
+  total = same.total ∙ is.total;
+  ordered = same.ordered ∙ is.ordered;
+  unjudged = same.unjudged ∙ is.unjudged;
+  overlook = same.overlook ∙ is.overlook;
+  lengths = size;
+  cycles = λ n within. ap (λ (xs : List ℕ). get_or xs n 0) same.cycles ∙ is.cycles n within;
+  first = same.first ∙ is.first;
+  first_unjudged = go kind place;
+}
+  where
+    go : (kind : Kind) → l.first_unjudged ≡ told_place kind (place_beside l.first l.unjudged) m.first_unjudged
+        → TellsUnjudged kind codes l
+    go Campaign place = tt
+    go Survey place = place ∙ is.first_unjudged
+
+-- no text is empty
+byte_some : (xs : List ℕ) (b : ℕ) → 0 < b → get_or xs 0 0 ≡ b → 0 < length xs
+byte_some [] b some at = absurd (omega (arith, some, at))
+byte_some (x ∷ xs) b some at = omega arith
+
+pub text_some : (kind : Kind) (l : Ledger) → 0 < length (text_of kind l)
+text_some Campaign l = byte_some (text_of Campaign l) 116 (omega arith) refl
+text_some Survey l = byte_some (text_of Survey l) 114 (omega arith) refl

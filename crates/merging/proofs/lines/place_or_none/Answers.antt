@@ -1,0 +1,14 @@
+use Rattle.std.proofs.Common.{◌++◌, ◌∷◌, ◌∙◌, [], ℕ, List, None, Some, ap, append_assoc, decimal, refl, sym}
+use Rattle.std.proofs.lemmas.Bool.{false≢true}
+use Rattle.merging.specs.Texts.{noun}
+use Rattle.merging.proofs.LineTexts.{place_then}
+use Rattle.merging.proofs.lines.place_or_none.Goals as goal
+
+pub returns-then-not-take-clause-only : goal.returns-then-not-take-clause-only
+returns-then-not-take-clause-only c None more short is = absurd (false≢true (c.if-take.ensures.only more is).0)
+returns-then-not-take-clause-only c (Some n) more short is =
+    let back : List ℕ = decimal n ++ 10 ∷ more in
+    absurd (false≢true (c.if-not-take.ensures.only back (c.if-take.ensures.kept refl ∙ is
+    ∙ place_then (noun c.args.kind) n (10 ∷ more)
+    ∙ sym (append_assoc (noun c.args.kind) (32 ∷ []) back)
+    ∙ ap (λ (t : List ℕ). t ++ back) (sym c.noun.ensures))).0)

@@ -1,0 +1,66 @@
+-- The parts of a text.
+use Rattle.std.specs.Prelude.{◌≡◌, ◌⊎◌, ◌+◌, ◌++◌, ◌∷◌, ◌<◌, ◌^◌, ◌==◌, [], ℕ, List, Option, None, Some, IfSome}
+use Rattle.std.specs.Prelude.{codes, decimal, if◌then◌else◌, length, slice_index}
+use Rattle.common.specs.declared.limits.TheConstants.{MAX_EVENTS}
+use Rattle.ledger.specs.declared.ledger.Ledger.{Ledger}
+use Rattle.report.specs.Counted.{count_line, first_line}
+use Rattle.merging.specs.declared.kind.Kind.{Kind}
+use Rattle.merging.specs.declared.kind.Kind.TheVariants.{Campaign, Survey}
+use Rattle.merging.specs.Texts.{all_name, noun, unjudged_name}
+
+-- the numbers have 64 bits
+abbrev pub AreShort : List ℕ → Type 0
+AreShort counts = (n : ℕ) → slice_index counts n < 2 ^ 64
+
+-- the place, where there is one, has 64 bits
+abbrev pub IsShortPlace : Option ℕ → Type 0
+IsShortPlace place = IfSome place (λ n. n < 2 ^ 64)
+
+-- the first four lines, and what stands behind them
+abbrev pub count_lines : Kind → ℕ → ℕ → ℕ → ℕ → List ℕ → List ℕ
+count_lines kind n o u v more = count_line (all_name kind) n ++ (count_line (codes "ordered") o
+    ++ (count_line (unjudged_name kind) u ++ (count_line (codes "overlook") v ++ more)))
+
+-- the line of a longer cycle than this stands next, or that of the first violation
+abbrev pub IsLater : ℕ → List ℕ → Type 0
+IsLater cycle text = ((more : List ℕ) × (text ≡ 102 ∷ more))
+    ⊎ ((n : ℕ) × (more : List ℕ) × (cycle < n) × (n < 2 ^ 64) × (text ≡ codes "cycle " ++ (decimal n ++ 58 ∷ more)))
+
+-- a ledger with these counts and these first places has 64 bits for each
+pub record IsShort (l : Ledger) : Type 0 where
+  pub total : l.total < 2 ^ 64
+  pub ordered : l.ordered < 2 ^ 64
+  pub unjudged : l.unjudged < 2 ^ 64
+  pub overlook : l.overlook < 2 ^ 64
+  pub lengths : length l.cycles.items ≡ MAX_EVENTS + 1
+  pub cycles : AreShort l.cycles.items
+  pub first : IsShortPlace l.first
+  pub first_unjudged : IsShortPlace l.first_unjudged
+
+-- two ledgers have the same counts and the same first violation
+pub record HasSameCounts (l m : Ledger) : Type 0 where
+  pub total : l.total ≡ m.total
+  pub ordered : l.ordered ≡ m.ordered
+  pub unjudged : l.unjudged ≡ m.unjudged
+  pub overlook : l.overlook ≡ m.overlook
+  pub cycles : l.cycles.items ≡ m.cycles.items
+  pub first : l.first ≡ m.first
+
+-- what stands behind the line of the first violation: of a survey the line of the first that is refused
+abbrev pub tail : Kind → Option ℕ → List ℕ
+tail Campaign place = []
+tail Survey place = first_line (codes "refused") (noun Survey) place
+
+-- a place that is not the first violation's
+abbrev pub other_place : Option ℕ → ℕ
+other_place None = 0
+other_place (Some place) = if place == 0 then 1 else 0
+
+-- a first place of what has no verdict beside the first violation, where some have none
+abbrev pub place_beside : Option ℕ → ℕ → Option ℕ
+place_beside first unjudged = if unjudged == 0 then None else Some (other_place first)
+
+-- the first place of what has no verdict: of a survey as it is told, of a campaign another one
+abbrev pub told_place : Kind → Option ℕ → Option ℕ → Option ℕ
+told_place Campaign other told = other
+told_place Survey other told = told

@@ -1,0 +1,69 @@
+//! The lines of the lengths of cycles.
+
+ghost use Rattle.std.specs.Prelude.{◌≡◌, ◌<◌, ◌^◌, ◌+◌, ◌++◌, ◌∷◌, ℕ, List, Some, IfOk, IfSome, MatchOption, length};
+ghost use Rattle.common.specs.declared.limits.TheConstants.{MAX_EVENTS};
+ghost use Rattle.report.specs.Counted.{cycle_line, cycle_lines};
+ghost use Rattle.merging.specs.Parts.{AreShort, IsLater};
+
+use crate::cursor::Cursor;
+use common::{MAX_EVENTS, OutOfMemory};
+use std::alloc::Global;
+
+/// Takes the line of this length of cycles, and gives how many there are, which is not 0.
+fn counted(rest: &mut Cursor<'_>, cycle: usize) -> Option<usize>
+    ensures found { IfSome result (λ n. rest.old ≡ cycle_line cycle n ++ rest.new) }
+    ensures only { (n : ℕ) (more : List ℕ) → 0 < n → n < 2 ^ 64 → rest.old ≡ cycle_line cycle n ++ more
+        → (result ≡ Some n) × (rest.new ≡ more) }
+{
+    if !rest.take(b"cycle ") {
+        return None;
+    }
+    if rest.number() != Some(cycle) {
+        return None;
+    }
+    if !rest.take(b": ") {
+        return None;
+    }
+    let Some(count) = rest.number() else {
+        return None;
+    };
+    if count == 0 || !rest.take(b"\n") {
+        return None;
+    }
+    Some(count)
+}
+
+/// How many recordings have a least cycle of this length, by its line, where it stands next.
+fn cycle_count(rest: &mut Cursor<'_>, cycle: usize) -> Option<usize>
+    ensures found { IfSome result (λ n. rest.old ≡ cycle_line cycle n ++ rest.new) }
+    ensures here { (n : ℕ) (more : List ℕ) → 0 < n → n < 2 ^ 64 → rest.old ≡ cycle_line cycle n ++ more
+        → (result ≡ Some n) × (rest.new ≡ more) }
+    ensures later { IsLater cycle rest.old → (result ≡ Some 0) × (rest.new ≡ rest.old) }
+{
+    if rest.next_cycle() != Some(cycle) {
+        return Some(0);
+    }
+    counted(rest, cycle)
+}
+
+/// How many recordings have a least cycle of each length, by the lines of those that occur, ascending. Fails only if
+/// out of memory.
+pub(crate) fn cycle_counts(
+    rest: &mut Cursor<'_>,
+    alloc: Global,
+) -> Result<Option<Vec<usize>>, OutOfMemory>
+    ensures found { IfOk result (λ r. IfSome r (λ v. (length v.items ≡ MAX_EVENTS + 1)
+        × (rest.old ≡ cycle_lines v.items (MAX_EVENTS + 1) ++ rest.new))) }
+    ensures only { IfOk result (λ r. (counts more : List ℕ) → length counts ≡ MAX_EVENTS + 1 → AreShort counts
+        → rest.old ≡ cycle_lines counts (MAX_EVENTS + 1) ++ 102 ∷ more
+        → MatchOption r ⊥ (λ v. v.items ≡ counts) × (rest.new ≡ 102 ∷ more)) }
+{
+    let mut counts = Vec::with_capacity(alloc, MAX_EVENTS + 1)?;
+    for cycle in 0..MAX_EVENTS + 1 {
+        let Some(count) = cycle_count(rest, cycle) else {
+            return Ok(None);
+        };
+        counts.push(count)?;
+    }
+    Ok(Some(counts))
+}

@@ -1,0 +1,14 @@
+//! Texts of campaigns and of surveys, read and added up to one.
+#![tactic(auto)]
+
+mod cursor;
+mod cycles;
+mod fault;
+mod kind;
+mod lines;
+mod merged;
+mod text;
+
+pub use fault::{MergeError, MergeRefusal};
+pub use kind::Kind;
+pub use merged::{Merged, merge};
