@@ -34,7 +34,7 @@ int main(int argc, char **argv)
     message_passing(0);
     assert(tsotest_dpi_judge() == CYCLE && !strcmp(tsotest_dpi_message(), ""));
     assert(!strcmp(tsotest_dpi_program(), "core\nst x40 1\nst x44 2\ncore\nld x44\nld x40\n"));
-    assert(strstr(tsotest_dpi_explanation(), "(MP)") && !strncmp(tsotest_dpi_reduction(), "events 0 1 2 3\n\ncore\nst x40 1\n", 31));
+    assert(strstr(tsotest_dpi_explanation(), "(MP)") && !strncmp(tsotest_dpi_reduction(), "events 0 1 2 3\n\ncore\nst x40 1\n", 30));
     assert(tsotest_dpi_save(argv[1]) == 0 && tsotest_dpi_save("/nowhere/at/all") == 1);
 
     tsotest_dpi_begin(1);
