@@ -1,7 +1,7 @@
-//! The call of the static library of the crate `verdicts`.
+//! The call of the library, `out/libtsotest.a`.
 
 unsafe extern "C" {
-    fn verdicts_judge(
+    fn tsotest_judge(
         text: *const u8,
         text_len: usize,
         out: *mut u8,
@@ -15,7 +15,7 @@ pub fn judge<'a>(text: &str, out: &'a mut [u8]) -> &'a [u8] {
     let mut len = 0;
     // The library reads `text` and writes `out`, each within its length, and `len`.
     let status = unsafe {
-        verdicts_judge(
+        tsotest_judge(
             text.as_ptr(),
             text.len(),
             out.as_mut_ptr(),
@@ -23,6 +23,6 @@ pub fn judge<'a>(text: &str, out: &'a mut [u8]) -> &'a [u8] {
             &mut len,
         )
     };
-    assert_eq!(status, 0, "no verdict");
+    assert!(status == 0 || status == 2, "no verdict");
     &out[..len]
 }

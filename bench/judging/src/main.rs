@@ -7,7 +7,7 @@
 //! judging --survey FILE THREADS
 //! judging --library FILE
 //!
-//! `bench/judge_in_process` builds it against the static library of the crate `verdicts` and runs it.
+//! `bench/judge_in_process` builds it against the library, `out/libtsotest.a`, and runs it.
 //! With EVENTS it prints a recording of so many events instead: of the kind `ordered`, `cyclic`,
 //! `overlook` or `ring`, or else a cyclic one, from the seed SEED, or else 0. With `--spaced` the texts
 //! have their keys in another order and a blank behind each comma and colon; the reader of one layout is

@@ -1,0 +1,91 @@
+-- How answers come out.
+use Rattle.std.proofs.Common.{◌≡◌, ◌≢◌, ◌⊎◌, inl, inr, ℕ, List, Option, refl, sym}
+use Rattle.program.specs.Parts.{Parts}
+use Rattle.recording.specs.Execution.{Execution}
+use Rattle.judge.specs.declared.verdict.Verdict.{Verdict}
+use Rattle.judge.specs.declared.verdict.Verdict.TheVariants.{Ordered, Overlook, Cycle}
+use Rattle.report.specs.declared.outcome.Outcome.{Outcome}
+use Rattle.report.specs.declared.outcome.Outcome.TheVariants as outcome
+use Rattle.report.specs.declared.printed.Answer.{Answer}
+use Rattle.report.specs.Answer.{IsAnswerOf, outcome_of}
+use Rattle.answers.specs.declared.told.Telling.{Telling}
+use Rattle.answers.specs.declared.told.Telling.TheVariants.{Words, Picture, Reduction}
+use Rattle.answers.specs.Reduced.{IsReducedAnswer}
+use Rattle.answers.specs.Told.{IsToldAnswer}
+use Rattle.verification.specs.Checked.{IsCheckAnswer}
+use Rattle.tsotest_library.specs.Checked.{IsCheckOf}
+use Rattle.tsotest_library.specs.Told.{IsToldBy, IsToldOf}
+
+-- well, as a violation or as a refusal
+abbrev pub ComesOut : Outcome → Outcome → Type 0
+ComesOut well o = (o ≡ well) ⊎ ((o ≡ outcome.Violation) ⊎ (o ≡ outcome.Refused))
+
+-- so does what is none of the others
+one_of : (well o : Outcome) → (well ≡ outcome.Ordered) ⊎ (well ≡ outcome.Done)
+    → (o ≢ well → o ≢ outcome.Violation → ⊥) → ComesOut well o
+one_of well outcome.Ordered (inl e) other = inl (sym e)
+one_of well outcome.Ordered (inr e) other = absurd (other (λ f. cc) (λ f. cc))
+one_of well outcome.Violation is other = inr (inl refl)
+one_of well outcome.Refused is other = inr (inr refl)
+one_of well outcome.Unfinished (inl e) other = absurd (other (λ f. cc) (λ f. cc))
+one_of well outcome.Unfinished (inr e) other = absurd (other (λ f. cc) (λ f. cc))
+one_of well outcome.Done (inl e) other = absurd (other (λ f. cc) (λ f. cc))
+one_of well outcome.Done (inr e) other = inl (sym e)
+one_of well outcome.Fault (inl e) other = absurd (other (λ f. cc) (λ f. cc))
+one_of well outcome.Fault (inr e) other = absurd (other (λ f. cc) (λ f. cc))
+
+-- as a verdict does
+verdict_outcome : (v : Verdict) (o : Outcome) → o ≡ outcome_of v → ComesOut outcome.Ordered o
+verdict_outcome (Ordered order) o e = inl e
+verdict_outcome (Overlook load store) o e = inr (inl e)
+verdict_outcome (Cycle certificate) o e = inr (inl e)
+
+-- no verdict comes out as neither
+no_verdict : (v : Verdict) (o : Outcome) → o ≡ outcome_of v → o ≢ outcome.Ordered → o ≢ outcome.Violation → ⊥
+no_verdict (Ordered order) o e order_not violation_not = order_not e
+no_verdict (Overlook load store) o e order_not violation_not = violation_not e
+no_verdict (Cycle certificate) o e order_not violation_not = violation_not e
+
+-- what is answered to the bytes of a recording
+pub answer_outcome : (bytes : List ℕ) (a : Answer) → IsAnswerOf bytes a → ComesOut outcome.Ordered a.outcome
+answer_outcome bytes a (inl judged) = verdict_outcome judged.answered.verdict a.outcome judged.answered.outcome
+answer_outcome bytes a (inr refused) = inr (inr refused.outcome)
+
+-- what is left of a recording
+reduced_outcome : (x : Execution) (p : Option Parts) (a : Answer) → IsReducedAnswer x p a
+    → ComesOut outcome.Ordered a.outcome
+reduced_outcome x p a is = one_of outcome.Ordered a.outcome (inl refl) (λ order_not violation_not.
+    violation_not ((is.violation (λ m tso.
+    let told = is.ordered m tso in no_verdict told.verdict a.outcome told.outcome order_not violation_not)).outcome))
+
+-- what is told of a recording
+told_outcome : (telling : Telling) (x : Execution) (p : Option Parts) (a : Answer) → IsToldAnswer telling x p a
+    → ComesOut outcome.Ordered a.outcome
+told_outcome Words x p a is = verdict_outcome is.verdict a.outcome is.outcome
+told_outcome (Picture all) x p a is = verdict_outcome is.verdict a.outcome is.outcome
+told_outcome Reduction x p a is = reduced_outcome x p a is
+
+-- the same by the text of its program
+told_by_outcome : (telling : Telling) (x : Execution) (text : List ℕ) (a : Answer) → IsToldBy telling x text a
+    → ComesOut outcome.Ordered a.outcome
+told_by_outcome telling x text a (inl told) = told_outcome telling x told.program a told.told
+told_by_outcome telling x text a (inr refused) = elim refused.1 [
+  | inl line ↦ inr (inr line.outcome)
+  | inr other ↦ inr (inr other.outcome)
+]
+
+-- and of the recording that the bytes are
+pub told_of_outcome : (telling : Telling) (bytes text : List ℕ) (a : Answer) → IsToldOf telling bytes text a
+    → ComesOut outcome.Ordered a.outcome
+told_of_outcome telling bytes text a (inl told) = told_by_outcome telling told.recording text a told.told
+told_of_outcome telling bytes text a (inr refused) = inr (inr refused.outcome)
+
+-- what is answered to a verdict
+check_outcome : (x : Execution) (text : List ℕ) (a : Answer) → IsCheckAnswer x text a → ComesOut outcome.Done a.outcome
+check_outcome x text a is = one_of outcome.Done a.outcome (inr refl) (λ holds_not fails_not.
+    fails_not ((is.fails (λ proof. holds_not (is.holds proof).0)).0))
+
+-- of the recording that the bytes are
+pub check_of_outcome : (bytes text : List ℕ) (a : Answer) → IsCheckOf bytes text a → ComesOut outcome.Done a.outcome
+check_of_outcome bytes text a (inl checked) = check_outcome checked.recording text a checked.answered
+check_of_outcome bytes text a (inr refused) = inr (inr refused.outcome)

@@ -1,0 +1,17 @@
+-- What is answered to a verdict from anywhere.
+use Rattle.std.specs.Prelude.{◌⊎◌, ℕ, List, Ok}
+use Rattle.recording.specs.Execution.{Execution}
+use Rattle.recorder.specs.Reading.{IsReadingResult}
+use Rattle.report.specs.declared.printed.Answer.{Answer}
+use Rattle.report.specs.Answer.{IsRefusedAnswer}
+use Rattle.verification.specs.Checked.{IsCheckAnswer}
+
+-- the answer to a text, of the recording that the bytes are
+pub record IsChecked (bytes text : List ℕ) (answer : Answer) : Type 0 where
+  pub recording : Execution
+  pub read : IsReadingResult bytes (Ok recording)
+  pub answered : IsCheckAnswer recording text answer
+
+-- it, or that the bytes are refused
+abbrev pub IsCheckOf : List ℕ → List ℕ → Answer → Type 0
+IsCheckOf bytes text answer = IsChecked bytes text answer ⊎ IsRefusedAnswer bytes answer

@@ -1,0 +1,40 @@
+-- What a call leaves in its caller's buffers.
+use Rattle.std.specs.Prelude.{◌≡◌, ◌≤◌, ◌<◌, ◌++◌, ℕ, List, drop, length}
+use Rattle.ledger.specs.declared.ledger.Ledger.{Ledger}
+use Rattle.ledger.specs.Counts.{IsLedger}
+use Rattle.report.specs.declared.outcome.Outcome.{Outcome}
+use Rattle.report.specs.declared.outcome.Outcome.TheVariants.{Refused}
+use Rattle.report.specs.declared.printed.Answer.{Answer}
+use Rattle.answers.specs.Campaign.{ledger_outcome}
+use Rattle.surveys.specs.Coded.{AreLineCodes}
+
+-- a text, n long, stands at the front of the buffer where it has room; else the buffer stays
+pub record IsWritten (text old new : List ℕ) (n : ℕ) : Type 0 where
+  pub size : n ≡ length text
+  pub fits : length text ≤ length old → new ≡ text ++ drop (length text) old
+  pub stays : length old < length text → new ≡ old
+
+-- nothing is written
+pub record IsNothing (old new : List ℕ) (n : ℕ) : Type 0 where
+  pub size : n ≡ 0
+  pub stays : new ≡ old
+
+-- the text of such an answer, which came out so
+pub record IsGiven (Is : Answer → Type 0) (outcome : Outcome) (old new : List ℕ) (n : ℕ) : Type 0 where
+  pub answer : Answer
+  pub is : Is answer
+  pub outcome_is : answer.outcome ≡ outcome
+  pub written : IsWritten answer.text.items old new n
+
+-- how a survey of recordings with these codes comes out
+pub record IsOutcomeOf (codes : List ℕ) (outcome : Outcome) : Type 0 where
+  pub ledger : Ledger
+  pub counted : IsLedger codes ledger
+  pub is : outcome ≡ ledger_outcome Refused ledger
+
+-- the codes of what is found in the lines, in order; a survey of them comes out so
+pub record AreGiven (lines : List ℕ) (outcome : Outcome) (old new : List ℕ) (n : ℕ) : Type 0 where
+  pub codes : List ℕ
+  pub are : AreLineCodes lines codes
+  pub outcome_is : IsOutcomeOf codes outcome
+  pub written : IsWritten codes old new n

@@ -1,0 +1,34 @@
+-- Why the text of a program is refused.
+use Rattle.std.specs.Prelude.{◌≡◌, ◌⊎◌, ◌++◌, ◌∷◌, [], ℕ, List, Ok, Err, codes, decimal}
+use Rattle.program.specs.declared.fault.LineFault.{LineFault}
+use Rattle.answers.specs.Refusals.{line_fault_name}
+use Rattle.program.specs.Parts.{Parts}
+use Rattle.program.specs.Text.{reading}
+use Rattle.recording.specs.Execution.{Execution}
+use Rattle.machine.specs.ProgramOf.{IsProgramOf}
+use Rattle.report.specs.declared.outcome.Outcome.TheVariants.{Refused}
+use Rattle.report.specs.declared.printed.Answer.{Answer}
+
+-- the line that is printed for line k of a program
+abbrev pub refusal_line : LineFault → ℕ → List ℕ
+refusal_line fault k = codes "refused: " ++ line_fault_name fault ++ codes " line " ++ decimal k ++ 10 ∷ []
+
+-- the first line of the text at fault
+pub record IsLineRefused (text : List ℕ) (answer : Answer) : Type 0 where
+  pub fault : LineFault
+  pub line : ℕ
+  pub read : reading text ≡ Err (fault, line)
+  pub outcome : answer.outcome ≡ Refused
+  pub printed : answer.text.items ≡ refusal_line fault line
+
+-- the text is that of a program, and the recording is none of it
+pub record IsOther (x : Execution) (text : List ℕ) (answer : Answer) : Type 0 where
+  pub program : Parts
+  pub read : reading text ≡ Ok program
+  pub other : ¬ IsProgramOf program x
+  pub outcome : answer.outcome ≡ Refused
+  pub printed : answer.text.items ≡ codes "refused: N9" ++ 10 ∷ []
+
+-- the text is refused, by itself or for the recording
+abbrev pub IsProgramRefused : Execution → List ℕ → Answer → Type 0
+IsProgramRefused x text answer = IsLineRefused text answer ⊎ IsOther x text answer

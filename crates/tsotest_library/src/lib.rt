@@ -1,0 +1,179 @@
+//! The commands of the program as calls for C: bytes in, the command's text and exit status out.
+#![tactic(auto)]
+
+ghost use Rattle.std.specs.Prelude.{◌≡◌, ◌≤◌, ◌++◌, ◌∷◌, [], codes, true, false};
+ghost use Rattle.report.specs.declared.outcome.Outcome.TheVariants.{Done, Ordered, Refused, Violation};
+ghost use Rattle.answers.specs.declared.told.Telling.TheVariants.{Words, Picture, Reduction};
+ghost use Rattle.tsotest_library.specs.Given.{AreGiven, IsGiven, IsNothing, IsWritten};
+ghost use Rattle.tsotest_library.specs.Judged.{IsJudgedOf};
+ghost use Rattle.tsotest_library.specs.Told.{IsToldOf};
+ghost use Rattle.tsotest_library.specs.Checked.{IsCheckOf};
+
+mod buffers;
+mod checking;
+mod counting;
+mod judging;
+mod refusals;
+mod telling;
+#[cfg(test)]
+mod tests;
+
+use answers::Telling;
+use report::Outcome;
+use std::alloc::Global;
+use surveys::codes_of_lines;
+
+/// What `tsotest judge` prints of the recording that the bytes are, and its exit status: 0 where TSO allows it, 2
+/// where not, 3 where the bytes are refused, by N1 to N7; 1 where there is no memory, and then nothing is printed.
+///
+/// What is printed is written to the front of `out`, of which the rest stays, where it has room; else `out` stays.
+/// `len` is its length in bytes, in either case. So are the text and the status of each call here; none waits for
+/// anybody, starts a thread, or keeps anything.
+#[unsafe(no_mangle)]
+pub extern "C" fn tsotest_judge(
+    alloc: Global,
+    recording: &[u8],
+    out: &mut [u8],
+    len: &mut usize,
+) -> u8
+    // The numbers are those that a caller in C has: no constant stands for them.
+    ensures status { result ≤ 3 }
+    ensures allowed { result ≡ 0 → IsGiven (IsJudgedOf recording.now) Ordered out.old out.new len.new }
+    ensures no_memory { result ≡ 1 → IsNothing out.old out.new len.new }
+    ensures violation { result ≡ 2 → IsGiven (IsJudgedOf recording.now) Violation out.old out.new len.new }
+    ensures refused { result ≡ 3 → IsGiven (IsJudgedOf recording.now) Refused out.old out.new len.new }
+{
+    buffers::put_answer(judging::judged_answer(alloc, recording), out, len)
+}
+
+/// What `tsotest explain` prints of a recording, and its status: those of `tsotest_judge`, and 3 also where the text
+/// of the program is refused, by L1 to L8, or the recording is none of the program, N9. An empty text stands for no
+/// program.
+#[unsafe(no_mangle)]
+pub extern "C" fn tsotest_explain(
+    alloc: Global,
+    recording: &[u8],
+    program: &[u8],
+    out: &mut [u8],
+    len: &mut usize,
+) -> u8
+    ensures status { result ≤ 3 }
+    ensures allowed { result ≡ 0 →
+        IsGiven (IsToldOf Words recording.now program.now) Ordered out.old out.new len.new }
+    ensures no_memory { result ≡ 1 → IsNothing out.old out.new len.new }
+    ensures violation { result ≡ 2 →
+        IsGiven (IsToldOf Words recording.now program.now) Violation out.old out.new len.new }
+    ensures refused { result ≡ 3 →
+        IsGiven (IsToldOf Words recording.now program.now) Refused out.old out.new len.new }
+{
+    let answer = telling::told_answer_of(alloc, Telling::Words, recording, program);
+    buffers::put_answer(answer, out, len)
+}
+
+/// What `tsotest draw` prints of a recording, with `all` what it prints with `--all`, and its status: those of
+/// `tsotest_explain`.
+#[unsafe(no_mangle)]
+pub extern "C" fn tsotest_draw(
+    alloc: Global,
+    recording: &[u8],
+    program: &[u8],
+    all: bool,
+    out: &mut [u8],
+    len: &mut usize,
+) -> u8
+    ensures status { result ≤ 3 }
+    ensures allowed { result ≡ 0 →
+        IsGiven (IsToldOf (Picture all) recording.now program.now) Ordered out.old out.new len.new }
+    ensures no_memory { result ≡ 1 → IsNothing out.old out.new len.new }
+    ensures violation { result ≡ 2 →
+        IsGiven (IsToldOf (Picture all) recording.now program.now) Violation out.old out.new len.new }
+    ensures refused { result ≡ 3 →
+        IsGiven (IsToldOf (Picture all) recording.now program.now) Refused out.old out.new len.new }
+{
+    let answer = telling::told_answer_of(alloc, Telling::Picture { all }, recording, program);
+    buffers::put_answer(answer, out, len)
+}
+
+/// What `tsotest reduce` prints of a recording, and its status: those of `tsotest_explain`.
+#[unsafe(no_mangle)]
+pub extern "C" fn tsotest_reduce(
+    alloc: Global,
+    recording: &[u8],
+    program: &[u8],
+    out: &mut [u8],
+    len: &mut usize,
+) -> u8
+    ensures status { result ≤ 3 }
+    ensures allowed { result ≡ 0 →
+        IsGiven (IsToldOf Reduction recording.now program.now) Ordered out.old out.new len.new }
+    ensures no_memory { result ≡ 1 → IsNothing out.old out.new len.new }
+    ensures violation { result ≡ 2 →
+        IsGiven (IsToldOf Reduction recording.now program.now) Violation out.old out.new len.new }
+    ensures refused { result ≡ 3 →
+        IsGiven (IsToldOf Reduction recording.now program.now) Refused out.old out.new len.new }
+{
+    let answer = telling::told_answer_of(alloc, Telling::Reduction, recording, program);
+    buffers::put_answer(answer, out, len)
+}
+
+/// What `tsotest verify` prints of a recording and the text of a verdict, and its status: 0 where the verdict holds
+/// of the recording, 2 where it does not, 3 where the recording is refused; 1 where there is no memory.
+#[unsafe(no_mangle)]
+pub extern "C" fn tsotest_verify(
+    alloc: Global,
+    recording: &[u8],
+    verdict: &[u8],
+    out: &mut [u8],
+    len: &mut usize,
+) -> u8
+    ensures status { result ≤ 3 }
+    ensures holds { result ≡ 0 →
+        IsGiven (IsCheckOf recording.now verdict.now) Done out.old out.new len.new }
+    ensures no_memory { result ≡ 1 → IsNothing out.old out.new len.new }
+    ensures fails { result ≡ 2 →
+        IsGiven (IsCheckOf recording.now verdict.now) Violation out.old out.new len.new }
+    ensures refused { result ≡ 3 →
+        IsGiven (IsCheckOf recording.now verdict.now) Refused out.old out.new len.new }
+{
+    buffers::put_answer(checking::check_answer(alloc, recording, verdict), out, len)
+}
+
+/// Judges many recordings, one a line, as `tsotest survey` does: an empty line is none. The code of each is 3 of an
+/// order, 16 and K of a cycle of K events, 1,048,576 and 1,024 times the load and the store of an overlook, and
+/// 65,536 times 1 to 7 and the event or the address of a refusal by N1 to N7. They are written in order to the front
+/// of `codes`, of which the rest stays, where it has room; else `codes` stays. `count` is how many there are, in
+/// either case. The status is 2 where a recording is a violation, else 3 where one is refused, else 0; 1 where there
+/// is no memory.
+#[unsafe(no_mangle)]
+pub extern "C" fn tsotest_survey(
+    alloc: Global,
+    lines: &[u8],
+    codes: &mut [u64],
+    count: &mut usize,
+) -> u8
+    ensures status { result ≤ 3 }
+    ensures allowed { result ≡ 0 → AreGiven lines.now Done codes.old codes.new count.new }
+    ensures no_memory { result ≡ 1 → IsNothing codes.old codes.new count.new }
+    ensures violation { result ≡ 2 → AreGiven lines.now Violation codes.old codes.new count.new }
+    ensures refused { result ≡ 3 → AreGiven lines.now Refused codes.old codes.new count.new }
+{
+    *count = 0;
+    let Ok(found) = codes_of_lines(alloc, lines) else {
+        return Outcome::Fault.status();
+    };
+    let Ok(outcome) = counting::outcome_of(alloc, &found) else {
+        return Outcome::Fault.status();
+    };
+    buffers::put_codes(&found, codes, count);
+    outcome.status()
+}
+
+/// What `tsotest --version` prints; the status is 0.
+#[unsafe(no_mangle)]
+pub extern "C" fn tsotest_version(out: &mut [u8], len: &mut usize) -> u8
+    ensures status { result ≡ 0 }
+    ensures text { IsWritten (codes "tsotest 0.9.0" ++ 10 ∷ []) out.old out.new len.new }
+{
+    buffers::put_text(b"tsotest 0.9.0\n", out, len);
+    0
+}

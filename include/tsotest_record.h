@@ -1,0 +1,709 @@
+/* tsotest_record.h: makes the text of a recording from what a testbench sees.
+ *
+ * A testbench tells two things as they happen:
+ *
+ *   what each core executed, in that core's program order: tsotest_record_load, _store, _rmw, _failed_cas, _fence. The usual
+ *     place for these calls is where an instruction retires. Cores may be told in any order against each other;
+ *   in which order the writes of each address reached memory: tsotest_record_commit, called where a store or an atomic becomes
+ *     visible to the other cores: when it is written to a line that the core owns, or to the one memory. Addresses may be told
+ *     in any order against each other, and a commit before its store.
+ *
+ * Then tsotest_recording_text gives the recording, for the calls of tsotest.h or the commands of `tsotest`. It finds the write
+ * that each read got its value from by the value: so let no two writes of an address write the same value, nor the initial one;
+ * a counter does it. Where values repeat, tell sources by tsotest_record_source and commits by tsotest_record_commit_event.
+ *
+ *   static struct tsotest_record r;
+ *   tsotest_record_begin(&r, 2);
+ *   tsotest_record_store(&r, 0, 0x40, 1);
+ *   tsotest_record_load(&r, 0, 0x44, 0);
+ *   tsotest_record_store(&r, 1, 0x44, 2);
+ *   tsotest_record_load(&r, 1, 0x40, 0);
+ *   tsotest_record_commit(&r, 0, 0x40, 1);
+ *   tsotest_record_commit(&r, 1, 0x44, 2);
+ *   if (tsotest_write_recording(&r, stdout))
+ *       fprintf(stderr, "%s\n", r.message);
+ *
+ * Each call that records an event answers its number, from 0 in the order of the calls, or -1. The first fault is kept: r.error
+ * says which, r.message says it in words, and no text is given until the next tsotest_record_begin. So a testbench may ignore
+ * what the calls answer, and look at the end.
+ *
+ * A record takes 20 KB, holds no pointers, asks for no memory, and needs no freeing. Each thread may have its own.
+ *
+ * C11 and later, C++11 and later. */
+#ifndef TSOTEST_RECORD_H
+#define TSOTEST_RECORD_H
+
+#include <inttypes.h>
+#include <stdarg.h>
+#include <stdbool.h>
+#include <stddef.h>
+#include <stdint.h>
+#include <stdio.h>
+#include <string.h>
+
+#ifdef __cplusplus
+extern "C" {
+#endif
+
+#define TSOTEST_RECORD_CORES 16
+#define TSOTEST_RECORD_EVENTS 512
+#define TSOTEST_RECORD_ADDRESSES 16
+
+/* No text of a recording, or of its program, is longer, in bytes. */
+#define TSOTEST_MAX_RECORDING_BYTES 32768
+
+/* The source of a read, for tsotest_record_source: the initial value. */
+#define TSOTEST_INITIAL (-1)
+
+enum tsotest_fault {
+    TSOTEST_NO_FAULT = 0,
+    /* Of the testbench: */
+    TSOTEST_FULL,         /* more cores, events, addresses or commits than a recording has */
+    TSOTEST_NO_SUCH,      /* no such core or event, or the event is no read or no write */
+    TSOTEST_AMBIGUOUS,    /* several writes of the address wrote that value */
+    TSOTEST_SHORT_BUFFER, /* the text has no room */
+    TSOTEST_WRITE_FAILED, /* the file can't be written */
+    /* Of the design, as a rule. None of these is a recording: each is a violation that needs no judge. */
+    TSOTEST_STRAY_VALUE, /* a read got a value that nobody wrote there */
+    TSOTEST_LOST_STORE,  /* a write never reached memory */
+    TSOTEST_STRAY_COMMIT /* what reached memory is no write of that core, or was there already */
+};
+
+struct tsotest_event {
+    char kind; /* L, S, R, C, F, as in the text */
+    uint8_t core, address;
+    bool is_committed;
+    uint16_t number; /* in the text */
+    int16_t same;    /* the next write of the same value to the same address, or -1 */
+    int16_t told;    /* the source that was told; -2 where none was */
+    int16_t source;
+    uint32_t read, written;
+};
+
+struct tsotest_commit {
+    uint8_t core, address;
+    int16_t told; /* the event that was told; -1 where none was */
+    int16_t event;
+    uint32_t written;
+};
+
+struct tsotest_record {
+    enum tsotest_fault error;
+    char message[160];
+    int cores, events, addresses, commits;
+    uint64_t address[TSOTEST_RECORD_ADDRESSES]; /* in the order of the calls */
+    uint32_t initial[TSOTEST_RECORD_ADDRESSES];
+    uint8_t name[TSOTEST_RECORD_ADDRESSES];  /* the number in the text of each address that an event uses */
+    uint8_t named[TSOTEST_RECORD_ADDRESSES]; /* the address of each number */
+    int names;
+    int first[TSOTEST_RECORD_CORES + 1];       /* the number of each core's first event */
+    uint16_t ordered[TSOTEST_RECORD_EVENTS];   /* the event of each number */
+    int16_t slot[2 * TSOTEST_RECORD_EVENTS];   /* the first write of a value to an address, or -1 */
+    struct tsotest_event event[TSOTEST_RECORD_EVENTS];
+    struct tsotest_commit commit[TSOTEST_RECORD_EVENTS];
+};
+
+/* Whether a fault is one of the design, as a rule, and not of the testbench. */
+static inline bool tsotest_is_of_design(enum tsotest_fault fault)
+{
+    return fault >= TSOTEST_STRAY_VALUE;
+}
+
+/* ---------------------------------------------------------------------------------------------------- what happened */
+
+static inline bool tsotest_reads_(char kind)
+{
+    return kind == 'L' || kind == 'R' || kind == 'C';
+}
+
+static inline bool tsotest_writes_(char kind)
+{
+    return kind == 'S' || kind == 'R';
+}
+
+/* Keeps a fault, unless there is one, and answers -1. */
+static inline int tsotest_record_fail(struct tsotest_record *r, enum tsotest_fault error, const char *format, ...)
+{
+    if (!r->error) {
+        va_list words;
+        va_start(words, format);
+        vsnprintf(r->message, sizeof r->message, format, words);
+        va_end(words);
+        r->error = error;
+    }
+    return -1;
+}
+
+/* Begins a recording of so many cores, and forgets what was there. */
+static inline void tsotest_record_begin(struct tsotest_record *r, int cores)
+{
+    r->error = TSOTEST_NO_FAULT;
+    r->message[0] = '\0';
+    r->cores = cores;
+    r->events = r->addresses = r->commits = r->names = 0;
+    if (cores < 0 || cores > TSOTEST_RECORD_CORES)
+        tsotest_record_fail(r, TSOTEST_FULL, "%d cores: a recording has %d at most", cores, TSOTEST_RECORD_CORES);
+}
+
+static inline int tsotest_address_(struct tsotest_record *r, uint64_t address)
+{
+    int a = 0;
+    while (a < r->addresses && r->address[a] != address)
+        a++;
+    if (a < r->addresses)
+        return a;
+    if (a == TSOTEST_RECORD_ADDRESSES)
+        return tsotest_record_fail(r, TSOTEST_FULL, "address 0x%" PRIx64 " is the 17th: a recording has %d at most", address,
+                                   TSOTEST_RECORD_ADDRESSES);
+    r->address[a] = address;
+    r->initial[a] = 0;
+    return r->addresses++;
+}
+
+static inline int tsotest_core_(struct tsotest_record *r, int core)
+{
+    if (r->error)
+        return -1;
+    if (core < 0 || core >= r->cores)
+        return tsotest_record_fail(r, TSOTEST_NO_SUCH, "core %d: the recording has %d", core, r->cores);
+    return core;
+}
+
+static inline int tsotest_event_(struct tsotest_record *r, char kind, int core, uint64_t address, uint32_t read,
+                                 uint32_t written)
+{
+    struct tsotest_event *e;
+    int a = 0;
+    if (tsotest_core_(r, core) < 0)
+        return -1;
+    if (r->events == TSOTEST_RECORD_EVENTS)
+        return tsotest_record_fail(r, TSOTEST_FULL, "more than %d events", TSOTEST_RECORD_EVENTS);
+    if (kind != 'F' && (a = tsotest_address_(r, address)) < 0)
+        return -1;
+    e = &r->event[r->events];
+    e->kind = kind;
+    e->core = (uint8_t)core;
+    e->address = (uint8_t)a;
+    e->told = -2;
+    e->read = read;
+    e->written = written;
+    return r->events++;
+}
+
+/* The value of an address before every write; 0 where nothing is told. Answers 0, or -1. */
+static inline int tsotest_record_initial(struct tsotest_record *r, uint64_t address, uint32_t value)
+{
+    int a = r->error ? -1 : tsotest_address_(r, address);
+    if (a < 0)
+        return -1;
+    r->initial[a] = value;
+    return 0;
+}
+
+static inline int tsotest_record_load(struct tsotest_record *r, int core, uint64_t address, uint32_t value)
+{
+    return tsotest_event_(r, 'L', core, address, value, 0);
+}
+
+static inline int tsotest_record_store(struct tsotest_record *r, int core, uint64_t address, uint32_t value)
+{
+    return tsotest_event_(r, 'S', core, address, 0, value);
+}
+
+/* An atomic that read and wrote: a swap, an add, a compare-and-swap that succeeded. */
+static inline int tsotest_record_rmw(struct tsotest_record *r, int core, uint64_t address, uint32_t read, uint32_t written)
+{
+    return tsotest_event_(r, 'R', core, address, read, written);
+}
+
+/* A compare-and-swap that wrote nothing. It is ordered as an atomic; where it is a mere load in your architecture, record a
+ * load. */
+static inline int tsotest_record_failed_cas(struct tsotest_record *r, int core, uint64_t address, uint32_t read)
+{
+    return tsotest_event_(r, 'C', core, address, read, 0);
+}
+
+/* A full fence. */
+static inline int tsotest_record_fence(struct tsotest_record *r, int core)
+{
+    return tsotest_event_(r, 'F', core, 0, 0, 0);
+}
+
+static inline struct tsotest_event *tsotest_read_(struct tsotest_record *r, int event)
+{
+    if (r->error)
+        return NULL;
+    if (event < 0 || event >= r->events || !tsotest_reads_(r->event[event].kind)) {
+        tsotest_record_fail(r, TSOTEST_NO_SUCH, "event %d is no read", event);
+        return NULL;
+    }
+    return &r->event[event];
+}
+
+/* What a read got, where that is known only after later events of its core: record it at its place in program order with any
+ * value, and tell the value when the data come. */
+static inline int tsotest_record_value(struct tsotest_record *r, int event, uint32_t value)
+{
+    struct tsotest_event *e = tsotest_read_(r, event);
+    if (e)
+        e->read = value;
+    return e ? event : -1;
+}
+
+/* The write that a read got its value from: an event, or TSOTEST_INITIAL. */
+static inline int tsotest_record_source(struct tsotest_record *r, int event, int source)
+{
+    struct tsotest_event *e = tsotest_read_(r, event);
+    if (e && source != TSOTEST_INITIAL
+        && (source < 0 || source >= r->events || !tsotest_writes_(r->event[source].kind)
+            || r->event[source].address != e->address))
+        return tsotest_record_fail(r, TSOTEST_NO_SUCH, "event %d is no write of the address that event %d read", source, event);
+    if (e)
+        e->told = (int16_t)source;
+    return e ? event : -1;
+}
+
+static inline int tsotest_commit_(struct tsotest_record *r, int core, int address, uint32_t value, int event)
+{
+    struct tsotest_commit *c;
+    if (r->commits == TSOTEST_RECORD_EVENTS)
+        return tsotest_record_fail(r, TSOTEST_FULL, "more than %d commits", TSOTEST_RECORD_EVENTS);
+    c = &r->commit[r->commits++];
+    c->core = (uint8_t)core;
+    c->address = (uint8_t)address;
+    c->written = value;
+    c->told = (int16_t)event;
+    return 0;
+}
+
+/* A write of this core reached memory, after all writes of the address that did so before. Answers 0, or -1. */
+static inline int tsotest_record_commit(struct tsotest_record *r, int core, uint64_t address, uint32_t value)
+{
+    int a;
+    if (tsotest_core_(r, core) < 0 || (a = tsotest_address_(r, address)) < 0)
+        return -1;
+    return tsotest_commit_(r, core, a, value, -1);
+}
+
+/* The same of a write that was recorded already, by its event. */
+static inline int tsotest_record_commit_event(struct tsotest_record *r, int event)
+{
+    const struct tsotest_event *e;
+    if (r->error)
+        return -1;
+    if (event < 0 || event >= r->events || !tsotest_writes_(r->event[event].kind))
+        return tsotest_record_fail(r, TSOTEST_NO_SUCH, "event %d is no write", event);
+    e = &r->event[event];
+    return tsotest_commit_(r, e->core, e->address, e->written, event);
+}
+
+/* Begins the next recording where memory keeps what the last one left there: as many cores, and of each address the value that
+ * reached memory last is the initial one. */
+static inline void tsotest_record_continue(struct tsotest_record *r)
+{
+    int addresses = r->addresses;
+    for (int i = 0; i < r->commits; i++)
+        r->initial[r->commit[i].address] = r->commit[i].written;
+    tsotest_record_begin(r, r->cores);
+    r->addresses = addresses;
+}
+
+/* ------------------------------------------------------------------------------------------------ what follows of it */
+
+/* Numbers the events core by core, and the addresses by their first use in that order. */
+static inline void tsotest_number_(struct tsotest_record *r)
+{
+    int next[TSOTEST_RECORD_CORES], number = 0;
+    memset(r->first, 0, sizeof r->first);
+    memset(r->name, TSOTEST_RECORD_ADDRESSES, sizeof r->name);
+    r->names = 0;
+    for (int e = 0; e < r->events; e++)
+        r->first[r->event[e].core + 1]++;
+    for (int core = 0; core < r->cores; core++) {
+        r->first[core + 1] += r->first[core];
+        next[core] = r->first[core];
+    }
+    for (int e = 0; e < r->events; e++) {
+        r->event[e].number = (uint16_t)next[r->event[e].core]++;
+        r->ordered[r->event[e].number] = (uint16_t)e;
+    }
+    for (; number < r->events; number++) {
+        const struct tsotest_event *e = &r->event[r->ordered[number]];
+        if (e->kind != 'F' && r->name[e->address] == TSOTEST_RECORD_ADDRESSES) {
+            r->named[r->names] = e->address;
+            r->name[e->address] = (uint8_t)r->names++;
+        }
+    }
+}
+
+/* The place of an event on its core, from 0. */
+static inline int tsotest_place_(const struct tsotest_record *r, int event)
+{
+    return r->event[event].number - r->first[r->event[event].core];
+}
+
+/* Where the first write of a value to an address stands, or would. */
+static inline int16_t *tsotest_slot_(struct tsotest_record *r, uint8_t address, uint32_t written)
+{
+    unsigned at = (written * 2654435761u + address * 40503u) >> 16;
+    for (;; at++) {
+        int16_t *slot = &r->slot[at % (2 * TSOTEST_RECORD_EVENTS)];
+        if (*slot < 0 || (r->event[*slot].address == address && r->event[*slot].written == written))
+            return slot;
+    }
+}
+
+static inline void tsotest_index_(struct tsotest_record *r)
+{
+    memset(r->slot, 0xFF, sizeof r->slot);
+    for (int e = r->events - 1; e >= 0; e--) {
+        r->event[e].is_committed = false;
+        r->event[e].same = -1;
+        if (tsotest_writes_(r->event[e].kind)) {
+            int16_t *slot = tsotest_slot_(r, r->event[e].address, r->event[e].written);
+            r->event[e].same = *slot;
+            *slot = (int16_t)e;
+        }
+    }
+}
+
+/* The write of a core that a commit is of, by its value, or -1 and r->error. */
+static inline int tsotest_committed_(struct tsotest_record *r, const struct tsotest_commit *c)
+{
+    int found = -1;
+    for (int e = *tsotest_slot_(r, c->address, c->written); e >= 0; e = r->event[e].same) {
+        if (r->event[e].core != c->core)
+            continue;
+        if (found >= 0)
+            return tsotest_record_fail(r, TSOTEST_AMBIGUOUS, "core %d wrote %" PRIu32 " to 0x%" PRIx64 " twice", c->core,
+                                       c->written, r->address[c->address]);
+        found = e;
+    }
+    if (found < 0)
+        tsotest_record_fail(r, TSOTEST_STRAY_COMMIT,
+                            "core %d: the value %" PRIu32 " reached 0x%" PRIx64 ", and this core executed no such write",
+                            c->core, c->written, r->address[c->address]);
+    return found;
+}
+
+static inline int tsotest_settle_commits_(struct tsotest_record *r)
+{
+    for (int i = 0; i < r->commits; i++) {
+        struct tsotest_commit *c = &r->commit[i];
+        int found = c->told >= 0 ? c->told : tsotest_committed_(r, c);
+        if (found < 0)
+            return -1;
+        if (r->event[found].is_committed)
+            return tsotest_record_fail(r, TSOTEST_STRAY_COMMIT, "core %d: the value %" PRIu32 " reached 0x%" PRIx64 " twice",
+                                       c->core, c->written, r->address[c->address]);
+        c->event = (int16_t)found;
+        r->event[found].is_committed = true;
+    }
+    for (int e = 0; e < r->events; e++)
+        if (tsotest_writes_(r->event[e].kind) && !r->event[e].is_committed)
+            return tsotest_record_fail(r, TSOTEST_LOST_STORE,
+                                       "operation %d of core %d wrote %" PRIu32 " to 0x%" PRIx64 ", which never reached memory",
+                                       tsotest_place_(r, e), r->event[e].core, r->event[e].written,
+                                       r->address[r->event[e].address]);
+    return 0;
+}
+
+/* The source of a read by its value; -1 may be r->error, or TSOTEST_INITIAL. */
+static inline int tsotest_found_source_(struct tsotest_record *r, int event)
+{
+    const struct tsotest_event *e = &r->event[event];
+    int found = TSOTEST_INITIAL, count = e->read == r->initial[e->address];
+    for (int w = *tsotest_slot_(r, e->address, e->read); w >= 0; w = r->event[w].same) {
+        found = w;
+        count++;
+    }
+    if (count == 0)
+        return tsotest_record_fail(r, TSOTEST_STRAY_VALUE,
+                                   "operation %d of core %d read %" PRIu32 " from 0x%" PRIx64 ", which nobody wrote there",
+                                   tsotest_place_(r, event), e->core, e->read, r->address[e->address]);
+    if (count > 1)
+        return tsotest_record_fail(r, TSOTEST_AMBIGUOUS,
+                                   "operation %d of core %d read %" PRIu32 " from 0x%" PRIx64 ", of which there are %d sources",
+                                   tsotest_place_(r, event), e->core, e->read, r->address[e->address], count);
+    return found;
+}
+
+static inline int tsotest_settle_sources_(struct tsotest_record *r)
+{
+    for (int i = 0; i < r->events; i++) {
+        struct tsotest_event *e = &r->event[i];
+        uint32_t there;
+        if (!tsotest_reads_(e->kind))
+            continue;
+        e->source = (int16_t)(e->told == -2 ? tsotest_found_source_(r, i) : e->told);
+        if (r->error)
+            return -1;
+        there = e->source < 0 ? r->initial[e->address] : r->event[e->source].written;
+        if (e->read != there)
+            return tsotest_record_fail(r, TSOTEST_STRAY_VALUE,
+                                       "operation %d of core %d read %" PRIu32 " from 0x%" PRIx64 ", and its source wrote %" PRIu32,
+                                       tsotest_place_(r, i), e->core, e->read, r->address[e->address], there);
+    }
+    return 0;
+}
+
+/* Finds what was not told; answers 0, or -1 and r->error. */
+static inline int tsotest_settle_(struct tsotest_record *r)
+{
+    if (r->error)
+        return -1;
+    tsotest_number_(r);
+    tsotest_index_(r);
+    return tsotest_settle_commits_(r) || tsotest_settle_sources_(r) ? -1 : 0;
+}
+
+/* ------------------------------------------------------------------------------------------------------------- texts */
+
+struct tsotest_out_ {
+    char *bytes;
+    size_t room, len;
+};
+
+static inline void tsotest_put_(struct tsotest_out_ *out, const char *text, size_t len)
+{
+    if (out->len < out->room)
+        memcpy(out->bytes + out->len, text, len < out->room - out->len ? len : out->room - out->len);
+    out->len += len;
+}
+
+static inline void tsotest_put_text_(struct tsotest_out_ *out, const char *text)
+{
+    tsotest_put_(out, text, strlen(text));
+}
+
+static inline void tsotest_put_number_(struct tsotest_out_ *out, uint32_t number)
+{
+    char digits[10];
+    size_t at = sizeof digits;
+    do
+        digits[--at] = (char)('0' + number % 10);
+    while (number /= 10);
+    tsotest_put_(out, digits + at, sizeof digits - at);
+}
+
+static inline void tsotest_put_event_(const struct tsotest_record *r, struct tsotest_out_ *out, const struct tsotest_event *e)
+{
+    if (e->kind == 'F') {
+        tsotest_put_text_(out, "{\"k\":\"F\"}");
+        return;
+    }
+    tsotest_put_text_(out, "{\"a\":");
+    tsotest_put_number_(out, r->name[e->address]);
+    tsotest_put_text_(out, ",\"k\":\"");
+    tsotest_put_(out, &e->kind, 1);
+    tsotest_put_text_(out, "\"");
+    if (tsotest_reads_(e->kind)) {
+        tsotest_put_text_(out, ",\"r\":");
+        tsotest_put_number_(out, e->read);
+        tsotest_put_text_(out, ",\"s\":");
+        if (e->source < 0)
+            tsotest_put_text_(out, "null");
+        else
+            tsotest_put_number_(out, r->event[e->source].number);
+    }
+    if (tsotest_writes_(e->kind)) {
+        tsotest_put_text_(out, ",\"w\":");
+        tsotest_put_number_(out, e->written);
+    }
+    tsotest_put_text_(out, "}");
+}
+
+static inline bool tsotest_is_version_2_(const struct tsotest_record *r)
+{
+    for (int n = 0; n < r->names; n++)
+        if (r->initial[r->named[n]])
+            return true;
+    for (int e = 0; e < r->events; e++)
+        if (r->event[e].kind == 'C')
+            return true;
+    return false;
+}
+
+static inline void tsotest_put_cores_(const struct tsotest_record *r, struct tsotest_out_ *out)
+{
+    for (int core = 0; core < r->cores; core++) {
+        tsotest_put_text_(out, core ? ",[" : "[");
+        for (int n = r->first[core]; n < r->first[core + 1]; n++) {
+            if (n > r->first[core])
+                tsotest_put_text_(out, ",");
+            tsotest_put_event_(r, out, &r->event[r->ordered[n]]);
+        }
+        tsotest_put_text_(out, "]");
+    }
+}
+
+static inline void tsotest_put_initials_(const struct tsotest_record *r, struct tsotest_out_ *out)
+{
+    for (int n = 0; n < r->names; n++) {
+        if (n)
+            tsotest_put_text_(out, ",");
+        tsotest_put_number_(out, r->initial[r->named[n]]);
+    }
+}
+
+static inline void tsotest_put_writes_(const struct tsotest_record *r, struct tsotest_out_ *out)
+{
+    for (int n = 0; n < r->names; n++) {
+        const char *before = n ? ",[" : "[";
+        int count = 0;
+        for (int i = 0; i < r->commits; i++)
+            if (r->commit[i].address == r->named[n]) {
+                tsotest_put_text_(out, count++ ? "," : before);
+                tsotest_put_number_(out, r->event[r->commit[i].event].number);
+            }
+        tsotest_put_text_(out, count ? "]" : n ? ",[]" : "[]");
+    }
+}
+
+/* Writes the recording to out, which has room for size bytes, and its length to len: the text that `tsotest` itself prints, of
+ * version 1 where that can be, with a newline at its end and no 0 byte. Answers r->error. At TSOTEST_SHORT_BUFFER, which is not
+ * kept, len is what it takes, and what stands in out is of no use. */
+static inline enum tsotest_fault tsotest_recording_text(struct tsotest_record *r, char *out, size_t size, size_t *len)
+{
+    struct tsotest_out_ o = {out, size, 0};
+    *len = 0;
+    if (tsotest_settle_(r))
+        return r->error;
+    tsotest_put_text_(&o, "{\"cores\":[");
+    tsotest_put_cores_(r, &o);
+    if (tsotest_is_version_2_(r)) {
+        tsotest_put_text_(&o, "],\"init\":[");
+        tsotest_put_initials_(r, &o);
+        tsotest_put_text_(&o, "],\"version\":2,\"writes\":[");
+    } else
+        tsotest_put_text_(&o, "],\"version\":1,\"writes\":[");
+    tsotest_put_writes_(r, &o);
+    tsotest_put_text_(&o, "]}\n");
+    *len = o.len;
+    return o.len <= size ? TSOTEST_NO_FAULT : TSOTEST_SHORT_BUFFER;
+}
+
+static inline void tsotest_put_name_(const struct tsotest_record *r, struct tsotest_out_ *out, int address)
+{
+    char name[24];
+    if (r->address[address] < 0x10000000)
+        snprintf(name, sizeof name, "x%" PRIx64, r->address[address]);
+    else
+        snprintf(name, sizeof name, "a%d", r->name[address]);
+    tsotest_put_text_(out, name);
+}
+
+static inline void tsotest_put_operation_(const struct tsotest_record *r, struct tsotest_out_ *out, const struct tsotest_event *e)
+{
+    const char *word = e->kind == 'L' ? "ld " : e->kind == 'S' ? "st " : e->kind == 'R' ? "swap " : "cas ";
+    if (e->kind == 'F') {
+        tsotest_put_text_(out, "fence\n");
+        return;
+    }
+    tsotest_put_text_(out, word);
+    tsotest_put_name_(r, out, e->address);
+    if (e->kind == 'C') {
+        tsotest_put_text_(out, " ");
+        tsotest_put_number_(out, e->read + 1);
+    }
+    if (e->kind != 'L') {
+        tsotest_put_text_(out, " ");
+        tsotest_put_number_(out, e->written);
+    }
+    tsotest_put_text_(out, "\n");
+}
+
+/* Writes the program that was recorded, as a litmus text, for tsotest_explain or `tsotest explain FILE --program PROGRAM`: its
+ * names are the addresses in hexadecimal after an x, or a0, a1 and so on where they are of 2^28 and more. Atomics are swaps;
+ * one that failed expects one more than it read. Otherwise as tsotest_recording_text. */
+static inline enum tsotest_fault tsotest_program_text(struct tsotest_record *r, char *out, size_t size, size_t *len)
+{
+    struct tsotest_out_ o = {out, size, 0};
+    *len = 0;
+    if (tsotest_settle_(r))
+        return r->error;
+    for (int core = 0; core < r->cores; core++) {
+        tsotest_put_text_(&o, "core\n");
+        for (int n = r->first[core]; n < r->first[core + 1]; n++)
+            tsotest_put_operation_(r, &o, &r->event[r->ordered[n]]);
+    }
+    for (int n = 0; n < r->names; n++)
+        if (r->initial[r->named[n]]) {
+            tsotest_put_text_(&o, "init ");
+            tsotest_put_name_(r, &o, r->named[n]);
+            tsotest_put_text_(&o, " ");
+            tsotest_put_number_(&o, r->initial[r->named[n]]);
+            tsotest_put_text_(&o, "\n");
+        }
+    *len = o.len;
+    return o.len <= size ? TSOTEST_NO_FAULT : TSOTEST_SHORT_BUFFER;
+}
+
+/* The recording to a file; it takes 32 KB of stack. TSOTEST_WRITE_FAILED is not kept. */
+static inline enum tsotest_fault tsotest_write_recording(struct tsotest_record *r, FILE *file)
+{
+    char out[TSOTEST_MAX_RECORDING_BYTES];
+    size_t len;
+    enum tsotest_fault fault = tsotest_recording_text(r, out, sizeof out, &len);
+    if (!fault && (fwrite(out, 1, len, file) != len || fflush(file)))
+        return TSOTEST_WRITE_FAILED;
+    return fault;
+}
+
+/* Its program. */
+static inline enum tsotest_fault tsotest_write_program(struct tsotest_record *r, FILE *file)
+{
+    char out[TSOTEST_MAX_RECORDING_BYTES];
+    size_t len;
+    enum tsotest_fault fault = tsotest_program_text(r, out, sizeof out, &len);
+    if (!fault && (fwrite(out, 1, len, file) != len || fflush(file)))
+        return TSOTEST_WRITE_FAILED;
+    return fault;
+}
+
+/* What was told, a line each: initial values, events in the order of the calls, told sources, commits, and as a remark the
+ * fault. That is what is left to look at where a fault gives no recording. examples/log/from_log.c reads it. */
+static inline enum tsotest_fault tsotest_write_log(const struct tsotest_record *r, FILE *file)
+{
+    fprintf(file, "cores %d\n", r->cores);
+    for (int a = 0; a < r->addresses; a++)
+        if (r->initial[a])
+            fprintf(file, "init 0x%" PRIx64 " %" PRIu32 "\n", r->address[a], r->initial[a]);
+    for (int i = 0; i < r->events; i++) {
+        const struct tsotest_event *e = &r->event[i];
+        if (e->kind == 'F') {
+            fprintf(file, "fence %d\n", e->core);
+            continue;
+        }
+        fprintf(file, "%s %d 0x%" PRIx64,
+                e->kind == 'L'   ? "ld"
+                : e->kind == 'S' ? "st"
+                : e->kind == 'R' ? "rmw"
+                                 : "cas",
+                e->core, r->address[e->address]);
+        if (tsotest_reads_(e->kind))
+            fprintf(file, " %" PRIu32, e->read);
+        if (tsotest_writes_(e->kind))
+            fprintf(file, " %" PRIu32, e->written);
+        fprintf(file, "\n");
+    }
+    for (int i = 0; i < r->events; i++)
+        if (tsotest_reads_(r->event[i].kind) && r->event[i].told == TSOTEST_INITIAL)
+            fprintf(file, "source %d init\n", i);
+        else if (tsotest_reads_(r->event[i].kind) && r->event[i].told >= 0)
+            fprintf(file, "source %d %d\n", i, r->event[i].told);
+    for (int i = 0; i < r->commits; i++)
+        if (r->commit[i].told >= 0)
+            fprintf(file, "commit %d\n", r->commit[i].told);
+        else
+            fprintf(file, "commit %d 0x%" PRIx64 " %" PRIu32 "\n", r->commit[i].core, r->address[r->commit[i].address],
+                    r->commit[i].written);
+    if (r->error)
+        fprintf(file, "# %s\n", r->message);
+    return fflush(file) || ferror(file) ? TSOTEST_WRITE_FAILED : TSOTEST_NO_FAULT;
+}
+
+#ifdef __cplusplus
+}
+#endif
+#endif

@@ -1,0 +1,410 @@
+"""The commands of tsotest as calls: recordings of multiprocessors judged under Total Store Order (TSO), in process.
+
+    >>> import tsotest
+    >>> r = tsotest.Recorder(cores=2)
+    >>> r.store(0, 0x40, 1); r.load(0, 0x44, 0)
+    >>> r.store(1, 0x44, 2); r.load(1, 0x40, 0)
+    >>> r.commit(0, 0x40, 1); r.commit(1, 0x44, 2)
+    >>> tsotest.judge(r.recording()).text
+    'ordered: 1 2 3 0\\n'
+
+One file over the shared library, `libtsotest.so`, by `ctypes`: for cocotb benches and scripts. The library is that of the
+environment variable `TSOTEST_LIBRARY`, else that of the installation or the repository that this file stands in, else the one
+that the system's loader finds. Texts, exit statuses and refusals are those of docs/FORMATS.md. Calls may be made by several
+threads at once, each `Recorder` by one. Python 3.11 and later.
+"""
+import ctypes
+import ctypes.util
+import os
+from dataclasses import dataclass
+from enum import IntEnum
+from functools import cache
+from pathlib import Path
+from typing import NamedTuple
+
+__all__ = ["Answer", "Finding", "Kind", "NoRecording", "Recorder", "Status", "draw", "explain", "judge", "reduce", "survey", "verify", "version"]
+
+MAX_CORES, MAX_EVENTS, MAX_ADDRESSES = 16, 512, 16
+
+
+class Status(IntEnum):
+    """The exit status of a command. There is none of want of memory: that is a `MemoryError`."""
+
+    ALLOWED = 0
+    """TSO allows the recording; of `verify`, the verdict holds."""
+    VIOLATION = 2
+    """TSO doesn't allow the recording; of `verify`, the verdict doesn't hold."""
+    REFUSED = 3
+    """A text is refused; the answer's text is the line that says why."""
+
+
+class Answer(NamedTuple):
+    """What a command prints, and how it comes out."""
+
+    status: Status
+    text: str
+
+    @property
+    def is_allowed(self):
+        """Whether TSO allows the recording."""
+        return self.status == Status.ALLOWED
+
+    @property
+    def is_violation(self):
+        """Whether it doesn't."""
+        return self.status == Status.VIOLATION
+
+
+class Kind(IntEnum):
+    """What is found of a recording of many."""
+
+    ORDERED = 0
+    OVERLOOK = 1
+    CYCLE = 2
+    REFUSED = 3
+
+
+class Finding(NamedTuple):
+    """What is found of a recording of many, and its code."""
+
+    kind: Kind
+    code: int
+
+    @property
+    def overlook(self):
+        """Of an overlook the numbers of the load and the store."""
+        return divmod(self.code - 1048576, 1024) if self.kind == Kind.OVERLOOK else None
+
+    @property
+    def cycle(self):
+        """Of a cycle how many events it has."""
+        return self.code - 16 if self.kind == Kind.CYCLE else None
+
+    @property
+    def refusal(self):
+        """Of a refusal 1 to 7 for N1 to N7, and the event of N5 and N6 or the address of N7."""
+        return divmod(self.code, 65536) if self.kind == Kind.REFUSED else None
+
+
+def _candidates():
+    here = Path(__file__).resolve().parent
+    if "TSOTEST_LIBRARY" in os.environ:
+        yield os.environ["TSOTEST_LIBRARY"]
+        return
+    # PREFIX/share/tsotest/tsotest.py of an installation, python/tsotest.py of the repository.
+    for place in (here.parent.parent / "lib/libtsotest.so", here.parent / "out/libtsotest.so"):
+        if place.exists():
+            yield str(place)
+    found = ctypes.util.find_library("tsotest")
+    if found:
+        yield found
+
+
+@cache
+def _library():
+    for place in _candidates():
+        library = ctypes.CDLL(place)
+        text, out, size = [ctypes.c_char_p, ctypes.c_size_t], [ctypes.c_char_p, ctypes.c_size_t], [ctypes.POINTER(ctypes.c_size_t)]
+        library.tsotest_judge.argtypes = [*text, *out, *size]
+        library.tsotest_draw.argtypes = [*text, *text, ctypes.c_bool, *out, *size]
+        for name in ("tsotest_explain", "tsotest_reduce", "tsotest_verify"):
+            getattr(library, name).argtypes = [*text, *text, *out, *size]
+        library.tsotest_survey.argtypes = [*text, ctypes.POINTER(ctypes.c_uint64), ctypes.c_size_t, *size]
+        library.tsotest_version.argtypes = [*out, *size]
+        for name in ("judge", "explain", "draw", "reduce", "verify", "survey", "version"):
+            getattr(library, f"tsotest_{name}").restype = ctypes.c_uint8
+        return library
+    raise OSError("tsotest: there is no libtsotest.so; TSOTEST_LIBRARY may name it")
+
+
+def _bytes(text):
+    return text.encode() if isinstance(text, str) else bytes(text)
+
+
+def _answer(call, *given):
+    """What a call answers, with as much room as its text needs."""
+    room, length = 65536, ctypes.c_size_t()
+    while True:
+        out = ctypes.create_string_buffer(room)
+        status = call(*given, out, room, ctypes.byref(length))
+        if status == 1:
+            raise MemoryError("tsotest: out of memory")
+        if length.value <= room:
+            return Answer(Status(status), out.raw[: length.value].decode())
+        room = length.value
+
+
+def judge(recording):
+    """What `tsotest judge` prints of a recording, a `str` or `bytes`: the verdict."""
+    text = _bytes(recording)
+    return _answer(_library().tsotest_judge, text, len(text))
+
+
+def explain(recording, program=None):
+    """What `tsotest explain` prints: the verdict in words, with the names of the litmus text of its program, if that is given."""
+    text, own = _bytes(recording), _bytes(program or b"")
+    return _answer(_library().tsotest_explain, text, len(text), own, len(own))
+
+
+def draw(recording, program=None, *, all=False):
+    """What `tsotest draw` prints: the verdict as a graph in the DOT language; with `all` all events of a violation are drawn."""
+    text, own = _bytes(recording), _bytes(program or b"")
+    return _answer(_library().tsotest_draw, text, len(text), own, len(own), all)
+
+
+def reduce(recording, program=None):
+    """What `tsotest reduce` prints: program, recording and verdict of the events alone that a violation needs."""
+    text, own = _bytes(recording), _bytes(program or b"")
+    return _answer(_library().tsotest_reduce, text, len(text), own, len(own))
+
+
+def verify(recording, verdict):
+    """What `tsotest verify` prints: whether the text of a verdict, whoever gave it, holds of a recording."""
+    text, own = _bytes(recording), _bytes(verdict)
+    return _answer(_library().tsotest_verify, text, len(text), own, len(own))
+
+
+def survey(lines):
+    """What is found in each line of a text, an empty one aside, or in each of some recordings: a list of `Finding`."""
+    text = _bytes(lines if isinstance(lines, (str, bytes, bytearray)) else b"\n".join(_bytes(it).rstrip(b"\n") for it in lines))
+    room, count = text.count(b"\n") + 1, ctypes.c_size_t()
+    codes = (ctypes.c_uint64 * room)()
+    if _library().tsotest_survey(text, len(text), codes, room, ctypes.byref(count)) == 1:
+        raise MemoryError("tsotest: out of memory")
+    return [Finding(_kind_of(code), code) for code in codes[: count.value]]
+
+
+def _kind_of(code):
+    if code >= 1048576:
+        return Kind.OVERLOOK
+    if code >= 65536:
+        return Kind.REFUSED
+    return Kind.CYCLE if code >= 16 else Kind.ORDERED
+
+
+def version():
+    """What `tsotest --version` prints, without its line end."""
+    return _answer(_library().tsotest_version).text.rstrip("\n")
+
+
+class NoRecording(Exception):
+    """What was recorded is no recording. `is_of_design`: as a rule the design is at fault, and then it is a violation that needs
+    no judge (a read got what nobody wrote, a write never reached memory, memory took what nobody stored); else the testbench."""
+
+    def __init__(self, message, is_of_design=False):
+        super().__init__(message)
+        self.is_of_design = is_of_design
+
+
+@dataclass(slots=True)
+class _Event:
+    kind: str
+    core: int
+    address: int | None
+    read: int | None
+    written: int | None
+    told: int | None | str = "unknown"
+    source: int | None = None
+    number: int = 0
+
+
+class Recorder:
+    """Makes the text of a recording from what a testbench sees.
+
+    Tell what each core executes, in its program order (`load`, `store`, `rmw`, `failed_cas`, `fence`), and in which order the
+    writes of each address reach memory (`commit`); cores and addresses in any order against each other. `recording` then gives
+    the text. It finds the write that each read got its value from by the value: let no two writes of an address write the same
+    value, nor the initial one. Where values repeat, tell sources by `source` and commits by `commit_event`. Each call that
+    records an event gives its number, from 0. A `NoRecording` says what is wrong.
+    """
+
+    def __init__(self, cores):
+        """Begins a recording of so many cores, 0 to 16."""
+        if not 0 <= cores <= MAX_CORES:
+            raise NoRecording(f"{cores} cores: a recording has {MAX_CORES} at most")
+        self.cores, self._events, self._commits, self._initial, self._addresses = cores, [], [], {}, set()
+
+    def next(self):
+        """The recorder of a run that begins with what this one left in memory: of each address the value that reached it last."""
+        following = Recorder(self.cores)
+        following._initial = {**self._initial, **{address: value for _, address, value, _ in self._commits}}
+        following._addresses = set(self._addresses)
+        return following
+
+    def initial(self, address, value):
+        """Tells the value of an address before every write; 0 where nothing is told."""
+        self._used(address)
+        self._initial[address] = value
+
+    def load(self, core, address, value):
+        """A load, and what it read."""
+        return self._event("L", core, address, value, None)
+
+    def store(self, core, address, value):
+        """A store, and what it wrote."""
+        return self._event("S", core, address, None, value)
+
+    def rmw(self, core, address, read, written):
+        """An atomic that read and wrote: a swap, an add, a compare-and-swap that succeeded."""
+        return self._event("R", core, address, read, written)
+
+    def failed_cas(self, core, address, read):
+        """A compare-and-swap that wrote nothing."""
+        return self._event("C", core, address, read, None)
+
+    def fence(self, core):
+        """A full fence."""
+        return self._event("F", core, None, None, None)
+
+    def value(self, event, value):
+        """Tells what a read got, where that is known only after later events of its core."""
+        self._read(event).read = value
+
+    def source(self, event, write):
+        """Tells the write that a read got its value from: an event, or `None` for the initial value."""
+        read = self._read(event)
+        if write is not None and not (0 <= write < len(self._events) and self._events[write].written is not None and self._events[write].address == read.address):
+            raise NoRecording(f"event {write} is no write of the address that event {event} read")
+        read.told = write
+
+    def commit(self, core, address, value):
+        """A write of this core reached memory, after all writes of the address that did so before."""
+        self._core(core)
+        self._used(address)
+        self._commit(core, address, value, None)
+
+    def commit_event(self, event):
+        """The same of a write that was recorded already, by its event."""
+        if not (0 <= event < len(self._events) and self._events[event].written is not None):
+            raise NoRecording(f"event {event} is no write")
+        it = self._events[event]
+        self._commit(it.core, it.address, it.written, event)
+
+    def recording(self):
+        """The text of the recording, as `tsotest` itself prints it."""
+        names, committed = self._settle()
+        cores = ",".join("[" + ",".join(self._event_text(it, names) for it in core) + "]" for core in self._by_core())
+        initial = [self._initial.get(it, 0) for it in names]
+        has_init = any(initial) or any(it.kind == "C" for it in self._events)
+        init = f'"init":[{",".join(map(str, initial))}],"version":2' if has_init else '"version":1'
+        writes = ",".join("[" + ",".join(str(self._events[event].number) for event in committed.get(it, [])) + "]" for it in names)
+        return f'{{"cores":[{cores}],{init},"writes":[{writes}]}}\n'
+
+    def program(self):
+        """The program that was recorded, as a litmus text, for `explain`, `draw` and `reduce`."""
+        names, _ = self._settle()
+        lines = [line for core in self._by_core() for line in ("core", *(self._operation(it, names) for it in core))]
+        lines += [f"init {self._name(it, names)} {self._initial[it]}" for it in names if self._initial.get(it, 0)]
+        return "".join(f"{it}\n" for it in lines)
+
+    def judge(self):
+        """The verdict on what was recorded."""
+        return judge(self.recording())
+
+    def _core(self, core):
+        if not 0 <= core < self.cores:
+            raise NoRecording(f"core {core}: the recording has {self.cores}")
+
+    def _used(self, address):
+        if len(self._addresses | {address}) > MAX_ADDRESSES:
+            raise NoRecording(f"address 0x{address:x} is the 17th: a recording has {MAX_ADDRESSES} at most")
+        self._addresses.add(address)
+
+    def _event(self, kind, core, address, read, written):
+        self._core(core)
+        if len(self._events) == MAX_EVENTS:
+            raise NoRecording(f"more than {MAX_EVENTS} events")
+        if address is not None:
+            self._used(address)
+        self._events.append(_Event(kind, core, address, read, written))
+        return len(self._events) - 1
+
+    def _read(self, event):
+        if not (0 <= event < len(self._events) and self._events[event].read is not None):
+            raise NoRecording(f"event {event} is no read")
+        return self._events[event]
+
+    def _commit(self, core, address, value, event):
+        if len(self._commits) == MAX_EVENTS:
+            raise NoRecording(f"more than {MAX_EVENTS} commits")
+        self._commits.append((core, address, value, event))
+
+    def _by_core(self):
+        return [[it for it in self._events if it.core == core] for core in range(self.cores)]
+
+    def _place(self, event):
+        it = self._events[event]
+        return f"operation {sum(e.core == it.core for e in self._events[:event])} of core {it.core}"
+
+    def _settle(self):
+        """Finds what was not told: the addresses that events use, in order of first use, and of each its writes in memory order."""
+        ordered = [it for core in self._by_core() for it in core]
+        for number, it in enumerate(ordered):
+            it.number = number
+        writes = {}
+        for event, it in enumerate(self._events):
+            if it.written is not None:
+                writes.setdefault((it.address, it.written), []).append(event)
+        committed = self._settle_commits(writes)
+        for event, it in enumerate(self._events):
+            if it.read is not None:
+                self._settle_source(event, it, writes)
+        return list(dict.fromkeys(it.address for it in ordered if it.address is not None)), committed
+
+    def _settle_commits(self, writes):
+        committed, seen = {}, set()
+        for core, address, value, event in self._commits:
+            if event is None:
+                own = [it for it in writes.get((address, value), []) if self._events[it].core == core]
+                if len(own) > 1:
+                    raise NoRecording(f"core {core} wrote {value} to 0x{address:x} twice")
+                if not own:
+                    raise NoRecording(f"core {core}: the value {value} reached 0x{address:x}, and this core executed no such write", True)
+                event = own[0]
+            if event in seen:
+                raise NoRecording(f"core {core}: the value {value} reached 0x{address:x} twice", True)
+            seen.add(event)
+            committed.setdefault(address, []).append(event)
+        for event, it in enumerate(self._events):
+            if it.written is not None and event not in seen:
+                raise NoRecording(f"{self._place(event)} wrote {it.written} to 0x{it.address:x}, which never reached memory", True)
+        return committed
+
+    def _settle_source(self, event, it, writes):
+        initial = self._initial.get(it.address, 0)
+        it.source = it.told
+        if it.told == "unknown":
+            found = ([None] if it.read == initial else []) + writes.get((it.address, it.read), [])
+            if not found:
+                raise NoRecording(f"{self._place(event)} read {it.read} from 0x{it.address:x}, which nobody wrote there", True)
+            if len(found) > 1:
+                raise NoRecording(f"{self._place(event)} read {it.read} from 0x{it.address:x}, of which there are {len(found)} sources")
+            it.source = found[0]
+        there = initial if it.source is None else self._events[it.source].written
+        if it.read != there:
+            raise NoRecording(f"{self._place(event)} read {it.read} from 0x{it.address:x}, and its source wrote {there}", True)
+
+    def _event_text(self, it, names):
+        parts = [f'"a":{names.index(it.address)}'] if it.address is not None else []
+        parts.append(f'"k":"{it.kind}"')
+        if it.read is not None:
+            parts += [f'"r":{it.read}', f'"s":{"null" if it.source is None else self._events[it.source].number}']
+        if it.written is not None:
+            parts.append(f'"w":{it.written}')
+        return "{" + ",".join(parts) + "}"
+
+    def _name(self, address, names):
+        return f"x{address:x}" if address < 1 << 28 else f"a{names.index(address)}"
+
+    def _operation(self, it, names):
+        name = None if it.address is None else self._name(it.address, names)
+        match it.kind:
+            case "F":
+                return "fence"
+            case "L":
+                return f"ld {name}"
+            case "S":
+                return f"st {name} {it.written}"
+            case "R":
+                return f"swap {name} {it.written}"
+        return f"cas {name} {(it.read + 1) % (1 << 32)} 0"

@@ -1,0 +1,141 @@
+#!/usr/bin/env python3
+"""The Python module over the shared library: each call beside the command of the built program, on recordings of all kinds; the
+recorder's faults; threads. Usage: python_test.py PROGRAM
+"""
+import subprocess
+import sys
+import tempfile
+from concurrent.futures import ThreadPoolExecutor
+from pathlib import Path
+
+sys.dont_write_bytecode = True
+TOP = Path(__file__).resolve().parent.parent
+sys.path.insert(0, str(TOP / "python"))
+import tsotest
+
+DATA = TOP / "crates/cases/data"
+CALLS = {
+    "judge": lambda text, program: tsotest.judge(text),
+    "explain": tsotest.explain,
+    "draw": tsotest.draw,
+    "draw --all": lambda text, program: tsotest.draw(text, program, all=True),
+    "reduce": tsotest.reduce,
+}
+
+
+def commanded(program, words):
+    """What the program prints, and its exit status."""
+    ran = subprocess.run([program, *words], capture_output=True, cwd=DATA)
+    return ran.returncode, ran.stdout.decode()
+
+
+def differs(program, file):
+    """What a recording is answered otherwise by the library and by the program."""
+    text = (DATA / file).read_bytes()
+    own = file.with_suffix(".litmus")
+    for name, call in CALLS.items():
+        for with_program in (False, True) if name != "judge" and (DATA / own).exists() else (False,):
+            words = [*name.split(), file, *(["--program", own] if with_program else [])]
+            answer = call(text, (DATA / own).read_bytes() if with_program else None)
+            if (answer.status, answer.text) != commanded(program, words):
+                yield f"{' '.join(map(str, words))}: {answer}"
+    verdict = tsotest.judge(text).text
+    for given in (verdict, verdict.replace("1", "0", 1), verdict[:-1], "ordered:\n"):
+        with tempfile.NamedTemporaryFile("w") as other:
+            other.write(given)
+            other.flush()
+            answer = tsotest.verify(text, given)
+            if (answer.status, answer.text) != commanded(program, ["verify", file, other.name]):
+                yield f"verify {file} {given!r}: {answer}"
+
+
+def surveyed(program):
+    """Whether a survey finds what the program finds."""
+    file = DATA / "recordings/many.jsonl"
+    status, text = commanded(program, ["survey", file, "--each"])
+    found = tsotest.survey(file.read_bytes())
+    lines = [line.split(" ", 1)[1] for line in text.split("\n\n")[0].splitlines()]
+    for finding, line in zip(found, lines, strict=True):
+        match finding.kind:
+            case tsotest.Kind.ORDERED:
+                told = "ordered"
+            case tsotest.Kind.OVERLOOK:
+                told = "overlook: load {} store {}".format(*finding.overlook)
+            case tsotest.Kind.CYCLE:
+                told = f"cycle of {finding.cycle}"
+            case tsotest.Kind.REFUSED:
+                kind, at = finding.refusal
+                told = f"refused: N{kind}" + (f" event {at}" if kind in (5, 6) else f" address {at}" if kind == 7 else "")
+        if told != line:
+            yield f"survey: {finding}, and the program {line}"
+    if tsotest.survey(file.read_text().splitlines()) != found:
+        yield "a survey of lines"
+
+
+def refused(what, words, is_of_design):
+    """Whether a recorder says so."""
+    try:
+        what()
+    except tsotest.NoRecording as told:
+        return words in str(told) and told.is_of_design == is_of_design
+    return False
+
+
+def recorders():
+    """What the recorder says of what is no recording."""
+    def of(cores, *calls):
+        r = tsotest.Recorder(cores)
+        for name, *values in calls:
+            getattr(r, name)(*values)
+        return r.recording()
+
+    store = ("store", 0, 0x40, 1)
+    commit = ("commit", 0, 0x40, 1)
+    wanted = [
+        (lambda: tsotest.Recorder(17), "17 cores", False),
+        (lambda: of(2, ("fence", 2)), "core 2: the recording has 2", False),
+        (lambda: of(1, *[("fence", 0)] * 513), "more than 512 events", False),
+        (lambda: of(1, *[commit] * 513), "more than 512 commits", False),
+        (lambda: of(1, *[("load", 0, it, 0) for it in range(17)]), "address 0x10 is the 17th", False),
+        (lambda: of(1, ("load", 0, 0x40, 3)), "operation 0 of core 0 read 3 from 0x40, which nobody wrote there", True),
+        (lambda: of(1, ("fence", 0), store), "operation 1 of core 0 wrote 1 to 0x40, which never reached memory", True),
+        (lambda: of(2, store, ("commit", 1, 0x40, 1)), "core 1: the value 1 reached 0x40, and this core executed no such write", True),
+        (lambda: of(1, store, commit, commit), "core 0: the value 1 reached 0x40 twice", True),
+        (lambda: of(1, store, store, commit), "core 0 wrote 1 to 0x40 twice", False),
+        (lambda: of(1, ("store", 0, 0x40, 0), ("load", 0, 0x40, 0), ("commit", 0, 0x40, 0)), "of which there are 2 sources", False),
+        (lambda: of(1, ("load", 0, 0x40, 8), ("source", 0, None)), "read 8 from 0x40, and its source wrote 0", True),
+        (lambda: of(1, ("store", 0, 0x44, 1), ("load", 0, 0x40, 0), ("source", 1, 0)), "event 0 is no write of the address", False),
+        (lambda: of(1, store, ("source", 0, None)), "event 0 is no read", False),
+        (lambda: of(1, ("load", 0, 0x40, 0), ("commit_event", 0)), "event 0 is no write", False),
+    ]
+    for what, words, is_of_design in wanted:
+        if not refused(what, words, is_of_design):
+            yield f"a recorder does not say: {words}"
+    r = tsotest.Recorder(2)
+    load = r.load(1, 0x44, 0)
+    r.store(0, 0x44, 2)
+    r.commit(0, 0x44, 2)
+    r.value(load, 2)
+    if r.recording() != '{"cores":[[{"a":0,"k":"S","w":2}],[{"a":0,"k":"L","r":2,"s":0}]],"version":1,"writes":[[0]]}\n':
+        yield r.recording()
+    following = r.next()
+    following.load(0, 0x44, 2)
+    if following.recording() != '{"cores":[[{"a":0,"k":"L","r":2,"s":null}],[]],"init":[2],"version":2,"writes":[[]]}\n':
+        yield following.recording()
+
+
+def main():
+    program = Path(sys.argv[1]).resolve()
+    files = [it.relative_to(DATA) for folder in ("classics", "limits", "recordings") for it in sorted(DATA.glob(f"{folder}/*.json"))]
+    with ThreadPoolExecutor(4) as pool:
+        failed = [it for part in pool.map(lambda file: [*differs(program, file)], files) for it in part]
+    failed += [*surveyed(program), *recorders()]
+    if tsotest.version() + "\n" != commanded(program, ["--version"])[1]:
+        failed.append(f"the version is {tsotest.version()}")
+    print(*failed, sep="\n", end="\n" * bool(failed))
+    print(f"{len(files)} recordings by the library and by the program, {len(failed)} answers differ")
+    return 1 if failed else 0
+
+
+if __name__ == "__main__":
+    sys.exit(main())

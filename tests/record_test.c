@@ -1,0 +1,186 @@
+/* What the recorder gives, what it refuses, and how it says so. */
+#include "tsotest_record.h"
+
+#include <assert.h>
+#include <stdlib.h>
+
+static struct tsotest_record r;
+static char out[TSOTEST_MAX_RECORDING_BYTES];
+static size_t len;
+
+static void fails(enum tsotest_fault fault, bool is_of_design, const char *words)
+{
+    enum tsotest_fault got = tsotest_recording_text(&r, out, sizeof out, &len);
+    if (got != fault || tsotest_is_of_design(got) != is_of_design || len != 0 || !strstr(r.message, words)) {
+        printf("want %d (%s), got %d (%s)\n", fault, words, got, r.message);
+        abort();
+    }
+    assert(tsotest_program_text(&r, out, sizeof out, &len) == fault && len == 0);
+}
+
+typedef enum tsotest_fault text_of(struct tsotest_record *, char *, size_t, size_t *);
+
+static void gives(text_of *of, const char *text)
+{
+    char room[TSOTEST_MAX_RECORDING_BYTES];
+    size_t again;
+    enum tsotest_fault got = of(&r, out, sizeof out, &len);
+    if (got || len != strlen(text) || memcmp(out, text, len)) {
+        printf("fault %d (%s)\nwant %sgot  %.*s", got, r.message, text, (int)len, out);
+        abort();
+    }
+    memset(room, 'X', sizeof room);
+    if (len) {
+        assert(of(&r, room, len - 1, &again) == TSOTEST_SHORT_BUFFER && again == len && room[len - 1] == 'X');
+        assert(r.error == TSOTEST_NO_FAULT);
+    }
+    assert(of(&r, room, len, &again) == TSOTEST_NO_FAULT && again == len && room[len] == 'X' && memcmp(room, text, len) == 0);
+}
+
+static void texts(void)
+{
+    tsotest_record_begin(&r, 0);
+    gives(tsotest_recording_text, "{\"cores\":[],\"version\":1,\"writes\":[]}\n");
+    gives(tsotest_program_text, "");
+    /* Addresses are numbered by first use core by core, whatever the order of the calls. */
+    tsotest_record_begin(&r, 3);
+    tsotest_record_commit(&r, 0, 0x10, 7);
+    assert(tsotest_record_load(&r, 1, 0x20, 0) == 0);
+    assert(tsotest_record_store(&r, 0, 0x10, 7) == 1);
+    gives(tsotest_recording_text, "{\"cores\":[[{\"a\":0,\"k\":\"S\",\"w\":7}],[{\"a\":1,\"k\":\"L\",\"r\":0,\"s\":null}],[]],"
+                                  "\"version\":1,\"writes\":[[0],[]]}\n");
+    gives(tsotest_program_text, "core\nst x10 7\ncore\nld x20\ncore\n");
+    /* Events that come after a text. */
+    tsotest_record_load(&r, 2, 0x10, 7);
+    gives(tsotest_recording_text, "{\"cores\":[[{\"a\":0,\"k\":\"S\",\"w\":7}],[{\"a\":1,\"k\":\"L\",\"r\":0,\"s\":null}],"
+                                  "[{\"a\":0,\"k\":\"L\",\"r\":7,\"s\":0}]],\"version\":1,\"writes\":[[0],[]]}\n");
+    /* Version 2. */
+    tsotest_record_begin(&r, 1);
+    tsotest_record_initial(&r, 0x30, 9);
+    tsotest_record_initial(&r, 0x34, 9); /* not used, and so not told */
+    tsotest_record_failed_cas(&r, 0, 0x30, 9);
+    tsotest_record_fence(&r, 0);
+    tsotest_record_rmw(&r, 0, 0x30, 9, 4294967295u);
+    tsotest_record_commit(&r, 0, 0x30, 4294967295u);
+    gives(tsotest_recording_text,
+          "{\"cores\":[[{\"a\":0,\"k\":\"C\",\"r\":9,\"s\":null},{\"k\":\"F\"},{\"a\":0,\"k\":\"R\",\"r\":9,\"s\":null,\"w\":4294967295}]],"
+          "\"init\":[9],\"version\":2,\"writes\":[[2]]}\n");
+    gives(tsotest_program_text, "core\ncas x30 10 0\nfence\nswap x30 4294967295\ninit x30 9\n");
+    /* The next run begins with what this one left. */
+    tsotest_record_continue(&r);
+    tsotest_record_load(&r, 0, 0x30, 4294967295u);
+    gives(tsotest_recording_text,
+          "{\"cores\":[[{\"a\":0,\"k\":\"L\",\"r\":4294967295,\"s\":null}]],\"init\":[4294967295],\"version\":2,\"writes\":[[]]}\n");
+    /* Values that repeat, with sources and commits that are told; a value that comes later; names of high addresses. */
+    tsotest_record_begin(&r, 2);
+    int a = tsotest_record_store(&r, 0, 0x10000000, 5), b = tsotest_record_store(&r, 1, 0x10000000, 5);
+    int l = tsotest_record_load(&r, 0, 0x10000000, 0);
+    tsotest_record_commit_event(&r, b);
+    tsotest_record_commit_event(&r, a);
+    assert(tsotest_record_value(&r, l, 5) == l && tsotest_record_source(&r, l, b) == l);
+    gives(tsotest_recording_text, "{\"cores\":[[{\"a\":0,\"k\":\"S\",\"w\":5},{\"a\":0,\"k\":\"L\",\"r\":5,\"s\":2}],"
+                                  "[{\"a\":0,\"k\":\"S\",\"w\":5}]],\"version\":1,\"writes\":[[2,0]]}\n");
+    gives(tsotest_program_text, "core\nst a0 5\nld a0\ncore\nst a0 5\n");
+}
+
+/* The longest texts. */
+static void longest(void)
+{
+    tsotest_record_begin(&r, 16);
+    for (int i = 0; i < 16; i++)
+        tsotest_record_initial(&r, 0xFFFFFF0 + (uint64_t)i, 4294967295u);
+    for (int i = 0; i < 512; i++) {
+        tsotest_record_rmw(&r, i / 32, 0xFFFFFF0 + (uint64_t)i % 16, 4294967295u, 4294960000u + (uint32_t)i);
+        tsotest_record_commit(&r, i / 32, 0xFFFFFF0 + (uint64_t)i % 16, 4294960000u + (uint32_t)i);
+    }
+    for (int i = 1; i < 512; i++) { /* the numbers of sources are as long as may be */
+        tsotest_record_source(&r, i, i < 16 ? 496 + i : i % 16 + 480);
+        tsotest_record_value(&r, i, r.event[i < 16 ? 496 + i : i % 16 + 480].written);
+    }
+    assert(tsotest_recording_text(&r, out, sizeof out, &len) == TSOTEST_NO_FAULT && len > 28000);
+    assert(tsotest_program_text(&r, out, sizeof out, &len) == TSOTEST_NO_FAULT);
+}
+
+static void refusals(void)
+{
+    tsotest_record_begin(&r, 17);
+    fails(TSOTEST_FULL, false, "17 cores");
+    tsotest_record_begin(&r, -1);
+    fails(TSOTEST_FULL, false, "-1 cores");
+    tsotest_record_begin(&r, 2);
+    assert(tsotest_record_load(&r, 2, 0, 0) == -1 && tsotest_record_fence(&r, 0) == -1);
+    fails(TSOTEST_NO_SUCH, false, "core 2");
+    tsotest_record_begin(&r, 2);
+    tsotest_record_load(&r, -1, 0, 0);
+    fails(TSOTEST_NO_SUCH, false, "core -1");
+    tsotest_record_begin(&r, 1);
+    for (int i = 0; i < 513; i++)
+        tsotest_record_fence(&r, 0);
+    fails(TSOTEST_FULL, false, "512 events");
+    tsotest_record_begin(&r, 1);
+    for (int i = 0; i < 17; i++)
+        tsotest_record_load(&r, 0, 0xF000000000000000u + (uint64_t)i, 0);
+    fails(TSOTEST_FULL, false, "0xf000000000000010 is the 17th");
+    tsotest_record_begin(&r, 1);
+    for (int i = 0; i < 513; i++)
+        tsotest_record_commit(&r, 0, 0, 0);
+    fails(TSOTEST_FULL, false, "512 commits");
+    tsotest_record_begin(&r, 1);
+    tsotest_record_load(&r, 0, 0x40, 3);
+    fails(TSOTEST_STRAY_VALUE, true, "operation 0 of core 0 read 3 from 0x40, which nobody wrote");
+    tsotest_record_begin(&r, 2);
+    tsotest_record_store(&r, 0, 0x40, 3);
+    tsotest_record_store(&r, 1, 0x40, 3);
+    tsotest_record_load(&r, 0, 0x40, 3);
+    tsotest_record_commit(&r, 0, 0x40, 3);
+    tsotest_record_commit(&r, 1, 0x40, 3);
+    fails(TSOTEST_AMBIGUOUS, false, "operation 1 of core 0 read 3 from 0x40, of which there are 2 sources");
+    tsotest_record_begin(&r, 1);
+    tsotest_record_store(&r, 0, 0x40, 0);
+    tsotest_record_load(&r, 0, 0x40, 0);
+    tsotest_record_commit(&r, 0, 0x40, 0);
+    fails(TSOTEST_AMBIGUOUS, false, "2 sources");
+    tsotest_record_begin(&r, 1);
+    tsotest_record_store(&r, 0, 0x40, 1);
+    tsotest_record_store(&r, 0, 0x40, 1);
+    tsotest_record_commit(&r, 0, 0x40, 1);
+    fails(TSOTEST_AMBIGUOUS, false, "core 0 wrote 1 to 0x40 twice");
+    tsotest_record_begin(&r, 2);
+    tsotest_record_fence(&r, 1);
+    tsotest_record_store(&r, 0, 0x44, 1);
+    tsotest_record_store(&r, 1, 0x40, 1);
+    tsotest_record_commit(&r, 0, 0x44, 1);
+    fails(TSOTEST_LOST_STORE, true, "operation 1 of core 1 wrote 1 to 0x40, which never reached memory");
+    tsotest_record_begin(&r, 2);
+    tsotest_record_store(&r, 0, 0x40, 1);
+    tsotest_record_commit(&r, 1, 0x40, 1);
+    fails(TSOTEST_STRAY_COMMIT, true, "core 1: the value 1 reached 0x40, and this core executed no such write");
+    tsotest_record_begin(&r, 1);
+    tsotest_record_store(&r, 0, 0x40, 1);
+    tsotest_record_commit(&r, 0, 0x40, 1);
+    tsotest_record_commit(&r, 0, 0x40, 1);
+    fails(TSOTEST_STRAY_COMMIT, true, "core 0: the value 1 reached 0x40 twice");
+    tsotest_record_begin(&r, 1);
+    assert(tsotest_record_source(&r, 0, TSOTEST_INITIAL) == -1);
+    fails(TSOTEST_NO_SUCH, false, "event 0 is no read");
+    tsotest_record_begin(&r, 1);
+    tsotest_record_store(&r, 0, 0x44, 1);
+    tsotest_record_load(&r, 0, 0x40, 0);
+    tsotest_record_source(&r, 1, 0);
+    fails(TSOTEST_NO_SUCH, false, "event 0 is no write of the address that event 1 read");
+    tsotest_record_begin(&r, 1);
+    tsotest_record_commit_event(&r, tsotest_record_load(&r, 0, 0x40, 0));
+    fails(TSOTEST_NO_SUCH, false, "event 0 is no write");
+    tsotest_record_begin(&r, 1);
+    tsotest_record_source(&r, tsotest_record_load(&r, 0, 0x40, 8), TSOTEST_INITIAL);
+    fails(TSOTEST_STRAY_VALUE, true, "read 8 from 0x40, and its source wrote 0");
+}
+
+int main(void)
+{
+    texts();
+    longest();
+    refusals();
+    assert(sizeof r <= 20 * 1024);
+    return 0;
+}

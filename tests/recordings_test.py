@@ -1,0 +1,166 @@
+#!/usr/bin/env python3
+"""Takes recordings of the program's own machine apart, tells their events to the recorders in another order, and wants the same bytes
+back: of the recorder in C, by examples/log/from_log.c, and of the one in Python.
+
+Usage: recordings_test.py PROGRAM FROM_LOG [RECORDINGS]
+"""
+import json
+import random
+import subprocess
+import sys
+from itertools import count
+from pathlib import Path
+
+sys.dont_write_bytecode = True
+sys.path.insert(0, str(Path(__file__).resolve().parent.parent / "python"))
+import tsotest
+
+FAULTS = ["none", "no-bypass", "youngest-first", "open-fence", "stale-share", "early-rmw"]
+KINDS = {"L": "ld", "S": "st", "R": "rmw", "C": "cas", "F": "fence"}
+
+
+def printed(program, k, rng):
+    """The line of a recording that `trials` shows, or none where the run is unfinished."""
+    shape = ["--cores", rng.randint(1, 16), "--ops", rng.randint(1, 24), "--addresses", rng.randint(1, 16)]
+    words = [program, "trials", *shape, "--seed", k, "--show", 0, "--fault", rng.choice(FAULTS), "--quiet"]
+    shown = subprocess.run([*map(str, words)], capture_output=True, text=True).stdout
+    return next((line + "\n" for line in shown.splitlines() if line.startswith('{"cores"')), None)
+
+
+def changed(text, rng):
+    """The recording with initial values and a failed compare-and-swap: version 2, by its definition."""
+    it = json.loads(text)
+    initial = [rng.choice([0, 7, 4294967295]) for _ in it["writes"]]
+    for core in it["cores"]:
+        for event in core:
+            if event["k"] in "LR" and event["s"] is None:
+                event["r"] = initial[event["a"]]
+            if event["k"] == "L" and rng.random() < 0.2:
+                event["k"] = "C"
+    if not any(initial) and all(event["k"] != "C" for core in it["cores"] for event in core):
+        return text
+    it["init"], it["version"] = initial, 2
+    return json.dumps(it, sort_keys=True, separators=(",", ":")) + "\n"
+
+
+def taken_apart(recording, rng):
+    """Its events and commits, cores and write lists interleaved: ("event", E) and ("commit", E) by its own numbers."""
+    queues, first = [], 0
+    for core in recording["cores"]:
+        queues.append([("event", first + i) for i in range(len(core))])
+        first += len(core)
+    queues += [[("commit", it) for it in writes] for writes in recording["writes"]]
+    order = []
+    while queues := [it for it in queues if it]:
+        order.append(rng.choice(queues).pop(0))
+    return order
+
+
+def is_unique(events, initial):
+    """Whether a value tells its source."""
+    written = [(it["a"], it["w"]) for it in events if "w" in it] + list(enumerate(initial))
+    return len(set(written)) == len(written)
+
+
+class Log:
+    """The calls of a recorder as the lines of a log."""
+
+    def __init__(self, cores):
+        self.lines, self.numbers = [f"cores {cores}"], count()
+
+    def event(self, kind, core, address, *values):
+        place = [] if address is None else [hex(address)]
+        self.lines.append(" ".join(map(str, [KINDS[kind], core, *place, *values])))
+        return next(self.numbers)
+
+    def initial(self, address, value):
+        self.lines.append(f"init {hex(address)} {value}")
+
+    def commit(self, core, address, value):
+        self.lines.append(f"commit {core} {hex(address)} {value}")
+
+    def commit_event(self, event):
+        self.lines.append(f"commit {event}")
+
+    def source(self, event, write):
+        self.lines.append(f"source {event} {'init' if write is None else write}")
+
+
+class Python(tsotest.Recorder):
+    """The recorder in Python, by the same calls."""
+
+    def event(self, kind, core, address, *values):
+        if kind == "F":
+            return self.fence(core)
+        return {"L": self.load, "S": self.store, "R": self.rmw, "C": self.failed_cas}[kind](core, address, *values)
+
+
+def told(recorder, recording, order, by_value):
+    """Tells a recorder what was taken apart; where values don't tell sources and commits, by events."""
+    events = [it for core in recording["cores"] for it in core]
+    core_of = [c for c, core in enumerate(recording["cores"]) for _ in core]
+    numbers = {}
+    for address, value in enumerate(recording.get("init", [])):
+        if value:
+            recorder.initial(0x1000 + 4 * address, value)
+    for what, number in order:
+        it, core = events[number], core_of[number]
+        address = 0x1000 + 4 * it["a"] if "a" in it else None
+        if what == "event":
+            numbers[number] = recorder.event(it["k"], core, address, *(it[key] for key in "rw" if key in it))
+        elif by_value:
+            recorder.commit(core, address, it["w"])
+    if not by_value:
+        for what, number in order:
+            if what == "commit":
+                recorder.commit_event(numbers[number])
+        for number, it in enumerate(events):
+            if "s" in it:
+                recorder.source(numbers[number], None if it["s"] is None else numbers[it["s"]])
+    return recorder
+
+
+def from_log(filter_, lines):
+    return subprocess.run([filter_], input="\n".join(lines) + "\n", capture_output=True, text=True)
+
+
+def main():
+    program, filter_ = sys.argv[1:3]
+    wanted = int(sys.argv[3]) if len(sys.argv) > 3 else 200
+    same = by_values = stray = 0
+    for k in count():
+        if same == wanted:
+            break
+        rng = random.Random(k)
+        text = printed(program, k, rng)
+        if text is None:
+            continue
+        text = changed(text, rng) if rng.random() < 0.3 else text
+        recording = json.loads(text)
+        events = [it for core in recording["cores"] for it in core]
+        order = taken_apart(recording, rng)
+        by_value = is_unique(events, recording.get("init", [0] * len(recording["writes"]))) and rng.random() < 0.7
+        log = told(Log(len(recording["cores"])), recording, order, by_value)
+        python = told(Python(len(recording["cores"])), recording, order, by_value)
+        made = from_log(filter_, log.lines)
+        if made.stdout != text or python.recording() != text:
+            sys.exit(f"recording {k}: {made.stderr}\nwant   {text}C      {made.stdout}Python {python.recording()}")
+        if tsotest.judge(text).status == tsotest.Status.REFUSED:
+            sys.exit(f"recording {k} is refused: {text}")
+        if tsotest.explain(text, python.program()).status == tsotest.Status.REFUSED:
+            sys.exit(f"recording {k} is none of its program: {text}{python.program()}")
+        same += 1
+        by_values += by_value
+        reads = [i for i, line in enumerate(log.lines) if line.startswith("ld ")]
+        if by_value and reads:
+            i = rng.choice(reads)
+            log.lines[i] = log.lines[i].rsplit(" ", 1)[0] + " 4000000000"
+            bad = from_log(filter_, log.lines)
+            if bad.returncode != 1 or bad.stdout or "nobody wrote" not in bad.stderr:
+                sys.exit(f"recording {k}: a stray value gives {bad}")
+            stray += 1
+    print(f"{same} recordings came back to the byte from both recorders, {by_values} by values alone; {stray} stray values were told")
+
+
+if __name__ == "__main__":
+    main()
