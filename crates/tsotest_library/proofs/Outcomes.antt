@@ -14,7 +14,7 @@ use Rattle.answers.specs.Reduced.{IsReducedAnswer}
 use Rattle.answers.specs.Told.{IsToldAnswer}
 use Rattle.verification.specs.Checked.{IsCheckAnswer}
 use Rattle.tsotest_library.specs.Checked.{IsCheckOf}
-use Rattle.tsotest_library.specs.Told.{IsToldBy, IsToldOf}
+use Rattle.tsotest_library.specs.Told.{IsToldByText, IsToldOf}
 
 -- well, as a violation or as a refusal
 abbrev pub ComesOut : Outcome → Outcome → Type 0
@@ -66,7 +66,7 @@ told_outcome (Picture all) x p a is = verdict_outcome is.verdict a.outcome is.ou
 told_outcome Reduction x p a is = reduced_outcome x p a is
 
 -- the same by the text of its program
-told_by_outcome : (telling : Telling) (x : Execution) (text : List ℕ) (a : Answer) → IsToldBy telling x text a
+told_by_outcome : (telling : Telling) (x : Execution) (text : List ℕ) (a : Answer) → IsToldByText telling x text a
     → ComesOut outcome.Ordered a.outcome
 told_by_outcome telling x text a (inl told) = told_outcome telling x told.program a told.told
 told_by_outcome telling x text a (inr refused) = elim refused.1 [

@@ -6,7 +6,7 @@ use Rattle.report.specs.declared.outcome.Outcome.{Outcome}
 use Rattle.report.specs.declared.outcome.Outcome.TheVariants as outcome
 use Rattle.report.specs.declared.printed.Answer.{Answer}
 use Rattle.report.specs.Outcomes.{status_of}
-use Rattle.tsotest_library.specs.Given.{IsGiven, IsNothing, IsWritten}
+use Rattle.tsotest_library.specs.Given.{IsAnswered, IsNothing, IsWrittenWhole}
 use Rattle.tsotest_library.proofs.Outcomes.{ComesOut}
 
 -- 0 is well
@@ -29,13 +29,13 @@ status_3 well o is (inr (inr e)) three = e
 
 -- an answer is put, or nothing, since there is none
 pub data Put (Is : Answer → Type 0) (status : ℕ) (old new : List ℕ) (n : ℕ) : Type 0 where
-  answered : (a : Answer) → Is a → status ≡ status_of a.outcome → IsWritten a.text.items old new n
+  answered : (a : Answer) → Is a → status ≡ status_of a.outcome → IsWrittenWhole a.text.items old new n
       → Put Is status old new n
   unanswered : status ≡ 1 → IsNothing old new n → Put Is status old new n
 
 -- so it is by what a call says
 pub put_by : (Is : Answer → Type 0) (r : Result Answer OutOfMemory) (status : ℕ) (old new : List ℕ) (n : ℕ) → IfOk r Is
-    → IfOk r (λ a. status ≡ status_of a.outcome) → IfOk r (λ a. IsWritten a.text.items old new n)
+    → IfOk r (λ a. status ≡ status_of a.outcome) → IfOk r (λ a. IsWrittenWhole a.text.items old new n)
     → IfErr r (λ e. status ≡ 1) → IfErr r (λ e. IsNothing old new n) → Put Is status old new n
 put_by Is (Ok a) status old new n is given written fault nothing = answered a is given written
 put_by Is (Err e) status old new n is given written fault nothing = unanswered fault nothing
@@ -43,7 +43,7 @@ put_by Is (Err e) status old new n is given written fault nothing = unanswered f
 -- 0 says that all is well
 pub put_0 : {Is : Answer → Type 0} {status : ℕ} {old new : List ℕ} {n : ℕ} (well : Outcome) → status_of well ≡ 0
     → ((a : Answer) → Is a → ComesOut well a.outcome) → Put Is status old new n → status ≡ 0
-    → IsGiven Is well old new n
+    → IsAnswered Is well old new n
 put_0 well zero out (answered a is given written) same = record {
   answer = a;
   is = is;
@@ -55,7 +55,7 @@ put_0 well zero out (unanswered fault nothing) same = absurd (omega (arith, faul
 -- 2 a violation
 pub put_2 : {Is : Answer → Type 0} {status : ℕ} {old new : List ℕ} {n : ℕ} (well : Outcome) → status_of well ≡ 0
     → ((a : Answer) → Is a → ComesOut well a.outcome) → Put Is status old new n → status ≡ 2
-    → IsGiven Is outcome.Violation old new n
+    → IsAnswered Is outcome.Violation old new n
 put_2 well zero out (answered a is given written) same = record {
   answer = a;
   is = is;
@@ -67,7 +67,7 @@ put_2 well zero out (unanswered fault nothing) same = absurd (omega (arith, faul
 -- 3 a refusal
 pub put_3 : {Is : Answer → Type 0} {status : ℕ} {old new : List ℕ} {n : ℕ} (well : Outcome) → status_of well ≡ 0
     → ((a : Answer) → Is a → ComesOut well a.outcome) → Put Is status old new n → status ≡ 3
-    → IsGiven Is outcome.Refused old new n
+    → IsAnswered Is outcome.Refused old new n
 put_3 well zero out (answered a is given written) same = record {
   answer = a;
   is = is;

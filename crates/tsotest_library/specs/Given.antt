@@ -9,7 +9,7 @@ use Rattle.answers.specs.Campaign.{ledger_outcome}
 use Rattle.surveys.specs.Coded.{AreLineCodes}
 
 -- a text, n long, stands at the front of the buffer where it has room; else the buffer stays
-pub record IsWritten (text old new : List ℕ) (n : ℕ) : Type 0 where
+pub record IsWrittenWhole (text old new : List ℕ) (n : ℕ) : Type 0 where
   pub size : n ≡ length text
   pub fits : length text ≤ length old → new ≡ text ++ drop (length text) old
   pub stays : length old < length text → new ≡ old
@@ -20,11 +20,11 @@ pub record IsNothing (old new : List ℕ) (n : ℕ) : Type 0 where
   pub stays : new ≡ old
 
 -- the text of such an answer, which came out so
-pub record IsGiven (Is : Answer → Type 0) (outcome : Outcome) (old new : List ℕ) (n : ℕ) : Type 0 where
+pub record IsAnswered (Is : Answer → Type 0) (outcome : Outcome) (old new : List ℕ) (n : ℕ) : Type 0 where
   pub answer : Answer
   pub is : Is answer
   pub outcome_is : answer.outcome ≡ outcome
-  pub written : IsWritten answer.text.items old new n
+  pub written : IsWrittenWhole answer.text.items old new n
 
 -- how a survey of recordings with these codes comes out
 pub record IsOutcomeOf (codes : List ℕ) (outcome : Outcome) : Type 0 where
@@ -33,8 +33,8 @@ pub record IsOutcomeOf (codes : List ℕ) (outcome : Outcome) : Type 0 where
   pub is : outcome ≡ ledger_outcome Refused ledger
 
 -- the codes of what is found in the lines, in order; a survey of them comes out so
-pub record AreGiven (lines : List ℕ) (outcome : Outcome) (old new : List ℕ) (n : ℕ) : Type 0 where
+pub record AreCodesAnswered (lines : List ℕ) (outcome : Outcome) (old new : List ℕ) (n : ℕ) : Type 0 where
   pub codes : List ℕ
   pub are : AreLineCodes lines codes
   pub outcome_is : IsOutcomeOf codes outcome
-  pub written : IsWritten codes old new n
+  pub written : IsWrittenWhole codes old new n

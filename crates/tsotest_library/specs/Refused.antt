@@ -22,7 +22,7 @@ pub record IsLineRefused (text : List ℕ) (answer : Answer) : Type 0 where
   pub printed : answer.text.items ≡ refusal_line fault line
 
 -- the text is that of a program, and the recording is none of it
-pub record IsOther (x : Execution) (text : List ℕ) (answer : Answer) : Type 0 where
+pub record IsOtherProgram (x : Execution) (text : List ℕ) (answer : Answer) : Type 0 where
   pub program : Parts
   pub read : reading text ≡ Ok program
   pub other : ¬ IsProgramOf program x
@@ -30,5 +30,5 @@ pub record IsOther (x : Execution) (text : List ℕ) (answer : Answer) : Type 0 
   pub printed : answer.text.items ≡ codes "refused: N9" ++ 10 ∷ []
 
 -- the text is refused, by itself or for the recording
-abbrev pub IsProgramRefused : Execution → List ℕ → Answer → Type 0
-IsProgramRefused x text answer = IsLineRefused text answer ⊎ IsOther x text answer
+abbrev pub IsTextRefused : Execution → List ℕ → Answer → Type 0
+IsTextRefused x text answer = IsLineRefused text answer ⊎ IsOtherProgram x text answer

@@ -10,7 +10,7 @@ use Rattle.report.specs.declared.printed.Answer.{Answer}
 use Rattle.report.specs.Answer.{IsRefusedAnswer}
 use Rattle.answers.specs.declared.told.Telling.{Telling}
 use Rattle.answers.specs.Told.{IsToldAnswer}
-use Rattle.tsotest_library.specs.Refused.{IsProgramRefused}
+use Rattle.tsotest_library.specs.Refused.{IsTextRefused}
 
 -- the text is that of the program, of which the recording is one
 pub record IsOwn (x : Execution) (text : List ℕ) (program : Parts) : Type 0 where
@@ -20,28 +20,28 @@ pub record IsOwn (x : Execution) (text : List ℕ) (program : Parts) : Type 0 wh
 -- it, or the answer to its refusal
 abbrev pub IsOwnOrRefused : Execution → List ℕ → Result Program Answer → Type 0
 IsOwnOrRefused x text (Ok program) = IsOwn x text program
-IsOwnOrRefused x text (Err answer) = IsProgramRefused x text answer
+IsOwnOrRefused x text (Err answer) = IsTextRefused x text answer
 
 -- the program of a recording by its text; an empty one stands for none
-abbrev pub IsProgramBy : Execution → List ℕ → Option Parts → Type 0
-IsProgramBy x text None = text ≡ []
-IsProgramBy x text (Some program) = (text ≢ []) × IsOwn x text program
+abbrev pub IsProgramOfText : Execution → List ℕ → Option Parts → Type 0
+IsProgramOfText x text None = text ≡ []
+IsProgramOfText x text (Some program) = (text ≢ []) × IsOwn x text program
 
 -- what is told of a recording, with its program
 pub record IsToldWith (telling : Telling) (x : Execution) (text : List ℕ) (answer : Answer) : Type 0 where
   pub program : Option Parts
-  pub given : IsProgramBy x text program
+  pub given : IsProgramOfText x text program
   pub told : IsToldAnswer telling x program answer
 
 -- what is told of it, or that the text of the program is refused
-abbrev pub IsToldBy : Telling → Execution → List ℕ → Answer → Type 0
-IsToldBy telling x text answer = IsToldWith telling x text answer ⊎ ((text ≢ []) × IsProgramRefused x text answer)
+abbrev pub IsToldByText : Telling → Execution → List ℕ → Answer → Type 0
+IsToldByText telling x text answer = IsToldWith telling x text answer ⊎ ((text ≢ []) × IsTextRefused x text answer)
 
 -- what is told of the recording that the bytes are
 pub record IsToldRecording (telling : Telling) (bytes text : List ℕ) (answer : Answer) : Type 0 where
   pub recording : Execution
   pub read : IsReadingResult bytes (Ok recording)
-  pub told : IsToldBy telling recording text answer
+  pub told : IsToldByText telling recording text answer
 
 -- it, or that the bytes are refused, whatever the text of the program
 abbrev pub IsToldOf : Telling → List ℕ → List ℕ → Answer → Type 0

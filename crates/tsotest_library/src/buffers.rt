@@ -2,14 +2,14 @@
 
 ghost use Rattle.std.specs.Prelude.{◌≡◌, IfErr, IfOk};
 ghost use Rattle.report.specs.Outcomes.{status_of};
-ghost use Rattle.tsotest_library.specs.Given.{IsNothing, IsWritten};
+ghost use Rattle.tsotest_library.specs.Given.{IsNothing, IsWrittenWhole};
 
 use common::OutOfMemory;
 use report::{Answer, Outcome};
 
 /// Writes a text to the front of `out` where it has room, and its length to `len`.
 pub(crate) fn put_text(text: &[u8], out: &mut [u8], len: &mut usize)
-    ensures { IsWritten text.now out.old out.new len.new }
+    ensures { IsWrittenWhole text.now out.old out.new len.new }
 {
     *len = text.len();
     if text.len() <= out.len() {
@@ -19,7 +19,7 @@ pub(crate) fn put_text(text: &[u8], out: &mut [u8], len: &mut usize)
 
 /// The same of codes.
 pub(crate) fn put_codes(found: &[u64], codes: &mut [u64], count: &mut usize)
-    ensures { IsWritten found.now codes.old codes.new count.new }
+    ensures { IsWrittenWhole found.now codes.old codes.new count.new }
 {
     *count = found.len();
     if found.len() <= codes.len() {
@@ -31,7 +31,7 @@ pub(crate) fn put_codes(found: &[u64], codes: &mut [u64], count: &mut usize)
 /// written, and the status is 1.
 pub(crate) fn put_answer(answer: Result<Answer, OutOfMemory>, out: &mut [u8], len: &mut usize) -> u8
     ensures given { IfOk answer (λ a. result ≡ status_of a.outcome) }
-    ensures written { IfOk answer (λ a. IsWritten a.text.items out.old out.new len.new) }
+    ensures written { IfOk answer (λ a. IsWrittenWhole a.text.items out.old out.new len.new) }
     ensures fault { IfErr answer (λ _. result ≡ 1) }
     ensures nothing { IfErr answer (λ _. IsNothing out.old out.new len.new) }
 {

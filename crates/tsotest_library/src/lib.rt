@@ -4,7 +4,7 @@
 ghost use Rattle.std.specs.Prelude.{◌≡◌, ◌≤◌, ◌++◌, ◌∷◌, [], codes, true, false};
 ghost use Rattle.report.specs.declared.outcome.Outcome.TheVariants.{Done, Ordered, Refused, Violation};
 ghost use Rattle.answers.specs.declared.told.Telling.TheVariants.{Words, Picture, Reduction};
-ghost use Rattle.tsotest_library.specs.Given.{AreGiven, IsGiven, IsNothing, IsWritten};
+ghost use Rattle.tsotest_library.specs.Given.{AreCodesAnswered, IsAnswered, IsNothing, IsWrittenWhole};
 ghost use Rattle.tsotest_library.specs.Judged.{IsJudgedOf};
 ghost use Rattle.tsotest_library.specs.Told.{IsToldOf};
 ghost use Rattle.tsotest_library.specs.Checked.{IsCheckOf};
@@ -38,10 +38,10 @@ pub extern "C" fn tsotest_judge(
 ) -> u8
     // The numbers are those that a caller in C has: no constant stands for them.
     ensures status { result ≤ 3 }
-    ensures allowed { result ≡ 0 → IsGiven (IsJudgedOf recording.now) Ordered out.old out.new len.new }
+    ensures allowed { result ≡ 0 → IsAnswered (IsJudgedOf recording.now) Ordered out.old out.new len.new }
     ensures no_memory { result ≡ 1 → IsNothing out.old out.new len.new }
-    ensures violation { result ≡ 2 → IsGiven (IsJudgedOf recording.now) Violation out.old out.new len.new }
-    ensures refused { result ≡ 3 → IsGiven (IsJudgedOf recording.now) Refused out.old out.new len.new }
+    ensures violation { result ≡ 2 → IsAnswered (IsJudgedOf recording.now) Violation out.old out.new len.new }
+    ensures refused { result ≡ 3 → IsAnswered (IsJudgedOf recording.now) Refused out.old out.new len.new }
 {
     buffers::put_answer(judging::judged_answer(alloc, recording), out, len)
 }
@@ -59,12 +59,12 @@ pub extern "C" fn tsotest_explain(
 ) -> u8
     ensures status { result ≤ 3 }
     ensures allowed { result ≡ 0 →
-        IsGiven (IsToldOf Words recording.now program.now) Ordered out.old out.new len.new }
+        IsAnswered (IsToldOf Words recording.now program.now) Ordered out.old out.new len.new }
     ensures no_memory { result ≡ 1 → IsNothing out.old out.new len.new }
     ensures violation { result ≡ 2 →
-        IsGiven (IsToldOf Words recording.now program.now) Violation out.old out.new len.new }
+        IsAnswered (IsToldOf Words recording.now program.now) Violation out.old out.new len.new }
     ensures refused { result ≡ 3 →
-        IsGiven (IsToldOf Words recording.now program.now) Refused out.old out.new len.new }
+        IsAnswered (IsToldOf Words recording.now program.now) Refused out.old out.new len.new }
 {
     let answer = telling::told_answer_of(alloc, Telling::Words, recording, program);
     buffers::put_answer(answer, out, len)
@@ -83,12 +83,12 @@ pub extern "C" fn tsotest_draw(
 ) -> u8
     ensures status { result ≤ 3 }
     ensures allowed { result ≡ 0 →
-        IsGiven (IsToldOf (Picture all) recording.now program.now) Ordered out.old out.new len.new }
+        IsAnswered (IsToldOf (Picture all) recording.now program.now) Ordered out.old out.new len.new }
     ensures no_memory { result ≡ 1 → IsNothing out.old out.new len.new }
     ensures violation { result ≡ 2 →
-        IsGiven (IsToldOf (Picture all) recording.now program.now) Violation out.old out.new len.new }
+        IsAnswered (IsToldOf (Picture all) recording.now program.now) Violation out.old out.new len.new }
     ensures refused { result ≡ 3 →
-        IsGiven (IsToldOf (Picture all) recording.now program.now) Refused out.old out.new len.new }
+        IsAnswered (IsToldOf (Picture all) recording.now program.now) Refused out.old out.new len.new }
 {
     let answer = telling::told_answer_of(alloc, Telling::Picture { all }, recording, program);
     buffers::put_answer(answer, out, len)
@@ -105,12 +105,12 @@ pub extern "C" fn tsotest_reduce(
 ) -> u8
     ensures status { result ≤ 3 }
     ensures allowed { result ≡ 0 →
-        IsGiven (IsToldOf Reduction recording.now program.now) Ordered out.old out.new len.new }
+        IsAnswered (IsToldOf Reduction recording.now program.now) Ordered out.old out.new len.new }
     ensures no_memory { result ≡ 1 → IsNothing out.old out.new len.new }
     ensures violation { result ≡ 2 →
-        IsGiven (IsToldOf Reduction recording.now program.now) Violation out.old out.new len.new }
+        IsAnswered (IsToldOf Reduction recording.now program.now) Violation out.old out.new len.new }
     ensures refused { result ≡ 3 →
-        IsGiven (IsToldOf Reduction recording.now program.now) Refused out.old out.new len.new }
+        IsAnswered (IsToldOf Reduction recording.now program.now) Refused out.old out.new len.new }
 {
     let answer = telling::told_answer_of(alloc, Telling::Reduction, recording, program);
     buffers::put_answer(answer, out, len)
@@ -128,12 +128,12 @@ pub extern "C" fn tsotest_verify(
 ) -> u8
     ensures status { result ≤ 3 }
     ensures holds { result ≡ 0 →
-        IsGiven (IsCheckOf recording.now verdict.now) Done out.old out.new len.new }
+        IsAnswered (IsCheckOf recording.now verdict.now) Done out.old out.new len.new }
     ensures no_memory { result ≡ 1 → IsNothing out.old out.new len.new }
     ensures fails { result ≡ 2 →
-        IsGiven (IsCheckOf recording.now verdict.now) Violation out.old out.new len.new }
+        IsAnswered (IsCheckOf recording.now verdict.now) Violation out.old out.new len.new }
     ensures refused { result ≡ 3 →
-        IsGiven (IsCheckOf recording.now verdict.now) Refused out.old out.new len.new }
+        IsAnswered (IsCheckOf recording.now verdict.now) Refused out.old out.new len.new }
 {
     buffers::put_answer(checking::check_answer(alloc, recording, verdict), out, len)
 }
@@ -152,10 +152,10 @@ pub extern "C" fn tsotest_survey(
     count: &mut usize,
 ) -> u8
     ensures status { result ≤ 3 }
-    ensures allowed { result ≡ 0 → AreGiven lines.now Done codes.old codes.new count.new }
+    ensures allowed { result ≡ 0 → AreCodesAnswered lines.now Done codes.old codes.new count.new }
     ensures no_memory { result ≡ 1 → IsNothing codes.old codes.new count.new }
-    ensures violation { result ≡ 2 → AreGiven lines.now Violation codes.old codes.new count.new }
-    ensures refused { result ≡ 3 → AreGiven lines.now Refused codes.old codes.new count.new }
+    ensures violation { result ≡ 2 → AreCodesAnswered lines.now Violation codes.old codes.new count.new }
+    ensures refused { result ≡ 3 → AreCodesAnswered lines.now Refused codes.old codes.new count.new }
 {
     *count = 0;
     let Ok(found) = codes_of_lines(alloc, lines) else {
@@ -172,7 +172,7 @@ pub extern "C" fn tsotest_survey(
 #[unsafe(no_mangle)]
 pub extern "C" fn tsotest_version(out: &mut [u8], len: &mut usize) -> u8
     ensures status { result ≡ 0 }
-    ensures text { IsWritten (codes "tsotest 0.9.0" ++ 10 ∷ []) out.old out.new len.new }
+    ensures text { IsWrittenWhole (codes "tsotest 0.9.0" ++ 10 ∷ []) out.old out.new len.new }
 {
     buffers::put_text(b"tsotest 0.9.0\n", out, len);
     0

@@ -1,7 +1,7 @@
 //! What is told of a recording, by the text of its program.
 
 ghost use Rattle.std.specs.Prelude.{IfOk};
-ghost use Rattle.tsotest_library.specs.Told.{IsOwnOrRefused, IsToldBy, IsToldOf};
+ghost use Rattle.tsotest_library.specs.Told.{IsOwnOrRefused, IsToldByText, IsToldOf};
 
 use crate::refusals::refusal_line;
 use answers::{Telling, told_answer};
@@ -48,7 +48,7 @@ fn told_by(
     recording: &Recording,
     text: &[u8],
 ) -> Result<Answer, OutOfMemory>
-    ensures { IfOk result (IsToldBy telling recording.now text.now) }
+    ensures { IfOk result (IsToldByText telling recording.now text.now) }
 {
     if text.is_empty() {
         return told_answer(alloc, telling, recording, None);

@@ -6,19 +6,25 @@ use Rattle.tsotest_library.proofs.Statuses.{put_by, put_0, put_2, put_3}
 use Rattle.tsotest_library.proofs.tsotest_judge.Goals as goal
 
 pub returns-clause-allowed : goal.returns-clause-allowed
-returns-clause-allowed c zero = put_0 outcome.Ordered refl (λ a is. answer_outcome c.args.recording.now a is.answered)
-    (put_by (IsJudgedOf c.args.recording.now) c.judged_answer.result c.put_answer.result
-    c.args.out.now c.put_answer.new.out c.put_answer.new.len c.judged_answer.ensures c.put_answer.ensures.given
-    c.put_answer.ensures.written c.put_answer.ensures.fault c.put_answer.ensures.nothing) zero
+returns-clause-allowed c zero =
+    put_0 outcome.Ordered refl (λ a is. answer_outcome c.args.recording.now a is.answered)
+    (put_by (IsJudgedOf c.args.recording.now)
+    c.judged_answer.result c.put_answer.result c.args.out.now c.put_answer.new.out c.put_answer.new.len
+    c.judged_answer.ensures c.put_answer.ensures.given c.put_answer.ensures.written
+    c.put_answer.ensures.fault c.put_answer.ensures.nothing) zero
 
 pub returns-clause-violation : goal.returns-clause-violation
-returns-clause-violation c two = put_2 outcome.Ordered refl (λ a is. answer_outcome c.args.recording.now a is.answered)
-    (put_by (IsJudgedOf c.args.recording.now) c.judged_answer.result c.put_answer.result
-    c.args.out.now c.put_answer.new.out c.put_answer.new.len c.judged_answer.ensures c.put_answer.ensures.given
-    c.put_answer.ensures.written c.put_answer.ensures.fault c.put_answer.ensures.nothing) two
+returns-clause-violation c two =
+    put_2 outcome.Ordered refl (λ a is. answer_outcome c.args.recording.now a is.answered)
+    (put_by (IsJudgedOf c.args.recording.now)
+    c.judged_answer.result c.put_answer.result c.args.out.now c.put_answer.new.out c.put_answer.new.len
+    c.judged_answer.ensures c.put_answer.ensures.given c.put_answer.ensures.written
+    c.put_answer.ensures.fault c.put_answer.ensures.nothing) two
 
 pub returns-clause-refused : goal.returns-clause-refused
-returns-clause-refused c three = put_3 outcome.Ordered refl (λ a is. answer_outcome c.args.recording.now a is.answered)
-    (put_by (IsJudgedOf c.args.recording.now) c.judged_answer.result c.put_answer.result
-    c.args.out.now c.put_answer.new.out c.put_answer.new.len c.judged_answer.ensures c.put_answer.ensures.given
-    c.put_answer.ensures.written c.put_answer.ensures.fault c.put_answer.ensures.nothing) three
+returns-clause-refused c three =
+    put_3 outcome.Ordered refl (λ a is. answer_outcome c.args.recording.now a is.answered)
+    (put_by (IsJudgedOf c.args.recording.now)
+    c.judged_answer.result c.put_answer.result c.args.out.now c.put_answer.new.out c.put_answer.new.len
+    c.judged_answer.ensures c.put_answer.ensures.given c.put_answer.ensures.written
+    c.put_answer.ensures.fault c.put_answer.ensures.nothing) three

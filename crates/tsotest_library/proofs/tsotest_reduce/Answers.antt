@@ -7,19 +7,25 @@ use Rattle.tsotest_library.proofs.Statuses.{put_by, put_0, put_2, put_3}
 use Rattle.tsotest_library.proofs.tsotest_reduce.Goals as goal
 
 pub returns-clause-allowed : goal.returns-clause-allowed
-returns-clause-allowed c zero = put_0 outcome.Ordered refl (told_of_outcome Reduction c.args.recording.now c.args.program.now)
-    (put_by (IsToldOf Reduction c.args.recording.now c.args.program.now) c.told_answer_of-answer.result c.put_answer.result
-    c.args.out.now c.put_answer.new.out c.put_answer.new.len c.told_answer_of-answer.ensures c.put_answer.ensures.given
-    c.put_answer.ensures.written c.put_answer.ensures.fault c.put_answer.ensures.nothing) zero
+returns-clause-allowed c zero =
+    put_0 outcome.Ordered refl (told_of_outcome Reduction c.args.recording.now c.args.program.now)
+    (put_by (IsToldOf Reduction c.args.recording.now c.args.program.now)
+    c.told_answer_of-answer.result c.put_answer.result c.args.out.now c.put_answer.new.out c.put_answer.new.len
+    c.told_answer_of-answer.ensures c.put_answer.ensures.given c.put_answer.ensures.written
+    c.put_answer.ensures.fault c.put_answer.ensures.nothing) zero
 
 pub returns-clause-violation : goal.returns-clause-violation
-returns-clause-violation c two = put_2 outcome.Ordered refl (told_of_outcome Reduction c.args.recording.now c.args.program.now)
-    (put_by (IsToldOf Reduction c.args.recording.now c.args.program.now) c.told_answer_of-answer.result c.put_answer.result
-    c.args.out.now c.put_answer.new.out c.put_answer.new.len c.told_answer_of-answer.ensures c.put_answer.ensures.given
-    c.put_answer.ensures.written c.put_answer.ensures.fault c.put_answer.ensures.nothing) two
+returns-clause-violation c two =
+    put_2 outcome.Ordered refl (told_of_outcome Reduction c.args.recording.now c.args.program.now)
+    (put_by (IsToldOf Reduction c.args.recording.now c.args.program.now)
+    c.told_answer_of-answer.result c.put_answer.result c.args.out.now c.put_answer.new.out c.put_answer.new.len
+    c.told_answer_of-answer.ensures c.put_answer.ensures.given c.put_answer.ensures.written
+    c.put_answer.ensures.fault c.put_answer.ensures.nothing) two
 
 pub returns-clause-refused : goal.returns-clause-refused
-returns-clause-refused c three = put_3 outcome.Ordered refl (told_of_outcome Reduction c.args.recording.now c.args.program.now)
-    (put_by (IsToldOf Reduction c.args.recording.now c.args.program.now) c.told_answer_of-answer.result c.put_answer.result
-    c.args.out.now c.put_answer.new.out c.put_answer.new.len c.told_answer_of-answer.ensures c.put_answer.ensures.given
-    c.put_answer.ensures.written c.put_answer.ensures.fault c.put_answer.ensures.nothing) three
+returns-clause-refused c three =
+    put_3 outcome.Ordered refl (told_of_outcome Reduction c.args.recording.now c.args.program.now)
+    (put_by (IsToldOf Reduction c.args.recording.now c.args.program.now)
+    c.told_answer_of-answer.result c.put_answer.result c.args.out.now c.put_answer.new.out c.put_answer.new.len
+    c.told_answer_of-answer.ensures c.put_answer.ensures.given c.put_answer.ensures.written
+    c.put_answer.ensures.fault c.put_answer.ensures.nothing) three
