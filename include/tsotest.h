@@ -51,7 +51,7 @@ enum tsotest_status {
  *
  * Stack.     256 KB are enough.
  *
- * Time.      It grows with the square of the events: some 30 microseconds for 64 events, a millisecond for 512. */
+ * Time.      It grows with the square of the events: 30 to 70 microseconds for 64, half a millisecond to 2 for 512. */
 
 /* What `tsotest judge` prints of a recording: the verdict. */
 uint8_t tsotest_judge(const char *recording, size_t recording_len, char *out, size_t out_len, size_t *len);
