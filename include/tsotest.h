@@ -42,23 +42,23 @@ enum tsotest_status {
  *            it. Where it has not, out stays as it is. *len is the whole length of the text in either case, so a caller whose
  *            room is too small sees *len > out_len, and calls again with more; with out_len 0 nothing is written.
  *
- * Memory.    All memory stays the caller's. No pointer is null, also where a length is 0; but program may be null where
- *            program_len is 0. out, codes, len and count overlap nothing else, and nobody else writes to any memory of a call
- *            while it runs. A call takes memory by malloc and realloc, and gives all of it back by free. It keeps nothing.
+ * Memory.    All memory stays the caller's. No pointer is null, also where a length is 0: "" will do for no program. out, codes,
+ *            len and count overlap nothing else, and nobody else writes to any memory of a call while it runs. A call takes
+ *            memory by malloc and realloc, and gives all of it back by free. It keeps nothing.
  *
  * Threads.   Any number of threads may call at once, each with its own out and len; they may share texts. A call takes no lock
  *            and starts no thread. Not to be called from a signal handler, nor from the forked child of a process with threads.
  *
  * Stack.     256 KB are enough.
  *
- * Time.      It grows with the square of the events: some 30 microseconds for 64 events, a millisecond for 512. */
+ * Time.      It grows with the square of the events: 30 to 70 microseconds for 64, half a millisecond to 2 for 512. */
 
 /* What `tsotest judge` prints of a recording: the verdict. */
 uint8_t tsotest_judge(const char *recording, size_t recording_len, char *out, size_t out_len, size_t *len);
 
 /* What `tsotest explain` prints: the verdict in words. program is the litmus text of the program that was recorded, whose names
- * the addresses then have, or of length 0, and then they are a0, a1 and so on. TSOTEST_REFUSED also where that text is refused,
- * by L1 to L8, or where the recording is none of that program, N9. */
+ * the addresses then have; where its length is 0 no program is given, and they are a0, a1 and so on. TSOTEST_REFUSED also where
+ * that text is refused, by L1 to L8, or where the recording is none of that program, N9. */
 uint8_t tsotest_explain(const char *recording, size_t recording_len, const char *program, size_t program_len, char *out,
                         size_t out_len, size_t *len);
 

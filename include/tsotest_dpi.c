@@ -71,7 +71,7 @@ static const char *told(struct text *text, told_text *of)
         uint8_t status;
         if (!has_room(text, len))
             break;
-        status = of(recording.bytes, recording.len, program.bytes, program.len, text->bytes, text->room - 1, &len);
+        status = of(recording.bytes, recording.len, shown(&program), program.len, text->bytes, text->room - 1, &len);
         if (status != TSOTEST_ALLOWED && status != TSOTEST_VIOLATION)
             break;
         if (len < text->room) {

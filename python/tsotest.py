@@ -1,12 +1,18 @@
 """The commands of tsotest as calls: recordings of multiprocessors judged under Total Store Order (TSO), in process.
 
-    >>> import tsotest
-    >>> r = tsotest.Recorder(cores=2)
-    >>> r.store(0, 0x40, 1); r.load(0, 0x44, 0)
-    >>> r.store(1, 0x44, 2); r.load(1, 0x40, 0)
-    >>> r.commit(0, 0x40, 1); r.commit(1, 0x44, 2)
-    >>> tsotest.judge(r.recording()).text
-    'ordered: 1 2 3 0\\n'
+    import tsotest
+
+    r = tsotest.Recorder(cores=2)
+    r.store(0, 0x40, 1)
+    r.load(0, 0x44, 0)
+    r.store(1, 0x44, 2)
+    r.load(1, 0x40, 0)
+    r.commit(0, 0x40, 1)
+    r.commit(1, 0x44, 2)
+    answer = r.judge()
+    print(answer.text, end="")         # ordered: 1 2 3 0
+    if answer.is_violation:
+        print(tsotest.explain(r.recording(), r.program()).text)
 
 One file over the shared library, `libtsotest.so`, by `ctypes`: for cocotb benches and scripts. The library is that of the
 environment variable `TSOTEST_LIBRARY`, else that of the installation or the repository that this file stands in, else the one

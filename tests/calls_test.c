@@ -24,22 +24,22 @@ static uint8_t judge(const char *a, const char *b, char *to, size_t room, size_t
 
 static uint8_t explain(const char *a, const char *b, char *to, size_t room, size_t *size)
 {
-    return tsotest_explain(a, strlen(a), b, b ? strlen(b) : 0, to, room, size);
+    return tsotest_explain(a, strlen(a), b, strlen(b), to, room, size);
 }
 
 static uint8_t draw(const char *a, const char *b, char *to, size_t room, size_t *size)
 {
-    return tsotest_draw(a, strlen(a), b, b ? strlen(b) : 0, false, to, room, size);
+    return tsotest_draw(a, strlen(a), b, strlen(b), false, to, room, size);
 }
 
 static uint8_t draw_all(const char *a, const char *b, char *to, size_t room, size_t *size)
 {
-    return tsotest_draw(a, strlen(a), b, b ? strlen(b) : 0, true, to, room, size);
+    return tsotest_draw(a, strlen(a), b, strlen(b), true, to, room, size);
 }
 
 static uint8_t reduce(const char *a, const char *b, char *to, size_t room, size_t *size)
 {
-    return tsotest_reduce(a, strlen(a), b, b ? strlen(b) : 0, to, room, size);
+    return tsotest_reduce(a, strlen(a), b, strlen(b), to, room, size);
 }
 
 static uint8_t verify(const char *a, const char *b, char *to, size_t room, size_t *size)
@@ -116,11 +116,11 @@ static void answers(void)
             wants(telling[i], OVERLOOK, programs[k][0], TSOTEST_REFUSED, programs[k][1]);
         /* The recording is refused first. */
         wants(telling[i], "{}", "no program", TSOTEST_REFUSED, "refused: N2\n");
-        assert(telling[i](ORDERED, NULL, out, sizeof out, &len) == TSOTEST_ALLOWED);
-        assert(telling[i](CYCLE, NULL, out, sizeof out, &len) == TSOTEST_VIOLATION);
+        assert(telling[i](ORDERED, "", out, sizeof out, &len) == TSOTEST_ALLOWED);
+        assert(telling[i](CYCLE, "", out, sizeof out, &len) == TSOTEST_VIOLATION);
     }
-    wants(reduce, ORDERED, NULL, TSOTEST_ALLOWED, "ordered: 1 2 3 0\n");
-    wants(reduce, OVERLOOK, NULL, TSOTEST_VIOLATION,
+    wants(reduce, ORDERED, "", TSOTEST_ALLOWED, "ordered: 1 2 3 0\n");
+    wants(reduce, OVERLOOK, "", TSOTEST_VIOLATION,
           "events 0 1\n\ncore\nst a0 1\nld a0\n\n"
           "{\"cores\":[[{\"a\":0,\"k\":\"S\",\"w\":1},{\"a\":0,\"k\":\"L\",\"r\":0,\"s\":null}]],\"version\":1,\"writes\":[[0]]}\n"
           "overlook: load 1 store 0\n");

@@ -34,10 +34,10 @@ static inline uint8_t each_call(int call, struct file it, char *out, size_t room
     uint8_t status;
     switch (call) {
     case 0: return tsotest_judge(it.text, it.len, out, room, len);
-    case 1: return tsotest_explain(it.text, it.len, NULL, 0, out, room, len);
-    case 2: return tsotest_draw(it.text, it.len, NULL, 0, false, out, room, len);
-    case 3: return tsotest_draw(it.text, it.len, NULL, 0, true, out, room, len);
-    case 4: return tsotest_reduce(it.text, it.len, NULL, 0, out, room, len);
+    case 1: return tsotest_explain(it.text, it.len, "", 0, out, room, len);
+    case 2: return tsotest_draw(it.text, it.len, "", 0, false, out, room, len);
+    case 3: return tsotest_draw(it.text, it.len, "", 0, true, out, room, len);
+    case 4: return tsotest_reduce(it.text, it.len, "", 0, out, room, len);
     case 5: return tsotest_verify(it.text, it.len, "cycle of 4\n", 11, out, room, len);
     default:
         status = tsotest_survey(it.text, it.len, (uint64_t *)(void *)out, room / 8, len);

@@ -14,7 +14,7 @@
  * Numbers are decimal, or hexadecimal behind 0x. A line that begins with # is left out. The recording goes to standard output.
  * The status is 0, or 1 where the log gives none: standard error says why.
  *
- *   cc -O2 -I include examples/log/from_log.c -o from_log && ./from_log < run.log | tsotest judge - */
+ *   cc -O2 -I include examples/log/from_log.c -o from_log && ./from_log < examples/log/mp.log | tsotest explain - */
 #include "tsotest_record.h"
 
 #include <ctype.h>

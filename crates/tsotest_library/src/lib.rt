@@ -1,7 +1,7 @@
 //! The commands of the program as calls for C: bytes in, the command's text and exit status out.
 #![tactic(auto)]
 
-ghost use Rattle.std.specs.Prelude.{◌≡◌, ◌≤◌, ◌++◌, ◌∷◌, [], codes, true, false};
+ghost use Rattle.std.specs.Prelude.{◌≡◌, ◌≤◌, ◌++◌, ◌∷◌, [], codes};
 ghost use Rattle.report.specs.declared.outcome.Outcome.TheVariants.{Done, Ordered, Refused, Violation};
 ghost use Rattle.answers.specs.declared.told.Telling.TheVariants.{Words, Picture, Reduction};
 ghost use Rattle.tsotest_library.specs.Given.{AreCodesAnswered, IsAnswered, IsNothing, IsWrittenWhole};
