@@ -6,3 +6,4 @@ pub mod Asking
 pub mod Given
 pub mod Surveyed
 pub mod Held
+pub mod Merging
