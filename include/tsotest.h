@@ -75,8 +75,9 @@ uint8_t tsotest_reduce(const char *recording, size_t recording_len, const char *
 uint8_t tsotest_verify(const char *recording, size_t recording_len, const char *verdict, size_t verdict_len, char *out,
                        size_t out_len, size_t *len);
 
-/* Judges recordings, one a line, of which an empty one is none. A code for each, in their order, is written to the front of
- * codes where codes_len has room for all; *count is how many there are in either case. */
+/* Judges recordings, one a line, as `tsotest survey`; an empty line is none. A code for each, in their order, is written to the
+ * front of codes where codes_len has room for all; *count is how many there are in either case. tsotest_finding_of says what a
+ * code means. */
 uint8_t tsotest_survey(const char *lines, size_t lines_len, uint64_t *codes, size_t codes_len, size_t *count);
 
 /* What `tsotest --version` prints. */
