@@ -1,5 +1,5 @@
 //! The command `verify`.
-ghost use Rattle.std.specs.Prelude.{◌∷◌, [], IfErr, IfOk, string_bytes};
+ghost use Rattle.std.specs.Prelude.{◌∷◌, [], ℕ, List, IfErr, IfOk, string_bytes};
 ghost use Rattle.verification.specs.Checked.{IsCheckAnswer};
 ghost use Rattle.commands.specs.Inputs.{AreBytesOf, CanRead, Reads, seen};
 ghost use Rattle.commands.specs.Names.{verify_names};
