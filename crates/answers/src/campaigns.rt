@@ -35,8 +35,8 @@ pub fn trials_answer(alloc: Global, ledger: &Ledger) -> Result<Answer, OutOfMemo
     Ok(Answer { outcome, text })
 }
 
-/// The answer to the ledger of all trials of a campaign, by 1 to `MAX_WORKERS` workers; the gate is told of each claim, each
-/// violation and each filing. An error is want of memory.
+/// The answer to the ledger of all trials of a campaign, by 1 to `MAX_WORKERS` workers; the gate is told of each
+/// claim, each violation and each filing. Fails only if out of memory.
 pub fn campaign_answer<R: Threads + Wait + Sync, G: Gate>(
     rt: &R,
     alloc: Global,

@@ -67,8 +67,8 @@ abbrev pub merge_line : MergeRefusal → ℕ → List ℕ → List ℕ
 merge_line refusal line name = codes "refused: " ++ merge_refusal_name refusal ++ codes " line " ++ decimal line
     ++ codes " of " ++ name ++ 10 ∷ []
 
--- the texts up to that of one of the names are those of no lists of codes, or of 2^64 codes or more, whatever comes after
--- them; which of its lines is named no clause says
+-- the texts up to that of one of the names are those of no lists of codes, or of 2^64 codes or more, whatever
+-- comes after them; which of its lines is named no clause says
 pub record IsRefusedMerge (names texts : List (List ℕ)) (printed : List ℕ) : Type 0 where
   pub refusal : MergeRefusal
   pub file : ℕ

@@ -7,19 +7,6 @@ use common::OutOfMemory;
 use devices::ReadError;
 use thiserror::Error;
 
-/// What the static library answers where it wrote what was asked for.
-pub const WRITTEN: u8 = 0;
-/// What it answers of a text that holds of the recording.
-pub const HOLDS: u8 = 0;
-/// What it answers of bytes that are no recording.
-pub const REFUSED: u8 = 1;
-/// What it answers where the buffer has no room.
-pub const TOO_LONG: u8 = 2;
-/// What it answers of a text that doesn't hold of the recording.
-pub const FAILS: u8 = 2;
-/// What it answers where there is no memory.
-pub const OUT_OF_MEMORY: u8 = 3;
-
 /// How a command came out.
 #[derive(Clone, Copy, Debug, PartialEq, Eq)]
 pub enum Outcome {

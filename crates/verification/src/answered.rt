@@ -10,8 +10,8 @@ use crate::finding::Finding;
 use report::{Answer, Outcome};
 use std::alloc::{AllocError, Global};
 
-/// What is answered to a finding: that the text holds, or that it does not, with the line at fault where there is one. Fails
-/// only if out of memory.
+/// What is answered to a finding: that the text holds, or that it does not, with the line at fault where there is
+/// one. Fails only if out of memory.
 pub fn finding_answer(alloc: Global, finding: Finding) -> Result<Answer, AllocError>
     ensures { IfOk result (λ answer. (x : Execution) → (text : List ℕ) → (finding ≡ Holds) ↔ IsProof x text
         → IsCheckAnswer x text answer) }
