@@ -23,6 +23,11 @@ ledger_outcome unjudged l =
     if is_some l.first then Violation
     else (if nat_lt 0 l.unjudged then unjudged else Done)
 
+-- the text of a campaign's ledger, and how it comes out
+pub record IsTrialsAnswer (l : Ledger) (answer : Answer) : Type 0 where
+  pub outcome : answer.outcome ≡ ledger_outcome Unfinished l
+  pub text : answer.text.items ≡ campaign_text l
+
 -- the text of the ledger of all trials of a campaign, and how they came out
 pub record IsCampaignAnswer (p : Plan) (answer : Answer) : Type 0 where
   pub codes : List ℕ

@@ -2,7 +2,7 @@
 
 ghost use Rattle.std.specs.Prelude.{◌≡◌, ◌≤◌, IfOk};
 ghost use Rattle.report.specs.declared.outcome.Outcome.TheVariants.{Unfinished};
-ghost use Rattle.answers.specs.Campaign.{IsCampaignAnswer, ledger_outcome};
+ghost use Rattle.answers.specs.Campaign.{IsCampaignAnswer, IsTrialsAnswer, ledger_outcome};
 ghost use Rattle.answers.specs.Survey.{IsSurveyAnswer};
 
 use common::{Gate, MAX_WORKERS, OutOfMemory};
@@ -26,7 +26,16 @@ fn outcome_of(ledger: &Ledger, unjudged: Outcome) -> Outcome
 }
 
 /// The text of a campaign's ledger, and `Violation` where a trial violates TSO, else `Unfinished` where
-/// one is unfinished, else `Done`, by 1 to `MAX_WORKERS` workers; the gate is told of each claim, each
+/// one is unfinished, else `Done`. Fails only if out of memory.
+pub fn trials_answer(alloc: Global, ledger: &Ledger) -> Result<Answer, OutOfMemory>
+    ensures { IfOk result (IsTrialsAnswer ledger.now) }
+{
+    let text = campaign_text(alloc, ledger)?;
+    let outcome = outcome_of(ledger, Outcome::Unfinished);
+    Ok(Answer { outcome, text })
+}
+
+/// The answer to the ledger of all trials of a campaign, by 1 to `MAX_WORKERS` workers; the gate is told of each claim, each
 /// violation and each filing. An error is want of memory.
 pub fn campaign_answer<R: Threads + Wait + Sync, G: Gate>(
     rt: &R,
@@ -41,9 +50,7 @@ pub fn campaign_answer<R: Threads + Wait + Sync, G: Gate>(
     let Ok(ledger) = run_campaign(rt, alloc, campaign, workers, gate) else {
         return Err(OutOfMemory);
     };
-    let text = campaign_text(alloc, &ledger)?;
-    let outcome = outcome_of(&ledger, Outcome::Unfinished);
-    Ok(Answer { outcome, text })
+    trials_answer(alloc, &ledger)
 }
 
 /// The text of a survey's ledger, after an empty line where lines of recordings come before it, and `Violation`

@@ -7,7 +7,7 @@ mod runs;
 mod shown;
 mod told;
 
-pub use campaigns::{campaign_answer, survey_answer};
+pub use campaigns::{campaign_answer, survey_answer, trials_answer};
 pub use reduced::{line_answer, reduced_answer};
 pub use runs::{finished, script_answer, seeded_answer};
 pub use shown::shown_answer;
