@@ -6,11 +6,11 @@ use Rattle.clap.specs.Words.{App, Row, Rule, Text, app_of, fault_of, new_app, ne
 use Rattle.clap.specs.Words.{subcommand_of, with_subcommand}
 use Rattle.clap.specs.declared.builder.command.Command.{Command}
 use Rattle.clap.specs.declared.builder.command.Command.TheViews.{out-Command as fields_of}
-use Rattle.clap.specs.declared.builder.ArgAction.TheVariants.{Set, SetTrue}
+use Rattle.clap.specs.declared.builder.ArgAction.TheVariants.{Append, Set, SetTrue}
 use Rattle.clap.specs.declared.builder.value_parser.ValueParser.TheVariants.{Unsigned}
 use Rattle.command_line.specs.declared.table.CommandRow.{CommandRow}
 use Rattle.command_line.specs.declared.table.Takes.{Takes}
-use Rattle.command_line.specs.declared.table.Takes.TheVariants.{Place, Text as Word, Number, Size, Nothing}
+use Rattle.command_line.specs.declared.table.Takes.TheVariants.{Place, Places, Text as Word, Number, Size, Nothing}
 
 -- the commands, each with the names of its arguments and options, and what they take
 abbrev pub commands : List (Text × List (Text × Takes))
@@ -38,6 +38,7 @@ commands = (
       (codes "FILE", Place) ∷ (codes "workers", Number) ∷ (codes "each", Nothing) ∷ (codes "show", Number)
           ∷ (codes "reduce", Nothing) ∷ (codes "quiet", Nothing) ∷ [],
     )
+    ∷ (codes "merge", (codes "FILE", Places) ∷ [])
     ∷ []
 
 -- a row of the code's table
@@ -47,6 +48,7 @@ row_of c = (c.name.now, map (λ a. (a.name.now, a.takes)) c.arguments.now)
 -- what clap reads of an argument or an option with this name
 abbrev pub rule_by : Takes → Text → Rule
 rule_by Place id = record (new_rule id) { required = true; action = Some Set }
+rule_by Places id = record (new_rule id) { required = true; action = Some Append }
 rule_by Word id = record (new_rule id) { long = Some id; value_names = 1; action = Some Set }
 rule_by Number id = record (new_rule id) {
   long = Some id;

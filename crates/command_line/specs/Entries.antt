@@ -1,11 +1,11 @@
 -- What the entries of a command ask for: each option is its entry, or else its default.
 use Rattle.std.specs.Prelude.{◌≡◌, ◌≢◌, ◌&&◌, ◌||◌, ℕ, Bool, List, Option, Some, None, IfSome, codes}
-use Rattle.std.specs.Prelude.{[], ◌∷◌, ⊤, false, find, option_map, true, unwrap_or}
+use Rattle.std.specs.Prelude.{[], ◌∷◌, ⊤, false, find, count_by, nat_lt, option_map, true, unwrap_or}
 use Rattle.std.specs.Option.{option_map_or}
 use Rattle.std.specs.List.{list_any}
 use Rattle.std.specs.Str.{bytes_eq}
 use Rattle.std.specs.Str.Parse.{digits_value, without_leading_plus}
-use Rattle.clap.specs.Words.{IsUnsignedIn, Row, Text, first_of, one_of}
+use Rattle.clap.specs.Words.{IsUnsignedIn, Row, Text, all_of, first_of, one_of}
 use Rattle.clap.specs.Takes.{is_given}
 use Rattle.clap.specs.Values.{bool_text}
 use Rattle.machine.specs.declared.fault.Fault.{Fault}
@@ -67,10 +67,19 @@ machine_fault_of rows = fault_or DEFAULT_FAULT (first_of (codes "fault") rows)
 abbrev pub is_standard_input : Text → List Row → Bool
 is_standard_input id rows = option_map_or (λ name. bytes_eq name (codes "-")) (first_of id rows) false
 
+-- the names that an argument gives
+abbrev pub names_given : Text → List Row → List Text
+names_given id rows = unwrap_or (all_of id rows) []
+
+-- one argument names standard input more than once
+abbrev pub repeats_standard_input : Text → List Row → Bool
+repeats_standard_input id rows = nat_lt 1 (count_by (λ name. bytes_eq name (codes "-")) (names_given id rows))
+
 -- two inputs are
 abbrev pub names_standard_input_twice : List Row → Bool
 names_standard_input_twice rows =
-    (is_standard_input (codes "PROGRAM") rows && is_standard_input (codes "steps") rows)
+    repeats_standard_input (codes "FILE") rows
+    || (is_standard_input (codes "PROGRAM") rows && is_standard_input (codes "steps") rows)
     || (is_standard_input (codes "FILE") rows && is_standard_input (codes "program") rows)
     || (is_standard_input (codes "RECORDING") rows && is_standard_input (codes "VERDICT") rows)
 
@@ -97,6 +106,7 @@ is_flag _ = false
 
 abbrev pub is_required : Takes → Bool
 is_required takes.Place = true
+is_required takes.Places = true
 is_required takes.Size = true
 is_required _ = false
 

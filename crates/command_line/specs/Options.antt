@@ -1,6 +1,6 @@
 -- The options that the words ask for.
 use Rattle.std.specs.Prelude.{◌≡◌, ◌≢◌, ◌≤◌, ◌<◌, ℕ, List, Option, Some, None, IfSome, Ok, false, ⊤, codes, true}
-use Rattle.std.specs.Prelude.{IsSomeAnd, is_some, option_map, string_bytes}
+use Rattle.std.specs.Prelude.{IsSomeAnd, is_some, length, map, option_map, string_bytes}
 use Rattle.clap.specs.Takes.{is_given}
 use Rattle.clap.specs.Words.{IsAmong, Row, Text, fault_of, first_of, kind_of, takes}
 use Rattle.clap.specs.declared.error.Error.{Error}
@@ -8,9 +8,10 @@ use Rattle.clap.specs.declared.error.kind.ErrorKind.TheVariants as kinds
 use Rattle.command_line.specs.declared.options.Limits.{Limits}
 use Rattle.command_line.specs.declared.options.Options.{Options}
 use Rattle.command_line.specs.declared.options.Options.TheVariants.{Run, Judge, Trials, Live, Replay, Explain, Draw, Reduce}
-use Rattle.command_line.specs.declared.options.Options.TheVariants.{Verify, Survey}
+use Rattle.command_line.specs.declared.options.Options.TheVariants.{Verify, Survey, Merge}
 use Rattle.command_line.specs.declared.options.VerifyOptions.{VerifyOptions}
 use Rattle.command_line.specs.declared.options.SurveyOptions.{SurveyOptions}
+use Rattle.command_line.specs.declared.options.MergeOptions.{MergeOptions}
 use Rattle.command_line.specs.declared.options.RunOptions.{RunOptions}
 use Rattle.command_line.specs.declared.options.JudgeOptions.{JudgeOptions}
 use Rattle.command_line.specs.declared.options.TrialsOptions.{TrialsOptions}
@@ -26,7 +27,7 @@ use Rattle.command_line.specs.declared.options.TheConstants.{WORKERS}
 use Rattle.command_line.specs.declared.values.Values.{Values}
 use Rattle.command_line.specs.Commands.{AreFaultless, asks_of_refusals, command_of, program_app}
 use Rattle.command_line.specs.Entries.{HasEntries, machine_fault_of, names_standard_input_twice, number_of, number_or, show_of}
-use Rattle.clap.specs.Words.{one_of, subcommand_rows_of}
+use Rattle.clap.specs.Words.{all_of, one_of, subcommand_rows_of}
 use Rattle.clap.specs.declared.parser.matches.ArgMatches.{ArgMatches}
 use Rattle.command_line.specs.Refusals.{refusal_of, shape_asked}
 
@@ -124,6 +125,11 @@ pub record AreSurveyOptions (o : SurveyOptions) (rows : List Row) : Type 0 where
   pub workers : IsNumber (codes "workers") WORKERS rows o.workers
   pub quiet : o.quiet ≡ is_given (codes "quiet") rows
 
+-- the names are those of the entry, one at least
+pub record AreMergeOptions (o : MergeOptions) (rows : List Row) : Type 0 where
+  pub files : all_of (codes "FILE") rows ≡ Some (map string_bytes o.files.items)
+  pub some : 0 < length o.files.items
+
 -- the options are those of the command with this name
 abbrev pub AreOptionsOf : Options → Text → List Row → Type 0
 AreOptionsOf (Run o) name rows = (name ≡ codes "run") × AreRunOptions o rows
@@ -136,6 +142,7 @@ AreOptionsOf (Draw o) name rows = (name ≡ codes "draw") × AreDrawOptions o ro
 AreOptionsOf (Reduce o) name rows = (name ≡ codes "reduce") × AreExplainOptions o rows
 AreOptionsOf (Verify o) name rows = (name ≡ codes "verify") × AreVerifyOptions o rows
 AreOptionsOf (Survey o) name rows = (name ≡ codes "survey") × AreSurveyOptions o rows
+AreOptionsOf (Merge o) name rows = (name ≡ codes "merge") × AreMergeOptions o rows
 
 -- the options are those of the command that was read, whose inputs are not both standard input; no entry is refused
 abbrev pub AreOptions : Options → Option (Text × List Row) → Type 0

@@ -22,6 +22,7 @@ fn arg<'a>(alloc: Global, row: &ArgumentRow) -> Arg<'a>
     let arg = Arg::new(alloc, row.name).help(row.help);
     match row.takes {
         Takes::Place => arg.required(true).action(ArgAction::Set),
+        Takes::Places => arg.required(true).action(ArgAction::Append),
         Takes::Text => arg
             .long(row.name)
             .value_name(row.value)

@@ -1,15 +1,15 @@
 //! The options of the command with a name.
-ghost use Rattle.std.specs.Prelude.{◌≡◌, ◌≢◌, IfOk, List, None, Some, codes, option_map, string_bytes};
+ghost use Rattle.std.specs.Prelude.{◌≡◌, ◌≢◌, IfOk, List, None, Some, codes, map, option_map, string_bytes};
 ghost use Rattle.clap.specs.Words.{Row, first_of, found_of, rows_of};
 ghost use Rattle.command_line.specs.Entries.{HasEntries, HasText};
-ghost use Rattle.command_line.specs.Options.{AreExplainOptions, AreOptionsOf, AreRunOptions};
+ghost use Rattle.command_line.specs.Options.{AreExplainOptions, AreMergeOptions, AreOptionsOf, AreRunOptions};
 ghost use Rattle.command_line.specs.Options.{AreSurveyOptions, AreValuesAsked};
 ghost use Rattle.command_line.specs.Refusals.{refusal_of};
 
-use crate::entries::{maybe_text, text};
+use crate::entries::{maybe_text, maybe_texts, text};
 use crate::options::{
-    DrawOptions, ExplainOptions, FileOptions, JudgeOptions, LiveOptions, Options, RunOptions,
-    SurveyOptions, TrialsOptions, VerifyOptions,
+    DrawOptions, ExplainOptions, FileOptions, JudgeOptions, LiveOptions, MergeOptions, Options,
+    RunOptions, SurveyOptions, TrialsOptions, VerifyOptions,
 };
 use crate::values::Values;
 use campaign::Campaign;
@@ -119,6 +119,30 @@ fn survey_options(
     })
 }
 
+/// Copies of texts.
+fn copied(alloc: Global, texts: &[&str]) -> Result<Vec<String>, AllocError>
+    ensures { IfOk result (λ names. map string_bytes names.items ≡ map (λ v. v.now) texts.now) }
+{
+    let mut names = Vec::new(alloc);
+    for text in texts {
+        let name = String::from_str(alloc, text)?;
+        names.push(name)?;
+    }
+    Ok(names)
+}
+
+/// The options of `merge`.
+fn merge_options(alloc: Global, matches: &ArgMatches<'_>) -> Result<MergeOptions, AllocError>
+    requires { HasText (codes "FILE") (rows_of (found_of matches.now)) }
+    ensures { IfOk result (λ o. AreMergeOptions o (rows_of (found_of matches.now))) }
+{
+    let Some(texts) = maybe_texts(matches, "FILE") else {
+        unreachable!()
+    };
+    let files = copied(alloc, texts)?;
+    Ok(MergeOptions { files })
+}
+
 /// The options of the command with this name.
 pub fn named_options(
     alloc: Global,
@@ -164,6 +188,7 @@ pub fn named_options(
             workers: values.workers,
         })),
         "survey" => Ok(Options::Survey(survey_options(alloc, matches, values)?)),
+        "merge" => Ok(Options::Merge(merge_options(alloc, matches)?)),
         _ => unreachable!(),
     }
 }

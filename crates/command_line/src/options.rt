@@ -82,6 +82,8 @@ pub enum Options {
     Verify(VerifyOptions),
     /// `survey`.
     Survey(SurveyOptions),
+    /// `merge`.
+    Merge(MergeOptions),
 }
 
 /// What `run` is asked: the names of the program and of the script, and the machine and the steps of
@@ -178,6 +180,13 @@ pub struct SurveyOptions {
     pub workers: usize,
     /// Whether no progress is shown.
     pub quiet: bool,
+}
+
+/// What `merge` is asked: the names of the texts.
+#[derive(Debug, Drop)]
+pub struct MergeOptions {
+    /// The names of the texts, one at least.
+    pub files: Vec<String>,
 }
 
 /// What `live` is asked: the name of the program, the capacity of each buffer, and how many steps

@@ -277,6 +277,31 @@ Examples:
   tsotest survey nightly.jsonl --show 2 --reduce",
 };
 
+const MERGE: Page = Page {
+    about: "Adds up the counts of many campaigns, or of many surveys",
+    more: "Adds up the counts of many campaigns, or of many surveys.
+
+The files have what `trials` prints, or all what `survey` prints: each one text or more,
+whole, one after another. What is printed is the one text of them all, in the order in
+which they are named: counts are added, and `first violation: trial k` counts k through all
+of them. So campaigns of n trials each with the seeds s, s + n, s + 2n, .. merge to the text
+of all trials from s on, whoever ran them, and where.
+
+A text that no list of outcomes has is refused, with its file and its line: counts that
+don't add up, lengths of cycles out of order or past 512 or with a count of 0, or a first
+violation or refusal that its counts leave no room for.",
+    statuses: "Exit status:
+  0  no trial or recording is a violation, and each is judged
+  1  a fault of the command line, a file or memory, as standard error says
+  2  at least one trial or recording is a violation of TSO
+  3  a text was refused, as the line `refused: ..` says; or of surveys, no recording is a
+     violation, and at least one was refused
+  4  of campaigns, no trial is a violation, and at least one is unfinished
+
+Example:
+  tsotest merge shards/*.txt",
+};
+
 /// The page of the command with this name.
 pub fn page_of(name: &str) -> Page {
     match name {
@@ -290,6 +315,7 @@ pub fn page_of(name: &str) -> Page {
         "reduce" => REDUCE,
         "verify" => VERIFY,
         "survey" => SURVEY,
+        "merge" => MERGE,
         _ => PROGRAM,
     }
 }

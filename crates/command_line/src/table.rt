@@ -5,6 +5,8 @@
 pub enum Takes {
     /// A name, which has to be given and stands without `--`.
     Place,
+    /// Names, of which one at least has to be given and which stand without `--`.
+    Places,
     /// A text, which may be left out.
     Text,
     /// A number of 64 bits, which may be left out.
@@ -63,6 +65,13 @@ const RECORDINGS: ArgumentRow = ArgumentRow {
     takes: Takes::Place,
     value: "",
     help: "The recordings, one a line: a file, or - for standard input",
+};
+
+const TEXTS: ArgumentRow = ArgumentRow {
+    name: "FILE",
+    takes: Takes::Places,
+    value: "",
+    help: "The texts of campaigns, or those of surveys: files, or - for standard input",
 };
 
 const VERDICT: ArgumentRow = ArgumentRow {
@@ -242,5 +251,9 @@ pub const COMMANDS: &[CommandRow] = &[
     CommandRow {
         name: "survey",
         arguments: &[RECORDINGS, WORKERS, EACH, SHOW_RECORDING, REDUCE, QUIET],
+    },
+    CommandRow {
+        name: "merge",
+        arguments: &[TEXTS],
     },
 ];

@@ -1,10 +1,11 @@
 -- What options ask for.
-use Rattle.std.proofs.Common.{◌≡◌, ap, sym, subst, ℕ, List, Option, Some, None, Ok}
+use Rattle.std.proofs.Common.{◌≡◌, ◌<◌, ap, length, sym, subst, ℕ, List, Option, Some, None, Ok}
 use Rattle.std.specs.Prelude.{option_map, string_bytes}
 use Rattle.clap.specs.Words.{Row, Text}
 use Rattle.report.specs.declared.printed.Answer.{Answer}
 use Rattle.answers.specs.Run.{IsSeededAnswer}
-use Rattle.command_line.specs.declared.options.Options.TheVariants.{Trials}
+use Rattle.command_line.specs.declared.options.MergeOptions.{MergeOptions}
+use Rattle.command_line.specs.declared.options.Options.TheVariants.{Merge, Trials}
 use Rattle.command_line.specs.declared.options.RunOptions.{RunOptions}
 use Rattle.command_line.specs.declared.options.TrialsOptions.{TrialsOptions}
 use Rattle.command_line.specs.Options.{AreOptions, AreTrialsOptions}
@@ -18,6 +19,12 @@ pub trials_rows : (o : TrialsOptions) (command : Option (Text × List Row)) → 
     → (rows : List Row) × AreTrialsOptions o rows
 trials_rows o None are = absurd are
 trials_rows o (Some command) are = (command.1, are.2.1)
+
+-- options of merge have a name at least
+pub merge_some : (o : MergeOptions) (command : Option (Text × List Row)) → AreOptions (Merge o) command
+    → 0 < length o.files.items
+merge_some o None are = absurd are
+merge_some o (Some command) are = (are.2.1).some
 
 -- without a script the run is a random one
 pub seeded_run : (inputs : List ℕ → Option (List ℕ)) (o : RunOptions) (text : List ℕ) (program : Parts)

@@ -1,7 +1,7 @@
 -- What was read by parts of a command.
-use Rattle.std.proofs.Common.{◌≡◌, ◌+◌, ◌++◌, ◌∙◌, [], ℕ, List, Option, Some, None, Result, Ok, Err, ap, arith, append_assoc}
-use Rattle.std.proofs.Common.{IfErr, IsErrAnd, refl, subst, sym}
-use Rattle.std.proofs.lemmas.List.{append-nil}
+use Rattle.std.proofs.Common.{◌≡◌, ◌+◌, ◌++◌, ◌∙◌, ◌<◌, [], ◌∷◌, ℕ, List, Option, Some, None, Result, Ok, Err, ap, arith, append_assoc}
+use Rattle.std.proofs.Common.{IfErr, IsErrAnd, drop, get_or, length, refl, subst, sym, take}
+use Rattle.std.proofs.lemmas.List.{append-nil, take-append-drop, take_more}
 use Rattle.devices.specs.declared.place.Tally.{Tally}
 use Rattle.devices.specs.Places.{Notes}
 use Rattle.commands.specs.declared.fault.CommandFault.TheVariants.{OutOfMemory}
@@ -96,3 +96,32 @@ pub reads_then : {X : Type 0} (r : Result X Stop) (xs ys : List (List ℕ)) (a b
     (t u v : Tally) → AreRead xs (seen a b t u) → Reads ys (seen b c u v) r → Reads (xs ++ ys) (seen a c t v) r
 reads_then (Ok x) xs ys a b c t u v read h = (notes_then a b c xs ys read.0 h.0, h.1 ∙ read.1)
 reads_then (Err stop) xs ys a b c t u v read h = stopped_after xs ys stop a b c t u v read h
+
+-- one input more was read
+pub read_more : (names : List (List ℕ)) (i : ℕ) (name : List ℕ) (a b c : Option (List (List ℕ))) (t u v : Tally)
+    → i < length names → name ≡ get_or names i [] → AreRead (take i names) (seen a b t u)
+    → AreRead (name ∷ []) (seen b c u v) → AreRead (take (i + 1) names) (seen a c t v)
+read_more names i name a b c t u v low is read one =
+    let all : AreRead (take i names ++ name ∷ []) (seen a c t v) =
+    (notes_then a b c (take i names) (name ∷ []) read.0 one.0, one.1 ∙ read.1) in
+    subst (λ (l : List (List ℕ)). AreRead l (seen a c t v))
+    (ap (λ (n : List ℕ). take i names ++ n ∷ []) is ∙ sym (take_more names i [] low)) all
+
+-- one input more was not read
+pub stopped_among : (names : List (List ℕ)) (i : ℕ) (name : List ℕ) (stop : Stop) (a b c : Option (List (List ℕ)))
+    (t u v : Tally) → i < length names → name ≡ get_or names i [] → AreRead (take i names) (seen a b t u)
+    → AreStopped (name ∷ []) stop (seen b c u v) → AreStopped names stop (seen a c t v)
+stopped_among names i name stop a b c t u v low is read one =
+    subst (λ (l : List (List ℕ)). AreStopped l stop (seen a c t v))
+    (ap (λ (l : List (List ℕ)). l ++ drop (i + 1) names)
+    (ap (λ (n : List ℕ). take i names ++ n ∷ []) is ∙ sym (take_more names i [] low))
+    ∙ take-append-drop (i + 1) names)
+    (stopped_before (take i names ++ name ∷ []) (drop (i + 1) names) stop (seen a c t v)
+    (stopped_after (take i names) (name ∷ []) stop a b c t u v read one))
+
+-- the first inputs were read, and no more
+pub stopped_behind : (names : List (List ℕ)) (i : ℕ) (stop : Stop) (s : Seen) → failed_reads stop ≡ 0
+    → AreRead (take i names) s → AreStopped names stop s
+stopped_behind names i stop s none read =
+    subst (λ (l : List (List ℕ)). AreStopped l stop s) (take-append-drop i names)
+    (stopped_before (take i names) (drop i names) stop s (stopped_later (take i names) stop s none read))

@@ -7,3 +7,4 @@ pub mod Given
 pub mod Findings
 pub mod Surveyed
 pub mod Held
+pub mod Merging

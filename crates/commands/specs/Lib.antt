@@ -13,3 +13,4 @@ pub mod Tell
 pub mod Trials
 pub mod Verify
 pub mod Survey
+pub mod Merge

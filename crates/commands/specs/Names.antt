@@ -1,9 +1,10 @@
 -- The names of the inputs of commands, in the order in which they are opened.
-use Rattle.std.specs.Prelude.{◌∷◌, [], ℕ, List, Option, None, Some, option_map, string_bytes}
+use Rattle.std.specs.Prelude.{◌∷◌, [], ℕ, List, Option, None, Some, map, option_map, string_bytes}
 use Rattle.command_line.specs.declared.options.Options.{Options}
 use Rattle.command_line.specs.declared.options.Options.TheVariants.{Run, Judge, Trials, Live, Replay, Explain, Draw, Reduce}
-use Rattle.command_line.specs.declared.options.Options.TheVariants.{Verify, Survey}
+use Rattle.command_line.specs.declared.options.Options.TheVariants.{Verify, Survey, Merge}
 use Rattle.command_line.specs.declared.options.VerifyOptions.{VerifyOptions}
+use Rattle.command_line.specs.declared.options.MergeOptions.{MergeOptions}
 use Rattle.command_line.specs.declared.options.RunOptions.{RunOptions}
 use Rattle.command_line.specs.declared.options.ExplainOptions.{ExplainOptions}
 
@@ -24,6 +25,10 @@ tell_names o = string_bytes o.file ∷ maybe_name (option_map string_bytes o.pro
 abbrev pub verify_names : VerifyOptions → List (List ℕ)
 verify_names o = string_bytes o.recording ∷ string_bytes o.verdict ∷ []
 
+-- the texts
+abbrev pub merge_names : MergeOptions → List (List ℕ)
+merge_names o = map string_bytes o.files.items
+
 -- those of any command
 abbrev pub names_of : Options → List (List ℕ)
 names_of (Run o) = run_names o
@@ -36,3 +41,4 @@ names_of (Draw o) = tell_names o.recording
 names_of (Reduce o) = tell_names o
 names_of (Verify o) = verify_names o
 names_of (Survey o) = string_bytes o.file ∷ []
+names_of (Merge o) = merge_names o

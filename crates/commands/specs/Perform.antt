@@ -23,7 +23,7 @@ use Rattle.commands.specs.declared.fault.CommandFault.TheVariants.{WriteFailed}
 use Rattle.commands.specs.declared.fault.CommandFault.TheVariants as fault
 use Rattle.command_line.specs.declared.options.Options.{Options}
 use Rattle.command_line.specs.declared.options.Options.TheVariants.{Run, Judge, Trials, Live, Replay, Explain, Draw, Reduce}
-use Rattle.command_line.specs.declared.options.Options.TheVariants.{Verify, Survey}
+use Rattle.command_line.specs.declared.options.Options.TheVariants.{Verify, Survey, Merge}
 use Rattle.command_line.specs.declared.options.OptionFault.{OptionFault}
 use Rattle.command_line.specs.declared.options.OptionFault.TheVariants.{Clap, OutOfMemory}
 use Rattle.command_line.specs.declared.options.OptionFault.TheVariants as refused
@@ -41,6 +41,7 @@ use Rattle.commands.specs.Refusal.{IsReadingStop, option_line, step_fault_name}
 use Rattle.commands.specs.Run.{IsRun, IsLive}
 use Rattle.commands.specs.Trials.{IsTrials}
 use Rattle.commands.specs.Verify.{IsVerified, IsVerifyStop}
+use Rattle.commands.specs.Merge.{IsMerged, IsMergeStop}
 use Rattle.commands.specs.Output.{IsPut}
 use Rattle.commands.specs.Survey.{IsEachWritten, IsSurveyOf, IsSurveyStop, TellsEach}
 
@@ -96,6 +97,7 @@ IsAnswerTo inputs (Draw o) answer = IsTold inputs (Picture o.all) o.recording an
 IsAnswerTo inputs (Reduce o) answer = IsTold inputs Reduction o answer
 IsAnswerTo inputs (Verify o) answer = IsVerified inputs o answer
 IsAnswerTo inputs (Survey o) answer = IsSurveyOf inputs o answer
+IsAnswerTo inputs (Merge o) answer = IsMerged inputs o answer
 
 -- why a command with these options and inputs stops
 abbrev pub IsCommandStop : (List ℕ → Option (List ℕ)) → Options → Stop → Type 0
@@ -110,6 +112,7 @@ IsCommandStop inputs (Draw o) stop = IsTellingStop inputs o.recording stop
 IsCommandStop inputs (Reduce o) stop = IsTellingStop inputs o stop
 IsCommandStop inputs (Verify o) stop = IsVerifyStop inputs o stop
 IsCommandStop inputs (Survey o) stop = IsSurveyStop inputs o stop
+IsCommandStop inputs (Merge o) stop = IsMergeStop inputs o stop
 
 -- what clap says goes to standard error: it is neither help nor the version
 abbrev pub IsMistake : Error → Type 0

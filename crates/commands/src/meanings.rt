@@ -36,6 +36,12 @@ N7   address N has a write list that is not that of its writes (each event that 
 N8   the addresses are not numbered by first use (the first address that an event uses is 0, the next new one 1, and none is unused)
 N9   the recording is not one of the program (cores, operations, values written and initial values are to be those of the program that was run)
 
+Of texts of campaigns or surveys, whose lines are counted from 1, with the name of the file:
+M1   line N is no line of such a text (it has each line that `trials` or `survey` prints, whole; lengths of cycles ascend, up to 512, and each has a count)
+M2   line N begins a text that no list of outcomes has (its counts add up, and behind the first of a kind there is room for all of it)
+M3   line N begins a text of the other kind than the first (all are those of campaigns, or all those of surveys)
+M4   line N begins a text with which there are 2^64 or more (a count has 64 bits)
+
 Of options:
 K1   `--cores` is not from 1 to 16 (a program has at most 16 cores)
 K2   `--ops` is not from 1 to 512 (it counts the operations of each core)

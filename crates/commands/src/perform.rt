@@ -16,6 +16,7 @@ use crate::fault::CommandFault;
 use crate::judge_command::judge_command;
 use crate::live_command::live_command;
 use crate::meanings::REFUSAL_MEANINGS;
+use crate::merge_command::merge_command;
 use crate::output::put;
 use crate::refusal::option_refusal;
 use crate::replay_command::replay_command;
@@ -88,6 +89,7 @@ fn answer_to<R: Threads + Wait + Sync, P: Place>(
         Options::Reduce(reduce) => tell_command(alloc, Telling::Reduction, reduce, place),
         Options::Verify(verify) => verify_command(rt, alloc, verify, place),
         Options::Survey(survey) => survey_command(rt, alloc, survey, place),
+        Options::Merge(merge) => merge_command(alloc, merge, place),
     }
 }
 

@@ -2,7 +2,7 @@ use Rattle.std.proofs.Common.{subst, sym}
 use Rattle.command_line.specs.declared.options.Options.{Options}
 use Rattle.commands.specs.Inputs.{Reads, seen}
 use Rattle.commands.specs.Names.{names_of}
-use Rattle.commands.proofs.Asked.{trials_rows}
+use Rattle.commands.proofs.Asked.{merge_some, trials_rows}
 use Rattle.commands.proofs.Asking.{none_read}
 use Rattle.commands.proofs.perform.answer_to.Goals as goal
 
@@ -16,3 +16,7 @@ returns-in-Trials-clause-reads g c = subst (λ (o : Options). Reads (names_of o)
     (g.P.Place.tally c.args.place.now)) c.trials_command.result) (sym c.in-Trials.is)
     (none_read c.trials_command.result (g.P.Place.asked c.args.place.now) (g.P.Place.tally c.args.place.now)
     c.trials_command.ensures.err)
+
+pub merge_command-requires-clause-some : goal.merge_command-requires-clause-some
+merge_command-requires-clause-some g c κs within = merge_some c.in-Merge.merge c.requires.options.0
+    (rw (← c.in-Merge.is) c.requires.options.1)

@@ -1,0 +1,90 @@
+-- What merge answers.
+use Rattle.std.specs.Prelude.{◌≡◌, ◌<◌, ◌+◌, ◌++◌, ◌∷◌, [], ℕ, List, Option, codes, decimal, false, length, map}
+use Rattle.std.specs.Prelude.{slice_index_or, string_bytes, take}
+use Rattle.std.specs.List.{concat}
+use Rattle.command_line.specs.declared.options.MergeOptions.{MergeOptions}
+use Rattle.ledger.specs.declared.ledger.Ledger.{Ledger}
+use Rattle.ledger.specs.Counts.{IsLedger}
+use Rattle.merging.specs.declared.fault.MergeRefusal.{MergeRefusal}
+use Rattle.merging.specs.declared.fault.MergeRefusal.TheVariants.{NoLine, NoCodes, OtherKind, TooMany}
+use Rattle.merging.specs.declared.kind.Kind.{Kind}
+use Rattle.merging.specs.declared.kind.Kind.TheVariants.{Campaign, Survey}
+use Rattle.merging.specs.Merges.{Refuses}
+use Rattle.merging.specs.Texts.{AreFiles}
+use Rattle.report.specs.declared.printed.Answer.{Answer}
+use Rattle.answers.specs.Campaign.{IsTrialsAnswer}
+use Rattle.answers.specs.Survey.{IsSurveyAnswer}
+use Rattle.commands.specs.declared.fault.CommandFault.{CommandFault}
+use Rattle.commands.specs.declared.fault.CommandFault.TheVariants.{OutOfMemory}
+use Rattle.commands.specs.declared.stop.Stop.{Stop}
+use Rattle.commands.specs.declared.stop.Stop.TheVariants.{Refused, Fault}
+use Rattle.commands.specs.Inputs.{AreBytesOf, IsInputFault}
+use Rattle.commands.specs.Names.{merge_names}
+
+-- the texts are the bytes of the inputs of these names, in order
+pub record AreGiven (inputs : List ℕ → Option (List ℕ)) (names texts : List (List ℕ)) : Type 0 where
+  pub size : length texts ≡ length names
+  pub bytes : (k : ℕ) → k < length names
+      → AreBytesOf inputs (slice_index_or names k []) (slice_index_or texts k [])
+
+-- why the input of one of these names isn't read
+abbrev pub IsFaultAmong : (List ℕ → Option (List ℕ)) → List (List ℕ) → CommandFault → Type 0
+IsFaultAmong inputs names fault =
+    (k : ℕ) × (k < length names) × IsInputFault inputs (slice_index_or names k []) fault
+
+-- the counts of a ledger, and how they come out
+abbrev pub IsMergedAnswer : Kind → Ledger → Answer → Type 0
+IsMergedAnswer Campaign l answer = IsTrialsAnswer l answer
+IsMergedAnswer Survey l answer = IsSurveyAnswer false l answer
+
+-- the texts are those of lists of codes, and whatever lists they are those of, the answer is that of the ledger of them
+-- all joined
+pub record IsMergeAnswer (texts : List (List ℕ)) (answer : Answer) : Type 0 where
+  pub kind : Kind
+  pub codes : List (List ℕ)
+  pub are : AreFiles kind codes texts
+  pub ledger : Ledger
+  pub counted : IsLedger (concat codes) ledger
+  pub answered : IsMergedAnswer kind ledger answer
+  pub only : (other : Kind) (others : List (List ℕ)) (l : Ledger) → AreFiles other others texts
+      → IsLedger (concat others) l → IsMergedAnswer other l answer
+
+-- the answer of merge
+pub record IsMerged (inputs : List ℕ → Option (List ℕ)) (o : MergeOptions) (answer : Answer) : Type 0 where
+  pub texts : List (List ℕ)
+  pub given : AreGiven inputs (merge_names o) texts
+  pub answered : IsMergeAnswer texts answer
+
+-- the name of the refusal of a text
+abbrev pub merge_refusal_name : MergeRefusal → List ℕ
+merge_refusal_name NoLine = codes "M1"
+merge_refusal_name NoCodes = codes "M2"
+merge_refusal_name OtherKind = codes "M3"
+merge_refusal_name TooMany = codes "M4"
+
+-- the line that is printed for a line of the input of this name
+abbrev pub merge_line : MergeRefusal → ℕ → List ℕ → List ℕ
+merge_line refusal line name = codes "refused: " ++ merge_refusal_name refusal ++ codes " line " ++ decimal line
+    ++ codes " of " ++ name ++ 10 ∷ []
+
+-- the texts up to that of one of the names are those of no lists of codes, or of 2^64 codes or more, whatever comes after
+-- them; which of its lines is named no clause says
+pub record IsRefusedMerge (names texts : List (List ℕ)) (printed : List ℕ) : Type 0 where
+  pub refusal : MergeRefusal
+  pub file : ℕ
+  pub line : ℕ
+  pub among : file < length names
+  pub printed_is : printed ≡ merge_line refusal line (slice_index_or names file [])
+  pub none : (kind : Kind) (codes later : List (List ℕ)) → AreFiles kind codes (take (file + 1) texts ++ later)
+      → Refuses refusal (length (concat codes))
+
+-- why texts are not added up: one is refused, or memory is wanting
+abbrev pub IsTextsStop : List (List ℕ) → List (List ℕ) → Stop → Type 0
+IsTextsStop names texts (Refused refusal) = IsRefusedMerge names texts (string_bytes refusal.line)
+IsTextsStop names texts (Fault fault) = fault ≡ OutOfMemory
+
+-- why merge stops: a text is refused, or an input isn't read
+abbrev pub IsMergeStop : (List ℕ → Option (List ℕ)) → MergeOptions → Stop → Type 0
+IsMergeStop inputs o (Refused refusal) = (texts : List (List ℕ)) × AreGiven inputs (merge_names o) texts
+    × IsRefusedMerge (merge_names o) texts (string_bytes refusal.line)
+IsMergeStop inputs o (Fault fault) = IsFaultAmong inputs (merge_names o) fault
