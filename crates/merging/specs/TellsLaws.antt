@@ -1,13 +1,12 @@
 -- Laws of what texts tell.
-use Rattle.std.proofs.Common.{◌≡◌, ◌++◌, ◌≤◌, ℕ, List, arith, refl, sym, ◌∙◌}
-use Rattle.std.proofs.Common.{length-append}
+use Rattle.std.proofs.Common.{◌≡◌, ◌++◌, ◌≤◌, ℕ, List, position, arith, refl, sym, ◌∙◌}
 use Rattle.std.proofs.lemmas.List.{ext_get_or}
 use Rattle.common.specs.declared.limits.TheConstants.{MAX_EVENTS}
 use Rattle.ledger.specs.declared.ledger.Ledger.{Ledger}
-use Rattle.ledger.specs.Kinds.{is_ordered, is_unjudged, is_overlook, is_cycle_of, is_violation}
+use Rattle.ledger.specs.Kinds.{is_unjudged}
 use Rattle.ledger.specs.Counts.{IsLedger}
 use Rattle.ledger.specs.Joined.{IsJoined}
-use Rattle.ledger.specs.LedgerLaws.{count_append, position_append}
+use Rattle.ledger.specs.LedgerLaws.{joined, position_append}
 use Rattle.merging.specs.declared.kind.Kind.{Kind}
 use Rattle.merging.specs.declared.kind.Kind.TheVariants.{Campaign, Survey}
 use Rattle.merging.specs.Tells.{Tells, TellsUnjudged}
@@ -30,26 +29,57 @@ ledger_tells kind codes l is = record {
     go Campaign = tt
     go Survey = is.first_unjudged
 
--- so does the sum of two that do
+-- the ledger that has the first place of what has no verdict too
+abbrev whole : List ℕ → Ledger → Ledger
+whole codes l = record {
+  total = l.total;
+  ordered = l.ordered;
+  unjudged = l.unjudged;
+  overlook = l.overlook;
+  cycles = l.cycles;
+  first = l.first;
+  first_unjudged = position is_unjudged codes;
+}
+
+-- is that of the codes of which a ledger tells
+whole_is : (kind : Kind) (codes : List ℕ) (l : Ledger) → Tells kind codes l → IsLedger codes (whole codes l)
+whole_is kind codes l t = record {
+  total = t.total;
+  ordered = t.ordered;
+  unjudged = t.unjudged;
+  overlook = t.overlook;
+  lengths = t.lengths;
+  cycles = t.cycles;
+  first = t.first;
+  first_unjudged = refl;
+}
+
+-- so the sum of two that tell of codes tells of both lists of them, since that of two ledgers is the ledger of both
 pub sum_tells : (kind : Kind) (xs ys : List ℕ) (l m both : Ledger) → Tells kind xs l → Tells kind ys m
     → IsJoined l m both → Tells kind (xs ++ ys) both
-sum_tells kind xs ys l m both a b j = record {
-  total = omega (arith, j.total, a.total, b.total, length-append xs ys);
-  ordered = omega (arith, j.ordered, a.ordered, b.ordered, count_append is_ordered xs ys);
-  unjudged = omega (arith, j.unjudged, a.unjudged, b.unjudged, count_append is_unjudged xs ys);
-  overlook = omega (arith, j.overlook, a.overlook, b.overlook, count_append is_overlook xs ys);
-  lengths = j.lengths ∙ a.lengths;
-  cycles = λ n within. omega (
-    arith,
-    j.cycles n,
-    a.cycles n within,
-    b.cycles n within,
-    count_append (is_cycle_of n) xs ys,
-  );
-  first = let law = position_append is_violation xs ys in
-      let u = j.first in let v = a.first in let w = b.first in let n = a.total in cc;
-  first_unjudged = go kind a.first_unjudged b.first_unjudged;
-}
+sum_tells kind xs ys l m both a b j =
+    let law = position_append is_unjudged xs ys in
+    let sum = joined xs ys (whole xs l) (whole ys m) (whole (xs ++ ys) both) (whole_is kind xs l a)
+    (whole_is kind ys m b) (record {
+      total = j.total;
+      ordered = j.ordered;
+      unjudged = j.unjudged;
+      overlook = j.overlook;
+      lengths = j.lengths;
+      cycles = j.cycles;
+      first = j.first;
+      first_unjudged = let n = a.total in cc;
+    }) in
+    record {
+      total = sum.total;
+      ordered = sum.ordered;
+      unjudged = sum.unjudged;
+      overlook = sum.overlook;
+      lengths = sum.lengths;
+      cycles = sum.cycles;
+      first = sum.first;
+      first_unjudged = go kind a.first_unjudged b.first_unjudged;
+    }
   where
     go : (kind : Kind) → TellsUnjudged kind xs l → TellsUnjudged kind ys m → TellsUnjudged kind (xs ++ ys) both
     go Campaign first second = tt
