@@ -93,6 +93,7 @@ struct tsotest_record {
     int cores, events, addresses, commits;
     uint64_t address[TSOTEST_RECORD_ADDRESSES]; /* in the order of the calls */
     uint32_t initial[TSOTEST_RECORD_ADDRESSES];
+    uint8_t found[2 * TSOTEST_RECORD_ADDRESSES]; /* one more than the place of an address in this order, or 0 */
     uint8_t name[TSOTEST_RECORD_ADDRESSES];  /* the number in the text of each address that an event uses */
     uint8_t named[TSOTEST_RECORD_ADDRESSES]; /* the address of each number */
     int names;
@@ -134,30 +135,42 @@ static inline int tsotest_record_fail(struct tsotest_record *r, enum tsotest_fau
     return -1;
 }
 
-/* Begins a recording of so many cores, and forgets what was there. */
-static inline void tsotest_record_begin(struct tsotest_record *r, int cores)
+/* Begins a recording of so many cores that may use the addresses of the last one. */
+static inline void tsotest_begin_(struct tsotest_record *r, int cores)
 {
     r->error = TSOTEST_NO_FAULT;
     r->message[0] = '\0';
     r->cores = cores;
-    r->events = r->addresses = r->commits = r->names = 0;
+    r->events = r->commits = r->names = 0;
     if (cores < 0 || cores > TSOTEST_RECORD_CORES)
         tsotest_record_fail(r, TSOTEST_FULL, "%d cores: a recording has %d at most", cores, TSOTEST_RECORD_CORES);
 }
 
+/* Begins a recording of so many cores, and forgets what was there. */
+static inline void tsotest_record_begin(struct tsotest_record *r, int cores)
+{
+    tsotest_begin_(r, cores);
+    r->addresses = 0;
+    memset(r->found, 0, sizeof r->found);
+}
+
 static inline int tsotest_address_(struct tsotest_record *r, uint64_t address)
 {
-    int a = 0;
-    while (a < r->addresses && r->address[a] != address)
-        a++;
-    if (a < r->addresses)
-        return a;
-    if (a == TSOTEST_RECORD_ADDRESSES)
-        return tsotest_record_fail(r, TSOTEST_FULL, "address 0x%" PRIx64 " is the 17th: a recording has %d at most", address,
-                                   TSOTEST_RECORD_ADDRESSES);
-    r->address[a] = address;
-    r->initial[a] = 0;
-    return r->addresses++;
+    unsigned at = (unsigned)(address * 0x9E3779B97F4A7C15u >> 32);
+    for (;; at++) {
+        uint8_t *found = &r->found[at % (2 * TSOTEST_RECORD_ADDRESSES)];
+        if (*found && r->address[*found - 1] == address)
+            return *found - 1;
+        if (*found)
+            continue;
+        if (r->addresses == TSOTEST_RECORD_ADDRESSES)
+            return tsotest_record_fail(r, TSOTEST_FULL, "address 0x%" PRIx64 " is the 17th: a recording has %d at most", address,
+                                       TSOTEST_RECORD_ADDRESSES);
+        r->address[r->addresses] = address;
+        r->initial[r->addresses] = 0;
+        *found = (uint8_t)++r->addresses;
+        return r->addresses - 1;
+    }
 }
 
 static inline int tsotest_core_(struct tsotest_record *r, int core)
@@ -301,11 +314,9 @@ static inline int tsotest_record_commit_event(struct tsotest_record *r, int even
  * reached memory last is the initial one. */
 static inline void tsotest_record_continue(struct tsotest_record *r)
 {
-    int addresses = r->addresses;
     for (int i = 0; i < r->commits; i++)
         r->initial[r->commit[i].address] = r->commit[i].written;
-    tsotest_record_begin(r, r->cores);
-    r->addresses = addresses;
+    tsotest_begin_(r, r->cores);
 }
 
 /* ------------------------------------------------------------------------------------------------ what follows of it */
@@ -459,58 +470,83 @@ static inline int tsotest_settle_(struct tsotest_record *r)
 
 /* ------------------------------------------------------------------------------------------------------------- texts */
 
+/* What is written, and how long it is, also where the room ends. */
 struct tsotest_out_ {
     char *bytes;
     size_t room, len;
 };
 
-static inline void tsotest_put_(struct tsotest_out_ *out, const char *text, size_t len)
+/* No piece that is written at once, an event or a number, is longer. */
+enum { TSOTEST_PIECE_ = 80 };
+
+/* Where the next piece is written: at its place, or aside where there may be no room for it. */
+static inline char *tsotest_place_of_piece_(const struct tsotest_out_ *out, char *aside)
 {
-    if (out->len < out->room)
-        memcpy(out->bytes + out->len, text, len < out->room - out->len ? len : out->room - out->len);
+    return out->len + TSOTEST_PIECE_ <= out->room ? out->bytes + out->len : aside;
+}
+
+/* Puts what was written up to an end. */
+static inline void tsotest_put_(struct tsotest_out_ *out, const char *piece, const char *end)
+{
+    size_t len = (size_t)(end - piece);
+    if (out->len < out->room && piece != out->bytes + out->len)
+        memcpy(out->bytes + out->len, piece, len < out->room - out->len ? len : out->room - out->len);
     out->len += len;
 }
 
 static inline void tsotest_put_text_(struct tsotest_out_ *out, const char *text)
 {
-    tsotest_put_(out, text, strlen(text));
+    tsotest_put_(out, text, text + strlen(text));
 }
 
-static inline void tsotest_put_number_(struct tsotest_out_ *out, uint32_t number)
+/* Adds a text to a piece, and answers its end. */
+static inline char *tsotest_add_text_(char *piece, const char *text)
 {
-    char digits[10];
-    size_t at = sizeof digits;
-    do
-        digits[--at] = (char)('0' + number % 10);
-    while (number /= 10);
-    tsotest_put_(out, digits + at, sizeof digits - at);
+    size_t len = strlen(text);
+    memcpy(piece, text, len);
+    return piece + len;
 }
 
-static inline void tsotest_put_event_(const struct tsotest_record *r, struct tsotest_out_ *out, const struct tsotest_event *e)
+static inline char *tsotest_add_number_(char *piece, uint32_t number)
 {
+    if (number >= 1000) {
+        piece = tsotest_add_number_(piece, number / 1000);
+        number %= 1000;
+        *piece++ = (char)('0' + number / 100);
+        *piece++ = (char)('0' + number / 10 % 10);
+    } else if (number >= 10) {
+        *piece = (char)('0' + number / 100);
+        piece += number >= 100;
+        *piece++ = (char)('0' + number / 10 % 10);
+    }
+    *piece++ = (char)('0' + number % 10);
+    return piece;
+}
+
+/* An event, after a comma unless it is the first. */
+static inline void tsotest_put_event_(const struct tsotest_record *r, struct tsotest_out_ *out, const struct tsotest_event *e,
+                                      bool is_first)
+{
+    char aside[TSOTEST_PIECE_], *piece = tsotest_place_of_piece_(out, aside), *end = piece;
+    *end = ',';
+    end += !is_first;
     if (e->kind == 'F') {
-        tsotest_put_text_(out, "{\"k\":\"F\"}");
+        tsotest_put_(out, piece, tsotest_add_text_(end, "{\"k\":\"F\"}"));
         return;
     }
-    tsotest_put_text_(out, "{\"a\":");
-    tsotest_put_number_(out, r->name[e->address]);
-    tsotest_put_text_(out, ",\"k\":\"");
-    tsotest_put_(out, &e->kind, 1);
-    tsotest_put_text_(out, "\"");
+    end = tsotest_add_number_(tsotest_add_text_(end, "{\"a\":"), r->name[e->address]);
+    end = tsotest_add_text_(end, ",\"k\":\"");
+    *end++ = e->kind;
+    *end++ = '"';
     if (tsotest_reads_(e->kind)) {
-        tsotest_put_text_(out, ",\"r\":");
-        tsotest_put_number_(out, e->read);
-        tsotest_put_text_(out, ",\"s\":");
-        if (e->source < 0)
-            tsotest_put_text_(out, "null");
-        else
-            tsotest_put_number_(out, r->event[e->source].number);
+        end = tsotest_add_number_(tsotest_add_text_(end, ",\"r\":"), e->read);
+        end = tsotest_add_text_(end, ",\"s\":");
+        end = e->source < 0 ? tsotest_add_text_(end, "null") : tsotest_add_number_(end, r->event[e->source].number);
     }
-    if (tsotest_writes_(e->kind)) {
-        tsotest_put_text_(out, ",\"w\":");
-        tsotest_put_number_(out, e->written);
-    }
-    tsotest_put_text_(out, "}");
+    if (tsotest_writes_(e->kind))
+        end = tsotest_add_number_(tsotest_add_text_(end, ",\"w\":"), e->written);
+    *end++ = '}';
+    tsotest_put_(out, piece, end);
 }
 
 static inline bool tsotest_is_version_2_(const struct tsotest_record *r)
@@ -528,35 +564,41 @@ static inline void tsotest_put_cores_(const struct tsotest_record *r, struct tso
 {
     for (int core = 0; core < r->cores; core++) {
         tsotest_put_text_(out, core ? ",[" : "[");
-        for (int n = r->first[core]; n < r->first[core + 1]; n++) {
-            if (n > r->first[core])
-                tsotest_put_text_(out, ",");
-            tsotest_put_event_(r, out, &r->event[r->ordered[n]]);
-        }
+        for (int n = r->first[core]; n < r->first[core + 1]; n++)
+            tsotest_put_event_(r, out, &r->event[r->ordered[n]], n == r->first[core]);
         tsotest_put_text_(out, "]");
     }
 }
 
+/* A number of a list, after what stands before it. */
+static inline void tsotest_put_number_(struct tsotest_out_ *out, const char *before, uint32_t number)
+{
+    char aside[TSOTEST_PIECE_], *piece = tsotest_place_of_piece_(out, aside);
+    tsotest_put_(out, piece, tsotest_add_number_(tsotest_add_text_(piece, before), number));
+}
+
 static inline void tsotest_put_initials_(const struct tsotest_record *r, struct tsotest_out_ *out)
 {
-    for (int n = 0; n < r->names; n++) {
-        if (n)
-            tsotest_put_text_(out, ",");
-        tsotest_put_number_(out, r->initial[r->named[n]]);
-    }
+    for (int n = 0; n < r->names; n++)
+        tsotest_put_number_(out, n ? "," : "", r->initial[r->named[n]]);
 }
 
 static inline void tsotest_put_writes_(const struct tsotest_record *r, struct tsotest_out_ *out)
 {
+    /* The commits of each address, one after another. */
+    int16_t first[TSOTEST_RECORD_ADDRESSES], next[TSOTEST_RECORD_EVENTS];
+    memset(first, 0xFF, sizeof first);
+    for (int i = r->commits - 1; i >= 0; i--) {
+        next[i] = first[r->commit[i].address];
+        first[r->commit[i].address] = (int16_t)i;
+    }
     for (int n = 0; n < r->names; n++) {
         const char *before = n ? ",[" : "[";
-        int count = 0;
-        for (int i = 0; i < r->commits; i++)
-            if (r->commit[i].address == r->named[n]) {
-                tsotest_put_text_(out, count++ ? "," : before);
-                tsotest_put_number_(out, r->event[r->commit[i].event].number);
-            }
-        tsotest_put_text_(out, count ? "]" : n ? ",[]" : "[]");
+        int i = first[r->named[n]];
+        tsotest_put_text_(out, i < 0 ? before : "");
+        for (; i >= 0; i = next[i], before = ",")
+            tsotest_put_number_(out, before, r->event[r->commit[i].event].number);
+        tsotest_put_text_(out, "]");
     }
 }
 
@@ -602,14 +644,10 @@ static inline void tsotest_put_operation_(const struct tsotest_record *r, struct
     }
     tsotest_put_text_(out, word);
     tsotest_put_name_(r, out, e->address);
-    if (e->kind == 'C') {
-        tsotest_put_text_(out, " ");
-        tsotest_put_number_(out, e->read + 1);
-    }
-    if (e->kind != 'L') {
-        tsotest_put_text_(out, " ");
-        tsotest_put_number_(out, e->written);
-    }
+    if (e->kind == 'C')
+        tsotest_put_number_(out, " ", e->read + 1);
+    if (e->kind != 'L')
+        tsotest_put_number_(out, " ", e->written);
     tsotest_put_text_(out, "\n");
 }
 
@@ -631,8 +669,7 @@ static inline enum tsotest_fault tsotest_program_text(struct tsotest_record *r, 
         if (r->initial[r->named[n]]) {
             tsotest_put_text_(&o, "init ");
             tsotest_put_name_(r, &o, r->named[n]);
-            tsotest_put_text_(&o, " ");
-            tsotest_put_number_(&o, r->initial[r->named[n]]);
+            tsotest_put_number_(&o, " ", r->initial[r->named[n]]);
             tsotest_put_text_(&o, "\n");
         }
     *len = o.len;
