@@ -70,7 +70,7 @@ pub again_more : {A : Type 0} (f : Data → Option A) (g : A → Data) (xs : Lis
 again_more f g xs i d x at is h e = rw (take_more xs i d at, ← is) (all_push f g (take i xs) x h e)
 
 -- all items give the list
-each_again : {A : Type 0} (f : Data → Option A) (g : A → Data) (xs : List A) → AllAgain f g xs
+pub each_again : {A : Type 0} (f : Data → Option A) (g : A → Data) (xs : List A) → AllAgain f g xs
     → each f (items_of (map g xs)) ≡ Some xs
 each_again f g [] h = refl
 each_again f g (x ∷ xs) h = rw (h.0, each_again f g xs h.1) refl

@@ -22,12 +22,12 @@ abbrev contents_2 : Execution → Contents
 contents_2 x = record { version = 2; cores = x.cores; write_lists = x.write_lists; values = Some x.initial }
 
 -- so the contents are
-shape_1 : (x : Execution) → ArePartsAgain x → shape_in (data_1 x) ≡ Some (contents_1 x)
+pub shape_1 : (x : Execution) → ArePartsAgain x → shape_in (data_1 x) ≡ Some (contents_1 x)
 unfolding shape_in shape_of values_in
 shape_1 x parts = rw (parts.cores, parts.lists) refl
 
 -- also with initial values
-shape_2 : (x : Execution) → ArePartsAgain x → IsInitAgain x
+pub shape_2 : (x : Execution) → ArePartsAgain x → IsInitAgain x
     → shape_in (data_2 x) ≡ Some (contents_2 x)
 unfolding shape_in shape_of values_in
 shape_2 x parts values = rw (values, parts.cores, parts.lists) refl

@@ -8,3 +8,4 @@ pub mod Fields
 pub mod Held
 pub mod Draft
 pub mod Values
+pub mod Written

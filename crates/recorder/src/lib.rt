@@ -1,6 +1,7 @@
 //! Recordings, their texts, and recordings that are read of texts.
 #![tactic(auto)]
 
+mod cursor;
 mod digits;
 mod draft;
 mod fields;
@@ -11,6 +12,9 @@ mod text;
 mod tokens;
 mod values;
 mod versions;
+mod written;
+mod written_events;
+mod written_lists;
 
 pub use reading::read_recording;
 pub use recording::{Event, RecError, Recording};

@@ -13,6 +13,7 @@ ghost use Rattle.recorder.specs.Clipped.{clip, clip_event, clipped_shape, clippe
 use crate::draft::drafted;
 use crate::items::{event_in, keys_of, number_in, value_in};
 use crate::versions::has_failed_cas;
+use crate::written::written;
 use common::EventId;
 use recording::{Event, RecError, Recording};
 use serde_json::Value;
@@ -290,6 +291,12 @@ fn recording_of(alloc: Global, contents: Found) -> Result<Recording, RecError>
 pub fn read_recording(alloc: Global, bytes: &[u8]) -> Result<Recording, RecError>
     ensures { IsReadingResult bytes.now result }
 {
+    let Ok(written) = written(alloc, bytes) else {
+        return Err(RecError::OutOfMemory);
+    };
+    if let Some(found) = written {
+        return recording_of(alloc, found);
+    }
     let Ok(drafted) = drafted(alloc, bytes) else {
         return Err(RecError::OutOfMemory);
     };

@@ -1,0 +1,289 @@
+-- What a text in the layout of `write_recording` has is what is read of it.
+use Rattle.std.proofs.Common.{◌≡◌, ◌<◌, ◌≤◌, ◌^◌, ◌+◌, ℕ, List, [], ◌∷◌, ◌++◌, Option, Some, None, option_map, map}
+use Rattle.std.proofs.Common.{option_and_then}
+use Rattle.std.proofs.Common.{inl, inr, ◌⊎◌, IsUtf8, refl, sym, ap, ◌∙◌, arith, append-nil}
+use Rattle.std.proofs.lemmas.Bool.{lt-ltb}
+use Rattle.std.specs.List.{AllByRecursion}
+use Rattle.json.specs.Token.{Token}
+use Rattle.json.specs.Lex.{tokens}
+use Rattle.json.specs.Json as json
+use Rattle.json.specs.Tree as tree
+use Rattle.json.specs.Tree.{json_tokens, HasNumbers, ItemsHaveNumbers}
+use Rattle.json.proofs.Printed.Decimals.{IsNumber-decimal}
+use Rattle.json.proofs.Printed.Tokens.{tokens-print}
+use Rattle.json.proofs.Printed.Trees.{value-json_tokens, ArePrintable-json_tokens}
+use Rattle.serde_json.specs.Data.{Data, Items}
+use Rattle.serde_json.specs.Read.{of_json, of_items, read, max_depth}
+use Rattle.serde_json.specs.View.{items_of}
+use Rattle.serde_json.specs.Written.{outline, items_outline, compact_text}
+use Rattle.serde_json.proofs.Numbers.{number_of-decimal}
+use Rattle.serde_json.proofs.Texts.{print-outline}
+use Rattle.recording.specs.declared.event.Event.{Event}
+use Rattle.recording.specs.declared.event.Event.TheVariants.{L, S, R, C, F}
+use Rattle.recording.specs.Recording.{executed}
+use Rattle.recorder.specs.declared.reading.Found.{Found}
+use Rattle.recorder.specs.Contents.{Contents}
+use Rattle.recorder.specs.Found.{found}
+use Rattle.recorder.specs.Draft.{IsDraftOf, clipped_contents}
+use Rattle.recorder.specs.Clipped.{clip, clip_event, clipped_shape}
+use Rattle.recorder.specs.Reading.{number_in, value_in, event_in, list_in}
+use Rattle.recorder.specs.Text.{number_data, list_data, source_data, event_data}
+use Rattle.recorder.specs.Written.{IsShort, IsWord, IsShortSource, IsFitting, AreWords, version_of}
+use Rattle.recorder.specs.Written.{written_data, BeginsRecording}
+use Rattle.recorder.proofs.Again.{AllAgain, each_again, number_again, value_again, load_again, store_again}
+use Rattle.recorder.proofs.Again.{rmw_again, failed_cas_again, fence_again}
+use Rattle.recorder.proofs.Newline.{read_newline}
+use Rattle.recorder.proofs.Told.{shape_1, shape_2}
+
+-- ---- the value is read of its text
+
+-- the value as JSON is read as the value, its numbers are numbers, and it nests at most so deep
+pub record Rereads (k : ℕ) (d : Data) : Type 0 where
+  pub same : of_json (outline d) ≡ Some d
+  pub numbers : HasNumbers (outline d)
+  pub shallow : tree.depth (outline d) ≤ k
+
+-- the same of items
+record ItemsReread (k : ℕ) (ds : Items) : Type 0 where
+  pub same : of_items (items_outline ds) ≡ Some ds
+  pub numbers : ItemsHaveNumbers (items_outline ds)
+  pub shallow : tree.items_depth (items_outline ds) ≤ k
+
+-- a number
+number_rereads : (n : ℕ) → n < 2 ^ 64 → Rereads 0 (number_data n)
+number_rereads n h = record {
+  same = rw (number_of-decimal n h) refl;
+  numbers = IsNumber-decimal n h;
+  shallow = omega arith;
+}
+
+-- a source
+source_rereads : (s : Option ℕ) → IsShortSource s → Rereads 0 (source_data s)
+source_rereads None h = record { same = refl; numbers = tt; shallow = omega arith }
+source_rereads (Some s) h = number_rereads s (omega (arith, h))
+
+-- items
+items_reread : {A : Type 0} (f : A → Data) (Fits : A → Type 0) (k : ℕ) → ((x : A) → Fits x → Rereads k (f x))
+    → (xs : List A) → AllByRecursion Fits xs → ItemsReread k (items_of (map f xs))
+items_reread f Fits k each [] all = record { same = refl; numbers = tt; shallow = omega arith }
+items_reread f Fits k each (x ∷ xs) all =
+    let one = each x all.0 in
+    let rest = items_reread f Fits k each xs all.1 in
+    record {
+      same = rw (one.same, rest.same) refl;
+      numbers = (one.numbers, rest.numbers);
+      shallow = omega (arith, one.shallow, rest.shallow);
+    }
+
+-- a list
+list_rereads : {A : Type 0} (f : A → Data) (Fits : A → Type 0) (k : ℕ) → ((x : A) → Fits x → Rereads k (f x))
+    → (xs : List A) → AllByRecursion Fits xs → Rereads (k + 1) (list_data f xs)
+list_rereads f Fits k each xs all =
+    let items = items_reread f Fits k each xs all in
+    record {
+      same = rw items.same refl;
+      numbers = items.numbers;
+      shallow = omega (arith, items.shallow);
+    }
+
+-- an event
+event_rereads : (e : Event) → IsFitting e → Rereads 1 (event_data e)
+event_rereads (L a r s) h =
+    let x = number_rereads a (omega (arith, h.0)) in
+    let y = number_rereads r (omega (arith, h.1)) in
+    let z = source_rereads s h.2 in
+    record {
+      same = rw (x.same, y.same, z.same) refl;
+      numbers = (x.numbers, (tt, (y.numbers, (z.numbers, tt))));
+      shallow = omega (arith, z.shallow);
+    }
+event_rereads (S a w) h =
+    let x = number_rereads a (omega (arith, h.0)) in
+    let y = number_rereads w (omega (arith, h.1)) in
+    record {
+      same = rw (x.same, y.same) refl;
+      numbers = (x.numbers, (tt, (y.numbers, tt)));
+      shallow = omega arith;
+    }
+event_rereads (R a r s w) h =
+    let x = number_rereads a (omega (arith, h.0)) in
+    let y = number_rereads r (omega (arith, h.1)) in
+    let z = source_rereads s h.2 in
+    let u = number_rereads w (omega (arith, h.3)) in
+    record {
+      same = rw (x.same, y.same, z.same, u.same) refl;
+      numbers = (x.numbers, (tt, (y.numbers, (z.numbers, (u.numbers, tt)))));
+      shallow = omega (arith, z.shallow);
+    }
+event_rereads (C a r s) h =
+    let x = number_rereads a (omega (arith, h.0)) in
+    let y = number_rereads r (omega (arith, h.1)) in
+    let z = source_rereads s h.2 in
+    record {
+      same = rw (x.same, y.same, z.same) refl;
+      numbers = (x.numbers, (tt, (y.numbers, (z.numbers, tt))));
+      shallow = omega (arith, z.shallow);
+    }
+event_rereads F h = record { same = refl; numbers = (tt, tt); shallow = omega arith }
+
+-- the events of each core
+cores_reread : (cores : List (List Event)) → AllByRecursion (AllByRecursion IsFitting) cores
+    → Rereads 3 (list_data (list_data event_data) cores)
+cores_reread = list_rereads (list_data event_data) (AllByRecursion IsFitting) 2
+    (list_rereads event_data IsFitting 1 event_rereads)
+
+-- the write lists
+lists_reread : (lists : List (List ℕ)) → AllByRecursion (AllByRecursion IsShort) lists
+    → Rereads 2 (list_data (list_data number_data) lists)
+lists_reread = list_rereads (list_data number_data) (AllByRecursion IsShort) 1
+    (list_rereads number_data IsShort 0 (λ n h. number_rereads n (omega (arith, h))))
+
+-- the initial values
+values_reread : (values : List ℕ) → AllByRecursion IsWord values → Rereads 1 (list_data number_data values)
+values_reread = list_rereads number_data IsWord 0 (λ n h. number_rereads n (omega (arith, h)))
+
+-- the contents
+contents_reread : (values : Option (List ℕ)) (cores : List (List Event)) (lists : List (List ℕ)) → AreWords values
+    → AllByRecursion (AllByRecursion IsFitting) cores → AllByRecursion (AllByRecursion IsShort) lists
+    → Rereads 4 (written_data values cores lists)
+contents_reread None cores lists words fitting short =
+    let x = cores_reread cores fitting in
+    let y = number_rereads 1 (omega arith) in
+    let z = lists_reread lists short in
+    record {
+      same = rw (x.same, y.same, z.same) refl;
+      numbers = (x.numbers, (y.numbers, (z.numbers, tt)));
+      shallow = omega (arith, x.shallow, z.shallow);
+    }
+contents_reread (Some values) cores lists words fitting short =
+    let x = cores_reread cores fitting in
+    let u = values_reread values words in
+    let y = number_rereads 2 (omega arith) in
+    let z = lists_reread lists short in
+    record {
+      same = rw (x.same, u.same, y.same, z.same) refl;
+      numbers = (x.numbers, (u.numbers, (y.numbers, (z.numbers, tt))));
+      shallow = omega (arith, x.shallow, u.shallow, z.shallow);
+    }
+
+-- the value of a whole text
+abbrev whole : Option (json.Json × List Token) → Option Data
+whole o = option_and_then of_json (option_and_then (λ p. json.if_last p.0 p.1) o)
+
+-- what is read of the text
+read_text : (d : Data) → Rereads 4 d → read (compact_text d) ≡ Some d
+read_text d h =
+    let ts = json_tokens (outline d) in
+    let same : tokens (compact_text d) ≡ ts =
+    ap tokens (sym (print-outline d)) ∙ tokens-print ts (ArePrintable-json_tokens (outline d) h.numbers) in
+    ap whole (ap (json.value max_depth) (same ∙ sym (append-nil ts))
+    ∙ value-json_tokens (outline d) max_depth [] (omega (arith, h.shallow))) ∙ h.same
+
+-- and of the text with what may follow it
+read_bytes : (bytes rest : List ℕ) (d : Data) → Rereads 4 d → bytes ≡ compact_text d ++ rest
+    → (rest ≡ []) ⊎ (rest ≡ 10 ∷ []) → read bytes ≡ Some d
+read_bytes bytes rest d h is (inl over) =
+    ap read (is ∙ ap (λ (t : List ℕ). compact_text d ++ t) over ∙ append-nil (compact_text d)) ∙ read_text d h
+read_bytes bytes rest d h is (inr newline) =
+    ap read (is ∙ ap (λ (t : List ℕ). compact_text d ++ t) newline) ∙ read_newline (compact_text d) ∙ read_text d h
+
+-- ---- the value has the contents, and none of them is clipped
+
+-- a number of 16 bits
+clip_same : (n : ℕ) → IsShort n → clip n ≡ n
+clip_same n h = rw (lt-ltb n (2 ^ 16) h) refl
+
+-- a source
+clip_source : (s : Option ℕ) → IsShortSource s → option_map clip s ≡ s
+clip_source None h = refl
+clip_source (Some s) h = ap Some (clip_same s h)
+
+-- an event
+clip_event_same : (e : Event) → IsFitting e → clip_event e ≡ e
+clip_event_same (L a r s) h = rw (clip_same a h.0, clip_source s h.2) refl
+clip_event_same (S a w) h = rw (clip_same a h.0) refl
+clip_event_same (R a r s w) h = rw (clip_same a h.0, clip_source s h.2) refl
+clip_event_same (C a r s) h = rw (clip_same a h.0, clip_source s h.2) refl
+clip_event_same F h = refl
+
+-- each item of a list
+map_same : {A : Type 0} (g : A → A) (Fits : A → Type 0) → ((x : A) → Fits x → g x ≡ x) → (xs : List A)
+    → AllByRecursion Fits xs → map g xs ≡ xs
+map_same g Fits each [] all = refl
+map_same g Fits each (x ∷ xs) all = rw (each x all.0, map_same g Fits each xs all.1) refl
+
+-- each event gives itself
+event_again : (e : Event) → IsFitting e → event_in (event_data e) ≡ Some e
+event_again (L a r s) h = load_again a r s h.1
+event_again (S a w) h = store_again a w h.1
+event_again (R a r s w) h = rmw_again a r s w h.1 h.3
+event_again (C a r s) h = failed_cas_again a r s h.1
+event_again F h = fence_again
+
+-- so does each item of a list
+all_again : {A : Type 0} (f : Data → Option A) (g : A → Data) (Fits : A → Type 0)
+    → ((x : A) → Fits x → f (g x) ≡ Some x) → (xs : List A) → AllByRecursion Fits xs → AllAgain f g xs
+all_again f g Fits each [] all = tt
+all_again f g Fits each (x ∷ xs) all = (each x all.0, all_again f g Fits each xs all.1)
+
+-- and the list
+fitting_again : {A : Type 0} (f : Data → Option A) (g : A → Data) (Fits : A → Type 0)
+    → ((x : A) → Fits x → f (g x) ≡ Some x) → (xs : List A) → AllByRecursion Fits xs
+    → list_in f (list_data g xs) ≡ Some xs
+fitting_again f g Fits each xs all = each_again f g xs (all_again f g Fits each xs all)
+
+-- the events of each core
+cores_again : (cores : List (List Event)) → AllByRecursion (AllByRecursion IsFitting) cores
+    → list_in (list_in event_in) (list_data (list_data event_data) cores) ≡ Some cores
+cores_again = fitting_again (list_in event_in) (list_data event_data) (AllByRecursion IsFitting)
+    (fitting_again event_in event_data IsFitting event_again)
+
+-- the write lists
+lists_again : (lists : List (List ℕ)) → AllByRecursion (AllByRecursion IsShort) lists
+    → list_in (list_in number_in) (list_data (list_data number_data) lists) ≡ Some lists
+lists_again = fitting_again (list_in number_in) (list_data number_data) (AllByRecursion IsShort)
+    (fitting_again number_in number_data IsShort (λ n h. number_again n))
+
+-- the contents
+contents_again : (values : Option (List ℕ)) (cores : List (List Event)) (lists : List (List ℕ)) → AreWords values
+    → AllByRecursion (AllByRecursion IsFitting) cores → AllByRecursion (AllByRecursion IsShort) lists
+    → clipped_contents (written_data values cores lists)
+    ≡ Some (record { version = version_of values; cores = cores; write_lists = lists; values = values })
+contents_again None cores lists words fitting short =
+    ap (option_map clipped_shape) (shape_1 (executed cores lists [])
+    (record { cores = cores_again cores fitting; lists = lists_again lists short }))
+    ∙ rw (
+      map_same (map clip_event) (AllByRecursion IsFitting) (map_same clip_event IsFitting clip_event_same) cores
+          fitting,
+      map_same (map clip) (AllByRecursion IsShort) (map_same clip IsShort clip_same) lists short,
+    ) refl
+contents_again (Some values) cores lists words fitting short =
+    ap (option_map clipped_shape) (shape_2 (executed cores lists values)
+    (record { cores = cores_again cores fitting; lists = lists_again lists short })
+    (fitting_again value_in number_data IsWord value_again values words))
+    ∙ rw (
+      map_same (map clip_event) (AllByRecursion IsFitting) (map_same clip_event IsFitting clip_event_same) cores
+          fitting,
+      map_same (map clip) (AllByRecursion IsShort) (map_same clip IsShort clip_same) lists short,
+    ) refl
+
+-- contents of another number of the version
+versioned : (c : Contents) → c.version ≡ version_of c.values
+    → Some (record { version = version_of c.values; cores = c.cores; write_lists = c.write_lists; values = c.values })
+    ≡ Some c
+versioned c is = rw (← is) refl
+
+-- ---- the whole text
+
+-- what was found of the bytes is what they have
+pub written_read : (bytes rest : List ℕ) (q : Found) → IsUtf8 bytes → BeginsRecording bytes (found q) rest
+    → (rest ≡ []) ⊎ (rest ≡ 10 ∷ []) → IsDraftOf bytes q
+written_read bytes rest q utf8 h ends =
+    let c : Contents = found q in
+    let again = contents_reread c.values c.cores c.write_lists h.values h.cores h.lists in (
+      written_data c.values c.cores c.write_lists,
+      (utf8, read_bytes bytes rest (written_data c.values c.cores c.write_lists) again h.begins ends),
+      c,
+      contents_again c.values c.cores c.write_lists h.values h.cores h.lists ∙ versioned c h.versioned,
+      record { version = refl; values = refl; cores = inl refl; lists = inl refl },
+    )

@@ -1,0 +1,13 @@
+use Rattle.std.proofs.Common.{◌-◌, length}
+use Rattle.common.specs.declared.limits.TheConstants.{MAX_EVENTS}
+use Rattle.recorder.specs.Text.{number_data}
+use Rattle.recorder.specs.Written.{IsShort}
+use Rattle.recorder.proofs.WrittenTexts.{Passed}
+use Rattle.recorder.proofs.written_lists.take_writes.Given as goal
+
+-- the items so far are those that were found
+abbrev pub invariant-items : goal.invariant-items
+invariant-items l = Passed number_data IsShort l.initial.rest l.found.items l.rest
+
+abbrev pub decreases-items : goal.decreases-items
+decreases-items l = MAX_EVENTS - length l.found.items

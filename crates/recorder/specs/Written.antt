@@ -1,0 +1,66 @@
+-- What a text in the layout of `write_recording` has: no blanks, and the keys of each object in ascending order.
+use Rattle.std.specs.Prelude.{◌≡◌, ◌<◌, ◌^◌, ℕ, List, [], ◌++◌, Option, None, Some, codes, ⊤}
+use Rattle.std.specs.List.{AllByRecursion}
+use Rattle.serde_json.specs.Data.{Data}
+use Rattle.serde_json.specs.Written.{compact_text}
+use Rattle.recording.specs.declared.event.Event.{Event}
+use Rattle.recording.specs.declared.event.Event.TheVariants.{L, S, R, C, F}
+use Rattle.recording.specs.Recording.{executed}
+use Rattle.recorder.specs.Contents.{Contents}
+use Rattle.recorder.specs.Text.{number_data, list_data, data_1, data_2}
+
+-- 16 bits of the number of an event or of an address
+abbrev pub IsShort : ℕ → Type 0
+IsShort n = n < 2 ^ 16
+
+-- 32 bits of a value
+abbrev pub IsWord : ℕ → Type 0
+IsWord n = n < 2 ^ 32
+
+-- a source is the initial value, or has 16 bits
+abbrev pub IsShortSource : Option ℕ → Type 0
+IsShortSource None = ⊤
+IsShortSource (Some s) = IsShort s
+
+-- each number of an event fits
+abbrev pub IsFitting : Event → Type 0
+IsFitting (L a r s) = IsShort a × IsWord r × IsShortSource s
+IsFitting (S a w) = IsShort a × IsWord w
+IsFitting (R a r s w) = IsShort a × IsWord r × IsShortSource s × IsWord w
+IsFitting (C a r s) = IsShort a × IsWord r × IsShortSource s
+IsFitting F = ⊤
+
+-- each initial value fits
+abbrev pub AreWords : Option (List ℕ) → Type 0
+AreWords None = ⊤
+AreWords (Some values) = AllByRecursion IsWord values
+
+-- the text begins with x, which fits, and the rest follows it
+pub record Begins {A : Type 0} (datum : A → Data) (Fits : A → Type 0) (text : List ℕ) (x : A) (rest : List ℕ)
+    : Type 0 where
+  pub begins : text ≡ compact_text (datum x) ++ rest
+  pub fits : Fits x
+
+-- the text begins with the version, and with the initial values before it, if there are some
+abbrev pub IsHead : List ℕ → Option (List ℕ) → List ℕ → Type 0
+IsHead text None rest = text ≡ codes ",\"version\":1" ++ rest
+IsHead text (Some values) rest = AllByRecursion IsWord values
+    × (text ≡ codes ",\"init\":" ++ (compact_text (list_data number_data values) ++ (codes ",\"version\":2" ++ rest)))
+
+-- the version that has initial values, or has none
+abbrev pub version_of : Option (List ℕ) → ℕ
+version_of None = 1
+version_of (Some values) = 2
+
+-- the value of contents, by whether they have initial values
+abbrev pub written_data : Option (List ℕ) → List (List Event) → List (List ℕ) → Data
+written_data None cores lists = data_1 (executed cores lists [])
+written_data (Some values) cores lists = data_2 (executed cores lists values)
+
+-- the text begins with the contents, which fit, and the rest follows them
+pub record BeginsRecording (text : List ℕ) (c : Contents) (rest : List ℕ) : Type 0 where
+  pub begins : text ≡ compact_text (written_data c.values c.cores c.write_lists) ++ rest
+  pub versioned : c.version ≡ version_of c.values
+  pub cores : AllByRecursion (AllByRecursion IsFitting) c.cores
+  pub lists : AllByRecursion (AllByRecursion IsShort) c.write_lists
+  pub values : AreWords c.values

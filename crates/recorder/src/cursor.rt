@@ -1,0 +1,121 @@
+//! What is left of a text, and the numbers that it begins with.
+
+use std::marker::Model;
+
+/// The least number that gets no further digit.
+const LIMIT: u64 = 1_000_000_000;
+
+/// What is left of a text.
+#[derive(Drop)]
+pub(crate) struct Cursor<'a> {
+    rest: &'a [u8],
+}
+
+impl<'a> Model for Cursor<'a> {
+    ghost use Rattle.std.specs.Prelude.{ℕ, List};
+
+    ghost Value = { List ℕ };
+
+    ghost view = { λ c. c.rest.now };
+}
+
+impl<'a> Cursor<'a> {
+    ghost use Rattle.std.specs.Prelude.{◌≡◌, ◌<◌, ◌+◌, ◌++◌, ◌∷◌, [], ◌⊎◌, None, IfSome, IsTrue, decimal, false};
+    ghost use Rattle.recorder.specs.Text.{number_data, source_data};
+    ghost use Rattle.recorder.specs.Written.{IsShort, IsWord, IsShortSource, Begins};
+
+    /// A whole text.
+    pub(crate) fn new(text: &'a [u8]) -> Cursor<'a>
+        ensures { result ≡ text.now }
+    {
+        Cursor { rest: text }
+    }
+
+    /// Takes this text, and says whether it stands next; else nothing is taken.
+    pub(crate) fn take(&mut self, text: &[u8]) -> bool
+        ensures found { IsTrue result → self.old ≡ text.now ++ self.new }
+        ensures kept { result ≡ false → self.new ≡ self.old }
+    {
+        if let Some(rest) = self.rest.strip_prefix(text) {
+            self.rest = rest;
+            return true;
+        }
+        false
+    }
+
+    /// Whether nothing is left, or a newline alone.
+    pub(crate) fn is_at_end(&self) -> bool
+        ensures { IsTrue result → (self.now ≡ []) ⊎ (self.now ≡ 10 ∷ []) }
+    {
+        if self.rest.is_empty() {
+            return true;
+        }
+        self.rest.len() == 1 && self.rest[0] == b'\n'
+    }
+
+    /// Takes the digit that stands next, if one does.
+    fn digit(&mut self) -> Option<u64>
+        ensures found { IfSome result (λ d. (d < 10) × (self.old ≡ (48 + d) ∷ self.new)) }
+        ensures kept { result ≡ None → self.new ≡ self.old }
+    {
+        let Some((&first, rest)) = self.rest.split_first() else {
+            return None;
+        };
+        if !first.is_ascii_digit() {
+            return None;
+        }
+        self.rest = rest;
+        Some((first - b'0') as u64)
+    }
+
+    /// Takes the number that stands next, if one does; of a long one no more than ten digits.
+    fn number(&mut self) -> Option<u64>
+        ensures { IfSome result (λ n. self.old ≡ decimal n ++ self.new) }
+    {
+        let first = self.digit()?;
+        if first == 0 {
+            return Some(0);
+        }
+        let mut n = first;
+        'digits: while n < LIMIT {
+            let Some(digit) = self.digit() else {
+                return Some(n);
+            };
+            n = n * 10 + digit;
+        }
+        Some(n)
+    }
+
+    /// Takes the number of 16 bits that stands next, if one does.
+    pub(crate) fn short(&mut self) -> Option<u16>
+        ensures { IfSome result (λ n. Begins number_data IsShort self.old n self.new) }
+    {
+        let n = self.number()?;
+        if n > u16::MAX as u64 {
+            return None;
+        }
+        Some(n as u16)
+    }
+
+    /// Takes the number of 32 bits that stands next, if one does.
+    pub(crate) fn word(&mut self) -> Option<u32>
+        ensures { IfSome result (λ n. Begins number_data IsWord self.old n self.new) }
+    {
+        let n = self.number()?;
+        if n > u32::MAX as u64 {
+            return None;
+        }
+        Some(n as u32)
+    }
+
+    /// Takes the source that stands next, if one does.
+    pub(crate) fn source(&mut self) -> Option<Option<u16>>
+        ensures { IfSome result (λ s. Begins source_data IsShortSource self.old s self.new) }
+    {
+        if self.take(b"null") {
+            return Some(None);
+        }
+        let source = self.short()?;
+        Some(Some(source))
+    }
+}

@@ -1,0 +1,87 @@
+//! The contents of a recording's text, read from a text in the layout of `write_recording`.
+
+ghost use Rattle.std.specs.Prelude.{◌≡◌, option_map, IfOk, IfSome};
+ghost use Rattle.recorder.specs.Draft.{IsDraftOf};
+ghost use Rattle.recorder.specs.Found.{found};
+ghost use Rattle.recorder.specs.Written.{IsHead, version_of, BeginsRecording};
+
+use crate::cursor::Cursor;
+use crate::reading::Found;
+use crate::written_lists::{take_cores, take_lists, take_values};
+use std::alloc::{AllocError, Global};
+
+/// Takes the version and, before it, the initial values, where the text has them.
+fn take_init(alloc: Global, rest: &mut Cursor<'_>) -> Result<Option<Option<Vec<u32>>>, AllocError>
+    ensures { IfOk result (λ o. IfSome o (λ v. IsHead rest.old (option_map (λ w. w.items) v) rest.new)) }
+{
+    if rest.take(b",\"version\":1") {
+        return Ok(Some(None));
+    }
+    if !rest.take(b",\"init\":") {
+        return Ok(None);
+    }
+    let Some(values) = take_values(alloc, rest)? else {
+        return Ok(None);
+    };
+    if !rest.take(b",\"version\":2") {
+        return Ok(None);
+    }
+    Ok(Some(Some(values)))
+}
+
+fn version_of(init: &Option<Vec<u32>>) -> u64
+    ensures { result ≡ version_of (option_map (λ w. w.items) init.now) }
+{
+    match init {
+        Some(_) => 2,
+        None => 1,
+    }
+}
+
+/// Takes the contents of a recording.
+fn take_found(alloc: Global, rest: &mut Cursor<'_>) -> Result<Option<Found>, AllocError>
+    ensures { IfOk result (λ o. IfSome o (λ q. BeginsRecording rest.old (found q) rest.new)) }
+{
+    if !rest.take(b"{\"cores\":") {
+        return Ok(None);
+    }
+    let Some(cores) = take_cores(alloc, rest)? else {
+        return Ok(None);
+    };
+    let Some(init) = take_init(alloc, rest)? else {
+        return Ok(None);
+    };
+    if !rest.take(b",\"writes\":") {
+        return Ok(None);
+    }
+    let Some(writes) = take_lists(alloc, rest)? else {
+        return Ok(None);
+    };
+    if !rest.take(b"}") {
+        return Ok(None);
+    }
+    let version = version_of(&init);
+    Ok(Some(Found {
+        version,
+        cores,
+        writes,
+        init,
+    }))
+}
+
+/// What a text in the layout of `write_recording` has, within the limits; nothing is told of other texts.
+pub(crate) fn written(alloc: Global, bytes: &[u8]) -> Result<Option<Found>, AllocError>
+    ensures { IfOk result (λ o. IfSome o (λ q. IsDraftOf bytes.now q)) }
+{
+    let Ok(_text) = str::from_utf8(bytes) else {
+        return Ok(None);
+    };
+    let mut rest = Cursor::new(bytes);
+    let Some(found) = take_found(alloc, &mut rest)? else {
+        return Ok(None);
+    };
+    if !rest.is_at_end() {
+        return Ok(None);
+    }
+    Ok(Some(found))
+}
