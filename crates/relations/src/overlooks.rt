@@ -42,11 +42,14 @@ fn overlooked(recording: &Recording, start: EventId, load: EventId) -> Option<Ev
         (λ s. Overlooks recording.now load s × ((t : ℕ) → Overlooks recording.now load t → s ≤ t)) }
 {
     recording.sound();
-    let Some(address) = recording.read_address(load) else {
+    let Some((_core, event)) = recording.event(load) else {
+        return None;
+    };
+    let Some(address) = event.read_address() else {
         return None;
     };
     let list = recording.write_list(address);
-    let first = newer_from(list, recording.source(load));
+    let first = newer_from(list, event.source());
     let mut least = None;
     for i in first..list.len() {
         if is_earlier(start, list[i], load) {

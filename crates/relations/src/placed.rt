@@ -74,15 +74,16 @@ fn write_places(alloc: Global, recording: &Recording) -> Result<Vec<u16>, OutOfM
     Ok(places)
 }
 
-/// From which place on the writes of the address that an event reads are newer than its source;
-/// 0 where it does not read.
-fn newer_of(recording: &Recording, number: EventId, places: &[u16]) -> u16
-    requires { AreWritePlaces recording.now (length recording.now.write_lists) places.now }
+/// From which place on the writes of the address that an event of this source reads are newer than the
+/// source; 0 where it does not read.
+fn newer_of(recording: &Recording, number: EventId, source: Option<EventId>, places: &[u16]) -> u16
+    requires source { source ≡ source_of recording.now number }
+    requires places { AreWritePlaces recording.now (length recording.now.write_lists) places.now }
     ensures { (a : ℕ) → Reads recording.now number a
         → IsNewerFrom (write_list recording.now a) (source_of recording.now number) result }
 {
     recording.sound();
-    match recording.source(number) {
+    match source {
         Some(source) => places[source as usize] + 1,
         None => 0,
     }
@@ -99,16 +100,17 @@ fn placed_event(recording: &Recording, number: EventId, places: &[u16]) -> Place
     let Some((core, event)) = recording.event(number) else {
         unreachable!();
     };
+    let source = event.source();
     Placed {
         number,
         core,
         is_store: is_store(event),
         is_load: is_load(event),
-        reads: recording.read_address(number),
-        writes: recording.written_address(number),
-        source: recording.source(number),
+        reads: event.read_address(),
+        writes: event.written_address(),
+        source,
         place: places[number as usize],
-        newer: newer_of(recording, number, places),
+        newer: newer_of(recording, number, source, places),
     }
 }
 
