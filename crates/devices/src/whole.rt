@@ -1,6 +1,6 @@
 //! Whole texts from sources and to sinks.
 
-ghost use Rattle.std.specs.Prelude.{◌≡◌, ◌≢◌, ◌<◌, ℕ, true, IfErr, IfOk, OnErr, OnOk, length, take};
+ghost use Rattle.std.specs.Prelude.{◌≡◌, ◌≢◌, ◌<◌, ◌+◌, ℕ, true, IfErr, IfOk, OnErr, OnOk, length, take};
 ghost use Rattle.std.specs.Io.KnownBytes.{Appends, Consumes, IsAtEnd};
 ghost use Rattle.devices.specs.Bytes.{CanGrow, Counts, CountsBy, Gathers, failed_reads};
 
@@ -31,7 +31,7 @@ pub fn read_more<R: Source>(
     ensures kept { length piece.new ≡ length piece.old }
     ensures gathered { OnOk result (Gathers (R.left source.old) (R.left source.new)
         bytes.old.items bytes.new.items) }
-    ensures more { IfOk result (λ n. n ≢ 0 → length bytes.old.items < length bytes.new.items) }
+    ensures number { IfOk result (λ n. length bytes.new.items ≡ length bytes.old.items + n) }
     ensures met { IfOk result (λ n. n ≡ 0 → R.is_ended source.new ≡ true) }
     ensures all { IfOk result (λ n. n ≡ 0 → IsAtEnd (R.left source.new)) }
     ensures count { CountsBy failed_reads (R.read_failures source.old) (R.read_failures source.new) result }

@@ -4,13 +4,15 @@ ghost use Rattle.std.specs.Prelude.{◌≡◌, ◌++◌, ℕ, List, OnOk, length
 ghost use Rattle.relations.specs.Cycle.{IsCycle};
 ghost use Rattle.relations.specs.Forced.{Forced};
 ghost use Rattle.labels.specs.Certified.{lists_of};
+ghost use Rattle.report.specs.Texts.{AreTexts};
 ghost use Rattle.report.specs.Verdict.{reason_name, pair_line, labels_line, labels_text, IsPairLine};
 ghost use Rattle.report.specs.Verdict.{ArePairLines, IsCycleText};
 
-use crate::numbers::{put_number, put_numbers};
+use crate::numbers::{NumberText, put_number, put_row, texts_up_to};
 use common::{EventId, OutOfMemory};
 use labels::Certificate;
 use relations::{Places, Reason, behind};
+use std::alloc::Global;
 
 /// The name of a reason.
 fn reason_name(reason: Reason) -> &'static [u8]
@@ -68,31 +70,44 @@ fn put_pairs(out: &mut Vec<u8>, places: &Places<'_>, cycle: &[EventId]) -> Resul
     Ok(())
 }
 
-/// Adds the line of the labels from an event.
-fn put_labels(out: &mut Vec<u8>, event: usize, labels: &[u16]) -> Result<(), OutOfMemory>
+/// Adds the line of the labels from an event, by the texts of the first numbers.
+fn put_labels(
+    out: &mut Vec<u8>,
+    event: usize,
+    labels: &[u16],
+    texts: &[NumberText],
+) -> Result<(), OutOfMemory>
+    requires { AreTexts texts.now }
     ensures { OnOk result (out.new.items ≡ out.old.items ++ labels_line event labels.now) }
 {
     out.extend_from_slice(b"labels ")?;
     put_number(out, event)?;
     out.push(b':')?;
-    put_numbers(out, labels)?;
+    put_row(out, labels, texts)?;
     out.push(b'\n')?;
     Ok(())
 }
 
-/// Adds a line for each row of labels.
-fn put_rows(out: &mut Vec<u8>, rows: &[Vec<u16>]) -> Result<(), OutOfMemory>
+/// Adds a line for each row of labels, most of which are no more than this number.
+fn put_rows(
+    alloc: Global,
+    out: &mut Vec<u8>,
+    rows: &[Vec<u16>],
+    most: usize,
+) -> Result<(), OutOfMemory>
     ensures { OnOk result (out.new.items ≡ out.old.items
         ++ labels_text (lists_of rows.now) (length rows.now)) }
 {
+    let texts = texts_up_to(alloc, most.min(999) as u16)?;
     for event in 0..rows.len() {
-        put_labels(out, event, &rows[event])?;
+        put_labels(out, event, &rows[event], &texts)?;
     }
     Ok(())
 }
 
 /// Adds the text of a cycle with its labels, in a recording with these places.
 pub(crate) fn put_cycle(
+    alloc: Global,
     out: &mut Vec<u8>,
     places: &Places<'_>,
     certificate: &Certificate,
@@ -106,5 +121,6 @@ pub(crate) fn put_cycle(
     put_number(out, certificate.cycle.len())?;
     out.push(b'\n')?;
     put_pairs(out, places, &certificate.cycle)?;
-    put_rows(out, &certificate.rows)
+    // The labels are cut at the length.
+    put_rows(alloc, out, &certificate.rows, certificate.cycle.len())
 }

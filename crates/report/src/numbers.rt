@@ -1,11 +1,14 @@
 //! Numbers in a text.
 
-ghost use Rattle.std.specs.Prelude.{◌≡◌, ◌<◌, ◌≤◌, ◌+◌, ◌*◌, ◌++◌, All, OnOk, decimal, length, take};
+ghost use Rattle.std.specs.Prelude.{◌≡◌, ◌<◌, ◌≤◌, ◌+◌, ◌*◌, ◌++◌, All, IfOk, OnOk, decimal, length, take};
 ghost use Rattle.common.specs.declared.limits.TheConstants.{MAX_EVENTS};
+ghost use Rattle.report.specs.Texts.{IsTextOf, AreTexts};
 ghost use Rattle.report.specs.Verdict.{numbers_text};
 
 use common::{MAX_EVENTS, OutOfMemory};
 use itoa::Buffer;
+use std::alloc::Global;
+use std::simd::prelude::*;
 
 /// Adds a number to a text, in decimal. An error is want of memory.
 pub fn put_number(out: &mut Vec<u8>, number: usize) -> Result<(), OutOfMemory>
@@ -102,6 +105,80 @@ fn put_short(out: &mut Vec<u8>, numbers: &[u16]) -> Result<(), OutOfMemory>
     Ok(())
 }
 
+/// The text of a number of one to three digits with a space before it, and any bytes after it.
+#[derive(Clone, Copy, Drop)]
+pub(crate) struct NumberText {
+    bytes: [u8; 4],
+    /// How many of the bytes are the text.
+    size: u32,
+}
+
+/// The text of a number.
+fn number_text(number: u16) -> NumberText
+    requires { number < 1000 }
+    ensures { IsTextOf number result }
+{
+    let mut bytes = [b' '; 4];
+    let size = write_short(&mut bytes, 1, number);
+    NumberText {
+        bytes,
+        size: size as u32,
+    }
+}
+
+/// The texts of the numbers up to the greatest, by their numbers.
+pub(crate) fn texts_up_to(alloc: Global, greatest: u16) -> Result<Vec<NumberText>, OutOfMemory>
+    requires { greatest < 1000 }
+    ensures { IfOk result (λ texts. AreTexts texts.items) }
+{
+    let mut texts = Vec::with_capacity(alloc, greatest as usize + 1)?;
+    for number in 0..greatest + 1 {
+        texts.push(number_text(number))?;
+    }
+    Ok(texts)
+}
+
+/// Writes a text with what is after it, and answers the place after the text.
+fn write_text(places: &mut [u8], at: usize, text: NumberText) -> usize
+    requires room { at + 4 ≤ length places.old }
+    requires four { length text.bytes ≡ 4 }
+    requires within { text.size ≤ 4 }
+    ensures size { length places.new ≡ length places.old }
+    ensures end { result ≤ at + 4 }
+    ensures text { take result places.new ≡ take at places.old ++ take text.size text.bytes }
+{
+    Simd::<u8, 4>::from_array(text.bytes).copy_to_slice(&mut places[at..]);
+    at + text.size as usize
+}
+
+/// Writes from a place on the text of each number, and answers the place after them.
+fn write_texts(places: &mut [u8], start: usize, numbers: &[u16], texts: &[NumberText]) -> usize
+    requires room { start + 4 * length numbers.now ≤ length places.old }
+    requires texts { AreTexts texts.now }
+    requires known { All (λ n. n < length texts.now) numbers.now }
+    ensures { take result places.new ≡ take start places.old ++ numbers_text numbers.now }
+{
+    let mut at = start;
+    for number in numbers {
+        at = write_text(places, at, texts[*number as usize]);
+    }
+    at
+}
+
+/// Adds a space before each number, at most one for each event, by their texts.
+fn put_texts(out: &mut Vec<u8>, numbers: &[u16], texts: &[NumberText]) -> Result<(), OutOfMemory>
+    requires texts { AreTexts texts.now }
+    requires known { All (λ n. n < length texts.now) numbers.now }
+    requires few { length numbers.now ≤ MAX_EVENTS }
+    ensures { OnOk result (out.new.items ≡ out.old.items ++ numbers_text numbers.now) }
+{
+    let start = out.len();
+    out.resize(start + 4 * numbers.len(), b' ')?;
+    let end = write_texts(out.as_mut_slice(), start, numbers, texts);
+    out.truncate(end);
+    Ok(())
+}
+
 /// Adds a space before each number, one at a time.
 fn put_each(out: &mut Vec<u8>, numbers: &[u16]) -> Result<(), OutOfMemory>
     ensures { OnOk result (out.new.items ≡ out.old.items ++ numbers_text numbers.now) }
@@ -126,5 +203,22 @@ pub fn put_numbers(out: &mut Vec<u8>, numbers: &[u16]) -> Result<(), OutOfMemory
         put_short(out, numbers)
     } else {
         put_each(out, numbers)
+    }
+}
+
+/// The same as `put_numbers`, by texts that were made before where they are of all numbers.
+pub(crate) fn put_row(
+    out: &mut Vec<u8>,
+    numbers: &[u16],
+    texts: &[NumberText],
+) -> Result<(), OutOfMemory>
+    requires { AreTexts texts.now }
+    ensures { OnOk result (out.new.items ≡ out.old.items ++ numbers_text numbers.now) }
+{
+    let greatest = greatest(numbers);
+    if greatest >= 10 && (greatest as usize) < texts.len() && numbers.len() <= MAX_EVENTS {
+        put_texts(out, numbers, texts)
+    } else {
+        put_numbers(out, numbers)
     }
 }

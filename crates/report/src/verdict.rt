@@ -52,7 +52,7 @@ pub fn verdict_text(
         Verdict::Overlook { load, store } => put_overlook(&mut out, *load, *store)?,
         Verdict::Cycle(certificate) => {
             let places = Places::of(alloc, recording)?;
-            put_cycle(&mut out, &places, certificate)?
+            put_cycle(alloc, &mut out, &places, certificate)?
         }
     }
     Ok(out)
