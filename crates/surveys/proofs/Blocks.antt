@@ -24,7 +24,7 @@ begun each u s l none = record {
 }
 
 -- what was tallied and the filled block
-filled : (u v w : Option (List ℕ)) (front old new : List ℕ) → Consumes u v (front ++ old)
+pub filled : (u v w : Option (List ℕ)) (front old new : List ℕ) → Consumes u v (front ++ old)
     → Gathers v w old new → Consumes u w (front ++ new)
 filled u v w front old new read gathered =
     subst (λ (t : List ℕ). Consumes u w t) (append_assoc front old gathered.0

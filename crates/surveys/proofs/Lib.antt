@@ -5,3 +5,4 @@ pub mod Tallied
 pub mod Blocks
 pub mod Shown
 pub mod LineCodes
+pub mod Ahead

@@ -1,6 +1,7 @@
 //! Surveys of many recordings, one a line.
 #![tactic(auto)]
 
+mod ahead;
 mod claims;
 mod coded;
 mod counting;

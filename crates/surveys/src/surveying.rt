@@ -11,6 +11,7 @@ ghost use Rattle.surveys.specs.OneSurvey.{EverySurveyTellsTheSame};
 ghost use Rattle.surveys.specs.Surveys.{IsSurvey, IsSurveyOfRead, failed_reads, failed_writes};
 ghost use Rattle.surveys.specs.Tallies.{Ends, Grows, IsTallied, IsTally};
 
+use crate::ahead::count_ahead;
 use crate::counting::count_all;
 use crate::error::SurveyError;
 use crate::filling::{PIECE, fill, keep_rest, last_end};
@@ -22,7 +23,7 @@ use std::alloc::Global;
 use std::thread::Threads;
 
 /// Adds the lines of the next bytes to a ledger, and their number to the number of bytes.
-fn count_part<R: Threads + Sync, W: Sink, G: Gate>(
+pub(crate) fn count_part<R: Threads + Sync, W: Sink, G: Gate>(
     rt: &R,
     alloc: Global,
     sink: &mut W,
@@ -114,6 +115,9 @@ fn count_blocks<T: Threads + Sync, R: Source, W: Sink, G: Gate>(
     ensures writes { CountsBy failed_writes (W.write_failures sink.old) (W.write_failures sink.new) result }
     ensures silent { each ≢ true → sink.new ≡ sink.old }
 {
+    if !each && workers > 1 {
+        return count_ahead(rt, alloc, source, piece, ledger, workers, gate);
+    }
     let mut block = Vec::new(alloc);
     let mut counted = 0;
     let mut seen = 0;
@@ -131,9 +135,9 @@ fn count_blocks<T: Threads + Sync, R: Source, W: Sink, G: Gate>(
 
 /// Reads the lines of a source to its end, a recording each, judges them by so many workers, and counts them in
 /// order; where each is told, its line is written to the sink. The calling thread is a worker, and does what
-/// others leave out. The gate is told as by `findings_of`, by the numbers of the recordings, from 0. `ReadFailed`
+/// others leave out; where none is told, two workers or more judge a block while it reads the next one. The gate is told as by `findings_of`, by the numbers of the recordings, from 0. `ReadFailed`
 /// exactly where a read failed, and `WriteFailed` where a write did; where none is told, nothing is written. The
-/// memory is that of a block, or of the longest line, whatever the length. One thing is found in a line, however
+/// memory is that of two blocks, or of the longest line, whatever the length. One thing is found in a line, however
 /// often and by however many workers it is judged, so any two surveys of the same bytes count and tell the same.
 pub fn survey<T: Threads + Sync, R: Source, W: Sink, G: Gate>(
     rt: &T,

@@ -29,48 +29,52 @@ const EACH: &[u8] = b"0 ordered\n1 ordered\n2 overlook: load 1 store 0\n3 cycle 
 const NONE: &[u8] = b"recordings 0\nordered 0\nrefused 0\noverlook 0\n\
     first violation: none\nfirst refused: none\n";
 
-/// Whether so many workers count these lines so, and tell so of each.
+/// Whether so many workers count these lines so, and tell so of each; or, where none is told, write nothing.
 fn is_surveyed<R: Threads + Sync>(
     rt: &R,
     alloc: Global,
     lines: &[u8],
+    each: bool,
     workers: usize,
     counts: &[u8],
-    each: &[u8],
+    told: &[u8],
 ) -> bool {
     let mut source = MemorySource::new(lines);
     let mut sink = MemorySink::new(alloc);
-    let Ok(ledger) = survey(rt, alloc, &mut source, &mut sink, true, workers, &OpenGate) else {
+    let Ok(ledger) = survey(rt, alloc, &mut source, &mut sink, each, workers, &OpenGate) else {
         return false;
     };
     let Ok(text) = survey_text(alloc, &ledger) else {
         return false;
     };
-    text.as_slice() == counts && sink.written() == each
+    text.as_slice() == counts && sink.written() == told
 }
 
 #[test]
 fn lines_are_counted_and_told(rt: HostRuntime) -> Result<(), Fail> {
-    assert!(rt; is_surveyed(&rt, rt.alloc(), LINES, 1, COUNTS, EACH));
-    assert!(rt; is_surveyed(&rt, rt.alloc(), LINES, 3, COUNTS, EACH));
-    assert!(rt; is_surveyed(&rt, rt.alloc(), b"\n\n", 2, NONE, b""));
+    assert!(rt; is_surveyed(&rt, rt.alloc(), LINES, true, 1, COUNTS, EACH));
+    assert!(rt; is_surveyed(&rt, rt.alloc(), LINES, true, 3, COUNTS, EACH));
+    assert!(rt; is_surveyed(&rt, rt.alloc(), LINES, false, 3, COUNTS, b""));
+    assert!(rt; is_surveyed(&rt, rt.alloc(), b"\n\n", true, 2, NONE, b""));
     Ok(())
 }
 
-/// Whether a read that fails after so many bytes is told, whatever was written before.
-fn is_failed<R: Threads + Sync>(rt: &R, alloc: Global, length: usize) -> bool {
+/// Whether a read that fails after so many bytes is told, after a beginning of what is told of each.
+fn is_failed<R: Threads + Sync>(rt: &R, alloc: Global, length: usize, each: bool) -> bool {
     let mut source = MemorySource::failing(LINES, length);
     let mut sink = MemorySink::new(alloc);
-    match survey(rt, alloc, &mut source, &mut sink, true, 2, &OpenGate) {
-        Err(error) => error == SurveyError::ReadFailed && EACH.starts_with(sink.written()),
+    let told = if each { EACH } else { b"" };
+    match survey(rt, alloc, &mut source, &mut sink, each, 2, &OpenGate) {
+        Err(error) => error == SurveyError::ReadFailed && told.starts_with(sink.written()),
         Ok(_) => false,
     }
 }
 
 #[test]
 fn a_failed_read_is_told(rt: HostRuntime) -> Result<(), Fail> {
-    assert!(rt; is_failed(&rt, rt.alloc(), 0));
-    assert!(rt; is_failed(&rt, rt.alloc(), 200));
+    assert!(rt; is_failed(&rt, rt.alloc(), 0, true));
+    assert!(rt; is_failed(&rt, rt.alloc(), 200, true));
+    assert!(rt; is_failed(&rt, rt.alloc(), 200, false));
     Ok(())
 }
 
