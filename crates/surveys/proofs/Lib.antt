@@ -5,4 +5,4 @@ pub mod Tallied
 pub mod Blocks
 pub mod Shown
 pub mod LineCodes
-pub mod Ahead
+pub mod OneBlockAhead

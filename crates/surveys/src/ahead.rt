@@ -1,11 +1,12 @@
 //! Blocks that are judged while the next one is read.
 
 ghost use Rattle.std.specs.Prelude.{◌≡◌, ◌≢◌, ◌<◌, ℕ, List, Some, [], true, false, IfErr, IfOk, OnOk, length};
+ghost use denote.Param.Send.{IsSync};
 ghost use Rattle.std.specs.Io.KnownBytes.{IsAtEnd};
 ghost use Rattle.devices.specs.Bytes.{CanGrow, CountsBy, Gathers};
 ghost use Rattle.ledger.specs.Counts.{IsLedger};
 ghost use Rattle.surveys.specs.Lines.{IsWhole};
-ghost use Rattle.surveys.specs.Surveys.{IsSurveyOfRead, failed_reads};
+ghost use Rattle.surveys.specs.Surveys.{IsSurveyOfRead, failed_reads, failed_writes};
 ghost use Rattle.surveys.specs.Tallies.{Ends, Grows, IsTally};
 
 use crate::error::SurveyError;
@@ -33,6 +34,7 @@ fn count_silently<T: Threads + Sync, G: Gate>(
         → Grows false part.now ledger.old counted (Some []) ledger.new n (Some [])) }
     ensures ends { OnOk result (Ends false part.now ledger.old counted (Some []) ledger.new (Some [])) }
     ensures reads { IfErr result (λ e. failed_reads e ≡ 0) }
+    ensures writes { IfErr result (λ e. failed_writes e ≡ 0) }
 {
     let mut silent = MemorySink::new(alloc);
     count_part(
@@ -73,13 +75,23 @@ fn count_and_fill<T: Threads + Sync, R: Source, G: Gate>(
     ensures met { IfOk result (λ r. r.1 ≢ true → R.is_ended source.new ≡ true) }
     ensures all { IfOk result (λ r. r.1 ≢ true → IsAtEnd (R.left source.new)) }
     ensures reads { CountsBy failed_reads (R.read_failures source.old) (R.read_failures source.new) result }
+    ensures writes { IfErr result (λ e. failed_writes e ≡ 0) }
 {
-    let mut judging = || count_silently(rt, alloc, ledger, counted, part, workers, gate);
+    let mut judging = || -> Result<usize, SurveyError>
+        requires { IsSync T.row × IsSync G.row
+            × ((front : List ℕ) × IsTally false front ledger.now counted (Some []) (Some [])) }
+        ensures { IfOk result (λ n. IsWhole part.entry.now → Grows false part.entry.now
+            ledger.entry.now counted (Some []) ledger.exit.now n (Some []))
+            × IfErr result (λ e. (failed_reads e ≡ 0) × (failed_writes e ≡ 0)) }
+    { count_silently(rt, alloc, ledger, counted, part, workers, gate) };
     let mut reading = || fill(source, piece, next, false);
     let (total, more) = join_mut(rt, &mut judging, &mut reading);
     // A read that failed is told first, since it is counted.
     let more = more?;
-    Ok((total?, more))
+    match total {
+        Ok(total) => Ok((total, more)),
+        Err(error) => Err(error),
+    }
 }
 
 /// Adds the lines of all that a source gives to an empty ledger, block by block, each of which is judged while the next
@@ -101,13 +113,14 @@ pub(crate) fn count_ahead<T: Threads + Sync, R: Source, G: Gate>(
     ensures met { OnOk result (R.is_ended source.new ≡ true) }
     ensures all { OnOk result (IsAtEnd (R.left source.new)) }
     ensures reads { CountsBy failed_reads (R.read_failures source.old) (R.read_failures source.new) result }
+    ensures writes { IfErr result (λ e. failed_writes e ≡ 0) }
 {
     let mut block = Vec::new(alloc);
     let mut next = Vec::new(alloc);
     let mut counted = 0;
     let mut seen = 0;
     let mut more = fill(source, piece, &mut block, false)?;
-    'blocks: while more {
+    'filled: while more {
         let end = last_end(&block, seen);
         next.clear();
         let Ok(()) = next.extend_from_slice(&block[end..]) else {

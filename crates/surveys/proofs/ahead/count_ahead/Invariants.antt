@@ -4,8 +4,8 @@ use Rattle.std.specs.Io.KnownBytes.{IsAtEnd}
 use Rattle.surveys.specs.Tallies.{IsUnderWay}
 use Rattle.surveys.proofs.ahead.count_ahead.Given as goal
 
-abbrev pub invariant-blocks : goal.invariant-blocks
-invariant-blocks g l = record {
+abbrev pub invariant-filled : goal.invariant-filled
+invariant-filled g l = record {
   way :
       IsUnderWay false (g.R.Source.left l.fn.source) (g.R.Source.left l.source) l.ledger l.counted
       l.block.items (Some []) (Some []);
@@ -15,5 +15,5 @@ invariant-blocks g l = record {
   size : length l.piece ≡ length l.fn.piece;
 }
 
-abbrev pub decreases-blocks : goal.decreases-blocks
-decreases-blocks g l = 2 * (2 ^ 65 - (l.counted + length l.block.items)) + (if l.more then 1 else 0)
+abbrev pub decreases-filled : goal.decreases-filled
+decreases-filled g l = 2 * (2 ^ 65 - (l.counted + length l.block.items)) + (if l.more then 1 else 0)
