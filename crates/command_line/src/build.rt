@@ -8,10 +8,16 @@ ghost use Rattle.command_line.specs.Commands.{with_commands};
 use crate::pages::{PROGRAM, page_of};
 use crate::table::{ArgumentRow, COMMANDS, CommandRow, Takes};
 use clap::{Arg, ArgAction, Command};
+use common::VERSION_LINE;
 use std::alloc::{AllocError, Global};
 
 /// The version of the program.
-const VERSION: &str = "0.9.0";
+fn version() -> &'static str {
+    match VERSION_LINE.trim_end().split_once(' ') {
+        Some((_name, version)) => version,
+        None => VERSION_LINE,
+    }
+}
 
 /// An argument or an option.
 fn arg<'a>(alloc: Global, row: &ArgumentRow) -> Arg<'a>
@@ -63,7 +69,7 @@ fn bare<'a>(alloc: Global) -> Result<Command<'a>, AllocError>
     Ok(
         command
             .no_binary_name(true)
-            .version(VERSION)
+            .version(version())
             .about(PROGRAM.about)
             .after_help(PROGRAM.statuses)
             .subcommand_required(true),

@@ -1,10 +1,11 @@
-//! What all crates share: numbers, limits, `OutOfMemory`, `Gate`.
+//! What all crates share: numbers, limits, `OutOfMemory`, `Gate`, the version.
 #![tactic(auto)]
 
 mod gate;
 mod ids;
 mod limits;
 mod memory;
+mod release;
 
 pub use gate::{Gate, OpenGate};
 pub use ids::{Addr, CoreId, EventId};
@@ -12,3 +13,4 @@ pub use limits::{
     MAX_ADDRESSES, MAX_CAPACITY, MAX_CORES, MAX_EVENTS, MAX_STEPS, MAX_TRIALS, MAX_WORKERS,
 };
 pub use memory::OutOfMemory;
+pub use release::VERSION_LINE;

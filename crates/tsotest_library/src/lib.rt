@@ -1,7 +1,7 @@
 //! The commands of the program as calls for C: bytes in, the command's text and exit status out.
 #![tactic(auto)]
 
-ghost use Rattle.std.specs.Prelude.{◌≡◌, ◌≤◌, ◌++◌, ◌∷◌, [], codes};
+ghost use Rattle.std.specs.Prelude.{◌≡◌, ◌≤◌};
 ghost use Rattle.report.specs.declared.outcome.Outcome.TheVariants.{Done, Ordered, Refused, Violation};
 ghost use Rattle.answers.specs.declared.told.Telling.TheVariants.{Words, Picture, Reduction};
 ghost use Rattle.tsotest_library.specs.Given.{AreCodesAnswered, IsAnswered, IsNothing, IsWrittenWhole};
@@ -19,6 +19,7 @@ mod telling;
 mod tests;
 
 use answers::Telling;
+use common::VERSION_LINE;
 use report::Outcome;
 use std::alloc::Global;
 use surveys::codes_of_lines;
@@ -172,8 +173,8 @@ pub extern "C" fn tsotest_survey(
 #[unsafe(no_mangle)]
 pub extern "C" fn tsotest_version(out: &mut [u8], len: &mut usize) -> u8
     ensures status { result ≡ 0 }
-    ensures text { IsWrittenWhole (codes "tsotest 0.9.0" ++ 10 ∷ []) out.old out.new len.new }
+    ensures text { IsWrittenWhole VERSION_LINE out.old out.new len.new }
 {
-    buffers::put_text(b"tsotest 0.9.0\n", out, len);
+    buffers::put_text(VERSION_LINE.as_bytes(), out, len);
     0
 }
