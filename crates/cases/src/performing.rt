@@ -1,7 +1,7 @@
 //! Command lines of cases, performed.
 
-use crate::bench::{Bench, words_of};
 use crate::printed::Printed;
+use crate::test_environment::{TestEnvironment, words_of};
 use commands::fault::CommandFault;
 use commands::perform::perform;
 use devices::MemorySink;
@@ -11,8 +11,8 @@ use std::io;
 use std::sync::Wait;
 use std::thread::Threads;
 
-/// What is said of a fault on standard error.
-fn said_of(alloc: Global, fault: CommandFault) -> Result<String, AllocError> {
+/// The text of a fault on standard error.
+fn fault_text(alloc: Global, fault: CommandFault) -> Result<String, AllocError> {
     match fault {
         // This text ends its own lines.
         CommandFault::CommandLine(error) => format!(in alloc; "{error}"),
@@ -23,7 +23,7 @@ fn said_of(alloc: Global, fault: CommandFault) -> Result<String, AllocError> {
 /// What a command printed that ended with a fault.
 fn with_fault(alloc: Global, printed: &[u8], fault: CommandFault) -> Result<Printed, AllocError> {
     let mut text = Vec::from_slice(alloc, printed)?;
-    text.extend_from_slice(said_of(alloc, fault)?.as_bytes())?;
+    text.extend_from_slice(fault_text(alloc, fault)?.as_bytes())?;
     Ok(Printed {
         status: Outcome::Fault.status(),
         text,
@@ -37,7 +37,7 @@ fn perform_on<R: Threads + Wait + Sync>(
     words: &[String],
     text: &[u8],
 ) -> Result<Printed, AllocError> {
-    let mut place = Bench::new(rt, text);
+    let mut place = TestEnvironment::new(rt, text);
     let mut out = MemorySink::new(rt.alloc());
     match perform(threads, rt.alloc(), words, &mut place, &mut out) {
         Ok(outcome) => Ok(Printed {
