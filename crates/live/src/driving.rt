@@ -6,8 +6,8 @@ ghost use Rattle.machine.specs.Configuration.{recording_of, IsAtEnd};
 ghost use Rattle.live.specs.Trace.{IsTrace, IsEnded};
 ghost use Rattle.live.specs.Driven.{IsGiven, IsDriveError, IsThreadError};
 
-use crate::crew::Crew;
 use crate::error::LiveError;
+use crate::shared_machine::SharedMachine;
 use crate::traced::Traced;
 use common::{CoreId, Gate, OutOfMemory};
 use machine::{Fault, Machine};
@@ -34,16 +34,16 @@ fn is_run_of(traced: &Traced, program: &Program, capacity: usize, limit: usize) 
     is_given(traced, program, capacity, limit) && traced.is_ended()
 }
 
-/// The crew of a new machine without a fault.
-fn crew_of(
+/// A new machine without a fault, to share.
+fn shared_machine_of(
     alloc: Global,
     program: Program,
     capacity: usize,
     limit: usize,
-) -> Result<Crew, OutOfMemory> {
+) -> Result<SharedMachine, OutOfMemory> {
     let machine = Machine::new(alloc, program, capacity, Fault::None)?;
     let traced = Traced::new(alloc, machine, limit)?;
-    Ok(Crew::new(traced))
+    Ok(SharedMachine::new(traced))
 }
 
 /// What threads left, where it is as given and at its end; else, and only then, `Stranger`.
@@ -65,11 +65,11 @@ fn checked(
     Ok(traced)
 }
 
-/// What the threads of a crew leave. It takes no memory of its own: `NoThread` where one was not started,
+/// What the threads of a shared machine leave. It takes no memory of its own: `NoThread` where one was not started,
 /// else `Stranger` where what they left is not as given or not at its end.
 fn driven<R: Threads + Wait + Sync, G: Gate>(
     rt: &R,
-    crew: Crew,
+    shared: SharedMachine,
     program: &Program,
     capacity: usize,
     limit: usize,
@@ -78,11 +78,11 @@ fn driven<R: Threads + Wait + Sync, G: Gate>(
     ensures ok { IfOk result (λ t. IsGiven program.now capacity limit t × IsEnded t) }
     ensures err { IfErr result IsThreadError }
 {
-    if !crew.run(rt, program.cores() as CoreId, gate) {
-        drop(crew);
+    if !shared.run(rt, program.cores() as CoreId, gate) {
+        drop(shared);
         return Err(LiveError::NoThread);
     }
-    checked(crew.into_traced(), program, capacity, limit)
+    checked(shared.into_traced(), program, capacity, limit)
 }
 
 /// Runs a program on a machine whose buffers have room for `capacity` stores each, by a thread for
@@ -114,11 +114,11 @@ pub fn drive<R: Threads + Wait + Sync, G: Gate>(
         drop(program);
         return Err(LiveError::OutOfMemory);
     };
-    let Ok(crew) = crew_of(alloc, program, capacity, limit) else {
+    let Ok(shared) = shared_machine_of(alloc, program, capacity, limit) else {
         drop(given);
         return Err(LiveError::OutOfMemory);
     };
-    let driven = driven(rt, crew, &given, capacity, limit, gate);
+    let driven = driven(rt, shared, &given, capacity, limit, gate);
     drop(given);
     match driven {
         Ok(traced) => {

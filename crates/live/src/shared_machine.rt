@@ -13,15 +13,15 @@ pub type LiveMachine = Mutex<Traced>;
 
 /// What the threads share: the machine, where they sleep until it takes a step, and whether they
 /// are to stop before it has come to its end.
-pub(crate) struct Crew {
+pub(crate) struct SharedMachine {
     live: LiveMachine,
     moved: Condvar,
     stopped: AtomicBool,
 }
 
-impl Drop for Crew {
+impl Drop for SharedMachine {
     fn drop(self) {
-        let Crew {
+        let SharedMachine {
             live: _,
             moved: _,
             stopped: _,
@@ -29,19 +29,19 @@ impl Drop for Crew {
     }
 }
 
-impl Crew {
-    /// The crew of a machine, before its threads.
-    pub(crate) fn new(traced: Traced) -> Crew {
-        Crew {
+impl SharedMachine {
+    /// A machine to share, before its threads.
+    pub(crate) fn new(traced: Traced) -> SharedMachine {
+        SharedMachine {
             live: Mutex::new(traced),
             moved: Condvar::new(),
             stopped: AtomicBool::new(false),
         }
     }
 
-    /// The machine, behind all threads.
+    /// The machine, after all threads.
     pub(crate) fn into_traced(self) -> Traced {
-        let Crew {
+        let SharedMachine {
             live,
             moved: _,
             stopped: _,
@@ -126,36 +126,38 @@ impl Crew {
     }
 }
 
-/// Starts the threads of a crew, up to one that is not started.
+/// Starts the threads of a shared machine, up to one that is not started.
 fn start_all<'s, E, R: Threads + Wait + Sync, G: Gate>(
     scope: &Scope<'s, E>,
     rt: &'s R,
-    crew: &'s Crew,
+    shared: &'s SharedMachine,
     cores: CoreId,
     gate: &'s G,
 ) -> bool {
     for core in 0..cores {
-        if !start(scope, rt, crew, gate, Worker::Core(core)) {
+        if !start(scope, rt, shared, gate, Worker::Core(core)) {
             return false;
         }
     }
-    if !start(scope, rt, crew, gate, Worker::Drains) {
+    if !start(scope, rt, shared, gate, Worker::Drains) {
         return false;
     }
-    start(scope, rt, crew, gate, Worker::Caches)
+    start(scope, rt, shared, gate, Worker::Caches)
 }
 
 /// Starts a worker's thread. Where it is not started, the others are stopped.
 fn start<'s, E, R: Threads + Wait + Sync, G: Gate>(
     scope: &Scope<'s, E>,
     rt: &'s R,
-    crew: &'s Crew,
+    shared: &'s SharedMachine,
     gate: &'s G,
     worker: Worker,
 ) -> bool {
-    let refused = scope.spawn(move || crew.attend(rt, gate, worker)).is_err();
+    let refused = scope
+        .spawn(move || shared.attend(rt, gate, worker))
+        .is_err();
     if refused {
-        crew.stop(rt);
+        shared.stop(rt);
     }
     !refused
 }
