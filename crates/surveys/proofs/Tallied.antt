@@ -7,7 +7,7 @@ use Rattle.memchr.specs.Find.{IsLastByte, is_byte}
 use Rattle.ledger.specs.declared.ledger.Ledger.{Ledger}
 use Rattle.surveys.specs.Lines.{IsWhole, lines}
 use Rattle.surveys.specs.LineLaws.{whole_append, whole_end}
-use Rattle.surveys.specs.Surveys.{GoesOn, IsSurvey, IsSurveyUpTo}
+use Rattle.surveys.specs.Surveys.{ExtendsSurvey, IsSurvey, IsSurveyUpTo}
 use Rattle.surveys.specs.Tallies.{IsTally, IsTallied, Grows}
 use Rattle.surveys.proofs.Found.{all_counted}
 
@@ -22,13 +22,13 @@ up_to_front each front part l n u v tally = record {
 
 -- the survey of both
 pub ended : (each : Bool) (front part : List ℕ) (l m : Ledger) (n : ℕ) (u v w : Option (List ℕ))
-    → IsTally each front l n u v → GoesOn part [] each l v m w → IsSurvey (front ++ part) m each u w
+    → IsTally each front l n u v → ExtendsSurvey part [] each l v m w → IsSurvey (front ++ part) m each u w
 ended each front part l m n u v w tally on = all_counted (front ++ part) m each u w
     (on (front ++ part) u (up_to_front each front part l n u v tally))
 
 -- the tally of both
 pub grown : (each : Bool) (front part : List ℕ) (l m : Ledger) (n k : ℕ) (u v w : Option (List ℕ))
-    → IsTally each front l n u v → GoesOn part [] each l v m w → k ≡ n + length part → IsWhole part
+    → IsTally each front l n u v → ExtendsSurvey part [] each l v m w → k ≡ n + length part → IsWhole part
     → IsTally each (front ++ part) m k u w
 grown each front part l m n k u v w tally on size whole = record {
   whole = whole_append front part tally.whole whole;

@@ -36,8 +36,8 @@ pub record IsSurveyUpTo (bytes rest : List ℕ) (ledger : Ledger) (each : Bool) 
   pub survey : IsSurveyOfLines front ledger each before after
 
 -- what is surveyed up to some bytes of whatever, is then up to what comes after
-abbrev pub GoesOn : List ℕ → List ℕ → Bool → Ledger → Option (List ℕ) → Ledger → Option (List ℕ) → Type 0
-GoesOn bytes rest each old was new is = (all : List ℕ) (start : Option (List ℕ))
+abbrev pub ExtendsSurvey : List ℕ → List ℕ → Bool → Ledger → Option (List ℕ) → Ledger → Option (List ℕ) → Type 0
+ExtendsSurvey bytes rest each old was new is = (all : List ℕ) (start : Option (List ℕ))
     → IsSurveyUpTo all bytes old each start was → IsSurveyUpTo all rest new each start is
 
 -- in all lines of the bytes that were read

@@ -29,7 +29,7 @@ fn next_place(next: &AtomicUsize, places: usize) -> Option<usize>
 }
 
 /// Tells the gate of a violation.
-fn tell<G: Gate>(gate: &G, worker: usize, piece: usize, finding: Finding) {
+fn report_violation<G: Gate>(gate: &G, worker: usize, piece: usize, finding: Finding) {
     match finding {
         Finding::Overlook { .. } | Finding::Cycle(_) => gate.found(worker, piece),
         _ => {}
@@ -50,7 +50,7 @@ fn judge_one<G: Gate>(
 {
     gate.begin(worker, piece);
     let finding = finding_of_line(alloc, lines[place])?;
-    tell(gate, worker, piece, finding);
+    report_violation(gate, worker, piece, finding);
     gate.done(worker, piece);
     Ok(Claim { place, finding })
 }
@@ -92,14 +92,15 @@ pub(crate) fn claims_by<R: Threads + Sync, G: Gate>(
     workers: usize,
     gate: &G,
 ) -> Result<Vec<Vec<Claim>>, OutOfMemory>
-    ensures { IfOk result (λ hauls. All (λ haul. AreClaims lines.now haul.items) hauls.items) }
+    ensures { IfOk result
+        (λ claims_of_workers. All (λ claims_of_one. AreClaims lines.now claims_of_one.items) claims_of_workers.items) }
 {
     let next = AtomicUsize::new(0);
-    let hauls = thread::map_indices(
+    let claims_of_workers = thread::map_indices(
         rt,
         alloc,
         workers,
         &|worker| { judge_claims(alloc, lines, &next, first, gate, worker) },
     )?;
-    Ok(hauls)
+    Ok(claims_of_workers)
 }

@@ -7,7 +7,7 @@ ghost use Rattle.devices.specs.Bytes.{CanGrow, CountsBy};
 ghost use Rattle.ledger.specs.Counts.{IsLedger};
 ghost use Rattle.surveys.specs.Claims.{AreClaims, ArePlaces, IsFoundAt};
 ghost use Rattle.surveys.specs.Found.{AreFindings, codes_of};
-ghost use Rattle.surveys.specs.Surveys.{GoesOn, IsSurveyUpTo, failed_reads, failed_writes, told_text};
+ghost use Rattle.surveys.specs.Surveys.{ExtendsSurvey, IsSurveyUpTo, failed_reads, failed_writes, told_text};
 
 use crate::claims::{Claim, claims_by};
 use crate::each::each_text;
@@ -27,7 +27,7 @@ const LINES: usize = 16_384;
 const TOLD_LINES: usize = 64;
 
 /// Puts what a worker found to its places.
-fn put_claims(places: &mut [Option<Finding>], lines: &[&[u8]], claims: &[Claim])
+fn store_claims(places: &mut [Option<Finding>], lines: &[&[u8]], claims: &[Claim])
     requires size { length places.old ≡ length lines.now }
     requires places { ArePlaces lines.now places.old }
     requires claims { AreClaims lines.now claims.now }
@@ -40,15 +40,15 @@ fn put_claims(places: &mut [Option<Finding>], lines: &[&[u8]], claims: &[Claim])
 }
 
 /// Puts what all workers found to its places.
-fn put_hauls(places: &mut [Option<Finding>], lines: &[&[u8]], hauls: &[Vec<Claim>])
+fn store_findings(places: &mut [Option<Finding>], lines: &[&[u8]], claims_of_workers: &[Vec<Claim>])
     requires size { length places.old ≡ length lines.now }
     requires places { ArePlaces lines.now places.old }
-    requires claims { All (λ haul. AreClaims lines.now haul.items) hauls.now }
+    requires claims { All (λ claims_of_one. AreClaims lines.now claims_of_one.items) claims_of_workers.now }
     ensures size { length places.new ≡ length lines.now }
     ensures places { ArePlaces lines.now places.new }
 {
-    for haul in hauls {
-        put_claims(places, lines, haul);
+    for claims_of_one in claims_of_workers {
+        store_claims(places, lines, claims_of_one);
     }
 }
 
@@ -100,9 +100,9 @@ pub fn findings_of<R: Threads + Sync, G: Gate>(
 ) -> Result<Vec<Finding>, OutOfMemory>
     ensures { IfOk result (λ findings. AreFindings (map (λ l. l.now) lines.now) findings.items) }
 {
-    let hauls = claims_by(rt, alloc, lines, first, workers, gate)?;
+    let claims_of_workers = claims_by(rt, alloc, lines, first, workers, gate)?;
     let mut places = Vec::from_elem(alloc, None, lines.len())?;
-    put_hauls(&mut places, lines, &hauls);
+    store_findings(&mut places, lines, &claims_of_workers);
     all_findings(alloc, lines, &places)
 }
 
@@ -118,7 +118,7 @@ fn ledger_of(alloc: Global, findings: &[Finding]) -> Result<Ledger, OutOfMemory>
 }
 
 /// Writes the lines of what is found, the first of which has this number, where each is told, and hands them on.
-fn tell<W: Sink>(
+fn write_findings<W: Sink>(
     alloc: Global,
     sink: &mut W,
     each: bool,
@@ -168,7 +168,7 @@ fn count_some<'a, R: Threads + Sync, W: Sink, G: Gate>(
     requires part { (all : List ℕ) × (start : Option (List ℕ)) × (length all < 2 ^ 64)
         × IsSurveyUpTo all bytes.now ledger.old each start (W.written sink.old) }
     ensures shorter { IfOk result (λ rest. length rest.now < length bytes.now) }
-    ensures ok { IfOk result (λ rest. GoesOn bytes.now rest.now each
+    ensures ok { IfOk result (λ rest. ExtendsSurvey bytes.now rest.now each
         ledger.old (W.written sink.old) ledger.new (W.written sink.new)) }
     ensures reads { IfErr result (λ e. failed_reads e ≡ 0) }
     ensures writes { CountsBy failed_writes (W.write_failures sink.old) (W.write_failures sink.new) result }
@@ -178,7 +178,7 @@ fn count_some<'a, R: Threads + Sync, W: Sink, G: Gate>(
     let first = ledger.total;
     let findings = findings_of(rt, alloc, &lines, first, workers, gate)?;
     let more = ledger_of(alloc, &findings)?;
-    tell(alloc, sink, each, first, &findings)?;
+    write_findings(alloc, sink, each, first, &findings)?;
     ledger.add(&more);
     Ok(rest)
 }
@@ -197,7 +197,7 @@ pub(crate) fn count_all<R: Threads + Sync, W: Sink, G: Gate>(
     requires writes { CanGrow (W.write_failures sink.old) }
     requires part { (all : List ℕ) × (start : Option (List ℕ)) × (length all < 2 ^ 64)
         × IsSurveyUpTo all bytes.now ledger.old each start (W.written sink.old) }
-    ensures ok { OnOk result (GoesOn bytes.now [] each
+    ensures ok { OnOk result (ExtendsSurvey bytes.now [] each
         ledger.old (W.written sink.old) ledger.new (W.written sink.new)) }
     ensures reads { IfErr result (λ e. failed_reads e ≡ 0) }
     ensures writes { CountsBy failed_writes (W.write_failures sink.old) (W.write_failures sink.new) result }

@@ -7,8 +7,8 @@ use Rattle.surveys.specs.Surveys.{told_text}
 use Rattle.surveys.proofs.Found.{few_found, part_joins, part_joined}
 use Rattle.surveys.proofs.counting.count_some.Goals as goal
 
-pub tell-requires-clause-numbers : goal.tell-requires-clause-numbers
-tell-requires-clause-numbers g c =
+pub write_findings-requires-clause-numbers : goal.write_findings-requires-clause-numbers
+write_findings-requires-clause-numbers g c =
     let part = c.requires.part in
     let found = subst (λ (ls : List (Bor (List ℕ))). AreFindings (map (λ l. l.now) ls) c.in_ok-findings.findings.items)
     c.deref.ensures.value c.in_ok-findings.ensures in
@@ -37,8 +37,9 @@ returns-clause-ok g c = λ all start so_far.
     let counted = subst (λ (fs : List Finding). IsLedger (codes_of fs) c.in_ok-more.more) c.deref-2.ensures.value
     c.in_ok-more.ensures in
     let told = subst (λ (fs : List Finding). Appends (g.W.Sink.written c.args.sink.now)
-    (g.W.Sink.written c.tell.new.sink) (told_text c.args.each c.args.ledger.now.total fs)) c.deref-3.ensures.value
-    c.in_ok-tell.ensures.ok in
+    (g.W.Sink.written c.write_findings.new.sink)
+    (told_text c.args.each c.args.ledger.now.total fs)) c.deref-3.ensures.value
+    c.in_ok-write_findings.ensures.ok in
     part_joined all c.args.bytes.now c.in_ok-lines.rest.now _ c.in_ok-findings.findings.items c.args.ledger.now
     c.args.each start _ so_far c.in_ok-lines.ensures.cut found c.in_ok-more.more c.add.new.self _ counted
     c.add.ensures told

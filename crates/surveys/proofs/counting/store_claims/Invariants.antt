@@ -1,9 +1,9 @@
 use Rattle.std.proofs.Common.{◌≡◌, length}
 use Rattle.surveys.specs.Claims.{ArePlaces}
-use Rattle.surveys.proofs.counting.put_hauls.Given as goal
+use Rattle.surveys.proofs.counting.store_claims.Given as goal
 
-abbrev pub invariant-loop-haul : goal.invariant-loop-haul
-invariant-loop-haul l = record {
+abbrev pub invariant-loop-claim : goal.invariant-loop-claim
+invariant-loop-claim l = record {
   size : length l.places ≡ length l.lines;
   places : ArePlaces l.lines l.places;
 }
