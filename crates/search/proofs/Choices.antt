@@ -5,7 +5,7 @@ use Rattle.std.proofs.lemmas.Bool.{cases_eq, cases_lt}
 use Rattle.relations.specs.Cycle.{Leads, IsCycle, IsShortest, ComesFirst, IsLeastCycle, Walk}
 use Rattle.relations.specs.Cycle.{IsCappedDistance, AreExactRows}
 use Rattle.relations.specs.CycleLaws.{first_more, walk_more}
-use Rattle.search.specs.Cycles.{IsShortestLength, IsLeastWith, ClosesAt, GoesOn}
+use Rattle.search.specs.Cycles.{IsShortestLength, IsLeastWith, ClosesAt, IsNextOnCycle}
 use Rattle.search.proofs.Walks.{walk_of, walk_of_path}
 use Rattle.search.proofs.Lengths.{last_step, cycle_of_walk}
 
@@ -119,7 +119,7 @@ module _ (R : ℕ → ℕ → Type 0) (n k : ℕ) (rows : List (List ℕ)) (with
 
   -- what goes on along a shortest cycle is exactly what is left away from the first event
   goes_on : (v : ℕ) (es : List ℕ) (left f : ℕ) → suc left + length es ≡ k → IsPath R v es → v < n
-      → R (last_of v es) f → Walk R left f v → GoesOn R rows (last_of v es) v left f
+      → R (last_of v es) f → Walk R left f v → IsNextOnCycle R rows (last_of v es) v left f
   goes_on v es left f is path v_in r w =
       let d : IsCappedDistance R k f v (get_or (get_or rows f []) v 0) =
       (exact.exact f (within (last_of v es) f r).1).labels v v_in in
@@ -131,14 +131,14 @@ module _ (R : ℕ → ℕ → Type 0) (n k : ℕ) (rows : List (List ℕ)) (with
 
   -- some event goes on
   pub next_exists : (v : ℕ) (es : List ℕ) (left : ℕ) → v < n → suc left + length es ≡ k → IsGreedy R k v es
-      → IsLeastWith (GoesOn R rows (last_of v es) v left) n None → ⊥
+      → IsLeastWith (IsNextOnCycle R rows (last_of v es) v left) n None → ⊥
   next_exists v es left v_in is g none =
       let w : Walk R (suc left) (last_of v es) v = g.back (suc left) is in
       none w.0 (within (last_of v es) w.0 w.1).1 (goes_on v es left w.0 is g.path v_in w.1 w.2)
 
   -- the least such event goes on
   pub greedy_more : (v : ℕ) (es : List ℕ) (left f : ℕ) → v < n → 0 < left → suc left + length es ≡ k
-      → IsGreedy R k v es → IsLeastWith (GoesOn R rows (last_of v es) v left) n (Some f)
+      → IsGreedy R k v es → IsLeastWith (IsNextOnCycle R rows (last_of v es) v left) n (Some f)
       → IsGreedy R k v (es ++ f ∷ [])
   greedy_more v es left f v_in some is g least = record {
     path = path_snoc R v es f g.path least.1.0;
@@ -207,16 +207,16 @@ IsChosen R n k first last left items =
 pub chosen_exists : (R : ℕ → ℕ → Type 0) (n k : ℕ) (rows : List (List ℕ))
     → ((e f : ℕ) → R e f → (e < n) × (f < n)) → AreExactRows R n k rows → IsShortestLength R k
     → (first last left : ℕ) (items : List ℕ) → first < n → IsChosen R n k first last left items
-    → IsLeastWith (GoesOn R rows last first left) n None → ⊥
+    → IsLeastWith (IsNextOnCycle R rows last first left) n None → ⊥
 chosen_exists R n k rows within exact size first last left items in_n h none =
     next_exists R n k rows within exact size first h.0 left in_n h.2 h.5
-    (subst (λ (l : ℕ). IsLeastWith (GoesOn R rows l first left) n None) h.3 none)
+    (subst (λ (l : ℕ). IsLeastWith (IsNextOnCycle R rows l first left) n None) h.3 none)
 
 -- the least such event behind the list
 pub chosen_more : (R : ℕ → ℕ → Type 0) (n k : ℕ) (rows : List (List ℕ))
     → ((e f : ℕ) → R e f → (e < n) × (f < n)) → AreExactRows R n k rows → IsShortestLength R k
     → (first last left f : ℕ) (items more : List ℕ) → first < n → 0 < left → more ≡ items ++ f ∷ []
-    → IsChosen R n k first last left items → IsLeastWith (GoesOn R rows last first left) n (Some f)
+    → IsChosen R n k first last left items → IsLeastWith (IsNextOnCycle R rows last first left) n (Some f)
     → IsChosen R n k first f (left - 1) more
 chosen_more R n k rows within exact size first last left f items more in_n some is h least = (
   h.0 ++ f ∷ [],
@@ -225,5 +225,5 @@ chosen_more R n k rows within exact size first last left f items more in_n some 
   sym (last_snoc first h.0 f),
   least.0,
   greedy_more R n k rows within exact size first h.0 left f in_n some h.2 h.5
-      (subst (λ (l : ℕ). IsLeastWith (GoesOn R rows l first left) n (Some f)) h.3 least),
+      (subst (λ (l : ℕ). IsLeastWith (IsNextOnCycle R rows l first left) n (Some f)) h.3 least),
 )

@@ -15,7 +15,7 @@ use Rattle.search.specs.Cycles.{IsLeastLength}
 use Rattle.search.specs.SourceRow.{SourceRow}
 use Rattle.search.specs.Bound.{Keeps, KnowsShortest}
 use Rattle.search.specs.Slots.{IsRowFrom, AreSlots, AreSlotsFilled}
-use Rattle.search.proofs.Hauls.{covers_kept}
+use Rattle.search.proofs.WorkerRows.{covers_kept}
 use Rattle.search.proofs.Known.{knows_it}
 
 -- what holds whatever the result

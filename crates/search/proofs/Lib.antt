@@ -2,7 +2,7 @@ pub mod WaysBack
 pub mod Choices
 pub mod Collected
 pub mod Cuts
-pub mod Hauls
+pub mod WorkerRows
 pub mod Known
 pub mod Labels
 pub mod Lengths

@@ -47,9 +47,9 @@ IsLeastWith P n (Some v) = (v < n) × P v × ((u : ℕ) → u < v → ¬ P u)
 abbrev pub ClosesAt : (ℕ → ℕ → Type 0) → ℕ → List ℕ → ℕ → Type 0
 ClosesAt R v row label = (e : ℕ) × R e v × (slice_index row e ≡ label)
 
--- an event one step behind, from which v is that many steps
-abbrev pub GoesOn : (ℕ → ℕ → Type 0) → List (List ℕ) → ℕ → ℕ → ℕ → ℕ → Type 0
-GoesOn R rows from v left f = R from f × (slice_index (slice_index_or rows f []) v ≡ left)
+-- an event one step later, from which v is that many steps
+abbrev pub IsNextOnCycle : (ℕ → ℕ → Type 0) → List (List ℕ) → ℕ → ℕ → ℕ → ℕ → Type 0
+IsNextOnCycle R rows from v left f = R from f × (slice_index (slice_index_or rows f []) v ≡ left)
 
 -- n rows of n numbers
 pub record IsGrid (n : ℕ) (rows : List (List ℕ)) : Type 0 where

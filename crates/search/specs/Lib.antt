@@ -1,5 +1,5 @@
 pub mod Bound
-pub mod Crews
+pub mod WorkerJobs
 pub mod Fresh
 pub mod Levels
 pub mod Cycles

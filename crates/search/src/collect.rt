@@ -8,15 +8,15 @@ ghost use Rattle.best.specs.Seats.{IsBestSeatOf, known_of};
 ghost use Rattle.search.specs.Cycles.{IsLeastLength};
 ghost use Rattle.search.specs.SourceRow.{AreShared, AreLeastRows};
 ghost use Rattle.search.specs.Bound.{IsSeatFor, Keeps, KnowsShortest, lengths_of};
-ghost use Rattle.search.specs.Crews.{IsHaulFor};
+ghost use Rattle.search.specs.WorkerJobs.{AreRowsFor};
 ghost use Rattle.search.specs.Slots.{AreSlots, AreSlotsFilled, AreOfEach};
 
-use crate::crew::{Crew, Haul};
-use crate::deal::dealt;
 use crate::job::SourceJob;
 use crate::label_row::LabelRow;
-use crate::slots::{empty_slots, filled, put_hauls};
-use crate::work::made_by;
+use crate::slots::{empty_slots, filled, store_rows};
+use crate::splitting::split_jobs;
+use crate::work::run_workers;
+use crate::worker_jobs::{WorkerJobs, WorkerRows};
 use best::{Best, BestSeat};
 use common::{Gate, OutOfMemory};
 use relations::Relation;
@@ -65,8 +65,8 @@ fn cut_by(
     cut_all(alloc, relation, rows, cap)
 }
 
-/// What the workers bring that the jobs are dealt to: the calling thread is worker 0.
-fn brought<R: Threads + Wait + Sync, G: Gate>(
+/// The rows of the workers that the jobs are split among: the calling thread is worker 0.
+fn rows_by_workers<R: Threads + Wait + Sync, G: Gate>(
     rt: &R,
     alloc: Global,
     relation: &Relation,
@@ -75,41 +75,42 @@ fn brought<R: Threads + Wait + Sync, G: Gate>(
     seat: &mut BestSeat,
     workers: usize,
     gate: &G,
-) -> Result<Vec<Haul>, OutOfMemory>
+) -> Result<Vec<WorkerRows>, OutOfMemory>
     requires seat { IsSeatFor best.now relation.now seat.old }
     requires jobs { All (λ job. job.relation ≡ relation.now) jobs.items }
     requires workers { 1 ≤ workers }
     ensures seat { IsSeatFor best.now relation.now seat.new }
     ensures kept { lengths_of seat.new ≡ lengths_of seat.old }
-    ensures hauls { IfOk result (λ hauls. All (IsHaulFor best.now relation.now) hauls.items) }
+    ensures rows_of_workers { IfOk result
+        (λ rows_of_workers. All (AreRowsFor best.now relation.now) rows_of_workers.items) }
 {
     let mut jobs = jobs;
-    let crews = dealt(alloc, relation, best, seat, workers, &mut jobs)?;
+    let jobs_of_workers = split_jobs(alloc, relation, best, seat, workers, &mut jobs)?;
     let other = seat.split()?;
-    let mine = Crew {
+    let mine = WorkerJobs {
         worker: 0,
         seat: other,
         jobs,
     };
-    made_by(rt, alloc, mine, crews, best, relation, gate)
+    run_workers(rt, alloc, mine, jobs_of_workers, best, relation, gate)
 }
 
-/// The places for the rows of all events, with the rows that were brought.
+/// The places for the rows of all events, with the rows of the workers.
 fn places(
     alloc: Global,
     relation: &Relation,
     best: &Best,
     seat: &mut BestSeat,
-    hauls: Vec<Haul>,
+    rows_of_workers: Vec<WorkerRows>,
 ) -> Result<Vec<Option<LabelRow>>, OutOfMemory>
     requires seat { IsSeatFor best.now relation.now seat.old }
-    requires hauls { All (IsHaulFor best.now relation.now) hauls.items }
+    requires rows_of_workers { All (AreRowsFor best.now relation.now) rows_of_workers.items }
     ensures seat { IsSeatFor best.now relation.now seat.new }
     ensures kept { Keeps (lengths_of seat.old) (lengths_of seat.new) }
     ensures slots { IfOk result (λ slots. AreSlots relation.now (lengths_of seat.new) slots.items) }
 {
     let mut slots = empty_slots(alloc, relation, seat)?;
-    put_hauls(relation, best, seat, hauls, &mut slots);
+    store_rows(relation, best, seat, rows_of_workers, &mut slots);
     Ok(slots)
 }
 
@@ -135,8 +136,8 @@ fn collected<R: Threads + Wait + Sync, G: Gate>(
         (lengths_of seat.new)) }
 {
     let table: &Relation = relation;
-    let hauls = brought(rt, alloc, table, jobs, best, seat, workers, gate)?;
-    let slots = places(alloc, table, best, seat, hauls)?;
+    let rows_of_workers = rows_by_workers(rt, alloc, table, jobs, best, seat, workers, gate)?;
+    let slots = places(alloc, table, best, seat, rows_of_workers)?;
     let rows = filled(alloc, relation, slots, best, seat, gate)?;
     cut_by(alloc, table, rows, best, seat)
 }

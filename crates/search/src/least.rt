@@ -4,7 +4,7 @@ ghost use Rattle.std.specs.Prelude.{◌≡◌, ◌<◌, ◌↔◌, IsTrue, [], l
 ghost use Rattle.relations.specs.Relation.{Related};
 ghost use Rattle.relations.specs.Cycle.{IsLeastCycle, IsCertificate, AreExactRows};
 ghost use Rattle.labels.specs.Certified.{lists_of};
-ghost use Rattle.search.specs.Cycles.{IsGrid, IsShortestLength, IsLeastWith, ClosesAt, GoesOn};
+ghost use Rattle.search.specs.Cycles.{IsGrid, IsShortestLength, IsLeastWith, ClosesAt, IsNextOnCycle};
 
 use common::{EventId, OutOfMemory};
 use relations::Relation;
@@ -50,7 +50,7 @@ fn next_event(
 ) -> Option<EventId>
     requires rows { IsGrid (length relation.now) (lists_of rows.now) }
     requires v { v < length relation.now }
-    ensures { IsLeastWith (GoesOn (Related relation.now) (lists_of rows.now) last v left)
+    ensures { IsLeastWith (IsNextOnCycle (Related relation.now) (lists_of rows.now) last v left)
         (length relation.now) result }
 {
     relation.sound();

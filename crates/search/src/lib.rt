@@ -3,12 +3,9 @@
 #![tactic(auto)]
 
 mod alone;
-mod back;
 mod certified;
 mod collect;
-mod crew;
 mod cut;
-mod deal;
 mod distances;
 mod exact;
 mod job;
@@ -21,8 +18,11 @@ mod lists;
 mod room;
 mod row;
 mod slots;
+mod source_cycle;
+mod splitting;
 mod under;
 mod work;
+mod worker_jobs;
 
 pub use alone::{jobs, run_alone};
 pub use certified::{shortest_cycle, shortest_cycle_by};

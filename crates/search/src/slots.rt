@@ -3,13 +3,13 @@
 ghost use Rattle.std.specs.Prelude.{◌≡◌, ℕ, ◌<◌, ◌+◌, length, All, IfOk, IfSome};
 ghost use Rattle.std.specs.Arc.{arc_value};
 ghost use Rattle.search.specs.Bound.{IsSeatFor, Keeps, lengths_of};
-ghost use Rattle.search.specs.Crews.{IsRowFor, IsHaulFor};
+ghost use Rattle.search.specs.WorkerJobs.{IsRowFor, AreRowsFor};
 ghost use Rattle.search.specs.Slots.{AreSlots, AreSlotsFilled, IsRowFrom};
 
-use crate::crew::Haul;
 use crate::job::SourceJob;
 use crate::label_row::LabelRow;
 use crate::under::row_under;
+use crate::worker_jobs::WorkerRows;
 use best::{Best, BestSeat};
 use common::{EventId, Gate, OutOfMemory};
 use relations::Relation;
@@ -63,44 +63,44 @@ fn put_rows(
     }
 }
 
-/// Takes in what a crew brought: the seat comes to know what the crew's knew.
-fn put_haul(
+/// Stores the rows of a worker: the seat comes to know what the worker's knew.
+fn store_worker_rows(
     relation: &Relation,
     best: &Best,
     seat: &mut BestSeat,
-    haul: Haul,
+    worker_rows: WorkerRows,
     slots: &mut Vec<Option<LabelRow>>,
 )
     requires seat { IsSeatFor best.now relation.now seat.old }
-    requires haul { IsHaulFor best.now relation.now haul }
+    requires worker_rows { AreRowsFor best.now relation.now worker_rows }
     requires slots { AreSlots relation.now (lengths_of seat.old) slots.old.items }
     ensures seat { IsSeatFor best.now relation.now seat.new }
     ensures kept { Keeps (lengths_of seat.old) (lengths_of seat.new) }
     ensures slots { AreSlots relation.now (lengths_of seat.new) slots.new.items }
 {
     let _ = best;
-    let Haul { seat: other, rows } = haul;
+    let WorkerRows { seat: other, rows } = worker_rows;
     seat.absorb(other);
     put_rows(relation, seat, rows, slots);
 }
 
-/// Takes in what all crews brought.
-pub(crate) fn put_hauls(
+/// Stores the rows of all workers.
+pub(crate) fn store_rows(
     relation: &Relation,
     best: &Best,
     seat: &mut BestSeat,
-    hauls: Vec<Haul>,
+    rows_of_workers: Vec<WorkerRows>,
     slots: &mut Vec<Option<LabelRow>>,
 )
     requires seat { IsSeatFor best.now relation.now seat.old }
-    requires hauls { All (IsHaulFor best.now relation.now) hauls.items }
+    requires rows_of_workers { All (AreRowsFor best.now relation.now) rows_of_workers.items }
     requires slots { AreSlots relation.now (lengths_of seat.old) slots.old.items }
     ensures seat { IsSeatFor best.now relation.now seat.new }
     ensures kept { Keeps (lengths_of seat.old) (lengths_of seat.new) }
     ensures slots { AreSlots relation.now (lengths_of seat.new) slots.new.items }
 {
-    for haul in hauls {
-        put_haul(relation, best, seat, haul, slots);
+    for worker_rows in rows_of_workers {
+        store_worker_rows(relation, best, seat, worker_rows, slots);
     }
 }
 

@@ -9,11 +9,11 @@ ghost use Rattle.search.specs.Cycles.{IsNearest};
 ghost use Rattle.search.specs.Fresh.{IsFresh};
 ghost use Rattle.search.specs.Bound.{Covers, IsCapWithin, Keeps, IsSeatFor, lengths_of};
 
-use crate::back::cycle_back;
 use crate::job::SourceJob;
 use crate::label_row::LabelRow;
 use crate::room::Room;
 use crate::row::row_in;
+use crate::source_cycle::cycle_through;
 use best::{Best, BestSeat};
 use common::{EventId, OutOfMemory};
 use relations::Relation;
@@ -21,7 +21,7 @@ use std::alloc::Global;
 use std::sync::Arc;
 
 /// Whether the least label that closes a cycle gives one that is shorter than the cap.
-fn is_news(closing: u16, cap: Option<u16>, events: usize) -> bool
+fn is_shorter(closing: u16, cap: Option<u16>, events: usize) -> bool
     ensures yes { result ≡ true → closing < unwrap_or cap events }
     ensures no { result ≡ false → MatchOption cap (events ≤ closing) (λ k. k ≤ closing + 1) }
 {
@@ -46,9 +46,9 @@ fn row_cut(relation: &Relation, source: EventId, cap: Option<u16>, room: Room) -
     row_in(relation.successors(), source, most, room)
 }
 
-/// Tells the bound the length of a cycle through the source that is shorter than the cap, if its
+/// Lowers the bound to the length of a cycle through the source that is shorter than the cap, if its
 /// row shows one.
-fn tell(
+fn publish_cycle(
     relation: &Relation,
     best: &Best,
     seat: &mut BestSeat,
@@ -72,9 +72,9 @@ fn tell(
     ensures covers { Covers (Related relation.now) (lengths_of seat.new) source }
 {
     relation.sound();
-    if is_news(closing, cap, relation.len()) {
+    if is_shorter(closing, cap, relation.len()) {
         let most = cap.unwrap_or(relation.len() as u16);
-        let cycle = cycle_back(relation, row, source, most, closing, room);
+        let cycle = cycle_through(relation, row, source, most, closing, room);
         best.lower(seat, relation, &cycle);
     }
 }
@@ -107,7 +107,7 @@ pub fn row_under(
     let room = Room::new(alloc, relation.len())?;
     let cap = best.read(seat);
     let (numbers, closing) = row_cut(relation, job.source(), cap, room);
-    tell(
+    publish_cycle(
         relation,
         best,
         seat,

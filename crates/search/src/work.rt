@@ -1,15 +1,15 @@
-//! The work of crews, on threads and here.
+//! The work of workers, on threads and here.
 
 ghost use Rattle.std.specs.Prelude.{◌≡◌, All, IfOk, IfSome};
 ghost use Rattle.best.specs.Seats.{IsBestSeatOf, known_of};
 ghost use Rattle.search.specs.Bound.{IsSeatFor, lengths_of};
-ghost use Rattle.search.specs.Crews.{IsRowFor, IsCrew, IsHaulOf, IsCrewFor, IsHaulFor};
+ghost use Rattle.search.specs.WorkerJobs.{IsRowFor, AreWorkerJobs, AreRowsOf, AreJobsFor, AreRowsFor};
 ghost use Rattle.search.specs.Started.{IsStarted};
 
-use crate::crew::{Crew, Haul, HaulOf};
 use crate::job::SourceJob;
 use crate::label_row::LabelRow;
 use crate::under::row_under;
+use crate::worker_jobs::{RowsPromise, WorkerJobs, WorkerRows};
 use best::{Best, BestSeat};
 use common::{Gate, OutOfMemory};
 use relations::Relation;
@@ -43,199 +43,217 @@ fn make_row<G: Gate>(
     let _kept = rows.push(row);
 }
 
-/// The rows of a crew, but those that there was no memory for.
-fn work<G: Gate>(alloc: Global, crew: Crew, best: &Best, gate: &G) -> Haul
-    requires { IsCrew best.now crew }
-    ensures { IsHaulOf crew result }
+/// The rows of a worker's jobs, but those that there was no memory for.
+fn work<G: Gate>(alloc: Global, worker_jobs: WorkerJobs, best: &Best, gate: &G) -> WorkerRows
+    requires { AreWorkerJobs best.now worker_jobs }
+    ensures { AreRowsOf worker_jobs result }
 {
-    let Crew {
+    let WorkerJobs {
         worker,
         mut seat,
         jobs,
-    } = crew;
+    } = worker_jobs;
     let mut rows = Vec::new(alloc);
     for job in jobs {
         make_row(alloc, worker, job, best, &mut seat, &mut rows, gate);
     }
-    Haul { seat, rows }
+    WorkerRows { seat, rows }
 }
 
-/// Starts a thread for a crew. One that is not started is done without.
+/// Starts a thread for a worker. One that is not started is done without.
 fn start<'s, E, G: Gate>(
     scope: &Scope<'s, E>,
     alloc: Global,
-    crew: Crew,
+    worker_jobs: WorkerJobs,
     best: &'s Best,
     gate: &'s G,
-) -> Option<PromisedHandle<Haul, HaulOf>>
-    requires { IsCrew best.now crew }
-    ensures { IfSome result (λ h. h.promise.0.value ≡ crew) }
+) -> Option<PromisedHandle<WorkerRows, RowsPromise>>
+    requires { AreWorkerJobs best.now worker_jobs }
+    ensures { IfSome result (λ h. h.promise.0.value ≡ worker_jobs) }
 {
-    let promise = HaulOf(Snapshot::of(&crew));
-    let work_there = move || -> Haul
-        requires { IsCrew best.now crew }
-        ensures { IsHaulOf crew result }
-    { work(alloc, crew, best, gate) };
+    let promise = RowsPromise(Snapshot::of(&worker_jobs));
+    let work_there = move || -> WorkerRows
+        requires { AreWorkerJobs best.now worker_jobs }
+        ensures { AreRowsOf worker_jobs result }
+    { work(alloc, worker_jobs, best, gate) };
     match scope.spawn_with(promise, work_there) {
         Ok(child) => Some(child),
         Err(_) => None,
     }
 }
 
-/// Starts a thread for a crew, and keeps it.
+/// Starts a thread for a worker, and keeps it.
 fn start_one<'s, E, G: Gate>(
     scope: &Scope<'s, E>,
     alloc: Global,
-    crew: Crew,
+    worker_jobs: WorkerJobs,
     best: &'s Best,
     relation: &Relation,
     gate: &'s G,
-    started: &mut Vec<PromisedHandle<Haul, HaulOf>>,
+    started: &mut Vec<PromisedHandle<WorkerRows, RowsPromise>>,
 )
-    requires crew { IsCrewFor best.now relation.now crew }
+    requires worker_jobs { AreJobsFor best.now relation.now worker_jobs }
     requires started { All (IsStarted best.now relation.now) started.old.items }
     ensures { All (IsStarted best.now relation.now) started.new.items }
 {
     let _ = relation;
-    let Some(child) = start(scope, alloc, crew, best, gate) else {
+    let Some(child) = start(scope, alloc, worker_jobs, best, gate) else {
         return;
     };
     let _kept = started.push(child);
 }
 
-/// Starts the crews, and keeps what was started.
+/// Starts the workers, and keeps what was started.
 fn start_all<'s, E, G: Gate>(
     scope: &Scope<'s, E>,
     alloc: Global,
-    crews: Vec<Crew>,
+    jobs_of_workers: Vec<WorkerJobs>,
     best: &'s Best,
     relation: &Relation,
     gate: &'s G,
-    started: Vec<PromisedHandle<Haul, HaulOf>>,
-) -> Vec<PromisedHandle<Haul, HaulOf>>
-    requires crews { All (IsCrewFor best.now relation.now) crews.items }
+    started: Vec<PromisedHandle<WorkerRows, RowsPromise>>,
+) -> Vec<PromisedHandle<WorkerRows, RowsPromise>>
+    requires jobs_of_workers { All (AreJobsFor best.now relation.now) jobs_of_workers.items }
     requires started { All (IsStarted best.now relation.now) started.items }
     ensures { All (IsStarted best.now relation.now) result.items }
 {
     let _ = relation;
     let mut started = started;
-    for crew in crews {
-        start_one(scope, alloc, crew, best, relation, gate, &mut started);
+    for worker_jobs in jobs_of_workers {
+        start_one(
+            scope,
+            alloc,
+            worker_jobs,
+            best,
+            relation,
+            gate,
+            &mut started,
+        );
     }
     started
 }
 
-/// What one started crew brings, beside what was brought.
+/// Adds the rows of one started worker to those of others.
 fn join_one<R: Threads>(
     rt: &R,
-    child: PromisedHandle<Haul, HaulOf>,
+    child: PromisedHandle<WorkerRows, RowsPromise>,
     best: &Best,
     relation: &Relation,
-    hauls: &mut Vec<Haul>,
+    rows_of_workers: &mut Vec<WorkerRows>,
 )
     requires child { IsStarted best.now relation.now child }
-    requires hauls { All (IsHaulFor best.now relation.now) hauls.old.items }
-    ensures { All (IsHaulFor best.now relation.now) hauls.new.items }
+    requires rows_of_workers { All (AreRowsFor best.now relation.now) rows_of_workers.old.items }
+    ensures { All (AreRowsFor best.now relation.now) rows_of_workers.new.items }
 {
     let _ = best;
     let _ = relation;
-    let haul = child.join(rt);
-    let _kept = hauls.push(haul);
+    let worker_rows = child.join(rt);
+    let _kept = rows_of_workers.push(worker_rows);
 }
 
-/// What the started crews bring, beside what was brought.
+/// Adds the rows of the started workers to those of others.
 fn join_all<R: Threads>(
     rt: &R,
-    started: Vec<PromisedHandle<Haul, HaulOf>>,
+    started: Vec<PromisedHandle<WorkerRows, RowsPromise>>,
     best: &Best,
     relation: &Relation,
-    hauls: Vec<Haul>,
-) -> Vec<Haul>
+    rows_of_workers: Vec<WorkerRows>,
+) -> Vec<WorkerRows>
     requires started { All (IsStarted best.now relation.now) started.items }
-    requires hauls { All (IsHaulFor best.now relation.now) hauls.items }
-    ensures { All (IsHaulFor best.now relation.now) result.items }
+    requires rows_of_workers { All (AreRowsFor best.now relation.now) rows_of_workers.items }
+    ensures { All (AreRowsFor best.now relation.now) result.items }
 {
     let _ = best;
     let _ = relation;
-    let mut hauls = hauls;
+    let mut rows_of_workers = rows_of_workers;
     for child in started {
-        join_one(rt, child, best, relation, &mut hauls);
+        join_one(rt, child, best, relation, &mut rows_of_workers);
     }
-    hauls
+    rows_of_workers
 }
 
-/// What the crews bring: this one works here, the others on threads. Those that are not started
-/// bring nothing.
-pub(crate) fn made_by<R: Threads + Wait + Sync, G: Gate>(
+/// The rows of the workers: this one works here, the others on threads. Those that are not started
+/// make none.
+pub(crate) fn run_workers<R: Threads + Wait + Sync, G: Gate>(
     rt: &R,
     alloc: Global,
-    mine: Crew,
-    crews: Vec<Crew>,
+    mine: WorkerJobs,
+    jobs_of_workers: Vec<WorkerJobs>,
     best: &Best,
     relation: &Relation,
     gate: &G,
-) -> Result<Vec<Haul>, OutOfMemory>
-    requires mine { IsCrewFor best.now relation.now mine }
-    requires crews { All (IsCrewFor best.now relation.now) crews.items }
-    ensures { IfOk result (λ hauls. All (IsHaulFor best.now relation.now) hauls.items) }
+) -> Result<Vec<WorkerRows>, OutOfMemory>
+    requires mine { AreJobsFor best.now relation.now mine }
+    requires jobs_of_workers { All (AreJobsFor best.now relation.now) jobs_of_workers.items }
+    ensures { IfOk result (λ rows_of_workers. All (AreRowsFor best.now relation.now) rows_of_workers.items) }
 {
     // All memory for what is collected is taken before the first thread starts.
-    let started = Vec::with_capacity(alloc, crews.len())?;
-    let hauls = Vec::with_capacity(alloc, crews.len() + 1)?;
-    Ok(run_crews(rt, alloc, mine, crews, best, relation, gate, started, hauls))
+    let started = Vec::with_capacity(alloc, jobs_of_workers.len())?;
+    let rows_of_workers = Vec::with_capacity(alloc, jobs_of_workers.len() + 1)?;
+    Ok(run_workers_into(
+        rt,
+        alloc,
+        mine,
+        jobs_of_workers,
+        best,
+        relation,
+        gate,
+        started,
+        rows_of_workers,
+    ))
 }
 
-/// What the crews bring, in lists that have room for it.
-fn run_crews<R: Threads + Wait + Sync, G: Gate>(
+/// The rows of the workers, in lists that have room for them.
+fn run_workers_into<R: Threads + Wait + Sync, G: Gate>(
     rt: &R,
     alloc: Global,
-    mine: Crew,
-    crews: Vec<Crew>,
+    mine: WorkerJobs,
+    jobs_of_workers: Vec<WorkerJobs>,
     best: &Best,
     relation: &Relation,
     gate: &G,
-    started: Vec<PromisedHandle<Haul, HaulOf>>,
-    hauls: Vec<Haul>,
-) -> Vec<Haul>
-    requires mine { IsCrewFor best.now relation.now mine }
-    requires crews { All (IsCrewFor best.now relation.now) crews.items }
+    started: Vec<PromisedHandle<WorkerRows, RowsPromise>>,
+    rows_of_workers: Vec<WorkerRows>,
+) -> Vec<WorkerRows>
+    requires mine { AreJobsFor best.now relation.now mine }
+    requires jobs_of_workers { All (AreJobsFor best.now relation.now) jobs_of_workers.items }
     requires started { All (IsStarted best.now relation.now) started.items }
-    requires hauls { All (IsHaulFor best.now relation.now) hauls.items }
-    ensures { All (IsHaulFor best.now relation.now) result.items }
+    requires rows_of_workers { All (AreRowsFor best.now relation.now) rows_of_workers.items }
+    ensures { All (AreRowsFor best.now relation.now) result.items }
 {
     thread::scope(
         thread::scope_env(),
         rt,
-        |scope| -> Vec<Haul>
-            requires mine { IsCrewFor best.now relation.now mine }
-            requires crews { All (IsCrewFor best.now relation.now) crews.items }
+        |scope| -> Vec<WorkerRows>
+            requires mine { AreJobsFor best.now relation.now mine }
+            requires jobs_of_workers { All (AreJobsFor best.now relation.now) jobs_of_workers.items }
             requires started { All (IsStarted best.now relation.now) started.items }
-            requires hauls { All (IsHaulFor best.now relation.now) hauls.items }
-            ensures { All (IsHaulFor best.entry.now relation.entry.now) result.items }
+            requires rows_of_workers { All (AreRowsFor best.now relation.now) rows_of_workers.items }
+            ensures { All (AreRowsFor best.entry.now relation.entry.now) result.items }
         {
-            let started = start_all(scope, alloc, crews, best, relation, gate, started);
-            let hauls = work_here(alloc, mine, best, relation, gate, hauls);
-            join_all(rt, started, best, relation, hauls)
+            let started = start_all(scope, alloc, jobs_of_workers, best, relation, gate, started);
+            let rows_of_workers = work_here(alloc, mine, best, relation, gate, rows_of_workers);
+            join_all(rt, started, best, relation, rows_of_workers)
         },
     )
 }
 
-/// What a crew brings that works here, beside what was brought.
+/// Adds the rows of the worker that works here to those of others.
 fn work_here<G: Gate>(
     alloc: Global,
-    mine: Crew,
+    mine: WorkerJobs,
     best: &Best,
     relation: &Relation,
     gate: &G,
-    hauls: Vec<Haul>,
-) -> Vec<Haul>
-    requires mine { IsCrewFor best.now relation.now mine }
-    requires hauls { All (IsHaulFor best.now relation.now) hauls.items }
-    ensures { All (IsHaulFor best.now relation.now) result.items }
+    rows_of_workers: Vec<WorkerRows>,
+) -> Vec<WorkerRows>
+    requires mine { AreJobsFor best.now relation.now mine }
+    requires rows_of_workers { All (AreRowsFor best.now relation.now) rows_of_workers.items }
+    ensures { All (AreRowsFor best.now relation.now) result.items }
 {
     let _ = relation;
-    let mut hauls = hauls;
-    let haul = work(alloc, mine, best, gate);
-    let _kept = hauls.push(haul);
-    hauls
+    let mut rows_of_workers = rows_of_workers;
+    let worker_rows = work(alloc, mine, best, gate);
+    let _kept = rows_of_workers.push(worker_rows);
+    rows_of_workers
 }

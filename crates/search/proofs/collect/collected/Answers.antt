@@ -6,33 +6,34 @@ use Rattle.search.specs.Slots.{AreSlots, AreSlotsFilled}
 use Rattle.search.proofs.Collected.{if_ok}
 use Rattle.search.proofs.collect.collected.Goals as goal
 
-pub brought-requires-clause-seat : goal.brought-requires-clause-seat
-brought-requires-clause-seat g c κs within = (c.requires.seat.0, c.requires.seat.1 ∙ sym c.deref-table.ensures)
+pub rows_by_workers-requires-clause-seat : goal.rows_by_workers-requires-clause-seat
+rows_by_workers-requires-clause-seat g c κs within = (c.requires.seat.0, c.requires.seat.1 ∙ sym c.deref-table.ensures)
 
-pub brought-requires-clause-jobs : goal.brought-requires-clause-jobs
-brought-requires-clause-jobs g c κs within =
+pub rows_by_workers-requires-clause-jobs : goal.rows_by_workers-requires-clause-jobs
+rows_by_workers-requires-clause-jobs g c κs within =
     subst (λ (t : Table). All (λ (job : Job). job.relation ≡ t) c.args.jobs.items)
     (sym c.deref-table.ensures) c.requires.jobs
 
-pub returns-in_err-hauls-clause-seat : goal.returns-in_err-hauls-clause-seat
-returns-in_err-hauls-clause-seat g c = (c.brought.ensures.seat.0, c.brought.ensures.seat.1 ∙ c.deref-table.ensures)
+pub returns-in_err-rows_of_workers-clause-seat : goal.returns-in_err-rows_of_workers-clause-seat
+returns-in_err-rows_of_workers-clause-seat g c =
+    (c.rows_by_workers.ensures.seat.0, c.rows_by_workers.ensures.seat.1 ∙ c.deref-table.ensures)
 
-pub returns-in_err-hauls-clause-kept : goal.returns-in_err-hauls-clause-kept
-returns-in_err-hauls-clause-kept g c = λ k h. subst (λ (lengths : List ℕ). Contains lengths k)
-    (sym c.brought.ensures.kept) h
+pub returns-in_err-rows_of_workers-clause-kept : goal.returns-in_err-rows_of_workers-clause-kept
+returns-in_err-rows_of_workers-clause-kept g c = λ k h. subst (λ (lengths : List ℕ). Contains lengths k)
+    (sym c.rows_by_workers.ensures.kept) h
 
 pub places-requires-clause-seat : goal.places-requires-clause-seat
-places-requires-clause-seat g c = c.brought.ensures.seat
+places-requires-clause-seat g c = c.rows_by_workers.ensures.seat
 
-pub places-requires-clause-hauls : goal.places-requires-clause-hauls
-places-requires-clause-hauls g c = c.in_ok-hauls.ensures.hauls
+pub places-requires-clause-rows_of_workers : goal.places-requires-clause-rows_of_workers
+places-requires-clause-rows_of_workers g c = c.in_ok-rows_of_workers.ensures.rows_of_workers
 
 pub returns-in_err-slots-clause-seat : goal.returns-in_err-slots-clause-seat
 returns-in_err-slots-clause-seat g c = (c.places.ensures.seat.0, c.places.ensures.seat.1 ∙ c.deref-table.ensures)
 
 pub returns-in_err-slots-clause-kept : goal.returns-in_err-slots-clause-kept
 returns-in_err-slots-clause-kept g c = λ k h. c.places.ensures.kept k
-    (subst (λ (lengths : List ℕ). Contains lengths k) (sym c.brought.ensures.kept) h)
+    (subst (λ (lengths : List ℕ). Contains lengths k) (sym c.rows_by_workers.ensures.kept) h)
 
 pub filled-requires-clause-seat : goal.filled-requires-clause-seat
 filled-requires-clause-seat g c κs within =
@@ -48,7 +49,7 @@ returns-in_err-rows-clause-seat g c = c.filled.ensures.seat
 
 pub returns-in_err-rows-clause-kept : goal.returns-in_err-rows-clause-kept
 returns-in_err-rows-clause-kept g c = λ k h. c.filled.ensures.kept k (c.places.ensures.kept k
-    (subst (λ (lengths : List ℕ). Contains lengths k) (sym c.brought.ensures.kept) h))
+    (subst (λ (lengths : List ℕ). Contains lengths k) (sym c.rows_by_workers.ensures.kept) h))
 
 pub cut_by-requires-clause-seat : goal.cut_by-requires-clause-seat
 cut_by-requires-clause-seat g c = (c.filled.ensures.seat.0, c.filled.ensures.seat.1 ∙ sym c.deref-table.ensures)
@@ -63,7 +64,7 @@ returns-clause-seat g c = (c.cut_by.ensures.seat.0, c.cut_by.ensures.seat.1 ∙ 
 
 pub returns-clause-kept : goal.returns-clause-kept
 returns-clause-kept g c = λ k h. c.cut_by.ensures.kept k (c.filled.ensures.kept k (c.places.ensures.kept k
-    (subst (λ (lengths : List ℕ). Contains lengths k) (sym c.brought.ensures.kept) h)))
+    (subst (λ (lengths : List ℕ). Contains lengths k) (sym c.rows_by_workers.ensures.kept) h)))
 
 pub returns-clause-rows : goal.returns-clause-rows
 returns-clause-rows g c =

@@ -1,7 +1,7 @@
 use Rattle.std.specs.Vec.Iter.{into_iter_items}
 use Rattle.std.proofs.lemmas.List.Elements.{All-rest}
 use Rattle.search.specs.Bound.{lengths_of}
-use Rattle.search.specs.Crews.{IsRowFor}
+use Rattle.search.specs.WorkerJobs.{IsRowFor}
 use Rattle.search.proofs.slots.put_rows.Goals as goal
 
 pub loop-row-preserved : goal.loop-row-preserved

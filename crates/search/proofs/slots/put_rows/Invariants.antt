@@ -1,7 +1,7 @@
 use Rattle.std.proofs.Common.{All}
 use Rattle.std.specs.Vec.Iter.{into_iter_items}
 use Rattle.search.specs.Bound.{lengths_of}
-use Rattle.search.specs.Crews.{IsRowFor}
+use Rattle.search.specs.WorkerJobs.{IsRowFor}
 use Rattle.search.specs.Slots.{AreSlots}
 use Rattle.search.proofs.slots.put_rows.Given as goal
 

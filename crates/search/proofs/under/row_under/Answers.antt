@@ -18,31 +18,31 @@ row_cut-numbers-requires-clause-source c =
     (sym (c.deref-relation.ensures ∙ c.relation.ensures.value))
     (subst (λ (v : ℕ). v < length c.args.job.now.relation) (sym c.source.ensures) c.relation.ensures.source)
 
-pub tell-requires-clause-seat : goal.tell-requires-clause-seat
-tell-requires-clause-seat c = (
+pub publish_cycle-requires-clause-seat : goal.publish_cycle-requires-clause-seat
+publish_cycle-requires-clause-seat c = (
   c.read-cap.ensures.seat,
   c.read-cap.ensures.relation ∙ (c.requires.1 ∙ sym (c.deref-relation.ensures ∙ c.relation.ensures.value)),
 )
 
-pub tell-requires-clause-known : goal.tell-requires-clause-known
-tell-requires-clause-known c =
+pub publish_cycle-requires-clause-known : goal.publish_cycle-requires-clause-known
+publish_cycle-requires-clause-known c =
     read_known (known_of c.args.seat.now) (known_of c.read-cap.new.seat) c.read-cap.result
     c.read-cap.ensures.reads
 
-pub tell-requires-clause-few : goal.tell-requires-clause-few
-tell-requires-clause-few c =
+pub publish_cycle-requires-clause-few : goal.publish_cycle-requires-clause-few
+publish_cycle-requires-clause-few c =
     read_few c.deref-relation.result.now (known_of c.args.seat.now) (known_of c.read-cap.new.seat)
     c.read-cap.result (c.requires.1 ∙ sym (c.deref-relation.ensures ∙ c.relation.ensures.value))
     c.read-cap.ensures.reads
 
 pub returns-clause-seat : goal.returns-clause-seat
 returns-clause-seat c = (
-  c.tell.ensures.seat.0,
-  c.tell.ensures.seat.1 ∙ (c.deref-relation.ensures ∙ c.relation.ensures.value),
+  c.publish_cycle.ensures.seat.0,
+  c.publish_cycle.ensures.seat.1 ∙ (c.deref-relation.ensures ∙ c.relation.ensures.value),
 )
 
 pub returns-clause-kept : goal.returns-clause-kept
-returns-clause-kept c = λ k h. c.tell.ensures.kept k
+returns-clause-kept c = λ k h. c.publish_cycle.ensures.kept k
     (read_keeps (known_of c.args.seat.now) (known_of c.read-cap.new.seat) c.read-cap.result
     c.read-cap.ensures.reads k h)
 
@@ -57,11 +57,11 @@ returns-clause-cap c = λ k h. subst (λ (o : Option ℕ). AtMost o k)
 
 pub returns-clause-covers : goal.returns-clause-covers
 returns-clause-covers c =
-    let lengths = lengths_of c.tell.new.seat in
+    let lengths = lengths_of c.publish_cycle.new.seat in
     subst (λ (t : Table). Covers (Related t) lengths c.args.job.now.source)
     (c.deref-relation.ensures ∙ c.relation.ensures.value)
     (subst (λ (v : ℕ). Covers (Related c.deref-relation.result.now) lengths v) c.source-2.ensures
-    c.tell.ensures.covers)
+    c.publish_cycle.ensures.covers)
 
 pub of-requires : goal.of-requires
 of-requires c =

@@ -1,8 +1,8 @@
 use Rattle.std.proofs.Common.{ℕ, sym, subst}
 use Rattle.relations.specs.Relation.{Related}
 use Rattle.search.specs.Bound.{Covers, lengths_of}
-use Rattle.search.specs.Crews.{IsRowFor}
-use Rattle.search.proofs.Hauls.{rows_kept, perhaps_pushed}
+use Rattle.search.specs.WorkerJobs.{IsRowFor}
+use Rattle.search.proofs.WorkerRows.{rows_kept, perhaps_pushed}
 use Rattle.search.proofs.work.make_row.Goals as goal
 
 pub returns-clause-rows : goal.returns-clause-rows

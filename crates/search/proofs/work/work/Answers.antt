@@ -5,12 +5,12 @@ use Rattle.relations.specs.Relation.{Table}
 use Rattle.best.specs.Seats.{known_of}
 use Rattle.search.specs.Bound.{lengths_of}
 use Rattle.search.specs.SourceRow.{Job}
-use Rattle.search.specs.Crews.{IsRowFor}
+use Rattle.search.specs.WorkerJobs.{IsRowFor}
 use Rattle.search.proofs.work.work.Goals as goal
 
 pub loop-job-preserved : goal.loop-job-preserved
 loop-job-preserved g c =
-    let t : Table = (known_of c.args.crew.seat).relation in
+    let t : Table = (known_of c.args.worker_jobs.seat).relation in
     let steps = c.in-Some.ensures.steps.0 in
     let inv = c.loop-job.invariant in
     let rest = into_iter_items c.next.new.self in

@@ -2,7 +2,7 @@ use Rattle.std.proofs.Common.{◌≡◌, All}
 use Rattle.std.specs.Vec.Iter.{into_iter_items}
 use Rattle.best.specs.Seats.{known_of}
 use Rattle.search.specs.Bound.{IsSeatFor, lengths_of}
-use Rattle.search.specs.Crews.{IsRowFor}
+use Rattle.search.specs.WorkerJobs.{IsRowFor}
 use Rattle.search.proofs.work.work.Given as goal
 
 abbrev pub invariant-loop-job : goal.invariant-loop-job

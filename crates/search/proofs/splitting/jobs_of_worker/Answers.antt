@@ -1,7 +1,7 @@
 use Rattle.std.proofs.Common.{ap}
 use Rattle.best.specs.declared.rule.Known.{Known}
-use Rattle.search.proofs.Hauls.{seat_beside}
-use Rattle.search.proofs.deal.crew_of.Goals as goal
+use Rattle.search.proofs.WorkerRows.{seat_beside}
+use Rattle.search.proofs.splitting.jobs_of_worker.Goals as goal
 
 pub returns-in_err-other-clause-seat : goal.returns-in_err-other-clause-seat
 returns-in_err-other-clause-seat c =

@@ -10,9 +10,9 @@ use Rattle.best.specs.declared.rule.Known.{Known}
 use Rattle.best.specs.Seats.{AreBeside, known_of}
 use Rattle.search.specs.SourceRow.{SourceRow}
 use Rattle.search.specs.Bound.{Covers, IsSeatFor, Keeps, lengths_of}
-use Rattle.search.specs.declared.crew.Crew.{Crew}
-use Rattle.search.specs.declared.crew.Haul.{Haul}
-use Rattle.search.specs.Crews.{IsRowFor, IsCrewFor, IsHaulOf, IsHaulFor}
+use Rattle.search.specs.declared.worker_jobs.WorkerJobs.{WorkerJobs}
+use Rattle.search.specs.declared.worker_jobs.WorkerRows.{WorkerRows}
+use Rattle.search.specs.WorkerJobs.{IsRowFor, AreJobsFor, AreRowsOf, AreRowsFor}
 
 -- what is covered stays so
 pub covers_kept : (R : ℕ → ℕ → Type 0) (before after : List ℕ) (v : ℕ) → Keeps before after
@@ -41,9 +41,10 @@ pub seat_beside : (b : Best) (t : Table) (s r : BestSeat) → AreBeside s r × (
     → IsSeatFor b t s → IsSeatFor b t r
 seat_beside b t s r is of = (is.0 ∙ of.0, ap (λ (v : Known). v.relation) is.1 ∙ of.1)
 
--- and its haul is one for the relation
-pub haul_for : (b : Best) (t : Table) (c : Crew) (h : Haul) → IsCrewFor b t c → IsHaulOf c h → IsHaulFor b t h
-haul_for b t c h crew haul = (
-  (haul.0 ∙ crew.0.0, haul.1 ∙ crew.0.1),
-  subst (λ (r : Table). All (IsRowFor r (lengths_of h.seat)) h.rows.items) crew.0.1 haul.2,
+-- and its rows are rows for the relation
+pub rows_for : (b : Best) (t : Table) (c : WorkerJobs) (h : WorkerRows) → AreJobsFor b t c → AreRowsOf c h
+    → AreRowsFor b t h
+rows_for b t c h worker_jobs worker_rows = (
+  (worker_rows.0 ∙ worker_jobs.0.0, worker_rows.1 ∙ worker_jobs.0.1),
+  subst (λ (r : Table). All (IsRowFor r (lengths_of h.seat)) h.rows.items) worker_jobs.0.1 worker_rows.2,
 )

@@ -2,12 +2,12 @@ use Rattle.std.proofs.Common.{◌∙◌, sym, ap}
 use Rattle.best.specs.declared.rule.Known.{Known}
 use Rattle.best.specs.Seats.{known_of}
 use Rattle.search.specs.Bound.{lengths_of}
-use Rattle.search.proofs.Hauls.{rows_kept}
+use Rattle.search.proofs.WorkerRows.{rows_kept}
 use Rattle.search.proofs.Collected.{unites_left, unites_right, slots_kept}
-use Rattle.search.proofs.slots.put_haul.Goals as goal
+use Rattle.search.proofs.slots.store_worker_rows.Goals as goal
 
 pub absorb-requires : goal.absorb-requires
-absorb-requires c = c.requires.haul.0.0 ∙ sym c.requires.seat.0
+absorb-requires c = c.requires.worker_rows.0.0 ∙ sym c.requires.seat.0
 
 pub returns-clause-seat : goal.returns-clause-seat
 returns-clause-seat c = (
@@ -17,19 +17,19 @@ returns-clause-seat c = (
 
 pub returns-clause-kept : goal.returns-clause-kept
 returns-clause-kept c =
-    unites_left (known_of c.args.seat.now) (known_of c.args.haul.seat) (known_of c.absorb.new.self)
+    unites_left (known_of c.args.seat.now) (known_of c.args.worker_rows.seat) (known_of c.absorb.new.self)
     c.absorb.ensures.1
 
 pub put_rows-requires-clause-rows : goal.put_rows-requires-clause-rows
 put_rows-requires-clause-rows c =
-    rows_kept c.args.relation.now (lengths_of c.args.haul.seat) (lengths_of c.absorb.new.self)
-    c.args.haul.rows.items
-    (unites_right (known_of c.args.seat.now) (known_of c.args.haul.seat)
-    (known_of c.absorb.new.self) c.absorb.ensures.1) c.requires.haul.1
+    rows_kept c.args.relation.now (lengths_of c.args.worker_rows.seat) (lengths_of c.absorb.new.self)
+    c.args.worker_rows.rows.items
+    (unites_right (known_of c.args.seat.now) (known_of c.args.worker_rows.seat)
+    (known_of c.absorb.new.self) c.absorb.ensures.1) c.requires.worker_rows.1
 
 pub put_rows-requires-clause-slots : goal.put_rows-requires-clause-slots
 put_rows-requires-clause-slots c =
     slots_kept c.args.relation.now (lengths_of c.args.seat.now) (lengths_of c.absorb.new.self)
     c.args.slots.now.items
-    (unites_left (known_of c.args.seat.now) (known_of c.args.haul.seat)
+    (unites_left (known_of c.args.seat.now) (known_of c.args.worker_rows.seat)
     (known_of c.absorb.new.self) c.absorb.ensures.1) c.requires.slots

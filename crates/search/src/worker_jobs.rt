@@ -1,4 +1,4 @@
-//! Workers: what they take with them, and what they bring back.
+//! The jobs of workers, and their rows.
 
 use crate::job::SourceJob;
 use crate::label_row::LabelRow;
@@ -8,7 +8,7 @@ use std::thread::Promise;
 
 /// A worker's number, its seat at the bound, and its jobs.
 #[derive(Drop)]
-pub(crate) struct Crew {
+pub(crate) struct WorkerJobs {
     pub(crate) worker: usize,
     pub(crate) seat: BestSeat,
     pub(crate) jobs: Vec<SourceJob>,
@@ -16,17 +16,17 @@ pub(crate) struct Crew {
 
 /// The seat and the rows that were made: all of them, unless memory ran out.
 #[derive(Drop)]
-pub(crate) struct Haul {
+pub(crate) struct WorkerRows {
     pub(crate) seat: BestSeat,
     pub(crate) rows: Vec<LabelRow>,
 }
 
-/// What the join of a crew promises: the rows are of its jobs' relation.
+/// What the join of a worker promises: the rows are of its jobs' relation.
 #[derive(Drop)]
-pub(crate) struct HaulOf(pub(crate) Snapshot<Crew>);
+pub(crate) struct RowsPromise(pub(crate) Snapshot<WorkerJobs>);
 
-impl Promise<Haul> for HaulOf {
-    ghost use Rattle.search.specs.Crews.{IsHaulOf};
+impl Promise<WorkerRows> for RowsPromise {
+    ghost use Rattle.search.specs.WorkerJobs.{AreRowsOf};
 
-    ghost kept_by = { λ p r. IsHaulOf p.0.value r };
+    ghost kept_by = { λ p r. AreRowsOf p.0.value r };
 }

@@ -25,7 +25,7 @@ fn event_before(relation: &Relation, row: &[u16], event: EventId, label: u16) ->
 
 /// Puts a cycle through the source into a list that has room for it: back along the labels of the
 /// source's row, from one that closes a cycle.
-pub(crate) fn cycle_back(
+pub(crate) fn cycle_through(
     relation: &Relation,
     row: &[u16],
     source: EventId,

@@ -1,7 +1,7 @@
 use Rattle.std.proofs.Common.{◌<◌, length, vec_capacity}
 use Rattle.relations.specs.Relation.{Related}
 use Rattle.search.proofs.WaysBack.{IsBack}
-use Rattle.search.proofs.back.cycle_back.Given as goal
+use Rattle.search.proofs.source_cycle.cycle_through.Given as goal
 
 abbrev pub invariant-loop-left : goal.invariant-loop-left
 invariant-loop-left l =

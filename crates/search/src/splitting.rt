@@ -1,11 +1,11 @@
-//! Jobs dealt to workers.
+//! Jobs split among workers.
 
 ghost use Rattle.std.specs.Prelude.{◌≡◌, ◌≤◌, All, IfOk};
 ghost use Rattle.search.specs.Bound.{IsSeatFor, Keeps, lengths_of};
-ghost use Rattle.search.specs.Crews.{IsCrewFor};
+ghost use Rattle.search.specs.WorkerJobs.{AreJobsFor};
 
-use crate::crew::Crew;
 use crate::job::SourceJob;
+use crate::worker_jobs::WorkerJobs;
 use best::{Best, BestSeat};
 use common::OutOfMemory;
 use relations::Relation;
@@ -19,78 +19,87 @@ const PART: usize = 8;
 const PAYS: usize = 512;
 
 /// A worker with a seat of its own and as many of the last jobs; the others stay.
-fn crew_of(
+fn jobs_of_worker(
     relation: &Relation,
     best: &Best,
     seat: &mut BestSeat,
     worker: usize,
     share: usize,
     jobs: &mut Vec<SourceJob>,
-) -> Result<Crew, OutOfMemory>
+) -> Result<WorkerJobs, OutOfMemory>
     requires seat { IsSeatFor best.now relation.now seat.old }
     requires jobs { All (λ job. job.relation ≡ relation.now) jobs.old.items }
     ensures seat { IsSeatFor best.now relation.now seat.new }
     ensures kept { lengths_of seat.new ≡ lengths_of seat.old }
     ensures jobs { All (λ job. job.relation ≡ relation.now) jobs.new.items }
-    ensures crew { IfOk result (IsCrewFor best.now relation.now) }
+    ensures worker_jobs { IfOk result (AreJobsFor best.now relation.now) }
 {
     let _ = relation;
     let _ = best;
     let other = seat.split()?;
     let mine = jobs.split_off(jobs.len() - share.min(jobs.len()))?;
-    Ok(Crew {
+    Ok(WorkerJobs {
         worker,
         seat: other,
         jobs: mine,
     })
 }
 
-/// Puts such a worker behind the others.
-fn add_crew(
+/// Adds the jobs of such a worker.
+fn add_worker(
     relation: &Relation,
     best: &Best,
     seat: &mut BestSeat,
     worker: usize,
     share: usize,
     jobs: &mut Vec<SourceJob>,
-    crews: &mut Vec<Crew>,
+    jobs_of_workers: &mut Vec<WorkerJobs>,
 ) -> Result<(), OutOfMemory>
     requires seat { IsSeatFor best.now relation.now seat.old }
     requires jobs { All (λ job. job.relation ≡ relation.now) jobs.old.items }
-    requires crews { All (IsCrewFor best.now relation.now) crews.old.items }
+    requires jobs_of_workers { All (AreJobsFor best.now relation.now) jobs_of_workers.old.items }
     ensures seat { IsSeatFor best.now relation.now seat.new }
     ensures kept { lengths_of seat.new ≡ lengths_of seat.old }
     ensures jobs { All (λ job. job.relation ≡ relation.now) jobs.new.items }
-    ensures crews { IfOk result (λ _. All (IsCrewFor best.now relation.now) crews.new.items) }
+    ensures jobs_of_workers { IfOk result (λ _. All (AreJobsFor best.now relation.now) jobs_of_workers.new.items) }
 {
-    let crew = crew_of(relation, best, seat, worker, share, jobs)?;
-    crews.push(crew)?;
+    let worker_jobs = jobs_of_worker(relation, best, seat, worker, share, jobs)?;
+    jobs_of_workers.push(worker_jobs)?;
     Ok(())
 }
 
-/// A crew for each worker from 1 on, but for more than the jobs pay for, with its part of the jobs, one
+/// The jobs of each worker from 1 on, but for more than the jobs pay for: its part of the jobs, one
 /// at least while there are any; the other jobs stay.
-pub(crate) fn dealt(
+pub(crate) fn split_jobs(
     alloc: Global,
     relation: &Relation,
     best: &Best,
     seat: &mut BestSeat,
     workers: usize,
     jobs: &mut Vec<SourceJob>,
-) -> Result<Vec<Crew>, OutOfMemory>
+) -> Result<Vec<WorkerJobs>, OutOfMemory>
     requires seat { IsSeatFor best.now relation.now seat.old }
     requires jobs { All (λ job. job.relation ≡ relation.now) jobs.old.items }
     requires workers { 1 ≤ workers }
     ensures seat { IsSeatFor best.now relation.now seat.new }
     ensures kept { lengths_of seat.new ≡ lengths_of seat.old }
     ensures jobs { All (λ job. job.relation ≡ relation.now) jobs.new.items }
-    ensures crews { IfOk result (λ crews. All (IsCrewFor best.now relation.now) crews.items) }
+    ensures jobs_of_workers { IfOk result
+        (λ jobs_of_workers. All (AreJobsFor best.now relation.now) jobs_of_workers.items) }
 {
-    let mut crews = Vec::with_capacity(alloc, workers)?;
+    let mut jobs_of_workers = Vec::with_capacity(alloc, workers)?;
     let paid = jobs.len() / PAYS + 2;
     for worker in 1..workers.min(paid) {
         let share = (jobs.len() / PART.max(workers)).max(1);
-        add_crew(relation, best, seat, worker, share, jobs, &mut crews)?;
+        add_worker(
+            relation,
+            best,
+            seat,
+            worker,
+            share,
+            jobs,
+            &mut jobs_of_workers,
+        )?;
     }
-    Ok(crews)
+    Ok(jobs_of_workers)
 }

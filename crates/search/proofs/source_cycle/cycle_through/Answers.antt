@@ -1,7 +1,7 @@
 use Rattle.std.proofs.Common.{length, arith}
 use Rattle.relations.specs.Relation.{Related}
 use Rattle.search.proofs.WaysBack.{back_exists, back_more}
-use Rattle.search.proofs.back.cycle_back.Goals as goal
+use Rattle.search.proofs.source_cycle.cycle_through.Goals as goal
 
 pub unreachable-requires : goal.unreachable-requires
 unreachable-requires c =

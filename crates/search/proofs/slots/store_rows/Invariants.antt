@@ -1,13 +1,13 @@
 use Rattle.std.proofs.Common.{All}
 use Rattle.std.specs.Vec.Iter.{into_iter_items}
 use Rattle.search.specs.Bound.{IsSeatFor, Keeps, lengths_of}
-use Rattle.search.specs.Crews.{IsHaulFor}
+use Rattle.search.specs.WorkerJobs.{AreRowsFor}
 use Rattle.search.specs.Slots.{AreSlots}
-use Rattle.search.proofs.slots.put_hauls.Given as goal
+use Rattle.search.proofs.slots.store_rows.Given as goal
 
-abbrev pub invariant-loop-haul : goal.invariant-loop-haul
-invariant-loop-haul l =
+abbrev pub invariant-loop-worker_rows : goal.invariant-loop-worker_rows
+invariant-loop-worker_rows l =
     IsSeatFor l.best l.relation l.seat
     × Keeps (lengths_of l.initial.seat) (lengths_of l.seat)
     × AreSlots l.relation (lengths_of l.seat) l.slots.items
-    × All (IsHaulFor l.best l.relation) (into_iter_items l.haul-iterator)
+    × All (AreRowsFor l.best l.relation) (into_iter_items l.worker_rows-iterator)
