@@ -13,7 +13,7 @@ use lib.ListN.{get_elem?}
 use Rattle.atomic_table.specs.Table.{State, Me, step, keeps, stepped, Allows, Splits, Joins}
 use Rattle.atomic_table.proofs.Lists.{at_set, at_snoc, at_longer, set_here, set_else}
 use Rattle.best.specs.declared.rule.Known.{Known}
-use Rattle.best.specs.declared.rule.View.{View}
+use Rattle.best.specs.declared.rule.SeatView.{SeatView}
 use Rattle.relations.specs.Relation.{Table}
 use Rattle.best.specs.Rule.{IsLength, none_word, first_bound_view, spent_bound_view, bound_with_others, joined_bound_views, knows}
 use Rattle.best.specs.Rule.{knowing, Bounded, LegalBest, IsUnset, LowerStep, ReadStep}
@@ -24,38 +24,38 @@ none_in x h = omega (arith, h.1)
 off : false ≡ true → ⊥
 off e = true≢false (sym e)
 
-in_length : (l : List View) (i : ℕ) (v : View) → get_elem? l i ≡ some v → i < length l
+in_length : (l : List SeatView) (i : ℕ) (v : SeatView) → get_elem? l i ≡ some v → i < length l
 in_length [] i v e = absurd (some-ne-none v (sym e))
 in_length (x ∷ xs) zero v e = omega arith
 in_length (x ∷ xs) (suc i) v e = let h = in_length xs i v e in omega arith
 
 -- where a seat is the only one, all others are it
-only_one : (views : List View) (i j : ℕ) (v w : View) → length views ≡ 1 → get_elem? views i ≡ some v
+only_one : (views : List SeatView) (i j : ℕ) (v w : SeatView) → length views ≡ 1 → get_elem? views i ≡ some v
     → get_elem? views j ≡ some w → i ≡ j
 only_one views i j v w one at at' = omega (arith, one, in_length views i v at, in_length views j w at')
 
 -- a fact of each view, after the view of one seat changed
-each_set : (P : ℕ → View → Type 0) (views : List View) (id : ℕ) (w : View) → P id w
-    → ((j : ℕ) (u : View) → j ≢ id → get_elem? views j ≡ some u → P j u) → (j : ℕ) (u : View)
+each_set : (P : ℕ → SeatView → Type 0) (views : List SeatView) (id : ℕ) (w : SeatView) → P id w
+    → ((j : ℕ) (u : SeatView) → j ≢ id → get_elem? views j ≡ some u → P j u) → (j : ℕ) (u : SeatView)
     → get_elem? (set views id w) j ≡ some u → P j u
 each_set P views id w mine others j u e = ⊎_elim
-    (λ (x : (j ≡ id) × (w ≡ u)). subst (λ (y : ℕ × View). P y.0 y.1) (λ i. (sym x.0 i, x.1 i)) mine)
+    (λ (x : (j ≡ id) × (w ≡ u)). subst (λ (y : ℕ × SeatView). P y.0 y.1) (λ i. (sym x.0 i, x.1 i)) mine)
     (λ (x : (j ≢ id) × (get_elem? views j ≡ some u)). others j u x.0 x.1)
     (at_set views id j w u e)
 
 -- some view knows this length
-abbrev Owned : List View → ℕ → Type 0
-Owned views n = (i : ℕ) × (v : View) × (get_elem? views i ≡ some v) × Contains v.known.lengths n
+abbrev Owned : List SeatView → ℕ → Type 0
+Owned views n = (i : ℕ) × (v : SeatView) × (get_elem? views i ≡ some v) × Contains v.known.lengths n
 
 -- who knows a length still knows it where the view of one seat grew
-still : (views : List View) (id : ℕ) (v w : View) → get_elem? views id ≡ some v → (n : ℕ)
+still : (views : List SeatView) (id : ℕ) (v w : SeatView) → get_elem? views id ≡ some v → (n : ℕ)
     → (Contains v.known.lengths n → Contains w.known.lengths n) → Owned views n → Owned (set views id w) n
 still views id v w at n grows o = dite (ℕ_discrete o.0 id)
     (λ is. let same : o.1 ≡ v = some-injective o.1 v (sym o.2 ∙ ap (get_elem? views) is ∙ at) in (
       id,
       w,
       set_here views id w (in_length views id v at),
-      grows (subst (λ (x : View). Contains x.known.lengths n) same o.3),
+      grows (subst (λ (x : SeatView). Contains x.known.lengths n) same o.3),
     ))
     (λ ne. (o.0, o.1, set_else views id o.0 w ne ∙ o.2, o.3))
 
@@ -67,7 +67,7 @@ lower_bounded : (v : Known) (n m : ℕ) → Bounded v n → m ≤ n → Bounded 
 lower_bounded v n m b less q h = let y = b q h in (omega (arith, y.0), y.1)
 
 -- The word becomes n, no larger than it was, and the seat's view w
-moved : (c : Table) (s : State (Unit {0}) View) (r : LegalBest c s) (id n : ℕ) (v w : View)
+moved : (c : Table) (s : State (Unit {0}) SeatView) (r : LegalBest c s) (id n : ℕ) (v w : SeatView)
     → get_elem? s.views id ≡ some v → n ≤ get_or s.words 0 0
     → (n ≡ none_word) ⊎ (IsLength c n × (n < 65536)) → (w.known.live ≡ true → w.known.relation ≡ c)
     → Bounded w.known n → (w.alone ≡ v.alone) → (n ≢ none_word → Owned (set s.views id w) n)
@@ -79,7 +79,7 @@ moved c s r id n v w at less ok of mine same owned c' =
       word = subst (λ (z : ℕ). (z ≡ none_word) ⊎ (IsLength c z × (z < 65536))) (sym is) ok;
       carried = each_set (λ j u. u.known.live ≡ true → u.known.relation ≡ c) s.views id w of
           (λ j u _ e. r.carried j u e);
-      bounded = subst (λ (z : ℕ). (i : ℕ) (v : View) → get_elem? (set s.views id w) i ≡ some v
+      bounded = subst (λ (z : ℕ). (i : ℕ) (v : SeatView) → get_elem? (set s.views id w) i ≡ some v
           → Bounded v.known z) (sym is)
           (each_set (λ j u. Bounded u.known n) s.views id w mine
           (λ j u _ e. lower_bounded u.known _ n (r.bounded j u e) less));
@@ -88,7 +88,7 @@ moved c s r id n v w at less ok of mine same owned c' =
           s.views id w (λ a. r.sole id v at (sym same ∙ a)) (λ j u _ e. r.sole j u e) j u e l;
     }
 
-pub lowers : (c : Table) (slots id k : ℕ) (me : Me (Unit {0}) View) → IsLength c k → k < 65536
+pub lowers : (c : Table) (slots id k : ℕ) (me : Me (Unit {0}) SeatView) → IsLength c k → k < 65536
     → Allows (LegalBest c) slots id me 0 (λ n. min n k) (LowerStep (step slots 0 k 0 none) me)
 lowers c slots id k me is small s r _ at _ =
     let v = me.0 in
@@ -115,13 +115,13 @@ lowers c slots id k me is small s r _ at _ =
     )
 
 -- what the only seat of a bound loads is a length that it knew
-sole_length : (c : Table) (s : State (Unit {0}) View) (r : LegalBest c s) (id : ℕ) (v : View)
+sole_length : (c : Table) (s : State (Unit {0}) SeatView) (r : LegalBest c s) (id : ℕ) (v : SeatView)
     → get_elem? s.views id ≡ some v → v.alone ≡ true → get_or s.words 0 0 ≢ none_word
     → Contains v.known.lengths (get_or s.words 0 0)
 sole_length c s r id v at alone full =
     let o = r.owned full in
     let same : o.0 ≡ id = only_one s.views o.0 id o.1 v (r.sole id v at alone) o.2 at in
-    subst (λ (x : View). Contains x.known.lengths (get_or s.words 0 0))
+    subst (λ (x : SeatView). Contains x.known.lengths (get_or s.words 0 0))
     (some-injective o.1 v (sym o.2 ∙ ap (get_elem? s.views) same ∙ at)) o.3
 
 -- so a bound that is opened is none
@@ -131,7 +131,7 @@ unset c s i r at = elim (ℕ_discrete (get_or s.words 0 0) none_word) [
   | no full ↦ absurd (none_in (get_or s.words 0 0) (sole_length c s r i (first_bound_view c) at refl full))
 ]
 
-pub reads : (c : Table) (slots id : ℕ) (me : Me (Unit {0}) View) → me.0.known.live ≡ true
+pub reads : (c : Table) (slots id : ℕ) (me : Me (Unit {0}) SeatView) → me.0.known.live ≡ true
     → Allows (LegalBest c) slots id me 0 (λ n. n) (ReadStep (step slots 0 0 0 none) me)
 reads c slots id me live s r _ at _ =
     let v = me.0 in
@@ -173,14 +173,14 @@ reads c slots id me live s r _ at _ =
       ),
     ))
 
-pub splits : (c : Table) (id : ℕ) (v : View) → Splits (LegalBest c) id v (bound_with_others v) (bound_with_others v)
+pub splits : (c : Table) (id : ℕ) (v : SeatView) → Splits (LegalBest c) id v (bound_with_others v) (bound_with_others v)
 splits c id v s r at =
     let w = bound_with_others v in
     let views = set s.views id w in
     -- a fact of each view: of the two seats', and of the others
-    let each : (P : View → Type 0) → P w
-    → ((j : ℕ) (u : View) → j ≢ id → get_elem? s.views j ≡ some u → P u)
-    → (i : ℕ) (u : View) → get_elem? (views ++ w ∷ []) i ≡ some u → P u
+    let each : (P : SeatView → Type 0) → P w
+    → ((j : ℕ) (u : SeatView) → j ≢ id → get_elem? s.views j ≡ some u → P u)
+    → (i : ℕ) (u : SeatView) → get_elem? (views ++ w ∷ []) i ≡ some u → P u
     = λ P p o i u e. ⊎_elim (λ x. each_set (λ _ u. P u) s.views id w p o i u x)
     (λ x. subst P x p) (at_snoc views w u i e) in
     record {
@@ -197,7 +197,7 @@ splits c id v s r at =
           (λ j u ne e l. ne (only_one s.views j id u v (r.sole j u e l) e at)) i u e l);
     }
 
-pub joins : (c : Table) (id : ℕ) (v : View) (other : ℕ) (w : View)
+pub joins : (c : Table) (id : ℕ) (v : SeatView) (other : ℕ) (w : SeatView)
     → Joins (LegalBest c) id v other w (joined_bound_views v w) spent_bound_view
 joins c id v other w s r at ne at' =
     let both = joined_bound_views v w in
@@ -207,8 +207,8 @@ joins c id v other w s r at ne at' =
     let here : get_elem? (set mid other spent_bound_view) id ≡ some both = set_else mid other id spent_bound_view
     (λ e. ne (sym e)) ∙ set_here s.views id both (in_length s.views id v at) in
     -- a view is the joined one, nothing, or an old one
-    let kinds : (P : View → Type 0) → P both → P spent_bound_view
-    → ((j : ℕ) (u : View) → j ≢ id → get_elem? s.views j ≡ some u → P u) → (j : ℕ) (u : View)
+    let kinds : (P : SeatView → Type 0) → P both → P spent_bound_view
+    → ((j : ℕ) (u : SeatView) → j ≢ id → get_elem? s.views j ≡ some u → P u) → (j : ℕ) (u : SeatView)
     → get_elem? (set mid other spent_bound_view) j ≡ some u → P u
     = λ P p q o. each_set (λ _ u. P u) mid other spent_bound_view q
     (λ j u _ e. each_set (λ _ u. P u) s.views id both p o j u e) in
@@ -227,7 +227,7 @@ joins c id v other w s r at ne at' =
             both,
             here,
             Contains-append_left v.known.lengths w.known.lengths n
-                (subst (λ (x : View). Contains x.known.lengths n)
+                (subst (λ (x : SeatView). Contains x.known.lengths n)
                 (some-injective o.1 v (sym o.2 ∙ ap (get_elem? s.views) is ∙ at)) o.3),
           ))
           (λ ni. dite (ℕ_discrete o.0 other)
@@ -236,7 +236,7 @@ joins c id v other w s r at ne at' =
             both,
             here,
             Contains-append_right v.known.lengths w.known.lengths n
-                (subst (λ (x : View). Contains x.known.lengths n)
+                (subst (λ (x : SeatView). Contains x.known.lengths n)
                 (some-injective o.1 w (sym o.2 ∙ ap (get_elem? s.views) is ∙ there)) o.3),
           ))
           (λ no. (

@@ -6,7 +6,7 @@ ghost use Rattle.relations.specs.Cycle.{IsCycle};
 ghost use Rattle.best.specs.Rule.{first_bound, knows, IsUnset, LoadsView};
 ghost use Rattle.best.specs.Seats.{IsAlone, IsBestSeatOf, IsBoundRead, AreBeside, Unites, known_of};
 
-use crate::rule::{Beside, BestTable, Lowers, NONE, Reads};
+use crate::rule::{BestTable, Lowers, NONE, Reads, SeatRule};
 use crate::seat::{Best, BestSeat};
 use common::{EventId, OutOfMemory};
 use relations::Relation;
@@ -90,7 +90,7 @@ impl BestSeat {
         ensures new { IfOk result (λ s. AreBeside self.old s × (known_of s ≡ known_of self.old)) }
     {
         let table = Arc::try_clone(&self.table)?;
-        let seat = self.table.shared.split_seat::<Beside>(&mut self.seat);
+        let seat = self.table.shared.split_seat::<SeatRule>(&mut self.seat);
         Ok(BestSeat { table, seat })
     }
 
@@ -104,7 +104,7 @@ impl BestSeat {
             table: _,
             seat: second,
         } = other;
-        table.shared.join_seat::<Beside>(&mut seat, second);
+        table.shared.join_seat::<SeatRule>(&mut seat, second);
         BestSeat { table, seat }
     }
 
@@ -120,6 +120,6 @@ impl BestSeat {
         } = other;
         self.table
             .shared
-            .join_seat::<Beside>(&mut self.seat, second);
+            .join_seat::<SeatRule>(&mut self.seat, second);
     }
 }

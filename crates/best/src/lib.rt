@@ -5,5 +5,5 @@ mod best;
 mod rule;
 mod seat;
 
-pub use rule::{BestRule, BestTable, Known, View};
+pub use rule::{BestRule, BestTable, Known, SeatView};
 pub use seat::{Best, BestSeat};

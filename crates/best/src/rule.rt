@@ -19,7 +19,7 @@ pub struct Known {
 }
 
 /// The view of a seat. No value of it is made.
-pub struct View {
+pub struct SeatView {
     /// What the seat knows.
     pub known: Known,
     /// Whether it is the only seat of its bound: no other was ever beside it.
@@ -30,7 +30,7 @@ pub struct View {
 /// a length that a seat knows; a length is one that some seat knows.
 pub struct BestRule;
 
-impl TableRule<(), View, Relation> for BestRule {
+impl TableRule<(), SeatView, Relation> for BestRule {
     ghost use Rattle.best.specs.Rule.{LegalBest, first_bound_view};
 
     ghost holds = { LegalBest };
@@ -41,7 +41,7 @@ impl TableRule<(), View, Relation> for BestRule {
 /// The step of `lower`.
 pub struct Lowers;
 
-impl Play<(), View> for Lowers {
+impl Play<(), SeatView> for Lowers {
     ghost use Rattle.best.specs.Rule.{LowerStep};
 
     ghost then = { LowerStep };
@@ -50,16 +50,16 @@ impl Play<(), View> for Lowers {
 /// The step of `read`.
 pub struct Reads;
 
-impl Play<(), View> for Reads {
+impl Play<(), SeatView> for Reads {
     ghost use Rattle.best.specs.Rule.{ReadStep};
 
     ghost then = { ReadStep };
 }
 
 /// A second seat knows the same, and two seats know what either knew.
-pub struct Beside;
+pub struct SeatRule;
 
-impl Split<View> for Beside {
+impl Split<SeatView> for SeatRule {
     ghost use Rattle.best.specs.Rule.{bound_with_others};
 
     ghost left = { bound_with_others };
@@ -67,7 +67,7 @@ impl Split<View> for Beside {
     ghost right = { bound_with_others };
 }
 
-impl Join<View> for Beside {
+impl Join<SeatView> for SeatRule {
     ghost use Rattle.best.specs.Rule.{joined_bound_views, spent_bound_view};
 
     ghost both = { joined_bound_views };
@@ -76,4 +76,4 @@ impl Join<View> for Beside {
 }
 
 /// The one word, with its rule.
-pub type BestTable = Table<(), View, Relation, BestRule, Global>;
+pub type BestTable = Table<(), SeatView, Relation, BestRule, Global>;

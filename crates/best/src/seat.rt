@@ -3,7 +3,7 @@
 ghost use Rattle.std.specs.Prelude.{◌≡◌, true, []};
 ghost use Rattle.std.specs.Arc.{arc_value};
 
-use crate::rule::{BestTable, View};
+use crate::rule::{BestTable, SeatView};
 use atomic_table::Seat;
 use std::sync::Arc;
 
@@ -17,7 +17,7 @@ pub struct Best {
 #[derive(Drop)]
 pub struct BestSeat {
     pub(crate) table: Arc<BestTable>,
-    pub(crate) seat: Seat<(), View>,
+    pub(crate) seat: Seat<(), SeatView>,
     ghost seated: { seat.table_id ≡ (arc_value table).shared.table_id },
     ghost empty: { seat.me.1 ≡ [] },
     ghost live: { seat.me.0.known.live ≡ true },
