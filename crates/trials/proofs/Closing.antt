@@ -13,14 +13,14 @@ use mathlib.Core.Option.{some, some-injective, some-ne-none}
 use native.Mathlib.Decide.{ℕ_discrete, dec_le}
 use lib.ListN.{get_elem?}
 use Rattle.trials.specs.Campaigns.{Plan}
-use Rattle.trials.specs.declared.board.View.{View}
+use Rattle.trials.specs.declared.desk_table.SeatKnowledge.{SeatKnowledge}
 use Rattle.trials.specs.Codes.{IsCode}
-use Rattle.trials.specs.Board.{noticed, met, FitsAt, IsWord, AreDeskWords}
+use Rattle.trials.specs.LegalDesk.{saw_claimed, saw_filed, FitsAt, IsWord, AreDeskWords}
 use Rattle.trials.specs.Looking.{LoadsWord}
 use Rattle.trials.proofs.Keeps.{sole_share}
 
 -- w has the share of v, and has seen at least as much
-pub record Grown (v w : View) : Type 0 where
+pub record Grown (v w : SeatKnowledge) : Type 0 where
   pub live : w.live ≡ v.live
   pub alone : w.alone ≡ v.alone
   pub campaign : w.campaign ≡ v.campaign
@@ -29,14 +29,14 @@ pub record Grown (v w : View) : Type 0 where
   pub seen : (q : ℕ) → Contains v.seen q → Contains w.seen q
   pub read : (q : ℕ) → Contains v.read q → Contains w.read q
 
-grown_is : (v w x : View) → Grown v w → x ≡ w → Grown v x
+grown_is : (v w x : SeatKnowledge) → Grown v w → x ≡ w → Grown v x
 grown_is v w x g e = subst (Grown v) (sym e) g
 
-pub grown_loads : (v w x : View) (k n : ℕ) → Grown v w → LoadsWord w k n x → Grown v x
+pub grown_loads : (v w x : SeatKnowledge) (k n : ℕ) → Grown v w → LoadsWord w k n x → Grown v x
 grown_loads v w x k n g l = dite (ℕ_discrete n 0)
     (λ e. grown_is v w x g (l.1 e))
     (λ full. dite (ℕ_discrete n 1)
-    (λ e. grown_is v (noticed w k) x record {
+    (λ e. grown_is v (saw_claimed w k) x record {
       live = g.live;
       alone = g.alone;
       campaign = g.campaign;
@@ -46,7 +46,7 @@ grown_loads v w x k n g l = dite (ℕ_discrete n 0)
       seen = λ q h. Contains-append_left w.seen (k ∷ []) q (g.seen q h);
       read = g.read;
     } (l.2 e))
-    (λ more. grown_is v (met w k) x record {
+    (λ more. grown_is v (saw_filed w k) x record {
       live = g.live;
       alone = g.alone;
       campaign = g.campaign;
@@ -58,7 +58,7 @@ grown_loads v w x k n g l = dite (ℕ_discrete n 0)
           λ q h. Contains-append_left w.read (k ∷ []) q (g.read q h);
     } (l.3 full more).0))
 
-grown_fits : (v w : View) (k n : ℕ) → Grown v w → FitsAt w k n → FitsAt v k n
+grown_fits : (v w : SeatKnowledge) (k n : ℕ) → Grown v w → FitsAt w k n → FitsAt v k n
 grown_fits v w k n g f =
     let into : (xs ys : List ℕ) → ys ≡ xs → Contains xs k → Contains ys k = λ xs ys e h. subst
     (λ (z : List ℕ). Contains z k) (sym e) h in
@@ -73,13 +73,13 @@ grown_fits v w k n g f =
 
 -- each word read so far fits the view, and so does 0 where there is no word; the only seat of a desk has
 -- each trial whose word is not 0
-pub record ReadSoFar (v : View) (ws : List ℕ) : Type 0 where
+pub record ReadSoFar (v : SeatKnowledge) (ws : List ℕ) : Type 0 where
   pub sole : v.alone ≡ true → (j : ℕ) → j < length ws → get_or ws j 0 ≢ 0 → Contains v.share j
   pub fits : (j : ℕ) → j < length ws → FitsAt v j (get_or ws j 0)
   pub words : (j : ℕ) → j < length ws → IsWord v.campaign j (get_or ws j 0)
   pub beyond : 0 < length ws → (j : ℕ) → v.campaign.trials ≤ j → FitsAt v j 0
 
-pub one_more : (v w x : View) (ws : List ℕ) (n : ℕ) → Grown v w → LoadsWord w (length ws) n x → ReadSoFar v ws
+pub one_more : (v w x : SeatKnowledge) (ws : List ℕ) (n : ℕ) → Grown v w → LoadsWord w (length ws) n x → ReadSoFar v ws
     → ReadSoFar v (ws ++ n ∷ [])
 one_more v w x ws n g l r =
     let k : ℕ = length ws in
@@ -152,39 +152,41 @@ pick P d (suc n) = let r = pick P d n in elim (d n) [
 ]
 
 -- claimed by another seat
-abbrev Theirs : View → List ℕ → ℕ → Type 0
+abbrev Theirs : SeatKnowledge → List ℕ → ℕ → Type 0
 Theirs v ws k = (get_or ws k 0 ≢ 0) × (Contains v.share k → ⊥)
 
 -- and filed by it
-abbrev Done : View → List ℕ → ℕ → Type 0
+abbrev Done : SeatKnowledge → List ℕ → ℕ → Type 0
 Done v ws k = Theirs v ws k × (get_or ws k 0 ≢ 1)
 
-theirs_dec : (v : View) (ws : List ℕ) (k : ℕ) → Dec (Theirs v ws k)
+theirs_dec : (v : SeatKnowledge) (ws : List ℕ) (k : ℕ) → Dec (Theirs v ws k)
 theirs_dec v ws k = elim (ℕ_discrete (get_or ws k 0) 0) [
   | yes e ↦ no (λ h. h.0 e)
   | no ne ↦ elim (contains_dec v.share k) [ yes h ↦ no (λ t. t.1 h) | no out ↦ yes (ne, out) ]
 ]
 
-done_dec : (v : View) (ws : List ℕ) (k : ℕ) → Dec (Done v ws k)
+done_dec : (v : SeatKnowledge) (ws : List ℕ) (k : ℕ) → Dec (Done v ws k)
 done_dec v ws k = elim (theirs_dec v ws k) [
   | no out ↦ no (λ h. out h.0)
   | yes t ↦ elim (ℕ_discrete (get_or ws k 0) 1) [ yes e ↦ no (λ h. h.1 e) | no ne ↦ yes (t, ne) ]
 ]
 
 -- a fact of each of one view
-one : (v : View) (P : ℕ → View → Type 0) → P 0 v → (i : ℕ) (u : View) → get_elem? (v ∷ []) i ≡ some u
+one : (v : SeatKnowledge) (P : ℕ → SeatKnowledge → Type 0) → P 0 v → (i : ℕ) (u : SeatKnowledge)
+    → get_elem? (v ∷ []) i ≡ some u
     → P i u
 one v P p zero u e = subst (P 0) (some-injective v u e) p
 one v P p (suc i) u e = absurd (some-ne-none u (sym e))
 
 -- a fact of each of two
-two : (v w : View) (P : ℕ → View → Type 0) → P 0 v → P 1 w → (i : ℕ) (u : View) → get_elem? (v ∷ w ∷ []) i
+two : (v w : SeatKnowledge) (P : ℕ → SeatKnowledge → Type 0) → P 0 v → P 1 w → (i : ℕ) (u : SeatKnowledge)
+    → get_elem? (v ∷ w ∷ []) i
     ≡ some u → P i u
 two v w P p q zero u e = subst (P 0) (some-injective v u e) p
 two v w P p q (suc zero) u e = subst (P 1) (some-injective w u e) q
 two v w P p q (suc (suc i)) u e = absurd (some-ne-none u (sym e))
 
-module _ (v : View) (ws : List ℕ) (size : length ws ≡ v.campaign.trials) (some_word : 0 < length ws)
+module _ (v : SeatKnowledge) (ws : List ℕ) (size : length ws ≡ v.campaign.trials) (some_word : 0 < length ws)
     (r : ReadSoFar v ws) where
   -- beyond the words there is none
   out : (k : ℕ) → length ws ≤ k → get_or ws k 0 ≡ 0
@@ -211,7 +213,7 @@ module _ (v : View) (ws : List ℕ) (size : length ws ≡ v.campaign.trials) (so
   -- where no other seat was ever there, this one has all trials whose words are not 0
   closing_alone : v.live ≡ true → v.alone ≡ true → AreDeskWords v ws
   closing_alone live alone =
-      let each : (P : ℕ → View → Type 0) → P 0 v → (i : ℕ) (u : View) → get_elem? (v ∷ []) i ≡ some u
+      let each : (P : ℕ → SeatKnowledge → Type 0) → P 0 v → (i : ℕ) (u : SeatKnowledge) → get_elem? (v ∷ []) i ≡ some u
       → P i u = one v in (
         record { words = ws; homes = []; views = v ∷ [] },
         0,
@@ -236,7 +238,7 @@ module _ (v : View) (ws : List ℕ) (size : length ws ≡ v.campaign.trials) (so
       let n : ℕ = length ws in
       let share = pick (Theirs v ws) (theirs_dec v ws) n in
       let filed = pick (Done v ws) (done_dec v ws) n in
-      let other : View = record {
+      let other : SeatKnowledge = record {
         live = true;
         alone = false;
         campaign = v.campaign;
@@ -260,7 +262,7 @@ module _ (v : View) (ws : List ℕ) (size : length ws ≡ v.campaign.trials) (so
         (λ h. absurd (none_in k h)),
         (λ h. absurd (none_in k h)),
       ) in
-      let each : (P : ℕ → View → Type 0) → P 0 v → P 1 other → (i : ℕ) (u : View)
+      let each : (P : ℕ → SeatKnowledge → Type 0) → P 0 v → P 1 other → (i : ℕ) (u : SeatKnowledge)
       → get_elem? (v ∷ other ∷ []) i ≡ some u → P i u = two v other in (
         record { words = ws; homes = []; views = v ∷ other ∷ [] },
         0,

@@ -6,10 +6,10 @@ use Rattle.std.proofs.lemmas.List.{get_or-set_same, get_or-set_other, length-set
 use mathlib.Core.Logic.{dite}
 use native.Mathlib.Decide.{ℕ_discrete}
 use borrow.Author.Count.{below_more}
-use Rattle.trials.specs.declared.board.View.{View}
+use Rattle.trials.specs.declared.desk_table.SeatKnowledge.{SeatKnowledge}
 use Rattle.trials.specs.Campaigns.{Plan}
 use Rattle.trials.specs.Codes.{IsCode}
-use Rattle.trials.specs.Board.{IsWord, AreDeskWords}
+use Rattle.trials.specs.LegalDesk.{IsWord, AreDeskWords}
 
 -- a word that is neither open nor claimed is a code
 pub is_code : (p : Plan) (k n : ℕ) → IsWord p k n → 2 ≤ n → IsCode p k n
@@ -17,13 +17,13 @@ is_code p k n word big = ⊎_elim (λ e. absurd (omega (arith, e, big)))
     (λ x. ⊎_elim (λ e. absurd (omega (arith, e, big))) (λ code. code) x) word
 
 -- a closed desk has a word for each trial
-pub closed_size : (p : Plan) (v : View) (ws : List ℕ) → v.campaign ≡ p → AreDeskWords v ws
+pub closed_size : (p : Plan) (v : SeatKnowledge) (ws : List ℕ) → v.campaign ≡ p → AreDeskWords v ws
     → length ws ≡ p.trials
 closed_size p v ws same h = ap (λ (l : List ℕ). length l) (sym h.4)
     ∙ (h.2.size ∙ ap (λ (q : Plan). q.trials) same)
 
 -- and each is lawful
-pub closed_words : (p : Plan) (v : View) (ws : List ℕ) → v.campaign ≡ p → AreDeskWords v ws → (k : ℕ)
+pub closed_words : (p : Plan) (v : SeatKnowledge) (ws : List ℕ) → v.campaign ≡ p → AreDeskWords v ws → (k : ℕ)
     → IsWord p k (slice_index ws k)
 closed_words p v ws same h k = subst (λ (l : List ℕ). IsWord p k (slice_index l k)) h.4
     (subst (λ (q : Plan). IsWord q k (slice_index h.0.words k)) same (h.2.words k))

@@ -14,13 +14,13 @@ use prog.Atomic.{either}
 use Rattle.atomic_table.specs.Table.{State, Me, step, keeps, stepped, Allows, Splits, Joins}
 use Rattle.atomic_table.proofs.Lists.{at_set, at_snoc, at_longer, set_here, set_else}
 use Rattle.trials.specs.Campaigns.{Plan}
-use Rattle.trials.specs.declared.board.View.{View}
+use Rattle.trials.specs.declared.desk_table.SeatKnowledge.{SeatKnowledge}
 use Rattle.judge.specs.declared.verdict.Verdict.{Verdict}
 use Rattle.judge.specs.declared.verdict.Verdict.TheVariants.{Ordered, Overlook, Cycle}
 use Rattle.trials.specs.Codes.{IsCode, end_code}
-use Rattle.trials.specs.Board.{first_view, spent_view, with_others, without_share, joined_views, claimed}
-use Rattle.trials.specs.Board.{noticed, met, completed, AreAllOpen}
-use Rattle.trials.specs.Board.{FitsAt, IsWord, Legal, Was, ClaimStep, FileStep, LookStep}
+use Rattle.trials.specs.LegalDesk.{first_view, spent_view, with_others, without_share, joined_views, claimed}
+use Rattle.trials.specs.LegalDesk.{saw_claimed, saw_filed, completed, AreAllOpen}
+use Rattle.trials.specs.LegalDesk.{FitsAt, IsWord, Legal, Was, ClaimStep, FileStep, LookStep}
 
 none_in : {X : Type 0} (x : X) → Contains [] x → ⊥
 none_in x h = omega (arith, h.1)
@@ -28,13 +28,13 @@ none_in x h = omega (arith, h.1)
 off : false ≡ true → ⊥
 off e = true≢false (sym e)
 
-in_length : (l : List View) (i : ℕ) (v : View) → get_elem? l i ≡ some v → i < length l
+in_length : (l : List SeatKnowledge) (i : ℕ) (v : SeatKnowledge) → get_elem? l i ≡ some v → i < length l
 in_length [] i v e = absurd (some-ne-none v (sym e))
 in_length (x ∷ xs) zero v e = omega arith
 in_length (x ∷ xs) (suc i) v e = let h = in_length xs i v e in omega arith
 
 -- the same word for the trial k, at any trial
-at_any : (words : List ℕ) (k n : ℕ) (v : View) → k < length words
+at_any : (words : List ℕ) (k n : ℕ) (v : SeatKnowledge) → k < length words
     → ((j : ℕ) → j ≢ k → FitsAt v j (get_or words j 0)) → FitsAt v k n → (j : ℕ)
     → FitsAt v j (get_or (set words k n) j 0)
 at_any words k n v low others here j = dite (ℕ_discrete j k)
@@ -59,11 +59,11 @@ words_any c words k n low others here j = dite (ℕ_discrete j k)
     (λ ne. subst (IsWord c j) (sym (get_or-set_other words k j n 0 ne)) (others j))
 
 -- a fact of each view, after the view of one seat changed
-each_set : (P : ℕ → View → Type 0) (views : List View) (id : ℕ) (w : View) → P id w
-    → ((j : ℕ) (u : View) → j ≢ id → get_elem? views j ≡ some u → P j u) → (j : ℕ) (u : View)
+each_set : (P : ℕ → SeatKnowledge → Type 0) (views : List SeatKnowledge) (id : ℕ) (w : SeatKnowledge) → P id w
+    → ((j : ℕ) (u : SeatKnowledge) → j ≢ id → get_elem? views j ≡ some u → P j u) → (j : ℕ) (u : SeatKnowledge)
     → get_elem? (set views id w) j ≡ some u → P j u
 each_set P views id w mine others j u e = ⊎_elim
-    (λ (x : (j ≡ id) × (w ≡ u)). subst (λ (y : ℕ × View). P y.0 y.1) (λ i. (sym x.0 i, x.1 i)) mine)
+    (λ (x : (j ≡ id) × (w ≡ u)). subst (λ (y : ℕ × SeatKnowledge). P y.0 y.1) (λ i. (sym x.0 i, x.1 i)) mine)
     (λ (x : (j ≢ id) × (get_elem? views j ≡ some u)). others j u x.0 x.1)
     (at_set views id j w u e)
 
@@ -78,29 +78,29 @@ code_big c k n h = by h.verdict h.code
     by (Some (Cycle certificate)) e = omega (arith, e)
 
 -- who has a trial still has it where the view of one seat grew
-still : (views : List View) (id : ℕ) (v w : View) → get_elem? views id ≡ some v
-    → ((q : ℕ) → Contains v.share q → Contains w.share q) → (q : ℕ) (i : ℕ) (u : View)
+still : (views : List SeatKnowledge) (id : ℕ) (v w : SeatKnowledge) → get_elem? views id ≡ some v
+    → ((q : ℕ) → Contains v.share q → Contains w.share q) → (q : ℕ) (i : ℕ) (u : SeatKnowledge)
     → get_elem? views i ≡ some u → Contains u.share q
-    → (j : ℕ) × (x : View) × (get_elem? (set views id w) j ≡ some x) × Contains x.share q
+    → (j : ℕ) × (x : SeatKnowledge) × (get_elem? (set views id w) j ≡ some x) × Contains x.share q
 still views id v w at grows q i u e has = dite (ℕ_discrete i id)
     (λ is. let same : u ≡ v = some-injective u v (sym e ∙ ap (get_elem? views) is ∙ at) in (
       id,
       w,
       set_here views id w (in_length views id v at),
-      grows q (subst (λ (x : View). Contains x.share q) same has),
+      grows q (subst (λ (x : SeatKnowledge). Contains x.share q) same has),
     ))
     (λ ne. (i, u, set_else views id i w ne ∙ e, has))
 
 -- no trial is in two shares, after the view of one seat changed
-alone_set : (views : List View) (id : ℕ) (w : View)
-    → ((i j : ℕ) (v u : View) → get_elem? views i ≡ some v → get_elem? views j ≡ some u → (k : ℕ)
+alone_set : (views : List SeatKnowledge) (id : ℕ) (w : SeatKnowledge)
+    → ((i j : ℕ) (v u : SeatKnowledge) → get_elem? views i ≡ some v → get_elem? views j ≡ some u → (k : ℕ)
     → Contains v.share k → Contains u.share k → i ≡ j)
-    → ((j : ℕ) (u : View) → j ≢ id → get_elem? views j ≡ some u → (q : ℕ) → Contains w.share q
+    → ((j : ℕ) (u : SeatKnowledge) → j ≢ id → get_elem? views j ≡ some u → (q : ℕ) → Contains w.share q
     → Contains u.share q → ⊥)
-    → (i j : ℕ) (a b : View) → get_elem? (set views id w) i ≡ some a → get_elem? (set views id w) j ≡ some b
+    → (i j : ℕ) (a b : SeatKnowledge) → get_elem? (set views id w) i ≡ some a → get_elem? (set views id w) j ≡ some b
     → (q : ℕ) → Contains a.share q → Contains b.share q → i ≡ j
 alone_set views id w was apart i j a b ea =
-    each_set (λ i a. (j : ℕ) (b : View) → get_elem? (set views id w) j ≡ some b → (q : ℕ) → Contains a.share q
+    each_set (λ i a. (j : ℕ) (b : SeatKnowledge) → get_elem? (set views id w) j ≡ some b → (q : ℕ) → Contains a.share q
     → Contains b.share q → i ≡ j) views id w
     (each_set (λ j b. (q : ℕ) → Contains w.share q → Contains b.share q → id ≡ j) views id w (λ q _ _. refl)
     (λ j u ne e q hw hu. absurd (apart j u ne e q hw hu)))
@@ -110,13 +110,13 @@ alone_set views id w was apart i j a b ea =
     i a ea j b
 
 -- The word of k becomes n and the seat's view w. Whoever has a trial of w's share is this seat
-pub moved : (c : Plan) (s : State (Unit {0}) View) (r : Legal c s) (id k n : ℕ) (v w : View)
+pub moved : (c : Plan) (s : State (Unit {0}) SeatKnowledge) (r : Legal c s) (id k n : ℕ) (v w : SeatKnowledge)
     → get_elem? s.views id ≡ some v → k < c.trials
     → IsWord c k n
     → (w.live ≡ true → w.campaign ≡ c) → (w.alone ≡ v.alone)
     → ((j : ℕ) → j ≢ k → FitsAt w j (get_or s.words j 0)) → FitsAt w k n
-    → ((j : ℕ) (u : View) → j ≢ id → get_elem? s.views j ≡ some u → FitsAt u k n)
-    → ((j : ℕ) (u : View) → j ≢ id → get_elem? s.views j ≡ some u → (q : ℕ) → Contains w.share q
+    → ((j : ℕ) (u : SeatKnowledge) → j ≢ id → get_elem? s.views j ≡ some u → FitsAt u k n)
+    → ((j : ℕ) (u : SeatKnowledge) → j ≢ id → get_elem? s.views j ≡ some u → (q : ℕ) → Contains w.share q
     → Contains u.share q → ⊥)
     → ((q : ℕ) → Contains v.share q → Contains w.share q)
     → (n ≢ 0 → Contains w.share k ⊎ (get_or s.words k 0 ≢ 0))
@@ -148,7 +148,7 @@ moved c s r id k n v w at low ok camp same mine_else mine others apart grows min
     }
 
 -- the seat's view is the same but for what it has seen, and so is the word
-pub watched : (c : Plan) (s : State (Unit {0}) View) (r : Legal c s) (id k : ℕ) (v w : View)
+pub watched : (c : Plan) (s : State (Unit {0}) SeatKnowledge) (r : Legal c s) (id k : ℕ) (v w : SeatKnowledge)
     → get_elem? s.views id ≡ some v → k < c.trials
     → (w.live ≡ v.live) → (w.campaign ≡ v.campaign) → (w.alone ≡ v.alone) → (w.share ≡ v.share)
     → ((j : ℕ) → FitsAt w j (get_or s.words j 0))
@@ -162,13 +162,13 @@ watched c s r id k v w at low live camp alone share fits c' =
     (λ full. inr full) c'
 
 -- a claim that found the word open
-claims_open : (c : Plan) (s : State (Unit {0}) View) (r : Legal c s) (id k : ℕ) (v : View)
+claims_open : (c : Plan) (s : State (Unit {0}) SeatKnowledge) (r : Legal c s) (id k : ℕ) (v : SeatKnowledge)
     → get_elem? s.views id ≡ some v → k < c.trials → get_or s.words k 0 ≡ 0
     → (c' : List (ℕ × Unit {0})) → Legal c (stepped s k 1 id c' (claimed v k) keeps)
 claims_open c s r id k v at low open' c' =
-    let none_has : (i : ℕ) (u : View) → get_elem? s.views i ≡ some u → Contains u.share k → ⊥ =
+    let none_has : (i : ℕ) (u : SeatKnowledge) → get_elem? s.views i ≡ some u → Contains u.share k → ⊥ =
     λ i u e h. (r.fits i u e k).0 h open' in
-    let none_read : (i : ℕ) (u : View) → get_elem? s.views i ≡ some u → Contains u.read k → ⊥ =
+    let none_read : (i : ℕ) (u : SeatKnowledge) → get_elem? s.views i ≡ some u → Contains u.read k → ⊥ =
     λ i u e h. let big = code_big u.campaign k (get_or s.words k 0) ((r.fits i u e k).4 h) in
     absurd (omega (arith, big, open')) in
     let f = r.fits id v at k in
@@ -200,13 +200,13 @@ claims_open c s r id k v at low open' c' =
     (λ q h. Contains-append_left v.share (k ∷ []) q h)
     (λ _. inl (Contains-push v.share k)) c'
 
-was : (c : Plan) (s : State (Unit {0}) View) (r : Legal c s) (id k : ℕ) (v : View) → v.live ≡ true
+was : (c : Plan) (s : State (Unit {0}) SeatKnowledge) (r : Legal c s) (id k : ℕ) (v : SeatKnowledge) → v.live ≡ true
     → get_elem? s.views id ≡ some v → Was v k (get_or s.words k 0)
 was c s r id k v live at = (s, id, subst (λ (z : Plan). Legal z s) (sym (r.carried id v at live)) r, at, refl)
 
-noticed_fits : (words : List ℕ) (v : View) (k : ℕ) → ((j : ℕ) → FitsAt v j (get_or words j 0))
-    → get_or words k 0 ≢ 0 → (j : ℕ) → FitsAt (noticed v k) j (get_or words j 0)
-noticed_fits words v k f full j = let g = f j in (
+saw_claimed_fits : (words : List ℕ) (v : SeatKnowledge) (k : ℕ) → ((j : ℕ) → FitsAt v j (get_or words j 0))
+    → get_or words k 0 ≢ 0 → (j : ℕ) → FitsAt (saw_claimed v k) j (get_or words j 0)
+saw_claimed_fits words v k f full j = let g = f j in (
   g.0,
   g.1,
   g.2,
@@ -215,10 +215,10 @@ noticed_fits words v k f full j = let g = f j in (
   g.4,
 )
 
-met_fits : (words : List ℕ) (v : View) (k : ℕ) → ((j : ℕ) → FitsAt v j (get_or words j 0))
-    → get_or words k 0 ≢ 0 → IsCode v.campaign k (get_or words k 0) → (j : ℕ) → FitsAt (met v k) j
+saw_filed_fits : (words : List ℕ) (v : SeatKnowledge) (k : ℕ) → ((j : ℕ) → FitsAt v j (get_or words j 0))
+    → get_or words k 0 ≢ 0 → IsCode v.campaign k (get_or words k 0) → (j : ℕ) → FitsAt (saw_filed v k) j
     (get_or words j 0)
-met_fits words v k f full is j = let g = noticed_fits words v k f full j in (
+saw_filed_fits words v k f full is j = let g = saw_claimed_fits words v k f full j in (
   g.0,
   g.1,
   g.2,
@@ -228,7 +228,7 @@ met_fits words v k f full is j = let g = noticed_fits words v k f full j in (
       (Contains-push_cases v.read k j h),
 )
 
-pub claims : (c : Plan) (slots id k : ℕ) (me : Me (Unit {0}) View) → k < c.trials → me.0.live ≡ true
+pub claims : (c : Plan) (slots id k : ℕ) (me : Me (Unit {0}) SeatKnowledge) → k < c.trials → me.0.live ≡ true
     → Allows (Legal c) slots id me k (λ n. either (eqb n 0) 1 n) (ClaimStep (step slots k 0 1 none) me)
 claims c slots id k me low live s r _ at _ = let x : ℕ = get_or s.words k 0 in dite (ℕ_discrete x 0)
     (λ hit. (
@@ -240,16 +240,16 @@ claims c slots id k me low live s r _ at _ = let x : ℕ = get_or s.words k 0 in
       (was c s r id k me.0 live at, refl, (λ _. refl), λ not. absurd (not hit)),
     ))
     (λ miss. (
-      noticed me.0 k,
+      saw_claimed me.0 k,
       keeps,
       tt,
-      subst (λ b. Legal c (stepped s k (either b 1 x) id me.1 (noticed me.0 k) keeps)) (sym (ne_eqb x 0 miss))
-          (watched c s r id k me.0 (noticed me.0 k) at low refl refl refl refl
-          (noticed_fits s.words me.0 k (r.fits id me.0 at) miss) me.1),
+      subst (λ b. Legal c (stepped s k (either b 1 x) id me.1 (saw_claimed me.0 k) keeps)) (sym (ne_eqb x 0 miss))
+          (watched c s r id k me.0 (saw_claimed me.0 k) at low refl refl refl refl
+          (saw_claimed_fits s.words me.0 k (r.fits id me.0 at) miss) me.1),
       (was c s r id k me.0 live at, refl, (λ hit. absurd (miss hit)), λ _. refl),
     ))
 
-pub looks : (c : Plan) (slots id k : ℕ) (me : Me (Unit {0}) View) → k < c.trials → me.0.live ≡ true
+pub looks : (c : Plan) (slots id k : ℕ) (me : Me (Unit {0}) SeatKnowledge) → k < c.trials → me.0.live ≡ true
     → Allows (Legal c) slots id me k (λ n. n) (LookStep (step slots k 0 0 none) me)
 looks c slots id k me low live s r _ at _ = let x : ℕ = get_or s.words k 0 in let w =
     was c s r id k me.0 live at in let f = r.fits id me.0 at in dite (ℕ_discrete x 0)
@@ -262,11 +262,11 @@ looks c slots id k me low live s r _ at _ = let x : ℕ = get_or s.words k 0 in 
     ))
     (λ full. dite (ℕ_discrete x 1)
     (λ one. (
-      noticed me.0 k,
+      saw_claimed me.0 k,
       keeps,
       tt,
-      watched c s r id k me.0 (noticed me.0 k) at low refl refl refl refl
-          (noticed_fits s.words me.0 k f full) me.1,
+      watched c s r id k me.0 (saw_claimed me.0 k) at low refl refl refl refl
+          (saw_claimed_fits s.words me.0 k f full) me.1,
       (w, refl, (λ e. absurd (full e)), (λ _. refl), λ _ not. absurd (not one)),
     ))
     (λ more.
@@ -274,15 +274,15 @@ looks c slots id k me low live s r _ at _ = let x : ℕ = get_or s.words k 0 in 
     (r.words k) in
     let mine : IsCode me.0.campaign k x = subst (λ (z : Plan). IsCode z k x) (sym (r.carried id me.0 at live))
     coded in (
-      met me.0 k,
+      saw_filed me.0 k,
       keeps,
       tt,
-      watched c s r id k me.0 (met me.0 k) at low refl refl refl refl
-          (met_fits s.words me.0 k f full mine) me.1,
+      watched c s r id k me.0 (saw_filed me.0 k) at low refl refl refl refl
+          (saw_filed_fits s.words me.0 k f full mine) me.1,
       (w, refl, (λ e. absurd (full e)), (λ e. absurd (more e)), λ _ _. (refl, mine)),
     )))
 
-pub files : (c : Plan) (slots id k n : ℕ) (me : Me (Unit {0}) View) → k < c.trials → me.0.live ≡ true
+pub files : (c : Plan) (slots id k n : ℕ) (me : Me (Unit {0}) SeatKnowledge) → k < c.trials → me.0.live ≡ true
     → Contains me.0.share k → (Contains me.0.filed k → ⊥) → IsCode me.0.campaign k n
     → Allows (Legal c) slots id me k (λ _. n) (λ _. FileStep (step slots k n 0 none) me n)
 files c slots id k n me low live has unfiled is s r _ at _ =
@@ -292,7 +292,7 @@ files c slots id k n me low live has unfiled is s r _ at _ =
     let big = code_big v.campaign k n is in
     let full : n ≢ 0 = λ e. omega (arith, e, big) in
     let coded : IsCode c k n = subst (λ (z : Plan). IsCode z k n) (r.carried id v at live) is in
-    let theirs : (j : ℕ) (u : View) → j ≢ id → get_elem? s.views j ≡ some u → Contains u.share k → ⊥ =
+    let theirs : (j : ℕ) (u : SeatKnowledge) → j ≢ id → get_elem? s.views j ≡ some u → Contains u.share k → ⊥ =
     λ j u ne e h. ne (r.alone j id u v e at k h has) in (
       completed v k,
       keeps,
@@ -328,17 +328,17 @@ files c slots id k n me low live has unfiled is s r _ at _ =
     )
 
 -- where a seat is the only one, all others are it
-only_one : (s : State (Unit {0}) View) (i j : ℕ) (v w : View) → length s.views ≡ 1
+only_one : (s : State (Unit {0}) SeatKnowledge) (i j : ℕ) (v w : SeatKnowledge) → length s.views ≡ 1
     → get_elem? s.views i ≡ some v → get_elem? s.views j ≡ some w → i ≡ j
 only_one s i j v w one at at' = omega (arith, one, in_length s.views i v at, in_length s.views j w at')
 
 -- so its share has each trial that is not open
-pub sole_share : (c : Plan) (s : State (Unit {0}) View) (r : Legal c s) (i k : ℕ) (v : View)
+pub sole_share : (c : Plan) (s : State (Unit {0}) SeatKnowledge) (r : Legal c s) (i k : ℕ) (v : SeatKnowledge)
     → get_elem? s.views i ≡ some v → v.alone ≡ true → get_or s.words k 0 ≢ 0 → Contains v.share k
 sole_share c s r i k v at alone full =
     let o = r.owned k full in
     let same : o.0 ≡ i = only_one s o.0 i o.1 v (r.sole i v at alone) o.2 at in
-    subst (λ (x : View). Contains x.share k)
+    subst (λ (x : SeatKnowledge). Contains x.share k)
     (some-injective o.1 v (sym o.2 ∙ ap (get_elem? s.views) same ∙ at)) o.3
 
 -- and a desk that is opened has no such trial
@@ -348,19 +348,19 @@ all_open c s i r at k = elim (ℕ_discrete (get_or s.words k 0) 0) [
   | no full ↦ absurd (none_in k (sole_share c s r i k (first_view c) at refl full))
 ]
 
-pub splits : (c : Plan) (id : ℕ) (v : View) → v.live ≡ true
+pub splits : (c : Plan) (id : ℕ) (v : SeatKnowledge) → v.live ≡ true
     → Splits (Legal c) id v (with_others v) (without_share v)
 splits c id v live s r at =
     let left = with_others v in
     let views = set s.views id left in
     -- a fact of each view: of the old seat's, the other old ones, and the new seat's
-    let each : (P : View → Type 0) → P left → P (without_share v)
-    → ((j : ℕ) (u : View) → j ≢ id → get_elem? s.views j ≡ some u → P u)
-    → (i : ℕ) (u : View) → get_elem? (views ++ without_share v ∷ []) i ≡ some u → P u
+    let each : (P : SeatKnowledge → Type 0) → P left → P (without_share v)
+    → ((j : ℕ) (u : SeatKnowledge) → j ≢ id → get_elem? s.views j ≡ some u → P u)
+    → (i : ℕ) (u : SeatKnowledge) → get_elem? (views ++ without_share v ∷ []) i ≡ some u → P u
     = λ P p q o i u e. ⊎_elim (λ x. each_set (λ _ w. P w) s.views id left p o i u x)
     (λ x. subst P x q) (at_snoc views (without_share v) u i e) in
-    let nothing : (u : View) → without_share v ≡ u → (k : ℕ) → Contains u.share k → ⊥ =
-    λ u x k h. none_in k (subst (λ (z : View). Contains z.share k) (sym x) h) in
+    let nothing : (u : SeatKnowledge) → without_share v ≡ u → (k : ℕ) → Contains u.share k → ⊥ =
+    λ u x k h. none_in k (subst (λ (z : SeatKnowledge). Contains z.share k) (sym x) h) in
     record {
       size = r.size;
       words = r.words;
@@ -388,7 +388,7 @@ splits c id v live s r at =
           (λ j u ne e l. ne (only_one s j id u v (r.sole j u e l) e at)) i u e l);
     }
 
-joined_fits : (v w : View) (k n : ℕ) → w.campaign ≡ v.campaign → FitsAt v k n → FitsAt w k n
+joined_fits : (v w : SeatKnowledge) (k n : ℕ) → w.campaign ≡ v.campaign → FitsAt v k n → FitsAt w k n
     → FitsAt (joined_views v w) k n
 joined_fits v w k n same f g = (
   (λ h. ⊎_elim (λ x. f.0 x) (λ x. g.0 x) (Contains-append_cases v.share w.share k h)),
@@ -417,7 +417,7 @@ gone_fits k n = (
   λ h. absurd (none_in k h),
 )
 
-pub joins : (c : Plan) (id : ℕ) (v : View) (other : ℕ) (w : View) → v.live ≡ true → w.live ≡ true
+pub joins : (c : Plan) (id : ℕ) (v : SeatKnowledge) (other : ℕ) (w : SeatKnowledge) → v.live ≡ true → w.live ≡ true
     → Joins (Legal c) id v other w (joined_views v w) spent_view
 joins c id v other w lv lw s r at ne at' =
     let both = joined_views v w in
@@ -427,9 +427,9 @@ joins c id v other w lv lw s r at ne at' =
     let here : get_elem? (set mid other spent_view) id ≡ some both = set_else mid other id spent_view
     (λ e. ne (sym e)) ∙ set_here s.views id both (in_length s.views id v at) in
     -- a view is the joined one, an old one, or nothing
-    let kinds : (P : ℕ → View → Type 0) → P id both → P other spent_view
-    → ((j : ℕ) (u : View) → j ≢ id → j ≢ other → get_elem? s.views j ≡ some u → P j u)
-    → (j : ℕ) (u : View) → get_elem? (set mid other spent_view) j ≡ some u → P j u
+    let kinds : (P : ℕ → SeatKnowledge → Type 0) → P id both → P other spent_view
+    → ((j : ℕ) (u : SeatKnowledge) → j ≢ id → j ≢ other → get_elem? s.views j ≡ some u → P j u)
+    → (j : ℕ) (u : SeatKnowledge) → get_elem? (set mid other spent_view) j ≡ some u → P j u
     = λ P p q o. each_set P mid other spent_view q
     (λ j u nj e. each_set (λ j u. j ≢ other → P j u) s.views id both (λ _. p)
     (λ j u ni e no. o j u ni no e) j u e nj) in
@@ -441,7 +441,7 @@ joins c id v other w lv lw s r at ne at' =
       fits = kinds (λ j u. (k : ℕ) → FitsAt u k (get_or s.words k 0))
           (λ k. joined_fits v w k _ same (r.fits id v at k) (r.fits other w there k)) (λ k. gone_fits k _)
           (λ j u _ _ e. r.fits j u e);
-      alone = λ i j a b ea. kinds (λ i a. (j : ℕ) (b : View) → get_elem? (set mid other spent_view) j ≡ some b
+      alone = λ i j a b ea. kinds (λ i a. (j : ℕ) (b : SeatKnowledge) → get_elem? (set mid other spent_view) j ≡ some b
           → (k : ℕ) → Contains a.share k → Contains b.share k → i ≡ j)
           (kinds (λ j b. (k : ℕ) → Contains both.share k → Contains b.share k → id ≡ j)
           (λ _ _ _. refl) (λ k _ h. absurd (none_in k h))
@@ -462,7 +462,7 @@ joins c id v other w lv lw s r at ne at' =
             both,
             here,
             Contains-append_left v.share w.share k
-                (subst (λ (x : View). Contains x.share k)
+                (subst (λ (x : SeatKnowledge). Contains x.share k)
                 (some-injective o.1 v (sym o.2 ∙ ap (get_elem? s.views) is ∙ at)) o.3),
           ))
           (λ ni. dite (ℕ_discrete o.0 other)
@@ -471,7 +471,7 @@ joins c id v other w lv lw s r at ne at' =
             both,
             here,
             Contains-append_right v.share w.share k
-                (subst (λ (x : View). Contains x.share k)
+                (subst (λ (x : SeatKnowledge). Contains x.share k)
                 (some-injective o.1 w (sym o.2 ∙ ap (get_elem? s.views) is ∙ there)) o.3),
           ))
           (λ no. (
@@ -485,7 +485,7 @@ joins c id v other w lv lw s r at ne at' =
     }
 
 -- after a claim the trial was seen at least claimed, whatever it answered
-pub seen_after : (v w : View) (k : ℕ) (b : Bool) → MatchBool b (w ≡ claimed v k) (w ≡ noticed v k)
+pub seen_after : (v w : SeatKnowledge) (k : ℕ) (b : Bool) → MatchBool b (w ≡ claimed v k) (w ≡ saw_claimed v k)
     → Contains w.seen k
-seen_after v w k true e = subst (λ (x : View). Contains x.seen k) (sym e) (Contains-push v.seen k)
-seen_after v w k false e = subst (λ (x : View). Contains x.seen k) (sym e) (Contains-push v.seen k)
+seen_after v w k true e = subst (λ (x : SeatKnowledge). Contains x.seen k) (sym e) (Contains-push v.seen k)
+seen_after v w k false e = subst (λ (x : SeatKnowledge). Contains x.seen k) (sym e) (Contains-push v.seen k)

@@ -3,6 +3,6 @@ pub mod Schedule
 pub mod Judged
 pub mod Codes
 pub mod Filing
-pub mod Board
+pub mod LegalDesk
 pub mod Looking
 pub mod OneLedger

@@ -2,10 +2,10 @@
 
 ghost use Rattle.std.specs.Prelude.{◌≡◌, ◌≢◌, ◌<◌, ℕ, Bool, true, false, [], ◌==◌, length, IfOk, MatchBool};
 ghost use Rattle.std.specs.Prelude.{Contains, replicate};
-ghost use Rattle.trials.specs.Board.{first_view, claimed, noticed, completed, AreAllOpen, AreDeskWords, Was};
+ghost use Rattle.trials.specs.LegalDesk.{first_view, claimed, saw_claimed, completed, AreAllOpen, AreDeskWords, Was};
 ghost use Rattle.trials.specs.Looking.{IsDeskSeatOf, IsLook};
 
-use crate::board::Board;
+use crate::desk_table::DeskTable;
 use crate::filed::Filed;
 use crate::seat::{Desk, DeskSeat, Look};
 use campaign::Campaign;
@@ -22,7 +22,7 @@ impl Desk {
     {
         campaign.sound();
         let words = zeros(alloc, campaign.trials())?;
-        let (table, seat) = Board::of_words(alloc, words.as_slice(), campaign)?;
+        let (table, seat) = DeskTable::of_words(alloc, words.as_slice(), campaign)?;
         let table = Arc::new(alloc, table)?;
         let again = Arc::try_clone(&table)?;
         Ok((Desk { table: again }, DeskSeat { table, seat }))
@@ -35,7 +35,7 @@ impl Desk {
         ensures seat { IsDeskSeatOf self.now seat.new }
         ensures step { (n : ℕ) × Was seat.old.seat.me.0 k n × (result ≡ (n == 0)) }
         ensures new { MatchBool result (seat.new.seat.me.0 ≡ claimed seat.old.seat.me.0 k)
-            (seat.new.seat.me.0 ≡ noticed seat.old.seat.me.0 k) }
+            (seat.new.seat.me.0 ≡ saw_claimed seat.old.seat.me.0 k) }
         ensures first { result ≡ true → (Contains seat.old.seat.me.0.seen k → ⊥)
             × (Contains seat.old.seat.me.0.share k → ⊥) }
         ensures later { Contains seat.new.seat.me.0.seen k }

@@ -3,22 +3,22 @@
 ghost use Rattle.std.specs.Prelude.{◌≡◌, ◌<◌, true, []};
 ghost use Rattle.std.specs.Arc.{arc_value};
 
-use crate::board::{Board, View};
+use crate::desk_table::{DeskTable, SeatKnowledge};
 use atomic_table::Seat;
 use std::sync::Arc;
 
 /// A word for each trial of a campaign, which any seat of the desk changes in single steps.
 #[derive(Drop)]
 pub struct Desk {
-    pub(crate) table: Arc<Board>,
+    pub(crate) table: Arc<DeskTable>,
 }
 
 /// A share of the trials, and what was seen of all.
 #[derive(Drop)]
 pub struct DeskSeat {
-    pub(crate) table: Arc<Board>,
+    pub(crate) table: Arc<DeskTable>,
     /// The seat at the words.
-    pub seat: Seat<(), View>,
+    pub seat: Seat<(), SeatKnowledge>,
     ghost seated: { seat.table_id ≡ (arc_value table).shared.table_id },
     ghost empty: { seat.me.1 ≡ [] },
     ghost live: { seat.me.0.live ≡ true },

@@ -3,11 +3,11 @@
 ghost use Rattle.std.specs.Prelude.{◌≡◌, ◌≢◌, ◌<◌, ℕ, Bool, true, false, [], ◌==◌, length, IfOk, OnErr, OnOk};
 ghost use Rattle.std.specs.Prelude.{MatchBool};
 ghost use Rattle.std.specs.Prelude.{Contains, replicate};
-ghost use Rattle.trials.specs.Board.{claimed, noticed, completed, with_others, without_share, joined_views};
-ghost use Rattle.trials.specs.Board.{AreDeskWords, Was};
+ghost use Rattle.trials.specs.LegalDesk.{claimed, saw_claimed, completed, with_others, without_share, joined_views};
+ghost use Rattle.trials.specs.LegalDesk.{AreDeskWords, Was};
 ghost use Rattle.trials.specs.Looking.{LoadsWord};
 
-use crate::board::{Beside, Claims, Files, Looks};
+use crate::desk_table::{Claims, Files, Looks, SeatRule};
 use crate::filed::Filed;
 use crate::seat::DeskSeat;
 use common::OutOfMemory;
@@ -20,7 +20,7 @@ impl DeskSeat {
         requires trial { k < self.old.seat.me.0.campaign.trials }
         ensures step { (n : ℕ) × Was self.old.seat.me.0 k n × (result ≡ (n == 0)) }
         ensures new { MatchBool result (self.new.seat.me.0 ≡ claimed self.old.seat.me.0 k)
-            (self.new.seat.me.0 ≡ noticed self.old.seat.me.0 k) }
+            (self.new.seat.me.0 ≡ saw_claimed self.old.seat.me.0 k) }
         ensures same { self.new.seat.table_id ≡ self.old.seat.table_id }
     {
         let found = self
@@ -63,7 +63,7 @@ impl DeskSeat {
             × (s.seat.me.0 ≡ without_share self.old.seat.me.0)) }
     {
         let table = Arc::try_clone(&self.table)?;
-        let seat = self.table.shared.split_seat::<Beside>(&mut self.seat);
+        let seat = self.table.shared.split_seat::<SeatRule>(&mut self.seat);
         Ok(DeskSeat { table, seat })
     }
 
@@ -78,7 +78,7 @@ impl DeskSeat {
             table: _,
             seat: second,
         } = other;
-        table.shared.join_seat::<Beside>(&mut seat, second);
+        table.shared.join_seat::<SeatRule>(&mut seat, second);
         DeskSeat { table, seat }
     }
 

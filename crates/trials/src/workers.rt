@@ -4,8 +4,8 @@ ghost use Rattle.std.specs.Prelude.{◌≡◌, ◌<◌, ◌≤◌, Contains};
 ghost use Rattle.trials.specs.Looking.{IsDeskSeatOf};
 
 use crate::filed::Filed;
+use crate::one_trial::trial;
 use crate::seat::{Desk, DeskSeat};
-use crate::trying::trial;
 use campaign::Campaign;
 use common::Gate;
 use std::alloc::Global;
@@ -14,7 +14,7 @@ use std::thread;
 use std::thread::{Scope, Threads};
 
 /// Tells the gate of a violation.
-fn tell<G: Gate>(gate: &G, worker: usize, filed: &Filed) {
+fn report_violation<G: Gate>(gate: &G, worker: usize, filed: &Filed) {
     if filed.is_violation() {
         gate.found(worker, filed.trial());
     }
@@ -42,7 +42,7 @@ pub fn try_one<G: Gate>(
         gate.begin(worker, k);
         if let Ok(filed) = trial(alloc, campaign, k) {
             desk.file(seat, &filed);
-            tell(gate, worker, &filed);
+            report_violation(gate, worker, &filed);
             gate.done(worker, k);
         }
     }

@@ -1,7 +1,7 @@
 //! Two seats at a desk.
 
 ghost use Rattle.std.specs.Prelude.{◌≡◌, ◌<◌, IfOk, OnOk};
-ghost use Rattle.trials.specs.Board.{first_view, with_others};
+ghost use Rattle.trials.specs.LegalDesk.{first_view, with_others};
 ghost use Rattle.trials.specs.Campaigns.{Plan};
 ghost use Rattle.trials.specs.Looking.{IsDeskSeatOf};
 

@@ -2,16 +2,16 @@
 
 ghost use Rattle.std.specs.Prelude.{◌≡◌, ◌<◌, ◌≤◌, ℕ, List, IfOk};
 ghost use Rattle.ledger.specs.Counts.{IsLedger};
-ghost use Rattle.trials.specs.Board.{AreDeskWords, IsWord};
+ghost use Rattle.trials.specs.LegalDesk.{AreDeskWords, IsWord};
 ghost use Rattle.trials.specs.Codes.{AreCodes, IsCode};
 ghost use Rattle.trials.specs.Looking.{IsDeskSeatOf};
 ghost use Rattle.trials.specs.OneLedger.{EveryTrialHasOneCode, EveryCampaignHasOneLedger};
 ghost use Rattle.trials.specs.OneLedger.{EveryCampaignAddsUp, EveryTrialHasItsKind};
-ghost use Rattle.trials.specs.declared.board.View.{View};
+ghost use Rattle.trials.specs.declared.desk_table.SeatKnowledge.{SeatKnowledge};
 
 use crate::law::a_campaign_has_one_ledger;
+use crate::one_trial::trial;
 use crate::seat::{Desk, DeskSeat, Look};
-use crate::trying::trial;
 use crate::workers::work_all;
 use campaign::Campaign;
 use common::{Gate, MAX_WORKERS, OutOfMemory};
@@ -66,7 +66,7 @@ fn complete(
     campaign: &Campaign,
     mut words: Vec<u64>,
 ) -> Result<Vec<u64>, OutOfMemory>
-    requires { (v : View) × (v.campaign ≡ campaign.now) × AreDeskWords v words.items }
+    requires { (v : SeatKnowledge) × (v.campaign ≡ campaign.now) × AreDeskWords v words.items }
     ensures { IfOk result (λ codes. AreCodes campaign.now codes.items) }
 {
     for k in 0..words.len() {

@@ -6,7 +6,7 @@ use std::alloc::Global;
 use std::collections::LinkedList;
 
 /// What a seat knows. No value of it is made.
-pub struct View {
+pub struct SeatKnowledge {
     /// Whether it was not merged into another.
     pub live: bool,
     /// Whether it is the only seat of its desk: no other was ever beside it.
@@ -26,8 +26,8 @@ pub struct View {
 /// A word is 0 where its trial is open, 1 where it is claimed, else its code.
 pub struct DeskRule;
 
-impl TableRule<(), View, Campaign> for DeskRule {
-    ghost use Rattle.trials.specs.Board.{Legal, first_view};
+impl TableRule<(), SeatKnowledge, Campaign> for DeskRule {
+    ghost use Rattle.trials.specs.LegalDesk.{Legal, first_view};
 
     ghost holds = { Legal };
 
@@ -37,8 +37,8 @@ impl TableRule<(), View, Campaign> for DeskRule {
 /// The compare-exchange of a claim.
 pub struct Claims;
 
-impl Play<(), View> for Claims {
-    ghost use Rattle.trials.specs.Board.{ClaimStep};
+impl Play<(), SeatKnowledge> for Claims {
+    ghost use Rattle.trials.specs.LegalDesk.{ClaimStep};
 
     ghost then = { ClaimStep };
 }
@@ -46,8 +46,8 @@ impl Play<(), View> for Claims {
 /// The store of a filing.
 pub struct Files;
 
-impl Play<(), View> for Files {
-    ghost use Rattle.trials.specs.Board.{FileStep};
+impl Play<(), SeatKnowledge> for Files {
+    ghost use Rattle.trials.specs.LegalDesk.{FileStep};
 
     ghost then = { FileStep };
 }
@@ -55,25 +55,25 @@ impl Play<(), View> for Files {
 /// The load of a look.
 pub struct Looks;
 
-impl Play<(), View> for Looks {
-    ghost use Rattle.trials.specs.Board.{LookStep};
+impl Play<(), SeatKnowledge> for Looks {
+    ghost use Rattle.trials.specs.LegalDesk.{LookStep};
 
     ghost then = { LookStep };
 }
 
 /// A second seat has an empty share and has seen the same.
-pub struct Beside;
+pub struct SeatRule;
 
-impl Split<View> for Beside {
-    ghost use Rattle.trials.specs.Board.{with_others, without_share};
+impl Split<SeatKnowledge> for SeatRule {
+    ghost use Rattle.trials.specs.LegalDesk.{with_others, without_share};
 
     ghost left = { with_others };
 
     ghost right = { without_share };
 }
 
-impl Join<View> for Beside {
-    ghost use Rattle.trials.specs.Board.{joined_views, spent_view};
+impl Join<SeatKnowledge> for SeatRule {
+    ghost use Rattle.trials.specs.LegalDesk.{joined_views, spent_view};
 
     ghost both = { joined_views };
 
@@ -81,4 +81,4 @@ impl Join<View> for Beside {
 }
 
 /// The words of a desk, under their rule.
-pub type Board = Table<(), View, Campaign, DeskRule, Global>;
+pub type DeskTable = Table<(), SeatKnowledge, Campaign, DeskRule, Global>;

@@ -1,6 +1,6 @@
 use Rattle.std.proofs.Common.{◌≡◌, ◌≤◌}
 use Rattle.trials.specs.Looking.{IsDeskSeatOf}
-use Rattle.trials.proofs.campaigning.filed_count.Given as goal
+use Rattle.trials.proofs.campaign_run.filed_count.Given as goal
 
 abbrev pub invariant-loop-k : goal.invariant-loop-k
 invariant-loop-k l =

@@ -1,7 +1,7 @@
 use Rattle.std.proofs.Common.{◌<◌, ◌∙◌, ℕ, length, arith}
 use Rattle.std.proofs.lemmas.List.{length-set}
 use Rattle.trials.proofs.Completed.{closed_size, closed_words, one_written, words_written}
-use Rattle.trials.proofs.campaigning.complete.Goals as goal
+use Rattle.trials.proofs.campaign_run.complete.Goals as goal
 
 pub loop-k-init : goal.loop-k-init
 loop-k-init c =

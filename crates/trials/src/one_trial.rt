@@ -1,4 +1,4 @@
-//! Trials.
+//! One trial.
 
 ghost use Rattle.std.specs.Prelude.{◌≡◌, ◌<◌, IfOk};
 ghost use Rattle.machine.specs.Configuration.{Configuration};

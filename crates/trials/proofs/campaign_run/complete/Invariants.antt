@@ -1,8 +1,8 @@
 use Rattle.std.proofs.Common.{◌≡◌, ◌<◌, ℕ, length}
 use Rattle.std.specs.Prelude.{slice_index}
-use Rattle.trials.specs.Board.{IsWord}
+use Rattle.trials.specs.LegalDesk.{IsWord}
 use Rattle.trials.specs.Codes.{IsCode}
-use Rattle.trials.proofs.campaigning.complete.Given as goal
+use Rattle.trials.proofs.campaign_run.complete.Given as goal
 
 -- the words so far are codes, and the others are open, claimed or codes
 abbrev pub invariant-loop-k : goal.invariant-loop-k
