@@ -1,4 +1,4 @@
-pub mod Told
+pub mod Rendered
 pub mod Run
 pub mod Reduced
 pub mod Campaign

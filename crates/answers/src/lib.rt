@@ -4,13 +4,13 @@
 mod campaigns;
 mod reduced;
 mod refusals;
+mod rendering;
 mod runs;
 mod shown;
-mod told;
 
 pub use campaigns::{campaign_answer, survey_answer, trials_answer};
 pub use reduced::{line_answer, reduced_answer};
 pub use refusals::line_fault_name;
+pub use rendering::{Rendering, rendered_answer};
 pub use runs::{finished, script_answer, seeded_answer};
 pub use shown::shown_answer;
-pub use told::{Telling, told_answer};

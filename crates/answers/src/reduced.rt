@@ -61,7 +61,7 @@ fn put_shown(
 }
 
 /// A program, an empty line, and the line of its recording with the verdict on it, behind a text.
-fn shown_behind(
+fn append_verdict(
     alloc: Global,
     mut text: Vec<u8>,
     program: &Program,
@@ -112,7 +112,7 @@ fn left_answer(
 {
     let text = heading_of(alloc, &reduced.events, headed)?;
     let left = program_left(alloc, recording, program, reduced)?;
-    shown_behind(alloc, text, &left, &reduced.recording)
+    append_verdict(alloc, text, &left, &reduced.recording)
 }
 
 /// What is left of a violation where the events alone are kept that it needs: its program, which is what is

@@ -16,8 +16,8 @@ use report::Answer;
 use std::alloc::Global;
 use trials::{Campaign, Judged, judged_end, run_trial};
 
-/// An answer behind a text and an empty line.
-fn behind(mut text: Vec<u8>, answer: Answer) -> Result<Answer, OutOfMemory>
+/// An answer after a text and an empty line.
+fn prepend_text(mut text: Vec<u8>, answer: Answer) -> Result<Answer, OutOfMemory>
     ensures { IfOk result
         (λ a. (a.outcome ≡ answer.outcome) × (a.text.items ≡ text.items ++ 10 ∷ answer.text.items)) }
 {
@@ -36,7 +36,7 @@ fn whole_run(alloc: Global, machine: Machine) -> Result<Answer, OutOfMemory>
 {
     let text = print(alloc, machine.program())?;
     let run = finished(alloc, machine)?;
-    behind(text, run)
+    prepend_text(text, run)
 }
 
 /// The same by what is judged of the machine.
@@ -51,7 +51,7 @@ fn whole_end(
 {
     let text = print(alloc, program)?;
     let run = ended(alloc, judged)?;
-    behind(text, run)
+    prepend_text(text, run)
 }
 
 /// What is left of the violation in which a run ends; none where it ends in none.

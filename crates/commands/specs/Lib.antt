@@ -9,7 +9,7 @@ pub mod Replay
 pub mod Perform
 pub mod Refusal
 pub mod Run
-pub mod Tell
+pub mod Render
 pub mod Trials
 pub mod Verify
 pub mod Survey

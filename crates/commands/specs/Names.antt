@@ -18,8 +18,8 @@ abbrev pub run_names : RunOptions → List (List ℕ)
 run_names o = string_bytes o.program ∷ maybe_name (option_map string_bytes o.steps)
 
 -- the recording, then the program where one is named
-abbrev pub tell_names : ExplainOptions → List (List ℕ)
-tell_names o = string_bytes o.file ∷ maybe_name (option_map string_bytes o.program)
+abbrev pub render_names : ExplainOptions → List (List ℕ)
+render_names o = string_bytes o.file ∷ maybe_name (option_map string_bytes o.program)
 
 -- the recording, then the text of a verdict
 abbrev pub verify_names : VerifyOptions → List (List ℕ)
@@ -36,9 +36,9 @@ names_of (Judge o) = string_bytes o.file ∷ []
 names_of (Trials o) = []
 names_of (Live o) = string_bytes o.program ∷ []
 names_of (Replay o) = string_bytes o.file ∷ []
-names_of (Explain o) = tell_names o
-names_of (Draw o) = tell_names o.recording
-names_of (Reduce o) = tell_names o
+names_of (Explain o) = render_names o
+names_of (Draw o) = render_names o.recording
+names_of (Reduce o) = render_names o
 names_of (Verify o) = verify_names o
 names_of (Survey o) = string_bytes o.file ∷ []
 names_of (Merge o) = merge_names o

@@ -10,7 +10,7 @@ use Rattle.live.specs.declared.error.LiveError.TheVariants as live
 use Rattle.program.specs.Text.{reading}
 use Rattle.machine.specs.Script.{steps_of}
 use Rattle.report.specs.declared.printed.Answer.{Answer}
-use Rattle.answers.specs.declared.told.Telling.TheVariants.{Words, Picture, Reduction}
+use Rattle.answers.specs.declared.rendering.Rendering.TheVariants.{Words, Picture, Reduction}
 use Rattle.commands.specs.declared.stop.Stop.{Stop}
 use Rattle.commands.specs.declared.stop.Stop.TheVariants.{Refused, Fault}
 use Rattle.report.specs.declared.outcome.Outcome.{Outcome}
@@ -34,7 +34,7 @@ use Rattle.commands.specs.Inputs.{AreBytesOf, AreRead, AreStopped, IsInputFault,
 use Rattle.commands.specs.Names.{names_of}
 use Rattle.commands.specs.Judge.{IsJudgedInput, IsJudgeFault}
 use Rattle.commands.specs.Replay.{IsReplayedInput, IsReplayStop}
-use Rattle.commands.specs.Tell.{IsTold, IsTellingStop}
+use Rattle.commands.specs.Render.{IsRendered, IsRenderingStop}
 use Rattle.commands.specs.Program.{IsProgramRead, IsProgramRefused, IsProgramStop}
 use Rattle.command_line.specs.Options.{AreOptions, IsFault}
 use Rattle.commands.specs.Refusal.{IsReadingStop, option_line, step_fault_name}
@@ -92,9 +92,9 @@ IsAnswerTo inputs (Judge o) answer = IsJudgedInput inputs o answer
 IsAnswerTo inputs (Trials o) answer = IsTrials o answer
 IsAnswerTo inputs (Live o) answer = IsLive inputs o answer
 IsAnswerTo inputs (Replay o) answer = IsReplayedInput inputs o answer
-IsAnswerTo inputs (Explain o) answer = IsTold inputs Words o answer
-IsAnswerTo inputs (Draw o) answer = IsTold inputs (Picture o.all) o.recording answer
-IsAnswerTo inputs (Reduce o) answer = IsTold inputs Reduction o answer
+IsAnswerTo inputs (Explain o) answer = IsRendered inputs Words o answer
+IsAnswerTo inputs (Draw o) answer = IsRendered inputs (Picture o.all) o.recording answer
+IsAnswerTo inputs (Reduce o) answer = IsRendered inputs Reduction o answer
 IsAnswerTo inputs (Verify o) answer = IsVerified inputs o answer
 IsAnswerTo inputs (Survey o) answer = IsSurveyOf inputs o answer
 IsAnswerTo inputs (Merge o) answer = IsMerged inputs o answer
@@ -107,9 +107,9 @@ IsCommandStop inputs (Judge o) (Fault fault) = IsJudgeFault inputs o fault
 IsCommandStop inputs (Trials o) stop = stop ≡ Fault fault.OutOfMemory
 IsCommandStop inputs (Live o) stop = IsLiveStop inputs o stop
 IsCommandStop inputs (Replay o) stop = IsReplayStop inputs o stop
-IsCommandStop inputs (Explain o) stop = IsTellingStop inputs o stop
-IsCommandStop inputs (Draw o) stop = IsTellingStop inputs o.recording stop
-IsCommandStop inputs (Reduce o) stop = IsTellingStop inputs o stop
+IsCommandStop inputs (Explain o) stop = IsRenderingStop inputs o stop
+IsCommandStop inputs (Draw o) stop = IsRenderingStop inputs o.recording stop
+IsCommandStop inputs (Reduce o) stop = IsRenderingStop inputs o stop
 IsCommandStop inputs (Verify o) stop = IsVerifyStop inputs o stop
 IsCommandStop inputs (Survey o) stop = IsSurveyStop inputs o stop
 IsCommandStop inputs (Merge o) stop = IsMergeStop inputs o stop

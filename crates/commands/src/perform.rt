@@ -19,14 +19,14 @@ use crate::meanings::REFUSAL_MEANINGS;
 use crate::merge_command::merge_command;
 use crate::output::put;
 use crate::refusal::option_refusal;
+use crate::render_command::render_command;
 use crate::replay_command::replay_command;
 use crate::run_command::run_command;
 use crate::stop::{Refusal, Stop};
 use crate::survey_command::{each_command, survey_command};
-use crate::tell_command::tell_command;
 use crate::trials_command::trials_command;
 use crate::verify_command::verify_command;
-use answers::Telling;
+use answers::Rendering;
 use command_line::words::options;
 use command_line::{JudgeOptions, OptionFault, Options, SurveyOptions};
 use devices::{Place, Sink};
@@ -81,12 +81,12 @@ fn answer_to<R: Threads + Wait + Sync, P: Place>(
         Options::Trials(trials) => trials_command(rt, alloc, trials, place),
         Options::Live(live) => live_command(rt, alloc, live, place),
         Options::Replay(replay) => replay_command(alloc, replay, place),
-        Options::Explain(explain) => tell_command(alloc, Telling::Words, explain, place),
+        Options::Explain(explain) => render_command(alloc, Rendering::Words, explain, place),
         Options::Draw(draw) => {
-            let telling = Telling::Picture { all: draw.all };
-            tell_command(alloc, telling, &draw.recording, place)
+            let rendering = Rendering::Picture { all: draw.all };
+            render_command(alloc, rendering, &draw.recording, place)
         }
-        Options::Reduce(reduce) => tell_command(alloc, Telling::Reduction, reduce, place),
+        Options::Reduce(reduce) => render_command(alloc, Rendering::Reduction, reduce, place),
         Options::Verify(verify) => verify_command(rt, alloc, verify, place),
         Options::Survey(survey) => survey_command(rt, alloc, survey, place),
         Options::Merge(merge) => merge_command(alloc, merge, place),

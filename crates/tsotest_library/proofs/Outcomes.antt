@@ -8,13 +8,13 @@ use Rattle.report.specs.declared.outcome.Outcome.{Outcome}
 use Rattle.report.specs.declared.outcome.Outcome.TheVariants as outcome
 use Rattle.report.specs.declared.printed.Answer.{Answer}
 use Rattle.report.specs.Answer.{IsAnswerOf, outcome_of}
-use Rattle.answers.specs.declared.told.Telling.{Telling}
-use Rattle.answers.specs.declared.told.Telling.TheVariants.{Words, Picture, Reduction}
+use Rattle.answers.specs.declared.rendering.Rendering.{Rendering}
+use Rattle.answers.specs.declared.rendering.Rendering.TheVariants.{Words, Picture, Reduction}
 use Rattle.answers.specs.Reduced.{IsReducedAnswer}
-use Rattle.answers.specs.Told.{IsToldAnswer}
+use Rattle.answers.specs.Rendered.{IsRenderedAnswer}
 use Rattle.verification.specs.Checked.{IsCheckAnswer}
 use Rattle.tsotest_library.specs.Checked.{IsCheckOf}
-use Rattle.tsotest_library.specs.Told.{IsToldByText, IsToldOf}
+use Rattle.tsotest_library.specs.Rendered.{IsRenderedByText, IsRenderedOf}
 
 -- well, as a violation or as a refusal
 abbrev pub ComesOut : Outcome → Outcome → Type 0
@@ -56,29 +56,35 @@ reduced_outcome : (x : Execution) (p : Option Parts) (a : Answer) → IsReducedA
     → ComesOut outcome.Ordered a.outcome
 reduced_outcome x p a is = one_of outcome.Ordered a.outcome (inl refl) (λ order_not violation_not.
     violation_not ((is.violation (λ m tso.
-    let told = is.ordered m tso in no_verdict told.verdict a.outcome told.outcome order_not violation_not)).outcome))
+    let rendered = is.ordered m tso in no_verdict rendered.verdict a.outcome rendered.outcome order_not
+    violation_not)).outcome))
 
 -- what is told of a recording
-told_outcome : (telling : Telling) (x : Execution) (p : Option Parts) (a : Answer) → IsToldAnswer telling x p a
+rendered_outcome : (rendering : Rendering) (x : Execution) (p : Option Parts) (a : Answer)
+    → IsRenderedAnswer rendering x p a
     → ComesOut outcome.Ordered a.outcome
-told_outcome Words x p a is = verdict_outcome is.verdict a.outcome is.outcome
-told_outcome (Picture all) x p a is = verdict_outcome is.verdict a.outcome is.outcome
-told_outcome Reduction x p a is = reduced_outcome x p a is
+rendered_outcome Words x p a is = verdict_outcome is.verdict a.outcome is.outcome
+rendered_outcome (Picture all) x p a is = verdict_outcome is.verdict a.outcome is.outcome
+rendered_outcome Reduction x p a is = reduced_outcome x p a is
 
 -- the same by the text of its program
-told_by_outcome : (telling : Telling) (x : Execution) (text : List ℕ) (a : Answer) → IsToldByText telling x text a
+rendered_by_outcome : (rendering : Rendering) (x : Execution) (text : List ℕ) (a : Answer)
+    → IsRenderedByText rendering x text a
     → ComesOut outcome.Ordered a.outcome
-told_by_outcome telling x text a (inl told) = told_outcome telling x told.program a told.told
-told_by_outcome telling x text a (inr refused) = elim refused.1 [
+rendered_by_outcome rendering x text a
+    (inl rendered) = rendered_outcome rendering x rendered.program a rendered.rendered
+rendered_by_outcome rendering x text a (inr refused) = elim refused.1 [
   | inl line ↦ inr (inr line.outcome)
   | inr other ↦ inr (inr other.outcome)
 ]
 
 -- and of the recording that the bytes are
-pub told_of_outcome : (telling : Telling) (bytes text : List ℕ) (a : Answer) → IsToldOf telling bytes text a
+pub rendered_of_outcome : (rendering : Rendering) (bytes text : List ℕ) (a : Answer)
+    → IsRenderedOf rendering bytes text a
     → ComesOut outcome.Ordered a.outcome
-told_of_outcome telling bytes text a (inl told) = told_by_outcome telling told.recording text a told.told
-told_of_outcome telling bytes text a (inr refused) = inr (inr refused.outcome)
+rendered_of_outcome rendering bytes text a
+    (inl rendered) = rendered_by_outcome rendering rendered.recording text a rendered.rendered
+rendered_of_outcome rendering bytes text a (inr refused) = inr (inr refused.outcome)
 
 -- what is answered to a verdict
 check_outcome : (x : Execution) (text : List ℕ) (a : Answer) → IsCheckAnswer x text a → ComesOut outcome.Done a.outcome

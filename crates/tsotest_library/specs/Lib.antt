@@ -1,5 +1,5 @@
 pub mod Given
 pub mod Judged
 pub mod Refused
-pub mod Told
+pub mod Rendered
 pub mod Checked

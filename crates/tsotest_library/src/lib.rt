@@ -3,10 +3,10 @@
 
 ghost use Rattle.std.specs.Prelude.{◌≡◌, ◌≤◌};
 ghost use Rattle.report.specs.declared.outcome.Outcome.TheVariants.{Done, Ordered, Refused, Violation};
-ghost use Rattle.answers.specs.declared.told.Telling.TheVariants.{Words, Picture, Reduction};
+ghost use Rattle.answers.specs.declared.rendering.Rendering.TheVariants.{Words, Picture, Reduction};
 ghost use Rattle.tsotest_library.specs.Given.{AreCodesAnswered, IsAnswered, IsNothing, IsWrittenWhole};
 ghost use Rattle.tsotest_library.specs.Judged.{IsJudgedOf};
-ghost use Rattle.tsotest_library.specs.Told.{IsToldOf};
+ghost use Rattle.tsotest_library.specs.Rendered.{IsRenderedOf};
 ghost use Rattle.tsotest_library.specs.Checked.{IsCheckOf};
 
 mod buffers;
@@ -14,11 +14,11 @@ mod checking;
 mod counting;
 mod judging;
 mod refusals;
-mod telling;
+mod rendering;
 #[cfg(test)]
 mod tests;
 
-use answers::Telling;
+use answers::Rendering;
 use common::VERSION_LINE;
 use report::Outcome;
 use std::alloc::Global;
@@ -60,14 +60,14 @@ pub extern "C" fn tsotest_explain(
 ) -> u8
     ensures status { result ≤ 3 }
     ensures allowed { result ≡ 0 →
-        IsAnswered (IsToldOf Words recording.now program.now) Ordered out.old out.new len.new }
+        IsAnswered (IsRenderedOf Words recording.now program.now) Ordered out.old out.new len.new }
     ensures no_memory { result ≡ 1 → IsNothing out.old out.new len.new }
     ensures violation { result ≡ 2 →
-        IsAnswered (IsToldOf Words recording.now program.now) Violation out.old out.new len.new }
+        IsAnswered (IsRenderedOf Words recording.now program.now) Violation out.old out.new len.new }
     ensures refused { result ≡ 3 →
-        IsAnswered (IsToldOf Words recording.now program.now) Refused out.old out.new len.new }
+        IsAnswered (IsRenderedOf Words recording.now program.now) Refused out.old out.new len.new }
 {
-    let answer = telling::told_answer_of(alloc, Telling::Words, recording, program);
+    let answer = rendering::rendered_answer_of(alloc, Rendering::Words, recording, program);
     buffers::put_answer(answer, out, len)
 }
 
@@ -84,14 +84,19 @@ pub extern "C" fn tsotest_draw(
 ) -> u8
     ensures status { result ≤ 3 }
     ensures allowed { result ≡ 0 →
-        IsAnswered (IsToldOf (Picture all) recording.now program.now) Ordered out.old out.new len.new }
+        IsAnswered (IsRenderedOf (Picture all) recording.now program.now) Ordered out.old out.new len.new }
     ensures no_memory { result ≡ 1 → IsNothing out.old out.new len.new }
     ensures violation { result ≡ 2 →
-        IsAnswered (IsToldOf (Picture all) recording.now program.now) Violation out.old out.new len.new }
+        IsAnswered (IsRenderedOf (Picture all) recording.now program.now) Violation out.old out.new len.new }
     ensures refused { result ≡ 3 →
-        IsAnswered (IsToldOf (Picture all) recording.now program.now) Refused out.old out.new len.new }
+        IsAnswered (IsRenderedOf (Picture all) recording.now program.now) Refused out.old out.new len.new }
 {
-    let answer = telling::told_answer_of(alloc, Telling::Picture { all }, recording, program);
+    let answer = rendering::rendered_answer_of(
+        alloc,
+        Rendering::Picture { all },
+        recording,
+        program,
+    );
     buffers::put_answer(answer, out, len)
 }
 
@@ -106,14 +111,14 @@ pub extern "C" fn tsotest_reduce(
 ) -> u8
     ensures status { result ≤ 3 }
     ensures allowed { result ≡ 0 →
-        IsAnswered (IsToldOf Reduction recording.now program.now) Ordered out.old out.new len.new }
+        IsAnswered (IsRenderedOf Reduction recording.now program.now) Ordered out.old out.new len.new }
     ensures no_memory { result ≡ 1 → IsNothing out.old out.new len.new }
     ensures violation { result ≡ 2 →
-        IsAnswered (IsToldOf Reduction recording.now program.now) Violation out.old out.new len.new }
+        IsAnswered (IsRenderedOf Reduction recording.now program.now) Violation out.old out.new len.new }
     ensures refused { result ≡ 3 →
-        IsAnswered (IsToldOf Reduction recording.now program.now) Refused out.old out.new len.new }
+        IsAnswered (IsRenderedOf Reduction recording.now program.now) Refused out.old out.new len.new }
 {
-    let answer = telling::told_answer_of(alloc, Telling::Reduction, recording, program);
+    let answer = rendering::rendered_answer_of(alloc, Rendering::Reduction, recording, program);
     buffers::put_answer(answer, out, len)
 }
 

@@ -6,12 +6,12 @@ use Rattle.answers.proofs.shown.whole_end.Goals as goal
 pub returns : goal.returns
 returns c =
     let run = c.in_ok-run.run' in
-    IfOk-weaker c.behind.result _ _ (λ answer is h program judged. record {
+    IfOk-weaker c.prepend_text.result _ _ (λ answer is h program judged. record {
       run = run;
       answered = c.in_ok-run.ensures h judged;
       outcome = is.0;
       text = is.1 ∙ ap (λ (l : List ℕ). l ++ 10 ∷ run.text.items) (c.in_ok-text.ensures ∙ ap spelling (sym program));
-    }) c.behind.ensures
+    }) c.prepend_text.ensures
 
 pub ended-requires : goal.ended-requires
 ended-requires c = c.requires

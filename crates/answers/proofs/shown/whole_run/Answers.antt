@@ -7,9 +7,9 @@ pub returns : goal.returns
 returns c =
     let run = c.in_ok-run.run' in
     let text = c.in_ok-text.ensures ∙ ap spelling c.program.ensures in
-    IfOk-weaker c.behind.result _ _ (λ answer is. record {
+    IfOk-weaker c.prepend_text.result _ _ (λ answer is. record {
       run = run;
       answered = c.in_ok-run.ensures;
       outcome = is.0;
       text = is.1 ∙ ap (λ (l : List ℕ). l ++ 10 ∷ run.text.items) text;
-    }) c.behind.ensures
+    }) c.prepend_text.ensures

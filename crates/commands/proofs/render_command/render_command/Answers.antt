@@ -2,7 +2,7 @@ use Rattle.std.proofs.Common.{◌∷◌, [], sym}
 use Rattle.std.specs.Prelude.{option_map, string_bytes}
 use Rattle.commands.specs.Names.{maybe_name}
 use Rattle.commands.proofs.Asking.{reads_then, stopped_again}
-use Rattle.commands.proofs.tell_command.tell_command.Goals as goal
+use Rattle.commands.proofs.render_command.render_command.Goals as goal
 
 pub returns-in_err-recording-clause-reads : goal.returns-in_err-recording-clause-reads
 returns-in_err-recording-clause-reads g c =
@@ -12,8 +12,8 @@ returns-in_err-recording-clause-reads g c =
 
 pub returns-clause-reads : goal.returns-clause-reads
 returns-clause-reads g c =
-    reads_then c.told.result (string_bytes c.args.options.now.file ∷ [])
+    reads_then c.rendered.result (string_bytes c.args.options.now.file ∷ [])
     (maybe_name (option_map string_bytes c.args.options.now.program)) (g.P.Place.asked c.args.place.now)
-    (g.P.Place.asked c.recording_at.new.place) (g.P.Place.asked c.told.new.place) (g.P.Place.tally c.args.place.now)
-    (g.P.Place.tally c.recording_at.new.place) (g.P.Place.tally c.told.new.place)
-    (rw (sym c.as_str.ensures.value) c.in_ok-recording.ensures.reads) c.told.ensures.reads
+    (g.P.Place.asked c.recording_at.new.place) (g.P.Place.asked c.rendered.new.place) (g.P.Place.tally c.args.place.now)
+    (g.P.Place.tally c.recording_at.new.place) (g.P.Place.tally c.rendered.new.place)
+    (rw (sym c.as_str.ensures.value) c.in_ok-recording.ensures.reads) c.rendered.ensures.reads

@@ -1,4 +1,4 @@
-//! What is told of a recording: its verdict in words or as a picture, or what is left of it.
+//! Renderings of a recording: its verdict in words or as a picture, or what is left of it.
 
 ghost use Rattle.common.specs.declared.limits.TheConstants.{MAX_EVENTS};
 ghost use Rattle.std.specs.Prelude.{◌≡◌, ◌≤◌, IfOk, IfSome, option_map};
@@ -6,7 +6,7 @@ ghost use Rattle.std.specs.List.{range_with_len};
 ghost use Rattle.judge.specs.declared.verdict.Verdict.{Verdict};
 ghost use Rattle.judge.specs.Verdict.{IsVerdict, Verifies};
 ghost use Rattle.drawing.specs.Drawing.{IsDrawing};
-ghost use Rattle.answers.specs.Told.{IsPicture, IsTelling, IsToldAnswer, IsWholeDrawing, names_of};
+ghost use Rattle.answers.specs.Rendered.{IsPicture, IsRendering, IsRenderedAnswer, IsWholeDrawing, names_of};
 ghost use Rattle.explanation.specs.Explanation.{IsExplanation};
 ghost use Rattle.machine.specs.ProgramOf.{IsProgramOf};
 
@@ -22,9 +22,9 @@ use reduction::{Reduced, reduce};
 use report::{Answer, outcome_of};
 use std::alloc::Global;
 
-/// What is told of a recording.
+/// How a recording is rendered.
 #[derive(Clone, Copy, Debug, PartialEq, Eq)]
-pub enum Telling {
+pub enum Rendering {
     /// Its verdict in words, as `explanation_text` has them.
     Words,
     /// Its verdict as a directed graph, as `drawing_text` has it.
@@ -129,7 +129,7 @@ fn words_answer(
     recording: &Recording,
     names: &IndexSet<Name>,
 ) -> Result<Answer, OutOfMemory>
-    ensures { IfOk result (IsTelling (IsExplanation recording.now names.now.keys) recording.now) }
+    ensures { IfOk result (IsRendering (IsExplanation recording.now names.now.keys) recording.now) }
 {
     let verdict = judge_alone(alloc, recording)?;
     let text = explanation_text(alloc, recording, names, &verdict)?;
@@ -144,7 +144,7 @@ fn picture_answer(
     recording: &Recording,
     names: &IndexSet<Name>,
 ) -> Result<Answer, OutOfMemory>
-    ensures { IfOk result (IsTelling (IsPicture all recording.now names.now.keys) recording.now) }
+    ensures { IfOk result (IsRendering (IsPicture all recording.now names.now.keys) recording.now) }
 {
     let verdict = judge_alone(alloc, recording)?;
     let text = picture_text(alloc, all, recording, names, &verdict)?;
@@ -152,23 +152,25 @@ fn picture_answer(
     Ok(Answer { outcome, text })
 }
 
-/// What is told of a recording, with the names that its program gives the addresses, or else with the usual
+/// The rendering of a recording, with the names that its program gives the addresses, or else with the usual
 /// ones; it comes out as its verdict. Fails only if out of memory.
-pub fn told_answer(
+pub fn rendered_answer(
     alloc: Global,
-    telling: Telling,
+    rendering: Rendering,
     recording: &Recording,
     program: Option<&Program>,
 ) -> Result<Answer, OutOfMemory>
     requires { IfSome program (λ p. IsProgramOf p.now recording.now) }
     ensures { IfOk result
-        (IsToldAnswer telling recording.now (option_map (λ p. p.now) program.entry)) }
+        (IsRenderedAnswer rendering recording.now (option_map (λ p. p.now) program.entry)) }
 {
-    match telling {
-        Telling::Words => { words_answer(alloc, recording, &names_of(alloc, recording, program)?) }
-        Telling::Picture { all } => {
+    match rendering {
+        Rendering::Words => {
+            words_answer(alloc, recording, &names_of(alloc, recording, program)?)
+        }
+        Rendering::Picture { all } => {
             picture_answer(alloc, all, recording, &names_of(alloc, recording, program)?)
         }
-        Telling::Reduction => reduced_answer(alloc, recording, program),
+        Rendering::Reduction => reduced_answer(alloc, recording, program),
     }
 }

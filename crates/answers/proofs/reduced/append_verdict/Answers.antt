@@ -1,6 +1,6 @@
 use Rattle.std.proofs.Common.{ℕ, List, subst, IfOk}
 use Rattle.report.specs.Answer.{IsVerdictAnswer}
-use Rattle.answers.proofs.reduced.shown_behind.Goals as goal
+use Rattle.answers.proofs.reduced.append_verdict.Goals as goal
 
 pub returns : goal.returns
 returns c = subst (λ (t : List ℕ). IfOk c.verdict_answer.result (IsVerdictAnswer c.args.recording.now t))

@@ -1,4 +1,4 @@
--- What is told of a recording, by the text of its program.
+-- Renderings of a recording, by the text of its program.
 use Rattle.std.specs.Prelude.{◌≡◌, ◌≢◌, ◌⊎◌, [], ℕ, List, Option, None, Some, Result, Ok, Err}
 use Rattle.program.specs.Parts.{Parts}
 use Rattle.program.specs.declared.program.Program.{Program}
@@ -8,8 +8,8 @@ use Rattle.recorder.specs.Reading.{IsReadingResult}
 use Rattle.machine.specs.ProgramOf.{IsProgramOf}
 use Rattle.report.specs.declared.printed.Answer.{Answer}
 use Rattle.report.specs.Answer.{IsRefusedAnswer}
-use Rattle.answers.specs.declared.told.Telling.{Telling}
-use Rattle.answers.specs.Told.{IsToldAnswer}
+use Rattle.answers.specs.declared.rendering.Rendering.{Rendering}
+use Rattle.answers.specs.Rendered.{IsRenderedAnswer}
 use Rattle.tsotest_library.specs.Refused.{IsTextRefused}
 
 -- the text is that of the program, of which the recording is one
@@ -27,22 +27,24 @@ abbrev pub IsProgramOfText : Execution → List ℕ → Option Parts → Type 0
 IsProgramOfText x text None = text ≡ []
 IsProgramOfText x text (Some program) = (text ≢ []) × IsOwn x text program
 
--- what is told of a recording, with its program
-pub record IsToldWith (telling : Telling) (x : Execution) (text : List ℕ) (answer : Answer) : Type 0 where
+-- the rendering of a recording, with its program
+pub record IsRenderedWith (rendering : Rendering) (x : Execution) (text : List ℕ) (answer : Answer) : Type 0 where
   pub program : Option Parts
   pub given : IsProgramOfText x text program
-  pub told : IsToldAnswer telling x program answer
+  pub rendered : IsRenderedAnswer rendering x program answer
 
--- what is told of it, or that the text of the program is refused
-abbrev pub IsToldByText : Telling → Execution → List ℕ → Answer → Type 0
-IsToldByText telling x text answer = IsToldWith telling x text answer ⊎ ((text ≢ []) × IsTextRefused x text answer)
+-- the rendering of it, or that the text of the program is refused
+abbrev pub IsRenderedByText : Rendering → Execution → List ℕ → Answer → Type 0
+IsRenderedByText rendering x text answer = IsRenderedWith rendering x text answer
+    ⊎ ((text ≢ []) × IsTextRefused x text answer)
 
--- what is told of the recording that the bytes are
-pub record IsToldRecording (telling : Telling) (bytes text : List ℕ) (answer : Answer) : Type 0 where
+-- the rendering of the recording that the bytes are
+pub record IsRenderedRecording (rendering : Rendering) (bytes text : List ℕ) (answer : Answer) : Type 0 where
   pub recording : Execution
   pub read : IsReadingResult bytes (Ok recording)
-  pub told : IsToldByText telling recording text answer
+  pub rendered : IsRenderedByText rendering recording text answer
 
 -- it, or that the bytes are refused, whatever the text of the program
-abbrev pub IsToldOf : Telling → List ℕ → List ℕ → Answer → Type 0
-IsToldOf telling bytes text answer = IsToldRecording telling bytes text answer ⊎ IsRefusedAnswer bytes answer
+abbrev pub IsRenderedOf : Rendering → List ℕ → List ℕ → Answer → Type 0
+IsRenderedOf rendering bytes text answer = IsRenderedRecording rendering bytes text answer
+    ⊎ IsRefusedAnswer bytes answer

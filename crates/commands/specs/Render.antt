@@ -1,4 +1,4 @@
--- What is told of a recording.
+-- Renderings of a recording.
 use Rattle.std.specs.Prelude.{◌≡◌, ◌⊎◌, ◌++◌, ◌∷◌, [], ℕ, List, Option, Some, None, codes}
 use Rattle.std.specs.Prelude.{option_map, string_bytes}
 use Rattle.program.specs.Parts.{Parts}
@@ -6,8 +6,8 @@ use Rattle.recording.specs.Execution.{Execution}
 use Rattle.machine.specs.ProgramOf.{IsProgramOf}
 use Rattle.command_line.specs.declared.options.ExplainOptions.{ExplainOptions}
 use Rattle.report.specs.declared.printed.Answer.{Answer}
-use Rattle.answers.specs.declared.told.Telling.{Telling}
-use Rattle.answers.specs.Told.{IsToldAnswer}
+use Rattle.answers.specs.declared.rendering.Rendering.{Rendering}
+use Rattle.answers.specs.Rendered.{IsRenderedAnswer}
 use Rattle.commands.specs.declared.stop.Stop.{Stop}
 use Rattle.commands.specs.declared.stop.Stop.TheVariants.{Fault}
 use Rattle.commands.specs.declared.fault.CommandFault.TheVariants.{OutOfMemory}
@@ -27,19 +27,19 @@ IsProgramBy inputs x (Some name) (Some program) = IsOwnProgram inputs x name pro
 IsProgramBy inputs x (Some name) None = ⊥
 IsProgramBy inputs x None program = program ≡ None
 
--- what is told of a recording, by its program
-pub record IsToldBy (inputs : List ℕ → Option (List ℕ)) (telling : Telling) (x : Execution)
+-- the rendering of a recording, by its program
+pub record IsRenderedBy (inputs : List ℕ → Option (List ℕ)) (rendering : Rendering) (x : Execution)
     (name : Option (List ℕ)) (answer : Answer) : Type 0 where
   pub program : Option Parts
   pub named : IsProgramBy inputs x name program
-  pub answered : IsToldAnswer telling x program answer
+  pub answered : IsRenderedAnswer rendering x program answer
 
--- what is told of the recording of the named input
-pub record IsTold (inputs : List ℕ → Option (List ℕ)) (telling : Telling) (o : ExplainOptions)
+-- the rendering of the recording of the named input
+pub record IsRendered (inputs : List ℕ → Option (List ℕ)) (rendering : Rendering) (o : ExplainOptions)
     (answer : Answer) : Type 0 where
   pub recording : Execution
   pub at : IsRecordingAt inputs (string_bytes o.file) recording
-  pub told : IsToldBy inputs telling recording (option_map string_bytes o.program) answer
+  pub told : IsRenderedBy inputs rendering recording (option_map string_bytes o.program) answer
 
 -- the recording is none of the program of this name; memory alone is left open
 pub record IsOther (inputs : List ℕ → Option (List ℕ)) (x : Execution) (name : List ℕ) (stop : Stop)
@@ -49,7 +49,7 @@ pub record IsOther (inputs : List ℕ → Option (List ℕ)) (x : Execution) (na
   pub other : ¬ IsProgramOf program x
   pub stopped : IsLineStop (codes "refused: N9" ++ 10 ∷ []) stop
 
--- why the verdict on a recording that is read is not told: its program is refused or isn't read, or is another one
+-- why a recording that is read is not rendered: its program is refused or isn't read, or is another one
 abbrev pub IsNamesStop : (List ℕ → Option (List ℕ)) → Execution → Option (List ℕ) → Stop → Type 0
 IsNamesStop inputs x (Some name) stop = IsProgramStop inputs name stop ⊎ IsOther inputs x name stop
 IsNamesStop inputs x None stop = stop ≡ Fault OutOfMemory
@@ -61,7 +61,7 @@ pub record IsStoppedByNames (inputs : List ℕ → Option (List ℕ)) (o : Expla
   pub at : IsRecordingAt inputs (string_bytes o.file) recording
   pub stops : IsNamesStop inputs recording (option_map string_bytes o.program) stop
 
--- why no verdict is told: the recording is not read, and then no program is opened, or its program
-abbrev pub IsTellingStop : (List ℕ → Option (List ℕ)) → ExplainOptions → Stop → Type 0
-IsTellingStop inputs o stop = IsRecordingStop inputs (string_bytes o.file) stop
+-- why no recording is rendered: the recording is not read, and then no program is opened, or its program
+abbrev pub IsRenderingStop : (List ℕ → Option (List ℕ)) → ExplainOptions → Stop → Type 0
+IsRenderingStop inputs o stop = IsRecordingStop inputs (string_bytes o.file) stop
     ⊎ IsStoppedByNames inputs o stop

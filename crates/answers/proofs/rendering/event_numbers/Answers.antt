@@ -1,5 +1,5 @@
 use Rattle.answers.proofs.EventNumbers.{numbers_more}
-use Rattle.answers.proofs.told.event_numbers.Goals as goal
+use Rattle.answers.proofs.rendering.event_numbers.Goals as goal
 
 pub loop-number-preserved : goal.loop-number-preserved
 loop-number-preserved c = numbers_more c.loop-number.number _ _ c.loop-number.invariant

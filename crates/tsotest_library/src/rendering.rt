@@ -1,10 +1,10 @@
-//! What is told of a recording, by the text of its program.
+//! Renderings of a recording, by the text of its program.
 
 ghost use Rattle.std.specs.Prelude.{IfOk};
-ghost use Rattle.tsotest_library.specs.Told.{IsOwnOrRefused, IsToldByText, IsToldOf};
+ghost use Rattle.tsotest_library.specs.Rendered.{IsOwnOrRefused, IsRenderedByText, IsRenderedOf};
 
 use crate::refusals::refusal_line;
-use answers::{Telling, told_answer};
+use answers::{Rendering, rendered_answer};
 use common::OutOfMemory;
 use explanation::is_program_of;
 use litmus::parse;
@@ -41,36 +41,36 @@ fn own_program(
     }
 }
 
-/// What is told of a recording by the text of its program, where that has a byte. Fails only if out of memory.
-fn told_by(
+/// The rendering of a recording by the text of its program, where that has a byte. Fails only if out of memory.
+fn rendered_by(
     alloc: Global,
-    telling: Telling,
+    rendering: Rendering,
     recording: &Recording,
     text: &[u8],
 ) -> Result<Answer, OutOfMemory>
-    ensures { IfOk result (IsToldByText telling recording.now text.now) }
+    ensures { IfOk result (IsRenderedByText rendering recording.now text.now) }
 {
     if text.is_empty() {
-        return told_answer(alloc, telling, recording, None);
+        return rendered_answer(alloc, rendering, recording, None);
     }
     match own_program(alloc, recording, text)? {
-        Ok(program) => told_answer(alloc, telling, recording, Some(&program)),
+        Ok(program) => rendered_answer(alloc, rendering, recording, Some(&program)),
         Err(refused) => Ok(refused),
     }
 }
 
-/// What is told of the recording that the bytes are, by the text of its program, where that has a byte, or the line
+/// The rendering of the recording that the bytes are, by the text of its program, where that has a byte, or the line
 /// that refuses the one or the other. Fails only if out of memory.
-pub(crate) fn told_answer_of(
+pub(crate) fn rendered_answer_of(
     alloc: Global,
-    telling: Telling,
+    rendering: Rendering,
     bytes: &[u8],
     text: &[u8],
 ) -> Result<Answer, OutOfMemory>
-    ensures { IfOk result (IsToldOf telling bytes.now text.now) }
+    ensures { IfOk result (IsRenderedOf rendering bytes.now text.now) }
 {
     match read_or_refuse(alloc, bytes)? {
-        Ok(recording) => told_by(alloc, telling, &recording, text),
+        Ok(recording) => rendered_by(alloc, rendering, &recording, text),
         Err(refused) => Ok(refused),
     }
 }

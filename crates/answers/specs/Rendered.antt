@@ -1,4 +1,4 @@
--- What is told of a recording: its verdict in words or as a picture, or what is left of it.
+-- Renderings of a recording: its verdict in words or as a picture, or what is left of it.
 use Rattle.std.specs.Prelude.{◌≡◌, ℕ, Bool, true, false, Option, Some, None, List, length}
 use Rattle.std.specs.List.{range_with_len}
 use Rattle.program.specs.declared.name.Name.{Name}
@@ -13,8 +13,8 @@ use Rattle.explanation.specs.Explanation.{IsExplanation}
 use Rattle.drawing.specs.Drawing.{IsDrawing}
 use Rattle.report.specs.declared.printed.Answer.{Answer}
 use Rattle.report.specs.Answer.{outcome_of}
-use Rattle.answers.specs.declared.told.Telling.{Telling}
-use Rattle.answers.specs.declared.told.Telling.TheVariants.{Words, Picture, Reduction}
+use Rattle.answers.specs.declared.rendering.Rendering.{Rendering}
+use Rattle.answers.specs.declared.rendering.Rendering.TheVariants.{Words, Picture, Reduction}
 use Rattle.answers.specs.Reduced.{IsReducedAnswer}
 
 -- the text is a picture of all events of a recording
@@ -43,14 +43,14 @@ names_of (Some p) x = p.names
 names_of None x = address_names (length x.write_lists)
 
 -- a text that tells the verdict on a recording, and how it comes out
-pub record IsTelling (tells : Verdict → List ℕ → Type 0) (x : Execution) (answer : Answer) : Type 0 where
+pub record IsRendering (tells : Verdict → List ℕ → Type 0) (x : Execution) (answer : Answer) : Type 0 where
   pub verdict : Verdict
   pub found : IsVerdict x verdict
   pub outcome : answer.outcome ≡ outcome_of verdict
   pub told : tells verdict answer.text.items
 
--- what is told of a recording, with the names of its program, if that is given
-abbrev pub IsToldAnswer : Telling → Execution → Option Parts → Answer → Type 0
-IsToldAnswer Words x p answer = IsTelling (IsExplanation x (names_of p x)) x answer
-IsToldAnswer (Picture all) x p answer = IsTelling (IsPicture all x (names_of p x)) x answer
-IsToldAnswer Reduction x p answer = IsReducedAnswer x p answer
+-- the rendering of a recording, with the names of its program, if that is given
+abbrev pub IsRenderedAnswer : Rendering → Execution → Option Parts → Answer → Type 0
+IsRenderedAnswer Words x p answer = IsRendering (IsExplanation x (names_of p x)) x answer
+IsRenderedAnswer (Picture all) x p answer = IsRendering (IsPicture all x (names_of p x)) x answer
+IsRenderedAnswer Reduction x p answer = IsReducedAnswer x p answer

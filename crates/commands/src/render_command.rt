@@ -1,12 +1,12 @@
 //! The commands `explain`, `draw` and `reduce`.
 ghost use Rattle.std.specs.Prelude.{◌∷◌, [], IfErr, IfOk, Some, option_map, string_bytes};
 ghost use Rattle.commands.specs.Inputs.{CanRead, Reads, seen};
-ghost use Rattle.commands.specs.Names.{maybe_name, tell_names};
-ghost use Rattle.commands.specs.Tell.{IsNamesStop, IsOwnProgram, IsTellingStop, IsTold, IsToldBy};
+ghost use Rattle.commands.specs.Names.{maybe_name, render_names};
+ghost use Rattle.commands.specs.Render.{IsNamesStop, IsOwnProgram, IsRenderingStop, IsRendered, IsRenderedBy};
 
 use crate::named::{program_at, recording_at};
 use crate::stop::Stop;
-use answers::{Telling, told_answer};
+use answers::{Rendering, rendered_answer};
 use command_line::ExplainOptions;
 use devices::Place;
 use explanation::is_program_of;
@@ -36,34 +36,34 @@ fn own_program<P: Place>(
     }
 }
 
-/// What is told of a recording, by the program of this name.
+/// The rendering of a recording, by the program of this name.
 fn named_answer<P: Place>(
     alloc: Global,
-    telling: Telling,
+    rendering: Rendering,
     recording: &Recording,
     name: &str,
     place: &mut P,
 ) -> Result<Answer, Stop>
     requires { CanRead (P.tally place.old) }
-    ensures ok { IfOk result (IsToldBy (P.bytes place.old) telling recording.now (Some name.now)) }
+    ensures ok { IfOk result (IsRenderedBy (P.bytes place.old) rendering recording.now (Some name.now)) }
     ensures err { IfErr result (IsNamesStop (P.bytes place.old) recording.now (Some name.now)) }
     ensures reads { Reads (name.now ∷ []) (seen (P.asked place.old) (P.asked place.new)
         (P.tally place.old) (P.tally place.new)) result }
 {
     let program = own_program(alloc, recording, name, place)?;
-    Ok(told_answer(alloc, telling, recording, Some(&program))?)
+    Ok(rendered_answer(alloc, rendering, recording, Some(&program))?)
 }
 
-/// What is told of a recording, by the program that the options name.
-fn told<P: Place>(
+/// The rendering of a recording, by the program that the options name.
+fn rendered<P: Place>(
     alloc: Global,
-    telling: Telling,
+    rendering: Rendering,
     recording: &Recording,
     options: &ExplainOptions,
     place: &mut P,
 ) -> Result<Answer, Stop>
     requires { CanRead (P.tally place.old) }
-    ensures ok { IfOk result (IsToldBy (P.bytes place.old) telling recording.now
+    ensures ok { IfOk result (IsRenderedBy (P.bytes place.old) rendering recording.now
         (option_map string_bytes options.now.program)) }
     ensures err { IfErr result (IsNamesStop (P.bytes place.old) recording.now
         (option_map string_bytes options.now.program)) }
@@ -71,24 +71,24 @@ fn told<P: Place>(
         (P.asked place.new) (P.tally place.old) (P.tally place.new)) result }
 {
     match &options.program {
-        Some(name) => named_answer(alloc, telling, recording, name.as_str(), place),
-        None => Ok(told_answer(alloc, telling, recording, None)?),
+        Some(name) => named_answer(alloc, rendering, recording, name.as_str(), place),
+        None => Ok(rendered_answer(alloc, rendering, recording, None)?),
     }
 }
 
-/// Tells of the recording of a named input; it is read before the program is opened.
-pub fn tell_command<P: Place>(
+/// Renders the recording of a named input; it is read before the program is opened.
+pub fn render_command<P: Place>(
     alloc: Global,
-    telling: Telling,
+    rendering: Rendering,
     options: &ExplainOptions,
     place: &mut P,
 ) -> Result<Answer, Stop>
     requires { CanRead (P.tally place.old) }
-    ensures ok { IfOk result (IsTold (P.bytes place.old) telling options.now) }
-    ensures err { IfErr result (IsTellingStop (P.bytes place.old) options.now) }
-    ensures reads { Reads (tell_names options.now) (seen (P.asked place.old) (P.asked place.new)
+    ensures ok { IfOk result (IsRendered (P.bytes place.old) rendering options.now) }
+    ensures err { IfErr result (IsRenderingStop (P.bytes place.old) options.now) }
+    ensures reads { Reads (render_names options.now) (seen (P.asked place.old) (P.asked place.new)
         (P.tally place.old) (P.tally place.new)) result }
 {
     let recording = recording_at(alloc, place, options.file.as_str())?;
-    told(alloc, telling, &recording, options, place)
+    rendered(alloc, rendering, &recording, options, place)
 }
