@@ -5,8 +5,8 @@ use Rattle.std.proofs.lemmas.List.{append-nil, take-append-drop, take_more}
 use Rattle.devices.specs.declared.place.Tally.{Tally}
 use Rattle.devices.specs.Places.{Notes}
 use Rattle.commands.specs.declared.fault.CommandFault.TheVariants.{OutOfMemory}
-use Rattle.commands.specs.declared.stop.Stop.{Stop}
-use Rattle.commands.specs.declared.stop.Stop.TheVariants.{Refused, Fault}
+use Rattle.commands.specs.declared.command_error.CommandError.{CommandError}
+use Rattle.commands.specs.declared.command_error.CommandError.TheVariants.{Refused, Fault}
 use Rattle.commands.specs.Inputs.{AreEnded, AreRead, AreStopped, Reads, Seen, failed_reads, seen}
 
 -- nothing was asked for
@@ -24,7 +24,7 @@ notes_then (Some a) (Some b) (Some c) xs ys first then =
     then ∙ ap (λ (l : List (List ℕ)). l ++ ys) first ∙ append_assoc a xs ys
 
 -- where all was read, no read failed
-pub stopped_later : (names : List (List ℕ)) (stop : Stop) (s : Seen) → failed_reads stop ≡ 0 → AreRead names s
+pub stopped_later : (names : List (List ℕ)) (stop : CommandError) (s : Seen) → failed_reads stop ≡ 0 → AreRead names s
     → AreStopped names stop s
 stopped_later names stop s none read = record {
   front = names;
@@ -36,19 +36,20 @@ stopped_later names stop s none read = record {
   ended = go stop;
 }
   where
-    go : (stop : Stop) → AreEnded stop s
+    go : (stop : CommandError) → AreEnded stop s
     go (Refused refusal) = ap (λ (t : Tally). t.unended) read.1
     go (Fault fault) = tt
 
 -- without memory all was read
-pub memory_stopped : {X : Type 0} (r : Result X Stop) (names : List (List ℕ)) (s : Seen) → AreRead names s
+pub memory_stopped : {X : Type 0} (r : Result X CommandError) (names : List (List ℕ)) (s : Seen) → AreRead names s
     → IsErrAnd r (λ stop. stop ≡ Fault OutOfMemory) → Reads names s r
 memory_stopped (Ok x) names s read wanting = absurd wanting
 memory_stopped (Err stop) names s read wanting =
-    subst (λ (t : Stop). AreStopped names t s) (sym wanting) (stopped_later names (Fault OutOfMemory) s refl read)
+    subst (λ (t : CommandError). AreStopped names t s) (sym wanting)
+    (stopped_later names (Fault OutOfMemory) s refl read)
 
 -- what stops before more names would be asked for
-pub stopped_before : (xs ys : List (List ℕ)) (stop : Stop) (s : Seen) → AreStopped xs stop s
+pub stopped_before : (xs ys : List (List ℕ)) (stop : CommandError) (s : Seen) → AreStopped xs stop s
     → AreStopped (xs ++ ys) stop s
 stopped_before xs ys stop s h = record {
   front = h.front;
@@ -61,21 +62,21 @@ stopped_before xs ys stop s h = record {
 }
 
 -- the same of what hands the stop on
-pub stopped_again : {X : Type 0} (r : Result X Stop) (xs ys : List (List ℕ)) (stop : Stop) (s : Seen)
+pub stopped_again : {X : Type 0} (r : Result X CommandError) (xs ys : List (List ℕ)) (stop : CommandError) (s : Seen)
     → AreStopped xs stop s → IsErrAnd r (λ e. e ≡ stop) → Reads (xs ++ ys) s r
 stopped_again (Ok x) xs ys stop s h same = absurd same
 stopped_again (Err e) xs ys stop s h same =
-    subst (λ (t : Stop). AreStopped (xs ++ ys) t s) (sym same) (stopped_before xs ys stop s h)
+    subst (λ (t : CommandError). AreStopped (xs ++ ys) t s) (sym same) (stopped_before xs ys stop s h)
 
 -- without memory nothing was to be read
-pub none_read : {X : Type 0} (r : Result X Stop) (a : Option (List (List ℕ))) (t : Tally)
+pub none_read : {X : Type 0} (r : Result X CommandError) (a : Option (List (List ℕ))) (t : Tally)
     → IfErr r (λ stop. stop ≡ Fault OutOfMemory) → Reads [] (seen a a t t) r
 none_read (Ok x) a t wanting = (notes_none a, refl)
-none_read (Err stop) a t wanting = subst (λ (e : Stop). AreStopped [] e (seen a a t t)) (sym wanting)
+none_read (Err stop) a t wanting = subst (λ (e : CommandError). AreStopped [] e (seen a a t t)) (sym wanting)
     (stopped_later [] (Fault OutOfMemory) (seen a a t t) refl (notes_none a, refl))
 
 -- what stops after others were read
-stopped_after : (xs ys : List (List ℕ)) (stop : Stop) (a b c : Option (List (List ℕ))) (t u v : Tally)
+stopped_after : (xs ys : List (List ℕ)) (stop : CommandError) (a b c : Option (List (List ℕ))) (t u v : Tally)
     → AreRead xs (seen a b t u) → AreStopped ys stop (seen b c u v) → AreStopped (xs ++ ys) stop (seen a c t v)
 stopped_after xs ys stop a b c t u v read h = record {
   front = xs ++ h.front;
@@ -87,12 +88,12 @@ stopped_after xs ys stop a b c t u v read h = record {
   ended = go stop h.ended;
 }
   where
-    go : (stop : Stop) → AreEnded stop (seen b c u v) → AreEnded stop (seen a c t v)
+    go : (stop : CommandError) → AreEnded stop (seen b c u v) → AreEnded stop (seen a c t v)
     go (Refused refusal) same = same ∙ ap (λ (t : Tally). t.unended) read.1
     go (Fault fault) same = tt
 
 -- some were read, then others or not
-pub reads_then : {X : Type 0} (r : Result X Stop) (xs ys : List (List ℕ)) (a b c : Option (List (List ℕ)))
+pub reads_then : {X : Type 0} (r : Result X CommandError) (xs ys : List (List ℕ)) (a b c : Option (List (List ℕ)))
     (t u v : Tally) → AreRead xs (seen a b t u) → Reads ys (seen b c u v) r → Reads (xs ++ ys) (seen a c t v) r
 reads_then (Ok x) xs ys a b c t u v read h = (notes_then a b c xs ys read.0 h.0, h.1 ∙ read.1)
 reads_then (Err stop) xs ys a b c t u v read h = stopped_after xs ys stop a b c t u v read h
@@ -108,7 +109,8 @@ read_more names i name a b c t u v low is read one =
     (ap (λ (n : List ℕ). take i names ++ n ∷ []) is ∙ sym (take_more names i [] low)) all
 
 -- one input more was not read
-pub stopped_among : (names : List (List ℕ)) (i : ℕ) (name : List ℕ) (stop : Stop) (a b c : Option (List (List ℕ)))
+pub stopped_among : (names : List (List ℕ)) (i : ℕ) (name : List ℕ) (stop : CommandError)
+    (a b c : Option (List (List ℕ)))
     (t u v : Tally) → i < length names → name ≡ get_or names i [] → AreRead (take i names) (seen a b t u)
     → AreStopped (name ∷ []) stop (seen b c u v) → AreStopped names stop (seen a c t v)
 stopped_among names i name stop a b c t u v low is read one =
@@ -120,7 +122,7 @@ stopped_among names i name stop a b c t u v low is read one =
     (stopped_after (take i names) (name ∷ []) stop a b c t u v read one))
 
 -- the first inputs were read, and no more
-pub stopped_behind : (names : List (List ℕ)) (i : ℕ) (stop : Stop) (s : Seen) → failed_reads stop ≡ 0
+pub stopped_behind : (names : List (List ℕ)) (i : ℕ) (stop : CommandError) (s : Seen) → failed_reads stop ≡ 0
     → AreRead (take i names) s → AreStopped names stop s
 stopped_behind names i stop s none read =
     subst (λ (l : List (List ℕ)). AreStopped l stop s) (take-append-drop i names)

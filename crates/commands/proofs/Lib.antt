@@ -1,7 +1,7 @@
 pub mod Asked
 pub mod Printed
 pub mod Threaded
-pub mod Stops
+pub mod CommandErrors
 pub mod Asking
 pub mod Given
 pub mod Surveyed

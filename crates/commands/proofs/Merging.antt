@@ -19,10 +19,10 @@ use Rattle.report.specs.declared.outcome.Outcome.{Outcome}
 use Rattle.report.specs.declared.outcome.Outcome.TheVariants.{Refused, Unfinished}
 use Rattle.report.specs.declared.printed.Answer.{Answer}
 use Rattle.answers.specs.Campaign.{ledger_outcome}
-use Rattle.commands.specs.declared.stop.Stop.{Stop}
-use Rattle.commands.specs.declared.stop.Stop.TheVariants as stop
+use Rattle.commands.specs.declared.command_error.CommandError.{CommandError}
+use Rattle.commands.specs.declared.command_error.CommandError.TheVariants as stop
 use Rattle.commands.specs.Inputs.{AreBytesOf, AreRead, Reads, Seen}
-use Rattle.commands.specs.Merge.{AreGiven, IsMergeAnswer, IsMerged, IsMergedAnswer, IsMergeStop, IsTextsStop}
+use Rattle.commands.specs.Merge.{AreGiven, IsMergeAnswer, IsMerged, IsMergedAnswer, IsMergeError, IsTextsError}
 use Rattle.commands.specs.Names.{merge_names}
 use Rattle.commands.proofs.Asking.{stopped_later}
 
@@ -90,15 +90,17 @@ given_more inputs names texts text i size before here k low =
     ])
 
 -- the answer of merge
-pub merged_of : (inputs : List ℕ → Option (List ℕ)) (o : MergeOptions) (texts : List (List ℕ)) (r : Result Answer Stop)
+pub merged_of : (inputs : List ℕ → Option (List ℕ)) (o : MergeOptions) (texts : List (List ℕ))
+    (r : Result Answer CommandError)
     → AreGiven inputs (merge_names o) texts → IfOk r (IsMergeAnswer texts) → IfOk r (IsMerged inputs o)
 merged_of inputs o texts (Ok answer) given is = record { texts = texts; given = given; answered = is }
 merged_of inputs o texts (Err stop) given is = tt
 
 -- why it stops
-pub stop_of : (inputs : List ℕ → Option (List ℕ)) (o : MergeOptions) (texts : List (List ℕ)) (r : Result Answer Stop)
-    → 0 < length o.files.items → AreGiven inputs (merge_names o) texts → IfErr r (IsTextsStop (merge_names o) texts)
-    → IfErr r (IsMergeStop inputs o)
+pub stop_of : (inputs : List ℕ → Option (List ℕ)) (o : MergeOptions) (texts : List (List ℕ))
+    (r : Result Answer CommandError)
+    → 0 < length o.files.items → AreGiven inputs (merge_names o) texts → IfErr r (IsTextsError (merge_names o) texts)
+    → IfErr r (IsMergeError inputs o)
 stop_of inputs o texts (Ok answer) some given is = tt
 stop_of inputs o texts (Err (stop.Refused refusal)) some given is = (texts, given, is)
 stop_of inputs o texts (Err (stop.Fault fault)) some given is =
@@ -106,8 +108,8 @@ stop_of inputs o texts (Err (stop.Fault fault)) some given is =
     (0, omega (arith, names, some), rw is tt)
 
 -- all was read before it stops
-pub texts_read : (names texts : List (List ℕ)) (r : Result Answer Stop) (s : Seen) → AreRead names s
-    → IfErr r (IsTextsStop names texts) → Reads names s r
+pub texts_read : (names texts : List (List ℕ)) (r : Result Answer CommandError) (s : Seen) → AreRead names s
+    → IfErr r (IsTextsError names texts) → Reads names s r
 texts_read names texts (Ok answer) s read is = read
 texts_read names texts (Err (stop.Refused refusal)) s read is = stopped_later names (stop.Refused refusal) s refl read
 texts_read names texts (Err (stop.Fault fault)) s read is =

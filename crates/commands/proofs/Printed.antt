@@ -14,12 +14,12 @@ use Rattle.report.specs.declared.outcome.Outcome.{Outcome}
 use Rattle.report.specs.declared.printed.Answer.{Answer}
 use Rattle.commands.specs.declared.fault.CommandFault.{CommandFault}
 use Rattle.commands.specs.declared.fault.CommandFault.TheVariants.{WriteFailed}
-use Rattle.commands.specs.declared.stop.Stop.{Stop}
+use Rattle.commands.specs.declared.command_error.CommandError.{CommandError}
 use Rattle.commands.specs.Inputs.{AreRead, Reads, ReadsAll, ReadsInput, Seen, seen}
 use Rattle.commands.specs.Judge.{IsJudgedInput}
 use Rattle.commands.specs.Names.{names_of}
 use Rattle.commands.specs.Output.{IsBegun, IsPut}
-use Rattle.commands.specs.Perform.{IsAnswerTo, IsCommandStop, IsHelp, IsOptionStop, IsPrintedFor}
+use Rattle.commands.specs.Perform.{IsAnswerTo, IsCommandError, IsHelp, IsOptionError, IsPrintedFor}
 use Rattle.commands.specs.Perform.{IsPrintedWithout, IsShown, IsWritten, IsWrittenFor}
 use Rattle.commands.specs.Survey.{IsEachWritten}
 
@@ -97,8 +97,8 @@ judged_begun inputs o s before after r begun reads failed =
     }
 
 -- what is shown of what another command answers
-pub shown_printed : (inputs : List ℕ → Option (List ℕ)) (o : Options) (s : Seen) (answered : Result Answer Stop)
-    (printed : Answer) → IfOk answered (IsAnswerTo inputs o) → IfErr answered (IsCommandStop inputs o)
+pub shown_printed : (inputs : List ℕ → Option (List ℕ)) (o : Options) (s : Seen) (answered : Result Answer CommandError)
+    (printed : Answer) → IfOk answered (IsAnswerTo inputs o) → IfErr answered (IsCommandError inputs o)
     → Reads (names_of o) s answered → IsShown answered printed → IsPrintedFor inputs o s printed
 shown_printed inputs o s (Ok answer) printed is stop reads shown =
     inl (subst (λ (a : Answer). IsAnswerTo inputs o a) (sym shown) is, reads)
@@ -106,8 +106,8 @@ shown_printed inputs o s (Err stop) printed is stops reads shown = inr (stop, st
 
 -- the same after the place was told what is refused
 pub shown_after : (inputs : List ℕ → Option (List ℕ)) (o : Options) (a b c : Option (List (List ℕ)))
-    (t u v : Tally) (answered : Result Answer Stop) (printed : Answer) → c ≡ b → v ≡ u
-    → IfOk answered (IsAnswerTo inputs o) → IfErr answered (IsCommandStop inputs o)
+    (t u v : Tally) (answered : Result Answer CommandError) (printed : Answer) → c ≡ b → v ≡ u
+    → IfOk answered (IsAnswerTo inputs o) → IfErr answered (IsCommandError inputs o)
     → Reads (names_of o) (seen a b t u) answered → IsShown answered printed
     → IsPrintedFor inputs o (seen a c t v) printed
 shown_after inputs o a b c t u v answered printed asked tally is stops reads shown =
@@ -133,8 +133,8 @@ unwritten_more (Ok outcome) early at_once same not is = tt
 unwritten_more (Err fault) early at_once same not is = λ other once. is other (not once)
 
 -- what is shown without options
-pub shown_without : (fault : OptionFault) (s : Seen) (answered : Result Answer Stop) (printed : Answer)
-    → IfOk answered (IsHelp fault) → IfErr answered (IsOptionStop fault) → AreRead [] s → IsShown answered printed
+pub shown_without : (fault : OptionFault) (s : Seen) (answered : Result Answer CommandError) (printed : Answer)
+    → IfOk answered (IsHelp fault) → IfErr answered (IsOptionError fault) → AreRead [] s → IsShown answered printed
     → IsPrintedWithout fault s printed
 shown_without fault s (Ok answer) printed is stop read shown =
     (inl (subst (λ (a : Answer). IsHelp fault a) (sym shown) is), read)

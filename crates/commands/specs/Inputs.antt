@@ -6,8 +6,8 @@ use Rattle.devices.specs.Places.{Notes}
 use Rattle.commands.specs.declared.fault.CommandFault.{CommandFault}
 use Rattle.commands.specs.declared.fault.CommandFault.TheVariants.{CannotOpen, ReadFailed, WriteFailed}
 use Rattle.commands.specs.declared.fault.CommandFault.TheVariants.{OutOfMemory}
-use Rattle.commands.specs.declared.stop.Stop.{Stop}
-use Rattle.commands.specs.declared.stop.Stop.TheVariants.{Refused, Fault}
+use Rattle.commands.specs.declared.command_error.CommandError.{CommandError}
+use Rattle.commands.specs.declared.command_error.CommandError.TheVariants.{Refused, Fault}
 
 -- the bytes are those of the input of this name, where these are known
 abbrev pub AreBytesOf : (List ℕ → Option (List ℕ)) → List ℕ → List ℕ → Type 0
@@ -42,18 +42,18 @@ abbrev pub AreRead : List (List ℕ) → Seen → Type 0
 AreRead names s = Notes s.asked_before s.asked_after names × (s.after ≡ s.before)
 
 -- how many reads failed where a command stops
-abbrev pub failed_reads : Stop → ℕ
+abbrev pub failed_reads : CommandError → ℕ
 failed_reads (Fault ReadFailed) = 1
 failed_reads other = 0
 
 -- where a text is refused, each input that was opened was read to its end
-abbrev pub AreEnded : Stop → Seen → Type 0
+abbrev pub AreEnded : CommandError → Seen → Type 0
 AreEnded (Refused refusal) s = s.after.unended ≡ s.before.unended
 AreEnded (Fault fault) s = ⊤
 
 -- some of the names, from the first on, were asked for, in this order, each once; each input that was opened was taken
 -- back; a read failed exactly where this is why the command stops
-pub record AreStopped (names : List (List ℕ)) (stop : Stop) (s : Seen) : Type 0 where
+pub record AreStopped (names : List (List ℕ)) (stop : CommandError) (s : Seen) : Type 0 where
   pub front : List (List ℕ)
   pub rest : List (List ℕ)
   pub parts : names ≡ front ++ rest
@@ -63,7 +63,7 @@ pub record AreStopped (names : List (List ℕ)) (stop : Stop) (s : Seen) : Type 
   pub ended : AreEnded stop s
 
 -- the inputs of these names were read, or not all were
-abbrev pub Reads : {X : Type 0} → List (List ℕ) → Seen → Result X Stop → Type 0
+abbrev pub Reads : {X : Type 0} → List (List ℕ) → Seen → Result X CommandError → Type 0
 Reads names s (Ok x) = AreRead names s
 Reads names s (Err stop) = AreStopped names stop s
 

@@ -1,5 +1,5 @@
 pub mod Inputs
-pub mod Stop
+pub mod CommandErrors
 pub mod Names
 pub mod Output
 pub mod Judge

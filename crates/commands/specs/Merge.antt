@@ -16,8 +16,8 @@ use Rattle.answers.specs.Campaign.{IsTrialsAnswer}
 use Rattle.answers.specs.Survey.{IsSurveyAnswer}
 use Rattle.commands.specs.declared.fault.CommandFault.{CommandFault}
 use Rattle.commands.specs.declared.fault.CommandFault.TheVariants.{OutOfMemory}
-use Rattle.commands.specs.declared.stop.Stop.{Stop}
-use Rattle.commands.specs.declared.stop.Stop.TheVariants.{Refused, Fault}
+use Rattle.commands.specs.declared.command_error.CommandError.{CommandError}
+use Rattle.commands.specs.declared.command_error.CommandError.TheVariants.{Refused, Fault}
 use Rattle.commands.specs.Inputs.{AreBytesOf, IsInputFault}
 use Rattle.commands.specs.Names.{merge_names}
 
@@ -79,12 +79,12 @@ pub record IsRefusedMerge (names texts : List (List ℕ)) (printed : List ℕ) :
       → Refuses refusal (length (concat codes))
 
 -- why texts are not added up: one is refused, or memory is wanting
-abbrev pub IsTextsStop : List (List ℕ) → List (List ℕ) → Stop → Type 0
-IsTextsStop names texts (Refused refusal) = IsRefusedMerge names texts (string_bytes refusal.line)
-IsTextsStop names texts (Fault fault) = fault ≡ OutOfMemory
+abbrev pub IsTextsError : List (List ℕ) → List (List ℕ) → CommandError → Type 0
+IsTextsError names texts (Refused refusal) = IsRefusedMerge names texts (string_bytes refusal.line)
+IsTextsError names texts (Fault fault) = fault ≡ OutOfMemory
 
 -- why merge stops: a text is refused, or an input isn't read
-abbrev pub IsMergeStop : (List ℕ → Option (List ℕ)) → MergeOptions → Stop → Type 0
-IsMergeStop inputs o (Refused refusal) = (texts : List (List ℕ)) × AreGiven inputs (merge_names o) texts
+abbrev pub IsMergeError : (List ℕ → Option (List ℕ)) → MergeOptions → CommandError → Type 0
+IsMergeError inputs o (Refused refusal) = (texts : List (List ℕ)) × AreGiven inputs (merge_names o) texts
     × IsRefusedMerge (merge_names o) texts (string_bytes refusal.line)
-IsMergeStop inputs o (Fault fault) = IsFaultAmong inputs (merge_names o) fault
+IsMergeError inputs o (Fault fault) = IsFaultAmong inputs (merge_names o) fault

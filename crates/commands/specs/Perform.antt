@@ -11,8 +11,8 @@ use Rattle.program.specs.Text.{reading}
 use Rattle.machine.specs.Script.{steps_of}
 use Rattle.report.specs.declared.printed.Answer.{Answer}
 use Rattle.answers.specs.declared.rendering.Rendering.TheVariants.{Words, Picture, Reduction}
-use Rattle.commands.specs.declared.stop.Stop.{Stop}
-use Rattle.commands.specs.declared.stop.Stop.TheVariants.{Refused, Fault}
+use Rattle.commands.specs.declared.command_error.CommandError.{CommandError}
+use Rattle.commands.specs.declared.command_error.CommandError.TheVariants.{Refused, Fault}
 use Rattle.report.specs.declared.outcome.Outcome.{Outcome}
 use Rattle.report.specs.declared.outcome.Outcome.TheVariants.{Done}
 use Rattle.report.specs.declared.outcome.Outcome.TheVariants as out
@@ -33,43 +33,43 @@ use Rattle.command_line.specs.declared.options.RunOptions.{RunOptions}
 use Rattle.commands.specs.Inputs.{AreBytesOf, AreRead, AreStopped, IsInputFault, Seen, failed_reads}
 use Rattle.commands.specs.Names.{names_of}
 use Rattle.commands.specs.Judge.{IsJudgedInput, IsJudgeFault}
-use Rattle.commands.specs.Replay.{IsReplayedInput, IsReplayStop}
-use Rattle.commands.specs.Render.{IsRendered, IsRenderingStop}
-use Rattle.commands.specs.Program.{IsProgramRead, IsProgramRefused, IsProgramStop}
+use Rattle.commands.specs.Replay.{IsReplayedInput, IsReplayError}
+use Rattle.commands.specs.Render.{IsRendered, IsRenderingError}
+use Rattle.commands.specs.Program.{IsProgramRead, IsProgramRefused, IsProgramError}
 use Rattle.command_line.specs.Options.{AreOptions, IsFault}
-use Rattle.commands.specs.Refusal.{IsReadingStop, option_line, step_fault_name}
+use Rattle.commands.specs.Refusal.{IsReadingError, option_line, step_fault_name}
 use Rattle.commands.specs.Run.{IsRun, IsLive}
 use Rattle.commands.specs.Trials.{IsTrials}
-use Rattle.commands.specs.Verify.{IsVerified, IsVerifyStop}
-use Rattle.commands.specs.Merge.{IsMerged, IsMergeStop}
+use Rattle.commands.specs.Verify.{IsVerified, IsVerifyError}
+use Rattle.commands.specs.Merge.{IsMerged, IsMergeError}
 use Rattle.commands.specs.Output.{IsPut}
-use Rattle.commands.specs.Survey.{IsEachWritten, IsSurveyOf, IsSurveyStop, TellsEach}
+use Rattle.commands.specs.Survey.{IsEachWritten, IsSurveyOf, IsSurveyError, TellsEach}
 
 -- the script of this name is refused for the program, or isn't read
-abbrev pub IsScriptStop : (List ℕ → Option (List ℕ)) → Parts → List ℕ → Stop → Type 0
-IsScriptStop inputs program name (Refused refusal) = (text : List ℕ) × AreBytesOf inputs name text
-    × IsReadingStop step_fault_name (steps_of program text) (Refused refusal)
-IsScriptStop inputs program name (Fault fault) = IsInputFault inputs name fault
+abbrev pub IsScriptError : (List ℕ → Option (List ℕ)) → Parts → List ℕ → CommandError → Type 0
+IsScriptError inputs program name (Refused refusal) = (text : List ℕ) × AreBytesOf inputs name text
+    × IsReadingError step_fault_name (steps_of program text) (Refused refusal)
+IsScriptError inputs program name (Fault fault) = IsInputFault inputs name fault
 
 -- the script of this name stops the named program, which is read
 pub record IsStoppedByScript (inputs : List ℕ → Option (List ℕ)) (o : RunOptions) (name : List ℕ)
-    (stop : Stop)
+    (stop : CommandError)
     : Type 0 where
   pub text : List ℕ
   pub given : AreBytesOf inputs (string_bytes o.program) text
   pub program : Parts
   pub read : reading text ≡ Ok program
-  pub stops : IsScriptStop inputs program name stop
+  pub stops : IsScriptError inputs program name stop
 
 -- why a run stops: its program does, or the script where one is named
-abbrev pub IsRunStopBy : (List ℕ → Option (List ℕ)) → RunOptions → Option (List ℕ) → Stop → Type 0
-IsRunStopBy inputs o (Some name) stop = IsProgramStop inputs (string_bytes o.program) stop
+abbrev pub IsRunErrorBy : (List ℕ → Option (List ℕ)) → RunOptions → Option (List ℕ) → CommandError → Type 0
+IsRunErrorBy inputs o (Some name) stop = IsProgramError inputs (string_bytes o.program) stop
     ⊎ IsStoppedByScript inputs o name stop
-IsRunStopBy inputs o None stop = IsProgramStop inputs (string_bytes o.program) stop
+IsRunErrorBy inputs o None stop = IsProgramError inputs (string_bytes o.program) stop
 
 -- why a run stops
-abbrev pub IsRunStop : (List ℕ → Option (List ℕ)) → RunOptions → Stop → Type 0
-IsRunStop inputs o stop = IsRunStopBy inputs o (option_map string_bytes o.steps) stop
+abbrev pub IsRunError : (List ℕ → Option (List ℕ)) → RunOptions → CommandError → Type 0
+IsRunError inputs o stop = IsRunErrorBy inputs o (option_map string_bytes o.steps) stop
 
 -- the fault that an error of threads is; they have no other errors
 abbrev pub thread_fault : LiveError → CommandFault
@@ -79,11 +79,11 @@ thread_fault other = fault.OutOfMemory
 
 -- a line of refusal is that of the named program; a fault is one of reading it, or, where it is read, of
 -- threads
-abbrev pub IsLiveStop : (List ℕ → Option (List ℕ)) → LiveOptions → Stop → Type 0
-IsLiveStop inputs o (Refused refusal) = IsProgramRefused inputs (string_bytes o.program) (Refused refusal)
-IsLiveStop inputs o (Fault NoThread) = IsProgramRead inputs (string_bytes o.program)
-IsLiveStop inputs o (Fault Stranger) = IsProgramRead inputs (string_bytes o.program)
-IsLiveStop inputs o (Fault fault) = IsInputFault inputs (string_bytes o.program) fault
+abbrev pub IsLiveError : (List ℕ → Option (List ℕ)) → LiveOptions → CommandError → Type 0
+IsLiveError inputs o (Refused refusal) = IsProgramRefused inputs (string_bytes o.program) (Refused refusal)
+IsLiveError inputs o (Fault NoThread) = IsProgramRead inputs (string_bytes o.program)
+IsLiveError inputs o (Fault Stranger) = IsProgramRead inputs (string_bytes o.program)
+IsLiveError inputs o (Fault fault) = IsInputFault inputs (string_bytes o.program) fault
 
 -- what a command answers to its options and inputs
 abbrev pub IsAnswerTo : (List ℕ → Option (List ℕ)) → Options → Answer → Type 0
@@ -100,19 +100,19 @@ IsAnswerTo inputs (Survey o) answer = IsSurveyOf inputs o answer
 IsAnswerTo inputs (Merge o) answer = IsMerged inputs o answer
 
 -- why a command with these options and inputs stops
-abbrev pub IsCommandStop : (List ℕ → Option (List ℕ)) → Options → Stop → Type 0
-IsCommandStop inputs (Run o) stop = IsRunStop inputs o stop
-IsCommandStop inputs (Judge o) (Refused refusal) = ⊥
-IsCommandStop inputs (Judge o) (Fault fault) = IsJudgeFault inputs o fault
-IsCommandStop inputs (Trials o) stop = stop ≡ Fault fault.OutOfMemory
-IsCommandStop inputs (Live o) stop = IsLiveStop inputs o stop
-IsCommandStop inputs (Replay o) stop = IsReplayStop inputs o stop
-IsCommandStop inputs (Explain o) stop = IsRenderingStop inputs o stop
-IsCommandStop inputs (Draw o) stop = IsRenderingStop inputs o.recording stop
-IsCommandStop inputs (Reduce o) stop = IsRenderingStop inputs o stop
-IsCommandStop inputs (Verify o) stop = IsVerifyStop inputs o stop
-IsCommandStop inputs (Survey o) stop = IsSurveyStop inputs o stop
-IsCommandStop inputs (Merge o) stop = IsMergeStop inputs o stop
+abbrev pub IsCommandError : (List ℕ → Option (List ℕ)) → Options → CommandError → Type 0
+IsCommandError inputs (Run o) stop = IsRunError inputs o stop
+IsCommandError inputs (Judge o) (Refused refusal) = ⊥
+IsCommandError inputs (Judge o) (Fault fault) = IsJudgeFault inputs o fault
+IsCommandError inputs (Trials o) stop = stop ≡ Fault fault.OutOfMemory
+IsCommandError inputs (Live o) stop = IsLiveError inputs o stop
+IsCommandError inputs (Replay o) stop = IsReplayError inputs o stop
+IsCommandError inputs (Explain o) stop = IsRenderingError inputs o stop
+IsCommandError inputs (Draw o) stop = IsRenderingError inputs o.recording stop
+IsCommandError inputs (Reduce o) stop = IsRenderingError inputs o stop
+IsCommandError inputs (Verify o) stop = IsVerifyError inputs o stop
+IsCommandError inputs (Survey o) stop = IsSurveyError inputs o stop
+IsCommandError inputs (Merge o) stop = IsMergeError inputs o stop
 
 -- what clap says goes to standard error: it is neither help nor the version
 abbrev pub IsMistake : Error → Type 0
@@ -126,21 +126,21 @@ IsHelp other answer = ⊥
 
 -- without options a line of refusal is that of the options, and a fault is what clap says, or standard input that is
 -- named twice
-abbrev pub IsOptionStop : OptionFault → Stop → Type 0
-IsOptionStop (refused.Refused refusal) (Refused printed) = string_bytes printed.line ≡ option_line refusal
-IsOptionStop other (Refused printed) = ⊥
-IsOptionStop (Clap error) (Fault (CommandLine said)) = (said ≡ error) × IsMistake error
-IsOptionStop refused.StandardInputTwice (Fault fault.StandardInputTwice) = ⊤
-IsOptionStop other (Fault fault.OutOfMemory) = ⊤
-IsOptionStop other (Fault fault) = ⊥
+abbrev pub IsOptionError : OptionFault → CommandError → Type 0
+IsOptionError (refused.Refused refusal) (Refused printed) = string_bytes printed.line ≡ option_line refusal
+IsOptionError other (Refused printed) = ⊥
+IsOptionError (Clap error) (Fault (CommandLine said)) = (said ≡ error) × IsMistake error
+IsOptionError refused.StandardInputTwice (Fault fault.StandardInputTwice) = ⊤
+IsOptionError other (Fault fault.OutOfMemory) = ⊤
+IsOptionError other (Fault fault) = ⊥
 
 -- a line of refusal as it is printed
-abbrev pub IsLine : Stop → Answer → Type 0
+abbrev pub IsLine : CommandError → Answer → Type 0
 IsLine (Refused refusal) answer = (answer.outcome ≡ out.Refused) × (answer.text.items ≡ string_bytes refusal.line)
 IsLine (Fault fault) answer = ⊥
 
 -- what is printed for what is answered
-abbrev pub IsShown : Result Answer Stop → Answer → Type 0
+abbrev pub IsShown : Result Answer CommandError → Answer → Type 0
 IsShown (Ok answer) printed = printed ≡ answer
 IsShown (Err stop) printed = IsLine stop printed
 
@@ -162,7 +162,7 @@ PrintsAtOnce words = (o : Options) → AreOptions o (command_of words) → Print
 -- the inputs up to it
 abbrev pub IsPrintedFor : (List ℕ → Option (List ℕ)) → Options → Seen → Answer → Type 0
 IsPrintedFor inputs o s answer = (IsAnswerTo inputs o answer × AreRead (names_of o) s)
-    ⊎ ((stop : Stop) × IsCommandStop inputs o stop × AreStopped (names_of o) stop s × IsLine stop answer)
+    ⊎ ((stop : CommandError) × IsCommandError inputs o stop × AreStopped (names_of o) stop s × IsLine stop answer)
 
 -- the lines of recordings and their counts were written, by all of the input
 abbrev pub IsToldFor : (List ℕ → Option (List ℕ)) → Options → Seen → Option (List ℕ) → Option (List ℕ) → Outcome
@@ -180,12 +180,12 @@ IsWrittenFor inputs o s before after outcome = IsPut (IsPrintedFor inputs o s) b
 -- why nothing is printed for these options, or not all
 abbrev pub IsFaultFor : (List ℕ → Option (List ℕ)) → Options → Seen → CommandFault → Type 0
 IsFaultFor inputs o s WriteFailed = ⊤
-IsFaultFor inputs o s fault = IsCommandStop inputs o (Fault fault) × AreStopped (names_of o) (Fault fault) s
+IsFaultFor inputs o s fault = IsCommandError inputs o (Fault fault) × AreStopped (names_of o) (Fault fault) s
 
 -- what is printed without options, for which no input is opened: help, or the line of a refusal
 abbrev pub IsPrintedWithout : OptionFault → Seen → Answer → Type 0
 IsPrintedWithout fault s answer =
-    (IsHelp fault answer ⊎ ((stop : Stop) × IsOptionStop fault stop × IsLine stop answer)) × AreRead [] s
+    (IsHelp fault answer ⊎ ((stop : CommandError) × IsOptionError fault stop × IsLine stop answer)) × AreRead [] s
 
 -- what is printed for the words
 abbrev pub IsPrinted : (List ℕ → Option (List ℕ)) → List Text → Seen → Answer → Type 0
@@ -203,7 +203,7 @@ IsWritten inputs words s before after outcome = IsPut (IsPrinted inputs words s)
 abbrev pub IsFaultOf : (List ℕ → Option (List ℕ)) → List Text → Seen → CommandFault → Type 0
 IsFaultOf inputs words s fault =
     ((o : Options) × AreOptions o (command_of words) × IsFaultFor inputs o s fault)
-    ⊎ ((f : OptionFault) × IsFault f words × (IsOptionStop f (Fault fault) ⊎ (fault ≡ WriteFailed)) × AreRead [] s)
+    ⊎ ((f : OptionFault) × IsFault f words × (IsOptionError f (Fault fault) ⊎ (fault ≡ WriteFailed)) × AreRead [] s)
 
 -- the tally after a command: each input that was opened was taken back, a read failed exactly where this is the fault,
 -- and without a fault each input was read to its end

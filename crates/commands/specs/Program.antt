@@ -2,11 +2,11 @@
 use Rattle.std.specs.Prelude.{◌≡◌, ℕ, List, Option, Ok}
 use Rattle.program.specs.Parts.{Parts}
 use Rattle.program.specs.Text.{reading}
-use Rattle.commands.specs.declared.stop.Stop.{Stop}
-use Rattle.commands.specs.declared.stop.Stop.TheVariants.{Refused, Fault}
+use Rattle.commands.specs.declared.command_error.CommandError.{CommandError}
+use Rattle.commands.specs.declared.command_error.CommandError.TheVariants.{Refused, Fault}
 use Rattle.commands.specs.Inputs.{AreBytesOf, IsInputFault}
 use Rattle.answers.specs.Refusals.{line_fault_name}
-use Rattle.commands.specs.Refusal.{IsReadingStop}
+use Rattle.commands.specs.Refusal.{IsReadingError}
 
 -- the input of this name is the text of the program
 pub record IsProgramAt (inputs : List ℕ → Option (List ℕ)) (name : List ℕ) (program : Parts) : Type 0 where
@@ -19,12 +19,12 @@ abbrev pub IsProgramRead : (List ℕ → Option (List ℕ)) → List ℕ → Typ
 IsProgramRead inputs name = (program : Parts) × IsProgramAt inputs name program
 
 -- the named program is refused
-pub record IsProgramRefused (inputs : List ℕ → Option (List ℕ)) (name : List ℕ) (stop : Stop) : Type 0 where
+pub record IsProgramRefused (inputs : List ℕ → Option (List ℕ)) (name : List ℕ) (stop : CommandError) : Type 0 where
   pub text : List ℕ
   pub given : AreBytesOf inputs name text
-  pub refused : IsReadingStop line_fault_name (reading text) stop
+  pub refused : IsReadingError line_fault_name (reading text) stop
 
 -- the named program is refused or isn't read
-abbrev pub IsProgramStop : (List ℕ → Option (List ℕ)) → List ℕ → Stop → Type 0
-IsProgramStop inputs name (Refused refusal) = IsProgramRefused inputs name (Refused refusal)
-IsProgramStop inputs name (Fault fault) = IsInputFault inputs name fault
+abbrev pub IsProgramError : (List ℕ → Option (List ℕ)) → List ℕ → CommandError → Type 0
+IsProgramError inputs name (Refused refusal) = IsProgramRefused inputs name (Refused refusal)
+IsProgramError inputs name (Fault fault) = IsInputFault inputs name fault

@@ -3,8 +3,8 @@ use Rattle.std.specs.Prelude.{ℕ, List, Option, Ok, Err}
 use Rattle.recording.specs.declared.fault.RecError.{RecError}
 use Rattle.recording.specs.Execution.{Execution}
 use Rattle.recorder.specs.Reading.{IsReadingResult}
-use Rattle.commands.specs.declared.stop.Stop.{Stop}
-use Rattle.commands.specs.declared.stop.Stop.TheVariants.{Refused, Fault}
+use Rattle.commands.specs.declared.command_error.CommandError.{CommandError}
+use Rattle.commands.specs.declared.command_error.CommandError.TheVariants.{Refused, Fault}
 use Rattle.commands.specs.Inputs.{AreBytesOf, IsInputFault}
 use Rattle.commands.specs.Refusal.{IsRefusedAs}
 
@@ -15,11 +15,11 @@ pub record IsRecordingAt (inputs : List ℕ → Option (List ℕ)) (name : List 
   pub read : IsReadingResult bytes (Ok x)
 
 -- the stop is that of the refusal that the bytes have; memory alone is left open
-abbrev pub IsUnread : List ℕ → Stop → Type 0
+abbrev pub IsUnread : List ℕ → CommandError → Type 0
 IsUnread bytes stop = (fault : RecError) × IsReadingResult bytes (Err fault) × IsRefusedAs fault stop
 
 -- the named input is no recording, or isn't read
-abbrev pub IsRecordingStop : (List ℕ → Option (List ℕ)) → List ℕ → Stop → Type 0
-IsRecordingStop inputs name (Refused refusal) = (bytes : List ℕ) × AreBytesOf inputs name bytes
+abbrev pub IsRecordingError : (List ℕ → Option (List ℕ)) → List ℕ → CommandError → Type 0
+IsRecordingError inputs name (Refused refusal) = (bytes : List ℕ) × AreBytesOf inputs name bytes
     × IsUnread bytes (Refused refusal)
-IsRecordingStop inputs name (Fault fault) = IsInputFault inputs name fault
+IsRecordingError inputs name (Fault fault) = IsInputFault inputs name fault

@@ -9,8 +9,8 @@ use Rattle.program.specs.declared.shape_error.ShapeError.TheVariants.{K1, K2, K3
 use Rattle.command_line.specs.declared.options.OptionRefusal.{OptionRefusal}
 use Rattle.command_line.specs.declared.options.OptionRefusal.TheVariants as refused
 use Rattle.report.specs.Refusal.{recording_line}
-use Rattle.commands.specs.declared.stop.Stop.{Stop}
-use Rattle.commands.specs.declared.stop.Stop.TheVariants.{Refused, Fault}
+use Rattle.commands.specs.declared.command_error.CommandError.{CommandError}
+use Rattle.commands.specs.declared.command_error.CommandError.TheVariants.{Refused, Fault}
 use Rattle.commands.specs.declared.fault.CommandFault.TheVariants.{OutOfMemory}
 
 -- what is printed for a fault of a script's line
@@ -25,10 +25,10 @@ abbrev pub refusal_line : List ℕ → ℕ → List ℕ
 refusal_line name k = codes "refused: " ++ name ++ codes " line " ++ decimal k ++ 10 ∷ []
 
 -- the stop is that of a text which reads as a fault, or memory is wanting
-abbrev pub IsReadingStop : {X F : Type 0} → (F → List ℕ) → Result X (F × ℕ) → Stop → Type 0
-IsReadingStop name (Ok x) (Refused refusal) = ⊥
-IsReadingStop name (Err fault) (Refused refusal) = string_bytes refusal.line ≡ refusal_line (name fault.0) fault.1
-IsReadingStop name reading (Fault fault) = fault ≡ OutOfMemory
+abbrev pub IsReadingError : {X F : Type 0} → (F → List ℕ) → Result X (F × ℕ) → CommandError → Type 0
+IsReadingError name (Ok x) (Refused refusal) = ⊥
+IsReadingError name (Err fault) (Refused refusal) = string_bytes refusal.line ≡ refusal_line (name fault.0) fault.1
+IsReadingError name reading (Fault fault) = fault ≡ OutOfMemory
 
 -- the name of the refusal of a shape or a plan
 abbrev pub shape_error_name : ShapeError → List ℕ
@@ -52,6 +52,6 @@ abbrev pub option_line : OptionRefusal → List ℕ
 option_line refusal = codes "refused: " ++ option_refusal_name refusal ++ 10 ∷ []
 
 -- the stop is that of a refused recording, or memory is wanting
-abbrev pub IsRefusedAs : RecError → Stop → Type 0
+abbrev pub IsRefusedAs : RecError → CommandError → Type 0
 IsRefusedAs fault (Refused refusal) = recording_line fault ≡ Some (string_bytes refusal.line)
 IsRefusedAs fault (Fault other) = other ≡ OutOfMemory

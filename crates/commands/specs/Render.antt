@@ -8,12 +8,12 @@ use Rattle.command_line.specs.declared.options.ExplainOptions.{ExplainOptions}
 use Rattle.report.specs.declared.printed.Answer.{Answer}
 use Rattle.answers.specs.declared.rendering.Rendering.{Rendering}
 use Rattle.answers.specs.Rendered.{IsRenderedAnswer}
-use Rattle.commands.specs.declared.stop.Stop.{Stop}
-use Rattle.commands.specs.declared.stop.Stop.TheVariants.{Fault}
+use Rattle.commands.specs.declared.command_error.CommandError.{CommandError}
+use Rattle.commands.specs.declared.command_error.CommandError.TheVariants.{Fault}
 use Rattle.commands.specs.declared.fault.CommandFault.TheVariants.{OutOfMemory}
-use Rattle.commands.specs.Program.{IsProgramAt, IsProgramStop}
-use Rattle.commands.specs.Recording.{IsRecordingAt, IsRecordingStop}
-use Rattle.commands.specs.Stop.{IsLineStop}
+use Rattle.commands.specs.Program.{IsProgramAt, IsProgramError}
+use Rattle.commands.specs.Recording.{IsRecordingAt, IsRecordingError}
+use Rattle.commands.specs.CommandErrors.{IsLineError}
 
 -- the input of this name is the text of a program, of which the recording is one
 pub record IsOwnProgram (inputs : List ℕ → Option (List ℕ)) (x : Execution) (name : List ℕ)
@@ -42,26 +42,26 @@ pub record IsRendered (inputs : List ℕ → Option (List ℕ)) (rendering : Ren
   pub told : IsRenderedBy inputs rendering recording (option_map string_bytes o.program) answer
 
 -- the recording is none of the program of this name; memory alone is left open
-pub record IsOther (inputs : List ℕ → Option (List ℕ)) (x : Execution) (name : List ℕ) (stop : Stop)
+pub record IsOther (inputs : List ℕ → Option (List ℕ)) (x : Execution) (name : List ℕ) (stop : CommandError)
     : Type 0 where
   pub program : Parts
   pub at : IsProgramAt inputs name program
   pub other : ¬ IsProgramOf program x
-  pub stopped : IsLineStop (codes "refused: N9" ++ 10 ∷ []) stop
+  pub stopped : IsLineError (codes "refused: N9" ++ 10 ∷ []) stop
 
 -- why a recording that is read is not rendered: its program is refused or isn't read, or is another one
-abbrev pub IsNamesStop : (List ℕ → Option (List ℕ)) → Execution → Option (List ℕ) → Stop → Type 0
-IsNamesStop inputs x (Some name) stop = IsProgramStop inputs name stop ⊎ IsOther inputs x name stop
-IsNamesStop inputs x None stop = stop ≡ Fault OutOfMemory
+abbrev pub IsNamesError : (List ℕ → Option (List ℕ)) → Execution → Option (List ℕ) → CommandError → Type 0
+IsNamesError inputs x (Some name) stop = IsProgramError inputs name stop ⊎ IsOther inputs x name stop
+IsNamesError inputs x None stop = stop ≡ Fault OutOfMemory
 
 -- the recording of the named input is read, and stops because of its program
-pub record IsStoppedByNames (inputs : List ℕ → Option (List ℕ)) (o : ExplainOptions) (stop : Stop)
+pub record IsStoppedByNames (inputs : List ℕ → Option (List ℕ)) (o : ExplainOptions) (stop : CommandError)
     : Type 0 where
   pub recording : Execution
   pub at : IsRecordingAt inputs (string_bytes o.file) recording
-  pub stops : IsNamesStop inputs recording (option_map string_bytes o.program) stop
+  pub stops : IsNamesError inputs recording (option_map string_bytes o.program) stop
 
 -- why no recording is rendered: the recording is not read, and then no program is opened, or its program
-abbrev pub IsRenderingStop : (List ℕ → Option (List ℕ)) → ExplainOptions → Stop → Type 0
-IsRenderingStop inputs o stop = IsRecordingStop inputs (string_bytes o.file) stop
+abbrev pub IsRenderingError : (List ℕ → Option (List ℕ)) → ExplainOptions → CommandError → Type 0
+IsRenderingError inputs o stop = IsRecordingError inputs (string_bytes o.file) stop
     ⊎ IsStoppedByNames inputs o stop

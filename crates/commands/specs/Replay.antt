@@ -14,10 +14,10 @@ use Rattle.replay.specs.Steps.{replay_steps}
 use Rattle.replay.specs.Stores.{most_stores}
 use Rattle.judge.specs.Verdict.{IsOrderedVerdict}
 use Rattle.report.specs.declared.printed.Answer.{Answer}
-use Rattle.commands.specs.declared.stop.Stop.{Stop}
+use Rattle.commands.specs.declared.command_error.CommandError.{CommandError}
 use Rattle.report.specs.declared.outcome.Outcome.TheVariants.{Done, Violation}
-use Rattle.commands.specs.Recording.{IsRecordingAt, IsRecordingStop}
-use Rattle.commands.specs.Stop.{IsLineStop}
+use Rattle.commands.specs.Recording.{IsRecordingAt, IsRecordingError}
+use Rattle.commands.specs.CommandErrors.{IsLineError}
 use Rattle.report.specs.Answer.{IsVerdictAnswer}
 
 -- a capacity, the text of a program and a script, with an empty line between them
@@ -70,13 +70,13 @@ pub record IsReplayedInput (inputs : List ℕ
   pub answered : IsReplayOf recording answer
 
 -- the addresses of the recording of the named input are not numbered by first use; memory alone is left open
-pub record IsUnnumbered (inputs : List ℕ → Option (List ℕ)) (name : List ℕ) (stop : Stop) : Type 0 where
+pub record IsUnnumbered (inputs : List ℕ → Option (List ℕ)) (name : List ℕ) (stop : CommandError) : Type 0 where
   pub recording : Execution
   pub at : IsRecordingAt inputs name recording
   pub unnumbered : ¬ IsNumberedByFirstUse recording
-  pub stopped : IsLineStop (codes "refused: N8" ++ 10 ∷ []) stop
+  pub stopped : IsLineError (codes "refused: N8" ++ 10 ∷ []) stop
 
 -- why the recording of the named input is not replayed
-abbrev pub IsReplayStop : (List ℕ → Option (List ℕ)) → FileOptions → Stop → Type 0
-IsReplayStop inputs o stop = IsRecordingStop inputs (string_bytes o.file) stop
+abbrev pub IsReplayError : (List ℕ → Option (List ℕ)) → FileOptions → CommandError → Type 0
+IsReplayError inputs o stop = IsRecordingError inputs (string_bytes o.file) stop
     ⊎ IsUnnumbered inputs (string_bytes o.file) stop

@@ -19,8 +19,8 @@ use Rattle.answers.specs.Campaign.{ledger_outcome}
 use Rattle.answers.specs.Survey.{IsLineAnswer, IsSurveyAnswer}
 use Rattle.commands.specs.declared.fault.CommandFault.{CommandFault}
 use Rattle.commands.specs.declared.fault.CommandFault.TheVariants.{TooLong, WriteFailed}
-use Rattle.commands.specs.declared.stop.Stop.{Stop}
-use Rattle.commands.specs.declared.stop.Stop.TheVariants.{Refused, Fault}
+use Rattle.commands.specs.declared.command_error.CommandError.{CommandError}
+use Rattle.commands.specs.declared.command_error.CommandError.TheVariants.{Refused, Fault}
 use Rattle.commands.specs.Inputs.{AreBytesOf, IsInputFault}
 
 -- a line of each recording is printed before the input's end
@@ -98,11 +98,11 @@ IsEachFault inputs o WriteFailed = ⊤
 IsEachFault inputs o fault = IsSurveyFault inputs o fault
 
 -- why nothing is surveyed: there is no recording with the number that is asked for, or the input isn't read
-abbrev pub IsSurveyStopBy : (List ℕ → Option (List ℕ)) → SurveyOptions → Option ℕ → Stop → Type 0
-IsSurveyStopBy inputs o show (Refused refusal) = IsPastTheEnd inputs o show
+abbrev pub IsSurveyErrorBy : (List ℕ → Option (List ℕ)) → SurveyOptions → Option ℕ → CommandError → Type 0
+IsSurveyErrorBy inputs o show (Refused refusal) = IsPastTheEnd inputs o show
     × (string_bytes refusal.line ≡ codes "refused: K11" ++ 10 ∷ [])
-IsSurveyStopBy inputs o show (Fault fault) = IsSurveyFault inputs o fault
+IsSurveyErrorBy inputs o show (Fault fault) = IsSurveyFault inputs o fault
 
 -- why survey stops
-abbrev pub IsSurveyStop : (List ℕ → Option (List ℕ)) → SurveyOptions → Stop → Type 0
-IsSurveyStop inputs o stop = IsSurveyStopBy inputs o o.show stop
+abbrev pub IsSurveyError : (List ℕ → Option (List ℕ)) → SurveyOptions → CommandError → Type 0
+IsSurveyError inputs o stop = IsSurveyErrorBy inputs o o.show stop

@@ -4,10 +4,10 @@ use Rattle.command_line.specs.declared.options.VerifyOptions.{VerifyOptions}
 use Rattle.recording.specs.Execution.{Execution}
 use Rattle.report.specs.declared.printed.Answer.{Answer}
 use Rattle.verification.specs.Checked.{IsCheckAnswer}
-use Rattle.commands.specs.declared.stop.Stop.{Stop}
-use Rattle.commands.specs.declared.stop.Stop.TheVariants.{Refused, Fault}
+use Rattle.commands.specs.declared.command_error.CommandError.{CommandError}
+use Rattle.commands.specs.declared.command_error.CommandError.TheVariants.{Refused, Fault}
 use Rattle.commands.specs.Inputs.{AreBytesOf, IsInputFault}
-use Rattle.commands.specs.Recording.{IsRecordingAt, IsRecordingStop}
+use Rattle.commands.specs.Recording.{IsRecordingAt, IsRecordingError}
 
 -- the answer to the text of the second input, of the recording of the first
 pub record IsVerified (inputs : List ℕ
@@ -19,11 +19,11 @@ pub record IsVerified (inputs : List ℕ
   pub answered : IsCheckAnswer recording text answer
 
 -- the text of this name isn't read, or there is no memory
-abbrev pub IsTextStop : (List ℕ → Option (List ℕ)) → List ℕ → Stop → Type 0
-IsTextStop inputs name (Refused refusal) = ⊥
-IsTextStop inputs name (Fault fault) = IsInputFault inputs name fault
+abbrev pub IsTextError : (List ℕ → Option (List ℕ)) → List ℕ → CommandError → Type 0
+IsTextError inputs name (Refused refusal) = ⊥
+IsTextError inputs name (Fault fault) = IsInputFault inputs name fault
 
 -- why a text is not checked: the recording is refused or isn't read, or the text isn't
-abbrev pub IsVerifyStop : (List ℕ → Option (List ℕ)) → VerifyOptions → Stop → Type 0
-IsVerifyStop inputs o stop = IsRecordingStop inputs (string_bytes o.recording) stop
-    ⊎ IsTextStop inputs (string_bytes o.verdict) stop
+abbrev pub IsVerifyError : (List ℕ → Option (List ℕ)) → VerifyOptions → CommandError → Type 0
+IsVerifyError inputs o stop = IsRecordingError inputs (string_bytes o.recording) stop
+    ⊎ IsTextError inputs (string_bytes o.verdict) stop

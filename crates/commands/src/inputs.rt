@@ -2,7 +2,7 @@
 ghost use Rattle.std.specs.Prelude.{◌≡◌, ◌∷◌, [], IfErr, IfOk, false};
 ghost use Rattle.std.specs.Io.KnownBytes.{Keeps};
 ghost use Rattle.devices.specs.Places.{Notes, lent_more};
-ghost use Rattle.commands.specs.declared.stop.Stop.TheVariants.{Fault};
+ghost use Rattle.commands.specs.declared.command_error.CommandError.TheVariants.{Fault};
 ghost use Rattle.commands.specs.Inputs.{AreBytesOf, AreStopped, CanRead, IsInputFault, ReadsInput, seen};
 
 use crate::fault::CommandFault;

@@ -2,12 +2,12 @@
 ghost use Rattle.std.specs.Prelude.{◌≡◌, ◌∷◌, [], IfErr, IfOk, string_bytes};
 ghost use Rattle.live.specs.Driven.{IsDriveError};
 ghost use Rattle.commands.specs.Inputs.{CanRead, Reads, seen};
-ghost use Rattle.commands.specs.Perform.{IsLiveStop, thread_fault};
+ghost use Rattle.commands.specs.Perform.{IsLiveError, thread_fault};
 ghost use Rattle.commands.specs.Run.{IsLive};
 
+use crate::command_error::CommandError;
 use crate::fault::CommandFault;
 use crate::named::program_at;
-use crate::stop::Stop;
 use answers::finished;
 use command_line::LiveOptions;
 use common::OpenGate;
@@ -37,17 +37,17 @@ pub fn live_command<R: Threads + Wait + Sync, P: Place>(
     alloc: Global,
     options: &LiveOptions,
     place: &mut P,
-) -> Result<Answer, Stop>
+) -> Result<Answer, CommandError>
     requires { CanRead (P.tally place.old) }
     ensures ok { IfOk result (IsLive (P.bytes place.old) options.now) }
-    ensures err { IfErr result (IsLiveStop (P.bytes place.old) options.now) }
+    ensures err { IfErr result (IsLiveError (P.bytes place.old) options.now) }
     ensures reads { Reads (string_bytes options.now.program ∷ []) (seen (P.asked place.old) (P.asked place.new)
         (P.tally place.old) (P.tally place.new)) result }
 {
     let program = program_at(alloc, place, options.program.as_str())?;
     let traced = match drive(rt, alloc, program, options.buffer, options.limit, &OpenGate) {
         Ok(traced) => traced,
-        Err(error) => return Err(Stop::Fault(fault_of(error))),
+        Err(error) => return Err(CommandError::Fault(fault_of(error))),
     };
     Ok(finished(alloc, traced.into_machine())?)
 }

@@ -1,15 +1,15 @@
 //! The command `merge`.
 ghost use Rattle.std.specs.Prelude.{◌≡◌, ◌<◌, IfErr, IfOk, length, map, string_bytes};
 ghost use Rattle.commands.specs.Inputs.{CanRead, Reads, seen};
-ghost use Rattle.commands.specs.Merge.{AreGiven, IsFaultAmong, IsMergeAnswer, IsMerged, IsMergedAnswer, IsMergeStop};
-ghost use Rattle.commands.specs.Merge.{IsTextsStop, merge_line, merge_refusal_name};
+ghost use Rattle.commands.specs.Merge.{AreGiven, IsFaultAmong, IsMergeAnswer, IsMerged, IsMergedAnswer, IsMergeError};
+ghost use Rattle.commands.specs.Merge.{IsTextsError, merge_line, merge_refusal_name};
 ghost use Rattle.commands.specs.Names.{merge_names};
-ghost use Rattle.commands.specs.Stop.{IsFaultStop};
+ghost use Rattle.commands.specs.CommandErrors.{IsFaultError};
 
+use crate::command_error::{CommandError, PrintedRefusal};
 use crate::fault::CommandFault;
 use crate::inputs::text_at;
 use crate::meanings::quoted;
-use crate::stop::{Refusal, Stop};
 use answers::{survey_answer, trials_answer};
 use command_line::MergeOptions;
 use common::OutOfMemory;
@@ -19,11 +19,15 @@ use report::Answer;
 use std::alloc::{AllocError, Global};
 
 /// All bytes of the inputs of these names, in order.
-fn texts_at<P: Place>(alloc: Global, place: &mut P, names: &[String]) -> Result<Vec<Vec<u8>>, Stop>
+fn texts_at<P: Place>(
+    alloc: Global,
+    place: &mut P,
+    names: &[String],
+) -> Result<Vec<Vec<u8>>, CommandError>
     requires { CanRead (P.tally place.old) }
     ensures ok { IfOk result (λ texts. AreGiven (P.bytes place.old) (map string_bytes names.now)
         (map (λ v. v.items) texts.items)) }
-    ensures err { IfErr result (IsFaultStop (IsFaultAmong (P.bytes place.old) (map string_bytes names.now))) }
+    ensures err { IfErr result (IsFaultError (IsFaultAmong (P.bytes place.old) (map string_bytes names.now))) }
     ensures reads { Reads (map string_bytes names.now) (seen (P.asked place.old) (P.asked place.new)
         (P.tally place.old) (P.tally place.new)) result }
 {
@@ -31,10 +35,10 @@ fn texts_at<P: Place>(alloc: Global, place: &mut P, names: &[String]) -> Result<
     for i in 0..names.len() {
         let text = match text_at(alloc, place, names[i].as_str()) {
             Ok(text) => text,
-            Err(fault) => return Err(Stop::Fault(fault)),
+            Err(fault) => return Err(CommandError::Fault(fault)),
         };
         let Ok(()) = texts.push(text) else {
-            return Err(Stop::Fault(CommandFault::OutOfMemory));
+            return Err(CommandError::Fault(CommandFault::OutOfMemory));
         };
     }
     Ok(texts)
@@ -82,28 +86,28 @@ fn merge_refusal(
     line: usize,
     name: &str,
     text: &[u8],
-) -> Result<Refusal, AllocError>
+) -> Result<PrintedRefusal, AllocError>
     ensures { IfOk result (λ printed. string_bytes printed.line ≡ merge_line refusal line name.now) }
 {
-    Ok(Refusal {
+    Ok(PrintedRefusal {
         line: merge_line(alloc, refusal, line, name)?,
         quote: Some(quoted(alloc, text, line)?),
     })
 }
 
 /// What is answered to the texts of the inputs of these names.
-fn texts_answer(alloc: Global, names: &[String], texts: &[Vec<u8>]) -> Result<Answer, Stop>
+fn texts_answer(alloc: Global, names: &[String], texts: &[Vec<u8>]) -> Result<Answer, CommandError>
     requires some { 0 < length texts.now }
     requires size { length texts.now ≡ length names.now }
     ensures ok { IfOk result (IsMergeAnswer (map (λ v. v.items) texts.now)) }
-    ensures err { IfErr result (IsTextsStop (map string_bytes names.now) (map (λ v. v.items) texts.now)) }
+    ensures err { IfErr result (IsTextsError (map string_bytes names.now) (map (λ v. v.items) texts.now)) }
 {
     match merge(alloc, texts) {
         Ok(merged) => match merged_answer(alloc, &merged) {
             Ok(answer) => Ok(answer),
-            Err(OutOfMemory) => Err(Stop::Fault(CommandFault::OutOfMemory)),
+            Err(OutOfMemory) => Err(CommandError::Fault(CommandFault::OutOfMemory)),
         },
-        Err(MergeError::OutOfMemory) => Err(Stop::Fault(CommandFault::OutOfMemory)),
+        Err(MergeError::OutOfMemory) => Err(CommandError::Fault(CommandFault::OutOfMemory)),
         Err(
             MergeError::Refused {
                 refusal,
@@ -113,8 +117,8 @@ fn texts_answer(alloc: Global, names: &[String], texts: &[Vec<u8>]) -> Result<An
         ) => {
             let name = names[file].as_str();
             match merge_refusal(alloc, refusal, line, name, texts[file].as_slice()) {
-                Ok(printed) => Err(Stop::Refused(printed)),
-                Err(_) => Err(Stop::Fault(CommandFault::OutOfMemory)),
+                Ok(printed) => Err(CommandError::Refused(printed)),
+                Err(_) => Err(CommandError::Fault(CommandFault::OutOfMemory)),
             }
         }
     }
@@ -125,11 +129,11 @@ pub fn merge_command<P: Place>(
     alloc: Global,
     options: &MergeOptions,
     place: &mut P,
-) -> Result<Answer, Stop>
+) -> Result<Answer, CommandError>
     requires some { 0 < length options.now.files.items }
     requires inputs { CanRead (P.tally place.old) }
     ensures ok { IfOk result (IsMerged (P.bytes place.old) options.now) }
-    ensures err { IfErr result (IsMergeStop (P.bytes place.old) options.now) }
+    ensures err { IfErr result (IsMergeError (P.bytes place.old) options.now) }
     ensures reads { Reads (merge_names options.now) (seen (P.asked place.old) (P.asked place.new)
         (P.tally place.old) (P.tally place.new)) result }
 {

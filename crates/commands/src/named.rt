@@ -3,15 +3,15 @@ ghost use Rattle.std.specs.Prelude.{◌≡◌, ◌∷◌, [], IfErr, IfOk, Ok};
 ghost use Rattle.program.specs.Text.{reading};
 ghost use Rattle.recorder.specs.Reading.{IsReadingResult};
 ghost use Rattle.commands.specs.Inputs.{CanRead, Reads, seen};
-ghost use Rattle.commands.specs.Program.{IsProgramAt, IsProgramStop};
-ghost use Rattle.commands.specs.Recording.{IsRecordingAt, IsRecordingStop, IsUnread};
+ghost use Rattle.commands.specs.Program.{IsProgramAt, IsProgramError};
+ghost use Rattle.commands.specs.Recording.{IsRecordingAt, IsRecordingError, IsUnread};
 ghost use Rattle.answers.specs.Refusals.{line_fault_name};
-ghost use Rattle.commands.specs.Refusal.{IsReadingStop, IsRefusedAs};
+ghost use Rattle.commands.specs.Refusal.{IsReadingError, IsRefusedAs};
 
+use crate::command_error::{CommandError, PrintedRefusal};
 use crate::fault::CommandFault;
 use crate::inputs::text_at;
 use crate::refusal::line_refusal;
-use crate::stop::{Refusal, Stop};
 use answers::line_fault_name;
 use devices::Place;
 use litmus::parse;
@@ -22,14 +22,14 @@ use report::recording_line;
 use std::alloc::{AllocError, Global};
 
 /// The program of a text, or the refusal of its first line at fault.
-fn program_of(alloc: Global, text: &[u8]) -> Result<Program, Stop>
+fn program_of(alloc: Global, text: &[u8]) -> Result<Program, CommandError>
     ensures ok { IfOk result (λ program. reading text.now ≡ Ok program) }
-    ensures err { IfErr result (IsReadingStop line_fault_name (reading text.now)) }
+    ensures err { IfErr result (IsReadingError line_fault_name (reading text.now)) }
 {
     match parse(alloc, text) {
         Ok(program) => Ok(program),
-        Err(LitmusError::OutOfMemory) => Err(Stop::Fault(CommandFault::OutOfMemory)),
-        Err(LitmusError::AtLine(fault, line)) => Err(Stop::Refused(line_refusal(
+        Err(LitmusError::OutOfMemory) => Err(CommandError::Fault(CommandFault::OutOfMemory)),
+        Err(LitmusError::AtLine(fault, line)) => Err(CommandError::Refused(line_refusal(
             alloc,
             line_fault_name(fault),
             line,
@@ -39,10 +39,14 @@ fn program_of(alloc: Global, text: &[u8]) -> Result<Program, Stop>
 }
 
 /// The program of a named input, or why it is not read.
-pub fn program_at<P: Place>(alloc: Global, place: &mut P, name: &str) -> Result<Program, Stop>
+pub fn program_at<P: Place>(
+    alloc: Global,
+    place: &mut P,
+    name: &str,
+) -> Result<Program, CommandError>
     requires { CanRead (P.tally place.old) }
     ensures ok { IfOk result (λ program. IsProgramAt (P.bytes place.old) name.now program) }
-    ensures err { IfErr result (IsProgramStop (P.bytes place.old) name.now) }
+    ensures err { IfErr result (IsProgramError (P.bytes place.old) name.now) }
     ensures reads { Reads (name.now ∷ []) (seen (P.asked place.old) (P.asked place.new)
         (P.tally place.old) (P.tally place.new)) result }
     ensures kept { P.bytes place.new ≡ P.bytes place.old }
@@ -52,17 +56,17 @@ pub fn program_at<P: Place>(alloc: Global, place: &mut P, name: &str) -> Result<
 }
 
 /// Why bytes are no recording.
-fn unread(alloc: Global, refusal: RecError) -> Result<Stop, AllocError>
+fn unread(alloc: Global, refusal: RecError) -> Result<CommandError, AllocError>
     ensures { IfOk result (IsRefusedAs refusal) }
 {
     match recording_line(alloc, refusal)? {
-        Some(line) => Ok(Stop::Refused(Refusal { line, quote: None })),
-        None => Ok(Stop::Fault(CommandFault::OutOfMemory)),
+        Some(line) => Ok(CommandError::Refused(PrintedRefusal { line, quote: None })),
+        None => Ok(CommandError::Fault(CommandFault::OutOfMemory)),
     }
 }
 
 /// The recording that the bytes are, or their refusal.
-fn recording_of(alloc: Global, bytes: &[u8]) -> Result<Recording, Stop>
+fn recording_of(alloc: Global, bytes: &[u8]) -> Result<Recording, CommandError>
     ensures ok { IfOk result (λ recording. IsReadingResult bytes.now (Ok recording)) }
     ensures err { IfErr result (IsUnread bytes.now) }
 {
@@ -73,10 +77,14 @@ fn recording_of(alloc: Global, bytes: &[u8]) -> Result<Recording, Stop>
 }
 
 /// The recording of a named input, or why it is not read.
-pub fn recording_at<P: Place>(alloc: Global, place: &mut P, name: &str) -> Result<Recording, Stop>
+pub fn recording_at<P: Place>(
+    alloc: Global,
+    place: &mut P,
+    name: &str,
+) -> Result<Recording, CommandError>
     requires { CanRead (P.tally place.old) }
     ensures ok { IfOk result (λ recording. IsRecordingAt (P.bytes place.old) name.now recording) }
-    ensures err { IfErr result (IsRecordingStop (P.bytes place.old) name.now) }
+    ensures err { IfErr result (IsRecordingError (P.bytes place.old) name.now) }
     ensures reads { Reads (name.now ∷ []) (seen (P.asked place.old) (P.asked place.new)
         (P.tally place.old) (P.tally place.new)) result }
     ensures kept { P.bytes place.new ≡ P.bytes place.old }

@@ -7,11 +7,12 @@ ghost use Rattle.devices.specs.Bytes.{CanGrow, CountsBy};
 ghost use Rattle.commands.specs.Inputs.{AreRead, CanRead, Reads, seen};
 ghost use Rattle.commands.specs.Names.{names_of};
 ghost use Rattle.commands.specs.Output.{IsBegun, IsPut, failed_writes};
-ghost use Rattle.commands.specs.Perform.{IsAnswerTo, IsCommandStop, IsFaultFor, IsFaultOf, IsHelp, IsNoJudge};
-ghost use Rattle.commands.specs.Perform.{IsOptionStop, IsPrinted, IsPrintedFor, IsPrintedWithout, IsShown};
+ghost use Rattle.commands.specs.Perform.{IsAnswerTo, IsCommandError, IsFaultFor, IsFaultOf, IsHelp, IsNoJudge};
+ghost use Rattle.commands.specs.Perform.{IsOptionError, IsPrinted, IsPrintedFor, IsPrintedWithout, IsShown};
 ghost use Rattle.commands.specs.Perform.{IsWritten, IsWrittenFor, PrintsAtOnce, PrintsEarly, Tallies};
 ghost use Rattle.commands.specs.Survey.{TellsEach};
 
+use crate::command_error::{CommandError, PrintedRefusal};
 use crate::fault::CommandFault;
 use crate::judge_command::judge_command;
 use crate::live_command::live_command;
@@ -22,7 +23,6 @@ use crate::refusal::option_refusal;
 use crate::render_command::render_command;
 use crate::replay_command::replay_command;
 use crate::run_command::run_command;
-use crate::stop::{Refusal, Stop};
 use crate::survey_command::{each_command, survey_command};
 use crate::trials_command::trials_command;
 use crate::verify_command::verify_command;
@@ -36,14 +36,14 @@ use std::sync::Wait;
 use std::thread::Threads;
 
 /// The answer where there are no options: the help that was asked for, a refusal or a fault.
-fn without_options(alloc: Global, fault: OptionFault) -> Result<Answer, Stop>
+fn without_options(alloc: Global, fault: OptionFault) -> Result<Answer, CommandError>
     ensures ok { IfOk result (IsHelp fault) }
-    ensures err { IfErr result (IsOptionStop fault) }
+    ensures err { IfErr result (IsOptionError fault) }
 {
     match fault {
         OptionFault::Clap(error) => {
             if error.use_stderr() {
-                return Err(Stop::Fault(CommandFault::CommandLine(error)));
+                return Err(CommandError::Fault(CommandFault::CommandLine(error)));
             }
             let text = format!(in alloc; "{error}")?;
             Ok(Answer {
@@ -52,9 +52,13 @@ fn without_options(alloc: Global, fault: OptionFault) -> Result<Answer, Stop>
             })
         }
         OptionFault::RefusalMeanings => Ok(Answer::of(alloc, Outcome::Done, REFUSAL_MEANINGS)?),
-        OptionFault::StandardInputTwice => Err(Stop::Fault(CommandFault::StandardInputTwice)),
-        OptionFault::Refused(refusal) => Err(Stop::Refused(option_refusal(alloc, refusal)?)),
-        OptionFault::OutOfMemory => Err(Stop::Fault(CommandFault::OutOfMemory)),
+        OptionFault::StandardInputTwice => Err(CommandError::Fault(
+            CommandFault::StandardInputTwice,
+        )),
+        OptionFault::Refused(refusal) => Err(CommandError::Refused(option_refusal(
+            alloc, refusal,
+        )?)),
+        OptionFault::OutOfMemory => Err(CommandError::Fault(CommandFault::OutOfMemory)),
     }
 }
 
@@ -65,13 +69,13 @@ fn answer_to<R: Threads + Wait + Sync, P: Place>(
     alloc: Global,
     options: &Options,
     place: &mut P,
-) -> Result<Answer, Stop>
+) -> Result<Answer, CommandError>
     requires options { (command : Option (Text × List Row)) × AreOptions options.now command }
     requires told { IsNoJudge options.now }
     requires whole { PrintsEarly options.now → ⊥ }
     requires inputs { CanRead (P.tally place.old) }
     ensures ok { IfOk result (IsAnswerTo (P.bytes place.old) options.now) }
-    ensures err { IfErr result (IsCommandStop (P.bytes place.old) options.now) }
+    ensures err { IfErr result (IsCommandError (P.bytes place.old) options.now) }
     ensures reads { Reads (names_of options.now) (seen (P.asked place.old) (P.asked place.new)
         (P.tally place.old) (P.tally place.new)) result }
 {
@@ -94,15 +98,18 @@ fn answer_to<R: Threads + Wait + Sync, P: Place>(
 }
 
 /// What the command answers or why it stops, as what is printed; the place is told of a line that is refused.
-fn shown<P: Place>(place: &mut P, answered: Result<Answer, Stop>) -> Result<Answer, CommandFault>
+fn shown<P: Place>(
+    place: &mut P,
+    answered: Result<Answer, CommandError>,
+) -> Result<Answer, CommandFault>
     ensures ok { IfOk result (IsShown answered) }
-    ensures err { IfErr result (λ fault. answered ≡ Err (Stop.Fault fault)) }
+    ensures err { IfErr result (λ fault. answered ≡ Err (CommandError.Fault fault)) }
     ensures tally { P.tally place.new ≡ P.tally place.old }
     ensures asked { P.asked place.new ≡ P.asked place.old }
 {
     match answered {
         Ok(answer) => Ok(answer),
-        Err(Stop::Refused(Refusal { line, quote })) => {
+        Err(CommandError::Refused(PrintedRefusal { line, quote })) => {
             if let Some(quote) = quote {
                 place.refuse(quote);
             }
@@ -111,7 +118,7 @@ fn shown<P: Place>(place: &mut P, answered: Result<Answer, Stop>) -> Result<Answ
                 text: line.into_bytes(),
             })
         }
-        Err(Stop::Fault(fault)) => Err(fault),
+        Err(CommandError::Fault(fault)) => Err(fault),
     }
 }
 
@@ -183,7 +190,7 @@ fn explained_options<P: Place, W: Sink>(
         (P.tally place.old) (P.tally place.new))) (W.written out.old) (W.written out.new)) }
     ensures begun { result ≡ Err CommandFault.WriteFailed → IsBegun (IsPrintedWithout fault (seen (P.asked place.old)
         (P.asked place.new) (P.tally place.old) (P.tally place.new))) (W.written out.old) (W.written out.new) }
-    ensures fault { IfErr result (λ f. IsOptionStop fault (Stop.Fault f) ⊎ (f ≡ CommandFault.WriteFailed)) }
+    ensures fault { IfErr result (λ f. IsOptionError fault (CommandError.Fault f) ⊎ (f ≡ CommandFault.WriteFailed)) }
     ensures read { AreRead [] (seen (P.asked place.old) (P.asked place.new) (P.tally place.old) (P.tally place.new)) }
     ensures writes { CountsBy failed_writes (W.write_failures out.old) (W.write_failures out.new) result }
     ensures unwritten { IfErr result (λ f. f ≢ CommandFault.WriteFailed → out.new ≡ out.old) }

@@ -3,8 +3,8 @@ ghost use Rattle.std.specs.Prelude.{◌≡◌, IfOk, string_bytes};
 ghost use Rattle.commands.specs.Refusal.{option_line, option_refusal_name};
 ghost use Rattle.commands.specs.Refusal.{refusal_line, shape_error_name, step_fault_name};
 
+use crate::command_error::PrintedRefusal;
 use crate::meanings::quoted;
-use crate::stop::Refusal;
 use command_line::OptionRefusal;
 use machine::StepFault;
 use program::ShapeError;
@@ -35,10 +35,10 @@ pub fn line_refusal(
     name: &str,
     line: usize,
     text: &[u8],
-) -> Result<Refusal, AllocError>
+) -> Result<PrintedRefusal, AllocError>
     ensures { IfOk result (λ refusal. string_bytes refusal.line ≡ refusal_line name.now line) }
 {
-    Ok(Refusal {
+    Ok(PrintedRefusal {
         line: refusal_line(alloc, name, line)?,
         quote: Some(quoted(alloc, text, line)?),
     })
@@ -80,9 +80,9 @@ fn option_line(alloc: Global, refusal: OptionRefusal) -> Result<String, AllocErr
 }
 
 /// What is printed for refused options.
-pub fn option_refusal(alloc: Global, refusal: OptionRefusal) -> Result<Refusal, AllocError>
+pub fn option_refusal(alloc: Global, refusal: OptionRefusal) -> Result<PrintedRefusal, AllocError>
     ensures { IfOk result (λ printed. string_bytes printed.line ≡ option_line refusal) }
 {
     let line = option_line(alloc, refusal)?;
-    Ok(Refusal { line, quote: None })
+    Ok(PrintedRefusal { line, quote: None })
 }

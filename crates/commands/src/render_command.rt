@@ -2,10 +2,10 @@
 ghost use Rattle.std.specs.Prelude.{◌∷◌, [], IfErr, IfOk, Some, option_map, string_bytes};
 ghost use Rattle.commands.specs.Inputs.{CanRead, Reads, seen};
 ghost use Rattle.commands.specs.Names.{maybe_name, render_names};
-ghost use Rattle.commands.specs.Render.{IsNamesStop, IsOwnProgram, IsRenderingStop, IsRendered, IsRenderedBy};
+ghost use Rattle.commands.specs.Render.{IsNamesError, IsOwnProgram, IsRenderingError, IsRendered, IsRenderedBy};
 
+use crate::command_error::CommandError;
 use crate::named::{program_at, recording_at};
-use crate::stop::Stop;
 use answers::{Rendering, rendered_answer};
 use command_line::ExplainOptions;
 use devices::Place;
@@ -21,10 +21,10 @@ fn own_program<P: Place>(
     recording: &Recording,
     name: &str,
     place: &mut P,
-) -> Result<Program, Stop>
+) -> Result<Program, CommandError>
     requires { CanRead (P.tally place.old) }
     ensures ok { IfOk result (IsOwnProgram (P.bytes place.old) recording.now name.now) }
-    ensures err { IfErr result (IsNamesStop (P.bytes place.old) recording.now (Some name.now)) }
+    ensures err { IfErr result (IsNamesError (P.bytes place.old) recording.now (Some name.now)) }
     ensures reads { Reads (name.now ∷ []) (seen (P.asked place.old) (P.asked place.new)
         (P.tally place.old) (P.tally place.new)) result }
 {
@@ -32,7 +32,7 @@ fn own_program<P: Place>(
     if is_program_of(&program, recording) {
         Ok(program)
     } else {
-        Err(Stop::of_line(alloc, "refused: N9\n"))
+        Err(CommandError::of_line(alloc, "refused: N9\n"))
     }
 }
 
@@ -43,10 +43,10 @@ fn named_answer<P: Place>(
     recording: &Recording,
     name: &str,
     place: &mut P,
-) -> Result<Answer, Stop>
+) -> Result<Answer, CommandError>
     requires { CanRead (P.tally place.old) }
     ensures ok { IfOk result (IsRenderedBy (P.bytes place.old) rendering recording.now (Some name.now)) }
-    ensures err { IfErr result (IsNamesStop (P.bytes place.old) recording.now (Some name.now)) }
+    ensures err { IfErr result (IsNamesError (P.bytes place.old) recording.now (Some name.now)) }
     ensures reads { Reads (name.now ∷ []) (seen (P.asked place.old) (P.asked place.new)
         (P.tally place.old) (P.tally place.new)) result }
 {
@@ -61,11 +61,11 @@ fn rendered<P: Place>(
     recording: &Recording,
     options: &ExplainOptions,
     place: &mut P,
-) -> Result<Answer, Stop>
+) -> Result<Answer, CommandError>
     requires { CanRead (P.tally place.old) }
     ensures ok { IfOk result (IsRenderedBy (P.bytes place.old) rendering recording.now
         (option_map string_bytes options.now.program)) }
-    ensures err { IfErr result (IsNamesStop (P.bytes place.old) recording.now
+    ensures err { IfErr result (IsNamesError (P.bytes place.old) recording.now
         (option_map string_bytes options.now.program)) }
     ensures reads { Reads (maybe_name (option_map string_bytes options.now.program)) (seen (P.asked place.old)
         (P.asked place.new) (P.tally place.old) (P.tally place.new)) result }
@@ -82,10 +82,10 @@ pub fn render_command<P: Place>(
     rendering: Rendering,
     options: &ExplainOptions,
     place: &mut P,
-) -> Result<Answer, Stop>
+) -> Result<Answer, CommandError>
     requires { CanRead (P.tally place.old) }
     ensures ok { IfOk result (IsRendered (P.bytes place.old) rendering options.now) }
-    ensures err { IfErr result (IsRenderingStop (P.bytes place.old) options.now) }
+    ensures err { IfErr result (IsRenderingError (P.bytes place.old) options.now) }
     ensures reads { Reads (render_names options.now) (seen (P.asked place.old) (P.asked place.new)
         (P.tally place.old) (P.tally place.new)) result }
 {

@@ -10,11 +10,11 @@ ghost use Rattle.judge.specs.Verdict.{IsVerdict, Verifies};
 ghost use Rattle.recording.specs.Tso.{IsTsoOrder};
 ghost use Rattle.recording.specs.FirstUse.{IsNumberedByFirstUse};
 ghost use Rattle.commands.specs.Inputs.{CanRead, Reads, seen};
-ghost use Rattle.commands.specs.Replay.{IsReadBack, IsReplayedInput, IsReplayOf, IsReplayStop, ReplaysOrder};
+ghost use Rattle.commands.specs.Replay.{IsReadBack, IsReplayedInput, IsReplayOf, IsReplayError, ReplaysOrder};
 ghost use Rattle.commands.specs.Replay.{parts_text, replay_text};
 
+use crate::command_error::CommandError;
 use crate::named::recording_at;
-use crate::stop::Stop;
 use command_line::FileOptions;
 use common::{EventId, OutOfMemory};
 use devices::Place;
@@ -125,10 +125,10 @@ pub fn replay_command<P: Place>(
     alloc: Global,
     options: &FileOptions,
     place: &mut P,
-) -> Result<Answer, Stop>
+) -> Result<Answer, CommandError>
     requires { CanRead (P.tally place.old) }
     ensures ok { IfOk result (IsReplayedInput (P.bytes place.old) options.now) }
-    ensures err { IfErr result (IsReplayStop (P.bytes place.old) options.now) }
+    ensures err { IfErr result (IsReplayError (P.bytes place.old) options.now) }
     ensures reads { Reads (string_bytes options.now.file ∷ []) (seen (P.asked place.old) (P.asked place.new)
         (P.tally place.old) (P.tally place.new)) result }
 {
@@ -136,6 +136,6 @@ pub fn replay_command<P: Place>(
     if is_numbered(&recording) {
         Ok(replay(alloc, &recording)?)
     } else {
-        Err(Stop::of_line(alloc, "refused: N8\n"))
+        Err(CommandError::of_line(alloc, "refused: N8\n"))
     }
 }

@@ -3,15 +3,15 @@ ghost use Rattle.std.specs.Prelude.{◌≡◌, ◌∷◌, [], ℕ, List, IfErr, 
 ghost use Rattle.machine.specs.Script.{steps_of};
 ghost use Rattle.commands.specs.Inputs.{AreBytesOf, CanRead, Reads, seen};
 ghost use Rattle.commands.specs.Names.{run_names};
-ghost use Rattle.commands.specs.Refusal.{IsReadingStop, step_fault_name};
-ghost use Rattle.commands.specs.Perform.{IsRunStop, IsScriptStop};
+ghost use Rattle.commands.specs.Refusal.{IsReadingError, step_fault_name};
+ghost use Rattle.commands.specs.Perform.{IsRunError, IsScriptError};
 ghost use Rattle.commands.specs.Run.{IsRun, IsScriptAnswer};
 
+use crate::command_error::CommandError;
 use crate::fault::CommandFault;
 use crate::inputs::text_at;
 use crate::named::program_at;
 use crate::refusal::{line_refusal, step_fault_name};
-use crate::stop::Stop;
 use answers::{script_answer, seeded_answer};
 use command_line::RunOptions;
 use devices::Place;
@@ -21,14 +21,14 @@ use report::Answer;
 use std::alloc::Global;
 
 /// The steps of a script for a program, or the refusal of its first line at fault.
-fn steps_of(alloc: Global, text: &[u8], program: &Program) -> Result<Vec<Step>, Stop>
+fn steps_of(alloc: Global, text: &[u8], program: &Program) -> Result<Vec<Step>, CommandError>
     ensures ok { IfOk result (λ steps. steps_of program.now text.now ≡ Ok steps.items) }
-    ensures err { IfErr result (IsReadingStop step_fault_name (steps_of program.now text.now)) }
+    ensures err { IfErr result (IsReadingError step_fault_name (steps_of program.now text.now)) }
 {
     match parse_steps(alloc, text, program) {
         Ok(steps) => Ok(steps),
-        Err(StepsError::OutOfMemory) => Err(Stop::Fault(CommandFault::OutOfMemory)),
-        Err(StepsError::AtLine(fault, line)) => Err(Stop::Refused(line_refusal(
+        Err(StepsError::OutOfMemory) => Err(CommandError::Fault(CommandFault::OutOfMemory)),
+        Err(StepsError::AtLine(fault, line)) => Err(CommandError::Refused(line_refusal(
             alloc,
             step_fault_name(fault),
             line,
@@ -43,11 +43,11 @@ fn steps_at<P: Place>(
     program: &Program,
     name: &str,
     place: &mut P,
-) -> Result<Vec<Step>, Stop>
+) -> Result<Vec<Step>, CommandError>
     requires { CanRead (P.tally place.old) }
     ensures ok { IfOk result (λ steps. (text : List ℕ) × AreBytesOf (P.bytes place.old) name.now text
         × (steps_of program.now text ≡ Ok steps.items)) }
-    ensures err { IfErr result (IsScriptStop (P.bytes place.old) program.now name.now) }
+    ensures err { IfErr result (IsScriptError (P.bytes place.old) program.now name.now) }
     ensures reads { Reads (name.now ∷ []) (seen (P.asked place.old) (P.asked place.new)
         (P.tally place.old) (P.tally place.new)) result }
 {
@@ -62,10 +62,10 @@ fn script_run<P: Place>(
     options: &RunOptions,
     name: &str,
     place: &mut P,
-) -> Result<Answer, Stop>
+) -> Result<Answer, CommandError>
     requires { CanRead (P.tally place.old) }
     ensures ok { IfOk result (IsScriptAnswer (P.bytes place.old) options.now program name.now) }
-    ensures err { IfErr result (IsScriptStop (P.bytes place.old) program name.now) }
+    ensures err { IfErr result (IsScriptError (P.bytes place.old) program name.now) }
     ensures reads { Reads (name.now ∷ []) (seen (P.asked place.old) (P.asked place.new)
         (P.tally place.old) (P.tally place.new)) result }
 {
@@ -85,10 +85,10 @@ pub fn run_command<P: Place>(
     alloc: Global,
     options: &RunOptions,
     place: &mut P,
-) -> Result<Answer, Stop>
+) -> Result<Answer, CommandError>
     requires { CanRead (P.tally place.old) }
     ensures ok { IfOk result (IsRun (P.bytes place.old) options.now) }
-    ensures err { IfErr result (IsRunStop (P.bytes place.old) options.now) }
+    ensures err { IfErr result (IsRunError (P.bytes place.old) options.now) }
     ensures reads { Reads (run_names options.now) (seen (P.asked place.old) (P.asked place.new)
         (P.tally place.old) (P.tally place.new)) result }
 {

@@ -7,12 +7,13 @@ ghost use Rattle.surveys.specs.Surveys as errors;
 ghost use Rattle.commands.specs.Inputs.{CanRead, Reads, ReadsInput, seen};
 ghost use Rattle.commands.specs.Output.{failed_writes};
 ghost use Rattle.commands.specs.Survey.{IsCountedInput, IsEachFault, IsEachWritten, IsLineOfInput, IsSurveyBy};
-ghost use Rattle.commands.specs.Survey.{IsSurveyFault, IsSurveyOf, IsSurveyStop, IsSurveyStopBy, IsSurveyed, TellsEach};
+ghost use Rattle.commands.specs.Survey.{IsSurveyFault, IsSurveyOf, IsSurveyError, IsSurveyErrorBy, IsSurveyed};
+ghost use Rattle.commands.specs.Survey.{TellsEach};
 
+use crate::command_error::CommandError;
 use crate::fault::CommandFault;
 use crate::inputs::opened;
 use crate::output::put;
-use crate::stop::Stop;
 use answers::{line_answer, survey_answer};
 use command_line::SurveyOptions;
 use common::OpenGate;
@@ -154,16 +155,16 @@ fn shown_line<P: Place>(
     options: &SurveyOptions,
     k: usize,
     place: &mut P,
-) -> Result<Answer, Stop>
+) -> Result<Answer, CommandError>
     requires { CanRead (P.tally place.old) }
     ensures ok { IfOk result (IsSurveyBy (P.bytes place.old) options.now (Some k)) }
-    ensures err { IfErr result (IsSurveyStopBy (P.bytes place.old) options.now (Some k)) }
+    ensures err { IfErr result (IsSurveyErrorBy (P.bytes place.old) options.now (Some k)) }
     ensures reads { Reads (string_bytes options.now.file ∷ []) (seen (P.asked place.old) (P.asked place.new)
         (P.tally place.old) (P.tally place.new)) result }
 {
     match line_at(alloc, options, k, place)? {
         Some(line) => Ok(line_answer(alloc, line.as_slice(), options.reduce)?),
-        None => Err(Stop::of_line(alloc, "refused: K11\n")),
+        None => Err(CommandError::of_line(alloc, "refused: K11\n")),
     }
 }
 
@@ -173,11 +174,11 @@ pub fn survey_command<R: Threads + Sync, P: Place>(
     alloc: Global,
     options: &SurveyOptions,
     place: &mut P,
-) -> Result<Answer, Stop>
+) -> Result<Answer, CommandError>
     requires told { TellsEach options.now → ⊥ }
     requires inputs { CanRead (P.tally place.old) }
     ensures ok { IfOk result (IsSurveyOf (P.bytes place.old) options.now) }
-    ensures err { IfErr result (IsSurveyStop (P.bytes place.old) options.now) }
+    ensures err { IfErr result (IsSurveyError (P.bytes place.old) options.now) }
     ensures reads { Reads (string_bytes options.now.file ∷ []) (seen (P.asked place.old) (P.asked place.new)
         (P.tally place.old) (P.tally place.new)) result }
 {

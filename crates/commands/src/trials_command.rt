@@ -3,10 +3,10 @@ ghost use Rattle.std.specs.Prelude.{◌≡◌, IfErr, IfOk, List};
 ghost use Rattle.clap.specs.Words.{Row};
 ghost use Rattle.command_line.specs.Options.{AreTrialsOptions};
 ghost use Rattle.commands.specs.declared.fault.CommandFault.TheVariants.{OutOfMemory};
-ghost use Rattle.commands.specs.declared.stop.Stop.TheVariants.{Fault};
+ghost use Rattle.commands.specs.declared.command_error.CommandError.TheVariants.{Fault};
 ghost use Rattle.commands.specs.Trials.{IsTrials};
 
-use crate::stop::Stop;
+use crate::command_error::CommandError;
 use answers::{campaign_answer, shown_answer};
 use command_line::TrialsOptions;
 use common::OpenGate;
@@ -45,7 +45,7 @@ pub fn trials_command<R: Threads + Wait + Sync, P: Place>(
     alloc: Global,
     options: &TrialsOptions,
     place: &P,
-) -> Result<Answer, Stop>
+) -> Result<Answer, CommandError>
     requires { (rows : List Row) × AreTrialsOptions options.now rows }
     ensures ok { IfOk result (IsTrials options.now) }
     ensures err { IfErr result (λ stop. stop ≡ Fault OutOfMemory) }

@@ -3,11 +3,11 @@ ghost use Rattle.std.specs.Prelude.{◌∷◌, [], ℕ, List, IfErr, IfOk, strin
 ghost use Rattle.verification.specs.Checked.{IsCheckAnswer};
 ghost use Rattle.commands.specs.Inputs.{AreBytesOf, CanRead, Reads, seen};
 ghost use Rattle.commands.specs.Names.{verify_names};
-ghost use Rattle.commands.specs.Verify.{IsTextStop, IsVerified, IsVerifyStop};
+ghost use Rattle.commands.specs.Verify.{IsTextError, IsVerified, IsVerifyError};
 
+use crate::command_error::CommandError;
 use crate::inputs::text_at;
 use crate::named::recording_at;
-use crate::stop::Stop;
 use command_line::VerifyOptions;
 use devices::Place;
 use recording::Recording;
@@ -25,11 +25,11 @@ fn checked<R: Threads + Wait + Sync, P: Place>(
     name: &str,
     workers: usize,
     place: &mut P,
-) -> Result<Answer, Stop>
+) -> Result<Answer, CommandError>
     requires { CanRead (P.tally place.old) }
     ensures ok { IfOk result (λ answer. (text : List ℕ) × AreBytesOf (P.bytes place.old) name.now text
         × IsCheckAnswer recording.now text answer) }
-    ensures err { IfErr result (IsTextStop (P.bytes place.old) name.now) }
+    ensures err { IfErr result (IsTextError (P.bytes place.old) name.now) }
     ensures reads { Reads (name.now ∷ []) (seen (P.asked place.old) (P.asked place.new)
         (P.tally place.old) (P.tally place.new)) result }
 {
@@ -44,10 +44,10 @@ pub fn verify_command<R: Threads + Wait + Sync, P: Place>(
     alloc: Global,
     options: &VerifyOptions,
     place: &mut P,
-) -> Result<Answer, Stop>
+) -> Result<Answer, CommandError>
     requires { CanRead (P.tally place.old) }
     ensures ok { IfOk result (IsVerified (P.bytes place.old) options.now) }
-    ensures err { IfErr result (IsVerifyStop (P.bytes place.old) options.now) }
+    ensures err { IfErr result (IsVerifyError (P.bytes place.old) options.now) }
     ensures reads { Reads (verify_names options.now) (seen (P.asked place.old) (P.asked place.new)
         (P.tally place.old) (P.tally place.new)) result }
 {

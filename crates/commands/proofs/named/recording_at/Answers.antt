@@ -1,4 +1,4 @@
-use Rattle.commands.proofs.Stops.{unread_stop}
+use Rattle.commands.proofs.CommandErrors.{unread_stop}
 use Rattle.commands.proofs.named.recording_at.Goals as goal
 
 pub returns-clause-err : goal.returns-clause-err
