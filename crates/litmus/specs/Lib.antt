@@ -1,3 +1,3 @@
-pub mod Said
+pub mod ParsedLine
 pub mod Built
 pub mod Random

@@ -3,7 +3,7 @@
 ghost use Rattle.std.specs.Prelude.{◌≡◌};
 
 use crate::builder::Builder;
-use crate::line::{Said, line_of};
+use crate::line::{ParsedLine, line_of};
 use common::OutOfMemory;
 use program::{LineFault, LitmusError, Name, Number, Program, Write};
 use std::alloc::Global;
@@ -153,14 +153,14 @@ impl Reader {
     {
         match line_of(line) {
             None => Err(LitmusError::AtLine(LineFault::L1, number)),
-            Some(Said::Core) => self.begin_core(alloc, number),
-            Some(Said::Fence) => self.fence(number),
-            Some(Said::Load(name)) => self.load(name, number),
-            Some(Said::Write(write, name, value)) => self.write(write, name, value, number),
-            Some(Said::Compare(name, expected, value)) => {
+            Some(ParsedLine::Core) => self.begin_core(alloc, number),
+            Some(ParsedLine::Fence) => self.fence(number),
+            Some(ParsedLine::Load(name)) => self.load(name, number),
+            Some(ParsedLine::Write(write, name, value)) => self.write(write, name, value, number),
+            Some(ParsedLine::Compare(name, expected, value)) => {
                 self.compare(name, expected, value, number)
             }
-            Some(Said::Init(name, value)) => self.init(name, value, number),
+            Some(ParsedLine::Init(name, value)) => self.init(name, value, number),
         }
     }
 

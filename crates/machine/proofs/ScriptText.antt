@@ -13,8 +13,8 @@ use Rattle.program.specs.Names.{name_eq}
 use Rattle.program.specs.Parts.{Parts}
 use Rattle.program.specs.TestLaws.{cases_of}
 use Rattle.program.specs.ReadingLaws.{kept}
-use Rattle.machine.specs.declared.script_line.Own.{Own}
-use Rattle.machine.specs.declared.script_line.Own.TheVariants.{Exec, Drain}
+use Rattle.machine.specs.declared.script_line.CoreStep.{CoreStep}
+use Rattle.machine.specs.declared.script_line.CoreStep.TheVariants.{Exec, Drain}
 use Rattle.machine.specs.declared.script_line.Transaction.{Transaction}
 use Rattle.machine.specs.declared.script_line.Transaction.TheVariants.{GetS, GetM, Put}
 use Rattle.machine.specs.declared.script_fault.StepFault.{StepFault}
@@ -65,7 +65,7 @@ address_within p name a e =
     rw (← found.1) (ltb-true _ _ found.0)
 
 -- a step of one of the program's cores
-own_kept : (p : Parts) (own : Own) (c : ℕ) → c < length p.cores → IsStepOf p (own_step own c)
+own_kept : (p : Parts) (own : CoreStep) (c : ℕ) → c < length p.cores → IsStepOf p (own_step own c)
 own_kept p Exec c h = h
 own_kept p Drain c h = h
 

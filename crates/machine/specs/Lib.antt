@@ -15,6 +15,6 @@ pub mod BoundedItems
 pub mod Configuration
 pub mod Made
 pub mod ScriptLine
-pub mod ScriptSaid
+pub mod ParsedScriptLine
 pub mod Script
 pub mod ScriptText

@@ -5,8 +5,8 @@ use Rattle.program.specs.declared.name.Name.{Name}
 use Rattle.program.specs.Names.{name_of}
 use Rattle.program.specs.Lines.{begins, is_space}
 use Rattle.program.specs.Numbers.{decimal_of}
-use Rattle.machine.specs.declared.script_line.Own.{Own}
-use Rattle.machine.specs.declared.script_line.Own.TheVariants.{Exec, Drain}
+use Rattle.machine.specs.declared.script_line.CoreStep.{CoreStep}
+use Rattle.machine.specs.declared.script_line.CoreStep.TheVariants.{Exec, Drain}
 use Rattle.machine.specs.declared.script_line.Transaction.{Transaction}
 use Rattle.machine.specs.declared.script_line.Transaction.TheVariants.{GetS, GetM, Put}
 use Rattle.machine.specs.declared.step.Step.{Step}
@@ -14,11 +14,11 @@ use Rattle.machine.specs.declared.step.Step.TheVariants as steps
 
 -- a line, with its core and its name not yet looked up
 pub data ScriptLine : Type 0 where
-  own_line : Own → ℕ → ScriptLine
+  own_line : CoreStep → ℕ → ScriptLine
   transaction_line : Transaction → ℕ → Name → ScriptLine
 
 -- the number of a core
-unfoldable pub own_of : Own → List ℕ → Option ScriptLine
+unfoldable pub own_of : CoreStep → List ℕ → Option ScriptLine
 own_of own rest = option_map (λ c. own_line own c) (decimal_of rest)
 
 -- the number of a core, one space and a name
@@ -41,7 +41,7 @@ script_line_of line =
     else None))))
 
 -- the step of this kind that core c takes
-abbrev pub own_step : Own → ℕ → Step
+abbrev pub own_step : CoreStep → ℕ → Step
 own_step Exec c = steps.Exec c
 own_step Drain c = steps.Drain c
 

@@ -6,7 +6,7 @@ ghost use Rattle.program.specs.Reading.{Answers, AnswersLine, read_from, seen_as
 ghost use Rattle.machine.specs.Script.{core_in, address_in, with_step, line_step, steps_of, IsStepOf};
 
 use crate::script_fault::{StepFault, StepsError};
-use crate::script_line::{Said, own_step, script_line_of, transaction_step};
+use crate::script_line::{ParsedLine, own_step, script_line_of, transaction_step};
 use crate::step::Step;
 use common::{Addr, CoreId, MAX_STEPS};
 use program::{Name, Number, Program};
@@ -54,11 +54,11 @@ fn take_line(
 {
     match script_line_of(line) {
         None => Err(StepsError::AtLine(StepFault::S1, number)),
-        Some(Said::Own(own, core)) => match core_in(program, core) {
+        Some(ParsedLine::CoreStep(own, core)) => match core_in(program, core) {
             None => Err(StepsError::AtLine(StepFault::S2, number)),
             Some(core) => push_step(steps, own_step(own, core), number),
         },
-        Some(Said::Transaction(kind, core, name)) => {
+        Some(ParsedLine::Transaction(kind, core, name)) => {
             match (core_in(program, core), address_in(program, name)) {
                 (None, _) => Err(StepsError::AtLine(StepFault::S2, number)),
                 (_, None) => Err(StepsError::AtLine(StepFault::S3, number)),

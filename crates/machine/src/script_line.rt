@@ -4,7 +4,7 @@ ghost use Rattle.std.specs.Prelude.{◌≡◌};
 ghost use Rattle.program.specs.Reading.{SaysOption};
 ghost use Rattle.machine.specs.ScriptLine.{own_of, transaction_of, script_line_of, own_step};
 ghost use Rattle.machine.specs.ScriptLine.{transaction_step};
-ghost use Rattle.machine.specs.ScriptSaid.{SaysScriptLine};
+ghost use Rattle.machine.specs.ParsedScriptLine.{SaysScriptLine};
 
 use crate::step::Step;
 use common::{Addr, CoreId};
@@ -12,7 +12,7 @@ use program::{Name, Number, decimal, space_in};
 
 /// The kind of a step that a core takes alone.
 #[derive(Clone, Copy)]
-pub enum Own {
+pub enum CoreStep {
     Exec,
     Drain,
 }
@@ -27,39 +27,39 @@ pub enum Transaction {
 
 /// What a line says, with its core and its name not yet looked up.
 #[derive(Clone, Copy)]
-pub enum Said {
-    Own(Own, Number),
+pub enum ParsedLine {
+    CoreStep(CoreStep, Number),
     Transaction(Transaction, Number, Name),
 }
 
 #[tactic(auto, unfolding(crate::specs::ScriptLine::own_of))]
-fn own_of(own: Own, rest: &[u8]) -> Option<Said>
+fn own_of(own: CoreStep, rest: &[u8]) -> Option<ParsedLine>
     ensures { SaysOption SaysScriptLine result (own_of own rest.now) }
 {
     let core = decimal(rest)?;
-    Some(Said::Own(own, core))
+    Some(ParsedLine::CoreStep(own, core))
 }
 
 #[tactic(auto, unfolding(crate::specs::ScriptLine::transaction_of))]
-fn transaction_of(kind: Transaction, rest: &[u8]) -> Option<Said>
+fn transaction_of(kind: Transaction, rest: &[u8]) -> Option<ParsedLine>
     ensures { SaysOption SaysScriptLine result (transaction_of kind rest.now) }
 {
     let at = space_in(rest)?;
     let core = decimal(&rest[..at])?;
     let name = Name::new(&rest[at + 1..])?;
-    Some(Said::Transaction(kind, core, name))
+    Some(ParsedLine::Transaction(kind, core, name))
 }
 
 /// What the line says, if it is in the grammar.
 #[tactic(auto, unfolding(crate::specs::ScriptLine::script_line_of))]
-pub fn script_line_of(line: &[u8]) -> Option<Said>
+pub fn script_line_of(line: &[u8]) -> Option<ParsedLine>
     ensures { SaysOption SaysScriptLine result (script_line_of line.now) }
 {
     if let Some(rest) = line.strip_prefix(b"exec ".as_slice()) {
-        return own_of(Own::Exec, rest);
+        return own_of(CoreStep::Exec, rest);
     }
     if let Some(rest) = line.strip_prefix(b"drain ".as_slice()) {
-        return own_of(Own::Drain, rest);
+        return own_of(CoreStep::Drain, rest);
     }
     if let Some(rest) = line.strip_prefix(b"gets ".as_slice()) {
         return transaction_of(Transaction::GetS, rest);
@@ -74,12 +74,12 @@ pub fn script_line_of(line: &[u8]) -> Option<Said>
 }
 
 /// The step of this kind that the core takes.
-pub fn own_step(own: Own, core: CoreId) -> Step
+pub fn own_step(own: CoreStep, core: CoreId) -> Step
     ensures { result ≡ own_step own core }
 {
     match own {
-        Own::Exec => Step::Exec(core),
-        Own::Drain => Step::Drain(core),
+        CoreStep::Exec => Step::Exec(core),
+        CoreStep::Drain => Step::Drain(core),
     }
 }
 
