@@ -5,7 +5,7 @@ ghost use Rattle.program.specs.Steps.{write_op};
 
 use common::{Addr, MAX_ADDRESSES, MAX_CORES, MAX_EVENTS};
 use indexmap::IndexSet;
-use program::{LineFault, LitmusError, Name, Number, Op, Ops, Write, are_below};
+use program::{LineFault, LitmusError, Name, Number, Op, Ops, WriteKind, are_below};
 use std::alloc::Global;
 
 /// The names in order of first use, and the operations of each core.
@@ -25,7 +25,7 @@ impl Builder {
     ghost use Rattle.program.specs.Steps.{at_name, names_with, name_number, with_op, write_op, compare_step};
     ghost use Rattle.program.specs.Numbers.{IsValue};
     ghost use Rattle.program.specs.Reading.{AnswersLine, seen_as};
-    ghost use Rattle.program.specs.declared.line.Write.{Write};
+    ghost use Rattle.program.specs.declared.line.WriteKind.{WriteKind};
     ghost use Rattle.litmus.specs.Built.{state};
 
     pub fn new(alloc: Global) -> Builder
@@ -120,7 +120,7 @@ impl Builder {
     #[tactic(auto, unfolding(program::specs::Steps::write_step))]
     pub fn write(
         &mut self,
-        write: Write,
+        write: WriteKind,
         name: Name,
         value: Number,
         number: usize,
@@ -159,12 +159,12 @@ impl Builder {
     }
 }
 
-fn write_op(write: Write, addr: Addr, value: u32) -> Op
+fn write_op(write: WriteKind, addr: Addr, value: u32) -> Op
     ensures { result ≡ write_op write addr value }
 {
     match write {
-        Write::Store => Op::St(addr, value),
-        Write::Swap => Op::Swap(addr, value),
-        Write::Add => Op::Add(addr, value),
+        WriteKind::Store => Op::St(addr, value),
+        WriteKind::Swap => Op::Swap(addr, value),
+        WriteKind::Add => Op::Add(addr, value),
     }
 }

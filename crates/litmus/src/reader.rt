@@ -5,7 +5,7 @@ ghost use Rattle.std.specs.Prelude.{◌≡◌};
 use crate::builder::Builder;
 use crate::line::{ParsedLine, line_of};
 use common::OutOfMemory;
-use program::{LineFault, LitmusError, Name, Number, Program, Write};
+use program::{LineFault, LitmusError, Name, Number, Program, WriteKind};
 use std::alloc::Global;
 
 /// The names, the operations, and the initial values up to that of the last `init` line.
@@ -75,7 +75,7 @@ impl Reader {
 
     fn write(
         &mut self,
-        write: Write,
+        write: WriteKind,
         name: Name,
         value: Number,
         number: usize,

@@ -10,8 +10,8 @@ use Rattle.std.proofs.lemmas.List.Sums.{sum_by-cons}
 use Rattle.program.specs.declared.name.Name.{Name}
 use Rattle.program.specs.declared.op.Op.{Op}
 use Rattle.program.specs.declared.op.Op.TheVariants.{St, Ld, Fence, Swap, Add, Cas}
-use Rattle.program.specs.declared.line.Write.{Write}
-use Rattle.program.specs.declared.line.Write.TheVariants as writes
+use Rattle.program.specs.declared.line.WriteKind.{WriteKind}
+use Rattle.program.specs.declared.line.WriteKind.TheVariants as writes
 use Rattle.program.specs.declared.fault.LineFault.{LineFault}
 use Rattle.program.specs.declared.fault.LineFault.TheVariants.{L1}
 use Rattle.common.specs.declared.limits.TheConstants.{MAX_CORES, MAX_EVENTS, MAX_ADDRESSES}
@@ -53,7 +53,7 @@ unfolding load_step
 load_so p name more a none next number few = rw (none, next, number, few) refl
 
 -- what a write does
-write_so : (p : Body) (write : Write) (name : Name) (n : ℕ) (more : List Name) (a : ℕ) → op_fault p
+write_so : (p : Body) (write : WriteKind) (name : Name) (n : ℕ) (more : List Name) (a : ℕ) → op_fault p
     ≡ None → names_with p.names name ≡ more → name_number p.names name ≡ a →
     nat_lt MAX_ADDRESSES (length more) ≡ false →
     nat_lt n (2 ^ 32) ≡ true → write_step p write name n
@@ -123,7 +123,7 @@ load_next all p back a n h parts none used le =
     }
 
 -- a write is read
-record NextWrite (all : List Name) (p : Body) (write : Write) (a value n : ℕ) : Type 0 where
+record NextWrite (all : List Name) (p : Body) (write : WriteKind) (a value n : ℕ) : Type 0 where
   more : List Name
   back : List Name
   parts : all ≡ more ++ back
@@ -133,7 +133,7 @@ record NextWrite (all : List Name) (p : Body) (write : Write) (a value n : ℕ) 
       ≡ Ok (plain (record { names = more; cores = with_op p.cores (write_op write a value) }))
 
 -- a store, swap or add is read
-write_next : (all : List Name) (p : Body) (back : List Name) (write : Write) (a value n : ℕ) →
+write_next : (all : List Name) (p : Body) (back : List Name) (write : WriteKind) (a value n : ℕ) →
     AreNames all → all ≡ p.names ++ back → op_fault p ≡ None → use_addr (length p.names) (Some a)
     ≡ Some n → n ≤ length all →
     value < 2 ^ 32 → NextWrite all p write a value n

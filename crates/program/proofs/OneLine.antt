@@ -11,8 +11,8 @@ use Rattle.std.proofs.lemmas.List.{append_assoc, take_at, drop_at}
 use Rattle.std.proofs.lemmas.List.Folds.{list_all-append}
 use Rattle.std.proofs.lemmas.Fmt.{digits_decimal}
 use Rattle.program.specs.declared.name.Name.{Name}
-use Rattle.program.specs.declared.line.Write.{Write}
-use Rattle.program.specs.declared.line.Write.TheVariants.{Store, Swap, Add}
+use Rattle.program.specs.declared.line.WriteKind.{WriteKind}
+use Rattle.program.specs.declared.line.WriteKind.TheVariants.{Store, Swap, Add}
 use Rattle.program.specs.Names.{is_letter_or_digit, name_of, name_text}
 use Rattle.program.specs.Lines.{Line, core_line, fence_line, load_line, write_line, compare_line, init_line}
 use Rattle.program.specs.Lines.{line_of, load_of, write_of, compare_of, compared_of, init_of, valued_of}
@@ -101,7 +101,7 @@ value_reads line rest l e =
     }
 
 -- what is known of a write that was read
-write_reads : (write : Write) (rest : List ℕ) (l : Line) → write_of write rest ≡ Some l →
+write_reads : (write : WriteKind) (rest : List ℕ) (l : Line) → write_of write rest ≡ Some l →
     Reads l (write_word write ++ rest)
 unfolding write_of
 write_reads write rest l e =
@@ -272,7 +272,7 @@ value_again line name n named fits =
     ) refl
 
 -- the text of a write is read as it
-write_again : (write : Write) (name : Name) (n : ℕ) → name_of (name_text name) ≡ Some name →
+write_again : (write : WriteKind) (name : Name) (n : ℕ) → name_of (name_text name) ≡ Some name →
     n < 2 ^ 32 →
     write_of write (name_text name ++ 32 ∷ decimal n) ≡ Some (write_line write name n)
 unfolding write_of

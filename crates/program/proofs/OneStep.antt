@@ -9,8 +9,8 @@ use Rattle.std.proofs.lemmas.Grind.{flat_map-append}
 use Rattle.program.specs.declared.name.Name.{Name}
 use Rattle.program.specs.declared.op.Op.{Op}
 use Rattle.program.specs.declared.op.Op.TheVariants.{Ld, Fence, Cas}
-use Rattle.program.specs.declared.line.Write.{Write}
-use Rattle.program.specs.declared.line.Write.TheVariants as writes
+use Rattle.program.specs.declared.line.WriteKind.{WriteKind}
+use Rattle.program.specs.declared.line.WriteKind.TheVariants as writes
 use Rattle.program.specs.declared.fault.LineFault.{LineFault}
 use Rattle.program.specs.declared.fault.LineFault.TheVariants.{L1, L2, L3, L4, L5}
 use Rattle.common.specs.declared.limits.TheConstants.{MAX_CORES, MAX_EVENTS, MAX_ADDRESSES}
@@ -129,26 +129,26 @@ keeps_load p q line name h named is e =
     rw (← ok_is after q few.1) (keeps_op p line op more (line_text (load_line name)) g this is)
 
 -- the text of a write
-written_text : (write : Write) (names : List Name) (a n : ℕ) → op_text names (write_op write a n)
+written_text : (write : WriteKind) (names : List Name) (a n : ℕ) → op_text names (write_op write a n)
     ≡ line_text (write_line write (name_at names a) n) ++ 10 ∷ []
 written_text writes.Store names a n = refl
 written_text writes.Swap names a n = refl
 written_text writes.Add names a n = refl
 
 -- the address of a write
-written_addr : (write : Write) (a n : ℕ) → addr_of (write_op write a n) ≡ Some a
+written_addr : (write : WriteKind) (a n : ℕ) → addr_of (write_op write a n) ≡ Some a
 written_addr writes.Store a n = refl
 written_addr writes.Swap a n = refl
 written_addr writes.Add a n = refl
 
 -- the value of a write
-written_small : (write : Write) (a n : ℕ) → n < 2 ^ 32 → Small (write_op write a n)
+written_small : (write : WriteKind) (a n : ℕ) → n < 2 ^ 32 → Small (write_op write a n)
 written_small writes.Store a n h = h
 written_small writes.Swap a n h = h
 written_small writes.Add a n h = h
 
 -- after the line of a write there is a body
-pub keeps_write : (p q : Body) (line : List ℕ) (write : Write) (name : Name) (n : ℕ) → IsBody p →
+pub keeps_write : (p q : Body) (line : List ℕ) (write : WriteKind) (name : Name) (n : ℕ) → IsBody p →
     name_of (name_text name) ≡ Some name →
     (n < 2 ^ 32 → line_text (write_line write name n) ≡ line) →
     write_step p write name n ≡ Ok q → Keeps p line q

@@ -3,8 +3,8 @@ use Rattle.std.specs.Prelude.{ℕ, List, ◌+◌, ◌==◌, Bool, nat_eq, positi
 use Rattle.std.specs.Prelude.{None, Some, option_map, option_and_then, if◌then◌else◌}
 use Rattle.std.specs.Cmp.Lexicographic.{pointwise}
 use Rattle.program.specs.declared.name.Name.{Name}
-use Rattle.program.specs.declared.line.Write.{Write}
-use Rattle.program.specs.declared.line.Write.TheVariants.{Store, Swap, Add}
+use Rattle.program.specs.declared.line.WriteKind.{WriteKind}
+use Rattle.program.specs.declared.line.WriteKind.TheVariants.{Store, Swap, Add}
 use Rattle.program.specs.Names.{name_of}
 use Rattle.program.specs.Numbers.{decimal_of}
 
@@ -13,7 +13,7 @@ pub data Line : Type 0 where
   core_line : Line
   fence_line : Line
   load_line : Name → Line
-  write_line : Write → Name → ℕ → Line
+  write_line : WriteKind → Name → ℕ → Line
   compare_line : Name → ℕ → ℕ → Line
   init_line : Name → ℕ → Line
 
@@ -22,7 +22,7 @@ abbrev pub is_space : ℕ → Bool
 is_space b = b == 32
 
 -- the word of a write, with its space
-abbrev pub write_word : Write → List ℕ
+abbrev pub write_word : WriteKind → List ℕ
 write_word Store = codes "st "
 write_word Swap = codes "swap "
 write_word Add = codes "add "
@@ -37,7 +37,7 @@ valued_of line rest =
     (position is_space rest)
 
 -- a write
-unfoldable pub write_of : Write → List ℕ → Option Line
+unfoldable pub write_of : WriteKind → List ℕ → Option Line
 write_of write rest = valued_of (λ name n. write_line write name n) rest
 
 -- an initial value

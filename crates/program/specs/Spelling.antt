@@ -5,7 +5,7 @@ use Rattle.std.specs.List.{flat_map}
 use Rattle.program.specs.declared.name.Name.{Name}
 use Rattle.program.specs.declared.op.Op.{Op}
 use Rattle.program.specs.declared.op.Op.TheVariants.{St, Ld, Fence, Swap, Add, Cas}
-use Rattle.program.specs.declared.line.Write.TheVariants as writes
+use Rattle.program.specs.declared.line.WriteKind.TheVariants as writes
 use Rattle.program.specs.Names.{name_text, no_name}
 use Rattle.program.specs.Lines.{Line, core_line, fence_line, load_line, write_line, compare_line}
 use Rattle.program.specs.Lines.{init_line, write_word}

@@ -4,8 +4,8 @@ use Rattle.std.specs.Prelude.{slice_index_or, Option, None, Some, Result, Ok, Er
 use Rattle.std.specs.List.{position_or_len}
 use Rattle.indexmap.specs.IndexSet.{insert_key}
 use Rattle.program.specs.declared.name.Name.{Name}
-use Rattle.program.specs.declared.line.Write.{Write}
-use Rattle.program.specs.declared.line.Write.TheVariants as writes
+use Rattle.program.specs.declared.line.WriteKind.{WriteKind}
+use Rattle.program.specs.declared.line.WriteKind.TheVariants as writes
 use Rattle.program.specs.declared.op.Op.{Op}
 use Rattle.program.specs.declared.op.Op.TheVariants.{St, Ld, Fence, Swap, Add, Cas}
 use Rattle.program.specs.declared.fault.LineFault.{LineFault}
@@ -32,7 +32,7 @@ with_op cores op = slice_set cores (length cores - 1)
     (slice_index_or cores (length cores - 1) [] ++ op ∷ [])
 
 -- the operation that a write is
-abbrev pub write_op : Write → ℕ → ℕ → Op
+abbrev pub write_op : WriteKind → ℕ → ℕ → Op
 write_op writes.Store a n = St a n
 write_op writes.Swap a n = Swap a n
 write_op writes.Add a n = Add a n
@@ -75,7 +75,7 @@ load_step p name =
     }))
 
 -- a write comes: its address is tested, and then its value
-unfoldable pub write_step : Body → Write → Name → ℕ → Result Body LineFault
+unfoldable pub write_step : Body → WriteKind → Name → ℕ → Result Body LineFault
 write_step p write name n =
     at_name p name
     (if nat_lt n (2 ^ 32)

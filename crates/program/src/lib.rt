@@ -17,7 +17,7 @@ mod shape_error;
 
 pub use fault::{LineFault, LitmusError};
 pub use lawful::are_below;
-pub use line::{Write, space_in};
+pub use line::{WriteKind, space_in};
 pub use line_error::LineError;
 pub use name::{Name, name_at};
 pub use naming::{address_name, address_names};

@@ -5,7 +5,7 @@ ghost use Rattle.program.specs.Lines.{is_space};
 
 /// The kind of an operation that writes.
 #[derive(Clone, Copy)]
-pub enum Write {
+pub enum WriteKind {
     /// A store.
     Store,
     /// An atomic read-modify-write that writes its value.
