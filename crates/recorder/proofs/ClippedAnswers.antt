@@ -8,16 +8,16 @@ use Rattle.recording.specs.declared.fault.RecError.TheVariants.{WriteList, OutOf
 use Rattle.recording.specs.Execution.{Execution}
 use Rattle.recording.specs.Recording.{IsRecording}
 use Rattle.recording.specs.Refusals.{IsRefusal}
-use Rattle.recorder.specs.Contents.{Contents, told, IsVersioned}
-use Rattle.recorder.specs.Reading.{shape_in, Tells, IsReadingResult}
+use Rattle.recorder.specs.ParsedModel.{ParsedModel, execution_of, IsVersioned}
+use Rattle.recorder.specs.Reading.{shape_in, Decodes, IsReadingResult}
 use Rattle.recorder.specs.Text.{IsReadAs}
 use Rattle.recorder.specs.Clipped.{clipped, clipped_shape}
-use Rattle.recorder.proofs.ClippedContents.{contents_from, versioned_from, versioned_to, told_clipped}
+use Rattle.recorder.proofs.ClippedContents.{contents_from, versioned_from, versioned_to, execution_clipped}
 use Rattle.recorder.proofs.ClippedRecording.{recording_from}
 use Rattle.recorder.proofs.ClippedRefusals.{refusal_from}
 
 -- the first refusal is an answer
-refused : (bytes : List ℕ) (d : Data) (x : Execution) (e : RecError) → IsReadAs bytes d → Tells d x
+refused : (bytes : List ℕ) (d : Data) (x : Execution) (e : RecError) → IsReadAs bytes d → Decodes d x
     → IsRefusal x e → IsReadingResult bytes (Err e)
 refused bytes d x Limits reads tells is = (d, reads, (x, tells, is))
 refused bytes d x (Source e) reads tells is = (d, reads, (x, tells, is))
@@ -29,33 +29,34 @@ refused bytes d x Version reads tells is = absurd is
 refused bytes d x OutOfMemory reads tells is = absurd is
 
 -- and so is a recording
-read : (bytes : List ℕ) (d : Data) (x z : Execution) → IsReadAs bytes d → Tells d x → z ≡ clipped x
+read : (bytes : List ℕ) (d : Data) (x z : Execution) → IsReadAs bytes d → Decodes d x → z ≡ clipped x
     → IsRecording (clipped x) → IsReadingResult bytes (Ok z)
 read bytes d x z reads tells held is =
     let same : z ≡ x = held ∙ recording_from x is in (
       d,
       reads,
-      subst (λ (y : Execution). Tells d y) (sym same) tells,
+      subst (λ (y : Execution). Decodes d y) (sym same) tells,
       subst IsRecording (sym held) is,
     )
 
 -- what the contents that are held give, where their version is right, is an answer
-pub answers_from : (bytes : List ℕ) (d : Data) (q : Contents) (x : Execution) (r : Result Execution RecError)
-    → IsReadAs bytes d → Some q ≡ option_map clipped_shape (shape_in d) → IsVersioned q → x ≡ told q
+pub answers_from : (bytes : List ℕ) (d : Data) (q : ParsedModel) (x : Execution) (r : Result Execution RecError)
+    → IsReadAs bytes d → Some q ≡ option_map clipped_shape (shape_in d) → IsVersioned q → x ≡ execution_of q
     → IsOk r ↔ IsRecording x → IfOk r (λ z. z ≡ x) → IfErr r (λ e. IsRefusal x e)
     → IsReadingResult bytes r
 answers_from bytes d q x r reads is versioned held exact ok err =
     let from = contents_from (shape_in d) q is in
-    let tells : Tells d (told from.0) = record {
+    let tells : Decodes d (execution_of from.0) = record {
       contents = from.0;
       shape = from.1;
       versioned = versioned_from from.0 (subst IsVersioned (sym from.2) versioned);
       same = refl;
     } in
-    let parts : clipped (told from.0) ≡ x = sym (told_clipped from.0) ∙ (ap told from.2 ∙ sym held) in
-    go (told from.0) tells parts r exact ok err
+    let parts : clipped (execution_of from.0) ≡ x = sym (execution_clipped from.0)
+    ∙ (ap execution_of from.2 ∙ sym held) in
+    go (execution_of from.0) tells parts r exact ok err
   where
-    go : (y : Execution) → Tells d y → clipped y ≡ x → (s : Result Execution RecError)
+    go : (y : Execution) → Decodes d y → clipped y ≡ x → (s : Result Execution RecError)
         → IsOk s ↔ IsRecording x → IfOk s (λ z. z ≡ x) → IfErr s (λ e. IsRefusal x e)
         → IsReadingResult bytes s
     go y tells parts (Ok z) exact ok err =
@@ -65,7 +66,7 @@ answers_from bytes d q x r reads is versioned held exact ok err =
         (subst (λ (z : Execution). IsRefusal z e) (sym parts) err))
 
 -- where the version of what is held is wrong, that is the answer
-pub version_from : (bytes : List ℕ) (d : Data) (q : Contents) → IsReadAs bytes d
+pub version_from : (bytes : List ℕ) (d : Data) (q : ParsedModel) → IsReadAs bytes d
     → Some q ≡ option_map clipped_shape (shape_in d) → (IsVersioned q → ⊥)
     → IsReadingResult bytes (Err Version)
 version_from bytes d q reads is wrong =

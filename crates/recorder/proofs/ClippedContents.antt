@@ -8,12 +8,12 @@ use Rattle.recording.specs.declared.event.Event.TheVariants.{L, S, R, C, F}
 use Rattle.recording.specs.Recording.{executed}
 use Rattle.recording.specs.Event.{is_failed_cas}
 use Rattle.recorder.specs.Text.{has_failed_cas}
-use Rattle.recorder.specs.Contents.{Contents, initial_values, told, IsVersioned}
+use Rattle.recorder.specs.ParsedModel.{ParsedModel, initial_values, execution_of, IsVersioned}
 use Rattle.recorder.specs.Clipped.{clip, clip_event, clipped, clipped_shape}
 
 -- clipped contents come from contents
-pub contents_from : (o : Option Contents) (q : Contents) → Some q ≡ option_map clipped_shape o
-    → (c : Contents) × (o ≡ Some c) × (clipped_shape c ≡ q)
+pub contents_from : (o : Option ParsedModel) (q : ParsedModel) → Some q ≡ option_map clipped_shape o
+    → (c : ParsedModel) × (o ≡ Some c) × (clipped_shape c ≡ q)
 contents_from None q is = absurd cc
 contents_from (Some c) q is = let same : q ≡ clipped_shape c = cc in (c, refl, sym same)
 
@@ -36,12 +36,12 @@ cores_clipped [] = refl
 cores_clipped (es ∷ rest) = rw (core_clipped es, cores_clipped rest) refl
 
 -- contents whose clipped form has what its version has have it
-pub versioned_from : (c : Contents) → IsVersioned (clipped_shape c) → IsVersioned c
+pub versioned_from : (c : ParsedModel) → IsVersioned (clipped_shape c) → IsVersioned c
 versioned_from c (inl (one, none, fails)) = inl (one, none, sym (cores_clipped c.cores) ∙ fails)
 versioned_from c (inr two) = inr two
 
 -- and the other way round
-pub versioned_to : (c : Contents) → IsVersioned c → IsVersioned (clipped_shape c)
+pub versioned_to : (c : ParsedModel) → IsVersioned c → IsVersioned (clipped_shape c)
 versioned_to c (inl (one, none, fails)) = inl (one, none, cores_clipped c.cores ∙ fails)
 versioned_to c (inr two) = inr two
 
@@ -52,7 +52,7 @@ values_same None lists = ap (λ (n : ℕ). replicate n 0) (length-map lists (map
 values_same (Some values) lists = refl
 
 -- the execution is the clipped one
-pub told_clipped : (c : Contents) → told (clipped_shape c) ≡ clipped (told c)
-told_clipped c =
+pub execution_clipped : (c : ParsedModel) → execution_of (clipped_shape c) ≡ clipped (execution_of c)
+execution_clipped c =
     ap (λ (values : List ℕ). executed (map (map clip_event) c.cores) (map (map clip) c.write_lists) values)
     (values_same c.values c.write_lists)

@@ -15,8 +15,8 @@ use Rattle.recording.specs.PlacedLaws.{placed_total}
 use Rattle.recording.specs.Recording.{IsRecording, IsWithinLimits}
 use Rattle.recording.specs.Refusals.{IsRefusal}
 use Rattle.recorder.specs.Text.{IsReadAs, has_failed_cas}
-use Rattle.recorder.specs.Contents.{Contents, told, IsVersioned}
-use Rattle.recorder.specs.Reading.{shape_in, Tells, IsReadingResult}
+use Rattle.recorder.specs.ParsedModel.{ParsedModel, execution_of, IsVersioned}
+use Rattle.recorder.specs.Reading.{shape_in, Decodes, IsReadingResult}
 use Rattle.recorder.specs.Clipped.{clip, clip_event, clipped_shape}
 use Rattle.recorder.specs.Held.{AreTooMany, HoldsCores, StandsFor}
 use Rattle.recorder.proofs.ClippedContents.{contents_from, versioned_from}
@@ -29,7 +29,7 @@ failed_same held cores (inl same) = ap has_failed_cas same
 failed_same held cores (inr both) = both.2
 
 -- the version is right for the one where it is for the other
-versioned_by : (q c : Contents) → q.version ≡ c.version → q.values ≡ c.values
+versioned_by : (q c : ParsedModel) → q.version ≡ c.version → q.values ≡ c.values
     → has_failed_cas q.cores ≡ has_failed_cas c.cores → IsVersioned q → IsVersioned c
 versioned_by q c version values failed (inl (one, none, fine)) =
     inl (sym version ∙ one, sym values ∙ none, sym failed ∙ fine)
@@ -37,18 +37,18 @@ versioned_by q c version values failed (inr (two, some)) =
     inr (sym version ∙ two, subst (λ (o : Option (List ℕ)). IsSome o) values some)
 
 -- contents beyond the limits
-abbrev IsLarge : Contents → Type 0
+abbrev IsLarge : ParsedModel → Type 0
 IsLarge c = AreTooMany c.cores ⊎ (MAX_ADDRESSES < length c.write_lists)
 
 -- contents are the same where their parts are
 same_parts : (v w : ℕ) (cores others : List (List Event)) (lists more : List (List ℕ))
     (values same : Option (List ℕ)) → v ≡ w → cores ≡ others → lists ≡ more → values ≡ same
-    → let a : Contents = record { version = v; cores = cores; write_lists = lists; values = values } in
-    let b : Contents = record { version = w; cores = others; write_lists = more; values = same } in a ≡ b
+    → let a : ParsedModel = record { version = v; cores = cores; write_lists = lists; values = values } in
+    let b : ParsedModel = record { version = w; cores = others; write_lists = more; values = same } in a ≡ b
 same_parts v w cores others lists more values same hv hc hl hs = rw (hv, hc, hl, hs) refl
 
 -- the contents are held, or both are beyond the limits
-same_or_large : (q c : Contents) → StandsFor q c → (q ≡ c) ⊎ (IsLarge q × IsLarge c)
+same_or_large : (q c : ParsedModel) → StandsFor q c → (q ≡ c) ⊎ (IsLarge q × IsLarge c)
 same_or_large q c s = elim s.cores [
   | inr both ↦ inr (inl both.0, inl both.1)
   | inl cores ↦ elim s.lists [
@@ -59,7 +59,7 @@ same_or_large q c s = elim s.cores [
 ]
 
 -- which are not within them
-beyond : (c : Contents) → IsLarge c → IsWithinLimits (told c) → ⊥
+beyond : (c : ParsedModel) → IsLarge c → IsWithinLimits (execution_of c) → ⊥
 unfolding event_count
 beyond c (inl (inl many)) within = omega (arith, many, within.few_cores)
 beyond c (inl (inr many)) within = omega (arith, many, within.few_events, placed_total 0 c.cores)
@@ -78,26 +78,26 @@ clipped_count (es ∷ cores) = omega (
 )
 
 -- clipped contents are as large
-large_from : (c : Contents) → IsLarge (clipped_shape c) → IsLarge c
+large_from : (c : ParsedModel) → IsLarge (clipped_shape c) → IsLarge c
 large_from c (inl (inl many)) = inl (inl (omega (arith, many, length-map c.cores (map clip_event))))
 large_from c (inl (inr many)) = inl (inr (omega (arith, many, clipped_count c.cores)))
 large_from c (inr many) = inr (omega (arith, many, length-map c.write_lists (map clip)))
 
 -- the refusal of what is beyond the limits
-limits_refused : (bytes : List ℕ) (d : Data) (c : Contents) (x : Execution) (r : Result Execution RecError)
+limits_refused : (bytes : List ℕ) (d : Data) (c : ParsedModel) (x : Execution) (r : Result Execution RecError)
     → IsReadAs bytes d → Some c ≡ option_map clipped_shape (shape_in d) → IsVersioned c → IsLarge c
     → (IsWithinLimits x → ⊥) → IsOk r ↔ IsRecording x → IfErr r (λ e. IsRefusal x e) → IsReadingResult bytes r
 limits_refused bytes d c x (Ok z) reads is versioned large over exact err =
     absurd (over (exact.0 refl).within)
 limits_refused bytes d c x (Err Limits) reads is versioned large over exact err =
     let from = contents_from (shape_in d) c is in
-    let tells : Tells d (told from.0) = record {
+    let tells : Decodes d (execution_of from.0) = record {
       contents = from.0;
       shape = from.1;
       versioned = versioned_from from.0 (subst IsVersioned (sym from.2) versioned);
       same = refl;
     } in
-    (d, reads, (told from.0, tells, beyond from.0 (large_from from.0 (subst IsLarge (sym from.2) large))))
+    (d, reads, (execution_of from.0, tells, beyond from.0 (large_from from.0 (subst IsLarge (sym from.2) large))))
 limits_refused bytes d c x (Err (Source e)) reads is versioned large over exact err = absurd (over err.0)
 limits_refused bytes d c x (Err (Value e)) reads is versioned large over exact err = absurd (over err.0)
 limits_refused bytes d c x (Err (WriteList a)) reads is versioned large over exact err = absurd (over err.0)
@@ -107,16 +107,16 @@ limits_refused bytes d c x (Err Version) reads is versioned large over exact err
 limits_refused bytes d c x (Err OutOfMemory) reads is versioned large over exact err = absurd err
 
 -- what is answered of what is held, where its version is right, is an answer
-pub answers_held : (bytes : List ℕ) (d : Data) (c q : Contents) (x : Execution)
+pub answers_held : (bytes : List ℕ) (d : Data) (c q : ParsedModel) (x : Execution)
     (r : Result Execution RecError) → IsReadAs bytes d
-    → Some c ≡ option_map clipped_shape (shape_in d) → StandsFor q c → IsVersioned q → x ≡ told q
+    → Some c ≡ option_map clipped_shape (shape_in d) → StandsFor q c → IsVersioned q → x ≡ execution_of q
     → IsOk r ↔ IsRecording x → IfOk r (λ z. z ≡ x) → IfErr r (λ e. IsRefusal x e)
     → IsReadingResult bytes r
 answers_held bytes d c q x r reads is stands versioned same_told exact ok err =
     elim (same_or_large q c stands) [
       | inl same ↦
           answers_from bytes d q x r reads
-          (subst (λ (y : Contents). Some y ≡ option_map clipped_shape (shape_in d)) (sym same) is)
+          (subst (λ (y : ParsedModel). Some y ≡ option_map clipped_shape (shape_in d)) (sym same) is)
           versioned same_told exact ok err
       | inr large ↦
           limits_refused bytes d c x r reads is
@@ -125,7 +125,7 @@ answers_held bytes d c q x r reads is stands versioned same_told exact ok err =
     ]
 
 -- where the version of what is held is wrong, that is the answer
-pub version_held : (bytes : List ℕ) (d : Data) (c q : Contents) → IsReadAs bytes d
+pub version_held : (bytes : List ℕ) (d : Data) (c q : ParsedModel) → IsReadAs bytes d
     → Some c ≡ option_map clipped_shape (shape_in d) → StandsFor q c → (IsVersioned q → ⊥)
     → IsReadingResult bytes (Err Version)
 version_held bytes d c q reads is stands wrong =

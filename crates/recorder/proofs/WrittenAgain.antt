@@ -21,10 +21,10 @@ use Rattle.serde_json.proofs.Texts.{print-outline}
 use Rattle.recording.specs.declared.event.Event.{Event}
 use Rattle.recording.specs.declared.event.Event.TheVariants.{L, S, R, C, F}
 use Rattle.recording.specs.Recording.{executed}
-use Rattle.recorder.specs.declared.reading.Found.{Found}
-use Rattle.recorder.specs.Contents.{Contents}
-use Rattle.recorder.specs.Found.{found}
-use Rattle.recorder.specs.Draft.{IsDraftOf, clipped_contents}
+use Rattle.recorder.specs.declared.reading.Parsed.{Parsed}
+use Rattle.recorder.specs.ParsedModel.{ParsedModel}
+use Rattle.recorder.specs.Parsed.{model_of}
+use Rattle.recorder.specs.ReadMembers.{IsParsedFrom, clipped_contents}
 use Rattle.recorder.specs.Clipped.{clip, clip_event, clipped_shape}
 use Rattle.recorder.specs.Reading.{number_in, value_in, event_in, list_in}
 use Rattle.recorder.specs.Text.{number_data, list_data, source_data, event_data}
@@ -33,7 +33,7 @@ use Rattle.recorder.specs.Written.{written_data, BeginsRecording}
 use Rattle.recorder.proofs.Again.{AllAgain, each_again, number_again, value_again, load_again, store_again}
 use Rattle.recorder.proofs.Again.{rmw_again, failed_cas_again, fence_again}
 use Rattle.recorder.proofs.Newline.{read_newline}
-use Rattle.recorder.proofs.Told.{shape_1, shape_2}
+use Rattle.recorder.proofs.Decoded.{shape_1, shape_2}
 
 -- ---- the value is read of its text
 
@@ -268,7 +268,7 @@ contents_again (Some values) cores lists words fitting short =
     ) refl
 
 -- contents of another number of the version
-versioned : (c : Contents) → c.version ≡ version_of c.values
+versioned : (c : ParsedModel) → c.version ≡ version_of c.values
     → Some (record { version = version_of c.values; cores = c.cores; write_lists = c.write_lists; values = c.values })
     ≡ Some c
 versioned c is = rw (← is) refl
@@ -276,10 +276,10 @@ versioned c is = rw (← is) refl
 -- ---- the whole text
 
 -- what was found of the bytes is what they have
-pub written_read : (bytes rest : List ℕ) (q : Found) → IsUtf8 bytes → BeginsRecording bytes (found q) rest
-    → (rest ≡ []) ⊎ (rest ≡ 10 ∷ []) → IsDraftOf bytes q
+pub written_read : (bytes rest : List ℕ) (q : Parsed) → IsUtf8 bytes → BeginsRecording bytes (model_of q) rest
+    → (rest ≡ []) ⊎ (rest ≡ 10 ∷ []) → IsParsedFrom bytes q
 written_read bytes rest q utf8 h ends =
-    let c : Contents = found q in
+    let c : ParsedModel = found q in
     let again = contents_reread c.values c.cores c.write_lists h.values h.cores h.lists in (
       written_data c.values c.cores c.write_lists,
       (utf8, read_bytes bytes rest (written_data c.values c.cores c.write_lists) again h.begins ends),

@@ -6,7 +6,7 @@ use Rattle.recording.specs.declared.event.Event.{Event}
 use Rattle.recording.specs.declared.event.Event.TheVariants.{L, S, R, C, F}
 use Rattle.recording.specs.Execution.{Execution}
 use Rattle.recording.specs.Recording.{executed}
-use Rattle.recorder.specs.Contents.{Contents}
+use Rattle.recorder.specs.ParsedModel.{ParsedModel}
 use Rattle.recorder.specs.Reading.{number_in, event_in}
 
 -- a number, or the greatest of 16 bits where it is greater
@@ -27,7 +27,7 @@ abbrev pub clipped : Execution → Execution
 clipped x = executed (map (map clip_event) x.cores) (map (map clip) x.write_lists) x.initial
 
 -- the contents of a text, clipped as an execution is; the version never is
-abbrev pub clipped_shape : Contents → Contents
+abbrev pub clipped_shape : ParsedModel → ParsedModel
 clipped_shape c = record {
   version = c.version;
   cores = map (map clip_event) c.cores;

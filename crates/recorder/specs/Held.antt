@@ -6,7 +6,7 @@ use Rattle.common.specs.declared.limits.TheConstants.{MAX_CORES, MAX_EVENTS, MAX
 use Rattle.recording.specs.declared.event.Event.{Event}
 use Rattle.recording.specs.Event.{is_failed_cas}
 use Rattle.recorder.specs.Text.{has_failed_cas}
-use Rattle.recorder.specs.Contents.{Contents}
+use Rattle.recorder.specs.ParsedModel.{ParsedModel}
 
 -- the events of a core; or too many of too many, in which a compare-and-swap failed where one did in all
 abbrev pub HoldsEvents : List Event → List Event → Type 0
@@ -35,7 +35,7 @@ HoldsSome Holds (Some x) None = ⊥
 HoldsSome Holds (Some x) (Some y) = Holds x y
 
 -- what is held of the contents of a text
-pub record StandsFor (held c : Contents) : Type 0 where
+pub record StandsFor (held c : ParsedModel) : Type 0 where
   pub version : held.version ≡ c.version
   pub values : held.values ≡ c.values
   pub cores : HoldsCores held.cores c.cores

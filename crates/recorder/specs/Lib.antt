@@ -1,11 +1,11 @@
 pub mod Text
-pub mod Contents
+pub mod ParsedModel
 pub mod Reading
 pub mod Clipped
-pub mod Found
+pub mod Parsed
 pub mod Pulled
 pub mod Fields
 pub mod Held
-pub mod Draft
+pub mod ReadMembers
 pub mod Values
 pub mod Written

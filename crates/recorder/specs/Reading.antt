@@ -12,7 +12,7 @@ use Rattle.recording.specs.declared.fault.RecError.TheVariants.{NotJson, Shape, 
 use Rattle.recording.specs.declared.fault.RecError.TheVariants.{WriteList, OutOfMemory}
 use Rattle.recording.specs.Execution.{Execution}
 use Rattle.recording.specs.Recording.{IsRecording}
-use Rattle.recorder.specs.Contents.{Contents, told, IsVersioned}
+use Rattle.recorder.specs.ParsedModel.{ParsedModel, execution_of, IsVersioned}
 use Rattle.recording.specs.Refusals.{IsRefusal}
 use Rattle.recorder.specs.Text.{IsReadAs}
 
@@ -109,7 +109,7 @@ values_in n d =
     else (if n == 4 then option_map Some (at_key (list_in value_in) (codes "init") d) else None)
 
 -- the contents of an object, with initial values or without
-unfoldable pub shape_of : Option (List ℕ) → Data → Option Contents
+unfoldable pub shape_of : Option (List ℕ) → Data → Option ParsedModel
 shape_of values d =
     option_and_then (λ version.
     option_and_then (λ cores.
@@ -123,30 +123,30 @@ shape_of values d =
     (at_key (list_in (list_in event_in)) (codes "cores") d))
     (at_key natural (codes "version") d)
 
-unfoldable pub shape_in : Data → Option Contents
+unfoldable pub shape_in : Data → Option ParsedModel
 shape_in d = option_and_then (λ n. option_and_then (λ values. shape_of values d) (values_in n d))
     (option_map count_members (as_object d))
 
 -- a value has the contents of a text of its version, and they tell the execution
-pub record Tells (d : Data) (x : Execution) : Type 0 where
-  pub contents : Contents
+pub record Decodes (d : Data) (x : Execution) : Type 0 where
+  pub contents : ParsedModel
   pub shape : shape_in d ≡ Some contents
   pub versioned : IsVersioned contents
-  pub same : told contents ≡ x
+  pub same : execution_of contents ≡ x
 
 -- what a reader of these bytes may answer: the first refusal in this order; memory alone is left open
 abbrev pub IsReadingResult : List ℕ → Result Execution RecError → Type 0
-IsReadingResult bytes (Ok x) = (d : Data) × IsReadAs bytes d × Tells d x × IsRecording x
+IsReadingResult bytes (Ok x) = (d : Data) × IsReadAs bytes d × Decodes d x × IsRecording x
 IsReadingResult bytes (Err NotJson) = (d : Data) → IsReadAs bytes d → ⊥
 IsReadingResult bytes (Err Shape) = (d : Data) × IsReadAs bytes d × (shape_in d ≡ None)
 IsReadingResult bytes (Err Version) = (d : Data) × IsReadAs bytes d
-    × ((c : Contents) × (shape_in d ≡ Some c) × (¬ IsVersioned c))
+    × ((c : ParsedModel) × (shape_in d ≡ Some c) × (¬ IsVersioned c))
 IsReadingResult bytes (Err Limits) = (d : Data) × IsReadAs bytes d
-    × ((x : Execution) × Tells d x × IsRefusal x Limits)
+    × ((x : Execution) × Decodes d x × IsRefusal x Limits)
 IsReadingResult bytes (Err (Source e)) = (d : Data) × IsReadAs bytes d
-    × ((x : Execution) × Tells d x × IsRefusal x (Source e))
+    × ((x : Execution) × Decodes d x × IsRefusal x (Source e))
 IsReadingResult bytes (Err (Value e)) = (d : Data) × IsReadAs bytes d
-    × ((x : Execution) × Tells d x × IsRefusal x (Value e))
+    × ((x : Execution) × Decodes d x × IsRefusal x (Value e))
 IsReadingResult bytes (Err (WriteList a)) = (d : Data) × IsReadAs bytes d
-    × ((x : Execution) × Tells d x × IsRefusal x (WriteList a))
+    × ((x : Execution) × Decodes d x × IsRefusal x (WriteList a))
 IsReadingResult bytes (Err OutOfMemory) = ⊤

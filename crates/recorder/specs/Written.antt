@@ -6,7 +6,7 @@ use Rattle.serde_json.specs.Written.{compact_text}
 use Rattle.recording.specs.declared.event.Event.{Event}
 use Rattle.recording.specs.declared.event.Event.TheVariants.{L, S, R, C, F}
 use Rattle.recording.specs.Recording.{executed}
-use Rattle.recorder.specs.Contents.{Contents}
+use Rattle.recorder.specs.ParsedModel.{ParsedModel}
 use Rattle.recorder.specs.Text.{number_data, list_data, data_1, data_2}
 
 -- 16 bits of the number of an event or of an address
@@ -58,7 +58,7 @@ written_data None cores lists = data_1 (executed cores lists [])
 written_data (Some values) cores lists = data_2 (executed cores lists values)
 
 -- the text begins with the contents, which fit, and the rest follows them
-pub record BeginsRecording (text : List ℕ) (c : Contents) (rest : List ℕ) : Type 0 where
+pub record BeginsRecording (text : List ℕ) (c : ParsedModel) (rest : List ℕ) : Type 0 where
   pub begins : text ≡ compact_text (written_data c.values c.cores c.write_lists) ++ rest
   pub versioned : c.version ≡ version_of c.values
   pub cores : AllByRecursion (AllByRecursion IsFitting) c.cores

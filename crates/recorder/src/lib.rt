@@ -3,10 +3,10 @@
 
 mod cursor;
 mod digits;
-mod draft;
 mod fields;
 mod items;
 mod pulled_lists;
+mod pulled_members;
 mod reading;
 mod text;
 mod tokens;

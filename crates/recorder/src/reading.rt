@@ -2,16 +2,16 @@
 
 ghost use Rattle.std.specs.Prelude.{◌≡◌, ◌↔◌, ℕ, List, Err, IfOk, IfErr, IsTrue, option_map, map, codes};
 ghost use Rattle.serde_json.specs.View.{view, items_view};
-ghost use Rattle.recorder.specs.Contents.{initial_values, IsVersioned};
-ghost use Rattle.recorder.specs.Found.{found};
-ghost use Rattle.recorder.specs.Draft.{IsDraftOf};
+ghost use Rattle.recorder.specs.ParsedModel.{initial_values, IsVersioned};
+ghost use Rattle.recorder.specs.Parsed.{model_of};
+ghost use Rattle.recorder.specs.ReadMembers.{IsParsedFrom};
 ghost use Rattle.recorder.specs.Reading.{each, list_in, number_in, value_in, event_in, at_key, values_in};
 ghost use Rattle.recorder.specs.Reading.{shape_of, shape_in, IsReadingResult};
 ghost use Rattle.recorder.specs.Text.{IsReadAs};
 ghost use Rattle.recorder.specs.Clipped.{clip, clip_event, clipped_shape, clipped_number, clipped_event};
 
-use crate::draft::drafted;
 use crate::items::{event_in, keys_of, number_in, value_in};
+use crate::pulled_members::parsed_by_tokens;
 use crate::versions::has_failed_cas;
 use crate::written::written;
 use common::EventId;
@@ -22,17 +22,17 @@ use std::alloc::{AllocError, Global};
 /// The version, the events of each core, the write lists and perhaps the initial values, which may
 /// break every rule.
 #[derive(Drop)]
-pub(crate) struct Found {
+pub(crate) struct Parsed {
     pub(crate) version: u64,
     pub(crate) cores: Vec<Vec<Event>>,
     pub(crate) writes: Vec<Vec<EventId>>,
     pub(crate) init: Option<Vec<u32>>,
 }
 
-impl Found {
+impl Parsed {
     /// Whether it has what its version has.
     fn is_versioned(&self) -> bool
-        ensures { IsTrue result ↔ IsVersioned (found self.now) }
+        ensures { IsTrue result ↔ IsVersioned (model_of self.now) }
     {
         match &self.init {
             Some(_) => self.version == 2,
@@ -186,8 +186,8 @@ fn shape_of(
     alloc: Global,
     init: Option<Vec<u32>>,
     value: &Value,
-) -> Result<Option<Found>, AllocError>
-    ensures { IfOk result (λ o. option_map found o
+) -> Result<Option<Parsed>, AllocError>
+    ensures { IfOk result (λ o. option_map model_of o
         ≡ option_map clipped_shape (shape_of (option_map (λ v. v.items) init) (view value.now))) }
 {
     let Some(version) = value.get("version").and_then(Value::as_u64) else {
@@ -199,7 +199,7 @@ fn shape_of(
     let Some(writes) = lists_at(alloc, value)? else {
         return Ok(None);
     };
-    Ok(Some(Found {
+    Ok(Some(Parsed {
         version,
         cores,
         writes,
@@ -208,8 +208,8 @@ fn shape_of(
 }
 
 #[tactic(auto, unfolding(crate::specs::Reading::shape_in))]
-fn shape_in(alloc: Global, value: &Value) -> Result<Option<Found>, AllocError>
-    ensures { IfOk result (λ o. option_map found o ≡ option_map clipped_shape (shape_in (view value.now))) }
+fn shape_in(alloc: Global, value: &Value) -> Result<Option<Parsed>, AllocError>
+    ensures { IfOk result (λ o. option_map model_of o ≡ option_map clipped_shape (shape_in (view value.now))) }
 {
     let Some(keys) = keys_of(value) else {
         return Ok(None);
@@ -252,8 +252,8 @@ fn tree_of(alloc: Global, bytes: &[u8]) -> Result<Value, RecError>
 
 /// The contents of a text by its whole value, or the first refusal of the JSON and its shape; or want of
 /// memory.
-fn found_in_tree(alloc: Global, bytes: &[u8]) -> Result<Found, RecError>
-    ensures found { IfOk result (λ q. IsDraftOf bytes.now q) }
+fn parsed_in_tree(alloc: Global, bytes: &[u8]) -> Result<Parsed, RecError>
+    ensures found { IfOk result (λ q. IsParsedFrom bytes.now q) }
     ensures err { IfErr result (λ e. IsReadingResult bytes.now (Err e)) }
 {
     let value = tree_of(alloc, bytes)?;
@@ -268,13 +268,13 @@ fn found_in_tree(alloc: Global, bytes: &[u8]) -> Result<Found, RecError>
 
 /// The recording of these contents, or the first refusal of the version, and what `Recording::from_parts`
 /// refuses; or want of memory.
-fn recording_of(alloc: Global, contents: Found) -> Result<Recording, RecError>
-    ensures { (bytes : List ℕ) → IsDraftOf bytes contents → IsReadingResult bytes result }
+fn recording_of(alloc: Global, contents: Parsed) -> Result<Recording, RecError>
+    ensures { (bytes : List ℕ) → IsParsedFrom bytes contents → IsReadingResult bytes result }
 {
     if !contents.is_versioned() {
         return Err(RecError::Version);
     }
-    let Found {
+    let Parsed {
         cores,
         writes,
         init,
@@ -297,12 +297,12 @@ pub fn read_recording(alloc: Global, bytes: &[u8]) -> Result<Recording, RecError
     if let Some(found) = written {
         return recording_of(alloc, found);
     }
-    let Ok(drafted) = drafted(alloc, bytes) else {
+    let Ok(parsed) = parsed_by_tokens(alloc, bytes) else {
         return Err(RecError::OutOfMemory);
     };
-    if let Some(found) = drafted {
+    if let Some(found) = parsed {
         return recording_of(alloc, found);
     }
-    let found = found_in_tree(alloc, bytes)?;
+    let found = parsed_in_tree(alloc, bytes)?;
     recording_of(alloc, found)
 }

@@ -4,7 +4,7 @@ ghost use Rattle.std.specs.Prelude.{◌≡◌, IfOk, Some, map, codes};
 ghost use Rattle.serde_json.specs.Data.{put, string, object};
 ghost use Rattle.serde_json.specs.View.{view, members_view};
 ghost use Rattle.recording.specs.declared.event.Event.TheVariants.{S, R, F};
-ghost use Rattle.recorder.specs.Reading.{number_in, value_in, event_in, list_in, Tells};
+ghost use Rattle.recorder.specs.Reading.{number_in, value_in, event_in, list_in, Decodes};
 ghost use Rattle.recorder.specs.Text.{number_data, list_data, source_data, event_data, data_1, data_2, data_of};
 ghost use Rattle.recorder.specs.Values.{read_members, cores_member, with_writes};
 ghost use Rattle.recorder.specs.Values.{AreCoresAgain, AreWritesAgain, IsInitAgain, ArePartsAgain};
@@ -243,7 +243,7 @@ fn value_2(alloc: Global, recording: &Recording) -> Result<Value, AllocError>
 
 pub(crate) fn value_of(alloc: Global, recording: &Recording) -> Result<Value, AllocError>
     ensures value { IfOk result (λ v. view v ≡ data_of recording.now) }
-    ensures again { IfOk result (λ _. Tells (data_of recording.now) recording.now) }
+    ensures again { IfOk result (λ _. Decodes (data_of recording.now) recording.now) }
 {
     recording.sound();
     if is_of_version_1(recording) {

@@ -1,12 +1,12 @@
 //! The contents of a recording's text, read from a text in the layout of `write_recording`.
 
 ghost use Rattle.std.specs.Prelude.{◌≡◌, option_map, IfOk, IfSome};
-ghost use Rattle.recorder.specs.Draft.{IsDraftOf};
-ghost use Rattle.recorder.specs.Found.{found};
+ghost use Rattle.recorder.specs.ReadMembers.{IsParsedFrom};
+ghost use Rattle.recorder.specs.Parsed.{model_of};
 ghost use Rattle.recorder.specs.Written.{IsHead, version_of, BeginsRecording};
 
 use crate::cursor::Cursor;
-use crate::reading::Found;
+use crate::reading::Parsed;
 use crate::written_lists::{take_cores, take_lists, take_values};
 use std::alloc::{AllocError, Global};
 
@@ -39,8 +39,8 @@ fn version_of(init: &Option<Vec<u32>>) -> u64
 }
 
 /// Takes the contents of a recording.
-fn take_found(alloc: Global, rest: &mut Cursor<'_>) -> Result<Option<Found>, AllocError>
-    ensures { IfOk result (λ o. IfSome o (λ q. BeginsRecording rest.old (found q) rest.new)) }
+fn take_found(alloc: Global, rest: &mut Cursor<'_>) -> Result<Option<Parsed>, AllocError>
+    ensures { IfOk result (λ o. IfSome o (λ q. BeginsRecording rest.old (model_of q) rest.new)) }
 {
     if !rest.take(b"{\"cores\":") {
         return Ok(None);
@@ -61,7 +61,7 @@ fn take_found(alloc: Global, rest: &mut Cursor<'_>) -> Result<Option<Found>, All
         return Ok(None);
     }
     let version = version_of(&init);
-    Ok(Some(Found {
+    Ok(Some(Parsed {
         version,
         cores,
         writes,
@@ -70,8 +70,8 @@ fn take_found(alloc: Global, rest: &mut Cursor<'_>) -> Result<Option<Found>, All
 }
 
 /// What a text in the layout of `write_recording` has, within the limits; nothing is told of other texts.
-pub(crate) fn written(alloc: Global, bytes: &[u8]) -> Result<Option<Found>, AllocError>
-    ensures { IfOk result (λ o. IfSome o (λ q. IsDraftOf bytes.now q)) }
+pub(crate) fn written(alloc: Global, bytes: &[u8]) -> Result<Option<Parsed>, AllocError>
+    ensures { IfOk result (λ o. IfSome o (λ q. IsParsedFrom bytes.now q)) }
 {
     let Ok(_text) = str::from_utf8(bytes) else {
         return Ok(None);

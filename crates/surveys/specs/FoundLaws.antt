@@ -12,9 +12,9 @@ use Rattle.recording.specs.declared.fault.RecError.TheVariants.{NotJson, Shape, 
 use Rattle.recording.specs.declared.fault.RecError.TheVariants.{WriteList, OutOfMemory}
 use Rattle.recording.specs.Refusals.{HasSource, HasValue, HasWriteList, IsLeastWithout, IsRefusal}
 use Rattle.recording.specs.RefusalLaws.{source_of_recording}
-use Rattle.recorder.specs.Contents.{Contents, told, IsVersioned}
+use Rattle.recorder.specs.ParsedModel.{ParsedModel, execution_of, IsVersioned}
 use Rattle.recorder.specs.Text.{IsReadAs}
-use Rattle.recorder.specs.Reading.{shape_in, Tells, IsReadingResult}
+use Rattle.recorder.specs.Reading.{shape_in, Decodes, IsReadingResult}
 use Rattle.judge.specs.declared.verdict.Verdict.{Verdict}
 use Rattle.judge.specs.Verdict.{IsVerdict}
 use Rattle.ledger.specs.declared.finding.Finding.{Finding}
@@ -114,9 +114,9 @@ one_outcome x (Some r) (Some s) a b = ap (λ (t : RecError). Some t) (one_refusa
 data Stage (bytes : List ℕ) (r : Result Execution RecError) : Type 0 where
   unread : ((d : Data) → IsReadAs bytes d → ⊥) → r ≡ Err NotJson → Stage bytes r
   shapeless : (d : Data) → IsReadAs bytes d → shape_in d ≡ None → r ≡ Err Shape → Stage bytes r
-  unversioned : (d : Data) → IsReadAs bytes d → (c : Contents) → shape_in d ≡ Some c → (IsVersioned c → ⊥)
+  unversioned : (d : Data) → IsReadAs bytes d → (c : ParsedModel) → shape_in d ≡ Some c → (IsVersioned c → ⊥)
       → r ≡ Err Version → Stage bytes r
-  told_it : (d : Data) → IsReadAs bytes d → (x : Execution) → Tells d x → (o : Option RecError)
+  told_it : (d : Data) → IsReadAs bytes d → (x : Execution) → Decodes d x → (o : Option RecError)
       → IsOutcome x o → r ≡ answer x o → Stage bytes r
 
 -- each reading came so far
@@ -146,19 +146,19 @@ one_shape : (bytes : List ℕ) (d e : Data) → IsReadAs bytes d → IsReadAs by
 one_shape bytes d e a b = ap shape_in (one_value bytes d e a b)
 
 -- and one contents
-one_contents : (bytes : List ℕ) (d e : Data) (c f : Contents) → IsReadAs bytes d → IsReadAs bytes e
+one_contents : (bytes : List ℕ) (d e : Data) (c f : ParsedModel) → IsReadAs bytes d → IsReadAs bytes e
     → shape_in d ≡ Some c → shape_in e ≡ Some f → c ≡ f
 one_contents bytes d e c f a b u v = same_some c f (sym u ∙ (one_shape bytes d e a b ∙ v))
 
 -- none and some
-none_and_some : (bytes : List ℕ) (d e : Data) (c : Contents) → IsReadAs bytes d → IsReadAs bytes e
+none_and_some : (bytes : List ℕ) (d e : Data) (c : ParsedModel) → IsReadAs bytes d → IsReadAs bytes e
     → shape_in d ≡ None → shape_in e ≡ Some c → ⊥
 none_and_some bytes d e c a b u v = none-some c (sym u ∙ (one_shape bytes d e a b ∙ v))
 
 -- with a version and without
-versioned_and_not : (bytes : List ℕ) (d e : Data) (c : Contents) (x : Execution) → IsReadAs bytes d
-    → IsReadAs bytes e → shape_in d ≡ Some c → (IsVersioned c → ⊥) → Tells e x → ⊥
-versioned_and_not bytes d e c x a b u un tells = un (subst (λ (f : Contents). IsVersioned f)
+versioned_and_not : (bytes : List ℕ) (d e : Data) (c : ParsedModel) (x : Execution) → IsReadAs bytes d
+    → IsReadAs bytes e → shape_in d ≡ Some c → (IsVersioned c → ⊥) → Decodes e x → ⊥
+versioned_and_not bytes d e c x a b u un tells = un (subst (λ (f : ParsedModel). IsVersioned f)
     (one_contents bytes e d tells.contents c b a tells.shape u) tells.versioned)
 
 -- two readings came equally far
@@ -184,7 +184,7 @@ same_stage bytes r s (told_it d a x t o i e) (unversioned k b c v w f) =
     absurd (versioned_and_not bytes k d c x b a v w t)
 same_stage bytes r s (told_it d a x t o i e) (told_it k b y z p j f) =
     let same : x ≡ y = sym t.same
-    ∙ (ap told (one_contents bytes d k t.contents z.contents a b t.shape z.shape) ∙ z.same) in
+    ∙ (ap execution_of (one_contents bytes d k t.contents z.contents a b t.shape z.shape) ∙ z.same) in
     let outcome : o ≡ p = one_outcome y o p (subst (λ (w : Execution). IsOutcome w o) same i) j in
     e ∙ (ap (λ (w : Execution). answer w o) same ∙ (ap (λ (q : Option RecError). answer y q) outcome ∙ sym f))
 

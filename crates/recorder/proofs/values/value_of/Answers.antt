@@ -1,6 +1,6 @@
 use Rattle.std.proofs.Common.{◌∙◌, sym}
 use Rattle.recorder.proofs.Somes.{if_ok, both_ok}
-use Rattle.recorder.proofs.Told.{tells_1, tells_2}
+use Rattle.recorder.proofs.Decoded.{tells_1, tells_2}
 use Rattle.recorder.proofs.values.value_of.Goals as goal
 
 pub returns-then-is_of_version_1-clause-again : goal.returns-then-is_of_version_1-clause-again

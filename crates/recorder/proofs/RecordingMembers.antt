@@ -8,10 +8,10 @@ use Rattle.json.specs.Json.{value}
 use Rattle.serde_json.specs.Read.{max_depth}
 use Rattle.serde_json.specs.Data.{Members, object}
 use Rattle.recording.specs.declared.event.Event.{Event}
-use Rattle.recorder.specs.declared.draft.Draft.{Draft}
-use Rattle.recorder.specs.declared.reading.Found.{Found}
-use Rattle.recorder.specs.Contents.{Contents}
-use Rattle.recorder.specs.Found.{found}
+use Rattle.recorder.specs.declared.pulled_members.ReadMembers.{ReadMembers}
+use Rattle.recorder.specs.declared.reading.Parsed.{Parsed}
+use Rattle.recorder.specs.ParsedModel.{ParsedModel}
+use Rattle.recorder.specs.Parsed.{model_of}
 use Rattle.recorder.specs.Held.{HoldsCores, HoldsLists, StandsFor}
 use Rattle.recorder.specs.Reading.{natural, number_in, value_in, event_in, list_in, at_key, values_in}
 use Rattle.recorder.specs.Reading.{shape_of}
@@ -19,7 +19,7 @@ use Rattle.recorder.specs.Reading.{shape_in}
 use Rattle.recorder.specs.Clipped.{clip, clip_event, clipped_shape, clipped_number, clipped_event}
 use Rattle.recorder.specs.Pulled.{GivesValue, Adds}
 use Rattle.recorder.specs.Fields.{count_of}
-use Rattle.recorder.specs.Draft.{AreParts, clipped_contents, IsDraftOf}
+use Rattle.recorder.specs.ReadMembers.{AreParts, clipped_contents, IsParsedFrom}
 use Rattle.recorder.proofs.AtKeys.{at_new, at_other, at_key_is, count_new}
 use Rattle.recorder.proofs.Pulled.{whole_read}
 use Rattle.recorder.proofs.Held.{none_held, some_held}
@@ -28,7 +28,7 @@ use Rattle.recorder.proofs.ClippedLists.{cores_clipped, writes_clipped}
 -- ---- one member more
 
 -- the version
-pub version_added : (p : Draft) (o : Option (ℕ)) (x : ℕ) (depth : ℕ) (ts rest : List Token)
+pub version_added : (p : ReadMembers) (o : Option (ℕ)) (x : ℕ) (depth : ℕ) (ts rest : List Token)
     → GivesValue natural depth ts x rest → p.version ≡ None → o ≡ Some x
     → Adds AreParts (codes "version") depth ts rest p (record p { version = o })
 version_added p o x depth ts rest g none is = record {
@@ -63,7 +63,7 @@ version_added p o x depth ts rest g none is = record {
 }
 
 -- the events of each core
-pub cores_added : (p : Draft) (o : Option (Vec (Vec Event Global) Global))
+pub cores_added : (p : ReadMembers) (o : Option (Vec (Vec Event Global) Global))
     (x : Vec (Vec Event Global) Global) (xs : List (List Event)) (depth : ℕ) (ts rest : List Token)
     → GivesValue (list_in (list_in clipped_event)) depth ts xs rest
     → HoldsCores (map (λ w. w.items) x.items) xs → p.cores ≡ None → o ≡ Some x
@@ -100,7 +100,7 @@ cores_added p o x xs depth ts rest g holds none is = record {
 }
 
 -- the write lists
-pub writes_added : (p : Draft) (o : Option (Vec (Vec ℕ Global) Global)) (x : Vec (Vec ℕ Global) Global)
+pub writes_added : (p : ReadMembers) (o : Option (Vec (Vec ℕ Global) Global)) (x : Vec (Vec ℕ Global) Global)
     (xs : List (List ℕ)) (depth : ℕ) (ts rest : List Token)
     → GivesValue (list_in (list_in clipped_number)) depth ts xs rest
     → HoldsLists (map (λ w. w.items) x.items) xs → p.writes ≡ None → o ≡ Some x
@@ -137,7 +137,7 @@ writes_added p o x xs depth ts rest g holds none is = record {
 }
 
 -- the initial values
-pub init_added : (p : Draft) (o : Option (Vec ℕ Global)) (x : Vec ℕ Global) (depth : ℕ) (ts rest : List Token)
+pub init_added : (p : ReadMembers) (o : Option (Vec ℕ Global)) (x : Vec ℕ Global) (depth : ℕ) (ts rest : List Token)
     → GivesValue (list_in value_in) depth ts x.items rest → p.init ≡ None → o ≡ Some x
     → Adds AreParts (codes "init") depth ts rest p (record p { init = o })
 init_added p o x depth ts rest g none is = record {
@@ -196,7 +196,7 @@ shape_from values (Some a) (Some b) (Some d) v cs ws hv hc hw =
     rw (av, bc, dw) refl
 
 -- the version, the cores and the write lists, with these initial values
-shaped : (values : Option (List ℕ)) (p : Draft) (ms : Members) (v : ℕ) (cs : List (List Event))
+shaped : (values : Option (List ℕ)) (p : ReadMembers) (ms : Members) (v : ℕ) (cs : List (List Event))
     (ws : List (List ℕ)) (h : AreParts p ms) → p.version ≡ Some v → h.cores.0 ≡ Some cs
     → h.writes.0 ≡ Some ws → option_map clipped_shape (shape_of values (object ms)) ≡ Some (record {
       version = v;
@@ -216,7 +216,7 @@ shaped values p ms v cs ws h hv hc hw =
     ∙ at_key_is (list_in (list_in clipped_number)) (codes "writes") ms h.writes.0 h.writes.1 ∙ hw)
 
 -- the contents, by how many keys there are
-contents_by : (values : Option (List ℕ)) (n : ℕ) (p : Draft) (ms : Members)
+contents_by : (values : Option (List ℕ)) (n : ℕ) (p : ReadMembers) (ms : Members)
     → count_of p.version + count_of p.cores + count_of p.writes + count_of p.init ≡ n → AreParts p ms
     → values_in n (object ms) ≡ Some values
     → clipped_contents (object ms) ≡ option_map clipped_shape (shape_of values (object ms))
@@ -224,7 +224,7 @@ unfolding shape_in
 contents_by values n p ms count h is = rw (h.count, count, is) refl
 
 -- what is held of the cores that the members have
-cores_held : (p : Draft) (ms : Members) (cs : Vec (Vec Event Global) Global) (h : AreParts p ms)
+cores_held : (p : ReadMembers) (ms : Members) (cs : Vec (Vec Event Global) Global) (h : AreParts p ms)
     → p.cores ≡ Some cs
     → (xs : List (List Event)) × (h.cores.0 ≡ Some xs) × HoldsCores (map (λ w. w.items) cs.items) xs
 cores_held p ms cs h hc =
@@ -233,7 +233,7 @@ cores_held p ms cs h hc =
     (ap (option_map (λ (v : Vec (Vec Event Global) Global). map (λ w. w.items) v.items)) hc)
 
 -- and of the write lists
-lists_held : (p : Draft) (ms : Members) (ws : Vec (Vec ℕ Global) Global) (h : AreParts p ms)
+lists_held : (p : ReadMembers) (ms : Members) (ws : Vec (Vec ℕ Global) Global) (h : AreParts p ms)
     → p.writes ≡ Some ws
     → (xs : List (List ℕ)) × (h.writes.0 ≡ Some xs) × HoldsLists (map (λ w. w.items) ws.items) xs
 lists_held p ms ws h hw =
@@ -242,11 +242,11 @@ lists_held p ms ws h hw =
     (ap (option_map (λ (v : Vec (Vec ℕ Global) Global). map (λ w. w.items) v.items)) hw)
 
 -- what was found stands for the contents
-pub found_gives : (p : Draft) (init : Option (Vec ℕ Global)) (ms : Members) (v : ℕ)
+pub found_gives : (p : ReadMembers) (init : Option (Vec ℕ Global)) (ms : Members) (v : ℕ)
     (cs : Vec (Vec Event Global) Global) (ws : Vec (Vec ℕ Global) Global) → AreParts p ms → p.version ≡ Some v
     → p.cores ≡ Some cs → p.writes ≡ Some ws → p.init ≡ init
-    → (c : Contents) × (clipped_contents (object ms) ≡ Some c)
-    × StandsFor (found (record { version = v; cores = cs; writes = ws; init = init })) c
+    → (c : ParsedModel) × (clipped_contents (object ms) ≡ Some c)
+    × StandsFor (model_of (record { version = v; cores = cs; writes = ws; init = init })) c
 unfolding values_in
 found_gives p None ms v cs ws h hv hc hw hi =
     let cores = cores_held p ms cs h hc in
@@ -269,10 +269,10 @@ found_gives p (Some vs) ms v cs ws h hv hc hw hi =
     )
 
 -- the bytes are read so, where their tokens give the contents and nothing follows
-pub draft_read : (bytes text : List ℕ) (reader : List Token) (c : Contents) (q : Found)
+pub members_read : (bytes text : List ℕ) (reader : List Token) (c : ParsedModel) (q : Parsed)
     → (text ≡ bytes) × IsUtf8 bytes → reader ≡ tokens text
-    → GivesValue clipped_contents max_depth reader c [] → StandsFor (found q) c → IsDraftOf bytes q
-draft_read bytes text reader c q read is given stands =
+    → GivesValue clipped_contents max_depth reader c [] → StandsFor (model_of q) c → IsParsedFrom bytes q
+members_read bytes text reader c q read is given stands =
     let all : reader ≡ tokens bytes = is ∙ ap tokens read.0 in
     let g : GivesValue clipped_contents max_depth (tokens bytes) c [] =
     subst (λ (ts : List Token). GivesValue clipped_contents max_depth ts c []) all given in

@@ -3,15 +3,15 @@
 ghost use Rattle.std.specs.Prelude.{◌≡◌, ℕ, suc, [], Some, IfOk, IfSome};
 ghost use Rattle.serde_json.specs.Data.{Members, no_members, object};
 ghost use Rattle.serde_json.specs.Read.{max_depth};
-ghost use Rattle.recorder.specs.Contents.{Contents};
-ghost use Rattle.recorder.specs.Found.{found};
+ghost use Rattle.recorder.specs.ParsedModel.{ParsedModel};
+ghost use Rattle.recorder.specs.Parsed.{model_of};
 ghost use Rattle.recorder.specs.Held.{StandsFor};
-ghost use Rattle.recorder.specs.Draft.{AreParts, clipped_contents, IsDraftOf};
+ghost use Rattle.recorder.specs.ReadMembers.{AreParts, clipped_contents, IsParsedFrom};
 ghost use Rattle.recorder.specs.Pulled.{Adds, GivesValue, GivesMembers};
 
 use crate::fields::once;
 use crate::pulled_lists::{pull_cores, pull_lists, pull_values};
-use crate::reading::Found;
+use crate::reading::Parsed;
 use crate::tokens::{begins_object, pull_natural};
 use common::EventId;
 use json::{Reader, Scratch};
@@ -19,16 +19,16 @@ use recording::Event;
 use std::alloc::{AllocError, Global};
 
 /// The members that were read of a recording.
-struct Draft {
+struct ReadMembers {
     version: Option<u64>,
     cores: Option<Vec<Vec<Event>>>,
     writes: Option<Vec<Vec<EventId>>>,
     init: Option<Vec<u32>>,
 }
 
-impl Drop for Draft {
+impl Drop for ReadMembers {
     fn drop(self) {
-        let Draft {
+        let ReadMembers {
             version: _,
             cores: _,
             writes: _,
@@ -37,11 +37,11 @@ impl Drop for Draft {
     }
 }
 
-impl Draft {
-    fn new() -> Draft
+impl ReadMembers {
+    fn new() -> ReadMembers
         ensures { AreParts result no_members }
     {
-        Draft {
+        ReadMembers {
             version: None,
             cores: None,
             writes: None,
@@ -78,17 +78,17 @@ impl Draft {
     }
 
     /// What was found, where nothing is missing.
-    fn found(self) -> Option<Found>
+    fn found(self) -> Option<Parsed>
         ensures { IfSome result (λ q. (ms : Members) → AreParts self ms
-            → (c : Contents) × (clipped_contents (object ms) ≡ Some c) × StandsFor (found q) c) }
+            → (c : ParsedModel) × (clipped_contents (object ms) ≡ Some c) × StandsFor (model_of q) c) }
     {
-        let Draft {
+        let ReadMembers {
             version,
             cores,
             writes,
             init,
         } = self;
-        Some(Found {
+        Some(Parsed {
             version: version?,
             cores: cores?,
             writes: writes?,
@@ -98,49 +98,49 @@ impl Draft {
 }
 
 /// The members of an object that has begun.
-fn pull_draft(alloc: Global, reader: &mut Reader<'_>) -> Result<Option<Draft>, AllocError>
+fn pull_members(alloc: Global, reader: &mut Reader<'_>) -> Result<Option<ReadMembers>, AllocError>
     ensures { IfOk result (λ o. IfSome o (λ p. (depth : ℕ)
         → GivesMembers AreParts (suc (suc (suc depth))) reader.old reader.new p)) }
 {
-    let mut draft = Draft::new();
+    let mut read_members = ReadMembers::new();
     'members: loop {
         let Ok(key) = reader.next_key() else {
             return Ok(None);
         };
         let Some(key) = key else {
-            return Ok(Some(draft));
+            return Ok(Some(read_members));
         };
-        let Some(()) = draft.pull(alloc, key, reader)? else {
+        let Some(()) = read_members.pull(alloc, key, reader)? else {
             return Ok(None);
         };
     }
 }
 
-fn pull_found(alloc: Global, reader: &mut Reader<'_>) -> Result<Option<Found>, AllocError>
-    ensures { IfOk result (λ o. IfSome o (λ q. (c : Contents)
-        × GivesValue clipped_contents max_depth reader.old c [] × StandsFor (found q) c)) }
+fn pull_parsed(alloc: Global, reader: &mut Reader<'_>) -> Result<Option<Parsed>, AllocError>
+    ensures { IfOk result (λ o. IfSome o (λ q. (c : ParsedModel)
+        × GivesValue clipped_contents max_depth reader.old c [] × StandsFor (model_of q) c)) }
 {
     if !begins_object(reader) {
         return Ok(None);
     }
-    let Some(draft) = pull_draft(alloc, reader)? else {
+    let Some(read_members) = pull_members(alloc, reader)? else {
         return Ok(None);
     };
     let None = reader.next() else {
         return Ok(None);
     };
-    Ok(draft.found())
+    Ok(read_members.found())
 }
 
 /// What a text in the simplest form has; nothing is told of other texts.
-pub(crate) fn drafted(alloc: Global, bytes: &[u8]) -> Result<Option<Found>, AllocError>
-    ensures { IfOk result (λ o. IfSome o (λ q. IsDraftOf bytes.now q)) }
+pub(crate) fn parsed_by_tokens(alloc: Global, bytes: &[u8]) -> Result<Option<Parsed>, AllocError>
+    ensures { IfOk result (λ o. IfSome o (λ q. IsParsedFrom bytes.now q)) }
 {
     let Ok(text) = str::from_utf8(bytes) else {
         return Ok(None);
     };
     let mut scratch = Scratch::new(alloc);
     let mut reader = Reader::new(text, &mut scratch)?;
-    let found = pull_found(alloc, &mut reader)?;
+    let found = pull_parsed(alloc, &mut reader)?;
     Ok(found)
 }

@@ -1,6 +1,6 @@
 use Rattle.std.proofs.Common.{refl}
-use Rattle.recorder.proofs.Drafted.{found_gives}
-use Rattle.recorder.proofs.draft.Draft.found.Goals as goal
+use Rattle.recorder.proofs.RecordingMembers.{found_gives}
+use Rattle.recorder.proofs.pulled_members.ReadMembers.found.Goals as goal
 
 pub returns : goal.returns
 returns c ms h =

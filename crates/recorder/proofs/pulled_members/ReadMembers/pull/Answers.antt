@@ -1,9 +1,9 @@
 use Rattle.std.proofs.Common.{codes, suc, ◌∙◌}
-use Rattle.recorder.specs.Draft.{AreParts}
+use Rattle.recorder.specs.ReadMembers.{AreParts}
 use Rattle.recorder.proofs.Somes.{if_some, some_is}
 use Rattle.recorder.proofs.Pulled.{adds_at}
-use Rattle.recorder.proofs.Drafted.{version_added, cores_added, writes_added, init_added}
-use Rattle.recorder.proofs.draft.Draft.pull.Goals as goal
+use Rattle.recorder.proofs.RecordingMembers.{version_added, cores_added, writes_added, init_added}
+use Rattle.recorder.proofs.pulled_members.ReadMembers.pull.Goals as goal
 
 pub returns-in-version : goal.returns-in-version
 returns-in-version c = if_some c.once.result (λ u h depth.

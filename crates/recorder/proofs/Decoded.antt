@@ -6,19 +6,19 @@ use Rattle.std.specs.List.{list_all}
 use Rattle.serde_json.specs.Data.{Data}
 use Rattle.recording.specs.Execution.{Execution}
 use Rattle.recording.specs.Recording.{executed}
-use Rattle.recorder.specs.Contents.{Contents}
+use Rattle.recorder.specs.ParsedModel.{ParsedModel}
 use Rattle.recorder.specs.Text.{data_of, data_1, data_2, has_failed_cas}
 use Rattle.recorder.specs.Text.{is_of_version_1}
 use Rattle.recorder.specs.Reading.{values_in, shape_of, shape_in}
-use Rattle.recorder.specs.Reading.{Tells}
+use Rattle.recorder.specs.Reading.{Decodes}
 use Rattle.recorder.specs.Values.{IsInitAgain, ArePartsAgain}
 
 -- the contents of a text of version 1
-abbrev contents_1 : Execution → Contents
+abbrev contents_1 : Execution → ParsedModel
 contents_1 x = record { version = 1; cores = x.cores; write_lists = x.write_lists; values = None }
 
 -- and of version 2
-abbrev contents_2 : Execution → Contents
+abbrev contents_2 : Execution → ParsedModel
 contents_2 x = record { version = 2; cores = x.cores; write_lists = x.write_lists; values = Some x.initial }
 
 -- so the contents are
@@ -53,13 +53,13 @@ zeros (v ∷ vs) all =
 
 -- a text of version 1 tells its execution
 pub tells_1 : (x : Execution) → ArePartsAgain x → length x.initial ≡ length x.write_lists
-    → is_of_version_1 x ≡ true → Tells (data_of x) x
+    → is_of_version_1 x ≡ true → Decodes (data_of x) x
 tells_1 x parts size is =
     let written : data_of x ≡ data_1 x = rw is refl in
     let plain = of_version_1 x is in
     let values : replicate (length x.write_lists) 0 ≡ x.initial =
     ap (λ (n : ℕ). replicate n 0) (sym size) ∙ zeros x.initial plain.1 in
-    subst (λ (d : Data). Tells d x) (sym written) (record {
+    subst (λ (d : Data). Decodes d x) (sym written) (record {
       contents = contents_1 x;
       shape = shape_1 x parts;
       versioned = inl (refl, refl, plain.0);
@@ -68,10 +68,10 @@ tells_1 x parts size is =
 
 -- and so does one of version 2
 pub tells_2 : (x : Execution) → ArePartsAgain x → IsInitAgain x
-    → is_of_version_1 x ≡ false → Tells (data_of x) x
+    → is_of_version_1 x ≡ false → Decodes (data_of x) x
 tells_2 x parts values is =
     let written : data_of x ≡ data_2 x = rw is refl in
-    subst (λ (d : Data). Tells d x) (sym written) (record {
+    subst (λ (d : Data). Decodes d x) (sym written) (record {
       contents = contents_2 x;
       shape = shape_2 x parts values;
       versioned = inr (refl, refl);

@@ -6,7 +6,7 @@ use Rattle.recording.specs.Recording.{executed}
 use Rattle.recorder.specs.Text.{has_failed_cas}
 
 -- the version of a text, the events of each core, the write lists, and the initial values where it has them
-pub record Contents : Type 0 where
+pub record ParsedModel : Type 0 where
   pub version : ℕ
   pub cores : List (List Event)
   pub write_lists : List (List ℕ)
@@ -18,10 +18,10 @@ initial_values None lists = replicate (length lists) 0
 initial_values (Some values) lists = values
 
 -- the execution that a text tells
-abbrev pub told : Contents → Execution
-told c = executed c.cores c.write_lists (initial_values c.values c.write_lists)
+abbrev pub execution_of : ParsedModel → Execution
+execution_of c = executed c.cores c.write_lists (initial_values c.values c.write_lists)
 
 -- version 1 has no initial values and no compare-and-swap that failed, version 2 has initial values
-abbrev pub IsVersioned : Contents → Type 0
+abbrev pub IsVersioned : ParsedModel → Type 0
 IsVersioned c = ((c.version ≡ 1) × (c.values ≡ None) × (has_failed_cas c.cores ≡ false))
     ⊎ ((c.version ≡ 2) × IsSome c.values)

@@ -1,8 +1,0 @@
-use Rattle.recorder.proofs.Somes.{if_some}
-use Rattle.recorder.proofs.Drafted.{draft_read}
-use Rattle.recorder.proofs.draft.drafted.Goals as goal
-
-pub returns : goal.returns
-returns c = if_some c.in_ok-found.found (λ q given.
-    draft_read c.args.bytes.now c.in-Ok.text.now c.in_ok-reader.reader given.0 q c.in-Ok.ensures.cases
-    c.in_ok-reader.ensures.ok given.1 given.2) c.in_ok-found.ensures
