@@ -3,7 +3,7 @@ use Rattle.std.specs.Prelude.{◌≡◌, ◌++◌, ◌∷◌, [], ℕ, zero, suc
 use Rattle.std.specs.Prelude.{slice_index}
 use Rattle.recording.specs.Execution.{Execution}
 use Rattle.relations.specs.declared.reason.Reason.TheVariants.{Po, Fr}
-use Rattle.relations.specs.Cycle.{behind}
+use Rattle.relations.specs.Cycle.{next_in_cycle}
 use Rattle.relations.specs.Forced.{IsReason}
 use Rattle.judge.specs.declared.verdict.Verdict.{Verdict}
 use Rattle.judge.specs.declared.verdict.Verdict.TheVariants.{Ordered, Overlook, Cycle}
@@ -12,7 +12,7 @@ use Rattle.drawing.specs.declared.edges.Edge.{Edge}
 -- the edge from place i of a cycle to the event behind it, by the first reason that holds
 pub record IsCycleEdge (x : Execution) (c : List ℕ) (i : ℕ) (edge : Edge) : Type 0 where
   pub from : edge.first ≡ slice_index c i
-  pub to : edge.second ≡ behind c i
+  pub to : edge.second ≡ next_in_cycle c i
   pub why : IsReason x edge.first edge.second (Some edge.reason)
 
 -- the edges from the first n events of a cycle

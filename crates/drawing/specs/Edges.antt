@@ -29,9 +29,9 @@ next_in_list x e None = None
 next_in_list x e (Some a) = slice_get (write_list x a) (place (write_list x a) e + 1)
 
 -- where the first write of a list stands that is newer than a source
-abbrev pub newer_place : List ℕ → Option ℕ → ℕ
-newer_place list None = 0
-newer_place list (Some s) = place list s + 1
+abbrev pub first_newer_place : List ℕ → Option ℕ → ℕ
+first_newer_place list None = 0
+first_newer_place list (Some s) = place list s + 1
 
 -- an event, if it is not e
 abbrev pub other_than : ℕ → Option ℕ → Option ℕ
@@ -42,7 +42,7 @@ other_than e (Some f) = if f == e then None else Some f
 abbrev pub first_newer : Execution → ℕ → Option ℕ → Option ℕ
 first_newer x e None = None
 first_newer x e (Some a) =
-    other_than e (slice_get (write_list x a) (newer_place (write_list x a) (source_of x e)))
+    other_than e (slice_get (write_list x a) (first_newer_place (write_list x a) (source_of x e)))
 
 -- the edges of an event: to the next of its core, from its source, to the next write of the address that
 -- it writes, and to the first write that is newer than what it read

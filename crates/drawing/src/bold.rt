@@ -11,7 +11,7 @@ use crate::edges::Edge;
 use common::{EventId, OutOfMemory};
 use judge::Verdict;
 use recording::Recording;
-use relations::{Places, Reason, behind};
+use relations::{Places, Reason, next_in_cycle};
 use std::alloc::Global;
 
 /// The edge from a place of a cycle to the event behind it.
@@ -21,7 +21,7 @@ fn cycle_edge(places: &Places<'_>, cycle: &[EventId], i: usize) -> Edge
     ensures { IsCycleEdge places.now cycle.now i result }
 {
     let first = cycle[i];
-    let second = behind(cycle, i);
+    let second = next_in_cycle(cycle, i);
     Edge {
         first,
         second,

@@ -1,7 +1,7 @@
 //! Edges of a picture.
 
 ghost use Rattle.std.specs.Prelude.{◌≡◌, slice_get};
-ghost use Rattle.drawing.specs.Edges.{edge_to, edge_from, next_on_core, next_in_list, newer_place};
+ghost use Rattle.drawing.specs.Edges.{edge_to, edge_from, next_on_core, next_in_list, first_newer_place};
 ghost use Rattle.drawing.specs.Edges.{other_than, first_newer, po_edge, rf_edge, co_edge, fr_edge};
 ghost use Rattle.drawing.specs.Edges.{is_same_edge, is_drawn};
 
@@ -84,8 +84,8 @@ fn next_in_list(recording: &Recording, number: EventId, address: Option<Addr>) -
 }
 
 /// Where the first write of a list stands that is newer than a source.
-fn newer_place(list: &[EventId], source: Option<EventId>) -> usize
-    ensures { result ≡ newer_place list.now source }
+fn first_newer_place(list: &[EventId], source: Option<EventId>) -> usize
+    ensures { result ≡ first_newer_place list.now source }
 {
     match source {
         Some(source) => place(list, source) + 1,
@@ -113,7 +113,7 @@ fn first_newer(recording: &Recording, number: EventId, address: Option<Addr>) ->
     let list = recording.write_list(address);
     other_than(
         number,
-        item_at(list, newer_place(list, recording.source(number))),
+        item_at(list, first_newer_place(list, recording.source(number))),
     )
 }
 

@@ -7,7 +7,7 @@ use Rattle.recording.specs.Execution.{Execution, event_at}
 use Rattle.relations.specs.declared.reason.Reason.{Reason}
 use Rattle.relations.specs.declared.reason.Reason.TheVariants.{Po, Wo, Rf, Fr}
 use Rattle.relations.specs.Forced.{IsReason}
-use Rattle.relations.specs.Cycle.{behind}
+use Rattle.relations.specs.Cycle.{next_in_cycle}
 use Rattle.explanation.specs.Diy.{IsDiyLine}
 use Rattle.event_texts.specs.Events.{event_line, indent, written_text}
 
@@ -33,7 +33,7 @@ pub record IsLink (x : Execution) (names : List Name) (e f : ℕ) (text : List �
 abbrev pub AreLinks : Execution → List Name → List ℕ → ℕ → List ℕ → Type 0
 AreLinks x names c zero text = text ≡ []
 AreLinks x names c (suc i) text = (before link : List ℕ) × AreLinks x names c i before
-    × IsLink x names (slice_index c i) (behind c i) link × (text ≡ before ++ link)
+    × IsLink x names (slice_index c i) (next_in_cycle c i) link × (text ≡ before ++ link)
 
 -- what is said first of a cycle of n events
 abbrev pub cycle_heading : ℕ → List ℕ

@@ -10,7 +10,7 @@ use Rattle.recording.specs.Event.{is_plain_store, is_plain_load}
 use Rattle.recording.specs.Execution.{Execution, event_at, core_of}
 use Rattle.relations.specs.declared.reason.Reason.{Reason}
 use Rattle.relations.specs.declared.reason.Reason.TheVariants.{Po, Wo, Rf, Fr}
-use Rattle.relations.specs.Cycle.{behind}
+use Rattle.relations.specs.Cycle.{next_in_cycle}
 use Rattle.relations.specs.Forced.{IsReason}
 use Rattle.explanation.specs.declared.diy.Step.{Step}
 
@@ -54,7 +54,7 @@ pub record IsStep (x : Execution) (e f : ℕ) (s : Step) : Type 0 where
 abbrev pub AreWordSteps : Execution → List ℕ → ℕ → List Step → Type 0
 AreWordSteps x es zero steps = steps ≡ []
 AreWordSteps x es (suc i) steps = (before : List Step) × (step : Step) × AreWordSteps x es i before
-    × IsStep x (slice_index es i) (behind es i) step × (steps ≡ before ++ step ∷ [])
+    × IsStep x (slice_index es i) (next_in_cycle es i) step × (steps ≡ before ++ step ∷ [])
 
 -- the letter of a store, or of a load
 abbrev pub letter : Bool → List ℕ

@@ -13,7 +13,7 @@ use event_texts::{put_before, put_indent, put_line, put_text, put_text_and_numbe
 use indexmap::IndexSet;
 use program::Name;
 use recording::Recording;
-use relations::{Places, Reason, behind};
+use relations::{Places, Reason, next_in_cycle};
 use std::alloc::Global;
 
 /// Adds some words and the name of the address that an event writes.
@@ -103,7 +103,7 @@ fn put_links(
         × (out.new.items ≡ out.old.items ++ links)) }
 {
     for i in 0..cycle.len() {
-        let (first, second) = (cycle[i], behind(cycle, i));
+        let (first, second) = (cycle[i], next_in_cycle(cycle, i));
         let reason = places.forced_reason(first, second);
         put_link(out, recording, names, first, second, reason)?;
     }

@@ -12,7 +12,7 @@ ghost use Rattle.explanation.specs.Diy.{IsNamedBehind, words_from, diy_line, ove
 use common::{Addr, EventId, OutOfMemory};
 use event_texts::{event_of, put_text};
 use recording::{Event, Recording};
-use relations::{Places, Reason, behind};
+use relations::{Places, Reason, next_in_cycle};
 use std::alloc::Global;
 
 /// The step from one load or store of a cycle to the next.
@@ -132,7 +132,7 @@ fn steps(
 {
     let mut found = Vec::new(alloc);
     for i in 0..accesses.len() {
-        found.push(step_of(recording, places, accesses[i], behind(accesses, i)))?;
+        found.push(step_of(recording, places, accesses[i], next_in_cycle(accesses, i)))?;
     }
     Ok(found)
 }

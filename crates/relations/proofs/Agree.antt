@@ -11,7 +11,7 @@ use Rattle.relations.specs.declared.reason.Reason.{Reason}
 use Rattle.relations.specs.declared.reason.Reason.TheVariants.{Po, Wo, Rf, Fr}
 use Rattle.relations.specs.Forced.{Holds, Forced, IsReason}
 use Rattle.relations.specs.Filled.{TellsForced, AreFilled}
-use Rattle.relations.specs.declared.placed.Placed.{Placed}
+use Rattle.relations.specs.declared.indexed.IndexedEvent.{IndexedEvent}
 use Rattle.relations.specs.Relation.{Row, Table, table_of, sets_of, relates, Related}
 use Rattle.bitrow.specs.Bits.{is_in}
 use Rattle.relations.proofs.Filled.{filled_forced}
@@ -61,7 +61,7 @@ pub reason_tells : (x : Execution) (e f : ℕ) (o : Option Reason) → IsReason 
 reason_tells x e f o h = (some_reason x e f o h, no_reason x e f o h)
 
 -- sets that are filled relate forced pairs alone, and all of those that they are filled for
-module _ (x : Execution) (ps : List Placed) (sets : List (List Bool)) (P : ℕ → ℕ → Type 0)
+module _ (x : Execution) (ps : List IndexedEvent) (sets : List (List Bool)) (P : ℕ → ℕ → Type 0)
     (wf : IsWellFormed x) (size : length sets ≡ length ps) (filled : AreFilled x P sets) where
   pub related_forced : (e f : ℕ) → Related (table_of ps sets) e f → Forced x e f
   related_forced e f r =
@@ -78,7 +78,7 @@ module _ (x : Execution) (ps : List Placed) (sets : List (List Bool)) (P : ℕ �
       ∙ ((filled.each e within.0).filled f pair).1 forced
 
 -- sets that are filled for all forced pairs relate these
-pub related_is_forced : (x : Execution) (ps : List Placed) (sets : List (List Bool)) → IsWellFormed x
+pub related_is_forced : (x : Execution) (ps : List IndexedEvent) (sets : List (List Bool)) → IsWellFormed x
     → length sets ≡ length ps → AreFilled x (Forced x) sets → (e f : ℕ)
     → Related (table_of ps sets) e f ↔ Forced x e f
 related_is_forced x ps sets wf size filled e f = (

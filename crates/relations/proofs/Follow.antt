@@ -13,11 +13,11 @@ use Rattle.recording.specs.OrderLaws.{place_in}
 use Rattle.recording.specs.CoreLaws.{core_between}
 use Rattle.recording.specs.EventLaws.{Reads-event}
 use Rattle.recording.specs.PlaceLaws.{at_place, times_at, place_at, neighbours_stand}
-use Rattle.relations.specs.declared.placed.Placed.{Placed}
+use Rattle.relations.specs.declared.indexed.IndexedEvent.{IndexedEvent}
 use Rattle.relations.specs.declared.reason.Reason.{Reason}
 use Rattle.relations.specs.declared.reason.Reason.TheVariants.{Po, Wo, Rf, Fr}
 use Rattle.relations.specs.Forced.{IsOlder, IsNewerFrom, Holds, Forced}
-use Rattle.relations.specs.Placed.{ArePlaced}
+use Rattle.relations.specs.Indexed.{AreIndexed}
 use Rattle.relations.specs.Filled.{AreFilled}
 use Rattle.relations.specs.Direct.{is_passed, IsNextBehind, IsPair}
 use Rattle.relations.specs.Relation.{Related, table_of}
@@ -27,7 +27,7 @@ use Rattle.relations.proofs.Agree.{pair_related}
 use Rattle.relations.proofs.Exact.{program_order_or_not}
 
 -- what stands past the last event
-nothing : Placed
+nothing : IndexedEvent
 nothing = record {
   number = 0;
   core = 0;
@@ -81,8 +81,8 @@ first_failing p e f (suc d) i at past fails before = elim (cases_Bool (p i)) [
   | inr here ↦ (i, (past, omega (arith, at), here, before))
 ]
 
-module _ (x : Execution) (ps : List Placed) (sets : List (List Bool)) (wf : IsWellFormed x)
-    (placed : ArePlaced x ps) (filled : AreFilled x (IsPair false x) sets) (none : HasNoOverlook x) (m : List ℕ)
+module _ (x : Execution) (ps : List IndexedEvent) (sets : List (List Bool)) (wf : IsWellFormed x)
+    (placed : AreIndexed x ps) (filled : AreFilled x (IsPair false x) sets) (none : HasNoOverlook x) (m : List ℕ)
     (r : Respects (Related (table_of ps sets)) (event_count x) m) where
   -- a forced pair that is a next one stands in order
   next_before : (e f : ℕ) → IsPair false x e f → Forced x e f → Before m e f

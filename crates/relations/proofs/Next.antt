@@ -7,9 +7,9 @@ use Rattle.recording.specs.Order.{place}
 use Rattle.recording.specs.Tso.{IsWellFormed}
 use Rattle.recording.specs.OrderLaws.{place_in}
 use Rattle.recording.specs.PlaceLaws.{at_place, times_at, place_at}
-use Rattle.relations.specs.declared.placed.Placed.{Placed}
+use Rattle.relations.specs.declared.indexed.IndexedEvent.{IndexedEvent}
 use Rattle.relations.specs.Forced.{IsNewerFrom}
-use Rattle.relations.specs.Placed.{IsPlaced}
+use Rattle.relations.specs.Indexed.{IsIndexed}
 use Rattle.relations.specs.Direct.{IsNextWrite, IsFirstNewer}
 use Rattle.relations.proofs.Written.{listed_event, writes_one}
 
@@ -36,7 +36,7 @@ listed_at : (x : Execution) → IsWellFormed x → (a f : ℕ) → Writes x f a
 listed_at x wf a f writes = place_in (write_list x a) f (omega (arith, (wf.write_lists a).once f writes))
 
 -- the next write stands at the place behind
-pub next_write_at : (x : Execution) (p : Placed) (f a : ℕ) (ws : List ℕ) (o : Option ℕ) → IsPlaced x p
+pub next_write_at : (x : Execution) (p : IndexedEvent) (f a : ℕ) (ws : List ℕ) (o : Option ℕ) → IsIndexed x p
     → p.writes ≡ Some a → ws ≡ write_list x a → IsNumberAt ws (p.place + 1) o → IsNextWrite x p.number f
     → o ≡ Some f
 next_write_at x p f a ws o hp is list at next =
@@ -63,7 +63,7 @@ one_newer ws s n f at within from first =
     omega (arith, low, high, here)
 
 -- the first newer write stands at the first newer place
-pub first_newer_at : (x : Execution) (p : Placed) (f a : ℕ) (ws : List ℕ) (o : Option ℕ) → IsPlaced x p
+pub first_newer_at : (x : Execution) (p : IndexedEvent) (f a : ℕ) (ws : List ℕ) (o : Option ℕ) → IsIndexed x p
     → p.reads ≡ Some a → ws ≡ write_list x a → IsNumberAt ws p.newer o → IsFirstNewer x p.number f
     → o ≡ Some f
 first_newer_at x p f a ws o hp is list at first =

@@ -4,20 +4,20 @@ use Rattle.std.specs.Prelude.{is_some, IsSome}
 use Rattle.recording.specs.Execution.{Execution, write_list, Reads, Writes, source_of}
 use Rattle.recording.specs.Order.{place, Before}
 use Rattle.recording.specs.OrderLaws.{place_in}
-use Rattle.relations.specs.declared.placed.Placed.{Placed}
+use Rattle.relations.specs.declared.indexed.IndexedEvent.{IndexedEvent}
 use Rattle.relations.specs.declared.reason.Reason.TheVariants.{Wo, Fr}
 use Rattle.relations.specs.Forced.{IsOlder, Holds}
-use Rattle.relations.specs.Placed.{IsPlaced}
+use Rattle.relations.specs.Indexed.{IsIndexed}
 use Rattle.relations.proofs.Written.{writes_listed, writes_one}
 
 -- a write stands in its write list
-in_list : (x : Execution) (q : Placed) (a : ℕ) → IsPlaced x q → Writes x q.number a
+in_list : (x : Execution) (q : IndexedEvent) (a : ℕ) → IsIndexed x q → Writes x q.number a
     → place (write_list x a) q.number < length (write_list x a)
 in_list x q a hq w = place_in (write_list x a) q.number
     (omega (arith, (hq.well_formed.write_lists a).once q.number w))
 
 -- two writes of one address are in write order as their places are
-pub written_pair : (x : Execution) (p q : Placed) (a : ℕ) → IsPlaced x p → IsPlaced x q → Writes x p.number a
+pub written_pair : (x : Execution) (p q : IndexedEvent) (a : ℕ) → IsIndexed x p → IsIndexed x q → Writes x p.number a
     → Writes x q.number a → (p.place < q.place) ↔ Holds x Wo p.number q.number
 written_pair x p q a hp hq wp wq = (
   λ less. (a, (omega (arith, hp.place a wp, hq.place a wq), in_list x q a hq wq)),
@@ -30,12 +30,12 @@ written_pair x p q a hp hq wp wq = (
 )
 
 -- a pair in write order are writes of one address
-pub written_both : (x : Execution) (p q : Placed) → IsPlaced x p → Holds x Wo p.number q.number
+pub written_both : (x : Execution) (p q : IndexedEvent) → IsIndexed x p → Holds x Wo p.number q.number
     → (a : ℕ) × Writes x p.number a × Writes x q.number a
 written_both x p q hp h = let w = writes_listed x hp.well_formed h.0 p.number q.number h.1 in (h.0, w.0, w.1)
 
 -- a write of the address that is read is newer than the source as the places are
-pub read_pair : (x : Execution) (p q : Placed) (a : ℕ) → IsPlaced x p → IsPlaced x q → Reads x p.number a
+pub read_pair : (x : Execution) (p q : IndexedEvent) (a : ℕ) → IsIndexed x p → IsIndexed x q → Reads x p.number a
     → Writes x q.number a → (p.newer ≤ q.place) ↔ IsOlder (write_list x a) (source_of x p.number) q.number
 read_pair x p q a hp hq reads writes =
     let newer = hp.newer a reads q.number (in_list x q a hq writes) in (
@@ -49,7 +49,7 @@ IsLaterPlace x a f n = (n ≤ place (write_list x a) f) × (place (write_list x 
 
 -- what an event is before by write order or from-read stands in the write list of the address that
 -- it reads or writes, at its first place or later
-pub later_place : (x : Execution) (p : Placed) (n a f : ℕ) → IsPlaced x p → (IsSome p.reads → n ≤ p.newer)
+pub later_place : (x : Execution) (p : IndexedEvent) (n a f : ℕ) → IsIndexed x p → (IsSome p.reads → n ≤ p.newer)
     → (IsSome p.writes → n ≤ p.place) → ((b : ℕ) → Reads x p.number b → Some a ≡ Some b)
     → ((b : ℕ) → Writes x p.number b → Some a ≡ Some b)
     → Holds x Wo p.number f ⊎ Holds x Fr p.number f → IsLaterPlace x a f n

@@ -5,9 +5,9 @@ use Rattle.std.proofs.lemmas.Bool.{cases_eq}
 use Rattle.std.proofs.lemmas.List.{get_or_default}
 use Rattle.recording.specs.Execution.{Execution, event_count, source_of}
 use Rattle.recording.specs.Tso.{IsWellFormed}
-use Rattle.relations.specs.declared.placed.Placed.{Placed}
+use Rattle.relations.specs.declared.indexed.IndexedEvent.{IndexedEvent}
 use Rattle.relations.specs.Forced.{Forced}
-use Rattle.relations.specs.Placed.{IsPlaced, ArePlaced}
+use Rattle.relations.specs.Indexed.{IsIndexed, AreIndexed}
 use Rattle.relations.specs.Filled.{IsPut, TellsForced, IsFilledRow, AreFilled}
 use Rattle.relations.specs.Direct.{IsCandidate, IsPair}
 use Rattle.relations.proofs.Written.{source_writes}
@@ -61,16 +61,16 @@ reader_of_none x all n rows none h = rows_fewer x (IsReached x all n) (IsReached
 ]) h
 
 -- the source of a placed event is the source of its number
-pub source_placed : (x : Execution) (ps : List Placed) (n : ℕ) (d : Placed) (o : Option ℕ) → ArePlaced x ps
+pub source_placed : (x : Execution) (ps : List IndexedEvent) (n : ℕ) (d : IndexedEvent) (o : Option ℕ) → AreIndexed x ps
     → n < event_count x → (get_or ps n d).source ≡ o → source_of x n ≡ o
 source_placed x ps n d o placed at is =
     let here = placed.each n d (omega (arith, placed.size)) in
     ap (source_of x) (sym here.1) ∙ (sym here.0.source ∙ is)
 
 -- what is told of two placed events is told of their numbers
-pub tells_placed : (x : Execution) (ps : List Placed) (e f : ℕ) (d k : Placed) (answer : Bool)
-    → ArePlaced x ps → e < event_count x → f < event_count x
-    → (IsPlaced x (get_or ps e d) → IsPlaced x (get_or ps f k)
+pub tells_placed : (x : Execution) (ps : List IndexedEvent) (e f : ℕ) (d k : IndexedEvent) (answer : Bool)
+    → AreIndexed x ps → e < event_count x → f < event_count x
+    → (IsIndexed x (get_or ps e d) → IsIndexed x (get_or ps f k)
     → TellsForced x (get_or ps e d).number (get_or ps f k).number answer) → TellsForced x e f answer
 tells_placed x ps e f d k answer placed he hf tells =
     let first = placed.each e d (omega (arith, placed.size)) in

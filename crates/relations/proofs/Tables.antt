@@ -1,4 +1,4 @@
--- Placed events and rows of forced pairs as they grow.
+-- Indexed events and rows of forced pairs as they grow.
 use Rattle.std.proofs.Common.{◌≡◌, ◌<◌, ◌≤◌, inl, inr, ℕ, Bool, false, List, [], ◌∷◌, ◌++◌, get_or, length}
 use Rattle.std.proofs.Common.{arith, refl, sym, ap, ◌∙◌, subst, length-append}
 use Rattle.std.proofs.lemmas.Bool.{cases_lt}
@@ -6,8 +6,8 @@ use Rattle.std.proofs.lemmas.List.{get_or_push, get_or_append_left, get_or_defau
 use Rattle.std.proofs.lemmas.List.{length-map}
 use Rattle.std.specs.Prelude.{All}
 use Rattle.common.specs.declared.limits.TheConstants.{MAX_EVENTS}
-use Rattle.relations.specs.declared.placed.Placed.{Placed}
-use Rattle.relations.specs.Placed.{IsPlaced, ArePlaced}
+use Rattle.relations.specs.declared.indexed.IndexedEvent.{IndexedEvent}
+use Rattle.relations.specs.Indexed.{IsIndexed, AreIndexed}
 use Rattle.relations.specs.Filled.{IsFilledRow, AreFilled}
 use Rattle.bitrow.specs.Bits.{is_in}
 use Rattle.relations.specs.Relation.{Row, Table, IsRelation, table_of, sets_of, placed_of, relates}
@@ -25,14 +25,14 @@ each_more {A} P xs y d rest last e h = elim (cases_lt e (length xs)) [
 ]
 
 -- the events as far as they go
-abbrev pub ArePlacedSoFar : Execution → List Placed → Type 0
-ArePlacedSoFar x ps = (e : ℕ) (d : Placed) → e < length ps
-    → IsPlaced x (get_or ps e d) × ((get_or ps e d).number ≡ e)
+abbrev pub AreIndexedSoFar : Execution → List IndexedEvent → Type 0
+AreIndexedSoFar x ps = (e : ℕ) (d : IndexedEvent) → e < length ps
+    → IsIndexed x (get_or ps e d) × ((get_or ps e d).number ≡ e)
 
 -- one event more
-pub placed_more : (x : Execution) (ps : List Placed) (p : Placed) → ArePlacedSoFar x ps → IsPlaced x p
-    → p.number ≡ length ps → ArePlacedSoFar x (ps ++ p ∷ [])
-placed_more x ps p rest last at e d h = each_more (λ e q. IsPlaced x q
+pub placed_more : (x : Execution) (ps : List IndexedEvent) (p : IndexedEvent) → AreIndexedSoFar x ps → IsIndexed x p
+    → p.number ≡ length ps → AreIndexedSoFar x (ps ++ p ∷ [])
+placed_more x ps p rest last at e d h = each_more (λ e q. IsIndexed x q
     × (q.number ≡ e)) ps p d (λ e before. rest e d before) (last, at) e h
 
 -- the rows as far as they go
@@ -54,7 +54,7 @@ row_size x P rows h e d at =
     ∙ ((h.each e (omega (arith, h.size))).size ∙ length-replicate {A = Bool} (event_count x) false)
 
 -- the sets of rows are those that they were made of
-pub sets_same : (ps : List Placed) (sets : List (List Bool)) → length sets ≡ length ps
+pub sets_same : (ps : List IndexedEvent) (sets : List (List Bool)) → length sets ≡ length ps
     → sets_of (table_of ps sets) ≡ sets
 sets_same [] [] size = refl
 sets_same [] (set ∷ sets) size = absurd (omega (arith, size))
@@ -63,34 +63,34 @@ sets_same (p ∷ ps) (set ∷ sets) size =
     ap (λ (rest : List (List Bool)). set ∷ rest) (sets_same ps sets (omega (arith, size)))
 
 -- and so are the events
-pub events_same : (ps : List Placed) (sets : List (List Bool)) → length sets ≡ length ps
+pub events_same : (ps : List IndexedEvent) (sets : List (List Bool)) → length sets ≡ length ps
     → placed_of (table_of ps sets) ≡ ps
 events_same [] [] size = refl
 events_same [] (set ∷ sets) size = refl
 events_same (p ∷ ps) [] size = absurd (omega (arith, size))
 events_same (p ∷ ps) (set ∷ sets) size =
-    ap (λ (rest : List Placed). p ∷ rest) (events_same ps sets (omega (arith, size)))
+    ap (λ (rest : List IndexedEvent). p ∷ rest) (events_same ps sets (omega (arith, size)))
 
 -- there are as many rows
-pub table_size : (ps : List Placed) (sets : List (List Bool)) → length sets ≡ length ps
+pub table_size : (ps : List IndexedEvent) (sets : List (List Bool)) → length sets ≡ length ps
     → length (table_of ps sets) ≡ length sets
 table_size ps sets size = sym (length-map (table_of ps sets) (λ (row : Row). row.after))
     ∙ ap (λ (l : List (List Bool)). length l) (sets_same ps sets size)
 
 -- so a table that is seen has as many rows
-pub rows_seen : (ps : List Placed) (sets : List (List Bool)) (t : Table) → table_of ps sets ≡ t
+pub rows_seen : (ps : List IndexedEvent) (sets : List (List Bool)) (t : Table) → table_of ps sets ≡ t
     → IsRelation ps sets → length sets ≡ length t
 rows_seen ps sets t seen r = sym (table_size ps sets r.size) ∙ ap (λ (rows : Table). length rows) seen
 
 -- each set has a place for each event
-pub set_size : (ps : List Placed) (sets : List (List Bool)) → IsRelation ps sets → (e : ℕ) (d : List Bool)
+pub set_size : (ps : List IndexedEvent) (sets : List (List Bool)) → IsRelation ps sets → (e : ℕ) (d : List Bool)
     → e < length sets → length (get_or sets e d) ≡ length sets
 set_size ps sets r e d at =
     subst (λ (l : List (List Bool)). All (λ set. length set ≡ length (table_of ps sets)) l)
     (sets_same ps sets r.size) r.square.rows e d at ∙ table_size ps sets r.size
 
 -- so has each set of a table
-pub set_room : (ps : List Placed) (sets : List (List Bool)) (t : Table) → table_of ps sets ≡ t
+pub set_room : (ps : List IndexedEvent) (sets : List (List Bool)) (t : Table) → table_of ps sets ≡ t
     → IsRelation ps sets → (e f : ℕ) (set : List Bool) → set ≡ get_or sets e set → e < length t
     → f < length t → f < length set
 set_room ps sets t seen r e f set is at there =
@@ -104,7 +104,7 @@ set_room ps sets t seen r e f set is at there =
     )
 
 -- which tells what is related
-pub set_tells : (ps : List Placed) (sets : List (List Bool)) (t : Table) → table_of ps sets ≡ t
+pub set_tells : (ps : List IndexedEvent) (sets : List (List Bool)) (t : Table) → table_of ps sets ≡ t
     → IsRelation ps sets → (e f : ℕ) (set : List Bool) → set ≡ get_or sets e set → e < length t
     → is_in set f ≡ relates t e f
 set_tells ps sets t seen r e f set is at =
@@ -114,8 +114,8 @@ set_tells ps sets t seen r e f set is at =
     (sym (sets_same ps sets r.size) ∙ ap sets_of seen)
 
 -- the rows of a recording are a relation
-pub relation_of_filled : (x : Execution) (P : ℕ → ℕ → Type 0) (ps : List Placed) (sets : List (List Bool))
-    → event_count x ≤ MAX_EVENTS → ArePlaced x ps → AreFilled x P sets → IsRelation ps sets
+pub relation_of_filled : (x : Execution) (P : ℕ → ℕ → Type 0) (ps : List IndexedEvent) (sets : List (List Bool))
+    → event_count x ≤ MAX_EVENTS → AreIndexed x ps → AreFilled x P sets → IsRelation ps sets
 relation_of_filled x P ps sets few placed h =
     let size : length sets ≡ length ps = h.size ∙ sym placed.size in
     let count : length (table_of ps sets) ≡ event_count x = table_size ps sets size ∙ h.size in

@@ -10,7 +10,7 @@ use Rattle.recording.specs.Tso.{Gives, IsWellFormed}
 use Rattle.recording.specs.OrderLaws.{place_in}
 use Rattle.recording.specs.PlaceLaws.{at_place, place_at, times_at}
 use Rattle.relations.specs.Forced.{IsOlder, IsNewerFrom}
-use Rattle.relations.specs.Placed.{AreWritePlaces}
+use Rattle.relations.specs.Indexed.{AreWritePlaces}
 use Rattle.relations.proofs.Written.{list_short, listed_event, source_writes, writes_one}
 
 -- a write is listed at its place

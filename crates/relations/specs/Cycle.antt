@@ -13,8 +13,8 @@ IsCycle R [] = ⊥
 IsCycle R (e ∷ es) = Leads R e es e
 
 -- the number behind place i of a cycle; behind the last is the first
-abbrev pub behind : List ℕ → ℕ → ℕ
-behind c i = slice_index_or c (i + 1) (slice_index c 0)
+abbrev pub next_in_cycle : List ℕ → ℕ → ℕ
+next_in_cycle c i = slice_index_or c (i + 1) (slice_index c 0)
 
 -- there is no cycle
 abbrev pub IsAcyclic : (ℕ → ℕ → Type 0) → Type 0

@@ -1,5 +1,5 @@
 pub mod Forced
-pub mod Placed
+pub mod Indexed
 pub mod Filled
 pub mod Direct
 pub mod Relation

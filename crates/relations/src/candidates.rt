@@ -4,7 +4,7 @@
 ghost use Rattle.std.specs.Prelude.{◌≡◌, ◌≤◌, ◌<◌, MatchOption, length, slice_index};
 
 use crate::filling::put;
-use crate::placed::Placed;
+use crate::indexed::IndexedEvent;
 use bitrow::BitRow;
 use common::{Addr, EventId};
 use recording::Recording;
@@ -21,18 +21,18 @@ fn number_at(list: &[EventId], place: usize) -> Option<usize>
     }
 }
 
-impl Placed {
+impl IndexedEvent {
     ghost use Rattle.std.specs.Prelude.{◌≡◌, ◌≤◌, ◌<◌, ◌⊎◌, ℕ, IfSome, IsSome, Some, length};
     ghost use Rattle.recording.specs.Execution.{Execution, ProgramOrder, Reads, Writes, event_at, event_count};
     ghost use Rattle.relations.specs.declared.reason.Reason.TheVariants.{Wo, Fr};
     ghost use Rattle.relations.specs.Forced.{Holds};
-    ghost use Rattle.relations.specs.Placed.{IsPlaced, ArePlaced};
+    ghost use Rattle.relations.specs.Indexed.{IsIndexed, AreIndexed};
     ghost use Rattle.relations.specs.Filled.{TellsForced, IsFilled, IsOwnOrWrite};
     ghost use Rattle.relations.specs.Direct.{IsCandidate, IsFirstNewer, IsNext, IsNextBehind, IsNextWrite, is_passed};
 
     /// The address that it reads or writes.
     fn address(&self) -> Option<Addr>
-        ensures { (x : Execution) (a : ℕ) → IsPlaced x self.now
+        ensures { (x : Execution) (a : ℕ) → IsIndexed x self.now
             → Reads x self.now.number a ⊎ Writes x self.now.number a → result ≡ Some a }
     {
         match self.reads {
@@ -54,8 +54,8 @@ impl Placed {
     }
 
     /// Whether it is forced before an event behind it on its core.
-    fn is_forced_behind(&self, other: &Placed) -> bool
-        ensures { (x : Execution) → IsPlaced x self.now → IsPlaced x other.now
+    fn is_forced_after(&self, other: &IndexedEvent) -> bool
+        ensures { (x : Execution) → IsIndexed x self.now → IsIndexed x other.now
             → ProgramOrder x self.now.number other.now.number
             → TellsForced x self.now.number other.now.number result }
     {
@@ -63,9 +63,9 @@ impl Placed {
     }
 
     /// Puts the events behind it on its core that it is forced before into a row.
-    fn fill_own_core(&self, events: &[Placed], row: &mut BitRow)
+    fn fill_own_core(&self, events: &[IndexedEvent], row: &mut BitRow)
         requires { length row.old ≡ length events.now }
-        ensures { (x : Execution) → IsPlaced x self.now → ArePlaced x events.now
+        ensures { (x : Execution) → IsIndexed x self.now → AreIndexed x events.now
             → IsFilled x self.now.number (ProgramOrder x self.now.number) row.old row.new }
     {
         for f in self.number as usize + 1..events.len() {
@@ -73,14 +73,14 @@ impl Placed {
             if second.core != self.core {
                 return;
             }
-            put(row, f, self.is_forced_behind(second));
+            put(row, f, self.is_forced_after(second));
         }
     }
 
     /// Puts the writes of its address that it is forced before into a row.
-    fn fill_writes(&self, recording: &Recording, events: &[Placed], row: &mut BitRow)
-        requires placed { IsPlaced recording.now self.now }
-        requires events { ArePlaced recording.now events.now }
+    fn fill_writes(&self, recording: &Recording, events: &[IndexedEvent], row: &mut BitRow)
+        requires placed { IsIndexed recording.now self.now }
+        requires events { AreIndexed recording.now events.now }
         requires size { length row.old ≡ length events.now }
         ensures { IsFilled recording.now self.now.number
             (λ f. Holds recording.now Wo self.now.number f ⊎ Holds recording.now Fr self.now.number f)
@@ -99,9 +99,9 @@ impl Placed {
 
     /// Puts the events behind it on its core and the writes of its address that it is forced before
     /// into a row.
-    fn fill_all(&self, recording: &Recording, events: &[Placed], row: &mut BitRow)
-        requires placed { IsPlaced recording.now self.now }
-        requires events { ArePlaced recording.now events.now }
+    fn fill_all(&self, recording: &Recording, events: &[IndexedEvent], row: &mut BitRow)
+        requires placed { IsIndexed recording.now self.now }
+        requires events { AreIndexed recording.now events.now }
         requires size { length row.old ≡ length events.now }
         ensures { IsFilled recording.now self.now.number
             (IsOwnOrWrite recording.now self.now.number) row.old row.new }
@@ -112,16 +112,16 @@ impl Placed {
 
     /// Whether it is a plain load, or a plain store.
     fn is_passed(&self, loads: bool) -> bool
-        ensures { (x : Execution) → IsPlaced x self.now
+        ensures { (x : Execution) → IsIndexed x self.now
             → result ≡ is_passed loads (event_at x self.now.number) }
     {
         if loads { self.is_load } else { self.is_store }
     }
 
     /// The next event behind it on its core that is no plain load, or no plain store.
-    fn next_behind(&self, events: &[Placed], loads: bool) -> Option<usize>
+    fn next_after(&self, events: &[IndexedEvent], loads: bool) -> Option<usize>
         ensures within { IfSome result (λ f. f < length events.now) }
-        ensures next { (x : Execution) (f : ℕ) → IsPlaced x self.now → ArePlaced x events.now
+        ensures next { (x : Execution) (f : ℕ) → IsIndexed x self.now → AreIndexed x events.now
             → IsNextBehind x loads self.now.number f → result ≡ Some f }
     {
         for f in self.number as usize + 1..events.len() {
@@ -138,7 +138,7 @@ impl Placed {
 
     /// The next write in the write list of the address that it writes.
     fn next_write(&self, recording: &Recording) -> Option<usize>
-        requires { IsPlaced recording.now self.now }
+        requires { IsIndexed recording.now self.now }
         ensures within { IfSome result (λ f. f < event_count recording.now) }
         ensures next { (f : ℕ) → IsNextWrite recording.now self.now.number f → result ≡ Some f }
     {
@@ -150,7 +150,7 @@ impl Placed {
 
     /// The first write of the address that it reads that is newer than its source.
     fn first_newer(&self, recording: &Recording) -> Option<usize>
-        requires { IsPlaced recording.now self.now }
+        requires { IsIndexed recording.now self.now }
         ensures within { IfSome result (λ f. f < event_count recording.now) }
         ensures next { (f : ℕ) → IsFirstNewer recording.now self.now.number f → result ≡ Some f }
     {
@@ -161,10 +161,10 @@ impl Placed {
     }
 
     /// Puts an event, if there is one, into a row where it is forced before it.
-    fn fill_one(&self, events: &[Placed], other: Option<usize>, row: &mut BitRow)
+    fn fill_one(&self, events: &[IndexedEvent], other: Option<usize>, row: &mut BitRow)
         requires within { IfSome other (λ f. f < length events.now) }
         requires size { length row.old ≡ length events.now }
-        ensures { (x : Execution) → IsPlaced x self.now → ArePlaced x events.now
+        ensures { (x : Execution) → IsIndexed x self.now → AreIndexed x events.now
             → IsFilled x self.now.number (λ f. other ≡ Some f) row.old row.new }
     {
         if let Some(f) = other {
@@ -174,23 +174,29 @@ impl Placed {
 
     /// Puts the next events behind it on its core and the next writes of its address that it is forced
     /// before into a row.
-    fn fill_next(&self, recording: &Recording, events: &[Placed], row: &mut BitRow)
-        requires placed { IsPlaced recording.now self.now }
-        requires events { ArePlaced recording.now events.now }
+    fn fill_next(&self, recording: &Recording, events: &[IndexedEvent], row: &mut BitRow)
+        requires placed { IsIndexed recording.now self.now }
+        requires events { AreIndexed recording.now events.now }
         requires size { length row.old ≡ length events.now }
         ensures { IsFilled recording.now self.now.number
             (IsNext recording.now self.now.number) row.old row.new }
     {
-        self.fill_one(events, self.next_behind(events, true), row);
-        self.fill_one(events, self.next_behind(events, false), row);
+        self.fill_one(events, self.next_after(events, true), row);
+        self.fill_one(events, self.next_after(events, false), row);
         self.fill_one(events, self.next_write(recording), row);
         self.fill_one(events, self.first_newer(recording), row);
     }
 
     /// Puts the events that it is forced before without being read into a row: all, or the next.
-    pub(crate) fn fill(&self, recording: &Recording, events: &[Placed], all: bool, row: &mut BitRow)
-        requires placed { IsPlaced recording.now self.now }
-        requires events { ArePlaced recording.now events.now }
+    pub(crate) fn fill(
+        &self,
+        recording: &Recording,
+        events: &[IndexedEvent],
+        all: bool,
+        row: &mut BitRow,
+    )
+        requires placed { IsIndexed recording.now self.now }
+        requires events { AreIndexed recording.now events.now }
         requires size { length row.old ≡ length events.now }
         ensures { IsFilled recording.now self.now.number
             (IsCandidate all recording.now self.now.number) row.old row.new }

@@ -1,11 +1,11 @@
 //! The rows of all events.
 
 ghost use Rattle.std.specs.Prelude.{◌≡◌, ◌<◌, Bool, IfOk, length};
-ghost use Rattle.relations.specs.Placed.{IsPlaced, ArePlaced};
+ghost use Rattle.relations.specs.Indexed.{IsIndexed, AreIndexed};
 ghost use Rattle.relations.specs.Filled.{IsPut, IsFilledRow, AreFilled};
 ghost use Rattle.relations.specs.Direct.{IsCandidate, IsPair};
 
-use crate::placed::Placed;
+use crate::indexed::IndexedEvent;
 use bitrow::BitRow;
 use common::OutOfMemory;
 use recording::Recording;
@@ -27,12 +27,12 @@ pub(crate) fn put(row: &mut BitRow, event: usize, is_forced: bool)
 fn row_without_readers(
     alloc: Global,
     recording: &Recording,
-    first: &Placed,
-    events: &[Placed],
+    first: &IndexedEvent,
+    events: &[IndexedEvent],
     all: bool,
 ) -> Result<BitRow, OutOfMemory>
-    requires first { IsPlaced recording.now first.now }
-    requires events { ArePlaced recording.now events.now }
+    requires first { IsIndexed recording.now first.now }
+    requires events { AreIndexed recording.now events.now }
     ensures { IfOk result (λ row. IsFilledRow recording.now first.now.number
         (IsCandidate all recording.now first.now.number) row) }
 {
@@ -45,10 +45,10 @@ fn row_without_readers(
 fn rows_without_readers(
     alloc: Global,
     recording: &Recording,
-    events: &[Placed],
+    events: &[IndexedEvent],
     all: bool,
 ) -> Result<Vec<BitRow>, OutOfMemory>
-    requires { ArePlaced recording.now events.now }
+    requires { AreIndexed recording.now events.now }
     ensures { IfOk result (λ rows.
         AreFilled recording.now (IsCandidate all recording.now) rows.items) }
 {
@@ -60,8 +60,8 @@ fn rows_without_readers(
 }
 
 /// Puts each event that reads from another into the row of that one where that is forced before it.
-fn put_readers(recording: &Recording, events: &[Placed], rows: &mut [BitRow])
-    requires events { ArePlaced recording.now events.now }
+fn put_readers(recording: &Recording, events: &[IndexedEvent], rows: &mut [BitRow])
+    requires events { AreIndexed recording.now events.now }
     requires rows { (all : Bool) × AreFilled recording.now (IsCandidate all recording.now) rows.old }
     ensures size { length rows.new ≡ length rows.old }
     ensures pairs { (all : Bool) → AreFilled recording.now (IsCandidate all recording.now) rows.old
@@ -81,10 +81,10 @@ fn put_readers(recording: &Recording, events: &[Placed], rows: &mut [BitRow])
 pub(crate) fn filled_rows(
     alloc: Global,
     recording: &Recording,
-    events: &[Placed],
+    events: &[IndexedEvent],
     all: bool,
 ) -> Result<Vec<BitRow>, OutOfMemory>
-    requires { ArePlaced recording.now events.now }
+    requires { AreIndexed recording.now events.now }
     ensures { IfOk result (λ rows. AreFilled recording.now (IsPair all recording.now) rows.items) }
 {
     let mut rows = rows_without_readers(alloc, recording, events, all)?;

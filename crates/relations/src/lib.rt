@@ -4,17 +4,17 @@
 mod candidates;
 mod filling;
 mod forced;
+mod indexed;
 mod laws;
 mod neighbours;
 mod overlooks;
 mod pair;
-mod placed;
 mod places;
 mod reason;
 mod relation;
 
 pub use laws::{forced_is_exact, ordered_is_acyclic, relation_is_forced};
-pub use neighbours::behind;
+pub use neighbours::next_in_cycle;
 pub use overlooks::overlook;
 pub use pair::is_overlook;
 pub use places::Places;

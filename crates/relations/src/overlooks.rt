@@ -8,7 +8,7 @@ use common::EventId;
 use recording::{Recording, place};
 
 /// The place of a list from which on its writes are newer than a source.
-pub(crate) fn newer_from(list: &[EventId], source: Option<EventId>) -> usize
+pub(crate) fn first_newer(list: &[EventId], source: Option<EventId>) -> usize
     ensures newer { IsNewerFrom list.now source result }
     ensures within { result ≤ length list.now + 1 }
 {
@@ -49,7 +49,7 @@ fn overlooked(recording: &Recording, start: EventId, load: EventId) -> Option<Ev
         return None;
     };
     let list = recording.write_list(address);
-    let first = newer_from(list, event.source());
+    let first = first_newer(list, event.source());
     let mut least = None;
     for i in first..list.len() {
         if is_earlier(start, list[i], load) {

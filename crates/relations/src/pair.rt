@@ -3,7 +3,7 @@
 ghost use Rattle.std.specs.Prelude.{◌↔◌, IsTrue};
 ghost use Rattle.relations.specs.Forced.{Overlooks};
 
-use crate::overlooks::newer_from;
+use crate::overlooks::first_newer;
 use common::EventId;
 use recording::{Recording, place};
 
@@ -23,5 +23,5 @@ pub fn is_overlook(recording: &Recording, load: EventId, store: EventId) -> bool
         return false;
     }
     let list = recording.write_list(address);
-    newer_from(list, recording.source(load)) <= place(list, store)
+    first_newer(list, recording.source(load)) <= place(list, store)
 }

@@ -3,9 +3,9 @@
 ghost use Rattle.std.specs.Prelude.{ℕ};
 ghost use Rattle.recording.specs.Execution.{Execution};
 ghost use Rattle.relations.specs.Forced.{IsReason};
-ghost use Rattle.relations.specs.Placed.{ArePlaced};
+ghost use Rattle.relations.specs.Indexed.{AreIndexed};
 
-use crate::placed::{Placed, placed_events};
+use crate::indexed::{IndexedEvent, indexed_events};
 use crate::reason::Reason;
 use common::{EventId, OutOfMemory};
 use recording::Recording;
@@ -14,8 +14,12 @@ use std::marker::Model;
 
 /// The first reason for one event before another; none where there is none, and for a number that
 /// names no event.
-pub(crate) fn reason_between(events: &[Placed], first: EventId, second: EventId) -> Option<Reason>
-    ensures { (x : Execution) → ArePlaced x events.now → IsReason x first second result }
+pub(crate) fn reason_between(
+    events: &[IndexedEvent],
+    first: EventId,
+    second: EventId,
+) -> Option<Reason>
+    ensures { (x : Execution) → AreIndexed x events.now → IsReason x first second result }
 {
     let len = events.len();
     if len <= first as usize {
@@ -32,18 +36,18 @@ pub(crate) fn reason_between(events: &[Placed], first: EventId, second: EventId)
 #[derive(Drop)]
 pub struct Places<'a> {
     recording: &'a Recording,
-    events: Vec<Placed>,
+    events: Vec<IndexedEvent>,
 }
 
 impl<'a> Model for Places<'a> {
     ghost use Rattle.recording.specs.Execution.{Execution};
-    ghost use Rattle.relations.specs.Placed.{ArePlaced};
+    ghost use Rattle.relations.specs.Indexed.{AreIndexed};
 
     ghost Value = { Execution };
 
     ghost view = { λ p. p.recording.now };
 
-    ghost invariant = { λ p. ArePlaced p.recording.now p.events.items };
+    ghost invariant = { λ p. AreIndexed p.recording.now p.events.items };
 }
 
 impl<'a> Places<'a> {
@@ -54,7 +58,7 @@ impl<'a> Places<'a> {
     pub fn of(alloc: Global, recording: &'a Recording) -> Result<Places<'a>, OutOfMemory>
         ensures { IfOk result (λ places. places ≡ recording.now) }
     {
-        let events = placed_events(alloc, recording)?;
+        let events = indexed_events(alloc, recording)?;
         Ok(Places { recording, events })
     }
 

@@ -1,7 +1,7 @@
 //! The relation of forced pairs.
 
 use crate::filling::filled_rows;
-use crate::placed::{Placed, placed_events};
+use crate::indexed::{IndexedEvent, indexed_events};
 use crate::places::reason_between;
 use crate::reason::Reason;
 use bitrow::BitRow;
@@ -15,7 +15,7 @@ use std::marker::Model;
 #[derive(Drop)]
 pub struct Relation {
     rows: Vec<BitRow>,
-    events: Vec<Placed>,
+    events: Vec<IndexedEvent>,
 }
 
 impl Model for Relation {
@@ -44,7 +44,7 @@ impl Relation {
         ensures table { IfOk result (IsTableOf recording.now) }
     {
         recording.sound();
-        let events = placed_events(alloc, recording)?;
+        let events = indexed_events(alloc, recording)?;
         let rows = filled_rows(alloc, recording, &events, true)?;
         Ok(Relation { rows, events })
     }
@@ -59,7 +59,7 @@ impl Relation {
             → Respects (Related r) (event_count recording.now) m → RespectsForced recording.now m) }
     {
         recording.sound();
-        let events = placed_events(alloc, recording)?;
+        let events = indexed_events(alloc, recording)?;
         let rows = filled_rows(alloc, recording, &events, false)?;
         Ok(Relation { rows, events })
     }

@@ -6,7 +6,7 @@ use Rattle.recording.specs.Execution.{Execution}
 use Rattle.relations.specs.declared.reason.Reason.{Reason}
 use Rattle.relations.specs.declared.reason.Reason.TheVariants.{Po, Wo, Rf, Fr}
 use Rattle.relations.specs.Forced.{IsReason}
-use Rattle.relations.specs.Cycle.{behind}
+use Rattle.relations.specs.Cycle.{next_in_cycle}
 use Rattle.labels.specs.Certified.{lists_of}
 use Rattle.judge.specs.declared.verdict.Verdict.{Verdict}
 use Rattle.judge.specs.declared.verdict.Verdict.TheVariants.{Ordered, Overlook, Cycle}
@@ -45,7 +45,7 @@ pub record IsPairLine (x : Execution) (e f : ℕ) (line : List ℕ) : Type 0 whe
 abbrev pub ArePairLines : Execution → List ℕ → ℕ → List ℕ → Type 0
 ArePairLines x c zero lines = lines ≡ []
 ArePairLines x c (suc i) lines = (before line : List ℕ) × ArePairLines x c i before
-    × IsPairLine x (slice_index c i) (behind c i) line × (lines ≡ before ++ line)
+    × IsPairLine x (slice_index c i) (next_in_cycle c i) line × (lines ≡ before ++ line)
 
 -- the line of the labels from an event
 abbrev pub labels_line : ℕ → List ℕ → List ℕ

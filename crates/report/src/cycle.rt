@@ -11,7 +11,7 @@ ghost use Rattle.report.specs.Verdict.{ArePairLines, IsCycleText};
 use crate::numbers::{NumberText, put_number, put_row, texts_up_to};
 use common::{EventId, OutOfMemory};
 use labels::Certificate;
-use relations::{Places, Reason, behind};
+use relations::{Places, Reason, next_in_cycle};
 use std::alloc::Global;
 
 /// The name of a reason.
@@ -65,7 +65,7 @@ fn put_pairs(out: &mut Vec<u8>, places: &Places<'_>, cycle: &[EventId]) -> Resul
         × (out.new.items ≡ out.old.items ++ lines)) }
 {
     for i in 0..cycle.len() {
-        put_pair(out, places, cycle[i], behind(cycle, i))?;
+        put_pair(out, places, cycle[i], next_in_cycle(cycle, i))?;
     }
     Ok(())
 }

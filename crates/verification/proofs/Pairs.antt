@@ -10,7 +10,7 @@ use Rattle.recording.specs.Execution.{Execution}
 use Rattle.relations.specs.declared.reason.Reason.{Reason}
 use Rattle.relations.specs.declared.reason.Reason.TheVariants.{Po, Wo, Rf, Fr}
 use Rattle.relations.specs.Forced.{IsReason}
-use Rattle.relations.specs.Cycle.{behind}
+use Rattle.relations.specs.Cycle.{next_in_cycle}
 use Rattle.report.specs.Verdict.{pair_line, reason_name, IsPairLine, ArePairLines}
 use Rattle.verification.specs.Proof.{AreShort}
 
@@ -64,30 +64,31 @@ pub lines_one : (x : Execution) (c : List ℕ) (n : ℕ) (l m : List ℕ) → Ar
     → l ≡ m
 lines_one x c zero l m a b = a ∙ sym b
 lines_one x c (suc n) l m a b = a.4 ∙ ap (λ (t : List ℕ). t ++ a.1) (lines_one x c n a.0 b.0 a.2 b.2)
-    ∙ ap (λ (t : List ℕ). b.0 ++ t) (line_one x (get_or c n 0) (behind c n) a.1 b.1 a.3 b.3) ∙ sym b.4
+    ∙ ap (λ (t : List ℕ). b.0 ++ t) (line_one x (get_or c n 0) (next_in_cycle c n) a.1 b.1 a.3 b.3) ∙ sym b.4
 
 -- where two lists have the same pairs, they have the same lines
 pub lines_agree : (x : Execution) (p c : List ℕ) (n : ℕ) (lines : List ℕ)
-    → ((j : ℕ) → j < n → (get_or p j 0 ≡ get_or c j 0) × (behind p j ≡ behind c j))
+    → ((j : ℕ) → j < n → (get_or p j 0 ≡ get_or c j 0) × (next_in_cycle p j ≡ next_in_cycle c j))
     → ArePairLines x p n lines → ArePairLines x c n lines
 lines_agree x p c zero lines same h = h
 lines_agree x p c (suc n) lines same h = (
   h.0,
   h.1,
   lines_agree x p c n h.0 (λ j low. same j (omega arith)) h.2,
-  subst (λ (e : ℕ). IsPairLine x e (behind c n) h.1) (same n (omega arith)).0
+  subst (λ (e : ℕ). IsPairLine x e (next_in_cycle c n) h.1) (same n (omega arith)).0
       (subst (λ (f : ℕ). IsPairLine x (get_or p n 0) f h.1) (same n (omega arith)).1 h.3),
   h.4,
 )
 
 -- the line of a pair, with those before it and the text after it
 step_of : (x : Execution) (c : List ℕ) (n : ℕ) (lines : List ℕ) (i : ℕ) → i < n → ArePairLines x c n lines
-    → (front line back : List ℕ) × ArePairLines x c i front × IsPairLine x (get_or c i 0) (behind c i) line
+    → (front line back : List ℕ) × ArePairLines x c i front × IsPairLine x (get_or c i 0) (next_in_cycle c i) line
     × (lines ≡ front ++ (line ++ back))
 step_of x c zero lines i low h = absurd (omega arith)
 step_of x c (suc n) lines i low h = elim (cases_lt i n) [
   | inl lower ↦
-      let s : (front line back : List ℕ) × ArePairLines x c i front × IsPairLine x (get_or c i 0) (behind c i) line
+      let s : (front line back : List ℕ) × ArePairLines x c i front
+      × IsPairLine x (get_or c i 0) (next_in_cycle c i) line
       × (h.0 ≡ front ++ (line ++ back)) = step_of x c n h.0 i lower h.2 in (
         s.0,
         s.1,
@@ -102,7 +103,7 @@ step_of x c (suc n) lines i low h = elim (cases_lt i n) [
     h.1,
     [],
     subst (λ (k : ℕ). ArePairLines x c k h.0) here h.2,
-    subst (λ (k : ℕ). IsPairLine x (get_or c k 0) (behind c k) h.1) here h.3,
+    subst (λ (k : ℕ). IsPairLine x (get_or c k 0) (next_in_cycle c k) h.1) here h.3,
     h.4 ∙ ap (λ (t : List ℕ). h.0 ++ t) (sym (append-nil h.1)),
   )
 ]
@@ -113,7 +114,7 @@ GoesAlong path c i = (j : ℕ) → j < i + 1 → get_or path j 0 ≡ get_or c j 
 
 -- such a path has the pairs of the cycle
 along_agrees : (path c : List ℕ) (i : ℕ) → i ≤ length c → length path ≡ i + 1 → GoesAlong path c i
-    → (j : ℕ) → j < i → (get_or path j 0 ≡ get_or c j 0) × (behind path j ≡ behind c j)
+    → (j : ℕ) → j < i → (get_or path j 0 ≡ get_or c j 0) × (next_in_cycle path j ≡ next_in_cycle c j)
 unfolding GoesAlong
 along_agrees path c i low size along j lower = (
   along j (omega arith) ∙ get_or_default c j (get_or c 0 0) 0 (omega arith),
@@ -129,8 +130,8 @@ along_start path c some same j low =
     ∙ ap (λ (k : ℕ). get_or c k (get_or c 0 0)) (sym here)
 
 -- what is behind an event is one
-pub behind_short : (c : List ℕ) (i : ℕ) → 0 < length c → AreShort c → behind c i < 2 ^ 16
-behind_short c i some short = elim (cases_lt (i + 1) (length c)) [
+pub next_short : (c : List ℕ) (i : ℕ) → 0 < length c → AreShort c → next_in_cycle c i < 2 ^ 16
+next_short c i some short = elim (cases_lt (i + 1) (length c)) [
   | inl inside ↦ short (i + 1) (get_or c 0 0) inside
   | inr not ↦ let past : get_or c (i + 1) (get_or c 0 0) ≡ get_or c 0 0 = get_or_past c (i + 1) (get_or c 0 0) not in
       omega (arith, past, short 0 0 some)
@@ -142,7 +143,7 @@ pub first_event : (x : Execution) (c lines more whole : List ℕ) → 0 < length
 first_event x c lines more whole some pairs is =
     let s = step_of x c (length c) lines 0 some pairs in
     let e = get_or c 0 0 in
-    let f = behind c 0 in
+    let f = next_in_cycle c 0 in
     let left = (reason_name s.4.reason ++ 10 ∷ []) ++ (s.2 ++ more) in
     let text : lines ++ more ≡ pair_line e f s.4.reason ++ (s.2 ++ more) =
     ap (λ (t : List ℕ). t ++ more) (s.5 ∙ ap (λ (t : List ℕ). t ++ (s.1 ++ s.2)) s.3
@@ -157,7 +158,7 @@ first_event x c lines more whole some pairs is =
 pub next_pair : (x : Execution) (path c done lines rest more whole : List ℕ) (i : ℕ) → i < length c
     → length path ≡ i + 1 → GoesAlong path c i → ArePairLines x path i done → whole ≡ done ++ rest
     → ArePairLines x c (length c) lines → whole ≡ lines ++ more
-    → (line back : List ℕ) × IsPairLine x (get_or path i 0) (behind c i) line × (rest ≡ line ++ (back ++ more))
+    → (line back : List ℕ) × IsPairLine x (get_or path i 0) (next_in_cycle c i) line × (rest ≡ line ++ (back ++ more))
 unfolding GoesAlong
 next_pair x path c done lines rest more whole i low size along before is pairs text =
     let s = step_of x c (length c) lines i low pairs in
@@ -167,7 +168,7 @@ next_pair x path c done lines rest more whole i low size along before is pairs t
     along i (omega arith) ∙ get_or_default c i (get_or c 0 0) 0 low in (
       s.1,
       s.2,
-      subst (λ (e : ℕ). IsPairLine x e (behind c i) s.1) (sym here) s.4,
+      subst (λ (e : ℕ). IsPairLine x e (next_in_cycle c i) s.1) (sym here) s.4,
       append_cancel_left s.0 rest (s.1 ++ (s.2 ++ more)) (ap (λ (t : List ℕ). t ++ rest) (sym same) ∙ sym is ∙ text
           ∙ ap (λ (t : List ℕ). t ++ more) s.5 ∙ append_assoc s.0 (s.1 ++ s.2) more
           ∙ ap (λ (t : List ℕ). s.0 ++ t) (append_assoc s.1 s.2 more)),
@@ -175,7 +176,7 @@ next_pair x path c done lines rest more whole i low size along before is pairs t
 
 -- one event more
 pub along_more : (path c : List ℕ) (i next : ℕ) → length path ≡ i + 1 → GoesAlong path c i
-    → next ≡ behind c i → GoesAlong (path ++ next ∷ []) c (i + 1)
+    → next ≡ next_in_cycle c i → GoesAlong (path ++ next ∷ []) c (i + 1)
 unfolding GoesAlong
 along_more path c i next size along is j low = elim (cases_lt j (i + 1)) [
   | inl before ↦ get_or_append_left path (next ∷ []) 0 j (omega arith) ∙ along j before
@@ -195,7 +196,7 @@ lines_more x path done line i next size before here =
     let at : i + 1 ≡ length path = omega arith in
     let start : get_or path i 0 ≡ get_or longer i 0 =
     sym (get_or_append_left path (next ∷ []) 0 i (omega arith)) in
-    let end : next ≡ behind longer i =
+    let end : next ≡ next_in_cycle longer i =
     sym (ap (λ (k : ℕ). get_or longer k (get_or longer 0 0)) at
     ∙ get_or-append_seam path next [] (get_or longer 0 0)) in
     subst (λ (n : ℕ). ArePairLines x longer n (done ++ line)) count (
@@ -207,7 +208,7 @@ lines_more x path done line i next size before here =
             get_or_default path (j + 1) (get_or path 0 0) (get_or longer 0 0) (omega arith)
                 ∙ sym (get_or_append_left path (next ∷ []) (get_or longer 0 0) (j + 1) (omega arith)),
           )) before,
-      subst (λ (e : ℕ). IsPairLine x e (behind longer i) line) start
+      subst (λ (e : ℕ). IsPairLine x e (next_in_cycle longer i) line) start
           (subst (λ (f : ℕ). IsPairLine x (get_or path i 0) f line) end here),
       refl,
     )

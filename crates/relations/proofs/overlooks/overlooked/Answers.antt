@@ -16,10 +16,10 @@ loop-i-preserved c =
     let x = c.args.recording.now in
     let l = c.args.load in
     let ws = c.write_list-list.result.now in
-    let first = c.newer_from-first.result in
+    let first = c.first_newer-first.result in
     let list = newer_list x c.sound.ensures.well_formed l c.in-Some-read_address.address ws c.source.result first
     (c.in-Some-read_address.ensures ∙ ap read_address c.in-Some.ensures.2) c.write_list-list.ensures
-    (c.source.ensures ∙ ap source c.in-Some.ensures.2) c.newer_from-first.ensures.newer in
+    (c.source.ensures ∙ ap source c.in-Some.ensures.2) c.first_newer-first.ensures.newer in
     elim c.if-is_earlier.branch [
       | then-is_earlier w ↦ subst (λ (s : Option ℕ). IsLeastSoFar x l ws first (c.loop-i.i + 1) s)
           (sym w.least-is)
@@ -36,9 +36,9 @@ pub returns : goal.returns
 returns c =
     let x = c.args.recording.now in
     let ws = c.write_list-list.result.now in
-    let first = c.newer_from-first.result in
+    let first = c.first_newer-first.result in
     least_all x c.args.load c.in-Some-read_address.address ws first c.loop-i.i
     (newer_list x c.sound.ensures.well_formed c.args.load c.in-Some-read_address.address ws c.source.result first
     (c.in-Some-read_address.ensures ∙ ap read_address c.in-Some.ensures.2) c.write_list-list.ensures
-    (c.source.ensures ∙ ap source c.in-Some.ensures.2) c.newer_from-first.ensures.newer)
+    (c.source.ensures ∙ ap source c.in-Some.ensures.2) c.first_newer-first.ensures.newer)
     c.loop-i-test.false c.loop-i.least c.loop-i.invariant

@@ -11,9 +11,9 @@ returns c =
     let s = c.args.store in
     let a = c.in-Some.address in
     let ws = c.write_list-list.result.now in
-    let first = c.newer_from.result in
+    let first = c.first_newer.result in
     let list = newer_list x c.sound.ensures.well_formed l a ws c.source.result first c.in-Some.ensures
-    c.write_list-list.ensures c.source.ensures c.newer_from.ensures.newer in
+    c.write_list-list.ensures c.source.ensures c.first_newer.ensures.newer in
     let writes = c.writes_to.ensures.0 c.if-not-writes_to.false in
     let there = place_in ws s (omega (arith, list.writes.once s writes)) in (
       λ less. (

@@ -1,9 +1,9 @@
 use Rattle.std.proofs.Common.{◌≡◌, ◌<◌, ◌+◌, ◌++◌, ◌∷◌, [], ℕ, List, Some, arith, ap, refl, sym, subst, ◌∙◌}
 use Rattle.std.proofs.Common.{get_or, length, length-append, append_assoc}
 use Rattle.std.proofs.lemmas.List.{append_cancel_left, get_or_append_left, get_or_default}
-use Rattle.relations.specs.Cycle.{behind}
+use Rattle.relations.specs.Cycle.{next_in_cycle}
 use Rattle.report.specs.Verdict.{ArePairLines, IsPairLine}
-use Rattle.verification.proofs.Pairs.{GoesAlong, along_cycle, along_more, along_start, behind_short, cycle_lines}
+use Rattle.verification.proofs.Pairs.{GoesAlong, along_cycle, along_more, along_start, next_short, cycle_lines}
 use Rattle.verification.proofs.Pairs.{first_event, items_size, lines_more, lines_one, next_pair, some_is}
 use Rattle.verification.proofs.cycle.pairs.Goals as goal
 
@@ -46,10 +46,10 @@ returns-in_default-pair-clause-only c cycle lines more size short pairs is =
     (subst (λ (n : ℕ). ArePairLines x cycle n lines) (sym size) pairs) is in
     let here : get_or path i 0 ≡ c.index.result.now =
     sym (c.index.ensures ∙ get_or_default path i c.index.result.now 0 (omega (arith, h.size))) in
-    absurd (c.in_default-pair.not-Some (behind cycle i)
-    (c.pair.ensures.only (behind cycle i) next.0 (next.1 ++ more)
-    (behind_short cycle i (omega (arith, size, c.requires)) short)
-    (subst (λ (e : ℕ). IsPairLine x e (behind cycle i) next.0) here next.2)
+    absurd (c.in_default-pair.not-Some (next_in_cycle cycle i)
+    (c.pair.ensures.only (next_in_cycle cycle i) next.0 (next.1 ++ more)
+    (next_short cycle i (omega (arith, size, c.requires)) short)
+    (subst (λ (e : ℕ). IsPairLine x e (next_in_cycle cycle i) next.0) here next.2)
     (c.begin_line-in-loop-i.ensures ∙ next.3)).0)
 
 pub loop-i-preserved : goal.loop-i-preserved
@@ -83,12 +83,12 @@ loop-i-preserved c =
           let next = next_pair x path cycle h.lines.0 lines c.loop-i.rest more c.args.rest.now i
           (omega (arith, size)) h.size follows h.lines.1 h.lines.2
           (subst (λ (n : ℕ). ArePairLines x cycle n lines) (sym size) pairs) is in
-          let read = c.in-Some-pair.ensures.only (behind cycle i) next.0 (next.1 ++ more)
-          (behind_short cycle i (omega (arith, size, c.requires)) short)
-          (subst (λ (y : ℕ). IsPairLine x y (behind cycle i) next.0) here next.2)
+          let read = c.in-Some-pair.ensures.only (next_in_cycle cycle i) next.0 (next.1 ++ more)
+          (next_short cycle i (omega (arith, size, c.requires)) short)
+          (subst (λ (y : ℕ). IsPairLine x y (next_in_cycle cycle i) next.0) here next.2)
           (c.begin_line-in-loop-i.ensures ∙ next.3) in
           subst (λ (xs : List ℕ). GoesAlong xs cycle (i + 1)) (sym pushed)
-          (along_more path cycle i f h.size follows (some_is f (behind cycle i) read.0));
+          (along_more path cycle i f h.size follows (some_is f (next_in_cycle cycle i) read.0));
     }
 
 pub returns-then-last-first-clause-only : goal.returns-then-last-first-clause-only

@@ -1,6 +1,6 @@
 use Rattle.std.proofs.Common.{◌∙◌, List, subst, sym, true}
-use Rattle.relations.specs.declared.placed.Placed.{Placed}
-use Rattle.relations.specs.Placed.{ArePlaced}
+use Rattle.relations.specs.declared.indexed.IndexedEvent.{IndexedEvent}
+use Rattle.relations.specs.Indexed.{AreIndexed}
 use Rattle.relations.specs.Direct.{IsPair}
 use Rattle.relations.proofs.Agree.{related_is_forced}
 use Rattle.relations.proofs.Readers.{all_forced}
@@ -23,6 +23,6 @@ returns-clause-related c = related_is_forced c.args.recording.now c.in_ok-events
     (all_forced c.args.recording.now c.in_ok-rows.rows.items c.in_ok-rows.ensures)
 
 pub returns-clause-table : goal.returns-clause-table
-returns-clause-table c = subst (λ (ps : List Placed). ArePlaced c.args.recording.now ps)
+returns-clause-table c = subst (λ (ps : List IndexedEvent). AreIndexed c.args.recording.now ps)
     (sym (events_same c.in_ok-events.events.items c.in_ok-rows.rows.items
     (c.in_ok-rows.ensures.size ∙ sym c.in_ok-events.ensures.size))) c.in_ok-events.ensures
