@@ -13,8 +13,8 @@ use Rattle.machine.specs.Configuration.{Configuration}
 use Rattle.machine.specs.State.{State, IsComplete, recorded}
 use Rattle.judge.specs.declared.verdict.Verdict.{Verdict}
 use Rattle.judge.specs.declared.verdict.Verdict.TheVariants.{Ordered, Overlook, Cycle}
-use Rattle.judge.specs.Verdict.{IsVerdict}
-use Rattle.report.specs.Verdict.{IsVerdictText}
+use Rattle.judge.specs.Judgement.{IsVerdict}
+use Rattle.report.specs.VerdictText.{IsVerdictText}
 use Rattle.trials.specs.Judged.{begun_machine}
 use Rattle.trials.specs.Schedule.{IsRandomRun}
 use Rattle.report.specs.declared.printed.Answer.{Answer}

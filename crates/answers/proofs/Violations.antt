@@ -3,10 +3,10 @@ use Rattle.std.proofs.Common.{◌≡◌, ℕ, Bool, Option, Some, None, List, su
 use Rattle.std.specs.Prelude.{IfSome, IfNone}
 use Rattle.program.specs.Parts.{Parts}
 use Rattle.recording.specs.Execution.{Execution}
-use Rattle.relations.specs.Verdict.{HasNoOrder}
+use Rattle.relations.specs.Consistency.{HasNoOrder}
 use Rattle.judge.specs.declared.verdict.Verdict.{Verdict}
 use Rattle.judge.specs.declared.verdict.Verdict.TheVariants.{Ordered, Overlook, Cycle}
-use Rattle.judge.specs.Verdict.{IsVerdict}
+use Rattle.judge.specs.Judgement.{IsVerdict}
 use Rattle.reduction.specs.Needed.{IsReduction}
 use Rattle.report.specs.declared.printed.Answer.{Answer}
 use Rattle.answers.specs.Reduced.{IsCutAnswer}

@@ -2,7 +2,7 @@
 use Rattle.std.specs.Prelude.{◌≡◌, ◌++◌, ◌∷◌, ℕ, Bool, true, false, Some, List, if◌then◌else◌, is_some, nat_lt}
 use Rattle.program.specs.Parts.{Parts}
 use Rattle.program.specs.Spelling.{spelling}
-use Rattle.relations.specs.Verdict.{HasNoOrder}
+use Rattle.relations.specs.Consistency.{HasNoOrder}
 use Rattle.machine.specs.declared.fault.Fault.{Fault}
 use Rattle.machine.specs.Configuration.{Configuration}
 use Rattle.machine.specs.State.{State, IsComplete, recorded}

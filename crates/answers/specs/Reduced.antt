@@ -5,13 +5,13 @@ use Rattle.program.specs.Spelling.{spelling}
 use Rattle.recording.specs.Execution.{Execution}
 use Rattle.recording.specs.Tso.{IsTsoOrder}
 use Rattle.recorder.specs.Text.{recording_text}
-use Rattle.relations.specs.Verdict.{HasNoOrder}
+use Rattle.relations.specs.Consistency.{HasNoOrder}
 use Rattle.judge.specs.declared.verdict.Verdict.{Verdict}
-use Rattle.judge.specs.Verdict.{IsVerdict}
+use Rattle.judge.specs.Judgement.{IsVerdict}
 use Rattle.reduction.specs.Needed.{IsReduction}
 use Rattle.reduction.specs.RestrictedProgram.{restricted_program}
 use Rattle.replay.specs.Program.{named_program}
-use Rattle.report.specs.Verdict.{numbers_text}
+use Rattle.report.specs.VerdictText.{numbers_text}
 use Rattle.report.specs.declared.printed.Answer.{Answer}
 use Rattle.report.specs.declared.outcome.Outcome.TheVariants.{Violation}
 use Rattle.report.specs.Answer.{IsVerdictAnswer}

@@ -7,7 +7,7 @@ use Rattle.program.specs.Parts.{Parts}
 use Rattle.recording.specs.Execution.{Execution, event_count}
 use Rattle.judge.specs.declared.verdict.Verdict.{Verdict}
 use Rattle.judge.specs.declared.verdict.Verdict.TheVariants.{Ordered, Overlook, Cycle}
-use Rattle.judge.specs.Verdict.{IsVerdict}
+use Rattle.judge.specs.Judgement.{IsVerdict}
 use Rattle.reduction.specs.Needed.{IsReduction}
 use Rattle.explanation.specs.Explanation.{IsExplanation}
 use Rattle.drawing.specs.Drawing.{IsDrawing}

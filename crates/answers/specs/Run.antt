@@ -11,8 +11,8 @@ use Rattle.machine.specs.declared.fault.Fault.TheVariants as faults
 use Rattle.machine.specs.declared.step.Step.{Step}
 use Rattle.machine.specs.Configuration.{Configuration, state_behind}
 use Rattle.machine.specs.State.{State, IsComplete, recorded}
-use Rattle.judge.specs.Verdict.{IsOrderedVerdict}
-use Rattle.report.specs.Verdict.{order_line}
+use Rattle.judge.specs.Judgement.{IsOrderedVerdict}
+use Rattle.report.specs.VerdictText.{order_line}
 use Rattle.trials.specs.Judged.{begun_machine}
 use Rattle.trials.specs.Schedule.{IsRandomRun}
 use Rattle.report.specs.declared.printed.Answer.{Answer}

@@ -3,7 +3,7 @@
 ghost use Rattle.std.specs.Prelude.{◌≡◌, ◌++◌, IfOk, OnOk, IfSome, IfNone, option_map, true};
 ghost use Rattle.recording.specs.FirstUse.{IsNumberedByFirstUse};
 ghost use Rattle.machine.specs.ProgramOf.{IsProgramOf};
-ghost use Rattle.judge.specs.Verdict.{IsVerdict};
+ghost use Rattle.judge.specs.Judgement.{IsVerdict};
 ghost use Rattle.reduction.specs.Needed.{IsOrdered};
 ghost use Rattle.reduction.specs.Restriction.{AreClosed};
 ghost use Rattle.answers.specs.Reduced.{heading, shown_text, program_left, IsCutAnswer, IsReducedAnswer};

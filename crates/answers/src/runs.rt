@@ -3,7 +3,7 @@
 ghost use Rattle.std.specs.Prelude.{IfOk};
 ghost use Rattle.recorder.specs.Text.{recording_text};
 ghost use Rattle.machine.specs.Configuration.{Configuration};
-ghost use Rattle.judge.specs.Verdict.{IsVerdict, Verifies};
+ghost use Rattle.judge.specs.Judgement.{IsVerdict, Verifies};
 ghost use Rattle.trials.specs.Judged.{IsJudgedEnd};
 ghost use Rattle.answers.specs.Run.{IsRunAnswer, IsSeededAnswer, IsUnfinishedAnswer, state_after};
 ghost use Rattle.report.specs.Answer.{IsVerdictAnswer};

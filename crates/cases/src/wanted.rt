@@ -1,7 +1,7 @@
 //! What the files of classic tests, which have the names of the field, and of programs that print back want.
 
 ghost use Rattle.std.specs.Prelude.{◌≡◌, ◌↔◌, IsTrue};
-ghost use Rattle.cases.specs.Verdict.{status_of};
+ghost use Rattle.cases.specs.PrintedStatus.{status_of};
 
 use crate::folder::names_in;
 use crate::printed::Printed;

@@ -9,10 +9,10 @@ use Rattle.machine.specs.Script.{steps_of}
 use Rattle.machine.specs.ScriptText.{script_text}
 use Rattle.recording.specs.FirstUse.{IsNumberedByFirstUse}
 use Rattle.replay.specs.Program.{named_program}
-use Rattle.replay.specs.Replayed.{IsReplay}
+use Rattle.replay.specs.OrderReplay.{IsReplay}
 use Rattle.replay.specs.Steps.{replay_steps}
 use Rattle.replay.specs.Stores.{most_stores}
-use Rattle.judge.specs.Verdict.{IsOrderedVerdict}
+use Rattle.judge.specs.Judgement.{IsOrderedVerdict}
 use Rattle.report.specs.declared.printed.Answer.{Answer}
 use Rattle.commands.specs.declared.command_error.CommandError.{CommandError}
 use Rattle.report.specs.declared.outcome.Outcome.TheVariants.{Done, Violation}

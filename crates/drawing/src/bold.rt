@@ -3,7 +3,7 @@
 ghost use Rattle.std.specs.Prelude.{◌<◌, IfOk, length};
 ghost use Rattle.relations.specs.Cycle.{IsCycle};
 ghost use Rattle.relations.specs.Forced.{Forced};
-ghost use Rattle.judge.specs.Verdict.{Verifies};
+ghost use Rattle.judge.specs.Judgement.{Verifies};
 ghost use Rattle.judge.specs.declared.verdict.Verdict.TheVariants.{Overlook};
 ghost use Rattle.drawing.specs.Bold.{IsCycleEdge, AreCycleEdges, AreBold};
 

@@ -1,7 +1,7 @@
 //! A verdict in words.
 
 ghost use Rattle.std.specs.Prelude.{IfOk};
-ghost use Rattle.judge.specs.Verdict.{Verifies};
+ghost use Rattle.judge.specs.Judgement.{Verifies};
 ghost use Rattle.explanation.specs.Explanation.{IsExplanation};
 
 use crate::cycle::put_cycle;

@@ -6,13 +6,13 @@ use Rattle.relations.specs.Relation.{Table, Related}
 use Rattle.relations.specs.Cycle.{IsCycle, IsLeastCycle, AreExactRows, IsCertificate}
 use Rattle.relations.specs.CycleLaws.{cycle_into}
 use Rattle.relations.specs.Respects.{Respects, IsLeastOrder}
-use Rattle.relations.specs.Verdict.{HasNoOrder, HasNoOverlook, RespectsForced}
+use Rattle.relations.specs.Consistency.{HasNoOrder, HasNoOverlook, RespectsForced}
 use Rattle.relations.specs.Laws.{Agree, EveryOrderRespects, EveryRespectingIsOrder, OrderedIsAcyclic}
 use Rattle.relations.specs.Laws.{LeastCyclesAgree, ExactRowsAgree, CertificatesAgree}
 use Rattle.recording.specs.Tso.{IsWellFormed}
 use Rattle.labels.specs.Certified.{lists_of}
 use Rattle.labels.specs.declared.certificate.Certificate.{Certificate}
-use Rattle.judge.specs.Verdict.{IsCycleVerdict, IsLeastCertificate, IsOrderedVerdict}
+use Rattle.judge.specs.Judgement.{IsCycleVerdict, IsLeastCertificate, IsOrderedVerdict}
 
 -- where the forced pairs have a cycle, there is no order
 pub no_order : (x : Execution) → IsWellFormed x → EveryOrderRespects x → OrderedIsAcyclic (Forced x)

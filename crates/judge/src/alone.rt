@@ -5,8 +5,8 @@ ghost use Rattle.std.specs.Arc.{arc_value};
 ghost use Rattle.relations.specs.Cycle.{IsCycle};
 ghost use Rattle.relations.specs.Forced.{Forced};
 ghost use Rattle.relations.specs.Relation.{Related};
-ghost use Rattle.relations.specs.Verdict.{HasNoOverlook};
-ghost use Rattle.judge.specs.Verdict.{IsVerdict, IsLeastCertificate, Verifies};
+ghost use Rattle.relations.specs.Consistency.{HasNoOverlook};
+ghost use Rattle.judge.specs.Judgement.{IsVerdict, IsLeastCertificate, Verifies};
 
 use crate::verdict::Verdict;
 use common::OutOfMemory;

@@ -1,7 +1,7 @@
 //! The check of verdicts.
 
 ghost use Rattle.std.specs.Prelude.{◌↔◌, IfOk, IsTrue};
-ghost use Rattle.judge.specs.Verdict.{Verifies, Means};
+ghost use Rattle.judge.specs.Judgement.{Verifies, Means};
 
 use crate::verdict::Verdict;
 use common::OutOfMemory;

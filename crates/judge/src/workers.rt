@@ -4,7 +4,7 @@ ghost use Rattle.std.specs.Prelude.{◌≤◌, ℕ, List, IfOk};
 ghost use Rattle.std.specs.Arc.{arc_value};
 ghost use Rattle.relations.specs.Cycle.{IsCycle};
 ghost use Rattle.relations.specs.Relation.{Related};
-ghost use Rattle.judge.specs.Verdict.{IsVerdict, IsLeastCertificate, Verifies};
+ghost use Rattle.judge.specs.Judgement.{IsVerdict, IsLeastCertificate, Verifies};
 
 use crate::alone::acyclic_verdict;
 use crate::verdict::Verdict;

@@ -13,7 +13,7 @@ use Rattle.relations.specs.CycleLaws.{short_cycle}
 use Rattle.relations.specs.Forced.{Holds, Forced, IsLeastOverlook}
 use Rattle.judge.specs.declared.verdict.Verdict.{Verdict}
 use Rattle.judge.specs.declared.verdict.Verdict.TheVariants.{Ordered, Overlook, Cycle}
-use Rattle.judge.specs.Verdict.{IsVerdict}
+use Rattle.judge.specs.Judgement.{IsVerdict}
 use Rattle.ledger.specs.declared.finding.Finding.TheVariants as finding
 use Rattle.ledger.specs.Findings.{IsShort, finding_of}
 

@@ -32,10 +32,10 @@ use Rattle.machine.proofs.Cached.{read_has, written_read, opening_has}
 use Rattle.machine.proofs.Static.{static_of, snapshot_of, placed_op, done_by, op_reads}
 use Rattle.machine.proofs.Newest.{bool_cases, times_filter, times_filter_no}
 use Rattle.machine.proofs.WriteLists.{writes_to, is_address_true, is_address_back, pair_one}
-use Rattle.machine.proofs.Drains.{AreStores, stores_out, drained_state}
+use Rattle.machine.proofs.DrainEvents.{AreStores, stores_out, drained_state}
 use Rattle.machine.proofs.Removed.{forwarded_youngest}
 use Rattle.machine.proofs.Loads.{not_equal}
-use Rattle.machine.proofs.Executes.{IsNext, next_placed}
+use Rattle.machine.proofs.ExecuteEvents.{IsNext, next_placed}
 use Rattle.machine.proofs.Rows.{IsKept, IsRmw, IsCompare, stored_state, loaded_state, fenced_state, rmw_state}
 use Rattle.machine.proofs.Rows.{run_kept}
 use Rattle.machine.proofs.Steady.{IsSteady, next_within, drain_steady, store_steady, load_steady}

@@ -18,8 +18,8 @@ use Rattle.machine.specs.State.{State, place_of, buffer_of, line_copy, opening}
 use Rattle.machine.specs.declared.step.Step.{Step}
 use Rattle.machine.specs.Step.{looked_up, rmw_value, with_caches, run}
 use Rattle.machine.specs.Orderly.{placed_op, is_st, IsOrderly, EveryStateIsOrderly}
-use Rattle.machine.proofs.Drains.{drained_state}
-use Rattle.machine.proofs.Executes.{IsNext}
+use Rattle.machine.proofs.DrainEvents.{drained_state}
+use Rattle.machine.proofs.ExecuteEvents.{IsNext}
 use Rattle.machine.proofs.Rows.{IsKeptFaultless, IsRmw, IsCompare, stored_state, loaded_state, fenced_state}
 use Rattle.machine.proofs.Rows.{rmw_state}
 use Rattle.machine.proofs.Rows.{run_kept, faultless}

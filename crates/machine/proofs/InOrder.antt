@@ -18,8 +18,8 @@ use Rattle.machine.specs.Step.{given, with_buffer, with_caches, forwarded_or_rea
 use Rattle.machine.proofs.Cached.{written_large, transaction_large, written_read}
 use Rattle.machine.proofs.Seen.{seen, IsOrdered, IsNewest}
 use Rattle.machine.proofs.Static.{static_of, snapshot_of, op_reads}
-use Rattle.machine.proofs.Drains.{AreStores, drained_state, drain_ordered}
-use Rattle.machine.proofs.Executes.{IsNext, next_placed, perform_ordered, issue_ordered}
+use Rattle.machine.proofs.DrainEvents.{AreStores, drained_state, drain_ordered}
+use Rattle.machine.proofs.ExecuteEvents.{IsNext, next_placed, perform_ordered, issue_ordered}
 use Rattle.machine.proofs.Loads.{some_one}
 use Rattle.machine.proofs.WriteLists.{IsLatest, latest_written, loaded_newest}
 use Rattle.machine.proofs.Rows.{IsKeptFaultless, IsRmw, IsCompare, stored_state, loaded_state, fenced_state}

@@ -6,8 +6,8 @@ pub mod Static
 pub mod Newest
 pub mod Loads
 pub mod Cached
-pub mod Drains
-pub mod Executes
+pub mod DrainEvents
+pub mod ExecuteEvents
 pub mod WriteLists
 pub mod Rows
 pub mod Steady
@@ -16,8 +16,8 @@ pub mod Opening
 pub mod Complete
 pub mod Fitting
 pub mod Data
-pub mod Executed
-pub mod Drained
+pub mod ExecuteParts
+pub mod DrainParts
 pub mod Transacted
 pub mod Reached
 pub mod Begins

@@ -14,7 +14,7 @@ use Rattle.machine.specs.State.{State, event_of}
 use Rattle.machine.proofs.Seen.{IsNewest}
 use Rattle.recording.specs.Event.{written_address}
 use Rattle.machine.proofs.Static.{static_of, done_by}
-use Rattle.machine.proofs.Drains.{AreStores}
+use Rattle.machine.proofs.DrainEvents.{AreStores}
 
 -- what the buffer says of an address: nothing, or its last store
 abbrev pub IsYoungestOf : List (List Op) → State → List Entry → ℕ → Option Entry → Type 0

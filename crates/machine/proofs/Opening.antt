@@ -21,7 +21,7 @@ use Rattle.recording.specs.PlacedLaws.{located, placed_total}
 use Rattle.machine.specs.PlaceLaws.{event_behind, event_op}
 use Rattle.machine.proofs.Static.{static_of, snapshot_of, placed_op, op_reads}
 use Rattle.machine.proofs.Newest.{last_of, last_nil}
-use Rattle.machine.proofs.Drains.{AreStores}
+use Rattle.machine.proofs.DrainEvents.{AreStores}
 use Rattle.machine.proofs.Steady.{IsSteady}
 use Rattle.machine.proofs.InOrder.{IsInOrder}
 

@@ -20,7 +20,7 @@ use Rattle.machine.specs.Step.{exec, read_modify_written, read_unmodified, taken
 use Rattle.machine.specs.BoundedItems.{BoundedItems}
 use Rattle.machine.specs.State.{State}
 use Rattle.machine.specs.Configuration.{IsSound, state_from}
-use Rattle.machine.proofs.Executed.{buffer_seen}
+use Rattle.machine.proofs.ExecuteParts.{buffer_seen}
 
 -- a core that is not there executes nothing
 pub no_core_executes : (p : List (List Op)) (capacity : ℕ) (fault : Fault) (s : State) (core : ℕ)

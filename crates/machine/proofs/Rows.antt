@@ -24,9 +24,9 @@ use Rattle.machine.specs.Step.{looked_up, read_modify_written, read_unmodified, 
 use Rattle.machine.specs.Step.{rmw_value, exec, exec_next, drained_at, has, taken, after, run}
 use Rattle.machine.proofs.Static.{op_reads, is_st, is_ld}
 use Rattle.machine.proofs.Cached.{exclusive_read}
-use Rattle.machine.proofs.Executes.{IsNext}
+use Rattle.machine.proofs.ExecuteEvents.{IsNext}
 use Rattle.machine.specs.Faults.{draining, get_m_under}
-use Rattle.machine.proofs.Drains.{drained_state}
+use Rattle.machine.proofs.DrainEvents.{drained_state}
 use Rattle.machine.proofs.Removed.{split_at, none_before, fence_behind, rmw_behind}
 
 -- the state after core c's store went to its buffer

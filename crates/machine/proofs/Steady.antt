@@ -18,8 +18,8 @@ use Rattle.machine.specs.Step.{performed, given, written, with_buffer, with_cach
 use Rattle.machine.proofs.Cached.{written_large, any_large}
 use Rattle.machine.proofs.Seen.{seen, IsCounted}
 use Rattle.machine.proofs.Static.{static_of, snapshot_of, placed_op, done_by, op_reads}
-use Rattle.machine.proofs.Drains.{AreStores, stores_out, drained_state, drain_counted}
-use Rattle.machine.proofs.Executes.{IsNext, next_placed, next_event, perform_counted, issue_counted}
+use Rattle.machine.proofs.DrainEvents.{AreStores, stores_out, drained_state, drain_counted}
+use Rattle.machine.proofs.ExecuteEvents.{IsNext, next_placed, next_event, perform_counted, issue_counted}
 use Rattle.machine.proofs.WriteLists.{AreListed, listed_given, listed_written, listed_performed}
 use Rattle.machine.proofs.Rows.{IsKept, IsRmw, IsCompare, stored_state, loaded_state, fenced_state, rmw_state}
 

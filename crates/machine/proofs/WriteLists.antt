@@ -25,7 +25,7 @@ use Rattle.machine.specs.Step.{performed, written, given, forwarded_or_read, loo
 use Rattle.machine.proofs.Seen.{seen, IsNewest}
 use Rattle.machine.proofs.Static.{static_of, snapshot_of, placed_op, done_by}
 use Rattle.machine.proofs.Newest.{last_of, last_one, last_two, filter_same, newest_in_memory}
-use Rattle.machine.proofs.Drains.{AreStores}
+use Rattle.machine.proofs.DrainEvents.{AreStores}
 use Rattle.machine.proofs.Loads.{IsYoungestOf, not_equal, youngest_says, newest_in_buffer}
 
 -- whether an address written, if any, is a

@@ -2,7 +2,7 @@
 
 ghost use Rattle.std.specs.Prelude.{◌↔◌, IsTrue};
 ghost use Rattle.recording.specs.Tso.{IsTsoOrder};
-ghost use Rattle.relations.specs.Verdict.{RespectsForced, HasNoOverlook};
+ghost use Rattle.relations.specs.Consistency.{RespectsForced, HasNoOverlook};
 
 use crate::kept::keeps_order;
 use crate::total::is_total;

@@ -6,7 +6,7 @@ use Rattle.recording.specs.Order.{place, times}
 use Rattle.recording.specs.Tso.{IsWellFormed}
 use Rattle.relations.specs.Cycle.{IsLeastCycle}
 use Rattle.relations.specs.Forced.{Forced, Overlooks, IsLeastOverlook}
-use Rattle.relations.specs.Verdict.{HasNoOverlook, HasNoOrder}
+use Rattle.relations.specs.Consistency.{HasNoOverlook, HasNoOrder}
 use Rattle.reduction.specs.Restriction.{AreClosed, addresses_of, placed_event, kept_of, restriction}
 
 -- the events of y are those of x that are kept, in the program order of x, each core has one, and so it is

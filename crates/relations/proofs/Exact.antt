@@ -12,7 +12,7 @@ use Rattle.recording.specs.EventLaws.{Reads-event, Writes-event, source-Reads}
 use Rattle.relations.specs.declared.reason.Reason.{Reason}
 use Rattle.relations.specs.declared.reason.Reason.TheVariants.{Po, Wo, Rf, Fr}
 use Rattle.relations.specs.Forced.{IsOlder, Holds, Overlooks}
-use Rattle.relations.specs.Verdict.{RespectsForced, HasNoOverlook}
+use Rattle.relations.specs.Consistency.{RespectsForced, HasNoOverlook}
 use Rattle.relations.specs.Laws.{EveryOrderRespects, EveryRespectingIsOrder}
 
 -- two numbers stand in one order only

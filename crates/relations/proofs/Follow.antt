@@ -22,7 +22,7 @@ use Rattle.relations.specs.Filled.{AreFilled}
 use Rattle.relations.specs.Direct.{is_passed, IsNextBehind, IsPair}
 use Rattle.relations.specs.Relation.{Related, table_of}
 use Rattle.relations.specs.Respects.{Respects}
-use Rattle.relations.specs.Verdict.{HasNoOverlook, RespectsForced}
+use Rattle.relations.specs.Consistency.{HasNoOverlook, RespectsForced}
 use Rattle.relations.proofs.Agree.{pair_related}
 use Rattle.relations.proofs.Exact.{program_order_or_not}
 

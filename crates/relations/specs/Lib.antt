@@ -6,5 +6,5 @@ pub mod Relation
 pub mod Cycle
 pub mod CycleLaws
 pub mod Respects
-pub mod Verdict
+pub mod Consistency
 pub mod Laws

@@ -34,7 +34,7 @@ impl Relation {
     ghost use Rattle.relations.specs.Forced.{Forced, IsReason};
     ghost use Rattle.relations.specs.Relation.{IsSquare, IsTableOf, Related, sets_of};
     ghost use Rattle.relations.specs.Respects.{Respects};
-    ghost use Rattle.relations.specs.Verdict.{HasNoOverlook, RespectsForced};
+    ghost use Rattle.relations.specs.Consistency.{HasNoOverlook, RespectsForced};
 
     /// The forced pairs of a recording (Nagarajan, Sorin, Hill and Wood, A Primer on Memory
     /// Consistency and Cache Coherence, second edition, chapter 4). An `Err` is want of memory.

@@ -26,7 +26,7 @@ use Rattle.machine.specs.Step.{exec, exec_next, drained_at, taken, after, run, a
 use Rattle.machine.specs.Taken.{begun}
 use Rattle.machine.specs.Orderly.{placed_op}
 use Rattle.machine.specs.RecordedLaws.{event_is}
-use Rattle.replay.specs.Replayed.{led_to}
+use Rattle.replay.specs.OrderReplay.{led_to}
 
 -- the initial values are the same, and as many write lists
 abbrev pub IsKept : State → State → Type 0

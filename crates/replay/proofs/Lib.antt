@@ -1,11 +1,11 @@
 pub mod Made
 pub mod Determined
-pub mod Going
-pub mod Goes
+pub mod OrderlyRuns
+pub mod StepLists
 pub mod Kept
 pub mod Turns
 pub mod Orders
-pub mod Replayed
-pub mod Replays
+pub mod EveryOrder
+pub mod WrittenSteps
 pub mod FirstUse
 pub mod NamedProgram

@@ -17,8 +17,8 @@ use Rattle.machine.specs.State.{State, place_of, first_event}
 use Rattle.replay.specs.Program.{program_of}
 use Rattle.replay.specs.Steps.{execute_to, executed_before, perform, turn, order_steps}
 use Rattle.machine.specs.Orderly.{is_st}
-use Rattle.replay.proofs.Going.{IsGoing}
-use Rattle.replay.proofs.Goes.{Goes, goes_on, HasStored}
+use Rattle.replay.proofs.OrderlyRuns.{StaysOrderly}
+use Rattle.replay.proofs.StepLists.{StepsLead, goes_on, HasStored}
 use Rattle.replay.proofs.Turns.{IsTurn, caught_up, fence_turn, rmw_turn, cas_turn, load_turn, drain_turn}
 
 -- at most the event itself is executed before it is performed
@@ -39,7 +39,7 @@ before_store e F h = absurd (omega (arith, h))
 
 -- core c executes stores before its turn
 turn_behind : (p : List (List Op)) (n capacity : ℕ) (s u t : State) (c j e : ℕ) (steps : List Step)
-    → Goes p capacity s (replicate j (Exec c)) u → HasStored p n capacity s u c j
+    → StepsLead p capacity s (replicate j (Exec c)) u → HasStored p n capacity s u c j
     → IsTurn p n capacity u steps e t → IsTurn p n capacity s (replicate j (Exec c) ++ steps) e t
 turn_behind p n capacity s u t c j e steps goes stored took = record {
   goes = goes_on p capacity s u t (replicate j (Exec c)) steps goes took.goes;
@@ -58,7 +58,7 @@ turn_behind p n capacity s u t c j e steps goes stored took = record {
 module _ (x : Execution) (m : List ℕ) (tso : IsTsoOrder x m) (n capacity : ℕ)
     (room : (c : ℕ) → count_by is_st (get_or (program_of x) c []) ≤ capacity) where
   -- an event takes its turn once its core has executed what comes first
-  perform_turn : (s : State) (f : IsGoing (program_of x) n capacity s) (e : ℕ) (rest : List ℕ)
+  perform_turn : (s : State) (f : StaysOrderly (program_of x) n capacity s) (e : ℕ) (rest : List ℕ)
       (split : m ≡ s.performed ++ e ∷ rest) → (ev : Event) → event_at x e ≡ ev
       → executed_before e ev ≤ first_event (program_of x) (core_of x e) + place_of s (core_of x e)
       → (t : State) × IsTurn (program_of x) n capacity s (perform s (core_of x e) ev) e t
@@ -73,7 +73,7 @@ module _ (x : Execution) (m : List ℕ) (tso : IsTsoOrder x m) (n capacity : ℕ
   perform_turn s f e rest split F is ready = fence_turn x m tso n capacity room s f e rest split ready is
 
   -- each event takes its turn
-  event_turn : (s : State) (f : IsGoing (program_of x) n capacity s) (e : ℕ) (rest : List ℕ)
+  event_turn : (s : State) (f : StaysOrderly (program_of x) n capacity s) (e : ℕ) (rest : List ℕ)
       (split : m ≡ s.performed ++ e ∷ rest)
       → (t : State) × IsTurn (program_of x) n capacity s
       (turn (program_of x) capacity fault.None s (core_of x e) e (event_at x e)) e t
@@ -96,14 +96,14 @@ module _ (x : Execution) (m : List ℕ) (tso : IsTsoOrder x m) (n capacity : ℕ
 
   -- the steps lead from s to t, which has performed the whole order
   pub record IsRun (s : State) (rest : List ℕ) (t : State) : Type 0 where
-    pub goes : Goes (program_of x) capacity s (order_steps x capacity fault.None s rest) t
-    pub fits : IsGoing (program_of x) n capacity t
+    pub goes : StepsLead (program_of x) capacity s (order_steps x capacity fault.None s rest) t
+    pub fits : StaysOrderly (program_of x) n capacity t
     pub performed : t.performed ≡ m
     pub few : length (order_steps x capacity fault.None s rest) + sum s.places ≤ sum t.places + 2 * length
         rest
 
   -- so does the order
-  pub order_run : (rest : List ℕ) (s : State) → IsGoing (program_of x) n capacity s → m ≡ s.performed ++ rest
+  pub order_run : (rest : List ℕ) (s : State) → StaysOrderly (program_of x) n capacity s → m ≡ s.performed ++ rest
       → (t : State) × IsRun s rest t
   order_run [] s f split = (
     s,
@@ -127,7 +127,7 @@ module _ (x : Execution) (m : List ℕ) (tso : IsTsoOrder x m) (n capacity : ℕ
       ap (λ (z : State). front ++ order_steps x capacity fault.None z rest) (sym took.1.goes.1) in (
         ran.0,
         record {
-          goes = subst (λ (steps : List Step). Goes (program_of x) capacity s steps ran.0) same
+          goes = subst (λ (steps : List Step). StepsLead (program_of x) capacity s steps ran.0) same
               (goes_on (program_of x) capacity s took.0 ran.0 front back took.1.goes ran.1.goes);
           fits = ran.1.fits;
           performed = ran.1.performed;

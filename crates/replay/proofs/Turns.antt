@@ -34,9 +34,9 @@ use Rattle.machine.specs.Orderly.{placed_op, is_st, is_ld, AreStores, seen_by, I
 use Rattle.recording.specs.PlacedLaws.{placed_at}
 use Rattle.machine.specs.PlaceLaws.{event_behind, event_before}
 use Rattle.replay.proofs.Made.{store_same, placed_is, count_same, core_there}
-use Rattle.replay.proofs.Going.{IsGoing, goes_further, waiting, stores_wait, waits_once}
-use Rattle.replay.proofs.Goes.{Goes, goes_one, goes_on, is_at, at_taken, HasStored, store_all, fetch_write}
-use Rattle.replay.proofs.Goes.{fetch_read, write_made, few_write, few_read}
+use Rattle.replay.proofs.OrderlyRuns.{StaysOrderly, goes_further, waiting, stores_wait, waits_once}
+use Rattle.replay.proofs.StepLists.{StepsLead, goes_one, goes_on, is_at, at_taken, HasStored, store_all, fetch_write}
+use Rattle.replay.proofs.StepLists.{fetch_read, write_made, few_write, few_read}
 
 -- a plain store is no plain load
 store_no_load : (op : Op) → is_st op ≡ true → is_ld op ≡ false
@@ -85,14 +85,14 @@ cas_did capacity s caches c b a e v empty exclusive wrote = go ((line_copy s c a
 -- the steps lead from s to t, which has performed e more, and no more than two of them execute nothing
 pub record IsTurn (p : List (List Op)) (n capacity : ℕ) (s : State) (steps : List Step) (e : ℕ)
     (t : State) : Type 0 where
-  pub goes : Goes p capacity s steps t
-  pub fits : IsGoing p n capacity t
+  pub goes : StepsLead p capacity s steps t
+  pub fits : StaysOrderly p n capacity t
   pub performed : t.performed ≡ s.performed ++ e ∷ []
   pub few : length steps + sum s.places ≤ sum t.places + 2
 
 module _ (x : Execution) (m : List ℕ) (tso : IsTsoOrder x m) (n capacity : ℕ) (room : (c : ℕ)
     → count_by is_st (get_or (program_of x) c []) ≤ capacity) where
-  module _ (s : State) (f : IsGoing (program_of x) n capacity s) (e : ℕ) (rest : List ℕ)
+  module _ (s : State) (f : StaysOrderly (program_of x) n capacity s) (e : ℕ) (rest : List ℕ)
       (split : m ≡ s.performed ++ e ∷ rest) where
     -- e is an event
     event : e < event_count x
@@ -194,7 +194,7 @@ module _ (x : Execution) (m : List ℕ) (tso : IsTsoOrder x m) (n capacity : ℕ
 
     -- its core executes them, and itself if it is a plain store
     pub caught_up : (far : ℕ) → far ≤ e + 1 → (e < far → is_plain_store (event_at x e) ≡ true)
-        → (t : State) × Goes (program_of x) capacity s (execute_to (program_of x) s (core_of x e) far) t
+        → (t : State) × StepsLead (program_of x) capacity s (execute_to (program_of x) s (core_of x e) far) t
         × HasStored (program_of x) n capacity s t (core_of x e)
         (far - (first_event (program_of x) (core_of x e) + place_of s (core_of x e)))
     caught_up far short store =
@@ -343,12 +343,12 @@ module _ (x : Execution) (m : List ℕ) (tso : IsTsoOrder x m) (n capacity : ℕ
 
     -- the core executes e, behind a transaction that left these caches
     executed : (caches : moesi.CacheState) (op : Op) (t : State)
-        → IsGoing (program_of x) n capacity (with_caches s caches)
+        → StaysOrderly (program_of x) n capacity (with_caches s caches)
         → e ≡ first_event (program_of x) (core_of x e) + place_of s (core_of x e) → op_of (event_at x e) ≡ op
         → exec capacity fault.None (with_caches s caches) (core_of x e)
         (first_event (program_of x) (core_of x e) + place_of s (core_of x e)) op ≡ Ok t
         → (taken (program_of x) capacity fault.None (with_caches s caches) (Exec (core_of x e)) ≡ Ok t)
-        × IsGoing (program_of x) n capacity t
+        × StaysOrderly (program_of x) n capacity t
     executed caches op t fits next is did =
         let p : List (List Op) = program_of x in
         let u : State = with_caches s caches in

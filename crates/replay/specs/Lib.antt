@@ -1,5 +1,5 @@
 pub mod Program
 pub mod Stores
 pub mod Steps
-pub mod Replayed
+pub mod OrderReplay
 pub mod Replaying

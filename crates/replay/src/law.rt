@@ -2,7 +2,7 @@
 
 ghost use Rattle.std.specs.Prelude.{ℕ, List};
 ghost use Rattle.recording.specs.Execution.{Execution};
-ghost use Rattle.replay.specs.Replayed.{EveryOrderIsReplayed, MakesExactlyTso};
+ghost use Rattle.replay.specs.OrderReplay.{EveryOrderIsReplayed, MakesExactlyTso};
 
 use machine::{every_run_is_tso, every_state_is_orderly};
 

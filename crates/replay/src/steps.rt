@@ -8,7 +8,7 @@ ghost use Rattle.recording.specs.FirstUse.{IsNumberedByFirstUse};
 ghost use Rattle.replay.specs.Program.{program_of, named_program};
 ghost use Rattle.replay.specs.Stores.{most_stores};
 ghost use Rattle.replay.specs.Steps.{order_steps, replay_steps};
-ghost use Rattle.replay.specs.Replayed.{IsReplay};
+ghost use Rattle.replay.specs.OrderReplay.{IsReplay};
 
 use crate::law::every_order_is_replayed;
 use crate::naming::named_program;

@@ -4,7 +4,7 @@ use Rattle.std.proofs.Common.{decimal, length, take, set, get_or, arith, ap, sym
 use Rattle.std.proofs.lemmas.Fmt.{decimal_digit, decimal_step}
 use Rattle.std.proofs.lemmas.List.{append_assoc, length-set, take_more, take_more_set}
 use Rattle.std.proofs.lemmas.List.Concat.{flat_map-append}
-use Rattle.report.specs.Verdict.{numbers_text}
+use Rattle.report.specs.VerdictText.{numbers_text}
 
 -- two bytes written behind the first ones
 two_more : (xs : List ℕ) (i x y : ℕ) → i + 1 < length xs

@@ -7,12 +7,12 @@ use Rattle.recording.specs.Execution.{Execution}
 use Rattle.recorder.specs.Reading.{IsReadingResult}
 use Rattle.judge.specs.declared.verdict.Verdict.{Verdict}
 use Rattle.judge.specs.declared.verdict.Verdict.TheVariants as verdict
-use Rattle.judge.specs.Verdict.{IsVerdict}
+use Rattle.judge.specs.Judgement.{IsVerdict}
 use Rattle.report.specs.declared.printed.Answer.{Answer}
 use Rattle.report.specs.declared.outcome.Outcome.{Outcome}
 use Rattle.report.specs.declared.outcome.Outcome.TheVariants.{Ordered, Violation, Refused}
 use Rattle.report.specs.Refusal.{recording_line}
-use Rattle.report.specs.Verdict.{IsVerdictText}
+use Rattle.report.specs.VerdictText.{IsVerdictText}
 
 -- only an order is no violation
 abbrev pub outcome_of : Verdict → Outcome

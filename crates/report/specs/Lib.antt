@@ -1,5 +1,5 @@
 pub mod Outcomes
-pub mod Verdict
+pub mod VerdictText
 pub mod Texts
 pub mod Counted
 pub mod Refusal

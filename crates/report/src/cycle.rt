@@ -5,8 +5,8 @@ ghost use Rattle.relations.specs.Cycle.{IsCycle};
 ghost use Rattle.relations.specs.Forced.{Forced};
 ghost use Rattle.labels.specs.Certified.{lists_of};
 ghost use Rattle.report.specs.Texts.{AreTexts};
-ghost use Rattle.report.specs.Verdict.{reason_name, pair_line, labels_line, labels_text, IsPairLine};
-ghost use Rattle.report.specs.Verdict.{ArePairLines, IsCycleText};
+ghost use Rattle.report.specs.VerdictText.{reason_name, pair_line, labels_line, labels_text, IsPairLine};
+ghost use Rattle.report.specs.VerdictText.{ArePairLines, IsCycleText};
 
 use crate::numbers::{NumberText, put_number, put_row, texts_up_to};
 use common::{EventId, OutOfMemory};

@@ -3,7 +3,7 @@
 ghost use Rattle.std.specs.Prelude.{◌≡◌, ◌<◌, ◌≤◌, ◌+◌, ◌*◌, ◌++◌, All, IfOk, OnOk, decimal, length, take};
 ghost use Rattle.common.specs.declared.limits.TheConstants.{MAX_EVENTS};
 ghost use Rattle.report.specs.Texts.{IsTextOf, AreTexts};
-ghost use Rattle.report.specs.Verdict.{numbers_text};
+ghost use Rattle.report.specs.VerdictText.{numbers_text};
 
 use common::{MAX_EVENTS, OutOfMemory};
 use itoa::Buffer;

@@ -1,7 +1,7 @@
 //! What is printed, and how it came out.
 
 ghost use Rattle.std.specs.Prelude.{◌≡◌, IfOk};
-ghost use Rattle.judge.specs.Verdict.{IsVerdict, Verifies};
+ghost use Rattle.judge.specs.Judgement.{IsVerdict, Verifies};
 ghost use Rattle.report.specs.Answer.{IsVerdictAnswer, outcome_of};
 
 use crate::outcome::Outcome;

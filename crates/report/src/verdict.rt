@@ -1,8 +1,8 @@
 //! The text of a verdict.
 
 ghost use Rattle.std.specs.Prelude.{◌≡◌, ◌++◌, IfOk, OnOk};
-ghost use Rattle.judge.specs.Verdict.{Verifies};
-ghost use Rattle.report.specs.Verdict.{order_line, overlook_line, IsVerdictText};
+ghost use Rattle.judge.specs.Judgement.{Verifies};
+ghost use Rattle.report.specs.VerdictText.{order_line, overlook_line, IsVerdictText};
 
 use crate::cycle::put_cycle;
 use crate::numbers::{put_number, put_numbers};

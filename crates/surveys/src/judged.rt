@@ -2,7 +2,7 @@
 
 ghost use Rattle.std.specs.Prelude.{◌≡◌, ◌≢◌, IfOk};
 ghost use Rattle.judge.specs.declared.verdict.Verdict.{Verdict};
-ghost use Rattle.judge.specs.Verdict.{IsVerdict};
+ghost use Rattle.judge.specs.Judgement.{IsVerdict};
 ghost use Rattle.ledger.specs.Findings.{finding_of};
 ghost use Rattle.ledger.specs.declared.finding.Finding.TheVariants.{Refused};
 ghost use Rattle.recording.specs.declared.fault.RecError.TheVariants as refusals;

@@ -11,7 +11,7 @@ use Rattle.machine.specs.Configuration.{Configuration, IsAtEnd, recording_of, st
 use Rattle.machine.specs.ProgramOf.{IsProgramOf}
 use Rattle.judge.specs.declared.verdict.Verdict.{Verdict}
 use Rattle.judge.specs.declared.verdict.Verdict.TheVariants.{Ordered, Overlook, Cycle}
-use Rattle.judge.specs.Verdict.{IsVerdict, Verifies}
+use Rattle.judge.specs.Judgement.{IsVerdict, Verifies}
 use Rattle.trials.specs.declared.judging.Judged.{Judged}
 
 -- the machine in which a program begins

@@ -12,8 +12,8 @@ use Rattle.labels.specs.CertificateLaws.{certificates_are_shortest}
 use Rattle.labels.specs.declared.certificate.Certificate.{Certificate}
 use Rattle.judge.specs.declared.verdict.Verdict.{Verdict}
 use Rattle.judge.specs.declared.verdict.Verdict.TheVariants.{Ordered, Overlook, Cycle}
-use Rattle.judge.specs.Verdict.{Verifies}
-use Rattle.report.specs.Verdict.{ArePairLines, IsVerdictText, labels_text}
+use Rattle.judge.specs.Judgement.{Verifies}
+use Rattle.report.specs.VerdictText.{ArePairLines, IsVerdictText, labels_text}
 use Rattle.verification.specs.Proof.{AreRows, AreShort, HasShortLabels, IsProof}
 use Rattle.verification.proofs.Heads.{one_byte}
 

@@ -10,8 +10,8 @@ use Rattle.relations.specs.Forced.{Overlooks}
 use Rattle.labels.specs.Certified.{lists_of}
 use Rattle.judge.specs.declared.verdict.Verdict.{Verdict}
 use Rattle.judge.specs.declared.verdict.Verdict.TheVariants.{Ordered, Overlook, Cycle}
-use Rattle.judge.specs.Verdict.{Verifies}
-use Rattle.report.specs.Verdict.{IsVerdictText, labels_text, numbers_text, overlook_line}
+use Rattle.judge.specs.Judgement.{Verifies}
+use Rattle.report.specs.VerdictText.{IsVerdictText, labels_text, numbers_text, overlook_line}
 use Rattle.verification.specs.Proof.{IsProof, IsRow}
 
 -- where two texts are one, so are their bytes at a place

@@ -16,8 +16,8 @@ use Rattle.labels.specs.declared.certificate.Certificate.{Certificate}
 use Rattle.search.proofs.Cuts.{exact_certifies}
 use Rattle.judge.specs.declared.verdict.Verdict.{Verdict}
 use Rattle.judge.specs.declared.verdict.Verdict.TheVariants.{Ordered, Overlook, Cycle}
-use Rattle.judge.specs.Verdict.{IsCycleVerdict, IsOrderedVerdict, IsOverlookVerdict, IsVerdict}
-use Rattle.report.specs.Verdict.{IsVerdictText}
+use Rattle.judge.specs.Judgement.{IsCycleVerdict, IsOrderedVerdict, IsOverlookVerdict, IsVerdict}
+use Rattle.report.specs.VerdictText.{IsVerdictText}
 use Rattle.verification.specs.declared.finding.Finding.{Finding}
 use Rattle.verification.specs.declared.finding.Finding.TheVariants.{Holds}
 use Rattle.verification.specs.Proof.{AreShort, EveryVerdictHolds, IsJudged, IsProof}

@@ -8,8 +8,8 @@ use Rattle.labels.specs.Certified.{lists_of, Certifies}
 use Rattle.labels.specs.declared.certificate.Certificate.{Certificate}
 use Rattle.judge.specs.declared.verdict.Verdict.{Verdict}
 use Rattle.judge.specs.declared.verdict.Verdict.TheVariants.{Ordered, Overlook, Cycle}
-use Rattle.judge.specs.Verdict.{IsVerdict, Verifies}
-use Rattle.report.specs.Verdict.{IsVerdictText}
+use Rattle.judge.specs.Judgement.{IsVerdict, Verifies}
+use Rattle.report.specs.VerdictText.{IsVerdictText}
 use Rattle.verification.specs.declared.finding.Finding.{Finding}
 use Rattle.verification.specs.declared.finding.Finding.TheVariants.{Holds}
 

@@ -1,5 +1,5 @@
 use Rattle.machine.specs.declared.fault.Fault.TheVariants.{None}
-use Rattle.replay.proofs.Replayed.{every_order_is_replayed, makes_exactly_tso}
+use Rattle.replay.proofs.EveryOrder.{every_order_is_replayed, makes_exactly_tso}
 use Rattle.replay.proofs.law.every_order_is_replayed.Goals as goal
 
 pub returns-clause-replay : goal.returns-clause-replay

@@ -9,7 +9,7 @@ use Rattle.replay.specs.Stores.{most_stores}
 use Rattle.replay.specs.Steps.{order_steps, replay_steps}
 use Rattle.replay.specs.Program.{named_program}
 use Rattle.replay.specs.Replaying.{Replaying}
-use Rattle.replay.specs.Replayed.{IsReplay, IsReplayable}
+use Rattle.replay.specs.OrderReplay.{IsReplay, IsReplayable}
 use Rattle.program.specs.AddressNameLaws.{names_count}
 use Rattle.replay.proofs.steps.replay_steps.Goals as goal
 

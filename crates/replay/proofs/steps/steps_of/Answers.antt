@@ -9,7 +9,7 @@ use Rattle.machine.specs.Configuration.{Configuration}
 use Rattle.replay.specs.Steps.{turn, order_steps}
 use Rattle.replay.specs.Replaying.{Replaying, with_steps}
 use Rattle.replay.proofs.Made.{core_there}
-use Rattle.replay.proofs.Replays.{order_machine, order_more}
+use Rattle.replay.proofs.WrittenSteps.{order_machine, order_more}
 use Rattle.replay.proofs.steps.steps_of.Goals as goal
 
 pub unreachable-requires : goal.unreachable-requires

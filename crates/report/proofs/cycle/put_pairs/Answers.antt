@@ -1,6 +1,6 @@
 use Rattle.std.proofs.Common.{◌≡◌, ◌++◌, ◌+◌, ℕ, List, suc, get_or, arith, ap, refl, subst, ◌∙◌}
 use Rattle.std.proofs.lemmas.List.{append_assoc}
-use Rattle.report.specs.Verdict.{IsPairLine, ArePairLines}
+use Rattle.report.specs.VerdictText.{IsPairLine, ArePairLines}
 use Rattle.report.proofs.cycle.put_pairs.Goals as goal
 
 pub put_pair-requires : goal.put_pair-requires

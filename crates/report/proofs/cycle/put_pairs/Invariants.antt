@@ -1,5 +1,5 @@
 use Rattle.std.proofs.Common.{◌≡◌, ◌++◌, ℕ, List}
-use Rattle.report.specs.Verdict.{ArePairLines}
+use Rattle.report.specs.VerdictText.{ArePairLines}
 use Rattle.report.proofs.cycle.put_pairs.Given as goal
 
 abbrev pub invariant-loop-i : goal.invariant-loop-i

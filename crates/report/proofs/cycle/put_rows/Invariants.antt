@@ -1,6 +1,6 @@
 use Rattle.std.proofs.Common.{◌≡◌, ◌++◌}
 use Rattle.labels.specs.Certified.{lists_of}
-use Rattle.report.specs.Verdict.{labels_text}
+use Rattle.report.specs.VerdictText.{labels_text}
 use Rattle.report.proofs.cycle.put_rows.Given as goal
 
 abbrev pub invariant-loop-event : goal.invariant-loop-event

@@ -1,5 +1,5 @@
 use Rattle.std.proofs.Common.{◌≡◌, ◌++◌, take}
-use Rattle.report.specs.Verdict.{numbers_text}
+use Rattle.report.specs.VerdictText.{numbers_text}
 use Rattle.report.proofs.numbers.put_each.Given as goal
 
 abbrev pub invariant-loop-number : goal.invariant-loop-number

@@ -1,5 +1,5 @@
 use Rattle.std.proofs.Common.{◌≡◌, ◌++◌, ◌∷◌, ℕ, List, length, take, drop}
-use Rattle.report.specs.Verdict.{numbers_text}
+use Rattle.report.specs.VerdictText.{numbers_text}
 use Rattle.verification.specs.Proof.{IsRow, AreShort}
 use Rattle.verification.proofs.numbers.numbers.Given as goal
 

@@ -1,7 +1,7 @@
 use Rattle.std.proofs.Common.{arith, subst, sym, ◌≡◌, List, Ok}
 use Rattle.machine.specs.declared.step.Step.{Step}
 use Rattle.machine.specs.Taken.{all_taken, begun}
-use Rattle.live.proofs.Replays.{replay_more}
+use Rattle.live.proofs.Traces.{replay_more}
 use Rattle.live.proofs.traced.Traced.advance.Goals as goal
 
 pub invariant_of-self-2 : goal.invariant_of-self-2

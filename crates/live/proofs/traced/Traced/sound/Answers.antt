@@ -6,7 +6,7 @@ use Rattle.machine.specs.declared.fault.Fault.TheVariants as fault
 use Rattle.machine.specs.State.{State, recorded, IsComplete}
 use Rattle.machine.specs.Step.{run}
 use Rattle.machine.specs.Taken.{begun}
-use Rattle.live.proofs.Replays.{taken_run}
+use Rattle.live.proofs.Traces.{taken_run}
 use Rattle.live.proofs.traced.Traced.sound.Goals as goal
 
 pub returns-clause-tso : goal.returns-clause-tso

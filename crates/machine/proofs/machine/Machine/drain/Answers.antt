@@ -2,7 +2,7 @@ use Rattle.std.proofs.Common.{arith, refl, sym, ◌∙◌, ◌<◌, ◌≤◌, �
 use Rattle.write_buffer.specs.Buffer.{Buffer}
 use Rattle.machine.specs.declared.step.Step.TheVariants.{Drain}
 use Rattle.machine.specs.Faults.{draining}
-use Rattle.machine.proofs.Drained as drained
+use Rattle.machine.proofs.DrainParts as drained
 use Rattle.machine.proofs.Refused as refused
 use Rattle.machine.proofs.Reached.{reached_step}
 use Rattle.machine.proofs.machine.Machine.drain.Goals as goal

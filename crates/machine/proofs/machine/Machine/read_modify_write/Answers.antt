@@ -6,7 +6,7 @@ use Rattle.machine.specs.State.{event_of}
 use Rattle.machine.specs.Configuration.{Configuration, exec_answer}
 use Rattle.machine.specs.Step.{IsAt, exec, read_modify_written}
 use Rattle.machine.proofs.Cached.{read_is, unread_unwritten}
-use Rattle.machine.proofs.Executed as executed
+use Rattle.machine.proofs.ExecuteParts as executed
 use Rattle.machine.proofs.Refused as refused
 use Rattle.machine.proofs.Reached.{reached_exec}
 use Rattle.machine.proofs.machine.Machine.read_modify_write.Goals as goal

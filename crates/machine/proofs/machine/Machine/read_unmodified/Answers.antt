@@ -4,7 +4,7 @@ use Rattle.moesi.specs.State as moesi
 use Rattle.machine.specs.Configuration.{Configuration}
 use Rattle.machine.specs.Step.{IsAt, exec, read_unmodified}
 use Rattle.machine.proofs.Cached.{read_is, exclusive_read}
-use Rattle.machine.proofs.Executed as executed
+use Rattle.machine.proofs.ExecuteParts as executed
 use Rattle.machine.proofs.Refused as refused
 use Rattle.machine.proofs.Reached.{reached_exec}
 use Rattle.machine.proofs.machine.Machine.read_unmodified.Goals as goal

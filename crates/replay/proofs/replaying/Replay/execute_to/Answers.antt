@@ -2,7 +2,7 @@ use Rattle.std.proofs.Common.{◌≡◌, ◌-◌, ◌+◌, ◌∙◌, ℕ, ap, a
 use Rattle.machine.specs.declared.step.Step.TheVariants.{Exec}
 use Rattle.machine.specs.Configuration.{next_event}
 use Rattle.replay.specs.Replaying.{Replaying, with_steps}
-use Rattle.replay.proofs.Replays.{one_more}
+use Rattle.replay.proofs.WrittenSteps.{one_more}
 use Rattle.replay.proofs.replaying.Replay.execute_to.Goals as goal
 
 pub loop-preserved : goal.loop-preserved

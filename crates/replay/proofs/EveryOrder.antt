@@ -26,7 +26,7 @@ use Rattle.machine.specs.State.{State, place_of, buffer_of, first_event, opening
 use Rattle.replay.specs.Program.{op_of, program_of}
 use Rattle.replay.specs.Stores.{most_stores}
 use Rattle.replay.specs.Steps.{replay_steps}
-use Rattle.replay.specs.Replayed.{IsReplay, EveryOrderIsReplayed, led_to, MakesExactlyTso}
+use Rattle.replay.specs.OrderReplay.{IsReplay, EveryOrderIsReplayed, led_to, MakesExactlyTso}
 use Rattle.program.specs.AddressNames.{address_names}
 use Rattle.replay.specs.Program.{named_program}
 use Rattle.program.specs.AddressNameLaws.{names_count}
@@ -40,8 +40,8 @@ use Rattle.recording.specs.PlacedLaws.{placed_total, placed_at}
 use Rattle.replay.proofs.NamedProgram.{named_is_program}
 use Rattle.replay.proofs.Made.{placed_is, count_same, recorded_made}
 use Rattle.replay.proofs.Determined.{determined}
-use Rattle.replay.proofs.Going.{IsGoing, begun_going, goes_further, stores_same, waiting, waits_once}
-use Rattle.replay.proofs.Goes.{AreTaken, Goes, all_of, goes_more, guarded}
+use Rattle.replay.proofs.OrderlyRuns.{StaysOrderly, begun_going, goes_further, stores_same, waiting, waits_once}
+use Rattle.replay.proofs.StepLists.{AreTaken, StepsLead, all_of, goes_more, guarded}
 use Rattle.replay.proofs.Orders.{order_run}
 use Rattle.replay.proofs.Kept.{run_keeps, made_fits}
 
@@ -186,7 +186,7 @@ step_within q capacity s t (Put c a) large took = line_within q s c a large (gua
 
 -- so have all
 steps_within : (q : Parts) (capacity : ℕ) (steps : List Step) (s : State)
-    → IsGoing q.cores (length q.names) capacity s → AreTaken q.cores capacity s steps → All (IsStepOf q) steps
+    → StaysOrderly q.cores (length q.names) capacity s → AreTaken q.cores capacity s steps → All (IsStepOf q) steps
 steps_within q capacity [] s f h = All-nil (IsStepOf q)
 steps_within q capacity (step ∷ steps) s f h =
     let large : length s.caches.blocks ≡ length q.names = (f.on []).blocks in
@@ -222,7 +222,7 @@ module _ (law : Laws) where
       (begun_going p init (most_stores x.cores) (law.orderly p init (most_stores x.cores)) fits) refl in
       let t : State = ran.0 in
       let f : IsOrderly p n t = ran.1.fits.on [] in
-      let goes : Goes p capacity (opening p init) steps t =
+      let goes : StepsLead p capacity (opening p init) steps t =
       goes_more p (most_stores x.cores) capacity room steps (opening p init) t ran.1.goes in
       let end : IsComplete p t = ended x m tso n t f ran.1.performed in
       let there : IsComplete p (run p capacity fault.None (opening p init) steps) =
@@ -244,7 +244,7 @@ module _ (law : Laws) where
         recording = ap (λ (z : State). recorded p z) goes.1
             ∙ recorded_it x m tso n t f ran.1.performed r r.within.initial kept well order;
         within = steps_within (parts_of names p init) capacity steps (opening p init)
-            (subst (λ (k : ℕ). IsGoing p k capacity (opening p init)) (r.within.initial ∙ sym named)
+            (subst (λ (k : ℕ). StaysOrderly p k capacity (opening p init)) (r.within.initial ∙ sym named)
             (begun_going p init capacity (law.orderly p init capacity) fits)) goes.0;
         few = omega (
           arith,

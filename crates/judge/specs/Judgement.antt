@@ -6,7 +6,7 @@ use Rattle.relations.specs.Forced.{Forced, Overlooks, IsLeastOverlook}
 use Rattle.relations.specs.Relation.{Table, Related}
 use Rattle.relations.specs.Cycle.{ComesFirst, IsShortest, IsLeastCycle, AreExactRows, IsCertificate}
 use Rattle.relations.specs.Respects.{IsLeastOrder}
-use Rattle.relations.specs.Verdict.{HasNoOverlook, HasNoCycle, HasNoOrder}
+use Rattle.relations.specs.Consistency.{HasNoOverlook, HasNoCycle, HasNoOrder}
 use Rattle.labels.specs.Certified.{lists_of, Certifies}
 use Rattle.labels.specs.declared.certificate.Certificate.{Certificate}
 use Rattle.judge.specs.declared.verdict.Verdict.{Verdict}

@@ -23,18 +23,18 @@ use Rattle.replay.specs.Program.{op_of}
 use Rattle.replay.proofs.Made.{store_same}
 
 -- whatever steps go on from a state lead to one that is orderly
-pub record IsGoing (p : List (List Op)) (n capacity : ℕ) (s : State) : Type 0 where
+pub record StaysOrderly (p : List (List Op)) (n capacity : ℕ) (s : State) : Type 0 where
   pub on : (steps : List Step) → IsOrderly p n (run p capacity fault.None s steps)
 
 -- so it is at first
 pub begun_going : (p : List (List Op)) (init : List ℕ) (capacity : ℕ)
     → ((steps : List Step) → EveryStateIsOrderly p init capacity steps)
-    → All (λ ops. All (IsWithin (length init)) ops) p → IsGoing p (length init) capacity (opening p init)
+    → All (λ ops. All (IsWithin (length init)) ops) p → StaysOrderly p (length init) capacity (opening p init)
 begun_going p init capacity law fits = record { on = λ steps. law steps fits }
 
 -- and behind a step that is taken
-pub goes_further : (p : List (List Op)) (n capacity : ℕ) (s t : State) (step : Step) → IsGoing p n capacity s
-    → taken p capacity fault.None s step ≡ Ok t → IsGoing p n capacity t
+pub goes_further : (p : List (List Op)) (n capacity : ℕ) (s t : State) (step : Step) → StaysOrderly p n capacity s
+    → taken p capacity fault.None s step ≡ Ok t → StaysOrderly p n capacity t
 goes_further p n capacity s t step f took =
     record {
       on =

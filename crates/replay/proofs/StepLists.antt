@@ -27,7 +27,7 @@ use Rattle.machine.specs.Step.{forwarded_or_read, has, IsAt}
 use Rattle.replay.specs.Steps.{get_to_write, get_to_read}
 use Rattle.machine.specs.Taken.{all_taken, unless_blocked}
 use Rattle.machine.specs.Orderly.{is_st}
-use Rattle.replay.proofs.Going.{IsGoing, goes_further, before_more, before_all}
+use Rattle.replay.proofs.OrderlyRuns.{StaysOrderly, goes_further, before_more, before_all}
 
 -- the step is taken
 abbrev pub IsTaken : List (List Op) → ℕ → State → Step → Type 0
@@ -50,13 +50,13 @@ all_of p capacity (x ∷ xs) s t are led =
     (all_of p capacity xs (after s (taken p capacity fault.None s x)) t are.1 led)
 
 -- the steps are all taken, and lead from s to t
-abbrev pub Goes : List (List Op) → ℕ → State → List Step → State → Type 0
-Goes p capacity s steps t = AreTaken p capacity s steps × (run p capacity fault.None s steps ≡ t)
+abbrev pub StepsLead : List (List Op) → ℕ → State → List Step → State → Type 0
+StepsLead p capacity s steps t = AreTaken p capacity s steps × (run p capacity fault.None s steps ≡ t)
 
 -- a step that is taken, before others
 pub goes_first : (p : List (List Op)) (capacity : ℕ) (s u t : State) (step : Step) (steps : List Step)
-    → taken p capacity fault.None s step ≡ Ok u → Goes p capacity u steps t
-    → Goes p capacity s (step ∷ steps) t
+    → taken p capacity fault.None s step ≡ Ok u → StepsLead p capacity u steps t
+    → StepsLead p capacity s (step ∷ steps) t
 goes_first p capacity s u t step steps took rest = (
   ((u, took), subst (λ (r : Result State Blocked). AreTaken p capacity (after s r) steps) (sym took) rest.0),
   ap (λ (r : Result State Blocked). run p capacity fault.None (after s r) steps) took ∙ rest.1,
@@ -64,15 +64,15 @@ goes_first p capacity s u t step steps took rest = (
 
 -- a single step
 pub goes_one : (p : List (List Op)) (capacity : ℕ) (s t : State) (step : Step)
-    → taken p capacity fault.None s step ≡ Ok t → Goes p capacity s (step ∷ []) t
+    → taken p capacity fault.None s step ≡ Ok t → StepsLead p capacity s (step ∷ []) t
 goes_one p capacity s t step took = goes_first p capacity s t t step [] took (tt, refl)
 
 -- steps in two parts
-pub goes_on : (p : List (List Op)) (capacity : ℕ) (s t u : State) (xs ys : List Step) → Goes p capacity s xs t
-    → Goes p capacity t ys u → Goes p capacity s (xs ++ ys) u
-goes_on p capacity s t u [] ys front back = subst (λ (z : State). Goes p capacity z ys u) (sym front.1) back
+pub goes_on : (p : List (List Op)) (capacity : ℕ) (s t u : State) (xs ys : List Step) → StepsLead p capacity s xs t
+    → StepsLead p capacity t ys u → StepsLead p capacity s (xs ++ ys) u
+goes_on p capacity s t u [] ys front back = subst (λ (z : State). StepsLead p capacity z ys u) (sym front.1) back
 goes_on p capacity s t u (x ∷ xs) ys front back =
-    let rest : Goes p capacity (after s (taken p capacity fault.None s x)) (xs ++ ys) u = goes_on p capacity
+    let rest : StepsLead p capacity (after s (taken p capacity fault.None s x)) (xs ++ ys) u = goes_on p capacity
     (after s (taken p capacity fault.None s x)) t u xs ys (front.0.1, front.1) back in
     ((front.0.0, rest.0), rest.1)
 
@@ -127,12 +127,12 @@ step_more p capacity larger s t (Put c a) h took = took
 
 -- steps that are taken with small buffers are taken with larger ones, and lead to the same state
 pub goes_more : (p : List (List Op)) (capacity larger : ℕ) → capacity ≤ larger → (steps : List Step)
-    (s t : State) → Goes p capacity s steps t → Goes p larger s steps t
+    (s t : State) → StepsLead p capacity s steps t → StepsLead p larger s steps t
 goes_more p capacity larger h [] s t g = g
 goes_more p capacity larger h (step ∷ steps) s t g =
     let took : taken p capacity fault.None s step ≡ Ok g.0.0.0 = g.0.0.1 in
-    let rest : Goes p capacity g.0.0.0 steps t =
-    subst (λ (r : Result State Blocked). Goes p capacity (after s r) steps t) took (g.0.1, g.1) in
+    let rest : StepsLead p capacity g.0.0.0 steps t =
+    subst (λ (r : Result State Blocked). StepsLead p capacity (after s r) steps t) took (g.0.1, g.1) in
     goes_first p larger s g.0.0.0 t step steps (step_more p capacity larger s g.0.0.0 step h took)
     (goes_more p capacity larger h steps g.0.0.0 t rest)
 
@@ -161,14 +161,14 @@ at_taken p capacity s c op e at = rw (lt-ltb c (length p) at.core, at.operation,
 
 -- core c has executed j stores more
 pub record HasStored (p : List (List Op)) (n capacity : ℕ) (s t : State) (c j : ℕ) : Type 0 where
-  pub fits : IsGoing p n capacity t
+  pub fits : StaysOrderly p n capacity t
   pub performed : t.performed ≡ s.performed
   pub place : place_of t c ≡ place_of s c + j
   pub caches : t.caches ≡ s.caches
   pub sum : sum t.places ≡ sum s.places + j
 
 -- a core with room for all its stores executes one
-store_one : (p : List (List Op)) (n capacity : ℕ) (s : State) (c : ℕ) → IsGoing p n capacity s → c < length p
+store_one : (p : List (List Op)) (n capacity : ℕ) (s : State) (c : ℕ) → StaysOrderly p n capacity s → c < length p
     → place_of s c < length (get_or p c []) → count_by is_st (get_or p c []) ≤ capacity
     → is_st (get_or (get_or p c []) (place_of s c) Fence) ≡ true → (t : State)
     × (taken p capacity fault.None s (Exec c) ≡ Ok t) × HasStored p n capacity s t c 1
@@ -222,10 +222,10 @@ stored_more p n capacity s u t c j one rest = record {
 }
 
 -- and any number of them
-pub store_all : (p : List (List Op)) (n capacity c j : ℕ) (s : State) → IsGoing p n capacity s → c < length p
+pub store_all : (p : List (List Op)) (n capacity c j : ℕ) (s : State) → StaysOrderly p n capacity s → c < length p
     → place_of s c + j ≤ length (get_or p c []) → count_by is_st (get_or p c []) ≤ capacity
     → ((i : ℕ) → place_of s c ≤ i → i < place_of s c + j → is_st (get_or (get_or p c []) i Fence) ≡ true)
-    → (t : State) × Goes p capacity s (replicate j (Exec c)) t × HasStored p n capacity s t c j
+    → (t : State) × StepsLead p capacity s (replicate j (Exec c)) t × HasStored p n capacity s t c j
 store_all p n capacity c zero s f core there room stores = (
   s,
   (tt, refl),
@@ -263,7 +263,7 @@ line_new s c a u within = ap (λ (b : Block). (cell_of b c).line)
 
 -- the steps lead from s to a state with these caches, and nothing else is changed
 abbrev pub Fetches : List (List Op) → ℕ → ℕ → State → List Step → moesi.CacheState → Type 0
-Fetches p n capacity s steps caches = Goes p capacity s steps (with_caches s caches) × IsGoing p n capacity
+Fetches p n capacity s steps caches = StepsLead p capacity s steps (with_caches s caches) × StaysOrderly p n capacity
     (with_caches s caches) × (length caches.blocks ≡ length s.caches.blocks)
 
 -- a line of either kind is valid
@@ -271,7 +271,7 @@ shared_valid : (q : Bool) → is_valid (cond q line.S line.E) ≡ true
 shared_valid true = refl
 shared_valid false = refl
 
-module _ (p : List (List Op)) (n capacity : ℕ) (s : State) (f : IsGoing p n capacity s) (c a : ℕ)
+module _ (p : List (List Op)) (n capacity : ℕ) (s : State) (f : StaysOrderly p n capacity s) (c a : ℕ)
     (core : c < length p) (within : a < length s.caches.blocks) where
   -- the address has a line for the core
   line_within : c < length (moesi.block_of s.caches a).lines

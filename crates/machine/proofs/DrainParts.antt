@@ -22,7 +22,7 @@ use Rattle.machine.specs.Step.{taken}
 use Rattle.machine.specs.BoundedItems.{BoundedItems}
 use Rattle.machine.specs.Configuration.{IsSound, IsEntry, state_from, places_of}
 use Rattle.machine.proofs.Removed.{length_without, all_without}
-use Rattle.machine.proofs.Executed.{places_within, buffer_seen, list_seen}
+use Rattle.machine.proofs.ExecuteParts.{places_within, buffer_seen, list_seen}
 
 module _ (p : Parts) (capacity : ℕ) (units : List Progress) (buffers : List Buffer)
     (caches : moesi.CacheState)
