@@ -9,11 +9,11 @@ use Rattle.commands.specs.declared.command_error.CommandError.TheVariants.{Refus
 use Rattle.commands.specs.Inputs.{AreBytesOf}
 use Rattle.commands.specs.Program.{IsProgramRead}
 use Rattle.commands.specs.Perform.{IsLiveError, thread_fault}
-use Rattle.commands.specs.Recording.{IsRecordingError, IsUnread}
+use Rattle.commands.specs.Recording.{IsRecordingError, IsRefusedRecording}
 
 -- the bytes of the named input are no recording
 pub unread_stop : {X : Type 0} (inputs : List ℕ → Option (List ℕ)) (name bytes : List ℕ) (r : Result X CommandError)
-    → AreBytesOf inputs name bytes → IfErr r (IsUnread bytes) → IfErr r (IsRecordingError inputs name)
+    → AreBytesOf inputs name bytes → IfErr r (IsRefusedRecording bytes) → IfErr r (IsRecordingError inputs name)
 unread_stop inputs name bytes (Ok x) given is = tt
 unread_stop inputs name bytes (Err (Refused refusal)) given is = (bytes, given, is)
 unread_stop inputs name bytes (Err (Fault fault)) given is = rw is.2 tt

@@ -15,11 +15,11 @@ pub record IsRecordingAt (inputs : List ℕ → Option (List ℕ)) (name : List 
   pub read : IsReadingResult bytes (Ok x)
 
 -- the stop is that of the refusal that the bytes have; memory alone is left open
-abbrev pub IsUnread : List ℕ → CommandError → Type 0
-IsUnread bytes stop = (fault : RecError) × IsReadingResult bytes (Err fault) × IsRefusedAs fault stop
+abbrev pub IsRefusedRecording : List ℕ → CommandError → Type 0
+IsRefusedRecording bytes stop = (fault : RecError) × IsReadingResult bytes (Err fault) × IsRefusedAs fault stop
 
 -- the named input is no recording, or isn't read
 abbrev pub IsRecordingError : (List ℕ → Option (List ℕ)) → List ℕ → CommandError → Type 0
 IsRecordingError inputs name (Refused refusal) = (bytes : List ℕ) × AreBytesOf inputs name bytes
-    × IsUnread bytes (Refused refusal)
+    × IsRefusedRecording bytes (Refused refusal)
 IsRecordingError inputs name (Fault fault) = IsInputFault inputs name fault

@@ -4,7 +4,7 @@ ghost use Rattle.program.specs.Text.{reading};
 ghost use Rattle.recorder.specs.Reading.{IsReadingResult};
 ghost use Rattle.commands.specs.Inputs.{CanRead, Reads, seen};
 ghost use Rattle.commands.specs.Program.{IsProgramAt, IsProgramError};
-ghost use Rattle.commands.specs.Recording.{IsRecordingAt, IsRecordingError, IsUnread};
+ghost use Rattle.commands.specs.Recording.{IsRecordingAt, IsRecordingError, IsRefusedRecording};
 ghost use Rattle.answers.specs.Refusals.{line_fault_name};
 ghost use Rattle.commands.specs.Refusal.{IsReadingError, IsRefusedAs};
 
@@ -68,7 +68,7 @@ fn unread(alloc: Global, refusal: RecError) -> Result<CommandError, AllocError>
 /// The recording that the bytes are, or their refusal.
 fn recording_of(alloc: Global, bytes: &[u8]) -> Result<Recording, CommandError>
     ensures ok { IfOk result (λ recording. IsReadingResult bytes.now (Ok recording)) }
-    ensures err { IfErr result (IsUnread bytes.now) }
+    ensures err { IfErr result (IsRefusedRecording bytes.now) }
 {
     match read_recording(alloc, bytes) {
         Ok(recording) => Ok(recording),

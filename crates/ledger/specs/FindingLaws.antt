@@ -15,7 +15,7 @@ use Rattle.judge.specs.declared.verdict.Verdict.{Verdict}
 use Rattle.judge.specs.declared.verdict.Verdict.TheVariants.{Ordered, Overlook, Cycle}
 use Rattle.judge.specs.Judgement.{IsVerdict}
 use Rattle.ledger.specs.declared.finding.Finding.TheVariants as finding
-use Rattle.ledger.specs.Findings.{IsShort, finding_of}
+use Rattle.ledger.specs.Findings.{IsShortVerdict, finding_of}
 
 -- the least overlook is one
 one_overlook : (x : Execution) (l s k t : ℕ) → IsLeastOverlook x l s → IsLeastOverlook x k t → (l ≡ k)
@@ -72,7 +72,7 @@ holds_within x wf Rf e f h =
 holds_within x wf Fr e f h = (Reads-event x e h.0 h.1, Writes-event x f h.0 h.2)
 
 -- so no least cycle is longer than a recording may be
-pub short_verdict : (x : Execution) (v : Verdict) → IsRecording x → IsVerdict x v → IsShort v
+pub short_verdict : (x : Execution) (v : Verdict) → IsRecording x → IsVerdict x v → IsShortVerdict v
 short_verdict x (Ordered order) recording is = tt
 short_verdict x (Overlook load store) recording is = tt
 short_verdict x (Cycle certificate) recording is =

@@ -10,10 +10,10 @@ use Rattle.ledger.specs.declared.finding.Finding.{Finding}
 use Rattle.ledger.specs.declared.finding.Finding.TheVariants.{Ordered, Overlook, Cycle, Refused}
 
 -- a cycle has no more events than a recording may have
-abbrev pub IsShort : Verdict → Type 0
-IsShort (verdicts.Ordered order) = ⊤
-IsShort (verdicts.Overlook load store) = ⊤
-IsShort (verdicts.Cycle certificate) = length certificate.cycle.items ≤ MAX_EVENTS
+abbrev pub IsShortVerdict : Verdict → Type 0
+IsShortVerdict (verdicts.Ordered order) = ⊤
+IsShortVerdict (verdicts.Overlook load store) = ⊤
+IsShortVerdict (verdicts.Cycle certificate) = length certificate.cycle.items ≤ MAX_EVENTS
 
 -- what a verdict finds
 abbrev pub finding_of : Verdict → Finding

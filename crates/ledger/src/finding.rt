@@ -28,11 +28,11 @@ pub enum Finding {
 
 impl Finding {
     ghost use Rattle.std.specs.Prelude.{◌≡◌};
-    ghost use Rattle.ledger.specs.Findings.{IsShort, finding_code, finding_of};
+    ghost use Rattle.ledger.specs.Findings.{IsShortVerdict, finding_code, finding_of};
 
     /// That of a verdict, whose cycle has no more than `MAX_EVENTS` events.
     pub fn of(verdict: &Verdict) -> Finding
-        requires { IsShort verdict.now }
+        requires { IsShortVerdict verdict.now }
         ensures { result ≡ finding_of verdict.now }
     {
         match verdict {

@@ -5,7 +5,7 @@ use Rattle.std.proofs.lemmas.List.{get_or_append_left}
 use Rattle.std.proofs.Math.Seq.{get_or-append_seam}
 use Rattle.common.specs.declared.limits.TheConstants.{MAX_EVENTS}
 use Rattle.report.specs.Counted.{cycle_line, cycle_lines}
-use Rattle.merging.specs.Parts.{AreShort, IsLater}
+use Rattle.merging.specs.Parts.{Are64Bit, IsLater}
 use Rattle.merging.proofs.LineTexts.{cycle_then}
 
 -- the same counts have the same lines
@@ -98,7 +98,7 @@ lines_later counts more k j (suc n) before within = go (get_or counts j 0)
 
 -- what is read of the line of a length, where all lines are those of counts
 pub next_count : (counts more rest : List ℕ) (k : ℕ) (r : Option ℕ) (new : List ℕ) → k < MAX_EVENTS + 1
-    → AreShort counts → rest ≡ lines_from counts k (MAX_EVENTS + 1 - k) ++ 102 ∷ more
+    → Are64Bit counts → rest ≡ lines_from counts k (MAX_EVENTS + 1 - k) ++ 102 ∷ more
     → ((n : ℕ) (back : List ℕ) → 0 < n → n < 2 ^ 64 → rest ≡ cycle_line k n ++ back → (r ≡ Some n) × (new ≡ back))
     → (IsLater k rest → (r ≡ Some 0) × (new ≡ rest))
     → (r ≡ Some (get_or counts k 0)) × (new ≡ lines_from counts (k + 1) (MAX_EVENTS + 1 - (k + 1)) ++ 102 ∷ more)

@@ -9,7 +9,7 @@ use Rattle.merging.specs.declared.fault.MergeRefusal.TheVariants.{NoLine, NoCode
 use Rattle.merging.specs.declared.fault.TextFault.{TextFault}
 use Rattle.merging.specs.declared.fault.TextFault.TheVariants.{Refused, OutOfMemory}
 use Rattle.merging.specs.declared.kind.Kind.{Kind}
-use Rattle.merging.specs.Merges.{IsFileAdded, IsFileFault, IsTextAdded, IsTextFault, IsUnread, Refuses}
+use Rattle.merging.specs.Merges.{IsFileAdded, IsFileFault, IsTextAdded, IsTextFault, IsNoText, Refuses}
 use Rattle.merging.specs.Tells.{Tells}
 use Rattle.merging.specs.TellsLaws.{ledger_tells}
 use Rattle.merging.specs.Texts.{AreTexts, Begins, text_of}
@@ -130,7 +130,7 @@ pub empty_fault : (kind : Kind) (old : Ledger) (bytes : List ℕ) (refusal : Mer
 empty_fault kind old bytes refusal left none = λ codes file. absurd (file.some none)
 
 -- no text is unread where none begins
-pub unread_fault : (kind : Kind) (sum : Ledger) (before : List ℕ) (fault : TextFault) → IsUnread kind before fault
+pub unread_fault : (kind : Kind) (sum : Ledger) (before : List ℕ) (fault : TextFault) → IsNoText kind before fault
     → IsTextFault kind sum before fault
 unread_fault kind sum before OutOfMemory is = tt
 unread_fault kind sum before (Refused refusal left) is = λ codes more begins. absurd (is codes more begins)

@@ -15,7 +15,7 @@ use Rattle.ledger.specs.RealLaws.{firsts_fit, fitting_has_codes}
 use Rattle.report.specs.Counted.{count_line, cycle_lines, first_line, ledger_text, place_name}
 use Rattle.merging.specs.declared.kind.Kind.{Kind}
 use Rattle.merging.specs.declared.kind.Kind.TheVariants.{Campaign, Survey}
-use Rattle.merging.specs.Parts.{HasSameCounts, IsShort, IsShortPlace, count_lines, other_place, place_beside}
+use Rattle.merging.specs.Parts.{HasSameCounts, Is64BitLedger, Is64BitPlace, count_lines, other_place, place_beside}
 use Rattle.merging.specs.Parts.{tail, told_place}
 use Rattle.merging.specs.Tells.{Tells, TellsUnjudged}
 use Rattle.merging.specs.Texts.{all_name, noun, text_of, unjudged_name}
@@ -58,12 +58,12 @@ text_then Survey l more = append_assoc (ledger_text (all_name Survey) (unjudged_
     (tail Survey l.first_unjudged) more
 
 -- a place below a number of 64 bits
-short_place : (count total : ℕ) (o : Option ℕ) → total < 2 ^ 64 → IsFirstOf count total o → IsShortPlace o
+short_place : (count total : ℕ) (o : Option ℕ) → total < 2 ^ 64 → IsFirstOf count total o → Is64BitPlace o
 short_place count total None few fits = tt
 short_place count total (Some i) few fits = omega (arith, few, fits.0, fits.1)
 
 -- what few codes have has 64 bits
-pub short_ledger : (codes : List ℕ) (l : Ledger) → IsLedger codes l → length codes < 2 ^ 64 → IsShort l
+pub short_ledger : (codes : List ℕ) (l : Ledger) → IsLedger codes l → length codes < 2 ^ 64 → Is64BitLedger l
 short_ledger codes l is few =
     let fits = firsts_fit codes l is in
     let total : l.total < 2 ^ 64 = omega (arith, is.total, few) in record {

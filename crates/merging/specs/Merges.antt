@@ -22,16 +22,16 @@ Refuses NoCodes count = ⊥
 Refuses OtherKind count = ⊥
 
 -- a ledger is read, and it tells of all codes with whose text the bytes begin
-pub record IsRead (kind : Kind) (before after : List ℕ) (ledger : Ledger) : Type 0 where
+pub record IsTextRead (kind : Kind) (before after : List ℕ) (ledger : Ledger) : Type 0 where
   pub codes : List ℕ
   pub begins : Begins kind codes before after
   pub is : IsLedger codes ledger
   pub only : (others more : List ℕ) → Begins kind others before more → (after ≡ more) × Tells kind others ledger
 
 -- no text of the kind begins the bytes, or there is no memory
-abbrev pub IsUnread : Kind → List ℕ → TextFault → Type 0
-IsUnread kind before OutOfMemory = ⊤
-IsUnread kind before (Refused refusal left) = (codes more : List ℕ) → Begins kind codes before more → ⊥
+abbrev pub IsNoText : Kind → List ℕ → TextFault → Type 0
+IsNoText kind before OutOfMemory = ⊤
+IsNoText kind before (Refused refusal left) = (codes more : List ℕ) → Begins kind codes before more → ⊥
 
 -- the codes of one text are added
 pub record IsTextAdded (kind : Kind) (old new : Ledger) (before after : List ℕ) : Type 0 where

@@ -9,12 +9,12 @@ use Rattle.merging.specs.declared.kind.Kind.TheVariants.{Campaign, Survey}
 use Rattle.merging.specs.Texts.{all_name, noun, unjudged_name}
 
 -- the numbers have 64 bits
-abbrev pub AreShort : List ℕ → Type 0
-AreShort counts = (n : ℕ) → slice_index counts n < 2 ^ 64
+abbrev pub Are64Bit : List ℕ → Type 0
+Are64Bit counts = (n : ℕ) → slice_index counts n < 2 ^ 64
 
 -- the place, where there is one, has 64 bits
-abbrev pub IsShortPlace : Option ℕ → Type 0
-IsShortPlace place = IfSome place (λ n. n < 2 ^ 64)
+abbrev pub Is64BitPlace : Option ℕ → Type 0
+Is64BitPlace place = IfSome place (λ n. n < 2 ^ 64)
 
 -- the first four lines, and what stands behind them
 abbrev pub count_lines : Kind → ℕ → ℕ → ℕ → ℕ → List ℕ → List ℕ
@@ -27,15 +27,15 @@ IsLater cycle text = ((more : List ℕ) × (text ≡ 102 ∷ more))
     ⊎ ((n : ℕ) × (more : List ℕ) × (cycle < n) × (n < 2 ^ 64) × (text ≡ codes "cycle " ++ (decimal n ++ 58 ∷ more)))
 
 -- a ledger with these counts and these first places has 64 bits for each
-pub record IsShort (l : Ledger) : Type 0 where
+pub record Is64BitLedger (l : Ledger) : Type 0 where
   pub total : l.total < 2 ^ 64
   pub ordered : l.ordered < 2 ^ 64
   pub unjudged : l.unjudged < 2 ^ 64
   pub overlook : l.overlook < 2 ^ 64
   pub lengths : length l.cycles.items ≡ MAX_EVENTS + 1
-  pub cycles : AreShort l.cycles.items
-  pub first : IsShortPlace l.first
-  pub first_unjudged : IsShortPlace l.first_unjudged
+  pub cycles : Are64Bit l.cycles.items
+  pub first : Is64BitPlace l.first
+  pub first_unjudged : Is64BitPlace l.first_unjudged
 
 -- two ledgers have the same counts and the same first violation
 pub record HasSameCounts (l m : Ledger) : Type 0 where

@@ -3,7 +3,7 @@
 ghost use Rattle.std.specs.Prelude.{◌≡◌, ◌<◌, ◌^◌, ◌+◌, ◌++◌, ◌∷◌, ℕ, List, Some, IfOk, IfSome, MatchOption, length};
 ghost use Rattle.common.specs.declared.limits.TheConstants.{MAX_EVENTS};
 ghost use Rattle.report.specs.Counted.{cycle_line, cycle_lines};
-ghost use Rattle.merging.specs.Parts.{AreShort, IsLater};
+ghost use Rattle.merging.specs.Parts.{Are64Bit, IsLater};
 
 use crate::cursor::Cursor;
 use common::{MAX_EVENTS, OutOfMemory};
@@ -54,7 +54,7 @@ pub(crate) fn cycle_counts(
 ) -> Result<Option<Vec<usize>>, OutOfMemory>
     ensures found { IfOk result (λ r. IfSome r (λ v. (length v.items ≡ MAX_EVENTS + 1)
         × (rest.old ≡ cycle_lines v.items (MAX_EVENTS + 1) ++ rest.new))) }
-    ensures only { IfOk result (λ r. (counts more : List ℕ) → length counts ≡ MAX_EVENTS + 1 → AreShort counts
+    ensures only { IfOk result (λ r. (counts more : List ℕ) → length counts ≡ MAX_EVENTS + 1 → Are64Bit counts
         → rest.old ≡ cycle_lines counts (MAX_EVENTS + 1) ++ 102 ∷ more
         → MatchOption r ⊥ (λ v. v.items ≡ counts) × (rest.new ≡ 102 ∷ more)) }
 {

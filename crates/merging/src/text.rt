@@ -5,8 +5,9 @@ ghost use Rattle.std.specs.Prelude.{length};
 ghost use Rattle.common.specs.declared.limits.TheConstants.{MAX_EVENTS};
 ghost use Rattle.ledger.specs.declared.ledger.Ledger.{Ledger as Book};
 ghost use Rattle.report.specs.Counted.{ledger_text};
-ghost use Rattle.merging.specs.Merges.{IsRead, IsUnread};
-ghost use Rattle.merging.specs.Parts.{HasSameCounts, IsShort, IsShortPlace, count_lines, place_beside, tail, told_place};
+ghost use Rattle.merging.specs.Merges.{IsTextRead, IsNoText};
+ghost use Rattle.merging.specs.Parts.{HasSameCounts, Is64BitLedger, Is64BitPlace, count_lines, place_beside, tail};
+ghost use Rattle.merging.specs.Parts.{told_place};
 ghost use Rattle.merging.specs.Texts.{all_name, noun, text_of, unjudged_name};
 
 use crate::cursor::Cursor;
@@ -58,7 +59,7 @@ fn counts(rest: &mut Cursor<'_>, kind: Kind) -> Option<FirstCounts>
 fn told(rest: &mut Cursor<'_>, alloc: Global, kind: Kind) -> Result<Option<Ledger>, OutOfMemory>
     ensures found { IfOk result (λ r. IfSome r (λ l. (length l.cycles.items ≡ MAX_EVENTS + 1)
         × (rest.old ≡ ledger_text (all_name kind) (unjudged_name kind) (noun kind) l ++ rest.new))) }
-    ensures only { IfOk result (λ r. (l : Book) (more : List ℕ) → IsShort l
+    ensures only { IfOk result (λ r. (l : Book) (more : List ℕ) → Is64BitLedger l
         → rest.old ≡ ledger_text (all_name kind) (unjudged_name kind) (noun kind) l ++ more
         → MatchOption r ⊥ (λ m. HasSameCounts m l) × (rest.new ≡ more)) }
 {
@@ -98,7 +99,7 @@ fn place_beside(first: Option<usize>, unjudged: usize) -> Option<usize>
 /// The first place of what has no verdict: of a survey takes its line, of a campaign it is the other one.
 fn unjudged_place(rest: &mut Cursor<'_>, kind: Kind, other: Option<usize>) -> Option<Option<usize>>
     ensures found { IfSome result (λ place. rest.old ≡ tail kind place ++ rest.new) }
-    ensures only { (place : Option ℕ) (more : List ℕ) → IsShortPlace place → rest.old ≡ tail kind place ++ more
+    ensures only { (place : Option ℕ) (more : List ℕ) → Is64BitPlace place → rest.old ≡ tail kind place ++ more
         → (result ≡ Some (told_place kind other place)) × (rest.new ≡ more) }
 {
     match kind {
@@ -111,7 +112,7 @@ fn unjudged_place(rest: &mut Cursor<'_>, kind: Kind, other: Option<usize>) -> Op
 fn whole(rest: &mut Cursor<'_>, alloc: Global, kind: Kind) -> Result<Option<Ledger>, OutOfMemory>
     ensures found { IfOk result (λ r. IfSome r (λ l. (length l.cycles.items ≡ MAX_EVENTS + 1)
         × (rest.old ≡ text_of kind l ++ rest.new))) }
-    ensures only { IfOk result (λ r. (l : Book) (more : List ℕ) → IsShort l → rest.old ≡ text_of kind l ++ more
+    ensures only { IfOk result (λ r. (l : Book) (more : List ℕ) → Is64BitLedger l → rest.old ≡ text_of kind l ++ more
         → MatchOption r ⊥ (λ m. HasSameCounts m l
         × (m.first_unjudged ≡ told_place kind (place_beside m.first m.unjudged) l.first_unjudged)) × (rest.new ≡ more)) }
 {
@@ -137,8 +138,8 @@ fn line_refusal(start: &Cursor<'_>, kind: Kind) -> MergeRefusal {
 
 /// Takes the text of the ledger of some codes.
 pub(crate) fn read(rest: &mut Cursor<'_>, alloc: Global, kind: Kind) -> Result<Ledger, TextFault>
-    ensures ok { IfOk result (IsRead kind rest.old rest.new) }
-    ensures err { IfErr result (IsUnread kind rest.old) }
+    ensures ok { IfOk result (IsTextRead kind rest.old rest.new) }
+    ensures err { IfErr result (IsNoText kind rest.old) }
 {
     let left = rest.left();
     let refusal = line_refusal(rest, kind);

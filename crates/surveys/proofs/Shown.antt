@@ -10,7 +10,7 @@ use Rattle.surveys.specs.Lines.{IsCut, IsSplit, IsWhole, is_some_line, lines}
 use Rattle.surveys.specs.LineLaws.{whole_append, whole_nil}
 use Rattle.surveys.specs.declared.showing.Sought.{Sought}
 use Rattle.surveys.specs.declared.showing.Sought.TheVariants.{Found, Later}
-use Rattle.surveys.specs.Shown.{IsBefore, IsLineAt, IsLineOfRead, IsRead, IsSought, IsSoughtFirst}
+use Rattle.surveys.specs.Shown.{IsBefore, IsLineAt, IsLineOfRead, IsReadOn, IsSought, IsSoughtFirst}
 
 -- a line after others
 pub line_behind : (all front back : List ℕ) (k m : ℕ) (line : List ℕ) → lines all ≡ lines front ++ lines back
@@ -170,7 +170,7 @@ module _ (u v w : Option (List ℕ)) (k m n : ℕ) (old block : List ℕ) (is : 
   }
 
 -- what was read, and then more
-pub read_on : (u v w : Option (List ℕ)) (old block : List ℕ) → IsRead u v → Gathers v w old block → IsRead u w
+pub read_on : (u v w : Option (List ℕ)) (old block : List ℕ) → IsReadOn u v → Gathers v w old block → IsReadOn u w
 read_on u v w old block read gathered = (
   read.0 ++ gathered.0,
   Consumes-trans u v w read.0 gathered.0 read.1 gathered.1,

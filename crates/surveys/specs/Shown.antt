@@ -21,8 +21,8 @@ pub record IsLineOfRead (left_before left_after : Option (List ℕ)) (k : ℕ) (
   pub is : IsLineOf bytes k line
 
 -- some bytes were read
-abbrev pub IsRead : Option (List ℕ) → Option (List ℕ) → Type 0
-IsRead left_before left_after = (bytes : List ℕ) × Consumes left_before left_after bytes
+abbrev pub IsReadOn : Option (List ℕ) → Option (List ℕ) → Type 0
+IsReadOn left_before left_after = (bytes : List ℕ) × Consumes left_before left_after bytes
 
 -- it, or which number it has after these bytes
 abbrev pub IsSought : List ℕ → ℕ → Sought → Type 0

@@ -3,7 +3,7 @@
 ghost use Rattle.std.specs.Prelude.{◌≡◌, ◌<◌, true, IfErr, IfOk, OnOk, length, option_map};
 ghost use Rattle.std.specs.Io.KnownBytes.{IsAtEnd};
 ghost use Rattle.devices.specs.Bytes.{CanGrow, CountsBy};
-ghost use Rattle.surveys.specs.Shown.{IsLineOfRead, IsRead, IsSought, IsSoughtFirst};
+ghost use Rattle.surveys.specs.Shown.{IsLineOfRead, IsReadOn, IsSought, IsSoughtFirst};
 ghost use Rattle.surveys.specs.Surveys.{failed_reads, failed_writes};
 
 use crate::error::SurveyError;
@@ -74,7 +74,7 @@ fn read_rest<R: Source>(
 ) -> Result<(), SurveyError>
     requires failures { CanGrow (R.read_failures source.old) }
     requires room { 0 < length piece.old }
-    ensures read { OnOk result (IsRead (R.left source.old) (R.left source.new)) }
+    ensures read { OnOk result (IsReadOn (R.left source.old) (R.left source.new)) }
     ensures met { OnOk result (R.is_ended source.new ≡ true) }
     ensures all { OnOk result (IsAtEnd (R.left source.new)) }
     ensures reads { CountsBy failed_reads (R.read_failures source.old) (R.read_failures source.new) result }

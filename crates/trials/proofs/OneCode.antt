@@ -16,7 +16,7 @@ use Rattle.ledger.specs.Findings.{finding_code}
 use Rattle.ledger.specs.Counts.{IsLedger, IsSameLedger}
 use Rattle.ledger.specs.LedgerLaws as laws
 use Rattle.trials.specs.Campaigns.{Plan}
-use Rattle.trials.specs.Codes.{IsCode, AreCodes, IsShort, end_code}
+use Rattle.trials.specs.Codes.{IsCode, AreCodes, IsShortEnd, end_code}
 use Rattle.trials.specs.Judged.{IsEndVerdict}
 use Rattle.trials.specs.OneLedger.{HasItsKind}
 use Rattle.trials.specs.Schedule.{IsRandomRun, configuration_behind}
@@ -82,7 +82,7 @@ cycle_kind : (k : ℕ) → k ≤ MAX_EVENTS → HasItsKind (CYCLE + k)
 cycle_kind k short = (grind (arith, nat_tests, short), grind (arith, nat_tests, short))
 
 -- so has every end of a run its kind
-end_kind : (verdict : Option Verdict) → IsShort verdict → HasItsKind (end_code verdict)
+end_kind : (verdict : Option Verdict) → IsShortEnd verdict → HasItsKind (end_code verdict)
 end_kind None short = (refl, refl)
 end_kind (Some (Ordered order)) short = (refl, refl)
 end_kind (Some (Overlook load store)) short = overlook_kind _ (omega arith)

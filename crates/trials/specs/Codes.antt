@@ -39,9 +39,9 @@ end_code None = UNFINISHED
 end_code (Some verdict) = finding_code (finding_of verdict)
 
 -- a cycle has no more events than a recording may have
-abbrev pub IsShort : Option Verdict → Type 0
-IsShort None = ⊤
-IsShort (Some verdict) = findings.IsShort verdict
+abbrev pub IsShortEnd : Option Verdict → Type 0
+IsShortEnd None = ⊤
+IsShortEnd (Some verdict) = findings.IsShortVerdict verdict
 
 -- the code of trial k of a campaign
 pub record IsCode (p : Plan) (k n : ℕ) : Type 0 where
@@ -49,7 +49,7 @@ pub record IsCode (p : Plan) (k n : ℕ) : Type 0 where
   pub ends : EndsIn p k end
   pub verdict : Option Verdict
   pub judged : IsEndVerdict end verdict
-  pub short : IsShort verdict
+  pub short : IsShortEnd verdict
   pub code : n ≡ end_code verdict
 
 -- the codes of all trials, in order

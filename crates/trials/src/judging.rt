@@ -1,7 +1,7 @@
 //! What is judged of runs.
 
 ghost use Rattle.std.specs.Prelude.{◌≡◌, IfOk};
-ghost use Rattle.trials.specs.Codes.{end_code, IsShort};
+ghost use Rattle.trials.specs.Codes.{end_code, IsShortEnd};
 ghost use Rattle.machine.specs.declared.fault.Fault.TheVariants as faults;
 ghost use Rattle.trials.specs.Judged.{begun_machine, ran, IsEndVerdict, IsJudgedEnd, IsLawful};
 
@@ -47,7 +47,7 @@ pub fn judged_end(alloc: Global, machine: Machine) -> Result<Option<Judged>, Out
 pub(crate) fn end_verdict(alloc: Global, machine: Machine) -> Result<Option<Verdict>, OutOfMemory>
     ensures judged { IfOk result (IsEndVerdict machine) }
     ensures lawful { IfOk result (λ verdict. machine.fault ≡ faults.None → IsLawful verdict) }
-    ensures short { IfOk result IsShort }
+    ensures short { IfOk result IsShortEnd }
 {
     match judged_end(alloc, machine)? {
         Some(Judged { recording, verdict }) => {
@@ -79,7 +79,7 @@ pub fn run_and_judge(
 
 /// The code of a trial by what is judged of the machine in which it ends.
 pub(crate) fn end_code(verdict: Option<Verdict>) -> u64
-    requires { IsShort verdict }
+    requires { IsShortEnd verdict }
     ensures { result ≡ end_code verdict }
 {
     match verdict {

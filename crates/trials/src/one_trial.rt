@@ -2,7 +2,7 @@
 
 ghost use Rattle.std.specs.Prelude.{◌≡◌, ◌<◌, IfOk};
 ghost use Rattle.machine.specs.Configuration.{Configuration};
-ghost use Rattle.trials.specs.Codes.{EndsIn, IsShort, generator, program_of_trial};
+ghost use Rattle.trials.specs.Codes.{EndsIn, IsShortEnd, generator, program_of_trial};
 ghost use Rattle.trials.specs.Judged.{IsEndRecording, IsEndVerdict};
 
 use crate::filed::Filed;
@@ -42,7 +42,7 @@ pub fn run_trial(alloc: Global, campaign: &Campaign, k: usize) -> Result<Machine
 /// A trial with its code, by what is judged of a machine in which it ends.
 fn filed(campaign: &Campaign, k: usize, verdict: Option<Verdict>) -> Filed
     requires end { (h : Configuration) × EndsIn campaign.now k h × IsEndVerdict h verdict }
-    requires short { IsShort verdict }
+    requires short { IsShortEnd verdict }
     ensures { (result.campaign ≡ campaign.now) × (result.trial ≡ k) }
 {
     Filed::new(campaign, k, end_code(verdict))

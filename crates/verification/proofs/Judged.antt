@@ -20,7 +20,7 @@ use Rattle.judge.specs.Judgement.{IsCycleVerdict, IsOrderedVerdict, IsOverlookVe
 use Rattle.report.specs.VerdictText.{IsVerdictText}
 use Rattle.verification.specs.declared.finding.Finding.{Finding}
 use Rattle.verification.specs.declared.finding.Finding.TheVariants.{Holds}
-use Rattle.verification.specs.Proof.{AreShort, EveryVerdictHolds, IsJudged, IsProof}
+use Rattle.verification.specs.Proof.{Are16Bit, EveryVerdictHolds, IsJudged, IsProof}
 
 module _ (x : Execution) (is : IsRecording x) where
   -- forced pairs are pairs of events
@@ -29,7 +29,7 @@ module _ (x : Execution) (is : IsRecording x) where
 
   -- the labels of the verdict are at most the length of its cycle, and so short
   labels_short : (c : Certificate) → IsCycleVerdict x c.cycle.items (lists_of c.rows.items) → (v : ℕ)
-      → AreShort (get_or (lists_of c.rows.items) v [])
+      → Are16Bit (get_or (lists_of c.rows.items) v [])
   labels_short c found v = elim (cases_lt v (event_count x)) [
     | inl low ↦ λ k d inside.
         let exact = found.exact.exact v low in
@@ -44,7 +44,7 @@ module _ (x : Execution) (is : IsRecording x) where
           (exact.labels k (omega (arith, inside, exact.one_each))).cap,
           get_or_default (get_or (lists_of c.rows.items) v []) k d 0 inside,
         )
-    | inr past ↦ subst AreShort
+    | inr past ↦ subst Are16Bit
         (sym (get_or_past (lists_of c.rows.items) v [] (omega (arith, past, found.exact.one_each))))
         (λ k d none. absurd (omega (arith, none)))
   ]

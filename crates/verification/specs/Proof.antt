@@ -14,13 +14,13 @@ use Rattle.verification.specs.declared.finding.Finding.{Finding}
 use Rattle.verification.specs.declared.finding.Finding.TheVariants.{Holds}
 
 -- numbers of 16 bits
-abbrev pub AreShort : List ℕ → Type 0
-AreShort numbers = All (λ n. n < 2 ^ 16) numbers
+abbrev pub Are16Bit : List ℕ → Type 0
+Are16Bit numbers = All (λ n. n < 2 ^ 16) numbers
 
 -- so many numbers of 16 bits
 pub record IsRow (count : ℕ) (numbers : List ℕ) : Type 0 where
   pub size : length numbers ≡ count
-  pub short : AreShort numbers
+  pub short : Are16Bit numbers
 
 -- so many rows of so many numbers
 pub record AreRows (count : ℕ) (rows : List (List ℕ)) : Type 0 where
@@ -31,7 +31,7 @@ pub record AreRows (count : ℕ) (rows : List (List ℕ)) : Type 0 where
 abbrev pub HasShortLabels : Verdict → Type 0
 HasShortLabels (Ordered m) = ⊤
 HasShortLabels (Overlook l s) = ⊤
-HasShortLabels (Cycle c) = (v : ℕ) → AreShort (slice_index_or (lists_of c.rows.items) v [])
+HasShortLabels (Cycle c) = (v : ℕ) → Are16Bit (slice_index_or (lists_of c.rows.items) v [])
 
 -- the text of a verdict that passes its check
 pub record IsProof (x : Execution) (text : List ℕ) : Type 0 where

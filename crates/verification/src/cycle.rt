@@ -3,7 +3,7 @@
 ghost use Rattle.std.specs.Prelude.{◌≡◌, ◌<◌, ◌≤◌, ◌^◌, ◌++◌, ◌∷◌, ℕ, List, Some, IfOk, IfSome, MatchOption, codes};
 ghost use Rattle.std.specs.Prelude.{[], decimal, length};
 ghost use Rattle.report.specs.VerdictText.{reason_name, ArePairLines, IsPairLine};
-ghost use Rattle.verification.specs.Proof.{AreShort};
+ghost use Rattle.verification.specs.Proof.{Are16Bit};
 
 use crate::cursor::Cursor;
 use common::{EventId, OutOfMemory};
@@ -74,7 +74,7 @@ pub(crate) fn pairs(
     requires some { 0 < count }
     ensures found { IfOk result (λ r. IfSome r (λ c. (length c.items ≡ count) × ((lines : List ℕ)
         × ArePairLines places.now c.items count lines × (rest.old ≡ lines ++ rest.new)))) }
-    ensures only { IfOk result (λ r. (c lines more : List ℕ) → length c ≡ count → AreShort c
+    ensures only { IfOk result (λ r. (c lines more : List ℕ) → length c ≡ count → Are16Bit c
         → ArePairLines places.now c count lines → rest.old ≡ lines ++ more
         → MatchOption r ⊥ (λ v. v.items ≡ c) × (rest.new ≡ more)) }
 {

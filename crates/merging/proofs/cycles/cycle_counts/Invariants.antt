@@ -1,7 +1,7 @@
 use Rattle.std.proofs.Common.{◌≡◌, ◌<◌, ◌+◌, ◌-◌, ◌++◌, ◌∷◌, ℕ, List, get_or, length}
 use Rattle.common.specs.declared.limits.TheConstants.{MAX_EVENTS}
 use Rattle.report.specs.Counted.{cycle_lines}
-use Rattle.merging.specs.Parts.{AreShort}
+use Rattle.merging.specs.Parts.{Are64Bit}
 use Rattle.merging.proofs.CycleTexts.{lines_from}
 use Rattle.merging.proofs.cycles.cycle_counts.Given as goal
 
@@ -9,7 +9,7 @@ abbrev pub invariant-loop-cycle : goal.invariant-loop-cycle
 invariant-loop-cycle l = record {
   size : length l.counts.items ≡ l.cycle;
   text : l.fn.rest ≡ cycle_lines l.counts.items l.cycle ++ l.rest;
-  only : (counts more : List ℕ) → length counts ≡ MAX_EVENTS + 1 → AreShort counts
+  only : (counts more : List ℕ) → length counts ≡ MAX_EVENTS + 1 → Are64Bit counts
       → l.fn.rest ≡ cycle_lines counts (MAX_EVENTS + 1) ++ 102 ∷ more
       → ((v : ℕ) → v < l.cycle → get_or l.counts.items v 0 ≡ get_or counts v 0)
       × (l.rest ≡ lines_from counts l.cycle (MAX_EVENTS + 1 - l.cycle) ++ 102 ∷ more);

@@ -1,12 +1,12 @@
 use Rattle.std.proofs.Common.{◌≡◌, ◌++◌, ◌∷◌, ℕ, List, length, take, drop}
 use Rattle.report.specs.VerdictText.{numbers_text}
-use Rattle.verification.specs.Proof.{IsRow, AreShort}
+use Rattle.verification.specs.Proof.{IsRow, Are16Bit}
 use Rattle.verification.proofs.numbers.numbers.Given as goal
 
 abbrev pub invariant-loop-i : goal.invariant-loop-i
 invariant-loop-i l = record {
   size : length l.numbers.items ≡ l.i;
-  short : AreShort l.numbers.items;
+  short : Are16Bit l.numbers.items;
   text : l.fn.rest ≡ numbers_text l.numbers.items ++ l.rest;
   only : (ns more : List ℕ) → IsRow l.count ns → l.fn.rest ≡ numbers_text ns ++ 10 ∷ more
       → (l.numbers.items ≡ take l.i ns) × (l.rest ≡ numbers_text (drop l.i ns) ++ 10 ∷ more);
