@@ -5,7 +5,7 @@ use Rattle.machine.specs.declared.fault.Fault.{Fault}
 use Rattle.machine.specs.declared.step.Step.{Step}
 use Rattle.machine.specs.declared.blocked.Blocked.{Blocked}
 use Rattle.machine.specs.State.{State}
-use Rattle.machine.specs.Step.{taken, after, run}
+use Rattle.machine.specs.Step.{step_result, after, run}
 use Rattle.machine.specs.Taken.{all_taken, begun, unless_blocked}
 use Rattle.machine.specs.Configuration.{Configuration}
 
@@ -30,12 +30,12 @@ bound_after (Err b) f s t h = absurd (let clash : (let r : Result State Blocked 
 module _ (p : List (List Op)) (capacity : ℕ) (fault : Fault) where
   -- steps that are taken, and then one more
   all_more : (s t u : State) (steps : List Step) (step : Step) → all_taken p capacity fault s steps ≡ Ok t
-      → taken p capacity fault t step ≡ Ok u → all_taken p capacity fault s (steps ++ step ∷ []) ≡ Ok u
+      → step_result p capacity fault t step ≡ Ok u → all_taken p capacity fault s (steps ++ step ∷ []) ≡ Ok u
   all_more s t u [] step led took =
       ap (λ (r : Result State Blocked). unless_blocked r (λ v. Ok v))
-      (ap (λ (v : State). taken p capacity fault v step) (same_state (Ok s) s t refl led) ∙ took)
+      (ap (λ (v : State). step_result p capacity fault v step) (same_state (Ok s) s t refl led) ∙ took)
   all_more s t u (x ∷ xs) step led took =
-      bound_more (taken p capacity fault s x) (λ v. all_taken p capacity fault v xs)
+      bound_more (step_result p capacity fault s x) (λ v. all_taken p capacity fault v xs)
       (λ v. all_taken p capacity fault v (xs ++ step ∷ [])) t u
       (λ v h. all_more v t u xs step h took) led
 
@@ -44,13 +44,13 @@ module _ (p : List (List Op)) (capacity : ℕ) (fault : Fault) where
       → run p capacity fault s steps ≡ t
   taken_run s t [] led = same_state (Ok s) s t refl led
   taken_run s t (x ∷ xs) led =
-      taken_run (after s (taken p capacity fault s x)) t xs
-      (bound_after (taken p capacity fault s x) (λ v. all_taken p capacity fault v xs) s t led)
+      taken_run (after s (step_result p capacity fault s x)) t xs
+      (bound_after (step_result p capacity fault s x) (λ v. all_taken p capacity fault v xs) s t led)
 
 -- the steps lead to old, and one step more leads to new
 pub replay_more : (old new : Configuration) (steps : List Step) (step : Step)
     → all_taken old.program.cores old.capacity old.fault (begun old.program) steps ≡ Ok old.state
-    → taken old.program.cores old.capacity old.fault old.state step ≡ Ok new.state
+    → step_result old.program.cores old.capacity old.fault old.state step ≡ Ok new.state
     → new ≡ record old { state = new.state }
     → all_taken new.program.cores new.capacity new.fault (begun new.program) (steps ++ step ∷ [])
     ≡ Ok new.state

@@ -3,7 +3,7 @@ use Rattle.std.specs.Prelude.{[], ◌∷◌, ◌++◌, length, nat_lt, if◌then
 use Rattle.machine.specs.declared.step.Step.{Step}
 use Rattle.machine.specs.declared.blocked.Blocked.{Blocked as Reason}
 use Rattle.machine.specs.State.{State}
-use Rattle.machine.specs.Step.{taken}
+use Rattle.machine.specs.Step.{step_result}
 use Rattle.live.specs.declared.error.LiveError.{LiveError}
 use Rattle.live.specs.declared.error.LiveError.TheVariants.{Blocked, TraceFull}
 use Rattle.live.specs.Trace.{Trace}
@@ -19,5 +19,5 @@ abbrev pub advance_answer : Trace → Step → Result Trace LiveError
 advance_answer t step =
     if nat_lt (length t.steps) t.limit
     then step_answer t step
-    (taken t.machine.program.cores t.machine.capacity t.machine.fault t.machine.state step)
+    (step_result t.machine.program.cores t.machine.capacity t.machine.fault t.machine.state step)
     else Err TraceFull

@@ -18,7 +18,7 @@ use Rattle.core_unit.specs.Progress.{Progress}
 use Rattle.machine.specs.declared.fault.Fault.{Fault}
 use Rattle.machine.specs.Faults.{draining, without}
 use Rattle.machine.specs.declared.step.Step.TheVariants.{Drain}
-use Rattle.machine.specs.Step.{taken}
+use Rattle.machine.specs.Step.{step_result}
 use Rattle.machine.specs.BoundedItems.{BoundedItems}
 use Rattle.machine.specs.Configuration.{IsSound, IsEntry, state_from, places_of}
 use Rattle.machine.proofs.Removed.{length_without, all_without}
@@ -53,7 +53,7 @@ module _ (p : Parts) (capacity : ℕ) (units : List Progress) (buffers : List Bu
 
   -- a drain that the caches refuse is blocked
   pub drain_blocked : (e : CacheError) → moesi.write caches core entry.addr entry.value entry.event ≡ Err e
-      → taken p.cores capacity fault (state_from p.init units buffers caches writes reads done.items)
+      → step_result p.cores capacity fault (state_from p.init units buffers caches writes reads done.items)
       (Drain core) ≡ Err B5
   drain_blocked e refused = rw (
     lt-ltb core (length p.cores) at,
@@ -189,7 +189,7 @@ module _ (p : Parts) (capacity : ℕ) (units : List Progress) (buffers : List Bu
       -- the row of a drain
       pub drain_taken : (caches' : moesi.CacheState)
           → moesi.write caches core entry.addr entry.value entry.event ≡ Ok caches'
-          → taken p.cores capacity fault (state_from p.init units buffers caches writes reads done.items)
+          → step_result p.cores capacity fault (state_from p.init units buffers caches writes reads done.items)
           (Drain core)
           ≡ Ok (state_from p.init units (slice_set buffers core new) caches'
           (slice_set writes entry.addr list') reads done'.items)

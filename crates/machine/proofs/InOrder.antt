@@ -14,7 +14,7 @@ use Rattle.moesi.specs.CacheLaws.{every_call_keeps_coherence, every_transaction_
 use Rattle.moesi.specs.CacheLaws.{every_write_sets_current}
 use Rattle.machine.specs.declared.fault.Fault.TheVariants as fault
 use Rattle.machine.specs.State.{State, buffer_of, line_copy, event_of}
-use Rattle.machine.specs.Step.{given, with_buffer, with_caches, forwarded_or_read, looked_up, rmw_value}
+use Rattle.machine.specs.Step.{with_read, with_buffer, with_caches, forwarded_or_read, looked_up, rmw_value}
 use Rattle.machine.proofs.Cached.{written_large, transaction_large, written_read}
 use Rattle.machine.proofs.Seen.{seen, IsOrdered, IsNewest}
 use Rattle.machine.proofs.Static.{static_of, snapshot_of, op_reads}
@@ -145,7 +145,7 @@ module _ (p : List (List Op)) (s : State) (g : IsInOrder p s) where
             g.steady.counted g.ordered;
         coherent = every_call_keeps_coherence s.caches caches c a value b g.coherent (core_within c at) within
             (inr wrote);
-        latest = latest_written (given s b what) caches a value b within g.steady.listed.cells
+        latest = latest_written (with_read s b what) caches a value b within g.steady.listed.cells
             (written_large s.caches caches c a value b wrote).blocks
             (λ k. every_write_sets_current s.caches caches c a value b k g.coherent (core_within c at)
             within wrote) g.latest;

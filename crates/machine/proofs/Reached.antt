@@ -8,7 +8,7 @@ use Rattle.machine.specs.declared.step.Step.{Step}
 use Rattle.machine.specs.declared.step.Step.TheVariants.{Exec}
 use Rattle.machine.specs.State.{State, opening}
 use Rattle.machine.specs.Configuration.{IsReached}
-use Rattle.machine.specs.Step.{exec, taken, after, run, IsAt}
+use Rattle.machine.specs.Step.{exec, step_result, after, run, IsAt}
 use Rattle.machine.specs.RunLaws.{run_append}
 use Rattle.machine.proofs.InOrder.{IsInOrder}
 use Rattle.machine.proofs.Complete.{run_in_order}
@@ -16,17 +16,17 @@ use Rattle.machine.proofs.Data.{IsData, run_data}
 
 -- one step more
 pub reached_step : (p : List (List Op)) (init : List ℕ) (capacity : ℕ) (f : Fault) (s t : State) (step : Step)
-    → IsReached p init capacity f s → taken p capacity f s step ≡ Ok t → IsReached p init capacity f t
+    → IsReached p init capacity f s → step_result p capacity f s step ≡ Ok t → IsReached p init capacity f t
 reached_step p init capacity f s t step r took = record {
   steps = r.steps ++ step ∷ [];
   leads = run_append p capacity f (opening p init) r.steps (step ∷ [])
-      ∙ (ap (λ (z : State). after z (taken p capacity f z step)) r.leads ∙ ap (after s) took);
+      ∙ (ap (λ (z : State). after z (step_result p capacity f z step)) r.leads ∙ ap (after s) took);
   operations = r.operations;
 }
 
 -- the execution of a core's operation is a step
 pub at_taken : (p : List (List Op)) (capacity : ℕ) (f : Fault) (s : State) (c : ℕ) (op : Op) (e : ℕ)
-    → IsAt p s c op e → taken p capacity f s (Exec c) ≡ exec capacity f s c e op
+    → IsAt p s c op e → step_result p capacity f s (Exec c) ≡ exec capacity f s c e op
 at_taken p capacity f s c op e at = rw (lt-ltb c (length p) at.core, at.operation, at.number) refl
 
 -- an execution leads on

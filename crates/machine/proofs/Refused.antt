@@ -16,7 +16,7 @@ use Rattle.machine.specs.declared.blocked.Blocked.TheVariants.{B2, B3, B4, B5, B
 use Rattle.machine.specs.declared.fault.Fault.{Fault}
 use Rattle.machine.specs.declared.step.Step.TheVariants.{Exec, Drain}
 use Rattle.machine.specs.Faults.{forwarded, draining, may_fence, may_rmw}
-use Rattle.machine.specs.Step.{exec, read_modify_written, read_unmodified, taken, forwarded_or_read}
+use Rattle.machine.specs.Step.{exec, read_modify_written, read_unmodified, step_result, forwarded_or_read}
 use Rattle.machine.specs.BoundedItems.{BoundedItems}
 use Rattle.machine.specs.State.{State}
 use Rattle.machine.specs.Configuration.{IsSound, state_from}
@@ -24,12 +24,12 @@ use Rattle.machine.proofs.ExecuteParts.{buffer_seen}
 
 -- a core that is not there executes nothing
 pub no_core_executes : (p : List (List Op)) (capacity : ℕ) (fault : Fault) (s : State) (core : ℕ)
-    → length p ≤ core → taken p capacity fault s (Exec core) ≡ Err B8
+    → length p ≤ core → step_result p capacity fault s (Exec core) ≡ Err B8
 no_core_executes p capacity fault s core none = rw (le-ltb core (length p) none) refl
 
 -- and drains nothing
 pub no_core_drains : (p : List (List Op)) (capacity : ℕ) (fault : Fault) (s : State) (core : ℕ) → length p ≤ core
-    → taken p capacity fault s (Drain core) ≡ Err B8
+    → step_result p capacity fault s (Drain core) ≡ Err B8
 no_core_drains p capacity fault s core none = rw (le-ltb core (length p) none) refl
 
 -- a buffer that refuses a store is full
@@ -110,7 +110,7 @@ module _ (p : Parts) (capacity : ℕ) (units : List Progress) (buffers : List Bu
 
     -- an empty buffer has nothing to drain
     pub nothing_drains : (fault : Fault) → slice_get old.entries (draining fault old.entries) ≡ None
-        → taken p.cores capacity fault (state_from p.init units buffers caches writes reads done.items)
+        → step_result p.cores capacity fault (state_from p.init units buffers caches writes reads done.items)
         (Drain core) ≡ Err B6
     nothing_drains fault none = rw (
       lt-ltb core (length p.cores) there,

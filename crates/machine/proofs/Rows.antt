@@ -19,9 +19,9 @@ use Rattle.machine.specs.declared.step.Step.TheVariants.{Exec, Drain, GetS, GetM
 use Rattle.machine.specs.declared.blocked.Blocked.{Blocked}
 use Rattle.machine.specs.declared.blocked.Blocked.TheVariants.{B4, B5, B7, B8}
 use Rattle.machine.specs.State.{State, place_of, buffer_of, line_copy, first_event, event_of}
-use Rattle.machine.specs.Step.{advanced, performed, given, written, with_buffer, with_caches, allowed}
+use Rattle.machine.specs.Step.{advanced, performed, with_read, written, with_buffer, with_caches, or_blocked}
 use Rattle.machine.specs.Step.{looked_up, read_modify_written, read_unmodified, compared_and_swapped}
-use Rattle.machine.specs.Step.{rmw_value, exec, exec_next, drained_at, has, taken, after, run}
+use Rattle.machine.specs.Step.{rmw_value, exec, exec_next, drained_at, has, step_result, after, run}
 use Rattle.machine.proofs.Static.{op_reads, is_st, is_ld}
 use Rattle.machine.proofs.Cached.{exclusive_read}
 use Rattle.machine.proofs.ExecuteEvents.{IsNext}
@@ -36,7 +36,7 @@ stored_state s c b a v = advanced (with_buffer s c
 
 -- the state after core c's load got this
 abbrev pub loaded_state : State → ℕ → ℕ → ℕ × Option ℕ → State
-loaded_state s c b what = advanced (performed (given s b what) b) c
+loaded_state s c b what = advanced (performed (with_read s b what) b) c
 
 -- the state after core c's fence
 abbrev pub fenced_state : State → ℕ → ℕ → State
@@ -44,7 +44,7 @@ fenced_state s c b = advanced (performed s b) c
 
 -- the state after core c read its line of address a and wrote it, which left these caches
 abbrev pub rmw_state : State → moesi.CacheState → ℕ → ℕ → ℕ → State
-rmw_state s caches c b a = advanced (performed (written (given s b (line_copy s c a)) caches a b) b) c
+rmw_state s caches c b a = advanced (performed (written (with_read s b (line_copy s c a)) caches a b) b) c
 
 -- op reads address a and then writes it
 pub record IsRmw (op : Op) (d : ℕ × Option ℕ) (a : ℕ) : Type 0 where
@@ -136,7 +136,7 @@ ok_one s t h = cc
 
 -- what had its effect was allowed
 pub allowed_ok : {A : Type 0} (b : Blocked) (effect : A → State) (r : Result A CacheError) (t : State)
-    → allowed b effect r ≡ Ok t → (x : A) × (r ≡ Ok x) × (effect x ≡ t)
+    → or_blocked b effect r ≡ Ok t → (x : A) × (r ≡ Ok x) × (effect x ≡ t)
 allowed_ok b effect (Ok x) t h = (x, refl, ok_one (effect x) t h)
 allowed_ok b effect (Err e) t h = absurd cc
 
@@ -191,7 +191,7 @@ module _ (p : List (List Op)) (capacity : ℕ) (f : Fault) (s : State) (P : Stat
   transaction_kept : (c a : ℕ) (t : State) (r : Result moesi.CacheState CacheError)
       → ((caches : moesi.CacheState) → r ≡ Ok caches → IsAnyTransaction s.caches c a caches
       × (f ≡ fault.None → IsTransaction s.caches c a caches))
-      → cond (has p s c a) (allowed B7 (with_caches s) r) (Err B8) ≡ Ok t → P t
+      → cond (has p s c a) (or_blocked B7 (with_caches s) r) (Err B8) ≡ Ok t → P t
   transaction_kept c a t r is h =
       let g = guarded _ _ _ t h in
       let there = has_both p s c a g.0 in
@@ -215,7 +215,7 @@ module _ (p : List (List Op)) (capacity : ℕ) (f : Fault) (s : State) (P : Stat
   exec_kept c b (Cas a e v) t n at h = cas_kept c b a e v t n at h
 
   -- a step that is taken is one of the rows
-  pub step_kept : (step : Step) (t : State) → taken p capacity f s step ≡ Ok t → P t
+  pub step_kept : (step : Step) (t : State) → step_result p capacity f s step ≡ Ok t → P t
   step_kept (Exec c) t h = go (slice_get (slice_index_or p c []) (place_of s c)) refl (guarded _ _ _ t h).1
     where
       at : c < length p
@@ -260,9 +260,9 @@ pub run_kept : (p : List (List Op)) (capacity : ℕ) (f : Fault) (P : State → 
     → (steps : List Step) (s : State) → P s → P (run p capacity f s steps)
 run_kept p capacity f P kept [] s h = h
 run_kept p capacity f P kept (step ∷ steps) s h = go (λ t ht. run_kept p capacity f P kept steps t ht)
-    (taken p capacity f s step) refl
+    (step_result p capacity f s step) refl
   where
     go : ((t : State) → P t → P (run p capacity f t steps)) → (r : Result State Blocked)
-        → taken p capacity f s step ≡ r → P (run p capacity f (after s r) steps)
+        → step_result p capacity f s step ≡ r → P (run p capacity f (after s r) steps)
     go on (Ok t) is = on t (step_kept p capacity f s P (kept s h).0 (kept s h).1 step t is)
     go on (Err b) is = on s h

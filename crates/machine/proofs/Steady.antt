@@ -14,7 +14,7 @@ use Rattle.moesi.specs.State as moesi
 use Rattle.moesi.specs.Laws.{IsAnyTransaction}
 use Rattle.machine.specs.declared.fault.Fault.{Fault}
 use Rattle.machine.specs.State.{State, place_of, buffer_of, line_copy, event_of}
-use Rattle.machine.specs.Step.{performed, given, written, with_buffer, with_caches, rmw_value}
+use Rattle.machine.specs.Step.{performed, with_read, written, with_buffer, with_caches, rmw_value}
 use Rattle.machine.proofs.Cached.{written_large, any_large}
 use Rattle.machine.proofs.Seen.{seen, IsCounted}
 use Rattle.machine.proofs.Static.{static_of, snapshot_of, placed_op, done_by, op_reads}
@@ -190,8 +190,8 @@ module _ (p : List (List Op)) (s : State) (g : IsSteady p s) where
       → IsSteady p (loaded_state s c b what)
   load_steady c b a what n =
       let op : placed_op p b ≡ (c, Ld a) = next_placed p s c b (Ld a) n in
-      let kept : AreListed p (performed (given s b what) b) =
-      listed_performed p (given s b what) b
+      let kept : AreListed p (performed (with_read s b what) b) =
+      listed_performed p (with_read s b what) b
       (ap (λ (z : ℕ × Op). written_address (event_of z.1 (get_or (slice_set s.reads b what) b (0, None))))
       op) (listed_given p s b what (next_fresh c b (Ld a) n) g.listed) in
       record {
@@ -229,7 +229,7 @@ module _ (p : List (List Op)) (s : State) (g : IsSteady p s) where
 
   -- what a read-modify-write writes, once it has read
   pub rmw_writes : (c b a : ℕ) (op : Op) → IsNext p s c b op → IsRmw op (line_copy s c a) a
-      → written_address (done_by p (given s b (line_copy s c a)) b) ≡ Some a
+      → written_address (done_by p (with_read s b (line_copy s c a)) b) ≡ Some a
   rmw_writes c b a op n is =
       ap (λ (d : ℕ × Option ℕ). written_address (event_of (placed_op p b).1 d))
       (get_or-set_same s.reads b (line_copy s c a) (0, None) (next_within c b op n))
@@ -249,9 +249,9 @@ module _ (p : List (List Op)) (s : State) (g : IsSteady p s) where
   rmw_steady caches c b a op n is wrote =
       let what : ℕ × Option ℕ = line_copy s c a in
       let large = written_large s.caches caches c a (rmw_value s c op a) b wrote in
-      let writes : written_address (done_by p (given s b what) b) ≡ Some a = rmw_writes c b a op n is in
-      let kept : AreListed p (performed (written (given s b what) caches a b) b) =
-      listed_written p (given s b what) caches a b large.blocks writes (rmw_within c b a op n is)
+      let writes : written_address (done_by p (with_read s b what) b) ≡ Some a = rmw_writes c b a op n is in
+      let kept : AreListed p (performed (written (with_read s b what) caches a b) b) =
+      listed_written p (with_read s b what) caches a b large.blocks writes (rmw_within c b a op n is)
       (listed_given p s b what (next_fresh c b op n) g.listed) in
       record {
         counted = perform_counted p s (rmw_state s caches c b a) c b op n refl refl refl
@@ -271,8 +271,8 @@ module _ (p : List (List Op)) (s : State) (g : IsSteady p s) where
       → IsSteady p (loaded_state s c b (line_copy s c a))
   compare_steady c b a op n is =
       let what : ℕ × Option ℕ = line_copy s c a in
-      let kept : AreListed p (performed (given s b what) b) =
-      listed_performed p (given s b what) b
+      let kept : AreListed p (performed (with_read s b what) b) =
+      listed_performed p (with_read s b what) b
       (ap (λ (d : ℕ × Option ℕ). written_address (event_of (placed_op p b).1 d))
       (get_or-set_same s.reads b what (0, None) (next_within c b op n))
       ∙ (ap (λ (z : ℕ × Op). written_address (event_of z.1 what)) (next_placed p s c b op n) ∙ is.address))

@@ -9,7 +9,7 @@ use Rattle.machine.specs.declared.blocked.Blocked.TheVariants.{B7}
 use Rattle.machine.specs.declared.fault.Fault.{Fault}
 use Rattle.machine.specs.Faults.{get_m_under}
 use Rattle.machine.specs.declared.step.Step.TheVariants.{GetS, GetM, Put}
-use Rattle.machine.specs.Step.{has, taken}
+use Rattle.machine.specs.Step.{has, step_result}
 use Rattle.machine.specs.BoundedItems.{BoundedItems}
 use Rattle.machine.specs.Configuration.{IsSound, state_from}
 
@@ -46,19 +46,19 @@ module _ (p : Parts) (capacity : ℕ) (units : List Progress) (buffers : List Bu
     where
       -- the row of GetS
       pub get_s_taken : moesi.get_s caches core addr ≡ Ok caches'
-          → taken p.cores capacity fault (state_from p.init units buffers caches writes reads done.items)
+          → step_result p.cores capacity fault (state_from p.init units buffers caches writes reads done.items)
           (GetS core addr) ≡ Ok (state_from p.init units buffers caches' writes reads done.items)
       get_s_taken made = rw (there, made) refl
 
       -- the row of GetM
       pub get_m_taken : get_m_under fault caches core addr ≡ Ok caches'
-          → taken p.cores capacity fault (state_from p.init units buffers caches writes reads done.items)
+          → step_result p.cores capacity fault (state_from p.init units buffers caches writes reads done.items)
           (GetM core addr) ≡ Ok (state_from p.init units buffers caches' writes reads done.items)
       get_m_taken made = rw (there, made) refl
 
       -- the row of Put
       pub put_taken : moesi.put caches core addr ≡ Ok caches'
-          → taken p.cores capacity fault (state_from p.init units buffers caches writes reads done.items)
+          → step_result p.cores capacity fault (state_from p.init units buffers caches writes reads done.items)
           (Put core addr) ≡ Ok (state_from p.init units buffers caches' writes reads done.items)
       put_taken made = rw (there, made) refl
 
@@ -70,18 +70,18 @@ module _ (p : Parts) (capacity : ℕ) (units : List Progress) (buffers : List Bu
     (e : CacheError) where
   -- a GetS that the caches refuse is blocked
   pub get_s_blocked : moesi.get_s caches core addr ≡ Err e
-      → taken p.cores capacity fault (state_from p.init units buffers caches writes reads done.items)
+      → step_result p.cores capacity fault (state_from p.init units buffers caches writes reads done.items)
       (GetS core addr) ≡ Err B7
   get_s_blocked refused = rw (there, refused) refl
 
   -- so is a GetM
   pub get_m_blocked : get_m_under fault caches core addr ≡ Err e
-      → taken p.cores capacity fault (state_from p.init units buffers caches writes reads done.items)
+      → step_result p.cores capacity fault (state_from p.init units buffers caches writes reads done.items)
       (GetM core addr) ≡ Err B7
   get_m_blocked refused = rw (there, refused) refl
 
   -- and a Put
   pub put_blocked : moesi.put caches core addr ≡ Err e
-      → taken p.cores capacity fault (state_from p.init units buffers caches writes reads done.items)
+      → step_result p.cores capacity fault (state_from p.init units buffers caches writes reads done.items)
       (Put core addr) ≡ Err B7
   put_blocked refused = rw (there, refused) refl

@@ -21,7 +21,7 @@ use Rattle.moesi.specs.Coherent.{IsCoherent}
 use Rattle.moesi.specs.CacheLaws.{every_read_is_current}
 use Rattle.machine.specs.declared.fault.Fault.TheVariants as fault
 use Rattle.machine.specs.State.{State, buffer_of, current_copy, event_of}
-use Rattle.machine.specs.Step.{performed, written, given, forwarded_or_read, looked_up}
+use Rattle.machine.specs.Step.{performed, written, with_read, forwarded_or_read, looked_up}
 use Rattle.machine.proofs.Seen.{seen, IsNewest}
 use Rattle.machine.proofs.Static.{static_of, snapshot_of, placed_op, done_by}
 use Rattle.machine.proofs.Newest.{last_of, last_one, last_two, filter_same, newest_in_memory}
@@ -84,11 +84,11 @@ IsLatest s = (a : ℕ) → a < length s.caches.blocks → (current_copy s a).1 �
 
 -- what an event reads, before it is performed, changes no list
 pub listed_given : (p : List (List Op)) (s : State) (b : ℕ) (what : ℕ × Option ℕ) → times s.performed b ≡ 0
-    → AreListed p s → AreListed p (given s b what)
+    → AreListed p s → AreListed p (with_read s b what)
 listed_given p s b what fresh listed = record {
   cells = listed.cells;
   lists = λ a inside. listed.lists a inside
-      ∙ filter_same (writes_to p s a) (writes_to p (given s b what) a) s.performed (λ e there.
+      ∙ filter_same (writes_to p s a) (writes_to p (with_read s b what) a) s.performed (λ e there.
       ap (λ (d : ℕ × Option ℕ). is_address (written_address (event_of (placed_op p e).1 d)) a)
       (sym (get_or-set_other s.reads b e what (0, None)
       (λ is. omega (arith, there, fresh, ap (times s.performed) is)))));

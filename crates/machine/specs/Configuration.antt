@@ -14,7 +14,7 @@ use Rattle.machine.specs.BoundedItems.{BoundedItems}
 use Rattle.machine.specs.declared.blocked.Blocked.{Blocked}
 use Rattle.recording.specs.Execution.{Execution}
 use Rattle.machine.specs.State.{State, first_event, place_of, opening, recorded, IsComplete}
-use Rattle.machine.specs.Step.{exec, taken, run, has, IsAt}
+use Rattle.machine.specs.Step.{exec, step_result, run, has, IsAt}
 
 -- what a machine holds
 pub record Configuration : Type 0 where
@@ -104,7 +104,7 @@ pub record IsMachine (p : Parts) (capacity : ℕ) (fault : Fault) (units : List 
 
 -- what a machine answers to a step: the state that it leads to, or why it is blocked
 abbrev pub answer_of : Configuration → Step → Result State Blocked
-answer_of h step = taken h.program.cores h.capacity h.fault h.state step
+answer_of h step = step_result h.program.cores h.capacity h.fault h.state step
 
 -- what it answers where core c executes the operation op as event e
 abbrev pub exec_answer : Configuration → ℕ → Op → ℕ → Result State Blocked

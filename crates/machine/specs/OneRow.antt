@@ -10,7 +10,7 @@ use Rattle.machine.specs.declared.fault.Fault.TheVariants as fault
 use Rattle.machine.specs.declared.step.Step.{Step}
 use Rattle.machine.specs.declared.step.Step.TheVariants.{Exec, Drain, GetS, GetM, Put}
 use Rattle.machine.specs.State.{State, place_of}
-use Rattle.machine.specs.Step.{taken}
+use Rattle.machine.specs.Step.{step_result}
 
 -- whether a fault changes the row of a step, whose core executes this operation next
 abbrev pub changes : Fault → Step → Option Op → Bool
@@ -35,4 +35,4 @@ next_op p s (Put c a) = None
 abbrev pub EveryFaultChangesOneRow : Type 0
 EveryFaultChangesOneRow = (p : List (List Op)) (capacity : ℕ) (f : Fault) (s : State) (step : Step)
     → changes f step (next_op p s step) ≡ false
-    → taken p capacity f s step ≡ taken p capacity fault.None s step
+    → step_result p capacity f s step ≡ step_result p capacity fault.None s step

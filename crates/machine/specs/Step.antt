@@ -29,8 +29,8 @@ abbrev pub performed : State → ℕ → State
 performed s e = record s { performed = s.performed ++ e ∷ [] }
 
 -- e reads a value with its source
-abbrev pub given : State → ℕ → ℕ × Option ℕ → State
-given s e what = record s { reads = slice_set s.reads e what }
+abbrev pub with_read : State → ℕ → ℕ × Option ℕ → State
+with_read s e what = record s { reads = slice_set s.reads e what }
 
 -- e wrote address a, which left these caches
 abbrev pub written : State → moesi.CacheState → ℕ → ℕ → State
@@ -60,9 +60,9 @@ looked_up fault s c a = forwarded_or_read (forwarded fault (buffer_of s c) a) (m
 -- The guards and the effects
 
 -- what the caches allow has its effect, and what they refuse is blocked
-abbrev pub allowed : {A : Type 0} → Blocked → (A → State) → Result A CacheError → Result State Blocked
-allowed b effect (Ok x) = Ok (effect x)
-allowed b effect (Err e) = Err b
+abbrev pub or_blocked : {A : Type 0} → Blocked → (A → State) → Result A CacheError → Result State Blocked
+or_blocked b effect (Ok x) = Ok (effect x)
+or_blocked b effect (Err e) = Err b
 
 -- core c stores to address a: the entry waits in its buffer
 abbrev pub stored : ℕ → State → ℕ → ℕ → ℕ → ℕ → Result State Blocked
@@ -77,7 +77,7 @@ fenced fault s c e = if may_fence fault (buffer_of s c) then Ok (advanced (perfo
 
 -- core c loads address a: its line is valid, where no store of its own waits
 abbrev pub loaded : Fault → State → ℕ → ℕ → ℕ → Result State Blocked
-loaded fault s c e a = allowed B4 (λ what. advanced (performed (given s e what) e) c) (looked_up fault s c a)
+loaded fault s c e a = or_blocked B4 (λ what. advanced (performed (with_read s e what) e) c) (looked_up fault s c a)
 
 -- the value that op writes, from what the line has
 abbrev pub rmw_value : State → ℕ → Op → ℕ → ℕ
@@ -88,7 +88,7 @@ rmw_value s c op a = value_written (event_of op (line_copy s c a))
 abbrev pub read_modify_written : Fault → State → ℕ → ℕ → Op → ℕ → Result State Blocked
 read_modify_written fault s c e op a =
     if may_rmw fault (buffer_of s c)
-    then allowed B5 (λ caches. advanced (performed (written (given s e (line_copy s c a)) caches a e) e) c)
+    then or_blocked B5 (λ caches. advanced (performed (written (with_read s e (line_copy s c a)) caches a e) e) c)
     (moesi.write s.caches c a (rmw_value s c op a) e)
     else Err B3
 
@@ -97,7 +97,7 @@ abbrev pub read_unmodified : Fault → State → ℕ → ℕ → ℕ → Result 
 read_unmodified fault s c n a =
     if may_rmw fault (buffer_of s c)
     then (if is_exclusive (moesi.line_of s.caches c a)
-    then Ok (advanced (performed (given s n (line_copy s c a)) n) c) else Err B5)
+    then Ok (advanced (performed (with_read s n (line_copy s c a)) n) c) else Err B5)
     else Err B3
 
 -- core c swaps v into address a where its line has the value e, and else reads it alone
@@ -125,7 +125,7 @@ exec_next p capacity fault s c (Some op) = exec capacity fault s c (first_event 
 abbrev pub drained_at : State → ℕ → ℕ → Option Entry → Result State Blocked
 drained_at s c i None = Err B6
 drained_at s c i (Some x) =
-    allowed B5 (λ caches. performed
+    or_blocked B5 (λ caches. performed
     (written (with_buffer s c (without i (buffer_of s c))) caches x.addr x.event) x.event)
     (moesi.write s.caches c x.addr x.value x.event)
 
@@ -140,17 +140,17 @@ abbrev pub has : List (List Op) → State → ℕ → ℕ → Bool
 has p s c a = nat_lt c (length p) && nat_lt a (length s.caches.blocks)
 
 -- one step of the machine, or why it is blocked
-abbrev pub taken : List (List Op) → ℕ → Fault → State → Step → Result State Blocked
-taken p capacity fault s (Exec c) =
+abbrev pub step_result : List (List Op) → ℕ → Fault → State → Step → Result State Blocked
+step_result p capacity fault s (Exec c) =
     if nat_lt c (length p) then exec_next p capacity fault s c
     (slice_get (slice_index_or p c []) (place_of s c)) else Err B8
-taken p capacity fault s (Drain c) = if nat_lt c (length p) then drained fault s c else Err B8
-taken p capacity fault s (GetS c a) =
-    if has p s c a then allowed B7 (with_caches s) (moesi.get_s s.caches c a) else Err B8
-taken p capacity fault s (GetM c a) =
-    if has p s c a then allowed B7 (with_caches s) (get_m_under fault s.caches c a) else Err B8
-taken p capacity fault s (Put c a) =
-    if has p s c a then allowed B7 (with_caches s) (moesi.put s.caches c a) else Err B8
+step_result p capacity fault s (Drain c) = if nat_lt c (length p) then drained fault s c else Err B8
+step_result p capacity fault s (GetS c a) =
+    if has p s c a then or_blocked B7 (with_caches s) (moesi.get_s s.caches c a) else Err B8
+step_result p capacity fault s (GetM c a) =
+    if has p s c a then or_blocked B7 (with_caches s) (get_m_under fault s.caches c a) else Err B8
+step_result p capacity fault s (Put c a) =
+    if has p s c a then or_blocked B7 (with_caches s) (moesi.put s.caches c a) else Err B8
 
 -- a blocked step leaves the state
 abbrev pub after : State → Result State Blocked → State
@@ -160,7 +160,7 @@ after s (Err b) = s
 -- the state after a list of steps
 abbrev pub run : List (List Op) → ℕ → Fault → State → List Step → State
 run p capacity fault s [] = s
-run p capacity fault s (step ∷ steps) = run p capacity fault (after s (taken p capacity fault s step)) steps
+run p capacity fault s (step ∷ steps) = run p capacity fault (after s (step_result p capacity fault s step)) steps
 
 -- core c is there, its next operation is op, and the event of that has number e
 pub record IsAt (p : List (List Op)) (s : State) (c : ℕ) (op : Op) (e : ℕ) : Type 0 where

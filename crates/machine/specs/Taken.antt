@@ -6,7 +6,7 @@ use Rattle.machine.specs.declared.fault.Fault.{Fault}
 use Rattle.machine.specs.declared.step.Step.{Step}
 use Rattle.machine.specs.declared.blocked.Blocked.{Blocked}
 use Rattle.machine.specs.State.{State, opening}
-use Rattle.machine.specs.Step.{taken}
+use Rattle.machine.specs.Step.{step_result}
 
 -- the state in which a program begins
 abbrev pub begun : Parts → State
@@ -21,4 +21,4 @@ unless_blocked (Err b) rest = Err b
 abbrev pub all_taken : List (List Op) → ℕ → Fault → State → List Step → Result State Blocked
 all_taken p capacity fault s [] = Ok s
 all_taken p capacity fault s (step ∷ steps) =
-    unless_blocked (taken p capacity fault s step) (λ t. all_taken p capacity fault t steps)
+    unless_blocked (step_result p capacity fault s step) (λ t. all_taken p capacity fault t steps)

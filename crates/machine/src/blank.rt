@@ -1,7 +1,7 @@
 //! A recording that is not yet written.
 
 use crate::bounded::BoundedList;
-use crate::makes::bounded_lists;
+use crate::construction::bounded_lists;
 use crate::record::{record_all, unwrap_all};
 use common::{EventId, OutOfMemory};
 use program::Ops;

@@ -4,10 +4,10 @@
 mod blank;
 mod blocked;
 mod bounded;
+mod construction;
 mod fault;
 mod law;
 mod machine;
-mod makes;
 mod record;
 mod run;
 mod script;

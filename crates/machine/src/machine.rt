@@ -2,8 +2,8 @@
 
 use crate::blank::Blank;
 use crate::bounded::BoundedList;
+use crate::construction::{Cores, Room, cores_of, room_for};
 use crate::fault::Fault;
-use crate::makes::{Cores, Room, cores_of, room_for};
 use common::{Addr, CoreId, EventId, OutOfMemory};
 use core_unit::CoreUnit;
 use moesi::{Caches, Line};

@@ -21,7 +21,7 @@ use Rattle.recording.specs.OrderLaws.{times_here, times_append}
 use Rattle.write_buffer.specs.declared.entry.Entry.{Entry}
 use Rattle.machine.specs.declared.fault.Fault.TheVariants as fault
 use Rattle.machine.specs.declared.step.Step.{Step}
-use Rattle.machine.specs.Step.{taken, after, run, has}
+use Rattle.machine.specs.Step.{step_result, after, run, has}
 use Rattle.machine.specs.State.{State, place_of, buffer_of, first_event, opening, recorded, IsComplete}
 use Rattle.replay.specs.Program.{op_of, program_of}
 use Rattle.replay.specs.Stores.{most_stores}
@@ -177,7 +177,7 @@ line_within q s c a large there =
 
 -- a step that is taken has a core and an address of the program
 step_within : (q : Parts) (capacity : ℕ) (s t : State) (step : Step) → length s.caches.blocks ≡ length q.names
-    → taken q.cores capacity fault.None s step ≡ Ok t → IsStepOf q step
+    → step_result q.cores capacity fault.None s step ≡ Ok t → IsStepOf q step
 step_within q capacity s t (Exec c) large took = ltb-true c (length q.cores) (guarded _ _ _ t took).0
 step_within q capacity s t (Drain c) large took = ltb-true c (length q.cores) (guarded _ _ _ t took).0
 step_within q capacity s t (GetS c a) large took = line_within q s c a large (guarded _ _ _ t took).0

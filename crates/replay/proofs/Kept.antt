@@ -22,7 +22,7 @@ use Rattle.machine.specs.declared.blocked.Blocked.{Blocked}
 use Rattle.machine.specs.declared.blocked.Blocked.TheVariants.{B1, B2, B3, B4, B5, B6, B7, B8}
 use Rattle.machine.specs.Faults.{draining}
 use Rattle.machine.specs.State.{State, event_of, first_event, place_of, buffer_of, line_copy, recorded}
-use Rattle.machine.specs.Step.{exec, exec_next, drained_at, taken, after, run, allowed}
+use Rattle.machine.specs.Step.{exec, exec_next, drained_at, step_result, after, run, or_blocked}
 use Rattle.machine.specs.Taken.{begun}
 use Rattle.machine.specs.Orderly.{placed_op}
 use Rattle.machine.specs.RecordedLaws.{event_is}
@@ -64,7 +64,7 @@ keeps_either false s r q h k = k
 
 -- and where caches allow it
 keeps_allowed : {A : Type 0} (e : Blocked) (s : State) (effect : A → State) (r : Result A CacheError)
-    → ((x : A) → Keeps s (Ok (effect x))) → Keeps s (allowed e effect r)
+    → ((x : A) → Keeps s (Ok (effect x))) → Keeps s (or_blocked e effect r)
 keeps_allowed e s effect (Ok x) h = h x
 keeps_allowed e s effect (Err c) h = keeps_blocked s e
 
@@ -97,7 +97,7 @@ keeps_drained s c i (Some x) =
 
 -- each step does
 keeps_taken : (p : List (List Op)) (capacity : ℕ) (f : Fault) (s : State) (step : Step)
-    → Keeps s (taken p capacity f s step)
+    → Keeps s (step_result p capacity f s step)
 keeps_taken p capacity f s (Exec c) =
     keeps_if _ s _ B8 (keeps_next p capacity f s c (slice_get (slice_index_or p c []) (place_of s c)))
 keeps_taken p capacity f s (Drain c) =
@@ -117,8 +117,8 @@ pub run_keeps : (p : List (List Op)) (capacity : ℕ) (f : Fault) (s : State) (s
     → IsKept s (run p capacity f s steps)
 run_keeps p capacity f s [] = (refl, refl)
 run_keeps p capacity f s (step ∷ steps) =
-    let t : State = after s (taken p capacity f s step) in
-    let one = keeps_after s (taken p capacity f s step) (keeps_taken p capacity f s step) in
+    let t : State = after s (step_result p capacity f s step) in
+    let one = keeps_after s (step_result p capacity f s step) (keeps_taken p capacity f s step) in
     let rest = run_keeps p capacity f t steps in
     (rest.0 ∙ one.0, rest.1 ∙ one.1)
 

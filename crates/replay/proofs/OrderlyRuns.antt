@@ -16,7 +16,7 @@ use Rattle.machine.specs.declared.fault.Fault.TheVariants as fault
 use Rattle.machine.specs.declared.step.Step.{Step}
 use Rattle.machine.specs.declared.blocked.Blocked.{Blocked}
 use Rattle.machine.specs.State.{State, buffer_of, opening}
-use Rattle.machine.specs.Step.{taken, after, run}
+use Rattle.machine.specs.Step.{step_result, after, run}
 use Rattle.machine.specs.Orderly.{placed_op, is_st, AreStores, seen_by, IsExecuted, IsOrderly}
 use Rattle.machine.specs.Orderly.{EveryStateIsOrderly}
 use Rattle.replay.specs.Program.{op_of}
@@ -34,7 +34,7 @@ begun_going p init capacity law fits = record { on = λ steps. law steps fits }
 
 -- and behind a step that is taken
 pub goes_further : (p : List (List Op)) (n capacity : ℕ) (s t : State) (step : Step) → StaysOrderly p n capacity s
-    → taken p capacity fault.None s step ≡ Ok t → StaysOrderly p n capacity t
+    → step_result p capacity fault.None s step ≡ Ok t → StaysOrderly p n capacity t
 goes_further p n capacity s t step f took =
     record {
       on =

@@ -22,7 +22,7 @@ use Rattle.machine.specs.declared.step.Step.TheVariants.{Exec, Drain, GetS, GetM
 use Rattle.machine.specs.declared.blocked.Blocked.{Blocked}
 use Rattle.machine.specs.declared.blocked.Blocked.TheVariants.{B2, B8}
 use Rattle.machine.specs.State.{State, place_of, buffer_of, first_event}
-use Rattle.machine.specs.Step.{exec, exec_next, taken, after, run, advanced, with_buffer, with_caches}
+use Rattle.machine.specs.Step.{exec, exec_next, step_result, after, run, advanced, with_buffer, with_caches}
 use Rattle.machine.specs.Step.{forwarded_or_read, has, IsAt}
 use Rattle.replay.specs.Steps.{get_to_write, get_to_read}
 use Rattle.machine.specs.Taken.{all_taken, unless_blocked}
@@ -31,13 +31,13 @@ use Rattle.replay.proofs.OrderlyRuns.{StaysOrderly, goes_further, before_more, b
 
 -- the step is taken
 abbrev pub IsTaken : List (List Op) → ℕ → State → Step → Type 0
-IsTaken p capacity s step = (t : State) × (taken p capacity fault.None s step ≡ Ok t)
+IsTaken p capacity s step = (t : State) × (step_result p capacity fault.None s step ≡ Ok t)
 
 -- each step of the list is taken: none is blocked
 abbrev pub AreTaken : List (List Op) → ℕ → State → List Step → Type 0
 AreTaken p capacity s [] = Unit {0}
 AreTaken p capacity s (step ∷ steps) =
-    IsTaken p capacity s step × AreTaken p capacity (after s (taken p capacity fault.None s step)) steps
+    IsTaken p capacity s step × AreTaken p capacity (after s (step_result p capacity fault.None s step)) steps
 
 -- so says the machine's word for them
 pub all_of : (p : List (List Op)) (capacity : ℕ) (steps : List Step) (s t : State)
@@ -47,7 +47,7 @@ all_of p capacity [] s t are led = ap (λ (z : State). Ok z) led
 all_of p capacity (x ∷ xs) s t are led =
     ap (λ (r : Result State Blocked). unless_blocked r (λ v. all_taken p capacity fault.None v xs)) are.0.1
     ∙ subst (λ (r : Result State Blocked). all_taken p capacity fault.None (after s r) xs ≡ Ok t) are.0.1
-    (all_of p capacity xs (after s (taken p capacity fault.None s x)) t are.1 led)
+    (all_of p capacity xs (after s (step_result p capacity fault.None s x)) t are.1 led)
 
 -- the steps are all taken, and lead from s to t
 abbrev pub StepsLead : List (List Op) → ℕ → State → List Step → State → Type 0
@@ -55,7 +55,7 @@ StepsLead p capacity s steps t = AreTaken p capacity s steps × (run p capacity 
 
 -- a step that is taken, before others
 pub goes_first : (p : List (List Op)) (capacity : ℕ) (s u t : State) (step : Step) (steps : List Step)
-    → taken p capacity fault.None s step ≡ Ok u → StepsLead p capacity u steps t
+    → step_result p capacity fault.None s step ≡ Ok u → StepsLead p capacity u steps t
     → StepsLead p capacity s (step ∷ steps) t
 goes_first p capacity s u t step steps took rest = (
   ((u, took), subst (λ (r : Result State Blocked). AreTaken p capacity (after s r) steps) (sym took) rest.0),
@@ -64,7 +64,7 @@ goes_first p capacity s u t step steps took rest = (
 
 -- a single step
 pub goes_one : (p : List (List Op)) (capacity : ℕ) (s t : State) (step : Step)
-    → taken p capacity fault.None s step ≡ Ok t → StepsLead p capacity s (step ∷ []) t
+    → step_result p capacity fault.None s step ≡ Ok t → StepsLead p capacity s (step ∷ []) t
 goes_one p capacity s t step took = goes_first p capacity s t t step [] took (tt, refl)
 
 -- steps in two parts
@@ -72,8 +72,8 @@ pub goes_on : (p : List (List Op)) (capacity : ℕ) (s t u : State) (xs ys : Lis
     → StepsLead p capacity t ys u → StepsLead p capacity s (xs ++ ys) u
 goes_on p capacity s t u [] ys front back = subst (λ (z : State). StepsLead p capacity z ys u) (sym front.1) back
 goes_on p capacity s t u (x ∷ xs) ys front back =
-    let rest : StepsLead p capacity (after s (taken p capacity fault.None s x)) (xs ++ ys) u = goes_on p capacity
-    (after s (taken p capacity fault.None s x)) t u xs ys (front.0.1, front.1) back in
+    let rest : StepsLead p capacity (after s (step_result p capacity fault.None s x)) (xs ++ ys) u = goes_on p capacity
+    (after s (step_result p capacity fault.None s x)) t u xs ys (front.0.1, front.1) back in
     ((front.0.0, rest.0), rest.1)
 
 -- a guarded step that is taken had its guard
@@ -116,7 +116,7 @@ guard_more false r q t h took = took
 
 -- a step that is taken with small buffers is taken with larger ones
 step_more : (p : List (List Op)) (capacity larger : ℕ) (s t : State) (step : Step) → capacity ≤ larger
-    → taken p capacity fault.None s step ≡ Ok t → taken p larger fault.None s step ≡ Ok t
+    → step_result p capacity fault.None s step ≡ Ok t → step_result p larger fault.None s step ≡ Ok t
 step_more p capacity larger s t (Exec c) h took =
     guard_more (nat_lt c (length p)) _ _ t
     (next_more p capacity larger s t c (slice_get (slice_index_or p c []) (place_of s c)) h) took
@@ -130,7 +130,7 @@ pub goes_more : (p : List (List Op)) (capacity larger : ℕ) → capacity ≤ la
     (s t : State) → StepsLead p capacity s steps t → StepsLead p larger s steps t
 goes_more p capacity larger h [] s t g = g
 goes_more p capacity larger h (step ∷ steps) s t g =
-    let took : taken p capacity fault.None s step ≡ Ok g.0.0.0 = g.0.0.1 in
+    let took : step_result p capacity fault.None s step ≡ Ok g.0.0.0 = g.0.0.1 in
     let rest : StepsLead p capacity g.0.0.0 steps t =
     subst (λ (r : Result State Blocked). StepsLead p capacity (after s r) steps t) took (g.0.1, g.1) in
     goes_first p larger s g.0.0.0 t step steps (step_more p capacity larger s g.0.0.0 step h took)
@@ -156,7 +156,7 @@ is_at p s c core there = record {
 
 -- the execution of a core's operation is a step
 pub at_taken : (p : List (List Op)) (capacity : ℕ) (s : State) (c : ℕ) (op : Op) (e : ℕ) → IsAt p s c op e
-    → taken p capacity fault.None s (Exec c) ≡ exec capacity fault.None s c e op
+    → step_result p capacity fault.None s (Exec c) ≡ exec capacity fault.None s c e op
 at_taken p capacity s c op e at = rw (lt-ltb c (length p) at.core, at.operation, at.number) refl
 
 -- core c has executed j stores more
@@ -171,7 +171,7 @@ pub record HasStored (p : List (List Op)) (n capacity : ℕ) (s t : State) (c j 
 store_one : (p : List (List Op)) (n capacity : ℕ) (s : State) (c : ℕ) → StaysOrderly p n capacity s → c < length p
     → place_of s c < length (get_or p c []) → count_by is_st (get_or p c []) ≤ capacity
     → is_st (get_or (get_or p c []) (place_of s c) Fence) ≡ true → (t : State)
-    × (taken p capacity fault.None s (Exec c) ≡ Ok t) × HasStored p n capacity s t c 1
+    × (step_result p capacity fault.None s (Exec c) ≡ Ok t) × HasStored p n capacity s t c 1
 store_one p n capacity s c f core there room store =
     go (store_is (get_or (get_or p c []) (place_of s c) Fence) store)
   where
@@ -189,14 +189,14 @@ store_one p n capacity s c f core there room store =
     within = omega (arith, core, (f.on []).places)
 
     go : (is : (a : ℕ) × (v : ℕ) × (get_or (get_or p c []) (place_of s c) Fence ≡ St a v)) → (t : State)
-        × (taken p capacity fault.None s (Exec c) ≡ Ok t) × HasStored p n capacity s t c 1
+        × (step_result p capacity fault.None s (Exec c) ≡ Ok t) × HasStored p n capacity s t c 1
     go (a, v, is) =
         let b : ℕ = first_event p c + place_of s c in
         let t : State = advanced (with_buffer s c
         (buffer_of s c ++ record { addr = a; value = v; event = b } ∷ [])) c in
         let did : exec capacity fault.None s c b (St a v) ≡ Ok t =
         rw (lt-ltb (length (buffer_of s c)) capacity fewer) refl in
-        let took : taken p capacity fault.None s (Exec c) ≡ Ok t = at_taken p capacity s c
+        let took : step_result p capacity fault.None s (Exec c) ≡ Ok t = at_taken p capacity s c
         (get_or (get_or p c []) (place_of s c) Fence) b (is_at p s c core there)
         ∙ (ap (exec capacity fault.None s c b) is ∙ did) in (
           t,
@@ -302,7 +302,7 @@ module _ (p : List (List Op)) (n capacity : ℕ) (s : State) (f : StaysOrderly p
           rw (get_or-set_same (map row.invalidated b.lines) c (record { line = line.M; copy = supplied b })
           invalid (omega (arith, line_within, length-map b.lines row.invalidated))) refl in
           let made : moesi.get_m s.caches c a ≡ Ok caches = rw is refl in
-          let took : taken p capacity fault.None s (GetM c a) ≡ Ok (with_caches s caches) =
+          let took : step_result p capacity fault.None s (GetM c a) ≡ Ok (with_caches s caches) =
           rw (has_line p s c a core within, made) refl in (
             caches,
             (
@@ -343,7 +343,7 @@ module _ (p : List (List Op)) (n capacity : ℕ) (s : State) (f : StaysOrderly p
                 slice_set s.caches.blocks a u;
           } in
           let made : moesi.get_s s.caches c a ≡ Ok caches = rw is refl in
-          let took : taken p capacity fault.None s (GetS c a) ≡ Ok (with_caches s caches) =
+          let took : step_result p capacity fault.None s (GetS c a) ≡ Ok (with_caches s caches) =
           rw (has_line p s c a core within, made) refl in
           let valid : is_valid (moesi.line_of caches c a) ≡ true = ap is_valid (line_new s.caches c a u within
           ∙ mine) ∙ shared_valid (has_copy b) in (

@@ -26,7 +26,7 @@ use Rattle.machine.specs.declared.step.Step.{Step}
 use Rattle.machine.specs.declared.step.Step.TheVariants.{Exec, Drain}
 use Rattle.machine.specs.declared.blocked.Blocked.TheVariants.{B4}
 use Rattle.machine.specs.State.{State, place_of, buffer_of, line_copy, first_event}
-use Rattle.machine.specs.Step.{exec, taken, allowed, advanced, performed, given, written, with_buffer}
+use Rattle.machine.specs.Step.{exec, step_result, or_blocked, advanced, performed, with_read, written, with_buffer}
 use Rattle.machine.specs.Step.{with_caches, rmw_value, read_modify_written, read_unmodified}
 use Rattle.replay.specs.Program.{op_of, program_of}
 use Rattle.replay.specs.Steps.{execute_to, get_to_write, get_to_read}
@@ -55,7 +55,7 @@ drained_state s caches c y ys = performed (written (with_buffer s c ys) caches y
 drain_taken : (p : List (List Op)) (capacity : ℕ) (s : State) (caches : moesi.CacheState) (c : ℕ) (y : Entry)
     (ys : List Entry) → c < length p → buffer_of s c ≡ y ∷ ys
     → moesi.write s.caches c y.addr y.value y.event ≡ Ok caches
-    → taken p capacity fault.None s (Drain c) ≡ Ok (drained_state s caches c y ys)
+    → step_result p capacity fault.None s (Drain c) ≡ Ok (drained_state s caches c y ys)
 drain_taken p capacity s caches c y ys core is wrote = rw (lt-ltb c (length p) core, is, wrote, is) refl
 
 -- a compare-and-swap behind an empty buffer is executed in a line that is M or E, whatever that has
@@ -70,13 +70,13 @@ cas_did capacity s caches c b a e v empty exclusive wrote = go ((line_copy s c a
         (read_unmodified fault.None s c b a) ≡ Ok t)
         × (t.places ≡ slice_set s.places c (place_of s c + 1)) × (t.performed ≡ s.performed ++ b ∷ [])
     go true = (
-      advanced (performed (written (given s b (line_copy s c a)) caches a b) b) c,
+      advanced (performed (written (with_read s b (line_copy s c a)) caches a b) b) c,
       rw (empty, wrote) refl,
       refl,
       refl,
     )
     go false = (
-      advanced (performed (given s b (line_copy s c a)) b) c,
+      advanced (performed (with_read s b (line_copy s c a)) b) c,
       rw (empty, exclusive) refl,
       refl,
       refl,
@@ -347,7 +347,7 @@ module _ (x : Execution) (m : List ℕ) (tso : IsTsoOrder x m) (n capacity : ℕ
         → e ≡ first_event (program_of x) (core_of x e) + place_of s (core_of x e) → op_of (event_at x e) ≡ op
         → exec capacity fault.None (with_caches s caches) (core_of x e)
         (first_event (program_of x) (core_of x e) + place_of s (core_of x e)) op ≡ Ok t
-        → (taken (program_of x) capacity fault.None (with_caches s caches) (Exec (core_of x e)) ≡ Ok t)
+        → (step_result (program_of x) capacity fault.None (with_caches s caches) (Exec (core_of x e)) ≡ Ok t)
         × StaysOrderly (program_of x) n capacity t
     executed caches op t fits next is did =
         let p : List (List Op) = program_of x in
@@ -358,7 +358,7 @@ module _ (x : Execution) (m : List ℕ) (tso : IsTsoOrder x m) (n capacity : ℕ
         let op_is : get_or (get_or p (core_of x e) []) (place_of s (core_of x e)) Fence ≡ op =
         (op_there (place_of s (core_of x e)) inside).0
         ∙ (ap (λ (k : ℕ). op_of (event_at x k)) (sym next) ∙ is) in
-        let took : taken p capacity fault.None u (Exec (core_of x e)) ≡ Ok t =
+        let took : step_result p capacity fault.None u (Exec (core_of x e)) ≡ Ok t =
         at_taken p capacity u (core_of x e) (get_or (get_or p (core_of x e) []) (place_of s (core_of x e))
         Fence) b (is_at p u (core_of x e) core inside)
         ∙ (ap (exec capacity fault.None u (core_of x e) b) op_is ∙ did) in
@@ -404,7 +404,7 @@ module _ (x : Execution) (m : List ℕ) (tso : IsTsoOrder x m) (n capacity : ℕ
           (address_there (Swap a w) (ap op_of is)) in
           let u : State = with_caches s got.0 in
           let made = write_made got.0 c a (rmw_value u c (Swap a w) a) b got.2 in
-          let t : State = advanced (performed (written (given u b (line_copy u c a)) made.0 a b) b) c in
+          let t : State = advanced (performed (written (with_read u b (line_copy u c a)) made.0 a b) b) c in
           let did : exec capacity fault.None u c b (Swap a w) ≡ Ok t = rw (empty, made.1) refl in
           let took = executed got.0 (Swap a w) t got.1.1 next (ap op_of is) did in (
             t,
@@ -460,9 +460,9 @@ module _ (x : Execution) (m : List ℕ) (tso : IsTsoOrder x m) (n capacity : ℕ
           let got = fetch_read (program_of x) n capacity s f c a core (address_there (Ld a) (ap op_of is))
           (youngest (buffer_of s c) a) in
           let u : State = with_caches s got.0 in
-          let t : State = advanced (performed (given u b got.2.0) b) c in
+          let t : State = advanced (performed (with_read u b got.2.0) b) c in
           let did : exec capacity fault.None u c b (Ld a) ≡ Ok t =
-          ap (allowed B4 (λ what. advanced (performed (given u b what) b) c)) got.2.1 in
+          ap (or_blocked B4 (λ what. advanced (performed (with_read u b what) b) c)) got.2.1 in
           let took = executed got.0 (Ld a) t got.1.1 next (ap op_of is) did in (
             t,
             record {
@@ -503,7 +503,7 @@ module _ (x : Execution) (m : List ℕ) (tso : IsTsoOrder x m) (n capacity : ℕ
             let made = write_made got.0 c y.addr y.value y.event
             (subst (λ (k : ℕ). is_exclusive (moesi.line_of got.0 c k) ≡ true) at got.2) in
             let t : State = drained_state u made.0 c y ys in
-            let took : taken p capacity fault.None u (Drain c) ≡ Ok t =
+            let took : step_result p capacity fault.None u (Drain c) ≡ Ok t =
             drain_taken p capacity u made.0 c y ys core waits_first made.1 in (
               t,
               record {

@@ -7,7 +7,7 @@ use Rattle.recording.specs.Execution.{Execution, core_of, event_at}
 use Rattle.machine.specs.declared.fault.Fault.{Fault}
 use Rattle.machine.specs.declared.step.Step.{Step}
 use Rattle.machine.specs.State.{State}
-use Rattle.machine.specs.Step.{taken, after, run}
+use Rattle.machine.specs.Step.{step_result, after, run}
 use Rattle.machine.specs.Configuration.{Configuration}
 use Rattle.replay.specs.Program.{program_of}
 use Rattle.replay.specs.Steps.{executed_before, execute_to, perform, turn, order_steps}
@@ -17,7 +17,7 @@ use Rattle.replay.specs.Replaying.{Replaying, with_steps}
 run_append : (p : List (List Op)) (capacity : ℕ) (f : Fault) (s : State) (xs ys : List Step)
     → run p capacity f s (xs ++ ys) ≡ run p capacity f (run p capacity f s xs) ys
 run_append p capacity f s [] ys = refl
-run_append p capacity f s (x ∷ xs) ys = run_append p capacity f (after s (taken p capacity f s x)) xs ys
+run_append p capacity f s (x ∷ xs) ys = run_append p capacity f (after s (step_result p capacity f s x)) xs ys
 
 -- more steps, and then more
 pub more_steps : (r : Replaying) (xs ys : List Step) → with_steps (with_steps r xs) ys ≡ with_steps r

@@ -1,7 +1,7 @@
 use Rattle.std.proofs.Common.{◌≡◌, ◌<◌, ℕ, length, get_or}
 use Rattle.core_unit.specs.Progress.{Progress}
 use Rattle.machine.specs.State.{first_event}
-use Rattle.machine.proofs.makes.units_of.Given as goal
+use Rattle.machine.proofs.construction.units_of.Given as goal
 
 abbrev pub invariant-loop-ops : goal.invariant-loop-ops
 invariant-loop-ops l = record {

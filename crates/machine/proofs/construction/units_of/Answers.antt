@@ -4,7 +4,7 @@ use Rattle.program.specs.declared.op.Op.{Op}
 use Rattle.core_unit.specs.Progress.{Progress}
 use Rattle.machine.proofs.Static.{first_more}
 use Rattle.machine.proofs.Begins.{unit_more}
-use Rattle.machine.proofs.makes.units_of.Goals as goal
+use Rattle.machine.proofs.construction.units_of.Goals as goal
 
 pub loop-ops-preserved : goal.loop-ops-preserved
 loop-ops-preserved c =
