@@ -1,10 +1,10 @@
 -- The names of refusals of texts.
 use Rattle.std.specs.Prelude.{ℕ, List, codes}
-use Rattle.program.specs.declared.fault.LineFault.{LineFault}
-use Rattle.program.specs.declared.fault.LineFault.TheVariants.{L1, L2, L3, L4, L5, L6, L7, L8}
+use Rattle.program.specs.declared.refusal.LineRefusal.{LineRefusal}
+use Rattle.program.specs.declared.refusal.LineRefusal.TheVariants.{L1, L2, L3, L4, L5, L6, L7, L8}
 
 -- what is printed for a fault of a program's line
-abbrev pub line_fault_name : LineFault → List ℕ
+abbrev pub line_fault_name : LineRefusal → List ℕ
 line_fault_name L1 = codes "L1"
 line_fault_name L2 = codes "L2"
 line_fault_name L3 = codes "L3"

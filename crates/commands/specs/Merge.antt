@@ -5,8 +5,8 @@ use Rattle.std.specs.List.{concat}
 use Rattle.command_line.specs.declared.options.MergeOptions.{MergeOptions}
 use Rattle.ledger.specs.declared.ledger.Ledger.{Ledger}
 use Rattle.ledger.specs.Counts.{IsLedger}
-use Rattle.merging.specs.declared.fault.MergeRefusal.{MergeRefusal}
-use Rattle.merging.specs.declared.fault.MergeRefusal.TheVariants.{NoLine, NoCodes, OtherKind, TooMany}
+use Rattle.merging.specs.declared.error.MergeRefusal.{MergeRefusal}
+use Rattle.merging.specs.declared.error.MergeRefusal.TheVariants.{NoLine, NoCodes, OtherKind, TooMany}
 use Rattle.merging.specs.declared.kind.Kind.{Kind}
 use Rattle.merging.specs.declared.kind.Kind.TheVariants.{Campaign, Survey}
 use Rattle.merging.specs.Merges.{Refuses}

@@ -1,8 +1,8 @@
 -- The lines of refused texts.
 use Rattle.std.specs.Prelude.{◌≡◌, ◌++◌, ◌∷◌, [], ℕ, List, Some, Result, Ok, Err, codes}
 use Rattle.std.specs.Prelude.{decimal, string_bytes}
-use Rattle.machine.specs.declared.script_fault.StepFault.{StepFault}
-use Rattle.machine.specs.declared.script_fault.StepFault.TheVariants.{S1, S2, S3, S4}
+use Rattle.machine.specs.declared.script_refusal.StepRefusal.{StepRefusal}
+use Rattle.machine.specs.declared.script_refusal.StepRefusal.TheVariants.{S1, S2, S3, S4}
 use Rattle.recording.specs.declared.fault.RecError.{RecError}
 use Rattle.program.specs.declared.shape_error.ShapeError.{ShapeError}
 use Rattle.program.specs.declared.shape_error.ShapeError.TheVariants.{K1, K2, K3, K4, K5, K6, K7}
@@ -14,7 +14,7 @@ use Rattle.commands.specs.declared.command_error.CommandError.TheVariants.{Refus
 use Rattle.commands.specs.declared.fault.CommandFault.TheVariants.{OutOfMemory}
 
 -- what is printed for a fault of a script's line
-abbrev pub step_fault_name : StepFault → List ℕ
+abbrev pub step_fault_name : StepRefusal → List ℕ
 step_fault_name S1 = codes "S1"
 step_fault_name S2 = codes "S2"
 step_fault_name S3 = codes "S3"

@@ -6,19 +6,19 @@ ghost use Rattle.commands.specs.Refusal.{refusal_line, shape_error_name, step_fa
 use crate::command_error::PrintedRefusal;
 use crate::meanings::quoted;
 use command_line::OptionRefusal;
-use machine::StepFault;
+use machine::StepRefusal;
 use program::ShapeError;
 use std::alloc::{AllocError, Global};
 
 /// What is printed for a fault of a script's line.
-pub fn step_fault_name(fault: StepFault) -> &'static str
+pub fn step_fault_name(fault: StepRefusal) -> &'static str
     ensures { result.now ≡ step_fault_name fault }
 {
     match fault {
-        StepFault::S1 => "S1",
-        StepFault::S2 => "S2",
-        StepFault::S3 => "S3",
-        StepFault::S4 => "S4",
+        StepRefusal::S1 => "S1",
+        StepRefusal::S2 => "S2",
+        StepRefusal::S3 => "S3",
+        StepRefusal::S4 => "S4",
     }
 }
 

@@ -5,7 +5,7 @@ ghost use Rattle.program.specs.Steps.{write_op};
 
 use common::{Addr, MAX_ADDRESSES, MAX_CORES, MAX_EVENTS};
 use indexmap::IndexSet;
-use program::{LineFault, LitmusError, Name, Number, Op, Ops, WriteKind, are_below};
+use program::{LineRefusal, LitmusError, Name, Number, Op, Ops, WriteKind, are_below};
 use std::alloc::Global;
 
 /// The names in order of first use, and the operations of each core.
@@ -19,7 +19,7 @@ impl Builder {
     ghost use Rattle.std.specs.Prelude.{◌≡◌, ◌≤◌, ◌<◌, ◌^◌, ℕ, Err, Ok, None, Result, OnOk, IfOk, IfErr};
     ghost use Rattle.std.specs.Prelude.{length};
     ghost use Rattle.program.specs.Parts.{Body};
-    ghost use Rattle.program.specs.declared.fault.LineFault.{LineFault};
+    ghost use Rattle.program.specs.declared.refusal.LineRefusal.{LineRefusal};
     ghost use Rattle.program.specs.declared.line_error.LineError.TheVariants.{OutOfMemory};
     ghost use Rattle.program.specs.Steps.{empty, core_step, fence_step, load_step, write_step, op_fault};
     ghost use Rattle.program.specs.Steps.{at_name, names_with, name_number, with_op, write_op, compare_step};
@@ -44,21 +44,21 @@ impl Builder {
             (core_step (state self.old)) }
     {
         if MAX_CORES <= self.cores.len() {
-            return Err(LitmusError::AtLine(LineFault::L2, number));
+            return Err(LitmusError::AtLine(LineRefusal::L2, number));
         }
         self.add_core(alloc)?;
         Ok(())
     }
 
-    fn op_fault(&self) -> Option<LineFault>
+    fn op_fault(&self) -> Option<LineRefusal>
         ensures value { result ≡ op_fault (state self.now) }
         ensures some_core { result ≡ None → 0 < length self.now.cores.items }
     {
         if self.cores.is_empty() {
-            return Some(LineFault::L1);
+            return Some(LineRefusal::L1);
         }
         if !are_below(&self.cores, MAX_EVENTS) {
-            return Some(LineFault::L3);
+            return Some(LineRefusal::L3);
         }
         None
     }
@@ -87,9 +87,9 @@ impl Builder {
 
     /// The address of a name, where an operation with it may come; else the line's fault.
     fn address_of(&mut self, name: Name, number: usize) -> Result<Addr, LitmusError>
-        ensures ok { OnOk result ((r : Result Body LineFault) →
+        ensures ok { OnOk result ((r : Result Body LineRefusal) →
             at_name (state self.old) name r ≡ r) }
-        ensures err { IfErr result (λ e. (r : Result Body LineFault) →
+        ensures err { IfErr result (λ e. (r : Result Body LineRefusal) →
             AnswersLine (Err e) number (at_name (state self.old) name r)) }
         ensures address { IfOk result (λ addr. addr ≡ name_number self.old.names.keys name) }
         ensures names { OnOk result (self.new.names.keys ≡ names_with self.old.names.keys name) }
@@ -101,7 +101,7 @@ impl Builder {
         }
         let (addr, _) = self.names.insert_full(name)?;
         if MAX_ADDRESSES < self.names.len() {
-            return Err(LitmusError::AtLine(LineFault::L4, number));
+            return Err(LitmusError::AtLine(LineRefusal::L4, number));
         }
         Ok(addr as Addr)
     }
@@ -132,7 +132,7 @@ impl Builder {
         let addr = self.address_of(name, number)?;
         match value {
             Number::Value(value) => self.push(write_op(write, addr, value)),
-            Number::TooLarge => Err(LitmusError::AtLine(LineFault::L5, number)),
+            Number::TooLarge => Err(LitmusError::AtLine(LineRefusal::L5, number)),
         }
     }
 
@@ -154,7 +154,7 @@ impl Builder {
             (Number::Value(expected), Number::Value(value)) => {
                 self.push(Op::Cas(addr, expected, value))
             }
-            _ => Err(LitmusError::AtLine(LineFault::L5, number)),
+            _ => Err(LitmusError::AtLine(LineRefusal::L5, number)),
         }
     }
 }

@@ -5,7 +5,7 @@ ghost use Rattle.std.specs.Prelude.{◌≡◌};
 use crate::builder::Builder;
 use crate::line::{ParsedLine, line_of};
 use common::OutOfMemory;
-use program::{LineFault, LitmusError, Name, Number, Program, WriteKind};
+use program::{LineRefusal, LitmusError, Name, Number, Program, WriteKind};
 use std::alloc::Global;
 
 /// The names, the operations, and the initial values up to that of the last `init` line.
@@ -48,7 +48,7 @@ impl Reader {
             (body_step (draft self.old) (core_step (state self.old.builder))) }
     {
         if !self.init.is_empty() {
-            return Err(LitmusError::AtLine(LineFault::L1, number));
+            return Err(LitmusError::AtLine(LineRefusal::L1, number));
         }
         self.builder.begin_core(alloc, number)
     }
@@ -58,7 +58,7 @@ impl Reader {
             (body_step (draft self.old) (fence_step (state self.old.builder))) }
     {
         if !self.init.is_empty() {
-            return Err(LitmusError::AtLine(LineFault::L1, number));
+            return Err(LitmusError::AtLine(LineRefusal::L1, number));
         }
         self.builder.fence(number)
     }
@@ -68,7 +68,7 @@ impl Reader {
             (body_step (draft self.old) (load_step (state self.old.builder) name)) }
     {
         if !self.init.is_empty() {
-            return Err(LitmusError::AtLine(LineFault::L1, number));
+            return Err(LitmusError::AtLine(LineRefusal::L1, number));
         }
         self.builder.load(name, number)
     }
@@ -85,7 +85,7 @@ impl Reader {
             (body_step (draft self.old) (write_step (state self.old.builder) write name n)) }
     {
         if !self.init.is_empty() {
-            return Err(LitmusError::AtLine(LineFault::L1, number));
+            return Err(LitmusError::AtLine(LineRefusal::L1, number));
         }
         self.builder.write(write, name, value, number)
     }
@@ -102,7 +102,7 @@ impl Reader {
             (body_step (draft self.old) (compare_step (state self.old.builder) name e n)) }
     {
         if !self.init.is_empty() {
-            return Err(LitmusError::AtLine(LineFault::L1, number));
+            return Err(LitmusError::AtLine(LineRefusal::L1, number));
         }
         self.builder.compare(name, expected, value, number)
     }
@@ -126,16 +126,16 @@ impl Reader {
             (init_step (draft self.old) name n) }
     {
         let Number::Value(value) = value else {
-            return Err(LitmusError::AtLine(LineFault::L5, number));
+            return Err(LitmusError::AtLine(LineRefusal::L5, number));
         };
         let Some(addr) = self.builder.names.get_index_of(&name) else {
-            return Err(LitmusError::AtLine(LineFault::L6, number));
+            return Err(LitmusError::AtLine(LineRefusal::L6, number));
         };
         if addr < self.init.len() {
-            return Err(LitmusError::AtLine(LineFault::L7, number));
+            return Err(LitmusError::AtLine(LineRefusal::L7, number));
         }
         if value == 0 {
-            return Err(LitmusError::AtLine(LineFault::L8, number));
+            return Err(LitmusError::AtLine(LineRefusal::L8, number));
         }
         self.begin_with(addr, value)?;
         Ok(())
@@ -152,7 +152,7 @@ impl Reader {
             (step (draft self.old) line.now) }
     {
         match line_of(line) {
-            None => Err(LitmusError::AtLine(LineFault::L1, number)),
+            None => Err(LitmusError::AtLine(LineRefusal::L1, number)),
             Some(ParsedLine::Core) => self.begin_core(alloc, number),
             Some(ParsedLine::Fence) => self.fence(number),
             Some(ParsedLine::Load(name)) => self.load(name, number),

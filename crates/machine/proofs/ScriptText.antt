@@ -17,8 +17,8 @@ use Rattle.machine.specs.declared.script_line.CoreStep.{CoreStep}
 use Rattle.machine.specs.declared.script_line.CoreStep.TheVariants.{Exec, Drain}
 use Rattle.machine.specs.declared.script_line.Transaction.{Transaction}
 use Rattle.machine.specs.declared.script_line.Transaction.TheVariants.{GetS, GetM, Put}
-use Rattle.machine.specs.declared.script_fault.StepFault.{StepFault}
-use Rattle.machine.specs.declared.script_fault.StepFault.TheVariants.{S1, S4}
+use Rattle.machine.specs.declared.script_refusal.StepRefusal.{StepRefusal}
+use Rattle.machine.specs.declared.script_refusal.StepRefusal.TheVariants.{S1, S4}
 use Rattle.machine.specs.declared.step.Step.{Step}
 use Rattle.machine.specs.ScriptLine.{ScriptLine, own_line, transaction_line, script_line_of, own_step}
 use Rattle.machine.specs.ScriptLine.{transaction_step}
@@ -31,7 +31,7 @@ record IsScript (p : Parts) (steps : List Step) : Type 0 where
   few : length steps ≤ MAX_STEPS
 
 -- a line that was read
-abbrev done : List Step → Result (List Step) StepFault
+abbrev done : List Step → Result (List Step) StepRefusal
 done s = Ok s
 
 -- two lists that are one answer

@@ -8,8 +8,8 @@ use Rattle.program.specs.Parts.{Parts}
 use Rattle.program.specs.Reading.{Reading, read_from}
 use Rattle.machine.specs.declared.step.Step.{Step}
 use Rattle.machine.specs.declared.step.Step.TheVariants.{Exec, Drain, GetS, GetM, Put}
-use Rattle.machine.specs.declared.script_fault.StepFault.{StepFault}
-use Rattle.machine.specs.declared.script_fault.StepFault.TheVariants.{S1, S2, S3, S4}
+use Rattle.machine.specs.declared.script_refusal.StepRefusal.{StepRefusal}
+use Rattle.machine.specs.declared.script_refusal.StepRefusal.TheVariants.{S1, S2, S3, S4}
 use Rattle.machine.specs.ScriptLine.{ScriptLine, own_line, transaction_line, script_line_of, own_step}
 use Rattle.machine.specs.ScriptLine.{transaction_step}
 
@@ -22,35 +22,35 @@ abbrev pub address_in : Parts → Name → Option ℕ
 address_in p name = position (name_eq name) p.names
 
 -- the step is the next one
-abbrev pub with_step : List Step → Step → Result (List Step) StepFault
+abbrev pub with_step : List Step → Step → Result (List Step) StepRefusal
 with_step done step = if nat_lt (length done) MAX_STEPS then Ok (done ++ step ∷ []) else Err S4
 
 -- what a kind of step and its core do, if the program has the core
-abbrev pub core_step : List Step → (ℕ → Step) → Option ℕ → Result (List Step) StepFault
+abbrev pub core_step : List Step → (ℕ → Step) → Option ℕ → Result (List Step) StepRefusal
 core_step done step None = Err S2
 core_step done step (Some c) = with_step done (step c)
 
 -- what a kind of transaction, its core and its address do, if the program has the core, and then
 -- the address
 abbrev pub address_step : List Step → (ℕ → ℕ → Step) → Option ℕ → Option ℕ →
-    Result (List Step) StepFault
+    Result (List Step) StepRefusal
 address_step done step None a = Err S2
 address_step done step (Some c) None = Err S3
 address_step done step (Some c) (Some a) = with_step done (step c a)
 
 -- what a line does to the steps before it
-abbrev pub script_step : Parts → List Step → Option ScriptLine → Result (List Step) StepFault
+abbrev pub script_step : Parts → List Step → Option ScriptLine → Result (List Step) StepRefusal
 script_step p done None = Err S1
 script_step p done (Some (own_line own c)) = core_step done (own_step own) (core_in p c)
 script_step p done (Some (transaction_line kind c name)) =
     address_step done (transaction_step kind) (core_in p c) (address_in p name)
 
 -- what the bytes of a line do to the steps before it
-abbrev pub line_step : Parts → List Step → List ℕ → Result (List Step) StepFault
+abbrev pub line_step : Parts → List Step → List ℕ → Result (List Step) StepRefusal
 line_step p done line = script_step p done (script_line_of line)
 
 -- the steps of a script for the program, or its first line at fault
-abbrev pub steps_of : Parts → List ℕ → Reading (List Step) StepFault
+abbrev pub steps_of : Parts → List ℕ → Reading (List Step) StepRefusal
 steps_of p text = read_from (line_step p) S1 1 [] [] text
 
 -- the step's core is one of the program's, and so is its address

@@ -5,8 +5,8 @@ ghost use Rattle.program.specs.Numbers.{IsValue};
 ghost use Rattle.program.specs.Reading.{Answers, AnswersLine, read_from, seen_as};
 ghost use Rattle.machine.specs.Script.{core_in, address_in, with_step, line_step, steps_of, IsStepOf};
 
-use crate::script_fault::{StepFault, StepsError};
 use crate::script_line::{ParsedLine, own_step, script_line_of, transaction_step};
+use crate::script_refusal::{StepRefusal, StepsError};
 use crate::step::Step;
 use common::{Addr, CoreId, MAX_STEPS};
 use program::{Name, Number, Program};
@@ -36,7 +36,7 @@ fn push_step(steps: &mut Vec<Step>, step: Step, number: usize) -> Result<(), Ste
         (with_step steps.old.items step) }
 {
     if MAX_STEPS <= steps.len() {
-        return Err(StepsError::AtLine(StepFault::S4, number));
+        return Err(StepsError::AtLine(StepRefusal::S4, number));
     }
     steps.push(step)?;
     Ok(())
@@ -53,15 +53,15 @@ fn take_line(
         (line_step program.now steps.old.items line.now) }
 {
     match script_line_of(line) {
-        None => Err(StepsError::AtLine(StepFault::S1, number)),
+        None => Err(StepsError::AtLine(StepRefusal::S1, number)),
         Some(ParsedLine::CoreStep(own, core)) => match core_in(program, core) {
-            None => Err(StepsError::AtLine(StepFault::S2, number)),
+            None => Err(StepsError::AtLine(StepRefusal::S2, number)),
             Some(core) => push_step(steps, own_step(own, core), number),
         },
         Some(ParsedLine::Transaction(kind, core, name)) => {
             match (core_in(program, core), address_in(program, name)) {
-                (None, _) => Err(StepsError::AtLine(StepFault::S2, number)),
-                (_, None) => Err(StepsError::AtLine(StepFault::S3, number)),
+                (None, _) => Err(StepsError::AtLine(StepRefusal::S2, number)),
+                (_, None) => Err(StepsError::AtLine(StepRefusal::S3, number)),
                 (Some(core), Some(addr)) => {
                     push_step(steps, transaction_step(kind, core, addr), number)
                 }
@@ -73,7 +73,7 @@ fn take_line(
 // Takes the lines of a text. After an error the steps so far are of no use.
 fn take_lines(steps: &mut Vec<Step>, program: &Program, text: &[u8]) -> Result<(), StepsError>
     ensures { Answers (seen_as result (λ _. steps.new.items))
-        (read_from (line_step program.now) StepFault.S1 1 steps.old.items [] text.now) }
+        (read_from (line_step program.now) StepRefusal.S1 1 steps.old.items [] text.now) }
 {
     let mut start: usize = 0;
     let mut number: usize = 1;
@@ -85,7 +85,7 @@ fn take_lines(steps: &mut Vec<Step>, program: &Program, text: &[u8]) -> Result<(
         }
     }
     if start < text.len() {
-        return Err(StepsError::AtLine(StepFault::S1, number));
+        return Err(StepsError::AtLine(StepRefusal::S1, number));
     }
     Ok(())
 }

@@ -7,11 +7,11 @@ use Rattle.std.proofs.lemmas.List.{get_or-map, get_or-take, get_or_append_left, 
 use Rattle.std.specs.List.{concat}
 use Rattle.ledger.specs.declared.ledger.Ledger.{Ledger}
 use Rattle.ledger.specs.Counts.{IsLedger}
-use Rattle.merging.specs.declared.fault.MergeError.{MergeError}
-use Rattle.merging.specs.declared.fault.MergeError.TheVariants as errors
-use Rattle.merging.specs.declared.fault.MergeRefusal.{MergeRefusal}
-use Rattle.merging.specs.declared.fault.TextFault.{TextFault}
-use Rattle.merging.specs.declared.fault.TextFault.TheVariants.{Refused, OutOfMemory}
+use Rattle.merging.specs.declared.error.MergeError.{MergeError}
+use Rattle.merging.specs.declared.error.MergeError.TheVariants as errors
+use Rattle.merging.specs.declared.error.MergeRefusal.{MergeRefusal}
+use Rattle.merging.specs.declared.error.TextError.{TextError}
+use Rattle.merging.specs.declared.error.TextError.TheVariants.{Refused, OutOfMemory}
 use Rattle.merging.specs.declared.kind.Kind.{Kind}
 use Rattle.merging.specs.declared.merged.Merged.{Merged}
 use Rattle.merging.specs.Merges.{IsFileAdded, IsFileFault, IsLocated, IsMerge, IsMergeFault, Refuses}
@@ -118,7 +118,7 @@ all_added m files first i end some at only h =
     }
 
 -- a fault of a file is one of all
-pub file_fault : (kind : Kind) (sum : Ledger) (files : List (List ℕ)) (first : List ℕ) (i : ℕ) (fault : TextFault)
+pub file_fault : (kind : Kind) (sum : Ledger) (files : List (List ℕ)) (first : List ℕ) (i : ℕ) (fault : TextError)
     (error : MergeError) → i < length files → get_or files 0 [] ≡ first
     → ((other : Kind) (l : Ledger) (more : List ℕ) → first ≡ text_of other l ++ more → kind ≡ other)
     → AreAdded kind sum files i → IsFileFault kind sum (get_or files i []) fault → IsLocated fault i error

@@ -4,12 +4,12 @@ use Rattle.std.proofs.Common.{append_assoc, append-nil, length, length-append}
 use Rattle.std.specs.List.{concat}
 use Rattle.ledger.specs.declared.ledger.Ledger.{Ledger}
 use Rattle.ledger.specs.Counts.{IsLedger}
-use Rattle.merging.specs.declared.fault.MergeRefusal.{MergeRefusal}
-use Rattle.merging.specs.declared.fault.MergeRefusal.TheVariants.{NoLine, NoCodes, OtherKind, TooMany}
-use Rattle.merging.specs.declared.fault.TextFault.{TextFault}
-use Rattle.merging.specs.declared.fault.TextFault.TheVariants.{Refused, OutOfMemory}
+use Rattle.merging.specs.declared.error.MergeRefusal.{MergeRefusal}
+use Rattle.merging.specs.declared.error.MergeRefusal.TheVariants.{NoLine, NoCodes, OtherKind, TooMany}
+use Rattle.merging.specs.declared.error.TextError.{TextError}
+use Rattle.merging.specs.declared.error.TextError.TheVariants.{Refused, OutOfMemory}
 use Rattle.merging.specs.declared.kind.Kind.{Kind}
-use Rattle.merging.specs.Merges.{IsFileAdded, IsFileFault, IsTextAdded, IsTextFault, IsNoText, Refuses}
+use Rattle.merging.specs.Merges.{IsFileAdded, IsFileFault, IsTextAdded, IsTextError, IsNoText, Refuses}
 use Rattle.merging.specs.Tells.{Tells}
 use Rattle.merging.specs.TellsLaws.{ledger_tells}
 use Rattle.merging.specs.Texts.{AreTexts, Begins, text_of}
@@ -103,8 +103,8 @@ refuses_more NoCodes m n within is = is
 refuses_more OtherKind m n within is = is
 
 -- a fault of a text is one of its file
-pub text_fault : (kind : Kind) (old mid : Ledger) (bytes rest : List ℕ) (fault : TextFault) (codes : List ℕ) → rest ≢ []
-    → AreUnderWay kind old mid bytes rest → IsLedger codes old → IsTextFault kind mid rest fault
+pub text_fault : (kind : Kind) (old mid : Ledger) (bytes rest : List ℕ) (fault : TextError) (codes : List ℕ) → rest ≢ []
+    → AreUnderWay kind old mid bytes rest → IsLedger codes old → IsTextError kind mid rest fault
     → IsFileFault kind old bytes fault
 text_fault kind old mid bytes rest OutOfMemory codes some u is fault = tt
 text_fault kind old mid bytes rest (Refused refusal left) codes some u is fault = λ others file.
@@ -130,8 +130,8 @@ pub empty_fault : (kind : Kind) (old : Ledger) (bytes : List ℕ) (refusal : Mer
 empty_fault kind old bytes refusal left none = λ codes file. absurd (file.some none)
 
 -- no text is unread where none begins
-pub unread_fault : (kind : Kind) (sum : Ledger) (before : List ℕ) (fault : TextFault) → IsNoText kind before fault
-    → IsTextFault kind sum before fault
+pub unread_fault : (kind : Kind) (sum : Ledger) (before : List ℕ) (fault : TextError) → IsNoText kind before fault
+    → IsTextError kind sum before fault
 unread_fault kind sum before OutOfMemory is = tt
 unread_fault kind sum before (Refused refusal left) is = λ codes more begins. absurd (is codes more begins)
 

@@ -3,12 +3,12 @@ use Rattle.std.specs.Prelude.{◌≡◌, ◌+◌, ◌++◌, ◌<◌, ◌≤◌, 
 use Rattle.std.specs.List.{concat}
 use Rattle.ledger.specs.declared.ledger.Ledger.{Ledger}
 use Rattle.ledger.specs.Counts.{IsLedger}
-use Rattle.merging.specs.declared.fault.MergeError.{MergeError}
-use Rattle.merging.specs.declared.fault.MergeError.TheVariants as errors
-use Rattle.merging.specs.declared.fault.MergeRefusal.{MergeRefusal}
-use Rattle.merging.specs.declared.fault.MergeRefusal.TheVariants.{NoLine, NoCodes, OtherKind, TooMany}
-use Rattle.merging.specs.declared.fault.TextFault.{TextFault}
-use Rattle.merging.specs.declared.fault.TextFault.TheVariants.{Refused, OutOfMemory}
+use Rattle.merging.specs.declared.error.MergeError.{MergeError}
+use Rattle.merging.specs.declared.error.MergeError.TheVariants as errors
+use Rattle.merging.specs.declared.error.MergeRefusal.{MergeRefusal}
+use Rattle.merging.specs.declared.error.MergeRefusal.TheVariants.{NoLine, NoCodes, OtherKind, TooMany}
+use Rattle.merging.specs.declared.error.TextError.{TextError}
+use Rattle.merging.specs.declared.error.TextError.TheVariants.{Refused, OutOfMemory}
 use Rattle.merging.specs.declared.kind.Kind.{Kind}
 use Rattle.merging.specs.declared.merged.Merged.{Merged}
 use Rattle.merging.specs.Tells.{Tells}
@@ -29,7 +29,7 @@ pub record IsTextRead (kind : Kind) (before after : List ℕ) (ledger : Ledger) 
   pub only : (others more : List ℕ) → Begins kind others before more → (after ≡ more) × Tells kind others ledger
 
 -- no text of the kind begins the bytes, or there is no memory
-abbrev pub IsNoText : Kind → List ℕ → TextFault → Type 0
+abbrev pub IsNoText : Kind → List ℕ → TextError → Type 0
 IsNoText kind before OutOfMemory = ⊤
 IsNoText kind before (Refused refusal left) = (codes more : List ℕ) → Begins kind codes before more → ⊥
 
@@ -42,9 +42,9 @@ pub record IsTextAdded (kind : Kind) (old new : Ledger) (before after : List ℕ
       × ((earlier : List ℕ) → Tells kind earlier old → Tells kind (earlier ++ others) new)
 
 -- why they are not
-abbrev pub IsTextFault : Kind → Ledger → List ℕ → TextFault → Type 0
-IsTextFault kind old before OutOfMemory = ⊤
-IsTextFault kind old before (Refused refusal left) = (codes more : List ℕ) → Begins kind codes before more
+abbrev pub IsTextError : Kind → Ledger → List ℕ → TextError → Type 0
+IsTextError kind old before OutOfMemory = ⊤
+IsTextError kind old before (Refused refusal left) = (codes more : List ℕ) → Begins kind codes before more
     → Refuses refusal (old.total + length codes)
 
 -- the codes of one file are added
@@ -56,7 +56,7 @@ pub record IsFileAdded (kind : Kind) (old new : Ledger) (bytes : List ℕ) : Typ
       → Tells kind (earlier ++ others) new
 
 -- why they are not
-abbrev pub IsFileFault : Kind → Ledger → List ℕ → TextFault → Type 0
+abbrev pub IsFileFault : Kind → Ledger → List ℕ → TextError → Type 0
 IsFileFault kind old bytes OutOfMemory = ⊤
 IsFileFault kind old bytes (Refused refusal left) = (codes : List ℕ) → IsFile kind codes bytes
     → Refuses refusal (old.total + length codes)
@@ -79,7 +79,7 @@ IsMergeFault files (errors.Refused refusal file line) = (file < length files)
     → Refuses refusal (length (concat codes)))
 
 -- a fault of this file as one of all files
-abbrev pub IsLocated : TextFault → ℕ → MergeError → Type 0
+abbrev pub IsLocated : TextError → ℕ → MergeError → Type 0
 IsLocated OutOfMemory file error = error ≡ errors.OutOfMemory
 IsLocated (Refused refusal left) file errors.OutOfMemory = ⊥
 IsLocated (Refused refusal left) file (errors.Refused same at line) = (same ≡ refusal) × (at ≡ file)

@@ -3,12 +3,12 @@
 
 mod cursor;
 mod cycles;
-mod fault;
+mod error;
 mod kind;
 mod lines;
 mod merged;
 mod text;
 
-pub use fault::{MergeError, MergeRefusal};
+pub use error::{MergeError, MergeRefusal};
 pub use kind::Kind;
 pub use merged::{Merged, merge};

@@ -2,11 +2,11 @@
 
 ghost use Rattle.std.specs.Prelude.{◌≡◌, ◌<◌, IfErr, IfOk, length, map};
 ghost use Rattle.ledger.specs.Real.{HasCodes};
-ghost use Rattle.merging.specs.Merges.{IsFileAdded, IsFileFault, IsMerge, IsMergeFault, IsTextAdded, IsTextFault};
+ghost use Rattle.merging.specs.Merges.{IsFileAdded, IsFileFault, IsMerge, IsMergeFault, IsTextAdded, IsTextError};
 ghost use Rattle.merging.specs.Merges.{IsLocated};
 
 use crate::cursor::Cursor;
-use crate::fault::{MergeError, MergeRefusal, TextFault};
+use crate::error::{MergeError, MergeRefusal, TextError};
 use crate::kind::Kind;
 use crate::text::read;
 use ledger::Ledger;
@@ -27,10 +27,10 @@ fn add_text(
     kind: Kind,
     sum: &mut Ledger,
     rest: &mut Cursor<'_>,
-) -> Result<(), TextFault>
+) -> Result<(), TextError>
     requires { HasCodes sum.old }
     ensures ok { IfOk result (λ _. IsTextAdded kind sum.old sum.new rest.old rest.new) }
-    ensures err { IfErr result (IsTextFault kind sum.old rest.old) }
+    ensures err { IfErr result (IsTextError kind sum.old rest.old) }
 {
     let left = rest.left();
     let ledger = match read(rest, alloc, kind) {
@@ -38,7 +38,7 @@ fn add_text(
         Err(fault) => return Err(fault),
     };
     if !sum.can_add(&ledger) {
-        return Err(TextFault::Refused {
+        return Err(TextError::Refused {
             refusal: MergeRefusal::TooMany,
             left,
         });
@@ -48,13 +48,13 @@ fn add_text(
 }
 
 /// Adds the counts of the texts of a file.
-fn add_file(alloc: Global, kind: Kind, sum: &mut Ledger, bytes: &[u8]) -> Result<(), TextFault>
+fn add_file(alloc: Global, kind: Kind, sum: &mut Ledger, bytes: &[u8]) -> Result<(), TextError>
     requires { HasCodes sum.old }
     ensures ok { IfOk result (λ _. IsFileAdded kind sum.old sum.new bytes.now) }
     ensures err { IfErr result (IsFileFault kind sum.old bytes.now) }
 {
     if bytes.is_empty() {
-        return Err(TextFault::Refused {
+        return Err(TextError::Refused {
             refusal: MergeRefusal::NoLine,
             left: 0,
         });
@@ -76,16 +76,16 @@ fn line_at(text: &[u8], left: usize) -> usize {
 }
 
 /// A fault of a file, with its number and its line.
-fn located(fault: TextFault, file: usize, text: &[u8]) -> MergeError
+fn located(fault: TextError, file: usize, text: &[u8]) -> MergeError
     ensures { IsLocated fault file result }
 {
     match fault {
-        TextFault::Refused { refusal, left } => MergeError::Refused {
+        TextError::Refused { refusal, left } => MergeError::Refused {
             refusal,
             file,
             line: line_at(text, left),
         },
-        TextFault::OutOfMemory => MergeError::OutOfMemory,
+        TextError::OutOfMemory => MergeError::OutOfMemory,
     }
 }
 

@@ -12,7 +12,7 @@ ghost use Rattle.merging.specs.Texts.{all_name, noun, text_of, unjudged_name};
 
 use crate::cursor::Cursor;
 use crate::cycles::cycle_counts;
-use crate::fault::{MergeRefusal, TextFault};
+use crate::error::{MergeRefusal, TextError};
 use crate::kind::Kind;
 use crate::lines::{count, first};
 use common::OutOfMemory;
@@ -137,20 +137,20 @@ fn line_refusal(start: &Cursor<'_>, kind: Kind) -> MergeRefusal {
 }
 
 /// Takes the text of the ledger of some codes.
-pub(crate) fn read(rest: &mut Cursor<'_>, alloc: Global, kind: Kind) -> Result<Ledger, TextFault>
+pub(crate) fn read(rest: &mut Cursor<'_>, alloc: Global, kind: Kind) -> Result<Ledger, TextError>
     ensures ok { IfOk result (IsTextRead kind rest.old rest.new) }
     ensures err { IfErr result (IsNoText kind rest.old) }
 {
     let left = rest.left();
     let refusal = line_refusal(rest, kind);
     let Some(ledger) = whole(rest, alloc, kind)? else {
-        return Err(TextFault::Refused {
+        return Err(TextError::Refused {
             refusal,
             left: rest.left(),
         });
     };
     if !ledger.has_codes() {
-        return Err(TextFault::Refused {
+        return Err(TextError::Refused {
             refusal: MergeRefusal::NoCodes,
             left,
         });

@@ -6,8 +6,8 @@ use Rattle.std.proofs.lemmas.Bool.{eqb-true, le-ltb, lt-leb}
 use Rattle.std.proofs.lemmas.List.{length-append, append-nil, append_assoc}
 use Rattle.std.proofs.lemmas.List.Elements.{All-from_recursion}
 use Rattle.program.specs.declared.name.Name.{Name}
-use Rattle.program.specs.declared.fault.LineFault.{LineFault}
-use Rattle.program.specs.declared.fault.LineFault.TheVariants.{L1}
+use Rattle.program.specs.declared.refusal.LineRefusal.{LineRefusal}
+use Rattle.program.specs.declared.refusal.LineRefusal.TheVariants.{L1}
 use Rattle.program.specs.Names.{name_eq, name_of, name_text, no_name}
 use Rattle.program.specs.Lines.{init_line}
 use Rattle.program.specs.Parts.{Body, Parts, IsProgram, IsSmall, body_of, parts_of}
@@ -110,6 +110,6 @@ again p h =
     (plain (record { names = ns; cores = p.cores })) [] rest)
     (all_of_it p.names c.more c.back c.parts c.long)
     ∙ v.text in
-    ap (λ (r : Reading Draft LineFault). finished r) read
-    ∙ ap (λ (init : List ℕ). let r : Reading Parts LineFault =
+    ap (λ (r : Reading Draft LineRefusal). finished r) read
+    ∙ ap (λ (init : List ℕ). let r : Reading Parts LineRefusal =
     Ok (parts_of p.names p.cores init) in r) v.filled_is

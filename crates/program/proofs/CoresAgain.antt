@@ -12,8 +12,8 @@ use Rattle.program.specs.declared.op.Op.{Op}
 use Rattle.program.specs.declared.op.Op.TheVariants.{St, Ld, Fence, Swap, Add, Cas}
 use Rattle.program.specs.declared.line.WriteKind.{WriteKind}
 use Rattle.program.specs.declared.line.WriteKind.TheVariants as writes
-use Rattle.program.specs.declared.fault.LineFault.{LineFault}
-use Rattle.program.specs.declared.fault.LineFault.TheVariants.{L1}
+use Rattle.program.specs.declared.refusal.LineRefusal.{LineRefusal}
+use Rattle.program.specs.declared.refusal.LineRefusal.TheVariants.{L1}
 use Rattle.common.specs.declared.limits.TheConstants.{MAX_CORES, MAX_EVENTS, MAX_ADDRESSES}
 use Rattle.program.specs.Names.{AreLawful, name_eq, name_of, name_text, no_name}
 use Rattle.program.specs.Lines.{core_line}
@@ -88,8 +88,8 @@ record Next (all : List Name) (p : Body) (op : Op) (n : ℕ) : Type 0 where
       ≡ Ok (plain (record { names = more; cores = with_op p.cores op }))
 
 -- what a line does to names and operations it does to them without an `init` line
-taken_so : (p q : Body) (r : Result Body LineFault) → r ≡ Ok q → body_step (plain p) r ≡ Ok (plain q)
-taken_so p q r e = ap (λ (x : Result Body LineFault). with_body (plain p) x) e
+taken_so : (p q : Body) (r : Result Body LineRefusal) → r ≡ Ok q → body_step (plain p) r ≡ Ok (plain q)
+taken_so p q r e = ap (λ (x : Result Body LineRefusal). with_body (plain p) x) e
 
 -- the names of a program that is read
 pub record AreNames (all : List Name) : Type 0 where
@@ -259,7 +259,7 @@ ops_read all h (op ∷ ops) names back front before rest k n parts used le room 
     let x = op_next all p back op b.0 h parts none b.1 (omega (arith, grows, le)) small.0 in
     let q : Body = record { names = x.more; cores = front ++ (before ++ op ∷ []) ∷ [] } in
     let step_is : said_step (plain p) (Some (op_line all op)) ≡ Ok (plain q) = x.step_is
-    ∙ ap (λ (cs : Cores). let r : Result Draft LineFault =
+    ∙ ap (λ (cs : Cores). let r : Result Draft LineRefusal =
     Ok (plain (record { names = x.more; cores = cs })) in r) (with_op-is front before op) in
     let later = ops_read all h ops x.more x.back front (before ++ op ∷ []) rest (k + 1) n x.parts
     (rw x.long b.2) le (omega (arith, room, length-append before (op ∷ []))) small.1 in

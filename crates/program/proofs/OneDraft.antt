@@ -6,8 +6,8 @@ use Rattle.std.specs.List.{list_any}
 use Rattle.std.proofs.lemmas.Bool.{cases_Bool, ltb-false, leb-false, eqb-true}
 use Rattle.std.proofs.lemmas.List.{length-append, append-nil, append_assoc}
 use Rattle.program.specs.declared.name.Name.{Name}
-use Rattle.program.specs.declared.fault.LineFault.{LineFault}
-use Rattle.program.specs.declared.fault.LineFault.TheVariants.{L1, L5, L6, L7, L8}
+use Rattle.program.specs.declared.refusal.LineRefusal.{LineRefusal}
+use Rattle.program.specs.declared.refusal.LineRefusal.TheVariants.{L1, L5, L6, L7, L8}
 use Rattle.program.specs.Lines.{Line, core_line, fence_line, load_line, write_line, compare_line, init_line}
 use Rattle.program.specs.Lines.{line_of}
 use Rattle.program.specs.Names.{name_eq}
@@ -32,7 +32,7 @@ pub record KeepsDraft (d : Draft) (line : List ℕ) (e : Draft) : Type 0 where
   pub text : draft_text e ≡ draft_text d ++ (line ++ 10 ∷ [])
 
 -- a line that was read
-abbrev pub taken : Draft → Result Draft LineFault
+abbrev pub taken : Draft → Result Draft LineRefusal
 taken d = Ok d
 
 -- two drafts that are one answer
@@ -47,7 +47,7 @@ no_values [] e = refl
 no_values (n ∷ init) e = absurd (let h = eqb-true _ _ e in omega (arith, h))
 
 -- where no `init` line stood, what a line keeps of the names and operations is all that it keeps
-keeps_plain : (b : Body) (line : List ℕ) (r : Result Body LineFault) (e : Draft) →
+keeps_plain : (b : Body) (line : List ℕ) (r : Result Body LineRefusal) (e : Draft) →
     ((q : Body) → r ≡ Ok q → Keeps b line q) → with_body (plain b) r ≡ Ok e → KeepsDraft (plain b) line e
 keeps_plain b line (Err f) e keeps h = absurd cc
 keeps_plain b line (Ok q) e keeps h =
@@ -59,7 +59,7 @@ keeps_plain b line (Ok q) e keeps h =
     })
 
 -- the same where there is no initial value
-keeps_still : (b : Body) (init line : List ℕ) (r : Result Body LineFault) (e : Draft) → init ≡ [] →
+keeps_still : (b : Body) (init line : List ℕ) (r : Result Body LineRefusal) (e : Draft) → init ≡ [] →
     ((q : Body) → r ≡ Ok q → Keeps b line q) →
     with_body (record { body = b; init = init }) r ≡ Ok e →
     KeepsDraft (record { body = b; init = init }) line e
@@ -68,7 +68,7 @@ keeps_still b init line r e none keeps =
     KeepsDraft (record { body = b; init = i }) line e) (sym none) (keeps_plain b line r e keeps)
 
 -- what is kept by the line of a core or an operation
-keeps_body : (d e : Draft) (line : List ℕ) (r : Result Body LineFault) →
+keeps_body : (d e : Draft) (line : List ℕ) (r : Result Body LineRefusal) →
     ((q : Body) → r ≡ Ok q → Keeps d.body line q) → body_step d r ≡ Ok e → KeepsDraft d line e
 keeps_body d e line r keeps h = by (length d.init == 0) refl
   where
@@ -77,7 +77,7 @@ keeps_body d e line r keeps h = by (length d.init == 0) refl
         (sym (rw none refl) ∙ h)
     by false some = absurd (refused (sym (rw some refl) ∙ h))
       where
-        refused : (let s : Result Draft LineFault = Err L1 in s) ≡ Ok e → ⊥
+        refused : (let s : Result Draft LineRefusal = Err L1 in s) ≡ Ok e → ⊥
         refused f = cc
 
 -- ---- lines of initial values
@@ -154,13 +154,13 @@ keeps_init d e line name n h is f = by (init_fault d a n) refl
               (line ++ 10 ∷ [])));
         }
 
-    by : (o : Option LineFault) → init_fault d a n ≡ o → KeepsDraft d line e
-    by None none = rw (← taken_is after e (sym (ap (λ (o : Option LineFault). unless o (taken after)) none)
+    by : (o : Option LineRefusal) → init_fault d a n ≡ o → KeepsDraft d line e
+    by None none = rw (← taken_is after e (sym (ap (λ (o : Option LineRefusal). unless o (taken after)) none)
         ∙ f)) (kept (no_fault d a n none))
-    by (Some g) some = absurd (refused (sym (ap (λ (o : Option LineFault). unless o (taken after)) some)
+    by (Some g) some = absurd (refused (sym (ap (λ (o : Option LineRefusal). unless o (taken after)) some)
         ∙ f))
       where
-        refused : (let s : Result Draft LineFault = Err g in s) ≡ Ok e → ⊥
+        refused : (let s : Result Draft LineRefusal = Err g in s) ≡ Ok e → ⊥
         refused f = cc
 
 -- ---- each line

@@ -11,8 +11,8 @@ use Rattle.program.specs.declared.op.Op.{Op}
 use Rattle.program.specs.declared.op.Op.TheVariants.{Ld, Fence, Cas}
 use Rattle.program.specs.declared.line.WriteKind.{WriteKind}
 use Rattle.program.specs.declared.line.WriteKind.TheVariants as writes
-use Rattle.program.specs.declared.fault.LineFault.{LineFault}
-use Rattle.program.specs.declared.fault.LineFault.TheVariants.{L1, L2, L3, L4, L5}
+use Rattle.program.specs.declared.refusal.LineRefusal.{LineRefusal}
+use Rattle.program.specs.declared.refusal.LineRefusal.TheVariants.{L1, L2, L3, L4, L5}
 use Rattle.common.specs.declared.limits.TheConstants.{MAX_CORES, MAX_EVENTS, MAX_ADDRESSES}
 use Rattle.program.specs.Names.{name_of, name_text}
 use Rattle.program.specs.Lines.{load_line, write_line, compare_line}
@@ -24,7 +24,7 @@ use Rattle.program.specs.NameListLaws.{one_name, all_push}
 use Rattle.program.specs.CoreLaws.{Grown, grown, count-append, use_cores-push}
 
 -- a line that was read
-abbrev pub done : Body → Result Body LineFault
+abbrev pub done : Body → Result Body LineRefusal
 done p = Ok p
 
 -- two programs that are one answer
@@ -32,25 +32,25 @@ ok_is : (p q : Body) → done p ≡ done q → p ≡ q
 ok_is p q e = cc
 
 -- a test that was passed
-test_ok : (b : Bool) (p : Body) (f : LineFault) (q : Body) → cond b (done p) (Err f) ≡ done q →
+test_ok : (b : Bool) (p : Body) (f : LineRefusal) (q : Body) → cond b (done p) (Err f) ≡ done q →
     (b ≡ true) × (p ≡ q)
 test_ok true p f q e = (refl, ok_is p q e)
 test_ok false p f q e = absurd cc
 
 -- a fault that was not met
-guard_ok : (b : Bool) (r : Result Body LineFault) (f : LineFault) (q : Body) → cond b (Err f) r
+guard_ok : (b : Bool) (r : Result Body LineRefusal) (f : LineRefusal) (q : Body) → cond b (Err f) r
     ≡ done q → (b ≡ false) × (r ≡ done q)
 guard_ok true r f q e = absurd cc
 guard_ok false r f q e = (refl, e)
 
 -- no fault came first
-unless_ok : (o : Option LineFault) (r : Result Body LineFault) (q : Body) → unless o r ≡ done q →
+unless_ok : (o : Option LineRefusal) (r : Result Body LineRefusal) (q : Body) → unless o r ≡ done q →
     (o ≡ None) × (r ≡ done q)
 unless_ok None r q e = (refl, e)
 unless_ok (Some f) r q e = absurd cc
 
 -- both tests for an operation were passed
-room_in : (a b : Bool) (f g : LineFault) → cond a (Some f) (cond b None (Some g)) ≡ None →
+room_in : (a b : Bool) (f g : LineRefusal) → cond a (Some f) (cond b None (Some g)) ≡ None →
     (a ≡ false) × (b ≡ true)
 room_in true b f g e = absurd cc
 room_in false true f g e = (refl, refl)

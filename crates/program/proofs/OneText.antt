@@ -4,8 +4,8 @@ use Rattle.std.proofs.Common.{Some, Result, Ok, Err, refl, arith, sym, ap, ◌�
 use Rattle.std.specs.List.{IsDistinct}
 use Rattle.std.proofs.lemmas.Bool.{eqb-true}
 use Rattle.std.proofs.lemmas.List.{append-nil, append_assoc}
-use Rattle.program.specs.declared.fault.LineFault.{LineFault}
-use Rattle.program.specs.declared.fault.LineFault.TheVariants.{L1}
+use Rattle.program.specs.declared.refusal.LineRefusal.{LineRefusal}
+use Rattle.program.specs.declared.refusal.LineRefusal.TheVariants.{L1}
 use Rattle.program.specs.Lines.{Line}
 use Rattle.program.specs.Parts.{Parts, IsProgram}
 use Rattle.program.specs.Drafts.{Draft, IsDraft, blank, drafted_program, said_step, step}
@@ -43,7 +43,7 @@ pub record Gives (d : Draft) (text : List ℕ) (e : Draft) : Type 0 where
   pub text_is : draft_text e ≡ draft_text d ++ text
 
 -- a text that was read
-abbrev read : Draft → Reading Draft LineFault
+abbrev read : Draft → Reading Draft LineRefusal
 read d = Ok d
 
 -- two drafts that are one reading
@@ -64,7 +64,7 @@ end_gives d e line k h f = elim (cases_of (length line == 0) (read d) (Err (L1, 
   | inr other ↦ absurd (bad other.1)
 ]
   where
-    bad : (let r : Reading Draft LineFault = Err (L1, k) in r) ≡ read e → ⊥
+    bad : (let r : Reading Draft LineRefusal = Err (L1, k) in r) ≡ read e → ⊥
     bad g = cc
 
 -- what holds after a text that is read
@@ -81,7 +81,7 @@ text_gives k d line (b ∷ text) e h f =
     ]
   where
     newline : ((t : Draft) → IsDraft t → read_from step L1 (k + 1) t [] text ≡ read e →
-        Gives t text e) → (r : Result Draft LineFault) → step d line ≡ r →
+        Gives t text e) → (r : Result Draft LineRefusal) → step d line ≡ r →
         after_line k r (λ t. read_from step L1 (k + 1) t [] text) ≡ read e →
         Gives d (line ++ 10 ∷ text) e
     newline go (Ok t) is f' =
@@ -102,19 +102,19 @@ draft_only text d e = let g = text_gives 1 blank [] text d blank_is e in (g.draf
 pub only : (text : List ℕ) (p : Parts) → reading text ≡ Ok p → IsProgram p × (text ≡ spelling p)
 only text p e = by (drafting text) refl
   where
-    by : (r : Reading Draft LineFault) → drafting text ≡ r → IsProgram p × (text ≡ spelling p)
+    by : (r : Reading Draft LineRefusal) → drafting text ≡ r → IsProgram p × (text ≡ spelling p)
     by (Ok d) is =
         let g = draft_only text d is in
         let this : drafted_program d ≡ p =
-        same (sym (ap (λ (r : Reading Draft LineFault). finished r) is) ∙ e) in
+        same (sym (ap (λ (r : Reading Draft LineRefusal). finished r) is) ∙ e) in
         subst (λ (q : Parts). IsProgram q × (text ≡ spelling q)) this
         (program_is d g.0, g.1 ∙ sym (program_text d))
       where
-        same : (let r : Reading Parts LineFault = Ok (drafted_program d) in r) ≡ Ok p → drafted_program d ≡ p
+        same : (let r : Reading Parts LineRefusal = Ok (drafted_program d) in r) ≡ Ok p → drafted_program d ≡ p
         same f = cc
-    by (Err f) is = absurd (bad (sym (ap (λ (r : Reading Draft LineFault). finished r) is) ∙ e))
+    by (Err f) is = absurd (bad (sym (ap (λ (r : Reading Draft LineRefusal). finished r) is) ∙ e))
       where
-        bad : (let r : Reading Parts LineFault = Err f in r) ≡ Ok p → ⊥
+        bad : (let r : Reading Parts LineRefusal = Err f in r) ≡ Ok p → ⊥
         bad g = cc
 
 -- ---- the text of a program is read as it
@@ -129,5 +129,5 @@ said_again k d e l rest named fits h =
     (line_again l named fits) ∙ h in
     ap (λ u. read_from step L1 k d [] u) (append_assoc (line_text l) (10 ∷ []) rest)
     ∙ one_line step L1 k d [] (line_text l) rest (line_plain l named fits)
-    ∙ ap (λ (r : Result Draft LineFault). after_line k r (λ t. read_from step L1 (k + 1) t [] rest))
+    ∙ ap (λ (r : Result Draft LineRefusal). after_line k r (λ t. read_from step L1 (k + 1) t [] rest))
     this

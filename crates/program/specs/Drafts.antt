@@ -3,8 +3,8 @@ use Rattle.std.specs.Prelude.{◌≤◌, ℕ, List, [], ◌∷◌, ◌++◌, ◌
 use Rattle.std.specs.Prelude.{Option, None, Some, Result, Ok, Err, if◌then◌else◌}
 use Rattle.std.specs.List.{AllByRecursion}
 use Rattle.program.specs.declared.name.Name.{Name}
-use Rattle.program.specs.declared.fault.LineFault.{LineFault}
-use Rattle.program.specs.declared.fault.LineFault.TheVariants.{L1, L5, L6, L7, L8}
+use Rattle.program.specs.declared.refusal.LineRefusal.{LineRefusal}
+use Rattle.program.specs.declared.refusal.LineRefusal.TheVariants.{L1, L5, L6, L7, L8}
 use Rattle.program.specs.Lines.{Line, core_line, fence_line, load_line, write_line, compare_line}
 use Rattle.program.specs.Lines.{init_line, line_of}
 use Rattle.program.specs.Parts.{Body, Parts, IsBody, IsSmall, parts_of}
@@ -39,16 +39,16 @@ abbrev pub drafted_program : Draft → Parts
 drafted_program d = parts_of d.body.names d.body.cores (filled (length d.body.names) d.init)
 
 -- other names and operations, unless there is a fault
-abbrev pub with_body : Draft → Result Body LineFault → Result Draft LineFault
+abbrev pub with_body : Draft → Result Body LineRefusal → Result Draft LineRefusal
 with_body d (Ok b) = Ok (record d { body = b })
 with_body d (Err f) = Err f
 
 -- a core or an operation comes: no `init` line may stand before it
-abbrev pub body_step : Draft → Result Body LineFault → Result Draft LineFault
+abbrev pub body_step : Draft → Result Body LineRefusal → Result Draft LineRefusal
 body_step d r = if length d.init == 0 then with_body d r else Err L1
 
 -- the fault of an initial value of address a, which is new where no operation uses its name
-abbrev pub init_fault : Draft → ℕ → ℕ → Option LineFault
+abbrev pub init_fault : Draft → ℕ → ℕ → Option LineRefusal
 init_fault d a n =
     if nat_le (2 ^ 32) n then Some L5
     else (if nat_le (length d.body.names) a then Some L6
@@ -56,15 +56,15 @@ init_fault d a n =
     else (if n == 0 then Some L8 else None)))
 
 -- an initial value of address a comes
-abbrev pub init_at : Draft → ℕ → ℕ → Result Draft LineFault
+abbrev pub init_at : Draft → ℕ → ℕ → Result Draft LineRefusal
 init_at d a n = unless (init_fault d a n) (Ok (record d { init = filled a d.init ++ n ∷ [] }))
 
 -- an initial value comes
-unfoldable pub init_step : Draft → Name → ℕ → Result Draft LineFault
+unfoldable pub init_step : Draft → Name → ℕ → Result Draft LineRefusal
 init_step d name n = init_at d (name_number d.body.names name) n
 
 -- what a line does, which may be outside the grammar
-abbrev pub said_step : Draft → Option Line → Result Draft LineFault
+abbrev pub said_step : Draft → Option Line → Result Draft LineRefusal
 said_step d None = Err L1
 said_step d (Some core_line) = body_step d (core_step d.body)
 said_step d (Some fence_line) = body_step d (fence_step d.body)
@@ -74,5 +74,5 @@ said_step d (Some (compare_line name e n)) = body_step d (compare_step d.body na
 said_step d (Some (init_line name n)) = init_step d name n
 
 -- what the bytes of a line do
-abbrev pub step : Draft → List ℕ → Result Draft LineFault
+abbrev pub step : Draft → List ℕ → Result Draft LineRefusal
 step d line = said_step d (line_of line)

@@ -8,8 +8,8 @@ use Rattle.program.specs.declared.line.WriteKind.{WriteKind}
 use Rattle.program.specs.declared.line.WriteKind.TheVariants as writes
 use Rattle.program.specs.declared.op.Op.{Op}
 use Rattle.program.specs.declared.op.Op.TheVariants.{St, Ld, Fence, Swap, Add, Cas}
-use Rattle.program.specs.declared.fault.LineFault.{LineFault}
-use Rattle.program.specs.declared.fault.LineFault.TheVariants.{L1, L2, L3, L4, L5}
+use Rattle.program.specs.declared.refusal.LineRefusal.{LineRefusal}
+use Rattle.program.specs.declared.refusal.LineRefusal.TheVariants.{L1, L2, L3, L4, L5}
 use Rattle.common.specs.declared.limits.TheConstants.{MAX_CORES, MAX_EVENTS, MAX_ADDRESSES}
 use Rattle.program.specs.Names.{name_eq}
 use Rattle.program.specs.Parts.{Body, op_count}
@@ -38,35 +38,35 @@ write_op writes.Swap a n = Swap a n
 write_op writes.Add a n = Add a n
 
 -- whether an operation may come
-abbrev pub op_fault : Body → Option LineFault
+abbrev pub op_fault : Body → Option LineRefusal
 op_fault p =
     if length p.cores == 0 then Some L1
     else (if nat_lt (op_count p.cores) MAX_EVENTS then None else Some L3)
 
 -- an answer, unless there is a fault before it
-abbrev pub unless : {S : Type 0} → Option LineFault → Result S LineFault → Result S LineFault
+abbrev pub unless : {S : Type 0} → Option LineRefusal → Result S LineRefusal → Result S LineRefusal
 unless None r = r
 unless (Some f) r = Err f
 
 -- a new core begins
-unfoldable pub core_step : Body → Result Body LineFault
+unfoldable pub core_step : Body → Result Body LineRefusal
 core_step p = if nat_lt (length p.cores) MAX_CORES then Ok (record p {
   cores =
       p.cores ++ [] ∷ [];
 }) else Err L2
 
 -- a fence comes
-unfoldable pub fence_step : Body → Result Body LineFault
+unfoldable pub fence_step : Body → Result Body LineRefusal
 fence_step p = unless (op_fault p) (Ok (record p { cores = with_op p.cores Fence }))
 
 -- an operation with a name comes: its address is tested, and then there is this answer
-abbrev pub at_name : Body → Name → Result Body LineFault → Result Body LineFault
+abbrev pub at_name : Body → Name → Result Body LineRefusal → Result Body LineRefusal
 at_name p name r =
     unless (op_fault p)
     (if nat_lt MAX_ADDRESSES (length (names_with p.names name)) then Err L4 else r)
 
 -- a load comes
-unfoldable pub load_step : Body → Name → Result Body LineFault
+unfoldable pub load_step : Body → Name → Result Body LineRefusal
 load_step p name =
     at_name p name
     (Ok (record {
@@ -75,7 +75,7 @@ load_step p name =
     }))
 
 -- a write comes: its address is tested, and then its value
-unfoldable pub write_step : Body → WriteKind → Name → ℕ → Result Body LineFault
+unfoldable pub write_step : Body → WriteKind → Name → ℕ → Result Body LineRefusal
 write_step p write name n =
     at_name p name
     (if nat_lt n (2 ^ 32)
@@ -86,7 +86,7 @@ write_step p write name n =
     else Err L5)
 
 -- a compare-and-swap comes: its address is tested, and then its values
-unfoldable pub compare_step : Body → Name → ℕ → ℕ → Result Body LineFault
+unfoldable pub compare_step : Body → Name → ℕ → ℕ → Result Body LineRefusal
 compare_step p name e n =
     at_name p name
     (if nat_lt e (2 ^ 32) && nat_lt n (2 ^ 32)

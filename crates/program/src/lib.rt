@@ -1,7 +1,6 @@
 //! Litmus programs, and the law of their texts.
 #![tactic(auto)]
 
-mod fault;
 mod lawful;
 mod line;
 mod line_error;
@@ -11,11 +10,11 @@ mod number;
 mod one_text;
 mod op;
 mod program;
+mod refusal;
 mod same;
 mod shape;
 mod shape_error;
 
-pub use fault::{LineFault, LitmusError};
 pub use lawful::are_below;
 pub use line::{WriteKind, space_in};
 pub use line_error::LineError;
@@ -25,5 +24,6 @@ pub use number::{Number, decimal};
 pub use one_text::has_one_text;
 pub use op::{Op, Ops};
 pub use program::Program;
+pub use refusal::{LineRefusal, LitmusError};
 pub use shape::{Shape, is_outside};
 pub use shape_error::ShapeError;

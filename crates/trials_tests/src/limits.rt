@@ -2,40 +2,40 @@
 
 use common::{MAX_ADDRESSES, MAX_CORES, MAX_EVENTS};
 use litmus::parse;
-use program::{LineFault, LitmusError};
+use program::{LineRefusal, LitmusError};
 use std::alloc::Global;
 use std::fmt::Write;
 use std::test::Fail;
 
 // What stands behind a text of the most cores, addresses or operations, and its fault.
-fn after_cores() -> &'static [(&'static str, LineFault)] {
-    &[("core\n", LineFault::L2), ("core", LineFault::L1)]
+fn after_cores() -> &'static [(&'static str, LineRefusal)] {
+    &[("core\n", LineRefusal::L2), ("core", LineRefusal::L1)]
 }
 
-fn after_addresses() -> &'static [(&'static str, LineFault)] {
+fn after_addresses() -> &'static [(&'static str, LineRefusal)] {
     &[
-        ("ld b\n", LineFault::L4),
-        ("cas b 0 4294967296\n", LineFault::L4),
-        ("init b 1\n", LineFault::L6),
-        ("st b 4294967296\n", LineFault::L4),
-        ("st b 01\n", LineFault::L1),
+        ("ld b\n", LineRefusal::L4),
+        ("cas b 0 4294967296\n", LineRefusal::L4),
+        ("init b 1\n", LineRefusal::L6),
+        ("st b 4294967296\n", LineRefusal::L4),
+        ("st b 01\n", LineRefusal::L1),
     ]
 }
 
-fn after_operations() -> &'static [(&'static str, LineFault)] {
+fn after_operations() -> &'static [(&'static str, LineRefusal)] {
     &[
-        ("fence\n", LineFault::L3),
-        ("ld a0\n", LineFault::L3),
-        ("ld b\n", LineFault::L3),
-        ("st a0 4294967296\n", LineFault::L3),
-        ("cas a0 0 4294967296\n", LineFault::L3),
-        ("init a0 4294967296\n", LineFault::L5),
-        ("st b 01\n", LineFault::L1),
-        ("st b 4294967296", LineFault::L1),
+        ("fence\n", LineRefusal::L3),
+        ("ld a0\n", LineRefusal::L3),
+        ("ld b\n", LineRefusal::L3),
+        ("st a0 4294967296\n", LineRefusal::L3),
+        ("cas a0 0 4294967296\n", LineRefusal::L3),
+        ("init a0 4294967296\n", LineRefusal::L5),
+        ("st b 01\n", LineRefusal::L1),
+        ("st b 4294967296", LineRefusal::L1),
     ]
 }
 
-fn is_refused(alloc: Global, text: &[u8], fault: LineFault, line: usize) -> bool {
+fn is_refused(alloc: Global, text: &[u8], fault: LineRefusal, line: usize) -> bool {
     match parse(alloc, text) {
         Err(LitmusError::AtLine(found, at)) => found == fault && at == line,
         _ => false,
@@ -47,7 +47,7 @@ fn is_refused_behind(
     alloc: Global,
     text: &str,
     line: &str,
-    fault: LineFault,
+    fault: LineRefusal,
     number: usize,
 ) -> Result<bool, Fail> {
     let mut more = String::new(alloc);
@@ -57,7 +57,7 @@ fn is_refused_behind(
 }
 
 // Whether the text is read, and each of these lines behind it is refused as said.
-fn is_full(alloc: Global, text: &str, behind: &[(&str, LineFault)]) -> Result<bool, Fail> {
+fn is_full(alloc: Global, text: &str, behind: &[(&str, LineRefusal)]) -> Result<bool, Fail> {
     let number = text.bytes().filter(|b| *b == b'\n').count() + 1;
     let mut right = parse(alloc, text.as_bytes()).is_ok();
     for (line, fault) in behind {

@@ -1,6 +1,6 @@
 -- Why the text of a program is refused.
 use Rattle.std.specs.Prelude.{◌≡◌, ◌⊎◌, ◌++◌, ◌∷◌, [], ℕ, List, Ok, Err, codes, decimal}
-use Rattle.program.specs.declared.fault.LineFault.{LineFault}
+use Rattle.program.specs.declared.refusal.LineRefusal.{LineRefusal}
 use Rattle.answers.specs.Refusals.{line_fault_name}
 use Rattle.program.specs.Parts.{Parts}
 use Rattle.program.specs.Text.{reading}
@@ -10,12 +10,12 @@ use Rattle.report.specs.declared.outcome.Outcome.TheVariants.{Refused}
 use Rattle.report.specs.declared.printed.Answer.{Answer}
 
 -- the line that is printed for line k of a program
-abbrev pub refusal_line : LineFault → ℕ → List ℕ
+abbrev pub refusal_line : LineRefusal → ℕ → List ℕ
 refusal_line fault k = codes "refused: " ++ line_fault_name fault ++ codes " line " ++ decimal k ++ 10 ∷ []
 
 -- the first line of the text at fault
 pub record IsLineRefused (text : List ℕ) (answer : Answer) : Type 0 where
-  pub fault : LineFault
+  pub fault : LineRefusal
   pub line : ℕ
   pub read : reading text ≡ Err (fault, line)
   pub outcome : answer.outcome ≡ Refused

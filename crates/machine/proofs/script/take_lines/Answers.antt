@@ -1,5 +1,5 @@
 use Rattle.program.specs.ReadingLaws.{byte_read, line_read}
-use Rattle.machine.specs.declared.script_fault.StepFault.TheVariants.{S1}
+use Rattle.machine.specs.declared.script_refusal.StepRefusal.TheVariants.{S1}
 use Rattle.machine.specs.Script.{line_step}
 use Rattle.machine.proofs.TextEnds.{within_line, behind_line}
 use Rattle.machine.proofs.script.take_lines.Goals as goal

@@ -1,7 +1,7 @@
 use Rattle.std.proofs.Common.{[]}
 use Rattle.program.specs.Reading.{read_from}
 use Rattle.program.specs.ReadingLaws.{ReadsOn}
-use Rattle.machine.specs.declared.script_fault.StepFault.TheVariants.{S1}
+use Rattle.machine.specs.declared.script_refusal.StepRefusal.TheVariants.{S1}
 use Rattle.machine.specs.Script.{line_step}
 use Rattle.machine.proofs.script.take_lines.Given as goal
 

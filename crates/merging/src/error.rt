@@ -17,7 +17,7 @@ pub enum MergeRefusal {
 
 /// Why a text is not added: a refusal, with how many bytes are left from the line at fault on, or want of memory.
 #[derive(Clone, Copy, Debug, Drop, PartialEq, Eq)]
-pub(crate) enum TextFault {
+pub(crate) enum TextError {
     /// It is refused.
     Refused {
         /// Why.
@@ -29,14 +29,14 @@ pub(crate) enum TextFault {
     OutOfMemory,
 }
 
-impl From<OutOfMemory> for TextFault {
+impl From<OutOfMemory> for TextError {
     ghost use Rattle.std.specs.Prelude.{◌≡◌};
-    ghost use Rattle.merging.specs.declared.fault.TextFault.TheVariants.{OutOfMemory};
+    ghost use Rattle.merging.specs.declared.error.TextError.TheVariants.{OutOfMemory};
 
     ghost from_gives = { λ _ e. e ≡ OutOfMemory };
 
-    fn from(_refused: OutOfMemory) -> TextFault {
-        TextFault::OutOfMemory
+    fn from(_refused: OutOfMemory) -> TextError {
+        TextError::OutOfMemory
     }
 }
 

@@ -5,7 +5,7 @@ use program::LineError;
 /// Why a line of a step script is refused. Where several apply to one line, the first in this order
 /// is answered.
 #[derive(Clone, Copy, Debug, PartialEq, Eq)]
-pub enum StepFault {
+pub enum StepRefusal {
     /// The line is outside the grammar, or has no newline.
     S1,
     /// The program has no core of this number; a number may have any count of digits.
@@ -17,4 +17,4 @@ pub enum StepFault {
 }
 
 /// Why a step script gave no steps.
-pub type StepsError = LineError<StepFault>;
+pub type StepsError = LineError<StepRefusal>;
