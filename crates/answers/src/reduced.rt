@@ -60,7 +60,7 @@ fn put_shown(
     Ok(())
 }
 
-/// A program, an empty line, and the line of its recording with the verdict on it, behind a text.
+/// A program, an empty line, and the line of its recording with the verdict on it, after a text.
 fn append_verdict(
     alloc: Global,
     mut text: Vec<u8>,
@@ -116,7 +116,7 @@ fn left_answer(
 }
 
 /// What is left of a violation where the events alone are kept that it needs: its program, which is what is
-/// left of the given one, an empty line, and its recording with the verdict on it, behind the numbers of
+/// left of the given one, an empty line, and its recording with the verdict on it, after the numbers of
 /// its events where they are asked for; none where the verdict is an order. An error is want of memory.
 pub(crate) fn cut_answer(
     alloc: Global,

@@ -309,7 +309,7 @@ lowest_is words from some fits =
           (omega (arith, above)) ∙ ap (λ (b : ℕ). b == 1) (law.2 (j - from) (omega (arith, above, below))),
     )
 
--- where it is 0, the first bit is in the words behind
+-- where it is 0, the first bit is in the words after it
 pub behind_is : (words : List ℕ) (from : ℕ) (next : Option ℕ) → get_or words (from / 64) 0 / 2 ^ (from % 64)
     ≡ 0 → IsNextBit words (64 * (from / 64 + 1)) next → IsNextBit words from next
 behind_is words from None is none = λ j above. elim (cases_lt j (64 * (from / 64 + 1))) [

@@ -51,7 +51,7 @@ rest_next words k rest from h some fits =
           ∙ ap (λ (x : ℕ). x == 1) (low.2 (j - 64 * k) (omega (arith, below, h.begun, here))),
     )
 
--- what is left behind the lowest bit
+-- what is left after the lowest bit
 pub rest_behind : (words : List ℕ) (k rest from b after : ℕ) → IsRest words k rest from → b < 64
     → bit_at rest b ≡ 1 → ((i : ℕ) → i < b → bit_at rest i ≡ 0)
     → bit_at after b ≡ 0 → ((i : ℕ) → i < 64 → (i ≡ b → ⊥) → bit_at after i ≡ bit_at rest i)
@@ -68,7 +68,7 @@ rest_behind words k rest from b after h small one low cleared others = record {
       ∙ h.left i less (omega (arith, lowest_from words k rest from b h one, above));
 }
 
--- where nothing is left, the first bit is in the words behind
+-- where nothing is left, the first bit is in the words after it
 pub rest_none : (words : List ℕ) (k from : ℕ) (next : Option ℕ) → IsRest words k 0 from
     → IsNextBit words (64 * (k + 1)) next → IsNextBit words from next
 rest_none words k from next h = go next

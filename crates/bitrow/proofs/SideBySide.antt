@@ -42,7 +42,7 @@ put_here words lanes at n size within f small =
     (get_or-put_chunk_at at words lanes k 0 (omega (arith, small, size)) (omega (arith, within, size)))
     ∙ sym (bit_in lanes k i f (omega arith) (omega arith)))
 
--- a bit before them, or behind them
+-- a bit before them, or after them
 pub put_apart : (words lanes : List ℕ) (at n : ℕ) → length lanes ≡ n → (j : ℕ)
     → (j < 64 * at) ⊎ (64 * (at + n) ≤ j) → bit_of (put_chunk at words lanes) j ≡ bit_of words j
 put_apart words lanes at n size j apart =

@@ -47,12 +47,12 @@ impl<'a> Numbers<'a> {
         }
     }
 
-    /// The next number; none behind the greatest.
+    /// The next number; none after the greatest.
     pub fn next(&mut self) -> Option<usize>
         ensures found { IsNext self.old.row self.old.from result }
         ensures row { self.new.row ≡ self.old.row }
         ensures from { IfSome result (λ e. self.new.from ≡ e + 1) }
-        // Behind the greatest there is none for ever.
+        // After the greatest there is none for ever.
         ensures ended { IfNone result (self.new.from ≡ self.old.from) }
     {
         if self.rest != 0 {

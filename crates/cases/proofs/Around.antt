@@ -6,7 +6,7 @@ use Rattle.std.proofs.lemmas.List.{append_cancel_left}
 use Rattle.std.proofs.lemmas.Slice.Eq.{ends_is}
 use Rattle.std.specs.Cmp.Lexicographic.{pointwise}
 
--- a text behind its head ends with the tail exactly where the text is the head, any bytes and the tail
+-- a text after its head ends with the tail exactly where the text is the head, any bytes and the tail
 pub around : (head tail text rest : List ℕ) (ends : Bool) → text ≡ head ++ rest
     → ends ≡ pointwise eqb tail (drop (length rest - length tail) rest)
     → IsTrue ends ↔ ((between : List ℕ) × (text ≡ head ++ (between ++ tail)))

@@ -7,7 +7,7 @@ use std::io;
 pub struct Printed {
     /// The exit status.
     pub status: u8,
-    /// Standard output and standard error behind it.
+    /// Standard output and standard error after it.
     pub text: Vec<u8>,
 }
 

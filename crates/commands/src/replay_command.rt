@@ -27,7 +27,7 @@ use replay::{is_numbered, most_stores, replay_steps};
 use report::{Answer, Outcome, verdict_answer};
 use std::alloc::{AllocError, Global};
 
-/// The line of a capacity, with an empty line behind it.
+/// The line of a capacity, with an empty line after it.
 fn buffer_line(alloc: Global, capacity: usize) -> Result<String, AllocError>
     ensures { IfOk result (λ text. string_bytes text
         ≡ codes "buffer " ++ decimal capacity ++ 10 ∷ 10 ∷ []) }

@@ -30,7 +30,7 @@ pub trait Source {
         ensures count { Counts (read_failures self.old) (read_failures self.new) result };
 }
 
-/// What takes bytes, one behind the other.
+/// What takes bytes, one after the other.
 pub trait Sink {
     ghost use Rattle.std.specs.Prelude.{ℕ, List, Option};
     ghost use Rattle.std.specs.Io.{WritesAtMost};

@@ -4,7 +4,7 @@ use crate::bytes::{Failed, Sink, Source};
 use std::alloc::Global;
 use std::io::Read;
 
-/// Bytes in memory as a source, which may fail behind some of them.
+/// Bytes in memory as a source, which may fail after some of them.
 #[derive(Drop)]
 pub struct MemorySource<'a> {
     rest: &'a [u8],
@@ -26,7 +26,7 @@ impl<'a> MemorySource<'a> {
         MemorySource::failing(bytes, usize::MAX)
     }
 
-    /// These bytes; behind the first so many of them each read fails, which is tested.
+    /// These bytes; after the first so many of them each read fails, which is tested.
     pub fn failing(bytes: &'a [u8], before_failing: usize) -> MemorySource<'a>
         ensures rest { result.rest ≡ bytes.entry }
         ensures fails { result.before_failing ≡ before_failing }
@@ -85,7 +85,7 @@ impl Source for MemorySource<'_> {
     }
 }
 
-/// Bytes in memory as a sink, which may fail behind some of them, and fails where there is no memory.
+/// Bytes in memory as a sink, which may fail after some of them, and fails where there is no memory.
 #[derive(Drop)]
 pub struct MemorySink {
     written: Vec<u8>,
@@ -105,7 +105,7 @@ impl MemorySink {
         MemorySink::failing(alloc, usize::MAX)
     }
 
-    /// Nothing yet; behind the first so many bytes each write fails, which is tested.
+    /// Nothing yet; after the first so many bytes each write fails, which is tested.
     pub fn failing(alloc: Global, before_failing: usize) -> MemorySink
         ensures written { result.written.items ≡ [] }
         ensures failures { result.failures ≡ 0 }

@@ -145,7 +145,7 @@ impl Gate for Progress<'_> {
     }
 }
 
-// Here all workers are done, so that none writes a line behind the blanks.
+// Here all workers are done, so that none writes a line after the blanks.
 impl Drop for Progress<'_> {
     fn drop(self) {
         if self.last.load(Ordering::SeqCst) > 0 {

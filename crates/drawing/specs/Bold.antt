@@ -9,7 +9,7 @@ use Rattle.judge.specs.declared.verdict.Verdict.{Verdict}
 use Rattle.judge.specs.declared.verdict.Verdict.TheVariants.{Ordered, Overlook, Cycle}
 use Rattle.drawing.specs.declared.edges.Edge.{Edge}
 
--- the edge from place i of a cycle to the event behind it, by the first reason that holds
+-- the edge from place i of a cycle to the event after it, by the first reason that holds
 pub record IsCycleEdge (x : Execution) (c : List ℕ) (i : ℕ) (edge : Edge) : Type 0 where
   pub from : edge.first ≡ slice_index c i
   pub to : edge.second ≡ next_in_cycle c i

@@ -18,12 +18,12 @@ abbrev pub edge_from : ℕ → Reason → Option ℕ → Option Edge
 edge_from e r None = None
 edge_from e r (Some f) = Some (record { first = f; second = e; reason = r })
 
--- the event behind e on its core
+-- the event after e on its core
 unfoldable pub next_on_core : Execution → ℕ → Option ℕ
 next_on_core x e = if nat_lt (e + 1) (event_count x) && (core_of x (e + 1) == core_of x e)
     then Some (e + 1) else None
 
--- the write behind e in the write list of an address
+-- the write after e in the write list of an address
 abbrev pub next_in_list : Execution → ℕ → Option ℕ → Option ℕ
 next_in_list x e None = None
 next_in_list x e (Some a) = slice_get (write_list x a) (place (write_list x a) e + 1)

@@ -22,7 +22,7 @@ node_heading e = codes "    e" ++ decimal e ++ codes " [label=\"" ++ decimal e +
 abbrev pub node_line : List Name → ℕ → Event → List ℕ
 node_line names e event = node_heading e ++ event_text names event ++ codes "\"];\n"
 
--- the line of event i of y, which is event `ks i` of x, and of what is left out behind it
+-- the line of event i of y, which is event `ks i` of x, and of what is left out after it
 abbrev pub node_lines : Execution → List Name → List ℕ → Execution → ℕ → List ℕ
 node_lines x names ks y i = node_line names (slice_index ks i) (event_at x (slice_index ks i))
     ++ gap_text ks (po_edge y i)

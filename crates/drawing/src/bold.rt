@@ -14,7 +14,7 @@ use recording::Recording;
 use relations::{Places, Reason, next_in_cycle};
 use std::alloc::Global;
 
-/// The edge from a place of a cycle to the event behind it.
+/// The edge from a place of a cycle to the event after it.
 fn cycle_edge(places: &Places<'_>, cycle: &[EventId], i: usize) -> Edge
     requires within { i < length cycle.now }
     requires cycle { IsCycle (Forced places.now) cycle.now }

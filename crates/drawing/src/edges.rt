@@ -46,7 +46,7 @@ fn edge_from(second: EventId, reason: Reason, first: Option<EventId>) -> Option<
     })
 }
 
-/// The event behind an event on its core.
+/// The event after an event on its core.
 #[tactic(auto, unfolding(crate::specs::Edges::next_on_core))]
 fn next_on_core(recording: &Recording, number: EventId) -> Option<EventId>
     ensures { result ≡ next_on_core recording.now number }
@@ -72,7 +72,7 @@ fn item_at(list: &[EventId], at: usize) -> Option<EventId>
     }
 }
 
-/// The write behind an event in the write list of an address.
+/// The write after an event in the write list of an address.
 fn next_in_list(recording: &Recording, number: EventId, address: Option<Addr>) -> Option<EventId>
     ensures { result ≡ next_in_list recording.now number address }
 {

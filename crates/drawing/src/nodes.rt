@@ -51,7 +51,7 @@ fn put_node(
     put_text(out, b"\"];\n")
 }
 
-/// Adds the line of an event of the rest that is one of this core, and of what is left out behind it.
+/// Adds the line of an event of the rest that is one of this core, and of what is left out after it.
 #[tactic(auto, unfolding(crate::specs::Nodes::node_of_core))]
 fn put_node_of_core(
     out: &mut Vec<u8>,

@@ -40,13 +40,13 @@ pub five_last : {X E : Type 0} (x : Result X E) (o p q r s t a b c d e : List �
 five_last x o p q r s t a b c d e h i j k =
     two_last x o s t (a ++ b ++ c ++ d) e (four o p q r s a b c d h i j k)
 
--- two texts with numbers behind them, and then a text
+-- two texts with numbers after them, and then a text
 pub two_numbers_last : {X E : Type 0} (x : Result X E) (o p q r a b c d e : List ℕ) → p ≡ o ++ (a ++ b)
     → q ≡ p ++ (c ++ d) → OnOk x (r ≡ q ++ e) → OnOk x (r ≡ o ++ (a ++ b ++ c ++ d ++ e))
 two_numbers_last x o p q r a b c d e h i = five_last x o (o ++ a) p (p ++ c) q r a b c d e refl
     (h ∙ sym (append_assoc o a b)) refl (i ∙ sym (append_assoc p c d))
 
--- two texts with numbers behind them
+-- two texts with numbers after them
 pub two_numbers : {X E : Type 0} (x : Result X E) (o p q a b c d : List ℕ) → p ≡ o ++ (a ++ b)
     → OnOk x (q ≡ p ++ (c ++ d)) → OnOk x (q ≡ o ++ (a ++ b ++ c ++ d))
 two_numbers x o p q a b c d h last = four_last x o (o ++ a) p (p ++ c) q a b c d refl

@@ -23,7 +23,7 @@ pub fn put_number(out: &mut Vec<u8>, number: usize) -> Result<(), OutOfMemory>
     put_text(out, buffer.format(number).as_bytes())
 }
 
-/// Adds a text and a number behind it.
+/// Adds a text and a number after it.
 pub fn put_text_and_number(out: &mut Vec<u8>, text: &[u8], number: usize) -> Result<(), OutOfMemory>
     ensures { OnOk result (out.new.items ≡ out.old.items ++ (text.now ++ decimal number)) }
 {

@@ -29,7 +29,7 @@ pub record IsLink (x : Execution) (names : List Name) (e f : ℕ) (text : List �
   pub first : IsReason x e f (Some reason)
   pub lines : text ≡ event_line x names e ++ reason_line x names f reason
 
--- the lines of the first n events of a cycle, each with the event behind it
+-- the lines of the first n events of a cycle, each with the event after it
 abbrev pub AreLinks : Execution → List Name → List ℕ → ℕ → List ℕ → Type 0
 AreLinks x names c zero text = text ≡ []
 AreLinks x names c (suc i) text = (before link : List ℕ) × AreLinks x names c i before

@@ -50,7 +50,7 @@ pub record IsStep (x : Execution) (e f : ℕ) (s : Step) : Type 0 where
   pub from : s.from_store ≡ is_plain_store (event_at x e)
   pub to : s.to_store ≡ is_plain_store (event_at x f)
 
--- the steps from the first n accesses, each to the access behind it
+-- the steps from the first n accesses, each to the access after it
 abbrev pub AreWordSteps : Execution → List ℕ → ℕ → List Step → Type 0
 AreWordSteps x es zero steps = steps ≡ []
 AreWordSteps x es (suc i) steps = (before : List Step) × (step : Step) × AreWordSteps x es i before
@@ -78,7 +78,7 @@ word_by (Some Wo) s = codes " Co" ++ side_text s.same_core
 word_by (Some Rf) s = codes " Rf" ++ side_text s.same_core
 word_by (Some Fr) s = codes " Fr" ++ side_text s.same_core
 
--- the word of a step, behind a space
+-- the word of a step, after a space
 unfoldable pub word : Step → List ℕ
 word s = word_by s.reason s
 
@@ -123,7 +123,7 @@ classics =
 unfoldable pub classic_of : List ℕ → Option (List ℕ)
 classic_of words = option_map (λ c. c.1) (find (λ c. bytes_eq words c.0) classics)
 
--- words with the name of a classic test behind them
+-- words with the name of a classic test after them
 abbrev pub named_words : List ℕ → List ℕ → List ℕ
 named_words words name = words ++ (codes " (" ++ (name ++ codes ")"))
 
@@ -139,7 +139,7 @@ told_from steps i zero = words_from steps 0
 told_from steps i (suc n) =
     told_by (classic_of (words_from steps i)) (words_from steps i) (told_from steps (i + 1) n)
 
--- words were put behind a text with the name of their classic test, or they are those of none
+-- words were put after a text with the name of their classic test, or they are those of none
 abbrev pub IsNamedBehind : List ℕ → List ℕ → Bool → List ℕ → Type 0
 IsNamedBehind old words true new =
     (name : List ℕ) × (classic_of words ≡ Some name) × (new ≡ old ++ named_words words name)

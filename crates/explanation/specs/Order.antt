@@ -9,7 +9,7 @@ use Rattle.recording.specs.Execution.{Execution, event_at, write_list}
 use Rattle.recording.specs.Order.{place}
 use Rattle.event_texts.specs.Events.{event_line, indent, address_text}
 
--- where the write of a value stands in the order m: before the event, or behind it, and then the value was
+-- where the write of a value stands in the order m: before the event, or after it, and then the value was
 -- forwarded
 unfoldable pub source_words : List ℕ → ℕ → List ℕ → Option ℕ → List ℕ
 source_words m e address None = codes "no write of " ++ address ++ codes " is before it"

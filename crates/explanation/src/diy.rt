@@ -120,7 +120,7 @@ fn step_of(recording: &Recording, places: &Places<'_>, first: EventId, second: E
     }
 }
 
-/// The steps of a cycle, from each access to the one behind it.
+/// The steps of a cycle, from each access to the one after it.
 fn steps(
     alloc: Global,
     recording: &Recording,

@@ -103,7 +103,7 @@ fn put_first(out: &mut Vec<u8>, names: &IndexSet<Name>, address: Addr) -> Result
     put_address(out, names, address)
 }
 
-/// Adds behind which write of an address the next one stands.
+/// Adds after which write of an address the next one stands.
 fn put_next(
     out: &mut Vec<u8>,
     names: &IndexSet<Name>,

@@ -58,7 +58,7 @@ impl Read for Interrupted {
     }
 }
 
-/// Whether a read that fails behind so many bytes leaves nothing written.
+/// Whether a read that fails after so many bytes leaves nothing written.
 fn leaves_nothing<R: Threads + Wait + Sync>(
     rt: &R,
     alloc: Global,
@@ -87,7 +87,7 @@ fn text_of(alloc: Global, parts: EventLists) -> Option<Vec<u8>> {
     write_recording(alloc, &recording).ok()
 }
 
-/// Whether a read that fails behind any byte of the text leaves nothing written.
+/// Whether a read that fails after any byte of the text leaves nothing written.
 fn leaves_nothing_anywhere<R: Threads + Wait + Sync>(rt: &R, alloc: Global, text: &[u8]) -> bool {
     for k in 0..=text.len() {
         if !leaves_nothing(rt, alloc, text, k) {
@@ -112,7 +112,7 @@ fn a_failed_read_leaves_nothing_written(rt: HostRuntime) -> Result<(), Fail> {
     Ok(())
 }
 
-/// Whether a write that fails behind so many bytes leaves as long a beginning of the answer.
+/// Whether a write that fails after so many bytes leaves as long a beginning of the answer.
 fn leaves_a_beginning<R: Threads + Wait + Sync>(
     rt: &R,
     alloc: Global,
@@ -127,7 +127,7 @@ fn leaves_a_beginning<R: Threads + Wait + Sync>(
         && CYCLE.starts_with(sink.written())
 }
 
-/// Whether the whole answer is written where a write fails behind it.
+/// Whether the whole answer is written where a write fails after it.
 fn is_whole<R: Threads + Wait + Sync>(rt: &R, alloc: Global, text: &[u8]) -> bool {
     let mut source = MemorySource::new(text);
     let mut sink = MemorySink::failing(alloc, CYCLE.len());
@@ -135,7 +135,7 @@ fn is_whole<R: Threads + Wait + Sync>(rt: &R, alloc: Global, text: &[u8]) -> boo
     answered == Ok(Outcome::Violation) && sink.written() == CYCLE
 }
 
-/// Whether a write that fails behind any of 123 bytes leaves as long a beginning of the answer.
+/// Whether a write that fails after any of 123 bytes leaves as long a beginning of the answer.
 fn leaves_each_beginning<R: Threads + Wait + Sync>(rt: &R, alloc: Global, text: &[u8]) -> bool {
     for k in 0..123 {
         if !leaves_a_beginning(rt, alloc, text, k) {

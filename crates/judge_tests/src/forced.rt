@@ -59,7 +59,7 @@ const OF_SELF_SOURCE: &[(EventId, EventId, Option<Reason>)] = &[(0, 0, Some(Reas
 /// A pair with two reasons, of which the first is told.
 const OF_LOAD_AND_STORE: &[(EventId, EventId, Option<Reason>)] = &[(0, 1, Some(Reason::Po))];
 
-/// A failed swap behind a store, and one that reads the initial value 7.
+/// A failed swap after a store, and one that reads the initial value 7.
 const OF_FAILED_SWAPS: &[(EventId, EventId, Option<Reason>)] = &[
     (0, 1, Some(Reason::Po)),
     (3, 0, Some(Reason::Fr)),

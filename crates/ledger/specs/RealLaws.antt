@@ -22,7 +22,7 @@ use Rattle.ledger.specs.LedgerLaws.{adds_up, count_append, count_cons, position_
 position_yes : (p : ℕ → Bool) (x : ℕ) (xs : List ℕ) → p x ≡ true → position p (x ∷ xs) ≡ Some 0
 position_yes p x xs passes = position_some p (x ∷ xs) 0 (rw passes refl) (omega arith)
 
--- where it doesn't, the first place is one behind that of the others
+-- where it doesn't, the first place is one after that of the others
 position_no : (p : ℕ → Bool) (x : ℕ) (xs : List ℕ) → p x ≡ false
     → position p (x ∷ xs) ≡ first_of None 1 (position p xs)
 position_no p x xs fails = position_append p (x ∷ []) xs
@@ -372,7 +372,7 @@ kinds_turned p q os bs cs k = record {
   none_first = k.none_second;
 }
 
--- what stands behind the first i
+-- what stands after the first i
 length_left : (i : ℕ) (xs : List ℕ) → i ≤ length xs → length (drop i xs) ≡ length xs - i
 length_left i xs within = omega (
   arith,

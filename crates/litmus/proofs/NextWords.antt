@@ -14,7 +14,7 @@ pub words_turn : (n : ℕ) (p : Body) (s : List ℕ) (k j : ℕ) → k ≡ suc j
 unfolding first_words
 words_turn n p s k j e = rw e refl
 
--- the state behind it
+-- the state after it
 pub after_turn : (s : List ℕ) (k j : ℕ) → k ≡ suc j → after_words k s ≡ after_words j (plus_plus s).1
 after_turn s k j e = rw e refl
 
@@ -54,7 +54,7 @@ pub cores_turn : (z : Sizes) (p : Body) (s : List ℕ) (k j m l : ℕ) → k ≡
     (first_words plus_plus l (after_words z.ops s))
 cores_turn z p s k j m l e f = rw (e, f) (rw (take_words z.ops l s, drop_words z.ops l s) refl)
 
--- the state behind them
+-- the state after them
 pub after_core : (ops : ℕ) (s : List ℕ) (m l : ℕ) → m ≡ ops + l → after_words m s ≡ after_words l
     (after_words ops s)
 after_core ops s m l f = rw f (after_both ops l s)

@@ -214,7 +214,7 @@ module _ (p : List (List Op)) (s : State) (d : IsData p s) where
       | inr other ↦ omega (arith, get_or-set_other s.places c k (place_of s c + 1) 0 other)
     ]
 
-    -- what was given before core c goes on is given behind it
+    -- what was given before core c goes on is given after it
     go_on : (t : State) → t.places ≡ slice_set s.places c (place_of s c + 1)
         → ((e : ℕ) → e ≢ b → get_or t.reads e (0, None) ≡ get_or s.reads e (0, None))
         → s.initial ≡ t.initial → (a : ℕ) (o : Option ℕ) (v : ℕ) → IsGiven p s a o v → IsGiven p t a o v

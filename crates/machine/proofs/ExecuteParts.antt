@@ -310,7 +310,7 @@ module _ (p : Parts) (capacity : ℕ) (units : List Progress) (buffers : List Bu
         list_room : list.room ≡ op_count p.cores
         list_room = ap (λ (l : BoundedItems ℕ). l.room) list_is ∙ sound.write_rooms addr list there
 
-        -- the parts still fit together behind a read-modify-write
+        -- the parts still fit together after a read-modify-write
         pub rmw_sound : (caches' : moesi.CacheState) → caches'.cores ≡ caches.cores
             → length caches'.blocks ≡ length caches.blocks → (reads' : List (ℕ × Option ℕ))
             → length reads' ≡ length reads → (list' new : BoundedItems ℕ)
@@ -364,7 +364,7 @@ module _ (p : Parts) (capacity : ℕ) (units : List Progress) (buffers : List Bu
         capacity_is : old.capacity ≡ capacity
         capacity_is = ap (λ (b : Buffer). b.capacity) is ∙ sound.capacities core old buffer_there
 
-        -- the parts still fit together behind a store
+        -- the parts still fit together after a store
         pub stored_sound : IsSound p capacity (slice_set units core moved) (slice_set buffers core new)
             caches writes reads done
         stored_sound = record {

@@ -145,7 +145,7 @@ before_filter q (x ∷ xs) e f qe qf h = elim (bool_cases (q x)) [
       (omega (arith, rest, e_there, f_there), omega (arith, rest, f_there))
 ]
 
--- in a list of distinct numbers the last stands behind all others
+-- in a list of distinct numbers the last stands after all others
 pub last_behind : (l : List ℕ) (s : ℕ) → ((e : ℕ) → times l e ≤ 1) → last_of l ≡ Some s
     → (0 < times l s) × ((w : ℕ) → 0 < times l w → (w ≡ s) ⊎ Before l w s)
 unfolding last_of

@@ -117,14 +117,14 @@ issue_orders p s t b counted i = record {
         (earlier_seen p s b counted i.event i.next_was e own) (fresh (p.core b))
         (omega (arith, times_here [] b b refl)))
 
--- an event that is performed in TSO's order: no plain store, a plain load or behind an empty buffer, and
+-- an event that is performed in TSO's order: no plain store, a plain load or with an empty buffer, and
 -- it reads the newest write
 pub record Follows (p : Static) (s t : Snapshot) (b : ℕ) : Type 0 where
   pub store : p.store b ≡ false
   pub allowed : (p.load b ≡ true) ⊎ (s.buffer (p.core b) ≡ [])
   pub newest : (a : ℕ) → p.reads b ≡ Some a → IsNewest p (seen s (p.core b)) a (t.source b)
 
--- an event that is performed comes behind all that was performed
+-- an event that is performed comes after all that was performed
 pub perform_orders : (p : Static) (s t : Snapshot) (b : ℕ) → IsCounted p s → Performs p s t b
     → Follows p s t b → Orders p s t b
 perform_orders p s t b counted i f = record {

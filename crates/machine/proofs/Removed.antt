@@ -21,7 +21,7 @@ drop_front xs i x here = rw (
   add-one,
 ) refl
 
--- the entry at a place stands between those before it and those behind it
+-- the entry at a place stands between those before it and those after it
 pub split_at : (xs : List Entry) (i : ℕ) (x : Entry) → slice_get xs i ≡ Some x → xs ≡ take i xs ++ x ∷ drop
     (i + 1) xs
 split_at xs i x here = sym (take-append-drop i xs) ∙ ap (λ (ys : List Entry). take i xs ++ ys)
@@ -46,7 +46,7 @@ all_without P xs i all = All-append P (take i xs) (drop (i + 1) xs) (All-take P 
 pub none_before : (f : Fault) (xs : List Entry) → f ≡ fault.None → take (draining f xs) xs ≡ []
 none_before f xs none = ap (λ (g : Fault). take (draining g xs) xs) none
 
--- without fault a fence goes on behind an empty buffer
+-- without fault a fence goes on with an empty buffer
 pub fence_behind : (f : Fault) (xs : List Entry) → may_fence f xs ≡ true → f ≡ fault.None → xs ≡ []
 fence_behind f xs may none = nil_from_length xs
     (eqb-true _ _ (subst (λ (g : Fault). may_fence g xs ≡ true) none may))

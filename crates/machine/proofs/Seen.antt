@@ -157,7 +157,7 @@ is_last_same p u v b e a eb fresh e_left not_own (Some s) others h =
       ],
     )
 
--- core d sees the order as before, or with b put in behind all that was performed, where it was not, and
+-- core d sees the order as before, or with b put in after all that was performed, where it was not, and
 -- where no performed read of d is later on its core
 pub data Grows (p : Static) (b : ℕ) (performed : List ℕ) (d : ℕ) : List ℕ → List ℕ → Type 0 where
   unmoved : {o : List ℕ} → Grows p b performed d o o

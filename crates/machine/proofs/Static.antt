@@ -45,7 +45,7 @@ snapshot_of p s = record {
   source = λ e. (get_or s.reads e (0, None)).1;
 }
 
--- one core more, whose events come behind those before it
+-- one core more, whose events come after those before it
 pub first_more : (p : List (List Op)) (c : ℕ) → c < length p
     → first_event p (c + 1) ≡ first_event p c + length (get_or p c [])
 first_more [] c h = absurd (omega (arith, h))

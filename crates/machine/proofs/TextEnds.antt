@@ -25,7 +25,7 @@ module _ {S F : Type 0} (step : S → List ℕ → Result S F) (unended : F) (te
       ne_eqb (length (slice_range text start i)) 0 (λ none. omega (arith, none, width, open_line, past)) in
       sym reads.rest ∙ rw (nothing, some) refl
 
-  -- behind a newline all is read
+  -- after a newline all is read
   pub behind_line : length text ≤ start → whole ≡ Ok s
   behind_line ended =
       let none : (length (slice_range text start i) == 0) ≡ true =

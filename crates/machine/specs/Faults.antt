@@ -19,12 +19,12 @@ abbrev pub draining : Fault → List Entry → ℕ
 draining YoungestFirst entries = length entries - 1
 draining fault entries = 0
 
--- whether a fence may go on: behind an empty buffer; always with OpenFence
+-- whether a fence may go on: with an empty buffer; always with OpenFence
 abbrev pub may_fence : Fault → List Entry → Bool
 may_fence OpenFence entries = true
 may_fence fault entries = length entries == 0
 
--- whether a read-modify-write, also a compare-and-swap, may go on: behind an empty buffer; always with
+-- whether a read-modify-write, also a compare-and-swap, may go on: with an empty buffer; always with
 -- EarlyRmw
 abbrev pub may_rmw : Fault → List Entry → Bool
 may_rmw EarlyRmw entries = true

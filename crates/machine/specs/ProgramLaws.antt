@@ -26,7 +26,7 @@ op_here k ops rest i d h =
     get_or_append_left (map (λ op. (k, op)) ops) (placed_from (k + 1) rest) d i (rw length-map h)
     ∙ get_or-map (λ (op : Op). (k, op)) ops i d.1 d h
 
--- and where it is behind the first core
+-- and where it is after the first core
 pub op_behind : (k : ℕ) (ops : List Op) (rest : List (List Op)) (i : ℕ) (d : ℕ × Op) → length ops ≤ i
     → get_or (placed_from k (ops ∷ rest)) i d ≡ get_or (placed_from (k + 1) rest) (i - length ops) d
 op_behind k ops rest i d h =

@@ -83,7 +83,7 @@ loaded fault s c e a = or_blocked B4 (λ what. advanced (performed (with_read s 
 abbrev pub rmw_value : State → ℕ → Op → ℕ → ℕ
 rmw_value s c op a = value_written (event_of op (line_copy s c a))
 
--- core c reads address a and writes it at once, as op says, behind an empty buffer and in a line
+-- core c reads address a and writes it at once, as op says, with an empty buffer and in a line
 -- that is M or E
 abbrev pub read_modify_written : Fault → State → ℕ → ℕ → Op → ℕ → Result State Blocked
 read_modify_written fault s c e op a =
@@ -92,7 +92,7 @@ read_modify_written fault s c e op a =
     (moesi.write s.caches c a (rmw_value s c op a) e)
     else Err B3
 
--- core c reads address a and writes nothing, behind an empty buffer and from a line that is M or E
+-- core c reads address a and writes nothing, with an empty buffer and from a line that is M or E
 abbrev pub read_unmodified : Fault → State → ℕ → ℕ → ℕ → Result State Blocked
 read_unmodified fault s c n a =
     if may_rmw fault (buffer_of s c)

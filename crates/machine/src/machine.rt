@@ -228,7 +228,7 @@ impl Machine {
         Some(entry.addr)
     }
 
-    /// The number of the next event of a core of the program; that behind its last event where it has
+    /// The number of the next event of a core of the program; that after its last event where it has
     /// executed all.
     pub fn next_event(&self, core: CoreId) -> usize
         requires { core < length self.now.program.cores }

@@ -78,7 +78,7 @@ impl Machine {
         Ok(())
     }
 
-    /// Reads the core's line and writes it at once, behind an empty buffer, where the machine waits for it.
+    /// Reads the core's line and writes it at once, with an empty buffer, where the machine waits for it.
     pub(crate) fn read_modify_write(
         &mut self,
         core: CoreId,
@@ -112,7 +112,7 @@ impl Machine {
         Ok(())
     }
 
-    /// Reads the core's line alone, as a read-modify-write would: behind an empty buffer, where the
+    /// Reads the core's line alone, as a read-modify-write would: with an empty buffer, where the
     /// machine waits for it, and from a line that the core may write.
     pub(crate) fn read_unmodified(
         &mut self,

@@ -121,7 +121,7 @@ impl OneAddress {
     }
 }
 
-/// Whether the caches of so many cores answer the rows so, one behind the other.
+/// Whether the caches of so many cores answer the rows so, one after the other.
 fn answers_all(alloc: Global, cores: CoreId, rows: &[Row]) -> Result<bool, Fail> {
     let mut caches = OneAddress::new(alloc, cores)?;
     for row in rows {

@@ -76,7 +76,7 @@ lines_next counts more k low =
     ap (λ (n : ℕ). lines_from counts k n ++ more) one
     ∙ append_assoc (cycle_line k (get_or counts k 0)) (lines_from counts (k + 1) (MAX_EVENTS + 1 - (k + 1))) more
 
--- what stands behind the line of a length is later
+-- what stands after the line of a length is later
 lines_later : (counts more : List ℕ) (k j n : ℕ) → k < j → j + n ≤ MAX_EVENTS + 1
     → IsLater k (lines_from counts j n ++ 102 ∷ more)
 unfolding lines_from

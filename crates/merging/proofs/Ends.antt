@@ -18,7 +18,7 @@ AreDigits ds = (i : ℕ) → i < length ds → is_digit (get_or ds i 0) ≡ true
 one_digit : (n : ℕ) → n < 10 → is_digit (48 + n) ≡ true
 one_digit n low = grind (arith, nat_tests)
 
--- one digit behind others
+-- one digit after others
 more_digits : (ds : List ℕ) (d : ℕ) → AreDigits ds → is_digit d ≡ true → AreDigits (ds ++ d ∷ [])
 unfolding AreDigits
 more_digits ds d all digit i low = elim (cases_lt i (length ds)) [

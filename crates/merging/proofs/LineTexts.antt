@@ -1,4 +1,4 @@
--- Lines, and what stands behind them.
+-- Lines, and what stands after them.
 use Rattle.std.proofs.Common.{◌≡◌, ◌∙◌, ◌<◌, ◌++◌, ◌∷◌, [], ℕ, List, Option, Some, ap, append_assoc}
 use Rattle.std.proofs.Common.{codes, decimal, arith, nat_eq, ne_eqb, false}
 use Rattle.report.specs.Counted.{count_line, cycle_line, first_line, place_name}

@@ -71,7 +71,7 @@ text_more kind old mid new bytes rest after some u t = record {
       );
 }
 
--- nothing is left of the texts behind the last
+-- nothing is left of the texts after the last
 none_left : (kind : Kind) (back : List (List ℕ)) → AreTexts kind back []
     → ((codes more : List ℕ) → Begins kind codes [] more → ⊥) → concat back ≡ []
 none_left kind [] texts none = refl

@@ -25,7 +25,7 @@ use Rattle.merging.proofs.LineTexts.{first_then}
 pub same_some : {A : Type 0} (a b : A) → Some a ≡ Some b → a ≡ b
 same_some a b same = cc
 
--- the line of a first place without its first byte, and what stands behind it
+-- the line of a first place without its first byte, and what stands after it
 abbrev pub first_back : List ℕ → List ℕ → Option ℕ → List ℕ → List ℕ
 first_back name noun first more = codes "irst " ++ (name ++ (codes ": " ++ (place_name noun first ++ 10 ∷ more)))
 
@@ -50,7 +50,7 @@ ledger_then kind l more size =
     six : (a b c d e f g : List ℕ) → (((((a ++ b) ++ c) ++ d) ++ e) ++ f) ++ g ≡ a ++ (b ++ (c ++ (d ++ (e ++ (f ++ g)))))
     six a b c d e f g = simp append_assoc
 
--- a text, and what stands behind the line of the first violation
+-- a text, and what stands after the line of the first violation
 pub text_then : (kind : Kind) (l : Ledger) (more : List ℕ) → text_of kind l ++ more
     ≡ ledger_text (all_name kind) (unjudged_name kind) (noun kind) l ++ (tail kind l.first_unjudged ++ more)
 text_then Campaign l more = refl

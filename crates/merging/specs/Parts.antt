@@ -16,7 +16,7 @@ Are64Bit counts = (n : ℕ) → slice_index counts n < 2 ^ 64
 abbrev pub Is64BitPlace : Option ℕ → Type 0
 Is64BitPlace place = IfSome place (λ n. n < 2 ^ 64)
 
--- the first four lines, and what stands behind them
+-- the first four lines, and what stands after them
 abbrev pub count_lines : Kind → ℕ → ℕ → ℕ → ℕ → List ℕ → List ℕ
 count_lines kind n o u v more = count_line (all_name kind) n ++ (count_line (codes "ordered") o
     ++ (count_line (unjudged_name kind) u ++ (count_line (codes "overlook") v ++ more)))
@@ -46,7 +46,7 @@ pub record HasSameCounts (l m : Ledger) : Type 0 where
   pub cycles : l.cycles.items ≡ m.cycles.items
   pub first : l.first ≡ m.first
 
--- what stands behind the line of the first violation: of a survey the line of the first that is refused
+-- what stands after the line of the first violation: of a survey the line of the first that is refused
 abbrev pub tail : Kind → Option ℕ → List ℕ
 tail Campaign place = []
 tail Survey place = first_line (codes "refused") (noun Survey) place

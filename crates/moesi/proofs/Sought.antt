@@ -12,7 +12,7 @@ use Rattle.moesi.specs.Packed.{block_in}
 use Rattle.moesi.proofs.Grid.{lines_from, lines_length}
 
 module _ (cores n : ℕ) (words : List ℕ) (a : ℕ) where
-  -- behind the last core there is no line
+  -- after the last core there is no line
   lines_past : (c : ℕ) → cores ≤ c → c ≤ cores → drop c (block_in cores n words a).lines ≡ []
   lines_past c low high =
       let b : Block = block_in cores n words a in
@@ -44,7 +44,7 @@ module _ (cores n : ℕ) (words : List ℕ) (a : ℕ) where
         ≡ is_valid x.line || list_any (λ y. is_valid y.line) (drop (c + 1) (block_in cores n words a).lines)
     any_from = ap (list_any (λ y. is_valid y.line)) lines_own
 
-    -- the data of the first of a kind, with those of the lines behind
+    -- the data of the first of a kind, with those of the lines after it
     pub copy_from : (kind : Line → Bool) (m : ℕ × Option ℕ) (d : ℕ) → c + 1 ≡ d
         → copy_where kind (drop c (block_in cores n words a).lines) m
         ≡ cond (kind x.line) x.copy (copy_where kind (drop d (block_in cores n words a).lines) m)

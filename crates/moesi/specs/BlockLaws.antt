@@ -11,7 +11,7 @@ use Rattle.moesi.specs.Block.{Block, cell_of, invalid, copy_where, supplied, cur
 use Rattle.moesi.specs.Coherent.{IsCoherentBlock}
 use Rattle.moesi.specs.LineLaws.{not_supplier, not_valid, owned_cases, supplier_valid}
 
--- no line is of a kind where the first is not and none behind it
+-- no line is of a kind where the first is not and none after it
 none_of : (kind : Line → Bool) (x : Cell) (xs : List Cell) → kind x.line ≡ false
     → ((c : ℕ) → kind (slice_index_or xs c invalid).line ≡ false)
     → (c : ℕ) → kind (slice_index_or (x ∷ xs) c invalid).line ≡ false

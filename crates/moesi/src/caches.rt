@@ -20,7 +20,7 @@ use std::marker::Model;
 /// and its address are there. Only `new` and `with_init` can fail for want of memory.
 ///
 /// They are one list of words: word `core * addresses + addr` is a core's line of an address, and
-/// those behind the lines of all cores are memory.
+/// those after the lines of all cores are memory.
 #[derive(Drop)]
 pub struct Caches {
     words: Vec<u64>,

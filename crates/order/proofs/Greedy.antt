@@ -51,7 +51,7 @@ free_waits t p counts o v less free = omega (
   free,
 )
 
--- where an order goes on behind p with y, nothing is open before y
+-- where an order goes on after p with y, nothing is open before y
 goes_on_free : (t : Table) (p : List ℕ) (counts : List ℕ) → IsOpen t p counts → (y : ℕ) (ys : List ℕ)
     → Respects (Related t) (length t) (p ++ y ∷ ys)
     → (y < length t) × (get_or counts y 0 ≡ 1)

@@ -7,7 +7,7 @@ ghost use Rattle.recording.specs.Execution.{event_count, Kept};
 use common::EventId;
 use recording::Recording;
 
-/// Whether no event behind the one at a place is kept before it.
+/// Whether no event after the one at a place is kept before it.
 fn keeps_behind(recording: &Recording, order: &[EventId], at: usize) -> bool
     requires { at < length order.now }
     ensures { IsTrue result ↔ ((i : ℕ) → at < i → i < length order.now

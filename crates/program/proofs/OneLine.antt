@@ -123,14 +123,14 @@ init_reads rest l e =
           ∙ ap (λ t. codes "init " ++ t) (v.text_is h);
     })
 
--- what is known of two numbers that were read behind a name
+-- what is known of two numbers that were read after a name
 record ReadsPair (name : Name) (rest : List ℕ) (l : Line) : Type 0 where
   e : ℕ
   n : ℕ
   is : compare_line name e n ≡ l
   text_is : (e < 2 ^ 32) × (n < 2 ^ 32) → decimal e ++ 32 ∷ decimal n ≡ rest
 
--- two numbers that were read behind a name
+-- two numbers that were read after a name
 pair_reads : (name : Name) (rest : List ℕ) (l : Line) → compared_of name rest ≡ Some l →
     ReadsPair name rest l
 unfolding compared_of
@@ -244,13 +244,13 @@ length_more : (xs : List ℕ) (y : ℕ) → length (xs ++ y ∷ []) ≡ length x
 length_more [] y = refl
 length_more (x ∷ xs) y = let h = length_more xs y in omega (arith, h)
 
--- what stands behind a text and a space
+-- what stands after a text and a space
 behind_space : (text rest : List ℕ) → drop (length text + 1) (text ++ 32 ∷ rest) ≡ rest
 behind_space text rest =
     ap (λ xs. drop (length text + 1) xs) (sym (append_assoc text (32 ∷ []) rest))
     ∙ drop_at (text ++ 32 ∷ []) rest (length text + 1) (omega (arith, length_more text 32))
 
--- the first space stands behind a name
+-- the first space stands after a name
 space_at : (name : Name) (rest : List ℕ) → name_of (name_text name) ≡ Some name →
     position is_space (name_text name ++ 32 ∷ rest) ≡ Some (length (name_text name))
 space_at name rest named =

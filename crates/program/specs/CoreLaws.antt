@@ -43,7 +43,7 @@ pub count-append : (front : Cores) (ops : List Op) → op_count (front ++ ops �
     ≡ op_count front + length ops
 count-append front ops = sum_by_push (λ (os : List Op). length os) front ops
 
--- the count from a core on is its operations and the count behind it
+-- the count from a core on is its operations and the count after it
 pub count_more : (cores : Cores) (i : ℕ) (d : List Op) → i < length cores →
     op_count (drop i cores) ≡ length (get_or cores i d) + op_count (drop (i + 1) cores)
 count_more cores i d at = sum_by-drop_more (λ (os : List Op). length os) cores i d at

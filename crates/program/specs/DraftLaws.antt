@@ -9,7 +9,7 @@ use Rattle.program.specs.Parts.{IsProgram, IsSmall}
 use Rattle.program.specs.Drafts.{Draft, IsDraft, drafted_program, filled}
 use Rattle.program.specs.Spelling.{init_text, value_text}
 
--- the values of some addresses and of those behind them
+-- the values of some addresses and of those after them
 pub init_append : (names : List Name) (a : ℕ) (front back : List ℕ) →
     init_text names a (front ++ back)
     ≡ init_text names a front ++ init_text names (a + length front) back

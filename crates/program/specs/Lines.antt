@@ -44,7 +44,7 @@ write_of write rest = valued_of (λ name n. write_line write name n) rest
 unfoldable pub init_of : List ℕ → Option Line
 init_of rest = valued_of (λ name n. init_line name n) rest
 
--- a number, one space and a number, behind a name
+-- a number, one space and a number, after a name
 unfoldable pub compared_of : Name → List ℕ → Option Line
 compared_of name rest =
     option_and_then (λ at.

@@ -15,7 +15,7 @@ is_decimal text =
     nat_lt 0 (length text) && list_all is_digit text
     && (not (slice_index text 0 == 48) || (length text == 1))
 
--- the number that digits write behind those of n
+-- the number that digits write after those of n
 abbrev pub value_from : ℕ → List ℕ → ℕ
 value_from n [] = n
 value_from n (b ∷ bs) = value_from (n * 10 + (b - 48)) bs

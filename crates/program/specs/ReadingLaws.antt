@@ -84,7 +84,7 @@ module _ {S F : Type 0} (step : S → List ℕ → Result S F) (unended : F) whe
           ≡ read_from step unended (k + 1) t (slice_range text (i + 1) (i + 1)) (drop (i + 1) text)
       step_is = rw (front_of text i within, eq-eqb (get_or text i 0) 10 newline, is, none) refl
 
-  -- a line of which some was read, and the newline behind it
+  -- a line of which some was read, and the newline after it
   pub one_line : (k : ℕ) (s : S) (front line rest : List ℕ) → list_all (λ b. not (b == 10)) line
       ≡ true →
       read_from step unended k s front (line ++ 10 ∷ rest) ≡ after_line k (step s (front ++ line))

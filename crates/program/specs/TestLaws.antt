@@ -31,7 +31,7 @@ all_also p q h [] e = refl
 all_also p q h (x ∷ xs) e = let both = and_parts (p x) (list_all p xs) e in rw (h x both.0)
     (all_also p q h xs both.1)
 
--- the first place that passes stands behind those that don't
+-- the first place that passes stands after those that don't
 pub first_behind : (p : ℕ → Bool) (xs ys : List ℕ) → list_all (λ b. not (p b)) xs ≡ true →
     position_or_len p ys ≡ 0 → position_or_len p (xs ++ ys) ≡ length xs
 first_behind p [] ys all first = first
@@ -39,7 +39,7 @@ first_behind p (x ∷ xs) ys all first =
     let both = and_parts (not (p x)) (list_all (λ b. not (p b)) xs) all in
     let later = first_behind p xs ys both.1 first in rw both.0 (omega (arith, later))
 
--- the place of the first that passes, behind those that don't
+-- the place of the first that passes, after those that don't
 pub first_place : (p : ℕ → Bool) (xs ys : List ℕ) (y : ℕ) → list_all (λ b. not (p b)) xs ≡ true → p y
     ≡ true → position p (xs ++ y ∷ ys) ≡ Some (length xs)
 first_place p xs ys y all here =

@@ -31,7 +31,7 @@ impl Name {
         Some(Name { bytes })
     }
 
-    /// The letter and the bytes behind it, which have to make a name.
+    /// The letter and the bytes after it, which have to make a name.
     pub(crate) fn of_parts(letter: u8, rest: &[u8]) -> Name
         requires { length rest.now ≤ 7 }
         ensures { result ≡ record { bytes = padded (letter ∷ rest.now) } }

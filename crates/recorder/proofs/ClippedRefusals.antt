@@ -73,7 +73,7 @@ value_to x within e source has a reads =
     ((value_same x a (source_of x e) (value_read (event_at (clipped x) e)) (value_read (event_at x e))
     (values_read_clipped x e)).1 (has a before))
 
--- what stands behind the first number stands in the list
+-- what stands after the first number stands in the list
 stands_behind : (x : ℕ) (xs : List ℕ) (e : ℕ) → 0 < times xs e → 0 < times (x ∷ xs) e
 stands_behind x xs e stands = elim (cases_eq x e) [
   | inl same ↦ omega (arith, times_here xs x e same)

@@ -46,7 +46,7 @@ front_none f list i v front all at is gives same =
     let nothing : each f (items_view (drop i list)) ≡ None = rw (drop_more list i v at, ← is, gives) refl in
     sym (ap (with_front front) nothing) ∙ same
 
--- behind the last item what was found is what all gives
+-- after the last item what was found is what all gives
 pub front_all : {A : Type 0} (f : Data → Option A) (list : List Value) (i : ℕ) (front : List A)
     (all : Option (List A)) → length list ≤ i
     → with_front front (each f (items_view (drop i list))) ≡ all → Some front ≡ all

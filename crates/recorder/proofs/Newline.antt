@@ -1,4 +1,4 @@
--- A newline behind a JSON text changes nothing of what is read.
+-- A newline after a JSON text changes nothing of what is read.
 use Rattle.std.proofs.Common.{◌≡◌, ◌-◌, ◌==◌, ◌&&◌, ◌||◌, ℕ, List, [], ◌∷◌, ◌++◌, Bool, true, false, cond}
 use Rattle.std.proofs.Common.{Option, Some, None, option_map, option_and_then, length, drop, refl, sym, ap}
 use Rattle.std.proofs.Common.{subst, ◌∙◌, arith, length-append, String, string_bytes, IsUtf8, Global}
@@ -21,7 +21,7 @@ use Rattle.json.specs.Ascii as ascii
 
 -- ---- the parts of a number: what follows each has the newline at its end
 
--- a rest, with the newline behind it
+-- a rest, with the newline after it
 abbrev after : Option (List ℕ) → Option (List ℕ)
 after o = option_map (λ r. r ++ 10 ∷ []) o
 
@@ -167,7 +167,7 @@ unit_nl : (a b c : ℕ) → code_unit a b c 10 ≡ None
 unfolding code_unit
 unit_nl a b c = never (is_digit a 16) (is_digit b 16) (is_digit c 16) _
 
--- what stands behind four hex digits
+-- what stands after four hex digits
 abbrev unit_step : List ℕ → ℕ → Option (List ℕ)
 unit_step xs u = cond (is_high_surrogate u) (content (after_high u) xs)
     (cond (is_low_surrogate u) None (prepend (encode_utf8 u) (content plain xs)))

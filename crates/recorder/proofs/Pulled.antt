@@ -15,7 +15,7 @@ use Rattle.recorder.specs.Pulled.{GivesValue, Adds, GivesMembers}
 
 -- ---- a value
 
--- the value behind `Some`, or another
+-- the value after `Some`, or another
 abbrev pick : {A : Type 0} → A → Option A → A
 pick a None = a
 pick a (Some b) = b

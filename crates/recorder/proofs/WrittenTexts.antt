@@ -124,7 +124,7 @@ passed_none f Fits old text rest xs opens closes none =
 
 -- ---- events
 
--- two texts of any length with others behind them
+-- two texts of any length with others after them
 two_then : (p q m n t : List ℕ) → p ++ (m ++ (q ++ (n ++ t))) ≡ (p ++ (m ++ (q ++ n))) ++ t
 two_then p q m n t = simp append_assoc
 

@@ -7,16 +7,16 @@ use Rattle.recording.specs.declared.event.Event.TheVariants.{F}
 use Rattle.recording.specs.Execution.{Execution, placed_from, event_count, event_at, core_of}
 use Rattle.recording.specs.EventLaws.{placed_here, placed_behind}
 
--- number is rest events behind the first event of core i
+-- number is rest events after the first event of core i
 pub record IsBehind (cores : List (List Event)) (i rest number : ℕ) : Type 0 where
   pub here : get_or (placed_from 0 cores) number (0, F) ≡ get_or (placed_from i (drop i cores)) rest (0, F)
   pub count : number + length (placed_from i (drop i cores)) ≡ rest + length (placed_from 0 cores)
 
--- at the first core a number is as far behind as it says
+-- at the first core a number is as far on as it says
 pub behind_start : (cores : List (List Event)) (number : ℕ) → IsBehind cores 0 number number
 behind_start cores number = record { here = refl; count = refl }
 
--- a core has its own events, and those of the cores behind it
+-- a core has its own events, and those of the cores after it
 placed_length : (k : ℕ) (es : List Event) (rest : List (List Event))
     → length (placed_from k (es ∷ rest)) ≡ length es + length (placed_from (k + 1) rest)
 placed_length k es rest = length-append (map (λ e. (k, e)) es) (placed_from (k + 1) rest)
@@ -61,7 +61,7 @@ behind_found x i rest number at within h =
       sym (ap (λ p. p.1) is),
     )
 
--- a number behind all cores names no event
+-- a number after all cores names no event
 pub behind_all : (x : Execution) (i rest number : ℕ) → length x.cores ≤ i → IsBehind x.cores i rest number
     → event_count x ≤ number
 unfolding event_count

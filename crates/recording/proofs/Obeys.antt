@@ -84,13 +84,13 @@ value_none x e a begins read reads from i r = (
 abbrev pub ArePlaces : List ℕ → Type 0
 ArePlaces xs = (j : ℕ) → j < length xs → place xs (get_or xs j 0) ≡ j
 
--- the first number stands nowhere behind itself
+-- the first number stands nowhere after itself
 other_behind : (x : ℕ) (xs : List ℕ) → ArePlaces (x ∷ xs) → (j : ℕ) → j < length xs → x ≢ get_or xs j 0
 other_behind x xs places j at same =
     let here : place (x ∷ xs) (get_or xs j 0) ≡ suc j = places (suc j) (omega arith) in
     absurd (omega (arith, here, place_here xs x (get_or xs j 0) same))
 
--- what stands behind the first number keeps its places
+-- what stands after the first number keeps its places
 places_behind : (x : ℕ) (xs : List ℕ) → ArePlaces (x ∷ xs) → ArePlaces xs
 places_behind x xs places j at =
     let here : place (x ∷ xs) (get_or xs j 0) ≡ suc j = places (suc j) (omega arith) in

@@ -9,7 +9,7 @@ pub place_found : (xs : List ℕ) (i e : ℕ) → i < length xs → get_or xs i 
 place_found xs i e at is = ap (λ (ys : List ℕ). place ys e) (drop_more xs i 0 at)
     ∙ place_here (drop (i + 1) xs) (get_or xs i 0) e is
 
--- any other has its place behind it
+-- any other has its place after it
 pub place_more : (xs : List ℕ) (i e : ℕ) → i < length xs → get_or xs i 0 ≢ e
     → place (drop i xs) e ≡ place (drop (i + 1) xs) e + 1
 place_more xs i e at is = ap (λ (ys : List ℕ). place ys e) (drop_more xs i 0 at)
@@ -19,7 +19,7 @@ place_more xs i e at is = ap (λ (ys : List ℕ). place ys e) (drop_more xs i 0 
 pub place_none : (xs : List ℕ) (i e : ℕ) → length xs ≤ i → place (drop i xs) e ≡ 0
 place_none xs i e at = ap (λ (ys : List ℕ). place ys e) (drop_all i xs at) ∙ place_nil e
 
--- the first number of what is left stands once more than behind it
+-- the first number of what is left stands once more than after it
 pub times_found : (xs : List ℕ) (i e : ℕ) → i < length xs → get_or xs i 0 ≡ e
     → times (drop i xs) e ≡ times (drop (i + 1) xs) e + 1
 times_found xs i e at is = ap (λ (ys : List ℕ). times ys e) (drop_more xs i 0 at)

@@ -47,7 +47,7 @@ placed_here k es rest i d h =
     get_or_append_left (map (λ e. (k, e)) es) (placed_from (k + 1) rest) d i (rw length-map h)
     ∙ get_or-map (λ (e : Event). (k, e)) es i d.1 d h
 
--- where it is behind the first core, it stands in the rest
+-- where it is after the first core, it stands in the rest
 pub placed_behind : (k : ℕ) (es : List Event) (rest : List (List Event)) (i : ℕ) (d : ℕ × Event)
     → length es ≤ i → get_or (placed_from k (es ∷ rest)) i d
     ≡ get_or (placed_from (k + 1) rest) (i - length es) d

@@ -10,7 +10,7 @@ pub place_here : (xs : List ℕ) (x e : ℕ) → x ≡ e → place (x ∷ xs) e 
 unfolding place
 place_here xs x e h = grind (arith, nat_tests)
 
--- any other number has its place behind it
+-- any other number has its place after it
 pub place_there : (xs : List ℕ) (x e : ℕ) → x ≢ e → place (x ∷ xs) e ≡ place xs e + 1
 unfolding place
 place_there xs x e h = grind (arith, nat_tests)

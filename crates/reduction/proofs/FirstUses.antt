@@ -16,7 +16,7 @@ use Rattle.reduction.proofs.Places.{number_at}
 use Rattle.reduction.proofs.Restricted.{reads_down, writes_down, reads_up, writes_up}
 use Rattle.reduction.proofs.Used.{reads_use, writes_use, use_reads, used_once, used_only, with_there, with_new}
 
--- what is put behind a list stands there
+-- what is put after a list stands there
 last_pushed : (us : List ℕ) (a : ℕ) → get_or (us ++ a ∷ []) (length us) 0 ≡ a
 last_pushed us a =
     let none : length us - length us ≡ 0 = omega arith in
@@ -27,7 +27,7 @@ last_pushed us a =
 abbrev Begins : List ℕ → List ℕ → Type 0
 Begins xs ys = (length xs ≤ length ys) × ((b : ℕ) → b < length xs → get_or ys b 0 ≡ get_or xs b 0)
 
--- an address is put behind
+-- an address is put at the end
 with_begins : (us : List ℕ) (o : Option ℕ) → Begins us (with_address us o)
 with_begins us None = (omega arith, λ b h. refl)
 with_begins us (Some a) = elim (cases_times us a) [
@@ -51,7 +51,7 @@ all_begin x us (k ∷ ks) =
       λ b h. rest.1 b (omega (arith, first.0)) ∙ first.1 b h,
     )
 
--- the address stands at most behind those before
+-- the address stands at most after those before
 with_place : (us : List ℕ) (a : ℕ) → (p : ℕ) × (p ≤ length us) × (p < length (with_address us (Some a)))
     × (get_or (with_address us (Some a)) p 0 ≡ a)
 with_place us a = elim (cases_times us a) [
@@ -71,7 +71,7 @@ with_place us a = elim (cases_times us a) [
       )
 ]
 
--- one that is new is that which is put behind
+-- one that is new is that which is put at the end
 with_last : (us : List ℕ) (o : Option ℕ) (b : ℕ) → b < length (with_address us o)
     → (b < length us) ⊎ (o ≡ Some (get_or (with_address us o) b 0))
 with_last us None b h = inl h

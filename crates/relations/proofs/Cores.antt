@@ -6,7 +6,7 @@ use Rattle.recording.specs.Execution.{Execution, event_count, core_of, ProgramOr
 use Rattle.recording.specs.CoreLaws.{core_between, core_later}
 use Rattle.relations.specs.Forced.{IsCoreStart}
 
--- what is behind an event on its core is before each later number of another core
+-- what is after an event on its core is before each later number of another core
 pub behind_past : (x : Execution) (e i f : ℕ) → e < i → ProgramOrder x e f → (core_of x i ≡ core_of x e → ⊥)
     → f < i
 behind_past x e i f after own other = elim (cases_lt f i) [

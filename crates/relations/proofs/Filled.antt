@@ -62,7 +62,7 @@ filled_both x e P Q R old mid new split h k = record {
   ];
 }
 
--- what an event is forced before is behind it on its core, or a write of its address, or reads from it
+-- what an event is forced before is after it on its core, or a write of its address, or reads from it
 pub forced_split : (x : Execution) (e f : ℕ) (reason : Reason) → Holds x reason e f
     → IsOwnOrWrite x e f ⊎ (source_of x f ≡ Some e)
 forced_split x e f Po h = inl (inl h.0)

@@ -64,7 +64,7 @@ unloaded_is_kept d e free = elim (cases_Bool (is_plain_store d)) [
   | inr other ↦ rw other refl
 ]
 
--- the first number behind e, and f at the latest, at which a test fails that fails at f
+-- the first number after e, and f at the latest, at which a test fails that fails at f
 abbrev IsFirstFailing : (ℕ → Bool) → ℕ → ℕ → ℕ → Type 0
 IsFirstFailing p e f g = (e < g) × (g ≤ f) × (p g ≡ false) × ((h : ℕ) → e < h → h < g → p h ≡ true)
 

@@ -35,7 +35,7 @@ listed_at : (x : Execution) → IsWellFormed x → (a f : ℕ) → Writes x f a
     → place (write_list x a) f < length (write_list x a)
 listed_at x wf a f writes = place_in (write_list x a) f (omega (arith, (wf.write_lists a).once f writes))
 
--- the next write stands at the place behind
+-- the next write stands at the next place
 pub next_write_at : (x : Execution) (p : IndexedEvent) (f a : ℕ) (ws : List ℕ) (o : Option ℕ) → IsIndexed x p
     → p.writes ≡ Some a → ws ≡ write_list x a → IsNumberAt ws (p.place + 1) o → IsNextWrite x p.number f
     → o ≡ Some f

@@ -104,7 +104,7 @@ source_place x r places are f s is =
       list_short x r.well_formed writes.0,
     )
 
--- behind which the newer writes stand
+-- after which the newer writes stand
 pub newer_places : (x : Execution) → IsRecording x → (places : List ℕ)
     → AreWritePlaces x (length x.write_lists) places → (f s : ℕ) → source_of x f ≡ Some s → (a : ℕ)
     → Reads x f a → IsNewerFrom (write_list x a) (source_of x f) (get_or places s 0 + 1)

@@ -12,7 +12,7 @@ abbrev pub IsCycle : (ℕ → ℕ → Type 0) → List ℕ → Type 0
 IsCycle R [] = ⊥
 IsCycle R (e ∷ es) = Leads R e es e
 
--- the number behind place i of a cycle; behind the last is the first
+-- the number after place i of a cycle; after the last is the first
 abbrev pub next_in_cycle : List ℕ → ℕ → ℕ
 next_in_cycle c i = slice_index_or c (i + 1) (slice_index c 0)
 

@@ -12,7 +12,7 @@ pub walk_more : (R : ℕ → ℕ → Type 0) (n e f g : ℕ) → Walk R n e f �
 walk_more R zero e f g w r = (g, subst (λ (x : ℕ). R x g) (sym w) r, refl)
 walk_more R (suc n) e f g w r = (w.0, w.1, walk_more R n w.0 f g w.2 r)
 
--- p comes first as far as it goes; where m goes on behind p, it goes on with x or more. So p with x
+-- p comes first as far as it goes; where m goes on after p, it goes on with x or more. So p with x
 -- comes first
 pub first_more : (p : List ℕ) (x : ℕ) (m : List ℕ) → ComesFirst p m → length p < length m
     → ((y : ℕ) (ys : List ℕ) → m ≡ p ++ y ∷ ys → x ≤ y) → ComesFirst (p ++ x ∷ []) m

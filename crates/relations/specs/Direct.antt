@@ -12,7 +12,7 @@ abbrev pub is_passed : Bool → Event → Bool
 is_passed true e = is_plain_load e
 is_passed false e = is_plain_store e
 
--- f is the next event behind e on its core that is not passed over
+-- f is the next event after e on its core that is not passed over
 abbrev pub IsNextBehind : Execution → Bool → ℕ → ℕ → Type 0
 IsNextBehind x loads e f = ProgramOrder x e f × (is_passed loads (event_at x f) ≡ false)
     × ((g : ℕ) → e < g → g < f → is_passed loads (event_at x g) ≡ true)

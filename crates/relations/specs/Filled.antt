@@ -22,7 +22,7 @@ pub record IsFilled (x : Execution) (e : ℕ) (P : ℕ → Type 0) (old new : Li
   pub filled : (f : ℕ) → P f → TellsForced x e f (is_in new f)
   pub others : (f : ℕ) → TellsForced x e f (is_in new f) ⊎ (is_in new f ≡ is_in old f)
 
--- f is behind e on its core, or a write that e is before by write order or from-read
+-- f is after e on its core, or a write that e is before by write order or from-read
 abbrev pub IsOwnOrWrite : Execution → ℕ → ℕ → Type 0
 IsOwnOrWrite x e f = ProgramOrder x e f ⊎ (Holds x Wo e f ⊎ Holds x Fr e f)
 

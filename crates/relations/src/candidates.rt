@@ -1,4 +1,4 @@
-//! The events that an event may be forced before without being read: those behind it on its core,
+//! The events that an event may be forced before without being read: those after it on its core,
 //! and the writes of its address.
 
 ghost use Rattle.std.specs.Prelude.{◌≡◌, ◌≤◌, ◌<◌, MatchOption, length, slice_index};
@@ -53,7 +53,7 @@ impl IndexedEvent {
         }
     }
 
-    /// Whether it is forced before an event behind it on its core.
+    /// Whether it is forced before an event after it on its core.
     fn is_forced_after(&self, other: &IndexedEvent) -> bool
         ensures { (x : Execution) → IsIndexed x self.now → IsIndexed x other.now
             → ProgramOrder x self.now.number other.now.number
@@ -62,7 +62,7 @@ impl IndexedEvent {
         self.keeps(other)
     }
 
-    /// Puts the events behind it on its core that it is forced before into a row.
+    /// Puts the events after it on its core that it is forced before into a row.
     fn fill_own_core(&self, events: &[IndexedEvent], row: &mut BitRow)
         requires { length row.old ≡ length events.now }
         ensures { (x : Execution) → IsIndexed x self.now → AreIndexed x events.now
@@ -97,7 +97,7 @@ impl IndexedEvent {
         }
     }
 
-    /// Puts the events behind it on its core and the writes of its address that it is forced before
+    /// Puts the events after it on its core and the writes of its address that it is forced before
     /// into a row.
     fn fill_all(&self, recording: &Recording, events: &[IndexedEvent], row: &mut BitRow)
         requires placed { IsIndexed recording.now self.now }
@@ -118,7 +118,7 @@ impl IndexedEvent {
         if loads { self.is_load } else { self.is_store }
     }
 
-    /// The next event behind it on its core that is no plain load, or no plain store.
+    /// The next event after it on its core that is no plain load, or no plain store.
     fn next_after(&self, events: &[IndexedEvent], loads: bool) -> Option<usize>
         ensures within { IfSome result (λ f. f < length events.now) }
         ensures next { (x : Execution) (f : ℕ) → IsIndexed x self.now → AreIndexed x events.now
@@ -172,7 +172,7 @@ impl IndexedEvent {
         }
     }
 
-    /// Puts the next events behind it on its core and the next writes of its address that it is forced
+    /// Puts the next events after it on its core and the next writes of its address that it is forced
     /// before into a row.
     fn fill_next(&self, recording: &Recording, events: &[IndexedEvent], row: &mut BitRow)
         requires placed { IsIndexed recording.now self.now }

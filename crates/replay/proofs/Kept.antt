@@ -40,7 +40,7 @@ record Keeps (s : State) (r : Result State Blocked) : Type 0 where
 keeps_blocked : (s : State) (b : Blocked) → Keeps s (Err b)
 keeps_blocked s b = record { kept = λ t is. absurd cc }
 
--- also behind a guard
+-- also after a guard
 keeps_if : (b : Bool) (s : State) (r : Result State Blocked) (e : Blocked) → Keeps s r
     → Keeps s (cond b r (Err e))
 keeps_if true s r e h = h

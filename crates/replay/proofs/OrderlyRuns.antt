@@ -32,7 +32,7 @@ pub begun_going : (p : List (List Op)) (init : List ℕ) (capacity : ℕ)
     → All (λ ops. All (IsWithin (length init)) ops) p → StaysOrderly p (length init) capacity (opening p init)
 begun_going p init capacity law fits = record { on = λ steps. law steps fits }
 
--- and behind a step that is taken
+-- and after a step that is taken
 pub goes_further : (p : List (List Op)) (n capacity : ℕ) (s t : State) (step : Step) → StaysOrderly p n capacity s
     → step_result p capacity fault.None s step ≡ Ok t → StaysOrderly p n capacity t
 goes_further p n capacity s t step f took =

@@ -58,7 +58,7 @@ drain_taken : (p : List (List Op)) (capacity : ℕ) (s : State) (caches : moesi.
     → step_result p capacity fault.None s (Drain c) ≡ Ok (drained_state s caches c y ys)
 drain_taken p capacity s caches c y ys core is wrote = rw (lt-ltb c (length p) core, is, wrote, is) refl
 
--- a compare-and-swap behind an empty buffer is executed in a line that is M or E, whatever that has
+-- a compare-and-swap with an empty buffer is executed in a line that is M or E, whatever that has
 cas_did : (capacity : ℕ) (s : State) (caches : moesi.CacheState) (c b a e v : ℕ) → buffer_of s c ≡ []
     → is_exclusive (moesi.line_of s.caches c a) ≡ true
     → moesi.write s.caches c a (rmw_value s c (Swap a v) a) b ≡ Ok caches
@@ -139,7 +139,7 @@ module _ (x : Execution) (m : List ℕ) (tso : IsTsoOrder x m) (n capacity : ℕ
     core_same : (w : ℕ) → (placed_op (program_of x) w).0 ≡ core_of x w
     core_same w = ap (λ (z : ℕ × Op). z.0) (placed_is x w)
 
-    -- it stands behind the first of its core
+    -- it stands after the first of its core
     from : first_event (program_of x) (core_of x e) ≤ e
     from = subst (λ (c : ℕ). first_event (program_of x) c ≤ e) (core_same e)
         (event_behind (program_of x) e counted)
@@ -341,7 +341,7 @@ module _ (x : Execution) (m : List ℕ) (tso : IsTsoOrder x m) (n capacity : ℕ
           (omega (arith, core, (f.on []).places)),
     )
 
-    -- the core executes e, behind a transaction that left these caches
+    -- the core executes e, after a transaction that left these caches
     executed : (caches : moesi.CacheState) (op : Op) (t : State)
         → StaysOrderly (program_of x) n capacity (with_caches s caches)
         → e ≡ first_event (program_of x) (core_of x e) + place_of s (core_of x e) → op_of (event_at x e) ≡ op

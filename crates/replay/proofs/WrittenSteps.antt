@@ -86,7 +86,7 @@ module _ (x : Execution) (h : Configuration) (old new : Replaying) (e : ℕ)
       ∙ ap (λ (p : List (List Op)). turn p h.capacity h.fault old.machine.state (core_of x e) e
       (event_at x e)) cores
 
-  -- and the state behind them
+  -- and the state after them
   state_is : new.machine.state ≡ run (program_of x) h.capacity h.fault old.machine.state
       (turn (program_of x) h.capacity h.fault old.machine.state (core_of x e) e (event_at x e))
   state_is =

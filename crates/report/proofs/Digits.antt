@@ -6,7 +6,7 @@ use Rattle.std.proofs.lemmas.List.{append_assoc, length-set, take_more, take_mor
 use Rattle.std.proofs.lemmas.List.Concat.{flat_map-append}
 use Rattle.report.specs.VerdictText.{numbers_text}
 
--- two bytes written behind the first ones
+-- two bytes written after the first ones
 two_more : (xs : List ℕ) (i x y : ℕ) → i + 1 < length xs
     → take (i + 1 + 1) (set (set xs i x) (i + 1) y) ≡ take i xs ++ (x ∷ y ∷ [])
 two_more xs i x y low =
@@ -14,7 +14,7 @@ two_more xs i x y low =
     ∙ ap (λ (front : List ℕ). front ++ y ∷ []) (take_more_set xs i x (omega arith))
     ∙ append_assoc (take i xs) (x ∷ []) (y ∷ [])
 
--- three bytes written behind the first ones
+-- three bytes written after the first ones
 three_more : (xs : List ℕ) (i x y z : ℕ) → i + 2 < length xs
     → take (i + 3) (set (set (set xs i x) (i + 1) y) (i + 2) z) ≡ take i xs ++ (x ∷ y ∷ z ∷ [])
 three_more xs i x y z low =
@@ -27,7 +27,7 @@ three_more xs i x y z low =
     ∙ ap (λ (front : List ℕ). front ++ z ∷ []) (two_more xs i x y (omega arith))
     ∙ append_assoc (take i xs) (x ∷ y ∷ []) (z ∷ [])
 
--- a number of one digit, of two and of three, written behind the first bytes
+-- a number of one digit, of two and of three, written after the first bytes
 pub one_digit : (xs : List ℕ) (i n : ℕ) → i < length xs → n < 10
     → take (i + 1) (set xs i (48 + n % 10)) ≡ take i xs ++ decimal n
 one_digit xs i n low small =
@@ -74,7 +74,7 @@ text_more numbers i low digit =
     ∙ ap (λ (digits : List ℕ). numbers_text (take i numbers) ++ 32 ∷ (digits ++ []))
     (decimal_digit (get_or numbers i 0) digit)
 
--- a space and a digit written behind the text of the numbers before
+-- a space and a digit written after the text of the numbers before
 pub digit_more : (places numbers : List ℕ) (i : ℕ) → i < length numbers → length places ≡ 2 * length numbers
     → get_or numbers i 0 < 10 → take (2 * i) places ≡ numbers_text (take i numbers)
     → take (2 * (i + 1)) (set (set places (2 * i) 32) (2 * i + 1) (48 + get_or numbers i 0))

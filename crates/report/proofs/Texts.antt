@@ -5,7 +5,7 @@ use Rattle.std.proofs.lemmas.List.{length-take-le, take-append-le}
 use Rattle.std.proofs.lemmas.Simd.{put_chunk_is}
 use Rattle.std.specs.Simd.Lanes.{put_chunk}
 
--- the first of four bytes that are put, behind those before them
+-- the first of four bytes that are put, after those before them
 pub text_put : (places bytes : List ℕ) (at size : ℕ) → length bytes ≡ 4 → size ≤ 4 → at + 4 ≤ length places
     → take (at + size) (put_chunk at places bytes) ≡ take at places ++ take size bytes
 text_put places bytes at size four within room =

@@ -41,7 +41,7 @@ pub record IsPairLine (x : Execution) (e f : ℕ) (line : List ℕ) : Type 0 whe
   pub first : IsReason x e f (Some reason)
   pub text : line ≡ pair_line e f reason
 
--- the lines of the first n events of a cycle, each with the event behind it
+-- the lines of the first n events of a cycle, each with the event after it
 abbrev pub ArePairLines : Execution → List ℕ → ℕ → List ℕ → Type 0
 ArePairLines x c zero lines = lines ≡ []
 ArePairLines x c (suc i) lines = (before line : List ℕ) × ArePairLines x c i before

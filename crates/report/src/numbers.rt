@@ -53,7 +53,7 @@ fn put_digits(out: &mut Vec<u8>, numbers: &[u16]) -> Result<(), OutOfMemory>
     Ok(())
 }
 
-/// Writes the digits of a number of one to three, and answers the place behind them.
+/// Writes the digits of a number of one to three, and answers the place after them.
 fn write_short(places: &mut [u8], at: usize, number: u16) -> usize
     requires room { at + 3 ≤ length places.old }
     requires short { number < 1000 }
@@ -78,7 +78,7 @@ fn write_short(places: &mut [u8], at: usize, number: u16) -> usize
     at + 3
 }
 
-/// Writes from a place on a space and its digits for each number, and answers the place behind them.
+/// Writes from a place on a space and its digits for each number, and answers the place after them.
 fn write_all_short(places: &mut [u8], start: usize, numbers: &[u16]) -> usize
     requires room { start + 4 * length numbers.now ≤ length places.old }
     requires short { All (λ n. n < 1000) numbers.now }

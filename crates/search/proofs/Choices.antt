@@ -203,7 +203,7 @@ IsChosen R n k first last left items =
     (es : List ℕ) × (items ≡ first ∷ es) × (suc left + length es ≡ k) × (last ≡ last_of first es) × (last < n)
     × IsGreedy R k first es
 
--- some event goes on behind the list
+-- some event goes on after the list
 pub chosen_exists : (R : ℕ → ℕ → Type 0) (n k : ℕ) (rows : List (List ℕ))
     → ((e f : ℕ) → R e f → (e < n) × (f < n)) → AreExactRows R n k rows → IsShortestLength R k
     → (first last left : ℕ) (items : List ℕ) → first < n → IsChosen R n k first last left items
@@ -212,7 +212,7 @@ chosen_exists R n k rows within exact size first last left items in_n h none =
     next_exists R n k rows within exact size first h.0 left in_n h.2 h.5
     (subst (λ (l : ℕ). IsLeastWith (IsNextOnCycle R rows l first left) n None) h.3 none)
 
--- the least such event behind the list
+-- the least such event after the list
 pub chosen_more : (R : ℕ → ℕ → Type 0) (n k : ℕ) (rows : List (List ℕ))
     → ((e f : ℕ) → R e f → (e < n) × (f < n)) → AreExactRows R n k rows → IsShortestLength R k
     → (first last left f : ℕ) (items more : List ℕ) → first < n → 0 < left → more ≡ items ++ f ∷ []

@@ -23,7 +23,7 @@ pub if_ok : {T E : Type 0} {X : Type 0} (r : Result T E) → X → IfOk r (λ _.
 if_ok (Ok x) h = h
 if_ok (Err e) h = tt
 
--- what stands behind the first i
+-- what stands after the first i
 pub drop_head : {X : Type 0} (i : ℕ) (xs : List X) (x : X) (ys : List X) → drop i xs ≡ x ∷ ys
     → (i < length xs) × ((d : X) → get_or xs i d ≡ x) × (ys ≡ drop (suc i) xs)
 drop_head zero [] x ys h = absurd (omega (arith, ap (λ l. length l) h))

@@ -19,7 +19,7 @@ least_is_cycle : (R : ℕ → ℕ → Type 0) (cap : Option ℕ) → IsLeastLeng
 least_is_cycle R None least = tt
 least_is_cycle R (Some k) least = (least.0, least.1.cycle, least.2)
 
--- what stands behind the front
+-- what stands after the front
 behind_front : (front : List (List ℕ)) (one : List ℕ) (rest : List (List ℕ)) → get_or (front ++ one ∷ rest)
     (length front) [] ≡ one
 behind_front [] one rest = refl

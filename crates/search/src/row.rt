@@ -85,7 +85,7 @@ pub(crate) fn row_in(rows: &[BitRow], source: EventId, cap: u16, room: Room) -> 
     (labels, closing)
 }
 
-/// The same row, put behind those that are made, and the same number; the sets are emptied.
+/// The same row, put after those that are made, and the same number; the sets are emptied.
 pub(crate) fn add_row(
     alloc: Global,
     rows: &[BitRow],

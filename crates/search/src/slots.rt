@@ -131,7 +131,7 @@ fn row_or<G: Gate>(
     made
 }
 
-/// Puts the row in a place, or else a row that is made here, behind the rows of the events before.
+/// Puts the row in a place, or else a row that is made here, after the rows of the events before.
 fn add_row<G: Gate>(
     alloc: Global,
     relation: &Arc<Relation>,

@@ -20,12 +20,12 @@ words_more zero s = refl
 words_more (suc n) s = let e : suc n + 1 ≡ suc (n + 1) = omega arith in
     rw e (ap (λ (l : List ℕ). (plus_plus s).0 ∷ l) (words_more n (plus_plus s).1))
 
--- and the state behind it
+-- and the state after it
 pub after_more : (n : ℕ) (s : List ℕ) → after_words (n + 1) s ≡ (plus_plus (after_words n s)).1
 after_more zero s = refl
 after_more (suc n) s = let e : suc n + 1 ≡ suc (n + 1) = omega arith in rw e (after_more n (plus_plus s).1)
 
--- the machine behind one attempt more
+-- the machine after one attempt more
 pub behind_more : (h : Configuration) (s : List ℕ) (n : ℕ) →
     configuration_behind h s (n + 1) ≡ (let one : Configuration = record (configuration_behind h s n) {
       state = state_behind (configuration_behind h s n)

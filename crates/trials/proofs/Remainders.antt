@@ -2,7 +2,7 @@
 use Rattle.std.proofs.Common.{◌≡◌, ℕ, suc, ◌+◌, ◌*◌, ◌-◌, ◌%◌, ◌<◌, ◌≤◌, ◌∙◌, ap, sym, arith}
 use Rattle.std.proofs.lemmas.Nat.{mod-mul-add}
 
--- what is left behind some times a number is the remainder, if it is below that number
+-- what is left after some times a number is the remainder, if it is below that number
 pub rest_is : (word number times rest : ℕ) → rest + times * number ≡ word → rest < number
     → rest ≡ word % number
 rest_is word number times rest h small =

@@ -7,7 +7,7 @@ use std::alloc::Global;
 use std::fmt::Write;
 use std::test::Fail;
 
-// What stands behind a text of the most cores, addresses or operations, and its fault.
+// What stands after a text of the most cores, addresses or operations, and its fault.
 fn after_cores() -> &'static [(&'static str, LineRefusal)] {
     &[("core\n", LineRefusal::L2), ("core", LineRefusal::L1)]
 }
@@ -42,7 +42,7 @@ fn is_refused(alloc: Global, text: &[u8], fault: LineRefusal, line: usize) -> bo
     }
 }
 
-// Whether the text with this line behind it is refused for the fault of the line with this number.
+// Whether the text with this line after it is refused for the fault of the line with this number.
 fn is_refused_behind(
     alloc: Global,
     text: &str,
@@ -56,7 +56,7 @@ fn is_refused_behind(
     Ok(is_refused(alloc, more.as_bytes(), fault, number))
 }
 
-// Whether the text is read, and each of these lines behind it is refused as said.
+// Whether the text is read, and each of these lines after it is refused as said.
 fn is_full(alloc: Global, text: &str, behind: &[(&str, LineRefusal)]) -> Result<bool, Fail> {
     let number = text.bytes().filter(|b| *b == b'\n').count() + 1;
     let mut right = parse(alloc, text.as_bytes()).is_ok();

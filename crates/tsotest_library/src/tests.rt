@@ -10,7 +10,7 @@ use std::test::Fail;
 const OVERLOOKED_STORE: &[u8] =
     b"{\"cores\":[[{\"a\":0,\"k\":\"S\",\"w\":1},{\"a\":0,\"k\":\"L\",\"r\":0,\"s\":null}]],\"version\":1,\"writes\":[[0]]}\n";
 
-/// Its verdict, and what a buffer had behind it.
+/// Its verdict, and what a buffer had after it.
 const FILLED: &[u8] = b"overlook: load 1 store 0\n\x07\x07";
 
 /// Whether a call that was answered so, and whose length this is, left this buffer.

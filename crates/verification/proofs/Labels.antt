@@ -37,7 +37,7 @@ labels_split ls (suc n) i low = elim (cases_lt i n) [
   )
 ]
 
--- what stands behind the lines of the first rows begins with the line of the next
+-- what stands after the lines of the first rows begins with the line of the next
 pub next_row : (rows ls : List (List ℕ)) (rest more whole : List ℕ) (i n : ℕ) → i < n
     → ((v : ℕ) → v < i → get_or rows v [] ≡ get_or ls v []) → whole ≡ labels_text rows i ++ rest
     → whole ≡ labels_text ls n ++ more

@@ -108,7 +108,7 @@ step_of x c (suc n) lines i low h = elim (cases_lt i n) [
   )
 ]
 
--- a path goes along a cycle as far as place i; behind the last event is the first
+-- a path goes along a cycle as far as place i; after the last event is the first
 pub GoesAlong : List ℕ → List ℕ → ℕ → Type 0
 GoesAlong path c i = (j : ℕ) → j < i + 1 → get_or path j 0 ≡ get_or c j (get_or c 0 0)
 
@@ -129,7 +129,7 @@ along_start path c some same j low =
     ap (λ (k : ℕ). get_or path k 0) here ∙ same ∙ get_or_default c 0 0 (get_or c 0 0) some
     ∙ ap (λ (k : ℕ). get_or c k (get_or c 0 0)) (sym here)
 
--- what is behind an event is one
+-- what is after an event is one
 pub next_short : (c : List ℕ) (i : ℕ) → 0 < length c → Are16Bit c → next_in_cycle c i < 2 ^ 16
 next_short c i some short = elim (cases_lt (i + 1) (length c)) [
   | inl inside ↦ short (i + 1) (get_or c 0 0) inside
@@ -154,7 +154,7 @@ first_event x c lines more whole some pairs is =
           ∙ append_assoc (decimal e) (codes " -> ") (decimal f ++ 32 ∷ left),
     )
 
--- what stands behind the lines of a path along a cycle begins with the line of the next pair
+-- what stands after the lines of a path along a cycle begins with the line of the next pair
 pub next_pair : (x : Execution) (path c done lines rest more whole : List ℕ) (i : ℕ) → i < length c
     → length path ≡ i + 1 → GoesAlong path c i → ArePairLines x path i done → whole ≡ done ++ rest
     → ArePairLines x c (length c) lines → whole ≡ lines ++ more

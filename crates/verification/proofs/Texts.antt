@@ -11,13 +11,13 @@ pub text_push : (numbers : List ℕ) (n : ℕ) → numbers_text (numbers ++ n �
 text_push numbers n = flat_map-append (λ k. 32 ∷ decimal k) numbers (n ∷ [])
     ∙ ap (λ (t : List ℕ). numbers_text numbers ++ 32 ∷ t) (append-nil (decimal n))
 
--- what stands behind a number
+-- what stands after a number
 pub behind_number : (ns more : List ℕ) → (b : ℕ) × (back : List ℕ) × (is_digit b ≡ false)
     × (numbers_text ns ++ 10 ∷ more ≡ b ∷ back)
 behind_number [] more = (10, more, refl, refl)
 behind_number (n ∷ ns) more = (32, (decimal n ++ numbers_text ns) ++ 10 ∷ more, refl, refl)
 
--- the number at a place, and what stands behind it
+-- the number at a place, and what stands after it
 pub next_number : (ns more rest : List ℕ) (i : ℕ) → i < length ns → rest ≡ numbers_text (drop i ns) ++ 10 ∷ more
     → (b : ℕ) × (back : List ℕ) × (is_digit b ≡ false)
     × (numbers_text (drop (i + 1) ns) ++ 10 ∷ more ≡ b ∷ back)
