@@ -34,7 +34,7 @@ MAX_CORES, MAX_EVENTS, MAX_ADDRESSES = 16, 512, 16
 
 
 class Status(IntEnum):
-    """The exit status of a command. There is none of want of memory: that is a `MemoryError`."""
+    """The exit status of a command. There is none for out of memory: that is a `MemoryError`."""
 
     ALLOWED = 0
     """TSO allows the recording; of `verify`, the verdict holds."""

@@ -117,7 +117,7 @@ fn left_answer(
 
 /// What is left of a violation where the events alone are kept that it needs: its program, which is what is
 /// left of the given one, an empty line, and its recording with the verdict on it, after the numbers of
-/// its events where they are asked for; none where the verdict is an order. An error is want of memory.
+/// its events where they are asked for; none where the verdict is an order. Fails only if out of memory.
 pub(crate) fn cut_answer(
     alloc: Global,
     recording: &Recording,
@@ -143,7 +143,7 @@ pub(crate) fn cut_answer(
 /// The line of the numbers of the events that a violation needs, an empty line, the program of these
 /// events, an empty line, and their recording with the verdict on it; a `Violation`. Of a recording that
 /// TSO allows, its verdict. The program is what is left of the given one, of which the
-/// recording has to be one, and else that which makes the reduced recording. An error is want of memory.
+/// recording has to be one, and else that which makes the reduced recording. Fails only if out of memory.
 pub fn reduced_answer(
     alloc: Global,
     recording: &Recording,

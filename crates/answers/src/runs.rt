@@ -20,7 +20,7 @@ use report::{Answer, Outcome, verdict_answer};
 use std::alloc::Global;
 use trials::{Judged, judged_end, run_seeded};
 
-/// The line of a recording and the verdict on it. An error is want of memory.
+/// The line of a recording and the verdict on it. Fails only if out of memory.
 fn recorded(alloc: Global, recording: &Recording, verdict: &Verdict) -> Result<Answer, OutOfMemory>
     requires found { IsVerdict recording.now verdict.now }
     requires verified { Verifies recording.now verdict.now }
@@ -30,7 +30,7 @@ fn recorded(alloc: Global, recording: &Recording, verdict: &Verdict) -> Result<A
     verdict_answer(alloc, text, recording, verdict)
 }
 
-/// That a run is unfinished. An error is want of memory.
+/// That a run is unfinished. Fails only if out of memory.
 fn unfinished(alloc: Global) -> Result<Answer, OutOfMemory>
     ensures { IfOk result IsUnfinishedAnswer }
 {
@@ -38,7 +38,7 @@ fn unfinished(alloc: Global) -> Result<Answer, OutOfMemory>
 }
 
 /// The line of a recording and the verdict on it, or that a run is unfinished, by what is judged of the
-/// machine in which it ends. An error is want of memory.
+/// machine in which it ends. Fails only if out of memory.
 pub(crate) fn ended(alloc: Global, judged: Option<Judged>) -> Result<Answer, OutOfMemory>
     requires { (h : Configuration) × IsJudgedEnd h judged }
     ensures { IfOk result (λ answer. (h : Configuration) → IsJudgedEnd h judged
@@ -50,8 +50,8 @@ pub(crate) fn ended(alloc: Global, judged: Option<Judged>) -> Result<Answer, Out
     }
 }
 
-/// The line of the recording of a complete machine and the verdict on it, or that it is unfinished. An
-/// error is want of memory.
+/// The line of the recording of a complete machine and the verdict on it, or that it is unfinished.
+/// Fails only if out of memory.
 pub fn finished(alloc: Global, machine: Machine) -> Result<Answer, OutOfMemory>
     ensures { IfOk result (IsRunAnswer machine.fault machine.program machine.state) }
 {
@@ -76,7 +76,7 @@ pub fn script_answer(
 }
 
 /// The answer of a program whose steps are named by the words of a generator with this seed, so many
-/// attempts at most. An error is want of memory.
+/// attempts at most. Fails only if out of memory.
 pub fn seeded_answer(
     alloc: Global,
     program: Program,

@@ -89,7 +89,7 @@ fn reduced_run(alloc: Global, machine: Machine) -> Result<Answer, OutOfMemory>
 
 /// The program of a trial below the number of trials, an empty line, and what `finished` answers of the
 /// machine in which the trial ends; where it is to be reduced, of a violation the same of the events alone
-/// that it needs. An error is want of memory.
+/// that it needs. Fails only if out of memory.
 pub fn shown_answer(
     alloc: Global,
     campaign: &Campaign,

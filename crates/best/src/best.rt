@@ -14,8 +14,8 @@ use std::alloc::Global;
 use std::sync::Arc;
 
 impl Best {
-    /// A bound for the cycles of a relation, which is none, and its only seat, which knows no length. An error
-    /// is want of memory.
+    /// A bound for the cycles of a relation, which is none, and its only seat, which knows no length.
+    /// Fails only if out of memory.
     pub fn open(alloc: Global, relation: &Relation) -> Result<(Best, BestSeat), OutOfMemory>
         ensures seat { IfOk result (λ r. IsBestSeatOf r.0 r.1) }
         ensures new { IfOk result (λ r. known_of r.1 ≡ first_bound relation.now) }

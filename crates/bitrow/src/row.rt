@@ -33,7 +33,7 @@ impl BitRow {
     ghost use Rattle.bitrow.specs.Bits.{bit_of, is_in, IsNext};
     ghost use Rattle.bitrow.specs.Walks.{walk_of};
 
-    /// The empty set of numbers below a length. An `Err` is want of memory.
+    /// The empty set of numbers below a length. Fails only if out of memory.
     pub fn new(alloc: Global, len: usize) -> Result<BitRow, OutOfMemory>
         ensures len { IfOk result (λ row. length row ≡ len) }
         ensures empty { IfOk result (λ row. (j : ℕ) → is_in row j ≡ false) }

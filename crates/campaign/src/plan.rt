@@ -56,7 +56,7 @@ impl Campaign {
     ghost use Rattle.campaign.specs.Campaigns.{IsPlan, plan_of};
 
     /// The campaign of 1 to `MAX_TRIALS` trials, each of 1 to `MAX_STEPS` attempts, on machines with a
-    /// capacity of 1 to `MAX_CAPACITY`; else the first refusal, K5 to K7. It can't fail for want of memory.
+    /// capacity of 1 to `MAX_CAPACITY`; else the first refusal, K5 to K7. It can't run out of memory.
     pub fn new(
         shape: Shape,
         base: u64,

@@ -20,7 +20,7 @@ not_passed : {P : Type 0} (b : Bool) → (b ≡ true → P) → (P → ⊥) → 
 not_passed true passes fails = absurd (fails (passes refl))
 not_passed false passes fails = refl
 
--- an error that isn't want of memory is of a kind of fault that clap finds in the words
+-- an error other than out of memory is of a kind of fault that clap finds in the words
 among : (e : Error) (words : List Text) → kind_of e ≢ kinds.OutOfMemory
     → HasKind (fault_of program_app words) e → IsAmong (kind_of e) (fault_of program_app words)
 among e words said found = elim found [
@@ -28,7 +28,7 @@ among e words said found = elim found [
   | inr is ↦ is
 ]
 
--- a fault that isn't want of memory comes of words that clap doesn't take, and is one that it finds in them
+-- a fault other than out of memory comes of words that clap doesn't take, and is one that it finds in them
 said_fault : (e : Error) (f : OptionFault) (words : List Text)
     → (takes program_app words ≡ true → kind_of e ≡ kinds.OutOfMemory) →
     HasKind (fault_of program_app words) e → IsSaid e f → IsFault f words

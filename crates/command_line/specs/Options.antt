@@ -157,7 +157,7 @@ IsEntryFault StandardInputTwice rows = names_standard_input_twice rows ≡ true
 IsEntryFault (Refused refusal) rows = (names_standard_input_twice rows ≡ false) × (refusal_of rows ≡ Some refusal)
 IsEntryFault other rows = ⊥
 
--- why the command that was read gives no options: its entries, or want of memory
+-- why the command that was read gives no options: its entries, or that memory ran out
 abbrev pub IsCommandFault : OptionFault → Option (Text × List Row) → Type 0
 IsCommandFault OutOfMemory command = ⊤
 IsCommandFault fault None = ⊥

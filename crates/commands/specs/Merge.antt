@@ -78,7 +78,7 @@ pub record IsRefusedMerge (names texts : List (List ℕ)) (printed : List ℕ) :
   pub none : (kind : Kind) (codes later : List (List ℕ)) → AreFiles kind codes (take (file + 1) texts ++ later)
       → Refuses refusal (length (concat codes))
 
--- why texts are not added up: one is refused, or memory is wanting
+-- why texts are not added up: one is refused, or memory ran out
 abbrev pub IsTextsError : List (List ℕ) → List (List ℕ) → CommandError → Type 0
 IsTextsError names texts (Refused refusal) = IsRefusedMerge names texts (string_bytes refusal.line)
 IsTextsError names texts (Fault fault) = fault ≡ OutOfMemory

@@ -43,7 +43,7 @@ pub enum CommandFault {
     OutOfMemory,
 }
 
-/// Whether the error is want of memory.
+/// Whether the error is that memory ran out.
 fn wants_memory(error: io::Error) -> bool
     ensures { (result ≡ true) ↔ (error_kind error ≡ ErrorKind.OutOfMemory) }
 {

@@ -20,7 +20,7 @@ pub enum ReadError {
 const PIECE: usize = 65_536;
 
 /// Adds what a source gives next, as much as the piece has room for at most, and answers how many bytes these are, none
-/// at its end. An error is a read that failed, or want of memory.
+/// at its end. An error is a read that failed, or that memory ran out.
 pub fn read_more<R: Source>(
     source: &mut R,
     piece: &mut [u8],
@@ -65,7 +65,7 @@ fn gather_all<R: Source>(
     Ok(())
 }
 
-/// All bytes that a source gives until its end. An error is a read that failed, or want of memory.
+/// All bytes that a source gives until its end. An error is a read that failed, or that memory ran out.
 pub fn read_all<R: Source>(alloc: Global, source: &mut R) -> Result<Vec<u8>, ReadError>
     requires { CanGrow (R.read_failures source.old) }
     ensures ok { IfOk result (λ bytes. Consumes (R.left source.old) (R.left source.new) bytes.items) }

@@ -105,7 +105,7 @@ fn put_drawing(
 /// bold. An edge that is not bold goes to the next event of the core, from the write that was read, to the
 /// next write of the address, or to the first write that is newer than what was read. The cores stand from
 /// left to right, and the events of an order one below the other. An address past the last name has an
-/// empty one. An error is want of memory.
+/// empty one. Fails only if out of memory.
 pub fn drawing_text(
     alloc: Global,
     recording: &Recording,

@@ -19,7 +19,7 @@ use std::alloc::Global;
 /// instead; of an order each event and what makes its place lawful (Nagarajan, Sorin, Hill and Wood,
 /// A Primer on Memory Consistency and Cache Coherence, second edition, chapter 4). Each event has a
 /// line with its number, its core, its operation, and the values that it read and wrote. An address
-/// past the last name has an empty one. An error is want of memory.
+/// past the last name has an empty one. Fails only if out of memory.
 pub fn explanation_text(
     alloc: Global,
     recording: &Recording,

@@ -10,8 +10,8 @@ use relations::{Relation, forced_is_exact, is_overlook, ordered_is_acyclic, rela
 use std::alloc::Global;
 
 /// Whether a verdict, whoever gave it, holds of a recording: an order is a memory order of TSO, an
-/// overlook is one, a cycle has a certificate. It doesn't ask how the judge would have found it. An
-/// error is want of memory.
+/// overlook is one, a cycle has a certificate. It doesn't ask how the judge would have found it.
+/// Fails only if out of memory.
 pub fn verify(alloc: Global, recording: &Recording, verdict: &Verdict) -> Result<bool, OutOfMemory>
     ensures exact { IfOk result (λ yes. IsTrue yes ↔ Verifies recording.now verdict.now) }
     ensures means { IfOk result (λ yes. IsTrue yes → Means recording.now verdict.now) }

@@ -36,8 +36,8 @@ fn least_certificate_by<R: Threads + Wait + Sync, G: Gate>(
 }
 
 /// The verdict on a recording, as `judge_alone` gives it, from 1 to `MAX_WORKERS` workers. Where
-/// there is a cycle and no overlook they make its rows, each between two calls of the gate. An
-/// error is want of memory.
+/// there is a cycle and no overlook they make its rows, each between two calls of the gate.
+/// Fails only if out of memory.
 pub fn judge_gated<R: Threads + Wait + Sync, G: Gate>(
     rt: &R,
     alloc: Global,

@@ -1,4 +1,4 @@
-//! Reading and judging where a growth may be refused: the usual answer, or none for want of memory and
+//! Reading and judging where a growth may be refused: the usual answer, or none where memory ran out and
 //! then the usual one. With ample memory each gives the usual answer; `bench/refuse_growths` refuses
 //! each growth in turn.
 

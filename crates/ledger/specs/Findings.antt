@@ -21,7 +21,7 @@ finding_of (verdicts.Ordered order) = Ordered
 finding_of (verdicts.Overlook load store) = Overlook load store
 finding_of (verdicts.Cycle certificate) = Cycle (length certificate.cycle.items)
 
--- the code of a refusal: the number of its kind, and its event or address; want of memory is none
+-- the code of a refusal: the number of its kind, and its event or address; none where memory ran out
 abbrev pub refusal_code : RecError → ℕ
 refusal_code refusals.NotJson = REFUSED
 refusal_code refusals.Shape = REFUSED * 2

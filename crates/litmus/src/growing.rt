@@ -11,7 +11,7 @@ impl Builder {
     ghost use Rattle.litmus.specs.Random.{with_core};
     ghost use Rattle.program.specs.Steps.{with_op};
 
-    /// Adds a core without operations. An `Err` is want of memory.
+    /// Adds a core without operations. Fails only if out of memory.
     pub fn add_core(&mut self, alloc: Global) -> Result<(), OutOfMemory>
         ensures { OnOk result (state self.new ≡ with_core (state self.old)) }
     {
@@ -19,7 +19,7 @@ impl Builder {
         Ok(())
     }
 
-    /// Adds an operation on the last core. An `Err` is want of memory.
+    /// Adds an operation on the last core. Fails only if out of memory.
     pub fn add(&mut self, op: Op) -> Result<(), OutOfMemory>
         requires { 0 < length self.old.cores.items }
         ensures ok { OnOk result (self.new.cores.items ≡ with_op self.old.cores.items op) }

@@ -90,7 +90,7 @@ fn add_core(
 /// the operation (0 to 2 a load, 3 to 5 a store, 6 a fence, 7 a `swap`, or an `add` where an eighth of
 /// the word is odd), a sixteenth of it names the address, and the value is the event's number and 1.
 /// Each address begins with 0.
-/// An `Err` is want of memory; what the generator then gives is open.
+/// Fails only if out of memory; what the generator then gives is open.
 pub fn generate(
     alloc: Global,
     shape: &Shape,

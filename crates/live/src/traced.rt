@@ -47,7 +47,7 @@ impl Traced {
     ghost use Rattle.live.specs.Advance.{advance_answer};
 
     /// A machine that has not yet taken a step, whose trace may have `limit` steps; the room for
-    /// them is made here. An `Err` is want of memory.
+    /// them is made here. Fails only if out of memory.
     pub fn new(alloc: Global, machine: Machine, limit: usize) -> Result<Traced, OutOfMemory>
         requires { machine.state ≡ begun machine.program }
         ensures { IfOk result (λ t. t
@@ -123,7 +123,7 @@ impl Traced {
     }
 
     /// Takes a step and adds it to the trace. A full trace is answered first, then a blocked step;
-    /// both change nothing. It can't fail for want of memory.
+    /// both change nothing. It can't run out of memory.
     pub fn advance(&mut self, step: Step) -> Result<(), LiveError>
         ensures ok { OnOk result (advance_answer self.old step ≡ Ok self.new) }
         ensures refused { IfErr result (λ e. advance_answer self.old step ≡ Err e) }

@@ -78,7 +78,7 @@ impl Blank {
     }
 
     /// The events of a program's operations from what they read, the write lists, and the initial
-    /// values. It can't fail for want of memory.
+    /// values. It can't run out of memory.
     pub(crate) fn fill(
         self,
         program: &[Ops],

@@ -84,7 +84,7 @@ impl Machine {
 
     /// A machine at the start of a program, whose store buffers have room for `capacity` stores
     /// each. What a run and its `finish` will hold is reserved here, so that they can't fail for want
-    /// of memory; an `Err` is want of memory.
+    /// of memory. Fails only if out of memory.
     pub fn new(
         alloc: Global,
         program: Program,
@@ -270,7 +270,7 @@ impl Machine {
     }
 
     /// The recording of a machine that is complete, which is one of its program; else the machine as it
-    /// is. It can't fail for want of memory.
+    /// is. It can't run out of memory.
     pub fn finish(self) -> Result<Recording, Unfinished>
         ensures recording { IfOk result (λ r. r ≡ recording_of self) }
         ensures program { IfOk result (λ r. IsProgramOf self.program r) }

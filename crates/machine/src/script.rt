@@ -104,7 +104,7 @@ fn read_lines(alloc: Global, text: &[u8], program: &Program) -> Result<Vec<Step>
     }
 }
 
-/// The steps of a script for the program, or the first line at fault, or want of memory.
+/// The steps of a script for the program, or the first line at fault, or that memory ran out.
 ///
 /// A line is `exec C`, `drain C`, `gets C NAME`, `getm C NAME` or `put C NAME`, with the number of a
 /// core and the name of an address, and ends with a newline. A step that the machine can't take is

@@ -1,4 +1,4 @@
-//! Threads where a growth may be refused: the usual end, or none for want of memory or of a thread, and
+//! Threads where a growth may be refused: the usual end, or none where memory or a thread was not there, and
 //! then the usual one. With ample memory each run ends as usual; `bench/refuse_growths` refuses each
 //! growth in turn.
 
@@ -12,7 +12,7 @@ use std::sync::Wait;
 use std::test::Fail;
 use std::thread::Threads;
 
-/// Whether threads drive a program to its end, in an order of TSO; none where memory or a thread is wanting.
+/// Whether threads drive a program to its end, in an order of TSO; none where there is no memory or no thread.
 fn is_driven<R: Threads + Wait + Sync>(rt: &R, alloc: Global, program: Program) -> Option<bool> {
     match drive(rt, alloc, program, 8, 100_000, &OpenGate) {
         Ok(traced) => performs_an_order(alloc, traced.into_machine()).ok(),

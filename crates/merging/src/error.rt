@@ -15,7 +15,7 @@ pub enum MergeRefusal {
     TooMany,
 }
 
-/// Why a text is not added: a refusal, with how many bytes are left from the line at fault on, or want of memory.
+/// Why a text is not added: a refusal, with how many bytes are left from the line at fault on, or that memory ran out.
 #[derive(Clone, Copy, Debug, Drop, PartialEq, Eq)]
 pub(crate) enum TextError {
     /// It is refused.

@@ -17,7 +17,7 @@ use std::marker::Model;
 /// transactions. States and transactions are those of MOESI (Nagarajan, Sorin, Hill and Wood, A
 /// Primer on Memory Consistency and Cache Coherence, second edition, chapters 6 to 8). Data are a
 /// value and the event that wrote it, or none where nothing was written. Each call asks that its core
-/// and its address are there. Only `new` and `with_init` can fail for want of memory.
+/// and its address are there. Only `new` and `with_init` can run out of memory.
 ///
 /// They are one list of words: word `core * addresses + addr` is a core's line of an address, and
 /// those after the lines of all cores are memory.

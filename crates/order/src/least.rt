@@ -11,7 +11,7 @@ use relations::{Relation, ordered_is_acyclic};
 use std::alloc::Global;
 
 /// The first in dictionary order of the orders that have the forced pairs in order; none where the
-/// forced pairs have a cycle. An `Err` is want of memory.
+/// forced pairs have a cycle. Fails only if out of memory.
 pub fn build(alloc: Global, relation: &Relation) -> Result<Option<Vec<EventId>>, OutOfMemory>
     ensures least { IfOk result (λ found. IfSome found
         (λ m. IsLeastOrder (Related relation.now) (length relation.now) m.items)) }

@@ -17,8 +17,8 @@ pub fn address_name(number: Addr) -> Name
     Name::of_parts(b'a', buffer.format(number).as_bytes())
 }
 
-/// The names of so many addresses, at most `MAX_ADDRESSES`: the letter a, and their numbers from 0. An
-/// `Err` is want of memory.
+/// The names of so many addresses, at most `MAX_ADDRESSES`: the letter a, and their numbers from 0.
+/// Fails only if out of memory.
 pub fn address_names(alloc: Global, count: usize) -> Result<IndexSet<Name>, OutOfMemory>
     requires { count ≤ MAX_ADDRESSES }
     ensures { IfOk result (λ names. names.keys ≡ address_names count) }

@@ -53,7 +53,7 @@ impl Ops {
         }
     }
 
-    /// The operations of a list, in memory of their own. An `Err` is want of memory.
+    /// The operations of a list, in memory of their own. Fails only if out of memory.
     pub fn copied(alloc: Global, list: &[Op]) -> Result<Ops, OutOfMemory>
         ensures { IfOk result (λ ops. ops ≡ list.now) }
     {

@@ -34,7 +34,7 @@ impl Shape {
 
     /// The shape of these sizes: at most `MAX_CORES` cores, `MAX_ADDRESSES` addresses and
     /// `MAX_EVENTS` operations over all cores, and at least one of each; else the first refusal, K1
-    /// to K4. It can't fail for want of memory.
+    /// to K4. It can't run out of memory.
     pub fn new(cores: usize, ops: usize, addresses: usize) -> Result<Shape, ShapeError>
         ensures { result ≡ shape_of cores ops addresses }
     {

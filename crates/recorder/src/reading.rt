@@ -235,7 +235,7 @@ fn initial_values(
     }
 }
 
-/// The whole value of a text, or that it is no JSON; or want of memory.
+/// The whole value of a text, or that it is no JSON, or that memory ran out.
 fn tree_of(alloc: Global, bytes: &[u8]) -> Result<Value, RecError>
     ensures tree { IfOk result (λ v. IsReadAs bytes.now (view v)) }
     ensures err { IfErr result (λ e. IsReadingResult bytes.now (Err e)) }
@@ -267,7 +267,7 @@ fn parsed_in_tree(alloc: Global, bytes: &[u8]) -> Result<Parsed, RecError>
 }
 
 /// The recording of these contents, or the first refusal of the version, and what `Recording::from_parts`
-/// refuses; or want of memory.
+/// refuses, or that memory ran out.
 fn recording_of(alloc: Global, contents: Parsed) -> Result<Recording, RecError>
     ensures { (bytes : List ℕ) → IsParsedFrom bytes contents → IsReadingResult bytes result }
 {
@@ -287,7 +287,7 @@ fn recording_of(alloc: Global, contents: Parsed) -> Result<Recording, RecError>
 }
 
 /// The recording that the bytes give, or the first refusal: of the JSON, its shape, the version, and what
-/// `Recording::from_parts` refuses; or want of memory.
+/// `Recording::from_parts` refuses, or that memory ran out.
 pub fn read_recording(alloc: Global, bytes: &[u8]) -> Result<Recording, RecError>
     ensures { IsReadingResult bytes.now result }
 {

@@ -24,7 +24,7 @@ fn compact(alloc: Global, value: &Value) -> Result<String, AllocError>
 }
 
 /// The text of a recording: compact JSON with the keys of each object in ascending order, and a newline.
-/// An `Err` is want of memory.
+/// Fails only if out of memory.
 pub fn write_recording(alloc: Global, recording: &Recording) -> Result<Vec<u8>, OutOfMemory>
     ensures text { IfOk result (λ v. v.items ≡ recording_text recording.now) }
     ensures reads_back { IfOk result (λ v. IsReadAs v.items (data_of recording.now)) }

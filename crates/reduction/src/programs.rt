@@ -105,7 +105,7 @@ fn names_of(
 
 /// What is left of the program of a recording where the operations of some events alone are kept, with the
 /// names and the initial values of the addresses that they use: a program of the recording of these
-/// events. An `Err` is want of memory.
+/// events. Fails only if out of memory.
 pub fn restricted_program(
     alloc: Global,
     program: &Program,

@@ -10,7 +10,7 @@ use recording::{Recording, place};
 /// Whether a read overlooks a store of its own core, which coherence forbids (CoWR; Nagarajan,
 /// Sorin, Hill and Wood, A Primer on Memory Consistency and Cache Coherence, second edition, chapter
 /// 4); false for numbers that name no such events.
-/// It can't fail for want of memory. No clause says its time: it is linear in the length of the write
+/// It can't run out of memory. No clause says its time: it is linear in the length of the write
 /// list of the read's address.
 pub fn is_overlook(recording: &Recording, load: EventId, store: EventId) -> bool
     ensures { IsTrue result ↔ Overlooks recording.now load store }

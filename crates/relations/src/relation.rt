@@ -37,7 +37,7 @@ impl Relation {
     ghost use Rattle.relations.specs.Consistency.{HasNoOverlook, RespectsForced};
 
     /// The forced pairs of a recording (Nagarajan, Sorin, Hill and Wood, A Primer on Memory
-    /// Consistency and Cache Coherence, second edition, chapter 4). An `Err` is want of memory.
+    /// Consistency and Cache Coherence, second edition, chapter 4). Fails only if out of memory.
     pub fn of(alloc: Global, recording: &Recording) -> Result<Relation, OutOfMemory>
         ensures size { IfOk result (λ r. length r ≡ event_count recording.now) }
         ensures related { IfOk result (λ r. (e f : ℕ) → Related r e f ↔ Forced recording.now e f) }
@@ -51,7 +51,7 @@ impl Relation {
 
     /// Some of the forced pairs of a recording, from which all follow where no read overlooks a store of its
     /// own core: an order that has these in order has all in order. Each event has at most four, besides those
-    /// to the events that read from it. An `Err` is want of memory.
+    /// to the events that read from it. Fails only if out of memory.
     pub fn direct(alloc: Global, recording: &Recording) -> Result<Relation, OutOfMemory>
         ensures size { IfOk result (λ r. length r ≡ event_count recording.now) }
         ensures forced { IfOk result (λ r. (e f : ℕ) → Related r e f → Forced recording.now e f) }

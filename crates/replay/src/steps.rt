@@ -57,7 +57,7 @@ fn steps_of(
 /// without fault, whose store buffers have room for the plain stores of a core (`most_stores`),
 /// takes them all, comes to its end, and makes this recording again. They are at most three times as
 /// many as the events; the addresses of the recording are numbered by first use, and none is unused.
-/// An `Err` is want of memory.
+/// Fails only if out of memory.
 pub fn replay_steps(
     alloc: Global,
     recording: &Recording,

@@ -8,7 +8,7 @@ use Rattle.recording.specs.declared.fault.RecError.TheVariants.{WriteList, OutOf
 abbrev pub refused_as : List ℕ → Option (List ℕ)
 refused_as name = Some (codes "refused: " ++ name ++ 10 ∷ [])
 
--- the line that is printed for each refusal of a recording; want of memory is none
+-- the line that is printed for each refusal of a recording; none where memory ran out
 abbrev pub recording_line : RecError → Option (List ℕ)
 recording_line NotJson = refused_as (codes "N1")
 recording_line Shape = refused_as (codes "N2")

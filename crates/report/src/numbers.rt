@@ -10,7 +10,7 @@ use itoa::Buffer;
 use std::alloc::Global;
 use std::simd::prelude::*;
 
-/// Adds a number to a text, in decimal. An error is want of memory.
+/// Adds a number to a text, in decimal. Fails only if out of memory.
 pub fn put_number(out: &mut Vec<u8>, number: usize) -> Result<(), OutOfMemory>
     ensures { OnOk result (out.new.items ≡ out.old.items ++ decimal number) }
 {
@@ -190,7 +190,7 @@ fn put_each(out: &mut Vec<u8>, numbers: &[u16]) -> Result<(), OutOfMemory>
     Ok(())
 }
 
-/// Adds the numbers to a text, in decimal, a space before each. An error is want of memory. Most lines of
+/// Adds the numbers to a text, in decimal, a space before each. Fails only if out of memory. Most lines of
 /// labels have digits alone, and all have short numbers, which are written without a test of the room for
 /// each of them.
 pub fn put_numbers(out: &mut Vec<u8>, numbers: &[u16]) -> Result<(), OutOfMemory>

@@ -6,7 +6,7 @@ ghost use Rattle.report.specs.Refusal.{recording_line};
 use recording::RecError;
 use std::alloc::{AllocError, Global};
 
-/// The line that is printed for a refused recording; none for want of memory.
+/// The line that is printed for a refused recording; none where memory ran out.
 pub fn recording_line(alloc: Global, refusal: RecError) -> Result<Option<String>, AllocError>
     ensures { IfOk result (λ line. option_map string_bytes line ≡ recording_line refusal) }
 {

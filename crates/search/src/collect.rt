@@ -155,7 +155,7 @@ fn relation_of(jobs: &[SourceJob]) -> Result<Arc<Relation>, OutOfMemory>
 /// them, made by 1 to `MAX_WORKERS` workers that share the bound: the calling thread is worker 0, and
 /// one that is not started is done without. The gate is called round each source, which is tested.
 /// Afterwards the seat knows the length of the shortest cycles, if there is a cycle; after an error,
-/// which is want of memory, it may know more than before.
+/// where memory ran out, it may know more than before.
 pub fn run_jobs<R: Threads + Wait + Sync, G: Gate>(
     rt: &R,
     alloc: Global,

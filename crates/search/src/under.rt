@@ -82,7 +82,7 @@ fn publish_cycle(
 /// The row of a job, cut at the length of a cycle, at most each length that the seat knows, or, only where
 /// it knows none, at the number of events; the seat then knows for each cycle through the source a length
 /// that is at most its own.
-/// All memory is taken before the bound is looked at. An error is want of memory, and the seat is
+/// All memory is taken before the bound is looked at. Fails only if out of memory, and then the seat is
 /// as it was.
 pub fn row_under(
     alloc: Global,

@@ -17,7 +17,7 @@ pub record IsJudged (bytes : List ℕ) (verdict : Verdict) : Type 0 where
   pub read : IsReadingResult bytes (Ok recording)
   pub found : IsVerdict recording verdict
 
--- the refusal that the bytes have; want of memory is none
+-- the refusal that the bytes have; none where memory ran out
 pub record IsRefused (bytes : List ℕ) (refusal : RecError) : Type 0 where
   pub read : IsReadingResult bytes (Err refusal)
   pub known : refusal ≢ OutOfMemory

@@ -188,7 +188,7 @@ same_stage bytes r s (told_it d a x t o i e) (told_it k b y z p j f) =
     let outcome : o ≡ p = one_outcome y o p (subst (λ (w : Execution). IsOutcome w o) same i) j in
     e ∙ (ap (λ (w : Execution). answer w o) same ∙ (ap (λ (q : Option RecError). answer y q) outcome ∙ sym f))
 
--- bytes have one reading, but for want of memory
+-- bytes have one reading, unless memory ran out
 one_reading : (bytes : List ℕ) (r s : Result Execution RecError) → IsReadingResult bytes r
     → IsReadingResult bytes s → r ≢ Err OutOfMemory → s ≢ Err OutOfMemory → r ≡ s
 one_reading bytes r s a b known there = same_stage bytes r s (staged bytes r a known) (staged bytes s b there)
@@ -201,7 +201,7 @@ gives x = Ok x
 abbrev refuses : RecError → Result Execution RecError
 refuses r = Err r
 
--- a recording is no want of memory
+-- a recording is not the error of memory that ran out
 read_well : (x : Execution) → gives x ≡ refuses OutOfMemory → ⊥
 read_well x e = absurd cc
 

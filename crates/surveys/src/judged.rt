@@ -15,7 +15,7 @@ use recorder::read_recording;
 use recording::{RecError, Recording};
 use std::alloc::Global;
 
-/// What a refusal finds; want of memory is none.
+/// What a refusal finds; none where memory ran out.
 fn refused(refusal: RecError) -> Result<Finding, OutOfMemory>
     ensures { IfOk result (λ f. (f ≡ Refused refusal) × (refusal ≢ refusals.OutOfMemory)) }
 {

@@ -71,7 +71,7 @@ impl Desk {
         }
     }
 
-    /// The words, which are those of a legal desk beside what the seat knows. An error is want of memory.
+    /// The words, which are those of a legal desk beside what the seat knows. Fails only if out of memory.
     pub fn close(self, alloc: Global, seat: DeskSeat) -> Result<Vec<u64>, OutOfMemory>
         requires { IsDeskSeatOf self seat }
         ensures { IfOk result (λ ws. AreDeskWords seat.seat.me.0 ws.items) }

@@ -61,7 +61,7 @@ pub(crate) fn end_verdict(alloc: Global, machine: Machine) -> Result<Option<Verd
 
 /// The verdict on the recording that a machine makes of a program by these steps, of which blocked ones
 /// are skipped; none exactly where the run is not complete. Without fault it is an order. It waits for
-/// nobody, and an `Err` is want of memory.
+/// nobody, and fails only if out of memory.
 pub fn run_and_judge(
     alloc: Global,
     program: Program,

@@ -27,7 +27,7 @@ fn generator(campaign: &Campaign, trial: usize) -> Xoshiro256PlusPlus
 }
 
 /// The machine in which a trial below the number of trials ends: its generator's first words make the
-/// program, the later ones name the attempts. An `Err` is want of memory.
+/// program, the later ones name the attempts. Fails only if out of memory.
 pub fn run_trial(alloc: Global, campaign: &Campaign, k: usize) -> Result<Machine, OutOfMemory>
     requires { k < campaign.now.trials }
     ensures { IfOk result (EndsIn campaign.now k) }
@@ -48,7 +48,7 @@ fn filed(campaign: &Campaign, k: usize, verdict: Option<Verdict>) -> Filed
     Filed::new(campaign, k, end_code(verdict))
 }
 
-/// A trial below the number of trials, with its code. It waits for nobody, and an `Err` is want of memory.
+/// A trial below the number of trials, with its code. It waits for nobody, and fails only if out of memory.
 pub fn trial(alloc: Global, campaign: &Campaign, k: usize) -> Result<Filed, OutOfMemory>
     requires { k < campaign.now.trials }
     ensures { IfOk result (λ f. (f.campaign ≡ campaign.now) × (f.trial ≡ k)) }
@@ -78,7 +78,7 @@ fn end_parts(alloc: Global, machine: Machine) -> Result<(Program, Option<Recordi
 }
 
 /// The program of a trial below the number of trials, and its recording; none exactly where its run is not
-/// complete. An `Err` is want of memory.
+/// complete. Fails only if out of memory.
 pub fn reproduce(
     alloc: Global,
     campaign: &Campaign,

@@ -14,7 +14,7 @@ use rand_xoshiro::Xoshiro256PlusPlus;
 const FEW_STEPS: usize = 64;
 
 /// Attempts so many steps at most, each named by the next word of the generator, until the machine is
-/// complete; a blocked attempt counts. It can't fail for want of memory.
+/// complete; a blocked attempt counts. It can't run out of memory.
 pub fn run_seeded(machine: &mut Machine, rng: &mut Xoshiro256PlusPlus, attempts: usize)
     ensures { IsRandomRun attempts machine.old rng.old machine.new rng.new }
 {

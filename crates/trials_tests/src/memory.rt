@@ -1,4 +1,4 @@
-//! Campaigns where a growth may be refused: the usual ledger, or none for want of memory and then the
+//! Campaigns where a growth may be refused: the usual ledger, or none where memory ran out and then the
 //! usual one. With ample memory each gives the usual ledger; `bench/refuse_growths` refuses each growth
 //! in turn, and two of them in one run.
 
@@ -76,7 +76,7 @@ fn a_ledger_or_no_memory(rt: HostRuntime) -> Result<(), Fail> {
     Ok(())
 }
 
-/// Fails where memory is wanting, and tells how many trials were filed by then.
+/// Fails where memory ran out, and tells how many trials were filed by then.
 #[test]
 fn what_was_filed_is_told(rt: HostRuntime) -> Result<(), Fail> {
     let short = campaign((2, 1, 1), 3, 1, Fault::None)?;
