@@ -37,7 +37,7 @@ pub enum Rendering {
     Reduction,
 }
 
-/// The numbers of so many events.
+/// The numbers of this many events.
 fn event_numbers(alloc: Global, count: usize) -> Result<Vec<EventId>, OutOfMemory>
     requires { count ≤ MAX_EVENTS }
     ensures { IfOk result (λ numbers. numbers.items ≡ range_with_len 0 count) }

@@ -75,7 +75,7 @@ pub fn script_answer(
     finished(alloc, machine)
 }
 
-/// The answer of a program whose steps are named by the words of a generator with this seed, so many
+/// The answer of a program whose steps are named by the words of a generator with this seed, this many
 /// attempts at most. Fails only if out of memory.
 pub fn seeded_answer(
     alloc: Global,

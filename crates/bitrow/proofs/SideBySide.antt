@@ -9,7 +9,7 @@ use Rattle.std.proofs.lemmas.Simd.{get_or-put_chunk_at, get_or-put_chunk_above}
 use Rattle.bitrow.specs.Bits.{bit_of}
 use Rattle.bitrow.proofs.Bits.{bit_in, or_word}
 
--- a bit of words that are joined with as many from one on
+-- a bit of words that are joined with the same number from one on
 pub or_beside : (lanes words : List ℕ) (at n : ℕ) → length lanes ≡ n → at + n ≤ length words → (f : ℕ)
     → f < 64 * n
     → bit_of (zip2 (λ a b. bit_or a b) lanes (chunk at n words)) f

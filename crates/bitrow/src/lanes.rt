@@ -5,7 +5,7 @@ ghost use Rattle.bitrow.specs.Bits.{bit_of};
 
 use std::simd::prelude::*;
 
-/// Makes each bit of the lanes 1 that is 1 in as many words from one on.
+/// Makes each bit of the lanes 1 that is 1 in the same number of words from one on.
 pub(crate) fn or_lanes<const N: usize>(
     lanes: Simd<u64, N>,
     words: &[u64],
@@ -20,7 +20,7 @@ pub(crate) fn or_lanes<const N: usize>(
     lanes | Simd::<u64, N>::from_slice(&words[at..])
 }
 
-/// Puts the lanes in the place of as many words from one on.
+/// Puts the lanes in the place of the same number of words from one on.
 pub(crate) fn put_lanes<const N: usize>(words: &mut [u64], at: usize, lanes: Simd<u64, N>)
     requires lanes { length lanes ≡ N }
     requires within { at + N ≤ length words.old }

@@ -86,7 +86,7 @@ impl BitRow {
         and_not_words(self.words.as_mut_slice(), other.words.as_slice());
     }
 
-    /// Puts the numbers of as many words, of 64 numbers each, from one on into the lanes.
+    /// Puts the numbers of the same number of words, of 64 numbers each, from one on into the lanes.
     pub(crate) fn join<const N: usize>(&self, at: usize, lanes: Simd<u64, N>) -> Simd<u64, N>
         requires lanes { length lanes ≡ N }
         requires within { 64 * (at + N) < length self.now + 64 }
@@ -97,7 +97,7 @@ impl BitRow {
         or_lanes(lanes, self.words.as_slice(), at)
     }
 
-    /// Puts the lanes in the place of as many words from one on.
+    /// Puts the lanes in the place of the same number of words from one on.
     pub(crate) fn put<const N: usize>(&mut self, at: usize, lanes: Simd<u64, N>)
         requires lanes { length lanes ≡ N }
         requires within { 64 * (at + N) < length self.old + 64 }

@@ -7,7 +7,7 @@ ghost use Rattle.bitrow.specs.Rows.{Marked, IsBitSquare, GetsLabel, AreUnionWord
 use crate::row::BitRow;
 use std::simd::prelude::*;
 
-/// How many words of so many numbers are left from one on.
+/// How many words of this many numbers are left from one on.
 fn words_left(numbers: usize, at: usize) -> usize
     requires { 64 * at < numbers }
     ensures some { 0 < result }
@@ -16,7 +16,7 @@ fn words_left(numbers: usize, at: usize) -> usize
     numbers.div_ceil(64) - at
 }
 
-/// Gives the label to each number of the set; as many words, from one on, of the union of their rows.
+/// Gives the label to each number of the set; the same number of words, from one on, of the union of their rows.
 fn union_words<const N: usize>(
     rows: &[BitRow],
     set: &BitRow,
@@ -42,7 +42,7 @@ fn union_words<const N: usize>(
     words
 }
 
-/// Gives the label to each number of the set, and puts as many words, from one on, of the union of their
+/// Gives the label to each number of the set, and puts the same number of words, from one on, of the union of their
 /// rows into another row.
 fn union_part<const N: usize>(
     rows: &[BitRow],

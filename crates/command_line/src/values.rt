@@ -74,7 +74,7 @@ fn fault(matches: &ArgMatches<'_>) -> Result<Fault, OptionRefusal>
     fault_named(name).ok_or(OptionRefusal::Fault)
 }
 
-/// What is to be shown: of a campaign, one of so many trials.
+/// What is to be shown: of a campaign, one of this many trials.
 fn show(
     matches: &ArgMatches<'_>,
     is_campaign: bool,

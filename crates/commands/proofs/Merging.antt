@@ -26,7 +26,7 @@ use Rattle.commands.specs.Merge.{AreGiven, IsMergeAnswer, IsMerged, IsMergedAnsw
 use Rattle.commands.specs.Names.{merge_names}
 use Rattle.commands.proofs.Asking.{stopped_later}
 
--- ledgers with the same first violation and as many without verdict come out alike
+-- ledgers with the same first violation and the same number without verdict come out alike
 same_outcome : (unjudged : Outcome) (l m : Ledger) → l.first ≡ m.first → l.unjudged ≡ m.unjudged
     → ledger_outcome unjudged l ≡ ledger_outcome unjudged m
 same_outcome unjudged l m first count = rw (first, count) refl

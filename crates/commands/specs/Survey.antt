@@ -74,7 +74,7 @@ IsSurveyBy inputs o (Some k) answer = IsShownLine inputs o k answer
 abbrev pub IsSurveyOf : (List ℕ → Option (List ℕ)) → SurveyOptions → Answer → Type 0
 IsSurveyOf inputs o answer = IsSurveyBy inputs o o.show answer
 
--- the line of recording k of the named input, or none where there are not so many
+-- the line of recording k of the named input, or none where there are fewer
 pub record IsLineOfInput (inputs : List ℕ → Option (List ℕ)) (name : List ℕ) (k : ℕ) (line : Option (List ℕ))
     : Type 0 where
   pub bytes : List ℕ

@@ -123,7 +123,7 @@ fn counts_answer<R: Threads + Sync, P: Place>(
     Ok(survey_answer(alloc, &ledger, false)?)
 }
 
-/// The line of recording `k` of the named input; none where there are not so many.
+/// The line of recording `k` of the named input; none where there are fewer.
 fn line_at<P: Place>(
     alloc: Global,
     options: &SurveyOptions,

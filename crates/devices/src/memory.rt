@@ -26,7 +26,7 @@ impl<'a> MemorySource<'a> {
         MemorySource::failing(bytes, usize::MAX)
     }
 
-    /// These bytes; after the first so many of them each read fails, which is tested.
+    /// These bytes; after this many of them each read fails, which is tested.
     pub fn failing(bytes: &'a [u8], before_failing: usize) -> MemorySource<'a>
         ensures rest { result.rest ≡ bytes.entry }
         ensures fails { result.before_failing ≡ before_failing }
@@ -105,7 +105,7 @@ impl MemorySink {
         MemorySink::failing(alloc, usize::MAX)
     }
 
-    /// Nothing yet; after the first so many bytes each write fails, which is tested.
+    /// Nothing yet; after this many bytes each write fails, which is tested.
     pub fn failing(alloc: Global, before_failing: usize) -> MemorySink
         ensures written { result.written.items ≡ [] }
         ensures failures { result.failures ≡ 0 }

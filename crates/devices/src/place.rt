@@ -105,7 +105,7 @@ pub trait Place {
         ensures asked { asked self.new ≡ asked self.old }
         ensures kept { bytes self.new ≡ bytes self.old };
 
-    /// What is told of so many trials while they last, or of recordings whose number is not known.
+    /// What is told of this many trials while they last, or of recordings whose number is not known.
     fn progress(&self, trials: Option<usize>) -> Self::Progress;
 
     /// Takes the line of an input that is refused, as a person is shown it.

@@ -9,10 +9,10 @@ use std::io::IsTerminal;
 use std::sync::atomic::{AtomicU64, AtomicUsize, Ordering};
 use std::time::{Duration, Instant};
 
-/// After so many milliseconds the first line is shown.
+/// After this many milliseconds the first line is shown.
 pub const FIRST_LINE: u64 = 500;
 
-/// So many milliseconds at least lie between two lines.
+/// This many milliseconds at least lie between two lines.
 pub const BETWEEN_LINES: u64 = 250;
 
 /// What takes the longest line away.
@@ -49,7 +49,7 @@ impl Display for Line {
     }
 }
 
-/// The line that is due so many milliseconds after the beginning, if any. The last one was written at
+/// The line that is due this many milliseconds after the beginning, if any. The last one was written at
 /// `last`; 0 stands for none.
 pub fn line_due(is_terminal: bool, elapsed: u64, last: u64, line: Line) -> Option<Line>
     ensures { result ≡ line_due is_terminal elapsed last line }
@@ -89,7 +89,7 @@ pub struct Progress<'a> {
 }
 
 impl<'a> Progress<'a> {
-    /// That of a campaign of so many trials, or of a survey, which begins.
+    /// That of a campaign of this many trials, or of a survey, which begins.
     pub fn new(rt: &'a HostRuntime, trials: Option<usize>) -> Progress<'a> {
         Progress {
             rt,

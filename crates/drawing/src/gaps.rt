@@ -23,7 +23,7 @@ pub(crate) fn is_gap(numbers: &[EventId], edge: Edge) -> bool
     first + 1 < second
 }
 
-/// Adds the line of so many events that are left out before an event.
+/// Adds the line of this many events that are left out before an event.
 fn put_gap_line(out: &mut Vec<u8>, event: EventId, count: usize) -> Result<(), OutOfMemory>
     ensures { OnOk result (out.new.items ≡ out.old.items ++ gap_line event count) }
 {

@@ -12,7 +12,7 @@ use Rattle.recording.specs.Execution.{Execution, event_count, event_at, core_of}
 abbrev pub digits : ℕ → ℕ
 digits n = length (decimal n)
 
--- so many spaces
+-- this many spaces
 abbrev pub spaces : ℕ → List ℕ
 spaces n = replicate n 32
 

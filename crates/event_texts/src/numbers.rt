@@ -31,7 +31,7 @@ pub fn put_text_and_number(out: &mut Vec<u8>, text: &[u8], number: usize) -> Res
     put_number(out, number)
 }
 
-/// Adds so many spaces.
+/// Adds this many spaces.
 pub fn put_spaces(out: &mut Vec<u8>, count: usize) -> Result<(), OutOfMemory>
     ensures { OnOk result (out.new.items ≡ out.old.items ++ spaces count) }
 {

@@ -110,7 +110,7 @@ fn put_links(
     Ok(())
 }
 
-/// Adds what is said first of a cycle of so many events.
+/// Adds what is said first of a cycle of this many events.
 fn put_heading(out: &mut Vec<u8>, count: usize) -> Result<(), OutOfMemory>
     ensures { OnOk result (out.new.items ≡ out.old.items ++ cycle_heading count) }
 {

@@ -27,7 +27,7 @@ labels 3: 1 2 3 0
 /// The beginning of the answer to the shorter of two cycles.
 const SHORTER: &[u8] = b"cycle of 3\n4 -> 5 Rf\n5 -> 6 Po\n6 -> 4 Fr\n";
 
-/// A writer that takes so many bytes of each write.
+/// A writer that takes this many bytes of each write.
 #[derive(Drop)]
 struct Narrow {
     width: usize,
@@ -58,7 +58,7 @@ impl Read for Interrupted {
     }
 }
 
-/// Whether a read that fails after so many bytes leaves nothing written.
+/// Whether a read that fails after this many bytes leaves nothing written.
 fn leaves_nothing<R: Threads + Wait + Sync>(
     rt: &R,
     alloc: Global,
@@ -112,7 +112,7 @@ fn a_failed_read_leaves_nothing_written(rt: HostRuntime) -> Result<(), Fail> {
     Ok(())
 }
 
-/// Whether a write that fails after so many bytes leaves as long a beginning of the answer.
+/// Whether a write that fails after this many bytes leaves as long a beginning of the answer.
 fn leaves_a_beginning<R: Threads + Wait + Sync>(
     rt: &R,
     alloc: Global,
@@ -160,7 +160,7 @@ fn a_failed_write_leaves_a_beginning(rt: HostRuntime) -> Result<(), Fail> {
     Ok(())
 }
 
-/// Whether a device that takes so many bytes of each write is answered so, and has taken these bytes.
+/// Whether a device that takes this many bytes of each write is answered so, and has taken these bytes.
 fn is_taken<R: Threads + Wait + Sync>(
     rt: &R,
     alloc: Global,

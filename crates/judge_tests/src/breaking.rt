@@ -7,7 +7,7 @@ use std::io::{ErrorKind, Read, Write};
 
 const TEXT: &[u8] = b"core\nld x\n";
 
-/// A reader of which one read is interrupted after so many bytes.
+/// A reader of which one read is interrupted after this many bytes.
 #[derive(Drop)]
 struct Stutter<'a> {
     bytes: &'a [u8],
@@ -27,7 +27,7 @@ impl Read for Stutter<'_> {
     }
 }
 
-/// A writer of which one write is interrupted after so many bytes, and whose flush may fail.
+/// A writer of which one write is interrupted after this many bytes, and whose flush may fail.
 #[derive(Drop)]
 struct Clog {
     taken: Vec<u8>,
@@ -67,13 +67,13 @@ fn is_read(alloc: Global, text: &[u8]) -> bool {
     }
 }
 
-/// Whether reading fails where all reads fail after so many bytes.
+/// Whether reading fails where all reads fail after this many bytes.
 fn is_broken(alloc: Global, count: usize) -> bool {
     let read = read_all(alloc, &mut MemorySource::failing(TEXT, count));
     matches!(read, Err(ReadError::ReadFailed))
 }
 
-/// Whether reading fails where one read is interrupted after so many bytes.
+/// Whether reading fails where one read is interrupted after this many bytes.
 fn is_interrupted(alloc: Global, count: usize) -> bool {
     let mut device = Device::new(Stutter {
         bytes: TEXT,
@@ -83,7 +83,7 @@ fn is_interrupted(alloc: Global, count: usize) -> bool {
     matches!(read, Err(ReadError::ReadFailed)) && device.failures() == 1 && !device.is_ended()
 }
 
-/// Whether writing fails where one write is interrupted after so many bytes, which stay written.
+/// Whether writing fails where one write is interrupted after this many bytes, which stay written.
 fn is_cut(alloc: Global, count: usize) -> bool {
     let mut device = Device::new(Clog {
         taken: Vec::new(alloc),

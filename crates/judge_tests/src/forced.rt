@@ -65,7 +65,7 @@ const OF_FAILED_SWAPS: &[(EventId, EventId, Option<Reason>)] = &[
     (3, 0, Some(Reason::Fr)),
 ];
 
-/// Whether the relation of a recording has so many events.
+/// Whether the relation of a recording has this many events.
 fn has_events(alloc: Global, parts: EventLists, events: usize) -> bool {
     let Some(relation) = related(alloc, parts) else {
         return false;

@@ -16,7 +16,7 @@ const WHOLE: &str =
     "{\"cores\":[[{\"a\":0,\"k\":\"S\",\"w\":1},{\"a\":1,\"k\":\"L\",\"r\":0,\"s\":null}],\
     [{\"a\":1,\"k\":\"S\",\"w\":1},{\"a\":0,\"k\":\"L\",\"r\":0,\"s\":null}]],\"version\":1,\"writes\":[[0],[2]]}";
 
-/// How a text of so many items begins and ends, an item, and the most items.
+/// How a text of this many items begins and ends, an item, and the most items.
 const LIMITED: [(&str, &str, &str, usize); 3] = [
     (
         r#"{"version":1,"cores":["#,
@@ -57,7 +57,7 @@ fn is_refused<R: Threads + Wait + Sync>(rt: &R, alloc: Global, text: &[u8], want
     is_answered(rt, alloc, text, Outcome::Refused, wanted)
 }
 
-/// A text so many times, with a text between each two.
+/// A text this many times, with a text between each two.
 fn times(alloc: Global, item: &str, between: &str, count: usize) -> Option<String> {
     let mut text = String::new(alloc);
     for i in 0..count {
@@ -133,7 +133,7 @@ fn a_recording_among_a_million_blanks_is_judged(rt: HostRuntime) -> Result<(), F
     Ok(())
 }
 
-/// A text with so many items between its head and its tail.
+/// A text with this many items between its head and its tail.
 fn with_items(alloc: Global, head: &str, item: &str, tail: &str, count: usize) -> Option<String> {
     let mut text = String::from_str(alloc, head).ok()?;
     text.push_str(times(alloc, item, ",", count)?.as_str())
@@ -149,7 +149,7 @@ fn is_ordered<R: Threads + Wait + Sync>(rt: &R, alloc: Global, text: &[u8]) -> b
     answer(rt, alloc, &mut source, &mut sink, 1, &OpenGate) == Ok(Outcome::Ordered)
 }
 
-/// Whether so many items are judged, or are refused as too many.
+/// Whether this many items are judged, or are refused as too many.
 fn is_so_with<R: Threads + Wait + Sync>(
     rt: &R,
     alloc: Global,
@@ -182,7 +182,7 @@ fn a_recording_has_at_most_its_limits(rt: HostRuntime) -> Result<(), Fail> {
     Ok(())
 }
 
-/// The numbers of so many events, from the last to the first.
+/// The numbers of this many events, from the last to the first.
 fn reversed(alloc: Global, events: usize) -> Option<String> {
     let mut text = String::new(alloc);
     for number in 0..events {
@@ -192,7 +192,7 @@ fn reversed(alloc: Global, events: usize) -> Option<String> {
     Some(text)
 }
 
-/// One core with so many stores to one address, whose write list is their reverse.
+/// One core with this many stores to one address, whose write list is their reverse.
 pub fn reversed_write_list(alloc: Global, events: usize) -> Option<String> {
     let mut text = String::from_str(alloc, r#"{"version":1,"cores":[["#).ok()?;
     text.push_str(times(alloc, r#"{"k":"S","a":0,"w":1}"#, ",", events)?.as_str())
@@ -216,7 +216,7 @@ fn reversed_verdict(alloc: Global, events: usize) -> Option<String> {
     Some(text)
 }
 
-/// Whether so many stores in reverse have this verdict by so many workers.
+/// Whether this many stores in reverse have this verdict by this many workers.
 fn is_cycle_of_two<R: Threads + Wait + Sync>(
     rt: &R,
     alloc: Global,

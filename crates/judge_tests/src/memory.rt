@@ -50,7 +50,7 @@ fn is_usual<R: Threads + Wait + Sync>(
     Some(text.as_slice().starts_with(usual))
 }
 
-/// Whether a text is judged as usual by so many workers, twice, where at most one growth is refused.
+/// Whether a text is judged as usual by this many workers, twice, where at most one growth is refused.
 fn is_judged<R: Threads + Wait + Sync>(
     rt: &R,
     alloc: Global,

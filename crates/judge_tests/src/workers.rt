@@ -44,7 +44,7 @@ fn note_of(worker: usize) -> u64 {
 }
 
 impl Watch {
-    /// One of so many pieces and workers.
+    /// One of this many pieces and workers.
     pub fn new(alloc: Global, pieces: usize, workers: usize) -> Option<Watch> {
         let mut notes = Vec::new(alloc);
         for _ in 0..pieces {
@@ -118,7 +118,7 @@ impl Watch {
         !self.wrong.load(Ordering::SeqCst)
     }
 
-    /// Whether each piece was made once, by so many workers, of which the first that began was passed by
+    /// Whether each piece was made once, by this many workers, of which the first that began was passed by
     /// another, where there is one.
     pub fn is_right(&self, at_work: usize) -> bool {
         let passed = self.passed.load(Ordering::SeqCst);
@@ -167,7 +167,7 @@ fn leave<G: Gate>(
     best.read(seat) == Some(length) && least_length(&rows) == Some(length)
 }
 
-/// Whether so many workers find the length of the shortest cycles of a relation.
+/// Whether this many workers find the length of the shortest cycles of a relation.
 fn find<G: Gate>(
     rt: &(impl Threads + Wait + Sync),
     alloc: Global,
@@ -184,7 +184,7 @@ fn find<G: Gate>(
     leave(rt, alloc, jobs, &best, &mut seat, workers, length, gate)
 }
 
-/// Whether so many workers find the shorter of two cycles.
+/// Whether this many workers find the shorter of two cycles.
 fn find_the_shorter<G: Gate>(
     rt: &(impl Threads + Wait + Sync),
     alloc: Global,
@@ -223,7 +223,7 @@ fn is_cycle(verdict: &Verdict, events: &[EventId]) -> bool {
     }
 }
 
-/// Whether so many workers judge that a cycle is the least.
+/// Whether this many workers judge that a cycle is the least.
 fn is_judged<R: Threads + Wait + Sync>(
     rt: &R,
     alloc: Global,
@@ -268,7 +268,7 @@ fn related_in(alloc: Global, text: &[u8]) -> Option<Relation> {
     Relation::of(alloc, &recording).ok()
 }
 
-/// Whether so many workers find the cycle of a text's stores in reverse, and so many of them make each
+/// Whether this many workers find the cycle of a text's stores in reverse, and this many of them make each
 /// row once.
 fn find_in_reverse<R: Threads + Wait + Sync>(
     rt: &R,
@@ -307,7 +307,7 @@ fn is_judged_in_reverse<R: Threads + Wait + Sync>(
     is_judged(rt, alloc, &recording, workers, &[0, 1], &watch) && watch.is_right(at_work)
 }
 
-/// Whether the answer of so many workers to a text begins so.
+/// Whether the answer of this many workers to a text begins so.
 pub fn begins_so<R: Threads + Wait + Sync>(
     rt: &R,
     alloc: Global,
@@ -342,7 +342,7 @@ fn is_answered_in_reverse<R: Threads + Wait + Sync>(
         && watch.is_right(at_work)
 }
 
-/// Whether each row of so many stores in reverse is made once, by so many of the workers.
+/// Whether each row of this many stores in reverse is made once, by this many of the workers.
 fn is_made_once<R: Threads + Wait + Sync>(
     rt: &R,
     alloc: Global,

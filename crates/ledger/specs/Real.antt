@@ -8,7 +8,7 @@ use Rattle.ledger.specs.Counts.{AddsUp, IsLedger}
 abbrev pub violation_count : Ledger → ℕ
 violation_count l = l.overlook + sum l.cycles.items
 
--- the first place of so many among all: there is one where there are some, and all of them have room from it on
+-- the first place of this many among all: there is one where there are some, and all of them have room from it on
 abbrev pub IsFirstOf : ℕ → ℕ → Option ℕ → Type 0
 IsFirstOf count total None = count ≡ 0
 IsFirstOf count total (Some place) = (0 < count) × (place + count ≤ total)

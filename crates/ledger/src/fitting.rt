@@ -41,7 +41,7 @@ fn violations_of(ledger: &Ledger) -> Option<usize>
     }
 }
 
-/// Whether it can be the first place of so many among all.
+/// Whether it can be the first place of this many among all.
 fn is_first_of(count: usize, total: usize, first: Option<usize>) -> bool
     ensures { IsTrue result ↔ IsFirstOf count total first }
 {
@@ -64,7 +64,7 @@ fn are_apart(ordered: usize, first: Option<usize>, second: Option<usize>) -> boo
     i != j && (i <= ordered || j <= ordered)
 }
 
-/// Whether the first places fit the counts, of which so many are those of violations.
+/// Whether the first places fit the counts, of which this many are those of violations.
 fn firsts_fit(ledger: &Ledger, violations: usize) -> bool
     requires { violations ≡ violation_count ledger.now }
     ensures { IsTrue result ↔ FirstsFit ledger.now }

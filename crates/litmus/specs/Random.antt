@@ -34,7 +34,7 @@ with_access p word n = record {
   cores = with_op p.cores (drawn_op word (op_count p.cores) (name_number p.names (address_name n)));
 }
 
--- the same with the operation that a word makes, over so many addresses
+-- the same with the operation that a word makes, over this many addresses
 abbrev pub with_word : ℕ → Body → ℕ → Body
 with_word addresses p word =
     if word % 8 == 6 then with_fence p else with_access p word (word / 16 % addresses)

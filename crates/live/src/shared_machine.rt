@@ -112,7 +112,7 @@ impl SharedMachine {
         self.work(rt, worker);
     }
 
-    /// Runs a thread for each of so many cores, one for drains and one for caches, up to their end.
+    /// Runs a thread for each of this many cores, one for drains and one for caches, up to their end.
     /// False where a thread was not started; the others are stopped then.
     pub(crate) fn run<R: Threads + Wait + Sync, G: Gate>(
         &self,

@@ -148,7 +148,7 @@ module _ (p : Parts) (capacity : ℕ) (units : List Progress) (buffers : List Bu
       place_there : core < length (places_of units)
       place_there = omega (arith, unit_there, length-map units (λ (u : Progress). u.place))
 
-      -- there are as many units
+      -- there are the same number of units
       units_up : length (slice_set units core moved) ≡ length p.cores
       units_up = length-set units core moved ∙ sound.units_length
 

@@ -116,7 +116,7 @@ pub script_cores : (p : Parts) (text : List ℕ) (t : List Step) → steps_of p 
     All (IsStepOf p) t
 script_cores p text t e = (script_kept p text t e).cores
 
--- a script has at most so many steps
+-- a script has at most this many steps
 pub script_few : (p : Parts) (text : List ℕ) (t : List Step) → steps_of p text ≡ Ok t →
     length t ≤ MAX_STEPS
 script_few p text t e = (script_kept p text t e).few

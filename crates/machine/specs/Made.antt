@@ -5,7 +5,7 @@ use Rattle.program.specs.Parts.{op_count}
 use Rattle.core_unit.specs.Progress.{Progress}
 use Rattle.machine.specs.State.{first_event}
 
--- each core is before its first operation, and there are so many events in all
+-- each core is before its first operation, and there are this many events in all
 pub record AreUnits (p : List (List Op)) (units : List Progress) (total : ℕ) : Type 0 where
   pub one_each : length units ≡ length p
   pub begun : (c : ℕ) (d : Progress) → c < length p → slice_index_or units c d

@@ -53,7 +53,7 @@ impl Blank {
     ghost use Rattle.machine.specs.Configuration.{BlankSize};
     ghost use Rattle.machine.specs.State.{cores_from};
 
-    /// Room for the recording of so many cores and events, and of as many addresses as there are
+    /// Room for the recording of this many cores and events, and of as many addresses as there are
     /// initial values, with a copy of these.
     pub(crate) fn new(
         alloc: Global,

@@ -27,7 +27,7 @@ fn add_list<T: Drop>(
     Ok(())
 }
 
-/// So many empty lists, each with the same room.
+/// This many empty lists, each with the same room.
 pub(crate) fn bounded_lists<T: Drop>(
     alloc: Global,
     count: usize,
@@ -42,7 +42,7 @@ pub(crate) fn bounded_lists<T: Drop>(
     Ok(lists)
 }
 
-/// So many empty store buffers of one capacity.
+/// This many empty store buffers of one capacity.
 pub(crate) fn buffers_of(
     alloc: Global,
     count: usize,
@@ -84,7 +84,7 @@ pub(crate) struct Cores {
     pub(crate) events: usize,
 }
 
-/// The cores of a program with so many of them.
+/// The cores of a program with this many of them.
 pub(crate) fn cores_of(
     alloc: Global,
     program: &[Ops],
@@ -125,7 +125,7 @@ pub(crate) struct Room {
     pub(crate) blank: Blank,
 }
 
-/// Room for so many cores and events over as many addresses as there are initial values.
+/// Room for this many cores and events over as many addresses as there are initial values.
 pub(crate) fn room_for(
     alloc: Global,
     cores: usize,

@@ -54,7 +54,7 @@ fn a_core_waits_for_no_other(rt: HostRuntime) -> Result<(), Fail> {
 /// Two cores whose steps nothing blocks.
 const FENCES: &str = "core\nfence\nfence\ncore\nfence\nfence\n";
 
-/// A core is held for so many turns after its first step.
+/// A core is held for this many turns after its first step.
 #[derive(Drop)]
 struct HeldAfter {
     core: CoreId,
@@ -73,7 +73,7 @@ impl Gate for HeldAfter {
     }
 }
 
-/// Whether a core that is held for so many turns after its first step takes the last step of all.
+/// Whether a core that is held for this many turns after its first step takes the last step of all.
 fn is_last<R: Threads + Wait + Sync>(
     rt: &R,
     alloc: Global,

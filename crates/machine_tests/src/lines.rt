@@ -7,7 +7,7 @@ use moesi::{CacheError, Caches, Line};
 use std::alloc::Global;
 use std::test::Fail;
 
-/// The caches of so many cores over one address. That their sizes stay is kept by the type, so that no call
+/// The caches of this many cores over one address. That their sizes stay is kept by the type, so that no call
 /// below asks for it: where each call did, the tests took two minutes to prove.
 #[derive(Drop)]
 struct OneAddress {
@@ -121,7 +121,7 @@ impl OneAddress {
     }
 }
 
-/// Whether the caches of so many cores answer the rows so, one after the other.
+/// Whether the caches of this many cores answer the rows so, one after the other.
 fn answers_all(alloc: Global, cores: CoreId, rows: &[Row]) -> Result<bool, Fail> {
     let mut caches = OneAddress::new(alloc, cores)?;
     for row in rows {

@@ -68,7 +68,7 @@ fn add_file(alloc: Global, kind: Kind, sum: &mut Ledger, bytes: &[u8]) -> Result
     Ok(())
 }
 
-/// The line of a text, from 1, from which on so many bytes are left.
+/// The line of a text, from 1, from which on this many bytes are left.
 fn line_at(text: &[u8], left: usize) -> usize {
     let before = text.len().saturating_sub(left);
     let ends = text.iter().take(before).filter(|byte| **byte == b'\n');

@@ -29,7 +29,7 @@ AreWords cores addresses words = length words ≡ (cores + 1) * addresses
 abbrev pub block_by : (Cell → Cell) → Block → Block
 block_by f b = record { lines = map f b.lines; memory = b.memory }
 
--- all addresses but this one are as before, in as many words
+-- all addresses but this one are as before, in the same number of words
 pub record StaysElsewhere (cores addresses a : ℕ) (old new : List ℕ) : Type 0 where
   pub size : length new ≡ length old
   pub others : (b : ℕ) → b < addresses → b ≢ a

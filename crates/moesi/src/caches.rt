@@ -53,7 +53,7 @@ impl Caches {
     ghost use Rattle.moesi.specs.Laws.{OpeningHasEmptyLines, OpeningWithHasEmptyLines};
     ghost use Rattle.moesi.specs.Laws.{EveryCallKeepsEmptyLines};
 
-    /// Caches of so many cores where no line is valid, over so many addresses with value 0 and no
+    /// Caches of this many cores where no line is valid, over this many addresses with value 0 and no
     /// event; out of memory where there is none, also for so many that no memory could hold them.
     pub fn new(alloc: Global, cores: usize, addresses: usize) -> Result<Caches, OutOfMemory>
         ensures { IfOk result (λ s. s ≡ opening_caches cores addresses) }
@@ -68,7 +68,7 @@ impl Caches {
         })
     }
 
-    /// Caches of so many cores where no line is valid, over as many addresses as there are initial values,
+    /// Caches of this many cores where no line is valid, over as many addresses as there are initial values,
     /// each with its value and no event; out of memory where there is none, also for so many that no
     /// memory could hold them.
     ///

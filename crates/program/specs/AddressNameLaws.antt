@@ -104,7 +104,7 @@ names_distinct (suc n) small =
     IsDistinct-push name_laws (address_names n) (address_name n) (names_distinct n (omega (arith, small)))
     (name_new n (omega (arith, small)))
 
--- there are so many
+-- there are this many
 pub names_count : (n : ℕ) → length (address_names n) ≡ n
 names_count zero = refl
 names_count (suc n) = omega (arith, length-append (address_names n) (address_name n ∷ []), names_count n)

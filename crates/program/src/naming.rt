@@ -17,7 +17,7 @@ pub fn address_name(number: Addr) -> Name
     Name::of_parts(b'a', buffer.format(number).as_bytes())
 }
 
-/// The names of so many addresses, at most `MAX_ADDRESSES`: the letter a, and their numbers from 0.
+/// The names of this many addresses, at most `MAX_ADDRESSES`: the letter a, and their numbers from 0.
 /// Fails only if out of memory.
 pub fn address_names(alloc: Global, count: usize) -> Result<IndexSet<Name>, OutOfMemory>
     requires { count ≤ MAX_ADDRESSES }

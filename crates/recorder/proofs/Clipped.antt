@@ -96,7 +96,7 @@ placed_clipped k (es ∷ rest) = rw (
   map-append clip_placed (map {B = ℕ × Event} (λ e. (k, e)) es) (placed_from (k + 1) rest),
 ) refl
 
--- there are as many events
+-- there are the same number of events
 pub count_clipped : (x : Execution) → event_count (clipped x) ≡ event_count x
 unfolding event_count
 count_clipped x = ap (λ (ps : List (ℕ × Event)). length ps) (placed_clipped 0 x.cores)

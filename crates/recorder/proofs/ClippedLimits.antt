@@ -10,7 +10,7 @@ use Rattle.recording.specs.EventLaws.{Writes-event}
 use Rattle.recorder.proofs.Clipped.{events_fit, addresses_fit, small, unclipped, clipped_from, count_clipped}
 use Rattle.recorder.proofs.Clipped.{reads_clipped, writes_clipped}
 
--- a clipped execution has as many write lists
+-- a clipped execution has the same number of write lists
 lists_count : (x : Execution) → length (clipped x).write_lists ≡ length x.write_lists
 lists_count x = length-map x.write_lists (map clip)
 

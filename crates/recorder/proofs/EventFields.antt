@@ -163,7 +163,7 @@ kind_counts : (o : Option (Bor (List ℕ))) (k : List ℕ) → option_map (λ s.
 kind_counts None k is = absurd cc
 kind_counts (Some s) k is = refl
 
--- an event of a kind with so many keys
+-- an event of a kind with this many keys
 event_is : (f : Fields) (ms : Members) (k : List ℕ) (n : ℕ) → AreFields f ms
     → option_map (λ s. s.now) f.k ≡ Some k
     → count_of f.k + count_of f.a + count_of f.r + count_of f.s + count_of f.w ≡ n

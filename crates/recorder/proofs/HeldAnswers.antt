@@ -65,7 +65,7 @@ beyond c (inl (inl many)) within = omega (arith, many, within.few_cores)
 beyond c (inl (inr many)) within = omega (arith, many, within.few_events, placed_total 0 c.cores)
 beyond c (inr many) within = omega (arith, many, within.few_addresses)
 
--- clipped cores have as many events
+-- clipped cores have the same number of events
 clipped_count : (cores : List (List Event))
     → sum_by (λ es. length es) (map (map clip_event) cores) ≡ sum_by (λ es. length es) cores
 clipped_count [] = refl

@@ -25,7 +25,7 @@ use Rattle.json.specs.Ascii as ascii
 abbrev after : Option (List ℕ) → Option (List ℕ)
 after o = option_map (λ r. r ++ 10 ∷ []) o
 
--- as many digits stand at the front
+-- the same number of digits stands at the front
 prefix_nl : (t : List ℕ) → prefix_len is_ascii_digit (t ++ 10 ∷ []) ≡ prefix_len is_ascii_digit t
 prefix_nl [] = refl
 prefix_nl (x ∷ xs) = rw (prefix_nl xs) refl

@@ -145,7 +145,7 @@ came_more f depth all ts same mid xs zs x came test given push =
           (items_read f depth came.n ts mid rest x ys (omega (arith, came.enough, less)) going one more));
     }
 
--- an array of so many items
+-- an array of this many items
 begun_array : (depth : ℕ) (all : List Token)
     → value (suc depth) (Token.begin_array ∷ all) ≡ parse_map json.array
     (items (value depth) (length all) all)
@@ -232,7 +232,7 @@ reached_all Are depth all ts rest s h over = record {
   are = h.are;
 }
 
--- an object of so many members
+-- an object of this many members
 begun_object : (depth : ℕ) (all : List Token)
     → value (suc depth) (Token.begin_object ∷ all)
     ≡ parse_map json.object (members (value depth) (length all) all)

@@ -89,7 +89,7 @@ failed_cas_in d =
     (at_key value_in (codes "r") d))
     (at_key number_in (codes "a") d)
 
--- an event of a kind, in an object with so many keys
+-- an event of a kind, in an object with this many keys
 unfoldable pub event_of : List ℕ → ℕ → Data → Option Event
 event_of k n d =
     if bytes_eq k (codes "L") && n == 4 then load_in d
@@ -102,7 +102,7 @@ unfoldable pub event_in : Data → Option Event
 event_in d = option_and_then (λ n. option_and_then (λ k. event_of k n d) (at_key as_str (codes "k") d))
     (option_map count_members (as_object d))
 
--- the initial values of an object with so many keys: none with three, and the fourth of four
+-- the initial values of an object with this many keys: none with three, and the fourth of four
 unfoldable pub values_in : ℕ → Data → Option (Option (List ℕ))
 values_in n d =
     if n == 3 then Some None

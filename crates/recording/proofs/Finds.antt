@@ -105,7 +105,7 @@ list_past vs lists a is past = sym (get_or_past lists a [] (omega (
   past,
 )))
 
--- the first i cores have so many events
+-- the first i cores have this many events
 pub record IsCounted (cores : List (List Event)) (i count : ℕ) : Type 0 where
   pub rest : count + length (placed_from i (drop i cores)) ≡ length (placed_from 0 cores)
 

@@ -15,7 +15,7 @@ pub record IsPut (first : ℕ) (es old table : List Event) (i : ℕ) : Type 0 wh
   pub here : (j : ℕ) → j < i → numbered table (first + j) ≡ numbered es j
   pub others : (e : ℕ) → (e < first) ⊎ (first + i ≤ e) → numbered table e ≡ numbered old e
 
--- the table has the events of the first k cores, so many as the number says, and fences after them
+-- the table has the events of the first k cores, as many as the number says, and fences after them
 pub record IsFilled (x : Execution) (k first : ℕ) (table : List Event) : Type 0 where
   pub behind : (i : ℕ) → IsBehind x.cores k i (first + i)
   pub events : (e : ℕ) → e < first → numbered table e ≡ event_at x e

@@ -71,13 +71,13 @@ events_same (p ∷ ps) [] size = absurd (omega (arith, size))
 events_same (p ∷ ps) (set ∷ sets) size =
     ap (λ (rest : List IndexedEvent). p ∷ rest) (events_same ps sets (omega (arith, size)))
 
--- there are as many rows
+-- there are the same number of rows
 pub table_size : (ps : List IndexedEvent) (sets : List (List Bool)) → length sets ≡ length ps
     → length (table_of ps sets) ≡ length sets
 table_size ps sets size = sym (length-map (table_of ps sets) (λ (row : Row). row.after))
     ∙ ap (λ (l : List (List Bool)). length l) (sets_same ps sets size)
 
--- so a table that is seen has as many rows
+-- so a table that is seen has the same number of rows
 pub rows_seen : (ps : List IndexedEvent) (sets : List (List Bool)) (t : Table) → table_of ps sets ≡ t
     → IsRelation ps sets → length sets ≡ length t
 rows_seen ps sets t seen r = sym (table_size ps sets r.size) ∙ ap (λ (rows : Table). length rows) seen

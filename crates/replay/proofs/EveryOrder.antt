@@ -206,7 +206,7 @@ pub record Laws : Type 0 where
       → EveryStateIsOrderly p init capacity steps
 
 module _ (law : Laws) where
-  -- the steps replay the order, on a lawful program of so many addresses
+  -- the steps replay the order, on a lawful program of this many addresses
   steps_replay : (x : Execution) (m : List ℕ) (capacity : ℕ) (names : List Name)
       → length names ≡ length x.write_lists → IsProgram (parts_of names (program_of x) x.initial)
       → IsRecording x → IsTsoOrder x m → most_stores x.cores ≤ capacity

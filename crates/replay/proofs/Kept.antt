@@ -28,7 +28,7 @@ use Rattle.machine.specs.Orderly.{placed_op}
 use Rattle.machine.specs.RecordedLaws.{event_is}
 use Rattle.replay.specs.OrderReplay.{led_to}
 
--- the initial values are the same, and as many write lists
+-- the initial values are the same, and the same number of write lists
 abbrev pub IsKept : State → State → Type 0
 IsKept s t = (t.initial ≡ s.initial) × (length t.write_lists ≡ length s.write_lists)
 

@@ -152,7 +152,7 @@ program_lengths (es ∷ rest) =
     ap (λ (k : ℕ). k ∷ map (λ ops. length ops) (map (λ fs. map op_of fs) rest)) (length-map es op_of)
     ∙ ap (λ (l : List ℕ). length es ∷ l) (program_lengths rest)
 
--- y is an execution of the program of x, and both have as many write lists and the same initial values
+-- y is an execution of the program of x, and both have the same number of write lists and the same initial values
 pub record IsMade (x y : Execution) : Type 0 where
   pub event : (e : ℕ) → (d : ℕ × Option ℕ) × (event_at y e ≡ event_of (op_of (event_at x e)) d)
   pub core : (e : ℕ) → core_of y e ≡ core_of x e

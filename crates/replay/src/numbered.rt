@@ -7,7 +7,7 @@ ghost use Rattle.replay.specs.Program.{op_of};
 
 use recording::{Event, Recording};
 
-/// How many addresses are used after an event, where so many were before it; none where it uses one
+/// How many addresses are used after an event, where this many were before it; none where it uses one
 /// before its turn.
 fn used_after(used: usize, event: Event) -> Option<usize>
     ensures { result ≡ use_addr used (addr_of (op_of event)) }

@@ -11,14 +11,14 @@ use common::OutOfMemory;
 use relations::Relation;
 use std::alloc::Global;
 
-/// A worker beside the first gets one of so many jobs at most: a thread that shares few jobs evenly is
+/// A worker beside the first gets at most one job in this many: a thread that shares few jobs evenly is
 /// waited for at their end.
 const PART: usize = 8;
 
-/// So many jobs pay for one more thread.
+/// This many jobs pay for one more thread.
 const PAYS: usize = 512;
 
-/// A worker with a seat of its own and as many of the last jobs; the others stay.
+/// The jobs of a worker with a seat of its own: its share of the last ones; the others stay.
 fn jobs_of_worker(
     relation: &Relation,
     best: &Best,

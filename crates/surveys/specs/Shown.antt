@@ -9,7 +9,7 @@ use Rattle.surveys.specs.declared.showing.Sought.TheVariants.{Found, Later}
 abbrev pub IsLineAt : List ℕ → ℕ → List ℕ → Type 0
 IsLineAt bytes k line = (k < length (lines bytes)) × (slice_index_or (lines bytes) k [] ≡ line)
 
--- it, or that there are not so many
+-- it, or that there are fewer
 abbrev pub IsLineOf : List ℕ → ℕ → Option (List ℕ) → Type 0
 IsLineOf bytes k None = length (lines bytes) ≤ k
 IsLineOf bytes k (Some line) = IsLineAt bytes k line

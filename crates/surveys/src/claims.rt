@@ -82,7 +82,7 @@ fn judge_claims<G: Gate>(
     claims
 }
 
-/// What so many workers find in the lines that they claim, the first of which has this number. Fails only if
+/// What this many workers find in the lines that they claim, the first of which has this number. Fails only if
 /// out of memory.
 pub(crate) fn claims_by<R: Threads + Sync, G: Gate>(
     rt: &R,

@@ -49,7 +49,7 @@ pub(crate) fn fill<R: Source>(
     Ok(true)
 }
 
-/// The place after the last end of a line that comes after so many bytes, 0 where there is none.
+/// The place after the last end of a line that comes after this many bytes, 0 where there is none.
 pub(crate) fn last_end(block: &[u8], seen: usize) -> usize
     ensures within { result ≤ length block.now }
     ensures whole { IsWhole (take result block.now) }

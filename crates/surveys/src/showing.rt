@@ -50,7 +50,7 @@ fn line_in(alloc: Global, bytes: &[u8], number: usize) -> Result<Sought, OutOfMe
     Ok(Sought::Later(left))
 }
 
-/// The line of this number among the whole lines of a block, of which so many bytes have no end of a line; leaves
+/// The line of this number among the whole lines of a block, of which this many bytes have no end of a line; leaves
 /// what comes after them, and answers how many bytes they are.
 fn line_in_whole(
     alloc: Global,
@@ -133,7 +133,7 @@ fn line_from<R: Source>(
     }
 }
 
-/// The line of this number, from 0, of all that a source gives; none where there are not so many. Empty lines
+/// The line of this number, from 0, of all that a source gives; none where there are fewer. Empty lines
 /// count as none. The source is read to its end. `ReadFailed` exactly where a read failed. The memory is that of a
 /// block, or of the longest line, whatever the length.
 pub fn line_of<R: Source>(

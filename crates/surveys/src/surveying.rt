@@ -52,7 +52,7 @@ pub(crate) fn count_part<R: Threads + Sync, W: Sink, G: Gate>(
     Ok(total)
 }
 
-/// Adds the whole lines of a block, of which so many bytes have no end of a line, to a ledger, and leaves what
+/// Adds the whole lines of a block, of which this many bytes have no end of a line, to a ledger, and leaves what
 /// comes after them.
 fn count_whole<R: Threads + Sync, W: Sink, G: Gate>(
     rt: &R,
@@ -133,7 +133,7 @@ fn count_blocks<T: Threads + Sync, R: Source, W: Sink, G: Gate>(
     Ok(())
 }
 
-/// Reads the lines of a source to its end, a recording each, judges them by so many workers, and counts them in
+/// Reads the lines of a source to its end, a recording each, judges them by this many workers, and counts them in
 /// order; where each is told, its line is written to the sink. The calling thread is a worker, and does what
 /// others leave out; where none is told, two workers or more judge a block while it reads the next one. The gate is told as by `findings_of`, by the numbers of the recordings, from 0. `ReadFailed`
 /// exactly where a read failed, and `WriteFailed` where a write did; where none is told, nothing is written. The

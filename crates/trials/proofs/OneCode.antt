@@ -30,7 +30,7 @@ module _ (attempts : ℕ) (h : Configuration) (rng : List ℕ) where
     | inr full ↦ absurd (omega (arith, full, less, y.within))
   ]
 
-  -- two runs take as many words
+  -- two runs take the same number of words
   one_length : (e f : Configuration) (r s : List ℕ) (x : IsRandomRun attempts h rng e r)
       (y : IsRandomRun attempts h rng f s) → x.taken ≡ y.taken
   one_length e f r s x y = elim (cases_lt x.taken y.taken) [

@@ -44,7 +44,7 @@ schedule h words = map (step_of_word (length h.program.cores) (length h.program.
 abbrev pub configuration_behind : Configuration → List ℕ → ℕ → Configuration
 configuration_behind h rng n = record h { state = state_behind h (schedule h (first_words plus_plus n rng)) }
 
--- a run of so many attempts at most ends here: at the first moment at which the machine is
+-- a run of this many attempts at most ends here: at the first moment at which the machine is
 -- complete, or at the last attempt
 pub record IsRandomRun (attempts : ℕ) (h : Configuration) (rng : List ℕ) (end : Configuration)
     (rest : List ℕ) : Type 0 where

@@ -9,7 +9,7 @@ pub(crate) struct Divisor {
     share: u64,
 }
 
-/// What is left of a word where so many times the number are taken, or once more.
+/// What is left of a word where this many times the number are taken, or once more.
 #[tactic(auto, using(crate::proofs::Remainders::rest_is, crate::proofs::Remainders::next_is))]
 fn rest_of(word: u64, number: u64, times: u64) -> u64
     requires { 0 < number }

@@ -10,10 +10,10 @@ use machine::{Machine, Step};
 use rand_core::utils::NextWord;
 use rand_xoshiro::Xoshiro256PlusPlus;
 
-/// A machine of no more steps is small, and a table of so many is enough for it.
+/// A machine of no more steps is small, and a table of this many is enough for it.
 const FEW_STEPS: usize = 64;
 
-/// Attempts so many steps at most, each named by the next word of the generator, until the machine is
+/// Attempts this many steps at most, each named by the next word of the generator, until the machine is
 /// complete; a blocked attempt counts. It can't run out of memory.
 pub fn run_seeded(machine: &mut Machine, rng: &mut Xoshiro256PlusPlus, attempts: usize)
     ensures { IsRandomRun attempts machine.old rng.old machine.new rng.new }

@@ -48,7 +48,7 @@ pub fn try_one<G: Gate>(
     }
 }
 
-/// The trial at which a worker begins: the first of its share, where so many workers share the trials out.
+/// The trial at which a worker begins: the first of its share, where this many workers share the trials out.
 fn first_of(trials: usize, worker: usize, workers: usize) -> usize
     requires { 1 ≤ workers }
     ensures { result ≤ trials }
@@ -148,7 +148,7 @@ fn start_all<'s, E, G: Gate>(
     }
 }
 
-/// Has the trials taken by so many workers, of which the calling thread is worker 0.
+/// Has the trials taken by this many workers, of which the calling thread is worker 0.
 pub(crate) fn work_all<R: Threads + Wait + Sync, G: Gate>(
     rt: &R,
     alloc: Global,

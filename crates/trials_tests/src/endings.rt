@@ -20,7 +20,7 @@ struct Ending {
     looked: AtomicBool,
 }
 
-/// Waits for a flag, for so many turns at most.
+/// Waits for a flag, for this many turns at most.
 fn wait_for(flag: &AtomicBool) {
     for _ in 0..100_000_000 {
         if flag.load(Ordering::SeqCst) {

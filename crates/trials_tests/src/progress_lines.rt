@@ -3,7 +3,7 @@ use devices::{Line, line_due};
 use std::alloc::{AllocError, Global};
 use std::test::Fail;
 
-/// A campaign of which so many trials are done and are violations.
+/// A campaign of which this many trials are done and are violations.
 fn with(done: usize, found: usize) -> Line {
     Line {
         done,

@@ -29,7 +29,7 @@ const EACH: &[u8] = b"0 ordered\n1 ordered\n2 overlook: load 1 store 0\n3 cycle 
 const NONE: &[u8] = b"recordings 0\nordered 0\nrefused 0\noverlook 0\n\
     first violation: none\nfirst refused: none\n";
 
-/// Whether so many workers count these lines so, and tell so of each; or, where none is told, write nothing.
+/// Whether this many workers count these lines so, and tell so of each; or, where none is told, write nothing.
 fn is_surveyed<R: Threads + Sync>(
     rt: &R,
     alloc: Global,
@@ -59,7 +59,7 @@ fn lines_are_counted_and_told(rt: HostRuntime) -> Result<(), Fail> {
     Ok(())
 }
 
-/// Whether a read that fails after so many bytes is told, after a beginning of what is told of each.
+/// Whether a read that fails after this many bytes is told, after a beginning of what is told of each.
 fn is_failed<R: Threads + Sync>(rt: &R, alloc: Global, length: usize, each: bool) -> bool {
     let mut source = MemorySource::failing(LINES, length);
     let mut sink = MemorySink::new(alloc);

@@ -72,7 +72,7 @@ impl Gate for Told {
     }
 }
 
-/// The gate of so many trials, before it is told anything.
+/// The gate of this many trials, before it is told anything.
 fn told_of(alloc: Global, trials: usize) -> Result<Told, Fail> {
     let mut told = Vec::new(alloc);
     for _ in 0..trials {
@@ -84,7 +84,7 @@ fn told_of(alloc: Global, trials: usize) -> Result<Told, Fail> {
     })
 }
 
-/// Whether 64 trials were told of, each as it begins and is done, by one worker, and so many violations.
+/// Whether 64 trials were told of, each as it begins and is done, by one worker, and this many violations.
 fn is_told(gate: &Told, violations: usize) -> bool {
     !gate.others.load(Ordering::SeqCst)
         && gate.count(33, 56) == 64
@@ -122,7 +122,7 @@ fn has_kinds(ledger: &Ledger, kinds: Kinds) -> bool {
         && ledger.cycles.iter().filter(|count| **count > 0).count() == kinds.2.min(1)
 }
 
-/// Whether so many workers tell so of a campaign with these attempts and this fault, and it has these kinds.
+/// Whether this many workers tell so of a campaign with these attempts and this fault, and it has these kinds.
 fn is_each_told<R: Threads + Wait + Sync>(
     rt: &R,
     alloc: Global,

@@ -17,12 +17,12 @@ use Rattle.verification.specs.declared.finding.Finding.TheVariants.{Holds}
 abbrev pub Are16Bit : List ℕ → Type 0
 Are16Bit numbers = All (λ n. n < 2 ^ 16) numbers
 
--- so many numbers of 16 bits
+-- this many numbers of 16 bits
 pub record IsRow (count : ℕ) (numbers : List ℕ) : Type 0 where
   pub size : length numbers ≡ count
   pub short : Are16Bit numbers
 
--- so many rows of so many numbers
+-- this many rows of this many numbers
 pub record AreRows (count : ℕ) (rows : List (List ℕ)) : Type 0 where
   pub size : length rows ≡ count
   pub rows_are : (v : ℕ) → v < count → IsRow count (slice_index_or rows v [])

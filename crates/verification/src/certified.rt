@@ -22,7 +22,7 @@ use relations::{Places, Relation, relation_is_forced};
 use std::alloc::Global;
 use std::thread::Threads;
 
-/// Takes the length of a cycle of at most so many events, and the end of its line.
+/// Takes the length of a cycle of at most this many events, and the end of its line.
 fn length_line(rest: &mut Cursor<'_>, most: usize) -> Option<usize>
     requires { most ≤ MAX_EVENTS }
     ensures found { IfSome result (λ k. (0 < k) × (k ≤ most) × (rest.old ≡ decimal k ++ 10 ∷ rest.new)) }
@@ -45,7 +45,7 @@ fn length_line(rest: &mut Cursor<'_>, most: usize) -> Option<usize>
     Some(size)
 }
 
-/// Takes the length of a cycle of at most so many events, and the lines of its pairs.
+/// Takes the length of a cycle of at most this many events, and the lines of its pairs.
 fn cycle(
     rest: &mut Cursor<'_>,
     alloc: Global,

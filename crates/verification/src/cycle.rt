@@ -63,7 +63,7 @@ fn pair(rest: &mut Cursor<'_>, places: &Places<'_>, first: EventId) -> Option<Ev
     Some(second)
 }
 
-/// Takes the lines of so many pairs, each of which begins where the one before ends, and the first where the
+/// Takes the lines of this many pairs, each of which begins where the one before ends, and the first where the
 /// last ends. Fails only if out of memory.
 pub(crate) fn pairs(
     rest: &mut Cursor<'_>,

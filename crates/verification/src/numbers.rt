@@ -21,7 +21,7 @@ fn spaced(rest: &mut Cursor<'_>) -> Option<u16>
     rest.number()
 }
 
-/// Takes so many numbers, a space before each, and the end of the line.
+/// Takes this many numbers, a space before each, and the end of the line.
 pub(crate) fn numbers(
     rest: &mut Cursor<'_>,
     alloc: Global,

@@ -4,7 +4,7 @@ use Rattle.machine.specs.Configuration.{IsAtEnd}
 use Rattle.trials.specs.Schedule.{configuration_behind}
 use Rattle.trials.proofs.running.run_by.Given as goal
 
--- so many attempts were made, and the machine was never complete before one
+-- this many attempts were made, and the machine was never complete before one
 abbrev pub invariant-attempts : goal.invariant-attempts
 invariant-attempts l =
     record {
