@@ -178,7 +178,7 @@ pub extern "C" fn tsotest_survey(
 #[unsafe(no_mangle)]
 pub extern "C" fn tsotest_version(out: &mut [u8], len: &mut usize) -> u8
     ensures status { result ≡ 0 }
-    ensures text { IsWrittenWhole VERSION_LINE out.old out.new len.new }
+    ensures text { IsWrittenWhole VERSION_LINE.now out.old out.new len.new }
 {
     buffers::put_text(VERSION_LINE.as_bytes(), out, len);
     0
