@@ -6,11 +6,11 @@ returns-in-Some c =
     c.recording_of.ensures c.args.bytes.now
     (found_is _ c.in-Ok.written c.in-Some.found c.in-Some.is c.in-Ok.ensures)
 
-pub returns-in-Some-parsed_by_tokens : goal.returns-in-Some-parsed_by_tokens
-returns-in-Some-parsed_by_tokens c =
-    c.recording_of-in-Some-parsed_by_tokens.ensures c.args.bytes.now
-    (found_is _ c.in-Ok-parsed_by_tokens.parsed_by_tokens c.in-Some-parsed_by_tokens.found
-    c.in-Some-parsed_by_tokens.is c.in-Ok-parsed_by_tokens.ensures)
+pub returns-in-Some-parsed : goal.returns-in-Some-parsed
+returns-in-Some-parsed c =
+    c.recording_of-in-Some-parsed.ensures c.args.bytes.now
+    (found_is _ c.in-Ok-parsed_by_tokens.parsed c.in-Some-parsed.found
+    c.in-Some-parsed.is c.in-Ok-parsed_by_tokens.ensures)
 
 pub returns : goal.returns
 returns c = c.recording_of-2.ensures c.args.bytes.now c.in_ok-found.ensures.found
