@@ -279,7 +279,7 @@ versioned c is = rw (← is) refl
 pub written_read : (bytes rest : List ℕ) (q : Parsed) → IsUtf8 bytes → BeginsRecording bytes (model_of q) rest
     → (rest ≡ []) ⊎ (rest ≡ 10 ∷ []) → IsParsedFrom bytes q
 written_read bytes rest q utf8 h ends =
-    let c : ParsedModel = found q in
+    let c : ParsedModel = model_of q in
     let again = contents_reread c.values c.cores c.write_lists h.values h.cores h.lists in (
       written_data c.values c.cores c.write_lists,
       (utf8, read_bytes bytes rest (written_data c.values c.cores c.write_lists) again h.begins ends),
