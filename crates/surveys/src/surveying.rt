@@ -134,11 +134,12 @@ fn count_blocks<T: Threads + Sync, R: Source, W: Sink, G: Gate>(
 }
 
 /// Reads the lines of a source to its end, a recording each, judges them by this many workers, and counts them in
-/// order; where each is told, its line is written to the sink. The calling thread is a worker, and does what
-/// others leave out; where none is told, two workers or more judge a block while it reads the next one. The gate is told as by `findings_of`, by the numbers of the recordings, from 0. `ReadFailed`
-/// exactly where a read failed, and `WriteFailed` where a write did; where none is told, nothing is written. The
-/// memory is that of two blocks, or of the longest line, whatever the length. One thing is found in a line, however
-/// often and by however many workers it is judged, so any two surveys of the same bytes count and tell the same.
+/// order; where each is told, its line is written to the sink. With one worker, or where each is told, the calling
+/// thread is a worker. Else it reads the next block while they judge one, each in a thread of its own where one can be
+/// made. The gate is told as by `findings_of`, by the numbers of the recordings, from 0. `ReadFailed` exactly where a
+/// read failed, and `WriteFailed` where a write did; where none is told, nothing is written. The memory is that of two
+/// blocks, or of the longest line, whatever the length. One thing is found in a line, however often and by however many
+/// workers it is judged, so any two surveys of the same bytes count and tell the same.
 pub fn survey<T: Threads + Sync, R: Source, W: Sink, G: Gate>(
     rt: &T,
     alloc: Global,
