@@ -1,13 +1,13 @@
 //! The names of refusals of texts.
 
 ghost use Rattle.std.specs.Prelude.{◌≡◌};
-ghost use Rattle.answers.specs.Refusals.{line_fault_name};
+ghost use Rattle.answers.specs.Refusals.{line_refusal_name};
 
 use program::LineRefusal;
 
 /// What is printed for a fault of a program's line.
-pub fn line_fault_name(fault: LineRefusal) -> &'static str
-    ensures { result.now ≡ line_fault_name fault }
+pub fn line_refusal_name(fault: LineRefusal) -> &'static str
+    ensures { result.now ≡ line_refusal_name fault }
 {
     match fault {
         LineRefusal::L1 => "L1",

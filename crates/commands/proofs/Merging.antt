@@ -13,14 +13,14 @@ use Rattle.merging.specs.declared.kind.Kind.{Kind}
 use Rattle.merging.specs.declared.kind.Kind.TheVariants.{Campaign, Survey}
 use Rattle.merging.specs.declared.merged.Merged.{Merged}
 use Rattle.merging.specs.Merges.{IsMerge}
-use Rattle.merging.specs.Tells.{Tells}
-use Rattle.merging.specs.TellsLaws.{ledger_tells, one_text}
+use Rattle.merging.specs.TextOf.{HasTextOf}
+use Rattle.merging.specs.TextOfLaws.{ledger_tells, one_text}
 use Rattle.report.specs.declared.outcome.Outcome.{Outcome}
 use Rattle.report.specs.declared.outcome.Outcome.TheVariants.{Refused, Unfinished}
 use Rattle.report.specs.declared.printed.Answer.{Answer}
 use Rattle.answers.specs.Campaign.{ledger_outcome}
 use Rattle.commands.specs.declared.command_error.CommandError.{CommandError}
-use Rattle.commands.specs.declared.command_error.CommandError.TheVariants as stop
+use Rattle.commands.specs.declared.command_error.CommandError.TheVariants as errors
 use Rattle.commands.specs.Inputs.{AreBytesOf, AreRead, Reads, Seen}
 use Rattle.commands.specs.Merge.{AreGiven, IsMergeAnswer, IsMerged, IsMergedAnswer, IsMergeError, IsTextsError}
 use Rattle.commands.specs.Names.{merge_names}
@@ -32,7 +32,7 @@ same_outcome : (unjudged : Outcome) (l m : Ledger) → l.first ≡ m.first → l
 same_outcome unjudged l m first count = rw (first, count) refl
 
 -- the answer to a ledger is that to another which says the same
-same_answer : (kind : Kind) (codes : List ℕ) (l m : Ledger) (answer : Answer) → Tells kind codes l → Tells kind codes m
+same_answer : (kind : Kind) (codes : List ℕ) (l m : Ledger) (answer : Answer) → HasTextOf kind codes l → HasTextOf kind codes m
     → IsMergedAnswer kind m answer → IsMergedAnswer kind l answer
 same_answer Campaign codes l m answer a b is =
     let same = one_text Campaign codes l m a b in record {
@@ -58,7 +58,7 @@ merge_answer texts m answer is answered = record {
   only = λ other others l are counted. let o = is.only other others are in
       subst (λ (k : Kind). IsMergedAnswer k l answer) (sym o.0)
       (same_answer m.kind (concat others) l m.ledger answer (ledger_tells m.kind (concat others) l counted)
-      (subst (λ (k : Kind). Tells k (concat others) m.ledger) o.0 o.1) answered);
+      (subst (λ (k : Kind). HasTextOf k (concat others) m.ledger) o.0 o.1) answered);
 }
 
 -- a name among others
@@ -94,7 +94,7 @@ pub merged_of : (inputs : List ℕ → Option (List ℕ)) (o : MergeOptions) (te
     (r : Result Answer CommandError)
     → AreGiven inputs (merge_names o) texts → IfOk r (IsMergeAnswer texts) → IfOk r (IsMerged inputs o)
 merged_of inputs o texts (Ok answer) given is = record { texts = texts; given = given; answered = is }
-merged_of inputs o texts (Err stop) given is = tt
+merged_of inputs o texts (Err error) given is = tt
 
 -- why it stops
 pub stop_of : (inputs : List ℕ → Option (List ℕ)) (o : MergeOptions) (texts : List (List ℕ))
@@ -102,8 +102,8 @@ pub stop_of : (inputs : List ℕ → Option (List ℕ)) (o : MergeOptions) (text
     → 0 < length o.files.items → AreGiven inputs (merge_names o) texts → IfErr r (IsTextsError (merge_names o) texts)
     → IfErr r (IsMergeError inputs o)
 stop_of inputs o texts (Ok answer) some given is = tt
-stop_of inputs o texts (Err (stop.Refused refusal)) some given is = (texts, given, is)
-stop_of inputs o texts (Err (stop.Fault fault)) some given is =
+stop_of inputs o texts (Err (errors.Refused refusal)) some given is = (texts, given, is)
+stop_of inputs o texts (Err (errors.Fault fault)) some given is =
     let names : length (merge_names o) ≡ length o.files.items = length-map o.files.items string_bytes in
     (0, omega (arith, names, some), rw is tt)
 
@@ -111,6 +111,6 @@ stop_of inputs o texts (Err (stop.Fault fault)) some given is =
 pub texts_read : (names texts : List (List ℕ)) (r : Result Answer CommandError) (s : Seen) → AreRead names s
     → IfErr r (IsTextsError names texts) → Reads names s r
 texts_read names texts (Ok answer) s read is = read
-texts_read names texts (Err (stop.Refused refusal)) s read is = stopped_later names (stop.Refused refusal) s refl read
-texts_read names texts (Err (stop.Fault fault)) s read is =
-    stopped_later names (stop.Fault fault) s (rw is refl) read
+texts_read names texts (Err (errors.Refused refusal)) s read is = stopped_later names (errors.Refused refusal) s refl read
+texts_read names texts (Err (errors.Fault fault)) s read is =
+    stopped_later names (errors.Fault fault) s (rw is refl) read

@@ -100,9 +100,9 @@ judged_begun inputs o s before after r begun reads failed =
 pub shown_printed : (inputs : List ℕ → Option (List ℕ)) (o : Options) (s : Seen) (answered : Result Answer CommandError)
     (printed : Answer) → IfOk answered (IsAnswerTo inputs o) → IfErr answered (IsCommandError inputs o)
     → Reads (names_of o) s answered → IsShown answered printed → IsPrintedFor inputs o s printed
-shown_printed inputs o s (Ok answer) printed is stop reads shown =
+shown_printed inputs o s (Ok answer) printed is error reads shown =
     inl (subst (λ (a : Answer). IsAnswerTo inputs o a) (sym shown) is, reads)
-shown_printed inputs o s (Err stop) printed is stops reads shown = inr (stop, stops, reads, shown)
+shown_printed inputs o s (Err error) printed is stops reads shown = inr (error, stops, reads, shown)
 
 -- the same after the place was told what is refused
 pub shown_after : (inputs : List ℕ → Option (List ℕ)) (o : Options) (a b c : Option (List (List ℕ)))
@@ -136,6 +136,6 @@ unwritten_more (Err fault) early at_once same not is = λ other once. is other (
 pub shown_without : (fault : OptionFault) (s : Seen) (answered : Result Answer CommandError) (printed : Answer)
     → IfOk answered (IsHelp fault) → IfErr answered (IsOptionError fault) → AreRead [] s → IsShown answered printed
     → IsPrintedWithout fault s printed
-shown_without fault s (Ok answer) printed is stop read shown =
+shown_without fault s (Ok answer) printed is error read shown =
     (inl (subst (λ (a : Answer). IsHelp fault a) (sym shown) is), read)
-shown_without fault s (Err stop) printed is stops read shown = (inr (stop, stops, shown), read)
+shown_without fault s (Err error) printed is stops read shown = (inr (error, stops, shown), read)

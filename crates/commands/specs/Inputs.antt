@@ -53,19 +53,19 @@ AreEnded (Fault fault) s = ⊤
 
 -- some of the names, from the first on, were asked for, in this order, each once; each input that was opened was taken
 -- back; a read failed exactly where this is why the command stops
-pub record AreStopped (names : List (List ℕ)) (stop : CommandError) (s : Seen) : Type 0 where
+pub record AreStopped (names : List (List ℕ)) (error : CommandError) (s : Seen) : Type 0 where
   pub front : List (List ℕ)
   pub rest : List (List ℕ)
   pub parts : names ≡ front ++ rest
   pub asked : Notes s.asked_before s.asked_after front
   pub lent : s.after.lent ≡ s.before.lent
-  pub failed : s.after.failed ≡ s.before.failed + failed_reads stop
-  pub ended : AreEnded stop s
+  pub failed : s.after.failed ≡ s.before.failed + failed_reads error
+  pub ended : AreEnded error s
 
 -- the inputs of these names were read, or not all were
 abbrev pub Reads : {X : Type 0} → List (List ℕ) → Seen → Result X CommandError → Type 0
 Reads names s (Ok x) = AreRead names s
-Reads names s (Err stop) = AreStopped names stop s
+Reads names s (Err error) = AreStopped names error s
 
 -- the input of this name was read, or it was not
 abbrev pub ReadsInput : {X : Type 0} → List ℕ → Seen → Result X CommandFault → Type 0

@@ -53,23 +53,23 @@ IsScriptError inputs program name (Fault fault) = IsInputFault inputs name fault
 
 -- the script of this name stops the named program, which is read
 pub record IsStoppedByScript (inputs : List ℕ → Option (List ℕ)) (o : RunOptions) (name : List ℕ)
-    (stop : CommandError)
+    (error : CommandError)
     : Type 0 where
   pub text : List ℕ
   pub given : AreBytesOf inputs (string_bytes o.program) text
   pub program : Parts
   pub read : reading text ≡ Ok program
-  pub stops : IsScriptError inputs program name stop
+  pub stops : IsScriptError inputs program name error
 
 -- why a run stops: its program does, or the script where one is named
 abbrev pub IsRunErrorBy : (List ℕ → Option (List ℕ)) → RunOptions → Option (List ℕ) → CommandError → Type 0
-IsRunErrorBy inputs o (Some name) stop = IsProgramError inputs (string_bytes o.program) stop
-    ⊎ IsStoppedByScript inputs o name stop
-IsRunErrorBy inputs o None stop = IsProgramError inputs (string_bytes o.program) stop
+IsRunErrorBy inputs o (Some name) error = IsProgramError inputs (string_bytes o.program) error
+    ⊎ IsStoppedByScript inputs o name error
+IsRunErrorBy inputs o None error = IsProgramError inputs (string_bytes o.program) error
 
 -- why a run stops
 abbrev pub IsRunError : (List ℕ → Option (List ℕ)) → RunOptions → CommandError → Type 0
-IsRunError inputs o stop = IsRunErrorBy inputs o (option_map string_bytes o.steps) stop
+IsRunError inputs o error = IsRunErrorBy inputs o (option_map string_bytes o.steps) error
 
 -- the fault that an error of threads is; they have no other errors
 abbrev pub thread_fault : LiveError → CommandFault
@@ -101,18 +101,18 @@ IsAnswerTo inputs (Merge o) answer = IsMerged inputs o answer
 
 -- why a command with these options and inputs stops
 abbrev pub IsCommandError : (List ℕ → Option (List ℕ)) → Options → CommandError → Type 0
-IsCommandError inputs (Run o) stop = IsRunError inputs o stop
+IsCommandError inputs (Run o) error = IsRunError inputs o error
 IsCommandError inputs (Judge o) (Refused refusal) = ⊥
 IsCommandError inputs (Judge o) (Fault fault) = IsJudgeFault inputs o fault
-IsCommandError inputs (Trials o) stop = stop ≡ Fault fault.OutOfMemory
-IsCommandError inputs (Live o) stop = IsLiveError inputs o stop
-IsCommandError inputs (Replay o) stop = IsReplayError inputs o stop
-IsCommandError inputs (Explain o) stop = IsRenderingError inputs o stop
-IsCommandError inputs (Draw o) stop = IsRenderingError inputs o.recording stop
-IsCommandError inputs (Reduce o) stop = IsRenderingError inputs o stop
-IsCommandError inputs (Verify o) stop = IsVerifyError inputs o stop
-IsCommandError inputs (Survey o) stop = IsSurveyError inputs o stop
-IsCommandError inputs (Merge o) stop = IsMergeError inputs o stop
+IsCommandError inputs (Trials o) error = error ≡ Fault fault.OutOfMemory
+IsCommandError inputs (Live o) error = IsLiveError inputs o error
+IsCommandError inputs (Replay o) error = IsReplayError inputs o error
+IsCommandError inputs (Explain o) error = IsRenderingError inputs o error
+IsCommandError inputs (Draw o) error = IsRenderingError inputs o.recording error
+IsCommandError inputs (Reduce o) error = IsRenderingError inputs o error
+IsCommandError inputs (Verify o) error = IsVerifyError inputs o error
+IsCommandError inputs (Survey o) error = IsSurveyError inputs o error
+IsCommandError inputs (Merge o) error = IsMergeError inputs o error
 
 -- what clap says goes to standard error: it is neither help nor the version
 abbrev pub IsMistake : Error → Type 0
@@ -142,7 +142,7 @@ IsLine (Fault fault) answer = ⊥
 -- what is printed for what is answered
 abbrev pub IsShown : Result Answer CommandError → Answer → Type 0
 IsShown (Ok answer) printed = printed ≡ answer
-IsShown (Err stop) printed = IsLine stop printed
+IsShown (Err error) printed = IsLine error printed
 
 -- the options are those of another command than judge
 abbrev pub IsNoJudge : Options → Type 0
@@ -162,7 +162,7 @@ PrintsAtOnce words = (o : Options) → AreOptions o (command_of words) → Print
 -- the inputs up to it
 abbrev pub IsPrintedFor : (List ℕ → Option (List ℕ)) → Options → Seen → Answer → Type 0
 IsPrintedFor inputs o s answer = (IsAnswerTo inputs o answer × AreRead (names_of o) s)
-    ⊎ ((stop : CommandError) × IsCommandError inputs o stop × AreStopped (names_of o) stop s × IsLine stop answer)
+    ⊎ ((error : CommandError) × IsCommandError inputs o error × AreStopped (names_of o) error s × IsLine error answer)
 
 -- the lines of recordings and their counts were written, by all of the input
 abbrev pub IsToldFor : (List ℕ → Option (List ℕ)) → Options → Seen → Option (List ℕ) → Option (List ℕ) → Outcome
@@ -185,7 +185,7 @@ IsFaultFor inputs o s fault = IsCommandError inputs o (Fault fault) × AreStoppe
 -- what is printed without options, for which no input is opened: help, or the line of a refusal
 abbrev pub IsPrintedWithout : OptionFault → Seen → Answer → Type 0
 IsPrintedWithout fault s answer =
-    (IsHelp fault answer ⊎ ((stop : CommandError) × IsOptionError fault stop × IsLine stop answer)) × AreRead [] s
+    (IsHelp fault answer ⊎ ((error : CommandError) × IsOptionError fault error × IsLine error answer)) × AreRead [] s
 
 -- what is printed for the words
 abbrev pub IsPrinted : (List ℕ → Option (List ℕ)) → List Text → Seen → Answer → Type 0

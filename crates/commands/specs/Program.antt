@@ -5,7 +5,7 @@ use Rattle.program.specs.Text.{reading}
 use Rattle.commands.specs.declared.command_error.CommandError.{CommandError}
 use Rattle.commands.specs.declared.command_error.CommandError.TheVariants.{Refused, Fault}
 use Rattle.commands.specs.Inputs.{AreBytesOf, IsInputFault}
-use Rattle.answers.specs.Refusals.{line_fault_name}
+use Rattle.answers.specs.Refusals.{line_refusal_name}
 use Rattle.commands.specs.Refusal.{IsReadingError}
 
 -- the input of this name is the text of the program
@@ -19,10 +19,10 @@ abbrev pub IsProgramRead : (List ℕ → Option (List ℕ)) → List ℕ → Typ
 IsProgramRead inputs name = (program : Parts) × IsProgramAt inputs name program
 
 -- the named program is refused
-pub record IsProgramRefused (inputs : List ℕ → Option (List ℕ)) (name : List ℕ) (stop : CommandError) : Type 0 where
+pub record IsProgramRefused (inputs : List ℕ → Option (List ℕ)) (name : List ℕ) (error : CommandError) : Type 0 where
   pub text : List ℕ
   pub given : AreBytesOf inputs name text
-  pub refused : IsReadingError line_fault_name (reading text) stop
+  pub refused : IsReadingError line_refusal_name (reading text) error
 
 -- the named program is refused or isn't read
 abbrev pub IsProgramError : (List ℕ → Option (List ℕ)) → List ℕ → CommandError → Type 0

@@ -14,9 +14,9 @@ pub record IsRecordingAt (inputs : List ℕ → Option (List ℕ)) (name : List 
   pub given : AreBytesOf inputs name bytes
   pub read : IsReadingResult bytes (Ok x)
 
--- the stop is that of the refusal that the bytes have; memory alone is left open
+-- the error is that of the refusal that the bytes have; memory alone is left open
 abbrev pub IsRefusedRecording : List ℕ → CommandError → Type 0
-IsRefusedRecording bytes stop = (fault : RecError) × IsReadingResult bytes (Err fault) × IsRefusedAs fault stop
+IsRefusedRecording bytes error = (fault : RecError) × IsReadingResult bytes (Err fault) × IsRefusedAs fault error
 
 -- the named input is no recording, or isn't read
 abbrev pub IsRecordingError : (List ℕ → Option (List ℕ)) → List ℕ → CommandError → Type 0

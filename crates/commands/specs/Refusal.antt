@@ -24,7 +24,7 @@ step_fault_name S4 = codes "S4"
 abbrev pub refusal_line : List ℕ → ℕ → List ℕ
 refusal_line name k = codes "refused: " ++ name ++ codes " line " ++ decimal k ++ 10 ∷ []
 
--- the stop is that of a text which reads as a fault, or memory ran out
+-- the error is that of a text which reads as a fault, or memory ran out
 abbrev pub IsReadingError : {X F : Type 0} → (F → List ℕ) → Result X (F × ℕ) → CommandError → Type 0
 IsReadingError name (Ok x) (Refused refusal) = ⊥
 IsReadingError name (Err fault) (Refused refusal) = string_bytes refusal.line ≡ refusal_line (name fault.0) fault.1
@@ -51,7 +51,7 @@ option_refusal_name refused.Show = codes "K10"
 abbrev pub option_line : OptionRefusal → List ℕ
 option_line refusal = codes "refused: " ++ option_refusal_name refusal ++ 10 ∷ []
 
--- the stop is that of a refused recording, or memory ran out
+-- the error is that of a refused recording, or memory ran out
 abbrev pub IsRefusedAs : RecError → CommandError → Type 0
 IsRefusedAs fault (Refused refusal) = recording_line fault ≡ Some (string_bytes refusal.line)
 IsRefusedAs fault (Fault other) = other ≡ OutOfMemory

@@ -42,26 +42,26 @@ pub record IsRendered (inputs : List ℕ → Option (List ℕ)) (rendering : Ren
   pub told : IsRenderedBy inputs rendering recording (option_map string_bytes o.program) answer
 
 -- the recording is none of the program of this name; memory alone is left open
-pub record IsOther (inputs : List ℕ → Option (List ℕ)) (x : Execution) (name : List ℕ) (stop : CommandError)
+pub record IsOther (inputs : List ℕ → Option (List ℕ)) (x : Execution) (name : List ℕ) (error : CommandError)
     : Type 0 where
   pub program : Parts
   pub at : IsProgramAt inputs name program
   pub other : ¬ IsProgramOf program x
-  pub stopped : IsLineError (codes "refused: N9" ++ 10 ∷ []) stop
+  pub stopped : IsLineError (codes "refused: N9" ++ 10 ∷ []) error
 
 -- why a recording that is read is not rendered: its program is refused or isn't read, or is another one
 abbrev pub IsNamesError : (List ℕ → Option (List ℕ)) → Execution → Option (List ℕ) → CommandError → Type 0
-IsNamesError inputs x (Some name) stop = IsProgramError inputs name stop ⊎ IsOther inputs x name stop
-IsNamesError inputs x None stop = stop ≡ Fault OutOfMemory
+IsNamesError inputs x (Some name) error = IsProgramError inputs name error ⊎ IsOther inputs x name error
+IsNamesError inputs x None error = error ≡ Fault OutOfMemory
 
 -- the recording of the named input is read, and stops because of its program
-pub record IsStoppedByNames (inputs : List ℕ → Option (List ℕ)) (o : ExplainOptions) (stop : CommandError)
+pub record IsStoppedByNames (inputs : List ℕ → Option (List ℕ)) (o : ExplainOptions) (error : CommandError)
     : Type 0 where
   pub recording : Execution
   pub at : IsRecordingAt inputs (string_bytes o.file) recording
-  pub stops : IsNamesError inputs recording (option_map string_bytes o.program) stop
+  pub stops : IsNamesError inputs recording (option_map string_bytes o.program) error
 
 -- why no recording is rendered: the recording is not read, and then no program is opened, or its program
 abbrev pub IsRenderingError : (List ℕ → Option (List ℕ)) → ExplainOptions → CommandError → Type 0
-IsRenderingError inputs o stop = IsRecordingError inputs (string_bytes o.file) stop
-    ⊎ IsStoppedByNames inputs o stop
+IsRenderingError inputs o error = IsRecordingError inputs (string_bytes o.file) error
+    ⊎ IsStoppedByNames inputs o error

@@ -70,13 +70,13 @@ pub record IsReplayedInput (inputs : List ℕ
   pub answered : IsReplayOf recording answer
 
 -- the addresses of the recording of the named input are not numbered by first use; memory alone is left open
-pub record IsUnnumbered (inputs : List ℕ → Option (List ℕ)) (name : List ℕ) (stop : CommandError) : Type 0 where
+pub record IsUnnumbered (inputs : List ℕ → Option (List ℕ)) (name : List ℕ) (error : CommandError) : Type 0 where
   pub recording : Execution
   pub at : IsRecordingAt inputs name recording
   pub unnumbered : ¬ IsNumberedByFirstUse recording
-  pub stopped : IsLineError (codes "refused: N8" ++ 10 ∷ []) stop
+  pub stopped : IsLineError (codes "refused: N8" ++ 10 ∷ []) error
 
 -- why the recording of the named input is not replayed
 abbrev pub IsReplayError : (List ℕ → Option (List ℕ)) → FileOptions → CommandError → Type 0
-IsReplayError inputs o stop = IsRecordingError inputs (string_bytes o.file) stop
-    ⊎ IsUnnumbered inputs (string_bytes o.file) stop
+IsReplayError inputs o error = IsRecordingError inputs (string_bytes o.file) error
+    ⊎ IsUnnumbered inputs (string_bytes o.file) error

@@ -105,4 +105,4 @@ IsSurveyErrorBy inputs o show (Fault fault) = IsSurveyFault inputs o fault
 
 -- why survey stops
 abbrev pub IsSurveyError : (List ℕ → Option (List ℕ)) → SurveyOptions → CommandError → Type 0
-IsSurveyError inputs o stop = IsSurveyErrorBy inputs o o.show stop
+IsSurveyError inputs o error = IsSurveyErrorBy inputs o o.show error

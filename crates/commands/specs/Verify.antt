@@ -25,5 +25,5 @@ IsTextError inputs name (Fault fault) = IsInputFault inputs name fault
 
 -- why a text is not checked: the recording is refused or isn't read, or the text isn't
 abbrev pub IsVerifyError : (List ℕ → Option (List ℕ)) → VerifyOptions → CommandError → Type 0
-IsVerifyError inputs o stop = IsRecordingError inputs (string_bytes o.recording) stop
-    ⊎ IsTextError inputs (string_bytes o.verdict) stop
+IsVerifyError inputs o error = IsRecordingError inputs (string_bytes o.recording) error
+    ⊎ IsTextError inputs (string_bytes o.verdict) error

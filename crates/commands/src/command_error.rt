@@ -39,7 +39,7 @@ impl From<CommandFault> for CommandError {
     ghost use Rattle.std.specs.Prelude.{◌≡◌};
     ghost use Rattle.commands.specs.declared.command_error.CommandError.TheVariants.{Fault};
 
-    ghost from_gives = { λ fault stop. stop ≡ Fault fault };
+    ghost from_gives = { λ fault error. error ≡ Fault fault };
 
     fn from(fault: CommandFault) -> CommandError {
         CommandError::Fault(fault)
@@ -51,7 +51,7 @@ impl From<OutOfMemory> for CommandError {
     ghost use Rattle.commands.specs.declared.command_error.CommandError.TheVariants.{Fault};
     ghost use Rattle.commands.specs.declared.fault.CommandFault.TheVariants.{OutOfMemory};
 
-    ghost from_gives = { λ _ stop. stop ≡ Fault OutOfMemory };
+    ghost from_gives = { λ _ error. error ≡ Fault OutOfMemory };
 
     fn from(_refused: OutOfMemory) -> CommandError {
         CommandError::Fault(CommandFault::OutOfMemory)
@@ -63,7 +63,7 @@ impl From<AllocError> for CommandError {
     ghost use Rattle.commands.specs.declared.command_error.CommandError.TheVariants.{Fault};
     ghost use Rattle.commands.specs.declared.fault.CommandFault.TheVariants.{OutOfMemory};
 
-    ghost from_gives = { λ _ stop. stop ≡ Fault OutOfMemory };
+    ghost from_gives = { λ _ error. error ≡ Fault OutOfMemory };
 
     fn from(_refused: AllocError) -> CommandError {
         CommandError::Fault(CommandFault::OutOfMemory)
@@ -75,7 +75,7 @@ impl<T: Drop> From<AllocFailed<T>> for CommandError {
     ghost use Rattle.commands.specs.declared.command_error.CommandError.TheVariants.{Fault};
     ghost use Rattle.commands.specs.declared.fault.CommandFault.TheVariants.{OutOfMemory};
 
-    ghost from_gives = { λ _ stop. stop ≡ Fault OutOfMemory };
+    ghost from_gives = { λ _ error. error ≡ Fault OutOfMemory };
 
     fn from(_refused: AllocFailed<T>) -> CommandError {
         CommandError::Fault(CommandFault::OutOfMemory)

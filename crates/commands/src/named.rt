@@ -5,14 +5,14 @@ ghost use Rattle.recorder.specs.Reading.{IsReadingResult};
 ghost use Rattle.commands.specs.Inputs.{CanRead, Reads, seen};
 ghost use Rattle.commands.specs.Program.{IsProgramAt, IsProgramError};
 ghost use Rattle.commands.specs.Recording.{IsRecordingAt, IsRecordingError, IsRefusedRecording};
-ghost use Rattle.answers.specs.Refusals.{line_fault_name};
+ghost use Rattle.answers.specs.Refusals.{line_refusal_name};
 ghost use Rattle.commands.specs.Refusal.{IsReadingError, IsRefusedAs};
 
 use crate::command_error::{CommandError, PrintedRefusal};
 use crate::fault::CommandFault;
 use crate::inputs::text_at;
 use crate::refusal::line_refusal;
-use answers::line_fault_name;
+use answers::line_refusal_name;
 use devices::Place;
 use litmus::parse;
 use program::{LitmusError, Program};
@@ -24,14 +24,14 @@ use std::alloc::{AllocError, Global};
 /// The program of a text, or the refusal of its first line at fault.
 fn program_of(alloc: Global, text: &[u8]) -> Result<Program, CommandError>
     ensures ok { IfOk result (λ program. reading text.now ≡ Ok program) }
-    ensures err { IfErr result (IsReadingError line_fault_name (reading text.now)) }
+    ensures err { IfErr result (IsReadingError line_refusal_name (reading text.now)) }
 {
     match parse(alloc, text) {
         Ok(program) => Ok(program),
         Err(LitmusError::OutOfMemory) => Err(CommandError::Fault(CommandFault::OutOfMemory)),
         Err(LitmusError::AtLine(fault, line)) => Err(CommandError::Refused(line_refusal(
             alloc,
-            line_fault_name(fault),
+            line_refusal_name(fault),
             line,
             text,
         )?)),

@@ -48,7 +48,7 @@ pub fn trials_command<R: Threads + Wait + Sync, P: Place>(
 ) -> Result<Answer, CommandError>
     requires { (rows : List Row) × AreTrialsOptions options.now rows }
     ensures ok { IfOk result (IsTrials options.now) }
-    ensures err { IfErr result (λ stop. stop ≡ Fault OutOfMemory) }
+    ensures err { IfErr result (λ error. error ≡ Fault OutOfMemory) }
 {
     Ok(answer_of(rt, alloc, options, place)?)
 }

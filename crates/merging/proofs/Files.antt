@@ -14,9 +14,9 @@ use Rattle.merging.specs.declared.error.TextError.{TextError}
 use Rattle.merging.specs.declared.error.TextError.TheVariants.{Refused, OutOfMemory}
 use Rattle.merging.specs.declared.kind.Kind.{Kind}
 use Rattle.merging.specs.declared.merged.Merged.{Merged}
-use Rattle.merging.specs.Merges.{IsFileAdded, IsFileFault, IsLocated, IsMerge, IsMergeFault, Refuses}
-use Rattle.merging.specs.Tells.{Tells}
-use Rattle.merging.specs.TellsLaws.{ledger_tells}
+use Rattle.merging.specs.Merges.{IsFileAdded, IsFileError, IsLocated, IsMerge, IsMergingError, Refuses}
+use Rattle.merging.specs.TextOf.{HasTextOf}
+use Rattle.merging.specs.TextOfLaws.{ledger_tells}
 use Rattle.merging.specs.Texts.{AreFiles, IsFile, text_of}
 use Rattle.merging.proofs.UnderWay.{first_text, refuses_more}
 
@@ -28,7 +28,7 @@ pub record AreAdded (kind : Kind) (sum : Ledger) (files : List (List ℕ)) (i : 
       → (lists : List (List ℕ)) × AreFiles kind lists files × (concat lists ≡ done ++ concat back)
   pub only : (later lists : List (List ℕ)) → AreFiles kind lists (take i files ++ later)
       → (front : List ℕ) × (back : List (List ℕ)) × AreFiles kind back later × (concat lists ≡ front ++ concat back)
-      × Tells kind front sum
+      × HasTextOf kind front sum
 
 -- before the first
 pub none_added : (kind : Kind) (sum : Ledger) (files : List (List ℕ)) → IsLedger [] sum → AreAdded kind sum files 0
@@ -112,8 +112,8 @@ all_added m files first i end some at only h =
           let codes : concat others ≡ o.0 = o.3 ∙ ap (λ (l : List ℕ). o.0 ++ l) (none_left m.kind o.1 o.2)
           ∙ append-nil o.0 in (
             same,
-            subst (λ (k : Kind). Tells k (concat others) m.ledger) (sym same)
-                (subst (λ (l : List ℕ). Tells m.kind l m.ledger) (sym codes) o.4),
+            subst (λ (k : Kind). HasTextOf k (concat others) m.ledger) (sym same)
+                (subst (λ (l : List ℕ). HasTextOf m.kind l m.ledger) (sym codes) o.4),
           );
     }
 
@@ -121,10 +121,10 @@ all_added m files first i end some at only h =
 pub file_fault : (kind : Kind) (sum : Ledger) (files : List (List ℕ)) (first : List ℕ) (i : ℕ) (fault : TextError)
     (error : MergeError) → i < length files → get_or files 0 [] ≡ first
     → ((other : Kind) (l : Ledger) (more : List ℕ) → first ≡ text_of other l ++ more → kind ≡ other)
-    → AreAdded kind sum files i → IsFileFault kind sum (get_or files i []) fault → IsLocated fault i error
-    → IsMergeFault files error
+    → AreAdded kind sum files i → IsFileError kind sum (get_or files i []) fault → IsLocated fault i error
+    → IsMergingError files error
 file_fault kind sum files first i OutOfMemory error low at only h fault located =
-    subst (IsMergeFault files) (sym located) tt
+    subst (IsMergingError files) (sym located) tt
 file_fault kind sum files first i (Refused refusal left) errors.OutOfMemory low at only h fault located = absurd located
 file_fault kind sum files first i (Refused refusal left) (errors.Refused same j line) low at only h fault located = (
   omega (arith, low, located.1),

@@ -9,9 +9,9 @@ use Rattle.merging.specs.declared.error.MergeRefusal.TheVariants.{NoLine, NoCode
 use Rattle.merging.specs.declared.error.TextError.{TextError}
 use Rattle.merging.specs.declared.error.TextError.TheVariants.{Refused, OutOfMemory}
 use Rattle.merging.specs.declared.kind.Kind.{Kind}
-use Rattle.merging.specs.Merges.{IsFileAdded, IsFileFault, IsTextAdded, IsTextError, IsNoText, Refuses}
-use Rattle.merging.specs.Tells.{Tells}
-use Rattle.merging.specs.TellsLaws.{ledger_tells}
+use Rattle.merging.specs.Merges.{IsFileAdded, IsFileError, IsTextAdded, IsTextError, IsNoText, Refuses}
+use Rattle.merging.specs.TextOf.{HasTextOf}
+use Rattle.merging.specs.TextOfLaws.{ledger_tells}
 use Rattle.merging.specs.Texts.{AreTexts, Begins, text_of}
 use Rattle.merging.proofs.WholeTexts.{text_some}
 
@@ -23,7 +23,7 @@ pub record AreUnderWay (kind : Kind) (old new : Ledger) (bytes rest : List ℕ) 
       → (lists : List (List ℕ)) × AreTexts kind lists bytes × (concat lists ≡ done ++ concat back)
   pub only : (lists : List (List ℕ)) → AreTexts kind lists bytes
       → (front : List ℕ) × (back : List (List ℕ)) × AreTexts kind back rest × (concat lists ≡ front ++ concat back)
-      × ((earlier : List ℕ) → Tells kind earlier old → Tells kind (earlier ++ front) new)
+      × ((earlier : List ℕ) → HasTextOf kind earlier old → HasTextOf kind (earlier ++ front) new)
 
 -- before the first
 pub begun : (kind : Kind) (old : Ledger) (bytes : List ℕ) → AreUnderWay kind old old bytes bytes
@@ -36,7 +36,7 @@ begun kind old bytes = record {
     lists,
     texts,
     refl,
-    λ earlier is. subst (λ (l : List ℕ). Tells kind l old) (sym (append-nil earlier)) is,
+    λ earlier is. subst (λ (l : List ℕ). HasTextOf kind l old) (sym (append-nil earlier)) is,
   );
 }
 
@@ -66,7 +66,7 @@ text_more kind old mid new bytes rest after some u t = record {
         f.1,
         subst (λ (l : List ℕ). AreTexts kind f.1 l) (sym o.0) f.4,
         w.3 ∙ ap (λ (l : List ℕ). w.0 ++ l) f.5 ∙ sym (append_assoc w.0 f.0 (concat f.1)),
-        λ earlier is. subst (λ (l : List ℕ). Tells kind l new) (append_assoc earlier w.0 f.0)
+        λ earlier is. subst (λ (l : List ℕ). HasTextOf kind l new) (append_assoc earlier w.0 f.0)
             (o.1 (earlier ++ w.0) (w.4 earlier is)),
       );
 }
@@ -92,7 +92,7 @@ ended kind old new bytes some u none = let w = u.whole [] refl in record {
   only = λ others file earlier is. let o = u.only file.lists file.texts in
       let all : others ≡ o.0 = file.joined ∙ o.3
       ∙ ap (λ (l : List ℕ). o.0 ++ l) (none_left kind o.1 o.2 none) ∙ append-nil o.0 in
-      subst (λ (l : List ℕ). Tells kind (earlier ++ l) new) (sym all) (o.4 earlier is);
+      subst (λ (l : List ℕ). HasTextOf kind (earlier ++ l) new) (sym all) (o.4 earlier is);
 }
 
 -- more codes are refused as fewer are
@@ -105,7 +105,7 @@ refuses_more OtherKind m n within is = is
 -- a fault of a text is one of its file
 pub text_fault : (kind : Kind) (old mid : Ledger) (bytes rest : List ℕ) (fault : TextError) (codes : List ℕ) → rest ≢ []
     → AreUnderWay kind old mid bytes rest → IsLedger codes old → IsTextError kind mid rest fault
-    → IsFileFault kind old bytes fault
+    → IsFileError kind old bytes fault
 text_fault kind old mid bytes rest OutOfMemory codes some u is fault = tt
 text_fault kind old mid bytes rest (Refused refusal left) codes some u is fault = λ others file.
     let o = u.only file.lists file.texts in
@@ -126,7 +126,7 @@ text_fault kind old mid bytes rest (Refused refusal left) codes some u is fault 
 
 -- an empty file has no text
 pub empty_fault : (kind : Kind) (old : Ledger) (bytes : List ℕ) (refusal : MergeRefusal) (left : ℕ) → bytes ≡ []
-    → IsFileFault kind old bytes (Refused refusal left)
+    → IsFileError kind old bytes (Refused refusal left)
 empty_fault kind old bytes refusal left none = λ codes file. absurd (file.some none)
 
 -- no text is unread where none begins

@@ -16,8 +16,8 @@ use Rattle.report.specs.Counted.{count_line, cycle_lines, first_line, ledger_tex
 use Rattle.merging.specs.declared.kind.Kind.{Kind}
 use Rattle.merging.specs.declared.kind.Kind.TheVariants.{Campaign, Survey}
 use Rattle.merging.specs.Parts.{HasSameCounts, Is64BitLedger, Is64BitPlace, count_lines, other_place, place_beside}
-use Rattle.merging.specs.Parts.{tail, told_place}
-use Rattle.merging.specs.Tells.{Tells, TellsUnjudged}
+use Rattle.merging.specs.Parts.{tail, place_read}
+use Rattle.merging.specs.TextOf.{HasTextOf, HasUnjudgedOf}
 use Rattle.merging.specs.Texts.{all_name, noun, text_of, unjudged_name}
 use Rattle.merging.proofs.LineTexts.{first_then}
 
@@ -128,7 +128,7 @@ beside_fits u total ordered violations first sums fits = elim (cases_lt 0 u) [
 -- a text that some codes have is that of the ledger of some codes, which is read of it
 pub real_again : (kind : Kind) (codes : List ℕ) (l m : Ledger) → IsLedger codes m
     → length l.cycles.items ≡ MAX_EVENTS + 1 → HasSameCounts l m
-    → l.first_unjudged ≡ told_place kind (place_beside l.first l.unjudged) m.first_unjudged → HasCodes l
+    → l.first_unjudged ≡ place_read kind (place_beside l.first l.unjudged) m.first_unjudged → HasCodes l
 real_again Campaign codes l m is size same place =
     let fits = firsts_fit codes m is in
     let sums : AddsUp l = sums_again l m same (adds_up codes m is) in
@@ -158,7 +158,7 @@ real_again Survey codes l m is size same place = record {
 -- and it tells of these codes
 pub tells_again : (kind : Kind) (codes : List ℕ) (l m : Ledger) → IsLedger codes m
     → length l.cycles.items ≡ MAX_EVENTS + 1 → HasSameCounts l m
-    → l.first_unjudged ≡ told_place kind (place_beside l.first l.unjudged) m.first_unjudged → Tells kind codes l
+    → l.first_unjudged ≡ place_read kind (place_beside l.first l.unjudged) m.first_unjudged → HasTextOf kind codes l
 tells_again kind codes l m is size same place = record {
   total = same.total ∙ is.total;
   ordered = same.ordered ∙ is.ordered;
@@ -170,8 +170,8 @@ tells_again kind codes l m is size same place = record {
   first_unjudged = go kind place;
 }
   where
-    go : (kind : Kind) → l.first_unjudged ≡ told_place kind (place_beside l.first l.unjudged) m.first_unjudged
-        → TellsUnjudged kind codes l
+    go : (kind : Kind) → l.first_unjudged ≡ place_read kind (place_beside l.first l.unjudged) m.first_unjudged
+        → HasUnjudgedOf kind codes l
     go Campaign place = tt
     go Survey place = place ∙ is.first_unjudged
 

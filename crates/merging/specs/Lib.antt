@@ -1,6 +1,6 @@
 pub mod Digits
 pub mod Texts
-pub mod Tells
+pub mod TextOf
 pub mod Merges
 pub mod Parts
-pub mod TellsLaws
+pub mod TextOfLaws

@@ -11,7 +11,7 @@ use Rattle.merging.specs.declared.error.TextError.{TextError}
 use Rattle.merging.specs.declared.error.TextError.TheVariants.{Refused, OutOfMemory}
 use Rattle.merging.specs.declared.kind.Kind.{Kind}
 use Rattle.merging.specs.declared.merged.Merged.{Merged}
-use Rattle.merging.specs.Tells.{Tells}
+use Rattle.merging.specs.TextOf.{HasTextOf}
 use Rattle.merging.specs.Texts.{AreFiles, Begins, IsFile}
 
 -- the codes, which are so many, are refused: there are too many, and by no other number
@@ -26,7 +26,7 @@ pub record IsTextRead (kind : Kind) (before after : List ℕ) (ledger : Ledger) 
   pub codes : List ℕ
   pub begins : Begins kind codes before after
   pub is : IsLedger codes ledger
-  pub only : (others more : List ℕ) → Begins kind others before more → (after ≡ more) × Tells kind others ledger
+  pub only : (others more : List ℕ) → Begins kind others before more → (after ≡ more) × HasTextOf kind others ledger
 
 -- no text of the kind begins the bytes, or there is no memory
 abbrev pub IsNoText : Kind → List ℕ → TextError → Type 0
@@ -39,7 +39,7 @@ pub record IsTextAdded (kind : Kind) (old new : Ledger) (before after : List ℕ
   pub begins : Begins kind codes before after
   pub sum : (earlier : List ℕ) → IsLedger earlier old → IsLedger (earlier ++ codes) new
   pub only : (others more : List ℕ) → Begins kind others before more → (after ≡ more)
-      × ((earlier : List ℕ) → Tells kind earlier old → Tells kind (earlier ++ others) new)
+      × ((earlier : List ℕ) → HasTextOf kind earlier old → HasTextOf kind (earlier ++ others) new)
 
 -- why they are not
 abbrev pub IsTextError : Kind → Ledger → List ℕ → TextError → Type 0
@@ -52,13 +52,13 @@ pub record IsFileAdded (kind : Kind) (old new : Ledger) (bytes : List ℕ) : Typ
   pub codes : List ℕ
   pub file : IsFile kind codes bytes
   pub sum : (earlier : List ℕ) → IsLedger earlier old → IsLedger (earlier ++ codes) new
-  pub only : (others : List ℕ) → IsFile kind others bytes → (earlier : List ℕ) → Tells kind earlier old
-      → Tells kind (earlier ++ others) new
+  pub only : (others : List ℕ) → IsFile kind others bytes → (earlier : List ℕ) → HasTextOf kind earlier old
+      → HasTextOf kind (earlier ++ others) new
 
 -- why they are not
-abbrev pub IsFileFault : Kind → Ledger → List ℕ → TextError → Type 0
-IsFileFault kind old bytes OutOfMemory = ⊤
-IsFileFault kind old bytes (Refused refusal left) = (codes : List ℕ) → IsFile kind codes bytes
+abbrev pub IsFileError : Kind → Ledger → List ℕ → TextError → Type 0
+IsFileError kind old bytes OutOfMemory = ⊤
+IsFileError kind old bytes (Refused refusal left) = (codes : List ℕ) → IsFile kind codes bytes
     → Refuses refusal (old.total + length codes)
 
 -- the files are texts of one kind, of the codes of this ledger; and whatever codes' texts they are, the ledger tells of
@@ -68,13 +68,13 @@ pub record IsMerge (files : List (List ℕ)) (m : Merged) : Type 0 where
   pub files_are : AreFiles m.kind codes files
   pub ledger : IsLedger (concat codes) m.ledger
   pub only : (kind : Kind) (others : List (List ℕ)) → AreFiles kind others files → (kind ≡ m.kind)
-      × Tells kind (concat others) m.ledger
+      × HasTextOf kind (concat others) m.ledger
 
 -- the files up to this one are no texts of one kind, or of 2^64 codes or more, whatever comes after them; or there is
 -- no memory
-abbrev pub IsMergeFault : List (List ℕ) → MergeError → Type 0
-IsMergeFault files errors.OutOfMemory = ⊤
-IsMergeFault files (errors.Refused refusal file line) = (file < length files)
+abbrev pub IsMergingError : List (List ℕ) → MergeError → Type 0
+IsMergingError files errors.OutOfMemory = ⊤
+IsMergingError files (errors.Refused refusal file line) = (file < length files)
     × ((kind : Kind) (codes later : List (List ℕ)) → AreFiles kind codes (take (file + 1) files ++ later)
     → Refuses refusal (length (concat codes)))
 

@@ -61,6 +61,6 @@ abbrev pub place_beside : Option ℕ → ℕ → Option ℕ
 place_beside first unjudged = if unjudged == 0 then None else Some (other_place first)
 
 -- the first place of what has no verdict: of a survey as it is told, of a campaign another one
-abbrev pub told_place : Kind → Option ℕ → Option ℕ → Option ℕ
-told_place Campaign other told = other
-told_place Survey other told = told
+abbrev pub place_read : Kind → Option ℕ → Option ℕ → Option ℕ
+place_read Campaign other told = other
+place_read Survey other told = told

@@ -2,7 +2,7 @@
 
 ghost use Rattle.std.specs.Prelude.{◌≡◌, ◌<◌, IfErr, IfOk, length, map};
 ghost use Rattle.ledger.specs.Real.{HasCodes};
-ghost use Rattle.merging.specs.Merges.{IsFileAdded, IsFileFault, IsMerge, IsMergeFault, IsTextAdded, IsTextError};
+ghost use Rattle.merging.specs.Merges.{IsFileAdded, IsFileError, IsMerge, IsMergingError, IsTextAdded, IsTextError};
 ghost use Rattle.merging.specs.Merges.{IsLocated};
 
 use crate::cursor::Cursor;
@@ -51,7 +51,7 @@ fn add_text(
 fn add_file(alloc: Global, kind: Kind, sum: &mut Ledger, bytes: &[u8]) -> Result<(), TextError>
     requires { HasCodes sum.old }
     ensures ok { IfOk result (λ _. IsFileAdded kind sum.old sum.new bytes.now) }
-    ensures err { IfErr result (IsFileFault kind sum.old bytes.now) }
+    ensures err { IfErr result (IsFileError kind sum.old bytes.now) }
 {
     if bytes.is_empty() {
         return Err(TextError::Refused {
@@ -94,7 +94,7 @@ fn located(fault: TextError, file: usize, text: &[u8]) -> MergeError
 pub fn merge(alloc: Global, files: &[Vec<u8>]) -> Result<Merged, MergeError>
     requires { 0 < length files.now }
     ensures ok { IfOk result (IsMerge (map (λ v. v.items) files.now)) }
-    ensures err { IfErr result (IsMergeFault (map (λ v. v.items) files.now)) }
+    ensures err { IfErr result (IsMergingError (map (λ v. v.items) files.now)) }
 {
     let kind = Kind::of(files[0].as_slice());
     let Ok(mut sum) = Ledger::count(alloc, &[]) else {

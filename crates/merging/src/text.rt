@@ -7,7 +7,7 @@ ghost use Rattle.ledger.specs.declared.ledger.Ledger.{Ledger as Book};
 ghost use Rattle.report.specs.Counted.{ledger_text};
 ghost use Rattle.merging.specs.Merges.{IsTextRead, IsNoText};
 ghost use Rattle.merging.specs.Parts.{HasSameCounts, Is64BitLedger, Is64BitPlace, count_lines, place_beside, tail};
-ghost use Rattle.merging.specs.Parts.{told_place};
+ghost use Rattle.merging.specs.Parts.{place_read};
 ghost use Rattle.merging.specs.Texts.{all_name, noun, text_of, unjudged_name};
 
 use crate::cursor::Cursor;
@@ -56,7 +56,7 @@ fn counts(rest: &mut Cursor<'_>, kind: Kind) -> Option<FirstCounts>
 }
 
 /// Takes all lines up to that of the first violation. Fails only if out of memory.
-fn told(rest: &mut Cursor<'_>, alloc: Global, kind: Kind) -> Result<Option<Ledger>, OutOfMemory>
+fn counted(rest: &mut Cursor<'_>, alloc: Global, kind: Kind) -> Result<Option<Ledger>, OutOfMemory>
     ensures found { IfOk result (λ r. IfSome r (λ l. (length l.cycles.items ≡ MAX_EVENTS + 1)
         × (rest.old ≡ ledger_text (all_name kind) (unjudged_name kind) (noun kind) l ++ rest.new))) }
     ensures only { IfOk result (λ r. (l : Book) (more : List ℕ) → Is64BitLedger l
@@ -100,7 +100,7 @@ fn place_beside(first: Option<usize>, unjudged: usize) -> Option<usize>
 fn unjudged_place(rest: &mut Cursor<'_>, kind: Kind, other: Option<usize>) -> Option<Option<usize>>
     ensures found { IfSome result (λ place. rest.old ≡ tail kind place ++ rest.new) }
     ensures only { (place : Option ℕ) (more : List ℕ) → Is64BitPlace place → rest.old ≡ tail kind place ++ more
-        → (result ≡ Some (told_place kind other place)) × (rest.new ≡ more) }
+        → (result ≡ Some (place_read kind other place)) × (rest.new ≡ more) }
 {
     match kind {
         Kind::Campaign => Some(other),
@@ -114,9 +114,10 @@ fn whole(rest: &mut Cursor<'_>, alloc: Global, kind: Kind) -> Result<Option<Ledg
         × (rest.old ≡ text_of kind l ++ rest.new))) }
     ensures only { IfOk result (λ r. (l : Book) (more : List ℕ) → Is64BitLedger l → rest.old ≡ text_of kind l ++ more
         → MatchOption r ⊥ (λ m. HasSameCounts m l
-        × (m.first_unjudged ≡ told_place kind (place_beside m.first m.unjudged) l.first_unjudged)) × (rest.new ≡ more)) }
+        × (m.first_unjudged ≡ place_read kind (place_beside m.first m.unjudged) l.first_unjudged))
+        × (rest.new ≡ more)) }
 {
-    let Some(mut ledger) = told(rest, alloc, kind)? else {
+    let Some(mut ledger) = counted(rest, alloc, kind)? else {
         return Ok(None);
     };
     let other = place_beside(ledger.first, ledger.unjudged);

@@ -5,7 +5,7 @@ ghost use Rattle.judge.specs.Judgement.{IsVerdict, Verifies};
 ghost use Rattle.report.specs.Answer.{IsVerdictAnswer, outcome_of};
 
 use crate::outcome::Outcome;
-use crate::verdict::verdict_text;
+use crate::verdict::put_verdict;
 use common::OutOfMemory;
 use judge::Verdict;
 use recording::Recording;
@@ -52,8 +52,7 @@ pub fn verdict_answer(
     requires verified { Verifies recording.now verdict.now }
     ensures { IfOk result (IsVerdictAnswer recording.now text.items) }
 {
-    let lines = verdict_text(alloc, recording, verdict)?;
-    text.extend_from_slice(&lines)?;
+    put_verdict(alloc, &mut text, recording, verdict)?;
     let outcome = outcome_of(verdict);
     Ok(Answer { outcome, text })
 }

@@ -1,6 +1,6 @@
 //! The text of a verdict.
 
-ghost use Rattle.std.specs.Prelude.{◌≡◌, ◌++◌, IfOk, OnOk};
+ghost use Rattle.std.specs.Prelude.{◌≡◌, ◌++◌, ℕ, List, IfOk, OnOk};
 ghost use Rattle.judge.specs.Judgement.{Verifies};
 ghost use Rattle.report.specs.VerdictText.{order_line, overlook_line, IsVerdictText};
 
@@ -34,9 +34,31 @@ pub fn put_overlook(out: &mut Vec<u8>, load: EventId, store: EventId) -> Result<
     Ok(())
 }
 
+/// Adds the text of a verdict that holds of the recording: the line of an order or of an overlook, or a cycle, with the
+/// first reason for each pair, and the labels of each event.
+pub(crate) fn put_verdict(
+    alloc: Global,
+    out: &mut Vec<u8>,
+    recording: &Recording,
+    verdict: &Verdict,
+) -> Result<(), OutOfMemory>
+    requires { Verifies recording.now verdict.now }
+    ensures { OnOk result ((text : List ℕ) × IsVerdictText recording.now verdict.now text
+        × (out.new.items ≡ out.old.items ++ text)) }
+{
+    recording.sound();
+    match verdict {
+        Verdict::Ordered(order) => put_order(out, order),
+        Verdict::Overlook { load, store } => put_overlook(out, *load, *store),
+        Verdict::Cycle(certificate) => {
+            let places = Places::of(alloc, recording)?;
+            put_cycle(alloc, out, &places, certificate)
+        }
+    }
+}
+
 /// The text of a verdict that holds of the recording: the line of an order or of an overlook, or a
-/// cycle, with the first reason for each pair, and the labels of each event. An error is want of
-/// memory.
+/// cycle, with the first reason for each pair, and the labels of each event. Fails only if out of memory.
 pub fn verdict_text(
     alloc: Global,
     recording: &Recording,
@@ -45,15 +67,7 @@ pub fn verdict_text(
     requires { Verifies recording.now verdict.now }
     ensures { IfOk result (λ text. IsVerdictText recording.now verdict.now text.items) }
 {
-    recording.sound();
     let mut out = Vec::new(alloc);
-    match verdict {
-        Verdict::Ordered(order) => put_order(&mut out, order)?,
-        Verdict::Overlook { load, store } => put_overlook(&mut out, *load, *store)?,
-        Verdict::Cycle(certificate) => {
-            let places = Places::of(alloc, recording)?;
-            put_cycle(alloc, &mut out, &places, certificate)?
-        }
-    }
+    put_verdict(alloc, &mut out, recording, verdict)?;
     Ok(out)
 }

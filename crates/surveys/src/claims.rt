@@ -1,15 +1,15 @@
 //! Lines that workers claim one at a time.
 
 ghost use Rattle.std.specs.Prelude.{◌≡◌, ◌<◌, All, IfOk, IfSome, length};
+ghost use denote.Param.Send.{IsSync};
 ghost use Rattle.surveys.specs.Claims.{AreClaims, IsFoundAt};
 
 use crate::judged::finding_of_line;
-use common::{Gate, OutOfMemory};
+use common::{Gate, MAX_WORKERS, OutOfMemory};
 use ledger::Finding;
 use std::alloc::Global;
 use std::sync::atomic::{AtomicUsize, Ordering};
-use std::thread;
-use std::thread::Threads;
+use std::thread::{Threads, join};
 
 /// A line that a worker claimed, and what it found there.
 #[derive(Clone, Copy, Drop)]
@@ -82,8 +82,46 @@ fn judge_claims<G: Gate>(
     claims
 }
 
-/// What this many workers find in the lines that they claim, the first of which has this number. Fails only if
-/// out of memory.
+/// What the workers from one on, of this many, find in the lines that they claim. The calling thread starts a thread
+/// for each but the last, which it is itself, so that none waits for another one to start it.
+#[cycle(workers)]
+fn claims_from<R: Threads + Sync, G: Gate>(
+    rt: &R,
+    alloc: Global,
+    lines: &[&[u8]],
+    next: &AtomicUsize,
+    first: usize,
+    gate: &G,
+    worker: usize,
+    workers: usize,
+) -> Result<Vec<Vec<Claim>>, OutOfMemory>
+    requires { worker < workers }
+    ensures { IfOk result
+        (λ claims_of_workers. All (λ claims_of_one. AreClaims lines.now claims_of_one.items) claims_of_workers.items) }
+{
+    let after = worker + 1;
+    if after == workers {
+        let mut claims_of_workers = Vec::with_capacity(alloc, workers)?;
+        claims_of_workers.push(judge_claims(alloc, lines, next, first, gate, worker))?;
+        return Ok(claims_of_workers);
+    }
+    let one = || -> Vec<Claim>
+        requires { IsSync G.row }
+        ensures { AreClaims lines.entry.now result.items }
+    { judge_claims(alloc, lines, next, first, gate, worker) };
+    let others = || -> Result<Vec<Vec<Claim>>, OutOfMemory>
+        requires { IsSync R.row × IsSync G.row × (after < workers) }
+        ensures { IfOk result (λ claims_of_workers.
+            All (λ claims_of_one. AreClaims lines.entry.now claims_of_one.items) claims_of_workers.items) }
+    { claims_from(rt, alloc, lines, next, first, gate, after, workers) };
+    let (claims, rest) = join(rt, one, others);
+    let mut claims_of_workers = rest?;
+    claims_of_workers.push(claims)?;
+    Ok(claims_of_workers)
+}
+
+/// What this many workers, at most `MAX_WORKERS`, find in the lines that they claim, the first of which has this number.
+/// Fails only if out of memory.
 pub(crate) fn claims_by<R: Threads + Sync, G: Gate>(
     rt: &R,
     alloc: Global,
@@ -95,12 +133,18 @@ pub(crate) fn claims_by<R: Threads + Sync, G: Gate>(
     ensures { IfOk result
         (λ claims_of_workers. All (λ claims_of_one. AreClaims lines.now claims_of_one.items) claims_of_workers.items) }
 {
+    if workers == 0 {
+        return Ok(Vec::new(alloc));
+    }
     let next = AtomicUsize::new(0);
-    let claims_of_workers = thread::map_indices(
+    claims_from(
         rt,
         alloc,
-        workers,
-        &|worker| { judge_claims(alloc, lines, &next, first, gate, worker) },
-    )?;
-    Ok(claims_of_workers)
+        lines,
+        &next,
+        first,
+        gate,
+        0,
+        workers.min(MAX_WORKERS),
+    )
 }

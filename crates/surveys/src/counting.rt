@@ -21,7 +21,7 @@ use std::alloc::Global;
 use std::thread::Threads;
 
 /// How many lines are judged at once at most.
-const LINES: usize = 16_384;
+const LINES: usize = 65_536;
 
 /// The same where each is told as soon as those before it are judged.
 const TOLD_LINES: usize = 64;
@@ -87,9 +87,9 @@ fn all_findings(
     Ok(findings)
 }
 
-/// What is found in lines, in order, by this many workers. Each claims a line at a time, and what they leave out
-/// the calling thread judges, which is a worker too. The gate is told of each claim, each
-/// violation and each end, by the number of the line, where the first has this one. Fails only if out of memory.
+/// What is found in lines, in order, by this many workers, at most `MAX_WORKERS`. Each claims a line at a time, and what
+/// they leave out the calling thread judges, which is a worker too. The gate is told of each claim, each violation and
+/// each end, by the number of the line, where the first has this one. Fails only if out of memory.
 pub fn findings_of<R: Threads + Sync, G: Gate>(
     rt: &R,
     alloc: Global,

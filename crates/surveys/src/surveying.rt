@@ -14,7 +14,7 @@ ghost use Rattle.surveys.specs.Tallies.{Ends, Grows, IsTallied, IsTally};
 use crate::ahead::count_ahead;
 use crate::counting::count_all;
 use crate::error::SurveyError;
-use crate::filling::{PIECE, fill, keep_rest, last_end};
+use crate::filling::{BLOCK, PIECE, fill, keep_rest, last_end};
 use crate::law::a_survey_is_one;
 use common::Gate;
 use devices::{Sink, Source};
@@ -121,7 +121,7 @@ fn count_blocks<T: Threads + Sync, R: Source, W: Sink, G: Gate>(
     let mut block = Vec::new(alloc);
     let mut counted = 0;
     let mut seen = 0;
-    'filled: while fill(source, piece, &mut block, each)? {
+    'filled: while fill(source, piece, &mut block, BLOCK, each)? {
         counted = count_whole(
             rt, alloc, sink, each, ledger, counted, &mut block, seen, workers, gate,
         )?;
@@ -133,8 +133,8 @@ fn count_blocks<T: Threads + Sync, R: Source, W: Sink, G: Gate>(
     Ok(())
 }
 
-/// Reads the lines of a source to its end, a recording each, judges them by this many workers, and counts them in
-/// order; where each is told, its line is written to the sink. With one worker, or where each is told, the calling
+/// Reads the lines of a source to its end, a recording each, judges them by this many workers, at most `MAX_WORKERS`,
+/// and counts them in order; where each is told, its line is written to the sink. With one worker, or where each is told, the calling
 /// thread is a worker. Else it reads the next block while they judge one, each in a thread of its own where one can be
 /// made. The gate is told as by `findings_of`, by the numbers of the recordings, from 0. `ReadFailed` exactly where a
 /// read failed, and `WriteFailed` where a write did; where none is told, nothing is written. The memory is that of two

@@ -1,7 +1,7 @@
 -- Why the text of a program is refused.
 use Rattle.std.specs.Prelude.{◌≡◌, ◌⊎◌, ◌++◌, ◌∷◌, [], ℕ, List, Ok, Err, codes, decimal}
 use Rattle.program.specs.declared.refusal.LineRefusal.{LineRefusal}
-use Rattle.answers.specs.Refusals.{line_fault_name}
+use Rattle.answers.specs.Refusals.{line_refusal_name}
 use Rattle.program.specs.Parts.{Parts}
 use Rattle.program.specs.Text.{reading}
 use Rattle.recording.specs.Execution.{Execution}
@@ -11,7 +11,7 @@ use Rattle.report.specs.declared.printed.Answer.{Answer}
 
 -- the line that is printed for line k of a program
 abbrev pub refusal_line : LineRefusal → ℕ → List ℕ
-refusal_line fault k = codes "refused: " ++ line_fault_name fault ++ codes " line " ++ decimal k ++ 10 ∷ []
+refusal_line fault k = codes "refused: " ++ line_refusal_name fault ++ codes " line " ++ decimal k ++ 10 ∷ []
 
 -- the first line of the text at fault
 pub record IsLineRefused (text : List ℕ) (answer : Answer) : Type 0 where

@@ -3,7 +3,7 @@
 ghost use Rattle.std.specs.Prelude.{◌≡◌, IfOk, string_bytes};
 ghost use Rattle.tsotest_library.specs.Refused.{refusal_line};
 
-use answers::line_fault_name;
+use answers::line_refusal_name;
 use program::LineRefusal;
 use std::alloc::{AllocError, Global};
 
@@ -15,6 +15,6 @@ pub(crate) fn refusal_line(
 ) -> Result<String, AllocError>
     ensures { IfOk result (λ text. string_bytes text ≡ refusal_line fault line) }
 {
-    let name = line_fault_name(fault);
+    let name = line_refusal_name(fault);
     format!(in alloc; "refused: {name} line {line}\n")
 }

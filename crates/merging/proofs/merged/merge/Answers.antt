@@ -1,6 +1,6 @@
 use Rattle.std.proofs.Common.{◌≡◌, ◌∙◌, ℕ, List, arith, length, map, subst, sym}
 use Rattle.std.proofs.lemmas.List.{length-map}
-use Rattle.merging.specs.Merges.{IsFileAdded, IsFileFault}
+use Rattle.merging.specs.Merges.{IsFileAdded, IsFileError}
 use Rattle.merging.proofs.Files.{all_added, bytes_at, file_fault, file_more}
 use Rattle.merging.proofs.merged.merge.Goals as goal
 
@@ -14,7 +14,7 @@ returns-in-Err-clause-err c =
     ∙ bytes_at c.args.files.now c.loop-i.i c.index-files-i.result (omega arith) c.index-files-i.is in
     file_fault c.of-kind.result c.loop-i.sum files c.as_slice.result.now c.loop-i.i c.in-Err.fault c.located.result
     (omega (arith, some)) first c.of-kind.ensures c.loop-i.invariant
-    (subst (λ (l : List ℕ). IsFileFault c.of-kind.result c.loop-i.sum l c.in-Err.fault) bytes c.in-Err.ensures.err)
+    (subst (λ (l : List ℕ). IsFileError c.of-kind.result c.loop-i.sum l c.in-Err.fault) bytes c.in-Err.ensures.err)
     c.located.ensures
 
 pub loop-i-preserved : goal.loop-i-preserved

@@ -1,6 +1,6 @@
 use Rattle.std.proofs.Common.{◌++◌, ◌∙◌, ℕ, List, Option, ap, sym}
 use Rattle.report.specs.Counted.{ledger_text}
-use Rattle.merging.specs.Parts.{tail, told_place}
+use Rattle.merging.specs.Parts.{tail, place_read}
 use Rattle.merging.specs.Texts.{all_name, noun, unjudged_name}
 use Rattle.merging.proofs.WholeTexts.{same_some, text_then}
 use Rattle.merging.proofs.text.whole.Goals as goal
@@ -17,7 +17,7 @@ returns-in_default-unjudged_place-clause-only c l more short is =
     (is ∙ text_then c.args.kind l more) in
     let place = c.unjudged_place.ensures.only l.first_unjudged more short.first_unjudged read.1 in
     absurd (c.in_default-unjudged_place.not-Some
-    (told_place c.args.kind c.place_beside-other.result l.first_unjudged) place.0)
+    (place_read c.args.kind c.place_beside-other.result l.first_unjudged) place.0)
 
 pub returns-clause-found : goal.returns-clause-found
 returns-clause-found c =
@@ -47,7 +47,7 @@ returns-clause-only c l more short is =
           first = same.first;
         },
         same_some c.in-Some-unjudged_place.place _ (sym c.in-Some-unjudged_place.is ∙ place.0)
-            ∙ ap (λ (o : Option ℕ). told_place c.args.kind o l.first_unjudged) c.place_beside-other.ensures,
+            ∙ ap (λ (o : Option ℕ). place_read c.args.kind o l.first_unjudged) c.place_beside-other.ensures,
       ),
       place.1,
     )

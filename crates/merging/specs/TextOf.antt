@@ -8,12 +8,12 @@ use Rattle.merging.specs.declared.kind.Kind.{Kind}
 use Rattle.merging.specs.declared.kind.Kind.TheVariants.{Campaign, Survey}
 
 -- the first place of what has no verdict, which the text of a campaign doesn't tell
-abbrev pub TellsUnjudged : Kind → List ℕ → Ledger → Type 0
-TellsUnjudged Campaign codes l = ⊤
-TellsUnjudged Survey codes l = l.first_unjudged ≡ position is_unjudged codes
+abbrev pub HasUnjudgedOf : Kind → List ℕ → Ledger → Type 0
+HasUnjudgedOf Campaign codes l = ⊤
+HasUnjudgedOf Survey codes l = l.first_unjudged ≡ position is_unjudged codes
 
 -- the text of the ledger is that of the ledger of these codes
-pub record Tells (kind : Kind) (codes : List ℕ) (l : Ledger) : Type 0 where
+pub record HasTextOf (kind : Kind) (codes : List ℕ) (l : Ledger) : Type 0 where
   pub total : l.total ≡ length codes
   pub ordered : l.ordered ≡ count_by is_ordered codes
   pub unjudged : l.unjudged ≡ count_by is_unjudged codes
@@ -21,4 +21,4 @@ pub record Tells (kind : Kind) (codes : List ℕ) (l : Ledger) : Type 0 where
   pub lengths : length l.cycles.items ≡ MAX_EVENTS + 1
   pub cycles : AreCounts codes l.cycles.items
   pub first : l.first ≡ position is_violation codes
-  pub first_unjudged : TellsUnjudged kind codes l
+  pub first_unjudged : HasUnjudgedOf kind codes l

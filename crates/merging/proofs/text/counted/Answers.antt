@@ -4,7 +4,7 @@ use Rattle.report.specs.Counted.{cycle_lines}
 use Rattle.merging.specs.Parts.{count_lines}
 use Rattle.merging.specs.Texts.{noun}
 use Rattle.merging.proofs.WholeTexts.{first_back, first_begins, ledger_then, same_some}
-use Rattle.merging.proofs.text.told.Goals as goal
+use Rattle.merging.proofs.text.counted.Goals as goal
 
 pub returns-in_default-clause-only : goal.returns-in_default-clause-only
 returns-in_default-clause-only c l more short is =

@@ -9,11 +9,11 @@ use Rattle.ledger.specs.Joined.{IsJoined}
 use Rattle.ledger.specs.LedgerLaws.{joined, position_append}
 use Rattle.merging.specs.declared.kind.Kind.{Kind}
 use Rattle.merging.specs.declared.kind.Kind.TheVariants.{Campaign, Survey}
-use Rattle.merging.specs.Tells.{Tells, TellsUnjudged}
+use Rattle.merging.specs.TextOf.{HasTextOf, HasUnjudgedOf}
 use Rattle.merging.specs.Texts.{text_of}
 
 -- a ledger tells of its codes
-pub ledger_tells : (kind : Kind) (codes : List ℕ) (l : Ledger) → IsLedger codes l → Tells kind codes l
+pub ledger_tells : (kind : Kind) (codes : List ℕ) (l : Ledger) → IsLedger codes l → HasTextOf kind codes l
 ledger_tells kind codes l is = record {
   total = is.total;
   ordered = is.ordered;
@@ -25,7 +25,7 @@ ledger_tells kind codes l is = record {
   first_unjudged = go kind;
 }
   where
-    go : (kind : Kind) → TellsUnjudged kind codes l
+    go : (kind : Kind) → HasUnjudgedOf kind codes l
     go Campaign = tt
     go Survey = is.first_unjudged
 
@@ -42,7 +42,7 @@ whole codes l = record {
 }
 
 -- is that of the codes of which a ledger tells
-whole_is : (kind : Kind) (codes : List ℕ) (l : Ledger) → Tells kind codes l → IsLedger codes (whole codes l)
+whole_is : (kind : Kind) (codes : List ℕ) (l : Ledger) → HasTextOf kind codes l → IsLedger codes (whole codes l)
 whole_is kind codes l t = record {
   total = t.total;
   ordered = t.ordered;
@@ -55,8 +55,8 @@ whole_is kind codes l t = record {
 }
 
 -- so the sum of two that tell of codes tells of both lists of them, since that of two ledgers is the ledger of both
-pub sum_tells : (kind : Kind) (xs ys : List ℕ) (l m both : Ledger) → Tells kind xs l → Tells kind ys m
-    → IsJoined l m both → Tells kind (xs ++ ys) both
+pub sum_tells : (kind : Kind) (xs ys : List ℕ) (l m both : Ledger) → HasTextOf kind xs l → HasTextOf kind ys m
+    → IsJoined l m both → HasTextOf kind (xs ++ ys) both
 sum_tells kind xs ys l m both a b j =
     let law = position_append is_unjudged xs ys in
     let sum = joined xs ys (whole xs l) (whole ys m) (whole (xs ++ ys) both) (whole_is kind xs l a)
@@ -81,7 +81,7 @@ sum_tells kind xs ys l m both a b j =
       first_unjudged = go kind a.first_unjudged b.first_unjudged;
     }
   where
-    go : (kind : Kind) → TellsUnjudged kind xs l → TellsUnjudged kind ys m → TellsUnjudged kind (xs ++ ys) both
+    go : (kind : Kind) → HasUnjudgedOf kind xs l → HasUnjudgedOf kind ys m → HasUnjudgedOf kind (xs ++ ys) both
     go Campaign first second = tt
     go Survey first second =
         let law = position_append is_unjudged xs ys in
@@ -93,7 +93,7 @@ pub record SaysTheSame (kind : Kind) (l m : Ledger) : Type 0 where
   pub first : l.first ≡ m.first
   pub unjudged : l.unjudged ≡ m.unjudged
 
-pub one_text : (kind : Kind) (codes : List ℕ) (l m : Ledger) → Tells kind codes l → Tells kind codes m
+pub one_text : (kind : Kind) (codes : List ℕ) (l m : Ledger) → HasTextOf kind codes l → HasTextOf kind codes m
     → SaysTheSame kind l m
 one_text kind codes l m a b = record {
   text = go kind a.first_unjudged b.first_unjudged;
@@ -106,7 +106,7 @@ one_text kind codes l m a b = record {
         let within : n ≤ MAX_EVENTS = omega (arith, low, a.lengths) in
         a.cycles n within ∙ sym (b.cycles n within))
 
-    go : (kind : Kind) → TellsUnjudged kind codes l → TellsUnjudged kind codes m → text_of kind l ≡ text_of kind m
+    go : (kind : Kind) → HasUnjudgedOf kind codes l → HasUnjudgedOf kind codes m → text_of kind l ≡ text_of kind m
     go Campaign first second = rw (
       a.total ∙ sym b.total,
       a.ordered ∙ sym b.ordered,
