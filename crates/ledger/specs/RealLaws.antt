@@ -39,7 +39,8 @@ count_no : (p : ℕ → Bool) (x : ℕ) (xs : List ℕ) → p x ≡ false → co
 count_no p x xs fails = omega (arith, count_cons p x xs, ap {B = ℕ} (λ (b : Bool). cond b 1 0) fails)
 
 -- a place one further
-fits_behind : (count total : ℕ) (o : Option ℕ) → IsFirstOf count total o → IsFirstOf count (1 + total) (first_of None 1 o)
+fits_behind : (count total : ℕ) (o : Option ℕ) → IsFirstOf count total o
+    → IsFirstOf count (1 + total) (first_of None 1 o)
 fits_behind count total None fits = fits
 fits_behind count total (Some i) fits = (fits.0, omega (arith, fits.1))
 
@@ -126,7 +127,8 @@ apart_fits p q r each (x ∷ xs) = go (p x) (q x) (r x) refl refl refl (each x) 
         ))
         second_no false fails = at (count_by r (x ∷ xs)) (Some 0) (first_of None 1 (position q xs)) refl
             (position_yes p x xs passes) (position_no q x xs fails) (apart_first (count_by r (x ∷ xs)) (position q xs))
-    go false true c fails passes third one rest = at (count_by r (x ∷ xs)) (first_of None 1 (position p xs)) (Some 0) refl
+    go false true c fails passes third one rest =
+        at (count_by r (x ∷ xs)) (first_of None 1 (position p xs)) (Some 0) refl
         (position_no p x xs fails) (position_yes q x xs passes) (apart_second (count_by r (x ∷ xs)) (position p xs))
     go false false true fails not passes one rest = at (1 + count_by r xs) (first_of None 1 (position p xs))
         (first_of None 1 (position q xs)) (count_yes r x xs passes) (position_no p x xs fails) (position_no q x xs not)
@@ -139,7 +141,7 @@ apart_fits p q r each (x ∷ xs) = go (p x) (q x) (r x) refl refl refl (each x) 
       ap {B = ℕ} (λ (b : Bool). cond b 1 0) nor,
     ))
 
--- each code is a violation, has fails verdict, or is that of an order
+-- each code is a violation, has no verdict, or is that of an order
 one_kind : (x : ℕ) → cond (is_violation x) 1 0 + cond (is_unjudged x) 1 0 + cond (is_ordered x) 1 0 ≡ 1
 one_kind x = grind (arith, nat_tests)
 
@@ -324,7 +326,8 @@ second_arranged q os bs (c ∷ cs) i k none fails within short some all left =
       none,
       fails,
     ) in
-    let size : length (take k ws) ≡ k = length-take-le k ws (omega (arith, length-append bs (drop i os), left, short)) in
+    let size : length (take k ws) ≡ k =
+    length-take-le k ws (omega (arith, length-append bs (drop i os), left, short)) in
     let at : i + (k + 0) ≡ i + k = omega arith in
     position_append q (take i os) (take k ws ++ (c ∷ back))
     ∙ ap (λ (o : Option ℕ). first_of o (length (take i os)) (position q (take k ws ++ (c ∷ back))))
@@ -353,7 +356,7 @@ turned p q os bs cs f g a = record {
   second = a.first;
 }
 
--- three kinds of codes: those of neither, which are of fails other kind, and those of each of two
+-- three kinds of codes: those of neither, which are of no other kind, and those of each of two
 record AreKinds (p q : ℕ → Bool) (os bs cs : List ℕ) : Type 0 where
   no_first : count_by p os ≡ 0
   no_second : count_by q os ≡ 0

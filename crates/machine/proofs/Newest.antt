@@ -196,7 +196,7 @@ last_none (x ∷ (y ∷ ys)) is w = elim (cases_times (y ∷ ys) y) [
   | inr some ↦ absurd (omega (arith, some, last_none (y ∷ ys) is y))
 ]
 
--- a core whose buffer has fails write to the address sees the last of its write list
+-- a core whose buffer has no write to the address sees the last of its write list
 pub newest_in_memory : (p : Static) (q : ℕ → Bool) (m buffer : List ℕ) (a : ℕ)
     → ((e : ℕ) → q e ≡ true → p.writes e ≡ Some a) → ((e : ℕ) → p.writes e ≡ Some a → q e ≡ true)
     → ((e : ℕ) → times m e ≤ 1) → ((w : ℕ) → 0 < times buffer w → ¬ (p.writes w ≡ Some a))
