@@ -10,7 +10,7 @@ ghost use Rattle.surveys.specs.Surveys.{IsSurveyOfRead, failed_reads, failed_wri
 ghost use Rattle.surveys.specs.Tallies.{Ends, Grows, IsTally};
 
 use crate::error::SurveyError;
-use crate::filling::{BLOCK, LONG_BLOCK, fill, last_end};
+use crate::filling::{fill, last_end};
 use crate::surveying::count_part;
 use common::Gate;
 use devices::{MemorySink, Source};
@@ -84,7 +84,7 @@ fn count_and_fill<T: Threads + Sync, R: Source, G: Gate>(
             ledger.entry.now counted (Some []) ledger.exit.now n (Some []))
             × IfErr result (λ e. (failed_reads e ≡ 0) × (failed_writes e ≡ 0)) }
     { count_silently(rt, alloc, ledger, counted, part, workers, gate) };
-    let mut reading = || fill(source, piece, next, LONG_BLOCK, false);
+    let mut reading = || fill(source, piece, next, false);
     let (total, more) = join_mut(rt, &mut judging, &mut reading);
     // A read that failed is told first, since it is counted.
     let more = more?;
@@ -119,7 +119,7 @@ pub(crate) fn count_ahead<T: Threads + Sync, R: Source, G: Gate>(
     let mut next = Vec::new(alloc);
     let mut counted = 0;
     let mut seen = 0;
-    let mut more = fill(source, piece, &mut block, BLOCK, false)?;
+    let mut more = fill(source, piece, &mut block, false)?;
     'filled: while more {
         let end = last_end(&block, seen);
         next.clear();

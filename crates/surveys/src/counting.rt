@@ -21,7 +21,7 @@ use std::alloc::Global;
 use std::thread::Threads;
 
 /// How many lines are judged at once at most.
-const LINES: usize = 65_536;
+const LINES: usize = 16_384;
 
 /// The same where each is told as soon as those before it are judged.
 const TOLD_LINES: usize = 64;

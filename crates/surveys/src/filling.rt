@@ -9,24 +9,18 @@ ghost use Rattle.surveys.specs.Surveys.{failed_reads, failed_writes};
 use crate::error::SurveyError;
 use devices::{Source, read_more};
 use memchr::memrchr;
-use std::thread::yield_now;
 
 /// How many bytes are asked for at once.
 pub(crate) const PIECE: usize = 65_536;
 
 /// How many bytes a block has at least, but for the last one.
-pub(crate) const BLOCK: usize = 4_194_304;
+const BLOCK: usize = 4_194_304;
 
-/// The same where threads start to judge it.
-pub(crate) const LONG_BLOCK: usize = 16_777_216;
-
-/// Fills up a block to this many bytes or more, or, where it is to be prompt, takes what there is; false where the
-/// source has ended.
+/// Fills up a block, or, where it is to be prompt, takes what there is; false where the source has ended.
 pub(crate) fn fill<R: Source>(
     source: &mut R,
     piece: &mut [u8],
     block: &mut Vec<u8>,
-    least: usize,
     prompt: bool,
 ) -> Result<bool, SurveyError>
     requires failures { CanGrow (R.read_failures source.old) }
@@ -40,16 +34,12 @@ pub(crate) fn fill<R: Source>(
     ensures count { CountsBy failed_reads (R.read_failures source.old) (R.read_failures source.new) result }
     ensures writes { IfErr result (λ e. failed_writes e ≡ 0) }
 {
-    if !prompt {
-        // A thread that was just started may wait for this one's processor.
-        yield_now();
-    }
     let first = read_more(source, piece, block)?;
     if first == 0 {
         return Ok(false);
     }
     let mut is_full = first == piece.len();
-    'pieces: while block.len() < least && (is_full || !prompt) {
+    'pieces: while block.len() < BLOCK && (is_full || !prompt) {
         let next = read_more(source, piece, block)?;
         if next == 0 {
             return Ok(false);

@@ -14,7 +14,7 @@ ghost use Rattle.surveys.specs.Tallies.{Ends, Grows, IsTallied, IsTally};
 use crate::ahead::count_ahead;
 use crate::counting::count_all;
 use crate::error::SurveyError;
-use crate::filling::{BLOCK, PIECE, fill, keep_rest, last_end};
+use crate::filling::{PIECE, fill, keep_rest, last_end};
 use crate::law::a_survey_is_one;
 use common::Gate;
 use devices::{Sink, Source};
@@ -121,7 +121,7 @@ fn count_blocks<T: Threads + Sync, R: Source, W: Sink, G: Gate>(
     let mut block = Vec::new(alloc);
     let mut counted = 0;
     let mut seen = 0;
-    'filled: while fill(source, piece, &mut block, BLOCK, each)? {
+    'filled: while fill(source, piece, &mut block, each)? {
         counted = count_whole(
             rt, alloc, sink, each, ledger, counted, &mut block, seen, workers, gate,
         )?;
@@ -134,12 +134,13 @@ fn count_blocks<T: Threads + Sync, R: Source, W: Sink, G: Gate>(
 }
 
 /// Reads the lines of a source to its end, a recording each, judges them by this many workers, at most `MAX_WORKERS`,
-/// and counts them in order; where each is told, its line is written to the sink. With one worker, or where each is told, the calling
-/// thread is a worker. Else it reads the next block while they judge one, each in a thread of its own where one can be
-/// made. The gate is told as by `findings_of`, by the numbers of the recordings, from 0. `ReadFailed` exactly where a
-/// read failed, and `WriteFailed` where a write did; where none is told, nothing is written. The memory is that of two
-/// blocks, or of the longest line, whatever the length. One thing is found in a line, however often and by however many
-/// workers it is judged, so any two surveys of the same bytes count and tell the same.
+/// and counts them in order; where each is told, its line is written to the sink. With one worker, or where each is
+/// told, the calling thread is a worker. Else it reads the next block while they judge one, each in a thread of its
+/// own where one can be made. The gate is told as by `findings_of`, by the numbers of the recordings, from 0.
+/// `ReadFailed` exactly where a read failed, and `WriteFailed` where a write did; where none is told, nothing is
+/// written. The memory is that of two blocks, or of the longest line, whatever the length. One thing is found in a
+/// line, however often and by however many workers it is judged, so any two surveys of the same bytes count and tell
+/// the same.
 pub fn survey<T: Threads + Sync, R: Source, W: Sink, G: Gate>(
     rt: &T,
     alloc: Global,
