@@ -11,15 +11,15 @@ use Rattle.machine.specs.declared.fault.Fault.{Fault}
 use Rattle.machine.specs.declared.fault.Fault.TheVariants as faults
 use Rattle.machine.specs.Configuration.{Configuration}
 use Rattle.machine.specs.State.{State, IsComplete, recorded}
-use Rattle.judge.specs.declared.verdict.Verdict.{Verdict}
-use Rattle.judge.specs.declared.verdict.Verdict.TheVariants.{Ordered, Overlook, Cycle}
-use Rattle.judge.specs.Judgement.{IsVerdict}
-use Rattle.report.specs.VerdictText.{IsVerdictText}
+use Rattle.verdicts.specs.declared.verdict.Verdict.{Verdict}
+use Rattle.verdicts.specs.declared.verdict.Verdict.TheVariants.{Ordered, Overlook, Cycle}
+use Rattle.verdicts.specs.Judgement.{IsVerdict}
+use Rattle.verdicts.specs.VerdictText.{IsVerdictText}
 use Rattle.trials.specs.Judged.{begun_machine}
 use Rattle.trials.specs.Schedule.{IsRandomRun}
-use Rattle.report.specs.declared.printed.Answer.{Answer}
-use Rattle.report.specs.declared.outcome.Outcome.TheVariants as outcome
-use Rattle.report.specs.Answer.{IsVerdictAnswer, outcome_of}
+use Rattle.verdicts.specs.declared.printed.Answer.{Answer}
+use Rattle.verdicts.specs.declared.outcome.Outcome.TheVariants as outcome
+use Rattle.verdicts.specs.VerdictAnswer.{IsVerdictAnswer, outcome_of}
 use Rattle.answers.specs.Run.{IsOrderedAnswer, IsRunAnswer, IsSeededAnswer}
 
 -- what TSO allows has its least order

@@ -8,12 +8,12 @@ use Rattle.machine.specs.Configuration.{Configuration}
 use Rattle.machine.specs.State.{State, IsComplete, recorded}
 use Rattle.ledger.specs.declared.ledger.Ledger.{Ledger}
 use Rattle.ledger.specs.Counts.{IsLedger}
-use Rattle.report.specs.Counted.{campaign_text}
+use Rattle.ledger.specs.Counted.{campaign_text}
 use Rattle.trials.specs.Campaigns.{Plan}
 use Rattle.trials.specs.Codes.{AreCodes, EndsIn, program_of_trial}
-use Rattle.report.specs.declared.printed.Answer.{Answer}
-use Rattle.report.specs.declared.outcome.Outcome.{Outcome}
-use Rattle.report.specs.declared.outcome.Outcome.TheVariants.{Done, Unfinished, Violation}
+use Rattle.verdicts.specs.declared.printed.Answer.{Answer}
+use Rattle.verdicts.specs.declared.outcome.Outcome.{Outcome}
+use Rattle.verdicts.specs.declared.outcome.Outcome.TheVariants.{Done, Unfinished, Violation}
 use Rattle.answers.specs.Reduced.{IsCutAnswer}
 use Rattle.answers.specs.Run.{IsRunAnswer}
 

@@ -6,15 +6,15 @@ use Rattle.recording.specs.Execution.{Execution}
 use Rattle.recording.specs.Tso.{IsTsoOrder}
 use Rattle.recorder.specs.Text.{recording_text}
 use Rattle.relations.specs.Consistency.{HasNoOrder}
-use Rattle.judge.specs.declared.verdict.Verdict.{Verdict}
-use Rattle.judge.specs.Judgement.{IsVerdict}
+use Rattle.verdicts.specs.declared.verdict.Verdict.{Verdict}
+use Rattle.verdicts.specs.Judgement.{IsVerdict}
 use Rattle.reduction.specs.Needed.{IsReduction}
 use Rattle.reduction.specs.RestrictedProgram.{restricted_program}
 use Rattle.replay.specs.Program.{named_program}
-use Rattle.report.specs.VerdictText.{numbers_text}
-use Rattle.report.specs.declared.printed.Answer.{Answer}
-use Rattle.report.specs.declared.outcome.Outcome.TheVariants.{Violation}
-use Rattle.report.specs.Answer.{IsVerdictAnswer}
+use Rattle.texts.specs.Numbers.{numbers_text}
+use Rattle.verdicts.specs.declared.printed.Answer.{Answer}
+use Rattle.verdicts.specs.declared.outcome.Outcome.TheVariants.{Violation}
+use Rattle.verdicts.specs.VerdictAnswer.{IsVerdictAnswer}
 
 -- the line of the numbers that the kept events had, and an empty line, where they are asked for
 abbrev pub heading : Bool → List ℕ → List ℕ

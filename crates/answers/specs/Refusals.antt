@@ -1,5 +1,5 @@
--- The names of refusals of texts.
-use Rattle.std.specs.Prelude.{ℕ, List, codes}
+-- The lines of refused texts.
+use Rattle.std.specs.Prelude.{◌++◌, ◌∷◌, [], ℕ, List, codes, decimal}
 use Rattle.program.specs.declared.refusal.LineRefusal.{LineRefusal}
 use Rattle.program.specs.declared.refusal.LineRefusal.TheVariants.{L1, L2, L3, L4, L5, L6, L7, L8}
 
@@ -13,3 +13,7 @@ line_refusal_name L5 = codes "L5"
 line_refusal_name L6 = codes "L6"
 line_refusal_name L7 = codes "L7"
 line_refusal_name L8 = codes "L8"
+
+-- the line that is printed for line k of a text
+abbrev pub refusal_line : List ℕ → ℕ → List ℕ
+refusal_line name k = codes "refused: " ++ name ++ codes " line " ++ decimal k ++ 10 ∷ []

@@ -5,14 +5,14 @@ use Rattle.program.specs.declared.name.Name.{Name}
 use Rattle.program.specs.AddressNames.{address_names}
 use Rattle.program.specs.Parts.{Parts}
 use Rattle.recording.specs.Execution.{Execution, event_count}
-use Rattle.judge.specs.declared.verdict.Verdict.{Verdict}
-use Rattle.judge.specs.declared.verdict.Verdict.TheVariants.{Ordered, Overlook, Cycle}
-use Rattle.judge.specs.Judgement.{IsVerdict}
+use Rattle.verdicts.specs.declared.verdict.Verdict.{Verdict}
+use Rattle.verdicts.specs.declared.verdict.Verdict.TheVariants.{Ordered, Overlook, Cycle}
+use Rattle.verdicts.specs.Judgement.{IsVerdict}
 use Rattle.reduction.specs.Needed.{IsReduction}
 use Rattle.explanation.specs.Explanation.{IsExplanation}
 use Rattle.drawing.specs.Drawing.{IsDrawing}
-use Rattle.report.specs.declared.printed.Answer.{Answer}
-use Rattle.report.specs.Answer.{outcome_of}
+use Rattle.verdicts.specs.declared.printed.Answer.{Answer}
+use Rattle.verdicts.specs.VerdictAnswer.{outcome_of}
 use Rattle.answers.specs.declared.rendering.Rendering.{Rendering}
 use Rattle.answers.specs.declared.rendering.Rendering.TheVariants.{Words, Picture, Reduction}
 use Rattle.answers.specs.Reduced.{IsReducedAnswer}

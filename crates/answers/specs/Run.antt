@@ -11,13 +11,13 @@ use Rattle.machine.specs.declared.fault.Fault.TheVariants as faults
 use Rattle.machine.specs.declared.step.Step.{Step}
 use Rattle.machine.specs.Configuration.{Configuration, state_behind}
 use Rattle.machine.specs.State.{State, IsComplete, recorded}
-use Rattle.judge.specs.Judgement.{IsOrderedVerdict}
-use Rattle.report.specs.VerdictText.{order_line}
+use Rattle.verdicts.specs.Judgement.{IsOrderedVerdict}
+use Rattle.verdicts.specs.VerdictText.{order_line}
 use Rattle.trials.specs.Judged.{begun_machine}
 use Rattle.trials.specs.Schedule.{IsRandomRun}
-use Rattle.report.specs.declared.printed.Answer.{Answer}
-use Rattle.report.specs.declared.outcome.Outcome.TheVariants.{Ordered, Unfinished}
-use Rattle.report.specs.Answer.{IsVerdictAnswer}
+use Rattle.verdicts.specs.declared.printed.Answer.{Answer}
+use Rattle.verdicts.specs.declared.outcome.Outcome.TheVariants.{Ordered, Unfinished}
+use Rattle.verdicts.specs.VerdictAnswer.{IsVerdictAnswer}
 
 -- a recording and the least order that TSO allows for it
 pub record IsOrderedAnswer (x : Execution) (answer : Answer) : Type 0 where

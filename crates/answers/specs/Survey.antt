@@ -4,9 +4,9 @@ use Rattle.recording.specs.Execution.{Execution}
 use Rattle.recorder.specs.Reading.{IsReadingResult}
 use Rattle.ledger.specs.declared.ledger.Ledger.{Ledger}
 use Rattle.report.specs.Answer.{IsAnswerOf, IsRefusedAnswer}
-use Rattle.report.specs.Counted.{survey_text}
-use Rattle.report.specs.declared.printed.Answer.{Answer}
-use Rattle.report.specs.declared.outcome.Outcome.TheVariants.{Refused}
+use Rattle.ledger.specs.Counted.{survey_text}
+use Rattle.verdicts.specs.declared.printed.Answer.{Answer}
+use Rattle.verdicts.specs.declared.outcome.Outcome.TheVariants.{Refused}
 use Rattle.answers.specs.Campaign.{ledger_outcome}
 use Rattle.answers.specs.Reduced.{IsReducedAnswer}
 

@@ -1,7 +1,7 @@
 //! What is answered of campaigns and of surveys.
 
 ghost use Rattle.std.specs.Prelude.{◌≡◌, ◌≤◌, IfOk};
-ghost use Rattle.report.specs.declared.outcome.Outcome.TheVariants.{Unfinished};
+ghost use Rattle.verdicts.specs.declared.outcome.Outcome.TheVariants.{Unfinished};
 ghost use Rattle.answers.specs.Campaign.{IsCampaignAnswer, IsTrialsAnswer, ledger_outcome};
 ghost use Rattle.answers.specs.Survey.{IsSurveyAnswer};
 

@@ -3,12 +3,12 @@
 ghost use Rattle.std.specs.Prelude.{◌≡◌, ◌++◌, IfOk, OnOk, IfSome, IfNone, option_map, true};
 ghost use Rattle.recording.specs.FirstUse.{IsNumberedByFirstUse};
 ghost use Rattle.machine.specs.ProgramOf.{IsProgramOf};
-ghost use Rattle.judge.specs.Judgement.{IsVerdict};
+ghost use Rattle.verdicts.specs.Judgement.{IsVerdict};
 ghost use Rattle.reduction.specs.Needed.{IsOrdered};
 ghost use Rattle.reduction.specs.Restriction.{AreClosed};
 ghost use Rattle.answers.specs.Reduced.{heading, shown_text, program_left, IsCutAnswer, IsReducedAnswer};
 ghost use Rattle.answers.specs.Survey.{IsLineAnswer};
-ghost use Rattle.report.specs.Answer.{IsVerdictAnswer};
+ghost use Rattle.verdicts.specs.VerdictAnswer.{IsVerdictAnswer};
 
 use common::{EventId, OutOfMemory};
 use judge::{Verdict, judge_alone};
@@ -18,8 +18,9 @@ use recorder::write_recording;
 use recording::Recording;
 use reduction::{Reduced, reduce, restricted_program};
 use replay::named_program;
-use report::{Answer, answer_alone, put_numbers, read_or_refuse, verdict_answer};
+use report::{Answer, answer_alone, read_or_refuse, verdict_answer};
 use std::alloc::Global;
+use texts::put_numbers;
 
 /// The line of the numbers that the kept events had, and an empty line.
 fn events_line(alloc: Global, events: &[EventId]) -> Result<Vec<u8>, OutOfMemory>

@@ -1,9 +1,10 @@
-//! The names of refusals of texts.
+//! The lines of refused texts.
 
-ghost use Rattle.std.specs.Prelude.{◌≡◌};
-ghost use Rattle.answers.specs.Refusals.{line_refusal_name};
+ghost use Rattle.std.specs.Prelude.{◌≡◌, IfOk, string_bytes};
+ghost use Rattle.answers.specs.Refusals.{line_refusal_name, refusal_line};
 
 use program::LineRefusal;
+use std::alloc::{AllocError, Global};
 
 /// What is printed for a fault of a program's line.
 pub fn line_refusal_name(fault: LineRefusal) -> &'static str
@@ -19,4 +20,11 @@ pub fn line_refusal_name(fault: LineRefusal) -> &'static str
         LineRefusal::L7 => "L7",
         LineRefusal::L8 => "L8",
     }
+}
+
+/// The line that is printed for a line of a text, counted from 1. Fails only if out of memory.
+pub fn refusal_line(alloc: Global, name: &str, line: usize) -> Result<String, AllocError>
+    ensures { IfOk result (λ text. string_bytes text ≡ refusal_line name.now line) }
+{
+    format!(in alloc; "refused: {name} line {line}\n")
 }

@@ -3,8 +3,8 @@
 ghost use Rattle.common.specs.declared.limits.TheConstants.{MAX_EVENTS};
 ghost use Rattle.std.specs.Prelude.{◌≡◌, ◌≤◌, IfOk, IfSome, option_map};
 ghost use Rattle.std.specs.List.{range_with_len};
-ghost use Rattle.judge.specs.declared.verdict.Verdict.{Verdict};
-ghost use Rattle.judge.specs.Judgement.{IsVerdict, Verifies};
+ghost use Rattle.verdicts.specs.declared.verdict.Verdict.{Verdict};
+ghost use Rattle.verdicts.specs.Judgement.{IsVerdict, Verifies};
 ghost use Rattle.drawing.specs.Drawing.{IsDrawing};
 ghost use Rattle.answers.specs.Rendered.{IsPicture, IsRendering, IsRenderedAnswer, IsWholeDrawing, names_of};
 ghost use Rattle.explanation.specs.Explanation.{IsExplanation};

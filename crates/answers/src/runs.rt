@@ -3,10 +3,10 @@
 ghost use Rattle.std.specs.Prelude.{IfOk};
 ghost use Rattle.recorder.specs.Text.{recording_text};
 ghost use Rattle.machine.specs.Configuration.{Configuration};
-ghost use Rattle.judge.specs.Judgement.{IsVerdict, Verifies};
+ghost use Rattle.verdicts.specs.Judgement.{IsVerdict, Verifies};
 ghost use Rattle.trials.specs.Judged.{IsJudgedEnd};
 ghost use Rattle.answers.specs.Run.{IsRunAnswer, IsSeededAnswer, IsUnfinishedAnswer, state_after};
-ghost use Rattle.report.specs.Answer.{IsVerdictAnswer};
+ghost use Rattle.verdicts.specs.VerdictAnswer.{IsVerdictAnswer};
 
 use common::OutOfMemory;
 use judge::Verdict;

@@ -2,7 +2,7 @@
 use Rattle.std.proofs.Common.{◌≡◌, ◌<◌, ap, length, sym, subst, ℕ, List, Option, Some, None, Ok}
 use Rattle.std.specs.Prelude.{option_map, string_bytes}
 use Rattle.clap.specs.Words.{Row, Text}
-use Rattle.report.specs.declared.printed.Answer.{Answer}
+use Rattle.verdicts.specs.declared.printed.Answer.{Answer}
 use Rattle.answers.specs.Run.{IsSeededAnswer}
 use Rattle.command_line.specs.declared.options.MergeOptions.{MergeOptions}
 use Rattle.command_line.specs.declared.options.Options.TheVariants.{Merge, Trials}

@@ -1,6 +1,6 @@
 -- What judge answers holds.
 use Rattle.std.proofs.Common.{ℕ, List, inl, inr, sym, subst}
-use Rattle.report.specs.declared.printed.Answer.{Answer}
+use Rattle.verdicts.specs.declared.printed.Answer.{Answer}
 use Rattle.report.specs.Answer.{IsAnswerOf}
 use Rattle.verification.specs.Proof.{EveryVerdictHolds, IsProof}
 use Rattle.commands.specs.Judge.{AnswerHolds}

@@ -15,9 +15,9 @@ use Rattle.merging.specs.declared.merged.Merged.{Merged}
 use Rattle.merging.specs.Merges.{IsMerge}
 use Rattle.merging.specs.TextOf.{HasTextOf}
 use Rattle.merging.specs.TextOfLaws.{ledger_tells, one_text}
-use Rattle.report.specs.declared.outcome.Outcome.{Outcome}
-use Rattle.report.specs.declared.outcome.Outcome.TheVariants.{Refused, Unfinished}
-use Rattle.report.specs.declared.printed.Answer.{Answer}
+use Rattle.verdicts.specs.declared.outcome.Outcome.{Outcome}
+use Rattle.verdicts.specs.declared.outcome.Outcome.TheVariants.{Refused, Unfinished}
+use Rattle.verdicts.specs.declared.printed.Answer.{Answer}
 use Rattle.answers.specs.Campaign.{ledger_outcome}
 use Rattle.commands.specs.declared.command_error.CommandError.{CommandError}
 use Rattle.commands.specs.declared.command_error.CommandError.TheVariants as errors

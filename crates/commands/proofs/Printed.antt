@@ -10,8 +10,8 @@ use Rattle.command_line.specs.Commands.{command_of}
 use Rattle.command_line.specs.Options.{AreOptions, IsFault}
 use Rattle.clap.specs.Words.{Text}
 use Rattle.devices.specs.declared.place.Tally.{Tally}
-use Rattle.report.specs.declared.outcome.Outcome.{Outcome}
-use Rattle.report.specs.declared.printed.Answer.{Answer}
+use Rattle.verdicts.specs.declared.outcome.Outcome.{Outcome}
+use Rattle.verdicts.specs.declared.printed.Answer.{Answer}
 use Rattle.commands.specs.declared.fault.CommandFault.{CommandFault}
 use Rattle.commands.specs.declared.fault.CommandFault.TheVariants.{WriteFailed}
 use Rattle.commands.specs.declared.command_error.CommandError.{CommandError}

@@ -11,7 +11,7 @@ use Rattle.machine.specs.Taken.{all_taken, begun}
 use Rattle.machine.specs.Configuration.{Configuration}
 use Rattle.live.specs.Trace.{Trace, IsEnded, IsTrace}
 use Rattle.live.specs.Driven.{IsGiven}
-use Rattle.report.specs.declared.printed.Answer.{Answer}
+use Rattle.verdicts.specs.declared.printed.Answer.{Answer}
 use Rattle.commands.specs.Inputs.{AreBytesOf}
 use Rattle.answers.specs.Run.{IsRunAnswer}
 use Rattle.commands.specs.Run.{IsLive}

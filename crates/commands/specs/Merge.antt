@@ -11,7 +11,7 @@ use Rattle.merging.specs.declared.kind.Kind.{Kind}
 use Rattle.merging.specs.declared.kind.Kind.TheVariants.{Campaign, Survey}
 use Rattle.merging.specs.Merges.{Refuses}
 use Rattle.merging.specs.Texts.{AreFiles}
-use Rattle.report.specs.declared.printed.Answer.{Answer}
+use Rattle.verdicts.specs.declared.printed.Answer.{Answer}
 use Rattle.answers.specs.Campaign.{IsTrialsAnswer}
 use Rattle.answers.specs.Survey.{IsSurveyAnswer}
 use Rattle.commands.specs.declared.fault.CommandFault.{CommandFault}

@@ -1,8 +1,8 @@
 -- What is written of an answer.
 use Rattle.std.specs.Prelude.{◌≡◌, ℕ, List, Option, take}
 use Rattle.std.specs.Io.KnownBytes.{Appends}
-use Rattle.report.specs.declared.printed.Answer.{Answer}
-use Rattle.report.specs.declared.outcome.Outcome.{Outcome}
+use Rattle.verdicts.specs.declared.printed.Answer.{Answer}
+use Rattle.verdicts.specs.declared.outcome.Outcome.{Outcome}
 use Rattle.commands.specs.declared.fault.CommandFault.{CommandFault}
 use Rattle.commands.specs.declared.fault.CommandFault.TheVariants.{WriteFailed}
 

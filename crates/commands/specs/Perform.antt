@@ -9,13 +9,13 @@ use Rattle.live.specs.declared.error.LiveError.{LiveError}
 use Rattle.live.specs.declared.error.LiveError.TheVariants as live
 use Rattle.program.specs.Text.{reading}
 use Rattle.machine.specs.Script.{steps_of}
-use Rattle.report.specs.declared.printed.Answer.{Answer}
+use Rattle.verdicts.specs.declared.printed.Answer.{Answer}
 use Rattle.answers.specs.declared.rendering.Rendering.TheVariants.{Words, Picture, Reduction}
 use Rattle.commands.specs.declared.command_error.CommandError.{CommandError}
 use Rattle.commands.specs.declared.command_error.CommandError.TheVariants.{Refused, Fault}
-use Rattle.report.specs.declared.outcome.Outcome.{Outcome}
-use Rattle.report.specs.declared.outcome.Outcome.TheVariants.{Done}
-use Rattle.report.specs.declared.outcome.Outcome.TheVariants as out
+use Rattle.verdicts.specs.declared.outcome.Outcome.{Outcome}
+use Rattle.verdicts.specs.declared.outcome.Outcome.TheVariants.{Done}
+use Rattle.verdicts.specs.declared.outcome.Outcome.TheVariants as out
 use Rattle.devices.specs.declared.place.Tally.{Tally}
 use Rattle.commands.specs.declared.fault.CommandFault.{CommandFault}
 use Rattle.commands.specs.declared.fault.CommandFault.TheVariants.{CommandLine, NoThread, Stranger}

@@ -1,6 +1,6 @@
 -- The lines of refused texts.
 use Rattle.std.specs.Prelude.{◌≡◌, ◌++◌, ◌∷◌, [], ℕ, List, Some, Result, Ok, Err, codes}
-use Rattle.std.specs.Prelude.{decimal, string_bytes}
+use Rattle.std.specs.Prelude.{string_bytes}
 use Rattle.machine.specs.declared.script_refusal.StepRefusal.{StepRefusal}
 use Rattle.machine.specs.declared.script_refusal.StepRefusal.TheVariants.{S1, S2, S3, S4}
 use Rattle.recording.specs.declared.fault.RecError.{RecError}
@@ -8,7 +8,8 @@ use Rattle.program.specs.declared.shape_error.ShapeError.{ShapeError}
 use Rattle.program.specs.declared.shape_error.ShapeError.TheVariants.{K1, K2, K3, K4, K5, K6, K7}
 use Rattle.command_line.specs.declared.options.OptionRefusal.{OptionRefusal}
 use Rattle.command_line.specs.declared.options.OptionRefusal.TheVariants as refused
-use Rattle.report.specs.Refusal.{recording_line}
+use Rattle.verdicts.specs.Refusal.{recording_line}
+use Rattle.answers.specs.Refusals.{refusal_line}
 use Rattle.commands.specs.declared.command_error.CommandError.{CommandError}
 use Rattle.commands.specs.declared.command_error.CommandError.TheVariants.{Refused, Fault}
 use Rattle.commands.specs.declared.fault.CommandFault.TheVariants.{OutOfMemory}
@@ -19,10 +20,6 @@ step_fault_name S1 = codes "S1"
 step_fault_name S2 = codes "S2"
 step_fault_name S3 = codes "S3"
 step_fault_name S4 = codes "S4"
-
--- the line that is printed for line k of a text
-abbrev pub refusal_line : List ℕ → ℕ → List ℕ
-refusal_line name k = codes "refused: " ++ name ++ codes " line " ++ decimal k ++ 10 ∷ []
 
 -- the error is that of a text which reads as a fault, or memory ran out
 abbrev pub IsReadingError : {X F : Type 0} → (F → List ℕ) → Result X (F × ℕ) → CommandError → Type 0

@@ -5,7 +5,7 @@ use Rattle.program.specs.Parts.{Parts}
 use Rattle.recording.specs.Execution.{Execution}
 use Rattle.machine.specs.ProgramOf.{IsProgramOf}
 use Rattle.command_line.specs.declared.options.ExplainOptions.{ExplainOptions}
-use Rattle.report.specs.declared.printed.Answer.{Answer}
+use Rattle.verdicts.specs.declared.printed.Answer.{Answer}
 use Rattle.answers.specs.declared.rendering.Rendering.{Rendering}
 use Rattle.answers.specs.Rendered.{IsRenderedAnswer}
 use Rattle.commands.specs.declared.command_error.CommandError.{CommandError}

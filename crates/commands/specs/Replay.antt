@@ -12,13 +12,13 @@ use Rattle.replay.specs.Program.{named_program}
 use Rattle.replay.specs.OrderReplay.{IsReplay}
 use Rattle.replay.specs.Steps.{replay_steps}
 use Rattle.replay.specs.Stores.{most_stores}
-use Rattle.judge.specs.Judgement.{IsOrderedVerdict}
-use Rattle.report.specs.declared.printed.Answer.{Answer}
+use Rattle.verdicts.specs.Judgement.{IsOrderedVerdict}
+use Rattle.verdicts.specs.declared.printed.Answer.{Answer}
 use Rattle.commands.specs.declared.command_error.CommandError.{CommandError}
-use Rattle.report.specs.declared.outcome.Outcome.TheVariants.{Done, Violation}
+use Rattle.verdicts.specs.declared.outcome.Outcome.TheVariants.{Done, Violation}
 use Rattle.commands.specs.Recording.{IsRecordingAt, IsRecordingError}
 use Rattle.commands.specs.CommandErrors.{IsLineError}
-use Rattle.report.specs.Answer.{IsVerdictAnswer}
+use Rattle.verdicts.specs.VerdictAnswer.{IsVerdictAnswer}
 
 -- a capacity, the text of a program and a script, with an empty line between them
 abbrev pub parts_text : ℕ → List ℕ → List ℕ → List ℕ

@@ -11,10 +11,10 @@ use Rattle.surveys.specs.Lines.{lines}
 use Rattle.surveys.specs.Shown.{IsLineAt, IsLineOf}
 use Rattle.surveys.specs.Each.{each_text}
 use Rattle.surveys.specs.Surveys.{IsSurvey}
-use Rattle.report.specs.Counted.{survey_text}
-use Rattle.report.specs.declared.printed.Answer.{Answer}
-use Rattle.report.specs.declared.outcome.Outcome.{Outcome}
-use Rattle.report.specs.declared.outcome.Outcome.TheVariants as out
+use Rattle.ledger.specs.Counted.{survey_text}
+use Rattle.verdicts.specs.declared.printed.Answer.{Answer}
+use Rattle.verdicts.specs.declared.outcome.Outcome.{Outcome}
+use Rattle.verdicts.specs.declared.outcome.Outcome.TheVariants as out
 use Rattle.answers.specs.Campaign.{ledger_outcome}
 use Rattle.answers.specs.Survey.{IsLineAnswer, IsSurveyAnswer}
 use Rattle.commands.specs.declared.fault.CommandFault.{CommandFault}

@@ -1,6 +1,6 @@
 -- What a campaign is answered.
 use Rattle.std.specs.Prelude.{ℕ, Option, Some, None}
-use Rattle.report.specs.declared.printed.Answer.{Answer}
+use Rattle.verdicts.specs.declared.printed.Answer.{Answer}
 use Rattle.answers.specs.Campaign.{IsCampaignAnswer, IsShownAnswer}
 use Rattle.command_line.specs.declared.options.TrialsOptions.{TrialsOptions}
 

@@ -2,7 +2,7 @@
 use Rattle.std.specs.Prelude.{◌⊎◌, ℕ, List, Option, string_bytes}
 use Rattle.command_line.specs.declared.options.VerifyOptions.{VerifyOptions}
 use Rattle.recording.specs.Execution.{Execution}
-use Rattle.report.specs.declared.printed.Answer.{Answer}
+use Rattle.verdicts.specs.declared.printed.Answer.{Answer}
 use Rattle.verification.specs.Checked.{IsCheckAnswer}
 use Rattle.commands.specs.declared.command_error.CommandError.{CommandError}
 use Rattle.commands.specs.declared.command_error.CommandError.TheVariants.{Refused, Fault}

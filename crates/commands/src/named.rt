@@ -18,8 +18,8 @@ use litmus::parse;
 use program::{LitmusError, Program};
 use recorder::read_recording;
 use recording::{RecError, Recording};
-use report::recording_line;
 use std::alloc::{AllocError, Global};
+use verdicts::recording_line;
 
 /// The program of a text, or the refusal of its first line at fault.
 fn program_of(alloc: Global, text: &[u8]) -> Result<Program, CommandError>

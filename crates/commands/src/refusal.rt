@@ -1,10 +1,11 @@
 //! The lines of refused texts.
 ghost use Rattle.std.specs.Prelude.{◌≡◌, IfOk, string_bytes};
-ghost use Rattle.commands.specs.Refusal.{option_line, option_refusal_name};
-ghost use Rattle.commands.specs.Refusal.{refusal_line, shape_error_name, step_fault_name};
+ghost use Rattle.answers.specs.Refusals.{refusal_line};
+ghost use Rattle.commands.specs.Refusal.{option_line, option_refusal_name, shape_error_name, step_fault_name};
 
 use crate::command_error::PrintedRefusal;
 use crate::meanings::quoted;
+use answers::refusal_line;
 use command_line::OptionRefusal;
 use machine::StepRefusal;
 use program::ShapeError;
@@ -20,13 +21,6 @@ pub fn step_fault_name(fault: StepRefusal) -> &'static str
         StepRefusal::S3 => "S3",
         StepRefusal::S4 => "S4",
     }
-}
-
-/// The line that is printed for a line of a text, counted from 1.
-fn refusal_line(alloc: Global, name: &str, line: usize) -> Result<String, AllocError>
-    ensures { IfOk result (λ text. string_bytes text ≡ refusal_line name.now line) }
-{
-    format!(in alloc; "refused: {name} line {line}\n")
 }
 
 /// What is printed for a line of a text, counted from 1.

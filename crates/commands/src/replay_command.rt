@@ -6,7 +6,7 @@ ghost use Rattle.program.specs.Spelling.{spelling};
 ghost use Rattle.program.specs.Text.{reading};
 ghost use Rattle.machine.specs.Script.{IsStepOf, steps_of};
 ghost use Rattle.machine.specs.ScriptText.{script_text};
-ghost use Rattle.judge.specs.Judgement.{IsVerdict, Verifies};
+ghost use Rattle.verdicts.specs.Judgement.{IsVerdict, Verifies};
 ghost use Rattle.recording.specs.Tso.{IsTsoOrder};
 ghost use Rattle.recording.specs.FirstUse.{IsNumberedByFirstUse};
 ghost use Rattle.commands.specs.Inputs.{CanRead, Reads, seen};

@@ -5,8 +5,8 @@ use Rattle.recording.specs.Execution.{Execution}
 use Rattle.relations.specs.declared.reason.Reason.TheVariants.{Po, Fr}
 use Rattle.relations.specs.Cycle.{next_in_cycle}
 use Rattle.relations.specs.Forced.{IsReason}
-use Rattle.judge.specs.declared.verdict.Verdict.{Verdict}
-use Rattle.judge.specs.declared.verdict.Verdict.TheVariants.{Ordered, Overlook, Cycle}
+use Rattle.verdicts.specs.declared.verdict.Verdict.{Verdict}
+use Rattle.verdicts.specs.declared.verdict.Verdict.TheVariants.{Ordered, Overlook, Cycle}
 use Rattle.drawing.specs.declared.edges.Edge.{Edge}
 
 -- the edge from place i of a cycle to the event after it, by the first reason that holds

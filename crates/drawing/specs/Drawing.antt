@@ -6,12 +6,12 @@ use Rattle.program.specs.declared.name.Name.{Name}
 use Rattle.recording.specs.Execution.{Execution, event_count}
 use Rattle.relations.specs.declared.reason.Reason.{Reason}
 use Rattle.relations.specs.declared.reason.Reason.TheVariants.{Po, Wo, Rf, Fr}
-use Rattle.judge.specs.declared.verdict.Verdict.{Verdict}
+use Rattle.verdicts.specs.declared.verdict.Verdict.{Verdict}
 use Rattle.drawing.specs.declared.edges.Edge.{Edge}
 use Rattle.drawing.specs.Bold.{AreBold, is_ranked}
 use Rattle.drawing.specs.Edges.{po_edge, rf_edge, co_edge, fr_edge, is_drawn}
 use Rattle.drawing.specs.Gaps.{is_gap, gap_start, gap_end}
-use Rattle.event_texts.specs.Below.{texts_below}
+use Rattle.texts.specs.Below.{texts_below}
 use Rattle.drawing.specs.Nodes.{cluster_text}
 use Rattle.drawing.specs.Ranks.{top_line, ranks_text}
 

@@ -5,7 +5,7 @@ use Rattle.std.specs.List.{find}
 use Rattle.program.specs.declared.name.Name.{Name}
 use Rattle.recording.specs.declared.event.Event.{Event}
 use Rattle.recording.specs.Execution.{Execution, event_count, event_at, core_of}
-use Rattle.event_texts.specs.Below.{texts_below}
+use Rattle.texts.specs.Below.{texts_below}
 use Rattle.drawing.specs.Edges.{po_edge}
 use Rattle.event_texts.specs.Events.{event_text}
 use Rattle.drawing.specs.Gaps.{gap_text}

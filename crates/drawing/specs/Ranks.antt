@@ -3,9 +3,9 @@
 use Rattle.std.specs.Prelude.{◌++◌, ◌==◌, ◌+◌, ◌-◌, [], ℕ, zero, suc, Bool, true, false, Option, Some, None, List}
 use Rattle.std.specs.Prelude.{codes, decimal, length, slice_index, if◌then◌else◌}
 use Rattle.recording.specs.Execution.{Execution, core_of}
-use Rattle.judge.specs.declared.verdict.Verdict.{Verdict}
-use Rattle.judge.specs.declared.verdict.Verdict.TheVariants.{Ordered, Overlook, Cycle}
-use Rattle.event_texts.specs.Below.{texts_below}
+use Rattle.verdicts.specs.declared.verdict.Verdict.{Verdict}
+use Rattle.verdicts.specs.declared.verdict.Verdict.TheVariants.{Ordered, Overlook, Cycle}
+use Rattle.texts.specs.Below.{texts_below}
 use Rattle.drawing.specs.Nodes.{first_on_core}
 
 -- the topmost node of a core whose first drawn event is this one

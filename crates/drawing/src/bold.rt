@@ -3,16 +3,16 @@
 ghost use Rattle.std.specs.Prelude.{◌<◌, IfOk, length};
 ghost use Rattle.relations.specs.Cycle.{IsCycle};
 ghost use Rattle.relations.specs.Forced.{Forced};
-ghost use Rattle.judge.specs.Judgement.{Verifies};
-ghost use Rattle.judge.specs.declared.verdict.Verdict.TheVariants.{Overlook};
+ghost use Rattle.verdicts.specs.Judgement.{Verifies};
+ghost use Rattle.verdicts.specs.declared.verdict.Verdict.TheVariants.{Overlook};
 ghost use Rattle.drawing.specs.Bold.{IsCycleEdge, AreCycleEdges, AreBold};
 
 use crate::edges::Edge;
 use common::{EventId, OutOfMemory};
-use judge::Verdict;
 use recording::Recording;
 use relations::{Places, Reason, next_in_cycle};
 use std::alloc::Global;
+use verdicts::Verdict;
 
 /// The edge from a place of a cycle to the event after it.
 fn cycle_edge(places: &Places<'_>, cycle: &[EventId], i: usize) -> Edge

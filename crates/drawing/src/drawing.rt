@@ -2,7 +2,7 @@
 
 ghost use Rattle.std.specs.Prelude.{◌≡◌, ◌++◌, OnOk, IfOk, codes, true};
 ghost use Rattle.std.specs.List.{flat_map};
-ghost use Rattle.judge.specs.Judgement.{Verifies};
+ghost use Rattle.verdicts.specs.Judgement.{Verifies};
 ghost use Rattle.drawing.specs.Bold.{is_ranked};
 ghost use Rattle.drawing.specs.Drawing.{graph_heading, edge_line, nodes_text, drawing_text, IsDrawing};
 
@@ -12,12 +12,12 @@ use crate::edges::Edge;
 use crate::nodes::put_clusters;
 use crate::ranks::{put_ranks, put_top};
 use common::{EventId, OutOfMemory};
-use event_texts::put_text;
 use indexmap::IndexSet;
-use judge::Verdict;
 use program::Name;
 use recording::Recording;
 use std::alloc::Global;
+use texts::put_text;
+use verdicts::Verdict;
 
 /// Whether the ranks are those of a memory order.
 fn is_ranked(verdict: &Verdict) -> bool

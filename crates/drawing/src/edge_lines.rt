@@ -5,14 +5,14 @@ ghost use Rattle.std.specs.List.{flat_map};
 ghost use Rattle.recording.specs.Execution.{event_count};
 ghost use Rattle.drawing.specs.Drawing.{ends_text, look_text, style_text, free_text, edge_line, thin_line};
 ghost use Rattle.drawing.specs.Drawing.{po_lines, thin_lines};
-ghost use Rattle.event_texts.specs.Below.{texts_below};
+ghost use Rattle.texts.specs.Below.{texts_below};
 
 use crate::edges::{Edge, co_edge, fr_edge, is_drawn, po_edge, rf_edge};
 use crate::gaps::{is_gap, number_at, put_gap_edges};
 use common::{EventId, OutOfMemory};
-use event_texts::{put_text, put_text_and_number};
 use recording::Recording;
 use relations::Reason;
+use texts::{put_text, put_text_and_number};
 
 /// Adds from which event an edge goes to which.
 fn put_ends(out: &mut Vec<u8>, numbers: &[EventId], edge: Edge) -> Result<(), OutOfMemory>

@@ -5,7 +5,7 @@ ghost use Rattle.drawing.specs.Gaps.{is_gap, gap_line, gap_text, gap_start, gap_
 
 use crate::edges::Edge;
 use common::{EventId, OutOfMemory};
-use event_texts::{put_text, put_text_and_number};
+use texts::{put_text, put_text_and_number};
 
 /// The number at a place of a list; 0 past the last.
 pub(crate) fn number_at(numbers: &[EventId], at: EventId) -> EventId

@@ -2,17 +2,18 @@
 
 ghost use Rattle.std.specs.Prelude.{◌≡◌, ◌++◌, ◌<◌, OnOk, length, slice_index};
 ghost use Rattle.recording.specs.Execution.{event_count, event_at};
-ghost use Rattle.event_texts.specs.Below.{texts_below};
+ghost use Rattle.texts.specs.Below.{texts_below};
 ghost use Rattle.drawing.specs.Nodes.{first_on_core, node_heading, node_line, node_lines};
 ghost use Rattle.drawing.specs.Nodes.{node_of_core, cluster_heading, head_line, cluster_lines, cluster_text};
 
 use crate::edges::po_edge;
 use crate::gaps::{number_at, put_gap_text};
 use common::{EventId, OutOfMemory};
-use event_texts::{event_of, put_event, put_text, put_text_and_number};
+use event_texts::{event_of, put_event};
 use indexmap::IndexSet;
 use program::Name;
 use recording::{Event, Recording};
+use texts::{put_text, put_text_and_number};
 
 /// The first of the numbers that is an event of a core.
 pub(crate) fn first_on_core(

@@ -1,16 +1,17 @@
 //! What puts the nodes of a picture in their places.
 
 ghost use Rattle.std.specs.Prelude.{◌≡◌, ◌++◌, ◌+◌, ◌<◌, ◌≤◌, OnOk, IfOk, length, if◌then◌else◌};
-ghost use Rattle.event_texts.specs.Below.{texts_below};
+ghost use Rattle.texts.specs.Below.{texts_below};
 ghost use Rattle.drawing.specs.Ranks.{top_node, top_of_core, top_line, number_in_order, is_on_core};
 ghost use Rattle.drawing.specs.Ranks.{ranked_node, rank_line, rank_text, core_ranks, ranks_text};
 
 use crate::gaps::number_at;
 use crate::nodes::first_on_core;
 use common::{EventId, OutOfMemory};
-use event_texts::{event_of, put_text, put_text_and_number};
-use judge::Verdict;
+use event_texts::event_of;
 use recording::Recording;
+use texts::{put_text, put_text_and_number};
+use verdicts::Verdict;
 
 /// Adds the topmost node of a core whose first drawn event is this one.
 fn put_top_node(

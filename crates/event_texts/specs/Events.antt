@@ -1,24 +1,12 @@
 -- What is said of an event: a line with its number, its core, its operation and its values.
 use Rattle.std.specs.Prelude.{◌++◌, ◌∷◌, ◌-◌, [], ℕ, Option, Some, None, List, codes, decimal, length}
-use Rattle.std.specs.Prelude.{replicate}
 use Rattle.program.specs.declared.name.Name.{Name}
 use Rattle.program.specs.Names.{name_text}
 use Rattle.program.specs.Spelling.{name_at}
 use Rattle.recording.specs.declared.event.Event.{Event}
 use Rattle.recording.specs.declared.event.Event.TheVariants.{L, S, R, C, F}
 use Rattle.recording.specs.Execution.{Execution, event_count, event_at, core_of}
-
--- how many digits a number has
-abbrev pub digits : ℕ → ℕ
-digits n = length (decimal n)
-
--- this many spaces
-abbrev pub spaces : ℕ → List ℕ
-spaces n = replicate n 32
-
--- a number with spaces before it, up to a width
-abbrev pub aligned : ℕ → ℕ → List ℕ
-aligned width n = spaces (width - digits n) ++ decimal n
+use Rattle.texts.specs.Numbers.{digits, spaces, aligned}
 
 -- how many digits the greatest number of an event has, and of a core
 abbrev pub event_width : Execution → ℕ

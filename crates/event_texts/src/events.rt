@@ -4,12 +4,11 @@ ghost use Rattle.std.specs.Prelude.{◌≡◌, ◌++◌, ◌∷◌, OnOk, Some, 
 ghost use Rattle.recording.specs.declared.event.Event.TheVariants.{L, S, R, C};
 ghost use Rattle.event_texts.specs.Events.{address_text, written_text, source_text, read_text, event_text};
 
-use crate::numbers::put_text_and_number;
-use crate::pieces::put_text;
 use common::{Addr, EventId, OutOfMemory};
 use indexmap::IndexSet;
 use program::Name;
 use recording::Event;
+use texts::{put_text, put_text_and_number};
 
 /// Adds the name of an address.
 pub fn put_address(

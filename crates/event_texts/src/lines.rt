@@ -2,15 +2,15 @@
 
 ghost use Rattle.std.specs.Prelude.{◌≡◌, ◌++◌, OnOk, codes, decimal};
 ghost use Rattle.recording.specs.Execution.{event_at, core_of};
-ghost use Rattle.event_texts.specs.Events.{event_width, core_width, aligned, event_line, indent};
+ghost use Rattle.texts.specs.Numbers.{aligned};
+ghost use Rattle.event_texts.specs.Events.{event_width, core_width, event_line, indent};
 
 use crate::events::put_event;
-use crate::numbers::{digits, put_aligned, put_spaces, put_text_and_number};
-use crate::pieces::put_text;
 use common::{CoreId, EventId, OutOfMemory};
 use indexmap::IndexSet;
 use program::Name;
 use recording::{Event, Recording};
+use texts::{digits, put_aligned, put_spaces, put_text, put_text_and_number};
 
 /// How many digits the greatest number of an event has.
 fn event_width(recording: &Recording) -> usize

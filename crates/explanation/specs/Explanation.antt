@@ -2,8 +2,8 @@
 use Rattle.std.specs.Prelude.{◌≡◌, ℕ, List}
 use Rattle.program.specs.declared.name.Name.{Name}
 use Rattle.recording.specs.Execution.{Execution}
-use Rattle.judge.specs.declared.verdict.Verdict.{Verdict}
-use Rattle.judge.specs.declared.verdict.Verdict.TheVariants.{Ordered, Overlook, Cycle}
+use Rattle.verdicts.specs.declared.verdict.Verdict.{Verdict}
+use Rattle.verdicts.specs.declared.verdict.Verdict.TheVariants.{Ordered, Overlook, Cycle}
 use Rattle.explanation.specs.Order.{order_text}
 use Rattle.explanation.specs.Overlook.{overlook_text}
 use Rattle.explanation.specs.Cycle.{SaysCycle}

@@ -9,12 +9,13 @@ ghost use Rattle.explanation.specs.Cycle.{SaysCycle};
 
 use crate::diy::put_diy;
 use common::{Addr, EventId, OutOfMemory};
-use event_texts::{put_before, put_indent, put_line, put_text, put_text_and_number, put_written};
+use event_texts::{put_before, put_indent, put_line, put_written};
 use indexmap::IndexSet;
 use program::Name;
 use recording::Recording;
 use relations::{Places, Reason, next_in_cycle};
 use std::alloc::Global;
+use texts::{put_text, put_text_and_number};
 
 /// Adds some words and the name of the address that an event writes.
 fn put_words_and_written(

@@ -10,10 +10,11 @@ ghost use Rattle.explanation.specs.Diy.{is_fence, is_plain, letter, pair_text, s
 ghost use Rattle.explanation.specs.Diy.{IsNamedBehind, words_from, diy_line, overlook_line};
 
 use common::{Addr, EventId, OutOfMemory};
-use event_texts::{event_of, put_text};
+use event_texts::event_of;
 use recording::{Event, Recording};
 use relations::{Places, Reason, next_in_cycle};
 use std::alloc::Global;
+use texts::put_text;
 
 /// The step from one load or store of a cycle to the next.
 #[derive(Clone, Copy)]

@@ -7,12 +7,11 @@ ghost use Rattle.explanation.specs.Order.{source_words, read_line, write_words, 
 ghost use Rattle.explanation.specs.Order.{lawful_lines, placed_lines, order_text};
 
 use common::{Addr, EventId, OutOfMemory};
-use event_texts::{
-    event_of, put_address, put_indent, put_line, put_number, put_text, put_text_and_number,
-};
+use event_texts::{event_of, put_address, put_indent, put_line};
 use indexmap::IndexSet;
 use program::Name;
 use recording::{Event, Recording, place};
+use texts::{put_number, put_text, put_text_and_number};
 
 /// Adds that no write of an address is before an event.
 fn put_no_write(out: &mut Vec<u8>, names: &IndexSet<Name>, address: Addr) -> Result<(), OutOfMemory>

@@ -9,13 +9,11 @@ ghost use Rattle.explanation.specs.Overlook.{overlook_heading, store_line, inste
 
 use crate::diy::put_overlook_line;
 use common::{Addr, EventId, OutOfMemory};
-use event_texts::{
-    event_of, put_before, put_indent, put_line, put_number, put_text, put_text_and_number,
-    put_written,
-};
+use event_texts::{event_of, put_before, put_indent, put_line, put_written};
 use indexmap::IndexSet;
 use program::Name;
 use recording::Recording;
+use texts::{put_number, put_text, put_text_and_number};
 
 /// Adds what is said first of an overlook.
 fn put_heading(out: &mut Vec<u8>, load: EventId, store: EventId) -> Result<(), OutOfMemory>

@@ -1,7 +1,7 @@
 //! A verdict in words.
 
 ghost use Rattle.std.specs.Prelude.{IfOk};
-ghost use Rattle.judge.specs.Judgement.{Verifies};
+ghost use Rattle.verdicts.specs.Judgement.{Verifies};
 ghost use Rattle.explanation.specs.Explanation.{IsExplanation};
 
 use crate::cycle::put_cycle;
@@ -9,10 +9,10 @@ use crate::memory_order::put_order;
 use crate::overlook::put_overlook;
 use common::OutOfMemory;
 use indexmap::IndexSet;
-use judge::Verdict;
 use program::Name;
 use recording::Recording;
 use std::alloc::Global;
+use verdicts::Verdict;
 
 /// A verdict that holds of the recording, in words, with these names of its addresses: of a cycle each
 /// event and why it comes before the next; of an overlook the store, the load, and what was read

@@ -12,7 +12,8 @@ use Rattle.relations.specs.Laws.{LeastCyclesAgree, ExactRowsAgree, CertificatesA
 use Rattle.recording.specs.Tso.{IsWellFormed}
 use Rattle.labels.specs.Certified.{lists_of}
 use Rattle.labels.specs.declared.certificate.Certificate.{Certificate}
-use Rattle.judge.specs.Judgement.{IsCycleVerdict, IsLeastCertificate, IsOrderedVerdict}
+use Rattle.verdicts.specs.Judgement.{IsCycleVerdict, IsOrderedVerdict}
+use Rattle.judge.specs.LeastCertificate.{IsLeastCertificate}
 
 -- where the forced pairs have a cycle, there is no order
 pub no_order : (x : Execution) → IsWellFormed x → EveryOrderRespects x → OrderedIsAcyclic (Forced x)

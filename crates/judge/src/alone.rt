@@ -6,9 +6,9 @@ ghost use Rattle.relations.specs.Cycle.{IsCycle};
 ghost use Rattle.relations.specs.Forced.{Forced};
 ghost use Rattle.relations.specs.Relation.{Related};
 ghost use Rattle.relations.specs.Consistency.{HasNoOverlook};
-ghost use Rattle.judge.specs.Judgement.{IsVerdict, IsLeastCertificate, Verifies};
+ghost use Rattle.verdicts.specs.Judgement.{IsVerdict, Verifies};
+ghost use Rattle.judge.specs.LeastCertificate.{IsLeastCertificate};
 
-use crate::verdict::Verdict;
 use common::OutOfMemory;
 use labels::Certificate;
 use order::build;
@@ -17,6 +17,7 @@ use relations::{Relation, forced_is_exact, ordered_is_acyclic, overlook, relatio
 use search::shortest_cycle;
 use std::alloc::Global;
 use std::sync::Arc;
+use verdicts::Verdict;
 
 /// The verdict on a recording that has an overlook or a memory order; none where it has no overlook and a cycle.
 /// Fails only if out of memory.

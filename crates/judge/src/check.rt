@@ -1,13 +1,13 @@
 //! The check of verdicts.
 
 ghost use Rattle.std.specs.Prelude.{◌↔◌, IfOk, IsTrue};
-ghost use Rattle.judge.specs.Judgement.{Verifies, Means};
+ghost use Rattle.verdicts.specs.Judgement.{Verifies, Means};
 
-use crate::verdict::Verdict;
 use common::OutOfMemory;
 use recording::Recording;
 use relations::{Relation, forced_is_exact, is_overlook, ordered_is_acyclic, relation_is_forced};
 use std::alloc::Global;
+use verdicts::Verdict;
 
 /// Whether a verdict, whoever gave it, holds of a recording: an order is a memory order of TSO, an
 /// overlook is one, a cycle has a certificate. It doesn't ask how the judge would have found it.

@@ -3,11 +3,10 @@
 
 mod alone;
 mod check;
-mod verdict;
 mod workers;
 
 pub use alone::judge_alone;
 pub use check::verify;
 pub use common::{Gate, OpenGate};
-pub use verdict::Verdict;
+pub use verdicts::Verdict;
 pub use workers::{judge, judge_gated};

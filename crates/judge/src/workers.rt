@@ -4,10 +4,10 @@ ghost use Rattle.std.specs.Prelude.{◌≤◌, ℕ, List, IfOk};
 ghost use Rattle.std.specs.Arc.{arc_value};
 ghost use Rattle.relations.specs.Cycle.{IsCycle};
 ghost use Rattle.relations.specs.Relation.{Related};
-ghost use Rattle.judge.specs.Judgement.{IsVerdict, IsLeastCertificate, Verifies};
+ghost use Rattle.verdicts.specs.Judgement.{IsVerdict, Verifies};
+ghost use Rattle.judge.specs.LeastCertificate.{IsLeastCertificate};
 
 use crate::alone::acyclic_verdict;
-use crate::verdict::Verdict;
 use common::{Gate, MAX_WORKERS, OpenGate, OutOfMemory};
 use labels::Certificate;
 use recording::Recording;
@@ -16,6 +16,7 @@ use search::shortest_cycle_by;
 use std::alloc::Global;
 use std::sync::{Arc, Wait};
 use std::thread::Threads;
+use verdicts::Verdict;
 
 /// The certificate of a relation that has a cycle, from rows that workers make.
 fn least_certificate_by<R: Threads + Wait + Sync, G: Gate>(

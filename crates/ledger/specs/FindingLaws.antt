@@ -11,9 +11,9 @@ use Rattle.relations.specs.declared.reason.Reason.{Reason}
 use Rattle.relations.specs.declared.reason.Reason.TheVariants.{Po, Wo, Rf, Fr}
 use Rattle.relations.specs.CycleLaws.{short_cycle}
 use Rattle.relations.specs.Forced.{Holds, Forced, IsLeastOverlook}
-use Rattle.judge.specs.declared.verdict.Verdict.{Verdict}
-use Rattle.judge.specs.declared.verdict.Verdict.TheVariants.{Ordered, Overlook, Cycle}
-use Rattle.judge.specs.Judgement.{IsVerdict}
+use Rattle.verdicts.specs.declared.verdict.Verdict.{Verdict}
+use Rattle.verdicts.specs.declared.verdict.Verdict.TheVariants.{Ordered, Overlook, Cycle}
+use Rattle.verdicts.specs.Judgement.{IsVerdict}
 use Rattle.ledger.specs.declared.finding.Finding.TheVariants as finding
 use Rattle.ledger.specs.Findings.{IsShortVerdict, finding_of}
 

@@ -6,3 +6,4 @@ pub mod Joined
 pub mod LedgerLaws
 pub mod Real
 pub mod RealLaws
+pub mod Counted

@@ -5,8 +5,8 @@ ghost use Rattle.ledger.specs.Findings.{refusal_code};
 
 use crate::code::{CYCLE, LOAD, ORDERED, OVERLOOK, REFUSED};
 use common::EventId;
-use judge::Verdict;
 use recording::RecError;
+use verdicts::Verdict;
 
 /// What is found of a recording: which verdict there is on it, or why it is refused.
 #[derive(Clone, Copy, Debug, Drop, PartialEq, Eq)]

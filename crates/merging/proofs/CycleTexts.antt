@@ -4,7 +4,7 @@ use Rattle.std.proofs.Common.{ap, append_assoc, append-nil, arith, decimal, get_
 use Rattle.std.proofs.lemmas.List.{get_or_append_left}
 use Rattle.std.proofs.Math.Seq.{get_or-append_seam}
 use Rattle.common.specs.declared.limits.TheConstants.{MAX_EVENTS}
-use Rattle.report.specs.Counted.{cycle_line, cycle_lines}
+use Rattle.ledger.specs.Counted.{cycle_line, cycle_lines}
 use Rattle.merging.specs.Parts.{Are64Bit, IsLater}
 use Rattle.merging.proofs.LineTexts.{cycle_then}
 

@@ -1,7 +1,7 @@
 -- Lines, and what stands after them.
 use Rattle.std.proofs.Common.{◌≡◌, ◌∙◌, ◌<◌, ◌++◌, ◌∷◌, [], ℕ, List, Option, Some, ap, append_assoc}
 use Rattle.std.proofs.Common.{codes, decimal, arith, nat_eq, ne_eqb, false}
-use Rattle.report.specs.Counted.{count_line, cycle_line, first_line, place_name}
+use Rattle.ledger.specs.Counted.{count_line, cycle_line, first_line, place_name}
 
 -- a line of how many there are
 pub count_then : (name : List ℕ) (n : ℕ) (more : List ℕ)

@@ -3,7 +3,7 @@ use Rattle.std.specs.Prelude.{◌≡◌, ◌⊎◌, ◌+◌, ◌++◌, ◌∷◌
 use Rattle.std.specs.Prelude.{codes, decimal, if◌then◌else◌, length, slice_index}
 use Rattle.common.specs.declared.limits.TheConstants.{MAX_EVENTS}
 use Rattle.ledger.specs.declared.ledger.Ledger.{Ledger}
-use Rattle.report.specs.Counted.{count_line, first_line}
+use Rattle.ledger.specs.Counted.{count_line, first_line}
 use Rattle.merging.specs.declared.kind.Kind.{Kind}
 use Rattle.merging.specs.declared.kind.Kind.TheVariants.{Campaign, Survey}
 use Rattle.merging.specs.Texts.{all_name, noun, unjudged_name}

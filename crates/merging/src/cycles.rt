@@ -2,7 +2,7 @@
 
 ghost use Rattle.std.specs.Prelude.{◌≡◌, ◌<◌, ◌^◌, ◌+◌, ◌++◌, ◌∷◌, ℕ, List, Some, IfOk, IfSome, MatchOption, length};
 ghost use Rattle.common.specs.declared.limits.TheConstants.{MAX_EVENTS};
-ghost use Rattle.report.specs.Counted.{cycle_line, cycle_lines};
+ghost use Rattle.ledger.specs.Counted.{cycle_line, cycle_lines};
 ghost use Rattle.merging.specs.Parts.{Are64Bit, IsLater};
 
 use crate::cursor::Cursor;

@@ -1,7 +1,7 @@
 //! The lines of counts and of first places.
 
 ghost use Rattle.std.specs.Prelude.{◌≡◌, ◌<◌, ◌^◌, ◌++◌, ◌∷◌, ℕ, List, Option, Some, IfSome};
-ghost use Rattle.report.specs.Counted.{count_line, first_line, place_name};
+ghost use Rattle.ledger.specs.Counted.{count_line, first_line, place_name};
 ghost use Rattle.merging.specs.Texts.{noun};
 
 use crate::cursor::Cursor;

@@ -4,7 +4,7 @@ ghost use Rattle.std.specs.Prelude.{◌≡◌, ◌<◌, ◌^◌, ◌+◌, ◌++�
 ghost use Rattle.std.specs.Prelude.{length};
 ghost use Rattle.common.specs.declared.limits.TheConstants.{MAX_EVENTS};
 ghost use Rattle.ledger.specs.declared.ledger.Ledger.{Ledger as Book};
-ghost use Rattle.report.specs.Counted.{ledger_text};
+ghost use Rattle.ledger.specs.Counted.{ledger_text};
 ghost use Rattle.merging.specs.Merges.{IsTextRead, IsNoText};
 ghost use Rattle.merging.specs.Parts.{HasSameCounts, Is64BitLedger, Is64BitPlace, count_lines, place_beside, tail};
 ghost use Rattle.merging.specs.Parts.{place_read};

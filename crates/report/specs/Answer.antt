@@ -1,33 +1,15 @@
 -- What is answered to the bytes of a recording.
-use Rattle.std.specs.Prelude.{◌≡◌, ◌⊎◌, ◌++◌, [], ℕ, List, Option, Some, Result, Ok, Err, take}
+use Rattle.std.specs.Prelude.{◌≡◌, ◌⊎◌, [], ℕ, List, Option, Some, Result, Ok, Err, take}
 use Rattle.std.specs.Io.KnownBytes.{Appends, Consumes}
 use Rattle.recording.specs.declared.fault.RecError.{RecError}
 use Rattle.recording.specs.declared.recording.Recording.{Recording}
 use Rattle.recording.specs.Execution.{Execution}
 use Rattle.recorder.specs.Reading.{IsReadingResult}
-use Rattle.judge.specs.declared.verdict.Verdict.{Verdict}
-use Rattle.judge.specs.declared.verdict.Verdict.TheVariants as verdict
-use Rattle.judge.specs.Judgement.{IsVerdict}
-use Rattle.report.specs.declared.printed.Answer.{Answer}
-use Rattle.report.specs.declared.outcome.Outcome.{Outcome}
-use Rattle.report.specs.declared.outcome.Outcome.TheVariants.{Ordered, Violation, Refused}
-use Rattle.report.specs.Refusal.{recording_line}
-use Rattle.report.specs.VerdictText.{IsVerdictText}
-
--- only an order is no violation
-abbrev pub outcome_of : Verdict → Outcome
-outcome_of (verdict.Ordered order) = Ordered
-outcome_of (verdict.Overlook load store) = Violation
-outcome_of (verdict.Cycle certificate) = Violation
-
--- the verdict on a recording, and its text after what is printed before
-pub record IsVerdictAnswer (x : Execution) (before : List ℕ) (answer : Answer) : Type 0 where
-  pub verdict : Verdict
-  pub found : IsVerdict x verdict
-  pub outcome : answer.outcome ≡ outcome_of verdict
-  pub lines : List ℕ
-  pub printed : IsVerdictText x verdict lines
-  pub text : answer.text.items ≡ before ++ lines
+use Rattle.verdicts.specs.declared.printed.Answer.{Answer}
+use Rattle.verdicts.specs.declared.outcome.Outcome.{Outcome}
+use Rattle.verdicts.specs.declared.outcome.Outcome.TheVariants.{Refused}
+use Rattle.verdicts.specs.Refusal.{recording_line}
+use Rattle.verdicts.specs.VerdictAnswer.{IsVerdictAnswer}
 
 -- the verdict on the recording that the bytes are
 pub record IsJudgedAnswer (bytes : List ℕ) (answer : Answer) : Type 0 where

@@ -1,6 +1,2 @@
-pub mod Outcomes
-pub mod VerdictText
-pub mod Texts
-pub mod Counted
-pub mod Refusal
+pub mod Errors
 pub mod Answer

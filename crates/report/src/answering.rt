@@ -3,13 +3,11 @@
 ghost use Rattle.std.specs.Prelude.{◌≡◌, ◌≢◌, ◌≤◌, true, Err, IfErr, IfOk, OnOk};
 ghost use Rattle.std.specs.Io.KnownBytes.{IsAtEnd};
 ghost use Rattle.devices.specs.Bytes.{CanGrow, CountsBy};
-ghost use Rattle.report.specs.declared.outcome.ReportError.{ReportError};
+ghost use Rattle.report.specs.declared.error.ReportError.{ReportError};
 ghost use Rattle.report.specs.Answer.{IsAnswerBegun, IsAnswerOf, IsReadOrRefused, IsWholeAnswer};
-ghost use Rattle.report.specs.Outcomes.{failed_reads, failed_writes};
+ghost use Rattle.report.specs.Errors.{failed_reads, failed_writes};
 
-use crate::outcome::{Outcome, ReportError};
-use crate::printed::{Answer, verdict_answer};
-use crate::refusal::recording_line;
+use crate::error::ReportError;
 use common::{Gate, MAX_WORKERS, OutOfMemory};
 use devices::{Failed, Sink, Source, read_all, write_all};
 use judge::{judge_alone, judge_gated};
@@ -18,6 +16,7 @@ use recording::Recording;
 use std::alloc::Global;
 use std::sync::Wait;
 use std::thread::Threads;
+use verdicts::{Answer, Outcome, recording_line, verdict_answer};
 
 /// The recording that the bytes are, or what is answered to them, since they are refused. Fails only if out of memory.
 pub fn read_or_refuse(alloc: Global, bytes: &[u8]) -> Result<Result<Recording, Answer>, OutOfMemory>

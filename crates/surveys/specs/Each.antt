@@ -3,8 +3,8 @@ use Rattle.std.specs.Prelude.{◌+◌, ◌++◌, ◌∷◌, [], ℕ, List, Optio
 use Rattle.recording.specs.declared.fault.RecError.{RecError}
 use Rattle.ledger.specs.declared.finding.Finding.{Finding}
 use Rattle.ledger.specs.declared.finding.Finding.TheVariants.{Ordered, Overlook, Cycle, Refused}
-use Rattle.report.specs.Refusal.{recording_line}
-use Rattle.report.specs.VerdictText.{overlook_line}
+use Rattle.verdicts.specs.Refusal.{recording_line}
+use Rattle.verdicts.specs.VerdictText.{overlook_line}
 
 -- the line of the length of a cycle
 abbrev pub cycle_line : ℕ → List ℕ

@@ -5,8 +5,8 @@ use Rattle.recording.specs.Execution.{Execution}
 use Rattle.recording.specs.declared.fault.RecError.{RecError}
 use Rattle.recording.specs.declared.fault.RecError.TheVariants.{OutOfMemory}
 use Rattle.recorder.specs.Reading.{IsReadingResult}
-use Rattle.judge.specs.declared.verdict.Verdict.{Verdict}
-use Rattle.judge.specs.Judgement.{IsVerdict}
+use Rattle.verdicts.specs.declared.verdict.Verdict.{Verdict}
+use Rattle.verdicts.specs.Judgement.{IsVerdict}
 use Rattle.ledger.specs.declared.finding.Finding.{Finding}
 use Rattle.ledger.specs.declared.finding.Finding.TheVariants.{Refused}
 use Rattle.ledger.specs.Findings.{finding_code, finding_of}

@@ -15,8 +15,8 @@ use Rattle.recording.specs.RefusalLaws.{source_of_recording}
 use Rattle.recorder.specs.ParsedModel.{ParsedModel, execution_of, IsVersioned}
 use Rattle.recorder.specs.Text.{IsReadAs}
 use Rattle.recorder.specs.Reading.{shape_in, Decodes, IsReadingResult}
-use Rattle.judge.specs.declared.verdict.Verdict.{Verdict}
-use Rattle.judge.specs.Judgement.{IsVerdict}
+use Rattle.verdicts.specs.declared.verdict.Verdict.{Verdict}
+use Rattle.verdicts.specs.Judgement.{IsVerdict}
 use Rattle.ledger.specs.declared.finding.Finding.{Finding}
 use Rattle.ledger.specs.declared.finding.Finding.TheVariants.{Refused}
 use Rattle.ledger.specs.Counts.{IsLedger}

@@ -6,8 +6,9 @@ ghost use Rattle.surveys.specs.Each.{cycle_line, each_line, each_text, finding_l
 use common::OutOfMemory;
 use ledger::Finding;
 use recording::RecError;
-use report::{put_number, put_overlook, recording_line};
 use std::alloc::Global;
+use texts::put_number;
+use verdicts::{put_overlook, recording_line};
 
 /// Adds the line of a refusal.
 fn put_refusal(alloc: Global, out: &mut Vec<u8>, refusal: RecError) -> Result<(), OutOfMemory>

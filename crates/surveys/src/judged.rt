@@ -1,8 +1,8 @@
 //! What is found in a line.
 
 ghost use Rattle.std.specs.Prelude.{◌≡◌, ◌≢◌, IfOk};
-ghost use Rattle.judge.specs.declared.verdict.Verdict.{Verdict};
-ghost use Rattle.judge.specs.Judgement.{IsVerdict};
+ghost use Rattle.verdicts.specs.declared.verdict.Verdict.{Verdict};
+ghost use Rattle.verdicts.specs.Judgement.{IsVerdict};
 ghost use Rattle.ledger.specs.Findings.{finding_of};
 ghost use Rattle.ledger.specs.declared.finding.Finding.TheVariants.{Refused};
 ghost use Rattle.recording.specs.declared.fault.RecError.TheVariants as refusals;

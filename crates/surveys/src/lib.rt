@@ -21,6 +21,5 @@ pub use error::SurveyError;
 pub use judged::finding_of_line;
 pub use ledger::{Finding, Ledger};
 pub use lines::next_lines;
-pub use report::survey_text;
 pub use showing::line_of;
 pub use surveying::survey;

@@ -15,8 +15,8 @@ use Rattle.atomic_table.specs.Table.{State, Me, step, keeps, stepped, Allows, Sp
 use Rattle.atomic_table.proofs.Lists.{at_set, at_snoc, at_longer, set_here, set_else}
 use Rattle.trials.specs.Campaigns.{Plan}
 use Rattle.trials.specs.declared.desk_table.SeatKnowledge.{SeatKnowledge}
-use Rattle.judge.specs.declared.verdict.Verdict.{Verdict}
-use Rattle.judge.specs.declared.verdict.Verdict.TheVariants.{Ordered, Overlook, Cycle}
+use Rattle.verdicts.specs.declared.verdict.Verdict.{Verdict}
+use Rattle.verdicts.specs.declared.verdict.Verdict.TheVariants.{Ordered, Overlook, Cycle}
 use Rattle.trials.specs.Codes.{IsCode, end_code}
 use Rattle.trials.specs.LegalDesk.{first_view, spent_view, with_others, without_share, joined_views, claimed}
 use Rattle.trials.specs.LegalDesk.{saw_claimed, saw_filed, completed, AreAllOpen}

@@ -7,7 +7,7 @@ use Rattle.rand_xoshiro.specs.Xoshiro256.{plus_plus, of_seed}
 use Rattle.program.specs.Parts.{Parts}
 use Rattle.litmus.specs.Random.{after_words, program_of_words}
 use Rattle.machine.specs.Configuration.{Configuration}
-use Rattle.judge.specs.declared.verdict.Verdict.{Verdict}
+use Rattle.verdicts.specs.declared.verdict.Verdict.{Verdict}
 use Rattle.ledger.specs.declared.code.TheConstants.{UNFINISHED}
 use Rattle.ledger.specs.Findings.{finding_code, finding_of}
 use Rattle.ledger.specs.Findings as findings

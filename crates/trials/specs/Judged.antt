@@ -9,9 +9,9 @@ use Rattle.machine.specs.declared.step.Step.{Step}
 use Rattle.machine.specs.Taken.{begun}
 use Rattle.machine.specs.Configuration.{Configuration, IsAtEnd, recording_of, state_behind}
 use Rattle.machine.specs.ProgramOf.{IsProgramOf}
-use Rattle.judge.specs.declared.verdict.Verdict.{Verdict}
-use Rattle.judge.specs.declared.verdict.Verdict.TheVariants.{Ordered, Overlook, Cycle}
-use Rattle.judge.specs.Judgement.{IsVerdict, Verifies}
+use Rattle.verdicts.specs.declared.verdict.Verdict.{Verdict}
+use Rattle.verdicts.specs.declared.verdict.Verdict.TheVariants.{Ordered, Overlook, Cycle}
+use Rattle.verdicts.specs.Judgement.{IsVerdict, Verifies}
 use Rattle.trials.specs.declared.judging.Judged.{Judged}
 
 -- the machine in which a program begins

@@ -2,12 +2,13 @@
 use Rattle.std.proofs.Common.{◌≡◌, ◌≢◌, ◌⊎◌, inl, inr, ℕ, List, Option, refl, sym}
 use Rattle.program.specs.Parts.{Parts}
 use Rattle.recording.specs.Execution.{Execution}
-use Rattle.judge.specs.declared.verdict.Verdict.{Verdict}
-use Rattle.judge.specs.declared.verdict.Verdict.TheVariants.{Ordered, Overlook, Cycle}
-use Rattle.report.specs.declared.outcome.Outcome.{Outcome}
-use Rattle.report.specs.declared.outcome.Outcome.TheVariants as outcome
-use Rattle.report.specs.declared.printed.Answer.{Answer}
-use Rattle.report.specs.Answer.{IsAnswerOf, outcome_of}
+use Rattle.verdicts.specs.declared.verdict.Verdict.{Verdict}
+use Rattle.verdicts.specs.declared.verdict.Verdict.TheVariants.{Ordered, Overlook, Cycle}
+use Rattle.verdicts.specs.declared.outcome.Outcome.{Outcome}
+use Rattle.verdicts.specs.declared.outcome.Outcome.TheVariants as outcome
+use Rattle.verdicts.specs.declared.printed.Answer.{Answer}
+use Rattle.verdicts.specs.VerdictAnswer.{outcome_of}
+use Rattle.report.specs.Answer.{IsAnswerOf}
 use Rattle.answers.specs.declared.rendering.Rendering.{Rendering}
 use Rattle.answers.specs.declared.rendering.Rendering.TheVariants.{Words, Picture, Reduction}
 use Rattle.answers.specs.Reduced.{IsReducedAnswer}

@@ -2,10 +2,10 @@
 use Rattle.std.proofs.Common.{◌≡◌, ◌∙◌, inl, inr, ℕ, List, Result, Ok, Err, IfOk, arith, ap, sym}
 use Rattle.std.specs.Prelude.{IfErr}
 use Rattle.common.specs.declared.memory.OutOfMemory.{OutOfMemory}
-use Rattle.report.specs.declared.outcome.Outcome.{Outcome}
-use Rattle.report.specs.declared.outcome.Outcome.TheVariants as outcome
-use Rattle.report.specs.declared.printed.Answer.{Answer}
-use Rattle.report.specs.Outcomes.{status_of}
+use Rattle.verdicts.specs.declared.outcome.Outcome.{Outcome}
+use Rattle.verdicts.specs.declared.outcome.Outcome.TheVariants as outcome
+use Rattle.verdicts.specs.declared.printed.Answer.{Answer}
+use Rattle.verdicts.specs.Outcomes.{status_of}
 use Rattle.tsotest_library.specs.Given.{IsAnswered, IsNothing, IsWrittenWhole}
 use Rattle.tsotest_library.proofs.Outcomes.{ComesOut}
 

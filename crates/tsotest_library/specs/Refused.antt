@@ -1,17 +1,13 @@
 -- Why the text of a program is refused.
-use Rattle.std.specs.Prelude.{◌≡◌, ◌⊎◌, ◌++◌, ◌∷◌, [], ℕ, List, Ok, Err, codes, decimal}
+use Rattle.std.specs.Prelude.{◌≡◌, ◌⊎◌, ◌++◌, ◌∷◌, [], ℕ, List, Ok, Err, codes}
 use Rattle.program.specs.declared.refusal.LineRefusal.{LineRefusal}
-use Rattle.answers.specs.Refusals.{line_refusal_name}
+use Rattle.answers.specs.Refusals.{line_refusal_name, refusal_line}
 use Rattle.program.specs.Parts.{Parts}
 use Rattle.program.specs.Text.{reading}
 use Rattle.recording.specs.Execution.{Execution}
 use Rattle.machine.specs.ProgramOf.{IsProgramOf}
-use Rattle.report.specs.declared.outcome.Outcome.TheVariants.{Refused}
-use Rattle.report.specs.declared.printed.Answer.{Answer}
-
--- the line that is printed for line k of a program
-abbrev pub refusal_line : LineRefusal → ℕ → List ℕ
-refusal_line fault k = codes "refused: " ++ line_refusal_name fault ++ codes " line " ++ decimal k ++ 10 ∷ []
+use Rattle.verdicts.specs.declared.outcome.Outcome.TheVariants.{Refused}
+use Rattle.verdicts.specs.declared.printed.Answer.{Answer}
 
 -- the first line of the text at fault
 pub record IsLineRefused (text : List ℕ) (answer : Answer) : Type 0 where
@@ -19,7 +15,7 @@ pub record IsLineRefused (text : List ℕ) (answer : Answer) : Type 0 where
   pub line : ℕ
   pub read : reading text ≡ Err (fault, line)
   pub outcome : answer.outcome ≡ Refused
-  pub printed : answer.text.items ≡ refusal_line fault line
+  pub printed : answer.text.items ≡ refusal_line (line_refusal_name fault) line
 
 -- the text is that of a program, and the recording is none of it
 pub record IsOtherProgram (x : Execution) (text : List ℕ) (answer : Answer) : Type 0 where

@@ -6,7 +6,7 @@ use Rattle.program.specs.Text.{reading}
 use Rattle.recording.specs.Execution.{Execution}
 use Rattle.recorder.specs.Reading.{IsReadingResult}
 use Rattle.machine.specs.ProgramOf.{IsProgramOf}
-use Rattle.report.specs.declared.printed.Answer.{Answer}
+use Rattle.verdicts.specs.declared.printed.Answer.{Answer}
 use Rattle.report.specs.Answer.{IsRefusedAnswer}
 use Rattle.answers.specs.declared.rendering.Rendering.{Rendering}
 use Rattle.answers.specs.Rendered.{IsRenderedAnswer}

@@ -1,7 +1,7 @@
 //! What is written into a caller's buffers.
 
 ghost use Rattle.std.specs.Prelude.{◌≡◌, IfErr, IfOk};
-ghost use Rattle.report.specs.Outcomes.{status_of};
+ghost use Rattle.verdicts.specs.Outcomes.{status_of};
 ghost use Rattle.tsotest_library.specs.Given.{IsNothing, IsWrittenWhole};
 
 use common::OutOfMemory;

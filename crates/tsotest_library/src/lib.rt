@@ -2,7 +2,7 @@
 #![tactic(auto)]
 
 ghost use Rattle.std.specs.Prelude.{◌≡◌, ◌≤◌};
-ghost use Rattle.report.specs.declared.outcome.Outcome.TheVariants.{Done, Ordered, Refused, Violation};
+ghost use Rattle.verdicts.specs.declared.outcome.Outcome.TheVariants.{Done, Ordered, Refused, Violation};
 ghost use Rattle.answers.specs.declared.rendering.Rendering.TheVariants.{Words, Picture, Reduction};
 ghost use Rattle.tsotest_library.specs.Given.{AreCodesAnswered, IsAnswered, IsNothing, IsWrittenWhole};
 ghost use Rattle.tsotest_library.specs.Judged.{IsJudgedOf};
@@ -13,7 +13,6 @@ mod buffers;
 mod checking;
 mod counting;
 mod judging;
-mod refusals;
 mod rendering;
 #[cfg(test)]
 mod tests;

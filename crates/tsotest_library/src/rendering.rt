@@ -3,8 +3,7 @@
 ghost use Rattle.std.specs.Prelude.{IfOk};
 ghost use Rattle.tsotest_library.specs.Rendered.{IsOwnOrRefused, IsRenderedByText, IsRenderedOf};
 
-use crate::refusals::refusal_line;
-use answers::{Rendering, rendered_answer};
+use answers::{Rendering, line_refusal_name, refusal_line, rendered_answer};
 use common::OutOfMemory;
 use explanation::is_program_of;
 use litmus::parse;
@@ -31,7 +30,7 @@ fn own_program(
             Ok(Err(refused))
         }
         Err(LitmusError::AtLine(fault, line)) => {
-            let text = refusal_line(alloc, fault, line)?;
+            let text = refusal_line(alloc, line_refusal_name(fault), line)?;
             Ok(Err(Answer {
                 outcome: Outcome::Refused,
                 text: text.into_bytes(),

@@ -10,10 +10,10 @@ use Rattle.relations.specs.CycleLaws.{short_cycle}
 use Rattle.labels.specs.Certified.{lists_of}
 use Rattle.labels.specs.CertificateLaws.{certificates_are_shortest}
 use Rattle.labels.specs.declared.certificate.Certificate.{Certificate}
-use Rattle.judge.specs.declared.verdict.Verdict.{Verdict}
-use Rattle.judge.specs.declared.verdict.Verdict.TheVariants.{Ordered, Overlook, Cycle}
-use Rattle.judge.specs.Judgement.{Verifies}
-use Rattle.report.specs.VerdictText.{ArePairLines, IsVerdictText, labels_text}
+use Rattle.verdicts.specs.declared.verdict.Verdict.{Verdict}
+use Rattle.verdicts.specs.declared.verdict.Verdict.TheVariants.{Ordered, Overlook, Cycle}
+use Rattle.verdicts.specs.Judgement.{Verifies}
+use Rattle.verdicts.specs.VerdictText.{ArePairLines, IsVerdictText, labels_text}
 use Rattle.verification.specs.Proof.{AreRows, Are16Bit, HasShortLabels, IsProof}
 use Rattle.verification.proofs.Heads.{one_byte}
 

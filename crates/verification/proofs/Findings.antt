@@ -2,8 +2,8 @@
 use Rattle.std.proofs.Common.{◌≡◌, ◌↔◌, ◌++◌, ℕ, List}
 use Rattle.std.specs.Prelude.{codes}
 use Rattle.recording.specs.Execution.{Execution}
-use Rattle.report.specs.declared.outcome.Outcome.TheVariants.{Violation}
-use Rattle.report.specs.declared.printed.Answer.{Answer}
+use Rattle.verdicts.specs.declared.outcome.Outcome.TheVariants.{Violation}
+use Rattle.verdicts.specs.declared.printed.Answer.{Answer}
 use Rattle.verification.specs.declared.finding.Finding.{Finding}
 use Rattle.verification.specs.declared.finding.Finding.TheVariants.{Holds}
 use Rattle.verification.specs.Proof.{IsProof}

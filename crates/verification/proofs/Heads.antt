@@ -8,10 +8,11 @@ use Rattle.recording.specs.PlaceLaws.{times_at}
 use Rattle.recording.specs.Tso.{IsTsoOrder}
 use Rattle.relations.specs.Forced.{Overlooks}
 use Rattle.labels.specs.Certified.{lists_of}
-use Rattle.judge.specs.declared.verdict.Verdict.{Verdict}
-use Rattle.judge.specs.declared.verdict.Verdict.TheVariants.{Ordered, Overlook, Cycle}
-use Rattle.judge.specs.Judgement.{Verifies}
-use Rattle.report.specs.VerdictText.{IsVerdictText, labels_text, numbers_text, overlook_line}
+use Rattle.verdicts.specs.declared.verdict.Verdict.{Verdict}
+use Rattle.verdicts.specs.declared.verdict.Verdict.TheVariants.{Ordered, Overlook, Cycle}
+use Rattle.verdicts.specs.Judgement.{Verifies}
+use Rattle.texts.specs.Numbers.{numbers_text}
+use Rattle.verdicts.specs.VerdictText.{IsVerdictText, labels_text, overlook_line}
 use Rattle.verification.specs.Proof.{IsProof, IsRow}
 
 -- where two texts are one, so are their bytes at a place

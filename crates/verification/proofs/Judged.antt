@@ -14,10 +14,10 @@ use Rattle.relations.proofs.Agree.{forced_within}
 use Rattle.labels.specs.Certified.{lists_of}
 use Rattle.labels.specs.declared.certificate.Certificate.{Certificate}
 use Rattle.search.proofs.Cuts.{exact_certifies}
-use Rattle.judge.specs.declared.verdict.Verdict.{Verdict}
-use Rattle.judge.specs.declared.verdict.Verdict.TheVariants.{Ordered, Overlook, Cycle}
-use Rattle.judge.specs.Judgement.{IsCycleVerdict, IsOrderedVerdict, IsOverlookVerdict, IsVerdict}
-use Rattle.report.specs.VerdictText.{IsVerdictText}
+use Rattle.verdicts.specs.declared.verdict.Verdict.{Verdict}
+use Rattle.verdicts.specs.declared.verdict.Verdict.TheVariants.{Ordered, Overlook, Cycle}
+use Rattle.verdicts.specs.Judgement.{IsCycleVerdict, IsOrderedVerdict, IsOverlookVerdict, IsVerdict}
+use Rattle.verdicts.specs.VerdictText.{IsVerdictText}
 use Rattle.verification.specs.declared.finding.Finding.{Finding}
 use Rattle.verification.specs.declared.finding.Finding.TheVariants.{Holds}
 use Rattle.verification.specs.Proof.{Are16Bit, EveryVerdictHolds, IsJudged, IsProof}

@@ -5,7 +5,7 @@ use Rattle.std.proofs.lemmas.Bool.{cases_lt}
 use Rattle.std.proofs.lemmas.List.{append_cancel_left, get_or_append_left, map-append}
 use Rattle.std.proofs.Math.Seq.{get_or-append_seam}
 use Rattle.labels.specs.Certified.{lists_of}
-use Rattle.report.specs.VerdictText.{labels_line, labels_text}
+use Rattle.verdicts.specs.VerdictText.{labels_line, labels_text}
 
 -- rows with the same labels have the same lines
 pub labels_agree : (a b : List (List ℕ)) (n : ℕ) → ((v : ℕ) → v < n → get_or a v [] ≡ get_or b v [])

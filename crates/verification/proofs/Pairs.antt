@@ -11,7 +11,7 @@ use Rattle.relations.specs.declared.reason.Reason.{Reason}
 use Rattle.relations.specs.declared.reason.Reason.TheVariants.{Po, Wo, Rf, Fr}
 use Rattle.relations.specs.Forced.{IsReason}
 use Rattle.relations.specs.Cycle.{next_in_cycle}
-use Rattle.report.specs.VerdictText.{pair_line, reason_name, IsPairLine, ArePairLines}
+use Rattle.verdicts.specs.VerdictText.{pair_line, reason_name, IsPairLine, ArePairLines}
 use Rattle.verification.specs.Proof.{Are16Bit}
 
 -- a pair has one first reason

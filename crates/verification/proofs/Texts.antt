@@ -3,7 +3,7 @@ use Rattle.std.proofs.Common.{◌≡◌, ◌<◌, ◌+◌, ◌++◌, ◌∷◌, 
 use Rattle.std.proofs.Common.{arith, ap, refl, ◌∙◌, append_assoc, append-nil, drop-cons}
 use Rattle.std.proofs.lemmas.Grind.{flat_map-append}
 use Rattle.program.specs.Numbers.{is_digit}
-use Rattle.report.specs.VerdictText.{numbers_text}
+use Rattle.texts.specs.Numbers.{numbers_text}
 
 -- the text of one number more
 pub text_push : (numbers : List ℕ) (n : ℕ) → numbers_text (numbers ++ n ∷ [])

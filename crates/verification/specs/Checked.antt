@@ -1,8 +1,8 @@
 -- What is answered to a text that is to hold of a recording.
 use Rattle.std.specs.Prelude.{◌≡◌, ◌++◌, ◌∷◌, [], ℕ, List, codes}
 use Rattle.recording.specs.Execution.{Execution}
-use Rattle.report.specs.declared.outcome.Outcome.TheVariants.{Done, Violation}
-use Rattle.report.specs.declared.printed.Answer.{Answer}
+use Rattle.verdicts.specs.declared.outcome.Outcome.TheVariants.{Done, Violation}
+use Rattle.verdicts.specs.declared.printed.Answer.{Answer}
 use Rattle.verification.specs.Proof.{IsProof}
 
 -- a text holds exactly where it is that of a verdict that passes its check; which line is at fault no clause says

@@ -6,10 +6,10 @@ use Rattle.recording.specs.Recording.{IsRecording}
 use Rattle.relations.specs.Relation.{Table}
 use Rattle.labels.specs.Certified.{lists_of, Certifies}
 use Rattle.labels.specs.declared.certificate.Certificate.{Certificate}
-use Rattle.judge.specs.declared.verdict.Verdict.{Verdict}
-use Rattle.judge.specs.declared.verdict.Verdict.TheVariants.{Ordered, Overlook, Cycle}
-use Rattle.judge.specs.Judgement.{IsVerdict, Verifies}
-use Rattle.report.specs.VerdictText.{IsVerdictText}
+use Rattle.verdicts.specs.declared.verdict.Verdict.{Verdict}
+use Rattle.verdicts.specs.declared.verdict.Verdict.TheVariants.{Ordered, Overlook, Cycle}
+use Rattle.verdicts.specs.Judgement.{IsVerdict, Verifies}
+use Rattle.verdicts.specs.VerdictText.{IsVerdictText}
 use Rattle.verification.specs.declared.finding.Finding.{Finding}
 use Rattle.verification.specs.declared.finding.Finding.TheVariants.{Holds}
 

@@ -7,8 +7,8 @@ ghost use Rattle.verification.specs.Checked.{IsCheckAnswer};
 ghost use Rattle.verification.specs.Proof.{IsProof};
 
 use crate::finding::Finding;
-use report::{Answer, Outcome};
 use std::alloc::{AllocError, Global};
+use verdicts::{Answer, Outcome};
 
 /// What is answered to a finding: that the text holds, or that it does not, with the line at fault where there is
 /// one. Fails only if out of memory.

@@ -7,7 +7,7 @@ ghost use Rattle.recording.specs.Execution.{event_count};
 ghost use Rattle.relations.specs.Forced.{Forced};
 ghost use Rattle.relations.specs.Relation.{Related};
 ghost use Rattle.labels.specs.Certified.{Certifies};
-ghost use Rattle.report.specs.VerdictText.{ArePairLines};
+ghost use Rattle.verdicts.specs.VerdictText.{ArePairLines};
 ghost use Rattle.verification.specs.declared.finding.Finding.TheVariants.{Holds};
 ghost use Rattle.verification.specs.Proof.{Are16Bit, IsProof, IsReadCycle};
 

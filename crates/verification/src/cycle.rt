@@ -2,7 +2,7 @@
 
 ghost use Rattle.std.specs.Prelude.{◌≡◌, ◌<◌, ◌≤◌, ◌^◌, ◌++◌, ◌∷◌, ℕ, List, Some, IfOk, IfSome, MatchOption, codes};
 ghost use Rattle.std.specs.Prelude.{[], decimal, length};
-ghost use Rattle.report.specs.VerdictText.{reason_name, ArePairLines, IsPairLine};
+ghost use Rattle.verdicts.specs.VerdictText.{reason_name, ArePairLines, IsPairLine};
 ghost use Rattle.verification.specs.Proof.{Are16Bit};
 
 use crate::cursor::Cursor;

@@ -2,7 +2,7 @@
 
 ghost use Rattle.std.specs.Prelude.{◌≡◌, ◌<◌, ◌^◌, ◌++◌, ◌∷◌, ℕ, List, Some, IfOk, IfSome, MatchOption, false, decimal};
 ghost use Rattle.program.specs.Numbers.{is_digit};
-ghost use Rattle.report.specs.VerdictText.{numbers_text};
+ghost use Rattle.texts.specs.Numbers.{numbers_text};
 ghost use Rattle.verification.specs.Proof.{IsRow};
 
 use crate::cursor::Cursor;

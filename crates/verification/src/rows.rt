@@ -4,7 +4,7 @@ ghost use Rattle.std.specs.Prelude.{◌≡◌, ◌<◌, ◌≤◌, ◌^◌, ◌+
 ghost use Rattle.std.specs.Prelude.{codes, decimal};
 ghost use Rattle.common.specs.declared.limits.TheConstants.{MAX_EVENTS};
 ghost use Rattle.labels.specs.Certified.{lists_of};
-ghost use Rattle.report.specs.VerdictText.{labels_line, labels_text};
+ghost use Rattle.verdicts.specs.VerdictText.{labels_line, labels_text};
 ghost use Rattle.verification.specs.Proof.{AreRows, IsRow};
 
 use crate::cursor::Cursor;

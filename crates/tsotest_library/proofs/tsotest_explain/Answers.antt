@@ -1,5 +1,5 @@
 use Rattle.std.proofs.Common.{refl}
-use Rattle.report.specs.declared.outcome.Outcome.TheVariants as outcome
+use Rattle.verdicts.specs.declared.outcome.Outcome.TheVariants as outcome
 use Rattle.answers.specs.declared.rendering.Rendering.TheVariants.{Words}
 use Rattle.tsotest_library.specs.Rendered.{IsRenderedOf}
 use Rattle.tsotest_library.proofs.Outcomes.{rendered_of_outcome}

@@ -1,5 +1,5 @@
 use Rattle.std.proofs.Common.{refl}
-use Rattle.report.specs.declared.outcome.Outcome.TheVariants as outcome
+use Rattle.verdicts.specs.declared.outcome.Outcome.TheVariants as outcome
 use Rattle.tsotest_library.specs.Checked.{IsCheckOf}
 use Rattle.tsotest_library.proofs.Outcomes.{check_of_outcome}
 use Rattle.tsotest_library.proofs.Statuses.{put_by, put_0, put_2, put_3}

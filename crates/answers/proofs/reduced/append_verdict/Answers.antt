@@ -1,5 +1,5 @@
 use Rattle.std.proofs.Common.{ℕ, List, subst, IfOk}
-use Rattle.report.specs.Answer.{IsVerdictAnswer}
+use Rattle.verdicts.specs.VerdictAnswer.{IsVerdictAnswer}
 use Rattle.answers.proofs.reduced.append_verdict.Goals as goal
 
 pub returns : goal.returns

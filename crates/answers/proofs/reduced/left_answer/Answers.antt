@@ -1,7 +1,7 @@
 use Rattle.std.proofs.Common.{◌++◌, ℕ, List, subst, IfOk, ap, ◌∙◌}
 use Rattle.program.specs.Parts.{Parts}
 use Rattle.answers.specs.Reduced.{heading, shown_text}
-use Rattle.report.specs.Answer.{IsVerdictAnswer}
+use Rattle.verdicts.specs.VerdictAnswer.{IsVerdictAnswer}
 use Rattle.answers.proofs.reduced.left_answer.Goals as goal
 
 pub returns : goal.returns

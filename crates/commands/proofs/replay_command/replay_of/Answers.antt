@@ -1,6 +1,6 @@
 use Rattle.std.proofs.Common.{◌∙◌, inl, refl, ap, subst, List, ℕ}
-use Rattle.judge.specs.declared.verdict.Verdict.{Verdict}
-use Rattle.judge.specs.Judgement.{IsVerdict, IsOrderedVerdict}
+use Rattle.verdicts.specs.declared.verdict.Verdict.{Verdict}
+use Rattle.verdicts.specs.Judgement.{IsVerdict, IsOrderedVerdict}
 use Rattle.recording.specs.Execution.{Execution}
 use Rattle.commands.specs.Replay.{replay_text, IsReadBack, ReplaysOrder}
 use Rattle.commands.proofs.replay_command.replay_of.Goals as goal

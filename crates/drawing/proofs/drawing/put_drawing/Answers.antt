@@ -1,4 +1,4 @@
-use Rattle.event_texts.specs.TextLaws.{three_last}
+use Rattle.texts.specs.TextLaws.{three_last}
 use Rattle.drawing.proofs.drawing.put_drawing.Goals as goal
 
 pub returns : goal.returns

@@ -1,5 +1,5 @@
 use Rattle.drawing.specs.Drawing.{nodes_text}
-use Rattle.event_texts.specs.TextLaws.{four_last}
+use Rattle.texts.specs.TextLaws.{four_last}
 use Rattle.drawing.proofs.drawing.put_picture_nodes.Goals as goal
 
 pub returns : goal.returns

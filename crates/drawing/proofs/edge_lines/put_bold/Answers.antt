@@ -1,7 +1,7 @@
 use Rattle.std.proofs.Common.{true}
 use Rattle.std.proofs.lemmas.List.{take_more}
 use Rattle.drawing.specs.Drawing.{edge_line}
-use Rattle.event_texts.specs.TextLaws.{next_item}
+use Rattle.texts.specs.TextLaws.{next_item}
 use Rattle.drawing.proofs.edge_lines.put_bold.Goals as goal
 
 pub loop-edge-preserved : goal.loop-edge-preserved

@@ -1,5 +1,5 @@
 use Rattle.std.specs.Prelude.{codes, decimal}
-use Rattle.event_texts.specs.TextLaws.{two_numbers}
+use Rattle.texts.specs.TextLaws.{two_numbers}
 use Rattle.drawing.proofs.edge_lines.put_ends.Goals as goal
 
 pub returns : goal.returns

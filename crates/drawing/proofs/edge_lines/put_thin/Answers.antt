@@ -1,5 +1,5 @@
 use Rattle.drawing.specs.Drawing.{thin_lines}
-use Rattle.event_texts.specs.TextLaws.{next_text}
+use Rattle.texts.specs.TextLaws.{next_text}
 use Rattle.drawing.proofs.edge_lines.put_thin.Goals as goal
 
 pub loop-event-preserved : goal.loop-event-preserved

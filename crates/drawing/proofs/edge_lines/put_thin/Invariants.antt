@@ -1,6 +1,6 @@
 use Rattle.std.proofs.Common.{◌≡◌, ◌++◌}
 use Rattle.drawing.specs.Drawing.{thin_lines}
-use Rattle.event_texts.specs.Below.{texts_below}
+use Rattle.texts.specs.Below.{texts_below}
 use Rattle.drawing.proofs.edge_lines.put_thin.Given as goal
 
 abbrev pub invariant-loop-event : goal.invariant-loop-event

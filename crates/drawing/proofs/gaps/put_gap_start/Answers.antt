@@ -1,5 +1,5 @@
 use Rattle.std.specs.Prelude.{codes, decimal}
-use Rattle.event_texts.specs.TextLaws.{two_numbers_last}
+use Rattle.texts.specs.TextLaws.{two_numbers_last}
 use Rattle.drawing.proofs.gaps.put_gap_start.Goals as goal
 
 pub returns : goal.returns

@@ -1,4 +1,4 @@
-use Rattle.event_texts.specs.TextLaws.{four_last}
+use Rattle.texts.specs.TextLaws.{four_last}
 use Rattle.drawing.proofs.nodes.put_cluster_lines.Goals as goal
 
 pub returns : goal.returns

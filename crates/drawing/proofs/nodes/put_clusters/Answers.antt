@@ -1,5 +1,5 @@
 use Rattle.drawing.specs.Nodes.{cluster_text}
-use Rattle.event_texts.specs.TextLaws.{next_text}
+use Rattle.texts.specs.TextLaws.{next_text}
 use Rattle.drawing.proofs.nodes.put_clusters.Goals as goal
 
 pub loop-core-preserved : goal.loop-core-preserved

@@ -1,5 +1,5 @@
 use Rattle.std.proofs.Common.{◌≡◌, ◌++◌}
-use Rattle.event_texts.specs.Below.{texts_below}
+use Rattle.texts.specs.Below.{texts_below}
 use Rattle.drawing.specs.Nodes.{cluster_text}
 use Rattle.drawing.proofs.nodes.put_clusters.Given as goal
 

@@ -1,4 +1,4 @@
-use Rattle.event_texts.specs.TextLaws.{two_last}
+use Rattle.texts.specs.TextLaws.{two_last}
 use Rattle.drawing.proofs.nodes.put_head.Goals as goal
 
 pub returns-in_ok-put_text_and_number : goal.returns-in_ok-put_text_and_number

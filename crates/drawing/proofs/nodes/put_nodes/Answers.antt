@@ -1,5 +1,5 @@
 use Rattle.drawing.specs.Nodes.{node_of_core}
-use Rattle.event_texts.specs.TextLaws.{next_text}
+use Rattle.texts.specs.TextLaws.{next_text}
 use Rattle.drawing.proofs.nodes.put_nodes.Goals as goal
 
 pub loop-i-preserved : goal.loop-i-preserved

@@ -1,7 +1,7 @@
 use Rattle.std.proofs.Common.{◌≡◌, ◌+◌, ◌∙◌, ℕ, suc, ap, arith}
 use Rattle.std.specs.Prelude.{if◌then◌else◌}
 use Rattle.drawing.specs.Ranks.{is_on_core, last_rank, next_rank}
-use Rattle.event_texts.specs.TextLaws.{next_text}
+use Rattle.texts.specs.TextLaws.{next_text}
 use Rattle.drawing.proofs.ranks.put_core_ranks.Goals as goal
 
 pub loop-i-preserved : goal.loop-i-preserved

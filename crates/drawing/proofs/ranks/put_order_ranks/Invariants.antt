@@ -1,5 +1,5 @@
 use Rattle.std.proofs.Common.{◌≡◌, ◌++◌}
-use Rattle.event_texts.specs.Below.{texts_below}
+use Rattle.texts.specs.Below.{texts_below}
 use Rattle.drawing.specs.Ranks.{core_ranks}
 use Rattle.drawing.proofs.ranks.put_order_ranks.Given as goal
 

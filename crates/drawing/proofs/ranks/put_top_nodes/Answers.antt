@@ -1,5 +1,5 @@
 use Rattle.drawing.specs.Ranks.{top_of_core}
-use Rattle.event_texts.specs.TextLaws.{next_text}
+use Rattle.texts.specs.TextLaws.{next_text}
 use Rattle.drawing.proofs.ranks.put_top_nodes.Goals as goal
 
 pub loop-core-preserved : goal.loop-core-preserved

@@ -1,4 +1,4 @@
-use Rattle.event_texts.specs.TextLaws.{two_last}
+use Rattle.texts.specs.TextLaws.{two_last}
 use Rattle.explanation.proofs.cycle.put_words_and_written.Goals as goal
 
 pub returns : goal.returns

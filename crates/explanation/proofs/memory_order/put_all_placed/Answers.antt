@@ -1,6 +1,6 @@
 use Rattle.std.proofs.lemmas.List.{take_more}
 use Rattle.explanation.specs.Order.{placed_lines}
-use Rattle.event_texts.specs.TextLaws.{next_item}
+use Rattle.texts.specs.TextLaws.{next_item}
 use Rattle.explanation.proofs.memory_order.put_all_placed.Goals as goal
 
 pub loop-number-preserved : goal.loop-number-preserved

@@ -1,4 +1,4 @@
-use Rattle.event_texts.specs.TextLaws.{two_last}
+use Rattle.texts.specs.TextLaws.{two_last}
 use Rattle.explanation.proofs.memory_order.put_forwarded.Goals as goal
 
 pub returns : goal.returns

@@ -1,4 +1,4 @@
-use Rattle.event_texts.specs.TextLaws.{four_last}
+use Rattle.texts.specs.TextLaws.{four_last}
 use Rattle.explanation.proofs.memory_order.put_last_write.Goals as goal
 
 pub returns : goal.returns

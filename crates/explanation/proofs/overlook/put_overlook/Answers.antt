@@ -1,4 +1,4 @@
-use Rattle.event_texts.specs.TextLaws.{five_last}
+use Rattle.texts.specs.TextLaws.{five_last}
 use Rattle.explanation.proofs.overlook.put_overlook.Goals as goal
 
 pub returns : goal.returns

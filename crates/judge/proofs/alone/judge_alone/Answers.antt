@@ -3,7 +3,7 @@ use Rattle.std.specs.Prelude.{IfNone}
 use Rattle.relations.specs.Forced.{Forced}
 use Rattle.relations.specs.Cycle.{IsCycle}
 use Rattle.relations.specs.Consistency.{HasNoOverlook}
-use Rattle.judge.specs.declared.verdict.Verdict.{Verdict}
+use Rattle.verdicts.specs.declared.verdict.Verdict.{Verdict}
 use Rattle.judge.proofs.Verdicts.{certificate, cycle_verdict, cyclic}
 use Rattle.judge.proofs.alone.judge_alone.Goals as goal
 

@@ -3,8 +3,8 @@ use Rattle.recording.specs.Execution.{event_count}
 use Rattle.relations.specs.Relation.{Related}
 use Rattle.relations.specs.Cycle.{IsCertificate}
 use Rattle.labels.specs.Certified.{lists_of}
-use Rattle.judge.specs.declared.verdict.Verdict.{Verdict}
-use Rattle.judge.specs.Judgement.{Verifies}
+use Rattle.verdicts.specs.declared.verdict.Verdict.{Verdict}
+use Rattle.verdicts.specs.Judgement.{Verifies}
 use Rattle.judge.proofs.check.verify.Goals as goal
 
 pub returns-in_ok-relation-in-Cycle-clause-exact : goal.returns-in_ok-relation-in-Cycle-clause-exact

@@ -3,7 +3,7 @@ use Rattle.std.specs.Prelude.{IfNone}
 use Rattle.relations.specs.Forced.{Forced}
 use Rattle.relations.specs.Cycle.{IsCycle}
 use Rattle.relations.specs.Consistency.{HasNoOverlook}
-use Rattle.judge.specs.declared.verdict.Verdict.{Verdict}
+use Rattle.verdicts.specs.declared.verdict.Verdict.{Verdict}
 use Rattle.judge.proofs.Verdicts.{certificate, cycle_verdict, cyclic}
 use Rattle.judge.proofs.workers.judge_gated.Goals as goal
 

@@ -3,7 +3,7 @@ use Rattle.std.proofs.Common.{length, length-append, sym}
 use Rattle.std.proofs.lemmas.Bool.{cases_lt}
 use Rattle.std.proofs.lemmas.List.{ext_get_or, get_or_append_left}
 use Rattle.std.proofs.Math.Seq.{get_or-append_seam}
-use Rattle.report.specs.Counted.{cycle_line, cycle_lines}
+use Rattle.ledger.specs.Counted.{cycle_line, cycle_lines}
 use Rattle.merging.proofs.CycleTexts.{lines_all, lines_end, lines_none, lines_push, next_count}
 use Rattle.merging.proofs.cycles.cycle_counts.Goals as goal
 

@@ -1,6 +1,6 @@
 use Rattle.std.proofs.Common.{◌≡◌, ◌<◌, ◌+◌, ◌-◌, ◌++◌, ◌∷◌, ℕ, List, get_or, length}
 use Rattle.common.specs.declared.limits.TheConstants.{MAX_EVENTS}
-use Rattle.report.specs.Counted.{cycle_lines}
+use Rattle.ledger.specs.Counted.{cycle_lines}
 use Rattle.merging.specs.Parts.{Are64Bit}
 use Rattle.merging.proofs.CycleTexts.{lines_from}
 use Rattle.merging.proofs.cycles.cycle_counts.Given as goal

@@ -1,6 +1,6 @@
 use Rattle.std.proofs.Common.{◌+◌, ◌++◌, ◌∷◌, ◌∙◌, ℕ, List, None, ap, codes, sym}
 use Rattle.common.specs.declared.limits.TheConstants.{MAX_EVENTS}
-use Rattle.report.specs.Counted.{cycle_lines}
+use Rattle.ledger.specs.Counted.{cycle_lines}
 use Rattle.merging.specs.Parts.{count_lines}
 use Rattle.merging.specs.Texts.{noun}
 use Rattle.merging.proofs.WholeTexts.{first_back, first_begins, ledger_then, same_some}

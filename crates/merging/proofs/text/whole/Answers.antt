@@ -1,5 +1,5 @@
 use Rattle.std.proofs.Common.{◌++◌, ◌∙◌, ℕ, List, Option, ap, sym}
-use Rattle.report.specs.Counted.{ledger_text}
+use Rattle.ledger.specs.Counted.{ledger_text}
 use Rattle.merging.specs.Parts.{tail, place_read}
 use Rattle.merging.specs.Texts.{all_name, noun, unjudged_name}
 use Rattle.merging.proofs.WholeTexts.{same_some, text_then}

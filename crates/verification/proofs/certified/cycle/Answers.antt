@@ -1,6 +1,6 @@
 use Rattle.std.proofs.Common.{◌≡◌, ◌++◌, ℕ, length, sym, subst}
 use Rattle.std.proofs.lemmas.Result.{IfOk-weaker}
-use Rattle.report.specs.VerdictText.{ArePairLines}
+use Rattle.verdicts.specs.VerdictText.{ArePairLines}
 use Rattle.verification.proofs.Pairs.{some_is}
 use Rattle.verification.proofs.certified.cycle.Goals as goal
 

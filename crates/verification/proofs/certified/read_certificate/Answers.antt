@@ -4,7 +4,7 @@ use Rattle.relations.specs.Forced.{Forced}
 use Rattle.relations.specs.Cycle.{IsCertificate}
 use Rattle.relations.specs.Relation.{Related}
 use Rattle.labels.specs.Certified.{lists_of}
-use Rattle.report.specs.VerdictText.{labels_text}
+use Rattle.verdicts.specs.VerdictText.{labels_text}
 use Rattle.verification.specs.Proof.{AreRows}
 use Rattle.verification.proofs.Certificates.{cycle_of, proof_of_cycle}
 use Rattle.verification.proofs.certified.read_certificate.Goals as goal

@@ -2,7 +2,7 @@ use Rattle.std.proofs.Common.{◌≡◌, ◌++◌, ◌∷◌, [], ℕ, List, Som
 use Rattle.std.proofs.lemmas.Bool.{false≢true}
 use Rattle.relations.specs.declared.reason.Reason.{Reason}
 use Rattle.relations.specs.Forced.{IsReason}
-use Rattle.report.specs.VerdictText.{pair_line, reason_name}
+use Rattle.verdicts.specs.VerdictText.{pair_line, reason_name}
 use Rattle.verification.proofs.Pairs.{line_before, one_reason, second_is}
 use Rattle.verification.proofs.cycle.pair.Goals as goal
 

@@ -2,7 +2,7 @@ use Rattle.std.proofs.Common.{◌≡◌, ◌<◌, ◌+◌, ◌++◌, ◌∷◌, 
 use Rattle.std.proofs.Common.{get_or, length, length-append, append_assoc}
 use Rattle.std.proofs.lemmas.List.{append_cancel_left, get_or_append_left, get_or_default}
 use Rattle.relations.specs.Cycle.{next_in_cycle}
-use Rattle.report.specs.VerdictText.{ArePairLines, IsPairLine}
+use Rattle.verdicts.specs.VerdictText.{ArePairLines, IsPairLine}
 use Rattle.verification.proofs.Pairs.{GoesAlong, along_cycle, along_more, along_start, next_short, cycle_lines}
 use Rattle.verification.proofs.Pairs.{first_event, items_size, lines_more, lines_one, next_pair, some_is}
 use Rattle.verification.proofs.cycle.pairs.Goals as goal

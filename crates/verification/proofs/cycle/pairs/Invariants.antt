@@ -1,5 +1,5 @@
 use Rattle.std.proofs.Common.{◌≡◌, ◌+◌, ◌++◌, ℕ, List, length, get_or}
-use Rattle.report.specs.VerdictText.{ArePairLines}
+use Rattle.verdicts.specs.VerdictText.{ArePairLines}
 use Rattle.verification.specs.Proof.{Are16Bit}
 use Rattle.verification.proofs.Pairs.{GoesAlong}
 use Rattle.verification.proofs.cycle.pairs.Given as goal

@@ -2,7 +2,7 @@ use Rattle.std.proofs.Common.{◌≡◌, ◌<◌, ◌^◌, ◌++◌, ◌∷◌, 
 use Rattle.std.proofs.Common.{decimal, get_or, length, take, length-append}
 use Rattle.std.proofs.lemmas.List.{take_more}
 use Rattle.std.proofs.lemmas.List.Elements.{All-push}
-use Rattle.report.specs.VerdictText.{numbers_text}
+use Rattle.texts.specs.Numbers.{numbers_text}
 use Rattle.verification.proofs.Texts.{text_push, next_number}
 use Rattle.verification.proofs.numbers.numbers.Goals as goal
 

@@ -1,5 +1,5 @@
 use Rattle.std.proofs.Common.{◌≡◌, ◌++◌, ◌∷◌, ℕ, List, length, take, drop}
-use Rattle.report.specs.VerdictText.{numbers_text}
+use Rattle.texts.specs.Numbers.{numbers_text}
 use Rattle.verification.specs.Proof.{IsRow, Are16Bit}
 use Rattle.verification.proofs.numbers.numbers.Given as goal
 

@@ -1,7 +1,7 @@
 use Rattle.std.proofs.Common.{◌≡◌, ◌++◌, ◌∷◌, [], ℕ, List, ap, refl, sym, subst, ◌∙◌}
 use Rattle.std.proofs.lemmas.Bool.{false≢true}
 use Rattle.recording.specs.Tso.{IsTsoOrder}
-use Rattle.report.specs.VerdictText.{numbers_text}
+use Rattle.texts.specs.Numbers.{numbers_text}
 use Rattle.verification.specs.Proof.{IsRow}
 use Rattle.verification.proofs.Heads.{order_of, order_is_row, proof_of_order}
 use Rattle.verification.proofs.ordered.check_order.Goals as goal

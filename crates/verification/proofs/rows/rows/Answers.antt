@@ -4,7 +4,7 @@ use Rattle.std.proofs.lemmas.Bool.{cases_lt}
 use Rattle.std.proofs.lemmas.List.{append_cancel_left, ext_get_or, get_or_append_left}
 use Rattle.std.proofs.Math.Seq.{get_or-append_seam}
 use Rattle.labels.specs.Certified.{lists_of}
-use Rattle.report.specs.VerdictText.{labels_line, labels_text}
+use Rattle.verdicts.specs.VerdictText.{labels_line, labels_text}
 use Rattle.verification.specs.Proof.{IsRow}
 use Rattle.verification.proofs.Labels.{labels_push, lists_push, next_row}
 use Rattle.verification.proofs.rows.rows.Goals as goal

@@ -1,6 +1,6 @@
 use Rattle.std.proofs.Common.{◌≡◌, ◌<◌, ◌++◌, ℕ, List, [], length, get_or}
 use Rattle.labels.specs.Certified.{lists_of}
-use Rattle.report.specs.VerdictText.{labels_text}
+use Rattle.verdicts.specs.VerdictText.{labels_text}
 use Rattle.verification.specs.Proof.{AreRows, IsRow}
 use Rattle.verification.proofs.rows.rows.Given as goal
 

@@ -1,0 +1,126 @@
+//! The texts of ledgers.
+
+ghost use Rattle.std.specs.Prelude.{◌≡◌, ◌++◌, IfOk, OnOk, Some, length};
+ghost use Rattle.ledger.specs.Counted.{campaign_text, count_line, cycle_line, cycle_lines, first_line};
+ghost use Rattle.ledger.specs.Counted.{ledger_text, place_name, survey_text};
+
+use crate::ledger::Ledger;
+use common::OutOfMemory;
+use std::alloc::Global;
+use texts::put_number;
+
+/// Adds the line of how many there are of a kind.
+fn put_count(out: &mut Vec<u8>, name: &[u8], count: usize) -> Result<(), OutOfMemory>
+    ensures { OnOk result (out.new.items ≡ out.old.items ++ count_line name.now count) }
+{
+    out.extend_from_slice(name)?;
+    out.push(b' ')?;
+    put_number(out, count)?;
+    out.push(b'\n')?;
+    Ok(())
+}
+
+/// Adds the line of a length of cycles and how many recordings have one, unless none has.
+fn put_cycle_count(out: &mut Vec<u8>, cycle: usize, count: usize) -> Result<(), OutOfMemory>
+    ensures { OnOk result (out.new.items ≡ out.old.items ++ cycle_line cycle count) }
+{
+    if count == 0 {
+        return Ok(());
+    }
+    out.extend_from_slice(b"cycle ")?;
+    put_number(out, cycle)?;
+    out.extend_from_slice(b": ")?;
+    put_number(out, count)?;
+    out.push(b'\n')?;
+    Ok(())
+}
+
+/// Adds a line for each length of cycles that there is.
+fn put_cycle_counts(out: &mut Vec<u8>, counts: &[usize]) -> Result<(), OutOfMemory>
+    ensures { OnOk result (out.new.items ≡ out.old.items ++ cycle_lines counts.now (length counts.now)) }
+{
+    for cycle in 0..counts.len() {
+        put_cycle_count(out, cycle, counts[cycle])?;
+    }
+    Ok(())
+}
+
+/// Adds what is printed of a place.
+fn put_place(out: &mut Vec<u8>, noun: &[u8], place: usize) -> Result<(), OutOfMemory>
+    ensures { OnOk result (out.new.items ≡ out.old.items ++ place_name noun.now (Some place)) }
+{
+    out.extend_from_slice(noun)?;
+    out.push(b' ')?;
+    put_number(out, place)
+}
+
+/// Adds what is printed of a place, or that there is none.
+fn put_place_or_none(
+    out: &mut Vec<u8>,
+    noun: &[u8],
+    place: Option<usize>,
+) -> Result<(), OutOfMemory>
+    ensures { OnOk result (out.new.items ≡ out.old.items ++ place_name noun.now place) }
+{
+    let Some(place) = place else {
+        out.extend_from_slice(b"none")?;
+        return Ok(());
+    };
+    put_place(out, noun, place)
+}
+
+/// Adds the line of the first of a kind.
+fn put_first(
+    out: &mut Vec<u8>,
+    name: &[u8],
+    noun: &[u8],
+    first: Option<usize>,
+) -> Result<(), OutOfMemory>
+    ensures { OnOk result (out.new.items ≡ out.old.items ++ first_line name.now noun.now first) }
+{
+    out.extend_from_slice(b"first ")?;
+    out.extend_from_slice(name)?;
+    out.extend_from_slice(b": ")?;
+    put_place_or_none(out, noun, first)?;
+    out.push(b'\n')?;
+    Ok(())
+}
+
+/// The text of the counts of a ledger, by the names of all and of what has no verdict, and of its first
+/// violation. Fails only if out of memory.
+fn ledger_text(
+    alloc: Global,
+    all: &[u8],
+    unjudged: &[u8],
+    noun: &[u8],
+    ledger: &Ledger,
+) -> Result<Vec<u8>, OutOfMemory>
+    ensures { IfOk result (λ text. text.items ≡ ledger_text all.now unjudged.now noun.now ledger.now) }
+{
+    let mut out = Vec::new(alloc);
+    put_count(&mut out, all, ledger.total)?;
+    put_count(&mut out, b"ordered", ledger.ordered)?;
+    put_count(&mut out, unjudged, ledger.unjudged)?;
+    put_count(&mut out, b"overlook", ledger.overlook)?;
+    put_cycle_counts(&mut out, &ledger.cycles)?;
+    put_first(&mut out, b"violation", noun, ledger.first)?;
+    Ok(out)
+}
+
+/// The text of a campaign: how many trials there are and how they ended, a line for each length of cycles
+/// that occurs, ascending, and the first violation. Fails only if out of memory.
+pub fn campaign_text(alloc: Global, ledger: &Ledger) -> Result<Vec<u8>, OutOfMemory>
+    ensures { IfOk result (λ text. text.items ≡ campaign_text ledger.now) }
+{
+    ledger_text(alloc, b"trials", b"unfinished", b"trial", ledger)
+}
+
+/// The text of a survey: how many recordings there are and of which kinds, a line for each length of cycles
+/// that occurs, ascending, the first violation and the first refused recording. Fails only if out of memory.
+pub fn survey_text(alloc: Global, ledger: &Ledger) -> Result<Vec<u8>, OutOfMemory>
+    ensures { IfOk result (λ text. text.items ≡ survey_text ledger.now) }
+{
+    let mut out = ledger_text(alloc, b"recordings", b"refused", b"recording", ledger)?;
+    put_first(&mut out, b"refused", b"recording", ledger.first_unjudged)?;
+    Ok(out)
+}

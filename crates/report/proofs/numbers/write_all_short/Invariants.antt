@@ -1,9 +1,0 @@
-use Rattle.std.proofs.Common.{◌≡◌, ◌≤◌, ◌+◌, ◌*◌, ◌++◌, take}
-use Rattle.report.specs.VerdictText.{numbers_text}
-use Rattle.report.proofs.numbers.write_all_short.Given as goal
-
-abbrev pub invariant-loop-number : goal.invariant-loop-number
-invariant-loop-number l = record {
-  room : l.at ≤ l.start + 4 * l.number-index;
-  text : take l.at l.places ≡ take l.start l.fn.places ++ numbers_text (take l.number-index l.numbers);
-}

@@ -1,6 +1,0 @@
-use Rattle.std.proofs.Common.{◌≡◌, ◌*◌, take}
-use Rattle.report.specs.VerdictText.{numbers_text}
-use Rattle.report.proofs.numbers.write_digits.Given as goal
-
-abbrev pub invariant-loop-i : goal.invariant-loop-i
-invariant-loop-i l = take (2 * l.i) l.places ≡ numbers_text (take l.i l.numbers)

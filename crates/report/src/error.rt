@@ -1,0 +1,44 @@
+//! Why there is no whole answer.
+
+use common::OutOfMemory;
+use devices::ReadError;
+use thiserror::Error;
+
+/// Why there is no whole answer.
+#[derive(Clone, Copy, Debug, Drop, PartialEq, Eq, Error)]
+pub enum ReportError {
+    /// A read failed; nothing was written.
+    #[error("read failed")]
+    ReadFailed,
+    /// A write failed; a beginning of the answer was written.
+    #[error("write failed")]
+    WriteFailed,
+    /// There was no memory; nothing was written.
+    #[error("out of memory")]
+    OutOfMemory,
+}
+
+impl From<OutOfMemory> for ReportError {
+    ghost use Rattle.std.specs.Prelude.{◌≡◌};
+    ghost use Rattle.report.specs.declared.error.ReportError.TheVariants.{OutOfMemory};
+
+    ghost from_gives = { λ _ e. e ≡ OutOfMemory };
+
+    fn from(_refused: OutOfMemory) -> ReportError {
+        ReportError::OutOfMemory
+    }
+}
+
+impl From<ReadError> for ReportError {
+    ghost use Rattle.std.specs.Prelude.{◌≡◌};
+    ghost use Rattle.report.specs.Errors.{unread};
+
+    ghost from_gives = { λ error e. e ≡ unread error };
+
+    fn from(error: ReadError) -> ReportError {
+        match error {
+            ReadError::ReadFailed => ReportError::ReadFailed,
+            ReadError::OutOfMemory => ReportError::OutOfMemory,
+        }
+    }
+}

@@ -1,0 +1,2 @@
+pub mod ShortNumbers
+pub mod NumberTexts

@@ -1,0 +1,4 @@
+pub mod Numbers
+pub mod NumberTexts
+pub mod Below
+pub mod TextLaws

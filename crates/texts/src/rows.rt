@@ -1,0 +1,212 @@
+//! Rows of numbers, a space before each.
+
+ghost use Rattle.std.specs.Prelude.{◌≡◌, ◌<◌, ◌≤◌, ◌+◌, ◌*◌, ◌++◌, All, IfOk, OnOk, decimal, length, take};
+ghost use Rattle.common.specs.declared.limits.TheConstants.{MAX_EVENTS};
+ghost use Rattle.texts.specs.Numbers.{numbers_text};
+ghost use Rattle.texts.specs.NumberTexts.{IsTextOf, AreTexts};
+
+use crate::numbers::put_number;
+use common::{MAX_EVENTS, OutOfMemory};
+use std::alloc::Global;
+use std::simd::prelude::*;
+
+/// The greatest of the numbers; of none 0. It reads to the end, so that several are compared at once.
+fn greatest(numbers: &[u16]) -> u16
+    ensures { All (λ n. n ≤ result) numbers.now }
+{
+    let mut greatest = 0;
+    for number in numbers {
+        greatest = greatest.max(*number);
+    }
+    greatest
+}
+
+/// Writes a space and a digit for each number.
+fn write_digits(places: &mut [u8], numbers: &[u16])
+    requires room { length places.old ≡ 2 * length numbers.now }
+    requires digits { All (λ n. n < 10) numbers.now }
+    ensures { places.new ≡ numbers_text numbers.now }
+{
+    for (i, number) in numbers.iter().enumerate() {
+        places[2 * i] = b' ';
+        places[2 * i + 1] = b'0' + *number as u8;
+    }
+}
+
+/// Adds a space before each number of one digit.
+fn put_digits(out: &mut Vec<u8>, numbers: &[u16]) -> Result<(), OutOfMemory>
+    requires { All (λ n. n < 10) numbers.now }
+    ensures { OnOk result (out.new.items ≡ out.old.items ++ numbers_text numbers.now) }
+{
+    let start = out.len();
+    out.resize(start + 2 * numbers.len(), b' ')?;
+    write_digits(out.slice_mut(start..), numbers);
+    Ok(())
+}
+
+/// Writes the digits of a number of one to three, and answers the place after them.
+fn write_short(places: &mut [u8], at: usize, number: u16) -> usize
+    requires room { at + 3 ≤ length places.old }
+    requires short { number < 1000 }
+    ensures size { length places.new ≡ length places.old }
+    ensures end { result ≤ at + 3 }
+    ensures text { take result places.new ≡ take at places.old ++ decimal number }
+{
+    let last = b'0' + (number % 10) as u8;
+    if number < 10 {
+        places[at] = last;
+        return at + 1;
+    }
+    let tens = b'0' + (number / 10 % 10) as u8;
+    if number < 100 {
+        places[at] = tens;
+        places[at + 1] = last;
+        return at + 2;
+    }
+    places[at] = b'0' + (number / 100) as u8;
+    places[at + 1] = tens;
+    places[at + 2] = last;
+    at + 3
+}
+
+/// Writes from a place on a space and its digits for each number, and answers the place after them.
+fn write_all_short(places: &mut [u8], start: usize, numbers: &[u16]) -> usize
+    requires room { start + 4 * length numbers.now ≤ length places.old }
+    requires short { All (λ n. n < 1000) numbers.now }
+    ensures { take result places.new ≡ take start places.old ++ numbers_text numbers.now }
+{
+    let mut at = start;
+    for number in numbers {
+        places[at] = b' ';
+        at = write_short(places, at + 1, *number);
+    }
+    at
+}
+
+/// Adds a space before each number of one to three digits, at most one for each event.
+fn put_short(out: &mut Vec<u8>, numbers: &[u16]) -> Result<(), OutOfMemory>
+    requires short { All (λ n. n < 1000) numbers.now }
+    requires few { length numbers.now ≤ MAX_EVENTS }
+    ensures { OnOk result (out.new.items ≡ out.old.items ++ numbers_text numbers.now) }
+{
+    let start = out.len();
+    out.resize(start + 4 * numbers.len(), b' ')?;
+    let end = write_all_short(out.as_mut_slice(), start, numbers);
+    out.truncate(end);
+    Ok(())
+}
+
+/// The text of a number of one to three digits with a space before it, and any bytes after it.
+#[derive(Clone, Copy, Drop)]
+pub struct NumberText {
+    bytes: [u8; 4],
+    /// How many of the bytes are the text.
+    size: u32,
+}
+
+/// The text of a number.
+fn number_text(number: u16) -> NumberText
+    requires { number < 1000 }
+    ensures { IsTextOf number result }
+{
+    let mut bytes = [b' '; 4];
+    let size = write_short(&mut bytes, 1, number);
+    NumberText {
+        bytes,
+        size: size as u32,
+    }
+}
+
+/// The texts of the numbers up to the greatest, by their numbers. Fails only if out of memory.
+pub fn texts_up_to(alloc: Global, greatest: u16) -> Result<Vec<NumberText>, OutOfMemory>
+    requires { greatest < 1000 }
+    ensures { IfOk result (λ texts. AreTexts texts.items) }
+{
+    let mut texts = Vec::with_capacity(alloc, greatest as usize + 1)?;
+    for number in 0..greatest + 1 {
+        texts.push(number_text(number))?;
+    }
+    Ok(texts)
+}
+
+/// Writes a text with what is after it, and answers the place after the text.
+fn write_text(places: &mut [u8], at: usize, text: NumberText) -> usize
+    requires room { at + 4 ≤ length places.old }
+    requires four { length text.bytes ≡ 4 }
+    requires within { text.size ≤ 4 }
+    ensures size { length places.new ≡ length places.old }
+    ensures end { result ≤ at + 4 }
+    ensures text { take result places.new ≡ take at places.old ++ take text.size text.bytes }
+{
+    Simd::<u8, 4>::from_array(text.bytes).copy_to_slice(&mut places[at..]);
+    at + text.size as usize
+}
+
+/// Writes from a place on the text of each number, and answers the place after them.
+fn write_texts(places: &mut [u8], start: usize, numbers: &[u16], texts: &[NumberText]) -> usize
+    requires room { start + 4 * length numbers.now ≤ length places.old }
+    requires texts { AreTexts texts.now }
+    requires known { All (λ n. n < length texts.now) numbers.now }
+    ensures { take result places.new ≡ take start places.old ++ numbers_text numbers.now }
+{
+    let mut at = start;
+    for number in numbers {
+        at = write_text(places, at, texts[*number as usize]);
+    }
+    at
+}
+
+/// Adds a space before each number, at most one for each event, by their texts.
+fn put_texts(out: &mut Vec<u8>, numbers: &[u16], texts: &[NumberText]) -> Result<(), OutOfMemory>
+    requires texts { AreTexts texts.now }
+    requires known { All (λ n. n < length texts.now) numbers.now }
+    requires few { length numbers.now ≤ MAX_EVENTS }
+    ensures { OnOk result (out.new.items ≡ out.old.items ++ numbers_text numbers.now) }
+{
+    let start = out.len();
+    out.resize(start + 4 * numbers.len(), b' ')?;
+    let end = write_texts(out.as_mut_slice(), start, numbers, texts);
+    out.truncate(end);
+    Ok(())
+}
+
+/// Adds a space before each number, one at a time.
+fn put_each(out: &mut Vec<u8>, numbers: &[u16]) -> Result<(), OutOfMemory>
+    ensures { OnOk result (out.new.items ≡ out.old.items ++ numbers_text numbers.now) }
+{
+    for number in numbers {
+        out.push(b' ')?;
+        put_number(out, *number as usize)?;
+    }
+    Ok(())
+}
+
+/// Adds the numbers to a text, in decimal, a space before each. Fails only if out of memory. Most lines of
+/// labels have digits alone, and all have short numbers, which are written without a test of the room for
+/// each of them.
+pub fn put_numbers(out: &mut Vec<u8>, numbers: &[u16]) -> Result<(), OutOfMemory>
+    ensures { OnOk result (out.new.items ≡ out.old.items ++ numbers_text numbers.now) }
+{
+    let greatest = greatest(numbers);
+    if greatest < 10 {
+        put_digits(out, numbers)
+    } else if greatest < 1000 && numbers.len() <= MAX_EVENTS {
+        put_short(out, numbers)
+    } else {
+        put_each(out, numbers)
+    }
+}
+
+/// The same as `put_numbers`, by texts that were made before where they are of all numbers. Fails only if out of
+/// memory.
+pub fn put_row(out: &mut Vec<u8>, numbers: &[u16], texts: &[NumberText]) -> Result<(), OutOfMemory>
+    requires { AreTexts texts.now }
+    ensures { OnOk result (out.new.items ≡ out.old.items ++ numbers_text numbers.now) }
+{
+    let greatest = greatest(numbers);
+    if greatest >= 10 && (greatest as usize) < texts.len() && numbers.len() <= MAX_EVENTS {
+        put_texts(out, numbers, texts)
+    } else {
+        put_numbers(out, numbers)
+    }
+}

@@ -1,0 +1,5 @@
+pub mod Judgement
+pub mod VerdictText
+pub mod Refusal
+pub mod Outcomes
+pub mod VerdictAnswer
