@@ -3,4 +3,3 @@ pub mod Run
 pub mod Reduced
 pub mod Campaign
 pub mod Survey
-pub mod Refusals

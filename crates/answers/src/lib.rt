@@ -3,14 +3,12 @@
 
 mod campaigns;
 mod reduced;
-mod refusals;
 mod rendering;
 mod runs;
 mod shown;
 
 pub use campaigns::{campaign_answer, survey_answer, trials_answer};
 pub use reduced::{line_answer, reduced_answer};
-pub use refusals::{line_refusal_name, refusal_line};
 pub use rendering::{Rendering, rendered_answer};
 pub use runs::{finished, script_answer, seeded_answer};
 pub use shown::shown_answer;

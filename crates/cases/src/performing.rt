@@ -2,9 +2,9 @@
 
 use crate::printed::Printed;
 use crate::test_environment::{TestEnvironment, words_of};
-use commands::fault::CommandFault;
 use commands::perform::perform;
 use devices::MemorySink;
+use inputs::CommandFault;
 use report::Outcome;
 use std::alloc::{AllocError, Global};
 use std::io;

@@ -11,7 +11,7 @@ use Rattle.command_line.specs.declared.options.TrialsOptions.{TrialsOptions}
 use Rattle.command_line.specs.Options.{AreOptions, AreTrialsOptions}
 use Rattle.program.specs.Parts.{Parts}
 use Rattle.program.specs.Text.{reading}
-use Rattle.commands.specs.Inputs.{AreBytesOf}
+use Rattle.inputs.specs.Inputs.{AreBytesOf}
 use Rattle.commands.specs.Run.{IsRun, IsRunBy}
 
 -- options of trials are those of some entries

@@ -4,10 +4,10 @@ use Rattle.std.proofs.Common.{IfErr, IsErrAnd, drop, get_or, length, refl, subst
 use Rattle.std.proofs.lemmas.List.{append-nil, take-append-drop, take_more}
 use Rattle.devices.specs.declared.place.Tally.{Tally}
 use Rattle.devices.specs.Places.{Notes}
-use Rattle.commands.specs.declared.fault.CommandFault.TheVariants.{OutOfMemory}
-use Rattle.commands.specs.declared.command_error.CommandError.{CommandError}
-use Rattle.commands.specs.declared.command_error.CommandError.TheVariants.{Refused, Fault}
-use Rattle.commands.specs.Inputs.{AreEnded, AreRead, AreStopped, Reads, Seen, failed_reads, seen}
+use Rattle.inputs.specs.declared.fault.CommandFault.TheVariants.{OutOfMemory}
+use Rattle.inputs.specs.declared.command_error.CommandError.{CommandError}
+use Rattle.inputs.specs.declared.command_error.CommandError.TheVariants.{Refused, Fault}
+use Rattle.inputs.specs.Inputs.{AreEnded, AreRead, AreStopped, Reads, Seen, failed_reads, seen}
 
 -- nothing was asked for
 pub notes_none : (told : Option (List (List ℕ))) → Notes told told []

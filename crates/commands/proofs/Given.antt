@@ -1,11 +1,11 @@
 -- What was read of an input whose bytes are known, and what was written.
-use Rattle.std.proofs.Common.{◌≡◌, ◌++◌, ◌∙◌, [], ℕ, List, Option, Some, None, Result, Ok, Err, IfOk, ap, sym, refl}
-use Rattle.std.specs.Prelude.{IfErr, IfSome, OnErr, take}
+use Rattle.std.proofs.Common.{◌≡◌, ◌++◌, ◌∙◌, ℕ, List, Option, Some, None, Result, Ok, Err, IfOk, ap, sym}
+use Rattle.std.specs.Prelude.{IfSome, OnErr, take}
 use Rattle.std.specs.Io.KnownBytes.{Appends, Consumes, IsAtEnd, Keeps}
 use Rattle.std.proofs.lemmas.List.{append-nil}
 use Rattle.verdicts.specs.declared.outcome.Outcome.{Outcome}
 use Rattle.verdicts.specs.declared.printed.Answer.{Answer}
-use Rattle.commands.specs.declared.fault.CommandFault.{CommandFault}
+use Rattle.inputs.specs.declared.fault.CommandFault.{CommandFault}
 use Rattle.commands.specs.Output.{IsBegun, IsPut}
 
 -- all bytes that are known were read

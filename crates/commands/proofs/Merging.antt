@@ -4,11 +4,10 @@ use Rattle.std.proofs.Common.{ap, arith, get_or, inl, inr, length, map, refl, su
 use Rattle.std.specs.Prelude.{string_bytes}
 use Rattle.std.specs.List.{concat}
 use Rattle.std.proofs.lemmas.Bool.{cases_lt}
-use Rattle.std.proofs.lemmas.List.{get_or-map, get_or_append_left, length-append, length-map, map-append}
+use Rattle.std.proofs.lemmas.List.{get_or-map, get_or_append_left, length-map, map-append}
 use Rattle.std.proofs.Math.Seq.{get_or-append_seam}
 use Rattle.command_line.specs.declared.options.MergeOptions.{MergeOptions}
 use Rattle.ledger.specs.declared.ledger.Ledger.{Ledger}
-use Rattle.ledger.specs.Counts.{IsLedger}
 use Rattle.merging.specs.declared.kind.Kind.{Kind}
 use Rattle.merging.specs.declared.kind.Kind.TheVariants.{Campaign, Survey}
 use Rattle.merging.specs.declared.merged.Merged.{Merged}
@@ -19,9 +18,9 @@ use Rattle.verdicts.specs.declared.outcome.Outcome.{Outcome}
 use Rattle.verdicts.specs.declared.outcome.Outcome.TheVariants.{Refused, Unfinished}
 use Rattle.verdicts.specs.declared.printed.Answer.{Answer}
 use Rattle.answers.specs.Campaign.{ledger_outcome}
-use Rattle.commands.specs.declared.command_error.CommandError.{CommandError}
-use Rattle.commands.specs.declared.command_error.CommandError.TheVariants as errors
-use Rattle.commands.specs.Inputs.{AreBytesOf, AreRead, Reads, Seen}
+use Rattle.inputs.specs.declared.command_error.CommandError.{CommandError}
+use Rattle.inputs.specs.declared.command_error.CommandError.TheVariants as errors
+use Rattle.inputs.specs.Inputs.{AreBytesOf, AreRead, Reads, Seen}
 use Rattle.commands.specs.Merge.{AreGiven, IsMergeAnswer, IsMerged, IsMergedAnswer, IsMergeError, IsTextsError}
 use Rattle.commands.specs.Names.{merge_names}
 use Rattle.commands.proofs.Asking.{stopped_later}

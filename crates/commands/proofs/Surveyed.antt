@@ -9,7 +9,7 @@ use Rattle.surveys.specs.Each.{each_text}
 use Rattle.verdicts.specs.declared.outcome.Outcome.{Outcome}
 use Rattle.verdicts.specs.declared.printed.Answer.{Answer}
 use Rattle.answers.specs.Survey.{IsSurveyAnswer}
-use Rattle.commands.specs.declared.fault.CommandFault.{CommandFault}
+use Rattle.inputs.specs.declared.fault.CommandFault.{CommandFault}
 use Rattle.commands.specs.Survey.{IsCountedInput, IsEachWritten, TellsEach}
 
 -- lines were written and then the counts

@@ -12,7 +12,7 @@ use Rattle.machine.specs.Configuration.{Configuration}
 use Rattle.live.specs.Trace.{Trace, IsEnded, IsTrace}
 use Rattle.live.specs.Driven.{IsGiven}
 use Rattle.verdicts.specs.declared.printed.Answer.{Answer}
-use Rattle.commands.specs.Inputs.{AreBytesOf}
+use Rattle.inputs.specs.Inputs.{AreBytesOf}
 use Rattle.answers.specs.Run.{IsRunAnswer}
 use Rattle.commands.specs.Run.{IsLive}
 

@@ -1,13 +1,8 @@
-pub mod Inputs
-pub mod CommandErrors
 pub mod Names
 pub mod Output
 pub mod Judge
-pub mod Program
-pub mod Recording
 pub mod Replay
 pub mod Perform
-pub mod Refusal
 pub mod Run
 pub mod Render
 pub mod Trials

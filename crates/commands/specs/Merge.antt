@@ -1,5 +1,5 @@
 -- What merge answers.
-use Rattle.std.specs.Prelude.{◌≡◌, ◌<◌, ◌+◌, ◌++◌, ◌∷◌, [], ℕ, List, Option, codes, decimal, false, length, map}
+use Rattle.std.specs.Prelude.{◌≡◌, ◌<◌, ◌+◌, ◌++◌, ◌∷◌, [], ℕ, List, Option, codes, decimal, false, length}
 use Rattle.std.specs.Prelude.{slice_index_or, string_bytes, take}
 use Rattle.std.specs.List.{concat}
 use Rattle.command_line.specs.declared.options.MergeOptions.{MergeOptions}
@@ -14,11 +14,11 @@ use Rattle.merging.specs.Texts.{AreFiles}
 use Rattle.verdicts.specs.declared.printed.Answer.{Answer}
 use Rattle.answers.specs.Campaign.{IsTrialsAnswer}
 use Rattle.answers.specs.Survey.{IsSurveyAnswer}
-use Rattle.commands.specs.declared.fault.CommandFault.{CommandFault}
-use Rattle.commands.specs.declared.fault.CommandFault.TheVariants.{OutOfMemory}
-use Rattle.commands.specs.declared.command_error.CommandError.{CommandError}
-use Rattle.commands.specs.declared.command_error.CommandError.TheVariants.{Refused, Fault}
-use Rattle.commands.specs.Inputs.{AreBytesOf, IsInputFault}
+use Rattle.inputs.specs.declared.fault.CommandFault.{CommandFault}
+use Rattle.inputs.specs.declared.fault.CommandFault.TheVariants.{OutOfMemory}
+use Rattle.inputs.specs.declared.command_error.CommandError.{CommandError}
+use Rattle.inputs.specs.declared.command_error.CommandError.TheVariants.{Refused, Fault}
+use Rattle.inputs.specs.Inputs.{AreBytesOf, IsInputFault}
 use Rattle.commands.specs.Names.{merge_names}
 
 -- the texts are the bytes of the inputs of these names, in order

@@ -3,8 +3,8 @@ use Rattle.std.specs.Prelude.{◌≡◌, ℕ, List, Option, take}
 use Rattle.std.specs.Io.KnownBytes.{Appends}
 use Rattle.verdicts.specs.declared.printed.Answer.{Answer}
 use Rattle.verdicts.specs.declared.outcome.Outcome.{Outcome}
-use Rattle.commands.specs.declared.fault.CommandFault.{CommandFault}
-use Rattle.commands.specs.declared.fault.CommandFault.TheVariants.{WriteFailed}
+use Rattle.inputs.specs.declared.fault.CommandFault.{CommandFault}
+use Rattle.inputs.specs.declared.fault.CommandFault.TheVariants.{WriteFailed}
 
 -- such an answer was written, whole, and came out so
 pub record IsPut (Is : Answer → Type 0) (before after : Option (List ℕ)) (outcome : Outcome) : Type 0 where

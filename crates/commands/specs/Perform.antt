@@ -11,16 +11,16 @@ use Rattle.program.specs.Text.{reading}
 use Rattle.machine.specs.Script.{steps_of}
 use Rattle.verdicts.specs.declared.printed.Answer.{Answer}
 use Rattle.answers.specs.declared.rendering.Rendering.TheVariants.{Words, Picture, Reduction}
-use Rattle.commands.specs.declared.command_error.CommandError.{CommandError}
-use Rattle.commands.specs.declared.command_error.CommandError.TheVariants.{Refused, Fault}
+use Rattle.inputs.specs.declared.command_error.CommandError.{CommandError}
+use Rattle.inputs.specs.declared.command_error.CommandError.TheVariants.{Refused, Fault}
 use Rattle.verdicts.specs.declared.outcome.Outcome.{Outcome}
 use Rattle.verdicts.specs.declared.outcome.Outcome.TheVariants.{Done}
 use Rattle.verdicts.specs.declared.outcome.Outcome.TheVariants as out
 use Rattle.devices.specs.declared.place.Tally.{Tally}
-use Rattle.commands.specs.declared.fault.CommandFault.{CommandFault}
-use Rattle.commands.specs.declared.fault.CommandFault.TheVariants.{CommandLine, NoThread, Stranger}
-use Rattle.commands.specs.declared.fault.CommandFault.TheVariants.{WriteFailed}
-use Rattle.commands.specs.declared.fault.CommandFault.TheVariants as fault
+use Rattle.inputs.specs.declared.fault.CommandFault.{CommandFault}
+use Rattle.inputs.specs.declared.fault.CommandFault.TheVariants.{CommandLine, NoThread, Stranger}
+use Rattle.inputs.specs.declared.fault.CommandFault.TheVariants.{WriteFailed}
+use Rattle.inputs.specs.declared.fault.CommandFault.TheVariants as fault
 use Rattle.command_line.specs.declared.options.Options.{Options}
 use Rattle.command_line.specs.declared.options.Options.TheVariants.{Run, Judge, Trials, Live, Replay, Explain, Draw, Reduce}
 use Rattle.command_line.specs.declared.options.Options.TheVariants.{Verify, Survey, Merge}
@@ -30,14 +30,15 @@ use Rattle.command_line.specs.declared.options.OptionFault.TheVariants as refuse
 use Rattle.command_line.specs.Commands.{command_of}
 use Rattle.command_line.specs.declared.options.LiveOptions.{LiveOptions}
 use Rattle.command_line.specs.declared.options.RunOptions.{RunOptions}
-use Rattle.commands.specs.Inputs.{AreBytesOf, AreRead, AreStopped, IsInputFault, Seen, failed_reads}
+use Rattle.inputs.specs.Inputs.{AreBytesOf, AreRead, AreStopped, IsInputFault, Seen, failed_reads}
 use Rattle.commands.specs.Names.{names_of}
-use Rattle.commands.specs.Judge.{IsJudgedInput, IsJudgeFault}
+use Rattle.report.specs.Answer.{IsAnswerOf}
+use Rattle.commands.specs.Judge.{AnswerHolds, IsJudgeFault}
 use Rattle.commands.specs.Replay.{IsReplayedInput, IsReplayError}
 use Rattle.commands.specs.Render.{IsRendered, IsRenderingError}
-use Rattle.commands.specs.Program.{IsProgramRead, IsProgramRefused, IsProgramError}
+use Rattle.inputs.specs.Program.{IsProgramRead, IsProgramRefused, IsProgramError}
 use Rattle.command_line.specs.Options.{AreOptions, IsFault}
-use Rattle.commands.specs.Refusal.{IsReadingError, option_line, step_fault_name}
+use Rattle.inputs.specs.Refusal.{IsReadingError, option_line, step_fault_name}
 use Rattle.commands.specs.Run.{IsRun, IsLive}
 use Rattle.commands.specs.Trials.{IsTrials}
 use Rattle.commands.specs.Verify.{IsVerified, IsVerifyError}
@@ -88,7 +89,8 @@ IsLiveError inputs o (Fault fault) = IsInputFault inputs (string_bytes o.program
 -- what a command answers to its options and inputs
 abbrev pub IsAnswerTo : (List ℕ → Option (List ℕ)) → Options → Answer → Type 0
 IsAnswerTo inputs (Run o) answer = IsRun inputs o answer
-IsAnswerTo inputs (Judge o) answer = IsJudgedInput inputs o answer
+IsAnswerTo inputs (Judge o) answer = (bytes : List ℕ) × AreBytesOf inputs (string_bytes o.file) bytes
+    × IsAnswerOf bytes answer × AnswerHolds bytes answer
 IsAnswerTo inputs (Trials o) answer = IsTrials o answer
 IsAnswerTo inputs (Live o) answer = IsLive inputs o answer
 IsAnswerTo inputs (Replay o) answer = IsReplayedInput inputs o answer
@@ -158,24 +160,12 @@ PrintsEarly other = ⊥
 abbrev pub PrintsAtOnce : List Text → Type 0
 PrintsAtOnce words = (o : Options) → AreOptions o (command_of words) → PrintsEarly o → ⊥
 
--- what is printed for these options: the answer of their command, by all of its inputs, or the line of a refusal, by
--- the inputs up to it
-abbrev pub IsPrintedFor : (List ℕ → Option (List ℕ)) → Options → Seen → Answer → Type 0
-IsPrintedFor inputs o s answer = (IsAnswerTo inputs o answer × AreRead (names_of o) s)
-    ⊎ ((error : CommandError) × IsCommandError inputs o error × AreStopped (names_of o) error s × IsLine error answer)
-
 -- the lines of recordings and their counts were written, by all of the input
 abbrev pub IsToldFor : (List ℕ → Option (List ℕ)) → Options → Seen → Option (List ℕ) → Option (List ℕ) → Outcome
     → Type 0
 IsToldFor inputs (Survey o) s before after outcome = IsEachWritten inputs o before after outcome
     × AreRead (string_bytes o.file ∷ []) s
 IsToldFor inputs other s before after outcome = ⊥
-
--- what was written for these options, and how it came out
-abbrev pub IsWrittenFor : (List ℕ → Option (List ℕ)) → Options → Seen → Option (List ℕ) → Option (List ℕ)
-    → Outcome → Type 0
-IsWrittenFor inputs o s before after outcome = IsPut (IsPrintedFor inputs o s) before after outcome
-    ⊎ IsToldFor inputs o s before after outcome
 
 -- why nothing is printed for these options, or not all
 abbrev pub IsFaultFor : (List ℕ → Option (List ℕ)) → Options → Seen → CommandFault → Type 0
@@ -187,10 +177,12 @@ abbrev pub IsPrintedWithout : OptionFault → Seen → Answer → Type 0
 IsPrintedWithout fault s answer =
     (IsHelp fault answer ⊎ ((error : CommandError) × IsOptionError fault error × IsLine error answer)) × AreRead [] s
 
--- what is printed for the words
+-- what is printed for the words: the answer of the command that they ask for, by all of its inputs; the line of a
+-- refusal, by the inputs up to it; or what is said where they give no options
 abbrev pub IsPrinted : (List ℕ → Option (List ℕ)) → List Text → Seen → Answer → Type 0
-IsPrinted inputs words s answer =
-    ((o : Options) × AreOptions o (command_of words) × IsPrintedFor inputs o s answer)
+IsPrinted inputs words s answer = ((o : Options) × AreOptions o (command_of words)
+    × ((IsAnswerTo inputs o answer × AreRead (names_of o) s)
+    ⊎ ((error : CommandError) × IsCommandError inputs o error × AreStopped (names_of o) error s × IsLine error answer)))
     ⊎ ((fault : OptionFault) × IsFault fault words × IsPrintedWithout fault s answer)
 
 -- what was written for the words, and how it came out

@@ -8,12 +8,12 @@ use Rattle.command_line.specs.declared.options.ExplainOptions.{ExplainOptions}
 use Rattle.verdicts.specs.declared.printed.Answer.{Answer}
 use Rattle.answers.specs.declared.rendering.Rendering.{Rendering}
 use Rattle.answers.specs.Rendered.{IsRenderedAnswer}
-use Rattle.commands.specs.declared.command_error.CommandError.{CommandError}
-use Rattle.commands.specs.declared.command_error.CommandError.TheVariants.{Fault}
-use Rattle.commands.specs.declared.fault.CommandFault.TheVariants.{OutOfMemory}
-use Rattle.commands.specs.Program.{IsProgramAt, IsProgramError}
-use Rattle.commands.specs.Recording.{IsRecordingAt, IsRecordingError}
-use Rattle.commands.specs.CommandErrors.{IsLineError}
+use Rattle.inputs.specs.declared.command_error.CommandError.{CommandError}
+use Rattle.inputs.specs.declared.command_error.CommandError.TheVariants.{Fault}
+use Rattle.inputs.specs.declared.fault.CommandFault.TheVariants.{OutOfMemory}
+use Rattle.inputs.specs.Program.{IsProgramAt, IsProgramError}
+use Rattle.inputs.specs.Recording.{IsRecordingAt, IsRecordingError}
+use Rattle.inputs.specs.CommandErrors.{IsLineError}
 
 -- the input of this name is the text of a program, of which the recording is one
 pub record IsOwnProgram (inputs : List ℕ → Option (List ℕ)) (x : Execution) (name : List ℕ)

@@ -14,10 +14,10 @@ use Rattle.replay.specs.Steps.{replay_steps}
 use Rattle.replay.specs.Stores.{most_stores}
 use Rattle.verdicts.specs.Judgement.{IsOrderedVerdict}
 use Rattle.verdicts.specs.declared.printed.Answer.{Answer}
-use Rattle.commands.specs.declared.command_error.CommandError.{CommandError}
+use Rattle.inputs.specs.declared.command_error.CommandError.{CommandError}
 use Rattle.verdicts.specs.declared.outcome.Outcome.TheVariants.{Done, Violation}
-use Rattle.commands.specs.Recording.{IsRecordingAt, IsRecordingError}
-use Rattle.commands.specs.CommandErrors.{IsLineError}
+use Rattle.inputs.specs.Recording.{IsRecordingAt, IsRecordingError}
+use Rattle.inputs.specs.CommandErrors.{IsLineError}
 use Rattle.verdicts.specs.VerdictAnswer.{IsVerdictAnswer}
 
 -- a capacity, the text of a program and a script, with an empty line between them

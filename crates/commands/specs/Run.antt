@@ -11,7 +11,7 @@ use Rattle.machine.specs.declared.step.Step.{Step}
 use Rattle.machine.specs.State.{State, IsComplete}
 use Rattle.machine.specs.Taken.{all_taken, begun}
 use Rattle.machine.specs.Script.{steps_of}
-use Rattle.commands.specs.Inputs.{AreBytesOf}
+use Rattle.inputs.specs.Inputs.{AreBytesOf}
 
 -- the answer of a program and the script of this name
 pub record IsScriptAnswer (inputs : List ℕ → Option (List ℕ)) (o : RunOptions) (program : Parts)

@@ -17,11 +17,11 @@ use Rattle.verdicts.specs.declared.outcome.Outcome.{Outcome}
 use Rattle.verdicts.specs.declared.outcome.Outcome.TheVariants as out
 use Rattle.answers.specs.Campaign.{ledger_outcome}
 use Rattle.answers.specs.Survey.{IsLineAnswer, IsSurveyAnswer}
-use Rattle.commands.specs.declared.fault.CommandFault.{CommandFault}
-use Rattle.commands.specs.declared.fault.CommandFault.TheVariants.{TooLong, WriteFailed}
-use Rattle.commands.specs.declared.command_error.CommandError.{CommandError}
-use Rattle.commands.specs.declared.command_error.CommandError.TheVariants.{Refused, Fault}
-use Rattle.commands.specs.Inputs.{AreBytesOf, IsInputFault}
+use Rattle.inputs.specs.declared.fault.CommandFault.{CommandFault}
+use Rattle.inputs.specs.declared.fault.CommandFault.TheVariants.{TooLong, WriteFailed}
+use Rattle.inputs.specs.declared.command_error.CommandError.{CommandError}
+use Rattle.inputs.specs.declared.command_error.CommandError.TheVariants.{Refused, Fault}
+use Rattle.inputs.specs.Inputs.{AreBytesOf, IsInputFault}
 
 -- a line of each recording is printed before the input's end
 abbrev pub TellsEach : SurveyOptions → Type 0

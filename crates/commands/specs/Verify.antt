@@ -4,10 +4,10 @@ use Rattle.command_line.specs.declared.options.VerifyOptions.{VerifyOptions}
 use Rattle.recording.specs.Execution.{Execution}
 use Rattle.verdicts.specs.declared.printed.Answer.{Answer}
 use Rattle.verification.specs.Checked.{IsCheckAnswer}
-use Rattle.commands.specs.declared.command_error.CommandError.{CommandError}
-use Rattle.commands.specs.declared.command_error.CommandError.TheVariants.{Refused, Fault}
-use Rattle.commands.specs.Inputs.{AreBytesOf, IsInputFault}
-use Rattle.commands.specs.Recording.{IsRecordingAt, IsRecordingError}
+use Rattle.inputs.specs.declared.command_error.CommandError.{CommandError}
+use Rattle.inputs.specs.declared.command_error.CommandError.TheVariants.{Refused, Fault}
+use Rattle.inputs.specs.Inputs.{AreBytesOf, IsInputFault}
+use Rattle.inputs.specs.Recording.{IsRecordingAt, IsRecordingError}
 
 -- the answer to the text of the second input, of the recording of the first
 pub record IsVerified (inputs : List ℕ

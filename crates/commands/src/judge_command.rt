@@ -1,16 +1,17 @@
 //! The command `judge`.
 ghost use Rattle.std.specs.Prelude.{◌≡◌, ◌≢◌, ◌≤◌, ◌∷◌, [], Err, IfErr, IfOk, string_bytes};
 ghost use Rattle.devices.specs.Bytes.{CanGrow, CountsBy};
-ghost use Rattle.commands.specs.Inputs.{CanRead, ReadsAll, seen};
-ghost use Rattle.commands.specs.Judge.{IsJudgeFault, IsJudgedInput};
+ghost use Rattle.inputs.specs.Inputs.{CanRead, ReadsAll, seen};
+ghost use Rattle.command_line.specs.declared.options.Options.{Options};
+ghost use Rattle.commands.specs.Judge.{IsJudgeFault};
 ghost use Rattle.commands.specs.Output.{IsBegun, IsPut, failed_writes};
+ghost use Rattle.commands.specs.Perform.{IsAnswerTo};
 
-use crate::fault::CommandFault;
-use crate::inputs::opened;
 use crate::output::flush;
 use command_line::JudgeOptions;
 use common::{MAX_WORKERS, OpenGate};
 use devices::{Place, Sink};
+use inputs::{CommandFault, opened};
 use report::{Outcome, ReportError, answer};
 use std::alloc::Global;
 use std::sync::Wait;
@@ -29,10 +30,10 @@ pub fn judge_command<R: Threads + Wait + Sync, P: Place, W: Sink>(
     requires workers { (1 ≤ options.now.workers) × (options.now.workers ≤ MAX_WORKERS) }
     requires inputs { CanRead (P.tally place.old) }
     requires output { CanGrow (W.write_failures out.old) }
-    ensures whole { IfOk result (IsPut (IsJudgedInput (P.bytes place.old) options.now) (W.written out.old)
-        (W.written out.new)) }
-    ensures begun { result ≡ Err CommandFault.WriteFailed → IsBegun (IsJudgedInput (P.bytes place.old) options.now)
-        (W.written out.old) (W.written out.new) }
+    ensures whole { IfOk result (IsPut (IsAnswerTo (P.bytes place.old) (Options.Judge options.now))
+        (W.written out.old) (W.written out.new)) }
+    ensures begun { result ≡ Err CommandFault.WriteFailed → IsBegun (IsAnswerTo (P.bytes place.old)
+        (Options.Judge options.now)) (W.written out.old) (W.written out.new) }
     ensures fault { IfErr result (IsJudgeFault (P.bytes place.old) options.now) }
     ensures reads { ReadsAll (string_bytes options.now.file ∷ []) (seen (P.asked place.old) (P.asked place.new)
         (P.tally place.old) (P.tally place.new)) result }

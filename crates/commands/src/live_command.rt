@@ -1,17 +1,15 @@
 //! The command `live`.
 ghost use Rattle.std.specs.Prelude.{◌≡◌, ◌∷◌, [], IfErr, IfOk, string_bytes};
 ghost use Rattle.live.specs.Driven.{IsDriveError};
-ghost use Rattle.commands.specs.Inputs.{CanRead, Reads, seen};
+ghost use Rattle.inputs.specs.Inputs.{CanRead, Reads, seen};
 ghost use Rattle.commands.specs.Perform.{IsLiveError, thread_fault};
 ghost use Rattle.commands.specs.Run.{IsLive};
 
-use crate::command_error::CommandError;
-use crate::fault::CommandFault;
-use crate::named::program_at;
 use answers::finished;
 use command_line::LiveOptions;
 use common::OpenGate;
 use devices::Place;
+use inputs::{CommandError, CommandFault, program_at};
 use live::{LiveError, drive};
 use report::Answer;
 use std::alloc::Global;

@@ -1,19 +1,16 @@
 //! The command `merge`.
 ghost use Rattle.std.specs.Prelude.{◌≡◌, ◌<◌, IfErr, IfOk, length, map, string_bytes};
-ghost use Rattle.commands.specs.Inputs.{CanRead, Reads, seen};
+ghost use Rattle.inputs.specs.Inputs.{CanRead, Reads, seen};
 ghost use Rattle.commands.specs.Merge.{AreGiven, IsFaultAmong, IsMergeAnswer, IsMerged, IsMergedAnswer, IsMergeError};
 ghost use Rattle.commands.specs.Merge.{IsTextsError, merge_line, merge_refusal_name};
 ghost use Rattle.commands.specs.Names.{merge_names};
-ghost use Rattle.commands.specs.CommandErrors.{IsFaultError};
+ghost use Rattle.inputs.specs.CommandErrors.{IsFaultError};
 
-use crate::command_error::{CommandError, PrintedRefusal};
-use crate::fault::CommandFault;
-use crate::inputs::text_at;
-use crate::meanings::quoted;
 use answers::{survey_answer, trials_answer};
 use command_line::MergeOptions;
 use common::OutOfMemory;
 use devices::Place;
+use inputs::{CommandError, CommandFault, PrintedRefusal, quoted, text_at};
 use merging::{Kind, MergeError, MergeRefusal, Merged, merge};
 use report::Answer;
 use std::alloc::{AllocError, Global};

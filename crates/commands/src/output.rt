@@ -4,8 +4,8 @@ ghost use Rattle.std.specs.Io.KnownBytes.{Appends, Keeps};
 ghost use Rattle.devices.specs.Bytes.{CanGrow, CountsBy};
 ghost use Rattle.commands.specs.Output.{failed_writes};
 
-use crate::fault::CommandFault;
 use devices::{Failed, Sink, write_all};
+use inputs::CommandFault;
 use report::{Answer, Outcome};
 
 /// Hands on what was written.

@@ -4,22 +4,19 @@ ghost use Rattle.std.specs.Prelude.{string_bytes};
 ghost use Rattle.clap.specs.Words.{Row, Text};
 ghost use Rattle.command_line.specs.Options.{AreOptions};
 ghost use Rattle.devices.specs.Bytes.{CanGrow, CountsBy};
-ghost use Rattle.commands.specs.Inputs.{AreRead, CanRead, Reads, seen};
+ghost use Rattle.inputs.specs.Inputs.{AreRead, CanRead, Reads, seen};
 ghost use Rattle.commands.specs.Names.{names_of};
 ghost use Rattle.commands.specs.Output.{IsBegun, IsPut, failed_writes};
 ghost use Rattle.commands.specs.Perform.{IsAnswerTo, IsCommandError, IsFaultFor, IsFaultOf, IsHelp, IsNoJudge};
-ghost use Rattle.commands.specs.Perform.{IsOptionError, IsPrinted, IsPrintedFor, IsPrintedWithout, IsShown};
-ghost use Rattle.commands.specs.Perform.{IsWritten, IsWrittenFor, PrintsAtOnce, PrintsEarly, Tallies};
+ghost use Rattle.commands.specs.Perform.{IsOptionError, IsPrinted, IsPrintedWithout, IsShown, IsWritten};
+ghost use Rattle.commands.specs.Perform.{PrintsAtOnce, PrintsEarly, Tallies};
+ghost use Rattle.command_line.specs.Commands.{command_of};
 ghost use Rattle.commands.specs.Survey.{TellsEach};
 
-use crate::command_error::{CommandError, PrintedRefusal};
-use crate::fault::CommandFault;
 use crate::judge_command::judge_command;
 use crate::live_command::live_command;
-use crate::meanings::REFUSAL_MEANINGS;
 use crate::merge_command::merge_command;
 use crate::output::put;
-use crate::refusal::option_refusal;
 use crate::render_command::render_command;
 use crate::replay_command::replay_command;
 use crate::run_command::run_command;
@@ -30,6 +27,7 @@ use answers::Rendering;
 use command_line::words::options;
 use command_line::{JudgeOptions, OptionFault, Options, SurveyOptions};
 use devices::{Place, Sink};
+use inputs::{CommandError, CommandFault, PrintedRefusal, REFUSAL_MEANINGS, option_refusal};
 use report::{Answer, Outcome};
 use std::alloc::Global;
 use std::sync::Wait;
@@ -155,11 +153,13 @@ fn performed<R: Threads + Wait + Sync, P: Place, W: Sink>(
     requires options { (command : Option (Text × List Row)) × AreOptions options.now command }
     requires inputs { CanRead (P.tally place.old) }
     requires output { CanGrow (W.write_failures out.old) }
-    ensures printed { IfOk result (IsWrittenFor (P.bytes place.old) options.now (seen (P.asked place.old)
-        (P.asked place.new) (P.tally place.old) (P.tally place.new)) (W.written out.old) (W.written out.new)) }
-    ensures begun { result ≡ Err CommandFault.WriteFailed → (PrintsEarly options.now → ⊥) → IsBegun (IsPrintedFor
-        (P.bytes place.old) options.now (seen (P.asked place.old) (P.asked place.new) (P.tally place.old)
-        (P.tally place.new))) (W.written out.old) (W.written out.new) }
+    ensures printed { (words : List Text) → AreOptions options.now (command_of words) → IfOk result (IsWritten
+        (P.bytes place.old) words (seen (P.asked place.old) (P.asked place.new) (P.tally place.old)
+        (P.tally place.new)) (W.written out.old) (W.written out.new)) }
+    ensures begun { (words : List Text) → AreOptions options.now (command_of words)
+        → result ≡ Err CommandFault.WriteFailed → PrintsAtOnce words → IsBegun (IsPrinted (P.bytes place.old) words
+        (seen (P.asked place.old) (P.asked place.new) (P.tally place.old) (P.tally place.new))) (W.written out.old)
+        (W.written out.new) }
     ensures fault { IfErr result (IsFaultFor (P.bytes place.old) options.now (seen (P.asked place.old)
         (P.asked place.new) (P.tally place.old) (P.tally place.new))) }
     ensures reads { Tallies (P.tally place.old) (P.tally place.new) result }

@@ -1,15 +1,14 @@
 //! The commands `explain`, `draw` and `reduce`.
 ghost use Rattle.std.specs.Prelude.{◌∷◌, [], IfErr, IfOk, Some, option_map, string_bytes};
-ghost use Rattle.commands.specs.Inputs.{CanRead, Reads, seen};
+ghost use Rattle.inputs.specs.Inputs.{CanRead, Reads, seen};
 ghost use Rattle.commands.specs.Names.{maybe_name, render_names};
 ghost use Rattle.commands.specs.Render.{IsNamesError, IsOwnProgram, IsRenderingError, IsRendered, IsRenderedBy};
 
-use crate::command_error::CommandError;
-use crate::named::{program_at, recording_at};
 use answers::{Rendering, rendered_answer};
 use command_line::ExplainOptions;
 use devices::Place;
 use explanation::is_program_of;
+use inputs::{CommandError, program_at, recording_at};
 use program::Program;
 use recording::Recording;
 use report::Answer;

@@ -9,15 +9,14 @@ ghost use Rattle.machine.specs.ScriptText.{script_text};
 ghost use Rattle.verdicts.specs.Judgement.{IsVerdict, Verifies};
 ghost use Rattle.recording.specs.Tso.{IsTsoOrder};
 ghost use Rattle.recording.specs.FirstUse.{IsNumberedByFirstUse};
-ghost use Rattle.commands.specs.Inputs.{CanRead, Reads, seen};
+ghost use Rattle.inputs.specs.Inputs.{CanRead, Reads, seen};
 ghost use Rattle.commands.specs.Replay.{IsReadBack, IsReplayedInput, IsReplayOf, IsReplayError, ReplaysOrder};
 ghost use Rattle.commands.specs.Replay.{parts_text, replay_text};
 
-use crate::command_error::CommandError;
-use crate::named::recording_at;
 use command_line::FileOptions;
 use common::{EventId, OutOfMemory};
 use devices::Place;
+use inputs::{CommandError, recording_at};
 use judge::{Verdict, judge_alone};
 use litmus::print;
 use machine::{Step, steps_text};

@@ -1,20 +1,16 @@
 //! The command `run`.
 ghost use Rattle.std.specs.Prelude.{◌≡◌, ◌∷◌, [], ℕ, List, IfErr, IfOk, Ok};
 ghost use Rattle.machine.specs.Script.{steps_of};
-ghost use Rattle.commands.specs.Inputs.{AreBytesOf, CanRead, Reads, seen};
+ghost use Rattle.inputs.specs.Inputs.{AreBytesOf, CanRead, Reads, seen};
 ghost use Rattle.commands.specs.Names.{run_names};
-ghost use Rattle.commands.specs.Refusal.{IsReadingError, step_fault_name};
+ghost use Rattle.inputs.specs.Refusal.{IsReadingError, step_fault_name};
 ghost use Rattle.commands.specs.Perform.{IsRunError, IsScriptError};
 ghost use Rattle.commands.specs.Run.{IsRun, IsScriptAnswer};
 
-use crate::command_error::CommandError;
-use crate::fault::CommandFault;
-use crate::inputs::text_at;
-use crate::named::program_at;
-use crate::refusal::{line_refusal, step_fault_name};
 use answers::{script_answer, seeded_answer};
 use command_line::RunOptions;
 use devices::Place;
+use inputs::{CommandError, CommandFault, line_refusal, program_at, step_fault_name, text_at};
 use machine::{Step, StepsError, parse_steps};
 use program::Program;
 use report::Answer;

@@ -2,15 +2,15 @@
 ghost use Rattle.std.specs.Prelude.{◌≡◌, IfErr, IfOk, List};
 ghost use Rattle.clap.specs.Words.{Row};
 ghost use Rattle.command_line.specs.Options.{AreTrialsOptions};
-ghost use Rattle.commands.specs.declared.fault.CommandFault.TheVariants.{OutOfMemory};
-ghost use Rattle.commands.specs.declared.command_error.CommandError.TheVariants.{Fault};
+ghost use Rattle.inputs.specs.declared.fault.CommandFault.TheVariants.{OutOfMemory};
+ghost use Rattle.inputs.specs.declared.command_error.CommandError.TheVariants.{Fault};
 ghost use Rattle.commands.specs.Trials.{IsTrials};
 
-use crate::command_error::CommandError;
 use answers::{campaign_answer, shown_answer};
 use command_line::TrialsOptions;
 use common::OpenGate;
 use devices::Place;
+use inputs::CommandError;
 use report::Answer;
 use std::alloc::Global;
 use std::sync::Wait;

@@ -1,15 +1,13 @@
 //! The command `verify`.
 ghost use Rattle.std.specs.Prelude.{◌∷◌, [], ℕ, List, IfErr, IfOk, string_bytes};
 ghost use Rattle.verification.specs.Checked.{IsCheckAnswer};
-ghost use Rattle.commands.specs.Inputs.{AreBytesOf, CanRead, Reads, seen};
+ghost use Rattle.inputs.specs.Inputs.{AreBytesOf, CanRead, Reads, seen};
 ghost use Rattle.commands.specs.Names.{verify_names};
 ghost use Rattle.commands.specs.Verify.{IsTextError, IsVerified, IsVerifyError};
 
-use crate::command_error::CommandError;
-use crate::inputs::text_at;
-use crate::named::recording_at;
 use command_line::VerifyOptions;
 use devices::Place;
+use inputs::{CommandError, recording_at, text_at};
 use recording::Recording;
 use report::Answer;
 use std::alloc::Global;

@@ -1,3 +1,4 @@
 pub mod ParsedLine
 pub mod Built
 pub mod Random
+pub mod Refusals

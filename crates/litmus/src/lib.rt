@@ -6,6 +6,7 @@ mod growing;
 mod line;
 mod random;
 mod reader;
+mod refusals;
 mod text;
 mod writing;
 
@@ -15,5 +16,6 @@ pub use common::{
 };
 pub use program::{LitmusError, Name, Op, Program, Shape, ShapeError};
 pub use random::generate;
+pub use refusals::{line_refusal_name, refusal_line};
 pub use text::parse;
 pub use writing::print;

@@ -1,5 +1,5 @@
 -- What is answered to the bytes of a recording.
-use Rattle.std.specs.Prelude.{◌≡◌, ◌⊎◌, [], ℕ, List, Option, Some, Result, Ok, Err, take}
+use Rattle.std.specs.Prelude.{◌≡◌, ◌⊎◌, ℕ, List, Option, Some, Result, Ok, Err, take}
 use Rattle.std.specs.Io.KnownBytes.{Appends, Consumes}
 use Rattle.recording.specs.declared.fault.RecError.{RecError}
 use Rattle.recording.specs.declared.recording.Recording.{Recording}
@@ -9,13 +9,10 @@ use Rattle.verdicts.specs.declared.printed.Answer.{Answer}
 use Rattle.verdicts.specs.declared.outcome.Outcome.{Outcome}
 use Rattle.verdicts.specs.declared.outcome.Outcome.TheVariants.{Refused}
 use Rattle.verdicts.specs.Refusal.{recording_line}
-use Rattle.verdicts.specs.VerdictAnswer.{IsVerdictAnswer}
-
--- the verdict on the recording that the bytes are
-pub record IsJudgedAnswer (bytes : List ℕ) (answer : Answer) : Type 0 where
-  pub recording : Execution
-  pub read : IsReadingResult bytes (Ok recording)
-  pub answered : IsVerdictAnswer recording [] answer
+use Rattle.verdicts.specs.declared.verdict.Verdict.{Verdict}
+use Rattle.verdicts.specs.Judgement.{IsVerdict}
+use Rattle.verdicts.specs.VerdictAnswer.{outcome_of}
+use Rattle.verdicts.specs.VerdictText.{IsVerdictText}
 
 -- the refusal that the bytes have, and its line
 pub record IsRefusedAnswer (bytes : List ℕ) (answer : Answer) : Type 0 where
@@ -29,9 +26,10 @@ abbrev pub IsReadOrRefused : List ℕ → Result Recording Answer → Type 0
 IsReadOrRefused bytes (Ok recording) = IsReadingResult bytes (Ok recording)
 IsReadOrRefused bytes (Err answer) = IsRefusedAnswer bytes answer
 
--- what is answered to the bytes
+-- what is answered to the bytes: the text of the verdict on the recording that they are, or their refusal
 abbrev pub IsAnswerOf : List ℕ → Answer → Type 0
-IsAnswerOf bytes answer = IsJudgedAnswer bytes answer ⊎ IsRefusedAnswer bytes answer
+IsAnswerOf bytes answer = ((x : Execution) × IsReadingResult bytes (Ok x) × (verdict : Verdict) × IsVerdict x verdict
+    × (answer.outcome ≡ outcome_of verdict) × IsVerdictText x verdict answer.text.items) ⊎ IsRefusedAnswer bytes answer
 
 -- the answer to the bytes that were read was written, whole
 pub record IsWholeAnswer (left_before left_after written_before written_after : Option (List ℕ))

@@ -49,7 +49,7 @@ no_verdict (Cycle certificate) o e order_not violation_not = violation_not e
 
 -- what is answered to the bytes of a recording
 pub answer_outcome : (bytes : List ℕ) (a : Answer) → IsAnswerOf bytes a → ComesOut outcome.Ordered a.outcome
-answer_outcome bytes a (inl judged) = verdict_outcome judged.answered.verdict a.outcome judged.answered.outcome
+answer_outcome bytes a (inl (x, read, verdict, found, outcome, printed)) = verdict_outcome verdict a.outcome outcome
 answer_outcome bytes a (inr refused) = inr (inr refused.outcome)
 
 -- what is left of a recording

@@ -1,7 +1,7 @@
 -- Why the text of a program is refused.
 use Rattle.std.specs.Prelude.{◌≡◌, ◌⊎◌, ◌++◌, ◌∷◌, [], ℕ, List, Ok, Err, codes}
 use Rattle.program.specs.declared.refusal.LineRefusal.{LineRefusal}
-use Rattle.answers.specs.Refusals.{line_refusal_name, refusal_line}
+use Rattle.litmus.specs.Refusals.{line_refusal_name, refusal_line}
 use Rattle.program.specs.Parts.{Parts}
 use Rattle.program.specs.Text.{reading}
 use Rattle.recording.specs.Execution.{Execution}

@@ -3,10 +3,10 @@
 ghost use Rattle.std.specs.Prelude.{IfOk};
 ghost use Rattle.tsotest_library.specs.Rendered.{IsOwnOrRefused, IsRenderedByText, IsRenderedOf};
 
-use answers::{Rendering, line_refusal_name, refusal_line, rendered_answer};
+use answers::{Rendering, rendered_answer};
 use common::OutOfMemory;
 use explanation::is_program_of;
-use litmus::parse;
+use litmus::{line_refusal_name, parse, refusal_line};
 use program::{LitmusError, Program};
 use recording::Recording;
 use report::{Answer, Outcome, read_or_refuse};

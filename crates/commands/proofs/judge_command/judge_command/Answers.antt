@@ -9,13 +9,13 @@ pub returns-in_ok-flush-in-Ok-clause-whole : goal.returns-in_ok-flush-in-Ok-clau
 returns-in_ok-flush-in-Ok-clause-whole g c =
     let w = c.in-Ok.ensures.whole in record {
       answer = w.answer;
-      is = record {
-        bytes = w.bytes;
-        given = rw (sym c.as_str.ensures.value)
-            (all_given _ _ _ w.bytes c.in_ok-input.ensures.given w.read c.in-Ok.ensures.all);
-        answered = w.is;
-        holds = answer_holds c.every_verdict_holds.ensures w.bytes w.answer w.is;
-      };
+      is = (
+        w.bytes,
+        rw (sym c.as_str.ensures.value)
+            (all_given _ _ _ w.bytes c.in_ok-input.ensures.given w.read c.in-Ok.ensures.all),
+        w.is,
+        answer_holds c.every_verdict_holds.ensures w.bytes w.answer w.is,
+      );
       outcome_is = w.outcome_is;
       written = handed_on _ _ _ _ w.written c.flush.ensures.kept;
     }
@@ -25,13 +25,13 @@ returns-in_err-flush-in-Ok-clause-begun g c failed =
     let w = c.in-Ok.ensures.whole in
     let text : List ℕ = w.answer.text.items in record {
       answer = w.answer;
-      is = record {
-        bytes = w.bytes;
-        given = rw (sym c.as_str.ensures.value)
-            (all_given _ _ _ w.bytes c.in_ok-input.ensures.given w.read c.in-Ok.ensures.all);
-        answered = w.is;
-        holds = answer_holds c.every_verdict_holds.ensures w.bytes w.answer w.is;
-      };
+      is = (
+        w.bytes,
+        rw (sym c.as_str.ensures.value)
+            (all_given _ _ _ w.bytes c.in_ok-input.ensures.given w.read c.in-Ok.ensures.all),
+        w.is,
+        answer_holds c.every_verdict_holds.ensures w.bytes w.answer w.is,
+      );
       count = length text;
       written = subst (λ (l : List ℕ). Appends (g.W.Sink.written c.args.out.now) (g.W.Sink.written c.flush.new.out) l)
           (sym (take_all (length text) text (omega arith)))
@@ -42,13 +42,13 @@ pub returns-in-Err-WriteFailed-clause-begun : goal.returns-in-Err-WriteFailed-cl
 returns-in-Err-WriteFailed-clause-begun g c failed =
     let b = c.answer-answered.ensures.begun (search rules) in record {
       answer = b.answer;
-      is = record {
-        bytes = b.bytes;
-        given = rw (sym c.as_str.ensures.value) (all_given _ _ _ b.bytes c.in_ok-input.ensures.given b.read
-            (c.answer-answered.ensures.read_before (search rules)).1);
-        answered = b.is;
-        holds = answer_holds c.every_verdict_holds.ensures b.bytes b.answer b.is;
-      };
+      is = (
+        b.bytes,
+        rw (sym c.as_str.ensures.value) (all_given _ _ _ b.bytes c.in_ok-input.ensures.given b.read
+            (c.answer-answered.ensures.read_before (search rules)).1),
+        b.is,
+        answer_holds c.every_verdict_holds.ensures b.bytes b.answer b.is,
+      );
       count = b.count;
       written = b.written;
     }

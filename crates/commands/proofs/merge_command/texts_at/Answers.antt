@@ -1,10 +1,10 @@
-use Rattle.std.proofs.Common.{◌≡◌, ◌<◌, ◌+◌, ◌++◌, ◌∷◌, ◌∙◌, [], ℕ, List, Option, Vec, Global, ap, arith, get_or, length}
+use Rattle.std.proofs.Common.{◌≡◌, ◌<◌, ◌+◌, ◌∷◌, ◌∙◌, [], ℕ, List, Option, Vec, Global, ap, arith, get_or, length}
 use Rattle.std.proofs.Common.{length-append, map, refl, subst, sym}
 use Rattle.std.specs.Prelude.{string_bytes}
 use Rattle.std.proofs.lemmas.List.{length-map}
-use Rattle.commands.specs.declared.fault.CommandFault.TheVariants.{OutOfMemory}
-use Rattle.commands.specs.declared.command_error.CommandError.TheVariants.{Fault}
-use Rattle.commands.specs.Inputs.{AreBytesOf, seen}
+use Rattle.inputs.specs.declared.fault.CommandFault.TheVariants.{OutOfMemory}
+use Rattle.inputs.specs.declared.command_error.CommandError.TheVariants.{Fault}
+use Rattle.inputs.specs.Inputs.{AreBytesOf, seen}
 use Rattle.commands.proofs.Asking.{read_more, stopped_among, stopped_behind}
 use Rattle.commands.proofs.Merging.{given_more, name_at}
 use Rattle.commands.proofs.merge_command.texts_at.Goals as goal

@@ -1,6 +1,6 @@
 use Rattle.std.proofs.Common.{◌≡◌, ◌<◌, [], ℕ, get_or, length, map, take}
 use Rattle.std.specs.Prelude.{string_bytes}
-use Rattle.commands.specs.Inputs.{AreBytesOf, AreRead, seen}
+use Rattle.inputs.specs.Inputs.{AreBytesOf, AreRead, seen}
 use Rattle.commands.proofs.merge_command.texts_at.Given as goal
 
 abbrev pub invariant-loop-i : goal.invariant-loop-i

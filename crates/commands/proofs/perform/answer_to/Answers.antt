@@ -1,6 +1,6 @@
 use Rattle.std.proofs.Common.{subst, sym}
 use Rattle.command_line.specs.declared.options.Options.{Options}
-use Rattle.commands.specs.Inputs.{Reads, seen}
+use Rattle.inputs.specs.Inputs.{Reads, seen}
 use Rattle.commands.specs.Names.{names_of}
 use Rattle.commands.proofs.Asked.{merge_some, trials_rows}
 use Rattle.commands.proofs.Asking.{none_read}

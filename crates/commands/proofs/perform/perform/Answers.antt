@@ -1,19 +1,13 @@
-use Rattle.std.proofs.Common.{inl, inr, map, string_bytes}
-use Rattle.commands.specs.Inputs.{seen}
-use Rattle.commands.proofs.Printed.{begun_more, fault_written, unwritten_more, words_written}
+use Rattle.std.proofs.Common.{inr, map, string_bytes}
+use Rattle.inputs.specs.Inputs.{seen}
+use Rattle.commands.proofs.Printed.{begun_more, fault_written, unwritten_more}
 use Rattle.commands.proofs.perform.perform.Goals as goal
 
 pub returns-in-Ok-clause-printed : goal.returns-in-Ok-clause-printed
-returns-in-Ok-clause-printed g c =
-    words_written (g.P.Place.bytes c.args.place.now) (map string_bytes c.args.words.now) c.in-Ok.options
-    (seen (g.P.Place.asked c.args.place.now) (g.P.Place.asked c.performed.new.place)
-    (g.P.Place.tally c.args.place.now) (g.P.Place.tally c.performed.new.place)) (g.W.Sink.written c.args.out.now)
-    (g.W.Sink.written c.performed.new.out) c.performed.result c.in-Ok.ensures.ok c.performed.ensures.printed
+returns-in-Ok-clause-printed g c = c.performed.ensures.printed (map string_bytes c.args.words.now) c.in-Ok.ensures.ok
 
 pub returns-in-Ok-clause-begun : goal.returns-in-Ok-clause-begun
-returns-in-Ok-clause-begun g c failed at_once = begun_more _ _ _ _
-    (λ answer is. inl (c.in-Ok.options, c.in-Ok.ensures.ok, is))
-    (c.performed.ensures.begun failed (at_once c.in-Ok.options c.in-Ok.ensures.ok))
+returns-in-Ok-clause-begun g c = c.performed.ensures.begun (map string_bytes c.args.words.now) c.in-Ok.ensures.ok
 
 pub returns-in-Ok-clause-unwritten : goal.returns-in-Ok-clause-unwritten
 returns-in-Ok-clause-unwritten g c = unwritten_more c.performed.result _ _ _

@@ -1,6 +1,6 @@
-use Rattle.std.proofs.Common.{◌≡◌, ◌∷◌, [], ℕ, List, Option, ap, subst, sym}
+use Rattle.std.proofs.Common.{◌≡◌, ◌∷◌, [], ℕ, List, ap, subst, sym}
 use Rattle.std.specs.Prelude.{option_map, string_bytes}
-use Rattle.commands.specs.Inputs.{Reads, seen}
+use Rattle.inputs.specs.Inputs.{Reads, seen}
 use Rattle.commands.specs.Names.{maybe_name}
 use Rattle.commands.proofs.Asked.{seeded_run}
 use Rattle.commands.proofs.Asking.{reads_then, stopped_again}

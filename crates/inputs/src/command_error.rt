@@ -1,5 +1,5 @@
 //! Errors of commands.
-ghost use Rattle.commands.specs.CommandErrors.{IsLineError};
+ghost use Rattle.inputs.specs.CommandErrors.{IsLineError};
 
 use crate::fault::CommandFault;
 use common::OutOfMemory;
@@ -37,7 +37,7 @@ impl CommandError {
 
 impl From<CommandFault> for CommandError {
     ghost use Rattle.std.specs.Prelude.{◌≡◌};
-    ghost use Rattle.commands.specs.declared.command_error.CommandError.TheVariants.{Fault};
+    ghost use Rattle.inputs.specs.declared.command_error.CommandError.TheVariants.{Fault};
 
     ghost from_gives = { λ fault error. error ≡ Fault fault };
 
@@ -48,8 +48,8 @@ impl From<CommandFault> for CommandError {
 
 impl From<OutOfMemory> for CommandError {
     ghost use Rattle.std.specs.Prelude.{◌≡◌};
-    ghost use Rattle.commands.specs.declared.command_error.CommandError.TheVariants.{Fault};
-    ghost use Rattle.commands.specs.declared.fault.CommandFault.TheVariants.{OutOfMemory};
+    ghost use Rattle.inputs.specs.declared.command_error.CommandError.TheVariants.{Fault};
+    ghost use Rattle.inputs.specs.declared.fault.CommandFault.TheVariants.{OutOfMemory};
 
     ghost from_gives = { λ _ error. error ≡ Fault OutOfMemory };
 
@@ -60,8 +60,8 @@ impl From<OutOfMemory> for CommandError {
 
 impl From<AllocError> for CommandError {
     ghost use Rattle.std.specs.Prelude.{◌≡◌};
-    ghost use Rattle.commands.specs.declared.command_error.CommandError.TheVariants.{Fault};
-    ghost use Rattle.commands.specs.declared.fault.CommandFault.TheVariants.{OutOfMemory};
+    ghost use Rattle.inputs.specs.declared.command_error.CommandError.TheVariants.{Fault};
+    ghost use Rattle.inputs.specs.declared.fault.CommandFault.TheVariants.{OutOfMemory};
 
     ghost from_gives = { λ _ error. error ≡ Fault OutOfMemory };
 
@@ -72,8 +72,8 @@ impl From<AllocError> for CommandError {
 
 impl<T: Drop> From<AllocFailed<T>> for CommandError {
     ghost use Rattle.std.specs.Prelude.{◌≡◌};
-    ghost use Rattle.commands.specs.declared.command_error.CommandError.TheVariants.{Fault};
-    ghost use Rattle.commands.specs.declared.fault.CommandFault.TheVariants.{OutOfMemory};
+    ghost use Rattle.inputs.specs.declared.command_error.CommandError.TheVariants.{Fault};
+    ghost use Rattle.inputs.specs.declared.fault.CommandFault.TheVariants.{OutOfMemory};
 
     ghost from_gives = { λ _ error. error ≡ Fault OutOfMemory };
 

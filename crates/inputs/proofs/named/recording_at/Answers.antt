@@ -1,5 +1,5 @@
-use Rattle.commands.proofs.CommandErrors.{unread_stop}
-use Rattle.commands.proofs.named.recording_at.Goals as goal
+use Rattle.inputs.proofs.CommandErrors.{unread_stop}
+use Rattle.inputs.proofs.named.recording_at.Goals as goal
 
 pub returns-clause-err : goal.returns-clause-err
 returns-clause-err g c = unread_stop (g.P.Place.bytes c.args.place.now) c.args.name.now c.as_slice.result.now

@@ -1,7 +1,7 @@
 //! The lines of refused texts.
 
 ghost use Rattle.std.specs.Prelude.{◌≡◌, IfOk, string_bytes};
-ghost use Rattle.answers.specs.Refusals.{line_refusal_name, refusal_line};
+ghost use Rattle.litmus.specs.Refusals.{line_refusal_name, refusal_line};
 
 use program::LineRefusal;
 use std::alloc::{AllocError, Global};

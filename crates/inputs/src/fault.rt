@@ -66,7 +66,7 @@ impl CommandFault {
 
 impl From<OutOfMemory> for CommandFault {
     ghost use Rattle.std.specs.Prelude.{◌≡◌};
-    ghost use Rattle.commands.specs.declared.fault.CommandFault.TheVariants.{OutOfMemory};
+    ghost use Rattle.inputs.specs.declared.fault.CommandFault.TheVariants.{OutOfMemory};
 
     ghost from_gives = { λ _ e. e ≡ OutOfMemory };
 
@@ -77,7 +77,7 @@ impl From<OutOfMemory> for CommandFault {
 
 impl From<AllocError> for CommandFault {
     ghost use Rattle.std.specs.Prelude.{◌≡◌};
-    ghost use Rattle.commands.specs.declared.fault.CommandFault.TheVariants.{OutOfMemory};
+    ghost use Rattle.inputs.specs.declared.fault.CommandFault.TheVariants.{OutOfMemory};
 
     ghost from_gives = { λ _ e. e ≡ OutOfMemory };
 
@@ -88,7 +88,7 @@ impl From<AllocError> for CommandFault {
 
 impl<T: Drop> From<AllocFailed<T>> for CommandFault {
     ghost use Rattle.std.specs.Prelude.{◌≡◌};
-    ghost use Rattle.commands.specs.declared.fault.CommandFault.TheVariants.{OutOfMemory};
+    ghost use Rattle.inputs.specs.declared.fault.CommandFault.TheVariants.{OutOfMemory};
 
     ghost from_gives = { λ _ e. e ≡ OutOfMemory };
 

@@ -3,10 +3,10 @@ use Rattle.std.specs.Prelude.{ℕ, List, Option, Ok, Err}
 use Rattle.recording.specs.declared.fault.RecError.{RecError}
 use Rattle.recording.specs.Execution.{Execution}
 use Rattle.recorder.specs.Reading.{IsReadingResult}
-use Rattle.commands.specs.declared.command_error.CommandError.{CommandError}
-use Rattle.commands.specs.declared.command_error.CommandError.TheVariants.{Refused, Fault}
-use Rattle.commands.specs.Inputs.{AreBytesOf, IsInputFault}
-use Rattle.commands.specs.Refusal.{IsRefusedAs}
+use Rattle.inputs.specs.declared.command_error.CommandError.{CommandError}
+use Rattle.inputs.specs.declared.command_error.CommandError.TheVariants.{Refused, Fault}
+use Rattle.inputs.specs.Inputs.{AreBytesOf, IsInputFault}
+use Rattle.inputs.specs.Refusal.{IsRefusedAs}
 
 -- the bytes of the input of this name give the recording
 pub record IsRecordingAt (inputs : List ℕ → Option (List ℕ)) (name : List ℕ) (x : Execution) : Type 0 where

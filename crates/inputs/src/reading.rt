@@ -2,8 +2,8 @@
 ghost use Rattle.std.specs.Prelude.{◌≡◌, ◌∷◌, [], IfErr, IfOk, false};
 ghost use Rattle.std.specs.Io.KnownBytes.{Keeps};
 ghost use Rattle.devices.specs.Places.{Notes, lent_more};
-ghost use Rattle.commands.specs.declared.command_error.CommandError.TheVariants.{Fault};
-ghost use Rattle.commands.specs.Inputs.{AreBytesOf, AreStopped, CanRead, IsInputFault, ReadsInput, seen};
+ghost use Rattle.inputs.specs.declared.command_error.CommandError.TheVariants.{Fault};
+ghost use Rattle.inputs.specs.Inputs.{AreBytesOf, AreStopped, CanRead, IsInputFault, ReadsInput, seen};
 
 use crate::fault::CommandFault;
 use devices::{InputFault, Place, ReadError, read_all};

@@ -1,12 +1,12 @@
 //! The lines of refused texts.
 ghost use Rattle.std.specs.Prelude.{◌≡◌, IfOk, string_bytes};
-ghost use Rattle.answers.specs.Refusals.{refusal_line};
-ghost use Rattle.commands.specs.Refusal.{option_line, option_refusal_name, shape_error_name, step_fault_name};
+ghost use Rattle.litmus.specs.Refusals.{refusal_line};
+ghost use Rattle.inputs.specs.Refusal.{option_line, option_refusal_name, shape_error_name, step_fault_name};
 
 use crate::command_error::PrintedRefusal;
 use crate::meanings::quoted;
-use answers::refusal_line;
 use command_line::OptionRefusal;
+use litmus::refusal_line;
 use machine::StepRefusal;
 use program::ShapeError;
 use std::alloc::{AllocError, Global};

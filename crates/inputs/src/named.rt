@@ -2,19 +2,18 @@
 ghost use Rattle.std.specs.Prelude.{◌≡◌, ◌∷◌, [], IfErr, IfOk, Ok};
 ghost use Rattle.program.specs.Text.{reading};
 ghost use Rattle.recorder.specs.Reading.{IsReadingResult};
-ghost use Rattle.commands.specs.Inputs.{CanRead, Reads, seen};
-ghost use Rattle.commands.specs.Program.{IsProgramAt, IsProgramError};
-ghost use Rattle.commands.specs.Recording.{IsRecordingAt, IsRecordingError, IsRefusedRecording};
-ghost use Rattle.answers.specs.Refusals.{line_refusal_name};
-ghost use Rattle.commands.specs.Refusal.{IsReadingError, IsRefusedAs};
+ghost use Rattle.inputs.specs.Inputs.{CanRead, Reads, seen};
+ghost use Rattle.inputs.specs.Program.{IsProgramAt, IsProgramError};
+ghost use Rattle.inputs.specs.Recording.{IsRecordingAt, IsRecordingError, IsRefusedRecording};
+ghost use Rattle.litmus.specs.Refusals.{line_refusal_name};
+ghost use Rattle.inputs.specs.Refusal.{IsReadingError, IsRefusedAs};
 
 use crate::command_error::{CommandError, PrintedRefusal};
 use crate::fault::CommandFault;
-use crate::inputs::text_at;
+use crate::reading::text_at;
 use crate::refusal::line_refusal;
-use answers::line_refusal_name;
 use devices::Place;
-use litmus::parse;
+use litmus::{line_refusal_name, parse};
 use program::{LitmusError, Program};
 use recorder::read_recording;
 use recording::{RecError, Recording};

@@ -9,10 +9,10 @@ use Rattle.program.specs.declared.shape_error.ShapeError.TheVariants.{K1, K2, K3
 use Rattle.command_line.specs.declared.options.OptionRefusal.{OptionRefusal}
 use Rattle.command_line.specs.declared.options.OptionRefusal.TheVariants as refused
 use Rattle.verdicts.specs.Refusal.{recording_line}
-use Rattle.answers.specs.Refusals.{refusal_line}
-use Rattle.commands.specs.declared.command_error.CommandError.{CommandError}
-use Rattle.commands.specs.declared.command_error.CommandError.TheVariants.{Refused, Fault}
-use Rattle.commands.specs.declared.fault.CommandFault.TheVariants.{OutOfMemory}
+use Rattle.litmus.specs.Refusals.{refusal_line}
+use Rattle.inputs.specs.declared.command_error.CommandError.{CommandError}
+use Rattle.inputs.specs.declared.command_error.CommandError.TheVariants.{Refused, Fault}
+use Rattle.inputs.specs.declared.fault.CommandFault.TheVariants.{OutOfMemory}
 
 -- what is printed for a fault of a script's line
 abbrev pub step_fault_name : StepRefusal → List ℕ

@@ -2,11 +2,11 @@
 use Rattle.std.specs.Prelude.{◌≡◌, ℕ, List, Option, Ok}
 use Rattle.program.specs.Parts.{Parts}
 use Rattle.program.specs.Text.{reading}
-use Rattle.commands.specs.declared.command_error.CommandError.{CommandError}
-use Rattle.commands.specs.declared.command_error.CommandError.TheVariants.{Refused, Fault}
-use Rattle.commands.specs.Inputs.{AreBytesOf, IsInputFault}
-use Rattle.answers.specs.Refusals.{line_refusal_name}
-use Rattle.commands.specs.Refusal.{IsReadingError}
+use Rattle.inputs.specs.declared.command_error.CommandError.{CommandError}
+use Rattle.inputs.specs.declared.command_error.CommandError.TheVariants.{Refused, Fault}
+use Rattle.inputs.specs.Inputs.{AreBytesOf, IsInputFault}
+use Rattle.litmus.specs.Refusals.{line_refusal_name}
+use Rattle.inputs.specs.Refusal.{IsReadingError}
 
 -- the input of this name is the text of the program
 pub record IsProgramAt (inputs : List ℕ → Option (List ℕ)) (name : List ℕ) (program : Parts) : Type 0 where

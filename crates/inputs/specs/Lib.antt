@@ -1,0 +1,5 @@
+pub mod Inputs
+pub mod CommandErrors
+pub mod Program
+pub mod Recording
+pub mod Refusal

@@ -1,0 +1,16 @@
+//! The named inputs of a command: their bytes, the program or the recording that they are, or why the command fails.
+#![tactic(auto)]
+
+mod command_error;
+mod fault;
+mod meanings;
+mod named;
+mod reading;
+mod refusal;
+
+pub use command_error::{CommandError, PrintedRefusal};
+pub use fault::CommandFault;
+pub use meanings::{REFUSAL_MEANINGS, explained, quoted};
+pub use named::{program_at, recording_at};
+pub use reading::{opened, text_at};
+pub use refusal::{line_refusal, option_refusal, step_fault_name};
