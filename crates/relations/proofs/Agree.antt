@@ -6,17 +6,16 @@ use Rattle.std.proofs.lemmas.Bool.{cases_lt}
 use Rattle.std.proofs.lemmas.List.{get_or_past, length-map}
 use Rattle.recording.specs.Execution.{Execution, event_count}
 use Rattle.recording.specs.Tso.{IsWellFormed}
-use Rattle.recording.specs.EventLaws.{Reads-event, Writes-event}
 use Rattle.relations.specs.declared.reason.Reason.{Reason}
 use Rattle.relations.specs.declared.reason.Reason.TheVariants.{Po, Wo, Rf, Fr}
-use Rattle.relations.specs.Forced.{Holds, Forced, IsReason}
+use Rattle.relations.specs.Forced.{Forced, IsReason}
 use Rattle.relations.specs.Filled.{TellsForced, AreFilled}
 use Rattle.relations.specs.declared.indexed.IndexedEvent.{IndexedEvent}
 use Rattle.relations.specs.Relation.{Row, Table, table_of, sets_of, relates, Related}
 use Rattle.bitrow.specs.Bits.{is_in}
 use Rattle.relations.proofs.Filled.{filled_forced}
 use Rattle.relations.proofs.Tables.{row_size, sets_same, table_size}
-use Rattle.relations.proofs.Written.{writes_listed, source_writes, source_within}
+use Rattle.relations.specs.ForcedLaws.{forced_within}
 
 -- where each row has a place for each row, related numbers are numbers of rows
 pub related_within : (t : Table) (n : ℕ) → length t ≡ n → All (λ set. length set ≡ n) (sets_of t) → (e f : ℕ)
@@ -32,15 +31,6 @@ related_within t n size rows e f r = elim (cases_lt e (length (sets_of t))) [
   where
     nothing : relates t e f ≡ false → ⊥
     nothing none = let no : false ≡ true = sym none ∙ r in cc
-
--- forced pairs are pairs of events
-pub forced_within : (x : Execution) → IsWellFormed x → (reason : Reason) (e f : ℕ) → Holds x reason e f
-    → (e < event_count x) × (f < event_count x)
-forced_within x wf Po e f h = let own : (e < f) × (f < event_count x) × _ = h.0 in (omega arith, own.1)
-forced_within x wf Wo e f h =
-    let w = writes_listed x wf h.0 e f h.1 in (Writes-event x e h.0 w.0, Writes-event x f h.0 w.1)
-forced_within x wf Rf e f h = (source_within x wf e f h.0, (source_writes x wf e f h.0).0)
-forced_within x wf Fr e f h = (Reads-event x e h.0 h.1, Writes-event x f h.0 h.2)
 
 -- a pair with a reason is forced
 some_reason : (x : Execution) (e f : ℕ) (o : Option Reason) → IsReason x e f o → is_some o ≡ true

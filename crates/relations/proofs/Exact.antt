@@ -1,72 +1,18 @@
--- TSO orders and forced pairs.
-use Rattle.std.proofs.Common.{◌≡◌, ◌≢◌, ◌<◌, ◌⊎◌, inl, inr, ℕ, Option, Some, None, List, arith, refl, sym, ap}
+-- Orders that have the forced pairs in order.
+use Rattle.std.proofs.Common.{◌≡◌, ◌<◌, ◌⊎◌, inl, inr, ℕ, Option, Some, None, List, arith, refl, sym, ap}
 use Rattle.std.proofs.Common.{subst}
 use Rattle.std.proofs.lemmas.Bool.{cases_eq, cases_lt}
 use Rattle.recording.specs.Execution.{Execution, event_count, event_at, core_of, write_list, Reads, Writes}
 use Rattle.recording.specs.Execution.{source_of, ProgramOrder}
-use Rattle.recording.specs.Order.{place, times, Before, Enumerates}
-use Rattle.recording.specs.Tso.{Gives, IsWellFormed, Visible, IsLastVisible, IsTsoOrder}
+use Rattle.recording.specs.Order.{place, Before}
+use Rattle.recording.specs.Tso.{Gives, IsWellFormed, Visible, IsLastVisible}
 use Rattle.recording.specs.Event.{value_read}
 use Rattle.recording.specs.OrderLaws.{compare_places}
-use Rattle.recording.specs.EventLaws.{Reads-event, Writes-event, source-Reads}
-use Rattle.relations.specs.declared.reason.Reason.{Reason}
 use Rattle.relations.specs.declared.reason.Reason.TheVariants.{Po, Wo, Rf, Fr}
-use Rattle.relations.specs.Forced.{IsOlder, Holds, Overlooks}
+use Rattle.relations.specs.Forced.{IsOlder}
 use Rattle.relations.specs.Consistency.{RespectsForced, HasNoOverlook}
-use Rattle.relations.specs.Laws.{EveryOrderRespects, EveryRespectingIsOrder}
-
--- two numbers stand in one order only
-Before-asym : (xs : List ℕ) (e f : ℕ) → Before xs e f → Before xs f e → ⊥
-Before-asym xs e f p q = omega arith
-
--- each event stands in a list of all
-listed : (x : Execution) (m : List ℕ) → Enumerates (λ e. e < event_count x) m → (e : ℕ) → e < event_count x
-    → 0 < times m e
-listed x m total e h = omega (arith, total.once e h)
-
--- no visible write is newer than the source of a read in its write list
-older_is_last : (x : Execution) (m : List ℕ) → IsTsoOrder x m → (e a w : ℕ) → Reads x e a → Visible x m e a w
-    → IsOlder (write_list x a) (source_of x e) w → ⊥
-older_is_last x m t e a w reads seen older = go (source_of x e) (t.values e a reads) older
-  where
-    go : (s : Option ℕ) → IsLastVisible x m e a s → IsOlder (write_list x a) s w → ⊥
-    go None last old = last w seen
-    go (Some s) last old = elim (last.1 w seen) [
-      | inl same ↦ let p : Before (write_list x a) s w =
-          old in omega (arith, ap (place (write_list x a)) same)
-      | inr before ↦ Before-asym m w s before (t.write_order a s w old)
-    ]
-
--- a forced pair stands in order
-forced_before : (x : Execution) (m : List ℕ) → IsWellFormed x → IsTsoOrder x m → (reason : Reason) (e f : ℕ)
-    → Holds x reason e f → Before m e f
-forced_before x m wf t Po e f h = t.kept e f h
-forced_before x m wf t Wo e f h = t.write_order h.0 e f h.1
-forced_before x m wf t Rf e f h =
-    let reads : (a : ℕ) × Reads x f a = source-Reads x f e h.0 in
-    let last : IsLastVisible x m f reads.0 (Some e) =
-    subst (λ (s : Option ℕ). IsLastVisible x m f reads.0 s) h.0 (t.values f reads.0 reads.1) in
-    elim last.0.2 [ inl before ↦ before | inr own ↦ absurd (h.1 own) ]
-forced_before x m wf t Fr e f h =
-    elim (compare_places m e f (listed x m t.total e (Reads-event x e h.0 h.1))
-    (listed x m t.total f (Writes-event x f h.0 h.2))) [
-      | inl before ↦ before
-      | inr rest ↦ elim rest [
-        | inl same ↦ absurd (h.3 (sym same))
-        | inr after ↦ absurd (older_is_last x m t e h.0 f h.1 (h.2, h.3, inl after) h.5)
-      ]
-    ]
-
--- where there is a TSO order, no read overlooks a store
-no_overlook : (x : Execution) (m : List ℕ) → IsTsoOrder x m → (l s : ℕ) → ¬ Overlooks x l s
-no_overlook x m t l s h =
-    let apart : s ≢ l = (let p : s < l = h.3.0 in omega arith) in
-    older_is_last x m t l h.0 s h.1 (h.2, apart, inr h.3) h.4
-
--- every TSO order has the forced pairs in order, and then no read overlooks a store
-pub every_order_respects : (x : Execution) → EveryOrderRespects x
-every_order_respects x m wf t =
-    (record { total = t.total; related = λ e f h. forced_before x m wf t h.0 e f h.1 }, no_overlook x m t)
+use Rattle.relations.specs.ForcedLaws.{Before-asym}
+use Rattle.relations.specs.Laws.{EveryRespectingIsOrder}
 
 -- two events are in program order, or not
 pub program_order_or_not : (x : Execution) (e f : ℕ) → ProgramOrder x e f ⊎ ¬ ProgramOrder x e f

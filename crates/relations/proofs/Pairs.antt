@@ -8,7 +8,8 @@ use Rattle.relations.specs.declared.indexed.IndexedEvent.{IndexedEvent}
 use Rattle.relations.specs.declared.reason.Reason.TheVariants.{Wo, Fr}
 use Rattle.relations.specs.Forced.{IsOlder, Holds}
 use Rattle.relations.specs.Indexed.{IsIndexed}
-use Rattle.relations.proofs.Written.{writes_listed, writes_one}
+use Rattle.relations.specs.ForcedLaws.{writes_listed}
+use Rattle.relations.proofs.Written.{writes_one}
 
 -- a write stands in its write list
 in_list : (x : Execution) (q : IndexedEvent) (a : ℕ) → IsIndexed x q → Writes x q.number a

@@ -10,7 +10,7 @@ use Rattle.relations.specs.Forced.{Forced}
 use Rattle.relations.specs.Indexed.{IsIndexed, AreIndexed}
 use Rattle.relations.specs.Filled.{IsPut, TellsForced, IsFilledRow, AreFilled}
 use Rattle.relations.specs.Direct.{IsCandidate, IsPair}
-use Rattle.relations.proofs.Written.{source_writes}
+use Rattle.relations.specs.ForcedLaws.{source_writes}
 use Rattle.relations.proofs.Filled.{filled_fewer, filled_more, forced_split}
 
 -- e may be forced before f without being read, or f is an event below n that reads from e

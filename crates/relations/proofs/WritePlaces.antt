@@ -11,7 +11,8 @@ use Rattle.recording.specs.OrderLaws.{place_in}
 use Rattle.recording.specs.PlaceLaws.{at_place, place_at, times_at}
 use Rattle.relations.specs.Forced.{IsOlder, IsNewerFrom}
 use Rattle.relations.specs.Indexed.{AreWritePlaces}
-use Rattle.relations.proofs.Written.{list_short, listed_event, source_writes, writes_one}
+use Rattle.relations.specs.ForcedLaws.{source_writes}
+use Rattle.relations.proofs.Written.{list_short, listed_event, writes_one}
 
 -- a write is listed at its place
 listed_writes : (x : Execution) → IsWellFormed x → (a i : ℕ) → i < length (write_list x a)

@@ -1,11 +1,14 @@
 -- Laws of cycles, and of the dictionary order.
 use Rattle.std.proofs.Common.{◌≡◌, ◌<◌, ◌≤◌, ◌+◌, ◌⊎◌, inl, inr, ℕ, zero, suc, List, [], ◌∷◌, ◌++◌, length}
 use Rattle.std.proofs.Common.{arith, refl, sym, ap, subst, ◌∙◌}
-use Rattle.std.proofs.lemmas.Bool.{cases_eq}
-use Rattle.recording.specs.Order.{times}
+use Rattle.std.proofs.Common.{get_or}
+use Rattle.std.proofs.lemmas.Bool.{cases_eq, cases_lt}
 use Rattle.recording.specs.OrderLaws.{times_here, times_there, times_nil, cases_times}
 use Rattle.recording.specs.EnumerationLaws.{distinct_below}
-use Rattle.relations.specs.Cycle.{Leads, Walk, IsCycle, ComesFirst}
+use Rattle.recording.specs.Order.{place, times, Before}
+use Rattle.relations.specs.Cycle.{Leads, Walk, IsCycle, IsShortest, IsCertificate, IsCappedDistance, AreExactRows}
+use Rattle.relations.specs.Cycle.{ComesFirst}
+use Rattle.relations.specs.Laws.{OrderedIsAcyclic}
 
 -- one step more at the end of a walk
 pub walk_more : (R : ℕ → ℕ → Type 0) (n e f g : ℕ) → Walk R n e f → R f g → Walk R (suc n) e g
@@ -157,3 +160,65 @@ leads_into R S into e (f ∷ fs) back h = (into e f h.0, leads_into R S into f f
 pub cycle_into : (R S : ℕ → ℕ → Type 0) → ((e f : ℕ) → R e f → S e f) → (c : List ℕ) → IsCycle R c → IsCycle S c
 cycle_into R S into [] h = h
 cycle_into R S into (e ∷ es) h = leads_into R S into e es e h
+
+-- along related neighbours places grow
+leads_before : (R : ℕ → ℕ → Type 0) (m : List ℕ) → ((e f : ℕ) → R e f → Before m e f)
+    → (e : ℕ) (es : List ℕ) (back : ℕ) → Leads R e es back → place m e < place m back
+leads_before R m order e [] back h = (order e back h).0
+leads_before R m order e (f ∷ fs) back h =
+    let first : Before m e f = order e f h.0 in
+    omega (arith, leads_before R m order f fs back h.1)
+
+-- so where an order has the related pairs in order, no cycle comes back to where it began
+pub no_cycle : (R : ℕ → ℕ → Type 0) → OrderedIsAcyclic R
+no_cycle R n m r [] h = h
+no_cycle R n m r (e ∷ es) h = omega (arith, leads_before R m r.related e es e h)
+
+-- the events of a walk of at least one step
+pub path_of_walk : (R : ℕ → ℕ → Type 0) (n e back : ℕ) → Walk R (suc n) e back → (es : List ℕ)
+    × Leads R e es back × (length es ≡ n)
+path_of_walk R zero e back w = ([], subst (λ (x : ℕ). R e x) w.2 w.1, refl)
+path_of_walk R (suc n) e back w =
+    let rest : (es : List ℕ) × Leads R w.0 es back × (length es ≡ n) = path_of_walk R n w.0 back w.2 in
+    (w.0 ∷ rest.0, (w.1, rest.1), omega (arith, rest.2))
+
+-- a walk to what is related to its start makes a cycle
+pub cycle_of_walk : (R : ℕ → ℕ → Type 0) (m v e : ℕ) → Walk R m v e → R e v
+    → (c : List ℕ) × IsCycle R c × (length c ≡ m + 1)
+cycle_of_walk R m v e w r = let path : (es : List ℕ) × Leads R v es v × (length es ≡ m) =
+    path_of_walk R m v v (walk_more R m v e v w r) in (v ∷ path.0, path.1, omega (arith, path.2))
+
+-- exact rows certify
+pub exact_certifies : (R : ℕ → ℕ → Type 0) (n k : ℕ) (rows : List (List ℕ)) (c : List ℕ)
+    → ((e f : ℕ) → R e f → (e < n) × (f < n)) → IsShortest R c → length c ≡ k → AreExactRows R n k rows
+    → IsCertificate R n c rows
+exact_certifies R n k rows c within h is d = record {
+  cyclic = h.cycle;
+  one_each = d.one_each;
+  labellings = λ v at. record {
+    one_each = (d.exact v at).one_each;
+    start = omega (arith, ((d.exact v at).labels v at).least 0 refl);
+    grows = λ e f r.
+        let from : IsCappedDistance R k v e (get_or (get_or rows v []) e 0) =
+        (d.exact v at).labels e (within e f r).0 in
+        let to : IsCappedDistance R k v f (get_or (get_or rows v []) f 0) =
+        (d.exact v at).labels f (within e f r).1 in
+        elim (cases_lt (get_or (get_or rows v []) e 0) k) [
+          | inl small ↦ omega (
+            arith,
+            to.least (suc (get_or (get_or rows v []) e 0))
+                (walk_more R (get_or (get_or rows v []) e 0) v e f (from.walk small) r),
+          )
+          | inr full ↦ omega (arith, full, to.cap)
+        ];
+    closes = λ e r.
+        let from : IsCappedDistance R k v e (get_or (get_or rows v []) e 0) =
+        (d.exact v at).labels e (within e v r).0 in
+        elim (cases_lt (get_or (get_or rows v []) e 0) k) [
+          | inl small ↦ let s : (s : List ℕ) × IsCycle R s × (length s ≡ get_or (get_or rows v []) e 0 + 1) =
+              cycle_of_walk R (get_or (get_or rows v []) e 0) v e (from.walk small) r in
+              omega (arith, s.2, h.shortest s.0 s.1)
+          | inr full ↦ omega (arith, full, is)
+        ];
+  };
+}

@@ -4,10 +4,10 @@ use Rattle.std.proofs.Common.{length, get_or, arith, refl, sym, ap, subst, ◌�
 use Rattle.std.proofs.lemmas.Bool.{cases_eq, cases_lt}
 use Rattle.relations.specs.Cycle.{Leads, IsCycle, IsShortest, ComesFirst, IsLeastCycle, Walk}
 use Rattle.relations.specs.Cycle.{IsCappedDistance, AreExactRows}
-use Rattle.relations.specs.CycleLaws.{first_more, walk_more}
+use Rattle.relations.specs.CycleLaws.{cycle_of_walk, first_more, walk_more}
 use Rattle.search.specs.Cycles.{IsShortestLength, IsLeastWith, ClosesAt, IsNextOnCycle}
 use Rattle.search.proofs.Walks.{walk_of, walk_of_path}
-use Rattle.search.proofs.Lengths.{last_step, cycle_of_walk}
+use Rattle.search.proofs.Lengths.{last_step}
 
 -- the last event of a path
 abbrev pub last_of : ℕ → List ℕ → ℕ

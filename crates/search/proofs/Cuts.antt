@@ -1,15 +1,14 @@
 -- Rows that are cut at the length of a shortest cycle.
-use Rattle.std.proofs.Common.{◌≡◌, ◌<◌, ◌≤◌, ◌+◌, ◌⊎◌, inl, inr, ℕ, suc, List, [], ◌∷◌, ◌++◌, length, get_or}
-use Rattle.std.proofs.Common.{set, take, drop, min, Vec, Global, arith, refl, sym, ap, subst, ◌∙◌}
+use Rattle.std.proofs.Common.{◌≡◌, ◌<◌, ◌≤◌, ◌+◌, ◌⊎◌, inl, inr, ℕ, List, [], ◌∷◌, ◌++◌, length, get_or}
+use Rattle.std.proofs.Common.{set, take, drop, min, Vec, Global, arith, sym, ap, subst, ◌∙◌}
 use Rattle.std.proofs.Common.{get_or-set_other, get_or-set_same, length-set}
 use Rattle.std.proofs.lemmas.Bool.{cases_eq, cases_lt}
 use Rattle.std.proofs.lemmas.List.{get_or_past, get_or_push, get_or_append_left, take-append-le, take_all}
-use Rattle.relations.specs.Cycle.{IsCycle, IsShortest, IsCertificate, IsCappedDistance, IsExactRow}
+use Rattle.relations.specs.Cycle.{IsCycle, IsCappedDistance, IsExactRow}
 use Rattle.relations.specs.Cycle.{AreExactRows, IsAcyclic}
-use Rattle.relations.specs.CycleLaws.{short_cycle, walk_more}
+use Rattle.relations.specs.CycleLaws.{cycle_of_walk, short_cycle}
 use Rattle.search.specs.Cycles.{IsCap, IsNearest, IsDistanceRow, AreDistanceRows, AreCut, IsShortestLength}
 use Rattle.search.proofs.Walks.{walk_of, cut_distance}
-use Rattle.search.proofs.Lengths.{cycle_of_walk}
 
 -- the rows below i are cut, and the others as they were
 pub record AreCutBelow (most i : ℕ) (before now : List (List ℕ)) : Type 0 where
@@ -92,41 +91,6 @@ uncut_exact R n rows d none = record {
     | inl whole ↦ subst (λ (k : ℕ). IsExactRow R n k v (get_or rows v [])) whole (d.distances v at).2
     | inr c ↦ absurd (none c.0 c.1)
   ];
-}
-
--- exact rows certify
-pub exact_certifies : (R : ℕ → ℕ → Type 0) (n k : ℕ) (rows : List (List ℕ)) (c : List ℕ)
-    → ((e f : ℕ) → R e f → (e < n) × (f < n)) → IsShortest R c → length c ≡ k → AreExactRows R n k rows
-    → IsCertificate R n c rows
-exact_certifies R n k rows c within h is d = record {
-  cyclic = h.cycle;
-  one_each = d.one_each;
-  labellings = λ v at. record {
-    one_each = (d.exact v at).one_each;
-    start = omega (arith, ((d.exact v at).labels v at).least 0 refl);
-    grows = λ e f r.
-        let from : IsCappedDistance R k v e (get_or (get_or rows v []) e 0) =
-        (d.exact v at).labels e (within e f r).0 in
-        let to : IsCappedDistance R k v f (get_or (get_or rows v []) f 0) =
-        (d.exact v at).labels f (within e f r).1 in
-        elim (cases_lt (get_or (get_or rows v []) e 0) k) [
-          | inl small ↦ omega (
-            arith,
-            to.least (suc (get_or (get_or rows v []) e 0))
-                (walk_more R (get_or (get_or rows v []) e 0) v e f (from.walk small) r),
-          )
-          | inr full ↦ omega (arith, full, to.cap)
-        ];
-    closes = λ e r.
-        let from : IsCappedDistance R k v e (get_or (get_or rows v []) e 0) =
-        (d.exact v at).labels e (within e v r).0 in
-        elim (cases_lt (get_or (get_or rows v []) e 0) k) [
-          | inl small ↦ let s : (s : List ℕ) × IsCycle R s × (length s ≡ get_or (get_or rows v []) e 0 + 1) =
-              cycle_of_walk R (get_or (get_or rows v []) e 0) v e (from.walk small) r in
-              omega (arith, s.2, h.shortest s.0 s.1)
-          | inr full ↦ omega (arith, full, is)
-        ];
-  };
 }
 
 -- one row more

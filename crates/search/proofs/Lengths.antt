@@ -3,9 +3,9 @@ use Rattle.std.proofs.Common.{◌≡◌, ◌<◌, ◌≤◌, ◌+◌, inl, inr, 
 use Rattle.std.proofs.Common.{Vec, Global, arith, refl, sym, ap, subst, ◌∙◌}
 use Rattle.std.proofs.lemmas.Bool.{cases_eq, cases_lt}
 use Rattle.relations.specs.Cycle.{Leads, IsCycle, Walk, IsAcyclic}
-use Rattle.relations.specs.CycleLaws.{short_cycle, walk_more}
+use Rattle.relations.specs.CycleLaws.{cycle_of_walk, short_cycle}
 use Rattle.search.specs.Cycles.{AreDistanceRows, IsNearest, IsLeastClosing, IsShortestLength}
-use Rattle.search.proofs.Walks.{walk_of, path_of_walk}
+use Rattle.search.proofs.Walks.{walk_of}
 use Rattle.std.proofs.lemmas.List.{get_or-map, get_or_append_left, get_or_push}
 
 -- the last event of a path, with the steps to it
@@ -14,12 +14,6 @@ pub last_step : (R : ℕ → ℕ → Type 0) (e : ℕ) (es : List ℕ) (back : �
 last_step R e [] back h = (e, refl, h)
 last_step R e (f ∷ fs) back h = let rest : (l : ℕ) × Walk R (length fs) f l × R l back =
     last_step R f fs back h.1 in (rest.0, (f, h.0, rest.1), rest.2)
-
--- a walk to what is related to its start makes a cycle
-pub cycle_of_walk : (R : ℕ → ℕ → Type 0) (m v e : ℕ) → Walk R m v e → R e v
-    → (c : List ℕ) × IsCycle R c × (length c ≡ m + 1)
-cycle_of_walk R m v e w r = let path : (es : List ℕ) × Leads R v es v × (length es ≡ m) =
-    path_of_walk R m v v (walk_more R m v e v w r) in (v ∷ path.0, path.1, omega (arith, path.2))
 
 -- the nearest under a larger cap, beside what was least
 pub nearest_less : (R : ℕ → ℕ → Type 0) (v : ℕ) (row : List ℕ) (k before closing : ℕ) → before ≤ k

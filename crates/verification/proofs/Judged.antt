@@ -9,11 +9,10 @@ use Rattle.recording.specs.Execution.{Execution, event_count}
 use Rattle.recording.specs.Recording.{IsRecording}
 use Rattle.relations.specs.Forced.{Forced}
 use Rattle.relations.specs.Cycle.{IsCycle}
-use Rattle.relations.specs.CycleLaws.{short_cycle}
-use Rattle.relations.proofs.Agree.{forced_within}
+use Rattle.relations.specs.CycleLaws.{exact_certifies, short_cycle}
+use Rattle.relations.specs.ForcedLaws.{forced_within}
 use Rattle.labels.specs.Certified.{lists_of}
 use Rattle.labels.specs.declared.certificate.Certificate.{Certificate}
-use Rattle.search.proofs.Cuts.{exact_certifies}
 use Rattle.verdicts.specs.declared.verdict.Verdict.{Verdict}
 use Rattle.verdicts.specs.declared.verdict.Verdict.TheVariants.{Ordered, Overlook, Cycle}
 use Rattle.verdicts.specs.Judgement.{IsCycleVerdict, IsOrderedVerdict, IsOverlookVerdict, IsVerdict}

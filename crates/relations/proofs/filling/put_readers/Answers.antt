@@ -1,7 +1,7 @@
 use Rattle.std.proofs.Common.{◌≡◌, ◌<◌, ◌+◌, Bool, Some, List, length, arith, sym, subst, ◌∙◌}
 use Rattle.recording.specs.Execution.{event_count, source_of}
 use Rattle.relations.specs.Filled.{AreFilled}
-use Rattle.relations.proofs.Written.{source_within}
+use Rattle.relations.specs.ForcedLaws.{source_within}
 use Rattle.relations.proofs.Tables.{row_size}
 use Rattle.relations.proofs.Readers.{IsReached, source_placed, tells_placed, reader_of_none, reader_of_some}
 use Rattle.relations.proofs.Readers.{no_reader, every_reader}

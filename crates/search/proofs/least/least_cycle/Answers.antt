@@ -2,7 +2,7 @@ use Rattle.std.proofs.Common.{◌≡◌, ◌-◌, ℕ, List, [], ◌∷◌, ◌+
 use Rattle.relations.specs.Relation.{Related}
 use Rattle.relations.specs.Cycle.{IsLeastCycle, IsCertificate}
 use Rattle.labels.specs.Certified.{lists_of}
-use Rattle.search.proofs.Cuts.{exact_certifies}
+use Rattle.relations.specs.CycleLaws.{exact_certifies}
 use Rattle.search.proofs.Choices.{first_exists, greedy_start, chosen_exists, chosen_more, greedy_end}
 use Rattle.search.proofs.Choices.{cycle_long}
 use Rattle.search.proofs.least.least_cycle.Goals as goal
