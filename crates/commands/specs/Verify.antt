@@ -19,11 +19,11 @@ pub record IsVerified (inputs : List ℕ
   pub answered : IsCheckAnswer recording text answer
 
 -- the text of this name isn't read, or there is no memory
-abbrev pub IsTextError : (List ℕ → Option (List ℕ)) → List ℕ → CommandError → Type 0
-IsTextError inputs name (Refused refusal) = ⊥
-IsTextError inputs name (Fault fault) = IsInputFault inputs name fault
+abbrev pub IsUnreadText : (List ℕ → Option (List ℕ)) → List ℕ → CommandError → Type 0
+IsUnreadText inputs name (Refused refusal) = ⊥
+IsUnreadText inputs name (Fault fault) = IsInputFault inputs name fault
 
 -- why a text is not checked: the recording is refused or isn't read, or the text isn't
 abbrev pub IsVerifyError : (List ℕ → Option (List ℕ)) → VerifyOptions → CommandError → Type 0
 IsVerifyError inputs o error = IsRecordingError inputs (string_bytes o.recording) error
-    ⊎ IsTextError inputs (string_bytes o.verdict) error
+    ⊎ IsUnreadText inputs (string_bytes o.verdict) error

@@ -159,6 +159,6 @@ abbrev pub IsDiyLine : Execution → List ℕ → List ℕ → Type 0
 IsDiyLine x c text = IsDiyLineBy (list_all (λ e. is_plain (event_at x e)) c) x c text
 
 -- the line of a load that overlooks a store, if it is no read-modify-write and the store none
-unfoldable pub overlook_line : Event → Event → List ℕ
-overlook_line load store = if is_plain_load load && is_plain_store store
+unfoldable pub diy_overlook_line : Event → Event → List ℕ
+diy_overlook_line load store = if is_plain_load load && is_plain_store store
     then codes "In diy's words: PosWR Fri (CoWR)\n" else []

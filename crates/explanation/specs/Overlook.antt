@@ -3,7 +3,7 @@ use Rattle.std.specs.Prelude.{◌++◌, ◌∷◌, [], ℕ, List, Option, Some, 
 use Rattle.program.specs.declared.name.Name.{Name}
 use Rattle.recording.specs.Event.{written_address}
 use Rattle.recording.specs.Execution.{Execution, event_at, source_of}
-use Rattle.explanation.specs.Diy.{overlook_line}
+use Rattle.explanation.specs.Diy.{diy_overlook_line}
 use Rattle.event_texts.specs.Events.{event_line, indent, written_text}
 
 -- what is said first of an overlook
@@ -28,4 +28,4 @@ abbrev pub overlook_text : Execution → List Name → ℕ → ℕ → List ℕ
 overlook_text x names l s = overlook_heading l s ++ event_line x names s ++ store_line x l
     ++ event_line x names l
     ++ (instead_lines x names (written_text names (written_address (event_at x s))) (source_of x l)
-    ++ overlook_line (event_at x l) (event_at x s))
+    ++ diy_overlook_line (event_at x l) (event_at x s))

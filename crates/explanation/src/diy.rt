@@ -7,7 +7,7 @@ ghost use Rattle.recording.specs.Event.{is_plain_store};
 ghost use Rattle.recording.specs.Execution.{event_at};
 ghost use Rattle.explanation.specs.Diy.{IsDiyLine, IsStep, AreWordSteps, accesses, accessed, classic_of};
 ghost use Rattle.explanation.specs.Diy.{is_fence, is_plain, letter, pair_text, side_text, told_from, word};
-ghost use Rattle.explanation.specs.Diy.{IsNamedBehind, words_from, diy_line, overlook_line};
+ghost use Rattle.explanation.specs.Diy.{IsNamedBehind, words_from, diy_line, diy_overlook_line};
 
 use common::{Addr, EventId, OutOfMemory};
 use event_texts::event_of;
@@ -305,13 +305,13 @@ pub(crate) fn put_diy(
 }
 
 /// Adds the line of a load that overlooks a store, if it is no read-modify-write and the store none.
-#[tactic(auto, unfolding(crate::specs::Diy::overlook_line))]
+#[tactic(auto, unfolding(crate::specs::Diy::diy_overlook_line))]
 pub(crate) fn put_overlook_line(
     out: &mut Vec<u8>,
     load: &Event,
     store: &Event,
 ) -> Result<(), OutOfMemory>
-    ensures { OnOk result (out.new.items ≡ out.old.items ++ overlook_line load.now store.now) }
+    ensures { OnOk result (out.new.items ≡ out.old.items ++ diy_overlook_line load.now store.now) }
 {
     if matches!(load, Event::L { .. }) && is_store(store) {
         put_text(out, b"In diy's words: PosWR Fri (CoWR)\n")

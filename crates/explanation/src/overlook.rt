@@ -3,7 +3,7 @@
 ghost use Rattle.std.specs.Prelude.{◌≡◌, ◌++◌, OnOk, codes, decimal};
 ghost use Rattle.recording.specs.Event.{written_address};
 ghost use Rattle.recording.specs.Execution.{event_at, source_of};
-ghost use Rattle.explanation.specs.Diy.{overlook_line};
+ghost use Rattle.explanation.specs.Diy.{diy_overlook_line};
 ghost use Rattle.event_texts.specs.Events.{written_text};
 ghost use Rattle.explanation.specs.Overlook.{overlook_heading, store_line, instead_lines, overlook_text};
 
@@ -115,7 +115,7 @@ fn put_last_line(
     store: EventId,
 ) -> Result<(), OutOfMemory>
     ensures { OnOk result (out.new.items ≡ out.old.items
-        ++ overlook_line (event_at recording.now load) (event_at recording.now store)) }
+        ++ diy_overlook_line (event_at recording.now load) (event_at recording.now store)) }
 {
     let (_, read) = event_of(recording, load);
     let (_, written) = event_of(recording, store);
@@ -133,7 +133,7 @@ fn put_end(
     ensures { OnOk result (out.new.items ≡ out.old.items ++ (instead_lines recording.now names.now.keys
         (written_text names.now.keys (written_address (event_at recording.now store)))
         (source_of recording.now load)
-        ++ overlook_line (event_at recording.now load) (event_at recording.now store))) }
+        ++ diy_overlook_line (event_at recording.now load) (event_at recording.now store))) }
 {
     put_read_instead(out, recording, names, load, store)?;
     put_last_line(out, recording, load, store)

@@ -9,20 +9,20 @@ use Rattle.merging.specs.declared.error.MergeRefusal.TheVariants.{NoLine, NoCode
 use Rattle.merging.specs.declared.error.TextError.{TextError}
 use Rattle.merging.specs.declared.error.TextError.TheVariants.{Refused, OutOfMemory}
 use Rattle.merging.specs.declared.kind.Kind.{Kind}
-use Rattle.merging.specs.Merges.{IsFileAdded, IsFileError, IsTextAdded, IsTextError, IsNoText, Refuses}
+use Rattle.merging.specs.Merges.{IsFileAdded, IsFileError, IsTextAdded, IsLedgerTextError, IsNoText, Refuses}
 use Rattle.merging.specs.TextOf.{HasTextOf}
 use Rattle.merging.specs.TextOfLaws.{ledger_tells}
-use Rattle.merging.specs.Texts.{AreTexts, Begins, text_of}
+use Rattle.merging.specs.Texts.{AreLedgerTexts, BeginsWithLedger, text_of}
 use Rattle.merging.proofs.WholeTexts.{text_some}
 
 -- the texts up to the rest are added, and whatever they are the texts of is told
 pub record AreUnderWay (kind : Kind) (old new : Ledger) (bytes rest : List ℕ) : Type 0 where
   pub done : List ℕ
   pub sum : (earlier : List ℕ) → IsLedger earlier old → IsLedger (earlier ++ done) new
-  pub whole : (back : List (List ℕ)) → AreTexts kind back rest
-      → (lists : List (List ℕ)) × AreTexts kind lists bytes × (concat lists ≡ done ++ concat back)
-  pub only : (lists : List (List ℕ)) → AreTexts kind lists bytes
-      → (front : List ℕ) × (back : List (List ℕ)) × AreTexts kind back rest × (concat lists ≡ front ++ concat back)
+  pub whole : (back : List (List ℕ)) → AreLedgerTexts kind back rest
+      → (lists : List (List ℕ)) × AreLedgerTexts kind lists bytes × (concat lists ≡ done ++ concat back)
+  pub only : (lists : List (List ℕ)) → AreLedgerTexts kind lists bytes
+      → (front : List ℕ) × (back : List (List ℕ)) × AreLedgerTexts kind back rest × (concat lists ≡ front ++ concat back)
       × ((earlier : List ℕ) → HasTextOf kind earlier old → HasTextOf kind (earlier ++ front) new)
 
 -- before the first
@@ -41,9 +41,9 @@ begun kind old bytes = record {
 }
 
 -- the texts of a file that isn't empty begin with one
-pub first_text : (kind : Kind) (lists : List (List ℕ)) (bytes : List ℕ) → bytes ≢ [] → AreTexts kind lists bytes
-    → (codes : List ℕ) × (back : List (List ℕ)) × (more : List ℕ) × Begins kind codes bytes more
-    × AreTexts kind back more × (concat lists ≡ codes ++ concat back)
+pub first_text : (kind : Kind) (lists : List (List ℕ)) (bytes : List ℕ) → bytes ≢ [] → AreLedgerTexts kind lists bytes
+    → (codes : List ℕ) × (back : List (List ℕ)) × (more : List ℕ) × BeginsWithLedger kind codes bytes more
+    × AreLedgerTexts kind back more × (concat lists ≡ codes ++ concat back)
 first_text kind [] bytes some texts = absurd (some texts)
 first_text kind (codes ∷ lists) bytes some texts = (codes, lists, texts.0, texts.1, texts.2, refl)
 
@@ -64,7 +64,7 @@ text_more kind old mid new bytes rest after some u t = record {
       let o = t.only f.0 f.2 f.3 in (
         w.0 ++ f.0,
         f.1,
-        subst (λ (l : List ℕ). AreTexts kind f.1 l) (sym o.0) f.4,
+        subst (λ (l : List ℕ). AreLedgerTexts kind f.1 l) (sym o.0) f.4,
         w.3 ∙ ap (λ (l : List ℕ). w.0 ++ l) f.5 ∙ sym (append_assoc w.0 f.0 (concat f.1)),
         λ earlier is. subst (λ (l : List ℕ). HasTextOf kind l new) (append_assoc earlier w.0 f.0)
             (o.1 (earlier ++ w.0) (w.4 earlier is)),
@@ -72,14 +72,14 @@ text_more kind old mid new bytes rest after some u t = record {
 }
 
 -- nothing is left of the texts after the last
-none_left : (kind : Kind) (back : List (List ℕ)) → AreTexts kind back []
-    → ((codes more : List ℕ) → Begins kind codes [] more → ⊥) → concat back ≡ []
+none_left : (kind : Kind) (back : List (List ℕ)) → AreLedgerTexts kind back []
+    → ((codes more : List ℕ) → BeginsWithLedger kind codes [] more → ⊥) → concat back ≡ []
 none_left kind [] texts none = refl
 none_left kind (codes ∷ back) texts none = absurd (none codes texts.0 texts.1)
 
 -- after the last
 pub ended : (kind : Kind) (old new : Ledger) (bytes : List ℕ) → bytes ≢ [] → AreUnderWay kind old new bytes []
-    → ((codes more : List ℕ) → Begins kind codes [] more → ⊥) → IsFileAdded kind old new bytes
+    → ((codes more : List ℕ) → BeginsWithLedger kind codes [] more → ⊥) → IsFileAdded kind old new bytes
 ended kind old new bytes some u none = let w = u.whole [] refl in record {
   codes = u.done;
   file = record {
@@ -104,7 +104,7 @@ refuses_more OtherKind m n within is = is
 
 -- a fault of a text is one of its file
 pub text_fault : (kind : Kind) (old mid : Ledger) (bytes rest : List ℕ) (fault : TextError) (codes : List ℕ) → rest ≢ []
-    → AreUnderWay kind old mid bytes rest → IsLedger codes old → IsTextError kind mid rest fault
+    → AreUnderWay kind old mid bytes rest → IsLedger codes old → IsLedgerTextError kind mid rest fault
     → IsFileError kind old bytes fault
 text_fault kind old mid bytes rest OutOfMemory codes some u is fault = tt
 text_fault kind old mid bytes rest (Refused refusal left) codes some u is fault = λ others file.
@@ -131,12 +131,12 @@ empty_fault kind old bytes refusal left none = λ codes file. absurd (file.some 
 
 -- no text is unread where none begins
 pub unread_fault : (kind : Kind) (sum : Ledger) (before : List ℕ) (fault : TextError) → IsNoText kind before fault
-    → IsTextError kind sum before fault
+    → IsLedgerTextError kind sum before fault
 unread_fault kind sum before OutOfMemory is = tt
 unread_fault kind sum before (Refused refusal left) is = λ codes more begins. absurd (is codes more begins)
 
 -- nothing is begun by no bytes
-pub none_begins : (kind : Kind) (codes more : List ℕ) → Begins kind codes [] more → ⊥
+pub none_begins : (kind : Kind) (codes more : List ℕ) → BeginsWithLedger kind codes [] more → ⊥
 none_begins kind codes more b =
     absurd (omega (
       arith,
@@ -146,7 +146,7 @@ none_begins kind codes more b =
     ))
 
 -- a text is some bytes
-pub shorter : (kind : Kind) (codes before after : List ℕ) → Begins kind codes before after
+pub shorter : (kind : Kind) (codes before after : List ℕ) → BeginsWithLedger kind codes before after
     → length after < length before
 shorter kind codes before after b = omega (
   arith,

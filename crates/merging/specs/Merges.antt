@@ -12,7 +12,7 @@ use Rattle.merging.specs.declared.error.TextError.TheVariants.{Refused, OutOfMem
 use Rattle.merging.specs.declared.kind.Kind.{Kind}
 use Rattle.merging.specs.declared.merged.Merged.{Merged}
 use Rattle.merging.specs.TextOf.{HasTextOf}
-use Rattle.merging.specs.Texts.{AreFiles, Begins, IsFile}
+use Rattle.merging.specs.Texts.{AreFiles, BeginsWithLedger, IsFile}
 
 -- the codes, which are so many, are refused: there are too many, and by no other number
 abbrev pub Refuses : MergeRefusal → ℕ → Type 0
@@ -24,27 +24,27 @@ Refuses OtherKind count = ⊥
 -- a ledger is read, and it tells of all codes with whose text the bytes begin
 pub record IsTextRead (kind : Kind) (before after : List ℕ) (ledger : Ledger) : Type 0 where
   pub codes : List ℕ
-  pub begins : Begins kind codes before after
+  pub begins : BeginsWithLedger kind codes before after
   pub is : IsLedger codes ledger
-  pub only : (others more : List ℕ) → Begins kind others before more → (after ≡ more) × HasTextOf kind others ledger
+  pub only : (others more : List ℕ) → BeginsWithLedger kind others before more → (after ≡ more) × HasTextOf kind others ledger
 
 -- no text of the kind begins the bytes, or there is no memory
 abbrev pub IsNoText : Kind → List ℕ → TextError → Type 0
 IsNoText kind before OutOfMemory = ⊤
-IsNoText kind before (Refused refusal left) = (codes more : List ℕ) → Begins kind codes before more → ⊥
+IsNoText kind before (Refused refusal left) = (codes more : List ℕ) → BeginsWithLedger kind codes before more → ⊥
 
 -- the codes of one text are added
 pub record IsTextAdded (kind : Kind) (old new : Ledger) (before after : List ℕ) : Type 0 where
   pub codes : List ℕ
-  pub begins : Begins kind codes before after
+  pub begins : BeginsWithLedger kind codes before after
   pub sum : (earlier : List ℕ) → IsLedger earlier old → IsLedger (earlier ++ codes) new
-  pub only : (others more : List ℕ) → Begins kind others before more → (after ≡ more)
+  pub only : (others more : List ℕ) → BeginsWithLedger kind others before more → (after ≡ more)
       × ((earlier : List ℕ) → HasTextOf kind earlier old → HasTextOf kind (earlier ++ others) new)
 
 -- why they are not
-abbrev pub IsTextError : Kind → Ledger → List ℕ → TextError → Type 0
-IsTextError kind old before OutOfMemory = ⊤
-IsTextError kind old before (Refused refusal left) = (codes more : List ℕ) → Begins kind codes before more
+abbrev pub IsLedgerTextError : Kind → Ledger → List ℕ → TextError → Type 0
+IsLedgerTextError kind old before OutOfMemory = ⊤
+IsLedgerTextError kind old before (Refused refusal left) = (codes more : List ℕ) → BeginsWithLedger kind codes before more
     → Refuses refusal (old.total + length codes)
 
 -- the codes of one file are added

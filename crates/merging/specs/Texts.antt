@@ -28,22 +28,22 @@ text_of Campaign l = campaign_text l
 text_of Survey l = survey_text l
 
 -- the bytes begin with the text of the ledger of these codes, which a number of 64 bits counts
-pub record Begins (kind : Kind) (codes bytes more : List ℕ) : Type 0 where
+pub record BeginsWithLedger (kind : Kind) (codes bytes more : List ℕ) : Type 0 where
   pub ledger : Ledger
   pub is : IsLedger codes ledger
   pub few : length codes < 2 ^ 64
   pub text : bytes ≡ text_of kind ledger ++ more
 
 -- the bytes are the texts of the ledgers of these lists of codes, one after another
-abbrev pub AreTexts : Kind → List (List ℕ) → List ℕ → Type 0
-AreTexts kind [] bytes = bytes ≡ []
-AreTexts kind (codes ∷ lists) bytes = (more : List ℕ) × Begins kind codes bytes more × AreTexts kind lists more
+abbrev pub AreLedgerTexts : Kind → List (List ℕ) → List ℕ → Type 0
+AreLedgerTexts kind [] bytes = bytes ≡ []
+AreLedgerTexts kind (codes ∷ lists) bytes = (more : List ℕ) × BeginsWithLedger kind codes bytes more × AreLedgerTexts kind lists more
 
 -- the bytes are one such text or more, and these are their codes, joined
 pub record IsFile (kind : Kind) (codes bytes : List ℕ) : Type 0 where
   pub some : bytes ≢ []
   pub lists : List (List ℕ)
-  pub texts : AreTexts kind lists bytes
+  pub texts : AreLedgerTexts kind lists bytes
   pub joined : codes ≡ concat lists
 
 -- so it is of each file

@@ -2,7 +2,7 @@
 
 ghost use Rattle.std.specs.Prelude.{◌≡◌, ◌<◌, IfErr, IfOk, length, map};
 ghost use Rattle.ledger.specs.Real.{HasCodes};
-ghost use Rattle.merging.specs.Merges.{IsFileAdded, IsFileError, IsMerge, IsMergingError, IsTextAdded, IsTextError};
+ghost use Rattle.merging.specs.Merges.{IsFileAdded, IsFileError, IsMerge, IsMergingError, IsTextAdded, IsLedgerTextError};
 ghost use Rattle.merging.specs.Merges.{IsLocated};
 
 use crate::cursor::Cursor;
@@ -30,7 +30,7 @@ fn add_text(
 ) -> Result<(), TextError>
     requires { HasCodes sum.old }
     ensures ok { IfOk result (λ _. IsTextAdded kind sum.old sum.new rest.old rest.new) }
-    ensures err { IfErr result (IsTextError kind sum.old rest.old) }
+    ensures err { IfErr result (IsLedgerTextError kind sum.old rest.old) }
 {
     let left = rest.left();
     let ledger = match read(rest, alloc, kind) {

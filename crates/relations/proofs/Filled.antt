@@ -8,7 +8,7 @@ use Rattle.relations.specs.declared.reason.Reason.{Reason}
 use Rattle.recording.specs.Execution.{Execution, event_count, source_of}
 use Rattle.relations.specs.Forced.{Holds, Forced}
 use Rattle.relations.specs.declared.reason.Reason.TheVariants.{Po, Wo, Rf, Fr}
-use Rattle.relations.specs.Filled.{IsPut, TellsForced, IsFilled, IsOwnOrWrite, IsFilledRow}
+use Rattle.relations.specs.Filled.{IsMarkedAs, TellsForced, IsFilled, IsOwnOrWrite, IsFilledRow}
 
 -- a row that was not changed is filled for no event
 pub filled_none : (x : Execution) (e : ℕ) (P : ℕ → Type 0) (row : List Bool) → ((f : ℕ) → P f → ⊥)
@@ -23,7 +23,7 @@ filled_fewer x e P Q old new fewer h =
 
 -- one event more
 pub filled_more : (x : Execution) (e : ℕ) (P Q : ℕ → Type 0) (old mid new : List Bool) (i : ℕ) (answer : Bool)
-    → IsPut mid i answer new → TellsForced x e i answer → ((f : ℕ) → Q f → P f ⊎ (f ≡ i))
+    → IsMarkedAs mid i answer new → TellsForced x e i answer → ((f : ℕ) → Q f → P f ⊎ (f ≡ i))
     → IsFilled x e P old mid → IsFilled x e Q old new
 filled_more x e P Q old mid new i answer put last more h = record {
   size = put.size ∙ h.size;

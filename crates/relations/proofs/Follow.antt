@@ -19,7 +19,7 @@ use Rattle.relations.specs.declared.reason.Reason.TheVariants.{Po, Wo, Rf, Fr}
 use Rattle.relations.specs.Forced.{IsOlder, IsNewerFrom, Holds, Forced}
 use Rattle.relations.specs.Indexed.{AreIndexed}
 use Rattle.relations.specs.Filled.{AreFilled}
-use Rattle.relations.specs.Direct.{is_passed, IsNextBehind, IsPair}
+use Rattle.relations.specs.Direct.{is_passed, IsNextOnCore, IsPair}
 use Rattle.relations.specs.Relation.{Related, table_of}
 use Rattle.relations.specs.Respects.{Respects}
 use Rattle.relations.specs.Consistency.{HasNoOverlook, RespectsForced}
@@ -112,7 +112,7 @@ module _ (x : Execution) (ps : List IndexedEvent) (sets : List (List Bool)) (wf 
             (omega arith, on.1)
       ]
     where
-      next_pair : (l : Bool) (e g : ℕ) → IsNextBehind x l e g → IsPair false x e g
+      next_pair : (l : Bool) (e g : ℕ) → IsNextOnCore x l e g → IsPair false x e g
       next_pair true e g h = inl (inl h)
       next_pair false e g h = inl (inr (inl h))
 

@@ -8,7 +8,7 @@ use Rattle.recording.specs.Tso.{IsWellFormed}
 use Rattle.relations.specs.declared.indexed.IndexedEvent.{IndexedEvent}
 use Rattle.relations.specs.Forced.{Forced}
 use Rattle.relations.specs.Indexed.{IsIndexed, AreIndexed}
-use Rattle.relations.specs.Filled.{IsPut, TellsForced, IsFilledRow, AreFilled}
+use Rattle.relations.specs.Filled.{IsMarkedAs, TellsForced, IsFilledRow, AreFilled}
 use Rattle.relations.specs.Direct.{IsCandidate, IsPair}
 use Rattle.relations.specs.ForcedLaws.{source_writes}
 use Rattle.relations.proofs.Filled.{filled_fewer, filled_more, forced_split}
@@ -81,7 +81,7 @@ tells_placed x ps e f d k answer placed he hf tells =
 -- an event with a source is in the row of its source
 pub reader_of_some : (x : Execution) (all : Bool) (n s : ℕ) (rows : List (List Bool)) (answer : Bool)
     (d row : List Bool) → s < event_count x → source_of x n ≡ Some s → TellsForced x s n answer
-    → IsPut (get_or rows s d) n answer row → AreFilled x (IsReached x all n) rows
+    → IsMarkedAs (get_or rows s d) n answer row → AreFilled x (IsReached x all n) rows
     → AreFilled x (IsReached x all (n + 1)) (set rows s row)
 reader_of_some x all n s rows answer d row at is tells put h = record {
   size = length-set rows s row ∙ h.size;

@@ -13,8 +13,8 @@ is_passed true e = is_plain_load e
 is_passed false e = is_plain_store e
 
 -- f is the next event after e on its core that is not passed over
-abbrev pub IsNextBehind : Execution → Bool → ℕ → ℕ → Type 0
-IsNextBehind x loads e f = ProgramOrder x e f × (is_passed loads (event_at x f) ≡ false)
+abbrev pub IsNextOnCore : Execution → Bool → ℕ → ℕ → Type 0
+IsNextOnCore x loads e f = ProgramOrder x e f × (is_passed loads (event_at x f) ≡ false)
     × ((g : ℕ) → e < g → g < f → is_passed loads (event_at x g) ≡ true)
 
 -- f is the next write after e in their write list
@@ -28,13 +28,13 @@ IsFirstNewer x e f = (a : ℕ) × Reads x e a × Writes x f a
     × IsNewerFrom (write_list x a) (source_of x e) (place (write_list x a) f)
 
 -- f is the next event after e that e may be forced before without being read
-abbrev pub IsNext : Execution → ℕ → ℕ → Type 0
-IsNext x e f = IsNextBehind x true e f ⊎ (IsNextBehind x false e f ⊎ (IsNextWrite x e f ⊎ IsFirstNewer x e f))
+abbrev pub IsNextAfter : Execution → ℕ → ℕ → Type 0
+IsNextAfter x e f = IsNextOnCore x true e f ⊎ (IsNextOnCore x false e f ⊎ (IsNextWrite x e f ⊎ IsFirstNewer x e f))
 
 -- what e may be forced before without being read: all, or the next
 abbrev pub IsCandidate : Bool → Execution → ℕ → ℕ → Type 0
 IsCandidate true x e f = IsOwnOrWrite x e f
-IsCandidate false x e f = IsNext x e f
+IsCandidate false x e f = IsNextAfter x e f
 
 -- what e may be forced before
 abbrev pub IsPair : Bool → Execution → ℕ → ℕ → Type 0

@@ -7,7 +7,7 @@ use Rattle.recording.specs.Execution.{Execution, event_count, ProgramOrder}
 use Rattle.relations.specs.Forced.{Holds, Forced}
 
 -- a set with e in it or not, as the answer is, and else as it was
-pub record IsPut (old : List Bool) (e : ℕ) (answer : Bool) (new : List Bool) : Type 0 where
+pub record IsMarkedAs (old : List Bool) (e : ℕ) (answer : Bool) (new : List Bool) : Type 0 where
   pub size : length new ≡ length old
   pub here : is_in new e ≡ answer
   pub others : (f : ℕ) → f ≢ e → is_in new f ≡ is_in old f

@@ -28,7 +28,7 @@ impl IndexedEvent {
     ghost use Rattle.relations.specs.Forced.{Holds};
     ghost use Rattle.relations.specs.Indexed.{IsIndexed, AreIndexed};
     ghost use Rattle.relations.specs.Filled.{TellsForced, IsFilled, IsOwnOrWrite};
-    ghost use Rattle.relations.specs.Direct.{IsCandidate, IsFirstNewer, IsNext, IsNextBehind, IsNextWrite, is_passed};
+    ghost use Rattle.relations.specs.Direct.{IsCandidate, IsFirstNewer, IsNextAfter, IsNextOnCore, IsNextWrite, is_passed};
 
     /// The address that it reads or writes.
     fn address(&self) -> Option<Addr>
@@ -122,7 +122,7 @@ impl IndexedEvent {
     fn next_after(&self, events: &[IndexedEvent], loads: bool) -> Option<usize>
         ensures within { IfSome result (λ f. f < length events.now) }
         ensures next { (x : Execution) (f : ℕ) → IsIndexed x self.now → AreIndexed x events.now
-            → IsNextBehind x loads self.now.number f → result ≡ Some f }
+            → IsNextOnCore x loads self.now.number f → result ≡ Some f }
     {
         for f in self.number as usize + 1..events.len() {
             let second = &events[f];
@@ -179,7 +179,7 @@ impl IndexedEvent {
         requires events { AreIndexed recording.now events.now }
         requires size { length row.old ≡ length events.now }
         ensures { IsFilled recording.now self.now.number
-            (IsNext recording.now self.now.number) row.old row.new }
+            (IsNextAfter recording.now self.now.number) row.old row.new }
     {
         self.fill_one(events, self.next_after(events, true), row);
         self.fill_one(events, self.next_after(events, false), row);

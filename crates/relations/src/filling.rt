@@ -2,7 +2,7 @@
 
 ghost use Rattle.std.specs.Prelude.{◌≡◌, ◌<◌, Bool, IfOk, length};
 ghost use Rattle.relations.specs.Indexed.{IsIndexed, AreIndexed};
-ghost use Rattle.relations.specs.Filled.{IsPut, IsFilledRow, AreFilled};
+ghost use Rattle.relations.specs.Filled.{IsMarkedAs, IsFilledRow, AreFilled};
 ghost use Rattle.relations.specs.Direct.{IsCandidate, IsPair};
 
 use crate::indexed::IndexedEvent;
@@ -14,7 +14,7 @@ use std::alloc::Global;
 /// Puts an event into a row, or takes it out.
 pub(crate) fn put(row: &mut BitRow, event: usize, is_forced: bool)
     requires { event < length row.old }
-    ensures { IsPut row.old event is_forced row.new }
+    ensures { IsMarkedAs row.old event is_forced row.new }
 {
     if is_forced {
         row.set(event);

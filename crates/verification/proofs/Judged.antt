@@ -19,7 +19,7 @@ use Rattle.verdicts.specs.Judgement.{IsCycleVerdict, IsOrderedVerdict, IsOverloo
 use Rattle.verdicts.specs.VerdictText.{IsVerdictText}
 use Rattle.verification.specs.declared.finding.Finding.{Finding}
 use Rattle.verification.specs.declared.finding.Finding.TheVariants.{Holds}
-use Rattle.verification.specs.Proof.{Are16Bit, EveryVerdictHolds, IsJudged, IsProof}
+use Rattle.verification.specs.Proof.{Are16Bit, EveryVerdictHolds, IsTextOfVerdict, IsProof}
 
 module _ (x : Execution) (is : IsRecording x) where
   -- forced pairs are pairs of events
@@ -71,5 +71,5 @@ judged_is_proof x text is judged = proof_of x is text judged.verdict judged.prin
 
 -- so what is said of a text exactly where it is a proof is said of that of the verdict
 pub judged_holds : (x : Execution) (text : List ℕ) → IsRecording x → EveryVerdictHolds → (r : Result Finding OutOfMemory)
-    → IfOk r (λ f. (f ≡ Holds) ↔ IsProof x text) → IfOk r (λ f. IsJudged x text → f ≡ Holds)
+    → IfOk r (λ f. (f ≡ Holds) ↔ IsProof x text) → IfOk r (λ f. IsTextOfVerdict x text → f ≡ Holds)
 judged_holds x text is law r exact = IfOk-weaker r _ _ (λ f says judged. says.1 (law x text is judged)) exact

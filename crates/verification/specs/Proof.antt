@@ -47,11 +47,11 @@ IsReadCycle x t before after (Ok c) = IsProof x (codes "cycle of " ++ before) �
 IsReadCycle x t before after (Err fault) = (fault ≢ Holds) × ¬ IsProof x (codes "cycle of " ++ before)
 
 -- the text of the verdict on an execution
-pub record IsJudged (x : Execution) (text : List ℕ) : Type 0 where
+pub record IsTextOfVerdict (x : Execution) (text : List ℕ) : Type 0 where
   pub verdict : Verdict
   pub printed : IsVerdictText x verdict text
   pub found : IsVerdict x verdict
 
 -- the text of the verdict on a recording is a proof
 abbrev pub EveryVerdictHolds : Type 0
-EveryVerdictHolds = (x : Execution) (text : List ℕ) → IsRecording x → IsJudged x text → IsProof x text
+EveryVerdictHolds = (x : Execution) (text : List ℕ) → IsRecording x → IsTextOfVerdict x text → IsProof x text

@@ -2,7 +2,7 @@
 
 ghost use Rattle.std.specs.Prelude.{◌≡◌, ◌++◌, ◌↔◌, ℕ, List, IfOk, codes};
 ghost use Rattle.verification.specs.declared.finding.Finding.TheVariants.{Holds};
-ghost use Rattle.verification.specs.Proof.{IsJudged, IsProof};
+ghost use Rattle.verification.specs.Proof.{IsTextOfVerdict, IsProof};
 
 use crate::certified::{check_cycle, check_cycle_alone};
 use crate::cursor::Cursor;
@@ -47,7 +47,7 @@ pub fn check_text<R: Threads + Sync>(
     workers: usize,
 ) -> Result<Finding, OutOfMemory>
     ensures exact { IfOk result (λ f. (f ≡ Holds) ↔ IsProof recording.now text.now) }
-    ensures judged { IfOk result (λ f. IsJudged recording.now text.now → f ≡ Holds) }
+    ensures judged { IfOk result (λ f. IsTextOfVerdict recording.now text.now → f ≡ Holds) }
 {
     recording.sound();
     every_verdict_holds();
@@ -65,7 +65,7 @@ pub fn check_text_alone(
     text: &[u8],
 ) -> Result<Finding, OutOfMemory>
     ensures exact { IfOk result (λ f. (f ≡ Holds) ↔ IsProof recording.now text.now) }
-    ensures judged { IfOk result (λ f. IsJudged recording.now text.now → f ≡ Holds) }
+    ensures judged { IfOk result (λ f. IsTextOfVerdict recording.now text.now → f ≡ Holds) }
 {
     recording.sound();
     every_verdict_holds();

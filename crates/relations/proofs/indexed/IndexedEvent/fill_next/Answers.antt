@@ -1,5 +1,5 @@
 use Rattle.std.proofs.Common.{◌≡◌, ◌⊎◌, inl, inr, ℕ, Some}
-use Rattle.relations.specs.Direct.{IsNext}
+use Rattle.relations.specs.Direct.{IsNextAfter}
 use Rattle.relations.proofs.Filled.{filled_both}
 use Rattle.relations.proofs.indexed.IndexedEvent.fill_next.Goals as goal
 
@@ -19,7 +19,7 @@ returns c =
     (c.fill_one.ensures x p ps) (c.fill_one-2.ensures x p ps) in
     let three = filled_both x e own write written c.args.row.now c.fill_one-2.new.row c.fill_one-3.new.row
     (λ f h. h) two (c.fill_one-3.ensures x p ps) in
-    filled_both x e written newer (IsNext x e) c.args.row.now c.fill_one-3.new.row c.fill_one-4.new.row
+    filled_both x e written newer (IsNextAfter x e) c.args.row.now c.fill_one-3.new.row c.fill_one-4.new.row
     (λ f next. elim next [
       | inl behind ↦ inl (inl (inl (c.next_after.ensures.next x f p ps behind)))
       | inr rest ↦ elim rest [
