@@ -1,6 +1,6 @@
 //! Rows of numbers, a space before each.
 
-ghost use Rattle.std.specs.Prelude.{◌≡◌, ◌<◌, ◌≤◌, ◌+◌, ◌*◌, ◌++◌, All, IfOk, OnOk, decimal, length, take};
+ghost use Rattle.std.specs.Prelude.{◌≡◌, ◌<◌, ◌≤◌, ◌+◌, ◌*◌, ◌++◌, ℕ, All, List, IfOk, OnOk, decimal, length, take};
 ghost use Rattle.common.specs.declared.limits.TheConstants.{MAX_EVENTS};
 ghost use Rattle.texts.specs.Numbers.{numbers_text};
 ghost use Rattle.texts.specs.NumberTexts.{IsTextOf, AreTexts};
@@ -142,7 +142,27 @@ fn write_text(places: &mut [u8], at: usize, text: NumberText) -> usize
     at + text.size as usize
 }
 
-/// Writes from a place on the text of each number, and answers the place after them.
+/// Writes the text of the number at a place among others, and answers the place after it.
+fn write_number(
+    places: &mut [u8],
+    at: usize,
+    numbers: &[u16],
+    i: usize,
+    texts: &[NumberText],
+) -> usize
+    requires i { i < length numbers.now }
+    requires room { at + 4 ≤ length places.old }
+    requires texts { AreTexts texts.now }
+    requires known { All (λ n. n < length texts.now) numbers.now }
+    ensures size { length places.new ≡ length places.old }
+    ensures end { result ≤ at + 4 }
+    ensures text { (before : List ℕ) → take at places.old ≡ before ++ numbers_text (take i numbers.now)
+        → take result places.new ≡ before ++ numbers_text (take (i + 1) numbers.now) }
+{
+    write_text(places, at, texts[numbers[i] as usize])
+}
+
+/// Writes from a place on the text of each number, four in a turn, and answers the place after them.
 fn write_texts(places: &mut [u8], start: usize, numbers: &[u16], texts: &[NumberText]) -> usize
     requires room { start + 4 * length numbers.now ≤ length places.old }
     requires texts { AreTexts texts.now }
@@ -150,8 +170,17 @@ fn write_texts(places: &mut [u8], start: usize, numbers: &[u16], texts: &[Number
     ensures { take result places.new ≡ take start places.old ++ numbers_text numbers.now }
 {
     let mut at = start;
-    for number in numbers {
-        at = write_text(places, at, texts[*number as usize]);
+    let mut i = 0;
+    'fours: while numbers.len() - i >= 4 {
+        at = write_number(places, at, numbers, i, texts);
+        at = write_number(places, at, numbers, i + 1, texts);
+        at = write_number(places, at, numbers, i + 2, texts);
+        at = write_number(places, at, numbers, i + 3, texts);
+        i += 4;
+    }
+    'rest: while i < numbers.len() {
+        at = write_number(places, at, numbers, i, texts);
+        i += 1;
     }
     at
 }

@@ -1,9 +1,25 @@
-use Rattle.std.proofs.Common.{◌≡◌, ◌≤◌, ◌+◌, ◌*◌, ◌++◌, take}
+use Rattle.std.proofs.Common.{◌≡◌, ◌≤◌, ◌+◌, ◌*◌, ◌-◌, ◌++◌, length, take}
 use Rattle.texts.specs.Numbers.{numbers_text}
 use Rattle.texts.proofs.rows.write_texts.Given as goal
 
-abbrev pub invariant-loop-number : goal.invariant-loop-number
-invariant-loop-number l = record {
-  room : l.at ≤ l.start + 4 * l.number-index;
-  text : take l.at l.places ≡ take l.start l.fn.places ++ numbers_text (take l.number-index l.numbers);
+abbrev pub invariant-fours : goal.invariant-fours
+invariant-fours l = record {
+  within : l.i ≤ length l.numbers;
+  size : length l.places ≡ length l.fn.places;
+  room : l.at ≤ l.start + 4 * l.i;
+  text : take l.at l.places ≡ take l.start l.fn.places ++ numbers_text (take l.i l.numbers);
 }
+
+abbrev pub decreases-fours : goal.decreases-fours
+decreases-fours l = length l.numbers - l.i
+
+abbrev pub invariant-rest : goal.invariant-rest
+invariant-rest l = record {
+  within : l.i ≤ length l.numbers;
+  size : length l.places ≡ length l.fn.places;
+  room : l.at ≤ l.start + 4 * l.i;
+  text : take l.at l.places ≡ take l.start l.fn.places ++ numbers_text (take l.i l.numbers);
+}
+
+abbrev pub decreases-rest : goal.decreases-rest
+decreases-rest l = length l.numbers - l.i
