@@ -1,8 +1,11 @@
 -- Words that are combined with others, several at a time.
-use Rattle.std.proofs.Common.{◌≡◌, ◌<◌, ◌≤◌, ◌+◌, ◌-◌, inl, inr, ℕ, Bool, List, length, get_or, arith, refl}
-use Rattle.std.proofs.Common.{ap, subst, ◌∙◌}
-use Rattle.std.proofs.lemmas.Bool.{cases_lt}
-use Rattle.std.specs.Simd.Lanes.{zip2, chunk, put_chunk}
+use Rattle.std.proofs.Common.{◌≡◌, ◌<◌, ◌≤◌, ◌+◌, ◌-◌, inl, inr, ℕ, zero, suc}
+use Rattle.std.proofs.Common.{Bool, false, not, List, [], ◌∷◌, length, get_or, arith, refl}
+use Rattle.std.proofs.Common.{sym, ap, subst, ◌∙◌}
+use Rattle.std.proofs.lemmas.Bool.{cases_eq, cases_lt, ne_eqb, true≢false}
+use Rattle.std.specs.Simd.Lanes.{zip2, chunk, put_chunk, fold_l}
+use Rattle.std.specs.Prelude.{◌==◌, bit_or}
+use Rattle.std.proofs.lemmas.Nat.{le_or_l, le_or_r}
 use Rattle.std.proofs.lemmas.Simd.{length-chunk, get_or-chunk, get_or-zip2, get_or-put_chunk_below}
 use Rattle.std.proofs.lemmas.Simd.{get_or-put_chunk_at, get_or-put_chunk_above}
 use Rattle.bitrow.specs.Combined.{combined, AreCombined}
@@ -59,3 +62,21 @@ combined_more out words other at to now after further h more = record {
     | inr past ↦ more.left k (inr past) ∙ h.left k (inr (omega (arith, past, further)))
   ];
 }
+
+-- words that are joined to 0 are 0
+pub none_joined : (xs : List ℕ) (a : ℕ) → fold_l bit_or a xs ≡ 0 → (a ≡ 0) × ((i : ℕ) → get_or xs i 0 ≡ 0)
+none_joined [] a h = (h, λ i. refl)
+none_joined (x ∷ xs) a h =
+    let rest : (bit_or a x ≡ 0) × ((i : ℕ) → get_or xs i 0 ≡ 0) = none_joined xs (bit_or a x) h in
+    (omega (arith, rest.0, le_or_l a x), each rest.1 (omega (arith, rest.0, le_or_r a x)))
+  where
+    each : ((i : ℕ) → get_or xs i 0 ≡ 0) → x ≡ 0 → (i : ℕ) → get_or (x ∷ xs) i 0 ≡ 0
+    each tail head zero = head
+    each tail head (suc i) = tail i
+
+-- a number that is not told from 0
+pub is_zero : (n : ℕ) → not (n == 0) ≡ false → n ≡ 0
+is_zero n h = elim (cases_eq n 0) [
+  | inl is ↦ is
+  | inr other ↦ absurd (true≢false (sym (ap not (ne_eqb n 0 other)) ∙ h))
+]

@@ -1,6 +1,9 @@
 pub mod Bits
 pub mod Combining
+pub mod InWords
+pub mod Lowest
 pub mod Members
 pub mod Rests
 pub mod SideBySide
 pub mod Unions
+pub mod Words

@@ -1,10 +1,11 @@
 -- The union of the rows that a set names, word by word and part by part.
-use Rattle.std.proofs.Common.{◌≡◌, ◌<◌, ◌≤◌, ◌+◌, ◌/◌, ◌⊎◌, inl, inr, ℕ, Bool, true, false, ◌||◌, List, []}
-use Rattle.std.proofs.Common.{Some, None, length, get_or, replicate, arith, sym, ap, subst, ◌-◌, ◌∙◌}
+use Rattle.std.proofs.Common.{◌≡◌, ◌<◌, ◌≤◌, ◌+◌, ◌*◌, ◌/◌, ◌%◌, ◌↔◌, ◌⊎◌}
+use Rattle.std.proofs.Common.{inl, inr, ℕ, Bool, true, false, ◌||◌, List, []}
+use Rattle.std.proofs.Common.{Some, length, get_or, replicate, arith, sym, ap, subst, ◌-◌, ◌∙◌}
 use Rattle.std.proofs.lemmas.Bool.{cases_eq, cases_lt, or_cases, or_left, or_right, true≢false}
 use Rattle.std.proofs.lemmas.List.{get_or_past, get_or-replicate, length-replicate}
 use Rattle.bitrow.specs.Bits.{bit_of, is_in, IsNext}
-use Rattle.bitrow.specs.Rows.{Marked, IsBitSquare, AreUnionWords, IsUnionPart, IsUnion}
+use Rattle.bitrow.specs.Rows.{Marked, IsBitSquare, GetsLabel, AreUnionWords, IsUnionPart, IsUnion}
 use Rattle.bitrow.specs.RowLaws.{marked_within}
 use Rattle.bitrow.proofs.Bits.{none_in}
 
@@ -17,7 +18,7 @@ either_true : (a b : Bool) → (a ≡ true) ⊎ (b ≡ true) → (a || b) ≡ tr
 either_true a b h = elim h [ inl is ↦ or_left a b is | inr is ↦ or_right a b is ]
 
 -- words of 0 have no bit
-zeros : (m j : ℕ) → bit_of (replicate m 0) j ≡ false
+pub zeros : (m j : ℕ) → bit_of (replicate m 0) j ≡ false
 zeros m j = none_in (replicate m 0) j (elim (cases_lt (j / 64) m) [
   | inl inside ↦ get_or-replicate m (j / 64) 0 0 inside
   | inr past ↦ get_or_past (replicate m 0) (j / 64) 0 (omega (arith, past, length-replicate {A = ℕ} m 0))
@@ -57,15 +58,23 @@ joins_more rows set i number from size words more square next bits h = record {
       ];
 }
 
--- after the last number all joined
-pub joins_all : (R : ℕ → ℕ → Type 0) (set : List Bool) (i n from size : ℕ) (words : List ℕ)
-    → IsNext set i None → AreUnionWords R set i n from size words → AreUnionWords R set n n from size words
-joins_all R set i n from size words none h = record {
-  joined = λ e f at is small r. elim (cases_lt e i) [
-    | inl early ↦ h.joined e f early is small r
-    | inr late ↦ absurd (differ (is_in set e) is (none e late))
-  ];
+-- past the last number all joined
+pub joins_all : (R : ℕ → ℕ → Type 0) (set : List Bool) (i n from size : ℕ) (words : List ℕ) → n ≤ i
+    → AreUnionWords R set i n from size words → AreUnionWords R set n n from size words
+joins_all R set i n from size words past h = record {
+  joined = λ e f at is small r. h.joined e f (omega (arith, at, past)) is small r;
   only = h.only;
+}
+
+-- and have the label
+pub labels_all : (set : List Bool) (i n label : ℕ) (before after : List ℕ) → n ≤ i → length set ≤ n
+    → GetsLabel set i label before after → GetsLabel set n label before after
+labels_all set i n label before after past long h = record {
+  labelled = λ e at is. h.labelled e (omega (arith, at, past)) is;
+  left = λ e apart. h.left e (inr (elim apart [
+    | inl over ↦ get_or_past set e false (omega (arith, over, long))
+    | inr out ↦ out
+  ]));
 }
 
 -- words that are put in their place
@@ -126,3 +135,30 @@ parts_all rows set to row square all long h = record {
     | inl inside ↦ h.only f (omega arith) (omega (arith, inside, all)) is
   ];
 }
+
+-- a row that is put whole is the union
+pub union_put : (rows : List (List Bool)) (set : List Bool) (size : ℕ) (words : List ℕ) (row : List Bool)
+    → IsBitSquare rows → AreUnionWords (Marked rows) set (length rows) (length rows) 0 size words
+    → ((f : ℕ) → f < size → 0 + f < length rows → is_in row (0 + f) ≡ bit_of words f)
+    → length row ≡ length rows → length rows ≤ size → IsUnion (Marked rows) set row
+union_put rows set size words row square h here long all =
+    parts_all rows set (0 + size) row square (omega (arith, all)) long
+    (part_put rows set 0 size words row square h here long)
+
+-- whether a row of the set's has a number is whether its bit is in the union's word
+pub has_bit : (rows : List (List Bool)) (set : List Bool) (v : ℕ) (words : List ℕ) → IsBitSquare rows
+    → v < length rows → AreUnionWords (Marked rows) set (length rows) (length rows) (64 * (v / 64)) 64 words
+    → (bit_of words (v % 64) ≡ true) ↔ ((e : ℕ) × (is_in set e ≡ true) × Marked rows e v)
+has_bit rows set v words square inside h =
+    let place : 64 * (v / 64) + v % 64 ≡ v = omega arith in (
+      (λ is.
+          let some = h.only (v % 64) (omega arith) (omega (arith, place, inside)) is in
+          (some.0, some.1, subst (λ (k : ℕ). Marked rows some.0 k) place some.2)),
+      (λ some. h.joined some.0 (v % 64) (marked_within rows square some.0 v some.2).0 some.1 (omega arith)
+          (subst (λ (k : ℕ). Marked rows some.0 k) (sym place) some.2)),
+    )
+
+-- whether the union has a number
+pub union_has : (R : ℕ → ℕ → Type 0) (set union : List Bool) (v : ℕ) → IsUnion R set union
+    → (is_in union v ≡ true) ↔ ((e : ℕ) × (is_in set e ≡ true) × R e v)
+union_has R set union v h = ((λ is. h.only v is), (λ some. h.joined some.0 v some.1 some.2))

@@ -1,6 +1,6 @@
 -- The rows that a set names, and their union.
 use Rattle.std.specs.Prelude.{◌≡◌, ◌⊎◌, ◌<◌, ◌≤◌, ◌+◌, ℕ, Bool, true, false, List, [], length, slice_index}
-use Rattle.std.specs.Prelude.{slice_index_or}
+use Rattle.std.specs.Prelude.{slice_index_or, ◌&&◌, not}
 use Rattle.bitrow.specs.Bits.{bit_of, is_in}
 
 -- row e has f
@@ -33,3 +33,8 @@ pub record IsUnionPart (R : ℕ → ℕ → Type 0) (set : List Bool) (from to :
 pub record IsUnion (R : ℕ → ℕ → Type 0) (set union : List Bool) : Type 0 where
   pub joined : (e f : ℕ) → is_in set e ≡ true → R e f → is_in union f ≡ true
   pub only : (f : ℕ) → is_in union f ≡ true → (e : ℕ) × (is_in set e ≡ true) × R e f
+
+-- a row has what the level's rows have and was not seen
+abbrev pub IsNextLevel : (ℕ → ℕ → Type 0) → List Bool → List Bool → List Bool → Type 0
+IsNextLevel R level seen next = (union : List Bool) × IsUnion R level union
+    × ((j : ℕ) → is_in next j ≡ (is_in union j && not (is_in seen j)))

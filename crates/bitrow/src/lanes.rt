@@ -1,6 +1,6 @@
 //! Words that lie side by side.
 
-ghost use Rattle.std.specs.Prelude.{◌≡◌, ◌⊎◌, ◌≤◌, ◌<◌, ◌+◌, ◌*◌, ◌||◌, ℕ, length};
+ghost use Rattle.std.specs.Prelude.{◌≡◌, ◌⊎◌, ◌≤◌, ◌<◌, ◌+◌, ◌*◌, ◌||◌, ◌&&◌, ℕ, false, not, length};
 ghost use Rattle.bitrow.specs.Bits.{bit_of};
 
 use std::simd::prelude::*;
@@ -28,4 +28,21 @@ pub(crate) fn put_lanes<const N: usize>(words: &mut [u64], at: usize, lanes: Sim
     ensures others { (j : ℕ) → (j < 64 * at) ⊎ (64 * (at + N) ≤ j) → bit_of words.new j ≡ bit_of words.old j }
 {
     lanes.copy_to_slice(&mut words[at..]);
+}
+
+/// The bits of the lanes that are 0 in others.
+pub(crate) fn without<const N: usize>(lanes: Simd<u64, N>, other: Simd<u64, N>) -> Simd<u64, N>
+    requires lanes { length lanes ≡ N }
+    requires other { length other ≡ N }
+    ensures size { length result ≡ N }
+    ensures bits { (f : ℕ) → bit_of result f ≡ (bit_of lanes.entry f && not (bit_of other.entry f)) }
+{
+    lanes & !other
+}
+
+/// Whether a bit is 1.
+pub(crate) fn has_bit<const N: usize>(lanes: Simd<u64, N>) -> bool
+    ensures { result ≡ false → (f : ℕ) → bit_of lanes.entry f ≡ false }
+{
+    lanes.reduce_or() != 0
 }

@@ -3,11 +3,13 @@
 
 mod combine;
 mod lanes;
+mod levels;
 mod numbers;
 mod row;
 mod rows;
 mod word_bits;
 
+pub use levels::take_level;
 pub use numbers::Numbers;
 pub use row::BitRow;
-pub use rows::union_rows;
+pub use rows::{label_numbers, union_rows};

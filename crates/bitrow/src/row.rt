@@ -3,7 +3,7 @@
 use crate::combine::{and_not_words, or_words};
 use crate::lanes::{or_lanes, put_lanes};
 use crate::numbers::Numbers;
-use crate::word_bits::{clear_bit, next_bit, set_bit, test_bit};
+use crate::word_bits::{clear_bit, next_bit, set_bit, test_bit, word_at};
 use common::OutOfMemory;
 use std::alloc::Global;
 use std::marker::Model;
@@ -30,6 +30,7 @@ impl Model for BitRow {
 impl BitRow {
     ghost use Rattle.std.specs.Prelude.{◌≡◌, ◌<◌, ◌==◌, ◌||◌, ◌&&◌, ◌↔◌, ℕ, not, false, length, IfOk, IsTrue};
     ghost use Rattle.std.specs.Prelude.{◌⊎◌, ◌≤◌, ◌+◌, ◌*◌};
+    ghost use Rattle.std.specs.Int.{bit_at};
     ghost use Rattle.bitrow.specs.Bits.{bit_of, is_in, IsNext};
     ghost use Rattle.bitrow.specs.Walks.{walk_of};
 
@@ -84,6 +85,15 @@ impl BitRow {
         ensures numbers { (j : ℕ) → is_in self.new j ≡ (is_in self.old j && not (is_in other.now j)) }
     {
         and_not_words(self.words.as_mut_slice(), other.words.as_slice());
+    }
+
+    /// The word of the 64 numbers from 64 times a number on.
+    pub(crate) fn word(&self, word: usize) -> u64
+        requires { 64 * word < length self.now }
+        ensures { (i : ℕ) → i < 64 → 64 * word + i < length self.now
+            → (bit_at result i == 1) ≡ is_in self.now (64 * word + i) }
+    {
+        word_at(self.words.as_slice(), word)
     }
 
     /// Puts the numbers of the same number of words, of 64 numbers each, from one on into the lanes.

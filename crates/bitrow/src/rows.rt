@@ -1,10 +1,11 @@
 //! The union of the rows that a set names.
 
-ghost use Rattle.std.specs.Prelude.{◌≡◌, ◌<◌, ◌+◌, ◌*◌, ℕ, length};
+ghost use Rattle.std.specs.Prelude.{◌≡◌, ◌<◌, ◌+◌, ◌*◌, ◌↔◌, ℕ, List, true, IsTrue, length};
 ghost use Rattle.bitrow.specs.Bits.{is_in};
 ghost use Rattle.bitrow.specs.Rows.{Marked, IsBitSquare, GetsLabel, AreUnionWords, IsUnionPart, IsUnion};
 
 use crate::row::BitRow;
+use crate::word_bits::{test_bit, without_lowest};
 use std::simd::prelude::*;
 
 /// How many words of this many numbers are left from one on.
@@ -16,8 +17,46 @@ fn words_left(numbers: usize, at: usize) -> usize
     numbers.div_ceil(64) - at
 }
 
+/// Gives the label to each number of the set in one word, and joins the same number of words, from one on, of their
+/// rows to others.
+fn join_word<const N: usize>(
+    rows: &[BitRow],
+    set: &BitRow,
+    word: usize,
+    label: u16,
+    at: usize,
+    words: Simd<u64, N>,
+    labels: &mut [u16],
+) -> Simd<u64, N>
+    requires square { IsBitSquare rows.now }
+    requires set { length set.now ≡ length rows.now }
+    requires labels { length labels.old ≡ length rows.now }
+    requires within { 64 * (at + N) < length rows.now + 64 }
+    requires word { 64 * word < length rows.now }
+    requires size { length words ≡ N }
+    requires words { AreUnionWords (Marked rows.now) set.now (64 * word) (length rows.now) (64 * at) (64 * N) words }
+    ensures size { length result ≡ N }
+    ensures labels { (before : List ℕ) → GetsLabel set.now (64 * word) label before labels.old
+        → GetsLabel set.now (64 * (word + 1)) label before labels.new }
+    ensures words { AreUnionWords (Marked rows.now) set.now (64 * (word + 1)) (length rows.now) (64 * at)
+        (64 * N) result }
+{
+    let mut words = words;
+    let mut rest = set.word(word);
+    while rest != 0 {
+        let number = 64 * word + rest.trailing_zeros() as usize;
+        if number >= rows.len() {
+            return words;
+        }
+        rest = without_lowest(rest);
+        labels[number] = label;
+        words = rows[number].join(at, words);
+    }
+    words
+}
+
 /// Gives the label to each number of the set; the same number of words, from one on, of the union of their rows.
-fn union_words<const N: usize>(
+pub(crate) fn union_words<const N: usize>(
     rows: &[BitRow],
     set: &BitRow,
     label: u16,
@@ -34,10 +73,8 @@ fn union_words<const N: usize>(
         (64 * N) result }
 {
     let mut words = Simd::<u64, N>::splat(0);
-    let mut numbers = set.numbers();
-    while let Some(number) = numbers.next() {
-        labels[number] = label;
-        words = rows[number].join(at, words);
+    for word in 0..rows.len().div_ceil(64) {
+        words = join_word(rows, set, word, label, at, words, labels);
     }
     words
 }
@@ -117,4 +154,23 @@ pub fn union_rows(rows: &[BitRow], set: &BitRow, label: u16, into: &mut BitRow, 
     while at < rows.len().div_ceil(64) {
         at = union_some(rows, set, label, at, into, labels);
     }
+}
+
+/// Gives the label to each number of a set; whether one of their rows has a number.
+pub fn label_numbers(
+    rows: &[BitRow],
+    set: &BitRow,
+    label: u16,
+    number: usize,
+    labels: &mut [u16],
+) -> bool
+    requires square { IsBitSquare rows.now }
+    requires set { length set.now ≡ length rows.now }
+    requires number { number < length rows.now }
+    requires labels { length labels.old ≡ length rows.now }
+    ensures labels { GetsLabel set.now (length rows.now) label labels.old labels.new }
+    ensures has { IsTrue result ↔ ((e : ℕ) × (is_in set.now e ≡ true) × Marked rows.now e number) }
+{
+    let word = union_words::<1>(rows, set, label, number / 64, labels).to_array();
+    test_bit(&word, number % 64)
 }

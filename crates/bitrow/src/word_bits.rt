@@ -28,6 +28,14 @@ pub(crate) fn first_word(words: &[u64]) -> u64
     if words.is_empty() { 0 } else { words[0] }
 }
 
+/// One of the words.
+pub(crate) fn word_at(words: &[u64], k: usize) -> u64
+    requires { k < length words.now }
+    ensures { result ≡ slice_index words.now k }
+{
+    words[k]
+}
+
 /// A word with one bit 0.
 pub(crate) fn without_bit(word: u64, i: usize) -> u64
     requires { i < 64 }
@@ -35,6 +43,16 @@ pub(crate) fn without_bit(word: u64, i: usize) -> u64
     ensures others { (j : ℕ) → j < 64 → j ≢ i → bit_at result j ≡ bit_at word j }
 {
     word & !(1 << i)
+}
+
+/// A word without its lowest bit that is 1.
+pub(crate) fn without_lowest(word: u64) -> u64
+    requires { 0 < word }
+    ensures less { result < word }
+    ensures bits { (i : ℕ) → bit_at word i ≡ 1 → ((j : ℕ) → j < i → bit_at word j ≡ 0)
+        → (bit_at result i ≡ 0) × ((j : ℕ) → j ≢ i → bit_at result j ≡ bit_at word j) }
+{
+    word & (word - 1)
 }
 
 /// Makes a bit 0.

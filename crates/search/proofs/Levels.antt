@@ -271,10 +271,6 @@ module _ (R : ℕ → ℕ → Type 0) (n k v label : ℕ) (within : (e f : ℕ) 
   nearest_more P closing closing_more same c step = closed_nearest R n k v (label + 1) closing_more after
       within or_cap_now (closes_more P closing closing_more same c step)
 
-  -- a level closes where v is in the next one
-  pub closes_by_next : (more : List Bool) → IsUnion R level more → (is_in more v ≡ true) ↔ Closes R level v
-  closes_by_next more x = (λ is. x.only v is, λ at. x.joined at.0 v at.1 at.2)
-
   module _ (more seen_more level_more : List Bool) (x : IsUnion R level more)
       (sees : (e : ℕ) → is_in seen_more e ≡ (is_in seen e || is_in level e))
       (goes : (e : ℕ) → is_in level_more e ≡ (is_in more e && not (is_in seen_more e))) where

@@ -8,7 +8,6 @@ pub mod Labels
 pub mod Lengths
 pub mod Levels
 pub mod Marks
-mod OneEventMore
 pub mod Shortened
 pub mod Through
 pub mod Walks

@@ -1,6 +1,6 @@
 pub mod Bound
 pub mod WorkerJobs
-pub mod Fresh
+pub mod Memory
 pub mod Levels
 pub mod Cycles
 pub mod SourceRow

@@ -37,15 +37,14 @@ pub(crate) fn distance_rows(
     let mut rows = Vec::with_capacity(alloc, relation.len())?;
     let mut sets = Sets::new(alloc, relation.len())?;
     for source in 0..relation.len() {
-        let (closing, emptied) = add_row(
+        let closing = add_row(
             alloc,
             successors,
             source as EventId,
             cap,
-            sets,
+            &mut sets,
             &mut rows,
         )?;
-        sets = emptied;
         cap = next_cap(closing, cap);
         least = least.min(closing);
     }

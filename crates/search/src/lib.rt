@@ -13,7 +13,6 @@ mod label_row;
 mod label_rows;
 mod least;
 mod length;
-mod level;
 mod lists;
 mod room;
 mod row;

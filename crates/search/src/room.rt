@@ -1,10 +1,10 @@
 //! The memory of a breadth-first search.
 
 use bitrow::BitRow;
-use common::OutOfMemory;
+use common::{EventId, OutOfMemory};
 use std::alloc::Global;
 
-/// Three sets of events: those that were seen, those of a level, and those of the next one.
+/// Three sets of events: those that were seen, those of a level, and room for the next one.
 #[derive(Drop)]
 pub(crate) struct Sets {
     pub(crate) seen: BitRow,
@@ -12,7 +12,7 @@ pub(crate) struct Sets {
     pub(crate) next: BitRow,
 }
 
-/// A row of labels, and three sets of events, all of them empty at first.
+/// A row of labels, and three sets of events.
 #[derive(Drop)]
 pub(crate) struct Room {
     pub(crate) labels: Vec<u16>,
@@ -20,12 +20,13 @@ pub(crate) struct Room {
 }
 
 impl Sets {
-    ghost use Rattle.std.specs.Prelude.{ℕ, IfOk};
-    ghost use Rattle.search.specs.Fresh.{AreSets, AreEmptySets};
+    ghost use Rattle.std.specs.Prelude.{◌≡◌, ◌<◌, ◌==◌, ℕ, false, length, IfOk};
+    ghost use Rattle.bitrow.specs.Bits.{is_in};
+    ghost use Rattle.search.specs.Memory.{AreSets};
 
-    /// Empty sets among a number of events.
+    /// Sets among a number of events.
     pub(crate) fn new(alloc: Global, len: usize) -> Result<Sets, OutOfMemory>
-        ensures { IfOk result (AreEmptySets len) }
+        ensures { IfOk result (AreSets len) }
     {
         let seen = BitRow::new(alloc, len)?;
         let level = BitRow::new(alloc, len)?;
@@ -33,29 +34,28 @@ impl Sets {
         Ok(Sets { seen, level, next })
     }
 
-    /// The sets without their events.
-    pub(crate) fn emptied(self) -> Sets
-        ensures { (n : ℕ) → AreSets n self → AreEmptySets n result }
+    /// Makes the source the level, with nothing seen.
+    pub(crate) fn begin(&mut self, source: EventId)
+        requires { source < length self.old.level }
+        ensures seen_size { length self.new.seen ≡ length self.old.seen }
+        ensures level_size { length self.new.level ≡ length self.old.level }
+        ensures next_size { length self.new.next ≡ length self.old.next }
+        ensures seen { (e : ℕ) → is_in self.new.seen e ≡ false }
+        ensures level { (e : ℕ) → is_in self.new.level e ≡ (e == source) }
     {
-        let Sets {
-            mut seen,
-            mut level,
-            mut next,
-        } = self;
-        seen.clear();
-        level.clear();
-        next.clear();
-        Sets { seen, level, next }
+        self.seen.clear();
+        self.level.clear();
+        self.level.set(source as usize);
     }
 }
 
 impl Room {
     ghost use Rattle.std.specs.Prelude.{IfOk};
-    ghost use Rattle.search.specs.Fresh.{IsFresh};
+    ghost use Rattle.search.specs.Memory.{IsRoom};
 
     /// Room for a search among a number of events.
     pub(crate) fn new(alloc: Global, len: usize) -> Result<Room, OutOfMemory>
-        ensures { IfOk result (IsFresh len) }
+        ensures { IfOk result (IsRoom len) }
     {
         let labels = vec![in alloc; 0; len]?;
         let sets = Sets::new(alloc, len)?;

@@ -5,12 +5,11 @@ ghost use Rattle.labels.specs.Certified.{lists_of};
 ghost use Rattle.relations.specs.Cycle.{IsExactRow};
 ghost use Rattle.bitrow.specs.Rows.{Marked, IsBitSquare};
 ghost use Rattle.search.specs.Cycles.{IsNearest};
-ghost use Rattle.search.specs.Fresh.{AreSets, AreEmptySets, IsFresh};
+ghost use Rattle.search.specs.Memory.{AreSets, IsRoom};
 ghost use Rattle.search.specs.Levels.{IsClosing};
 
-use crate::level::take_last_level;
 use crate::room::{Room, Sets};
-use bitrow::{BitRow, union_rows};
+use bitrow::{BitRow, label_numbers, take_level};
 use common::{EventId, OutOfMemory};
 use std::alloc::Global;
 
@@ -26,85 +25,112 @@ fn closing_with(closes: bool, label: u16, cap: u16, closing: u16) -> u16
 }
 
 /// The least number of steps from a source to each event, or the cap where none is less, and the
-/// least of these numbers for the events that are forced before the source; with the sets. It takes no
-/// memory but what it is given.
+/// least of these numbers for the events that are forced before the source. It takes no memory but what it
+/// is given, and is quickest where N words hold a set.
+fn row_in_words<const N: usize>(
+    rows: &[BitRow],
+    source: EventId,
+    cap: u16,
+    labels: Vec<u16>,
+    sets: &mut Sets,
+) -> (Vec<u16>, u16)
+    requires square { IsBitSquare rows.now }
+    requires source { source < length rows.now }
+    requires labels { length labels.items ≡ length rows.now }
+    requires sets { AreSets (length rows.now) sets.old }
+    ensures exact { IsExactRow (Marked rows.now) (length rows.now) cap source result.0.items }
+    ensures nearest { IsNearest (Marked rows.now) source result.0.items cap result.1 }
+    ensures sets { AreSets (length rows.now) sets.new }
+{
+    let mut labels = labels;
+    labels.fill(cap);
+    sets.begin(source);
+    let mut closing = cap;
+    for label in 0..cap {
+        if label + 1 == cap {
+            let closes = label_numbers(
+                rows,
+                &sets.level,
+                label,
+                source as usize,
+                labels.as_mut_slice(),
+            );
+            let closing = closing_with(closes, label, cap, closing);
+            return (labels, closing);
+        }
+        let (closes, more) = take_level::<N>(
+            rows,
+            label,
+            source as usize,
+            &mut sets.level,
+            &mut sets.seen,
+            &mut sets.next,
+            labels.as_mut_slice(),
+        );
+        closing = closing_with(closes, label, cap, closing);
+        if !more {
+            return (labels, closing);
+        }
+    }
+    (labels, closing)
+}
+
+/// The same row and number.
 fn row_with(
     rows: &[BitRow],
     source: EventId,
     cap: u16,
     labels: Vec<u16>,
-    sets: Sets,
-) -> (Vec<u16>, u16, Sets)
+    sets: &mut Sets,
+) -> (Vec<u16>, u16)
     requires square { IsBitSquare rows.now }
     requires source { source < length rows.now }
     requires labels { length labels.items ≡ length rows.now }
-    requires sets { AreEmptySets (length rows.now) sets }
+    requires sets { AreSets (length rows.now) sets.old }
     ensures exact { IsExactRow (Marked rows.now) (length rows.now) cap source result.0.items }
     ensures nearest { IsNearest (Marked rows.now) source result.0.items cap result.1 }
-    ensures sets { AreSets (length rows.now) result.2 }
+    ensures sets { AreSets (length rows.now) sets.new }
 {
-    let mut labels = labels;
-    let Sets {
-        mut seen,
-        mut level,
-        mut next,
-    } = sets;
-    labels.fill(cap);
-    let mut closing = cap;
-    level.set(source as usize);
-    for label in 0..cap {
-        if level.is_empty() {
-            return (labels, closing, Sets { seen, level, next });
-        }
-        if label + 1 == cap {
-            let closes = take_last_level(rows, &level, label, source, labels.as_mut_slice());
-            let closing = closing_with(closes, label, cap, closing);
-            return (labels, closing, Sets { seen, level, next });
-        }
-        union_rows(rows, &level, label, &mut next, labels.as_mut_slice());
-        closing = closing_with(next.test(source as usize), label, cap, closing);
-        level.or_into(&mut seen);
-        next.and_not(&seen);
-        let taken = level;
-        level = next;
-        next = taken;
+    match rows.len().div_ceil(64) {
+        1 => row_in_words::<1>(rows, source, cap, labels, sets),
+        2 => row_in_words::<2>(rows, source, cap, labels, sets),
+        4 => row_in_words::<4>(rows, source, cap, labels, sets),
+        _ => row_in_words::<8>(rows, source, cap, labels, sets),
     }
-    (labels, closing, Sets { seen, level, next })
 }
 
 /// The same row and number, in room of their own.
 pub(crate) fn row_in(rows: &[BitRow], source: EventId, cap: u16, room: Room) -> (Vec<u16>, u16)
     requires square { IsBitSquare rows.now }
     requires source { source < length rows.now }
-    requires room { IsFresh (length rows.now) room }
+    requires room { IsRoom (length rows.now) room }
     ensures exact { IsExactRow (Marked rows.now) (length rows.now) cap source result.0.items }
     ensures nearest { IsNearest (Marked rows.now) source result.0.items cap result.1 }
 {
-    let Room { labels, sets } = room;
-    let (labels, closing, _sets) = row_with(rows, source, cap, labels, sets);
-    (labels, closing)
+    let Room { labels, mut sets } = room;
+    row_with(rows, source, cap, labels, &mut sets)
 }
 
-/// The same row, put after those that are made, and the same number; the sets are emptied.
+/// The same row, put after those that are made, and the same number.
 pub(crate) fn add_row(
     alloc: Global,
     rows: &[BitRow],
     source: EventId,
     cap: u16,
-    sets: Sets,
+    sets: &mut Sets,
     made: &mut Vec<Vec<u16>>,
-) -> Result<(u16, Sets), OutOfMemory>
+) -> Result<u16, OutOfMemory>
     requires square { IsBitSquare rows.now }
     requires source { source < length rows.now }
-    requires sets { AreEmptySets (length rows.now) sets }
-    ensures row { IfOk result (λ p. (row : List ℕ)
+    requires sets { AreSets (length rows.now) sets.old }
+    ensures row { IfOk result (λ closing. (row : List ℕ)
         × (lists_of made.new.items ≡ lists_of made.old.items ++ row ∷ [])
         × IsExactRow (Marked rows.now) (length rows.now) cap source row
-        × IsNearest (Marked rows.now) source row cap p.0) }
-    ensures sets { IfOk result (λ p. AreEmptySets (length rows.now) p.1) }
+        × IsNearest (Marked rows.now) source row cap closing) }
+    ensures sets { IfOk result (λ _. AreSets (length rows.now) sets.new) }
 {
     let labels = vec![in alloc; 0; rows.len()]?;
-    let (row, closing, used) = row_with(rows, source, cap, labels, sets);
+    let (row, closing) = row_with(rows, source, cap, labels, sets);
     made.push(row)?;
-    Ok((closing, used.emptied()))
+    Ok(closing)
 }

@@ -6,7 +6,7 @@ ghost use Rattle.std.specs.Option.{unwrap_or};
 ghost use Rattle.relations.specs.Relation.{Related};
 ghost use Rattle.relations.specs.Cycle.{IsExactRow};
 ghost use Rattle.search.specs.Cycles.{IsNearest};
-ghost use Rattle.search.specs.Fresh.{IsFresh};
+ghost use Rattle.search.specs.Memory.{IsRoom};
 ghost use Rattle.search.specs.Bound.{Covers, IsCapWithin, Keeps, IsSeatFor, lengths_of};
 
 use crate::job::SourceJob;
@@ -35,7 +35,7 @@ fn is_shorter(closing: u16, cap: Option<u16>, events: usize) -> bool
 /// closes a cycle through it.
 fn row_cut(relation: &Relation, source: EventId, cap: Option<u16>, room: Room) -> (Vec<u16>, u16)
     requires source { source < length relation.now }
-    requires room { IsFresh (length relation.now) room }
+    requires room { IsRoom (length relation.now) room }
     ensures exact { IsExactRow (Related relation.now) (length relation.now)
         (unwrap_or cap (length relation.now)) source result.0.items }
     ensures nearest { IsNearest (Related relation.now) source result.0.items

@@ -5,14 +5,14 @@ use Rattle.relations.specs.Cycle.{IsExactRow}
 use Rattle.labels.specs.Certified.{lists_of}
 use Rattle.bitrow.specs.Rows.{Marked}
 use Rattle.search.specs.Cycles.{IsCap, IsNearest, IsDistanceRow, IsLeastClosing}
-use Rattle.search.specs.Fresh.{AreEmptySets}
+use Rattle.search.specs.Memory.{AreSets}
 use Rattle.search.proofs.Cuts.{cap_next, distance_push}
 use Rattle.search.proofs.Lengths.{closing_next}
 use Rattle.search.proofs.distances.distance_rows.Goals as goal
 
 pub loop-source-init : goal.loop-source-init
 loop-source-init c = record {
-  sets = subst (λ (n : ℕ). AreEmptySets n c.in_ok-sets.sets) c.len-2.ensures c.in_ok-sets.ensures;
+  sets = subst (λ (n : ℕ). AreSets n c.in_ok-sets.sets) c.len-2.ensures c.in_ok-sets.ensures;
   cap = inl c.len-cap.ensures;
   less = omega arith;
   one_each = ap (λ (vs : List (Vec ℕ Global)). length (lists_of vs)) c.in_ok-rows.ensures.items;
@@ -29,7 +29,7 @@ add_row-requires-clause-source c =
     omega (arith, c.loop-source-test.true, c.successors-successors.ensures.len)
 
 pub add_row-requires-clause-sets : goal.add_row-requires-clause-sets
-add_row-requires-clause-sets c = subst (λ (n : ℕ). AreEmptySets n c.loop-source.sets)
+add_row-requires-clause-sets c = subst (λ (n : ℕ). AreSets n c.loop-source.sets)
     (sym c.successors-successors.ensures.len) c.loop-source.invariant.sets
 
 pub returns-clause-distances : goal.returns-clause-distances
@@ -62,7 +62,7 @@ loop-source-preserved c =
     c.successors-successors.ensures.sets added.3 in
     let both : min c.loop-source.least closing ≡ c.min-least.result = omega arith in
     record {
-      sets = subst (λ (n : ℕ). AreEmptySets n c.in_ok-closing.emptied) c.successors-successors.ensures.len
+      sets = subst (λ (n : ℕ). AreSets n c.add_row.new.sets) c.successors-successors.ensures.len
           c.in_ok-closing.ensures.sets;
       cap = subst (λ (k : ℕ). IsCap R n k) (sym c.next_cap-cap.ensures)
           (cap_next R n cap c.loop-source.source closing row c.sound.ensures.within exact near

@@ -1,13 +1,13 @@
 use Rattle.std.proofs.Common.{◌≡◌, ◌<◌, ◌≤◌, ℕ, length, get_or, []}
 use Rattle.relations.specs.Relation.{Related}
 use Rattle.labels.specs.Certified.{lists_of}
-use Rattle.search.specs.Fresh.{AreEmptySets}
+use Rattle.search.specs.Memory.{AreSets}
 use Rattle.search.specs.Cycles.{IsCap, IsDistanceRow, IsLeastClosing}
 use Rattle.search.proofs.distances.distance_rows.Given as goal
 
 abbrev pub invariant-loop-source : goal.invariant-loop-source
 invariant-loop-source l = record {
-  sets : AreEmptySets (length l.relation) l.sets;
+  sets : AreSets (length l.relation) l.sets;
   cap : IsCap (Related l.relation) (length l.relation) l.cap;
   less : l.least ≤ l.cap;
   one_each : length (lists_of l.rows.items) ≡ l.source;

@@ -1,4 +1,4 @@
-use Rattle.std.proofs.Common.{◌≡◌, ◌∙◌, ◌++◌, ◌∷◌, [], ℕ, List, length, Vec, Global, ap}
+use Rattle.std.proofs.Common.{◌≡◌, ◌∙◌, ◌++◌, ◌∷◌, [], ℕ, List, Vec, Global, ap}
 use Rattle.std.proofs.lemmas.List.{map-append}
 use Rattle.labels.specs.Certified.{lists_of}
 use Rattle.search.proofs.row.add_row.Goals as goal
@@ -10,6 +10,3 @@ returns-clause-row c =
     ap (λ (vs : List (Vec ℕ Global)). lists_of vs) c.in_ok-push.ensures.items
     ∙ map-append (λ (r : Vec ℕ Global). r.items) c.args.made.now.items (row ∷ []) in
     (row.items, is, c.row_with-row.ensures.exact, c.row_with-row.ensures.nearest)
-
-pub returns-clause-sets : goal.returns-clause-sets
-returns-clause-sets c = c.emptied.ensures (length c.args.rows.now) c.row_with-row.ensures.sets
