@@ -18,11 +18,12 @@ use devices::{MemorySink, Place, Sink};
 use inputs::{CommandError, CommandFault, opened};
 use report::{Answer, Outcome};
 use std::alloc::Global;
+use std::sync::Wait;
 use std::thread::Threads;
 use surveys::{Ledger, SurveyError, line_of, survey};
 
 /// The survey of an opened input, of which progress is shown unless the options are quiet.
-fn surveyed<R: Threads + Sync, P: Place, W: Sink>(
+fn surveyed<R: Threads + Wait + Sync, P: Place, W: Sink>(
     rt: &R,
     alloc: Global,
     options: &SurveyOptions,
@@ -49,7 +50,7 @@ fn surveyed<R: Threads + Sync, P: Place, W: Sink>(
 }
 
 /// Counts the recordings of the named input, and writes the line of each where it is told.
-fn counted<R: Threads + Sync, P: Place, W: Sink>(
+fn counted<R: Threads + Wait + Sync, P: Place, W: Sink>(
     rt: &R,
     alloc: Global,
     options: &SurveyOptions,
@@ -81,7 +82,7 @@ fn counted<R: Threads + Sync, P: Place, W: Sink>(
 
 /// Counts the recordings of the named input; their lines and the counts are written, the lines as soon as they are
 /// known.
-pub fn each_command<R: Threads + Sync, P: Place, W: Sink>(
+pub fn each_command<R: Threads + Wait + Sync, P: Place, W: Sink>(
     rt: &R,
     alloc: Global,
     options: &SurveyOptions,
@@ -104,7 +105,7 @@ pub fn each_command<R: Threads + Sync, P: Place, W: Sink>(
 }
 
 /// Counts the recordings of the named input, of which none is told.
-fn counts_answer<R: Threads + Sync, P: Place>(
+fn counts_answer<R: Threads + Wait + Sync, P: Place>(
     rt: &R,
     alloc: Global,
     options: &SurveyOptions,
@@ -167,7 +168,7 @@ fn shown_line<P: Place>(
 }
 
 /// Counts the recordings of the named input, or answers one of them.
-pub fn survey_command<R: Threads + Sync, P: Place>(
+pub fn survey_command<R: Threads + Wait + Sync, P: Place>(
     rt: &R,
     alloc: Global,
     options: &SurveyOptions,

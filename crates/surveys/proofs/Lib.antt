@@ -5,4 +5,4 @@ pub mod Tallied
 pub mod Blocks
 pub mod Shown
 pub mod LineCodes
-pub mod OneBlockAhead
+pub mod Pieces

@@ -4,7 +4,7 @@ ghost use Rattle.std.specs.Prelude.{◌≡◌, ◌<◌, All, IfOk, IfSome, lengt
 ghost use denote.Param.Send.{IsSync};
 ghost use Rattle.surveys.specs.Claims.{AreClaims, IsFoundAt};
 
-use crate::judged::finding_of_line;
+use crate::judged::judge_line;
 use common::{Gate, MAX_WORKERS, OutOfMemory};
 use ledger::Finding;
 use std::alloc::Global;
@@ -28,14 +28,6 @@ fn next_place(next: &AtomicUsize, places: usize) -> Option<usize>
     if place < places { Some(place) } else { None }
 }
 
-/// Tells the gate of a violation.
-fn report_violation<G: Gate>(gate: &G, worker: usize, piece: usize, finding: Finding) {
-    match finding {
-        Finding::Overlook { .. } | Finding::Cycle(_) => gate.found(worker, piece),
-        _ => {}
-    }
-}
-
 /// Judges a line, of which the gate is told under this number.
 fn judge_one<G: Gate>(
     alloc: Global,
@@ -48,10 +40,7 @@ fn judge_one<G: Gate>(
     requires { place < length lines.now }
     ensures { IfOk result (λ claim. IsFoundAt lines.now claim.place claim.finding) }
 {
-    gate.begin(worker, piece);
-    let finding = finding_of_line(alloc, lines[place])?;
-    report_violation(gate, worker, piece, finding);
-    gate.done(worker, piece);
+    let finding = judge_line(alloc, lines[place], gate, worker, piece)?;
     Ok(Claim { place, finding })
 }
 

@@ -6,22 +6,52 @@ ghost use Rattle.surveys.specs.Coded.{AreLineCodes};
 ghost use Rattle.surveys.specs.Found.{AreFindings, codes_of};
 ghost use Rattle.surveys.specs.Lines.{is_some_line};
 
-use crate::judged::finding_of_line;
+use crate::judged::judge_line;
 use crate::lines::split_line;
-use common::OutOfMemory;
+use common::{Gate, OpenGate, OutOfMemory};
 use std::alloc::Global;
 
-/// Adds the code of what is found in a line, unless it is empty.
-fn add_code(alloc: Global, codes: &mut Vec<u64>, line: &[u8]) -> Result<(), OutOfMemory>
+/// Adds the code of what is found in a line, unless it is empty. The first code is that of the recording of this
+/// number.
+fn add_code<G: Gate>(
+    alloc: Global,
+    codes: &mut Vec<u64>,
+    line: &[u8],
+    first: usize,
+    gate: &G,
+    worker: usize,
+) -> Result<(), OutOfMemory>
     ensures { OnOk result ((found : List Finding) × AreFindings (filter is_some_line (line.now ∷ [])) found
         × (codes.new.items ≡ codes.old.items ++ codes_of found)) }
 {
     if line.is_empty() {
         return Ok(());
     }
-    let finding = finding_of_line(alloc, line)?;
+    let number = first.wrapping_add(codes.len());
+    let finding = judge_line(alloc, line, gate, worker, number)?;
     codes.push(finding.code())?;
     Ok(())
+}
+
+/// The codes of what is found in the lines of some bytes, in order, by this worker; the gate is told of each recording,
+/// the first of which has this number. Fails only if out of memory.
+pub(crate) fn judge_lines<G: Gate>(
+    alloc: Global,
+    bytes: &[u8],
+    first: usize,
+    gate: &G,
+    worker: usize,
+) -> Result<Vec<u64>, OutOfMemory>
+    ensures { IfOk result (λ codes. AreLineCodes bytes.now codes.items) }
+{
+    let mut codes = Vec::new(alloc);
+    let mut rest = bytes;
+    'lines: while !rest.is_empty() {
+        let (line, more) = split_line(rest);
+        add_code(alloc, &mut codes, line, first, gate, worker)?;
+        rest = more;
+    }
+    Ok(codes)
 }
 
 /// The codes of what is found in the lines of some bytes, in order, as `Finding::code` has them; an empty line has
@@ -29,12 +59,5 @@ fn add_code(alloc: Global, codes: &mut Vec<u64>, line: &[u8]) -> Result<(), OutO
 pub fn codes_of_lines(alloc: Global, bytes: &[u8]) -> Result<Vec<u64>, OutOfMemory>
     ensures { IfOk result (λ codes. AreLineCodes bytes.now codes.items) }
 {
-    let mut codes = Vec::new(alloc);
-    let mut rest = bytes;
-    'lines: while !rest.is_empty() {
-        let (line, more) = split_line(rest);
-        add_code(alloc, &mut codes, line)?;
-        rest = more;
-    }
-    Ok(codes)
+    judge_lines(alloc, bytes, 0, &OpenGate, 0)
 }

@@ -14,7 +14,7 @@ use memchr::memrchr;
 pub(crate) const PIECE: usize = 65_536;
 
 /// How many bytes a block has at least, but for the last one.
-const BLOCK: usize = 4_194_304;
+pub(crate) const BLOCK: usize = 4_194_304;
 
 /// Fills up a block, or, where it is to be prompt, takes what there is; false where the source has ended.
 pub(crate) fn fill<R: Source>(

@@ -8,7 +8,7 @@ ghost use Rattle.ledger.specs.declared.finding.Finding.TheVariants.{Refused};
 ghost use Rattle.recording.specs.declared.fault.RecError.TheVariants as refusals;
 ghost use Rattle.surveys.specs.Found.{IsLineFinding};
 
-use common::OutOfMemory;
+use common::{Gate, OutOfMemory};
 use judge::judge_alone;
 use ledger::Finding;
 use recorder::read_recording;
@@ -46,4 +46,29 @@ pub fn finding_of_line(alloc: Global, bytes: &[u8]) -> Result<Finding, OutOfMemo
         Ok(recording) => found_in(alloc, &recording),
         Err(refusal) => refused(refusal),
     }
+}
+
+/// Tells the gate of a violation.
+fn report_violation<G: Gate>(gate: &G, worker: usize, number: usize, finding: Finding) {
+    match finding {
+        Finding::Overlook { .. } | Finding::Cycle(_) => gate.found(worker, number),
+        _ => {}
+    }
+}
+
+/// What is found in the bytes of a line, of which the gate is told under this number. Fails only if out of memory.
+pub(crate) fn judge_line<G: Gate>(
+    alloc: Global,
+    bytes: &[u8],
+    gate: &G,
+    worker: usize,
+    number: usize,
+) -> Result<Finding, OutOfMemory>
+    ensures { IfOk result (IsLineFinding bytes.now) }
+{
+    gate.begin(worker, number);
+    let finding = finding_of_line(alloc, bytes)?;
+    report_violation(gate, worker, number, finding);
+    gate.done(worker, number);
+    Ok(finding)
 }

@@ -1,21 +1,23 @@
 //! Surveys of many recordings, one a line.
 #![tactic(auto)]
 
-mod ahead;
 mod claims;
 mod coded;
 mod counting;
+mod desk;
 mod each;
 mod error;
 mod filling;
 mod judged;
 mod law;
 mod lines;
+mod offered;
+mod piece;
 mod showing;
 mod surveying;
+mod workers;
 
 pub use coded::codes_of_lines;
-pub use counting::findings_of;
 pub use each::each_text;
 pub use error::SurveyError;
 pub use judged::finding_of_line;

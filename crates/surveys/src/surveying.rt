@@ -11,19 +11,25 @@ ghost use Rattle.surveys.specs.OneSurvey.{EverySurveyTellsTheSame};
 ghost use Rattle.surveys.specs.Surveys.{IsSurvey, IsSurveyOfRead, failed_reads, failed_writes};
 ghost use Rattle.surveys.specs.Tallies.{Ends, Grows, IsTallied, IsTally};
 
-use crate::ahead::count_ahead;
 use crate::counting::count_all;
+use crate::desk::Desk;
 use crate::error::SurveyError;
-use crate::filling::{PIECE, fill, keep_rest, last_end};
+use crate::filling::{BLOCK, PIECE, fill, keep_rest, last_end};
 use crate::law::a_survey_is_one;
+use crate::offered::count_offered;
+use crate::workers::with_workers;
 use common::Gate;
 use devices::{Sink, Source};
 use ledger::Ledger;
 use std::alloc::Global;
+use std::sync::Wait;
 use std::thread::Threads;
 
+/// How many bytes stay on the desk while the next ones are read.
+const KEPT: usize = BLOCK / 2;
+
 /// Adds the lines of the next bytes to a ledger, and their number to the number of bytes.
-pub(crate) fn count_part<R: Threads + Sync, W: Sink, G: Gate>(
+fn count_part<R: Threads + Sync, W: Sink, G: Gate>(
     rt: &R,
     alloc: Global,
     sink: &mut W,
@@ -53,8 +59,8 @@ pub(crate) fn count_part<R: Threads + Sync, W: Sink, G: Gate>(
 }
 
 /// Adds the whole lines of a block, of which this many bytes have no end of a line, to a ledger, and leaves what
-/// comes after them.
-fn count_whole<R: Threads + Sync, W: Sink, G: Gate>(
+/// comes after them; where none is told and there is a desk, those lines that do not stay there, so many bytes at most.
+fn count_whole<R: Threads + Wait + Sync, W: Sink, G: Gate>(
     rt: &R,
     alloc: Global,
     sink: &mut W,
@@ -64,6 +70,8 @@ fn count_whole<R: Threads + Sync, W: Sink, G: Gate>(
     block: &mut Vec<u8>,
     seen: usize,
     workers: usize,
+    desk: Option<&Desk>,
+    kept: usize,
     gate: &G,
 ) -> Result<usize, SurveyError>
     requires writes { CanGrow (W.write_failures sink.old) }
@@ -75,6 +83,12 @@ fn count_whole<R: Threads + Sync, W: Sink, G: Gate>(
     ensures writes { CountsBy failed_writes (W.write_failures sink.old) (W.write_failures sink.new) result }
     ensures silent { each ≢ true → sink.new ≡ sink.old }
 {
+    match desk {
+        Some(desk) if !each => {
+            return count_offered(rt, alloc, desk, ledger, counted, block, seen, kept, gate);
+        }
+        _ => {}
+    }
     let end = last_end(block, seen);
     let total = count_part(
         rt,
@@ -92,7 +106,51 @@ fn count_whole<R: Threads + Sync, W: Sink, G: Gate>(
 }
 
 /// Adds the lines of all that a source gives to an empty ledger, block by block.
-fn count_blocks<T: Threads + Sync, R: Source, W: Sink, G: Gate>(
+fn count_blocks<T: Threads + Wait + Sync, R: Source, W: Sink, G: Gate>(
+    rt: &T,
+    alloc: Global,
+    source: &mut R,
+    sink: &mut W,
+    each: bool,
+    piece: &mut [u8],
+    ledger: &mut Ledger,
+    workers: usize,
+    desk: Option<&Desk>,
+    gate: &G,
+) -> Result<(), SurveyError>
+    requires reads { CanGrow (R.read_failures source.old) }
+    requires writes { CanGrow (W.write_failures sink.old) }
+    requires room { 0 < length piece.old }
+    requires none { IsLedger [] ledger.old }
+    ensures whole { OnOk result (IsSurveyOfRead (R.left source.old) (R.left source.new) ledger.new
+        each (W.written sink.old) (W.written sink.new)) }
+    ensures met { OnOk result (R.is_ended source.new ≡ true) }
+    ensures all { OnOk result (IsAtEnd (R.left source.new)) }
+    ensures reads { CountsBy failed_reads (R.read_failures source.old) (R.read_failures source.new) result }
+    ensures writes { CountsBy failed_writes (W.write_failures sink.old) (W.write_failures sink.new) result }
+    ensures silent { each ≢ true → sink.new ≡ sink.old }
+{
+    let mut block = Vec::new(alloc);
+    let mut counted = 0;
+    let mut seen = 0;
+    'filled: while fill(source, piece, &mut block, each)? {
+        counted = count_whole(
+            rt, alloc, sink, each, ledger, counted, &mut block, seen, workers, desk, KEPT, gate,
+        )?;
+        seen = block.len();
+    }
+    counted = count_whole(
+        rt, alloc, sink, each, ledger, counted, &mut block, seen, workers, desk, 0, gate,
+    )?;
+    count_part(
+        rt, alloc, sink, each, ledger, counted, &block, workers, gate,
+    )?;
+    Ok(())
+}
+
+/// Does so by this many workers. Where none is told, each but the calling thread has a thread of its own that lasts as
+/// long.
+fn count_by_workers<T: Threads + Wait + Sync, R: Source, W: Sink, G: Gate>(
     rt: &T,
     alloc: Global,
     source: &mut R,
@@ -115,33 +173,49 @@ fn count_blocks<T: Threads + Sync, R: Source, W: Sink, G: Gate>(
     ensures writes { CountsBy failed_writes (W.write_failures sink.old) (W.write_failures sink.new) result }
     ensures silent { each ≢ true → sink.new ≡ sink.old }
 {
-    if !each && workers > 1 {
-        return count_ahead(rt, alloc, source, piece, ledger, workers, gate);
+    if each || workers < 2 {
+        return count_blocks(
+            rt, alloc, source, sink, each, piece, ledger, workers, None, gate,
+        );
     }
-    let mut block = Vec::new(alloc);
-    let mut counted = 0;
-    let mut seen = 0;
-    'filled: while fill(source, piece, &mut block, each)? {
-        counted = count_whole(
-            rt, alloc, sink, each, ledger, counted, &mut block, seen, workers, gate,
-        )?;
-        seen = block.len();
-    }
-    count_part(
-        rt, alloc, sink, each, ledger, counted, &block, workers, gate,
-    )?;
-    Ok(())
+    let desk = Desk::new(alloc)?;
+    let desk = &desk;
+    let mut counting = || -> Result<(), SurveyError>
+        requires { CanGrow (R.read_failures source.now) × CanGrow (W.write_failures sink.now)
+            × (0 < length piece.now) × IsLedger [] ledger.now }
+        ensures { OnOk result (IsSurveyOfRead (R.left source.entry.now) (R.left source.exit.now) ledger.exit.now
+            each (W.written sink.entry.now) (W.written sink.exit.now))
+            × OnOk result (R.is_ended source.exit.now ≡ true)
+            × OnOk result (IsAtEnd (R.left source.exit.now))
+            × CountsBy failed_reads (R.read_failures source.entry.now) (R.read_failures source.exit.now) result
+            × CountsBy failed_writes (W.write_failures sink.entry.now) (W.write_failures sink.exit.now) result
+            × (each ≢ true → sink.exit.now ≡ sink.entry.now) }
+    {
+        count_blocks(
+            rt,
+            alloc,
+            source,
+            sink,
+            each,
+            piece,
+            ledger,
+            1,
+            Some(desk),
+            gate,
+        )
+    };
+    with_workers(rt, alloc, desk, workers, gate, &mut counting)
 }
 
 /// Reads the lines of a source to its end, a recording each, judges them by this many workers, at most `MAX_WORKERS`,
-/// and counts them in order; where each is told, its line is written to the sink. With one worker, or where each is
-/// told, the calling thread is a worker. Else it reads the next block while they judge one, each in a thread of its
-/// own where one can be made. The gate is told as by `findings_of`, by the numbers of the recordings, from 0.
-/// `ReadFailed` exactly where a read failed, and `WriteFailed` where a write did; where none is told, nothing is
-/// written. The memory is that of two blocks, or of the longest line, whatever the length. One thing is found in a
-/// line, however often and by however many workers it is judged, so any two surveys of the same bytes count and tell
-/// the same.
-pub fn survey<T: Threads + Sync, R: Source, W: Sink, G: Gate>(
+/// and counts them in order; where each is told, its line is written to the sink. The calling thread is a worker, and
+/// reads; each other worker has a thread of its own where one can be made, for as long as the survey lasts, or, where
+/// each is told, for a block. The gate is told that a worker begins a recording, that it is a violation, and that the
+/// worker is done, by the numbers of the recordings, from 0. `ReadFailed` exactly where a read failed, and
+/// `WriteFailed` where a write did; where none is told, nothing is written. The memory is that of two blocks, or of
+/// the longest line, whatever the length. One thing is found in a line, however often and by however many workers it
+/// is judged, so any two surveys of the same bytes count and tell the same.
+pub fn survey<T: Threads + Wait + Sync, R: Source, W: Sink, G: Gate>(
     rt: &T,
     alloc: Global,
     source: &mut R,
@@ -170,7 +244,7 @@ pub fn survey<T: Threads + Sync, R: Source, W: Sink, G: Gate>(
     let Ok(mut piece) = Vec::from_elem(alloc, 0u8, PIECE) else {
         return Err(SurveyError::OutOfMemory);
     };
-    count_blocks(
+    count_by_workers(
         rt,
         alloc,
         source,

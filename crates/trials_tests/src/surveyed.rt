@@ -1,8 +1,10 @@
 //! Surveys of recordings, one a line.
 
+use crate::told::{is_told, told_of};
 use common::OpenGate;
 use report::{MemorySink, MemorySource, survey_text};
 use std::alloc::Global;
+use std::sync::Wait;
 use std::test::Fail;
 use std::thread::Threads;
 use surveys::{SurveyError, line_of, survey};
@@ -30,7 +32,7 @@ const NONE: &[u8] = b"recordings 0\nordered 0\nrefused 0\noverlook 0\n\
     first violation: none\nfirst refused: none\n";
 
 /// Whether this many workers count these lines so, and tell so of each; or, where none is told, write nothing.
-fn is_surveyed<R: Threads + Sync>(
+fn is_surveyed<R: Threads + Wait + Sync>(
     rt: &R,
     alloc: Global,
     lines: &[u8],
@@ -59,8 +61,38 @@ fn lines_are_counted_and_told(rt: HostRuntime) -> Result<(), Fail> {
     Ok(())
 }
 
+/// Whether this many workers tell a gate of each of 384 recordings, a third of which are violations.
+fn is_each_told<R: Threads + Wait + Sync>(
+    rt: &R,
+    alloc: Global,
+    each: bool,
+    workers: usize,
+) -> Result<bool, Fail> {
+    let mut lines = Vec::new(alloc);
+    for _ in 0..64 {
+        lines.extend_from_slice(LINES)?;
+        lines.push(b'\n')?;
+    }
+    let gate = told_of(alloc, 384)?;
+    let mut source = MemorySource::new(&lines);
+    let mut sink = MemorySink::new(alloc);
+    let Ok(_) = survey(rt, alloc, &mut source, &mut sink, each, workers, &gate) else {
+        return Ok(false);
+    };
+    Ok(is_told(&gate, 384, 128) && gate.is_found(380) && gate.is_found(381) && !gate.is_found(382))
+}
+
+#[test]
+fn each_recording_begins_once_and_is_done_once_by_one_worker(rt: HostRuntime) -> Result<(), Fail> {
+    assert!(rt; is_each_told(&rt, rt.alloc(), false, 1)?);
+    assert!(rt; is_each_told(&rt, rt.alloc(), false, 2)?);
+    assert!(rt; is_each_told(&rt, rt.alloc(), false, 8)?);
+    assert!(rt; is_each_told(&rt, rt.alloc(), true, 3)?);
+    Ok(())
+}
+
 /// Whether a read that fails after this many bytes is told, after a beginning of what is told of each.
-fn is_failed<R: Threads + Sync>(rt: &R, alloc: Global, length: usize, each: bool) -> bool {
+fn is_failed<R: Threads + Wait + Sync>(rt: &R, alloc: Global, length: usize, each: bool) -> bool {
     let mut source = MemorySource::failing(LINES, length);
     let mut sink = MemorySink::new(alloc);
     let told = if each { EACH } else { b"" };

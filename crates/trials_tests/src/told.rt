@@ -1,4 +1,4 @@
-//! What a gate is told of a campaign.
+//! What a gate is told of a campaign, or of a survey.
 
 ghost use Rattle.std.specs.Prelude.{◌≤◌, ◌<◌};
 ghost use Rattle.common.specs.declared.limits.TheConstants.{MAX_WORKERS};
@@ -16,7 +16,7 @@ use trials::{Campaign, Ledger, ORDERED, UNFINISHED, trial};
 /// What was told of each trial, by worker w of eight: 1 + w that it begins, 16 more that it is a violation,
 /// 32 more that it is done.
 #[derive(Drop)]
-struct Told {
+pub(crate) struct Told {
     trials: Vec<AtomicU64>,
     others: AtomicBool,
 }
@@ -50,7 +50,7 @@ impl Told {
     }
 
     /// Whether a trial was told of as a violation.
-    fn is_found(&self, trial: usize) -> bool {
+    pub(crate) fn is_found(&self, trial: usize) -> bool {
         match self.trials.get(trial) {
             Some(told) => told.load(Ordering::SeqCst) >= 49,
             None => false,
@@ -73,7 +73,7 @@ impl Gate for Told {
 }
 
 /// The gate of this many trials, before it is told anything.
-fn told_of(alloc: Global, trials: usize) -> Result<Told, Fail> {
+pub(crate) fn told_of(alloc: Global, trials: usize) -> Result<Told, Fail> {
     let mut told = Vec::new(alloc);
     for _ in 0..trials {
         told.push(AtomicU64::new(0))?;
@@ -84,10 +84,10 @@ fn told_of(alloc: Global, trials: usize) -> Result<Told, Fail> {
     })
 }
 
-/// Whether 64 trials were told of, each as it begins and is done, by one worker, and this many violations.
-fn is_told(gate: &Told, violations: usize) -> bool {
+/// Whether this many trials were told of, each as it begins and is done, by one worker, and this many violations.
+pub(crate) fn is_told(gate: &Told, trials: usize, violations: usize) -> bool {
     !gate.others.load(Ordering::SeqCst)
-        && gate.count(33, 56) == 64
+        && gate.count(33, 56) == trials
         && gate.count(49, 56) == violations
 }
 
@@ -135,7 +135,7 @@ fn is_each_told<R: Threads + Wait + Sync>(
     let gate = told_of(alloc, 64)?;
     let ledger = ledger_by(rt, alloc, faulty, workers, &gate)?;
     let violations = kinds.1.wrapping_add(kinds.2);
-    let told = is_told(&gate, violations) && has_kinds(&ledger, kinds);
+    let told = is_told(&gate, 64, violations) && has_kinds(&ledger, kinds);
     Ok(is_each_found(alloc, faulty, &gate)? && told)
 }
 

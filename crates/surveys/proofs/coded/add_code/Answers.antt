@@ -5,7 +5,7 @@ use Rattle.surveys.proofs.Shown.{one_line}
 use Rattle.surveys.proofs.coded.add_code.Goals as goal
 
 pub returns : goal.returns
-returns c =
+returns g c =
     let line : List ℕ = c.args.line.now in
     let some : 0 < length line = omega (arith, eqb-false (length line) 0 (sym c.if-is_empty.ensures)) in (
       c.in_ok-finding.finding ∷ [],

@@ -1,6 +1,7 @@
 use Rattle.std.proofs.Common.{◌∙◌, arith, List, ℕ, subst, refl, sym}
 use Rattle.surveys.specs.Tallies.{Ends, IsUnderWay}
-use Rattle.surveys.proofs.Blocks.{all_read, begun, gone_on, same_size}
+use Rattle.surveys.proofs.Blocks.{begun, gone_on, same_size}
+use Rattle.surveys.proofs.Pieces.{all_ended}
 use Rattle.surveys.proofs.surveying.count_blocks.Goals as goal
 
 pub filled-init : goal.filled-init
@@ -35,11 +36,22 @@ filled-smaller g c = omega (
   c.in_ok-fill.ensures.more c.if-branch.true,
 )
 
+pub count_part-requires-clause-tally : goal.count_part-requires-clause-tally
+count_part-requires-clause-tally g c κs within =
+    let way = gone_on c.args.each _ (g.R.Source.left c.filled.source) _ _ _ c.filled.ledger c.filled.counted
+    c.filled.block.items c.fill.new.block.items c.filled.invariant.way c.in_ok-fill.ensures.gathered
+    c.count_whole-2.new.ledger c.in_ok-counted-2.counted c.count_whole-2.new.block.items _
+    c.in_ok-counted-2.ensures.ok in
+    (way.front, g.W.Sink.written c.args.sink.now, way.tally)
+
 pub returns-clause-whole : goal.returns-clause-whole
 returns-clause-whole g c =
-    let was = g.W.Sink.written c.filled.sink in
+    let was = g.W.Sink.written c.count_whole-2.new.sink in
     let is = g.W.Sink.written c.count_part.new.sink in
-    all_read c.args.each _ (g.R.Source.left c.filled.source) _ _ was c.filled.ledger c.filled.counted
+    let rest : List ℕ = c.count_whole-2.new.block.items in
+    let way = gone_on c.args.each _ (g.R.Source.left c.filled.source) _ _ _ c.filled.ledger c.filled.counted
     c.filled.block.items c.fill.new.block.items c.filled.invariant.way c.in_ok-fill.ensures.gathered
-    c.count_part.new.ledger is (subst (λ (bytes : List ℕ). Ends c.args.each bytes c.filled.ledger c.filled.counted was
+    c.count_whole-2.new.ledger c.in_ok-counted-2.counted rest was c.in_ok-counted-2.ensures.ok in
+    all_ended c.args.each _ _ _ was is c.count_whole-2.new.ledger c.count_part.new.ledger c.in_ok-counted-2.counted rest
+    way (subst (λ (bytes : List ℕ). Ends c.args.each bytes c.count_whole-2.new.ledger c.in_ok-counted-2.counted was
     c.count_part.new.ledger is) c.deref.ensures.value c.in_ok-count_part.ensures.ends)

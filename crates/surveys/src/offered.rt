@@ -1,0 +1,108 @@
+//! Pieces that are offered to workers, and counted in order.
+
+ghost use Rattle.std.specs.Prelude.{◌≡◌, ◌≤◌, ℕ, List, Option, false, IfErr, IfOk, drop, length};
+ghost use Rattle.surveys.specs.Surveys.{failed_reads, failed_writes};
+ghost use Rattle.surveys.specs.Tallies.{IsTallied, IsTally};
+
+use crate::desk::Desk;
+use crate::error::SurveyError;
+use crate::filling::{keep_rest, last_end};
+use crate::piece::Piece;
+use common::Gate;
+use ledger::Ledger;
+use std::alloc::Global;
+use std::sync::Wait;
+
+/// Adds the lines of a piece to a ledger, and its length to the number of bytes; answers both, and a length of 0 where
+/// the bytes do not begin with it, whole.
+fn count_piece(
+    alloc: Global,
+    ledger: &mut Ledger,
+    counted: usize,
+    bytes: &[u8],
+    piece: Piece,
+) -> Result<(usize, usize), SurveyError>
+    requires { (front : List ℕ) × (start : Option (List ℕ)) × (now : Option (List ℕ))
+        × IsTally false front ledger.old counted start now }
+    ensures within { IfOk result (λ r. r.1 ≤ length bytes.now) }
+    ensures ok { IfOk result (λ r. (w : Option (List ℕ)) → IsTallied false bytes.now (drop r.1 bytes.now)
+        ledger.old counted w ledger.new r.0 w) }
+    ensures reads { IfErr result (λ e. failed_reads e ≡ 0) }
+    ensures writes { IfErr result (λ e. failed_writes e ≡ 0) }
+{
+    let length = piece.bytes().len();
+    if !bytes.starts_with(piece.bytes()) || last_end(piece.bytes(), 0) != length {
+        return Ok((counted, 0));
+    }
+    let codes = piece.into_codes(alloc)?;
+    let more = Ledger::count(alloc, &codes)?;
+    let Some(total) = counted.checked_add(length) else {
+        return Err(SurveyError::TooLong);
+    };
+    ledger.add(&more);
+    Ok((total, length))
+}
+
+/// Adds the lines of the pieces with which these bytes begin, in order, until at most so many bytes lie on the desk;
+/// answers the number of bytes with those, and how many those are.
+fn count_pieces<R: Wait, G: Gate>(
+    rt: &R,
+    alloc: Global,
+    desk: &Desk,
+    ledger: &mut Ledger,
+    counted: usize,
+    bytes: &[u8],
+    kept: usize,
+    gate: &G,
+) -> Result<(usize, usize), SurveyError>
+    requires { (front : List ℕ) × (start : Option (List ℕ)) × (now : Option (List ℕ))
+        × IsTally false front ledger.old counted start now }
+    ensures within { IfOk result (λ r. r.1 ≤ length bytes.now) }
+    ensures ok { IfOk result (λ r. (w : Option (List ℕ)) → IsTallied false bytes.now (drop r.1 bytes.now)
+        ledger.old counted w ledger.new r.0 w) }
+    ensures reads { IfErr result (λ e. failed_reads e ≡ 0) }
+    ensures writes { IfErr result (λ e. failed_writes e ≡ 0) }
+{
+    let mut total = counted;
+    let mut from = 0;
+    'pieces: while from < bytes.len() {
+        let Some(piece) = desk.collect(rt, alloc, kept, gate) else {
+            break;
+        };
+        let (more, length) = count_piece(alloc, ledger, total, &bytes[from..], piece)?;
+        total = more;
+        from += length;
+        if length == 0 {
+            break;
+        }
+    }
+    Ok((total, from))
+}
+
+/// Offers the whole lines of a block to workers, of which this many bytes have no end of a line that was not offered,
+/// and adds those of the first pieces to a ledger, until at most so many bytes lie on the desk; leaves in the block
+/// what comes after these.
+pub(crate) fn count_offered<R: Wait, G: Gate>(
+    rt: &R,
+    alloc: Global,
+    desk: &Desk,
+    ledger: &mut Ledger,
+    counted: usize,
+    block: &mut Vec<u8>,
+    seen: usize,
+    kept: usize,
+    gate: &G,
+) -> Result<usize, SurveyError>
+    requires { (front : List ℕ) × (start : Option (List ℕ)) × (now : Option (List ℕ))
+        × IsTally false front ledger.old counted start now }
+    ensures ok { IfOk result (λ n. (w : Option (List ℕ)) → IsTallied false block.old.items block.new.items
+        ledger.old counted w ledger.new n w) }
+    ensures reads { IfErr result (λ e. failed_reads e ≡ 0) }
+    ensures writes { IfErr result (λ e. failed_writes e ≡ 0) }
+{
+    let end = last_end(block, seen);
+    desk.offer(rt, alloc, &block[..end])?;
+    let (total, end) = count_pieces(rt, alloc, desk, ledger, counted, block, kept, gate)?;
+    keep_rest(block, end);
+    Ok(total)
+}
