@@ -231,39 +231,30 @@ impl Desk {
         })
     }
 
-    /// Puts a piece with so many recordings; false where all places are used. Fails only if out of memory.
-    fn put<R: Wait>(
-        &self,
-        rt: &R,
-        alloc: Global,
-        bytes: &[u8],
-        recordings: usize,
-    ) -> Result<bool, OutOfMemory> {
+    /// Puts a piece with so many recordings; false where all places are used or memory runs out.
+    fn put<R: Wait>(&self, rt: &R, alloc: Global, bytes: &[u8], recordings: usize) -> bool {
         let mut copy = Vec::new(alloc);
-        copy.extend_from_slice(bytes)?;
+        let Ok(()) = copy.extend_from_slice(bytes) else {
+            return false;
+        };
         let is_put = self.places.lock(rt).put(copy, recordings);
         self.was_put.notify_one();
-        Ok(is_put)
+        is_put
     }
 
-    /// Puts the lines of a block, of which those that lie here are the first, up to this end of a line or until all
-    /// places are used. Fails only if out of memory.
-    pub(crate) fn offer<R: Wait>(
-        &self,
-        rt: &R,
-        alloc: Global,
-        lines: &[u8],
-    ) -> Result<(), OutOfMemory> {
+    /// Puts these lines, of which those that lie here are the first; false where all places are used or memory runs
+    /// out before.
+    pub(crate) fn offer<R: Wait>(&self, rt: &R, alloc: Global, lines: &[u8]) -> bool {
         let from = self.places.lock(rt).bytes.min(lines.len());
         let mut rest = &lines[from..];
         'pieces: while !rest.is_empty() {
             let (end, recordings) = first_lines(rest);
-            if !self.put(rt, alloc, &rest[..end], recordings)? {
-                break;
+            if !self.put(rt, alloc, &rest[..end], recordings) {
+                return false;
             }
             rest = &rest[end..];
         }
-        Ok(())
+        true
     }
 
     /// Judges a piece, and puts it back to where it lay.

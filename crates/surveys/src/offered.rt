@@ -101,7 +101,9 @@ pub(crate) fn count_offered<R: Wait, G: Gate>(
     ensures writes { IfErr result (λ e. failed_writes e ≡ 0) }
 {
     let end = last_end(block, seen);
-    desk.offer(rt, alloc, &block[..end])?;
+    let is_offered = desk.offer(rt, alloc, &block[..end]);
+    // Pieces that are counted leave room for those that had none.
+    let kept = if is_offered { kept } else { 0 };
     let (total, end) = count_pieces(rt, alloc, desk, ledger, counted, block, kept, gate)?;
     keep_rest(block, end);
     Ok(total)

@@ -114,6 +114,7 @@ fn count_blocks<T: Threads + Wait + Sync, R: Source, W: Sink, G: Gate>(
     each: bool,
     piece: &mut [u8],
     ledger: &mut Ledger,
+    block: &mut Vec<u8>,
     workers: usize,
     desk: Option<&Desk>,
     gate: &G,
@@ -121,6 +122,7 @@ fn count_blocks<T: Threads + Wait + Sync, R: Source, W: Sink, G: Gate>(
     requires reads { CanGrow (R.read_failures source.old) }
     requires writes { CanGrow (W.write_failures sink.old) }
     requires room { 0 < length piece.old }
+    requires empty { block.old.items ≡ [] }
     requires none { IsLedger [] ledger.old }
     ensures whole { OnOk result (IsSurveyOfRead (R.left source.old) (R.left source.new) ledger.new
         each (W.written sink.old) (W.written sink.new)) }
@@ -130,21 +132,18 @@ fn count_blocks<T: Threads + Wait + Sync, R: Source, W: Sink, G: Gate>(
     ensures writes { CountsBy failed_writes (W.write_failures sink.old) (W.write_failures sink.new) result }
     ensures silent { each ≢ true → sink.new ≡ sink.old }
 {
-    let mut block = Vec::new(alloc);
     let mut counted = 0;
     let mut seen = 0;
-    'filled: while fill(source, piece, &mut block, each)? {
+    'filled: while fill(source, piece, block, each)? {
         counted = count_whole(
-            rt, alloc, sink, each, ledger, counted, &mut block, seen, workers, desk, KEPT, gate,
+            rt, alloc, sink, each, ledger, counted, block, seen, workers, desk, KEPT, gate,
         )?;
         seen = block.len();
     }
     counted = count_whole(
-        rt, alloc, sink, each, ledger, counted, &mut block, seen, workers, desk, 0, gate,
+        rt, alloc, sink, each, ledger, counted, block, seen, workers, desk, 0, gate,
     )?;
-    count_part(
-        rt, alloc, sink, each, ledger, counted, &block, workers, gate,
-    )?;
+    count_part(rt, alloc, sink, each, ledger, counted, block, workers, gate)?;
     Ok(())
 }
 
@@ -173,16 +172,22 @@ fn count_by_workers<T: Threads + Wait + Sync, R: Source, W: Sink, G: Gate>(
     ensures writes { CountsBy failed_writes (W.write_failures sink.old) (W.write_failures sink.new) result }
     ensures silent { each ≢ true → sink.new ≡ sink.old }
 {
+    let mut block = Vec::new(alloc);
+    let block = &mut block;
     if each || workers < 2 {
         return count_blocks(
-            rt, alloc, source, sink, each, piece, ledger, workers, None, gate,
+            rt, alloc, source, sink, each, piece, ledger, block, workers, None, gate,
         );
     }
+    // The room of the block is taken before the threads take theirs.
+    let Ok(()) = block.reserve(BLOCK + PIECE) else {
+        return Err(SurveyError::OutOfMemory);
+    };
     let desk = Desk::new(alloc)?;
     let desk = &desk;
     let mut counting = || -> Result<(), SurveyError>
         requires { CanGrow (R.read_failures source.now) × CanGrow (W.write_failures sink.now)
-            × (0 < length piece.now) × IsLedger [] ledger.now }
+            × (0 < length piece.now) × IsLedger [] ledger.now × (block.now.items ≡ []) }
         ensures { OnOk result (IsSurveyOfRead (R.left source.entry.now) (R.left source.exit.now) ledger.exit.now
             each (W.written sink.entry.now) (W.written sink.exit.now))
             × OnOk result (R.is_ended source.exit.now ≡ true)
@@ -199,6 +204,7 @@ fn count_by_workers<T: Threads + Wait + Sync, R: Source, W: Sink, G: Gate>(
             each,
             piece,
             ledger,
+            block,
             1,
             Some(desk),
             gate,

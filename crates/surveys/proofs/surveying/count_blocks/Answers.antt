@@ -8,9 +8,9 @@ pub filled-init : goal.filled-init
 filled-init g c =
     let left = g.R.Source.left c.args.source.now in
     let told = g.W.Sink.written c.args.sink.now in
-    let way : IsUnderWay c.args.each left left c.args.ledger.now 0 c.new-block.result.items told told =
+    let way : IsUnderWay c.args.each left left c.args.ledger.now 0 c.args.block.now.items told told =
     subst (λ (bytes : List ℕ). IsUnderWay c.args.each left left c.args.ledger.now 0 bytes told told)
-    (sym c.new-block.ensures.items) (begun c.args.each left told c.args.ledger.now c.requires.none) in
+    (sym c.requires.empty) (begun c.args.each left told c.args.ledger.now c.requires.none) in
     record { way = way; reads = refl; writes = refl; silent = λ quiet. refl; size = refl }
 
 pub filled-preserved : goal.filled-preserved
