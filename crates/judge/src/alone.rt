@@ -1,13 +1,11 @@
 //! The judge on the calling thread.
 
-ghost use Rattle.std.specs.Prelude.{ℕ, List, IfNone, IfOk, IfSome};
+ghost use Rattle.std.specs.Prelude.{ℕ, List, IfErr, IfOk};
 ghost use Rattle.std.specs.Arc.{arc_value};
 ghost use Rattle.relations.specs.Cycle.{IsCycle};
-ghost use Rattle.relations.specs.Forced.{Forced};
 ghost use Rattle.relations.specs.Relation.{Related};
-ghost use Rattle.relations.specs.Consistency.{HasNoOverlook};
 ghost use Rattle.verdicts.specs.Judgement.{IsVerdict, Verifies};
-ghost use Rattle.judge.specs.LeastCertificate.{IsLeastCertificate};
+ghost use Rattle.judge.specs.LeastCertificate.{IsCyclicTable, IsLeastCertificate};
 
 use common::OutOfMemory;
 use labels::Certificate;
@@ -19,28 +17,26 @@ use std::alloc::Global;
 use std::sync::Arc;
 use verdicts::Verdict;
 
-/// The verdict on a recording that has an overlook or a memory order; none where it has no overlook and a cycle.
+/// The verdict on a recording that has an overlook or a memory order; else all its forced pairs, which have a cycle.
 /// Fails only if out of memory.
-pub(crate) fn acyclic_verdict(
+pub(crate) fn verdict_or_cyclic(
     alloc: Global,
     recording: &Recording,
-) -> Result<Option<Verdict>, OutOfMemory>
-    ensures verdict { IfOk result (λ found. IfSome found (IsVerdict recording.now)) }
-    ensures verified { IfOk result (λ found. IfSome found (Verifies recording.now)) }
-    ensures no_overlook { IfOk result (λ found. IfNone found (HasNoOverlook recording.now)) }
-    ensures cyclic { IfOk result (λ found. IfNone found
-        ((c : List ℕ) × IsCycle (Forced recording.now) c)) }
+) -> Result<Result<Verdict, Relation>, OutOfMemory>
+    ensures verdict { IfOk result (λ found. IfOk found (IsVerdict recording.now)) }
+    ensures verified { IfOk result (λ found. IfOk found (Verifies recording.now)) }
+    ensures cyclic { IfOk result (λ found. IfErr found (IsCyclicTable recording.now)) }
 {
     recording.sound();
     forced_is_exact();
     ordered_is_acyclic();
     if let Some((load, store)) = overlook(recording) {
-        return Ok(Some(Verdict::Overlook { load, store }));
+        return Ok(Ok(Verdict::Overlook { load, store }));
     }
     let direct = Relation::direct(alloc, recording)?;
     match build(alloc, &direct)? {
-        Some(order) => Ok(Some(Verdict::Ordered(order))),
-        None => Ok(None),
+        Some(order) => Ok(Ok(Verdict::Ordered(order))),
+        None => Ok(Err(direct.completed(recording))),
     }
 }
 
@@ -67,10 +63,10 @@ pub fn judge_alone(alloc: Global, recording: &Recording) -> Result<Verdict, OutO
     forced_is_exact();
     ordered_is_acyclic();
     relation_is_forced();
-    match acyclic_verdict(alloc, recording)? {
-        Some(verdict) => Ok(verdict),
-        None => {
-            let relation = Arc::new(alloc, Relation::of(alloc, recording)?)?;
+    match verdict_or_cyclic(alloc, recording)? {
+        Ok(verdict) => Ok(verdict),
+        Err(relation) => {
+            let relation = Arc::new(alloc, relation)?;
             Ok(Verdict::Cycle(least_certificate(alloc, &relation)?))
         }
     }

@@ -7,7 +7,7 @@ ghost use Rattle.relations.specs.Relation.{Related};
 ghost use Rattle.verdicts.specs.Judgement.{IsVerdict, Verifies};
 ghost use Rattle.judge.specs.LeastCertificate.{IsLeastCertificate};
 
-use crate::alone::acyclic_verdict;
+use crate::alone::verdict_or_cyclic;
 use common::{Gate, MAX_WORKERS, OpenGate, OutOfMemory};
 use labels::Certificate;
 use recording::Recording;
@@ -54,10 +54,10 @@ pub fn judge_gated<R: Threads + Wait + Sync, G: Gate>(
     forced_is_exact();
     ordered_is_acyclic();
     relation_is_forced();
-    match acyclic_verdict(alloc, recording)? {
-        Some(verdict) => Ok(verdict),
-        None => {
-            let relation = Arc::new(alloc, Relation::of(alloc, recording)?)?;
+    match verdict_or_cyclic(alloc, recording)? {
+        Ok(verdict) => Ok(verdict),
+        Err(relation) => {
+            let relation = Arc::new(alloc, relation)?;
             let certificate = least_certificate_by(rt, alloc, &relation, workers, gate)?;
             Ok(Verdict::Cycle(certificate))
         }

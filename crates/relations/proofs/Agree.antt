@@ -1,20 +1,22 @@
 -- A table of the forced pairs relates the forced pairs.
-use Rattle.std.proofs.Common.{◌≡◌, ◌<◌, ◌↔◌, inl, inr, ℕ, Bool, true, false, Option, Some, None, List, [], length}
-use Rattle.std.proofs.Common.{get_or, arith, refl, sym, ap, subst, ◌∙◌}
+use Rattle.std.proofs.Common.{◌≡◌, ◌<◌, ◌≤◌, ◌↔◌, ◌++◌, inl, inr, ℕ, Bool, true, false, Option, Some, None, List, [], length}
+use Rattle.std.proofs.Common.{get_or, take, arith, refl, sym, ap, subst, ◌∙◌}
 use Rattle.std.specs.Prelude.{is_some, All}
 use Rattle.std.proofs.lemmas.Bool.{cases_lt}
-use Rattle.std.proofs.lemmas.List.{get_or_past, length-map}
+use Rattle.std.proofs.lemmas.List.{get_or_past, length-map, take_at}
+use Rattle.common.specs.declared.limits.TheConstants.{MAX_EVENTS}
 use Rattle.recording.specs.Execution.{Execution, event_count}
 use Rattle.recording.specs.Tso.{IsWellFormed}
 use Rattle.relations.specs.declared.reason.Reason.{Reason}
 use Rattle.relations.specs.declared.reason.Reason.TheVariants.{Po, Wo, Rf, Fr}
 use Rattle.relations.specs.Forced.{Forced, IsReason}
-use Rattle.relations.specs.Filled.{TellsForced, AreFilled}
+use Rattle.relations.specs.Filled.{TellsForced, IsNoPair, AreFilled}
+use Rattle.relations.specs.Indexed.{AreIndexed}
 use Rattle.relations.specs.declared.indexed.IndexedEvent.{IndexedEvent}
-use Rattle.relations.specs.Relation.{Row, Table, table_of, sets_of, relates, Related}
+use Rattle.relations.specs.Relation.{Row, Table, IsRelation, IsTableOf, table_of, sets_of, placed_of, relates, Related}
 use Rattle.bitrow.specs.Bits.{is_in}
-use Rattle.relations.proofs.Filled.{filled_forced}
-use Rattle.relations.proofs.Tables.{row_size, sets_same, table_size}
+use Rattle.relations.proofs.Filled.{filled_forced, row_of_forced}
+use Rattle.relations.proofs.Tables.{row_size, set_size, sets_same, events_same, relation_of_filled}
 use Rattle.relations.specs.ForcedLaws.{forced_within}
 
 -- where each row has a place for each row, related numbers are numbers of rows
@@ -50,28 +52,66 @@ no_reason x e f (Some r) h forced = refl
 pub reason_tells : (x : Execution) (e f : ℕ) (o : Option Reason) → IsReason x e f o → TellsForced x e f (is_some o)
 reason_tells x e f o h = (some_reason x e f o h, no_reason x e f o h)
 
--- sets that are filled relate forced pairs alone, and all of those that they are filled for
-module _ (x : Execution) (ps : List IndexedEvent) (sets : List (List Bool)) (P : ℕ → ℕ → Type 0)
-    (wf : IsWellFormed x) (size : length sets ≡ length ps) (filled : AreFilled x P sets) where
-  pub related_forced : (e f : ℕ) → Related (table_of ps sets) e f → Forced x e f
+-- a table that is filled relates forced pairs alone, and all of those that it is filled for
+module _ (x : Execution) (t : Table) (P : ℕ → ℕ → Type 0) (wf : IsWellFormed x)
+    (filled : AreFilled x P (sets_of t)) where
+  pub filled_size : length t ≡ event_count x
+  filled_size = sym (length-map t (λ (row : Row). row.after)) ∙ filled.size
+
+  pub related_forced : (e f : ℕ) → Related t e f → Forced x e f
   related_forced e f r =
-      let within = related_within (table_of ps sets) (event_count x) (table_size ps sets size ∙ filled.size)
-      (subst (λ (l : List (List Bool)). All (λ set. length set ≡ event_count x) l) (sym (sets_same ps sets size))
-      (row_size x P sets filled)) e f r in
-      filled_forced x e (P e) (get_or sets e []) (filled.each e within.0) f
-      (ap (λ (l : List (List Bool)). is_in (get_or l e []) f) (sym (sets_same ps sets size)) ∙ r)
+      let within = related_within t (event_count x) filled_size (row_size x P (sets_of t) filled) e f r in
+      filled_forced x e (P e) (get_or (sets_of t) e []) (filled.each e within.0) f r
 
-  pub pair_related : (e f : ℕ) → P e f → Forced x e f → Related (table_of ps sets) e f
+  pub pair_related : (e f : ℕ) → P e f → Forced x e f → Related t e f
   pair_related e f pair forced =
-      let within = forced_within x wf forced.0 e f forced.1 in
-      ap (λ (l : List (List Bool)). is_in (get_or l e []) f) (sets_same ps sets size)
-      ∙ ((filled.each e within.0).filled f pair).1 forced
+      let within = forced_within x wf forced.0 e f forced.1 in ((filled.each e within.0).filled f pair).1 forced
 
--- sets that are filled for all forced pairs relate these
-pub related_is_forced : (x : Execution) (ps : List IndexedEvent) (sets : List (List Bool)) → IsWellFormed x
-    → length sets ≡ length ps → AreFilled x (Forced x) sets → (e f : ℕ)
-    → Related (table_of ps sets) e f ↔ Forced x e f
-related_is_forced x ps sets wf size filled e f = (
-  related_forced x ps sets (Forced x) wf size filled e f,
-  λ forced. pair_related x ps sets (Forced x) wf size filled e f forced forced,
+-- a table that is filled for all forced pairs relates these
+pub related_is_forced : (x : Execution) (t : Table) → IsWellFormed x → AreFilled x (Forced x) (sets_of t) → (e f : ℕ)
+    → Related t e f ↔ Forced x e f
+related_is_forced x t wf filled e f = (
+  related_forced x t (Forced x) wf filled e f,
+  λ forced. pair_related x t (Forced x) wf filled e f forced forced,
 )
+
+-- the events of a table are those that it is made of
+pub still_indexed : (x : Execution) (ps : List IndexedEvent) (sets : List (List Bool)) (t : Table)
+    → table_of ps sets ≡ t → IsRelation ps sets → IsTableOf x t → AreIndexed x ps
+still_indexed x ps sets t seen r of =
+    subst (λ (l : List IndexedEvent). AreIndexed x l) (ap placed_of (sym seen) ∙ events_same ps sets r.size) of
+
+-- sets of a table that relates forced pairs alone are filled for none
+pub filled_for_none : (x : Execution) (ps : List IndexedEvent) (sets : List (List Bool)) (t : Table)
+    → table_of ps sets ≡ t → IsRelation ps sets → IsTableOf x t → ((e f : ℕ) → Related t e f → Forced x e f)
+    → AreFilled x IsNoPair sets
+filled_for_none x ps sets t seen r of forced =
+    let size : length sets ≡ event_count x = r.size ∙ (still_indexed x ps sets t seen r of).size in
+    record {
+      size = size;
+      each = λ e at. row_of_forced x e (get_or sets e []) (set_size ps sets r e [] (omega (arith, at, size)) ∙ size)
+          (λ f is. forced e f (ap (λ (l : List (List Bool)). is_in (get_or l e []) f)
+          (ap sets_of (sym seen) ∙ sets_same ps sets r.size) ∙ is));
+    }
+
+-- a table of events and of sets that are filled is filled
+pub filled_table : (x : Execution) (P : ℕ → ℕ → Type 0) (ps : List IndexedEvent) (sets : List (List Bool))
+    → AreIndexed x ps → AreFilled x P sets
+    → IsTableOf x (table_of ps sets) × AreFilled x P (sets_of (table_of ps sets))
+filled_table x P ps sets placed filled =
+    let size : length sets ≡ length ps = filled.size ∙ sym placed.size in (
+      subst (λ (l : List IndexedEvent). AreIndexed x l) (sym (events_same ps sets size)) placed,
+      subst (λ (l : List (List Bool)). AreFilled x P l) (sym (sets_same ps sets size)) filled,
+    )
+
+-- a table of events and of sets that are filled in the place of others
+pub refilled : (x : Execution) (P : ℕ → ℕ → Type 0) (ps : List IndexedEvent) (sets new rest : List (List Bool)) (n : ℕ)
+    (t : Table) → table_of ps sets ≡ t → IsRelation ps sets → IsTableOf x t → event_count x ≤ MAX_EVENTS
+    → length sets ≡ n → AreFilled x P new
+    → IsRelation ps (take n (new ++ rest)) × (IsTableOf x (table_of ps (take n (new ++ rest)))
+    × AreFilled x P (sets_of (table_of ps (take n (new ++ rest)))))
+refilled x P ps sets new rest n t seen r of few size filled =
+    let placed : AreIndexed x ps = still_indexed x ps sets t seen r of in
+    let same : take n (new ++ rest) ≡ new = take_at new rest n (omega (arith, size, r.size, placed.size, filled.size)) in
+    subst (λ (l : List (List Bool)). IsRelation ps l × (IsTableOf x (table_of ps l) × AreFilled x P (sets_of (table_of ps l))))
+    (sym same) (relation_of_filled x P ps new few placed filled, filled_table x P ps new placed filled)

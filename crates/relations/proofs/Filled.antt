@@ -1,14 +1,14 @@
 -- Laws of rows that are filled.
 use Rattle.std.proofs.Common.{◌≡◌, ◌⊎◌, inl, inr, ℕ, Bool, true, false, Some, List, length}
 use Rattle.std.proofs.Common.{replicate, arith, refl, sym, subst, ◌∙◌}
-use Rattle.std.proofs.lemmas.Bool.{cases_eq, cases_lt}
+use Rattle.std.proofs.lemmas.Bool.{cases_Bool, cases_eq, cases_lt}
 use Rattle.std.proofs.lemmas.List.{get_or-replicate, get_or_past, length-replicate}
 use Rattle.bitrow.specs.Bits.{is_in}
 use Rattle.relations.specs.declared.reason.Reason.{Reason}
 use Rattle.recording.specs.Execution.{Execution, event_count, source_of}
 use Rattle.relations.specs.Forced.{Holds, Forced}
 use Rattle.relations.specs.declared.reason.Reason.TheVariants.{Po, Wo, Rf, Fr}
-use Rattle.relations.specs.Filled.{IsMarkedAs, TellsForced, IsFilled, IsOwnOrWrite, IsFilledRow}
+use Rattle.relations.specs.Filled.{IsMarkedAs, TellsForced, IsFilled, IsOwnOrWrite, IsFilledRow, IsNoPair}
 
 -- a row that was not changed is filled for no event
 pub filled_none : (x : Execution) (e : ℕ) (P : ℕ → Type 0) (row : List Bool) → ((f : ℕ) → P f → ⊥)
@@ -78,15 +78,15 @@ nothing x f = elim (cases_lt f (event_count x)) [
       (arith, length-replicate {A = Bool} (event_count x) false))
 ]
 
--- what is filled over nothing is a row
-pub filled_row : (x : Execution) (e : ℕ) (P : ℕ → Type 0) (old new : List Bool) → length old ≡ event_count x
-    → ((f : ℕ) → is_in old f ≡ false) → IsFilled x e P old new → IsFilledRow x e P new
-filled_row x e P old new size empty h = record {
-  size = h.size ∙ (size ∙ sym (length-replicate {A = Bool} (event_count x) false));
-  filled = h.filled;
-  others = λ f. elim (h.others f) [
-    | inl exact ↦ inl exact
-    | inr same ↦ inr (same ∙ (empty f ∙ sym (nothing x f)))
+-- a row of forced pairs alone
+pub row_of_forced : (x : Execution) (e : ℕ) (row : List Bool) → length row ≡ event_count x
+    → ((f : ℕ) → is_in row f ≡ true → Forced x e f) → IsFilledRow x e (IsNoPair e) row
+row_of_forced x e row size forced = record {
+  size = size ∙ sym (length-replicate {A = Bool} (event_count x) false);
+  filled = λ f none. absurd none;
+  others = λ f. elim (cases_Bool (is_in row f)) [
+    | inl is ↦ inl (λ _. forced f is, λ _. is)
+    | inr other ↦ inr (other ∙ sym (nothing x f))
   ];
 }
 

@@ -17,10 +17,9 @@ use Rattle.relations.specs.declared.indexed.IndexedEvent.{IndexedEvent}
 use Rattle.relations.specs.declared.reason.Reason.{Reason}
 use Rattle.relations.specs.declared.reason.Reason.TheVariants.{Po, Wo, Rf, Fr}
 use Rattle.relations.specs.Forced.{IsOlder, IsNewerFrom, Holds, Forced}
-use Rattle.relations.specs.Indexed.{AreIndexed}
 use Rattle.relations.specs.Filled.{AreFilled}
 use Rattle.relations.specs.Direct.{is_passed, IsNextOnCore, IsPair}
-use Rattle.relations.specs.Relation.{Related, table_of}
+use Rattle.relations.specs.Relation.{Table, Related, IsTableOf, placed_of, sets_of}
 use Rattle.relations.specs.Respects.{Respects}
 use Rattle.relations.specs.Consistency.{HasNoOverlook, RespectsForced}
 use Rattle.relations.proofs.Agree.{pair_related}
@@ -81,14 +80,14 @@ first_failing p e f (suc d) i at past fails before = elim (cases_Bool (p i)) [
   | inr here ↦ (i, (past, omega (arith, at), here, before))
 ]
 
-module _ (x : Execution) (ps : List IndexedEvent) (sets : List (List Bool)) (wf : IsWellFormed x)
-    (placed : AreIndexed x ps) (filled : AreFilled x (IsPair false x) sets) (none : HasNoOverlook x) (m : List ℕ)
-    (r : Respects (Related (table_of ps sets)) (event_count x) m) where
+module _ (x : Execution) (t : Table) (wf : IsWellFormed x) (placed : IsTableOf x t)
+    (filled : AreFilled x (IsPair false x) (sets_of t)) (none : HasNoOverlook x) (m : List ℕ)
+    (r : Respects (Related t) (event_count x) m) where
   -- a forced pair that is a next one stands in order
   next_before : (e f : ℕ) → IsPair false x e f → Forced x e f → Before m e f
   next_before e f pair forced =
       r.related e f
-      (pair_related x ps sets (IsPair false x) wf (filled.size ∙ sym placed.size) filled e f pair forced)
+      (pair_related x t (IsPair false x) wf filled e f pair forced)
 
   -- a kept pair stands in order where those do that begin later
   kept_from : (loads : Bool) (e f : ℕ) → ProgramOrder x e f → is_passed loads (event_at x f) ≡ false
@@ -152,7 +151,7 @@ module _ (x : Execution) (ps : List IndexedEvent) (sets : List (List Bool)) (wf 
   read_before a e f reads writes apart foreign older =
       let ws : List ℕ = write_list x a in
       let here = placed.each e nothing (omega (arith, placed.size, Reads-event x e a reads)) in
-      let n : ℕ = (get_or ps e nothing).newer in
+      let n : ℕ = (get_or (placed_of t) e nothing).newer in
       let newer : IsNewerFrom ws (source_of x e) n =
       subst (λ (v : ℕ). Reads x v a → IsNewerFrom ws (source_of x v) n) here.1 (here.0.newer a) reads in
       let within : place ws f < length ws = place_in ws f (omega (arith, (wf.write_lists a).once f writes)) in

@@ -1,5 +1,5 @@
 -- Rows as the events that read are put into them.
-use Rattle.std.proofs.Common.{◌≡◌, ◌<◌, ◌+◌, ◌⊎◌, inl, inr, ℕ, Bool, true, Option, Some, None, List, [], get_or, set}
+use Rattle.std.proofs.Common.{◌≡◌, ◌≢◌, ◌<◌, ◌+◌, ◌⊎◌, inl, inr, ℕ, Bool, true, Option, Some, None, List, [], get_or, set}
 use Rattle.std.proofs.Common.{arith, sym, ap, subst, ◌∙◌, get_or-set_other, get_or-set_same, length-set}
 use Rattle.std.proofs.lemmas.Bool.{cases_eq}
 use Rattle.std.proofs.lemmas.List.{get_or_default}
@@ -8,14 +8,18 @@ use Rattle.recording.specs.Tso.{IsWellFormed}
 use Rattle.relations.specs.declared.indexed.IndexedEvent.{IndexedEvent}
 use Rattle.relations.specs.Forced.{Forced}
 use Rattle.relations.specs.Indexed.{IsIndexed, AreIndexed}
-use Rattle.relations.specs.Filled.{IsMarkedAs, TellsForced, IsFilledRow, AreFilled}
+use Rattle.relations.specs.Filled.{IsMarkedAs, TellsForced, IsFilled, IsFilledRow, IsNoPair, AreFilled}
 use Rattle.relations.specs.Direct.{IsCandidate, IsPair}
 use Rattle.relations.specs.ForcedLaws.{source_writes}
-use Rattle.relations.proofs.Filled.{filled_fewer, filled_more, forced_split}
+use Rattle.relations.proofs.Filled.{filled_fewer, filled_more, filled_both, forced_split}
 
 -- e may be forced before f without being read, or f is an event below n that reads from e
 abbrev pub IsReached : Execution → Bool → ℕ → ℕ → ℕ → Type 0
 IsReached x all n e f = IsCandidate all x e f ⊎ ((source_of x f ≡ Some e) × (f < n))
+
+-- e is an event below n, and may be forced before f without being read
+abbrev pub IsBegun : Execution → Bool → ℕ → ℕ → ℕ → Type 0
+IsBegun x all n e f = (e < n) × IsCandidate all x e f
 
 -- rows that are filled for more pairs are filled for fewer
 pub rows_fewer : (x : Execution) (P Q : ℕ → ℕ → Type 0) (rows : List (List Bool)) → ((e f : ℕ) → Q e f → P e f)
@@ -78,38 +82,68 @@ tells_placed x ps e f d k answer placed he hf tells =
     subst (λ (g : ℕ). TellsForced x g f answer) first.1 (subst
     (λ (g : ℕ). TellsForced x (get_or ps e d).number g answer) second.1 (tells first.0 second.0))
 
+-- rows of which one is filled for other pairs, the rest for fewer
+pub rows_with : (x : Execution) (P Q : ℕ → ℕ → Type 0) (s : ℕ) (rows : List (List Bool)) (row : List Bool)
+    → s < event_count x → IsFilledRow x s (Q s) row → ((e : ℕ) → e ≢ s → (f : ℕ) → Q e f → P e f)
+    → AreFilled x P rows → AreFilled x Q (set rows s row)
+rows_with x P Q s rows row at here others h = record {
+  size = length-set rows s row ∙ h.size;
+  each = λ e event. elim (cases_eq e s) [
+    | inl one ↦ subst (λ (g : ℕ). IsFilledRow x g (Q g) (get_or (set rows s row) g [])) (sym one)
+        (subst (λ (v : List Bool). IsFilledRow x s (Q s) v)
+        (sym (get_or-set_same rows s row [] (omega (arith, h.size, at)))) here)
+    | inr other ↦ subst (λ (v : List Bool). IsFilledRow x e (Q e) v) (sym (get_or-set_other rows s e row [] other))
+        (filled_fewer x e (P e) (Q e) _ (get_or rows e []) (others e other) (h.each e event))
+  ];
+}
+
 -- an event with a source is in the row of its source
 pub reader_of_some : (x : Execution) (all : Bool) (n s : ℕ) (rows : List (List Bool)) (answer : Bool)
     (d row : List Bool) → s < event_count x → source_of x n ≡ Some s → TellsForced x s n answer
     → IsMarkedAs (get_or rows s d) n answer row → AreFilled x (IsReached x all n) rows
     → AreFilled x (IsReached x all (n + 1)) (set rows s row)
-reader_of_some x all n s rows answer d row at is tells put h = record {
-  size = length-set rows s row ∙ h.size;
-  each = λ e event. elim (cases_eq e s) [
-    | inl one ↦
-        subst (λ (g : ℕ). IsFilledRow x g (IsReached x all (n + 1) g) (get_or (set rows s row) g [])) (sym one)
-        (subst (λ (v : List Bool). IsFilledRow x s (IsReached x all (n + 1) s) v)
-        (sym (get_or-set_same rows s row [] (omega (arith, h.size, at))))
-        (filled_more x s (IsReached x all n s) (IsReached x all (n + 1) s) _ (get_or rows s d) row n answer put tells
-        (λ f q. elim q [
-          | inl own ↦ inl (inl own)
-          | inr reads ↦ elim (cases_eq f n) [
-            | inl last ↦ inr last
-            | inr earlier ↦ inl
-                (inr (reads.0, omega arith))
-          ]
-        ]) (subst (λ (v : List Bool). IsFilledRow x s (IsReached x all n s) v)
-        (get_or_default rows s [] d (omega (arith, h.size, at))) (h.each s at))))
-    | inr other ↦
-        subst (λ (v : List Bool). IsFilledRow x e (IsReached x all (n + 1) e) v)
-        (sym (get_or-set_other rows s e row [] other))
-        (filled_fewer x e (IsReached x all n e) (IsReached x all (n + 1) e) _ (get_or rows e []) (λ f q. elim q [
-          | inl own ↦ inl own
-          | inr reads ↦ elim (cases_eq f n) [
-            | inl last ↦ absurd (other (let both : Some e ≡ Some s = sym reads.0
-                ∙ (ap (source_of x) last ∙ is) in cc))
-            | inr earlier ↦ inr (reads.0, omega arith)
-          ]
-        ]) (h.each e event))
-  ];
+reader_of_some x all n s rows answer d row at is tells put h =
+    rows_with x (IsReached x all n) (IsReached x all (n + 1)) s rows row at
+    (filled_more x s (IsReached x all n s) (IsReached x all (n + 1) s) _ (get_or rows s d) row n answer put tells
+    (λ f q. elim q [
+      | inl own ↦ inl (inl own)
+      | inr reads ↦ elim (cases_eq f n) [
+        | inl last ↦ inr last
+        | inr earlier ↦ inl
+            (inr (reads.0, omega arith))
+      ]
+    ]) (subst (λ (v : List Bool). IsFilledRow x s (IsReached x all n s) v)
+    (get_or_default rows s [] d (omega (arith, h.size, at))) (h.each s at)))
+    (λ e other f q. elim q [
+      | inl own ↦ inl own
+      | inr reads ↦ elim (cases_eq f n) [
+        | inl last ↦ absurd (other (let both : Some e ≡ Some s = sym reads.0
+            ∙ (ap (source_of x) last ∙ is) in cc))
+        | inr earlier ↦ inr (reads.0, omega arith)
+      ]
+    ]) h
+
+-- before the first event no row is filled
+pub none_begun : (x : Execution) (all : Bool) (rows : List (List Bool)) → AreFilled x IsNoPair rows
+    → AreFilled x (IsBegun x all 0) rows
+none_begun x all rows h = rows_fewer x IsNoPair (IsBegun x all 0) rows (λ e f q. absurd (omega (arith, q.0))) h
+
+-- one row more is filled
+pub one_begun : (x : Execution) (all : Bool) (n : ℕ) (rows : List (List Bool)) (d row : List Bool)
+    → n < event_count x → IsFilled x n (IsCandidate all x n) (get_or rows n d) row
+    → AreFilled x (IsBegun x all n) rows → AreFilled x (IsBegun x all (n + 1)) (set rows n row)
+one_begun x all n rows d row at filled h =
+    rows_with x (IsBegun x all n) (IsBegun x all (n + 1)) n rows row at
+    (filled_both x n (IsBegun x all n n) (IsCandidate all x n) (IsBegun x all (n + 1) n) _ (get_or rows n d) row
+    (λ f q. inr q.1) (subst (λ (v : List Bool). IsFilledRow x n (IsBegun x all n n) v)
+    (get_or_default rows n [] d (omega (arith, h.size, at))) (h.each n at)) filled)
+    (λ e other f q. (omega (arith, q.0, other), q.1)) h
+
+-- after the last event all rows are filled
+pub all_begun : (x : Execution) (all : Bool) (n : ℕ) (rows : List (List Bool)) → n ≡ event_count x
+    → AreFilled x (IsBegun x all n) rows → AreFilled x (IsCandidate all x) rows
+all_begun x all n rows count h = record {
+  size = h.size;
+  each = λ e at. filled_fewer x e (IsBegun x all n e) (IsCandidate all x e) _ (get_or rows e [])
+      (λ f q. (omega (arith, at, count), q)) (h.each e at);
 }

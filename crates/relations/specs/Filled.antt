@@ -30,6 +30,10 @@ IsOwnOrWrite x e f = ProgramOrder x e f ⊎ (Holds x Wo e f ⊎ Holds x Fr e f)
 abbrev pub IsFilledRow : Execution → ℕ → (ℕ → Type 0) → List Bool → Type 0
 IsFilledRow x e P row = IsFilled x e P (replicate (event_count x) false) row
 
+-- e may be forced before no f
+abbrev pub IsNoPair : ℕ → ℕ → Type 0
+IsNoPair e f = ⊥
+
 -- such a row for each event
 pub record AreFilled (x : Execution) (P : ℕ → ℕ → Type 0) (rows : List (List Bool)) : Type 0 where
   pub size : length rows ≡ event_count x

@@ -1,6 +1,6 @@
 //! The relation of forced pairs.
 
-use crate::filling::filled_rows;
+use crate::filling::{empty_rows, put_pairs};
 use crate::indexed::{IndexedEvent, indexed_events};
 use crate::places::reason_between;
 use crate::reason::Reason;
@@ -31,10 +31,36 @@ impl Model for Relation {
 impl Relation {
     ghost use Rattle.std.specs.Prelude.{◌≡◌, ◌<◌, ◌↔◌, ℕ, List, IsTrue, IfOk, length};
     ghost use Rattle.recording.specs.Execution.{Execution, event_count};
+    ghost use Rattle.relations.specs.Direct.{IsPair};
+    ghost use Rattle.relations.specs.Filled.{AreFilled};
     ghost use Rattle.relations.specs.Forced.{Forced, IsReason};
     ghost use Rattle.relations.specs.Relation.{IsSquare, IsTableOf, Related, sets_of};
     ghost use Rattle.relations.specs.Respects.{Respects};
     ghost use Rattle.relations.specs.Consistency.{HasNoOverlook, RespectsForced};
+
+    /// The events of a recording, without a pair.
+    fn unfilled(alloc: Global, recording: &Recording) -> Result<Relation, OutOfMemory>
+        ensures table { IfOk result (IsTableOf recording.now) }
+        ensures forced { IfOk result (λ r. (e f : ℕ) → Related r e f → Forced recording.now e f) }
+    {
+        recording.sound();
+        let events = indexed_events(alloc, recording)?;
+        let rows = empty_rows(alloc, recording)?;
+        Ok(Relation { rows, events })
+    }
+
+    /// All forced pairs of a recording or the next of each event, in the place of some.
+    fn filled(self, recording: &Recording, all: bool) -> Relation
+        requires table { IsTableOf recording.now self }
+        requires forced { (e f : ℕ) → Related self e f → Forced recording.now e f }
+        ensures table { IsTableOf recording.now result }
+        ensures pairs { AreFilled recording.now (IsPair all recording.now) (sets_of result) }
+    {
+        recording.sound();
+        let Relation { mut rows, events } = self;
+        put_pairs(recording, &events, all, rows.as_mut_slice());
+        Relation { rows, events }
+    }
 
     /// The forced pairs of a recording (Nagarajan, Sorin, Hill and Wood, A Primer on Memory
     /// Consistency and Cache Coherence, second edition, chapter 4). Fails only if out of memory.
@@ -43,10 +69,8 @@ impl Relation {
         ensures related { IfOk result (λ r. (e f : ℕ) → Related r e f ↔ Forced recording.now e f) }
         ensures table { IfOk result (IsTableOf recording.now) }
     {
-        recording.sound();
-        let events = indexed_events(alloc, recording)?;
-        let rows = filled_rows(alloc, recording, &events, true)?;
-        Ok(Relation { rows, events })
+        let unfilled = Relation::unfilled(alloc, recording)?;
+        Ok(unfilled.completed(recording))
     }
 
     /// Some of the forced pairs of a recording, from which all follow where no read overlooks a store of its
@@ -57,11 +81,23 @@ impl Relation {
         ensures forced { IfOk result (λ r. (e f : ℕ) → Related r e f → Forced recording.now e f) }
         ensures enough { IfOk result (λ r. HasNoOverlook recording.now → (m : List ℕ)
             → Respects (Related r) (event_count recording.now) m → RespectsForced recording.now m) }
+        ensures table { IfOk result (IsTableOf recording.now) }
     {
         recording.sound();
-        let events = indexed_events(alloc, recording)?;
-        let rows = filled_rows(alloc, recording, &events, false)?;
-        Ok(Relation { rows, events })
+        let unfilled = Relation::unfilled(alloc, recording)?;
+        Ok(unfilled.filled(recording, false))
+    }
+
+    /// All forced pairs of a recording, in the place of some of them. It needs no memory.
+    pub fn completed(self, recording: &Recording) -> Relation
+        requires table { IsTableOf recording.now self }
+        requires forced { (e f : ℕ) → Related self e f → Forced recording.now e f }
+        ensures size { length result ≡ event_count recording.now }
+        ensures related { (e f : ℕ) → Related result e f ↔ Forced recording.now e f }
+        ensures table { IsTableOf recording.now result }
+    {
+        recording.sound();
+        self.filled(recording, true)
     }
 
     /// What every relation keeps. It does nothing.
