@@ -6,6 +6,7 @@
 //! judging --lines EVENTS COUNT
 //! judging --survey FILE THREADS
 //! judging --library FILE
+//! judging --compare FILE
 //!
 //! `bench/judge_in_process` builds it against the library, `out/libtsotest.a`, and runs it.
 //! With EVENTS it prints a recording of so many events instead: of the kind `ordered`, `cyclic`,
@@ -15,7 +16,8 @@
 //!
 //! With `--lines` it prints so many recordings of so many events, one a line, of which three of four are
 //! ordered and the others of the other kinds; with `--survey` it counts the verdicts of such a file, by
-//! threads; with `--library` it judges each line of it by one call of the library and prints the seconds.
+//! threads; with `--library` it judges each line of it by one call of the library and prints the seconds;
+//! with `--compare` all programs judge the recording of a file once, and their texts must be equal.
 
 mod by_key;
 mod forced;
@@ -57,7 +59,7 @@ fn by_tree(text: &str) -> Vec<u8> {
 
 /// The verdict of the plain judge, by the reader of one layout.
 fn by_form(text: &str) -> Vec<u8> {
-    plain::judge(&reader::read(text))
+    plain::judge(&reader::read(text).expect("a recording"))
 }
 
 /// Compares the verdicts of all programs.
@@ -132,6 +134,12 @@ fn print_lines(events: usize, count: usize) {
     }
 }
 
+/// Compares the verdicts of all programs on the recording of a file.
+fn compare_file(file: &str) {
+    let text = std::fs::read_to_string(file).expect("a file");
+    compare(text.trim_end(), Form::Own, "", &mut vec![0; ROOM]);
+}
+
 /// The seconds that the library takes for the recordings of a file, one call each.
 fn time_library(file: &str) {
     let text = std::fs::read_to_string(file).expect("a file");
@@ -152,6 +160,7 @@ fn main() {
         [flag] if flag == "--lines" => return print_lines(number(0), number(1)),
         [flag] if flag == "--survey" => return survey::print(&words[0], number(1)),
         [flag] if flag == "--library" => return time_library(&words[0]),
+        [flag] if flag == "--compare" => return compare_file(&words[0]),
         [] => Form::Own,
         [flag] if flag == "--spaced" => Form::Spaced,
         _ => panic!("no such option"),

@@ -6,7 +6,7 @@ use Rattle.relations.specs.CycleLaws.{cycle_into}
 use Rattle.relations.specs.Relation.{Related}
 use Rattle.relations.specs.Respects.{IsLeastOrder}
 use Rattle.judge.proofs.Verdicts.{ordered_verdict}
-use Rattle.judge.proofs.alone.acyclic_verdict.Goals as goal
+use Rattle.judge.proofs.alone.verdict_or_cyclic.Goals as goal
 
 pub returns-in-Some-2-clause-verdict : goal.returns-in-Some-2-clause-verdict
 returns-in-Some-2-clause-verdict c =
@@ -30,9 +30,14 @@ returns-in-Some-2-clause-verified c =
     (subst (λ (o : Option (Vec _ Global)). IfSome o (λ v. IsLeastOrder (Related t) (length t) v.items))
     c.in-Some-2.is c.in_ok-order.ensures.least)).order
 
-pub returns-clause-cyclic : goal.returns-clause-cyclic
-returns-clause-cyclic c =
+pub returns-in-None-clause-cyclic : goal.returns-in-None-clause-cyclic
+returns-in-None-clause-cyclic c =
     let t = c.in_ok-direct.direct in
     let cycle = (subst (λ (o : Option (Vec _ Global)). IsNone o ↔ ((d : List ℕ) × IsCycle (Related t) d))
     c.in-None.is c.in_ok-order.ensures.cycle).0 refl in
-    (cycle.0, cycle_into (Related t) (Forced c.args.recording.now) c.in_ok-direct.ensures.forced cycle.0 cycle.1)
+    record {
+      size = c.completed.ensures.size;
+      forced = c.completed.ensures.related;
+      cycle = (cycle.0, cycle_into (Related t) (Forced c.args.recording.now) c.in_ok-direct.ensures.forced cycle.0 cycle.1);
+      no_overlook = c.in_default.ensures.none;
+    }

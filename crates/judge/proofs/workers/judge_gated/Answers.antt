@@ -1,36 +1,31 @@
-use Rattle.std.proofs.Common.{Option, ℕ, List, subst}
-use Rattle.std.specs.Prelude.{IfNone}
-use Rattle.relations.specs.Forced.{Forced}
-use Rattle.relations.specs.Cycle.{IsCycle}
-use Rattle.relations.specs.Consistency.{HasNoOverlook}
+use Rattle.std.proofs.Common.{Result, subst}
+use Rattle.std.specs.Prelude.{IfErr}
+use Rattle.relations.specs.Relation.{Table}
 use Rattle.verdicts.specs.declared.verdict.Verdict.{Verdict}
+use Rattle.judge.specs.LeastCertificate.{IsCyclicTable}
 use Rattle.judge.proofs.Verdicts.{certificate, cycle_verdict, cyclic}
 use Rattle.judge.proofs.workers.judge_gated.Goals as goal
 
 pub least_certificate_by-requires-clause-cyclic : goal.least_certificate_by-requires-clause-cyclic
 least_certificate_by-requires-clause-cyclic g c κs within =
     let x = c.args.recording.now in
-    let of = c.in_ok-of-in-None in
-    cyclic x of.field-0 of.ensures.related of.ensures.size _ c.in_ok-relation-in-None.ensures.ok
-    (subst (λ (o : Option Verdict). IfNone o ((d : List ℕ) × IsCycle (Forced x) d)) c.in-None.is
-    c.in_ok-verdict.ensures.cyclic)
+    cyclic x c.in-Err.relation (subst (λ (r : Result Verdict Table). IfErr r (IsCyclicTable x)) c.in-Err.is
+    c.in_ok-verdict.ensures.cyclic) _ c.in_ok-relation-in-Err.ensures.ok
 
-pub returns-in_ok-certificate-in-None-clause-verdict : goal.returns-in_ok-certificate-in-None-clause-verdict
-returns-in_ok-certificate-in-None-clause-verdict g c =
+pub returns-in_ok-certificate-in-Err-clause-verdict : goal.returns-in_ok-certificate-in-Err-clause-verdict
+returns-in_ok-certificate-in-Err-clause-verdict g c =
     let x = c.args.recording.now in
-    let of = c.in_ok-of-in-None in
-    let t = of.field-0 in
-    cycle_verdict x t of.ensures.related of.ensures.size
-    (c.relation_is_forced.ensures.least_cycles t x) (c.relation_is_forced.ensures.rows t x)
-    (c.forced_is_exact.ensures.respects x) (c.ordered_is_acyclic.ensures.forced x) c.sound.ensures.well_formed
-    (subst (λ (o : Option Verdict). IfNone o (HasNoOverlook x)) c.in-None.is c.in_ok-verdict.ensures.no_overlook)
-    _ c.in_ok-relation-in-None.ensures.ok c.in_ok-certificate-in-None.certificate c.in_ok-certificate-in-None.ensures
+    let t = c.in-Err.relation in
+    cycle_verdict x t (subst (λ (r : Result Verdict Table). IfErr r (IsCyclicTable x)) c.in-Err.is
+    c.in_ok-verdict.ensures.cyclic) (c.relation_is_forced.ensures.least_cycles t x)
+    (c.relation_is_forced.ensures.rows t x) (c.forced_is_exact.ensures.respects x)
+    (c.ordered_is_acyclic.ensures.forced x) c.sound.ensures.well_formed _ c.in_ok-relation-in-Err.ensures.ok
+    c.in_ok-certificate-in-Err.certificate c.in_ok-certificate-in-Err.ensures
 
-pub returns-in_ok-certificate-in-None-clause-verified : goal.returns-in_ok-certificate-in-None-clause-verified
-returns-in_ok-certificate-in-None-clause-verified g c =
+pub returns-in_ok-certificate-in-Err-clause-verified : goal.returns-in_ok-certificate-in-Err-clause-verified
+returns-in_ok-certificate-in-Err-clause-verified g c =
     let x = c.args.recording.now in
-    let of = c.in_ok-of-in-None in
-    let t = of.field-0 in
-    certificate x t of.ensures.related of.ensures.size
-    (c.relation_is_forced.ensures.certificates t x) _ c.in_ok-relation-in-None.ensures.ok
-    c.in_ok-certificate-in-None.certificate c.in_ok-certificate-in-None.ensures
+    let t = c.in-Err.relation in
+    certificate x t (subst (λ (r : Result Verdict Table). IfErr r (IsCyclicTable x)) c.in-Err.is
+    c.in_ok-verdict.ensures.cyclic) (c.relation_is_forced.ensures.certificates t x) _
+    c.in_ok-relation-in-Err.ensures.ok c.in_ok-certificate-in-Err.certificate c.in_ok-certificate-in-Err.ensures
