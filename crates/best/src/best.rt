@@ -1,9 +1,9 @@
 //! The calls of the shared bound.
 
-ghost use Rattle.std.specs.Prelude.{◌≡◌, ◌≤◌, ◌<◌, [], Contains, IfOk, IfSome, length};
+ghost use Rattle.std.specs.Prelude.{◌≡◌, ◌≤◌, ◌<◌, Contains, IfOk, IfSome, length};
 ghost use Rattle.relations.specs.Relation.{Related};
 ghost use Rattle.relations.specs.Cycle.{IsCycle};
-ghost use Rattle.best.specs.Rule.{first_bound, knows, IsUnset, LoadsView};
+ghost use Rattle.best.specs.Rule.{first_bound, knows, IsLength, IsUnset, LoadsView};
 ghost use Rattle.best.specs.Seats.{IsAlone, IsBestSeatOf, IsBoundRead, AreBeside, Unites, known_of};
 
 use crate::rule::{BestTable, Lowers, NONE, Reads, SeatRule};
@@ -41,7 +41,19 @@ impl Best {
         ensures alone { IsAlone seat.old → IsAlone seat.new }
     {
         relation.sound();
-        seat.lower(cycle);
+        seat.lower(cycle.len() as u64);
+    }
+
+    /// The bound is at most this length of some cycle of the seat's relation from now on, and the seat knows it.
+    pub fn lower_to_length(&self, seat: &mut BestSeat, size: u16)
+        requires seat { IsBestSeatOf self.now seat.old }
+        requires size { IsLength (known_of seat.old).relation size }
+        ensures seat { IsBestSeatOf self.now seat.new }
+        ensures new { known_of seat.new ≡ knows (known_of seat.old) size }
+        ensures relation { (known_of seat.new).relation ≡ (known_of seat.old).relation }
+        ensures alone { IsAlone seat.old → IsAlone seat.new }
+    {
+        seat.lower(size as u64);
     }
 
     /// None, only where the seat knows no length; or the length of a cycle, at most each that the
@@ -64,17 +76,16 @@ impl Best {
 }
 
 impl BestSeat {
-    fn lower(&mut self, cycle: &[EventId])
-        requires cycle { IsCycle (Related (known_of self.old).relation) cycle.now }
-        requires short { length cycle.now ≤ length (known_of self.old).relation }
-        requires small { length cycle.now < 65536 }
+    fn lower(&mut self, size: u64)
+        requires size { IsLength (known_of self.old).relation size }
+        requires small { size < 65536 }
         ensures same { self.new.seat.table_id ≡ self.old.seat.table_id }
-        ensures new { known_of self.new ≡ knows (known_of self.old) (length cycle.now) }
+        ensures new { known_of self.new ≡ knows (known_of self.old) size }
         ensures alone { IsAlone self.old → IsAlone self.new }
     {
         self.table
             .shared
-            .fetch_min::<Lowers>(&mut self.seat, 0, cycle.len() as u64);
+            .fetch_min::<Lowers>(&mut self.seat, 0, size);
     }
 
     fn load(&mut self) -> u64

@@ -6,8 +6,7 @@ use Rattle.relations.specs.Cycle.{Leads, IsCycle, IsShortest, ComesFirst, IsLeas
 use Rattle.relations.specs.Cycle.{IsCappedDistance, AreExactRows}
 use Rattle.relations.specs.CycleLaws.{cycle_of_walk, first_more, walk_more}
 use Rattle.search.specs.Cycles.{IsShortestLength, IsLeastWith, ClosesAt, IsNextOnCycle}
-use Rattle.search.proofs.Walks.{walk_of, walk_of_path}
-use Rattle.search.proofs.Lengths.{last_step}
+use Rattle.search.proofs.Walks.{walk_of, walk_of_path, last_step}
 
 -- the last event of a path
 abbrev pub last_of : ℕ → List ℕ → ℕ

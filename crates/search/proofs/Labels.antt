@@ -1,73 +1,18 @@
--- Rows that get their names one by one, and jobs that share a relation.
-use Rattle.std.proofs.Common.{◌≡◌, ◌<◌, ◌+◌, inl, inr, ℕ, Bool, Option, None, Some, List, [], ◌∷◌, ◌++◌}
-use Rattle.std.proofs.Common.{length, get_or, arith, refl, sym, ap, subst, ◌∙◌, length-append, append_assoc, Vec}
+-- Rows of labels, and jobs that share a relation.
+use Rattle.std.proofs.Common.{◌≡◌, ◌<◌, inl, inr, ℕ, Bool, Option, None, Some, List, [], ◌∷◌, ◌++◌}
+use Rattle.std.proofs.Common.{length, get_or, arith, refl, sym, ap, subst, ◌∙◌, append_assoc, Vec}
 use Rattle.std.proofs.Common.{Global}
 use Rattle.std.specs.Option.{unwrap_or}
 use Rattle.std.specs.Prelude.{false, true}
 use Rattle.std.proofs.lemmas.Bool.{cases_eq}
-use Rattle.std.proofs.lemmas.List.{get_or_past, get_or_push, get_or_append_left, map-append, length-map}
+use Rattle.std.proofs.lemmas.List.{get_or_past, get_or-map, map-append, length-map}
 use Rattle.bitrow.specs.Bits.{is_in}
 use Rattle.relations.specs.Relation.{Row, Table, relates, sets_of, Related}
-use Rattle.relations.specs.Cycle.{Leads, IsExactRow, AreExactRows, IsAcyclic}
+use Rattle.relations.specs.Cycle.{Leads, AreExactRows, IsAcyclic}
 use Rattle.labels.specs.Certified.{lists_of}
 use Rattle.search.specs.Cycles.{IsLeastLength, IsShortestLength}
-use Rattle.search.specs.SourceRow.{SourceRow, IsCycleLength, IsSourceRow, IsNamed, AreLeastRows, numbers_of}
+use Rattle.search.specs.SourceRow.{SourceRow, AreLeastRows, numbers_of}
 use Rattle.search.specs.SourceRow.{Job, AreJobsOf, AreShared}
-
--- the length of the shortest cycles is that of a cycle
-least_is_cycle : (R : ℕ → ℕ → Type 0) (cap : Option ℕ) → IsLeastLength R cap → IsCycleLength R cap
-least_is_cycle R None least = tt
-least_is_cycle R (Some k) least = (least.0, least.1.cycle, least.2)
-
--- what stands after the front
-behind_front : (front : List (List ℕ)) (one : List ℕ) (rest : List (List ℕ)) → get_or (front ++ one ∷ rest)
-    (length front) [] ≡ one
-behind_front [] one rest = refl
-behind_front (x ∷ front) one rest = behind_front front one rest
-
--- the next row is one of labels
-pub labelled_next : (t : Table) (cap : Option ℕ) (i : ℕ) (front : List (List ℕ)) (one : List ℕ)
-    (rest rows : List (List ℕ)) → length front ≡ i → front ++ one ∷ rest ≡ rows
-    → IsLeastLength (Related t) cap
-    → AreExactRows (Related t) (length t) (unwrap_or cap (length t)) rows
-    → IsSourceRow (record { relation = t; source = i; cap = cap; numbers = one })
-labelled_next t cap i front one rest rows size split least exact =
-    let within : i < length t = omega (
-      arith,
-      size,
-      exact.one_each,
-      ap (λ (all : List (List ℕ)). length all) split,
-      length-append front (one ∷ rest),
-    ) in
-    let read : get_or rows i [] ≡ one = ap (λ (all : List (List ℕ)). get_or all i []) (sym split)
-    ∙ (ap (λ (k : ℕ). get_or (front ++ one ∷ rest) k []) (sym size) ∙ behind_front front one rest) in
-    record {
-      within = within;
-      cycle = least_is_cycle (Related t) cap least;
-      exact = subst (λ (row : List ℕ). IsExactRow (Related t) (length t) (unwrap_or cap (length t)) i row)
-          read (exact.exact i within);
-    }
-
--- one row goes from the rest to the front
-pub split_more : (all : List SourceRow) (row : SourceRow) (one : List ℕ) (rest rows : List (List ℕ))
-    → row.numbers ≡ one → numbers_of all ++ one ∷ rest ≡ rows → numbers_of (all ++ row ∷ []) ++ rest ≡ rows
-split_more all row one rest rows is split =
-    ap (λ (front : List (List ℕ)). front ++ rest) (map-append (λ (l : SourceRow). l.numbers) all (row ∷ []))
-    ∙ (append_assoc (numbers_of all) (row.numbers ∷ []) rest
-    ∙ (ap (λ (x : List ℕ). numbers_of all ++ x ∷ rest) is ∙ split))
-
--- and has its name
-pub named_more : (t : Table) (cap : Option ℕ) (i : ℕ) (all : List SourceRow) (row : SourceRow)
-    → length all ≡ i → IsNamed t cap i row
-    → ((v : ℕ) (d : SourceRow) → v < i → IsNamed t cap v (get_or all v d))
-    → (v : ℕ) (d : SourceRow) → v < i + 1 → IsNamed t cap v (get_or (all ++ row ∷ []) v d)
-named_more t cap i all row long new before v d below = elim (cases_eq v i) [
-  | inl is ↦ subst (λ (x : ℕ). IsNamed t cap x (get_or (all ++ row ∷ []) x d)) (sym is)
-      (subst (λ (l : SourceRow). IsNamed t cap i l) (sym (get_or_push all row d i long)) new)
-  | inr other ↦ subst (λ (l : SourceRow). IsNamed t cap v l)
-      (sym (get_or_append_left all (row ∷ []) d v (omega (arith, long, below, other))))
-      (before v d (omega (arith, below, other)))
-]
 
 -- a relation of no events has no cycle
 empty_acyclic : (t : Table) → length t ≡ 0 → IsAcyclic (Related t)
@@ -148,3 +93,10 @@ some_exact t cap k rows lists is same h =
     subst (λ (ls : List (List ℕ)). AreExactRows (Related t) (length t) k ls) (sym same)
     (subst (λ (o : Option ℕ). AreExactRows (Related t) (length t) (unwrap_or o (length t))
     (numbers_of rows)) (sym is) h.exact)
+
+-- the list of a vector among rows
+pub row_seen : (rows : List (Vec ℕ Global)) (v : ℕ) (row : Vec ℕ Global) → v < length rows
+    → row ≡ get_or rows v row → get_or (lists_of rows) v [] ≡ row.items
+row_seen rows v row at read =
+    get_or-map (λ (r : Vec ℕ Global). r.items) rows v row [] at
+    ∙ ap (λ (r : Vec ℕ Global). r.items) (sym read)

@@ -2,16 +2,18 @@
 use Rattle.std.proofs.Common.{◌≡◌, ◌<◌, ◌≤◌, ◌+◌, inl, inr, ℕ, zero, suc, List, [], ◌∷◌, ◌++◌, length}
 use Rattle.std.proofs.Common.{get_or, arith, refl, ap, subst, ◌∙◌, length-append, Contains, Option, None}
 use Rattle.std.proofs.Common.{Some, IfSome, MatchOption}
-use Rattle.std.specs.Option.{unwrap_or}
 use Rattle.std.proofs.lemmas.Bool.{cases_eq}
 use Rattle.std.proofs.lemmas.List.{get_or_append_left}
 use Rattle.recording.specs.Order.{times}
 use Rattle.recording.specs.OrderLaws.{times_here, times_there, times_nil, cases_times}
-use Rattle.relations.specs.Cycle.{Leads, IsCycle, Walk, IsExactRow}
+use Rattle.relations.specs.Relation.{Table, Related}
+use Rattle.relations.specs.Cycle.{Leads, IsCycle, Walk, IsCappedDistance, IsExactRow}
+use Rattle.relations.specs.CycleLaws.{cycle_of_walk}
 use Rattle.recording.specs.EnumerationLaws.{distinct_below}
 use Rattle.search.specs.Cycles.{IsNearest}
-use Rattle.search.specs.Bound.{Covers}
-use Rattle.search.proofs.Lengths.{last_step}
+use Rattle.best.specs.Rule.{IsLength}
+use Rattle.search.specs.Bound.{Covers, CoversClosing}
+use Rattle.search.proofs.Walks.{walk_of, last_step}
 
 -- one event more at the end
 leads_snoc : (R : ℕ → ℕ → Type 0) (e : ℕ) (es : List ℕ) (back next : ℕ) → Leads R e es back → R back next
@@ -109,29 +111,41 @@ module _ (R : ℕ → ℕ → Type 0) (n k v closing : ℕ) (row : List ℕ) (wi
         (exact.labels last.0 (within last.0 v last.2).0).least (length es) last.1,
       )
 
-  -- a known length that is no longer than what the row says
-  pub covered : (lengths : List ℕ) (m : ℕ) → Contains lengths m → m ≤ closing + 1 → Covers R lengths v
-  covered lengths m known less c cycle on =
-      let t : (es : List ℕ) × IsCycle R (v ∷ es) × (length (v ∷ es) ≡ length c) =
-      turned R on.0 c v cycle on.1 on.2 in
-      (m, known, omega (arith, less, closing_least t.0 t.1, t.2))
+  -- the cycle that the row shows
+  shown_cycle : closing < k → (c : List ℕ) × IsCycle R c × (length c ≡ closing + 1)
+  shown_cycle less = elim near.reached [
+    | inl same ↦ absurd (omega (arith, same, less))
+    | inr at ↦
+        let d : IsCappedDistance R k v at.0 (get_or row at.0 0) = exact.labels at.0 (within at.0 v at.1).0 in
+        cycle_of_walk R closing v at.0
+        (walk_of R (get_or row at.0 0) closing v at.0 at.2 (d.walk (omega (arith, at.2, less)))) at.1
+  ]
 
-  -- where the row says that there is none
-  pub none_through : (lengths : List ℕ) → n ≤ closing → Covers R lengths v
-  none_through lengths full c cycle on =
+  -- what covers the cycle that the row closes covers each
+  pub covers_each : (lengths : List ℕ) → CoversClosing lengths n closing → Covers R lengths v
+  covers_each lengths why c cycle on =
       let t : (es : List ℕ) × IsCycle R (v ∷ es) × (length (v ∷ es) ≡ length c) =
       turned R on.0 c v cycle on.1 on.2 in
-      let s : (ds : List ℕ) × IsCycle R (v ∷ ds) × (length (v ∷ ds) ≤ n) =
-      short_through R n within v t.0 t.1 in
-      absurd (omega (arith, full, s.2, closing_least s.0 s.1))
+      elim why [
+        | inl full ↦
+            let s : (ds : List ℕ) × IsCycle R (v ∷ ds) × (length (v ∷ ds) ≤ n) =
+            short_through R n within v t.0 t.1 in
+            absurd (omega (arith, full, s.2, closing_least s.0 s.1))
+        | inr known ↦ (known.0, known.1, omega (arith, known.2, closing_least t.0 t.1, t.2))
+      ]
+
+-- a row shows the length of a cycle
+pub shown_length : (t : Table) (k v closing : ℕ) (row : List ℕ)
+    → ((e f : ℕ) → Related t e f → (e < length t) × (f < length t))
+    → IsExactRow (Related t) (length t) k v row → IsNearest (Related t) v row k closing → k ≤ length t
+    → closing < k → IsLength t (closing + 1)
+shown_length t k v closing row within exact near few less =
+    let c : (c : List ℕ) × IsCycle (Related t) c × (length c ≡ closing + 1) =
+    shown_cycle (Related t) (length t) k v closing row within exact near less in
+    (c.0, c.1, c.2, omega (arith, less, few))
 
 -- where the row shows nothing shorter than the cap, the cap is enough
-pub covered_already : (R : ℕ → ℕ → Type 0) (n events v closing : ℕ) (cap : Option ℕ) (row lengths : List ℕ)
-    → ((e f : ℕ) → R e f → (e < n) × (f < n)) → IsExactRow R n (unwrap_or cap n) v row
-    → IsNearest R v row (unwrap_or cap n) closing
-    → events ≡ n → IfSome cap (λ k. Contains lengths k)
-    → MatchOption cap (events ≤ closing) (λ k. k ≤ closing + 1) → Covers R lengths v
-covered_already R n events v closing None row lengths within exact near size known longer =
-    none_through R n n v closing row within exact near lengths (omega (arith, size, longer))
-covered_already R n events v closing (Some k) row lengths within exact near size known longer =
-    covered R n k v closing row within exact near lengths k known longer
+pub cap_covers : (n closing : ℕ) (cap : Option ℕ) (lengths : List ℕ) → IfSome cap (λ k. Contains lengths k)
+    → MatchOption cap (n ≤ closing) (λ k. k ≤ closing + 1) → CoversClosing lengths n closing
+cap_covers n closing None lengths known longer = inl longer
+cap_covers n closing (Some k) lengths known longer = inr (k, known, longer)

@@ -1,5 +1,5 @@
 -- What a seat at the shared bound knows of the cycles of a relation.
-use Rattle.std.specs.Prelude.{◌≡◌, ◌≤◌, ℕ, Option, Some, None, List, length, Contains}
+use Rattle.std.specs.Prelude.{◌≡◌, ◌⊎◌, ◌≤◌, ◌+◌, ℕ, Option, Some, None, List, length, Contains}
 use Rattle.relations.specs.Relation.{Table}
 use Rattle.relations.specs.Cycle.{IsCycle}
 use Rattle.best.specs.declared.seat.Best.{Best}
@@ -11,6 +11,10 @@ use Rattle.search.specs.Cycles.{IsShortestLength}
 abbrev pub Covers : (ℕ → ℕ → Type 0) → List ℕ → ℕ → Type 0
 Covers R lengths v = (c : List ℕ) → IsCycle R c → Contains c v
     → (k : ℕ) × Contains lengths k × (k ≤ length c)
+
+-- the label closes no cycle of n events, or a known length is at most that of the cycle that it closes
+abbrev pub CoversClosing : List ℕ → ℕ → ℕ → Type 0
+CoversClosing lengths n closing = (n ≤ closing) ⊎ ((k : ℕ) × Contains lengths k × (k ≤ closing + 1))
 
 -- at most the number, where none is above every number
 abbrev pub AtMost : Option ℕ → ℕ → Type 0

@@ -1,33 +1,13 @@
 -- What is asked of rows of distances, and what the search for cycles gives.
 use Rattle.std.specs.Prelude.{◌≡◌, ◌⊎◌, ◌<◌, ◌≤◌, ℕ, Option, Some, None, List, [], length, slice_index}
-use Rattle.std.specs.Prelude.{slice_index_or, min}
-use Rattle.relations.specs.Cycle.{IsCycle, IsAcyclic, IsShortest, IsExactRow}
-
--- the number of events, or the length of a cycle
-abbrev pub IsCap : (ℕ → ℕ → Type 0) → ℕ → ℕ → Type 0
-IsCap R n k = (k ≡ n) ⊎ ((c : List ℕ) × IsCycle R c × (length c ≡ k))
-
--- distances from v under a cap that is the number of events or the length of a cycle
-abbrev pub IsDistanceRow : (ℕ → ℕ → Type 0) → ℕ → ℕ → List ℕ → Type 0
-IsDistanceRow R n v row = (k : ℕ) × IsCap R n k × IsExactRow R n k v row
-
--- such a row from each event
-pub record AreDistanceRows (R : ℕ → ℕ → Type 0) (n : ℕ) (rows : List (List ℕ)) : Type 0 where
-  pub one_each : length rows ≡ n
-  pub distances : (v : ℕ) → v < n → IsDistanceRow R n v (slice_index_or rows v [])
+use Rattle.std.specs.Prelude.{slice_index_or}
+use Rattle.relations.specs.Cycle.{IsAcyclic, IsShortest}
 
 -- the least of `before` and the labels of what is related to v
 pub record IsNearest (R : ℕ → ℕ → Type 0) (v : ℕ) (row : List ℕ) (before least : ℕ) : Type 0 where
   pub below : least ≤ before
   pub reached : (least ≡ before) ⊎ ((e : ℕ) × R e v × (slice_index row e ≡ least))
   pub nearest : (e : ℕ) → R e v → least ≤ slice_index row e
-
--- the least of n and the labels that close a cycle through one of the numbers before v
-pub record IsLeastClosing (R : ℕ → ℕ → Type 0) (n : ℕ) (rows : List (List ℕ)) (v least : ℕ) : Type 0 where
-  pub below : least ≤ n
-  pub reached : (least ≡ n)
-      ⊎ ((u e : ℕ) × (u < v) × R e u × (slice_index (slice_index_or rows u []) e ≡ least))
-  pub nearest : (u e : ℕ) → u < v → R e u → least ≤ slice_index (slice_index_or rows u []) e
 
 -- a shortest cycle has this length
 abbrev pub IsShortestLength : (ℕ → ℕ → Type 0) → ℕ → Type 0
@@ -55,10 +35,3 @@ IsNextOnCycle R rows from v left f = R from f × (slice_index (slice_index_or ro
 pub record IsGrid (n : ℕ) (rows : List (List ℕ)) : Type 0 where
   pub one_each : length rows ≡ n
   pub lengths : (v : ℕ) → v < n → length (slice_index_or rows v []) ≡ n
-
--- each label cut at the cap
-pub record AreCut (cap : ℕ) (before after : List (List ℕ)) : Type 0 where
-  pub one_each : length after ≡ length before
-  pub lengths : (v : ℕ) → length (slice_index_or after v []) ≡ length (slice_index_or before v [])
-  pub labels : (v e : ℕ) → slice_index (slice_index_or after v []) e
-      ≡ min (slice_index (slice_index_or before v []) e) cap

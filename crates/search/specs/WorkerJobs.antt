@@ -2,7 +2,7 @@
 use Rattle.std.specs.Prelude.{◌≡◌, ℕ, List, All}
 use Rattle.relations.specs.Relation.{Table, Related}
 use Rattle.best.specs.declared.seat.Best.{Best}
-use Rattle.best.specs.Seats.{IsBestSeatOf, AreBeside, known_of}
+use Rattle.best.specs.Seats.{AreBeside, known_of}
 use Rattle.search.specs.SourceRow.{SourceRow}
 use Rattle.search.specs.Bound.{Covers, IsSeatFor, lengths_of}
 use Rattle.search.specs.declared.worker_jobs.WorkerJobs.{WorkerJobs}
@@ -12,10 +12,6 @@ use Rattle.search.specs.declared.worker_jobs.WorkerRows.{WorkerRows}
 pub record IsRowFor (t : Table) (lengths : List ℕ) (row : SourceRow) : Type 0 where
   pub shares : row.relation ≡ t
   pub covers : Covers (Related t) lengths row.source
-
--- jobs of the relation that the worker's seat, of this bound, carries
-abbrev pub AreWorkerJobs : Best → WorkerJobs → Type 0
-AreWorkerJobs b c = IsBestSeatOf b c.seat × All (λ job. job.relation ≡ (known_of c.seat).relation) c.jobs.items
 
 -- rows of the relation of the jobs, with a seat beside the worker's that knows of their cycles
 abbrev pub AreRowsOf : WorkerJobs → WorkerRows → Type 0

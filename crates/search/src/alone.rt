@@ -5,9 +5,12 @@ ghost use Rattle.std.specs.Arc.{arc_value};
 ghost use Rattle.relations.specs.Relation.{Table};
 ghost use Rattle.search.specs.SourceRow.{AreJobsOf, AreShared, AreLeastRows};
 
+use crate::collect::{cut_by, relation_of};
 use crate::job::SourceJob;
 use crate::label_row::LabelRow;
-use common::{EventId, OutOfMemory};
+use crate::slots::{empty_slots, filled};
+use best::Best;
+use common::{EventId, OpenGate, OutOfMemory};
 use relations::Relation;
 use std::alloc::Global;
 use std::sync::Arc;
@@ -35,6 +38,20 @@ fn jobs_of(alloc: Global, relation: &Arc<Relation>) -> Result<Vec<SourceJob>, Ou
     Ok(jobs)
 }
 
+/// The rows of all events of a relation, as `run_alone` gives them.
+pub(crate) fn rows_alone(
+    alloc: Global,
+    relation: &Arc<Relation>,
+) -> Result<Vec<LabelRow>, OutOfMemory>
+    ensures { IfOk result (λ rows. (cap : Option ℕ) × AreLeastRows (arc_value relation.now) cap rows.items) }
+{
+    let table: &Relation = relation;
+    let (best, mut seat) = Best::open(alloc, table)?;
+    let slots = empty_slots(alloc, table)?;
+    let rows = filled(alloc, relation, slots, &best, &mut seat, &OpenGate)?;
+    cut_by(alloc, table, rows, &best, &mut seat)
+}
+
 /// The rows of jobs that share one relation and name each of its events, in any order: one for
 /// each event, by event, all cut at the length of the shortest cycles, or without a cycle at the
 /// number of events.
@@ -46,5 +63,6 @@ pub fn run_alone(alloc: Global, jobs: Vec<SourceJob>) -> Result<Vec<LabelRow>, O
         return Ok(Vec::new(alloc));
     }
     // Each job holds the relation, so the first knows all that the rows need.
-    jobs[0].all_rows(alloc)
+    let relation = relation_of(&jobs)?;
+    Ok(rows_alone(alloc, &relation)?)
 }

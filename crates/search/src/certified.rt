@@ -8,7 +8,7 @@ ghost use Rattle.relations.specs.Cycle.{IsLeastCycle, AreExactRows, IsAcyclic};
 ghost use Rattle.labels.specs.Certified.{Certifies, lists_of};
 ghost use Rattle.search.specs.SourceRow.{AreLeastRows};
 
-use crate::alone::{jobs, run_alone};
+use crate::alone::{jobs, rows_alone};
 use crate::collect::run_jobs;
 use crate::label_row::LabelRow;
 use crate::least::least_cycle;
@@ -77,8 +77,7 @@ pub fn shortest_cycle(
     ensures certified { IfOk result (λ answer. IfSome answer (λ c.
         Certifies (arc_value relation.now) c)) }
 {
-    let jobs = jobs(alloc, Arc::try_clone(relation)?)?;
-    let rows = run_alone(alloc, jobs)?;
+    let rows = rows_alone(alloc, relation)?;
     certificate_of(alloc, relation, rows)
 }
 

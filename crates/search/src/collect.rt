@@ -35,8 +35,7 @@ fn cut_all(
     requires rows { AreOfEach relation.now rows.items }
     ensures { IfOk result (λ all. AreLeastRows relation.now cap all.items) }
 {
-    let _ = relation;
-    let mut all = Vec::with_capacity(alloc, rows.len())?;
+    let mut all = Vec::with_capacity(alloc, relation.len())?;
     for row in rows {
         let cut = row.cut_to(cap);
         cut.sound();
@@ -46,7 +45,7 @@ fn cut_all(
 }
 
 /// Cuts the rows of all events at what the bound has in the end.
-fn cut_by(
+pub(crate) fn cut_by(
     alloc: Global,
     relation: &Relation,
     rows: Vec<LabelRow>,
@@ -109,7 +108,7 @@ fn places(
     ensures kept { Keeps (lengths_of seat.old) (lengths_of seat.new) }
     ensures slots { IfOk result (λ slots. AreSlots relation.now (lengths_of seat.new) slots.items) }
 {
-    let mut slots = empty_slots(alloc, relation, seat)?;
+    let mut slots = empty_slots(alloc, relation)?;
     store_rows(relation, best, seat, rows_of_workers, &mut slots);
     Ok(slots)
 }
@@ -143,9 +142,9 @@ fn collected<R: Threads + Wait + Sync, G: Gate>(
 }
 
 /// A share of the relation of the first job.
-fn relation_of(jobs: &[SourceJob]) -> Result<Arc<Relation>, OutOfMemory>
-    requires { 0 < length jobs.now }
-    ensures { IfOk result (λ relation. (t : Table) → All (λ job. job.relation ≡ t) jobs.now
+pub(crate) fn relation_of(jobs: &Vec<SourceJob>) -> Result<Arc<Relation>, OutOfMemory>
+    requires { 0 < length jobs.now.items }
+    ensures { IfOk result (λ relation. (t : Table) → All (λ job. job.relation ≡ t) jobs.now.items
         → arc_value relation ≡ t) }
 {
     Ok(Arc::try_clone(jobs[0].relation())?)

@@ -1,11 +1,7 @@
 //! Sources whose rows are to be made.
 
-use crate::exact::exact_rows;
-use crate::label_row::LabelRow;
-use crate::label_rows::label_rows;
 use common::{EventId, OutOfMemory};
 use relations::Relation;
-use std::alloc::Global;
 use std::marker::Model;
 use std::sync::Arc;
 
@@ -37,9 +33,9 @@ impl Drop for SourceJob {
 }
 
 impl SourceJob {
-    ghost use Rattle.std.specs.Prelude.{◌≡◌, ◌<◌, ℕ, Option, length, IfOk};
+    ghost use Rattle.std.specs.Prelude.{◌≡◌, ◌<◌, length, IfOk};
     ghost use Rattle.std.specs.Arc.{arc_value};
-    ghost use Rattle.search.specs.SourceRow.{job_of, AreLeastRows};
+    ghost use Rattle.search.specs.SourceRow.{job_of};
 
     /// A job for one event.
     pub(crate) fn new(relation: &Arc<Relation>, source: EventId) -> Result<SourceJob, OutOfMemory>
@@ -65,14 +61,5 @@ impl SourceJob {
         ensures source { self.now.source < length self.now.relation }
     {
         &self.relation
-    }
-
-    /// The rows of all events of the relation.
-    pub(crate) fn all_rows(&self, alloc: Global) -> Result<Vec<LabelRow>, OutOfMemory>
-        ensures { IfOk result (λ rows. (cap : Option ℕ)
-            × AreLeastRows self.now.relation cap rows.items) }
-    {
-        let (rows, cap) = exact_rows(alloc, &self.relation)?;
-        label_rows(alloc, &self.relation, rows, cap)
     }
 }

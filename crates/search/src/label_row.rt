@@ -1,7 +1,7 @@
 //! Rows of labels.
 
 use crate::cut::cut_at;
-use common::{EventId, OutOfMemory};
+use common::EventId;
 use relations::Relation;
 use std::marker::Model;
 use std::sync::Arc;
@@ -38,30 +38,11 @@ impl Drop for LabelRow {
 }
 
 impl LabelRow {
-    ghost use Rattle.std.specs.Prelude.{◌≡◌, IfOk};
+    ghost use Rattle.std.specs.Prelude.{◌≡◌};
     ghost use Rattle.std.specs.Arc.{arc_value};
     ghost use Rattle.relations.specs.Relation.{Related};
     ghost use Rattle.search.specs.Cycles.{IsLeastLength};
     ghost use Rattle.search.specs.SourceRow.{source_row, IsSourceRow, IsNamed};
-
-    /// A row of numbers that were found for a source under a cap.
-    pub(crate) fn new(
-        relation: &Arc<Relation>,
-        source: EventId,
-        cap: Option<u16>,
-        numbers: Vec<u16>,
-    ) -> Result<LabelRow, OutOfMemory>
-        requires { IsSourceRow (source_row (arc_value relation.now) source cap numbers.items) }
-        ensures { IfOk result (λ row. row
-            ≡ source_row (arc_value relation.now) source cap numbers.items) }
-    {
-        Ok(LabelRow {
-            relation: Arc::try_clone(relation)?,
-            source,
-            cap,
-            numbers,
-        })
-    }
 
     /// A row of numbers that were found for a source under a cap, with a share of its relation.
     pub(crate) fn of(

@@ -12,13 +12,6 @@ pub(crate) struct Sets {
     pub(crate) next: BitRow,
 }
 
-/// A row of labels, and three sets of events.
-#[derive(Drop)]
-pub(crate) struct Room {
-    pub(crate) labels: Vec<u16>,
-    pub(crate) sets: Sets,
-}
-
 impl Sets {
     ghost use Rattle.std.specs.Prelude.{◌≡◌, ◌<◌, ◌==◌, ℕ, false, length, IfOk};
     ghost use Rattle.bitrow.specs.Bits.{is_in};
@@ -46,19 +39,5 @@ impl Sets {
         self.seen.clear();
         self.level.clear();
         self.level.set(source as usize);
-    }
-}
-
-impl Room {
-    ghost use Rattle.std.specs.Prelude.{IfOk};
-    ghost use Rattle.search.specs.Memory.{IsRoom};
-
-    /// Room for a search among a number of events.
-    pub(crate) fn new(alloc: Global, len: usize) -> Result<Room, OutOfMemory>
-        ensures { IfOk result (IsRoom len) }
-    {
-        let labels = vec![in alloc; 0; len]?;
-        let sets = Sets::new(alloc, len)?;
-        Ok(Room { labels, sets })
     }
 }

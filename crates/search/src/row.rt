@@ -1,17 +1,15 @@
 //! A breadth-first search.
 
-ghost use Rattle.std.specs.Prelude.{◌≡◌, ◌<◌, ◌++◌, ◌∷◌, ℕ, List, [], length, IfOk, IsTrue};
-ghost use Rattle.labels.specs.Certified.{lists_of};
+ghost use Rattle.std.specs.Prelude.{◌≡◌, ◌<◌, length, IsTrue};
 ghost use Rattle.relations.specs.Cycle.{IsExactRow};
 ghost use Rattle.bitrow.specs.Rows.{Marked, IsBitSquare};
 ghost use Rattle.search.specs.Cycles.{IsNearest};
-ghost use Rattle.search.specs.Memory.{AreSets, IsRoom};
+ghost use Rattle.search.specs.Memory.{AreSets};
 ghost use Rattle.search.specs.Levels.{IsClosing};
 
-use crate::room::{Room, Sets};
+use crate::room::Sets;
 use bitrow::{BitRow, label_numbers, take_level};
-use common::{EventId, OutOfMemory};
-use std::alloc::Global;
+use common::EventId;
 
 /// The least label that closes, with one more level; the cap where there is none.
 fn closing_with(closes: bool, label: u16, cap: u16, closing: u16) -> u16
@@ -76,7 +74,7 @@ fn row_in_words<const N: usize>(
 }
 
 /// The same row and number.
-fn row_with(
+pub(crate) fn row_with(
     rows: &[BitRow],
     source: EventId,
     cap: u16,
@@ -97,40 +95,4 @@ fn row_with(
         4 => row_in_words::<4>(rows, source, cap, labels, sets),
         _ => row_in_words::<8>(rows, source, cap, labels, sets),
     }
-}
-
-/// The same row and number, in room of their own.
-pub(crate) fn row_in(rows: &[BitRow], source: EventId, cap: u16, room: Room) -> (Vec<u16>, u16)
-    requires square { IsBitSquare rows.now }
-    requires source { source < length rows.now }
-    requires room { IsRoom (length rows.now) room }
-    ensures exact { IsExactRow (Marked rows.now) (length rows.now) cap source result.0.items }
-    ensures nearest { IsNearest (Marked rows.now) source result.0.items cap result.1 }
-{
-    let Room { labels, mut sets } = room;
-    row_with(rows, source, cap, labels, &mut sets)
-}
-
-/// The same row, put after those that are made, and the same number.
-pub(crate) fn add_row(
-    alloc: Global,
-    rows: &[BitRow],
-    source: EventId,
-    cap: u16,
-    sets: &mut Sets,
-    made: &mut Vec<Vec<u16>>,
-) -> Result<u16, OutOfMemory>
-    requires square { IsBitSquare rows.now }
-    requires source { source < length rows.now }
-    requires sets { AreSets (length rows.now) sets.old }
-    ensures row { IfOk result (λ closing. (row : List ℕ)
-        × (lists_of made.new.items ≡ lists_of made.old.items ++ row ∷ [])
-        × IsExactRow (Marked rows.now) (length rows.now) cap source row
-        × IsNearest (Marked rows.now) source row cap closing) }
-    ensures sets { IfOk result (λ _. AreSets (length rows.now) sets.new) }
-{
-    let labels = vec![in alloc; 0; rows.len()]?;
-    let (row, closing) = row_with(rows, source, cap, labels, sets);
-    made.push(row)?;
-    Ok(closing)
 }

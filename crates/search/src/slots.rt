@@ -1,14 +1,16 @@
 //! Rows that are collected by source.
 
-ghost use Rattle.std.specs.Prelude.{◌≡◌, ℕ, ◌<◌, ◌+◌, length, All, IfOk, IfSome};
+ghost use Rattle.std.specs.Prelude.{ℕ, List, ◌<◌, ◌+◌, length, All, IfOk, IfSome};
 ghost use Rattle.std.specs.Arc.{arc_value};
+ghost use Rattle.relations.specs.Relation.{Table};
+ghost use Rattle.search.specs.Memory.{AreSets};
 ghost use Rattle.search.specs.Bound.{IsSeatFor, Keeps, lengths_of};
 ghost use Rattle.search.specs.WorkerJobs.{IsRowFor, AreRowsFor};
 ghost use Rattle.search.specs.Slots.{AreSlots, AreSlotsFilled, IsRowFrom};
 
-use crate::job::SourceJob;
 use crate::label_row::LabelRow;
-use crate::under::row_under;
+use crate::room::Sets;
+use crate::under::row_by_sets;
 use crate::worker_jobs::WorkerRows;
 use best::{Best, BestSeat};
 use common::{EventId, Gate, OutOfMemory};
@@ -20,11 +22,9 @@ use std::sync::Arc;
 pub(crate) fn empty_slots(
     alloc: Global,
     relation: &Relation,
-    seat: &BestSeat,
 ) -> Result<Vec<Option<LabelRow>>, OutOfMemory>
-    ensures { IfOk result (λ slots. AreSlots relation.now (lengths_of seat.now) slots.items) }
+    ensures { IfOk result (λ slots. (lengths : List ℕ) → AreSlots relation.now lengths slots.items) }
 {
-    let _ = seat;
     let mut slots = Vec::with_capacity(alloc, relation.len())?;
     for _ in 0..relation.len() {
         slots.push(None)?;
@@ -34,13 +34,10 @@ pub(crate) fn empty_slots(
 
 /// Puts a row into its source's place. A row of a stranger, or one whose place is filled, is let
 /// go.
-fn put_row(relation: &Relation, seat: &BestSeat, row: LabelRow, slots: &mut Vec<Option<LabelRow>>)
-    requires row { IsRowFor relation.now (lengths_of seat.now) row }
-    requires slots { AreSlots relation.now (lengths_of seat.now) slots.old.items }
-    ensures { AreSlots relation.now (lengths_of seat.now) slots.new.items }
+fn put_row(row: LabelRow, slots: &mut Vec<Option<LabelRow>>)
+    ensures { (t : Table) (lengths : List ℕ) → IsRowFor t lengths row → AreSlots t lengths slots.old.items
+        → AreSlots t lengths slots.new.items }
 {
-    let _ = relation;
-    let _ = seat;
     let source = row.source() as usize;
     if source < slots.len() && slots[source].is_none() {
         slots[source] = Some(row);
@@ -48,18 +45,12 @@ fn put_row(relation: &Relation, seat: &BestSeat, row: LabelRow, slots: &mut Vec<
 }
 
 /// Puts rows into their sources' places.
-fn put_rows(
-    relation: &Relation,
-    seat: &BestSeat,
-    rows: Vec<LabelRow>,
-    slots: &mut Vec<Option<LabelRow>>,
-)
-    requires rows { All (IsRowFor relation.now (lengths_of seat.now)) rows.items }
-    requires slots { AreSlots relation.now (lengths_of seat.now) slots.old.items }
-    ensures { AreSlots relation.now (lengths_of seat.now) slots.new.items }
+fn put_rows(rows: Vec<LabelRow>, slots: &mut Vec<Option<LabelRow>>)
+    ensures { (t : Table) (lengths : List ℕ) → All (IsRowFor t lengths) rows.items
+        → AreSlots t lengths slots.old.items → AreSlots t lengths slots.new.items }
 {
     for row in rows {
-        put_row(relation, seat, row, slots);
+        put_row(row, slots);
     }
 }
 
@@ -79,9 +70,10 @@ fn store_worker_rows(
     ensures slots { AreSlots relation.now (lengths_of seat.new) slots.new.items }
 {
     let _ = best;
+    let _ = relation;
     let WorkerRows { seat: other, rows } = worker_rows;
     seat.absorb(other);
-    put_rows(relation, seat, rows, slots);
+    put_rows(rows, slots);
 }
 
 /// Stores the rows of all workers.
@@ -104,33 +96,6 @@ pub(crate) fn store_rows(
     }
 }
 
-/// The row in a place, or else a row that is made here.
-fn row_or<G: Gate>(
-    alloc: Global,
-    relation: &Arc<Relation>,
-    source: EventId,
-    slot: Option<LabelRow>,
-    best: &Best,
-    seat: &mut BestSeat,
-    gate: &G,
-) -> Result<LabelRow, OutOfMemory>
-    requires source { source < length (arc_value relation.now) }
-    requires seat { IsSeatFor best.now (arc_value relation.now) seat.old }
-    requires slot { IfSome slot (IsRowFrom (arc_value relation.now) (lengths_of seat.old) source) }
-    ensures seat { IsSeatFor best.now (arc_value relation.now) seat.new }
-    ensures kept { Keeps (lengths_of seat.old) (lengths_of seat.new) }
-    ensures row { IfOk result (IsRowFrom (arc_value relation.now) (lengths_of seat.new) source) }
-{
-    if let Some(row) = slot {
-        return Ok(row);
-    }
-    let job = SourceJob::new(relation, source)?;
-    gate.begin(0, source as usize);
-    let made = row_under(alloc, &job, best, seat);
-    gate.done(0, source as usize);
-    made
-}
-
 /// Puts the row in a place, or else a row that is made here, after the rows of the events before.
 fn add_row<G: Gate>(
     alloc: Global,
@@ -139,21 +104,30 @@ fn add_row<G: Gate>(
     slot: Option<LabelRow>,
     best: &Best,
     seat: &mut BestSeat,
+    sets: &mut Sets,
     gate: &G,
     rows: &mut Vec<LabelRow>,
 ) -> Result<(), OutOfMemory>
     requires source { source < length (arc_value relation.now) }
-    requires seat { IsSeatFor best.now (arc_value relation.now) seat.old }
     requires slot { IfSome slot (IsRowFrom (arc_value relation.now) (lengths_of seat.old) source) }
+    requires seat { IsSeatFor best.now (arc_value relation.now) seat.old }
+    requires sets { AreSets (length (arc_value relation.now)) sets.old }
     requires rows { AreSlotsFilled (arc_value relation.now) (lengths_of seat.old) source
         rows.old.items }
     ensures seat { IsSeatFor best.now (arc_value relation.now) seat.new }
     ensures kept { Keeps (lengths_of seat.old) (lengths_of seat.new) }
+    ensures sets { AreSets (length (arc_value relation.now)) sets.new }
     ensures rows { IfOk result (λ _. AreSlotsFilled (arc_value relation.now) (lengths_of seat.new)
         (source + 1) rows.new.items) }
 {
-    let row = row_or(alloc, relation, source, slot, best, seat, gate)?;
-    rows.push(row)?;
+    if let Some(row) = slot {
+        rows.push(row)?;
+        return Ok(());
+    }
+    gate.begin(0, source as usize);
+    let made = row_by_sets(alloc, relation, source, best, seat, sets);
+    gate.done(0, source as usize);
+    rows.push(made?)?;
     Ok(())
 }
 
@@ -175,9 +149,12 @@ pub(crate) fn filled<G: Gate>(
 {
     relation.sound();
     let mut rows = Vec::with_capacity(alloc, slots.len())?;
+    let mut sets = Sets::new(alloc, relation.len())?;
     let mut source = 0;
     for slot in slots {
-        add_row(alloc, relation, source, slot, best, seat, gate, &mut rows)?;
+        add_row(
+            alloc, relation, source, slot, best, seat, &mut sets, gate, &mut rows,
+        )?;
         source += 1;
     }
     Ok(rows)

@@ -1,7 +1,7 @@
 //! Jobs split among workers.
 
 ghost use Rattle.std.specs.Prelude.{◌≡◌, ◌≤◌, All, IfOk};
-ghost use Rattle.search.specs.Bound.{IsSeatFor, Keeps, lengths_of};
+ghost use Rattle.search.specs.Bound.{IsSeatFor, lengths_of};
 ghost use Rattle.search.specs.WorkerJobs.{AreJobsFor};
 
 use crate::job::SourceJob;

@@ -1,19 +1,21 @@
 //! Rows under the shared bound.
 
-ghost use Rattle.std.specs.Prelude.{◌≡◌, ◌≤◌, ◌<◌, ◌+◌, ℕ, true, false, length, IfOk, IfErr, IfSome};
-ghost use Rattle.std.specs.Prelude.{MatchOption, Contains, vec_capacity, []};
+ghost use Rattle.std.specs.Prelude.{◌≡◌, ◌≤◌, ◌<◌, ◌+◌, true, false, length, IfOk, IfErr, IfSome};
+ghost use Rattle.std.specs.Prelude.{MatchOption, Contains};
 ghost use Rattle.std.specs.Option.{unwrap_or};
+ghost use Rattle.std.specs.Arc.{arc_value};
 ghost use Rattle.relations.specs.Relation.{Related};
 ghost use Rattle.relations.specs.Cycle.{IsExactRow};
+ghost use Rattle.best.specs.Rule.{IsLength};
+ghost use Rattle.best.specs.Seats.{IsBestSeatOf, known_of};
 ghost use Rattle.search.specs.Cycles.{IsNearest};
-ghost use Rattle.search.specs.Memory.{IsRoom};
-ghost use Rattle.search.specs.Bound.{Covers, IsCapWithin, Keeps, IsSeatFor, lengths_of};
+ghost use Rattle.search.specs.Memory.{AreSets};
+ghost use Rattle.search.specs.Bound.{Covers, CoversClosing, IsCapWithin, Keeps, IsSeatFor, lengths_of};
 
 use crate::job::SourceJob;
 use crate::label_row::LabelRow;
-use crate::room::Room;
-use crate::row::row_in;
-use crate::source_cycle::cycle_through;
+use crate::room::Sets;
+use crate::row::row_with;
 use best::{Best, BestSeat};
 use common::{EventId, OutOfMemory};
 use relations::Relation;
@@ -21,62 +23,85 @@ use std::alloc::Global;
 use std::sync::Arc;
 
 /// Whether the least label that closes a cycle gives one that is shorter than the cap.
-fn is_shorter(closing: u16, cap: Option<u16>, events: usize) -> bool
+fn is_shorter(closing: u16, cap: Option<u16>, events: u16) -> bool
     ensures yes { result ≡ true → closing < unwrap_or cap events }
     ensures no { result ≡ false → MatchOption cap (events ≤ closing) (λ k. k ≤ closing + 1) }
 {
     match cap {
         Some(k) => (closing as usize) + 1 < (k as usize),
-        None => (closing as usize) < events,
+        None => closing < events,
     }
 }
 
 /// The row of a source, cut at the cap or else at the number of events, and the least label that
 /// closes a cycle through it.
-fn row_cut(relation: &Relation, source: EventId, cap: Option<u16>, room: Room) -> (Vec<u16>, u16)
+fn row_cut(
+    relation: &Relation,
+    source: EventId,
+    cap: Option<u16>,
+    labels: Vec<u16>,
+    sets: &mut Sets,
+) -> (Vec<u16>, u16)
     requires source { source < length relation.now }
-    requires room { IsRoom (length relation.now) room }
+    requires labels { length labels.items ≡ length relation.now }
+    requires sets { AreSets (length relation.now) sets.old }
     ensures exact { IsExactRow (Related relation.now) (length relation.now)
         (unwrap_or cap (length relation.now)) source result.0.items }
     ensures nearest { IsNearest (Related relation.now) source result.0.items
         (unwrap_or cap (length relation.now)) result.1 }
+    ensures sets { AreSets (length relation.now) sets.new }
 {
     relation.sound();
     let most = cap.unwrap_or(relation.len() as u16);
-    row_in(relation.successors(), source, most, room)
+    row_with(relation.successors(), source, most, labels, sets)
 }
 
-/// Lowers the bound to the length of a cycle through the source that is shorter than the cap, if its
-/// row shows one.
-fn publish_cycle(
-    relation: &Relation,
+/// Lowers the bound to the length of the cycle that the label closes, if it is shorter than the cap.
+fn publish_length(best: &Best, seat: &mut BestSeat, cap: Option<u16>, closing: u16, events: u16)
+    requires seat { IsBestSeatOf best.now seat.old }
+    requires known { IfSome cap (λ k. Contains (lengths_of seat.old) k) }
+    requires cycle { closing < unwrap_or cap events → IsLength (known_of seat.old).relation (closing + 1) }
+    ensures seat { IsBestSeatOf best.now seat.new }
+    ensures relation { (known_of seat.new).relation ≡ (known_of seat.old).relation }
+    ensures kept { Keeps (lengths_of seat.old) (lengths_of seat.new) }
+    ensures covers { CoversClosing (lengths_of seat.new) events closing }
+{
+    if is_shorter(closing, cap, events) {
+        best.lower_to_length(seat, closing + 1);
+    }
+}
+
+/// The row of a source, as `row_under` gives it, by sets that are used again.
+pub(crate) fn row_by_sets(
+    alloc: Global,
+    relation: &Arc<Relation>,
+    source: EventId,
     best: &Best,
     seat: &mut BestSeat,
-    source: EventId,
-    cap: Option<u16>,
-    row: &[u16],
-    closing: u16,
-    room: Vec<EventId>,
-)
-    requires seat { IsSeatFor best.now relation.now seat.old }
-    requires known { IfSome cap (λ k. Contains (lengths_of seat.old) k) }
-    requires few { unwrap_or cap (length relation.now) ≤ length relation.now }
-    requires exact { IsExactRow (Related relation.now) (length relation.now)
-        (unwrap_or cap (length relation.now)) source row.now }
-    requires nearest { IsNearest (Related relation.now) source row.now
-        (unwrap_or cap (length relation.now)) closing }
-    requires empty { room.items ≡ [] }
-    requires room { length relation.now ≤ vec_capacity room }
-    ensures seat { IsSeatFor best.now relation.now seat.new }
+    sets: &mut Sets,
+) -> Result<LabelRow, OutOfMemory>
+    requires source { source < length (arc_value relation.now) }
+    requires seat { IsSeatFor best.now (arc_value relation.now) seat.old }
+    requires sets { AreSets (length (arc_value relation.now)) sets.old }
+    ensures seat { IsSeatFor best.now (arc_value relation.now) seat.new }
     ensures kept { Keeps (lengths_of seat.old) (lengths_of seat.new) }
-    ensures covers { Covers (Related relation.now) (lengths_of seat.new) source }
+    ensures sets { AreSets (length (arc_value relation.now)) sets.new }
+    ensures relation { IfOk result (λ row. row.relation ≡ arc_value relation.now) }
+    ensures source { IfOk result (λ row. row.source ≡ source) }
+    ensures cap { IfOk result (λ row. IsCapWithin (lengths_of seat.old) row.cap) }
+    ensures covers { IfOk result (λ _. Covers (Related (arc_value relation.now)) (lengths_of seat.new)
+        source) }
+    ensures unchanged { IfErr result (λ _. seat.new ≡ seat.old) }
 {
-    relation.sound();
-    if is_shorter(closing, cap, relation.len()) {
-        let most = cap.unwrap_or(relation.len() as u16);
-        let cycle = cycle_through(relation, row, source, most, closing, room);
-        best.lower(seat, relation, &cycle);
-    }
+    let table: &Relation = relation;
+    table.sound();
+    let events = table.len();
+    let shared = Arc::try_clone(relation)?;
+    let labels = vec![in alloc; 0; events]?;
+    let cap = best.read(seat);
+    let (numbers, closing) = row_cut(table, source, cap, labels, sets);
+    publish_length(best, seat, cap, closing, events as u16);
+    Ok(LabelRow::of(shared, source, cap, numbers))
 }
 
 /// The row of a job, cut at the length of a cycle, at most each length that the seat knows, or, only where
@@ -100,22 +125,7 @@ pub fn row_under(
         job.now.source) }
     ensures unchanged { IfErr result (λ _. seat.new ≡ seat.old) }
 {
-    let relation: &Relation = job.relation();
-    relation.sound();
-    let cycle = Vec::with_capacity(alloc, relation.len())?;
-    let shared = Arc::try_clone(job.relation())?;
-    let room = Room::new(alloc, relation.len())?;
-    let cap = best.read(seat);
-    let (numbers, closing) = row_cut(relation, job.source(), cap, room);
-    publish_cycle(
-        relation,
-        best,
-        seat,
-        job.source(),
-        cap,
-        numbers.as_slice(),
-        closing,
-        cycle,
-    );
-    Ok(LabelRow::of(shared, job.source(), cap, numbers))
+    let relation = job.relation();
+    let mut sets = Sets::new(alloc, relation.len())?;
+    row_by_sets(alloc, relation, job.source(), best, seat, &mut sets)
 }

@@ -1,14 +1,17 @@
 //! The work of workers, on threads and here.
 
-ghost use Rattle.std.specs.Prelude.{◌≡◌, All, IfOk, IfSome};
-ghost use Rattle.best.specs.Seats.{IsBestSeatOf, known_of};
+ghost use Rattle.std.specs.Prelude.{◌≡◌, ◌<◌, All, IfOk, IfSome, length};
+ghost use Rattle.relations.specs.Relation.{Table};
+ghost use Rattle.best.specs.declared.seat.Best.{Best};
+ghost use Rattle.search.specs.Memory.{AreSets};
 ghost use Rattle.search.specs.Bound.{IsSeatFor, lengths_of};
-ghost use Rattle.search.specs.WorkerJobs.{IsRowFor, AreWorkerJobs, AreRowsOf, AreJobsFor, AreRowsFor};
+ghost use Rattle.search.specs.WorkerJobs.{IsRowFor, AreRowsOf, AreJobsFor, AreRowsFor};
 ghost use Rattle.search.specs.Started.{IsStarted};
 
 use crate::job::SourceJob;
 use crate::label_row::LabelRow;
-use crate::under::row_under;
+use crate::room::Sets;
+use crate::under::row_by_sets;
 use crate::worker_jobs::{RowsPromise, WorkerJobs, WorkerRows};
 use best::{Best, BestSeat};
 use common::{Gate, OutOfMemory};
@@ -26,17 +29,21 @@ fn make_row<G: Gate>(
     job: SourceJob,
     best: &Best,
     seat: &mut BestSeat,
+    sets: &mut Sets,
     rows: &mut Vec<LabelRow>,
     gate: &G,
 )
     requires seat { IsSeatFor best.now job.relation seat.old }
+    requires sets { AreSets (length job.relation) sets.old }
     requires rows { All (IsRowFor job.relation (lengths_of seat.old)) rows.old.items }
     ensures seat { IsSeatFor best.now job.relation seat.new }
+    ensures sets { AreSets (length job.relation) sets.new }
     ensures rows { All (IsRowFor job.relation (lengths_of seat.new)) rows.new.items }
 {
-    gate.begin(worker, job.source() as usize);
-    let made = row_under(alloc, &job, best, seat);
-    gate.done(worker, job.source() as usize);
+    let source = job.source();
+    gate.begin(worker, source as usize);
+    let made = row_by_sets(alloc, job.relation(), source, best, seat, sets);
+    gate.done(worker, source as usize);
     let Ok(row) = made else {
         return;
     };
@@ -44,8 +51,14 @@ fn make_row<G: Gate>(
 }
 
 /// The rows of a worker's jobs, but those that there was no memory for.
-fn work<G: Gate>(alloc: Global, worker_jobs: WorkerJobs, best: &Best, gate: &G) -> WorkerRows
-    requires { AreWorkerJobs best.now worker_jobs }
+fn work<G: Gate>(
+    alloc: Global,
+    worker_jobs: WorkerJobs,
+    best: &Best,
+    relation: &Relation,
+    gate: &G,
+) -> WorkerRows
+    requires { AreJobsFor best.now relation.now worker_jobs }
     ensures { AreRowsOf worker_jobs result }
 {
     let WorkerJobs {
@@ -54,8 +67,13 @@ fn work<G: Gate>(alloc: Global, worker_jobs: WorkerJobs, best: &Best, gate: &G) 
         jobs,
     } = worker_jobs;
     let mut rows = Vec::new(alloc);
+    let Ok(mut sets) = Sets::new(alloc, relation.len()) else {
+        return WorkerRows { seat, rows };
+    };
     for job in jobs {
-        make_row(alloc, worker, job, best, &mut seat, &mut rows, gate);
+        make_row(
+            alloc, worker, job, best, &mut seat, &mut sets, &mut rows, gate,
+        );
     }
     WorkerRows { seat, rows }
 }
@@ -66,16 +84,17 @@ fn start<'s, E, G: Gate>(
     alloc: Global,
     worker_jobs: WorkerJobs,
     best: &'s Best,
+    relation: &'s Relation,
     gate: &'s G,
 ) -> Option<PromisedHandle<WorkerRows, RowsPromise>>
-    requires { AreWorkerJobs best.now worker_jobs }
+    requires { AreJobsFor best.now relation.now worker_jobs }
     ensures { IfSome result (λ h. h.promise.0.value ≡ worker_jobs) }
 {
     let promise = RowsPromise(Snapshot::of(&worker_jobs));
     let work_there = move || -> WorkerRows
-        requires { AreWorkerJobs best.now worker_jobs }
+        requires { AreJobsFor best.now relation.now worker_jobs }
         ensures { AreRowsOf worker_jobs result }
-    { work(alloc, worker_jobs, best, gate) };
+    { work(alloc, worker_jobs, best, relation, gate) };
     match scope.spawn_with(promise, work_there) {
         Ok(child) => Some(child),
         Err(_) => None,
@@ -88,7 +107,7 @@ fn start_one<'s, E, G: Gate>(
     alloc: Global,
     worker_jobs: WorkerJobs,
     best: &'s Best,
-    relation: &Relation,
+    relation: &'s Relation,
     gate: &'s G,
     started: &mut Vec<PromisedHandle<WorkerRows, RowsPromise>>,
 )
@@ -96,8 +115,7 @@ fn start_one<'s, E, G: Gate>(
     requires started { All (IsStarted best.now relation.now) started.old.items }
     ensures { All (IsStarted best.now relation.now) started.new.items }
 {
-    let _ = relation;
-    let Some(child) = start(scope, alloc, worker_jobs, best, gate) else {
+    let Some(child) = start(scope, alloc, worker_jobs, best, relation, gate) else {
         return;
     };
     let _kept = started.push(child);
@@ -109,7 +127,7 @@ fn start_all<'s, E, G: Gate>(
     alloc: Global,
     jobs_of_workers: Vec<WorkerJobs>,
     best: &'s Best,
-    relation: &Relation,
+    relation: &'s Relation,
     gate: &'s G,
     started: Vec<PromisedHandle<WorkerRows, RowsPromise>>,
 ) -> Vec<PromisedHandle<WorkerRows, RowsPromise>>
@@ -117,7 +135,6 @@ fn start_all<'s, E, G: Gate>(
     requires started { All (IsStarted best.now relation.now) started.items }
     ensures { All (IsStarted best.now relation.now) result.items }
 {
-    let _ = relation;
     let mut started = started;
     for worker_jobs in jobs_of_workers {
         start_one(
@@ -137,16 +154,11 @@ fn start_all<'s, E, G: Gate>(
 fn join_one<R: Threads>(
     rt: &R,
     child: PromisedHandle<WorkerRows, RowsPromise>,
-    best: &Best,
-    relation: &Relation,
     rows_of_workers: &mut Vec<WorkerRows>,
 )
-    requires child { IsStarted best.now relation.now child }
-    requires rows_of_workers { All (AreRowsFor best.now relation.now) rows_of_workers.old.items }
-    ensures { All (AreRowsFor best.now relation.now) rows_of_workers.new.items }
+    ensures { (b : Best) (t : Table) → IsStarted b t child → All (AreRowsFor b t) rows_of_workers.old.items
+        → All (AreRowsFor b t) rows_of_workers.new.items }
 {
-    let _ = best;
-    let _ = relation;
     let worker_rows = child.join(rt);
     let _kept = rows_of_workers.push(worker_rows);
 }
@@ -155,19 +167,14 @@ fn join_one<R: Threads>(
 fn join_all<R: Threads>(
     rt: &R,
     started: Vec<PromisedHandle<WorkerRows, RowsPromise>>,
-    best: &Best,
-    relation: &Relation,
     rows_of_workers: Vec<WorkerRows>,
 ) -> Vec<WorkerRows>
-    requires started { All (IsStarted best.now relation.now) started.items }
-    requires rows_of_workers { All (AreRowsFor best.now relation.now) rows_of_workers.items }
-    ensures { All (AreRowsFor best.now relation.now) result.items }
+    ensures { (b : Best) (t : Table) → All (IsStarted b t) started.items
+        → All (AreRowsFor b t) rows_of_workers.items → All (AreRowsFor b t) result.items }
 {
-    let _ = best;
-    let _ = relation;
     let mut rows_of_workers = rows_of_workers;
     for child in started {
-        join_one(rt, child, best, relation, &mut rows_of_workers);
+        join_one(rt, child, &mut rows_of_workers);
     }
     rows_of_workers
 }
@@ -233,7 +240,7 @@ fn run_workers_into<R: Threads + Wait + Sync, G: Gate>(
         {
             let started = start_all(scope, alloc, jobs_of_workers, best, relation, gate, started);
             let rows_of_workers = work_here(alloc, mine, best, relation, gate, rows_of_workers);
-            join_all(rt, started, best, relation, rows_of_workers)
+            join_all(rt, started, rows_of_workers)
         },
     )
 }
@@ -251,9 +258,8 @@ fn work_here<G: Gate>(
     requires rows_of_workers { All (AreRowsFor best.now relation.now) rows_of_workers.items }
     ensures { All (AreRowsFor best.now relation.now) result.items }
 {
-    let _ = relation;
     let mut rows_of_workers = rows_of_workers;
-    let worker_rows = work(alloc, mine, best, gate);
+    let worker_rows = work(alloc, mine, best, relation, gate);
     let _kept = rows_of_workers.push(worker_rows);
     rows_of_workers
 }

@@ -1,4 +1,5 @@
-use Rattle.std.proofs.Common.{◌≡◌, None, List, length, sym, subst, arith}
+use Rattle.std.proofs.Common.{◌≡◌, ℕ, Option, None, List, length, sym, subst, arith}
+use Rattle.relations.specs.Relation.{Table}
 use Rattle.search.specs.SourceRow.{SourceRow, AreLeastRows}
 use Rattle.search.proofs.Labels.{least_none}
 use Rattle.search.proofs.alone.run_alone.Goals as goal
@@ -11,3 +12,8 @@ returns-then-is_empty c =
       subst (λ (rows : List SourceRow). AreLeastRows t None rows) (sym c.new.ensures.items)
           (least_none t c.args.jobs.items none h),
     )
+
+pub returns : goal.returns
+returns c = λ t h.
+    subst (λ (x : Table). (cap : Option ℕ) × AreLeastRows x cap c.in_ok-rows_alone.field-0.items)
+    (c.in_ok-relation.ensures t h.shared) c.in_ok-rows_alone.ensures

@@ -1,5 +1,4 @@
 use Rattle.std.proofs.Common.{◌≡◌, ◌∙◌, ℕ, Option, None, All, IfOk, List, [], length, sym, subst, arith}
-use Rattle.std.specs.Arc.{arc_value}
 use Rattle.relations.specs.Relation.{Table, Related}
 use Rattle.best.specs.Seats.{known_of}
 use Rattle.search.specs.SourceRow.{SourceRow, Job, AreLeastRows}
@@ -25,45 +24,33 @@ returns-then-is_empty-clause-knows g c =
 
 pub collected-requires-clause-seat : goal.collected-requires-clause-seat
 collected-requires-clause-seat g c κs within =
-    let t = (known_of c.args.seat.now).relation in
-    let is : arc_value c.in_ok-relation.relation ≡ t = c.in_ok-relation.ensures t
-    (subst (λ (jobs : List Job). All (λ (job : Job). job.relation ≡ t) jobs) (sym c.deref.ensures.value)
-    c.requires.jobs.shared) in
-    (c.requires.seat, sym is)
+    (c.requires.seat, sym (c.in_ok-relation.ensures (known_of c.args.seat.now).relation c.requires.jobs.shared))
 
 pub collected-requires-clause-jobs : goal.collected-requires-clause-jobs
 collected-requires-clause-jobs g c κs within =
-    let t = (known_of c.args.seat.now).relation in
-    let is : arc_value c.in_ok-relation.relation ≡ t = c.in_ok-relation.ensures t
-    (subst (λ (jobs : List Job). All (λ (job : Job). job.relation ≡ t) jobs) (sym c.deref.ensures.value)
-    c.requires.jobs.shared) in
-    subst (λ (x : Table). All (λ (job : Job). job.relation ≡ x) c.args.jobs.items) (sym is) c.requires.jobs.shared
+    subst (λ (t : Table). All (λ (job : Job). job.relation ≡ t) c.args.jobs.items)
+    (sym (c.in_ok-relation.ensures (known_of c.args.seat.now).relation c.requires.jobs.shared))
+    c.requires.jobs.shared
 
 pub returns-clause-seat : goal.returns-clause-seat
-returns-clause-seat g c =
-    let t = (known_of c.args.seat.now).relation in
-    let is : arc_value c.in_ok-relation.relation ≡ t = c.in_ok-relation.ensures t
-    (subst (λ (jobs : List Job). All (λ (job : Job). job.relation ≡ t) jobs) (sym c.deref.ensures.value)
-    c.requires.jobs.shared) in
-    (c.collected.ensures.seat.0, c.collected.ensures.seat.1 ∙ is)
+returns-clause-seat g c = (
+  c.collected.ensures.seat.0,
+  c.collected.ensures.seat.1 ∙ c.in_ok-relation.ensures (known_of c.args.seat.now).relation
+      c.requires.jobs.shared,
+)
 
 pub returns-clause-kept : goal.returns-clause-kept
 returns-clause-kept g c = c.collected.ensures.kept
 
 pub returns-clause-rows : goal.returns-clause-rows
 returns-clause-rows g c =
-    let t = (known_of c.args.seat.now).relation in
-    let is : arc_value c.in_ok-relation.relation ≡ t = c.in_ok-relation.ensures t
-    (subst (λ (jobs : List Job). All (λ (job : Job). job.relation ≡ t) jobs) (sym c.deref.ensures.value)
-    c.requires.jobs.shared) in
-    subst (λ (x : Table). IfOk c.collected.result (λ rows. (cap : Option ℕ) × AreLeastRows x cap rows.items)) is
+    subst (λ (t : Table). IfOk c.collected.result (λ rows. (cap : Option ℕ) × AreLeastRows t cap rows.items))
+    (c.in_ok-relation.ensures (known_of c.args.seat.now).relation c.requires.jobs.shared)
     c.collected.ensures.rows
 
 pub returns-clause-knows : goal.returns-clause-knows
 returns-clause-knows g c =
-    let t = (known_of c.args.seat.now).relation in
-    let is : arc_value c.in_ok-relation.relation ≡ t = c.in_ok-relation.ensures t
-    (subst (λ (jobs : List Job). All (λ (job : Job). job.relation ≡ t) jobs) (sym c.deref.ensures.value)
-    c.requires.jobs.shared) in
-    subst (λ (x : Table). IfOk c.collected.result
-    (λ _. KnowsShortest (Related x) (lengths_of c.collected.new.seat))) is c.collected.ensures.knows
+    subst (λ (t : Table). IfOk c.collected.result
+    (λ _. KnowsShortest (Related t) (lengths_of c.collected.new.seat)))
+    (c.in_ok-relation.ensures (known_of c.args.seat.now).relation c.requires.jobs.shared)
+    c.collected.ensures.knows

@@ -5,7 +5,7 @@ use Rattle.std.proofs.lemmas.Bool.{both_ways}
 use Rattle.relations.specs.Relation.{Related}
 use Rattle.labels.specs.Certified.{lists_of}
 use Rattle.search.specs.Cycles.{ClosesAt}
-use Rattle.search.proofs.Lengths.{row_seen}
+use Rattle.search.proofs.Labels.{row_seen}
 use Rattle.search.proofs.least.first_event.Goals as goal
 
 pub closes_at-requires : goal.closes_at-requires

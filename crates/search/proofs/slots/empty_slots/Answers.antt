@@ -1,7 +1,6 @@
 use Rattle.std.proofs.Common.{◌∷◌, [], Option, List, None, get_or, IfSome, length}
 use Rattle.std.proofs.Common.{length-append, arith, sym, ap, subst}
 use Rattle.search.specs.SourceRow.{SourceRow}
-use Rattle.search.specs.Bound.{lengths_of}
 use Rattle.search.specs.Slots.{IsRowFrom}
 use Rattle.search.proofs.Collected.{none_more}
 use Rattle.search.proofs.slots.empty_slots.Goals as goal
@@ -9,7 +8,6 @@ use Rattle.search.proofs.slots.empty_slots.Goals as goal
 pub loop-preserved : goal.loop-preserved
 loop-preserved c =
     let t = c.args.relation.now in
-    let lengths = lengths_of c.args.seat.now in
     let is = c.in_ok-push.ensures.items in (
       omega (
         arith,
@@ -18,14 +16,14 @@ loop-preserved c =
             (None ∷ []),
         c.loop.invariant.0,
       ),
-      (λ v d below. subst (λ (l : List (Option SourceRow)). IfSome (get_or l v d) (IsRowFrom t lengths v))
+      (λ lengths v d below. subst (λ (l : List (Option SourceRow)). IfSome (get_or l v d) (IsRowFrom t lengths v))
           (sym is)
-          (none_more t lengths c.loop.counter c.loop.slots.items c.loop.invariant.0 c.loop.invariant.1
+          (none_more t lengths c.loop.counter c.loop.slots.items c.loop.invariant.0 (c.loop.invariant.1 lengths)
           v d below)),
     )
 
 pub returns : goal.returns
-returns c = record {
+returns c = λ lengths. record {
   size = omega (arith, c.loop.invariant.0, c.loop-test.false, c.loop.auto.counter-end, c.len-end.ensures);
-  each = λ v d at. c.loop.invariant.1 v d (omega (arith, at, c.loop-test.false, c.len-end.ensures));
+  each = λ v d at. c.loop.invariant.1 lengths v d (omega (arith, at, c.loop-test.false, c.len-end.ensures));
 }

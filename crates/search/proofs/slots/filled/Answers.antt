@@ -2,7 +2,9 @@ use Rattle.std.proofs.Common.{◌≡◌, ◌+◌, ◌∙◌, ℕ, suc, Option, L
 use Rattle.std.proofs.Common.{length, arith, sym, ap, subst}
 use Rattle.std.specs.Arc.{arc_value}
 use Rattle.std.specs.Vec.Iter.{into_iter_items}
+use Rattle.relations.specs.Relation.{Table}
 use Rattle.search.specs.SourceRow.{SourceRow}
+use Rattle.search.specs.Memory.{AreSets}
 use Rattle.search.specs.Bound.{lengths_of}
 use Rattle.search.specs.Slots.{IsRowFrom, AreSlotsFilled}
 use Rattle.search.proofs.Collected.{drop_head, slot_kept}
@@ -29,6 +31,9 @@ add_row-requires-clause-slot g c κs within =
     (head.1 None) (c.requires.slots.each c.loop-slot.source None
     (omega (arith, head.0, c.requires.slots.size))))
 
+pub add_row-requires-clause-sets : goal.add_row-requires-clause-sets
+add_row-requires-clause-sets g c κs within = c.loop-slot.invariant.5
+
 pub add_row-requires-clause-rows : goal.add_row-requires-clause-rows
 add_row-requires-clause-rows g c κs within = c.loop-slot.invariant.2
 
@@ -51,6 +56,7 @@ loop-slot-preserved g c =
       c.in_ok-add_row.ensures.rows,
       head.2 ∙ ap (λ (k : ℕ). drop k c.args.slots.items) next,
       omega (arith, inv.4, ap (λ (l : List (Option SourceRow)). length l) steps),
+      c.add_row.ensures.sets,
     )
 
 pub returns-clause-seat : goal.returns-clause-seat
@@ -78,4 +84,6 @@ loop-slot-init g c =
       },
       all,
       omega (arith, ap (λ (l : List (Option SourceRow)). length l) all),
+      subst (λ (n : ℕ). AreSets n c.in_ok-sets.sets)
+          (c.len-2.ensures ∙ ap (λ (t : Table). length t) c.deref-2.ensures) c.in_ok-sets.ensures,
     )

@@ -1,6 +1,7 @@
 use Rattle.std.proofs.Common.{◌≡◌, ◌+◌, length, drop}
 use Rattle.std.specs.Arc.{arc_value}
 use Rattle.std.specs.Vec.Iter.{into_iter_items}
+use Rattle.search.specs.Memory.{AreSets}
 use Rattle.search.specs.Bound.{IsSeatFor, Keeps, lengths_of}
 use Rattle.search.specs.Slots.{AreSlotsFilled}
 use Rattle.search.proofs.slots.filled.Given as goal
@@ -12,3 +13,4 @@ invariant-loop-slot g l =
     × AreSlotsFilled (arc_value l.relation) (lengths_of l.seat) l.source l.rows.items
     × (into_iter_items l.slot-iterator ≡ drop l.source l.fn.slots.items)
     × (length (into_iter_items l.slot-iterator) + l.source ≡ length l.fn.slots.items)
+    × AreSets (length (arc_value l.relation)) l.sets

@@ -20,16 +20,14 @@ returns-clause-kept c =
     unites_left (known_of c.args.seat.now) (known_of c.args.worker_rows.seat) (known_of c.absorb.new.self)
     c.absorb.ensures.1
 
-pub put_rows-requires-clause-rows : goal.put_rows-requires-clause-rows
-put_rows-requires-clause-rows c =
-    rows_kept c.args.relation.now (lengths_of c.args.worker_rows.seat) (lengths_of c.absorb.new.self)
-    c.args.worker_rows.rows.items
-    (unites_right (known_of c.args.seat.now) (known_of c.args.worker_rows.seat)
-    (known_of c.absorb.new.self) c.absorb.ensures.1) c.requires.worker_rows.1
-
-pub put_rows-requires-clause-slots : goal.put_rows-requires-clause-slots
-put_rows-requires-clause-slots c =
-    slots_kept c.args.relation.now (lengths_of c.args.seat.now) (lengths_of c.absorb.new.self)
-    c.args.slots.now.items
-    (unites_left (known_of c.args.seat.now) (known_of c.args.worker_rows.seat)
-    (known_of c.absorb.new.self) c.absorb.ensures.1) c.requires.slots
+pub returns-clause-slots : goal.returns-clause-slots
+returns-clause-slots c =
+    let t = c.args.relation.now in
+    let before = known_of c.args.seat.now in
+    let other = known_of c.args.worker_rows.seat in
+    let after = known_of c.absorb.new.self in
+    c.put_rows.ensures t (lengths_of c.absorb.new.self)
+    (rows_kept t (lengths_of c.args.worker_rows.seat) (lengths_of c.absorb.new.self) c.args.worker_rows.rows.items
+    (unites_right before other after c.absorb.ensures.1) c.requires.worker_rows.1)
+    (slots_kept t (lengths_of c.args.seat.now) (lengths_of c.absorb.new.self) c.args.slots.now.items
+    (unites_left before other after c.absorb.ensures.1) c.requires.slots)

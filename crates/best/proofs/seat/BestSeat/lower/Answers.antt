@@ -1,4 +1,4 @@
-use Rattle.std.proofs.Common.{sym, ◌∙◌, ap, subst, refl, ℕ, length, arith}
+use Rattle.std.proofs.Common.{sym, ◌∙◌, ap, subst, arith}
 use Rattle.relations.specs.Relation.{Table}
 use Rattle.best.specs.Rule.{IsLength}
 use Rattle.best.proofs.Keeps.{lowers}
@@ -12,6 +12,6 @@ fetch_min-requires c =
     let key = ap (λ b. b.shared.key) t ∙ h.relation in (
       h.seated ∙ sym (ap (λ b. b.shared.table_id) t),
       omega (arith, size),
-      lowers _ _ _ _ _ (subst (λ (z : Table). IsLength z (length c.args.cycle.now)) (sym key)
-          (c.args.cycle.now, c.requires.cycle, refl, c.requires.short)) c.requires.small,
+      lowers _ _ _ _ _ (subst (λ (z : Table). IsLength z c.args.size) (sym key) c.requires.size)
+          c.requires.small,
     )
