@@ -1,14 +1,16 @@
 -- What a call is on the state that the words stand for.
-use Rattle.std.proofs.Common.{◌≡◌, ◌<◌, ◌+◌, ◌*◌, ℕ, Result, Ok, Err, List, [], ◌∷◌, length, map, replicate}
+use Rattle.std.proofs.Common.{◌≡◌, ◌<◌, ◌+◌, ◌*◌, ℕ, Result, Ok, Err, Vec, Global, List, [], ◌∷◌, length, map, replicate}
 use Rattle.std.proofs.Common.{slice_index, suc, zero, arith, refl, sym, ap, subst, ◌∙◌, OnOk, OnErr, IfErr}
 use Rattle.std.specs.List.{range_with_len}
+use Rattle.std.specs.Vec.{with_items}
+use Rattle.std.proofs.lemmas.List.{with_items_is}
 use Rattle.std.proofs.lemmas.List.FromFn.{length-range_with_len}
 use Rattle.moesi.specs.declared.cell.Cell.{Cell}
 use Rattle.moesi.specs.declared.error.CacheError.{CacheError}
 use Rattle.moesi.specs.Block.{Block, cell_of, invalid, opening_block}
 use Rattle.moesi.specs.State.{CacheState, block_of, memory_of, at_address, opening_caches}
 use Rattle.moesi.specs.Words.{cell_in}
-use Rattle.moesi.specs.Packed.{block_in, caches_in, StaysElsewhere}
+use Rattle.moesi.specs.Packed.{block_in, caches_in, IsRow}
 use Rattle.moesi.proofs.Grid.{block_at, blocks_length}
 use Rattle.moesi.proofs.Turning.{TurnsInto, caches_written, map_equal}
 use Rattle.moesi.proofs.Replaced.{seen}
@@ -49,43 +51,49 @@ module _ (cores n a : ℕ) (old : List ℕ) (step : Block → Result Block Cache
       let s : CacheState = caches_in cores n old in
       ap (λ (x : Block). at_address s a (step x)) (block_at cores n old a at) ∙ ap (at_address s a) h
 
--- what a call answers that turned a slice of the words, which became the words
-module _ {A : Type 0} (cores n a : ℕ) (old slice new last : List ℕ) (step : Block → Result Block CacheError)
-    (at : a < n) (lent : slice ≡ old) (back : last ≡ new) where
-  -- where it succeeds
-  pub answered_ok : (result : Result A CacheError) → StaysElsewhere cores n a slice new
-      → OnOk result (step (block_in cores n slice a) ≡ Ok (block_in cores n new a))
-      → OnOk result (at_address (caches_in cores n old) a (step (block_of (caches_in cores n old) a))
-      ≡ Ok (caches_in cores n last))
-  answered_ok (Ok x) elsewhere h =
-      subst (λ (ws : List ℕ). at_address (caches_in cores n ws) a (step (block_of (caches_in cores n ws) a))
-      ≡ Ok (caches_in cores n last)) lent
-      (taken_state cores n a slice step at new (block_in cores n new a)
-      (record { turned = refl; elsewhere = elsewhere }) h
-      ∙ ap (λ (ws : List ℕ). Ok (caches_in cores n ws)) (sym back))
-  answered_ok (Err e) elsewhere h = h
+-- what a call answers that took the caches from s to t by a row at one address
+pub record IsAnswer {A : Type 0} (step : Block → Result Block CacheError) (a : ℕ) (s t : CacheState)
+    (result : Result A CacheError) : Type 0 where
+  pub ok : OnOk result (at_address s a (step (block_of s a)) ≡ Ok t)
+  pub refused : IfErr result (λ e. at_address s a (step (block_of s a)) ≡ Err e)
+  pub unchanged : OnErr result (t ≡ s)
 
-  -- where it is refused
-  pub answered_refused : (result : Result A CacheError)
-      → IfErr result (λ e. step (block_in cores n slice a) ≡ Err e)
-      → IfErr result (λ e. at_address (caches_in cores n old) a
-      (step (block_of (caches_in cores n old) a)) ≡ Err e)
-  answered_refused (Ok x) h = h
-  answered_refused (Err e) h =
-      subst (λ (ws : List ℕ). at_address (caches_in cores n ws) a (step (block_of (caches_in cores n ws) a))
-      ≡ Err e) lent (refused_state cores n a slice step at e h)
+-- what holds before, and wherever the row leads, holds after
+pub answer_keeps : {A : Type 0} (step : Block → Result Block CacheError) (a : ℕ) (s t : CacheState)
+    (result : Result A CacheError) (P : CacheState → Type 0) → IsAnswer step a s t result → P s
+    → ((u : CacheState) → at_address s a (step (block_of s a)) ≡ Ok u → P u) → P t
+answer_keeps step a s t (Ok x) P h before leads = leads t h.ok
+answer_keeps step a s t (Err e) P h before leads = subst P (sym h.unchanged) before
 
-  -- what holds of the state before and wherever the row leads holds after
-  pub answered_kept : (result : Result A CacheError) (P : CacheState → Type 0)
-      → StaysElsewhere cores n a slice new
-      → OnOk result (step (block_in cores n slice a) ≡ Ok (block_in cores n new a))
-      → OnErr result (new ≡ slice) → P (caches_in cores n old)
-      → ((t : CacheState) → at_address (caches_in cores n old) a
-      (step (block_of (caches_in cores n old) a)) ≡ Ok t → P t)
-      → P (caches_in cores n last)
-  answered_kept (Ok x) P elsewhere h unchanged p kept = kept _ (answered_ok (Ok x) elsewhere h)
-  answered_kept (Err e) P elsewhere h unchanged p kept =
-      subst (λ (ws : List ℕ). P (caches_in cores n ws)) (sym (back ∙ (unchanged ∙ lent))) p
+-- a row on the words of the caches
+row_answered : {A : Type 0} (cores n a : ℕ) (old new : List ℕ) (step : Block → Result Block CacheError)
+    (result : Result A CacheError) → a < n → IsRow step cores n a old new result
+    → IsAnswer step a (caches_in cores n old) (caches_in cores n new) result
+row_answered cores n a old new step (Ok x) at row = record {
+  ok = taken_state cores n a old step at new (block_in cores n new a)
+      (record { turned = refl; elsewhere = row.elsewhere }) row.ok;
+  refused = row.refused;
+  unchanged = row.unchanged;
+}
+row_answered cores n a old new step (Err e) at row = record {
+  ok = row.ok;
+  refused = refused_state cores n a old step at e row.refused;
+  unchanged = ap (caches_in cores n) row.unchanged;
+}
+
+-- a row on a slice of the words of caches that are seen
+pub answered : {A : Type 0} (cores n a : ℕ) (words : Vec ℕ Global) (slice new : List ℕ)
+    (step : Block → Result Block CacheError) (result : Result A CacheError) (s : CacheState)
+    → caches_in cores n words.items ≡ s → a < length s.blocks → slice ≡ words.items → length new ≡ words.len
+    → IsRow step cores n a slice new result
+    → IsAnswer step a s (caches_in cores n (with_items words new).items) result
+answered cores n a words slice new step result s seen address lent size row =
+    let at : a < n = column cores n words.items a (subst (λ (t : CacheState). a < length t.blocks) (sym seen) address) in
+    let after : List ℕ = (with_items words new).items in
+    subst (λ (t : CacheState). IsAnswer step a t (caches_in cores n after) result) seen
+    (subst (λ (ws : List ℕ). IsAnswer step a (caches_in cores n ws) (caches_in cores n after) result) lent
+    (subst (λ (ws : List ℕ). IsAnswer step a (caches_in cores n slice) (caches_in cores n ws) result)
+    (sym (with_items_is words new size)) (row_answered cores n a slice new step result at row)))
 
 -- words that are all 0
 pub zeros : (k i : ℕ) → slice_index (replicate k 0) i ≡ 0

@@ -1,7 +1,9 @@
 -- The caches of some cores over some addresses as one list of words: core by core, and then memory.
-use Rattle.std.specs.Prelude.{◌≡◌, ◌≢◌, ◌<◌, ◌+◌, ◌*◌, ℕ, List, map, length, slice_index}
+use Rattle.std.specs.Prelude.{◌≡◌, ◌≢◌, ◌<◌, ◌+◌, ◌*◌, ℕ, List, Result, Ok, Err, map, length, slice_index}
+use Rattle.std.specs.Prelude.{OnOk, OnErr, IfErr}
 use Rattle.std.specs.List.{range_with_len}
 use Rattle.moesi.specs.declared.cell.Cell.{Cell}
+use Rattle.moesi.specs.declared.error.CacheError.{CacheError}
 use Rattle.moesi.specs.Block.{Block}
 use Rattle.moesi.specs.State.{CacheState}
 use Rattle.moesi.specs.Words.{cell_in}
@@ -34,3 +36,11 @@ pub record StaysElsewhere (cores addresses a : ℕ) (old new : List ℕ) : Type 
   pub size : length new ≡ length old
   pub others : (b : ℕ) → b < addresses → b ≢ a
       → block_in cores addresses new b ≡ block_in cores addresses old b
+
+-- a row of the table makes of one address what it says, or is refused and changes nothing
+pub record IsRow {A : Type 0} (row : Block → Result Block CacheError) (cores addresses a : ℕ) (old new : List ℕ)
+    (result : Result A CacheError) : Type 0 where
+  pub ok : OnOk result (row (block_in cores addresses old a) ≡ Ok (block_in cores addresses new a))
+  pub refused : IfErr result (λ e. row (block_in cores addresses old a) ≡ Err e)
+  pub unchanged : OnErr result (new ≡ old)
+  pub elsewhere : StaysElsewhere cores addresses a old new

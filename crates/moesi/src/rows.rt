@@ -1,8 +1,8 @@
 //! The table of transactions, on the words of one address.
 
-ghost use Rattle.std.specs.Prelude.{◌≡◌, ◌<◌, Ok, Err, OnOk, IfErr, OnErr};
+ghost use Rattle.std.specs.Prelude.{◌<◌};
 ghost use Rattle.moesi.specs.Rows.{get_s, get_m, get_m_stale, put};
-ghost use Rattle.moesi.specs.Packed.{AreWords, block_in, StaysElsewhere};
+ghost use Rattle.moesi.specs.Packed.{AreWords, IsRow};
 
 use crate::error::CacheError;
 use crate::line::Line;
@@ -20,12 +20,7 @@ pub(crate) fn get_s(
     requires words { AreWords cores addresses words.old }
     requires core { core < cores }
     requires address { addr < addresses }
-    ensures ok { OnOk result (get_s (block_in cores addresses words.old addr) core
-        ≡ Ok (block_in cores addresses words.new addr)) }
-    ensures refused { IfErr result (λ e.
-        get_s (block_in cores addresses words.old addr) core ≡ Err e) }
-    ensures unchanged { OnErr result (words.new ≡ words.old) }
-    ensures elsewhere { StaysElsewhere cores addresses addr words.old words.new }
+    ensures { IsRow (λ b. get_s b core) cores addresses addr words.old words.new result }
 {
     let at = place(core, addresses, addr);
     if unpack(words[at]).line.is_valid() {
@@ -48,12 +43,7 @@ pub(crate) fn get_m(
     requires words { AreWords cores addresses words.old }
     requires core { core < cores }
     requires address { addr < addresses }
-    ensures ok { OnOk result (get_m (block_in cores addresses words.old addr) core
-        ≡ Ok (block_in cores addresses words.new addr)) }
-    ensures refused { IfErr result (λ e.
-        get_m (block_in cores addresses words.old addr) core ≡ Err e) }
-    ensures unchanged { OnErr result (words.new ≡ words.old) }
-    ensures elsewhere { StaysElsewhere cores addresses addr words.old words.new }
+    ensures { IsRow (λ b. get_m b core) cores addresses addr words.old words.new result }
 {
     let at = place(core, addresses, addr);
     if unpack(words[at]).line.is_exclusive() {
@@ -76,12 +66,7 @@ pub(crate) fn get_m_stale(
     requires words { AreWords cores addresses words.old }
     requires core { core < cores }
     requires address { addr < addresses }
-    ensures ok { OnOk result (get_m_stale (block_in cores addresses words.old addr) core
-        ≡ Ok (block_in cores addresses words.new addr)) }
-    ensures refused { IfErr result (λ e.
-        get_m_stale (block_in cores addresses words.old addr) core ≡ Err e) }
-    ensures unchanged { OnErr result (words.new ≡ words.old) }
-    ensures elsewhere { StaysElsewhere cores addresses addr words.old words.new }
+    ensures { IsRow (λ b. get_m_stale b core) cores addresses addr words.old words.new result }
 {
     let at = place(core, addresses, addr);
     if unpack(words[at]).line.is_exclusive() {
@@ -104,12 +89,7 @@ pub(crate) fn put(
     requires words { AreWords cores addresses words.old }
     requires core { core < cores }
     requires address { addr < addresses }
-    ensures ok { OnOk result (put (block_in cores addresses words.old addr) core
-        ≡ Ok (block_in cores addresses words.new addr)) }
-    ensures refused { IfErr result (λ e.
-        put (block_in cores addresses words.old addr) core ≡ Err e) }
-    ensures unchanged { OnErr result (words.new ≡ words.old) }
-    ensures elsewhere { StaysElsewhere cores addresses addr words.old words.new }
+    ensures { IsRow (λ b. put b core) cores addresses addr words.old words.new result }
 {
     let at = place(core, addresses, addr);
     let word = words[at];

@@ -4,20 +4,22 @@ use Rattle.moesi.specs.declared.line.Line.TheVariants.{M}
 use Rattle.moesi.specs.declared.cell.Cell.{Cell}
 use Rattle.moesi.specs.Lines.{is_exclusive}
 use Rattle.moesi.specs.Block.{Block, cell_of, supplied}
+use Rattle.moesi.specs.Rows as row
 use Rattle.moesi.specs.Packed.{block_in, block_by}
 use Rattle.moesi.specs.Rows.{left_stale}
-use Rattle.moesi.proofs.Turning.{TurnsInto}
+use Rattle.moesi.proofs.Turning.{TurnsInto, row_refused, row_taken}
 use Rattle.moesi.proofs.Replaced.{seen, turns_line}
 use Rattle.moesi.proofs.rows.get_m_stale.Goals as goal
 
-pub returns-then-is_exclusive-clause-refused : goal.returns-then-is_exclusive-clause-refused
-returns-then-is_exclusive-clause-refused c =
+pub returns-then-is_exclusive : goal.returns-then-is_exclusive
+returns-then-is_exclusive c =
     let b : Block = block_in c.args.cores c.args.addresses c.args.words.now c.args.addr in
     let line : cell_of b c.args.core ≡ c.unpack.result =
     seen c.args.cores c.args.addresses c.args.words.now c.args.core c.args.addr c.place-at.result
     c.unpack.result c.requires.core c.place-at.ensures c.unpack.ensures in
     let on : is_exclusive c.unpack.result.line ≡ true = cc in
-    cond-true _ _ _ (ap (λ (x : Cell). is_exclusive x.line) line ∙ on)
+    row_refused (λ (b : Block). row.get_m_stale b c.args.core) c.args.cores c.args.addresses c.args.addr c.args.words.now _
+    (cond-true _ _ _ (ap (λ (x : Cell). is_exclusive x.line) line ∙ on))
 
 pub returns : goal.returns
 returns c =
@@ -39,9 +41,5 @@ returns c =
     c.relined.result x c.requires.core c.place-at.ensures
     (c.relined.ensures ∙ ap (λ (d : ℕ × Option ℕ). record { line = M; copy = d }) c.asked-word.ensures.given)
     in
-    record {
-      ok = cond-false _ _ _ (ap (λ (y : Cell). is_exclusive y.line) line ∙ off) ∙ ap Ok (sym all.turned);
-      refused = search rules;
-      unchanged = search rules;
-      elsewhere = all.elsewhere;
-    }
+    row_taken (λ (b : Block). row.get_m_stale b c.args.core) c.args.cores c.args.addresses c.args.addr c.args.words.now _ _ _
+    all (cond-false _ _ _ (ap (λ (y : Cell). is_exclusive y.line) line ∙ off))

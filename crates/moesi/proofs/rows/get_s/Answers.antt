@@ -6,21 +6,23 @@ use Rattle.moesi.specs.declared.cell.Cell.{Cell}
 use Rattle.moesi.specs.Lines.{is_valid}
 use Rattle.moesi.specs.Block.{Block, cell_of, has_copy, supplied}
 use Rattle.moesi.specs.Words.{cell_in}
+use Rattle.moesi.specs.Rows as row
 use Rattle.moesi.specs.Packed.{block_in, block_by}
 use Rattle.moesi.specs.Rows.{shared}
-use Rattle.moesi.proofs.Turning.{TurnsInto}
+use Rattle.moesi.proofs.Turning.{TurnsInto, row_refused, row_taken}
 use Rattle.moesi.proofs.Replaced.{seen, turns_line}
 use Rattle.moesi.proofs.rows.get_s.Goals as goal
 use Rattle.moesi.proofs.rows.get_s.Goals.{then-valid, else-valid}
 
-pub returns-then-is_valid-clause-refused : goal.returns-then-is_valid-clause-refused
-returns-then-is_valid-clause-refused c =
+pub returns-then-is_valid : goal.returns-then-is_valid
+returns-then-is_valid c =
     let b : Block = block_in c.args.cores c.args.addresses c.args.words.now c.args.addr in
     let line : cell_of b c.args.core ≡ c.unpack.result =
     seen c.args.cores c.args.addresses c.args.words.now c.args.core c.args.addr c.place-at.result
     c.unpack.result c.requires.core c.place-at.ensures c.unpack.ensures in
     let on : is_valid c.unpack.result.line ≡ true = cc in
-    cond-true _ _ _ (ap (λ (x : Cell). is_valid x.line) line ∙ on)
+    row_refused (λ (b : Block). row.get_s b c.args.core) c.args.cores c.args.addresses c.args.addr c.args.words.now _
+    (cond-true _ _ _ (ap (λ (x : Cell). is_valid x.line) line ∙ on))
 
 pub returns : goal.returns
 returns c =
@@ -52,9 +54,5 @@ returns c =
     let all = turns_line c.args.cores c.args.addresses c.args.addr c.args.words.now
     mid turned c.requires.words c.requires.address others c.args.core c.place-at.result
     c.relined.result x c.requires.core c.place-at.ensures is in
-    record {
-      ok = cond-false _ _ _ (ap (λ (y : Cell). is_valid y.line) line ∙ off) ∙ ap Ok (sym all.turned);
-      refused = search rules;
-      unchanged = search rules;
-      elsewhere = all.elsewhere;
-    }
+    row_taken (λ (b : Block). row.get_s b c.args.core) c.args.cores c.args.addresses c.args.addr c.args.words.now _ _ _
+    all (cond-false _ _ _ (ap (λ (y : Cell). is_valid y.line) line ∙ off))

@@ -7,19 +7,20 @@ use Rattle.moesi.specs.Lines.{is_valid, is_owned}
 use Rattle.moesi.specs.Block.{Block, cell_of, invalid}
 use Rattle.moesi.specs.Rows as row
 use Rattle.moesi.specs.Packed.{block_in}
-use Rattle.moesi.proofs.Turning.{TurnsInto}
+use Rattle.moesi.proofs.Turning.{TurnsInto, row_refused, row_taken}
 use Rattle.moesi.proofs.Replaced.{seen, turns_none, turns_line, turns_memory}
 use Rattle.moesi.proofs.rows.put.Goals as goal
 use Rattle.moesi.proofs.rows.put.Goals.{then-is_owned, else-is_owned}
 
-pub returns-then-not-is_valid-clause-refused : goal.returns-then-not-is_valid-clause-refused
-returns-then-not-is_valid-clause-refused c =
+pub returns-then-not-is_valid : goal.returns-then-not-is_valid
+returns-then-not-is_valid c =
     let b : Block = block_in c.args.cores c.args.addresses c.args.words.now c.args.addr in
     let line : cell_of b c.args.core ≡ c.unpack-line.result =
     seen c.args.cores c.args.addresses c.args.words.now c.args.core c.args.addr c.place-at.result
     c.unpack-line.result c.requires.core c.place-at.ensures c.unpack-line.ensures in
     let off : is_valid c.unpack-line.result.line ≡ false = cc in
-    cond-false _ _ _ (ap (λ (x : Cell). is_valid x.line) line ∙ off)
+    row_refused (λ (b : Block). row.put b c.args.core) c.args.cores c.args.addresses c.args.addr c.args.words.now _
+    (cond-false _ _ _ (ap (λ (x : Cell). is_valid x.line) line ∙ off))
 
 pub returns : goal.returns
 returns c =
@@ -58,9 +59,5 @@ returns c =
     let taken : row.put b c.args.core ≡ by (cell_of b c.args.core) =
     cond-true _ _ _ (ap (λ (y : Cell). is_valid y.line) line ∙ on) in
     let put_line : row.put b c.args.core ≡ by x = taken ∙ ap by line in
-    record {
-      ok = put_line ∙ ap Ok (sym all.turned);
-      refused = search rules;
-      unchanged = search rules;
-      elsewhere = all.elsewhere;
-    }
+    row_taken (λ (b : Block). row.put b c.args.core) c.args.cores c.args.addresses c.args.addr c.args.words.now _ _ _
+    all (put_line)
