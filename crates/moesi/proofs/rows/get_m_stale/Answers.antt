@@ -1,4 +1,4 @@
-use Rattle.std.proofs.Common.{rules, ◌≡◌, ℕ, true, false, Option, List, Ok, ap, sym, ◌∙◌}
+use Rattle.std.proofs.Common.{◌≡◌, ℕ, true, false, Option, List, ap, ◌∙◌}
 use Rattle.std.proofs.lemmas.Bool.{cond-true, cond-false}
 use Rattle.moesi.specs.declared.line.Line.TheVariants.{M}
 use Rattle.moesi.specs.declared.cell.Cell.{Cell}

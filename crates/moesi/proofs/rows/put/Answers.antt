@@ -1,4 +1,4 @@
-use Rattle.std.proofs.Common.{rules, ◌≡◌, ℕ, true, false, cond, Option, List, Result, Ok, slice_set, ap}
+use Rattle.std.proofs.Common.{◌≡◌, ℕ, true, false, cond, Option, List, Result, Ok, slice_set, ap}
 use Rattle.std.proofs.Common.{refl, sym, ◌∙◌}
 use Rattle.std.proofs.lemmas.Bool.{cond-true, cond-false}
 use Rattle.moesi.specs.declared.cell.Cell.{Cell}
