@@ -24,9 +24,11 @@ returns-in_ok-least_certificate-in-None-clause-verdict c =
     (c.relation_is_forced.ensures.least_cycles t x) (c.relation_is_forced.ensures.rows t x)
     (c.forced_is_exact.ensures.respects x) (c.ordered_is_acyclic.ensures.forced x) c.sound.ensures.well_formed
     (subst (λ (o : Option Verdict). IfNone o (HasNoOverlook x)) c.in-None.is c.in_ok-verdict.ensures.no_overlook)
-    _ c.in_ok-relation-in-None.ensures.ok c.in_ok-least_certificate-in-None.field-0 c.in_ok-least_certificate-in-None.ensures
+    _ c.in_ok-relation-in-None.ensures.ok c.in_ok-least_certificate-in-None.field-0
+    c.in_ok-least_certificate-in-None.ensures
 
-pub returns-in_ok-least_certificate-in-None-clause-verified : goal.returns-in_ok-least_certificate-in-None-clause-verified
+pub returns-in_ok-least_certificate-in-None-clause-verified
+    : goal.returns-in_ok-least_certificate-in-None-clause-verified
 returns-in_ok-least_certificate-in-None-clause-verified c =
     let x = c.args.recording.now in
     let of = c.in_ok-of-in-None in

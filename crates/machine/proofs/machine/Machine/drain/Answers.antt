@@ -91,8 +91,8 @@ returns-clause-ok c =
 pub returns-then-core-cores-clause-blocked : goal.returns-then-core-cores-clause-blocked
 returns-then-core-cores-clause-blocked c =
     let none = subst (λ (n : ℕ). n ≤ c.args.core) c.cores.ensures.count c.if-core-cores.true in
-    rw (← c.self.view_is) (refused.no_core_drains c.self.inside.program.cores c.self.inside.capacity c.self.inside.fault _
-    c.args.core none)
+    rw (← c.self.view_is) (refused.no_core_drains c.self.inside.program.cores c.self.inside.capacity
+    c.self.inside.fault _ c.args.core none)
 
 pub write-requires-clause-core : goal.write-requires-clause-core
 write-requires-clause-core c =
