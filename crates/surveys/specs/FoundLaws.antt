@@ -22,7 +22,7 @@ use Rattle.ledger.specs.declared.finding.Finding.TheVariants.{Refused}
 use Rattle.ledger.specs.Counts.{IsLedger}
 use Rattle.ledger.specs.FindingLaws as verdicts
 use Rattle.ledger.specs.LedgerLaws as laws
-use Rattle.surveys.specs.Found.{IsGiven, given_finding, AreFindings, codes_of}
+use Rattle.surveys.specs.Found.{IsLineResult, given_finding, AreFindings, codes_of}
 use Rattle.surveys.specs.Lines.{lines}
 use Rattle.surveys.specs.OneSurvey.{EveryLineHasOneFinding, EverySurveyCountsTheSame, EverySurveyTellsTheSame}
 use Rattle.surveys.specs.Surveys.{told_text}
@@ -222,7 +222,7 @@ ok_and_err : (x : Execution) (r : RecError) → gives x ≡ refuses r → ⊥
 ok_and_err x r e = absurd cc
 
 -- what a line gives finds one thing
-one_given : (bytes : List ℕ) (f g : Result Verdict RecError) → IsGiven bytes f → IsGiven bytes g
+one_given : (bytes : List ℕ) (f g : Result Verdict RecError) → IsLineResult bytes f → IsLineResult bytes g
     → given_finding f ≡ given_finding g
 one_given bytes (Ok v) (Ok w) a b =
     let same : a.recording ≡ b.recording = same_ok _ _ (one_reading bytes (Ok a.recording) (Ok b.recording) a.read
