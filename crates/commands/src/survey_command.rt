@@ -4,7 +4,7 @@ ghost use Rattle.std.specs.Io.KnownBytes.{IsAtEnd};
 ghost use Rattle.devices.specs.Bytes.{CanGrow, CountsBy};
 ghost use Rattle.surveys.specs.Surveys.{IsSurveyOfRead};
 ghost use Rattle.surveys.specs.Surveys as errors;
-ghost use Rattle.inputs.specs.Inputs.{CanRead, Reads, ReadsInput, seen};
+ghost use Rattle.inputs.specs.Inputs.{CanRead, ReadsNamed, ReadsInput, seen};
 ghost use Rattle.commands.specs.Output.{failed_writes};
 ghost use Rattle.commands.specs.Survey.{IsCountedInput, IsEachFault, IsEachWritten, IsLineOfInput, IsSurveyBy};
 ghost use Rattle.commands.specs.Survey.{IsSurveyFault, IsSurveyOf, IsSurveyError, IsSurveyErrorBy, IsSurveyed};
@@ -158,7 +158,7 @@ fn shown_line<P: Place>(
     requires { CanRead (P.tally place.old) }
     ensures ok { IfOk result (IsSurveyBy (P.bytes place.old) options.now (Some k)) }
     ensures err { IfErr result (IsSurveyErrorBy (P.bytes place.old) options.now (Some k)) }
-    ensures reads { Reads (string_bytes options.now.file ∷ []) (seen (P.asked place.old) (P.asked place.new)
+    ensures reads { ReadsNamed (string_bytes options.now.file ∷ []) (seen (P.asked place.old) (P.asked place.new)
         (P.tally place.old) (P.tally place.new)) result }
 {
     match line_at(alloc, options, k, place)? {
@@ -178,7 +178,7 @@ pub fn survey_command<R: Threads + Wait + Sync, P: Place>(
     requires inputs { CanRead (P.tally place.old) }
     ensures ok { IfOk result (IsSurveyOf (P.bytes place.old) options.now) }
     ensures err { IfErr result (IsSurveyError (P.bytes place.old) options.now) }
-    ensures reads { Reads (string_bytes options.now.file ∷ []) (seen (P.asked place.old) (P.asked place.new)
+    ensures reads { ReadsNamed (string_bytes options.now.file ∷ []) (seen (P.asked place.old) (P.asked place.new)
         (P.tally place.old) (P.tally place.new)) result }
 {
     match options.show {

@@ -63,9 +63,9 @@ pub record AreStopped (names : List (List ℕ)) (error : CommandError) (s : Seen
   pub ended : AreEnded error s
 
 -- the inputs of these names were read, or not all were
-abbrev pub Reads : {X : Type 0} → List (List ℕ) → Seen → Result X CommandError → Type 0
-Reads names s (Ok x) = AreRead names s
-Reads names s (Err error) = AreStopped names error s
+abbrev pub ReadsNamed : {X : Type 0} → List (List ℕ) → Seen → Result X CommandError → Type 0
+ReadsNamed names s (Ok x) = AreRead names s
+ReadsNamed names s (Err error) = AreStopped names error s
 
 -- the input of this name was read, or it was not
 abbrev pub ReadsInput : {X : Type 0} → List ℕ → Seen → Result X CommandFault → Type 0
