@@ -90,8 +90,8 @@ failed_cas_in d =
     (at_key number_in (codes "a") d)
 
 -- an event of a kind, in an object with this many keys
-unfoldable pub event_of : List ℕ → ℕ → Data → Option Event
-event_of k n d =
+unfoldable pub event_of_kind : List ℕ → ℕ → Data → Option Event
+event_of_kind k n d =
     if bytes_eq k (codes "L") && n == 4 then load_in d
     else (if bytes_eq k (codes "S") && n == 3 then store_in d
     else (if bytes_eq k (codes "R") && n == 5 then rmw_in d
@@ -99,7 +99,7 @@ event_of k n d =
     else (if bytes_eq k (codes "F") && n == 1 then Some F else None))))
 
 unfoldable pub event_in : Data → Option Event
-event_in d = option_and_then (λ n. option_and_then (λ k. event_of k n d) (at_key as_str (codes "k") d))
+event_in d = option_and_then (λ n. option_and_then (λ k. event_of_kind k n d) (at_key as_str (codes "k") d))
     (option_map count_members (as_object d))
 
 -- the initial values of an object with this many keys: none with three, and the fourth of four
