@@ -7,7 +7,7 @@ use Rattle.devices.specs.Places.{Notes}
 use Rattle.inputs.specs.declared.fault.CommandFault.TheVariants.{OutOfMemory}
 use Rattle.inputs.specs.declared.command_error.CommandError.{CommandError}
 use Rattle.inputs.specs.declared.command_error.CommandError.TheVariants.{Refused, Fault}
-use Rattle.inputs.specs.Inputs.{AreEnded, AreRead, AreStopped, ReadsNamed, Seen, failed_reads, seen}
+use Rattle.inputs.specs.Inputs.{AreEnded, AreRead, AreStopped, ReadsNamed, Seen, command_failed_reads, seen}
 
 -- nothing was asked for
 pub notes_none : (told : Option (List (List ℕ))) → Notes told told []
@@ -24,8 +24,8 @@ notes_then (Some a) (Some b) (Some c) xs ys first then =
     then ∙ ap (λ (l : List (List ℕ)). l ++ ys) first ∙ append_assoc a xs ys
 
 -- where all was read, no read failed
-pub stopped_later : (names : List (List ℕ)) (error : CommandError) (s : Seen) → failed_reads error ≡ 0 → AreRead names s
-    → AreStopped names error s
+pub stopped_later : (names : List (List ℕ)) (error : CommandError) (s : Seen) → command_failed_reads error ≡ 0
+    → AreRead names s → AreStopped names error s
 stopped_later names error s none read = record {
   front = names;
   rest = [];
@@ -123,7 +123,7 @@ stopped_among names i name error a b c t u v low is read one =
     (stopped_after (take i names) (name ∷ []) error a b c t u v read one))
 
 -- the first inputs were read, and no more
-pub stopped_behind : (names : List (List ℕ)) (i : ℕ) (error : CommandError) (s : Seen) → failed_reads error ≡ 0
+pub stopped_behind : (names : List (List ℕ)) (i : ℕ) (error : CommandError) (s : Seen) → command_failed_reads error ≡ 0
     → AreRead (take i names) s → AreStopped names error s
 stopped_behind names i error s none read =
     subst (λ (l : List (List ℕ)). AreStopped l error s) (take-append-drop i names)

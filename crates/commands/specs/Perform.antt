@@ -30,7 +30,7 @@ use Rattle.command_line.specs.declared.options.OptionFault.TheVariants as refuse
 use Rattle.command_line.specs.Commands.{command_of}
 use Rattle.command_line.specs.declared.options.LiveOptions.{LiveOptions}
 use Rattle.command_line.specs.declared.options.RunOptions.{RunOptions}
-use Rattle.inputs.specs.Inputs.{AreBytesOf, AreRead, AreStopped, IsInputFault, Seen, failed_reads}
+use Rattle.inputs.specs.Inputs.{AreBytesOf, AreRead, AreStopped, IsInputFault, Seen, command_failed_reads}
 use Rattle.commands.specs.Names.{names_of}
 use Rattle.report.specs.Answer.{IsAnswerOf}
 use Rattle.commands.specs.Judge.{AnswerHolds, IsJudgeFault}
@@ -202,4 +202,4 @@ IsFaultOf inputs words s fault =
 abbrev pub Tallies : {X : Type 0} → Tally → Tally → Result X CommandFault → Type 0
 Tallies before after (Ok x) = after ≡ before
 Tallies before after (Err fault) = (after.lent ≡ before.lent)
-    × (after.failed ≡ before.failed + failed_reads (Fault fault))
+    × (after.failed ≡ before.failed + command_failed_reads (Fault fault))

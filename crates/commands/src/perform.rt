@@ -6,7 +6,7 @@ ghost use Rattle.command_line.specs.Options.{AreOptions};
 ghost use Rattle.devices.specs.Bytes.{CanGrow, CountsBy};
 ghost use Rattle.inputs.specs.Inputs.{AreRead, CanRead, ReadsNamed, seen};
 ghost use Rattle.commands.specs.Names.{names_of};
-ghost use Rattle.commands.specs.Output.{IsBegun, IsPut, failed_writes};
+ghost use Rattle.commands.specs.Output.{IsBegun, IsPut, command_failed_writes};
 ghost use Rattle.commands.specs.Perform.{IsAnswerTo, IsCommandError, IsFaultFor, IsFaultOf, IsHelp, IsNoJudge};
 ghost use Rattle.commands.specs.Perform.{IsOptionError, IsPrinted, IsPrintedWithout, IsShown, IsWritten};
 ghost use Rattle.commands.specs.Perform.{PrintsAtOnce, PrintsEarly, Tallies};
@@ -163,7 +163,7 @@ fn performed<R: Threads + Wait + Sync, P: Place, W: Sink>(
     ensures fault { IfErr result (IsFaultFor (P.bytes place.old) options.now (seen (P.asked place.old)
         (P.asked place.new) (P.tally place.old) (P.tally place.new))) }
     ensures reads { Tallies (P.tally place.old) (P.tally place.new) result }
-    ensures writes { CountsBy failed_writes (W.write_failures out.old) (W.write_failures out.new) result }
+    ensures writes { CountsBy command_failed_writes (W.write_failures out.old) (W.write_failures out.new) result }
     ensures unwritten { IfErr result (λ fault. fault ≢ CommandFault.WriteFailed → (PrintsEarly options.now → ⊥)
         → out.new ≡ out.old) }
 {
@@ -192,7 +192,7 @@ fn explained_options<P: Place, W: Sink>(
         (P.asked place.new) (P.tally place.old) (P.tally place.new))) (W.written out.old) (W.written out.new) }
     ensures fault { IfErr result (λ f. IsOptionError fault (CommandError.Fault f) ⊎ (f ≡ CommandFault.WriteFailed)) }
     ensures read { AreRead [] (seen (P.asked place.old) (P.asked place.new) (P.tally place.old) (P.tally place.new)) }
-    ensures writes { CountsBy failed_writes (W.write_failures out.old) (W.write_failures out.new) result }
+    ensures writes { CountsBy command_failed_writes (W.write_failures out.old) (W.write_failures out.new) result }
     ensures unwritten { IfErr result (λ f. f ≢ CommandFault.WriteFailed → out.new ≡ out.old) }
 {
     let answer = shown(place, without_options(alloc, fault))?;
@@ -221,7 +221,7 @@ pub fn perform<R: Threads + Wait + Sync, P: Place, W: Sink>(
     ensures fault { IfErr result (IsFaultOf (P.bytes place.old) (map string_bytes words.now)
         (seen (P.asked place.old) (P.asked place.new) (P.tally place.old) (P.tally place.new))) }
     ensures reads { Tallies (P.tally place.old) (P.tally place.new) result }
-    ensures writes { CountsBy failed_writes (W.write_failures out.old) (W.write_failures out.new) result }
+    ensures writes { CountsBy command_failed_writes (W.write_failures out.old) (W.write_failures out.new) result }
     // An error leaves the sink as it was, unless a write failed or lines of recordings came before it.
     ensures unwritten { IfErr result (λ fault. fault ≢ CommandFault.WriteFailed
         → PrintsAtOnce (map string_bytes words.now) → out.new ≡ out.old) }

@@ -42,9 +42,9 @@ abbrev pub AreRead : List (List ℕ) → Seen → Type 0
 AreRead names s = Notes s.asked_before s.asked_after names × (s.after ≡ s.before)
 
 -- how many reads failed where a command stops
-abbrev pub failed_reads : CommandError → ℕ
-failed_reads (Fault ReadFailed) = 1
-failed_reads other = 0
+abbrev pub command_failed_reads : CommandError → ℕ
+command_failed_reads (Fault ReadFailed) = 1
+command_failed_reads other = 0
 
 -- where a text is refused, each input that was opened was read to its end
 abbrev pub AreEnded : CommandError → Seen → Type 0
@@ -59,7 +59,7 @@ pub record AreStopped (names : List (List ℕ)) (error : CommandError) (s : Seen
   pub parts : names ≡ front ++ rest
   pub asked : Notes s.asked_before s.asked_after front
   pub lent : s.after.lent ≡ s.before.lent
-  pub failed : s.after.failed ≡ s.before.failed + failed_reads error
+  pub failed : s.after.failed ≡ s.before.failed + command_failed_reads error
   pub ended : AreEnded error s
 
 -- the inputs of these names were read, or not all were

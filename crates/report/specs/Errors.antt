@@ -11,11 +11,11 @@ unread read.ReadFailed = ReadFailed
 unread read.OutOfMemory = OutOfMemory
 
 -- how many reads failed
-abbrev pub failed_reads : ReportError → ℕ
-failed_reads ReadFailed = 1
-failed_reads other = 0
+abbrev pub report_failed_reads : ReportError → ℕ
+report_failed_reads ReadFailed = 1
+report_failed_reads other = 0
 
 -- how many writes failed
-abbrev pub failed_writes : ReportError → ℕ
-failed_writes WriteFailed = 1
-failed_writes other = 0
+abbrev pub report_failed_writes : ReportError → ℕ
+report_failed_writes WriteFailed = 1
+report_failed_writes other = 0

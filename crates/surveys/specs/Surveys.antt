@@ -53,11 +53,11 @@ unread errors.ReadFailed = ReadFailed
 unread errors.OutOfMemory = OutOfMemory
 
 -- how many reads failed
-abbrev pub failed_reads : SurveyError → ℕ
-failed_reads ReadFailed = 1
-failed_reads other = 0
+abbrev pub survey_failed_reads : SurveyError → ℕ
+survey_failed_reads ReadFailed = 1
+survey_failed_reads other = 0
 
 -- how many writes failed
-abbrev pub failed_writes : SurveyError → ℕ
-failed_writes WriteFailed = 1
-failed_writes other = 0
+abbrev pub survey_failed_writes : SurveyError → ℕ
+survey_failed_writes WriteFailed = 1
+survey_failed_writes other = 0
