@@ -5,7 +5,7 @@ ghost use Rattle.clap.specs.Words.{Row, Text};
 ghost use Rattle.command_line.specs.Options.{AreOptions};
 ghost use Rattle.devices.specs.Bytes.{CanGrow, CountsBy};
 ghost use Rattle.inputs.specs.Inputs.{AreRead, CanRead, ReadsNamed, seen};
-ghost use Rattle.commands.specs.Names.{names_of};
+ghost use Rattle.commands.specs.Names.{input_names};
 ghost use Rattle.commands.specs.Output.{IsBegun, IsPut, command_failed_writes};
 ghost use Rattle.commands.specs.Perform.{IsAnswerTo, IsCommandError, IsFaultFor, IsFaultOf, IsHelp, IsNoJudge};
 ghost use Rattle.commands.specs.Perform.{IsOptionError, IsPrinted, IsPrintedWithout, IsShown, IsWritten};
@@ -74,7 +74,7 @@ fn answer_to<R: Threads + Wait + Sync, P: Place>(
     requires inputs { CanRead (P.tally place.old) }
     ensures ok { IfOk result (IsAnswerTo (P.bytes place.old) options.now) }
     ensures err { IfErr result (IsCommandError (P.bytes place.old) options.now) }
-    ensures reads { ReadsNamed (names_of options.now) (seen (P.asked place.old) (P.asked place.new)
+    ensures reads { ReadsNamed (input_names options.now) (seen (P.asked place.old) (P.asked place.new)
         (P.tally place.old) (P.tally place.new)) result }
 {
     match options {
