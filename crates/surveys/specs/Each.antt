@@ -16,15 +16,15 @@ line_or_none None = []
 line_or_none (Some line) = line
 
 -- the line of a refusal
-abbrev pub refusal_line : RecError → List ℕ
-refusal_line refusal = line_or_none (recording_line refusal)
+abbrev pub recording_refusal_line : RecError → List ℕ
+recording_refusal_line refusal = line_or_none (recording_line refusal)
 
 -- the line of what is found
 abbrev pub finding_line : Finding → List ℕ
 finding_line Ordered = codes "ordered" ++ 10 ∷ []
 finding_line (Overlook load store) = overlook_line load store
 finding_line (Cycle n) = cycle_length_line n
-finding_line (Refused refusal) = refusal_line refusal
+finding_line (Refused refusal) = recording_refusal_line refusal
 
 -- the number of a recording and what is found in it
 abbrev pub each_line : ℕ → Finding → List ℕ
