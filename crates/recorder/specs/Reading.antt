@@ -109,8 +109,8 @@ values_in n d =
     else (if n == 4 then option_map Some (at_key (list_in value_in) (codes "init") d) else None)
 
 -- the contents of an object, with initial values or without
-unfoldable pub shape_of : Option (List ℕ) → Data → Option ParsedModel
-shape_of values d =
+unfoldable pub contents_with : Option (List ℕ) → Data → Option ParsedModel
+contents_with values d =
     option_and_then (λ version.
     option_and_then (λ cores.
     option_map (λ writes. record {
@@ -124,7 +124,7 @@ shape_of values d =
     (at_key natural (codes "version") d)
 
 unfoldable pub shape_in : Data → Option ParsedModel
-shape_in d = option_and_then (λ n. option_and_then (λ values. shape_of values d) (values_in n d))
+shape_in d = option_and_then (λ n. option_and_then (λ values. contents_with values d) (values_in n d))
     (option_map count_members (as_object d))
 
 -- a value has the contents of a text of its version, and they tell the execution
