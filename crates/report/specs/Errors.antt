@@ -6,9 +6,9 @@ use Rattle.report.specs.declared.error.ReportError.{ReportError}
 use Rattle.report.specs.declared.error.ReportError.TheVariants.{ReadFailed, WriteFailed, OutOfMemory}
 
 -- why there is no answer to what was not read
-abbrev pub unread : ReadError → ReportError
-unread read.ReadFailed = ReadFailed
-unread read.OutOfMemory = OutOfMemory
+abbrev pub report_error_of : ReadError → ReportError
+report_error_of read.ReadFailed = ReadFailed
+report_error_of read.OutOfMemory = OutOfMemory
 
 -- how many reads failed
 abbrev pub report_failed_reads : ReportError → ℕ

@@ -48,9 +48,9 @@ pub record IsSurveyOfRead (left_before left_after : Option (List ℕ)) (ledger :
   pub survey : IsSurvey bytes ledger each before after
 
 -- what is said of a source that was not read
-abbrev pub unread : ReadError → SurveyError
-unread errors.ReadFailed = ReadFailed
-unread errors.OutOfMemory = OutOfMemory
+abbrev pub survey_error_of : ReadError → SurveyError
+survey_error_of errors.ReadFailed = ReadFailed
+survey_error_of errors.OutOfMemory = OutOfMemory
 
 -- how many reads failed
 abbrev pub survey_failed_reads : SurveyError → ℕ
