@@ -8,7 +8,8 @@ use Rattle.relations.proofs.Tables.{relation_of_filled, events_same, table_size}
 use Rattle.relations.proofs.relation.Relation.of.Goals as goal
 
 pub invariant_of-result : goal.invariant_of-result
-invariant_of-result c = relation_of_filled c.args.recording.now (IsPair true c.args.recording.now) c.in_ok-events.events.items
+invariant_of-result c =
+    relation_of_filled c.args.recording.now (IsPair true c.args.recording.now) c.in_ok-events.events.items
     c.in_ok-rows.rows.items c.sound.ensures.within.few_events c.in_ok-events.ensures c.in_ok-rows.ensures
 
 pub returns-clause-size : goal.returns-clause-size
