@@ -15,7 +15,8 @@ use Rattle.atomic_table.proofs.Lists.{at_set, at_snoc, at_longer, set_here, set_
 use Rattle.best.specs.declared.rule.Known.{Known}
 use Rattle.best.specs.declared.rule.SeatView.{SeatView}
 use Rattle.relations.specs.Relation.{Table}
-use Rattle.best.specs.Rule.{IsLength, none_word, first_bound_view, spent_bound_view, bound_with_others, joined_bound_views, knows}
+use Rattle.best.specs.Rule.{IsLength, none_word, first_bound_view, spent_bound_view, bound_with_others}
+use Rattle.best.specs.Rule.{joined_bound_views, knows}
 use Rattle.best.specs.Rule.{knowing, Bounded, LegalBest, IsUnset, LowerStep, ReadStep}
 
 none_in : {X : Type 0} (x : X) → Contains [] x → ⊥

@@ -3,7 +3,7 @@ use Rattle.std.proofs.Common.{◌≡◌, ◌<◌, ◌≤◌, ◌+◌, inl, inr, 
 use Rattle.std.proofs.Common.{arith, sym, ap, subst, ◌∙◌}
 use Rattle.std.proofs.lemmas.Bool.{cases_lt}
 use Rattle.std.proofs.lemmas.List.{get_or_past}
-use Rattle.bitrow.specs.Bits.{bit_of, members, is_in}
+use Rattle.bitrow.specs.Bits.{bit_of, members_below, is_in}
 use Rattle.bitrow.specs.Rows.{Marked, IsBitSquare, AreUnionWords, IsUnion}
 use Rattle.bitrow.proofs.Members.{members_at, members_length}
 use Rattle.bitrow.proofs.Unions.{union_put}
@@ -43,8 +43,8 @@ neither seen level n seen_long level_long f past =
 -- the union as a row
 pub union_row : (rows : List (List Bool)) (set : List Bool) (size : ℕ) (words : List ℕ) → IsBitSquare rows
     → AreUnionWords (Marked rows) set (length rows) (length rows) 0 size words → length rows ≤ size
-    → IsUnion (Marked rows) set (members words (length rows))
+    → IsUnion (Marked rows) set (members_below words (length rows))
 union_row rows set size words square h all =
-    union_put rows set size words (members words (length rows)) square h
+    union_put rows set size words (members_below words (length rows)) square h
     (λ f small inside. members_at words (length rows) (0 + f) inside ∙ ap (bit_of words) (omega arith))
     (members_length words (length rows)) all

@@ -19,8 +19,8 @@ listed f a zero = []
 listed f a (suc n) = f a ∷ listed f (a + 1) n
 
 -- for each number below n whether its bit is 1
-unfoldable pub members : List ℕ → ℕ → List Bool
-members words n = listed (bit_of words) 0 n
+unfoldable pub members_below : List ℕ → ℕ → List Bool
+members_below words n = listed (bit_of words) 0 n
 
 -- whether a number is in the set
 abbrev pub is_in : List Bool → ℕ → Bool

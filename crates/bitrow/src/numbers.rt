@@ -18,25 +18,25 @@ pub struct Numbers<'a> {
 
 impl<'a> Model for Numbers<'a> {
     ghost use Rattle.std.specs.Prelude.{length};
-    ghost use Rattle.bitrow.specs.Bits.{members, IsRoom};
+    ghost use Rattle.bitrow.specs.Bits.{members_below, IsRoom};
     ghost use Rattle.bitrow.specs.Walks.{RowWalk, walk_of, IsRest};
 
     ghost Value = { RowWalk };
 
-    ghost view = { λ n. walk_of (members n.words.now n.len) n.from };
+    ghost view = { λ n. walk_of (members_below n.words.now n.len) n.from };
 
     ghost invariant = { λ n. IsRoom (length n.words.now) n.len × IsRest n.words.now n.at n.rest n.from };
 }
 
 impl<'a> Numbers<'a> {
     ghost use Rattle.std.specs.Prelude.{◌≡◌, ◌+◌, length, IfNone, IfSome};
-    ghost use Rattle.bitrow.specs.Bits.{members, IsNext, IsRoom};
+    ghost use Rattle.bitrow.specs.Bits.{members_below, IsNext, IsRoom};
     ghost use Rattle.bitrow.specs.Walks.{walk_of};
 
     /// The numbers below a length whose bits are 1.
     pub(crate) fn new(words: &'a [u64], len: usize) -> Numbers<'a>
         requires { IsRoom (length words.now) len }
-        ensures { result ≡ walk_of (members words.now len) 0 }
+        ensures { result ≡ walk_of (members_below words.now len) 0 }
     {
         Numbers {
             words,

@@ -18,11 +18,11 @@ pub struct BitRow {
 
 impl Model for BitRow {
     ghost use Rattle.std.specs.Prelude.{List, Bool, vec_len};
-    ghost use Rattle.bitrow.specs.Bits.{members, IsRoom};
+    ghost use Rattle.bitrow.specs.Bits.{members_below, IsRoom};
 
     ghost Value = { List Bool };
 
-    ghost view = { λ r. members r.words.items r.len };
+    ghost view = { λ r. members_below r.words.items r.len };
 
     ghost invariant = { λ r. IsRoom (vec_len r.words) r.len };
 }

@@ -1,7 +1,7 @@
 //! What the files of classic tests, which have the names of the field, and of programs that print back want.
 
 ghost use Rattle.std.specs.Prelude.{◌≡◌, ◌↔◌, IsTrue};
-ghost use Rattle.cases.specs.PrintedStatus.{status_of};
+ghost use Rattle.cases.specs.PrintedStatus.{verdict_status};
 
 use crate::folder::names_in;
 use crate::printed::Printed;
@@ -32,8 +32,8 @@ pub fn file_of(rt: &HostRuntime, path: &str, ending: &str) -> io::Result<Vec<u8>
 }
 
 /// The status that a verdict is printed with.
-fn status_of(verdict: &[u8]) -> u8
-    ensures { result ≡ status_of verdict.now }
+fn verdict_status(verdict: &[u8]) -> u8
+    ensures { result ≡ verdict_status verdict.now }
 {
     if verdict.starts_with(b"ordered:") {
         DONE
@@ -45,9 +45,9 @@ fn status_of(verdict: &[u8]) -> u8
 /// Whether a verdict was printed, with its status.
 pub fn is_verdict(found: &Printed, verdict: &[u8]) -> bool
     ensures { IsTrue result ↔ ((found.now.text.items ≡ verdict.now)
-        × (found.now.status ≡ status_of verdict.now)) }
+        × (found.now.status ≡ verdict_status verdict.now)) }
 {
-    found.status == status_of(verdict) && found.text.as_slice() == verdict
+    found.status == verdict_status(verdict) && found.text.as_slice() == verdict
 }
 
 /// Whether the order of a verdict is one of a test's recording, and its reverse is none.

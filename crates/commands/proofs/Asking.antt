@@ -7,7 +7,7 @@ use Rattle.devices.specs.Places.{Notes}
 use Rattle.inputs.specs.declared.fault.CommandFault.TheVariants.{OutOfMemory}
 use Rattle.inputs.specs.declared.command_error.CommandError.{CommandError}
 use Rattle.inputs.specs.declared.command_error.CommandError.TheVariants.{Refused, Fault}
-use Rattle.inputs.specs.Inputs.{AreEnded, AreRead, AreStopped, Reads, Seen, failed_reads, seen}
+use Rattle.inputs.specs.Inputs.{AreEnded, AreRead, AreStopped, ReadsNamed, Seen, command_failed_reads, seen}
 
 -- nothing was asked for
 pub notes_none : (told : Option (List (List ℕ))) → Notes told told []
@@ -24,8 +24,8 @@ notes_then (Some a) (Some b) (Some c) xs ys first then =
     then ∙ ap (λ (l : List (List ℕ)). l ++ ys) first ∙ append_assoc a xs ys
 
 -- where all was read, no read failed
-pub stopped_later : (names : List (List ℕ)) (error : CommandError) (s : Seen) → failed_reads error ≡ 0 → AreRead names s
-    → AreStopped names error s
+pub stopped_later : (names : List (List ℕ)) (error : CommandError) (s : Seen) → command_failed_reads error ≡ 0
+    → AreRead names s → AreStopped names error s
 stopped_later names error s none read = record {
   front = names;
   rest = [];
@@ -42,7 +42,7 @@ stopped_later names error s none read = record {
 
 -- without memory all was read
 pub memory_stopped : {X : Type 0} (r : Result X CommandError) (names : List (List ℕ)) (s : Seen) → AreRead names s
-    → IsErrAnd r (λ error. error ≡ Fault OutOfMemory) → Reads names s r
+    → IsErrAnd r (λ error. error ≡ Fault OutOfMemory) → ReadsNamed names s r
 memory_stopped (Ok x) names s read wanting = absurd wanting
 memory_stopped (Err error) names s read wanting =
     subst (λ (t : CommandError). AreStopped names t s) (sym wanting)
@@ -63,14 +63,14 @@ stopped_before xs ys error s h = record {
 
 -- the same of what hands the error on
 pub stopped_again : {X : Type 0} (r : Result X CommandError) (xs ys : List (List ℕ)) (error : CommandError) (s : Seen)
-    → AreStopped xs error s → IsErrAnd r (λ e. e ≡ error) → Reads (xs ++ ys) s r
+    → AreStopped xs error s → IsErrAnd r (λ e. e ≡ error) → ReadsNamed (xs ++ ys) s r
 stopped_again (Ok x) xs ys error s h same = absurd same
 stopped_again (Err e) xs ys error s h same =
     subst (λ (t : CommandError). AreStopped (xs ++ ys) t s) (sym same) (stopped_before xs ys error s h)
 
 -- without memory nothing was to be read
 pub none_read : {X : Type 0} (r : Result X CommandError) (a : Option (List (List ℕ))) (t : Tally)
-    → IfErr r (λ error. error ≡ Fault OutOfMemory) → Reads [] (seen a a t t) r
+    → IfErr r (λ error. error ≡ Fault OutOfMemory) → ReadsNamed [] (seen a a t t) r
 none_read (Ok x) a t wanting = (notes_none a, refl)
 none_read (Err error) a t wanting = subst (λ (e : CommandError). AreStopped [] e (seen a a t t)) (sym wanting)
     (stopped_later [] (Fault OutOfMemory) (seen a a t t) refl (notes_none a, refl))
@@ -94,7 +94,8 @@ stopped_after xs ys error a b c t u v read h = record {
 
 -- some were read, then others or not
 pub reads_then : {X : Type 0} (r : Result X CommandError) (xs ys : List (List ℕ)) (a b c : Option (List (List ℕ)))
-    (t u v : Tally) → AreRead xs (seen a b t u) → Reads ys (seen b c u v) r → Reads (xs ++ ys) (seen a c t v) r
+    (t u v : Tally) → AreRead xs (seen a b t u) → ReadsNamed ys (seen b c u v) r
+    → ReadsNamed (xs ++ ys) (seen a c t v) r
 reads_then (Ok x) xs ys a b c t u v read h = (notes_then a b c xs ys read.0 h.0, h.1 ∙ read.1)
 reads_then (Err error) xs ys a b c t u v read h = stopped_after xs ys error a b c t u v read h
 
@@ -122,7 +123,7 @@ stopped_among names i name error a b c t u v low is read one =
     (stopped_after (take i names) (name ∷ []) error a b c t u v read one))
 
 -- the first inputs were read, and no more
-pub stopped_behind : (names : List (List ℕ)) (i : ℕ) (error : CommandError) (s : Seen) → failed_reads error ≡ 0
+pub stopped_behind : (names : List (List ℕ)) (i : ℕ) (error : CommandError) (s : Seen) → command_failed_reads error ≡ 0
     → AreRead (take i names) s → AreStopped names error s
 stopped_behind names i error s none read =
     subst (λ (l : List (List ℕ)). AreStopped l error s) (take-append-drop i names)

@@ -20,7 +20,7 @@ use Rattle.verdicts.specs.declared.printed.Answer.{Answer}
 use Rattle.answers.specs.Campaign.{ledger_outcome}
 use Rattle.inputs.specs.declared.command_error.CommandError.{CommandError}
 use Rattle.inputs.specs.declared.command_error.CommandError.TheVariants as errors
-use Rattle.inputs.specs.Inputs.{AreBytesOf, AreRead, Reads, Seen}
+use Rattle.inputs.specs.Inputs.{AreBytesOf, AreRead, ReadsNamed, Seen}
 use Rattle.commands.specs.Merge.{AreGiven, IsMergeAnswer, IsMerged, IsMergedAnswer, IsMergeError, IsTextsError}
 use Rattle.commands.specs.Names.{merge_names}
 use Rattle.commands.proofs.Asking.{stopped_later}
@@ -108,7 +108,7 @@ stop_of inputs o texts (Err (errors.Fault fault)) some given is =
 
 -- all was read before it stops
 pub texts_read : (names texts : List (List ℕ)) (r : Result Answer CommandError) (s : Seen) → AreRead names s
-    → IfErr r (IsTextsError names texts) → Reads names s r
+    → IfErr r (IsTextsError names texts) → ReadsNamed names s r
 texts_read names texts (Ok answer) s read is = read
 texts_read names texts (Err (errors.Refused refusal)) s read is = stopped_later names (errors.Refused refusal) s refl read
 texts_read names texts (Err (errors.Fault fault)) s read is =

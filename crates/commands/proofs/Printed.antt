@@ -15,8 +15,8 @@ use Rattle.verdicts.specs.declared.printed.Answer.{Answer}
 use Rattle.inputs.specs.declared.fault.CommandFault.{CommandFault}
 use Rattle.inputs.specs.declared.fault.CommandFault.TheVariants.{WriteFailed}
 use Rattle.inputs.specs.declared.command_error.CommandError.{CommandError}
-use Rattle.inputs.specs.Inputs.{AreRead, Reads, ReadsAll, ReadsInput, Seen, seen}
-use Rattle.commands.specs.Names.{names_of}
+use Rattle.inputs.specs.Inputs.{AreRead, ReadsNamed, ReadsAll, ReadsInput, Seen, seen}
+use Rattle.commands.specs.Names.{input_names}
 use Rattle.commands.specs.Output.{IsBegun, IsPut}
 use Rattle.commands.specs.Perform.{IsAnswerTo, IsCommandError, IsHelp, IsOptionError, IsPrinted}
 use Rattle.commands.specs.Perform.{IsPrintedWithout, IsShown, IsWritten}
@@ -25,7 +25,7 @@ use Rattle.commands.specs.Survey.{IsEachWritten}
 -- what a command writes itself is what is printed for the words that give its options
 pub written_printed : (inputs : List ℕ → Option (List ℕ)) (words : List Text) (o : Options) (s : Seen)
     (before after : Option (List ℕ)) (r : Result Outcome CommandFault) → AreOptions o (command_of words)
-    → IfOk r (IsPut (IsAnswerTo inputs o) before after) → IfOk r (λ outcome. AreRead (names_of o) s)
+    → IfOk r (IsPut (IsAnswerTo inputs o) before after) → IfOk r (λ outcome. AreRead (input_names o) s)
     → IfOk r (IsWritten inputs words s before after)
 written_printed inputs words o s before after (Ok outcome) are put read = inl (record {
   answer = put.answer;
@@ -87,7 +87,7 @@ judged_begun inputs words o s before after r are begun reads failed =
 pub shown_printed : (inputs : List ℕ → Option (List ℕ)) (words : List Text) (o : Options) (s : Seen)
     (answered : Result Answer CommandError) (printed : Answer) → AreOptions o (command_of words)
     → IfOk answered (IsAnswerTo inputs o) → IfErr answered (IsCommandError inputs o)
-    → Reads (names_of o) s answered → IsShown answered printed → IsPrinted inputs words s printed
+    → ReadsNamed (input_names o) s answered → IsShown answered printed → IsPrinted inputs words s printed
 shown_printed inputs words o s (Ok answer) printed are is error reads shown =
     inl (o, are, inl (subst (λ (a : Answer). IsAnswerTo inputs o a) (sym shown) is, reads))
 shown_printed inputs words o s (Err error) printed are is stops reads shown =
@@ -98,7 +98,7 @@ pub shown_after : (inputs : List ℕ → Option (List ℕ)) (words : List Text) 
     (a b c : Option (List (List ℕ))) (t u v : Tally) (answered : Result Answer CommandError) (printed : Answer)
     → AreOptions o (command_of words) → c ≡ b → v ≡ u
     → IfOk answered (IsAnswerTo inputs o) → IfErr answered (IsCommandError inputs o)
-    → Reads (names_of o) (seen a b t u) answered → IsShown answered printed
+    → ReadsNamed (input_names o) (seen a b t u) answered → IsShown answered printed
     → IsPrinted inputs words (seen a c t v) printed
 shown_after inputs words o a b c t u v answered printed are asked tally is stops reads shown =
     subst (λ (y : Tally). IsPrinted inputs words (seen a c t y) printed) (sym tally)

@@ -10,7 +10,7 @@ use Rattle.machine.specs.State.{IsComplete}
 use Rattle.machine.specs.Taken.{all_taken, begun}
 use Rattle.machine.specs.Configuration.{Configuration}
 use Rattle.live.specs.Trace.{Trace, IsEnded, IsTrace}
-use Rattle.live.specs.Driven.{IsGiven}
+use Rattle.live.specs.Driven.{IsAsRequested}
 use Rattle.verdicts.specs.declared.printed.Answer.{Answer}
 use Rattle.inputs.specs.Inputs.{AreBytesOf}
 use Rattle.answers.specs.Run.{IsRunAnswer}
@@ -20,7 +20,7 @@ use Rattle.commands.specs.Run.{IsLive}
 pub live_answer : (inputs : List ℕ → Option (List ℕ)) (o : LiveOptions) (text : List ℕ) (program : Parts)
     (t : Trace) (machine : Configuration) (answer : Answer)
     → AreBytesOf inputs (string_bytes o.program) text → reading text ≡ Ok program
-    → IsGiven program o.buffer o.limit t → IsEnded t → IsTrace t → machine ≡ t.machine
+    → IsAsRequested program o.buffer o.limit t → IsEnded t → IsTrace t → machine ≡ t.machine
     → IsRunAnswer machine.fault machine.program machine.state answer → IsLive inputs o answer
 live_answer inputs o text program t machine answer bytes read given ended replay same is =
     let taken : all_taken program.cores o.buffer None (begun program) t.steps ≡ Ok t.machine.state =

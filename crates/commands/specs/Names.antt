@@ -30,15 +30,15 @@ abbrev pub merge_names : MergeOptions → List (List ℕ)
 merge_names o = map string_bytes o.files.items
 
 -- those of any command
-abbrev pub names_of : Options → List (List ℕ)
-names_of (Run o) = run_names o
-names_of (Judge o) = string_bytes o.file ∷ []
-names_of (Trials o) = []
-names_of (Live o) = string_bytes o.program ∷ []
-names_of (Replay o) = string_bytes o.file ∷ []
-names_of (Explain o) = render_names o
-names_of (Draw o) = render_names o.recording
-names_of (Reduce o) = render_names o
-names_of (Verify o) = verify_names o
-names_of (Survey o) = string_bytes o.file ∷ []
-names_of (Merge o) = merge_names o
+abbrev pub input_names : Options → List (List ℕ)
+input_names (Run o) = run_names o
+input_names (Judge o) = string_bytes o.file ∷ []
+input_names (Trials o) = []
+input_names (Live o) = string_bytes o.program ∷ []
+input_names (Replay o) = string_bytes o.file ∷ []
+input_names (Explain o) = render_names o
+input_names (Draw o) = render_names o.recording
+input_names (Reduce o) = render_names o
+input_names (Verify o) = verify_names o
+input_names (Survey o) = string_bytes o.file ∷ []
+input_names (Merge o) = merge_names o

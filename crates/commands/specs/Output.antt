@@ -21,6 +21,6 @@ pub record IsBegun (Is : Answer → Type 0) (before after : Option (List ℕ)) :
   pub written : Appends before after (take count answer.text.items)
 
 -- how many writes failed
-abbrev pub failed_writes : CommandFault → ℕ
-failed_writes WriteFailed = 1
-failed_writes other = 0
+abbrev pub command_failed_writes : CommandFault → ℕ
+command_failed_writes WriteFailed = 1
+command_failed_writes other = 0

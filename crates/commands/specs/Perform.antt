@@ -30,8 +30,8 @@ use Rattle.command_line.specs.declared.options.OptionFault.TheVariants as refuse
 use Rattle.command_line.specs.Commands.{command_of}
 use Rattle.command_line.specs.declared.options.LiveOptions.{LiveOptions}
 use Rattle.command_line.specs.declared.options.RunOptions.{RunOptions}
-use Rattle.inputs.specs.Inputs.{AreBytesOf, AreRead, AreStopped, IsInputFault, Seen, failed_reads}
-use Rattle.commands.specs.Names.{names_of}
+use Rattle.inputs.specs.Inputs.{AreBytesOf, AreRead, AreStopped, IsInputFault, Seen, command_failed_reads}
+use Rattle.commands.specs.Names.{input_names}
 use Rattle.report.specs.Answer.{IsAnswerOf}
 use Rattle.commands.specs.Judge.{AnswerHolds, IsJudgeFault}
 use Rattle.commands.specs.Replay.{IsReplayedInput, IsReplayError}
@@ -170,7 +170,7 @@ IsToldFor inputs other s before after outcome = ⊥
 -- why nothing is printed for these options, or not all
 abbrev pub IsFaultFor : (List ℕ → Option (List ℕ)) → Options → Seen → CommandFault → Type 0
 IsFaultFor inputs o s WriteFailed = ⊤
-IsFaultFor inputs o s fault = IsCommandError inputs o (Fault fault) × AreStopped (names_of o) (Fault fault) s
+IsFaultFor inputs o s fault = IsCommandError inputs o (Fault fault) × AreStopped (input_names o) (Fault fault) s
 
 -- what is printed without options, for which no input is opened: help, or the line of a refusal
 abbrev pub IsPrintedWithout : OptionFault → Seen → Answer → Type 0
@@ -181,8 +181,9 @@ IsPrintedWithout fault s answer =
 -- refusal, by the inputs up to it; or what is said where they give no options
 abbrev pub IsPrinted : (List ℕ → Option (List ℕ)) → List Text → Seen → Answer → Type 0
 IsPrinted inputs words s answer = ((o : Options) × AreOptions o (command_of words)
-    × ((IsAnswerTo inputs o answer × AreRead (names_of o) s)
-    ⊎ ((error : CommandError) × IsCommandError inputs o error × AreStopped (names_of o) error s × IsLine error answer)))
+    × ((IsAnswerTo inputs o answer × AreRead (input_names o) s)
+    ⊎ ((error : CommandError) × IsCommandError inputs o error × AreStopped (input_names o) error s
+    × IsLine error answer)))
     ⊎ ((fault : OptionFault) × IsFault fault words × IsPrintedWithout fault s answer)
 
 -- what was written for the words, and how it came out
@@ -202,4 +203,4 @@ IsFaultOf inputs words s fault =
 abbrev pub Tallies : {X : Type 0} → Tally → Tally → Result X CommandFault → Type 0
 Tallies before after (Ok x) = after ≡ before
 Tallies before after (Err fault) = (after.lent ≡ before.lent)
-    × (after.failed ≡ before.failed + failed_reads (Fault fault))
+    × (after.failed ≡ before.failed + command_failed_reads (Fault fault))

@@ -4,7 +4,7 @@ ghost use Rattle.devices.specs.Bytes.{CanGrow, CountsBy};
 ghost use Rattle.inputs.specs.Inputs.{CanRead, ReadsAll, seen};
 ghost use Rattle.command_line.specs.declared.options.Options.{Options};
 ghost use Rattle.commands.specs.Judge.{IsJudgeFault};
-ghost use Rattle.commands.specs.Output.{IsBegun, IsPut, failed_writes};
+ghost use Rattle.commands.specs.Output.{IsBegun, IsPut, command_failed_writes};
 ghost use Rattle.commands.specs.Perform.{IsAnswerTo};
 
 use crate::output::flush;
@@ -37,7 +37,7 @@ pub fn judge_command<R: Threads + Wait + Sync, P: Place, W: Sink>(
     ensures fault { IfErr result (IsJudgeFault (P.bytes place.old) options.now) }
     ensures reads { ReadsAll (string_bytes options.now.file ∷ []) (seen (P.asked place.old) (P.asked place.new)
         (P.tally place.old) (P.tally place.new)) result }
-    ensures writes { CountsBy failed_writes (W.write_failures out.old) (W.write_failures out.new) result }
+    ensures writes { CountsBy command_failed_writes (W.write_failures out.old) (W.write_failures out.new) result }
     ensures unwritten { IfErr result (λ fault. fault ≢ CommandFault.WriteFailed → out.new ≡ out.old) }
 {
     every_verdict_holds();

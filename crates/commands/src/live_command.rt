@@ -1,7 +1,7 @@
 //! The command `live`.
 ghost use Rattle.std.specs.Prelude.{◌≡◌, ◌∷◌, [], IfErr, IfOk, string_bytes};
 ghost use Rattle.live.specs.Driven.{IsDriveError};
-ghost use Rattle.inputs.specs.Inputs.{CanRead, Reads, seen};
+ghost use Rattle.inputs.specs.Inputs.{CanRead, ReadsNamed, seen};
 ghost use Rattle.commands.specs.Perform.{IsLiveError, thread_fault};
 ghost use Rattle.commands.specs.Run.{IsLive};
 
@@ -39,7 +39,7 @@ pub fn live_command<R: Threads + Wait + Sync, P: Place>(
     requires { CanRead (P.tally place.old) }
     ensures ok { IfOk result (IsLive (P.bytes place.old) options.now) }
     ensures err { IfErr result (IsLiveError (P.bytes place.old) options.now) }
-    ensures reads { Reads (string_bytes options.now.program ∷ []) (seen (P.asked place.old) (P.asked place.new)
+    ensures reads { ReadsNamed (string_bytes options.now.program ∷ []) (seen (P.asked place.old) (P.asked place.new)
         (P.tally place.old) (P.tally place.new)) result }
 {
     let program = program_at(alloc, place, options.program.as_str())?;

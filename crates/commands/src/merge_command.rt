@@ -1,6 +1,6 @@
 //! The command `merge`.
 ghost use Rattle.std.specs.Prelude.{◌≡◌, ◌<◌, IfErr, IfOk, length, map, string_bytes};
-ghost use Rattle.inputs.specs.Inputs.{CanRead, Reads, seen};
+ghost use Rattle.inputs.specs.Inputs.{CanRead, ReadsNamed, seen};
 ghost use Rattle.commands.specs.Merge.{AreGiven, IsFaultAmong, IsMergeAnswer, IsMerged, IsMergedAnswer, IsMergeError};
 ghost use Rattle.commands.specs.Merge.{IsTextsError, merge_line, merge_refusal_name};
 ghost use Rattle.commands.specs.Names.{merge_names};
@@ -25,7 +25,7 @@ fn texts_at<P: Place>(
     ensures ok { IfOk result (λ texts. AreGiven (P.bytes place.old) (map string_bytes names.now)
         (map (λ v. v.items) texts.items)) }
     ensures err { IfErr result (IsFaultError (IsFaultAmong (P.bytes place.old) (map string_bytes names.now))) }
-    ensures reads { Reads (map string_bytes names.now) (seen (P.asked place.old) (P.asked place.new)
+    ensures reads { ReadsNamed (map string_bytes names.now) (seen (P.asked place.old) (P.asked place.new)
         (P.tally place.old) (P.tally place.new)) result }
 {
     let mut texts = Vec::new(alloc);
@@ -131,7 +131,7 @@ pub fn merge_command<P: Place>(
     requires inputs { CanRead (P.tally place.old) }
     ensures ok { IfOk result (IsMerged (P.bytes place.old) options.now) }
     ensures err { IfErr result (IsMergeError (P.bytes place.old) options.now) }
-    ensures reads { Reads (merge_names options.now) (seen (P.asked place.old) (P.asked place.new)
+    ensures reads { ReadsNamed (merge_names options.now) (seen (P.asked place.old) (P.asked place.new)
         (P.tally place.old) (P.tally place.new)) result }
 {
     match texts_at(alloc, place, &options.files) {

@@ -4,9 +4,9 @@ ghost use Rattle.std.specs.Prelude.{string_bytes};
 ghost use Rattle.clap.specs.Words.{Row, Text};
 ghost use Rattle.command_line.specs.Options.{AreOptions};
 ghost use Rattle.devices.specs.Bytes.{CanGrow, CountsBy};
-ghost use Rattle.inputs.specs.Inputs.{AreRead, CanRead, Reads, seen};
-ghost use Rattle.commands.specs.Names.{names_of};
-ghost use Rattle.commands.specs.Output.{IsBegun, IsPut, failed_writes};
+ghost use Rattle.inputs.specs.Inputs.{AreRead, CanRead, ReadsNamed, seen};
+ghost use Rattle.commands.specs.Names.{input_names};
+ghost use Rattle.commands.specs.Output.{IsBegun, IsPut, command_failed_writes};
 ghost use Rattle.commands.specs.Perform.{IsAnswerTo, IsCommandError, IsFaultFor, IsFaultOf, IsHelp, IsNoJudge};
 ghost use Rattle.commands.specs.Perform.{IsOptionError, IsPrinted, IsPrintedWithout, IsShown, IsWritten};
 ghost use Rattle.commands.specs.Perform.{PrintsAtOnce, PrintsEarly, Tallies};
@@ -74,7 +74,7 @@ fn answer_to<R: Threads + Wait + Sync, P: Place>(
     requires inputs { CanRead (P.tally place.old) }
     ensures ok { IfOk result (IsAnswerTo (P.bytes place.old) options.now) }
     ensures err { IfErr result (IsCommandError (P.bytes place.old) options.now) }
-    ensures reads { Reads (names_of options.now) (seen (P.asked place.old) (P.asked place.new)
+    ensures reads { ReadsNamed (input_names options.now) (seen (P.asked place.old) (P.asked place.new)
         (P.tally place.old) (P.tally place.new)) result }
 {
     match options {
@@ -163,7 +163,7 @@ fn performed<R: Threads + Wait + Sync, P: Place, W: Sink>(
     ensures fault { IfErr result (IsFaultFor (P.bytes place.old) options.now (seen (P.asked place.old)
         (P.asked place.new) (P.tally place.old) (P.tally place.new))) }
     ensures reads { Tallies (P.tally place.old) (P.tally place.new) result }
-    ensures writes { CountsBy failed_writes (W.write_failures out.old) (W.write_failures out.new) result }
+    ensures writes { CountsBy command_failed_writes (W.write_failures out.old) (W.write_failures out.new) result }
     ensures unwritten { IfErr result (λ fault. fault ≢ CommandFault.WriteFailed → (PrintsEarly options.now → ⊥)
         → out.new ≡ out.old) }
 {
@@ -192,7 +192,7 @@ fn explained_options<P: Place, W: Sink>(
         (P.asked place.new) (P.tally place.old) (P.tally place.new))) (W.written out.old) (W.written out.new) }
     ensures fault { IfErr result (λ f. IsOptionError fault (CommandError.Fault f) ⊎ (f ≡ CommandFault.WriteFailed)) }
     ensures read { AreRead [] (seen (P.asked place.old) (P.asked place.new) (P.tally place.old) (P.tally place.new)) }
-    ensures writes { CountsBy failed_writes (W.write_failures out.old) (W.write_failures out.new) result }
+    ensures writes { CountsBy command_failed_writes (W.write_failures out.old) (W.write_failures out.new) result }
     ensures unwritten { IfErr result (λ f. f ≢ CommandFault.WriteFailed → out.new ≡ out.old) }
 {
     let answer = shown(place, without_options(alloc, fault))?;
@@ -221,7 +221,7 @@ pub fn perform<R: Threads + Wait + Sync, P: Place, W: Sink>(
     ensures fault { IfErr result (IsFaultOf (P.bytes place.old) (map string_bytes words.now)
         (seen (P.asked place.old) (P.asked place.new) (P.tally place.old) (P.tally place.new))) }
     ensures reads { Tallies (P.tally place.old) (P.tally place.new) result }
-    ensures writes { CountsBy failed_writes (W.write_failures out.old) (W.write_failures out.new) result }
+    ensures writes { CountsBy command_failed_writes (W.write_failures out.old) (W.write_failures out.new) result }
     // An error leaves the sink as it was, unless a write failed or lines of recordings came before it.
     ensures unwritten { IfErr result (λ fault. fault ≢ CommandFault.WriteFailed
         → PrintsAtOnce (map string_bytes words.now) → out.new ≡ out.old) }

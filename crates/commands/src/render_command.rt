@@ -1,6 +1,6 @@
 //! The commands `explain`, `draw` and `reduce`.
 ghost use Rattle.std.specs.Prelude.{◌∷◌, [], IfErr, IfOk, Some, option_map, string_bytes};
-ghost use Rattle.inputs.specs.Inputs.{CanRead, Reads, seen};
+ghost use Rattle.inputs.specs.Inputs.{CanRead, ReadsNamed, seen};
 ghost use Rattle.commands.specs.Names.{maybe_name, render_names};
 ghost use Rattle.commands.specs.Render.{IsNamesError, IsOwnProgram, IsRenderingError, IsRendered, IsRenderedBy};
 
@@ -24,7 +24,7 @@ fn own_program<P: Place>(
     requires { CanRead (P.tally place.old) }
     ensures ok { IfOk result (IsOwnProgram (P.bytes place.old) recording.now name.now) }
     ensures err { IfErr result (IsNamesError (P.bytes place.old) recording.now (Some name.now)) }
-    ensures reads { Reads (name.now ∷ []) (seen (P.asked place.old) (P.asked place.new)
+    ensures reads { ReadsNamed (name.now ∷ []) (seen (P.asked place.old) (P.asked place.new)
         (P.tally place.old) (P.tally place.new)) result }
 {
     let program = program_at(alloc, place, name)?;
@@ -46,7 +46,7 @@ fn named_answer<P: Place>(
     requires { CanRead (P.tally place.old) }
     ensures ok { IfOk result (IsRenderedBy (P.bytes place.old) rendering recording.now (Some name.now)) }
     ensures err { IfErr result (IsNamesError (P.bytes place.old) recording.now (Some name.now)) }
-    ensures reads { Reads (name.now ∷ []) (seen (P.asked place.old) (P.asked place.new)
+    ensures reads { ReadsNamed (name.now ∷ []) (seen (P.asked place.old) (P.asked place.new)
         (P.tally place.old) (P.tally place.new)) result }
 {
     let program = own_program(alloc, recording, name, place)?;
@@ -66,7 +66,7 @@ fn rendered<P: Place>(
         (option_map string_bytes options.now.program)) }
     ensures err { IfErr result (IsNamesError (P.bytes place.old) recording.now
         (option_map string_bytes options.now.program)) }
-    ensures reads { Reads (maybe_name (option_map string_bytes options.now.program)) (seen (P.asked place.old)
+    ensures reads { ReadsNamed (maybe_name (option_map string_bytes options.now.program)) (seen (P.asked place.old)
         (P.asked place.new) (P.tally place.old) (P.tally place.new)) result }
 {
     match &options.program {
@@ -85,7 +85,7 @@ pub fn render_command<P: Place>(
     requires { CanRead (P.tally place.old) }
     ensures ok { IfOk result (IsRendered (P.bytes place.old) rendering options.now) }
     ensures err { IfErr result (IsRenderingError (P.bytes place.old) options.now) }
-    ensures reads { Reads (render_names options.now) (seen (P.asked place.old) (P.asked place.new)
+    ensures reads { ReadsNamed (render_names options.now) (seen (P.asked place.old) (P.asked place.new)
         (P.tally place.old) (P.tally place.new)) result }
 {
     let recording = recording_at(alloc, place, options.file.as_str())?;

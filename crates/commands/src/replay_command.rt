@@ -9,7 +9,7 @@ ghost use Rattle.machine.specs.ScriptText.{script_text};
 ghost use Rattle.verdicts.specs.Judgement.{IsVerdict, Verifies};
 ghost use Rattle.recording.specs.Tso.{IsTsoOrder};
 ghost use Rattle.recording.specs.FirstUse.{IsNumberedByFirstUse};
-ghost use Rattle.inputs.specs.Inputs.{CanRead, Reads, seen};
+ghost use Rattle.inputs.specs.Inputs.{CanRead, ReadsNamed, seen};
 ghost use Rattle.commands.specs.Replay.{IsReadBack, IsReplayedInput, IsReplayOf, IsReplayError, ReplaysOrder};
 ghost use Rattle.commands.specs.Replay.{parts_text, replay_text};
 
@@ -128,7 +128,7 @@ pub fn replay_command<P: Place>(
     requires { CanRead (P.tally place.old) }
     ensures ok { IfOk result (IsReplayedInput (P.bytes place.old) options.now) }
     ensures err { IfErr result (IsReplayError (P.bytes place.old) options.now) }
-    ensures reads { Reads (string_bytes options.now.file ∷ []) (seen (P.asked place.old) (P.asked place.new)
+    ensures reads { ReadsNamed (string_bytes options.now.file ∷ []) (seen (P.asked place.old) (P.asked place.new)
         (P.tally place.old) (P.tally place.new)) result }
 {
     let recording = recording_at(alloc, place, options.file.as_str())?;

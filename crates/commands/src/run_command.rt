@@ -1,7 +1,7 @@
 //! The command `run`.
 ghost use Rattle.std.specs.Prelude.{◌≡◌, ◌∷◌, [], ℕ, List, IfErr, IfOk, Ok};
 ghost use Rattle.machine.specs.Script.{steps_of};
-ghost use Rattle.inputs.specs.Inputs.{AreBytesOf, CanRead, Reads, seen};
+ghost use Rattle.inputs.specs.Inputs.{AreBytesOf, CanRead, ReadsNamed, seen};
 ghost use Rattle.commands.specs.Names.{run_names};
 ghost use Rattle.inputs.specs.Refusal.{IsReadingError, step_fault_name};
 ghost use Rattle.commands.specs.Perform.{IsRunError, IsScriptError};
@@ -44,7 +44,7 @@ fn steps_at<P: Place>(
     ensures ok { IfOk result (λ steps. (text : List ℕ) × AreBytesOf (P.bytes place.old) name.now text
         × (steps_of program.now text ≡ Ok steps.items)) }
     ensures err { IfErr result (IsScriptError (P.bytes place.old) program.now name.now) }
-    ensures reads { Reads (name.now ∷ []) (seen (P.asked place.old) (P.asked place.new)
+    ensures reads { ReadsNamed (name.now ∷ []) (seen (P.asked place.old) (P.asked place.new)
         (P.tally place.old) (P.tally place.new)) result }
 {
     let text = text_at(alloc, place, name)?;
@@ -62,7 +62,7 @@ fn script_run<P: Place>(
     requires { CanRead (P.tally place.old) }
     ensures ok { IfOk result (IsScriptAnswer (P.bytes place.old) options.now program name.now) }
     ensures err { IfErr result (IsScriptError (P.bytes place.old) program name.now) }
-    ensures reads { Reads (name.now ∷ []) (seen (P.asked place.old) (P.asked place.new)
+    ensures reads { ReadsNamed (name.now ∷ []) (seen (P.asked place.old) (P.asked place.new)
         (P.tally place.old) (P.tally place.new)) result }
 {
     let steps = steps_at(alloc, &program, name, place)?;
@@ -85,7 +85,7 @@ pub fn run_command<P: Place>(
     requires { CanRead (P.tally place.old) }
     ensures ok { IfOk result (IsRun (P.bytes place.old) options.now) }
     ensures err { IfErr result (IsRunError (P.bytes place.old) options.now) }
-    ensures reads { Reads (run_names options.now) (seen (P.asked place.old) (P.asked place.new)
+    ensures reads { ReadsNamed (run_names options.now) (seen (P.asked place.old) (P.asked place.new)
         (P.tally place.old) (P.tally place.new)) result }
 {
     let program = program_at(alloc, place, options.program.as_str())?;

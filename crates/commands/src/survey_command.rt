@@ -2,10 +2,9 @@
 ghost use Rattle.std.specs.Prelude.{◌≡◌, ◌≢◌, ◌∷◌, [], IfErr, IfOk, OnOk, Some, false, option_map, string_bytes, true};
 ghost use Rattle.std.specs.Io.KnownBytes.{IsAtEnd};
 ghost use Rattle.devices.specs.Bytes.{CanGrow, CountsBy};
-ghost use Rattle.surveys.specs.Surveys.{IsSurveyOfRead};
-ghost use Rattle.surveys.specs.Surveys as errors;
-ghost use Rattle.inputs.specs.Inputs.{CanRead, Reads, ReadsInput, seen};
-ghost use Rattle.commands.specs.Output.{failed_writes};
+ghost use Rattle.surveys.specs.Surveys.{IsSurveyOfRead, survey_failed_reads, survey_failed_writes};
+ghost use Rattle.inputs.specs.Inputs.{CanRead, ReadsNamed, ReadsInput, seen};
+ghost use Rattle.commands.specs.Output.{command_failed_writes};
 ghost use Rattle.commands.specs.Survey.{IsCountedInput, IsEachFault, IsEachWritten, IsLineOfInput, IsSurveyBy};
 ghost use Rattle.commands.specs.Survey.{IsSurveyFault, IsSurveyOf, IsSurveyError, IsSurveyErrorBy, IsSurveyed};
 ghost use Rattle.commands.specs.Survey.{TellsEach};
@@ -38,8 +37,9 @@ fn surveyed<R: Threads + Wait + Sync, P: Place, W: Sink>(
         each (W.written out.old) (W.written out.new)) }
     ensures met { OnOk result (P.Input.is_ended input.new ≡ true) }
     ensures all { OnOk result (IsAtEnd (P.Input.left input.new)) }
-    ensures reads { CountsBy errors.failed_reads (P.Input.read_failures input.old) (P.Input.read_failures input.new) result }
-    ensures writes { CountsBy errors.failed_writes (W.write_failures out.old) (W.write_failures out.new) result }
+    ensures reads { CountsBy survey_failed_reads (P.Input.read_failures input.old)
+        (P.Input.read_failures input.new) result }
+    ensures writes { CountsBy survey_failed_writes (W.write_failures out.old) (W.write_failures out.new) result }
     ensures silent { each ≢ true → out.new ≡ out.old }
 {
     if options.quiet {
@@ -65,7 +65,7 @@ fn counted<R: Threads + Wait + Sync, P: Place, W: Sink>(
     ensures fault { IfErr result (IsEachFault (P.bytes place.old) options.now) }
     ensures reads { ReadsInput (string_bytes options.now.file) (seen (P.asked place.old) (P.asked place.new)
         (P.tally place.old) (P.tally place.new)) result }
-    ensures writes { CountsBy failed_writes (W.write_failures out.old) (W.write_failures out.new) result }
+    ensures writes { CountsBy command_failed_writes (W.write_failures out.old) (W.write_failures out.new) result }
     ensures silent { each ≢ true → out.new ≡ out.old }
 {
     let mut input = opened(alloc, place, options.file.as_str())?;
@@ -97,7 +97,7 @@ pub fn each_command<R: Threads + Wait + Sync, P: Place, W: Sink>(
     ensures fault { IfErr result (IsEachFault (P.bytes place.old) options.now) }
     ensures reads { ReadsInput (string_bytes options.now.file) (seen (P.asked place.old) (P.asked place.new)
         (P.tally place.old) (P.tally place.new)) result }
-    ensures writes { CountsBy failed_writes (W.write_failures out.old) (W.write_failures out.new) result }
+    ensures writes { CountsBy command_failed_writes (W.write_failures out.old) (W.write_failures out.new) result }
 {
     let ledger = counted(rt, alloc, options, place, out, true)?;
     let counts = survey_answer(alloc, &ledger, true)?;
@@ -158,7 +158,7 @@ fn shown_line<P: Place>(
     requires { CanRead (P.tally place.old) }
     ensures ok { IfOk result (IsSurveyBy (P.bytes place.old) options.now (Some k)) }
     ensures err { IfErr result (IsSurveyErrorBy (P.bytes place.old) options.now (Some k)) }
-    ensures reads { Reads (string_bytes options.now.file ∷ []) (seen (P.asked place.old) (P.asked place.new)
+    ensures reads { ReadsNamed (string_bytes options.now.file ∷ []) (seen (P.asked place.old) (P.asked place.new)
         (P.tally place.old) (P.tally place.new)) result }
 {
     match line_at(alloc, options, k, place)? {
@@ -178,7 +178,7 @@ pub fn survey_command<R: Threads + Wait + Sync, P: Place>(
     requires inputs { CanRead (P.tally place.old) }
     ensures ok { IfOk result (IsSurveyOf (P.bytes place.old) options.now) }
     ensures err { IfErr result (IsSurveyError (P.bytes place.old) options.now) }
-    ensures reads { Reads (string_bytes options.now.file ∷ []) (seen (P.asked place.old) (P.asked place.new)
+    ensures reads { ReadsNamed (string_bytes options.now.file ∷ []) (seen (P.asked place.old) (P.asked place.new)
         (P.tally place.old) (P.tally place.new)) result }
 {
     match options.show {

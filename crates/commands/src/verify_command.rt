@@ -1,7 +1,7 @@
 //! The command `verify`.
 ghost use Rattle.std.specs.Prelude.{◌∷◌, [], ℕ, List, IfErr, IfOk, string_bytes};
 ghost use Rattle.verification.specs.Checked.{IsCheckAnswer};
-ghost use Rattle.inputs.specs.Inputs.{AreBytesOf, CanRead, Reads, seen};
+ghost use Rattle.inputs.specs.Inputs.{AreBytesOf, CanRead, ReadsNamed, seen};
 ghost use Rattle.commands.specs.Names.{verify_names};
 ghost use Rattle.commands.specs.Verify.{IsUnreadText, IsVerified, IsVerifyError};
 
@@ -28,7 +28,7 @@ fn checked<R: Threads + Wait + Sync, P: Place>(
     ensures ok { IfOk result (λ answer. (text : List ℕ) × AreBytesOf (P.bytes place.old) name.now text
         × IsCheckAnswer recording.now text answer) }
     ensures err { IfErr result (IsUnreadText (P.bytes place.old) name.now) }
-    ensures reads { Reads (name.now ∷ []) (seen (P.asked place.old) (P.asked place.new)
+    ensures reads { ReadsNamed (name.now ∷ []) (seen (P.asked place.old) (P.asked place.new)
         (P.tally place.old) (P.tally place.new)) result }
 {
     let text = text_at(alloc, place, name)?;
@@ -46,7 +46,7 @@ pub fn verify_command<R: Threads + Wait + Sync, P: Place>(
     requires { CanRead (P.tally place.old) }
     ensures ok { IfOk result (IsVerified (P.bytes place.old) options.now) }
     ensures err { IfErr result (IsVerifyError (P.bytes place.old) options.now) }
-    ensures reads { Reads (verify_names options.now) (seen (P.asked place.old) (P.asked place.new)
+    ensures reads { ReadsNamed (verify_names options.now) (seen (P.asked place.old) (P.asked place.new)
         (P.tally place.old) (P.tally place.new)) result }
 {
     let recording = recording_at(alloc, place, options.recording.as_str())?;

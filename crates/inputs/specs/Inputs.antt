@@ -42,9 +42,9 @@ abbrev pub AreRead : List (List ℕ) → Seen → Type 0
 AreRead names s = Notes s.asked_before s.asked_after names × (s.after ≡ s.before)
 
 -- how many reads failed where a command stops
-abbrev pub failed_reads : CommandError → ℕ
-failed_reads (Fault ReadFailed) = 1
-failed_reads other = 0
+abbrev pub command_failed_reads : CommandError → ℕ
+command_failed_reads (Fault ReadFailed) = 1
+command_failed_reads other = 0
 
 -- where a text is refused, each input that was opened was read to its end
 abbrev pub AreEnded : CommandError → Seen → Type 0
@@ -59,13 +59,13 @@ pub record AreStopped (names : List (List ℕ)) (error : CommandError) (s : Seen
   pub parts : names ≡ front ++ rest
   pub asked : Notes s.asked_before s.asked_after front
   pub lent : s.after.lent ≡ s.before.lent
-  pub failed : s.after.failed ≡ s.before.failed + failed_reads error
+  pub failed : s.after.failed ≡ s.before.failed + command_failed_reads error
   pub ended : AreEnded error s
 
 -- the inputs of these names were read, or not all were
-abbrev pub Reads : {X : Type 0} → List (List ℕ) → Seen → Result X CommandError → Type 0
-Reads names s (Ok x) = AreRead names s
-Reads names s (Err error) = AreStopped names error s
+abbrev pub ReadsNamed : {X : Type 0} → List (List ℕ) → Seen → Result X CommandError → Type 0
+ReadsNamed names s (Ok x) = AreRead names s
+ReadsNamed names s (Err error) = AreStopped names error s
 
 -- the input of this name was read, or it was not
 abbrev pub ReadsInput : {X : Type 0} → List ℕ → Seen → Result X CommandFault → Type 0

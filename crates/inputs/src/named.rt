@@ -2,7 +2,7 @@
 ghost use Rattle.std.specs.Prelude.{◌≡◌, ◌∷◌, [], IfErr, IfOk, Ok};
 ghost use Rattle.program.specs.Text.{reading};
 ghost use Rattle.recorder.specs.Reading.{IsReadingResult};
-ghost use Rattle.inputs.specs.Inputs.{CanRead, Reads, seen};
+ghost use Rattle.inputs.specs.Inputs.{CanRead, ReadsNamed, seen};
 ghost use Rattle.inputs.specs.Program.{IsProgramAt, IsProgramError};
 ghost use Rattle.inputs.specs.Recording.{IsRecordingAt, IsRecordingError, IsRefusedRecording};
 ghost use Rattle.litmus.specs.Refusals.{line_refusal_name};
@@ -46,7 +46,7 @@ pub fn program_at<P: Place>(
     requires { CanRead (P.tally place.old) }
     ensures ok { IfOk result (λ program. IsProgramAt (P.bytes place.old) name.now program) }
     ensures err { IfErr result (IsProgramError (P.bytes place.old) name.now) }
-    ensures reads { Reads (name.now ∷ []) (seen (P.asked place.old) (P.asked place.new)
+    ensures reads { ReadsNamed (name.now ∷ []) (seen (P.asked place.old) (P.asked place.new)
         (P.tally place.old) (P.tally place.new)) result }
     ensures kept { P.bytes place.new ≡ P.bytes place.old }
 {
@@ -84,7 +84,7 @@ pub fn recording_at<P: Place>(
     requires { CanRead (P.tally place.old) }
     ensures ok { IfOk result (λ recording. IsRecordingAt (P.bytes place.old) name.now recording) }
     ensures err { IfErr result (IsRecordingError (P.bytes place.old) name.now) }
-    ensures reads { Reads (name.now ∷ []) (seen (P.asked place.old) (P.asked place.new)
+    ensures reads { ReadsNamed (name.now ∷ []) (seen (P.asked place.old) (P.asked place.new)
         (P.tally place.old) (P.tally place.new)) result }
     ensures kept { P.bytes place.new ≡ P.bytes place.old }
 {

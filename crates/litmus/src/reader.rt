@@ -3,7 +3,7 @@
 ghost use Rattle.std.specs.Prelude.{◌≡◌};
 
 use crate::builder::Builder;
-use crate::line::{ParsedLine, line_of};
+use crate::line::{ParsedLine, parsed_line};
 use common::OutOfMemory;
 use program::{LineRefusal, LitmusError, Name, Number, Program, WriteKind};
 use std::alloc::Global;
@@ -151,7 +151,7 @@ impl Reader {
         ensures { AnswersLine (seen_as result (λ _. draft self.new)) number
             (step (draft self.old) line.now) }
     {
-        match line_of(line) {
+        match parsed_line(line) {
             None => Err(LitmusError::AtLine(LineRefusal::L1, number)),
             Some(ParsedLine::Core) => self.begin_core(alloc, number),
             Some(ParsedLine::Fence) => self.fence(number),

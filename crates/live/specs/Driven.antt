@@ -8,7 +8,7 @@ use Rattle.live.specs.declared.error.LiveError.TheVariants.{OutOfMemory}
 use Rattle.live.specs.Trace.{Trace}
 
 -- a machine without a fault, of this program and this capacity, that may take this many steps
-pub record IsGiven (program : Parts) (capacity limit : ℕ) (t : Trace) : Type 0 where
+pub record IsAsRequested (program : Parts) (capacity limit : ℕ) (t : Trace) : Type 0 where
   pub program_is : t.machine.program ≡ program
   pub capacity_is : t.machine.capacity ≡ capacity
   pub fault_is : t.machine.fault ≡ None

@@ -4,7 +4,7 @@ ghost use Rattle.std.specs.Prelude.{◌≡◌, ◌↔◌, IsTrue, IfOk, IfErr};
 ghost use Rattle.recording.specs.Tso.{IsTsoOrder};
 ghost use Rattle.machine.specs.Configuration.{recording_of, IsAtEnd};
 ghost use Rattle.live.specs.Trace.{IsTrace, IsEnded};
-ghost use Rattle.live.specs.Driven.{IsGiven, IsDriveError, IsThreadError};
+ghost use Rattle.live.specs.Driven.{IsAsRequested, IsDriveError, IsThreadError};
 
 use crate::error::LiveError;
 use crate::shared_machine::SharedMachine;
@@ -18,7 +18,7 @@ use std::thread::Threads;
 
 /// Whether a machine has no fault and is of this program, this capacity and this limit.
 fn is_given(traced: &Traced, program: &Program, capacity: usize, limit: usize) -> bool
-    ensures { IsTrue result ↔ IsGiven program.now capacity limit traced.now }
+    ensures { IsTrue result ↔ IsAsRequested program.now capacity limit traced.now }
 {
     let machine = traced.machine();
     machine.program().is_same(program)
@@ -29,7 +29,7 @@ fn is_given(traced: &Traced, program: &Program, capacity: usize, limit: usize) -
 
 /// Whether a machine is as given and at its end.
 fn is_run_of(traced: &Traced, program: &Program, capacity: usize, limit: usize) -> bool
-    ensures { IsTrue result ↔ IsGiven program.now capacity limit traced.now × IsEnded traced.now }
+    ensures { IsTrue result ↔ IsAsRequested program.now capacity limit traced.now × IsEnded traced.now }
 {
     is_given(traced, program, capacity, limit) && traced.is_ended()
 }
@@ -54,9 +54,9 @@ fn checked(
     limit: usize,
 ) -> Result<Traced, LiveError>
     ensures same { IfOk result (λ t. t ≡ traced) }
-    ensures ok { IfOk result (λ t. IsGiven program.now capacity limit t × IsEnded t) }
+    ensures ok { IfOk result (λ t. IsAsRequested program.now capacity limit t × IsEnded t) }
     ensures err { IfErr result (λ e. (e ≡ LiveError.Stranger)
-        × (IsGiven program.now capacity limit traced × IsEnded traced → ⊥)) }
+        × (IsAsRequested program.now capacity limit traced × IsEnded traced → ⊥)) }
 {
     if !is_run_of(&traced, program, capacity, limit) {
         drop(traced);
@@ -75,7 +75,7 @@ fn driven<R: Threads + Wait + Sync, G: Gate>(
     limit: usize,
     gate: &G,
 ) -> Result<Traced, LiveError>
-    ensures ok { IfOk result (λ t. IsGiven program.now capacity limit t × IsEnded t) }
+    ensures ok { IfOk result (λ t. IsAsRequested program.now capacity limit t × IsEnded t) }
     ensures err { IfErr result IsThreadError }
 {
     if !shared.run(rt, program.cores() as CoreId, gate) {
@@ -102,7 +102,7 @@ pub fn drive<R: Threads + Wait + Sync, G: Gate>(
     limit: usize,
     gate: &G,
 ) -> Result<Traced, LiveError>
-    ensures given { IfOk result (IsGiven program capacity limit) }
+    ensures given { IfOk result (IsAsRequested program capacity limit) }
     ensures ended { IfOk result IsEnded }
     ensures replay { IfOk result IsTrace }
     // Where it is complete, the order of what was performed is one that TSO allows.

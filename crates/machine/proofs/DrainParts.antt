@@ -47,9 +47,11 @@ module _ (p : Parts) (capacity : ℕ) (units : List Progress) (buffers : List Bu
       (waiting_within (draining fault old.entries) entry
       (slice_get_within old.entries (draining fault old.entries) entry (sym here)))
 
-  -- the buffer, borrowed again, is the same
-  pub same_buffer : (now : Buffer) → now ≡ slice_index_or buffers core now → old ≡ now
-  same_buffer now now_is = is ∙ (get_or_default buffers core old now buffer_there ∙ sym now_is)
+  -- the entry stands in the buffer, borrowed again
+  pub entry_again : (now : Buffer) → now ≡ slice_index_or buffers core now
+      → Some entry ≡ slice_get now.entries (draining fault now.entries)
+  entry_again now now_is = subst (λ (b : Buffer). Some entry ≡ slice_get b.entries (draining fault b.entries))
+      (is ∙ (get_or_default buffers core old now buffer_there ∙ sym now_is)) here
 
   -- a drain that the caches refuse is blocked
   pub drain_blocked : (e : CacheError) → moesi.write caches core entry.addr entry.value entry.event ≡ Err e

@@ -29,3 +29,4 @@ pub mod Removed
 pub mod OneRow
 pub mod Refused
 pub mod TextEnds
+pub mod Inside

@@ -22,7 +22,7 @@ use Rattle.machine.specs.declared.script_refusal.StepRefusal.TheVariants.{S1, S4
 use Rattle.machine.specs.declared.step.Step.{Step}
 use Rattle.machine.specs.ScriptLine.{ScriptLine, own_line, transaction_line, script_line_of, own_step}
 use Rattle.machine.specs.ScriptLine.{transaction_step}
-use Rattle.machine.specs.Script.{core_in, address_in, with_step, core_step, address_step, script_step}
+use Rattle.machine.specs.Script.{core_in, address_in, with_step, step_on_core, address_step, script_step}
 use Rattle.machine.specs.Script.{line_step, steps_of, IsStepOf}
 
 -- what every line keeps
@@ -78,7 +78,7 @@ transaction_kept p Put c a h k = (h, k)
 
 -- one step of a core more
 core_kept : (p : Parts) (s t : List Step) (step : ℕ → Step) (core : Option ℕ) → IsScript p s →
-    ((c : ℕ) → core ≡ Some c → IsStepOf p (step c)) → core_step s step core ≡ done t → IsScript p t
+    ((c : ℕ) → core ≡ Some c → IsStepOf p (step c)) → step_on_core s step core ≡ done t → IsScript p t
 core_kept p s t step None h of e = absurd cc
 core_kept p s t step (Some c) h of e = step_kept p s t (step c) h (of c refl) e
 

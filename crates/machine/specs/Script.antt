@@ -26,9 +26,9 @@ abbrev pub with_step : List Step → Step → Result (List Step) StepRefusal
 with_step done step = if nat_lt (length done) MAX_STEPS then Ok (done ++ step ∷ []) else Err S4
 
 -- what a kind of step and its core do, if the program has the core
-abbrev pub core_step : List Step → (ℕ → Step) → Option ℕ → Result (List Step) StepRefusal
-core_step done step None = Err S2
-core_step done step (Some c) = with_step done (step c)
+abbrev pub step_on_core : List Step → (ℕ → Step) → Option ℕ → Result (List Step) StepRefusal
+step_on_core done step None = Err S2
+step_on_core done step (Some c) = with_step done (step c)
 
 -- what a kind of transaction, its core and its address do, if the program has the core, and then
 -- the address
@@ -41,7 +41,7 @@ address_step done step (Some c) (Some a) = with_step done (step c a)
 -- what a line does to the steps before it
 abbrev pub script_step : Parts → List Step → Option ScriptLine → Result (List Step) StepRefusal
 script_step p done None = Err S1
-script_step p done (Some (own_line own c)) = core_step done (own_step own) (core_in p c)
+script_step p done (Some (own_line own c)) = step_on_core done (own_step own) (core_in p c)
 script_step p done (Some (transaction_line kind c name)) =
     address_step done (transaction_step kind) (core_in p c) (address_in p name)
 

@@ -112,7 +112,8 @@ next_count counts more rest k r new low short is here later = go (get_or counts 
         → (r ≡ Some (get_or counts k 0)) × (new ≡ lines_from counts (k + 1) (MAX_EVENTS + 1 - (k + 1)) ++ 102 ∷ more)
     go zero count =
         let left : rest ≡ lines_from counts (k + 1) (MAX_EVENTS + 1 - (k + 1)) ++ 102 ∷ more = next
-        ∙ ap (λ (m : ℕ). cycle_line k m ++ (lines_from counts (k + 1) (MAX_EVENTS + 1 - (k + 1)) ++ 102 ∷ more)) count in
+        ∙ ap (λ (m : ℕ). cycle_line k m
+        ++ (lines_from counts (k + 1) (MAX_EVENTS + 1 - (k + 1)) ++ 102 ∷ more)) count in
         let read = later (subst (IsLater k) (sym left)
         (lines_later counts more k (k + 1) (MAX_EVENTS + 1 - (k + 1)) (omega arith) (omega (arith, low)))) in
         (read.0 ∙ ap (λ (m : ℕ). Some m) (sym count), read.1 ∙ left)

@@ -8,7 +8,8 @@ use Rattle.std.proofs.lemmas.Fmt.{decimal_by_steps, parse-decimal}
 use Rattle.std.specs.Str.Parse.{ParsesUnsigned}
 use Rattle.std.proofs.lemmas.List.{get_or_append_left, length-append}
 use Rattle.std.proofs.Math.Seq.{get_or-append_seam, take-append_seam}
-use Rattle.merging.specs.Digits.{IsNoDigit, is_digit}
+use Rattle.program.specs.Numbers.{is_digit}
+use Rattle.merging.specs.Digits.{IsNoDigit}
 
 -- each byte is a digit
 AreDigits : List ℕ → Type 0

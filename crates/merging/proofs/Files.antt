@@ -1,7 +1,7 @@
 -- The files, one after another.
 use Rattle.std.proofs.Common.{◌≡◌, ◌∙◌, ◌<◌, ◌+◌, ◌++◌, [], ◌∷◌, ℕ, suc, List, Vec, Global, ap, arith, map, refl}
-use Rattle.std.proofs.Common.{append_assoc, append-nil, drop, drop-cons, get_or, length, length-append, subst, sym, take}
-use Rattle.std.proofs.Common.{take_all}
+use Rattle.std.proofs.Common.{append_assoc, append-nil, drop, drop-cons, get_or, length, length-append, subst}
+use Rattle.std.proofs.Common.{sym, take, take_all}
 use Rattle.std.proofs.Math.ListN.{drop_of_length-le}
 use Rattle.std.proofs.lemmas.List.{get_or-map, get_or-take, get_or_append_left, length-take-le, take_more}
 use Rattle.std.specs.List.{concat}

@@ -22,7 +22,8 @@ pub record AreUnderWay (kind : Kind) (old new : Ledger) (bytes rest : List ℕ) 
   pub whole : (back : List (List ℕ)) → AreLedgerTexts kind back rest
       → (lists : List (List ℕ)) × AreLedgerTexts kind lists bytes × (concat lists ≡ done ++ concat back)
   pub only : (lists : List (List ℕ)) → AreLedgerTexts kind lists bytes
-      → (front : List ℕ) × (back : List (List ℕ)) × AreLedgerTexts kind back rest × (concat lists ≡ front ++ concat back)
+      → (front : List ℕ) × (back : List (List ℕ)) × AreLedgerTexts kind back rest
+      × (concat lists ≡ front ++ concat back)
       × ((earlier : List ℕ) → HasTextOf kind earlier old → HasTextOf kind (earlier ++ front) new)
 
 -- before the first

@@ -47,7 +47,8 @@ ledger_then kind l more size =
     ∙ ap (λ (t : List ℕ). cycle_lines l.cycles.items (MAX_EVENTS + 1) ++ t)
     (first_begins (codes "violation") (noun kind) l.first more))
   where
-    six : (a b c d e f g : List ℕ) → (((((a ++ b) ++ c) ++ d) ++ e) ++ f) ++ g ≡ a ++ (b ++ (c ++ (d ++ (e ++ (f ++ g)))))
+    six : (a b c d e f g : List ℕ)
+        → (((((a ++ b) ++ c) ++ d) ++ e) ++ f) ++ g ≡ a ++ (b ++ (c ++ (d ++ (e ++ (f ++ g)))))
     six a b c d e f g = simp append_assoc
 
 -- a text, and what stands after the line of the first violation

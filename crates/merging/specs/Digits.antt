@@ -1,10 +1,7 @@
 -- Digits of a text.
-use Rattle.std.specs.Prelude.{◌≡◌, ◌&&◌, ℕ, Bool, false, nat_le}
+use Rattle.std.specs.Prelude.{◌≡◌, ℕ, false}
+use Rattle.program.specs.Numbers.{is_digit}
 
--- a byte from 0 to 9
-abbrev pub is_digit : ℕ → Bool
-is_digit b = nat_le 48 b && nat_le b 57
-
--- any other byte
+-- a byte that is not from 0 to 9
 abbrev pub IsNoDigit : ℕ → Type 0
 IsNoDigit b = is_digit b ≡ false

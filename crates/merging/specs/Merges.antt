@@ -26,7 +26,8 @@ pub record IsTextRead (kind : Kind) (before after : List ℕ) (ledger : Ledger) 
   pub codes : List ℕ
   pub begins : BeginsWithLedger kind codes before after
   pub is : IsLedger codes ledger
-  pub only : (others more : List ℕ) → BeginsWithLedger kind others before more → (after ≡ more) × HasTextOf kind others ledger
+  pub only : (others more : List ℕ) → BeginsWithLedger kind others before more
+      → (after ≡ more) × HasTextOf kind others ledger
 
 -- no text of the kind begins the bytes, or there is no memory
 abbrev pub IsNoText : Kind → List ℕ → TextError → Type 0
@@ -44,7 +45,8 @@ pub record IsTextAdded (kind : Kind) (old new : Ledger) (before after : List ℕ
 -- why they are not
 abbrev pub IsLedgerTextError : Kind → Ledger → List ℕ → TextError → Type 0
 IsLedgerTextError kind old before OutOfMemory = ⊤
-IsLedgerTextError kind old before (Refused refusal left) = (codes more : List ℕ) → BeginsWithLedger kind codes before more
+IsLedgerTextError kind old before (Refused refusal left) = (codes more : List ℕ)
+    → BeginsWithLedger kind codes before more
     → Refuses refusal (old.total + length codes)
 
 -- the codes of one file are added

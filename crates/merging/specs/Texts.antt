@@ -37,7 +37,8 @@ pub record BeginsWithLedger (kind : Kind) (codes bytes more : List ℕ) : Type 0
 -- the bytes are the texts of the ledgers of these lists of codes, one after another
 abbrev pub AreLedgerTexts : Kind → List (List ℕ) → List ℕ → Type 0
 AreLedgerTexts kind [] bytes = bytes ≡ []
-AreLedgerTexts kind (codes ∷ lists) bytes = (more : List ℕ) × BeginsWithLedger kind codes bytes more × AreLedgerTexts kind lists more
+AreLedgerTexts kind (codes ∷ lists) bytes = (more : List ℕ) × BeginsWithLedger kind codes bytes more
+    × AreLedgerTexts kind lists more
 
 -- the bytes are one such text or more, and these are their codes, joined
 pub record IsFile (kind : Kind) (codes bytes : List ℕ) : Type 0 where

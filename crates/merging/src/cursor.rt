@@ -2,7 +2,8 @@
 
 ghost use Rattle.std.specs.Prelude.{◌≡◌, ◌<◌, ◌≤◌, ◌^◌, ◌++◌, ◌∷◌, ℕ, List, Some, decimal, false, length, slice_index};
 ghost use Rattle.std.specs.Prelude.{true};
-ghost use Rattle.merging.specs.Digits.{IsNoDigit, is_digit};
+ghost use Rattle.program.specs.Numbers.{is_digit};
+ghost use Rattle.merging.specs.Digits.{IsNoDigit};
 
 use itoa::Buffer;
 use std::marker::Model;

@@ -2,8 +2,8 @@
 
 ghost use Rattle.std.specs.Prelude.{◌≡◌, ◌<◌, IfErr, IfOk, length, map};
 ghost use Rattle.ledger.specs.Real.{HasCodes};
-ghost use Rattle.merging.specs.Merges.{IsFileAdded, IsFileError, IsMerge, IsMergingError, IsTextAdded, IsLedgerTextError};
-ghost use Rattle.merging.specs.Merges.{IsLocated};
+ghost use Rattle.merging.specs.Merges.{IsFileAdded, IsFileError, IsMerge, IsMergingError, IsTextAdded};
+ghost use Rattle.merging.specs.Merges.{IsLedgerTextError, IsLocated};
 
 use crate::cursor::Cursor;
 use crate::error::{MergeError, MergeRefusal, TextError};

@@ -16,7 +16,7 @@ use Rattle.program.specs.declared.refusal.LineRefusal.{LineRefusal}
 use Rattle.program.specs.declared.refusal.LineRefusal.TheVariants.{L1}
 use Rattle.common.specs.declared.limits.TheConstants.{MAX_CORES, MAX_EVENTS, MAX_ADDRESSES}
 use Rattle.program.specs.Names.{AreLawful, name_eq, name_of, name_text, no_name}
-use Rattle.program.specs.Lines.{core_line}
+use Rattle.program.specs.Lines.{core_line, write_line}
 use Rattle.program.specs.Parts.{Small, Body, op_count, addr_of, use_addr, use_ops, use_cores}
 use Rattle.program.specs.Steps.{names_with, name_number, with_op, write_op, op_fault, core_step, fence_step}
 use Rattle.program.specs.Steps.{load_step, write_step, compare_step}
@@ -122,22 +122,12 @@ load_next all p back a n h parts none used le =
           (few_test all c.more c.back c.parts h.few));
     }
 
--- a write is read
-record NextWrite (all : List Name) (p : Body) (write : WriteKind) (a value n : ℕ) : Type 0 where
-  more : List Name
-  back : List Name
-  parts : all ≡ more ++ back
-  long : length more ≡ n
-  named : name_of (name_text (name_at all a)) ≡ Some (name_at all a)
-  step_is : body_step (plain p) (write_step p write (name_at all a) value)
-      ≡ Ok (plain (record { names = more; cores = with_op p.cores (write_op write a value) }))
-
 -- a store, swap or add is read
-write_next : (all : List Name) (p : Body) (back : List Name) (write : WriteKind) (a value n : ℕ) →
+write_next : (all : List Name) (p : Body) (back : List Name) (write : WriteKind) (a value n : ℕ) (op : Op) →
+    op_line all op ≡ write_line write (name_at all a) value → op ≡ write_op write a value →
     AreNames all → all ≡ p.names ++ back → op_fault p ≡ None → use_addr (length p.names) (Some a)
-    ≡ Some n → n ≤ length all →
-    value < 2 ^ 32 → NextWrite all p write a value n
-write_next all p back write a value n h parts none used le small =
+    ≡ Some n → n ≤ length all → value < 2 ^ 32 → Next all p op n
+write_next all p back write a value n op line made h parts none used le small =
     let c = cut_at all p.names back a n parts h.distinct (used_so (length p.names) a n used) le in
     let within : a < length all = omega (arith, le, (use_below (length p.names) a n used).0) in
     record {
@@ -145,10 +135,13 @@ write_next all p back write a value n h parts none used le small =
       back = c.back;
       parts = c.parts;
       long = c.long;
-      named = All-from_recursion (λ (m : Name). name_of (name_text m) ≡ Some m) all h.lawful a no_name within;
-      step_is = taken_so p (record { names = c.more; cores = with_op p.cores (write_op write a value) })
+      named = subst IsNamed (sym line)
+          (All-from_recursion (λ (m : Name). name_of (name_text m) ≡ Some m) all h.lawful a no_name within);
+      fits = subst Fits (sym line) small;
+      step_is = rw (line, made)
+          (taken_so p (record { names = c.more; cores = with_op p.cores (write_op write a value) })
           (write_step p write (name_at all a) value) (write_so p write (name_at all a) value c.more a none
-          c.next c.number (few_test all c.more c.back c.parts h.few) (lt-ltb value (2 ^ 32) small));
+          c.next c.number (few_test all c.more c.back c.parts h.few) (lt-ltb value (2 ^ 32) small)));
     }
 
 -- two counts that are some count
@@ -173,38 +166,11 @@ op_next all p back Fence n h parts none used le small =
 op_next all p back (Ld a) n h parts none used le small =
     load_next all p back a n h parts none used le
 op_next all p back (St a v) n h parts none used le small =
-    let w = write_next all p back writes.Store a v n h parts none used le small in
-    record {
-      more = w.more;
-      back = w.back;
-      parts = w.parts;
-      long = w.long;
-      named = w.named;
-      fits = small;
-      step_is = w.step_is;
-    }
+    write_next all p back writes.Store a v n (St a v) refl refl h parts none used le small
 op_next all p back (Swap a v) n h parts none used le small =
-    let w = write_next all p back writes.Swap a v n h parts none used le small in
-    record {
-      more = w.more;
-      back = w.back;
-      parts = w.parts;
-      long = w.long;
-      named = w.named;
-      fits = small;
-      step_is = w.step_is;
-    }
+    write_next all p back writes.Swap a v n (Swap a v) refl refl h parts none used le small
 op_next all p back (Add a v) n h parts none used le small =
-    let w = write_next all p back writes.Add a v n h parts none used le small in
-    record {
-      more = w.more;
-      back = w.back;
-      parts = w.parts;
-      long = w.long;
-      named = w.named;
-      fits = small;
-      step_is = w.step_is;
-    }
+    write_next all p back writes.Add a v n (Add a v) refl refl h parts none used le small
 op_next all p back (Cas a v m) n h parts none used le small =
     let c = cut_at all p.names back a n parts h.distinct (used_so (length p.names) a n used) le in
     let within : a < length all = omega (arith, le, (use_below (length p.names) a n used).0) in

@@ -9,7 +9,7 @@ use Rattle.program.specs.declared.name.Name.{Name}
 use Rattle.program.specs.declared.refusal.LineRefusal.{LineRefusal}
 use Rattle.program.specs.declared.refusal.LineRefusal.TheVariants.{L1, L5, L6, L7, L8}
 use Rattle.program.specs.Lines.{Line, core_line, fence_line, load_line, write_line, compare_line, init_line}
-use Rattle.program.specs.Lines.{line_of}
+use Rattle.program.specs.Lines.{parsed_line}
 use Rattle.program.specs.Names.{name_eq}
 use Rattle.program.specs.Parts.{Body, IsSmall}
 use Rattle.program.specs.Steps.{name_number, core_step, fence_step, load_step, write_step, compare_step}
@@ -185,9 +185,9 @@ keeps_said d e line (init_line name n) h r f = keeps_init d e line name n h r.te
 
 -- after a line that is read there is a draft, and its text is one line longer
 pub step_keeps : (d e : Draft) (line : List ℕ) → IsDraft d → step d line ≡ Ok e → KeepsDraft d line e
-step_keeps d e line h f = by (line_of line) refl
+step_keeps d e line h f = by (parsed_line line) refl
   where
-    by : (o : Option Line) → line_of line ≡ o → KeepsDraft d line e
+    by : (o : Option Line) → parsed_line line ≡ o → KeepsDraft d line e
     by None is = absurd (none_ok (sym (ap (λ (o : Option Line). said_step d o) is) ∙ f))
       where
         none_ok : said_step d None ≡ taken e → ⊥

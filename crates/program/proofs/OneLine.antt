@@ -15,7 +15,7 @@ use Rattle.program.specs.declared.line.WriteKind.{WriteKind}
 use Rattle.program.specs.declared.line.WriteKind.TheVariants.{Store, Swap, Add}
 use Rattle.program.specs.Names.{is_letter_or_digit, name_of, name_text}
 use Rattle.program.specs.Lines.{Line, core_line, fence_line, load_line, write_line, compare_line, init_line}
-use Rattle.program.specs.Lines.{line_of, load_of, write_of, compare_of, compared_of, init_of, valued_of}
+use Rattle.program.specs.Lines.{parsed_line, load_of, write_of, compare_of, compared_of, init_of, valued_of}
 use Rattle.program.specs.Lines.{is_space, write_word, is_text, begins}
 use Rattle.program.specs.Numbers.{decimal_of, is_digit}
 use Rattle.program.specs.Spelling.{line_text}
@@ -194,8 +194,8 @@ late_reads line l e =
     ]
 
 -- a line that is read is the text of what it says
-pub line_reads : (line : List ℕ) (l : Line) → line_of line ≡ Some l → Reads l line
-unfolding line_of
+pub line_reads : (line : List ℕ) (l : Line) → parsed_line line ≡ Some l → Reads l line
+unfolding parsed_line
 line_reads line l e =
     let r7 : Option Line = cond (begins (codes "init ") line) (init_of (drop 5 line)) None in
     let r6 : Option Line = cond (begins (codes "cas ") line) (compare_of (drop 4 line)) r7 in
@@ -321,8 +321,8 @@ compare_again name e n named first second =
     ) (pair_again name e n first second)
 
 -- the text of a line is read as the line
-pub line_again : (l : Line) → IsNamed l → Fits l → line_of (line_text l) ≡ Some l
-unfolding line_of load_of
+pub line_again : (l : Line) → IsNamed l → Fits l → parsed_line (line_text l) ≡ Some l
+unfolding parsed_line load_of
 line_again core_line named fits = refl
 line_again fence_line named fits = refl
 line_again (load_line name) named fits = rw named refl

@@ -6,7 +6,7 @@ use Rattle.program.specs.declared.name.Name.{Name}
 use Rattle.program.specs.declared.refusal.LineRefusal.{LineRefusal}
 use Rattle.program.specs.declared.refusal.LineRefusal.TheVariants.{L1, L5, L6, L7, L8}
 use Rattle.program.specs.Lines.{Line, core_line, fence_line, load_line, write_line, compare_line}
-use Rattle.program.specs.Lines.{init_line, line_of}
+use Rattle.program.specs.Lines.{init_line, parsed_line}
 use Rattle.program.specs.Parts.{Body, Parts, IsBody, IsSmall, parts_of}
 use Rattle.program.specs.Steps.{empty, name_number, core_step, fence_step, load_step, write_step}
 use Rattle.program.specs.Steps.{compare_step, unless}
@@ -75,4 +75,4 @@ said_step d (Some (init_line name n)) = init_step d name n
 
 -- what the bytes of a line do
 abbrev pub step : Draft → List ℕ → Result Draft LineRefusal
-step d line = said_step d (line_of line)
+step d line = said_step d (parsed_line line)

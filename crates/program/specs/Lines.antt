@@ -74,8 +74,8 @@ abbrev pub begins : List ℕ → List ℕ → Bool
 begins text line = pointwise nat_eq (take (length text) line) text
 
 -- what a line says, if it is in the grammar
-unfoldable pub line_of : List ℕ → Option Line
-line_of line =
+unfoldable pub parsed_line : List ℕ → Option Line
+parsed_line line =
     if is_text (codes "core") line then Some core_line
     else (if is_text (codes "fence") line then Some fence_line
     else (if begins (codes "ld ") line then load_of (drop 3 line)

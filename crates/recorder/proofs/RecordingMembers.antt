@@ -14,7 +14,7 @@ use Rattle.recorder.specs.ParsedModel.{ParsedModel}
 use Rattle.recorder.specs.Parsed.{model_of}
 use Rattle.recorder.specs.Held.{HoldsCores, HoldsLists, StandsFor}
 use Rattle.recorder.specs.Reading.{natural, number_in, value_in, event_in, list_in, at_key, values_in}
-use Rattle.recorder.specs.Reading.{shape_of}
+use Rattle.recorder.specs.Reading.{contents_with}
 use Rattle.recorder.specs.Reading.{shape_in}
 use Rattle.recorder.specs.Clipped.{clip, clip_event, clipped_shape, clipped_number, clipped_event}
 use Rattle.recorder.specs.Pulled.{GivesValue, Adds}
@@ -198,13 +198,13 @@ shape_from values (Some a) (Some b) (Some d) v cs ws hv hc hw =
 -- the version, the cores and the write lists, with these initial values
 shaped : (values : Option (List ℕ)) (p : ReadMembers) (ms : Members) (v : ℕ) (cs : List (List Event))
     (ws : List (List ℕ)) (h : AreParts p ms) → p.version ≡ Some v → h.cores.0 ≡ Some cs
-    → h.writes.0 ≡ Some ws → option_map clipped_shape (shape_of values (object ms)) ≡ Some (record {
+    → h.writes.0 ≡ Some ws → option_map clipped_shape (contents_with values (object ms)) ≡ Some (record {
       version = v;
       cores = cs;
       write_lists = ws;
       values = values;
     })
-unfolding shape_of
+unfolding contents_with
 shaped values p ms v cs ws h hv hc hw =
     shape_from values (at_key natural (codes "version") (object ms))
     (at_key (list_in (list_in event_in)) (codes "cores") (object ms))
@@ -219,7 +219,7 @@ shaped values p ms v cs ws h hv hc hw =
 contents_by : (values : Option (List ℕ)) (n : ℕ) (p : ReadMembers) (ms : Members)
     → count_of p.version + count_of p.cores + count_of p.writes + count_of p.init ≡ n → AreParts p ms
     → values_in n (object ms) ≡ Some values
-    → clipped_contents (object ms) ≡ option_map clipped_shape (shape_of values (object ms))
+    → clipped_contents (object ms) ≡ option_map clipped_shape (contents_with values (object ms))
 unfolding shape_in
 contents_by values n p ms count h is = rw (h.count, count, is) refl
 

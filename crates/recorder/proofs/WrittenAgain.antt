@@ -28,7 +28,7 @@ use Rattle.recorder.specs.ReadMembers.{IsParsedFrom, clipped_contents}
 use Rattle.recorder.specs.Clipped.{clip, clip_event, clipped_shape}
 use Rattle.recorder.specs.Reading.{number_in, value_in, event_in, list_in}
 use Rattle.recorder.specs.Text.{number_data, list_data, source_data, event_data}
-use Rattle.recorder.specs.Written.{IsShort, IsWord, IsShortSource, IsFitting, AreWords, version_of}
+use Rattle.recorder.specs.Written.{IsShort, IsWord, IsShortSource, IsFitting, AreFittingValues, version_of}
 use Rattle.recorder.specs.Written.{written_data, BeginsRecording}
 use Rattle.recorder.proofs.Again.{AllAgain, each_again, number_again, value_again, load_again, store_again}
 use Rattle.recorder.proofs.Again.{rmw_again, failed_cas_again, fence_again}
@@ -143,8 +143,9 @@ values_reread : (values : List ℕ) → AllByRecursion IsWord values → Rereads
 values_reread = list_rereads number_data IsWord 0 (λ n h. number_rereads n (omega (arith, h)))
 
 -- the contents
-contents_reread : (values : Option (List ℕ)) (cores : List (List Event)) (lists : List (List ℕ)) → AreWords values
-    → AllByRecursion (AllByRecursion IsFitting) cores → AllByRecursion (AllByRecursion IsShort) lists
+contents_reread : (values : Option (List ℕ)) (cores : List (List Event)) (lists : List (List ℕ))
+    → AreFittingValues values → AllByRecursion (AllByRecursion IsFitting) cores
+    → AllByRecursion (AllByRecursion IsShort) lists
     → Rereads 4 (written_data values cores lists)
 contents_reread None cores lists words fitting short =
     let x = cores_reread cores fitting in
@@ -245,8 +246,9 @@ lists_again = fitting_again (list_in number_in) (list_data number_data) (AllByRe
     (fitting_again number_in number_data IsShort (λ n h. number_again n))
 
 -- the contents
-contents_again : (values : Option (List ℕ)) (cores : List (List Event)) (lists : List (List ℕ)) → AreWords values
-    → AllByRecursion (AllByRecursion IsFitting) cores → AllByRecursion (AllByRecursion IsShort) lists
+contents_again : (values : Option (List ℕ)) (cores : List (List Event)) (lists : List (List ℕ))
+    → AreFittingValues values → AllByRecursion (AllByRecursion IsFitting) cores
+    → AllByRecursion (AllByRecursion IsShort) lists
     → clipped_contents (written_data values cores lists)
     ≡ Some (record { version = version_of values; cores = cores; write_lists = lists; values = values })
 contents_again None cores lists words fitting short =

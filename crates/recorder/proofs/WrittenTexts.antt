@@ -10,7 +10,7 @@ use Rattle.serde_json.specs.Written.{compact_text, items_text}
 use Rattle.recording.specs.declared.event.Event.{Event}
 use Rattle.recording.specs.declared.event.Event.TheVariants.{L, S, R, C, F}
 use Rattle.recorder.specs.Text.{number_data, list_data, source_data, event_data}
-use Rattle.recorder.specs.Written.{IsShort, IsWord, IsShortSource, IsFitting, AreWords, IsHead, Begins}
+use Rattle.recorder.specs.Written.{IsShort, IsWord, IsShortSource, IsFitting, AreFittingValues, IsHead, Begins}
 use Rattle.recorder.specs.Written.{version_of, written_data, BeginsRecording}
 
 -- one digit more
@@ -298,7 +298,7 @@ contents_begin text a b c d e rest (Some values) cores lists opens first head th
     (second ∙ ap (λ (t : List ℕ). back ++ t) closes)))) ∙ text_2 values cores lists rest
 
 -- the initial values fit
-head_words : (text rest : List ℕ) (values : Option (List ℕ)) → IsHead text values rest → AreWords values
+head_words : (text rest : List ℕ) (values : Option (List ℕ)) → IsHead text values rest → AreFittingValues values
 head_words text rest None h = tt
 head_words text rest (Some values) h = h.0
 

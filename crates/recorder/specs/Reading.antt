@@ -90,8 +90,8 @@ failed_cas_in d =
     (at_key number_in (codes "a") d)
 
 -- an event of a kind, in an object with this many keys
-unfoldable pub event_of : List ℕ → ℕ → Data → Option Event
-event_of k n d =
+unfoldable pub event_of_kind : List ℕ → ℕ → Data → Option Event
+event_of_kind k n d =
     if bytes_eq k (codes "L") && n == 4 then load_in d
     else (if bytes_eq k (codes "S") && n == 3 then store_in d
     else (if bytes_eq k (codes "R") && n == 5 then rmw_in d
@@ -99,7 +99,7 @@ event_of k n d =
     else (if bytes_eq k (codes "F") && n == 1 then Some F else None))))
 
 unfoldable pub event_in : Data → Option Event
-event_in d = option_and_then (λ n. option_and_then (λ k. event_of k n d) (at_key as_str (codes "k") d))
+event_in d = option_and_then (λ n. option_and_then (λ k. event_of_kind k n d) (at_key as_str (codes "k") d))
     (option_map count_members (as_object d))
 
 -- the initial values of an object with this many keys: none with three, and the fourth of four
@@ -109,8 +109,8 @@ values_in n d =
     else (if n == 4 then option_map Some (at_key (list_in value_in) (codes "init") d) else None)
 
 -- the contents of an object, with initial values or without
-unfoldable pub shape_of : Option (List ℕ) → Data → Option ParsedModel
-shape_of values d =
+unfoldable pub contents_with : Option (List ℕ) → Data → Option ParsedModel
+contents_with values d =
     option_and_then (λ version.
     option_and_then (λ cores.
     option_map (λ writes. record {
@@ -124,7 +124,7 @@ shape_of values d =
     (at_key natural (codes "version") d)
 
 unfoldable pub shape_in : Data → Option ParsedModel
-shape_in d = option_and_then (λ n. option_and_then (λ values. shape_of values d) (values_in n d))
+shape_in d = option_and_then (λ n. option_and_then (λ values. contents_with values d) (values_in n d))
     (option_map count_members (as_object d))
 
 -- a value has the contents of a text of its version, and they tell the execution

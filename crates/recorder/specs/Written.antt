@@ -31,9 +31,9 @@ IsFitting (C a r s) = IsShort a × IsWord r × IsShortSource s
 IsFitting F = ⊤
 
 -- each initial value fits
-abbrev pub AreWords : Option (List ℕ) → Type 0
-AreWords None = ⊤
-AreWords (Some values) = AllByRecursion IsWord values
+abbrev pub AreFittingValues : Option (List ℕ) → Type 0
+AreFittingValues None = ⊤
+AreFittingValues (Some values) = AllByRecursion IsWord values
 
 -- the text begins with x, which fits, and the rest follows it
 pub record Begins {A : Type 0} (datum : A → Data) (Fits : A → Type 0) (text : List ℕ) (x : A) (rest : List ℕ)
@@ -63,4 +63,4 @@ pub record BeginsRecording (text : List ℕ) (c : ParsedModel) (rest : List ℕ)
   pub versioned : c.version ≡ version_of c.values
   pub cores : AllByRecursion (AllByRecursion IsFitting) c.cores
   pub lists : AllByRecursion (AllByRecursion IsShort) c.write_lists
-  pub values : AreWords c.values
+  pub values : AreFittingValues c.values

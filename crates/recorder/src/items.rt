@@ -2,7 +2,7 @@
 
 ghost use Rattle.std.specs.Prelude.{◌≡◌, option_map};
 ghost use Rattle.serde_json.specs.View.{view};
-ghost use Rattle.recorder.specs.Reading.{value_in, source_in, at_key, load_in, store_in, rmw_in, event_of};
+ghost use Rattle.recorder.specs.Reading.{value_in, source_in, at_key, load_in, store_in, rmw_in, event_of_kind};
 ghost use Rattle.recorder.specs.Reading.{count_members, failed_cas_in};
 ghost use Rattle.recorder.specs.Clipped.{clip, clip_event, clipped_number, clipped_event};
 ghost use Rattle.serde_json.specs.Find.{as_object};
@@ -92,9 +92,9 @@ fn failed_cas_in(value: &Value) -> Option<Event>
     Some(Event::C { a, r, s })
 }
 
-#[tactic(auto, unfolding(crate::specs::Reading::event_of))]
-fn event_of(kind: &str, keys: usize, value: &Value) -> Option<Event>
-    ensures { result ≡ option_map clip_event (event_of kind.now keys (view value.now)) }
+#[tactic(auto, unfolding(crate::specs::Reading::event_of_kind))]
+fn event_of_kind(kind: &str, keys: usize, value: &Value) -> Option<Event>
+    ensures { result ≡ option_map clip_event (event_of_kind kind.now keys (view value.now)) }
 {
     if kind == "L" && keys == 4 {
         return load_in(value);
@@ -128,5 +128,5 @@ pub(crate) fn event_in(value: &Value) -> Option<Event>
 {
     let keys = keys_of(value)?;
     let kind = value.get("k")?.as_str()?;
-    event_of(kind, keys, value)
+    event_of_kind(kind, keys, value)
 }

@@ -6,7 +6,7 @@ ghost use Rattle.recorder.specs.ParsedModel.{initial_values, IsVersioned};
 ghost use Rattle.recorder.specs.Parsed.{model_of};
 ghost use Rattle.recorder.specs.ReadMembers.{IsParsedFrom};
 ghost use Rattle.recorder.specs.Reading.{each, list_in, number_in, value_in, event_in, at_key, values_in};
-ghost use Rattle.recorder.specs.Reading.{shape_of, shape_in, IsReadingResult};
+ghost use Rattle.recorder.specs.Reading.{contents_with, shape_in, IsReadingResult};
 ghost use Rattle.recorder.specs.Text.{IsReadAs};
 ghost use Rattle.recorder.specs.Clipped.{clip, clip_event, clipped_shape, clipped_number, clipped_event};
 
@@ -181,14 +181,14 @@ fn init_in(
     Ok(Some(Some(init)))
 }
 
-#[tactic(auto, unfolding(crate::specs::Reading::shape_of))]
-fn shape_of(
+#[tactic(auto, unfolding(crate::specs::Reading::contents_with))]
+fn contents_with(
     alloc: Global,
     init: Option<Vec<u32>>,
     value: &Value,
 ) -> Result<Option<Parsed>, AllocError>
     ensures { IfOk result (λ o. option_map model_of o
-        ≡ option_map clipped_shape (shape_of (option_map (λ v. v.items) init) (view value.now))) }
+        ≡ option_map clipped_shape (contents_with (option_map (λ v. v.items) init) (view value.now))) }
 {
     let Some(version) = value.get("version").and_then(Value::as_u64) else {
         return Ok(None);
@@ -217,7 +217,7 @@ fn shape_in(alloc: Global, value: &Value) -> Result<Option<Parsed>, AllocError>
     let Some(init) = init_in(alloc, keys, value)? else {
         return Ok(None);
     };
-    shape_of(alloc, init, value)
+    contents_with(alloc, init, value)
 }
 
 /// The initial values that were read; where none were, 0 for each write list.

@@ -136,7 +136,8 @@ module _ (p : Parts) (x : Execution) (ks : List ℕ) (program : IsProgram p) (is
 
   -- an initial value has 32 bits
   value_kept : (a : ℕ) → IsSmall (initial_value x a)
-  value_kept a = value_small x.initial a (subst (λ (l : List ℕ). AllByRecursion IsSmall l) is.values program.init_values)
+  value_kept a =
+      value_small x.initial a (subst (λ (l : List ℕ). AllByRecursion IsSmall l) is.values program.init_values)
 
   -- the operations have the addresses of the events
   addresses_kept : HaveAddressesOf (restricted_program p x ks).cores (restriction x ks)

@@ -22,7 +22,11 @@ pub record IsCoreSoFar (x : Execution) (start n : ℕ) : Type 0 where
 
 -- none so far
 pub core_start : (x : Execution) → IsCoreSoFar x 0 0
-core_start x = record { from = omega arith; before = λ s low. absurd (omega arith); own = λ s from low. absurd (omega arith) }
+core_start x = record {
+  from = omega arith;
+  before = λ s low. absurd (omega arith);
+  own = λ s from low. absurd (omega arith);
+}
 
 -- an event of the same core
 pub core_goes_on : (x : Execution) (start n : ℕ) → IsCoreSoFar x start n → ProgramOrder x start n

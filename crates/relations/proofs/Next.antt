@@ -59,7 +59,8 @@ one_newer ws s n f at within from first =
     let here : place ws (get_or ws n 0) ≡ n = at n (omega (arith, low, within)) in
     let w : ℕ = get_or ws n 0 in
     let high : place ws f ≤ place ws w =
-    (first w (omega (arith, here, low, within))).0 ((from w (omega (arith, here, low, within))).1 (omega (arith, here))) in
+    (first w (omega (arith, here, low, within))).0
+    ((from w (omega (arith, here, low, within))).1 (omega (arith, here))) in
     omega (arith, low, high, here)
 
 -- the first newer write stands at the first newer place

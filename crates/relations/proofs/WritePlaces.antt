@@ -35,7 +35,8 @@ pub write_more : (x : Execution) → IsWellFormed x → (a i : ℕ) (ws places :
     → AreWritePlaces x a (set places (get_or ws i 0) i)
     × ((e : ℕ) → place (write_list x a) e < i + 1
     → get_or (set places (get_or ws i 0) i) e 0 ≡ place (write_list x a) e)
-write_more x wf a i ws places list at are rest = subst (λ (vs : List ℕ). AreWritePlaces x a (set places (get_or vs i 0) i)
+write_more x wf a i ws places list at are rest =
+    subst (λ (vs : List ℕ). AreWritePlaces x a (set places (get_or vs i 0) i)
     × ((e : ℕ) → place (write_list x a) e < i + 1
     → get_or (set places (get_or vs i 0) i) e 0 ≡ place (write_list x a) e)) (sym list) (
       record {

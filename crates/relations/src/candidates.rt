@@ -28,7 +28,8 @@ impl IndexedEvent {
     ghost use Rattle.relations.specs.Forced.{Holds};
     ghost use Rattle.relations.specs.Indexed.{IsIndexed, AreIndexed};
     ghost use Rattle.relations.specs.Filled.{TellsForced, IsFilled, IsOwnOrWrite};
-    ghost use Rattle.relations.specs.Direct.{IsCandidate, IsFirstNewer, IsNextAfter, IsNextOnCore, IsNextWrite, is_passed};
+    ghost use Rattle.relations.specs.Direct.{IsCandidate, IsFirstNewer, IsNextAfter, IsNextOnCore, IsNextWrite};
+    ghost use Rattle.relations.specs.Direct.{is_passed};
 
     /// The address that it reads or writes.
     fn address(&self) -> Option<Addr>

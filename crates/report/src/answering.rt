@@ -5,7 +5,7 @@ ghost use Rattle.std.specs.Io.KnownBytes.{IsAtEnd};
 ghost use Rattle.devices.specs.Bytes.{CanGrow, CountsBy};
 ghost use Rattle.report.specs.declared.error.ReportError.{ReportError};
 ghost use Rattle.report.specs.Answer.{IsAnswerBegun, IsAnswerOf, IsReadOrRefused, IsWholeAnswer};
-ghost use Rattle.report.specs.Errors.{failed_reads, failed_writes};
+ghost use Rattle.report.specs.Errors.{report_failed_reads, report_failed_writes};
 
 use crate::error::ReportError;
 use common::{Gate, MAX_WORKERS, OutOfMemory};
@@ -89,8 +89,8 @@ pub fn answer<T: Threads + Wait + Sync, R: Source, W: Sink, G: Gate>(
     ensures all { OnOk result (IsAtEnd (R.left source.new)) }
     ensures read_before { result ≡ Err ReportError.WriteFailed → (R.is_ended source.new ≡ true)
         × IsAtEnd (R.left source.new) }
-    ensures read_count { CountsBy failed_reads (R.read_failures source.old) (R.read_failures source.new) result }
-    ensures write_count { CountsBy failed_writes (W.write_failures sink.old) (W.write_failures sink.new) result }
+    ensures read_count { CountsBy report_failed_reads (R.read_failures source.old) (R.read_failures source.new) result }
+    ensures write_count { CountsBy report_failed_writes (W.write_failures sink.old) (W.write_failures sink.new) result }
     ensures begun { result ≡ Err ReportError.WriteFailed → IsAnswerBegun (R.left source.old)
         (R.left source.new) (W.written sink.old) (W.written sink.new) }
     ensures unwritten { IfErr result (λ e. e ≢ ReportError.WriteFailed → sink.new ≡ sink.old) }

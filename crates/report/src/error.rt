@@ -31,9 +31,9 @@ impl From<OutOfMemory> for ReportError {
 
 impl From<ReadError> for ReportError {
     ghost use Rattle.std.specs.Prelude.{◌≡◌};
-    ghost use Rattle.report.specs.Errors.{unread};
+    ghost use Rattle.report.specs.Errors.{report_error_of};
 
-    ghost from_gives = { λ error e. e ≡ unread error };
+    ghost from_gives = { λ error e. e ≡ report_error_of error };
 
     fn from(error: ReadError) -> ReportError {
         match error {

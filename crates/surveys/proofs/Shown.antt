@@ -10,7 +10,7 @@ use Rattle.surveys.specs.Lines.{IsCut, IsSplit, IsWhole, is_some_line, lines}
 use Rattle.surveys.specs.LineLaws.{whole_append, whole_nil}
 use Rattle.surveys.specs.declared.showing.Sought.{Sought}
 use Rattle.surveys.specs.declared.showing.Sought.TheVariants.{Found, Later}
-use Rattle.surveys.specs.Shown.{IsBefore, IsLineAt, IsLineOfRead, IsReadOn, IsSought, IsSoughtFirst}
+use Rattle.surveys.specs.Shown.{IsReadBeforeLine, IsLineAt, IsLineOfRead, IsReadOn, IsSought, IsSoughtFirst}
 
 -- a line after others
 pub line_behind : (all front back : List ℕ) (k m : ℕ) (line : List ℕ) → lines all ≡ lines front ++ lines back
@@ -85,7 +85,7 @@ sought_first block seen rest part end k sought same is_rest is_part within whole
 }
 
 -- before the first block
-pub not_yet : (u : Option (List ℕ)) (k : ℕ) → IsBefore u u [] k k 0
+pub not_yet : (u : Option (List ℕ)) (k : ℕ) → IsReadBeforeLine u u [] k k 0
 not_yet u k = record {
   front = [];
   whole = whole_nil;
@@ -94,7 +94,7 @@ not_yet u k = record {
   size = refl;
 }
 
-module _ (u v w : Option (List ℕ)) (k m n : ℕ) (old block : List ℕ) (is : IsBefore u v old k m n)
+module _ (u v w : Option (List ℕ)) (k m n : ℕ) (old block : List ℕ) (is : IsReadBeforeLine u v old k m n)
     (gathered : Gathers v w old block) where
   -- what was read with the filled block
   filled : Consumes u w (is.front ++ block)
@@ -104,7 +104,7 @@ module _ (u v w : Option (List ℕ)) (k m n : ℕ) (old block : List ℕ) (is : 
 
   -- the line is not in the first bytes of the block
   pub not_there : (rest : List ℕ) (j size total : ℕ) (sought : Sought) → IsSoughtFirst block rest m sought size
-      → sought ≡ Later j → total ≡ n + size → IsBefore u w rest k j total
+      → sought ≡ Later j → total ≡ n + size → IsReadBeforeLine u w rest k j total
   not_there rest j size total sought first later sum =
       let there : m ≡ length (lines first.front) + j =
       subst (λ (s : Sought). IsSought first.front m s) later first.is in

@@ -7,8 +7,8 @@ use Rattle.verdicts.specs.Refusal.{recording_line}
 use Rattle.verdicts.specs.VerdictText.{overlook_line}
 
 -- the line of the length of a cycle
-abbrev pub cycle_line : ℕ → List ℕ
-cycle_line n = codes "cycle of " ++ decimal n ++ 10 ∷ []
+abbrev pub cycle_length_line : ℕ → List ℕ
+cycle_length_line n = codes "cycle of " ++ decimal n ++ 10 ∷ []
 
 -- a line, if there is one
 abbrev pub line_or_none : Option (List ℕ) → List ℕ
@@ -16,15 +16,15 @@ line_or_none None = []
 line_or_none (Some line) = line
 
 -- the line of a refusal
-abbrev pub refusal_line : RecError → List ℕ
-refusal_line refusal = line_or_none (recording_line refusal)
+abbrev pub recording_refusal_line : RecError → List ℕ
+recording_refusal_line refusal = line_or_none (recording_line refusal)
 
 -- the line of what is found
 abbrev pub finding_line : Finding → List ℕ
 finding_line Ordered = codes "ordered" ++ 10 ∷ []
 finding_line (Overlook load store) = overlook_line load store
-finding_line (Cycle n) = cycle_line n
-finding_line (Refused refusal) = refusal_line refusal
+finding_line (Cycle n) = cycle_length_line n
+finding_line (Refused refusal) = recording_refusal_line refusal
 
 -- the number of a recording and what is found in it
 abbrev pub each_line : ℕ → Finding → List ℕ

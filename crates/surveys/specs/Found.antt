@@ -23,9 +23,9 @@ pub record IsRefused (bytes : List ℕ) (refusal : RecError) : Type 0 where
   pub known : refusal ≢ OutOfMemory
 
 -- what the bytes of a line give: a verdict, or a refusal
-abbrev pub IsGiven : List ℕ → Result Verdict RecError → Type 0
-IsGiven bytes (Ok verdict) = IsJudged bytes verdict
-IsGiven bytes (Err refusal) = IsRefused bytes refusal
+abbrev pub IsLineResult : List ℕ → Result Verdict RecError → Type 0
+IsLineResult bytes (Ok verdict) = IsJudged bytes verdict
+IsLineResult bytes (Err refusal) = IsRefused bytes refusal
 
 -- what it finds
 abbrev pub given_finding : Result Verdict RecError → Finding
@@ -35,7 +35,7 @@ given_finding (Err refusal) = Refused refusal
 -- what is found in the bytes of a line
 pub record IsLineFinding (bytes : List ℕ) (finding : Finding) : Type 0 where
   pub given : Result Verdict RecError
-  pub is_given : IsGiven bytes given
+  pub is_given : IsLineResult bytes given
   pub finds : finding ≡ given_finding given
 
 -- what is found in lines, in order

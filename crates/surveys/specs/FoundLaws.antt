@@ -20,9 +20,9 @@ use Rattle.verdicts.specs.Judgement.{IsVerdict}
 use Rattle.ledger.specs.declared.finding.Finding.{Finding}
 use Rattle.ledger.specs.declared.finding.Finding.TheVariants.{Refused}
 use Rattle.ledger.specs.Counts.{IsLedger}
-use Rattle.ledger.specs.FindingLaws as verdicts
-use Rattle.ledger.specs.LedgerLaws as laws
-use Rattle.surveys.specs.Found.{IsGiven, given_finding, AreFindings, codes_of}
+use Rattle.ledger.specs.FindingLaws.{one_finding}
+use Rattle.ledger.specs.LedgerLaws.{one_ledger}
+use Rattle.surveys.specs.Found.{IsLineResult, given_finding, AreFindings, codes_of}
 use Rattle.surveys.specs.Lines.{lines}
 use Rattle.surveys.specs.OneSurvey.{EveryLineHasOneFinding, EverySurveyCountsTheSame, EverySurveyTellsTheSame}
 use Rattle.surveys.specs.Surveys.{told_text}
@@ -222,12 +222,12 @@ ok_and_err : (x : Execution) (r : RecError) → gives x ≡ refuses r → ⊥
 ok_and_err x r e = absurd cc
 
 -- what a line gives finds one thing
-one_given : (bytes : List ℕ) (f g : Result Verdict RecError) → IsGiven bytes f → IsGiven bytes g
+one_given : (bytes : List ℕ) (f g : Result Verdict RecError) → IsLineResult bytes f → IsLineResult bytes g
     → given_finding f ≡ given_finding g
 one_given bytes (Ok v) (Ok w) a b =
     let same : a.recording ≡ b.recording = same_ok _ _ (one_reading bytes (Ok a.recording) (Ok b.recording) a.read
     b.read (read_well _) (read_well _)) in
-    verdicts.one_finding b.recording v w (subst (λ (x : Execution). IsVerdict x v) same a.found) b.found
+    one_finding b.recording v w (subst (λ (x : Execution). IsVerdict x v) same a.found) b.found
 one_given bytes (Ok v) (Err s) a b = absurd (ok_and_err _ _ (one_reading bytes (Ok a.recording) (Err s) a.read
     b.read (read_well _) (refused_well s b.known)))
 one_given bytes (Err r) (Ok w) a b = absurd (ok_and_err _ _ (one_reading bytes (Ok b.recording) (Err r) b.read
@@ -236,8 +236,8 @@ one_given bytes (Err r) (Err s) a b = ap Refused (same_err r s (one_reading byte
     b.read (refused_well r a.known) (refused_well s b.known)))
 
 -- one thing is found in a line
-pub one_finding : EveryLineHasOneFinding
-one_finding bytes f g a b = a.finds ∙ (one_given bytes a.given b.given a.is_given b.is_given ∙ sym b.finds)
+pub one_finding_of_line : EveryLineHasOneFinding
+one_finding_of_line bytes f g a b = a.finds ∙ (one_given bytes a.given b.given a.is_given b.is_given ∙ sym b.finds)
 
 -- one list in lines
 pub one_list : (ls : List (List ℕ)) (xs ys : List Finding) → AreFindings ls xs → AreFindings ls ys → xs ≡ ys
@@ -247,17 +247,17 @@ one_list [] (x ∷ xs) ys a b = absurd a
 one_list (l ∷ ls) [] ys a b = absurd a
 one_list (l ∷ ls) (x ∷ xs) [] a b = absurd b
 one_list (l ∷ ls) (x ∷ xs) (y ∷ ys) a b =
-    ap (λ (z : Finding). z ∷ xs) (one_finding l x y a.0 b.0)
+    ap (λ (z : Finding). z ∷ xs) (one_finding_of_line l x y a.0 b.0)
     ∙ ap (λ (zs : List Finding). y ∷ zs) (one_list ls xs ys a.1 b.1)
 
 -- so bytes have one ledger
-pub one_ledger : EverySurveyCountsTheSame
-one_ledger bytes l m each other s t u v a b = laws.one_ledger (codes_of b.findings) l m
+pub one_ledger_of_bytes : EverySurveyCountsTheSame
+one_ledger_of_bytes bytes l m each other s t u v a b = one_ledger (codes_of b.findings) l m
     (subst (λ (fs : List Finding). IsLedger (codes_of fs) l)
     (one_list (lines bytes) a.findings b.findings a.found b.found) a.counted) b.counted
 
 -- and one text
-pub one_text : EverySurveyTellsTheSame
-one_text bytes l m each start said told a b = a.told
+pub one_text_of_survey : EverySurveyTellsTheSame
+one_text_of_survey bytes l m each start said told a b = a.told
     ∙ (ap (λ (fs : List Finding). start ++ told_text each 0 fs)
     (one_list (lines bytes) a.findings b.findings a.found b.found) ∙ sym b.told)

@@ -38,7 +38,7 @@ pub record IsSoughtFirst (block rest : List ℕ) (k : ℕ) (sought : Sought) (n 
   pub size : n ≡ length front
 
 -- of what was read so far, the first bytes, n of them, have the lines before it, and the others are in the block
-pub record IsBefore (left_before left_now : Option (List ℕ)) (block : List ℕ) (k later n : ℕ) : Type 0 where
+pub record IsReadBeforeLine (left_before left_now : Option (List ℕ)) (block : List ℕ) (k later n : ℕ) : Type 0 where
   pub front : List ℕ
   pub whole : IsWhole front
   pub read : Consumes left_before left_now (front ++ block)

@@ -48,16 +48,16 @@ pub record IsSurveyOfRead (left_before left_after : Option (List ℕ)) (ledger :
   pub survey : IsSurvey bytes ledger each before after
 
 -- what is said of a source that was not read
-abbrev pub unread : ReadError → SurveyError
-unread errors.ReadFailed = ReadFailed
-unread errors.OutOfMemory = OutOfMemory
+abbrev pub survey_error_of : ReadError → SurveyError
+survey_error_of errors.ReadFailed = ReadFailed
+survey_error_of errors.OutOfMemory = OutOfMemory
 
 -- how many reads failed
-abbrev pub failed_reads : SurveyError → ℕ
-failed_reads ReadFailed = 1
-failed_reads other = 0
+abbrev pub survey_failed_reads : SurveyError → ℕ
+survey_failed_reads ReadFailed = 1
+survey_failed_reads other = 0
 
 -- how many writes failed
-abbrev pub failed_writes : SurveyError → ℕ
-failed_writes WriteFailed = 1
-failed_writes other = 0
+abbrev pub survey_failed_writes : SurveyError → ℕ
+survey_failed_writes WriteFailed = 1
+survey_failed_writes other = 0

@@ -7,7 +7,8 @@ ghost use Rattle.devices.specs.Bytes.{CanGrow, CountsBy};
 ghost use Rattle.ledger.specs.Counts.{IsLedger};
 ghost use Rattle.surveys.specs.Claims.{AreClaims, ArePlaces, IsFoundAt};
 ghost use Rattle.surveys.specs.Found.{AreFindings, codes_of};
-ghost use Rattle.surveys.specs.Surveys.{ExtendsSurvey, IsSurveyUpTo, failed_reads, failed_writes, told_text};
+ghost use Rattle.surveys.specs.Surveys.{ExtendsSurvey, IsSurveyUpTo, told_text};
+ghost use Rattle.surveys.specs.Surveys.{survey_failed_reads, survey_failed_writes};
 
 use crate::claims::{Claim, claims_by};
 use crate::each::each_text;
@@ -129,8 +130,8 @@ fn write_findings<W: Sink>(
     requires writes { CanGrow (W.write_failures sink.old) }
     ensures ok { OnOk result
         (Appends (W.written sink.old) (W.written sink.new) (told_text each first findings.now)) }
-    ensures reads { IfErr result (λ e. failed_reads e ≡ 0) }
-    ensures writes { CountsBy failed_writes (W.write_failures sink.old) (W.write_failures sink.new) result }
+    ensures reads { IfErr result (λ e. survey_failed_reads e ≡ 0) }
+    ensures writes { CountsBy survey_failed_writes (W.write_failures sink.old) (W.write_failures sink.new) result }
     ensures silent { each ≢ true → sink.new ≡ sink.old }
 {
     if !each {
@@ -170,8 +171,8 @@ fn count_some<'a, R: Threads + Sync, W: Sink, G: Gate>(
     ensures shorter { IfOk result (λ rest. length rest.now < length bytes.now) }
     ensures ok { IfOk result (λ rest. ExtendsSurvey bytes.now rest.now each
         ledger.old (W.written sink.old) ledger.new (W.written sink.new)) }
-    ensures reads { IfErr result (λ e. failed_reads e ≡ 0) }
-    ensures writes { CountsBy failed_writes (W.write_failures sink.old) (W.write_failures sink.new) result }
+    ensures reads { IfErr result (λ e. survey_failed_reads e ≡ 0) }
+    ensures writes { CountsBy survey_failed_writes (W.write_failures sink.old) (W.write_failures sink.new) result }
     ensures silent { each ≢ true → sink.new ≡ sink.old }
 {
     let (lines, rest) = next_lines(alloc, bytes, lines_at_once(each))?;
@@ -199,8 +200,8 @@ pub(crate) fn count_all<R: Threads + Sync, W: Sink, G: Gate>(
         × IsSurveyUpTo all bytes.now ledger.old each start (W.written sink.old) }
     ensures ok { OnOk result (ExtendsSurvey bytes.now [] each
         ledger.old (W.written sink.old) ledger.new (W.written sink.new)) }
-    ensures reads { IfErr result (λ e. failed_reads e ≡ 0) }
-    ensures writes { CountsBy failed_writes (W.write_failures sink.old) (W.write_failures sink.new) result }
+    ensures reads { IfErr result (λ e. survey_failed_reads e ≡ 0) }
+    ensures writes { CountsBy survey_failed_writes (W.write_failures sink.old) (W.write_failures sink.new) result }
     ensures silent { each ≢ true → sink.new ≡ sink.old }
 {
     let mut rest = bytes;

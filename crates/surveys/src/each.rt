@@ -1,7 +1,7 @@
 //! The text of what is found in each recording.
 
 ghost use Rattle.std.specs.Prelude.{◌≡◌, ◌+◌, ◌<◌, ◌^◌, ◌++◌, IfOk, OnOk, length};
-ghost use Rattle.surveys.specs.Each.{cycle_line, each_line, each_text, finding_line, refusal_line};
+ghost use Rattle.surveys.specs.Each.{cycle_length_line, each_line, each_text, finding_line, recording_refusal_line};
 
 use common::OutOfMemory;
 use ledger::Finding;
@@ -12,7 +12,7 @@ use verdicts::{put_overlook, recording_line};
 
 /// Adds the line of a refusal.
 fn put_refusal(alloc: Global, out: &mut Vec<u8>, refusal: RecError) -> Result<(), OutOfMemory>
-    ensures { OnOk result (out.new.items ≡ out.old.items ++ refusal_line refusal) }
+    ensures { OnOk result (out.new.items ≡ out.old.items ++ recording_refusal_line refusal) }
 {
     let Some(line) = recording_line(alloc, refusal)? else {
         return Ok(());
@@ -23,7 +23,7 @@ fn put_refusal(alloc: Global, out: &mut Vec<u8>, refusal: RecError) -> Result<()
 
 /// Adds the line of the length of a cycle.
 fn put_length(out: &mut Vec<u8>, length: usize) -> Result<(), OutOfMemory>
-    ensures { OnOk result (out.new.items ≡ out.old.items ++ cycle_line length) }
+    ensures { OnOk result (out.new.items ≡ out.old.items ++ cycle_length_line length) }
 {
     out.extend_from_slice(b"cycle of ")?;
     put_number(out, length)?;

@@ -34,9 +34,9 @@ impl From<OutOfMemory> for SurveyError {
 
 impl From<ReadError> for SurveyError {
     ghost use Rattle.std.specs.Prelude.{◌≡◌};
-    ghost use Rattle.surveys.specs.Surveys.{unread};
+    ghost use Rattle.surveys.specs.Surveys.{survey_error_of};
 
-    ghost from_gives = { λ error e. e ≡ unread error };
+    ghost from_gives = { λ error e. e ≡ survey_error_of error };
 
     fn from(error: ReadError) -> SurveyError {
         match error {

@@ -4,7 +4,7 @@ ghost use Rattle.std.specs.Prelude.{◌≡◌, ◌≢◌, ◌<◌, ◌≤◌, tr
 ghost use Rattle.std.specs.Io.KnownBytes.{IsAtEnd};
 ghost use Rattle.devices.specs.Bytes.{CanGrow, CountsBy, Gathers};
 ghost use Rattle.surveys.specs.Lines.{IsWhole};
-ghost use Rattle.surveys.specs.Surveys.{failed_reads, failed_writes};
+ghost use Rattle.surveys.specs.Surveys.{survey_failed_reads, survey_failed_writes};
 
 use crate::error::SurveyError;
 use devices::{Source, read_more};
@@ -31,8 +31,8 @@ pub(crate) fn fill<R: Source>(
     ensures more { IfOk result (λ more. more ≡ true → length block.old.items < length block.new.items) }
     ensures met { IfOk result (λ more. more ≢ true → R.is_ended source.new ≡ true) }
     ensures all { IfOk result (λ more. more ≢ true → IsAtEnd (R.left source.new)) }
-    ensures count { CountsBy failed_reads (R.read_failures source.old) (R.read_failures source.new) result }
-    ensures writes { IfErr result (λ e. failed_writes e ≡ 0) }
+    ensures count { CountsBy survey_failed_reads (R.read_failures source.old) (R.read_failures source.new) result }
+    ensures writes { IfErr result (λ e. survey_failed_writes e ≡ 0) }
 {
     let first = read_more(source, piece, block)?;
     if first == 0 {

@@ -39,7 +39,7 @@ fn found_in(alloc: Global, recording: &Recording) -> Result<Finding, OutOfMemory
 
 /// What is found in the recording that the bytes of a line give, or its refusal. It waits for nobody. Fails only
 /// if out of memory.
-pub fn finding_of_line(alloc: Global, bytes: &[u8]) -> Result<Finding, OutOfMemory>
+pub(crate) fn finding_of_line(alloc: Global, bytes: &[u8]) -> Result<Finding, OutOfMemory>
     ensures { IfOk result (IsLineFinding bytes.now) }
 {
     match read_recording(alloc, bytes) {

@@ -20,8 +20,6 @@ mod workers;
 pub use coded::codes_of_lines;
 pub use each::each_text;
 pub use error::SurveyError;
-pub use judged::finding_of_line;
 pub use ledger::{Finding, Ledger};
-pub use lines::next_lines;
 pub use showing::line_of;
 pub use surveying::survey;

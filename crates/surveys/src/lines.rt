@@ -33,7 +33,7 @@ pub(crate) fn split_line<'a>(bytes: &'a [u8]) -> (&'a [u8], &'a [u8])
 
 /// The first lines of some bytes, without the empty ones, this many at most, and what comes after them: nothing,
 /// or as many lines were found. Fails only if out of memory.
-pub fn next_lines<'a>(
+pub(crate) fn next_lines<'a>(
     alloc: Global,
     bytes: &'a [u8],
     most: usize,

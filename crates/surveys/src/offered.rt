@@ -1,7 +1,7 @@
 //! Pieces that are offered to workers, and counted in order.
 
 ghost use Rattle.std.specs.Prelude.{◌≡◌, ◌≤◌, ℕ, List, Option, false, IfErr, IfOk, drop, length};
-ghost use Rattle.surveys.specs.Surveys.{failed_reads, failed_writes};
+ghost use Rattle.surveys.specs.Surveys.{survey_failed_reads, survey_failed_writes};
 ghost use Rattle.surveys.specs.Tallies.{IsTallied, IsTally};
 
 use crate::desk::Desk;
@@ -27,8 +27,8 @@ fn count_piece(
     ensures within { IfOk result (λ r. r.1 ≤ length bytes.now) }
     ensures ok { IfOk result (λ r. (w : Option (List ℕ)) → IsTallied false bytes.now (drop r.1 bytes.now)
         ledger.old counted w ledger.new r.0 w) }
-    ensures reads { IfErr result (λ e. failed_reads e ≡ 0) }
-    ensures writes { IfErr result (λ e. failed_writes e ≡ 0) }
+    ensures reads { IfErr result (λ e. survey_failed_reads e ≡ 0) }
+    ensures writes { IfErr result (λ e. survey_failed_writes e ≡ 0) }
 {
     let length = piece.bytes().len();
     if !bytes.starts_with(piece.bytes()) || last_end(piece.bytes(), 0) != length {
@@ -60,8 +60,8 @@ fn count_pieces<R: Wait, G: Gate>(
     ensures within { IfOk result (λ r. r.1 ≤ length bytes.now) }
     ensures ok { IfOk result (λ r. (w : Option (List ℕ)) → IsTallied false bytes.now (drop r.1 bytes.now)
         ledger.old counted w ledger.new r.0 w) }
-    ensures reads { IfErr result (λ e. failed_reads e ≡ 0) }
-    ensures writes { IfErr result (λ e. failed_writes e ≡ 0) }
+    ensures reads { IfErr result (λ e. survey_failed_reads e ≡ 0) }
+    ensures writes { IfErr result (λ e. survey_failed_writes e ≡ 0) }
 {
     let mut total = counted;
     let mut from = 0;
@@ -97,8 +97,8 @@ pub(crate) fn count_offered<R: Wait, G: Gate>(
         × IsTally false front ledger.old counted start now }
     ensures ok { IfOk result (λ n. (w : Option (List ℕ)) → IsTallied false block.old.items block.new.items
         ledger.old counted w ledger.new n w) }
-    ensures reads { IfErr result (λ e. failed_reads e ≡ 0) }
-    ensures writes { IfErr result (λ e. failed_writes e ≡ 0) }
+    ensures reads { IfErr result (λ e. survey_failed_reads e ≡ 0) }
+    ensures writes { IfErr result (λ e. survey_failed_writes e ≡ 0) }
 {
     let end = last_end(block, seen);
     let is_offered = desk.offer(rt, alloc, &block[..end]);

@@ -4,7 +4,7 @@ ghost use Rattle.std.specs.Prelude.{◌≡◌, ◌<◌, true, IfErr, IfOk, OnOk,
 ghost use Rattle.std.specs.Io.KnownBytes.{IsAtEnd};
 ghost use Rattle.devices.specs.Bytes.{CanGrow, CountsBy};
 ghost use Rattle.surveys.specs.Shown.{IsLineOfRead, IsReadOn, IsSought, IsSoughtFirst};
-ghost use Rattle.surveys.specs.Surveys.{failed_reads, failed_writes};
+ghost use Rattle.surveys.specs.Surveys.{survey_failed_reads, survey_failed_writes};
 
 use crate::error::SurveyError;
 use crate::filling::{PIECE, fill, keep_rest, last_end};
@@ -77,8 +77,8 @@ fn read_rest<R: Source>(
     ensures read { OnOk result (IsReadOn (R.left source.old) (R.left source.new)) }
     ensures met { OnOk result (R.is_ended source.new ≡ true) }
     ensures all { OnOk result (IsAtEnd (R.left source.new)) }
-    ensures reads { CountsBy failed_reads (R.read_failures source.old) (R.read_failures source.new) result }
-    ensures writes { IfErr result (λ e. failed_writes e ≡ 0) }
+    ensures reads { CountsBy survey_failed_reads (R.read_failures source.old) (R.read_failures source.new) result }
+    ensures writes { IfErr result (λ e. survey_failed_writes e ≡ 0) }
 {
     let mut counted = 0usize;
     block.clear();
@@ -105,8 +105,8 @@ fn line_from<R: Source>(
         (option_map (λ v. v.items) line)) }
     ensures met { OnOk result (R.is_ended source.new ≡ true) }
     ensures all { OnOk result (IsAtEnd (R.left source.new)) }
-    ensures reads { CountsBy failed_reads (R.read_failures source.old) (R.read_failures source.new) result }
-    ensures writes { IfErr result (λ e. failed_writes e ≡ 0) }
+    ensures reads { CountsBy survey_failed_reads (R.read_failures source.old) (R.read_failures source.new) result }
+    ensures writes { IfErr result (λ e. survey_failed_writes e ≡ 0) }
 {
     let mut block = Vec::new(alloc);
     let mut left = number;
@@ -146,8 +146,8 @@ pub fn line_of<R: Source>(
         (option_map (λ v. v.items) line)) }
     ensures met { OnOk result (R.is_ended source.new ≡ true) }
     ensures all { OnOk result (IsAtEnd (R.left source.new)) }
-    ensures reads { CountsBy failed_reads (R.read_failures source.old) (R.read_failures source.new) result }
-    ensures writes { IfErr result (λ e. failed_writes e ≡ 0) }
+    ensures reads { CountsBy survey_failed_reads (R.read_failures source.old) (R.read_failures source.new) result }
+    ensures writes { IfErr result (λ e. survey_failed_writes e ≡ 0) }
 {
     let Ok(mut piece) = Vec::from_elem(alloc, 0u8, PIECE) else {
         return Err(SurveyError::OutOfMemory);

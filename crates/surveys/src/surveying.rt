@@ -8,7 +8,7 @@ ghost use Rattle.ledger.specs.Counts.{IsLedger};
 ghost use Rattle.surveys.specs.Lines.{IsWhole};
 ghost use Rattle.surveys.specs.OneSurvey.{EveryLineHasOneFinding, EverySurveyCountsTheSame};
 ghost use Rattle.surveys.specs.OneSurvey.{EverySurveyTellsTheSame};
-ghost use Rattle.surveys.specs.Surveys.{IsSurvey, IsSurveyOfRead, failed_reads, failed_writes};
+ghost use Rattle.surveys.specs.Surveys.{IsSurvey, IsSurveyOfRead, survey_failed_reads, survey_failed_writes};
 ghost use Rattle.surveys.specs.Tallies.{Ends, Grows, IsTallied, IsTally};
 
 use crate::counting::count_all;
@@ -47,8 +47,8 @@ fn count_part<R: Threads + Sync, W: Sink, G: Gate>(
         → Grows each part.now ledger.old counted (W.written sink.old) ledger.new n (W.written sink.new)) }
     ensures ends { OnOk result
         (Ends each part.now ledger.old counted (W.written sink.old) ledger.new (W.written sink.new)) }
-    ensures reads { IfErr result (λ e. failed_reads e ≡ 0) }
-    ensures writes { CountsBy failed_writes (W.write_failures sink.old) (W.write_failures sink.new) result }
+    ensures reads { IfErr result (λ e. survey_failed_reads e ≡ 0) }
+    ensures writes { CountsBy survey_failed_writes (W.write_failures sink.old) (W.write_failures sink.new) result }
     ensures silent { each ≢ true → sink.new ≡ sink.old }
 {
     let Some(total) = counted.checked_add(part.len()) else {
@@ -79,8 +79,8 @@ fn count_whole<R: Threads + Wait + Sync, W: Sink, G: Gate>(
         × IsTally each front ledger.old counted start (W.written sink.old) }
     ensures ok { IfOk result (λ n. IsTallied each block.old.items block.new.items
         ledger.old counted (W.written sink.old) ledger.new n (W.written sink.new)) }
-    ensures reads { IfErr result (λ e. failed_reads e ≡ 0) }
-    ensures writes { CountsBy failed_writes (W.write_failures sink.old) (W.write_failures sink.new) result }
+    ensures reads { IfErr result (λ e. survey_failed_reads e ≡ 0) }
+    ensures writes { CountsBy survey_failed_writes (W.write_failures sink.old) (W.write_failures sink.new) result }
     ensures silent { each ≢ true → sink.new ≡ sink.old }
 {
     match desk {
@@ -128,8 +128,8 @@ fn count_blocks<T: Threads + Wait + Sync, R: Source, W: Sink, G: Gate>(
         each (W.written sink.old) (W.written sink.new)) }
     ensures met { OnOk result (R.is_ended source.new ≡ true) }
     ensures all { OnOk result (IsAtEnd (R.left source.new)) }
-    ensures reads { CountsBy failed_reads (R.read_failures source.old) (R.read_failures source.new) result }
-    ensures writes { CountsBy failed_writes (W.write_failures sink.old) (W.write_failures sink.new) result }
+    ensures reads { CountsBy survey_failed_reads (R.read_failures source.old) (R.read_failures source.new) result }
+    ensures writes { CountsBy survey_failed_writes (W.write_failures sink.old) (W.write_failures sink.new) result }
     ensures silent { each ≢ true → sink.new ≡ sink.old }
 {
     let mut counted = 0;
@@ -168,8 +168,8 @@ fn count_by_workers<T: Threads + Wait + Sync, R: Source, W: Sink, G: Gate>(
         each (W.written sink.old) (W.written sink.new)) }
     ensures met { OnOk result (R.is_ended source.new ≡ true) }
     ensures all { OnOk result (IsAtEnd (R.left source.new)) }
-    ensures reads { CountsBy failed_reads (R.read_failures source.old) (R.read_failures source.new) result }
-    ensures writes { CountsBy failed_writes (W.write_failures sink.old) (W.write_failures sink.new) result }
+    ensures reads { CountsBy survey_failed_reads (R.read_failures source.old) (R.read_failures source.new) result }
+    ensures writes { CountsBy survey_failed_writes (W.write_failures sink.old) (W.write_failures sink.new) result }
     ensures silent { each ≢ true → sink.new ≡ sink.old }
 {
     let mut block = Vec::new(alloc);
@@ -192,8 +192,8 @@ fn count_by_workers<T: Threads + Wait + Sync, R: Source, W: Sink, G: Gate>(
             each (W.written sink.entry.now) (W.written sink.exit.now))
             × OnOk result (R.is_ended source.exit.now ≡ true)
             × OnOk result (IsAtEnd (R.left source.exit.now))
-            × CountsBy failed_reads (R.read_failures source.entry.now) (R.read_failures source.exit.now) result
-            × CountsBy failed_writes (W.write_failures sink.entry.now) (W.write_failures sink.exit.now) result
+            × CountsBy survey_failed_reads (R.read_failures source.entry.now) (R.read_failures source.exit.now) result
+            × CountsBy survey_failed_writes (W.write_failures sink.entry.now) (W.write_failures sink.exit.now) result
             × (each ≢ true → sink.exit.now ≡ sink.entry.now) }
     {
         count_blocks(
@@ -238,8 +238,8 @@ pub fn survey<T: Threads + Wait + Sync, R: Source, W: Sink, G: Gate>(
         each (W.written sink.old) (W.written sink.new))) }
     ensures met { OnOk result (R.is_ended source.new ≡ true) }
     ensures all { OnOk result (IsAtEnd (R.left source.new)) }
-    ensures reads { CountsBy failed_reads (R.read_failures source.old) (R.read_failures source.new) result }
-    ensures writes { CountsBy failed_writes (W.write_failures sink.old) (W.write_failures sink.new) result }
+    ensures reads { CountsBy survey_failed_reads (R.read_failures source.old) (R.read_failures source.new) result }
+    ensures writes { CountsBy survey_failed_writes (W.write_failures sink.old) (W.write_failures sink.new) result }
     ensures silent { each ≢ true → sink.new ≡ sink.old }
     ensures findings { EveryLineHasOneFinding }
     ensures counts { EverySurveyCountsTheSame }

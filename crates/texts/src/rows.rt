@@ -120,7 +120,8 @@ fn number_text(number: u16) -> NumberText
 /// The texts of the numbers up to the greatest, by their numbers. Fails only if out of memory.
 pub fn texts_up_to(alloc: Global, greatest: u16) -> Result<Vec<NumberText>, OutOfMemory>
     requires { greatest < 1000 }
-    ensures { IfOk result (λ texts. AreTexts texts.items) }
+    ensures size { IfOk result (λ texts. length texts.items ≡ greatest + 1) }
+    ensures texts { IfOk result (λ texts. AreTexts texts.items) }
 {
     let mut texts = Vec::with_capacity(alloc, greatest as usize + 1)?;
     for number in 0..greatest + 1 {

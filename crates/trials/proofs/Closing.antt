@@ -15,7 +15,7 @@ use lib.ListN.{get_elem?}
 use Rattle.trials.specs.Campaigns.{Plan}
 use Rattle.trials.specs.declared.desk_table.SeatKnowledge.{SeatKnowledge}
 use Rattle.trials.specs.Codes.{IsCode}
-use Rattle.trials.specs.LegalDesk.{saw_claimed, saw_filed, FitsAt, IsWord, AreDeskWords}
+use Rattle.trials.specs.LegalDesk.{saw_claimed, saw_filed, FitsAt, IsDeskWord, AreDeskWords}
 use Rattle.trials.specs.Looking.{LoadsWord}
 use Rattle.trials.proofs.Keeps.{sole_share}
 
@@ -76,7 +76,7 @@ grown_fits v w k n g f =
 pub record ReadSoFar (v : SeatKnowledge) (ws : List ℕ) : Type 0 where
   pub sole : v.alone ≡ true → (j : ℕ) → j < length ws → get_or ws j 0 ≢ 0 → Contains v.share j
   pub fits : (j : ℕ) → j < length ws → FitsAt v j (get_or ws j 0)
-  pub words : (j : ℕ) → j < length ws → IsWord v.campaign j (get_or ws j 0)
+  pub words : (j : ℕ) → j < length ws → IsDeskWord v.campaign j (get_or ws j 0)
   pub beyond : 0 < length ws → (j : ℕ) → v.campaign.trials ≤ j → FitsAt v j 0
 
 pub one_more : (v w x : SeatKnowledge) (ws : List ℕ) (n : ℕ) → Grown v w → LoadsWord w (length ws) n x → ReadSoFar v ws
@@ -86,8 +86,8 @@ one_more v w x ws n g l r =
     let s = l.0.0 in let i = l.0.1 in let legal = l.0.2 in let at = l.0.3 in let is = l.0.4 in
     let last : get_or (ws ++ n ∷ []) k 0 ≡ n = get_or-append_seam ws n [] 0 in
     let fit : FitsAt v k n = grown_fits v w k n g (subst (FitsAt w k) is (legal.fits i w at k)) in
-    let word : IsWord v.campaign k n = subst (λ (c : Plan). IsWord c k n) g.campaign
-    (subst (IsWord w.campaign k) is (legal.words k)) in
+    let word : IsDeskWord v.campaign k n = subst (λ (c : Plan). IsDeskWord c k n) g.campaign
+    (subst (IsDeskWord w.campaign k) is (legal.words k)) in
     let len = length-append ws (n ∷ []) in
     let has : v.alone ≡ true → n ≢ 0 → Contains v.share k = λ alone full. subst
     (λ (xs : List ℕ). Contains xs k) g.share
@@ -104,9 +104,9 @@ one_more v w x ws n g l r =
           (λ ne. let low : j < k = omega (arith, h, len, ne) in
           subst (FitsAt v j) (sym (get_or_append_left ws (n ∷ []) 0 j low)) (r.fits j low));
       words = λ j h. dite (ℕ_discrete j k)
-          (λ e. subst (λ (z : ℕ × ℕ). IsWord v.campaign z.0 z.1)
+          (λ e. subst (λ (z : ℕ × ℕ). IsDeskWord v.campaign z.0 z.1)
           (λ t. (sym e t, sym (ap (λ (q : ℕ). get_or (ws ++ n ∷ []) q 0) e ∙ last) t)) word)
-          (λ ne. let low : j < k = omega (arith, h, len, ne) in subst (IsWord v.campaign j)
+          (λ ne. let low : j < k = omega (arith, h, len, ne) in subst (IsDeskWord v.campaign j)
           (sym (get_or_append_left ws (n ∷ []) 0 j low)) (r.words j low));
       beyond = λ _ j h.
           let out : length s.words ≤ j = omega (
@@ -193,7 +193,7 @@ module _ (v : SeatKnowledge) (ws : List ℕ) (size : length ws ≡ v.campaign.tr
   out k h = get_or_past ws k 0 h
 
   -- each word is open, claimed or a code
-  word : (k : ℕ) → IsWord v.campaign k (get_or ws k 0)
+  word : (k : ℕ) → IsDeskWord v.campaign k (get_or ws k 0)
   word k = elim (dec_le (length ws) k) [ yes h ↦ inl (out k h) | no h ↦ r.words k (omega (arith, h)) ]
 
   -- and fits the view

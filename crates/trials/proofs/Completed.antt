@@ -9,10 +9,10 @@ use borrow.Author.Count.{below_more}
 use Rattle.trials.specs.declared.desk_table.SeatKnowledge.{SeatKnowledge}
 use Rattle.trials.specs.Campaigns.{Plan}
 use Rattle.trials.specs.Codes.{IsCode}
-use Rattle.trials.specs.LegalDesk.{IsWord, AreDeskWords}
+use Rattle.trials.specs.LegalDesk.{IsDeskWord, AreDeskWords}
 
 -- a word that is neither open nor claimed is a code
-pub is_code : (p : Plan) (k n : ℕ) → IsWord p k n → 2 ≤ n → IsCode p k n
+pub is_code : (p : Plan) (k n : ℕ) → IsDeskWord p k n → 2 ≤ n → IsCode p k n
 is_code p k n word big = ⊎_elim (λ e. absurd (omega (arith, e, big)))
     (λ x. ⊎_elim (λ e. absurd (omega (arith, e, big))) (λ code. code) x) word
 
@@ -24,9 +24,9 @@ closed_size p v ws same h = ap (λ (l : List ℕ). length l) (sym h.4)
 
 -- and each is lawful
 pub closed_words : (p : Plan) (v : SeatKnowledge) (ws : List ℕ) → v.campaign ≡ p → AreDeskWords v ws → (k : ℕ)
-    → IsWord p k (slice_index ws k)
-closed_words p v ws same h k = subst (λ (l : List ℕ). IsWord p k (slice_index l k)) h.4
-    (subst (λ (q : Plan). IsWord q k (slice_index h.0.words k)) same (h.2.words k))
+    → IsDeskWord p k (slice_index ws k)
+closed_words p v ws same h k = subst (λ (l : List ℕ). IsDeskWord p k (slice_index l k)) h.4
+    (subst (λ (q : Plan). IsDeskWord q k (slice_index h.0.words k)) same (h.2.words k))
 
 -- one code more is written
 pub one_written : (p : Plan) (ws : List ℕ) (k n : ℕ) → k < length ws → IsCode p k n
@@ -39,9 +39,9 @@ one_written p ws k n low code done = below_more (λ (j : ℕ). IsCode p j (slice
 
 -- and the words are lawful still
 pub words_written : (p : Plan) (ws : List ℕ) (k n : ℕ) → k < length ws → IsCode p k n
-    → ((j : ℕ) → j < p.trials → IsWord p j (slice_index ws j)) → (j : ℕ) → j < p.trials
-    → IsWord p j (slice_index (set ws k n) j)
+    → ((j : ℕ) → j < p.trials → IsDeskWord p j (slice_index ws j)) → (j : ℕ) → j < p.trials
+    → IsDeskWord p j (slice_index (set ws k n) j)
 words_written p ws k n low code words j less = dite (ℕ_discrete j k)
-    (λ is. subst (λ (i : ℕ). IsWord p i (slice_index (set ws k n) i)) (sym is)
-    (subst (IsWord p k) (sym (get_or-set_same ws k n 0 low)) (inr (inr code))))
-    (λ ne. subst (IsWord p j) (sym (get_or-set_other ws k j n 0 ne)) (words j less))
+    (λ is. subst (λ (i : ℕ). IsDeskWord p i (slice_index (set ws k n) i)) (sym is)
+    (subst (IsDeskWord p k) (sym (get_or-set_same ws k n 0 low)) (inr (inr code))))
+    (λ ne. subst (IsDeskWord p j) (sym (get_or-set_other ws k j n 0 ne)) (words j less))

@@ -20,7 +20,7 @@ use Rattle.verdicts.specs.declared.verdict.Verdict.TheVariants.{Ordered, Overloo
 use Rattle.trials.specs.Codes.{IsCode, end_code}
 use Rattle.trials.specs.LegalDesk.{first_view, spent_view, with_others, without_share, joined_views, claimed}
 use Rattle.trials.specs.LegalDesk.{saw_claimed, saw_filed, completed, AreAllOpen}
-use Rattle.trials.specs.LegalDesk.{FitsAt, IsWord, Legal, Was, ClaimStep, FileStep, LookStep}
+use Rattle.trials.specs.LegalDesk.{FitsAt, IsDeskWord, Legal, Was, ClaimStep, FileStep, LookStep}
 
 none_in : {X : Type 0} (x : X) → Contains [] x → ⊥
 none_in x h = omega (arith, h.1)
@@ -47,16 +47,16 @@ at_any words k n v low others here j = dite (ℕ_discrete j k)
     (λ ne. subst (FitsAt v j) (sym (get_or-set_other words k j n 0 ne)) (others j ne))
 
 words_any : (c : Plan) (words : List ℕ) (k n : ℕ) → k < length words
-    → ((j : ℕ) → IsWord c j (get_or words j 0)) → IsWord c k n → (j : ℕ)
-    → IsWord c j (get_or (set words k n) j 0)
+    → ((j : ℕ) → IsDeskWord c j (get_or words j 0)) → IsDeskWord c k n → (j : ℕ)
+    → IsDeskWord c j (get_or (set words k n) j 0)
 words_any c words k n low others here j = dite (ℕ_discrete j k)
-    (λ is. subst (λ (z : ℕ × ℕ). IsWord c z.0 z.1)
+    (λ is. subst (λ (z : ℕ × ℕ). IsDeskWord c z.0 z.1)
     (λ i. (
       sym is i,
       sym (ap (λ (q : ℕ). get_or (set words k n) q 0) is ∙ get_or-set_same words k n 0 low)
           i,
     )) here)
-    (λ ne. subst (IsWord c j) (sym (get_or-set_other words k j n 0 ne)) (others j))
+    (λ ne. subst (IsDeskWord c j) (sym (get_or-set_other words k j n 0 ne)) (others j))
 
 -- a fact of each view, after the view of one seat changed
 each_set : (P : ℕ → SeatKnowledge → Type 0) (views : List SeatKnowledge) (id : ℕ) (w : SeatKnowledge) → P id w
@@ -112,7 +112,7 @@ alone_set views id w was apart i j a b ea =
 -- The word of k becomes n and the seat's view w. Whoever has a trial of w's share is this seat
 pub moved : (c : Plan) (s : State (Unit {0}) SeatKnowledge) (r : Legal c s) (id k n : ℕ) (v w : SeatKnowledge)
     → get_elem? s.views id ≡ some v → k < c.trials
-    → IsWord c k n
+    → IsDeskWord c k n
     → (w.live ≡ true → w.campaign ≡ c) → (w.alone ≡ v.alone)
     → ((j : ℕ) → j ≢ k → FitsAt w j (get_or s.words j 0)) → FitsAt w k n
     → ((j : ℕ) (u : SeatKnowledge) → j ≢ id → get_elem? s.views j ≡ some u → FitsAt u k n)

@@ -83,13 +83,13 @@ FitsAt v k n =
     × (Contains v.read k → IsCode v.campaign k n)
 
 -- a word is open, claimed or the code of its trial
-abbrev pub IsWord : Plan → ℕ → ℕ → Type 0
-IsWord p k n = (n ≡ 0) ⊎ ((n ≡ 1) ⊎ IsCode p k n)
+abbrev pub IsDeskWord : Plan → ℕ → ℕ → Type 0
+IsDeskWord p k n = (n ≡ 0) ⊎ ((n ≡ 1) ⊎ IsCode p k n)
 
 -- a legal desk of a campaign
 pub record Legal (p : Plan) (s : DeskState) : Type 0 where
   pub size : length s.words ≡ p.trials
-  pub words : (k : ℕ) → IsWord p k (slice_index s.words k)
+  pub words : (k : ℕ) → IsDeskWord p k (slice_index s.words k)
   pub carried : (i : ℕ) (v : SeatKnowledge) → get_elem? s.views i ≡ some v → v.live ≡ true → v.campaign ≡ p
   pub fits : (i : ℕ) (v : SeatKnowledge) → get_elem? s.views i ≡ some v → (k : ℕ) → FitsAt v k (slice_index s.words k)
   pub alone : (i j : ℕ) (v w : SeatKnowledge) → get_elem? s.views i ≡ some v → get_elem? s.views j ≡ some w → (k : ℕ)

@@ -2,7 +2,7 @@
 
 ghost use Rattle.std.specs.Prelude.{◌≡◌, ◌<◌, ◌≤◌, ℕ, List, IfOk};
 ghost use Rattle.ledger.specs.Counts.{IsLedger};
-ghost use Rattle.trials.specs.LegalDesk.{AreDeskWords, IsWord};
+ghost use Rattle.trials.specs.LegalDesk.{AreDeskWords, IsDeskWord};
 ghost use Rattle.trials.specs.Codes.{AreCodes, IsCode};
 ghost use Rattle.trials.specs.Looking.{IsDeskSeatOf};
 ghost use Rattle.trials.specs.OneLedger.{EveryTrialHasOneCode, EveryCampaignHasOneLedger};
@@ -50,7 +50,7 @@ fn filed_count(desk: &Desk, seat: &mut DeskSeat, trials: usize) -> usize
 #[tactic(auto, using(crate::proofs::Completed::is_code))]
 fn filed_code(alloc: Global, campaign: &Campaign, k: usize, word: u64) -> Result<u64, OutOfMemory>
     requires trial { k < campaign.now.trials }
-    requires word { IsWord campaign.now k word }
+    requires word { IsDeskWord campaign.now k word }
     ensures { IfOk result (IsCode campaign.now k) }
 {
     if word >= 2 {

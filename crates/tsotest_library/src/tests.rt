@@ -8,7 +8,8 @@ use std::alloc::Global;
 use std::test::Fail;
 
 const OVERLOOKED_STORE: &[u8] =
-    b"{\"cores\":[[{\"a\":0,\"k\":\"S\",\"w\":1},{\"a\":0,\"k\":\"L\",\"r\":0,\"s\":null}]],\"version\":1,\"writes\":[[0]]}\n";
+    b"{\"cores\":[[{\"a\":0,\"k\":\"S\",\"w\":1},{\"a\":0,\"k\":\"L\",\"r\":0,\"s\":null}]],\
+    \"version\":1,\"writes\":[[0]]}\n";
 
 /// Its verdict, and what a buffer had after it.
 const FILLED: &[u8] = b"overlook: load 1 store 0\n\x07\x07";
@@ -103,7 +104,8 @@ fn a_program_names_addresses_or_is_refused(rt: HostRuntime) -> Result<(), Fail> 
 /// An order, an empty line, an overlook, and no recording.
 const LINES: &[u8] =
     b"{\"cores\":[[{\"a\":0,\"k\":\"S\",\"w\":1}]],\"version\":1,\"writes\":[[0]]}\n\n\
-    {\"cores\":[[{\"a\":0,\"k\":\"S\",\"w\":1},{\"a\":0,\"k\":\"L\",\"r\":0,\"s\":null}]],\"version\":1,\"writes\":[[0]]}\n{}";
+    {\"cores\":[[{\"a\":0,\"k\":\"S\",\"w\":1},{\"a\":0,\"k\":\"L\",\"r\":0,\"s\":null}]],\
+    \"version\":1,\"writes\":[[0]]}\n{}";
 
 /// Whether the survey of a text is answered so, and leaves this buffer.
 fn codes_are(

@@ -99,6 +99,9 @@ fn put_rows(
         ++ labels_text (lists_of rows.now) (length rows.now)) }
 {
     let texts = texts_up_to(alloc, most.min(999) as u16)?;
+    // Room for all lines at once, so that the text is not copied as it grows: few labels have more than three digits.
+    let labels = rows.len().saturating_mul(4);
+    out.reserve(rows.len().saturating_mul(labels.saturating_add(12)))?;
     for event in 0..rows.len() {
         put_labels(out, event, &rows[event], &texts)?;
     }

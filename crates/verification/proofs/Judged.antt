@@ -70,6 +70,7 @@ pub judged_is_proof : EveryVerdictHolds
 judged_is_proof x text is judged = proof_of x is text judged.verdict judged.printed judged.found
 
 -- so what is said of a text exactly where it is a proof is said of that of the verdict
-pub judged_holds : (x : Execution) (text : List ℕ) → IsRecording x → EveryVerdictHolds → (r : Result Finding OutOfMemory)
-    → IfOk r (λ f. (f ≡ Holds) ↔ IsProof x text) → IfOk r (λ f. IsTextOfVerdict x text → f ≡ Holds)
+pub judged_holds : (x : Execution) (text : List ℕ) → IsRecording x → EveryVerdictHolds
+    → (r : Result Finding OutOfMemory) → IfOk r (λ f. (f ≡ Holds) ↔ IsProof x text)
+    → IfOk r (λ f. IsTextOfVerdict x text → f ≡ Holds)
 judged_holds x text is law r exact = IfOk-weaker r _ _ (λ f says judged. says.1 (law x text is judged)) exact

@@ -1,6 +1,6 @@
 use Rattle.std.proofs.Common.{◌≡◌, ◌≤◌, ◌<◌, ◌↔◌, ◌*◌, ◌||◌, ◌&&◌, not, ℕ, Bool, true, false, length}
 use Rattle.std.proofs.Common.{replicate, arith, refl, sym, ap, subst, ◌∙◌}
-use Rattle.bitrow.specs.Bits.{bit_of, members, is_in}
+use Rattle.bitrow.specs.Bits.{bit_of, members_below, is_in}
 use Rattle.bitrow.specs.Rows.{Marked}
 use Rattle.bitrow.proofs.Members.{members_at, members_past}
 use Rattle.bitrow.proofs.Unions.{union_has, zeros}
@@ -26,16 +26,16 @@ returns-then-div_ceil-clause-level g c =
     let sees : (f : ℕ) → f < n → is_in c.put.new.self f ≡ bit_of c.join-all.result f = λ f inside.
     subst (λ (k : ℕ). is_in c.put.new.self k ≡ bit_of c.join-all.result f) (omega arith)
     (c.put.ensures.here f (omega (arith, inside, small)) (omega (arith, inside, c.requires.seen))) in (
-      members union n,
+      members_below union n,
       union_row c.args.rows.now c.args.level.now (64 * g.row.N) union c.requires.square
           c.union_words-union.ensures.words small,
       put_is c.put-then-div_ceil.new.self c.without-left.result n (64 * g.row.N)
-          (λ j. is_in (members union n) j && not (is_in c.put.new.self j))
+          (λ j. is_in (members_below union n) j && not (is_in c.put.new.self j))
           (omega (arith, c.put-then-div_ceil.ensures.len, c.requires.level)) small
           (λ f small inside. c.put-then-div_ceil.ensures.here f small (omega (arith, inside, c.requires.level)))
           (λ f inside. c.without-left.ensures.bits f
           ∙ (ap (λ (b : Bool). b && not (bit_of c.join-all.result f)) (sym (members_at union n f inside))
-          ∙ ap (λ (b : Bool). is_in (members union n) f && not b) (sym (sees f inside))))
+          ∙ ap (λ (b : Bool). is_in (members_below union n) f && not b) (sym (sees f inside))))
           (λ f past. ap (λ (b : Bool). b && not (is_in c.put.new.self f)) (members_past union n f past)),
     )
 
@@ -46,7 +46,7 @@ returns-then-div_ceil-clause-closes g c =
     subst (λ (b : Bool). (b ≡ true) ↔ ((e : ℕ) × (is_in c.args.level.now e ≡ true)
     × Marked c.args.rows.now e c.args.source))
     (members_at union n c.args.source c.requires.source ∙ sym c.test_bit-closes.ensures)
-    (union_has (Marked c.args.rows.now) c.args.level.now (members union n) c.args.source
+    (union_has (Marked c.args.rows.now) c.args.level.now (members_below union n) c.args.source
     (union_row c.args.rows.now c.args.level.now (64 * g.row.N) union c.requires.square
     c.union_words-union.ensures.words (omega arith)))
 

@@ -1,6 +1,6 @@
 use Rattle.std.proofs.Common.{◌≡◌, ◌∷◌, [], ℕ, List, ap, subst, sym}
 use Rattle.std.specs.Prelude.{option_map, string_bytes}
-use Rattle.inputs.specs.Inputs.{Reads, seen}
+use Rattle.inputs.specs.Inputs.{ReadsNamed, seen}
 use Rattle.commands.specs.Names.{maybe_name}
 use Rattle.commands.proofs.Asked.{seeded_run}
 use Rattle.commands.proofs.Asking.{reads_then, stopped_again}
@@ -23,7 +23,7 @@ pub returns-in-Some-clause-reads : goal.returns-in-Some-clause-reads
 returns-in-Some-clause-reads g c =
     let named : maybe_name (option_map string_bytes c.args.options.now.steps) ≡ string_bytes c.in-Some.name ∷ [] =
     ap (λ s. maybe_name (option_map string_bytes s)) c.in-Some.is in
-    subst (λ (l : List (List ℕ)). Reads (string_bytes c.args.options.now.program ∷ l)
+    subst (λ (l : List (List ℕ)). ReadsNamed (string_bytes c.args.options.now.program ∷ l)
     (seen (g.P.Place.asked c.args.place.now) (g.P.Place.asked c.script_run.new.place)
     (g.P.Place.tally c.args.place.now) (g.P.Place.tally c.script_run.new.place)) c.script_run.result) (sym named)
     (reads_then c.script_run.result (string_bytes c.args.options.now.program ∷ [])

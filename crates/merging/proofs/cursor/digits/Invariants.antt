@@ -1,5 +1,5 @@
 use Rattle.std.proofs.Common.{◌≡◌, ◌<◌, ℕ, true, get_or}
-use Rattle.merging.specs.Digits.{is_digit}
+use Rattle.program.specs.Numbers.{is_digit}
 use Rattle.merging.proofs.cursor.digits.Given as goal
 
 abbrev pub invariant-loop-i : goal.invariant-loop-i

@@ -24,5 +24,6 @@ returns-clause-ok c =
     let some : c.args.bytes.now ≢ [] = not_none c.args.bytes.now (search rules) in
     let none : c.texts.rest ≡ [] = all_none c.texts.rest (omega (arith, c.texts-test.false, c.left.ensures)) in
     ended c.args.kind c.args.sum.now c.texts.sum c.args.bytes.now some
-    (subst (λ (l : List ℕ). AreUnderWay c.args.kind c.args.sum.now c.texts.sum c.args.bytes.now l) none c.texts.invariant)
+    (subst (λ (l : List ℕ). AreUnderWay c.args.kind c.args.sum.now c.texts.sum c.args.bytes.now l) none
+    c.texts.invariant)
     (none_begins c.args.kind)

@@ -49,7 +49,8 @@ returns-clause-found c =
       c.in-Some.ensures.found
           ∙ ap (λ (t : List ℕ). count_lines c.args.kind counts.total counts.ordered counts.unjudged counts.overlook t)
           (cycles.1 ∙ ap (λ (t : List ℕ). cycle_lines items (MAX_EVENTS + 1) ++ t)
-          (c.in-Some-first.ensures.found ∙ first_begins (codes "violation") (noun c.args.kind) c.in-Some-first.first new))
+          (c.in-Some-first.ensures.found
+          ∙ first_begins (codes "violation") (noun c.args.kind) c.in-Some-first.first new))
           ∙ sym (ledger_then c.args.kind (record {
             total = counts.total;
             ordered = counts.ordered;

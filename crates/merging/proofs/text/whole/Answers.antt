@@ -25,7 +25,8 @@ returns-clause-found c =
     let l = c.in-Some.ledger in (
       told.0,
       told.1
-          ∙ ap (λ (t : List ℕ). ledger_text (all_name c.args.kind) (unjudged_name c.args.kind) (noun c.args.kind) l ++ t)
+          ∙ ap (λ (t : List ℕ). ledger_text (all_name c.args.kind) (unjudged_name c.args.kind)
+          (noun c.args.kind) l ++ t)
           c.in-Some-unjudged_place.ensures.found
           ∙ sym (text_then c.args.kind (record l { first_unjudged = c.in-Some-unjudged_place.place })
           c.unjudged_place.new.rest),

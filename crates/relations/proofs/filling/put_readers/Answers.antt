@@ -15,7 +15,11 @@ bounds-rows-first c =
     let s = c.in-Some.source in
     let source = source_placed x c.args.events.now f _ (Some s) c.requires.events
     (omega (arith, c.loop-f-test.true, c.len-f-end.ensures)) c.in-Some.is in
-    omega (arith, (c.loop-f.invariant c.requires.rows.0 c.requires.rows.1).size, source_within x c.sound.ensures.well_formed s f source)
+    omega (
+      arith,
+      (c.loop-f.invariant c.requires.rows.0 c.requires.rows.1).size,
+      source_within x c.sound.ensures.well_formed s f source,
+    )
 
 pub bounds-events-first : goal.bounds-events-first
 bounds-events-first c =

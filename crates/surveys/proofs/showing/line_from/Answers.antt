@@ -1,13 +1,13 @@
 use Rattle.std.proofs.Common.{◌∙◌, List, ℕ, arith, refl, subst, sym}
 use Rattle.surveys.specs.declared.showing.Sought.{Sought}
-use Rattle.surveys.specs.Shown.{IsBefore, IsSought}
+use Rattle.surveys.specs.Shown.{IsReadBeforeLine, IsSought}
 use Rattle.surveys.proofs.Shown.{at_last, none_lost, not_there, not_yet, nowhere, there}
 use Rattle.surveys.proofs.showing.line_from.Goals as goal
 
 pub filled-init : goal.filled-init
 filled-init g c =
     let left = g.R.Source.left c.args.source.now in
-    let before = subst (λ (bytes : List ℕ). IsBefore left left bytes c.args.number c.args.number 0)
+    let before = subst (λ (bytes : List ℕ). IsReadBeforeLine left left bytes c.args.number c.args.number 0)
     (sym c.new-block.ensures.items) (not_yet left c.args.number) in
     record { before = before; reads = refl; size = refl }
 

@@ -1,11 +1,11 @@
 use Rattle.std.proofs.Common.{◌≡◌, ◌+◌, ◌-◌, ◌^◌, length}
-use Rattle.surveys.specs.Shown.{IsBefore}
+use Rattle.surveys.specs.Shown.{IsReadBeforeLine}
 use Rattle.surveys.proofs.showing.line_from.Given as goal
 
 abbrev pub invariant-filled : goal.invariant-filled
 invariant-filled g l = record {
   before :
-      IsBefore (g.R.Source.left l.fn.source) (g.R.Source.left l.source) l.block.items l.number l.left
+      IsReadBeforeLine (g.R.Source.left l.fn.source) (g.R.Source.left l.source) l.block.items l.number l.left
       l.counted;
   reads : g.R.Source.read_failures l.source ≡ g.R.Source.read_failures l.fn.source;
   size : length l.piece ≡ length l.fn.piece;

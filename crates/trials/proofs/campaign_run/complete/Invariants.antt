@@ -1,6 +1,6 @@
 use Rattle.std.proofs.Common.{◌≡◌, ◌<◌, ℕ, length}
 use Rattle.std.specs.Prelude.{slice_index}
-use Rattle.trials.specs.LegalDesk.{IsWord}
+use Rattle.trials.specs.LegalDesk.{IsDeskWord}
 use Rattle.trials.specs.Codes.{IsCode}
 use Rattle.trials.proofs.campaign_run.complete.Given as goal
 
@@ -10,5 +10,5 @@ invariant-loop-k l =
     record {
       size : length l.words.items ≡ l.campaign.trials;
       done : (k : ℕ) → k < l.k → IsCode l.campaign k (slice_index l.words.items k);
-      words : (k : ℕ) → k < l.campaign.trials → IsWord l.campaign k (slice_index l.words.items k);
+      words : (k : ℕ) → k < l.campaign.trials → IsDeskWord l.campaign k (slice_index l.words.items k);
     }

@@ -53,7 +53,8 @@ returns c = (
       h.certified in
       let lists = lists_of c.rows.new.rows.items in (
         subst (λ (xs : List ℕ). IsCertificate (Related c.args.relation.now) n xs lists) (sym events)
-            (subst (λ (ls : List (List ℕ)). IsCertificate (Related c.args.relation.now) n p.0 ls) (sym rows.1) certified),
+            (subst (λ (ls : List (List ℕ)). IsCertificate (Related c.args.relation.now) n p.0 ls) (sym rows.1)
+            certified),
         rows.2,
       ),
   λ both. let x = c.args.places.now in

@@ -18,7 +18,9 @@ returns-then-take c =
     subst (λ (t : List ℕ). IfOk c.check_cycle_alone.result (λ (f : Finding). (f ≡ Holds) ↔ IsProof x t))
     (sym (sym c.new-rest.ensures ∙ c.if-take.ensures.found refl)) c.check_cycle_alone.ensures in record {
       exact = exact;
-      judged = judged_holds x c.args.text.now c.sound.ensures c.every_verdict_holds.ensures c.check_cycle_alone.result exact;
+      judged =
+          judged_holds x c.args.text.now c.sound.ensures c.every_verdict_holds.ensures c.check_cycle_alone.result
+          exact;
     }
 
 pub returns : goal.returns

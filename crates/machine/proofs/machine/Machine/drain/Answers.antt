@@ -1,7 +1,5 @@
-use Rattle.std.proofs.Common.{arith, refl, sym, ◌∙◌, ◌<◌, ◌≤◌, ◌≡◌, ℕ, Some, length, slice_get, subst}
-use Rattle.write_buffer.specs.Buffer.{Buffer}
+use Rattle.std.proofs.Common.{refl, sym, ◌∙◌, ◌<◌, ◌≤◌, ℕ, subst}
 use Rattle.machine.specs.declared.step.Step.TheVariants.{Drain}
-use Rattle.machine.specs.Faults.{draining}
 use Rattle.machine.proofs.DrainParts as drained
 use Rattle.machine.proofs.Refused as refused
 use Rattle.machine.proofs.Reached.{reached_step}
@@ -9,21 +7,16 @@ use Rattle.machine.proofs.machine.Machine.drain.Goals as goal
 
 pub write-requires-clause-event : goal.write-requires-clause-event
 write-requires-clause-event c =
-    let there : c.args.core < length c.self.inside.program.cores =
-    omega (arith, c.cores.ensures.count, c.if-core-cores.false) in
+    let there = subst (λ (n : ℕ). c.args.core < n) c.cores.ensures.count c.if-core-cores.false in
     (drained.entry_within _ _ _ _ _ _ _ _ c.self.invariant.sound c.args.core there c.index.result.now
     c.index.ensures c.self.inside.fault c.in-Some.entry c.in-Some.ensures).1
 
 pub push-requires : goal.push-requires
 push-requires c =
-    let there : c.args.core < length c.self.inside.program.cores =
-    omega (arith, c.cores.ensures.count, c.if-core-cores.false) in
-    let same : c.index.result.now ≡ c.index_mut.result.now =
-    drained.same_buffer _ _ _ _ _ _ _ _ c.self.invariant.sound c.args.core there c.index.result.now
+    let there = subst (λ (n : ℕ). c.args.core < n) c.cores.ensures.count c.if-core-cores.false in
+    let here = drained.entry_again _ _ _ _ _ _ _ _ c.self.invariant.sound c.args.core there c.index.result.now
     c.index.ensures c.self.inside.fault c.in-Some.entry c.in-Some.ensures c.index_mut.result.now
     c.index_mut.ensures.value in
-    let here = subst (λ (b : Buffer). Some c.in-Some.entry ≡ slice_get b.entries
-    (draining c.self.inside.fault b.entries)) same c.in-Some.ensures in
     drained.list_has_room _ _ _ _ _ _ _ _ c.self.invariant.sound c.args.core there c.index_mut.result.now
     c.drain.new.buffer c.index_mut.ensures.value c.self.inside.fault c.in-Some.entry here
     c.drain.ensures.entries
@@ -31,14 +24,10 @@ push-requires c =
 
 pub push-requires-2 : goal.push-requires-2
 push-requires-2 c =
-    let there : c.args.core < length c.self.inside.program.cores =
-    omega (arith, c.cores.ensures.count, c.if-core-cores.false) in
-    let same : c.index.result.now ≡ c.index_mut.result.now =
-    drained.same_buffer _ _ _ _ _ _ _ _ c.self.invariant.sound c.args.core there c.index.result.now
+    let there = subst (λ (n : ℕ). c.args.core < n) c.cores.ensures.count c.if-core-cores.false in
+    let here = drained.entry_again _ _ _ _ _ _ _ _ c.self.invariant.sound c.args.core there c.index.result.now
     c.index.ensures c.self.inside.fault c.in-Some.entry c.in-Some.ensures c.index_mut.result.now
     c.index_mut.ensures.value in
-    let here = subst (λ (b : Buffer). Some c.in-Some.entry ≡ slice_get b.entries
-    (draining c.self.inside.fault b.entries)) same c.in-Some.ensures in
     drained.has_room _ _ _ _ _ _ _ _ c.self.invariant.sound c.args.core there c.index_mut.result.now
     c.drain.new.buffer c.index_mut.ensures.value c.self.inside.fault c.in-Some.entry here
     c.drain.ensures.entries
@@ -46,14 +35,10 @@ push-requires-2 c =
 
 pub invariant_of-self-2 : goal.invariant_of-self-2
 invariant_of-self-2 c =
-    let there : c.args.core < length c.self.inside.program.cores =
-    omega (arith, c.cores.ensures.count, c.if-core-cores.false) in
-    let same : c.index.result.now ≡ c.index_mut.result.now =
-    drained.same_buffer _ _ _ _ _ _ _ _ c.self.invariant.sound c.args.core there c.index.result.now
+    let there = subst (λ (n : ℕ). c.args.core < n) c.cores.ensures.count c.if-core-cores.false in
+    let here = drained.entry_again _ _ _ _ _ _ _ _ c.self.invariant.sound c.args.core there c.index.result.now
     c.index.ensures c.self.inside.fault c.in-Some.entry c.in-Some.ensures c.index_mut.result.now
     c.index_mut.ensures.value in
-    let here = subst (λ (b : Buffer). Some c.in-Some.entry ≡ slice_get b.entries
-    (draining c.self.inside.fault b.entries)) same c.in-Some.ensures in
     record {
       sound = drained.drained_sound _ _ _ _ _ _ _ _ c.self.invariant.sound c.args.core there
           c.index_mut.result.now c.drain.new.buffer c.index_mut.ensures.value c.self.inside.fault
@@ -73,14 +58,10 @@ invariant_of-self-2 c =
 
 pub returns-clause-ok : goal.returns-clause-ok
 returns-clause-ok c =
-    let there : c.args.core < length c.self.inside.program.cores =
-    omega (arith, c.cores.ensures.count, c.if-core-cores.false) in
-    let same : c.index.result.now ≡ c.index_mut.result.now =
-    drained.same_buffer _ _ _ _ _ _ _ _ c.self.invariant.sound c.args.core there c.index.result.now
+    let there = subst (λ (n : ℕ). c.args.core < n) c.cores.ensures.count c.if-core-cores.false in
+    let here = drained.entry_again _ _ _ _ _ _ _ _ c.self.invariant.sound c.args.core there c.index.result.now
     c.index.ensures c.self.inside.fault c.in-Some.entry c.in-Some.ensures c.index_mut.result.now
     c.index_mut.ensures.value in
-    let here = subst (λ (b : Buffer). Some c.in-Some.entry ≡ slice_get b.entries
-    (draining c.self.inside.fault b.entries)) same c.in-Some.ensures in
     rw (← c.self.view_is) (drained.drain_taken _ _ _ _ _ _ _ _ c.self.invariant.sound c.args.core there
     c.index_mut.result.now c.drain.new.buffer c.index_mut.ensures.value c.self.inside.fault
     c.in-Some.entry here c.drain.ensures.entries
@@ -91,8 +72,8 @@ returns-clause-ok c =
 pub returns-then-core-cores-clause-blocked : goal.returns-then-core-cores-clause-blocked
 returns-then-core-cores-clause-blocked c =
     let none = subst (λ (n : ℕ). n ≤ c.args.core) c.cores.ensures.count c.if-core-cores.true in
-    rw (← c.self.view_is) (refused.no_core_drains c.self.inside.program.cores c.self.inside.capacity c.self.inside.fault _
-    c.args.core none)
+    rw (← c.self.view_is) (refused.no_core_drains c.self.inside.program.cores c.self.inside.capacity
+    c.self.inside.fault _ c.args.core none)
 
 pub write-requires-clause-core : goal.write-requires-clause-core
 write-requires-clause-core c =

@@ -1,14 +1,13 @@
-use Rattle.std.proofs.Common.{refl, sym, ◌≡◌, ◌∙◌, true, subst}
+use Rattle.std.proofs.Common.{refl, sym, ◌∙◌, true}
 use Rattle.machine.specs.declared.step.Step.TheVariants.{Put}
-use Rattle.machine.specs.Configuration.{Configuration, has_line}
 use Rattle.machine.proofs.Transacted.{transacted_sound, put_taken, put_blocked}
 use Rattle.machine.proofs.Reached.{reached_step}
+use Rattle.machine.proofs.Inside.{line_inside}
 use Rattle.machine.proofs.machine.Machine.put.Goals as goal
 
 pub invariant_of-self-2 : goal.invariant_of-self-2
 invariant_of-self-2 c =
-    let there = subst (λ (h : Configuration). has_line h c.args.core c.args.addr ≡ true) (sym c.self.view_is)
-    (sym c.has.ensures ∙ c.if-not-has.false) in
+    let there = line_inside c.args.core c.args.addr c.self.view_is (sym c.has.ensures ∙ c.if-not-has.false) in
     record {
       sound = transacted_sound _ _ _ _ _ _ _ _ c.put.new.self c.self.invariant.sound c.put.ensures.cores
           c.put.ensures.addresses;
@@ -32,15 +31,13 @@ returns-in_default-clause-unchanged c =
 
 pub returns-in_default-clause-blocked : goal.returns-in_default-clause-blocked
 returns-in_default-clause-blocked c =
-    let there = subst (λ (h : Configuration). has_line h c.args.core c.args.addr ≡ true) (sym c.self.view_is)
-    (sym c.has.ensures ∙ c.if-not-has.false) in
+    let there = line_inside c.args.core c.args.addr c.self.view_is (sym c.has.ensures ∙ c.if-not-has.false) in
     rw (← c.self.view_is) (put_blocked c.self.inside.program c.self.inside.capacity _ _ _ _ _
     c.self.inside.performed c.self.inside.fault c.args.core c.args.addr there _ c.in_default.ensures.refused)
 
 pub returns-clause-ok : goal.returns-clause-ok
 returns-clause-ok c =
-    let there = subst (λ (h : Configuration). has_line h c.args.core c.args.addr ≡ true) (sym c.self.view_is)
-    (sym c.has.ensures ∙ c.if-not-has.false) in
+    let there = line_inside c.args.core c.args.addr c.self.view_is (sym c.has.ensures ∙ c.if-not-has.false) in
     rw (← c.self.view_is) (put_taken c.self.inside.program c.self.inside.capacity _ _ _ _ _
     c.self.inside.performed c.put.new.self c.self.inside.fault c.args.core c.args.addr there c.in-Ok.ensures.ok)
 

@@ -1,20 +1,20 @@
-use Rattle.std.proofs.Common.{arith, refl, sym, ap, ◌∙◌, ◌≡◌, ◌<◌, ℕ, Ok, Err, subst, length, length-set}
+use Rattle.std.proofs.Common.{arith, refl, sym, ap, ◌∙◌, ◌≡◌, ◌<◌, ℕ, Ok, Err, subst, length-set}
 use Rattle.recording.specs.Event.{value_written}
 use Rattle.moesi.specs.State as moesi
 use Rattle.machine.specs.declared.blocked.Blocked.TheVariants.{B5}
 use Rattle.machine.specs.State.{event_of}
 use Rattle.machine.specs.Configuration.{Configuration, exec_answer}
-use Rattle.machine.specs.Step.{IsAt, exec, read_modify_written}
+use Rattle.machine.specs.Step.{exec, read_modify_written}
 use Rattle.machine.proofs.Cached.{read_is, unread_unwritten}
 use Rattle.machine.proofs.ExecuteParts as executed
 use Rattle.machine.proofs.Refused as refused
 use Rattle.machine.proofs.Reached.{reached_exec}
+use Rattle.machine.proofs.Inside.{address_inside, at_inside}
 use Rattle.machine.proofs.machine.Machine.read_modify_write.Goals as goal
 
 pub returns-in_default-clause-blocked : goal.returns-in_default-clause-blocked
 returns-in_default-clause-blocked c =
-    let at = subst (λ (h : Configuration). IsAt h.program.cores h.state c.args.core c.args.op c.args.event)
-    (sym c.self.view_is) c.requires.at in
+    let at = at_inside c.self.view_is c.requires.at in
     let row = subst (λ (h : Configuration). exec h.capacity h.fault h.state c.args.core c.args.event c.args.op
     ≡ read_modify_written h.fault h.state c.args.core c.args.event c.args.op c.args.addr)
     (sym c.self.view_is) c.requires.row in
@@ -27,8 +27,7 @@ returns-in_default-clause-blocked c =
 
 pub returns-in_default-write-clause-blocked : goal.returns-in_default-write-clause-blocked
 returns-in_default-write-clause-blocked c =
-    let at = subst (λ (h : Configuration). IsAt h.program.cores h.state c.args.core c.args.op c.args.event)
-    (sym c.self.view_is) c.requires.at in
+    let at = at_inside c.self.view_is c.requires.at in
     let row = subst (λ (h : Configuration). exec h.capacity h.fault h.state c.args.core c.args.event c.args.op
     ≡ read_modify_written h.fault h.state c.args.core c.args.event c.args.op c.args.addr)
     (sym c.self.view_is) c.requires.row in
@@ -44,14 +43,12 @@ returns-in_default-write-clause-blocked c =
 
 pub write-requires-clause-event : goal.write-requires-clause-event
 write-requires-clause-event c =
-    let at = subst (λ (h : Configuration). IsAt h.program.cores h.state c.args.core c.args.op c.args.event)
-    (sym c.self.view_is) c.requires.at in
+    let at = at_inside c.self.view_is c.requires.at in
     executed.number_few _ _ _ _ _ _ _ _ c.self.invariant.sound c.args.core c.args.op c.args.event at
 
 pub index_mut-requires : goal.index_mut-requires
 index_mut-requires c =
-    let at = subst (λ (h : Configuration). IsAt h.program.cores h.state c.args.core c.args.op c.args.event)
-    (sym c.self.view_is) c.requires.at in
+    let at = at_inside c.self.view_is c.requires.at in
     omega (
       arith,
       executed.number _ _ _ _ _ _ _ _ c.self.invariant.sound c.args.core c.args.op c.args.event
@@ -60,39 +57,32 @@ index_mut-requires c =
 
 pub push-requires : goal.push-requires
 push-requires c =
-    let at = subst (λ (h : Configuration). IsAt h.program.cores h.state c.args.core c.args.op c.args.event)
-    (sym c.self.view_is) c.requires.at in
-    let within = subst (λ (h : Configuration). c.args.addr < length h.program.names)
-    (sym c.self.view_is) c.requires.address in
+    let at = at_inside c.self.view_is c.requires.at in
+    let within = address_inside c.self.view_is c.requires.address in
     executed.list_has_room _ _ _ _ _ _ _ _ c.self.invariant.sound c.args.core c.args.op c.args.event at
     c.args.addr within c.index_mut-2.result.now c.index_mut-2.ensures.value
 
 pub push-requires-2 : goal.push-requires-2
 push-requires-2 c =
-    let at = subst (λ (h : Configuration). IsAt h.program.cores h.state c.args.core c.args.op c.args.event)
-    (sym c.self.view_is) c.requires.at in
+    let at = at_inside c.self.view_is c.requires.at in
     executed.has_room _ _ _ _ _ _ _ _ c.self.invariant.sound c.args.core c.args.op c.args.event at
 
 pub advance-requires-clause-left : goal.advance-requires-clause-left
 advance-requires-clause-left c =
-    let at = subst (λ (h : Configuration). IsAt h.program.cores h.state c.args.core c.args.op c.args.event)
-    (sym c.self.view_is) c.requires.at in
+    let at = at_inside c.self.view_is c.requires.at in
     executed.left _ _ _ _ _ _ _ _ c.self.invariant.sound c.args.core c.args.op c.args.event at
     c.index_mut-3.result.now c.index_mut-3.ensures.value c.ops.result.now c.ops.ensures
 
 pub advance-requires-clause-few : goal.advance-requires-clause-few
 advance-requires-clause-few c =
-    let at = subst (λ (h : Configuration). IsAt h.program.cores h.state c.args.core c.args.op c.args.event)
-    (sym c.self.view_is) c.requires.at in
+    let at = at_inside c.self.view_is c.requires.at in
     executed.few _ _ _ _ _ _ _ _ c.self.invariant.sound c.args.core c.args.op c.args.event at
     c.index_mut-3.result.now c.index_mut-3.ensures.value c.ops.result.now c.ops.ensures
 
 pub invariant_of-self-2 : goal.invariant_of-self-2
 invariant_of-self-2 c =
-    let at = subst (λ (h : Configuration). IsAt h.program.cores h.state c.args.core c.args.op c.args.event)
-    (sym c.self.view_is) c.requires.at in
-    let within = subst (λ (h : Configuration). c.args.addr < length h.program.names)
-    (sym c.self.view_is) c.requires.address in
+    let at = at_inside c.self.view_is c.requires.at in
+    let within = address_inside c.self.view_is c.requires.address in
     let row = subst (λ (h : Configuration). exec h.capacity h.fault h.state c.args.core c.args.event c.args.op
     ≡ read_modify_written h.fault h.state c.args.core c.args.event c.args.op c.args.addr)
     (sym c.self.view_is) c.requires.row in
@@ -121,10 +111,8 @@ invariant_of-self-2 c =
 
 pub returns-clause-ok : goal.returns-clause-ok
 returns-clause-ok c =
-    let at = subst (λ (h : Configuration). IsAt h.program.cores h.state c.args.core c.args.op c.args.event)
-    (sym c.self.view_is) c.requires.at in
-    let within = subst (λ (h : Configuration). c.args.addr < length h.program.names)
-    (sym c.self.view_is) c.requires.address in
+    let at = at_inside c.self.view_is c.requires.at in
+    let within = address_inside c.self.view_is c.requires.address in
     let row = subst (λ (h : Configuration). exec h.capacity h.fault h.state c.args.core c.args.event c.args.op
     ≡ read_modify_written h.fault h.state c.args.core c.args.event c.args.op c.args.addr)
     (sym c.self.view_is) c.requires.row in
@@ -143,32 +131,27 @@ returns-clause-ok c =
 
 pub read-requires-clause-core : goal.read-requires-clause-core
 read-requires-clause-core c =
-    let at = subst (λ (h : Configuration). IsAt h.program.cores h.state c.args.core c.args.op c.args.event)
-    (sym c.self.view_is) c.requires.at in
+    let at = at_inside c.self.view_is c.requires.at in
     refused.lines_there _ _ _ _ _ _ _ _ c.self.invariant.sound c.args.core at.core
 
 pub write-requires-clause-core : goal.write-requires-clause-core
 write-requires-clause-core c =
-    let at = subst (λ (h : Configuration). IsAt h.program.cores h.state c.args.core c.args.op c.args.event)
-    (sym c.self.view_is) c.requires.at in
+    let at = at_inside c.self.view_is c.requires.at in
     refused.lines_there _ _ _ _ _ _ _ _ c.self.invariant.sound c.args.core at.core
 
 pub read-requires-clause-address : goal.read-requires-clause-address
 read-requires-clause-address c =
-    let within = subst (λ (h : Configuration). c.args.addr < length h.program.names)
-    (sym c.self.view_is) c.requires.address in
+    let within = address_inside c.self.view_is c.requires.address in
     subst (λ (n : ℕ). c.args.addr < n) (sym c.self.invariant.sound.cache_blocks) within
 
 pub write-requires-clause-address : goal.write-requires-clause-address
 write-requires-clause-address c =
-    let within = subst (λ (h : Configuration). c.args.addr < length h.program.names)
-    (sym c.self.view_is) c.requires.address in
+    let within = address_inside c.self.view_is c.requires.address in
     subst (λ (n : ℕ). c.args.addr < n) (sym c.self.invariant.sound.cache_blocks) within
 
 pub returns-then-not-may_rmw-clause-blocked : goal.returns-then-not-may_rmw-clause-blocked
 returns-then-not-may_rmw-clause-blocked c =
-    let at = subst (λ (h : Configuration). IsAt h.program.cores h.state c.args.core c.args.op c.args.event)
-    (sym c.self.view_is) c.requires.at in
+    let at = at_inside c.self.view_is c.requires.at in
     c.requires.row ∙ rw (← c.self.view_is) (refused.rmw_waits _ _ _ _ _ _ _ _ c.self.invariant.sound c.args.core at.core
     c.index.result.now
     c.index.ensures c.self.inside.fault c.args.event c.args.op c.args.addr
@@ -184,8 +167,7 @@ returns-in_default-write-clause-unchanged c =
 
 pub ops-requires : goal.ops-requires
 ops-requires c =
-    let at = subst (λ (h : Configuration). IsAt h.program.cores h.state c.args.core c.args.op c.args.event)
-    (sym c.self.view_is) c.requires.at in
+    let at = at_inside c.self.view_is c.requires.at in
     at.core
 
 pub returns-clause-rest : goal.returns-clause-rest

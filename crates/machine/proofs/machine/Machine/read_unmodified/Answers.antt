@@ -1,18 +1,18 @@
-use Rattle.std.proofs.Common.{arith, refl, sym, ap, ◌∙◌, ◌≡◌, ◌<◌, ℕ, subst, true, false, length, length-set}
+use Rattle.std.proofs.Common.{arith, refl, sym, ap, ◌∙◌, ◌≡◌, ◌<◌, ℕ, subst, true, false, length-set}
 use Rattle.moesi.specs.Lines.{is_exclusive}
 use Rattle.moesi.specs.State as moesi
 use Rattle.machine.specs.Configuration.{Configuration}
-use Rattle.machine.specs.Step.{IsAt, exec, read_unmodified}
+use Rattle.machine.specs.Step.{exec, read_unmodified}
 use Rattle.machine.proofs.Cached.{read_is, exclusive_read}
 use Rattle.machine.proofs.ExecuteParts as executed
 use Rattle.machine.proofs.Refused as refused
 use Rattle.machine.proofs.Reached.{reached_exec}
+use Rattle.machine.proofs.Inside.{address_inside, at_inside}
 use Rattle.machine.proofs.machine.Machine.read_unmodified.Goals as goal
 
 pub index_mut-requires : goal.index_mut-requires
 index_mut-requires c =
-    let at = subst (λ (h : Configuration). IsAt h.program.cores h.state c.args.core c.args.op c.args.event)
-    (sym c.self.view_is) c.requires.at in
+    let at = at_inside c.self.view_is c.requires.at in
     omega (
       arith,
       executed.number _ _ _ _ _ _ _ _ c.self.invariant.sound c.args.core c.args.op c.args.event
@@ -21,28 +21,24 @@ index_mut-requires c =
 
 pub push-requires : goal.push-requires
 push-requires c =
-    let at = subst (λ (h : Configuration). IsAt h.program.cores h.state c.args.core c.args.op c.args.event)
-    (sym c.self.view_is) c.requires.at in
+    let at = at_inside c.self.view_is c.requires.at in
     executed.has_room _ _ _ _ _ _ _ _ c.self.invariant.sound c.args.core c.args.op c.args.event at
 
 pub advance-requires-clause-left : goal.advance-requires-clause-left
 advance-requires-clause-left c =
-    let at = subst (λ (h : Configuration). IsAt h.program.cores h.state c.args.core c.args.op c.args.event)
-    (sym c.self.view_is) c.requires.at in
+    let at = at_inside c.self.view_is c.requires.at in
     executed.left _ _ _ _ _ _ _ _ c.self.invariant.sound c.args.core c.args.op c.args.event at
     c.index_mut-2.result.now c.index_mut-2.ensures.value c.ops.result.now c.ops.ensures
 
 pub advance-requires-clause-few : goal.advance-requires-clause-few
 advance-requires-clause-few c =
-    let at = subst (λ (h : Configuration). IsAt h.program.cores h.state c.args.core c.args.op c.args.event)
-    (sym c.self.view_is) c.requires.at in
+    let at = at_inside c.self.view_is c.requires.at in
     executed.few _ _ _ _ _ _ _ _ c.self.invariant.sound c.args.core c.args.op c.args.event at
     c.index_mut-2.result.now c.index_mut-2.ensures.value c.ops.result.now c.ops.ensures
 
 pub invariant_of-self : goal.invariant_of-self
 invariant_of-self c =
-    let at = subst (λ (h : Configuration). IsAt h.program.cores h.state c.args.core c.args.op c.args.event)
-    (sym c.self.view_is) c.requires.at in
+    let at = at_inside c.self.view_is c.requires.at in
     let row = subst (λ (h : Configuration). exec h.capacity h.fault h.state c.args.core c.args.event c.args.op
     ≡ read_unmodified h.fault h.state c.args.core c.args.event c.args.addr)
     (sym c.self.view_is) c.requires.row in
@@ -65,8 +61,7 @@ invariant_of-self c =
 
 pub returns-clause-ok : goal.returns-clause-ok
 returns-clause-ok c =
-    let at = subst (λ (h : Configuration). IsAt h.program.cores h.state c.args.core c.args.op c.args.event)
-    (sym c.self.view_is) c.requires.at in
+    let at = at_inside c.self.view_is c.requires.at in
     let row = subst (λ (h : Configuration). exec h.capacity h.fault h.state c.args.core c.args.event c.args.op
     ≡ read_unmodified h.fault h.state c.args.core c.args.event c.args.addr)
     (sym c.self.view_is) c.requires.row in
@@ -82,38 +77,32 @@ returns-clause-ok c =
 
 pub line-requires-clause-core : goal.line-requires-clause-core
 line-requires-clause-core c =
-    let at = subst (λ (h : Configuration). IsAt h.program.cores h.state c.args.core c.args.op c.args.event)
-    (sym c.self.view_is) c.requires.at in
+    let at = at_inside c.self.view_is c.requires.at in
     refused.lines_there _ _ _ _ _ _ _ _ c.self.invariant.sound c.args.core at.core
 
 pub line-requires-clause-address : goal.line-requires-clause-address
 line-requires-clause-address c =
-    let within = subst (λ (h : Configuration). c.args.addr < length h.program.names)
-    (sym c.self.view_is) c.requires.address in
+    let within = address_inside c.self.view_is c.requires.address in
     subst (λ (n : ℕ). c.args.addr < n) (sym c.self.invariant.sound.cache_blocks) within
 
 pub read-requires-clause-core : goal.read-requires-clause-core
 read-requires-clause-core c =
-    let at = subst (λ (h : Configuration). IsAt h.program.cores h.state c.args.core c.args.op c.args.event)
-    (sym c.self.view_is) c.requires.at in
+    let at = at_inside c.self.view_is c.requires.at in
     refused.lines_there _ _ _ _ _ _ _ _ c.self.invariant.sound c.args.core at.core
 
 pub read-requires-clause-address : goal.read-requires-clause-address
 read-requires-clause-address c =
-    let within = subst (λ (h : Configuration). c.args.addr < length h.program.names)
-    (sym c.self.view_is) c.requires.address in
+    let within = address_inside c.self.view_is c.requires.address in
     subst (λ (n : ℕ). c.args.addr < n) (sym c.self.invariant.sound.cache_blocks) within
 
 pub ops-requires : goal.ops-requires
 ops-requires c =
-    let at = subst (λ (h : Configuration). IsAt h.program.cores h.state c.args.core c.args.op c.args.event)
-    (sym c.self.view_is) c.requires.at in
+    let at = at_inside c.self.view_is c.requires.at in
     at.core
 
 pub returns-then-not-may_rmw-clause-blocked : goal.returns-then-not-may_rmw-clause-blocked
 returns-then-not-may_rmw-clause-blocked c =
-    let at = subst (λ (h : Configuration). IsAt h.program.cores h.state c.args.core c.args.op c.args.event)
-    (sym c.self.view_is) c.requires.at in
+    let at = at_inside c.self.view_is c.requires.at in
     c.requires.row ∙ rw (← c.self.view_is)
     (refused.unmodified_waits _ _ _ _ _ _ _ _ c.self.invariant.sound c.args.core at.core
     c.index.result.now
@@ -122,8 +111,7 @@ returns-then-not-may_rmw-clause-blocked c =
 
 pub returns-then-not-is_exclusive-clause-blocked : goal.returns-then-not-is_exclusive-clause-blocked
 returns-then-not-is_exclusive-clause-blocked c =
-    let at = subst (λ (h : Configuration). IsAt h.program.cores h.state c.args.core c.args.op c.args.event)
-    (sym c.self.view_is) c.requires.at in
+    let at = at_inside c.self.view_is c.requires.at in
     let shared : is_exclusive (moesi.line_of c.self.inside.caches c.args.core c.args.addr) ≡ false =
     ap is_exclusive (sym c.line.ensures) ∙ (sym c.is_exclusive.ensures ∙ c.if-not-is_exclusive.true) in
     c.requires.row ∙ rw (← c.self.view_is)

@@ -1,23 +1,20 @@
-use Rattle.std.proofs.Common.{sym, refl, subst}
+use Rattle.std.proofs.Common.{refl}
 use Rattle.program.specs.declared.op.Op.TheVariants.{St}
-use Rattle.machine.specs.Configuration.{Configuration}
-use Rattle.machine.specs.Step.{IsAt}
 use Rattle.machine.proofs.ExecuteParts as executed
 use Rattle.machine.proofs.Refused as refused
 use Rattle.machine.proofs.Reached.{reached_exec}
+use Rattle.machine.proofs.Inside.{at_inside}
 use Rattle.machine.proofs.machine.Machine.store.Goals as goal
 
 pub advance-requires-clause-few : goal.advance-requires-clause-few
 advance-requires-clause-few c =
-    let at = subst (λ (h : Configuration). IsAt h.program.cores h.state c.args.core
-    (St c.args.addr c.args.value) c.args.event) (sym c.self.view_is) c.requires in
+    let at = at_inside c.self.view_is c.requires in
     executed.few _ _ _ _ _ _ _ _ c.self.invariant.sound c.args.core (St c.args.addr c.args.value) c.args.event
     at c.index_mut-2.result.now c.index_mut-2.ensures.value c.ops.result.now c.ops.ensures
 
 pub invariant_of-self-2 : goal.invariant_of-self-2
 invariant_of-self-2 c =
-    let at = subst (λ (h : Configuration). IsAt h.program.cores h.state c.args.core
-    (St c.args.addr c.args.value) c.args.event) (sym c.self.view_is) c.requires in
+    let at = at_inside c.self.view_is c.requires in
     record {
       sound = executed.stored_sound _ _ _ _ _ _ _ _ c.self.invariant.sound c.args.core
           (St c.args.addr c.args.value) c.args.event at c.index_mut-2.result.now c.index_mut-2.ensures.value
@@ -44,8 +41,7 @@ invariant_of-self-2 c =
 
 pub returns-clause-ok : goal.returns-clause-ok
 returns-clause-ok c =
-    let at = subst (λ (h : Configuration). IsAt h.program.cores h.state c.args.core
-    (St c.args.addr c.args.value) c.args.event) (sym c.self.view_is) c.requires in
+    let at = at_inside c.self.view_is c.requires in
     rw (← c.self.view_is) (executed.store_taken _ _ _ _ _ _ _ _ c.self.invariant.sound c.args.core
     (St c.args.addr c.args.value) c.args.event at c.index_mut-2.result.now c.index_mut-2.ensures.value
     c.ops.result.now c.ops.ensures c.advance.new.self c.advance.ensures c.index_mut.result.now
@@ -59,14 +55,12 @@ returns-clause-ok c =
 
 pub ops-requires : goal.ops-requires
 ops-requires c =
-    let at = subst (λ (h : Configuration). IsAt h.program.cores h.state c.args.core
-    (St c.args.addr c.args.value) c.args.event) (sym c.self.view_is) c.requires in
+    let at = at_inside c.self.view_is c.requires in
     at.core
 
 pub advance-requires-clause-left : goal.advance-requires-clause-left
 advance-requires-clause-left c =
-    let at = subst (λ (h : Configuration). IsAt h.program.cores h.state c.args.core
-    (St c.args.addr c.args.value) c.args.event) (sym c.self.view_is) c.requires in
+    let at = at_inside c.self.view_is c.requires in
     executed.left _ _ _ _ _ _ _ _ c.self.invariant.sound c.args.core (St c.args.addr c.args.value) c.args.event
     at c.index_mut-2.result.now c.index_mut-2.ensures.value c.ops.result.now c.ops.ensures
 
@@ -82,8 +76,7 @@ returns-in_default-clause-unchanged c =
 
 pub returns-in_default-clause-blocked : goal.returns-in_default-clause-blocked
 returns-in_default-clause-blocked c =
-    let at = subst (λ (h : Configuration). IsAt h.program.cores h.state c.args.core
-    (St c.args.addr c.args.value) c.args.event) (sym c.self.view_is) c.requires in
+    let at = at_inside c.self.view_is c.requires in
     rw (← c.self.view_is) (refused.store_blocked _ _ _ _ _ _ _ _ c.self.invariant.sound c.args.core at.core
     c.index_mut.result.now
     c.index_mut.ensures.value c.self.inside.fault c.args.event c.args.addr c.args.value

@@ -43,5 +43,5 @@ returns-in-w c = if_some c.once-in-w.result (λ u h depth.
     let read = some_is _ c.pull_value-in-w.result h.1 c.pull_value-in-w.ensures in
     adds_at AreFields c.args.key.now (codes "w") depth c.args.reader.now c.pull_value-in-w.new.reader
     c.args.self.now _ c.in-w.is
-    (value_written_added c.args.self.now c.once-in-w.new.place read.0 depth c.args.reader.now c.pull_value-in-w.new.reader
-    (read.2 depth) h.0 (h.2 ∙ read.1))) c.once-in-w.ensures
+    (value_written_added c.args.self.now c.once-in-w.new.place read.0 depth c.args.reader.now
+    c.pull_value-in-w.new.reader (read.2 depth) h.0 (h.2 ∙ read.1))) c.once-in-w.ensures
