@@ -1,2 +1,3 @@
 pub mod ToldWords
 pub mod Makings
+pub mod NamedRows

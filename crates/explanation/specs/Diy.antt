@@ -119,9 +119,13 @@ classics =
     ∷ (codes " PosRW Rfi", codes "CoRW")
     ∷ (codes " Rfe PosRW Coe", codes "CoRW") ∷ []
 
+-- what the first row with these words has beside them
+abbrev pub named_by : List (List ℕ × List ℕ) → List ℕ → Option (List ℕ)
+named_by rows words = option_map (λ r. r.1) (find (λ r. bytes_eq words r.0) rows)
+
 -- the classic test that has the cycle of these words
 unfoldable pub classic_of : List ℕ → Option (List ℕ)
-classic_of words = option_map (λ c. c.1) (find (λ c. bytes_eq words c.0) classics)
+classic_of words = named_by classics words
 
 -- words with the name of a classic test after them
 abbrev pub named_words : List ℕ → List ℕ → List ℕ

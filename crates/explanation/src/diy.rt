@@ -1,12 +1,12 @@
 //! A cycle of loads, stores and fences in the words of the tool diy.
 
-ghost use Rattle.std.specs.Prelude.{◌≡◌, ◌++◌, ◌∷◌, ◌≤◌, [], ℕ, List, IfOk, OnOk, length, option_map};
-ghost use Rattle.std.specs.Prelude.{string_bytes};
+ghost use Rattle.std.specs.Prelude.{◌≡◌, ◌++◌, ◌∷◌, ◌≤◌, [], ℕ, List, IfOk, OnOk, length, map};
+ghost use Rattle.std.specs.Prelude.{option_map, string_bytes};
 ghost use Rattle.std.specs.List.{flat_map, list_all};
 ghost use Rattle.recording.specs.Event.{is_plain_store};
 ghost use Rattle.recording.specs.Execution.{event_at};
 ghost use Rattle.explanation.specs.Diy.{IsDiyLine, IsStep, AreWordSteps, accesses, accessed, classic_of};
-ghost use Rattle.explanation.specs.Diy.{is_fence, is_plain, letter, pair_text, side_text, told_from, word};
+ghost use Rattle.explanation.specs.Diy.{is_fence, is_plain, letter, named_by, pair_text, side_text, told_from, word};
 ghost use Rattle.explanation.specs.Diy.{IsNamedBehind, words_from, diy_line, diy_overlook_line};
 
 use common::{Addr, EventId, OutOfMemory};
@@ -202,43 +202,60 @@ fn words_from(alloc: Global, steps: &[Step], at: usize) -> Result<String, OutOfM
     Ok(words)
 }
 
+/// The words of the cycles of classic tests, each with its test.
+const CLASSICS: &[(&str, &str)] = &[
+    (" PodWW Rfe PodRR Fre", "MP"),
+    (" PodRW Rfe PodRW Rfe", "LB"),
+    (" PodWW Rfe PodRW Coe", "S"),
+    (" PodWW Coe PodWW Coe", "2+2W"),
+    (" MFencedWR Fre MFencedWR Fre", "SB+mfences"),
+    (" PodWW Coe MFencedWR Fre", "R+po+mfence"),
+    (" Rfe PodRW Rfe PodRR Fre", "WRC"),
+    (" Rfe PodRW Rfe PodRW Coe", "WWC"),
+    (" Rfe PodRR Fre MFencedWR Fre", "RWC+po+mfence"),
+    (" Rfe PodRW Coe MFencedWR Fre", "WRW+WR+po+mfence"),
+    (" Rfe PodRW Coe PodWW Coe", "WRW+2W"),
+    (" Rfe PodRR Fre Rfe PodRR Fre", "IRIW"),
+    (" Rfe PodRR Fre Rfe PodRW Coe", "IRRWIW"),
+    (" Rfe PodRW Coe Rfe PodRW Coe", "IRWIW"),
+    (" PodWW Rfe PodRW Rfe PodRR Fre", "ISA2"),
+    (" PodWW Rfe PodRR Fre MFencedWR Fre", "W+RWC+po+po+mfence"),
+    (" MFencedWR Fre MFencedWR Fre MFencedWR Fre", "3.SB+mfences"),
+    (" PodRW Rfe PodRW Rfe PodRW Rfe", "3.LB"),
+    (" PodWW Coe PodWW Coe PodWW Coe", "3.2W"),
+    (" PodWW Rfe PodRW Coe MFencedWR Fre", "Z6.0+po+po+mfence"),
+    (" PodWW Coe PodWW Rfe PodRW Coe", "Z6.1"),
+    (" PodWW Rfe PodRW Rfe PodRW Coe", "Z6.2"),
+    (" PodWW Coe PodWW Rfe PodRR Fre", "Z6.3"),
+    (
+        " PodWW Coe MFencedWR Fre MFencedWR Fre",
+        "Z6.4+po+mfence+mfence",
+    ),
+    (" PodWW Coe PodWW Coe MFencedWR Fre", "Z6.5+po+po+mfence"),
+    (" Rfe PosRR Fre", "CoRR"),
+    (" PosWW Coi", "CoWW"),
+    (" PosRW Rfi", "CoRW"),
+    (" Rfe PosRW Coe", "CoRW"),
+];
+
+/// What the first row with these words has beside them.
+fn named_by(rows: &[(&'static str, &'static str)], words: &str) -> Option<&'static str>
+    ensures { option_map (λ name. name.now) result
+        ≡ named_by (map (λ r. (r.0.now, r.1.now)) rows.now) words.now }
+{
+    for row in rows {
+        if words == row.0 {
+            return Some(row.1);
+        }
+    }
+    None
+}
+
 /// The classic test that has the cycle of these words.
-#[tactic(auto, unfolding(crate::specs::Diy::classic_of, crate::specs::Diy::classics))]
 fn classic_of(words: &str) -> Option<&'static str>
     ensures { option_map (λ name. name.now) result ≡ classic_of words.now }
 {
-    match words {
-        " PodWW Rfe PodRR Fre" => Some("MP"),
-        " PodRW Rfe PodRW Rfe" => Some("LB"),
-        " PodWW Rfe PodRW Coe" => Some("S"),
-        " PodWW Coe PodWW Coe" => Some("2+2W"),
-        " MFencedWR Fre MFencedWR Fre" => Some("SB+mfences"),
-        " PodWW Coe MFencedWR Fre" => Some("R+po+mfence"),
-        " Rfe PodRW Rfe PodRR Fre" => Some("WRC"),
-        " Rfe PodRW Rfe PodRW Coe" => Some("WWC"),
-        " Rfe PodRR Fre MFencedWR Fre" => Some("RWC+po+mfence"),
-        " Rfe PodRW Coe MFencedWR Fre" => Some("WRW+WR+po+mfence"),
-        " Rfe PodRW Coe PodWW Coe" => Some("WRW+2W"),
-        " Rfe PodRR Fre Rfe PodRR Fre" => Some("IRIW"),
-        " Rfe PodRR Fre Rfe PodRW Coe" => Some("IRRWIW"),
-        " Rfe PodRW Coe Rfe PodRW Coe" => Some("IRWIW"),
-        " PodWW Rfe PodRW Rfe PodRR Fre" => Some("ISA2"),
-        " PodWW Rfe PodRR Fre MFencedWR Fre" => Some("W+RWC+po+po+mfence"),
-        " MFencedWR Fre MFencedWR Fre MFencedWR Fre" => Some("3.SB+mfences"),
-        " PodRW Rfe PodRW Rfe PodRW Rfe" => Some("3.LB"),
-        " PodWW Coe PodWW Coe PodWW Coe" => Some("3.2W"),
-        " PodWW Rfe PodRW Coe MFencedWR Fre" => Some("Z6.0+po+po+mfence"),
-        " PodWW Coe PodWW Rfe PodRW Coe" => Some("Z6.1"),
-        " PodWW Rfe PodRW Rfe PodRW Coe" => Some("Z6.2"),
-        " PodWW Coe PodWW Rfe PodRR Fre" => Some("Z6.3"),
-        " PodWW Coe MFencedWR Fre MFencedWR Fre" => Some("Z6.4+po+mfence+mfence"),
-        " PodWW Coe PodWW Coe MFencedWR Fre" => Some("Z6.5+po+po+mfence"),
-        " Rfe PosRR Fre" => Some("CoRR"),
-        " PosWW Coi" => Some("CoWW"),
-        " PosRW Rfi" => Some("CoRW"),
-        " Rfe PosRW Coe" => Some("CoRW"),
-        _ => None,
-    }
+    named_by(CLASSICS, words)
 }
 
 /// Adds the words from a place on and the name of the classic test that they are those of; whether there is one.

@@ -1,0 +1,16 @@
+use Rattle.std.proofs.Common.{◌≡◌, ◌++◌, ℕ, List, length, refl}
+use Rattle.explanation.specs.Cycle.{SaysCycle, cycle_heading}
+use Rattle.texts.specs.TextLaws.{on_ok, two}
+use Rattle.explanation.proofs.cycle.put_cycle.Goals as goal
+
+pub returns : goal.returns
+returns c =
+    let links = c.in_ok-put_links.ensures in
+    let heading = cycle_heading (length c.args.cycle.now) in
+    on_ok _ _ ((text : List ℕ) × SaysCycle c.args.recording.now c.args.names.now.keys c.args.cycle.now text
+    × (c.put_diy.new.out.items ≡ c.args.out.now.items ++ text)) (λ told. (
+      heading ++ (links.0 ++ told.0),
+      record { links = links.0; lines = links.1; line = told.0; steps = told.1; whole = refl },
+      two _ c.put_heading.new.out.items _ heading (links.0 ++ told.0) c.in_ok-put_heading.ensures
+          (two _ c.put_links.new.out.items _ links.0 told.0 links.2 told.2),
+    )) c.put_diy.ensures
