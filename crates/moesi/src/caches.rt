@@ -257,3 +257,29 @@ impl Caches {
         Ok(())
     }
 }
+
+#[cfg(test)]
+mod tests {
+    use super::*;
+
+    /// Whether the first line is written, shared, put back and shared again.
+    fn is_written_and_put_back(caches: &mut Caches) -> bool
+        requires cores { caches.old.cores ≡ 3 }
+        requires address { length caches.old.blocks ≡ 1 }
+    {
+        caches.get_m(0, 0) == Ok(())
+            && caches.write(0, 0, 7, 0) == Ok(())
+            && caches.get_s(1, 0) == Ok(())
+            && caches.put(0, 0) == Ok(())
+            && caches.get_s(2, 0) == Ok(())
+    }
+
+    #[test]
+    fn a_word_has_a_value_an_event_and_a_state(rt: HostRuntime) -> Result<(), OutOfMemory> {
+        let mut caches = Caches::new(rt.alloc(), 3, 1)?;
+        assert!(rt; is_written_and_put_back(&mut caches));
+        let words = [0, 281479271677959, 281479271677959, 4294967303];
+        assert!(rt; caches.words.as_slice() == words.as_slice());
+        Ok(())
+    }
+}
