@@ -1,8 +1,8 @@
 -- Rows that are collected by source, while the seat learns more.
-use Rattle.std.proofs.Common.{◌≡◌, ◌<◌, ◌≤◌, ◌+◌, ◌∙◌, inl, inr, ℕ, zero, suc, drop, Option, None, Some, List}
-use Rattle.std.proofs.Common.{Result, Ok, Err, IfOk, [], ◌∷◌, ◌++◌}
+use Rattle.std.proofs.Common.{◌≡◌, ◌<◌, ◌≤◌, ◌+◌, ◌∙◌, inl, inr, ℕ, Option, None, Some, List}
+use Rattle.std.proofs.Common.{[], ◌∷◌, ◌++◌}
 use Rattle.std.proofs.Common.{length, get_or, IfSome, Contains, arith, refl, sym, ap}
-use Rattle.std.proofs.Common.{subst, length-append}
+use Rattle.std.proofs.Common.{set, subst, length-append, length-set, get_or-set_same, get_or-set_other}
 use Rattle.std.proofs.lemmas.Bool.{cases_eq}
 use Rattle.std.proofs.lemmas.List.{get_or_push, get_or_append_left}
 use Rattle.std.proofs.lemmas.List.Elements.{Contains-append_left, Contains-append_right}
@@ -17,19 +17,6 @@ use Rattle.search.specs.Bound.{Keeps, KnowsShortest}
 use Rattle.search.specs.Slots.{IsRowFrom, AreSlots, AreSlotsFilled}
 use Rattle.search.proofs.WorkerRows.{covers_kept}
 use Rattle.search.proofs.Known.{knows_it}
-
--- what holds whatever the result
-pub if_ok : {T E : Type 0} {X : Type 0} (r : Result T E) → X → IfOk r (λ _. X)
-if_ok (Ok x) h = h
-if_ok (Err e) h = tt
-
--- what stands after the first i
-pub drop_head : {X : Type 0} (i : ℕ) (xs : List X) (x : X) (ys : List X) → drop i xs ≡ x ∷ ys
-    → (i < length xs) × ((d : X) → get_or xs i d ≡ x) × (ys ≡ drop (suc i) xs)
-drop_head zero [] x ys h = absurd (omega (arith, ap (λ l. length l) h))
-drop_head zero (a ∷ as_) x ys h = (omega arith, (λ d. ap (λ l. get_or l 0 d) h), ap (λ l. drop 1 l) (sym h))
-drop_head (suc i) [] x ys h = absurd (omega (arith, ap (λ l. length l) h))
-drop_head (suc i) (a ∷ as_) x ys h = let r = drop_head i as_ x ys h in (omega (arith, r.0), r.1, r.2)
 
 -- two seats in one know what the first knew
 pub unites_left : (v w u : Known) → Unites v w u → Keeps v.lengths u.lengths
@@ -60,12 +47,21 @@ slot_kept t before after v (Some row) keeps h = row_kept t before after v row ke
 -- and in all places
 pub slots_kept : (t : Table) (before after : List ℕ) (slots : List (Option SourceRow)) → Keeps before after
     → AreSlots t before slots → AreSlots t after slots
-slots_kept t before after slots keeps h =
-    record {
-      size = h.size;
-      each = λ v d at. slot_kept t before after v (get_or slots v d) keeps
-          (h.each v d at);
-    }
+slots_kept t before after slots keeps h = λ v d at. slot_kept t before after v (get_or slots v d) keeps (h v d at)
+
+-- and so where one changes
+pub slot_set : (t : Table) (lengths : List ℕ) (slots : List (Option SourceRow)) (i : ℕ) (slot : Option SourceRow)
+    → AreSlots t lengths slots → IfSome slot (IsRowFrom t lengths i) → AreSlots t lengths (set slots i slot)
+slot_set t lengths slots i slot h new v d at = elim (cases_eq v i) [
+  | inl is ↦ subst (λ (o : Option SourceRow). IfSome o (IsRowFrom t lengths v))
+      (sym (ap (λ (x : ℕ). get_or (set slots i slot) x d) is ∙ get_or-set_same slots i slot d (omega (arith, is, inside))))
+      (subst (λ (x : ℕ). IfSome slot (IsRowFrom t lengths x)) (sym is) new)
+  | inr other ↦ subst (λ (o : Option SourceRow). IfSome o (IsRowFrom t lengths v))
+      (sym (get_or-set_other slots i v slot d other)) (h v d inside)
+]
+  where
+    inside : v < length slots
+    inside = omega (arith, at, length-set slots i slot)
 
 -- one empty place more
 pub none_more : (t : Table) (lengths : List ℕ) (i : ℕ) (slots : List (Option SourceRow)) → length slots ≡ i

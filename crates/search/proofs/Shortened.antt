@@ -1,6 +1,6 @@
 -- Rows of labels that are cut at the length of the shortest cycles.
 use Rattle.std.proofs.Common.{◌≡◌, ◌<◌, ◌≤◌, ◌∙◌, inl, inr, ℕ, Option, None, Some, List, [], ◌∷◌}
-use Rattle.std.proofs.Common.{◌++◌, length, length-append, get_or, min, arith, sym, ap, subst}
+use Rattle.std.proofs.Common.{◌++◌, length, length-append, get_or, arith, sym, ap, subst}
 use Rattle.std.specs.Option.{unwrap_or}
 use Rattle.std.proofs.lemmas.Bool.{cases_eq}
 use Rattle.std.proofs.lemmas.List.{get_or-map, length-map, get_or_push, get_or_append_left}
@@ -64,14 +64,6 @@ least_rows t cap rows size least each = record {
         row.source row.numbers) n.shares l.exact)));
   };
 }
-
--- a row that was cut at a cap that is there
-pub cut_some : (cap : Option ℕ) (k : ℕ) (before after whole : List ℕ) → cap ≡ Some k → whole ≡ after
-    → length after ≡ length before → ((e : ℕ) → get_or after e 0 ≡ min (get_or before e 0) k)
-    → IsCutAt cap before whole
-cut_some cap k before after whole is same size cut =
-    subst (λ (o : Option ℕ). IsCutAt o before whole) (sym is)
-    (ap (λ (row : List ℕ). length row) same ∙ size, λ e. ap (λ (row : List ℕ). get_or row e 0) same ∙ cut e)
 
 -- one more of what each has
 pub each_push : {X : Type 0} (P : ℕ → X → Type 0) (xs more : List X) (x : X) → more ≡ xs ++ x ∷ []

@@ -11,11 +11,10 @@ pub record IsRowFrom (t : Table) (lengths : List ℕ) (v : ℕ) (row : SourceRow
   pub from : row.source ≡ v
   pub covers : Covers (Related t) lengths v
 
--- a place for the row of each event, filled by no other
-pub record AreSlots (t : Table) (lengths : List ℕ) (slots : List (Option SourceRow)) : Type 0 where
-  pub size : length slots ≡ length t
-  pub each : (v : ℕ) (d : Option SourceRow) → v < length t
-      → IfSome (slice_index_or slots v d) (IsRowFrom t lengths v)
+-- places for the rows of the first events, filled by no other
+abbrev pub AreSlots : Table → List ℕ → List (Option SourceRow) → Type 0
+AreSlots t lengths slots = (v : ℕ) (d : Option SourceRow) → v < length slots
+    → IfSome (slice_index_or slots v d) (IsRowFrom t lengths v)
 
 -- the rows below i are there
 pub record AreSlotsFilled (t : Table) (lengths : List ℕ) (i : ℕ) (rows : List SourceRow) : Type 0 where

@@ -8,7 +8,7 @@ ghost use Rattle.search.specs.SourceRow.{AreJobsOf, AreShared, AreLeastRows};
 use crate::collect::{cut_by, relation_of};
 use crate::job::SourceJob;
 use crate::label_row::LabelRow;
-use crate::slots::{empty_slots, filled};
+use crate::slots::filled;
 use best::Best;
 use common::{EventId, OpenGate, OutOfMemory};
 use relations::Relation;
@@ -47,9 +47,15 @@ pub(crate) fn rows_alone(
 {
     let table: &Relation = relation;
     let (best, mut seat) = Best::open(alloc, table)?;
-    let slots = empty_slots(alloc, table)?;
-    let rows = filled(alloc, relation, slots, &best, &mut seat, &OpenGate)?;
-    cut_by(alloc, table, rows, &best, &mut seat)
+    let rows = filled(
+        alloc,
+        relation,
+        Vec::new(alloc),
+        &best,
+        &mut seat,
+        &OpenGate,
+    )?;
+    Ok(cut_by(table, rows, &best, &mut seat))
 }
 
 /// The rows of jobs that share one relation and name each of its events, in any order: one for

@@ -25,43 +25,37 @@ use std::sync::{Arc, Wait};
 use std::thread::Threads;
 
 /// Cuts the rows of all events at the length of the shortest cycles, if there is one.
-fn cut_all(
-    alloc: Global,
-    relation: &Relation,
-    rows: Vec<LabelRow>,
-    cap: Option<u16>,
-) -> Result<Vec<LabelRow>, OutOfMemory>
+fn cut_all(relation: &Relation, rows: &mut [LabelRow], cap: Option<u16>)
     requires least { IsLeastLength (Related relation.now) cap }
-    requires rows { AreOfEach relation.now rows.items }
-    ensures { IfOk result (λ all. AreLeastRows relation.now cap all.items) }
+    requires rows { AreOfEach relation.now rows.old }
+    ensures { AreLeastRows relation.now cap rows.new }
 {
-    let mut all = Vec::with_capacity(alloc, relation.len())?;
-    for row in rows {
-        let cut = row.cut_to(cap);
-        cut.sound();
-        all.push(cut)?;
+    let _ = relation;
+    for row in rows.iter_mut() {
+        row.cut_to(cap);
+        row.sound();
     }
-    Ok(all)
 }
 
 /// Cuts the rows of all events at what the bound has in the end.
 pub(crate) fn cut_by(
-    alloc: Global,
     relation: &Relation,
     rows: Vec<LabelRow>,
     best: &Best,
     seat: &mut BestSeat,
-) -> Result<Vec<LabelRow>, OutOfMemory>
+) -> Vec<LabelRow>
     requires seat { IsSeatFor best.now relation.now seat.old }
     requires rows { AreSlotsFilled relation.now (lengths_of seat.old) (length relation.now) rows.items }
     ensures seat { IsSeatFor best.now relation.now seat.new }
     ensures kept { Keeps (lengths_of seat.old) (lengths_of seat.new) }
-    ensures rows { IfOk result (λ all. (cap : Option ℕ) × AreLeastRows relation.now cap all.items) }
+    ensures rows { (cap : Option ℕ) × AreLeastRows relation.now cap result.items }
     ensures knows { KnowsShortest (Related relation.now) (lengths_of seat.new) }
 {
     relation.sound();
+    let mut rows = rows;
     let cap = best.read(seat);
-    cut_all(alloc, relation, rows, cap)
+    cut_all(relation, rows.as_mut_slice(), cap);
+    rows
 }
 
 /// The rows of the workers that the jobs are split among: the calling thread is worker 0.
@@ -138,7 +132,7 @@ fn collected<R: Threads + Wait + Sync, G: Gate>(
     let rows_of_workers = rows_by_workers(rt, alloc, table, jobs, best, seat, workers, gate)?;
     let slots = places(alloc, table, best, seat, rows_of_workers)?;
     let rows = filled(alloc, relation, slots, best, seat, gate)?;
-    cut_by(alloc, table, rows, best, seat)
+    Ok(cut_by(table, rows, best, seat))
 }
 
 /// A share of the relation of the first job.

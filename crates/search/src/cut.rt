@@ -12,14 +12,11 @@ fn cut_row(row: &mut [u16], cap: u16)
     }
 }
 
-/// Cuts the numbers of one row at the cap, if there is one.
-pub(crate) fn cut_at(numbers: Vec<u16>, cap: Option<u16>) -> Vec<u16>
-    ensures { IsCutAt cap numbers.items result.items }
+/// Cuts each label of a row at the cap, if there is one.
+pub(crate) fn cut_at(row: &mut [u16], cap: Option<u16>)
+    ensures { IsCutAt cap row.old row.new }
 {
-    let Some(most) = cap else {
-        return numbers;
-    };
-    let mut cut = numbers;
-    cut_row(cut.as_mut_slice(), most);
-    cut
+    if let Some(most) = cap {
+        cut_row(row, most);
+    }
 }

@@ -63,23 +63,13 @@ impl LabelRow {
     }
 
     /// The row cut at the length of the shortest cycles; as it is where there is no cycle.
-    pub(crate) fn cut_to(self, cap: Option<u16>) -> LabelRow
-        requires { IsLeastLength (Related self.relation) cap }
-        ensures { IsNamed self.relation cap self.source result }
+    pub(crate) fn cut_to(&mut self, cap: Option<u16>)
+        requires { IsLeastLength (Related self.old.relation) cap }
+        ensures { IsNamed self.old.relation cap self.old.source self.new }
     {
-        let LabelRow {
-            relation,
-            source,
-            cap: _,
-            numbers,
-        } = self;
-        relation.sound();
-        LabelRow {
-            relation,
-            source,
-            cap,
-            numbers: cut_at(numbers, cap),
-        }
+        self.relation.sound();
+        cut_at(self.numbers.as_mut_slice(), cap);
+        self.cap = cap;
     }
 
     /// What every row keeps. It does nothing.

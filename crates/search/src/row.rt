@@ -24,7 +24,9 @@ fn closing_with(closes: bool, label: u16, cap: u16, closing: u16) -> u16
 
 /// The least number of steps from a source to each event, or the cap where none is less, and the
 /// least of these numbers for the events that are forced before the source. It takes no memory but what it
-/// is given, and is quickest where N words hold a set.
+/// is given, and is quickest where N words hold a set. It is compiled by itself: among the values of its callers, its
+/// loop would have too few registers.
+#[inline(never)]
 fn row_in_words<const N: usize>(
     rows: &[BitRow],
     source: EventId,

@@ -44,6 +44,18 @@ fn put_row(row: LabelRow, slots: &mut Vec<Option<LabelRow>>)
     }
 }
 
+/// Takes the row out of a source's place, if there is one.
+fn take_row(source: usize, slots: &mut Vec<Option<LabelRow>>) -> Option<LabelRow>
+    ensures { (t : Table) (lengths : List ℕ) → AreSlots t lengths slots.old.items
+        → IfSome result (IsRowFrom t lengths source) × AreSlots t lengths slots.new.items }
+{
+    if source < slots.len() {
+        slots[source].take()
+    } else {
+        None
+    }
+}
+
 /// Puts rows into their sources' places.
 fn put_rows(rows: Vec<LabelRow>, slots: &mut Vec<Option<LabelRow>>)
     ensures { (t : Table) (lengths : List ℕ) → All (IsRowFor t lengths) rows.items
@@ -147,15 +159,17 @@ pub(crate) fn filled<G: Gate>(
     ensures rows { IfOk result (λ rows. AreSlotsFilled (arc_value relation.now) (lengths_of seat.new)
         (length (arc_value relation.now)) rows.items) }
 {
-    relation.sound();
-    let mut rows = Vec::with_capacity(alloc, slots.len())?;
-    let mut sets = Sets::new(alloc, relation.len())?;
-    let mut source = 0;
-    for slot in slots {
+    let table: &Relation = relation;
+    table.sound();
+    let mut slots = slots;
+    let mut rows = Vec::with_capacity(alloc, table.len())?;
+    let mut sets = Sets::new(alloc, table.len())?;
+    for number in 0..table.len() {
+        let source = number as EventId;
+        let slot = take_row(number, &mut slots);
         add_row(
             alloc, relation, source, slot, best, seat, &mut sets, gate, &mut rows,
         )?;
-        source += 1;
     }
     Ok(rows)
 }

@@ -1,15 +1,13 @@
-use Rattle.std.proofs.Common.{◌∙◌, ℕ, Option, IfOk, length, sym, subst}
+use Rattle.std.proofs.Common.{◌∙◌, ℕ, Option, List, length, sym, ap, arith, subst}
 use Rattle.relations.specs.Relation.{Table}
-use Rattle.search.specs.SourceRow.{AreLeastRows}
+use Rattle.search.specs.SourceRow.{SourceRow, AreLeastRows}
 use Rattle.search.specs.Bound.{lengths_of}
-use Rattle.search.specs.Slots.{AreSlots, AreSlotsFilled}
+use Rattle.search.specs.Slots.{AreSlotsFilled}
 use Rattle.search.proofs.alone.rows_alone.Goals as goal
 
 pub filled-requires-clause-slots : goal.filled-requires-clause-slots
-filled-requires-clause-slots c κs =
-    let lengths = lengths_of c.in_ok-best.seat in
-    subst (λ (t : Table). AreSlots t lengths c.in_ok-slots.slots.items) c.deref-table.ensures
-    (c.in_ok-slots.ensures lengths)
+filled-requires-clause-slots c κs = λ v d at.
+    absurd (omega (arith, at, ap (λ (l : List (Option SourceRow)). length l) c.new.ensures.items))
 
 pub cut_by-requires-clause-seat : goal.cut_by-requires-clause-seat
 cut_by-requires-clause-seat c = (c.filled.ensures.seat.0, c.filled.ensures.seat.1 ∙ sym c.deref-table.ensures)
@@ -21,5 +19,5 @@ cut_by-requires-clause-rows c =
 
 pub returns : goal.returns
 returns c =
-    subst (λ (t : Table). IfOk c.cut_by.result (λ rows. (cap : Option ℕ) × AreLeastRows t cap rows.items))
-    c.deref-table.ensures c.cut_by.ensures.rows
+    subst (λ (t : Table). (cap : Option ℕ) × AreLeastRows t cap c.cut_by.result.items) c.deref-table.ensures
+    c.cut_by.ensures.rows

@@ -1,9 +1,8 @@
-use Rattle.std.proofs.Common.{◌≡◌, ◌∙◌, ℕ, Option, All, IfOk, List, Contains, length, sym, subst}
+use Rattle.std.proofs.Common.{◌≡◌, ◌∙◌, ℕ, Option, All, List, Contains, length, sym, subst}
 use Rattle.relations.specs.Relation.{Table, Related}
 use Rattle.search.specs.SourceRow.{Job, AreLeastRows}
 use Rattle.search.specs.Bound.{KnowsShortest, lengths_of}
 use Rattle.search.specs.Slots.{AreSlots, AreSlotsFilled}
-use Rattle.search.proofs.Collected.{if_ok}
 use Rattle.search.proofs.collect.collected.Goals as goal
 
 pub rows_by_workers-requires-clause-seat : goal.rows_by_workers-requires-clause-seat
@@ -68,10 +67,10 @@ returns-clause-kept g c = λ k h. c.cut_by.ensures.kept k (c.filled.ensures.kept
 
 pub returns-clause-rows : goal.returns-clause-rows
 returns-clause-rows g c =
-    subst (λ (t : Table). IfOk c.cut_by.result (λ all. (cap : Option ℕ) × AreLeastRows t cap all.items))
-    c.deref-table.ensures c.cut_by.ensures.rows
+    subst (λ (t : Table). (cap : Option ℕ) × AreLeastRows t cap c.cut_by.result.items) c.deref-table.ensures
+    c.cut_by.ensures.rows
 
 pub returns-clause-knows : goal.returns-clause-knows
-returns-clause-knows g c = if_ok c.cut_by.result
-    (subst (λ (t : Table). KnowsShortest (Related t) (lengths_of c.cut_by.new.seat)) c.deref-table.ensures
-    c.cut_by.ensures.knows)
+returns-clause-knows g c =
+    subst (λ (t : Table). KnowsShortest (Related t) (lengths_of c.cut_by.new.seat)) c.deref-table.ensures
+    c.cut_by.ensures.knows

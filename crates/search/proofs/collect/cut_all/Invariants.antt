@@ -1,12 +1,11 @@
-use Rattle.std.proofs.Common.{◌≡◌, ◌+◌, ◌<◌, ℕ, length, drop, get_or}
-use Rattle.std.specs.Vec.Iter.{into_iter_items}
+use Rattle.std.proofs.Common.{◌≡◌, ◌<◌, ◌≤◌, ℕ, length, get_or}
 use Rattle.search.specs.SourceRow.{SourceRow, IsNamed, IsSourceRow}
 use Rattle.search.proofs.collect.cut_all.Given as goal
 
 abbrev pub invariant-loop-row : goal.invariant-loop-row
 invariant-loop-row l = record {
-  rest : into_iter_items l.row-iterator ≡ drop (length l.all.items) l.fn.rows.items;
-  size : length (into_iter_items l.row-iterator) + length l.all.items ≡ length l.fn.rows.items;
-  each : (v : ℕ) (d : SourceRow) → v < length l.all.items → IsNamed l.relation l.cap v
-      (get_or l.all.items v d) × IsSourceRow (get_or l.all.items v d);
+  size : length l.rows ≡ length l.fn.rows;
+  cut : (v : ℕ) (d : SourceRow) → v < l.row-index → IsNamed l.relation l.cap v (get_or l.rows v d)
+      × IsSourceRow (get_or l.rows v d);
+  kept : (v : ℕ) (d : SourceRow) → l.row-index ≤ v → get_or l.rows v d ≡ get_or l.fn.rows v d;
 }

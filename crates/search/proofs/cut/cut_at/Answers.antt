@@ -1,11 +1,8 @@
-use Rattle.std.proofs.Common.{◌∙◌, ℕ, List, get_or, min, arith, ap}
-use Rattle.search.proofs.Levels.{written_back}
-use Rattle.search.proofs.Shortened.{cut_some}
+use Rattle.std.proofs.Common.{ℕ, Option, sym, subst, arith}
+use Rattle.search.specs.Slots.{IsCutAt}
 use Rattle.search.proofs.cut.cut_at.Goals as goal
 
-pub returns : goal.returns
-returns c =
-    cut_some c.args.cap c.in-Some.most c.args.numbers.items c.cut_row.new.row _ c.in-Some.is
-    (written_back c.args.numbers.len c.cut_row.new.row c.args.numbers.items (omega arith)) (omega arith)
-    (λ e. c.cut_row.ensures e ∙ ap (λ (row : List ℕ). min (get_or row e 0) c.in-Some.most)
-    c.as_mut_slice.ensures.value)
+pub returns-in-Some : goal.returns-in-Some
+returns-in-Some c =
+    subst (λ (o : Option ℕ). IsCutAt o c.args.row.now c.cut_row.new.row) (sym c.in-Some.is)
+    (omega arith, c.cut_row.ensures)

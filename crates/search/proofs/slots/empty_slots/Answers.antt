@@ -23,7 +23,4 @@ loop-preserved c =
     )
 
 pub returns : goal.returns
-returns c = λ lengths. record {
-  size = omega (arith, c.loop.invariant.0, c.loop-test.false, c.loop.auto.counter-end, c.len-end.ensures);
-  each = λ v d at. c.loop.invariant.1 lengths v d (omega (arith, at, c.loop-test.false, c.len-end.ensures));
-}
+returns c = λ lengths v d at. c.loop.invariant.1 lengths v d (omega (arith, at, c.loop.invariant.0))
