@@ -1,5 +1,6 @@
 -- How answers come out.
-use Rattle.std.proofs.Common.{◌≡◌, ◌≢◌, ◌⊎◌, inl, inr, ℕ, List, Option, refl, sym}
+use Rattle.std.proofs.Common.{◌≡◌, ◌≢◌, ◌⊎◌, inl, inr, ℕ, Bool, List, Option, false, is_some, nat_lt, refl, subst, sym, true}
+use Rattle.std.specs.Prelude.{if◌then◌else◌}
 use Rattle.program.specs.Parts.{Parts}
 use Rattle.recording.specs.Execution.{Execution}
 use Rattle.verdicts.specs.declared.verdict.Verdict.{Verdict}
@@ -15,6 +16,7 @@ use Rattle.answers.specs.Reduced.{IsReducedAnswer}
 use Rattle.answers.specs.Rendered.{IsRenderedAnswer}
 use Rattle.verification.specs.Checked.{IsCheckAnswer}
 use Rattle.tsotest_library.specs.Checked.{IsCheckOf}
+use Rattle.tsotest_library.specs.Given.{IsOutcomeOf}
 use Rattle.tsotest_library.specs.Rendered.{IsRenderedByText, IsRenderedOf}
 
 -- well, as a violation or as a refusal
@@ -96,3 +98,14 @@ check_outcome x text a is = one_of outcome.Done a.outcome (inr refl) (λ holds_n
 pub check_of_outcome : (bytes text : List ℕ) (a : Answer) → IsCheckOf bytes text a → ComesOut outcome.Done a.outcome
 check_of_outcome bytes text a (inl checked) = check_outcome checked.recording text a checked.answered
 check_of_outcome bytes text a (inr refused) = inr (inr refused.outcome)
+
+-- how a survey comes out
+pub survey_outcome : (codes : List ℕ) (o : Outcome) → IsOutcomeOf codes o → ComesOut outcome.Done o
+survey_outcome codes o is = subst (λ (x : Outcome). ComesOut outcome.Done x) (sym is.is)
+    (go (is_some is.ledger.first) (nat_lt 0 is.ledger.unjudged))
+  where
+    go : (violated unread : Bool) → ComesOut outcome.Done
+        (if violated then outcome.Violation else (if unread then outcome.Refused else outcome.Done))
+    go true unread = inr (inl refl)
+    go false true = inr (inr refl)
+    go false false = inl refl

@@ -1,31 +1,38 @@
 -- What the status of a call says.
-use Rattle.std.proofs.Common.{◌≡◌, ◌∙◌, inl, inr, ℕ, List, Result, Ok, Err, IfOk, arith, ap, sym}
+use Rattle.std.proofs.Common.{◌≡◌, ◌≢◌, ◌≤◌, ◌∙◌, inl, inr, ℕ, List, Result, Ok, Err, IfOk, arith, ap, subst, sym}
 use Rattle.std.specs.Prelude.{IfErr}
 use Rattle.common.specs.declared.memory.OutOfMemory.{OutOfMemory}
 use Rattle.verdicts.specs.declared.outcome.Outcome.{Outcome}
 use Rattle.verdicts.specs.declared.outcome.Outcome.TheVariants as outcome
 use Rattle.verdicts.specs.declared.printed.Answer.{Answer}
 use Rattle.verdicts.specs.Outcomes.{status_of}
-use Rattle.tsotest_library.specs.Given.{IsAnswered, IsNothing, IsWrittenWhole}
+use Rattle.surveys.specs.Coded.{AreLineCodes}
+use Rattle.tsotest_library.specs.Given.{AreCodesAnswered, IsAnswered, IsNothing, IsOutcomeOf, IsWrittenWhole}
 use Rattle.tsotest_library.proofs.Outcomes.{ComesOut}
 
 -- 0 is well
-status_0 : (well o : Outcome) → ComesOut well o → status_of o ≡ 0 → o ≡ well
+pub status_0 : (well o : Outcome) → ComesOut well o → status_of o ≡ 0 → o ≡ well
 status_0 well o (inl e) zero = e
 status_0 well o (inr (inl e)) zero = absurd (omega (arith, ap status_of e, zero))
 status_0 well o (inr (inr e)) zero = absurd (omega (arith, ap status_of e, zero))
 
 -- 2 is a violation
-status_2 : (well o : Outcome) → status_of well ≡ 0 → ComesOut well o → status_of o ≡ 2 → o ≡ outcome.Violation
+pub status_2 : (well o : Outcome) → status_of well ≡ 0 → ComesOut well o → status_of o ≡ 2 → o ≡ outcome.Violation
 status_2 well o is (inl e) two = absurd (omega (arith, ap status_of e, is, two))
 status_2 well o is (inr (inl e)) two = e
 status_2 well o is (inr (inr e)) two = absurd (omega (arith, ap status_of e, two))
 
 -- 3 is a refusal
-status_3 : (well o : Outcome) → status_of well ≡ 0 → ComesOut well o → status_of o ≡ 3 → o ≡ outcome.Refused
+pub status_3 : (well o : Outcome) → status_of well ≡ 0 → ComesOut well o → status_of o ≡ 3 → o ≡ outcome.Refused
 status_3 well o is (inl e) three = absurd (omega (arith, ap status_of e, is, three))
 status_3 well o is (inr (inl e)) three = absurd (omega (arith, ap status_of e, three))
 status_3 well o is (inr (inr e)) three = e
+
+-- there is no other
+pub status_most : (well o : Outcome) → status_of well ≡ 0 → ComesOut well o → (status_of o ≤ 3) × (status_of o ≢ 1)
+status_most well o is (inl e) = (omega (arith, ap status_of e, is), λ one. omega (arith, ap status_of e, is, one))
+status_most well o is (inr (inl e)) = (omega (arith, ap status_of e), λ one. omega (arith, ap status_of e, one))
+status_most well o is (inr (inr e)) = (omega (arith, ap status_of e), λ one. omega (arith, ap status_of e, one))
 
 -- an answer is put, or nothing, since there is none
 pub data Put (Is : Answer → Type 0) (status : ℕ) (old new : List ℕ) (n : ℕ) : Type 0 where
@@ -75,3 +82,13 @@ put_3 well zero out (answered a is given written) same = record {
   written = written;
 }
 put_3 well zero out (unanswered fault nothing) same = absurd (omega (arith, fault, same))
+
+-- codes are put, of a survey that comes out so
+pub codes_put : {lines codes old new : List ℕ} {n : ℕ} {o : Outcome} (well : Outcome) → AreLineCodes lines codes
+    → IsOutcomeOf codes o → IsWrittenWhole codes old new n → o ≡ well → AreCodesAnswered lines well old new n
+codes_put {lines} {codes} well are is written same = record {
+  codes = codes;
+  are = are;
+  outcome_is = subst (λ (o : Outcome). IsOutcomeOf codes o) same is;
+  written = written;
+}
