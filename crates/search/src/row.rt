@@ -22,41 +22,32 @@ fn closing_with(closes: bool, label: u16, cap: u16, closing: u16) -> u16
     }
 }
 
-/// The least number of steps from a source to each event, or the cap where none is less, and the
-/// least of these numbers for the events that are forced before the source. It takes no memory but what it
-/// is given, and is quickest where N words hold a set. It is compiled by itself: among the values of its callers, its
-/// loop would have too few registers.
+/// Writes the least number of steps from a source to each event, or the cap where none is less, and returns the
+/// least of these numbers for the events that are forced before the source. It is quickest where N words hold a
+/// set. It is compiled by itself: among the values of its callers, its loop would have too few registers.
 #[inline(never)]
 fn row_in_words<const N: usize>(
     rows: &[BitRow],
     source: EventId,
     cap: u16,
-    labels: Vec<u16>,
+    labels: &mut [u16],
     sets: &mut Sets,
-) -> (Vec<u16>, u16)
+) -> u16
     requires square { IsBitSquare rows.now }
     requires source { source < length rows.now }
-    requires labels { length labels.items ≡ length rows.now }
+    requires labels { length labels.old ≡ length rows.now }
     requires sets { AreSets (length rows.now) sets.old }
-    ensures exact { IsExactRow (Marked rows.now) (length rows.now) cap source result.0.items }
-    ensures nearest { IsNearest (Marked rows.now) source result.0.items cap result.1 }
+    ensures exact { IsExactRow (Marked rows.now) (length rows.now) cap source labels.new }
+    ensures nearest { IsNearest (Marked rows.now) source labels.new cap result }
     ensures sets { AreSets (length rows.now) sets.new }
 {
-    let mut labels = labels;
     labels.fill(cap);
     sets.begin(source);
     let mut closing = cap;
     for label in 0..cap {
         if label + 1 == cap {
-            let closes = label_numbers(
-                rows,
-                &sets.level,
-                label,
-                source as usize,
-                labels.as_mut_slice(),
-            );
-            let closing = closing_with(closes, label, cap, closing);
-            return (labels, closing);
+            let closes = label_numbers(rows, &sets.level, label, source as usize, labels);
+            return closing_with(closes, label, cap, closing);
         }
         let (closes, more) = take_level::<N>(
             rows,
@@ -65,30 +56,30 @@ fn row_in_words<const N: usize>(
             &mut sets.level,
             &mut sets.seen,
             &mut sets.next,
-            labels.as_mut_slice(),
+            labels,
         );
         closing = closing_with(closes, label, cap, closing);
         if !more {
-            return (labels, closing);
+            return closing;
         }
     }
-    (labels, closing)
+    closing
 }
 
-/// The same row and number.
+/// Writes the same row and returns the same number.
 pub(crate) fn row_with(
     rows: &[BitRow],
     source: EventId,
     cap: u16,
-    labels: Vec<u16>,
+    labels: &mut [u16],
     sets: &mut Sets,
-) -> (Vec<u16>, u16)
+) -> u16
     requires square { IsBitSquare rows.now }
     requires source { source < length rows.now }
-    requires labels { length labels.items ≡ length rows.now }
+    requires labels { length labels.old ≡ length rows.now }
     requires sets { AreSets (length rows.now) sets.old }
-    ensures exact { IsExactRow (Marked rows.now) (length rows.now) cap source result.0.items }
-    ensures nearest { IsNearest (Marked rows.now) source result.0.items cap result.1 }
+    ensures exact { IsExactRow (Marked rows.now) (length rows.now) cap source labels.new }
+    ensures nearest { IsNearest (Marked rows.now) source labels.new cap result }
     ensures sets { AreSets (length rows.now) sets.new }
 {
     match rows.len().div_ceil(64) {

@@ -33,22 +33,22 @@ fn is_shorter(closing: u16, cap: Option<u16>, events: u16) -> bool
     }
 }
 
-/// The row of a source, cut at the cap or else at the number of events, and the least label that
+/// Writes the row of a source, cut at the cap or else at the number of events, and returns the least label that
 /// closes a cycle through it.
 fn row_cut(
     relation: &Relation,
     source: EventId,
     cap: Option<u16>,
-    labels: Vec<u16>,
+    labels: &mut [u16],
     sets: &mut Sets,
-) -> (Vec<u16>, u16)
+) -> u16
     requires source { source < length relation.now }
-    requires labels { length labels.items ≡ length relation.now }
+    requires labels { length labels.old ≡ length relation.now }
     requires sets { AreSets (length relation.now) sets.old }
     ensures exact { IsExactRow (Related relation.now) (length relation.now)
-        (unwrap_or cap (length relation.now)) source result.0.items }
-    ensures nearest { IsNearest (Related relation.now) source result.0.items
-        (unwrap_or cap (length relation.now)) result.1 }
+        (unwrap_or cap (length relation.now)) source labels.new }
+    ensures nearest { IsNearest (Related relation.now) source labels.new
+        (unwrap_or cap (length relation.now)) result }
     ensures sets { AreSets (length relation.now) sets.new }
 {
     relation.sound();
@@ -97,11 +97,11 @@ pub(crate) fn row_by_sets(
     table.sound();
     let events = table.len();
     let shared = Arc::try_clone(relation)?;
-    let labels = vec![in alloc; 0; events]?;
+    let mut labels = vec![in alloc; 0; events]?;
     let cap = best.read(seat);
-    let (numbers, closing) = row_cut(table, source, cap, labels, sets);
+    let closing = row_cut(table, source, cap, labels.as_mut_slice(), sets);
     publish_length(best, seat, cap, closing, events as u16);
-    Ok(LabelRow::of(shared, source, cap, numbers))
+    Ok(LabelRow::of(shared, source, cap, labels))
 }
 
 /// The row of a job, cut at the length of a cycle, at most each length that the seat knows, or, only where

@@ -7,6 +7,6 @@ use Rattle.search.proofs.row.row_in_words.Given as goal
 abbrev pub invariant-loop-label : goal.invariant-loop-label
 invariant-loop-label g l = record {
   sets : AreSets (length l.rows) l.sets;
-  reached : IsReached (Marked l.rows) (length l.rows) l.cap l.source l.label l.labels.items l.sets.seen l.sets.level;
-  closed : IsClosed (Marked l.rows) l.cap l.source l.label l.labels.items l.closing;
+  reached : IsReached (Marked l.rows) (length l.rows) l.cap l.source l.label l.labels l.sets.seen l.sets.level;
+  closed : IsClosed (Marked l.rows) l.cap l.source l.label l.labels l.closing;
 }

@@ -1,4 +1,4 @@
-use Rattle.std.proofs.Common.{◌≡◌, ◌<◌, ◌+◌, ◌∙◌, ℕ, Option, length, sym, ap, subst}
+use Rattle.std.proofs.Common.{◌≡◌, ◌<◌, ◌+◌, ◌∙◌, ℕ, Option, List, length, arith, sym, ap, subst}
 use Rattle.std.specs.Arc.{arc_value}
 use Rattle.std.specs.Option.{unwrap_or}
 use Rattle.relations.specs.Relation.{Table, Related}
@@ -9,18 +9,19 @@ use Rattle.search.specs.Memory.{AreSets}
 use Rattle.search.specs.SourceRow.{SourceRow}
 use Rattle.search.specs.Bound.{AtMost, Covers, CoversClosing, lengths_of}
 use Rattle.search.proofs.Known.{read_cycle, read_keeps, read_known, read_few, read_within}
+use Rattle.search.proofs.Levels.{written_back}
 use Rattle.search.proofs.Through.{covers_each, shown_length}
 use Rattle.search.proofs.under.row_by_sets.Goals as goal
 
 pub read-cap-requires : goal.read-cap-requires
 read-cap-requires c = record { seat = c.requires.seat.0 }
 
-pub row_cut-numbers-requires-clause-source : goal.row_cut-numbers-requires-clause-source
-row_cut-numbers-requires-clause-source c = subst (λ (t : Table). c.args.source < length t)
+pub row_cut-closing-requires-clause-source : goal.row_cut-closing-requires-clause-source
+row_cut-closing-requires-clause-source c = subst (λ (t : Table). c.args.source < length t)
     (sym c.deref-table.ensures) c.requires.source
 
-pub row_cut-numbers-requires-clause-sets : goal.row_cut-numbers-requires-clause-sets
-row_cut-numbers-requires-clause-sets c = subst (λ (t : Table). AreSets (length t) c.args.sets.now)
+pub row_cut-closing-requires-clause-sets : goal.row_cut-closing-requires-clause-sets
+row_cut-closing-requires-clause-sets c = subst (λ (t : Table). AreSets (length t) c.args.sets.now)
     (sym c.deref-table.ensures) c.requires.sets
 
 pub publish_length-requires-clause-seat : goal.publish_length-requires-clause-seat
@@ -35,11 +36,11 @@ pub publish_length-requires-clause-cycle : goal.publish_length-requires-clause-c
 publish_length-requires-clause-cycle c =
     let t = c.deref-table.result.now in
     let of : (known_of c.args.seat.now).relation ≡ t = c.requires.seat.1 ∙ sym c.deref-table.ensures in
-    let closing = c.row_cut-numbers.result.1 in
+    let closing = c.row_cut-closing.result in
     λ less. subst (λ (x : Table). IsLength x (closing + 1)) (sym (c.read-cap.ensures.relation ∙ of))
     (shown_length t (unwrap_or c.read-cap.result (length t)) c.args.source closing
-    c.row_cut-numbers.result.0.items c.sound.ensures.within c.row_cut-numbers.ensures.exact
-    c.row_cut-numbers.ensures.nearest
+    c.row_cut-closing.new.labels c.sound.ensures.within c.row_cut-closing.ensures.exact
+    c.row_cut-closing.ensures.nearest
     (read_few t (known_of c.args.seat.now) (known_of c.read-cap.new.seat) c.read-cap.result of
     c.read-cap.ensures.reads)
     (subst (λ (n : ℕ). closing < unwrap_or c.read-cap.result n) c.len-events.ensures less))
@@ -56,8 +57,8 @@ returns-clause-kept c = λ k h. c.publish_length.ensures.kept k
     c.read-cap.ensures.reads k h)
 
 pub returns-clause-sets : goal.returns-clause-sets
-returns-clause-sets c = subst (λ (t : Table). AreSets (length t) c.row_cut-numbers.new.sets) c.deref-table.ensures
-    c.row_cut-numbers.ensures.sets
+returns-clause-sets c = subst (λ (t : Table). AreSets (length t) c.row_cut-closing.new.sets) c.deref-table.ensures
+    c.row_cut-closing.ensures.sets
 
 pub returns-clause-relation : goal.returns-clause-relation
 returns-clause-relation c = ap (λ (l : SourceRow). l.relation) c.of.ensures ∙ c.in_ok-shared.ensures
@@ -74,20 +75,23 @@ returns-clause-covers c =
     let lengths = lengths_of c.publish_length.new.seat in
     subst (λ (x : Table). Covers (Related x) lengths c.args.source) c.deref-table.ensures
     (covers_each (Related t) (length t) (unwrap_or c.read-cap.result (length t)) c.args.source
-    c.row_cut-numbers.result.1 c.row_cut-numbers.result.0.items c.sound.ensures.within
-    c.row_cut-numbers.ensures.exact c.row_cut-numbers.ensures.nearest lengths
-    (subst (λ (n : ℕ). CoversClosing lengths n c.row_cut-numbers.result.1) c.len-events.ensures
+    c.row_cut-closing.result c.row_cut-closing.new.labels c.sound.ensures.within
+    c.row_cut-closing.ensures.exact c.row_cut-closing.ensures.nearest lengths
+    (subst (λ (n : ℕ). CoversClosing lengths n c.row_cut-closing.result) c.len-events.ensures
     c.publish_length.ensures.covers))
 
 pub of-requires : goal.of-requires
 of-requires c =
     let shared = arc_value c.in_ok-shared.shared in
     let shared_is : shared ≡ arc_value c.args.relation.now = c.in_ok-shared.ensures in
+    let row = c.row_cut-closing.new.labels in
+    let written = written_back c.in_ok-labels.labels.len row c.in_ok-labels.labels.items (omega arith) in
     record {
       within = subst (λ (t : Table). c.args.source < length t) (sym shared_is) c.requires.source;
       cycle = read_cycle shared (known_of c.args.seat.now) (known_of c.read-cap.new.seat) c.read-cap.result
           (c.requires.seat.1 ∙ sym shared_is) c.read-cap.ensures.reads;
-      exact = subst (λ (t : Table). IsExactRow (Related t) (length t) (unwrap_or c.read-cap.result (length t))
-          c.args.source c.row_cut-numbers.result.0.items) (c.deref-table.ensures ∙ sym shared_is)
-          c.row_cut-numbers.ensures.exact;
+      exact = subst (λ (ns : List ℕ). IsExactRow (Related shared) (length shared)
+          (unwrap_or c.read-cap.result (length shared)) c.args.source ns) (sym written)
+          (subst (λ (t : Table). IsExactRow (Related t) (length t) (unwrap_or c.read-cap.result (length t))
+          c.args.source row) (c.deref-table.ensures ∙ sym shared_is) c.row_cut-closing.ensures.exact);
     }
