@@ -67,6 +67,9 @@ impl LabelRow {
         requires { IsLeastLength (Related self.old.relation) cap }
         ensures { IsNamed self.old.relation cap self.old.source self.new }
     {
+        if self.cap == cap {
+            return;
+        }
         self.relation.sound();
         cut_at(self.numbers.as_mut_slice(), cap);
         self.cap = cap;
