@@ -109,8 +109,8 @@ fn claims_from<R: Threads + Sync, G: Gate>(
     Ok(claims_of_workers)
 }
 
-/// What this many workers, at most `MAX_WORKERS`, find in the lines that they claim, the first of which has this number.
-/// Fails only if out of memory.
+/// What this many workers, at most `MAX_WORKERS`, find in the lines that they claim, the first of which has this
+/// number. Fails only if out of memory.
 pub(crate) fn claims_by<R: Threads + Sync, G: Gate>(
     rt: &R,
     alloc: Global,

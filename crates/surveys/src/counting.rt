@@ -88,9 +88,9 @@ fn all_findings(
     Ok(findings)
 }
 
-/// What is found in lines, in order, by this many workers, at most `MAX_WORKERS`. Each claims a line at a time, and what
-/// they leave out the calling thread judges, which is a worker too. The gate is told of each claim, each violation and
-/// each end, by the number of the line, where the first has this one. Fails only if out of memory.
+/// What is found in lines, in order, by this many workers, at most `MAX_WORKERS`. Each claims a line at a time, and
+/// what they leave out the calling thread judges, which is a worker too. The gate is told of each claim, each violation
+/// and each end, by the number of the line, where the first has this one. Fails only if out of memory.
 fn findings_of<R: Threads + Sync, G: Gate>(
     rt: &R,
     alloc: Global,
