@@ -54,7 +54,8 @@ pub slot_set : (t : Table) (lengths : List ℕ) (slots : List (Option SourceRow)
     → AreSlots t lengths slots → IfSome slot (IsRowFrom t lengths i) → AreSlots t lengths (set slots i slot)
 slot_set t lengths slots i slot h new v d at = elim (cases_eq v i) [
   | inl is ↦ subst (λ (o : Option SourceRow). IfSome o (IsRowFrom t lengths v))
-      (sym (ap (λ (x : ℕ). get_or (set slots i slot) x d) is ∙ get_or-set_same slots i slot d (omega (arith, is, inside))))
+      (sym (ap (λ (x : ℕ). get_or (set slots i slot) x d) is
+      ∙ get_or-set_same slots i slot d (omega (arith, is, inside))))
       (subst (λ (x : ℕ). IfSome slot (IsRowFrom t lengths x)) (sym is) new)
   | inr other ↦ subst (λ (o : Option SourceRow). IfSome o (IsRowFrom t lengths v))
       (sym (get_or-set_other slots i v slot d other)) (h v d inside)
