@@ -5,7 +5,7 @@ ghost use Rattle.common.specs.declared.limits.TheConstants.{MAX_WORKERS};
 
 use common::{MAX_ADDRESSES, MAX_CORES, MAX_EVENTS, OpenGate};
 use report::{MemorySink, MemorySource, Outcome, answer};
-use std::alloc::Global;
+use std::alloc::{AllocError, Global};
 use std::fmt::Write;
 use std::sync::Wait;
 use std::test::Fail;
@@ -16,8 +16,8 @@ const WHOLE: &str =
     "{\"cores\":[[{\"a\":0,\"k\":\"S\",\"w\":1},{\"a\":1,\"k\":\"L\",\"r\":0,\"s\":null}],\
     [{\"a\":1,\"k\":\"S\",\"w\":1},{\"a\":0,\"k\":\"L\",\"r\":0,\"s\":null}]],\"version\":1,\"writes\":[[0],[2]]}";
 
-/// How a text of this many items begins and ends, an item, and the most items.
-const LIMITED: [(&str, &str, &str, usize); 3] = [
+/// How a text of this many items begins, an item, how it ends, and the most items.
+const LIMITED: &[(&str, &str, &str, usize)] = &[
     (
         r#"{"version":1,"cores":["#,
         "[]",
@@ -57,16 +57,15 @@ fn is_refused<R: Threads + Wait + Sync>(rt: &R, alloc: Global, text: &[u8], want
     is_answered(rt, alloc, text, Outcome::Refused, wanted)
 }
 
-/// A text this many times, with a text between each two.
-fn times(alloc: Global, item: &str, between: &str, count: usize) -> Option<String> {
-    let mut text = String::new(alloc);
+/// Adds a text this many times, with a text between each two.
+fn put_times(text: &mut String, item: &str, between: &str, count: usize) -> Result<(), AllocError> {
     for i in 0..count {
         if i > 0 {
-            text.push_str(between).ok()?;
+            text.push_str(between)?;
         }
-        text.push_str(item).ok()?;
+        text.push_str(item)?;
     }
-    Some(text)
+    Ok(())
 }
 
 /// Whether each text that ends before the recording does is refused.
@@ -80,20 +79,18 @@ fn is_refused_before_its_end<R: Threads + Wait + Sync>(rt: &R, alloc: Global) ->
     true
 }
 
-/// Arrays so deep.
-fn nested(alloc: Global, depth: usize) -> Option<String> {
-    let mut text = times(alloc, "[", "", depth)?;
-    text.push_str(times(alloc, "]", "", depth)?.as_str()).ok()?;
-    Some(text)
+/// Adds arrays so deep.
+fn put_nested(text: &mut String, depth: usize) -> Result<(), AllocError> {
+    put_times(text, "[", "", depth)?;
+    put_times(text, "]", "", depth)
 }
 
 /// Whether 200 arrays in one another are refused as no JSON or as another form.
 fn is_refused_nested<R: Threads + Wait + Sync>(rt: &R, alloc: Global) -> bool {
-    let Some(text) = nested(alloc, 200) else {
-        return false;
-    };
-    is_refused(rt, alloc, text.as_bytes(), b"refused: N1\n")
-        || is_refused(rt, alloc, text.as_bytes(), b"refused: N2\n")
+    let mut text = String::new(alloc);
+    put_nested(&mut text, 200).is_ok()
+        && (is_refused(rt, alloc, text.as_bytes(), b"refused: N1\n")
+            || is_refused(rt, alloc, text.as_bytes(), b"refused: N2\n"))
 }
 
 #[test]
@@ -103,25 +100,32 @@ fn a_recording_that_ends_early_is_refused(rt: HostRuntime) -> Result<(), Fail> {
     Ok(())
 }
 
-/// The recording among a million blanks on either side, and the blanks alone.
-fn among_blanks(alloc: Global) -> Option<(String, String)> {
-    let blanks = times(alloc, " \t\r\n", "", 250_000)?;
-    let mut among = String::from_str(alloc, blanks.as_str()).ok()?;
-    among.push_str(WHOLE).ok()?;
-    among.push_str(blanks.as_str()).ok()?;
-    Some((blanks, among))
+/// Adds a million blanks.
+fn put_blanks(text: &mut String) -> Result<(), AllocError> {
+    put_times(text, " \t\r\n", "", 250_000)
 }
 
-/// Whether the recording among blanks is judged, and blanks alone are refused.
+/// Adds the recording, with a million blanks on either side.
+fn put_among_blanks(text: &mut String) -> Result<(), AllocError> {
+    put_blanks(text)?;
+    text.push_str(WHOLE)?;
+    put_blanks(text)
+}
+
+/// Whether blanks alone are refused.
+fn is_refused_blank<R: Threads + Wait + Sync>(rt: &R, alloc: Global) -> bool {
+    let mut text = String::new(alloc);
+    put_blanks(&mut text).is_ok() && is_refused(rt, alloc, text.as_bytes(), b"refused: N1\n")
+}
+
+/// Whether the recording among blanks is judged.
 fn is_judged_among_blanks<R: Threads + Wait + Sync>(rt: &R, alloc: Global) -> bool {
-    let Some((blanks, among)) = among_blanks(alloc) else {
-        return false;
-    };
-    is_refused(rt, alloc, blanks.as_bytes(), b"refused: N1\n")
+    let mut text = String::new(alloc);
+    put_among_blanks(&mut text).is_ok()
         && is_answered(
             rt,
             alloc,
-            among.as_bytes(),
+            text.as_bytes(),
             Outcome::Ordered,
             b"ordered: 1 2 3 0\n",
         )
@@ -129,17 +133,20 @@ fn is_judged_among_blanks<R: Threads + Wait + Sync>(rt: &R, alloc: Global) -> bo
 
 #[test]
 fn a_recording_among_a_million_blanks_is_judged(rt: HostRuntime) -> Result<(), Fail> {
+    assert!(rt; is_refused_blank(&rt, rt.alloc()));
     assert!(rt; is_judged_among_blanks(&rt, rt.alloc()));
     Ok(())
 }
 
-/// A text with this many items between its head and its tail.
-fn with_items(alloc: Global, head: &str, item: &str, tail: &str, count: usize) -> Option<String> {
-    let mut text = String::from_str(alloc, head).ok()?;
-    text.push_str(times(alloc, item, ",", count)?.as_str())
-        .ok()?;
-    text.push_str(tail).ok()?;
-    Some(text)
+/// Adds this many items between their head and their tail.
+fn put_items(
+    text: &mut String,
+    (head, item, tail): (&str, &str, &str),
+    count: usize,
+) -> Result<(), AllocError> {
+    text.push_str(head)?;
+    put_times(text, item, ",", count)?;
+    text.push_str(tail)
 }
 
 /// Whether TSO allows the recording of a text.
@@ -153,22 +160,25 @@ fn is_ordered<R: Threads + Wait + Sync>(rt: &R, alloc: Global, text: &[u8]) -> b
 fn is_so_with<R: Threads + Wait + Sync>(
     rt: &R,
     alloc: Global,
-    (head, item, tail): (&str, &str, &str),
+    parts: (&str, &str, &str),
     count: usize,
     is_judged: bool,
 ) -> bool {
-    match with_items(alloc, head, item, tail, count) {
-        Some(text) if is_judged => is_ordered(rt, alloc, text.as_bytes()),
-        Some(text) => is_refused(rt, alloc, text.as_bytes(), b"refused: N4\n"),
-        None => false,
+    let mut text = String::new(alloc);
+    let is_made = put_items(&mut text, parts, count).is_ok();
+    if is_judged {
+        is_made && is_ordered(rt, alloc, text.as_bytes())
+    } else {
+        is_made && is_refused(rt, alloc, text.as_bytes(), b"refused: N4\n")
     }
 }
 
 /// Whether the most items of each kind are judged, and one more is refused.
 fn are_limited<R: Threads + Wait + Sync>(rt: &R, alloc: Global) -> bool {
     for (head, item, tail, most) in LIMITED {
-        let is_limited = is_so_with(rt, alloc, (head, item, tail), most, true)
-            && is_so_with(rt, alloc, (head, item, tail), most.wrapping_add(1), false);
+        let parts = (*head, *item, *tail);
+        let is_limited = is_so_with(rt, alloc, parts, *most, true)
+            && is_so_with(rt, alloc, parts, most.wrapping_add(1), false);
         if !is_limited {
             return false;
         }
@@ -182,38 +192,51 @@ fn a_recording_has_at_most_its_limits(rt: HostRuntime) -> Result<(), Fail> {
     Ok(())
 }
 
-/// The numbers of this many events, from the last to the first.
-fn reversed(alloc: Global, events: usize) -> Option<String> {
-    let mut text = String::new(alloc);
+/// Adds the numbers of this many events, from the last to the first; false out of memory.
+fn puts_reversed(text: &mut String, events: usize) -> bool {
     for number in 0..events {
         let comma = if number == 0 { "" } else { "," };
-        write!(text, "{comma}{}", events - 1 - number).ok()?;
-    }
-    Some(text)
-}
-
-/// One core with this many stores to one address, whose write list is their reverse.
-pub fn reversed_write_list(alloc: Global, events: usize) -> Option<String> {
-    let mut text = String::from_str(alloc, r#"{"version":1,"cores":[["#).ok()?;
-    text.push_str(times(alloc, r#"{"k":"S","a":0,"w":1}"#, ",", events)?.as_str())
-        .ok()?;
-    text.push_str(r#"]],"writes":[["#).ok()?;
-    text.push_str(reversed(alloc, events)?.as_str()).ok()?;
-    text.push_str("]]}").ok()?;
-    Some(text)
-}
-
-/// The verdict on it: the first two stores, and each label 1 but that of the row's own event.
-fn reversed_verdict(alloc: Global, events: usize) -> Option<String> {
-    let mut text = String::from_str(alloc, "cycle of 2\n0 -> 1 Po\n1 -> 0 Wo\n").ok()?;
-    for row in 0..events {
-        write!(text, "labels {row}:").ok()?;
-        for number in 0..events {
-            text.push_str(if number == row { " 0" } else { " 1" }).ok()?;
+        if write!(text, "{comma}{}", events - 1 - number).is_err() {
+            return false;
         }
-        text.push('\n').ok()?;
     }
-    Some(text)
+    true
+}
+
+/// Adds one core with this many stores to one address, whose write list is their reverse; false out of memory.
+pub fn puts_reversed_write_list(text: &mut String, events: usize) -> bool {
+    text.push_str(r#"{"version":1,"cores":[["#).is_ok()
+        && put_times(text, r#"{"k":"S","a":0,"w":1}"#, ",", events).is_ok()
+        && text.push_str(r#"]],"writes":[["#).is_ok()
+        && puts_reversed(text, events)
+        && text.push_str("]]}").is_ok()
+}
+
+/// Adds a row of labels, each 1 but that of the row's own event; false out of memory.
+fn puts_labels(text: &mut String, row: usize, events: usize) -> bool {
+    if write!(text, "labels {row}:").is_err() {
+        return false;
+    }
+    for number in 0..events {
+        let label = if number == row { " 0" } else { " 1" };
+        if text.push_str(label).is_err() {
+            return false;
+        }
+    }
+    text.push('\n').is_ok()
+}
+
+/// Adds the verdict on it: the first two stores, and the labels; false out of memory.
+fn puts_reversed_verdict(text: &mut String, events: usize) -> bool {
+    if text.push_str("cycle of 2\n0 -> 1 Po\n1 -> 0 Wo\n").is_err() {
+        return false;
+    }
+    for row in 0..events {
+        if !puts_labels(text, row, events) {
+            return false;
+        }
+    }
+    true
 }
 
 /// Whether this many stores in reverse have this verdict by this many workers.
@@ -225,16 +248,14 @@ fn is_cycle_of_two<R: Threads + Wait + Sync>(
 ) -> bool
     requires { (1 ≤ workers) × (workers ≤ MAX_WORKERS) }
 {
-    let (Some(text), Some(verdict)) = (
-        reversed_write_list(alloc, events),
-        reversed_verdict(alloc, events),
-    ) else {
-        return false;
-    };
+    let mut text = String::new(alloc);
+    let mut verdict = String::new(alloc);
+    let is_made = puts_reversed_write_list(&mut text, events)
+        && puts_reversed_verdict(&mut verdict, events);
     let mut source = MemorySource::new(text.as_bytes());
     let mut sink = MemorySink::new(alloc);
     let answered = answer(rt, alloc, &mut source, &mut sink, workers, &OpenGate);
-    answered == Ok(Outcome::Violation) && sink.written() == verdict.as_bytes()
+    is_made && answered == Ok(Outcome::Violation) && sink.written() == verdict.as_bytes()
 }
 
 #[test]

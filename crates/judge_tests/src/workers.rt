@@ -6,7 +6,7 @@ ghost use Rattle.best.specs.Seats.{IsBestSeatOf, known_of};
 ghost use Rattle.search.specs.SourceRow.{AreShared};
 
 use crate::bound::begun;
-use crate::limits::reversed_write_list;
+use crate::limits::puts_reversed_write_list;
 use crate::recordings::{THREE_AND_FOUR, recorded, related};
 use best::{Best, BestSeat};
 use common::{EventId, Gate, MAX_EVENTS, OpenGate};
@@ -352,10 +352,9 @@ fn is_made_once<R: Threads + Wait + Sync>(
 ) -> bool
     requires { (1 ≤ workers) × (workers ≤ MAX_WORKERS) }
 {
-    let Some(text) = reversed_write_list(alloc, events) else {
-        return false;
-    };
-    find_in_reverse(rt, alloc, text.as_bytes(), events, workers, at_work)
+    let mut text = String::new(alloc);
+    puts_reversed_write_list(&mut text, events)
+        && find_in_reverse(rt, alloc, text.as_bytes(), events, workers, at_work)
         && is_judged_in_reverse(rt, alloc, text.as_bytes(), events, workers, at_work)
         && is_answered_in_reverse(rt, alloc, text.as_bytes(), events, workers, at_work)
 }

@@ -1,5 +1,6 @@
 -- How answers come out.
-use Rattle.std.proofs.Common.{◌≡◌, ◌≢◌, ◌⊎◌, inl, inr, ℕ, Bool, List, Option, false, is_some, nat_lt, refl, subst, sym, true}
+use Rattle.std.proofs.Common.{◌≡◌, ◌≢◌, ◌⊎◌, inl, inr, ℕ, Bool, List, Option, false, is_some, nat_lt, refl, subst}
+use Rattle.std.proofs.Common.{sym, true}
 use Rattle.std.specs.Prelude.{if◌then◌else◌}
 use Rattle.program.specs.Parts.{Parts}
 use Rattle.recording.specs.Execution.{Execution}
