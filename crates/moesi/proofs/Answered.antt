@@ -1,5 +1,6 @@
 -- What a call is on the state that the words stand for.
-use Rattle.std.proofs.Common.{◌≡◌, ◌<◌, ◌+◌, ◌*◌, ℕ, Result, Ok, Err, Vec, Global, List, [], ◌∷◌, length, map, replicate}
+use Rattle.std.proofs.Common.{◌≡◌, ◌<◌, ◌+◌, ◌*◌, ℕ, Result, Ok, Err, Vec, Global, List, [], ◌∷◌}
+use Rattle.std.proofs.Common.{length, map, replicate}
 use Rattle.std.proofs.Common.{slice_index, suc, zero, arith, refl, sym, ap, subst, ◌∙◌, OnOk, OnErr, IfErr}
 use Rattle.std.specs.List.{range_with_len}
 use Rattle.std.specs.Vec.{with_items}
@@ -10,7 +11,7 @@ use Rattle.moesi.specs.declared.error.CacheError.{CacheError}
 use Rattle.moesi.specs.Block.{Block, cell_of, invalid, opening_block}
 use Rattle.moesi.specs.State.{CacheState, block_of, memory_of, at_address, opening_caches}
 use Rattle.moesi.specs.Words.{cell_in}
-use Rattle.moesi.specs.Packed.{block_in, caches_in, IsRow}
+use Rattle.moesi.specs.Packed.{block_in, caches_in, IsRowOnWords}
 use Rattle.moesi.proofs.Grid.{block_at, blocks_length}
 use Rattle.moesi.proofs.Turning.{TurnsInto, caches_written, map_equal}
 use Rattle.moesi.proofs.Replaced.{seen}
@@ -67,7 +68,7 @@ answer_keeps step a s t (Err e) P h before leads = subst P (sym h.unchanged) bef
 
 -- a row on the words of the caches
 row_answered : {A : Type 0} (cores n a : ℕ) (old new : List ℕ) (step : Block → Result Block CacheError)
-    (result : Result A CacheError) → a < n → IsRow step cores n a old new result
+    (result : Result A CacheError) → a < n → IsRowOnWords step cores n a old new result
     → IsAnswer step a (caches_in cores n old) (caches_in cores n new) result
 row_answered cores n a old new step (Ok x) at row = record {
   ok = taken_state cores n a old step at new (block_in cores n new a)
@@ -85,10 +86,11 @@ row_answered cores n a old new step (Err e) at row = record {
 pub answered : {A : Type 0} (cores n a : ℕ) (words : Vec ℕ Global) (slice new : List ℕ)
     (step : Block → Result Block CacheError) (result : Result A CacheError) (s : CacheState)
     → caches_in cores n words.items ≡ s → a < length s.blocks → slice ≡ words.items → length new ≡ words.len
-    → IsRow step cores n a slice new result
+    → IsRowOnWords step cores n a slice new result
     → IsAnswer step a s (caches_in cores n (with_items words new).items) result
 answered cores n a words slice new step result s seen address lent size row =
-    let at : a < n = column cores n words.items a (subst (λ (t : CacheState). a < length t.blocks) (sym seen) address) in
+    let there = subst (λ (t : CacheState). a < length t.blocks) (sym seen) address in
+    let at : a < n = column cores n words.items a there in
     let after : List ℕ = (with_items words new).items in
     subst (λ (t : CacheState). IsAnswer step a t (caches_in cores n after) result) seen
     (subst (λ (ws : List ℕ). IsAnswer step a (caches_in cores n ws) (caches_in cores n after) result) lent

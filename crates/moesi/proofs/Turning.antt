@@ -1,6 +1,7 @@
 -- A write of a word is a write of its line, or of memory, at one address.
 use Rattle.std.proofs.Common.{◌≡◌, ◌≢◌, ◌<◌, ◌≤◌, ◌∷◌, ◌++◌, ◌+◌, ◌*◌, inl, inr, ℕ, Option, None, List, []}
-use Rattle.std.proofs.Common.{Result, Ok, Err, length, map, slice_index, slice_index_or, slice_set, arith, refl, sym, ap, ◌∙◌}
+use Rattle.std.proofs.Common.{Result, Ok, Err, length, map, slice_index, slice_index_or, slice_set, arith, refl}
+use Rattle.std.proofs.Common.{sym, ap, ◌∙◌}
 use Rattle.std.proofs.Common.{get_or-set_other, get_or-set_same, length-set, take, drop}
 use Rattle.std.specs.List.{range_with_len}
 use Rattle.std.proofs.lemmas.Bool.{cases_eq}
@@ -12,7 +13,7 @@ use Rattle.moesi.specs.declared.cell.Cell.{Cell}
 use Rattle.moesi.specs.declared.error.CacheError.{CacheError}
 use Rattle.moesi.specs.Block.{Block, invalid}
 use Rattle.moesi.specs.Words.{cell_in}
-use Rattle.moesi.specs.Packed.{AreWords, block_in, block_by, caches_in, StaysElsewhere, IsRow}
+use Rattle.moesi.specs.Packed.{AreWords, block_in, block_by, caches_in, StaysElsewhere, IsRowOnWords}
 use Rattle.moesi.proofs.Grid.{same_core, same_address, inside, lines_length, blocks_length, line_at}
 
 -- equal functions make equal lists
@@ -152,14 +153,16 @@ pub record TurnsInto (cores n a : ℕ) (old new : List ℕ) (b : Block) : Type 0
   pub turned : block_in cores n new a ≡ b
   pub elsewhere : StaysElsewhere cores n a old new
 
--- a row that is refused, and one that is taken
+-- a row that is refused
 pub row_refused : {A : Type 0} (row : Block → Result Block CacheError) (cores n a : ℕ) (words : List ℕ) (e : CacheError)
-    → row (block_in cores n words a) ≡ Err e → IsRow {A = A} row cores n a words words (Err e)
+    → row (block_in cores n words a) ≡ Err e → IsRowOnWords {A = A} row cores n a words words (Err e)
 row_refused row cores n a words e h =
     record { ok = tt; refused = h; unchanged = refl; elsewhere = none_elsewhere cores n a words }
 
-pub row_taken : {A : Type 0} (row : Block → Result Block CacheError) (cores n a : ℕ) (old new : List ℕ) (b : Block) (x : A)
-    → TurnsInto cores n a old new b → row (block_in cores n old a) ≡ Ok b → IsRow row cores n a old new (Ok x)
+-- a row that is taken
+pub row_taken : {A : Type 0} (row : Block → Result Block CacheError) (cores n a : ℕ) (old new : List ℕ) (b : Block)
+    (x : A) → TurnsInto cores n a old new b → row (block_in cores n old a) ≡ Ok b
+    → IsRowOnWords row cores n a old new (Ok x)
 row_taken row cores n a old new b x turns h =
     record { ok = h ∙ ap Ok (sym turns.turned); refused = tt; unchanged = tt; elsewhere = turns.elsewhere }
 

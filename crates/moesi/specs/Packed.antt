@@ -38,7 +38,7 @@ pub record StaysElsewhere (cores addresses a : ℕ) (old new : List ℕ) : Type 
       → block_in cores addresses new b ≡ block_in cores addresses old b
 
 -- a row of the table makes of one address what it says, or is refused and changes nothing
-pub record IsRow {A : Type 0} (row : Block → Result Block CacheError) (cores addresses a : ℕ) (old new : List ℕ)
+pub record IsRowOnWords {A : Type 0} (row : Block → Result Block CacheError) (cores addresses a : ℕ) (old new : List ℕ)
     (result : Result A CacheError) : Type 0 where
   pub ok : OnOk result (row (block_in cores addresses old a) ≡ Ok (block_in cores addresses new a))
   pub refused : IfErr result (λ e. row (block_in cores addresses old a) ≡ Err e)

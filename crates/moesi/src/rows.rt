@@ -2,7 +2,7 @@
 
 ghost use Rattle.std.specs.Prelude.{◌<◌};
 ghost use Rattle.moesi.specs.Rows.{get_s, get_m, get_m_stale, put};
-ghost use Rattle.moesi.specs.Packed.{AreWords, IsRow};
+ghost use Rattle.moesi.specs.Packed.{AreWords, IsRowOnWords};
 
 use crate::error::CacheError;
 use crate::line::Line;
@@ -20,7 +20,7 @@ pub(crate) fn get_s(
     requires words { AreWords cores addresses words.old }
     requires core { core < cores }
     requires address { addr < addresses }
-    ensures { IsRow (λ b. get_s b core) cores addresses addr words.old words.new result }
+    ensures { IsRowOnWords (λ b. get_s b core) cores addresses addr words.old words.new result }
 {
     let at = place(core, addresses, addr);
     if unpack(words[at]).line.is_valid() {
@@ -43,7 +43,7 @@ pub(crate) fn get_m(
     requires words { AreWords cores addresses words.old }
     requires core { core < cores }
     requires address { addr < addresses }
-    ensures { IsRow (λ b. get_m b core) cores addresses addr words.old words.new result }
+    ensures { IsRowOnWords (λ b. get_m b core) cores addresses addr words.old words.new result }
 {
     let at = place(core, addresses, addr);
     if unpack(words[at]).line.is_exclusive() {
@@ -66,7 +66,7 @@ pub(crate) fn get_m_stale(
     requires words { AreWords cores addresses words.old }
     requires core { core < cores }
     requires address { addr < addresses }
-    ensures { IsRow (λ b. get_m_stale b core) cores addresses addr words.old words.new result }
+    ensures { IsRowOnWords (λ b. get_m_stale b core) cores addresses addr words.old words.new result }
 {
     let at = place(core, addresses, addr);
     if unpack(words[at]).line.is_exclusive() {
@@ -89,7 +89,7 @@ pub(crate) fn put(
     requires words { AreWords cores addresses words.old }
     requires core { core < cores }
     requires address { addr < addresses }
-    ensures { IsRow (λ b. put b core) cores addresses addr words.old words.new result }
+    ensures { IsRowOnWords (λ b. put b core) cores addresses addr words.old words.new result }
 {
     let at = place(core, addresses, addr);
     let word = words[at];
