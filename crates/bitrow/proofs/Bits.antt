@@ -1,6 +1,6 @@
 -- Bits of words: test, set, or, and-not, and the first.
 use Rattle.std.proofs.Common.{◌≡◌, ◌<◌, ◌≤◌, ◌+◌, ◌-◌, ◌*◌, ◌/◌, ◌%◌, ◌^◌, inl, inr, ℕ, zero, suc, Bool, true}
-use Rattle.std.proofs.Common.{false, Option, Some, None, ◌||◌, ◌&&◌, not, List, length, get_or, set, min, max}
+use Rattle.std.proofs.Common.{false, Some, None, ◌||◌, ◌&&◌, not, List, length, get_or, set, min, max}
 use Rattle.std.proofs.Common.{arith, refl, sym, ap, ◌∙◌, get_or-set_other, get_or-set_same}
 use Rattle.std.proofs.lemmas.Bool.{cases_eq, cases_lt, eq-eqb, ne_eqb}
 use Rattle.std.specs.Int.{bit_at, bit_not, trailing_zeros}
@@ -9,9 +9,7 @@ use Rattle.std.proofs.lemmas.List.{get_or_past}
 use Rattle.std.specs.Prelude.{◌==◌, bit_or, bit_and}
 use Rattle.std.proofs.lemmas.Nat.Bits.{bit_at_or, bit_at_and, bit_at-lt, bit_at-zero, bit_at_set_same}
 use Rattle.std.proofs.lemmas.Nat.Bits.{bit_at_set_other, bit_at_clear_same, bit_at_clear_other, bit_at_not}
-use Rattle.std.proofs.lemmas.Nat.Bits.{shr_and_one, bit_at-trailing_zeros, bit_at_above}
-use Rattle.std.proofs.lemmas.Nat.{shr-shr}
-use Rattle.std.proofs.Math.Nat.{div-le_self}
+use Rattle.std.proofs.lemmas.Nat.Bits.{shr_and_one, bit_at-trailing_zeros}
 use Rattle.bitrow.specs.Bits.{bit_of, IsNextBit}
 
 -- two bits, joined
@@ -243,84 +241,3 @@ first_is words from k le some fits zeros =
             ∙ ap (λ (b : ℕ). b == 1) (law.2 (j % 64) (omega (arith, same, below, law.0)))
       ],
     )
-
--- a bit of a word that was shifted
-shifted : (w s i : ℕ) → bit_at (w / 2 ^ s) i ≡ bit_at w (s + i)
-shifted w s i = ap (λ (x : ℕ). x % 2) (shr-shr w s i)
-
--- it lies within the word
-within_word : (w i : ℕ) → w < 2 ^ 64 → bit_at w i ≡ 1 → i < 64
-within_word w i fits one =
-    elim (cases_lt i 64) [
-      | inl small ↦ small
-      | inr large ↦ absurd
-          (omega (arith, one, bit_at_above w 64 i fits large))
-    ]
-
--- bit `from + i` as bit i of its word, shifted
-bit_from : (words : List ℕ) (from i j : ℕ) → from % 64 + i < 64 → j ≡ from + i → bit_of words j
-    ≡ (bit_at (get_or words (from / 64) 0 / 2 ^ (from % 64)) i == 1)
-bit_from words from i j small is =
-    bit_in words (from / 64) (from % 64 + i) j small (omega (arith, is))
-    ∙ ap (λ (b : ℕ). b == 1) (sym (shifted (get_or words (from / 64) 0) (from % 64) i))
-
--- the lowest bit of the shifted word
-shifted_law : (words : List ℕ) (from : ℕ) → 0 < get_or words (from / 64) 0 / 2 ^ (from % 64)
-    → get_or words (from / 64) 0 < 2 ^ 64
-    → (trailing_zeros w64 (get_or words (from / 64) 0 / 2 ^ (from % 64)) < 64)
-    × (bit_at (get_or words (from / 64) 0 / 2 ^ (from % 64))
-    (trailing_zeros w64 (get_or words (from / 64) 0 / 2 ^ (from % 64))) ≡ 1)
-    × ((i : ℕ) → i < trailing_zeros w64 (get_or words (from / 64) 0 / 2 ^ (from % 64)) → bit_at
-    (get_or words (from / 64) 0 / 2 ^ (from % 64)) i ≡ 0)
-shifted_law words from some fits =
-    bit_at-trailing_zeros w64 (get_or words (from / 64) 0 / 2 ^ (from % 64)) some
-    (omega (arith, div-le_self (get_or words (from / 64) 0) (2 ^ (from % 64)), fits))
-
--- no bit of its word from there on, where the shifted word is 0
-empty_here : (words : List ℕ) (from : ℕ) → get_or words (from / 64) 0 / 2 ^ (from % 64) ≡ 0 → (j : ℕ)
-    → from ≤ j → j < 64 * (from / 64 + 1) → bit_of words j ≡ false
-empty_here words from is j above here =
-    bit_from words from (j - from) j (omega (arith, above, here)) (omega (arith, above))
-    ∙ (ap (λ (w : ℕ). bit_at w (j - from) == 1) is ∙ ap (λ (b : ℕ). b == 1) (bit_at-zero (j - from)))
-
--- where the shifted word is not 0, its lowest bit lies within the word
-pub lowest_within : (words : List ℕ) (from : ℕ) → 0 < get_or words (from / 64) 0 / 2 ^ (from % 64)
-    → get_or words (from / 64) 0 < 2 ^ 64
-    → from % 64 + trailing_zeros w64 (get_or words (from / 64) 0 / 2 ^ (from % 64)) < 64
-lowest_within words from some fits =
-    within_word (get_or words (from / 64) 0)
-    (from % 64 + trailing_zeros w64 (get_or words (from / 64) 0 / 2 ^ (from % 64))) fits
-    (sym (shifted (get_or words (from / 64) 0) (from % 64)
-    (trailing_zeros w64 (get_or words (from / 64) 0 / 2 ^ (from % 64))))
-    ∙ (shifted_law words from some fits).1)
-
--- and is the first from there on
-pub lowest_is : (words : List ℕ) (from : ℕ) → 0 < get_or words (from / 64) 0 / 2 ^ (from % 64)
-    → get_or words (from / 64) 0 < 2 ^ 64
-    → IsNextBit words from (Some (from + trailing_zeros w64 (get_or words (from / 64) 0 / 2 ^ (from % 64))))
-lowest_is words from some fits =
-    let law = shifted_law words from some fits in
-    let small = lowest_within words from some fits in (
-      omega arith,
-      bit_from words from (trailing_zeros w64 (get_or words (from / 64) 0 / 2 ^ (from % 64)))
-          (from + trailing_zeros w64 (get_or words (from / 64) 0 / 2 ^ (from % 64))) small refl
-          ∙ ap (λ (b : ℕ). b == 1) law.1,
-      λ j above below. bit_from words from (j - from) j (omega (arith, above, below, small))
-          (omega (arith, above)) ∙ ap (λ (b : ℕ). b == 1) (law.2 (j - from) (omega (arith, above, below))),
-    )
-
--- where it is 0, the first bit is in the words after it
-pub behind_is : (words : List ℕ) (from : ℕ) (next : Option ℕ) → get_or words (from / 64) 0 / 2 ^ (from % 64)
-    ≡ 0 → IsNextBit words (64 * (from / 64 + 1)) next → IsNextBit words from next
-behind_is words from None is none = λ j above. elim (cases_lt j (64 * (from / 64 + 1))) [
-  | inl here ↦ empty_here words from is j above here
-  | inr behind ↦ none j behind
-]
-behind_is words from (Some i) is next = (
-  omega (arith, next.0),
-  next.1,
-  λ j above below. elim (cases_lt j (64 * (from / 64 + 1))) [
-    | inl here ↦ empty_here words from is j above here
-    | inr behind ↦ next.2 j behind below
-  ],
-)

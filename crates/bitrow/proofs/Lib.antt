@@ -1,9 +1,7 @@
 pub mod Bits
 pub mod Combining
-pub mod InWords
+pub mod InLanes
 pub mod Lowest
 pub mod Members
 pub mod Rests
-pub mod SideBySide
 pub mod Unions
-pub mod Words

@@ -1,10 +1,11 @@
 -- The list of a row's numbers, from its bits.
-use Rattle.std.proofs.Common.{◌≡◌, ◌<◌, ◌≤◌, ◌+◌, ◌/◌, inl, inr, ℕ, zero, suc, Bool, false, Some, None, ◌||◌}
-use Rattle.std.proofs.Common.{◌&&◌, not, List, length, get_or, arith, refl, sym, ap, subst, ◌∙◌}
-use Rattle.std.proofs.lemmas.Bool.{cases_lt, ne_eqb}
+use Rattle.std.proofs.Common.{◌≡◌, ◌<◌, ◌≤◌, ◌+◌, ◌*◌, ◌/◌, inl, inr, ℕ, zero, suc, Bool, true, false, Option}
+use Rattle.std.proofs.Common.{Some, None, ◌||◌, ◌&&◌, not, ◌^◌, List, length, get_or, arith, refl, sym, ap, subst, ◌∙◌}
+use Rattle.std.proofs.lemmas.Bool.{cases_lt, ne_eqb, true≢false}
 use Rattle.std.proofs.lemmas.List.{get_or_past, get_or-replicate, length-replicate}
 use Rattle.std.specs.Prelude.{◌==◌, replicate}
-use Rattle.bitrow.specs.Bits.{bit_of, listed, members_below, is_in, IsNextBit, IsNext}
+use Rattle.bitrow.specs.Bits.{bit_of, bits_of, listed, members_below, is_in, IsClear, IsWidth, AreWordsOf}
+use Rattle.bitrow.specs.Bits.{IsNextBit, IsNext}
 use Rattle.bitrow.proofs.Bits.{none_in}
 
 -- as many as asked for
@@ -23,168 +24,168 @@ pub members_length : (words : List ℕ) (n : ℕ) → length (members_below word
 unfolding members_below
 members_length words n = listed_length (bit_of words) 0 n
 
--- below the length a number is in the set where its bit is 1
-pub members_at : (words : List ℕ) (n j : ℕ) → j < n → is_in (members_below words n) j ≡ bit_of words j
+-- a number is in the set where its bit is 1
+pub members_bit : (words : List ℕ) (n : ℕ) → IsClear n words → (j : ℕ)
+    → is_in (members_below words n) j ≡ bit_of words j
 unfolding members_below
-members_at words n j h = listed_at (bit_of words) 0 n j h ∙ ap (bit_of words) (omega arith)
-
--- past the length no number is in the set
-pub members_past : (words : List ℕ) (n j : ℕ) → n ≤ j → is_in (members_below words n) j ≡ false
-members_past words n j h = get_or_past (members_below words n) j false (omega (arith, members_length words n))
-
--- the numbers of both sets
-pub members_or : (old other new : List ℕ) (n : ℕ)
-    → ((j : ℕ) → bit_of new j ≡ (bit_of old j || bit_of other j)) → (j : ℕ) → is_in (members_below new n) j
-    ≡ (is_in (members_below old n) j || is_in (members_below other n) j)
-members_or old other new n h j = elim (cases_lt j n) [
-  | inl below ↦ members_at new n j below
-      ∙ (h j ∙ (ap (λ (b : Bool). b || bit_of other j) (sym (members_at old n j below)) ∙ ap
-      (λ (b : Bool). is_in (members_below old n) j || b) (sym (members_at other n j below))))
-  | inr past ↦ members_past new n j past
-      ∙ (ap (λ (b : Bool). b || false) (sym (members_past old n j past)) ∙ ap
-      (λ (b : Bool). is_in (members_below old n) j || b) (sym (members_past other n j past)))
+members_bit words n clear j = elim (cases_lt j n) [
+  | inl below ↦ listed_at (bit_of words) 0 n j below ∙ ap (bit_of words) (omega arith)
+  | inr past ↦ get_or_past (members_below words n) j false (omega (arith, past, members_length words n))
+      ∙ sym (clear j past)
 ]
 
--- the numbers of one set that are not in the other
-pub members_and_not : (old other new : List ℕ) (n : ℕ)
-    → ((j : ℕ) → bit_of new j ≡ (bit_of old j && not (bit_of other j))) → (j : ℕ) → is_in (members_below new n) j
-    ≡ (is_in (members_below old n) j && not (is_in (members_below other n) j))
-members_and_not old other new n h j = elim (cases_lt j n) [
-  | inl below ↦ members_at new n j below
-      ∙ (h j ∙ (ap (λ (b : Bool). b && not (bit_of other j)) (sym (members_at old n j below)) ∙ ap
-      (λ (b : Bool). is_in (members_below old n) j && not b) (sym (members_at other n j below))))
-  | inr past ↦ members_past new n j past
-      ∙ (ap (λ (b : Bool). b && not false) (sym (members_past old n j past)) ∙ ap
-      (λ (b : Bool). is_in (members_below old n) j && not b) (sym (members_past other n j past)))
-]
+-- past the last word no bit is 1
+pub clear_past : (words : List ℕ) (n : ℕ) → 64 * length words ≤ n → IsClear n words
+clear_past words n all j past = none_in words j (get_or_past words (j / 64) 0 (omega (arith, all, past)))
 
--- one number more
-pub members_set : (old new : List ℕ) (n e : ℕ) → e < n
-    → ((j : ℕ) → bit_of new j ≡ (bit_of old j || (j == e))) → (j : ℕ) → is_in (members_below new n) j
-    ≡ (is_in (members_below old n) j || (j == e))
-members_set old new n e at h j = elim (cases_lt j n) [
-  | inl below ↦ members_at new n j below
-      ∙ (h j ∙ ap (λ (b : Bool). b || (j == e)) (sym (members_at old n j below)))
-  | inr past ↦ members_past new n j past
-      ∙ (ap (λ (b : Bool). b || false) (sym (members_past old n j past)) ∙ ap
-      (λ (b : Bool). is_in (members_below old n) j || b) (sym (ne_eqb j e (λ is. omega (arith, is, past, at)))))
-]
-
--- one number fewer
-pub members_clear : (old new : List ℕ) (n e : ℕ) → e < n
-    → ((j : ℕ) → bit_of new j ≡ (bit_of old j && not (j == e))) → (j : ℕ) → is_in (members_below new n) j
-    ≡ (is_in (members_below old n) j && not (j == e))
-members_clear old new n e at h j = elim (cases_lt j n) [
-  | inl below ↦ members_at new n j below
-      ∙ (h j ∙ ap (λ (b : Bool). b && not (j == e)) (sym (members_at old n j below)))
-  | inr past ↦ members_past new n j past
-      ∙ ap (λ (b : Bool). b && not (j == e)) (sym (members_past old n j past))
-]
+-- the same in lanes
+pub bits_bit : (words : List ℕ) (j : ℕ) → is_in (bits_of words) j ≡ bit_of words j
+unfolding bits_of
+bits_bit words j = members_bit words (64 * length words) (clear_past words (64 * length words) (omega arith)) j
 
 -- words of 0 have no bit
-zero_at : (m i : ℕ) → get_or {A = ℕ} (replicate m 0) i 0 ≡ 0
-zero_at m i = elim (cases_lt i m) [
-  | inl inside ↦ get_or-replicate m i 0 0 inside
-  | inr past ↦ get_or_past (replicate m 0) i 0 (omega (arith, past, length-replicate {A = ℕ} m 0))
-]
+pub zeros : (m j : ℕ) → bit_of (replicate m 0) j ≡ false
+zeros m j = none_in (replicate m 0) j (elim (cases_lt (j / 64) m) [
+  | inl inside ↦ get_or-replicate m (j / 64) 0 0 inside
+  | inr past ↦ get_or_past (replicate m 0) (j / 64) 0 (omega (arith, past, length-replicate {A = ℕ} m 0))
+])
 
--- without a bit the set is empty
-pub members_empty : (m n j : ℕ) → is_in (members_below (replicate m 0) n) j ≡ false
-members_empty m n j = elim (cases_lt j n) [
-  | inl below ↦ members_at (replicate m 0) n j below ∙ none_in (replicate m 0) j (zero_at m (j / 64))
-  | inr past ↦ members_past (replicate m 0) n j past
-]
-
--- where no bit is 1 from one on, no number is in the set
-pub members_end : (words : List ℕ) (n from : ℕ) → IsNextBit words from None
-    → IsNext (members_below words n) from None
-members_end words n from none j above =
-    elim (cases_lt j n) [
-      | inl below ↦ members_at words n j below
-          ∙ none j above
-      | inr past ↦ members_past words n j past
+-- the words of a set of a length are as many as those of another
+pub same_width : (a b n : ℕ) → IsWidth a n → IsWidth b n → a ≡ b
+same_width a b n h k = elim (cases_lt n 65) [
+  | inl one ↦ h.one (omega (arith, one)) ∙ sym (k.one (omega (arith, one)))
+  | inr some ↦ elim (cases_lt n 129) [
+    | inl two ↦ h.two (omega (arith, some)) (omega (arith, two))
+        ∙ sym (k.two (omega (arith, some)) (omega (arith, two)))
+    | inr more ↦ elim (cases_lt n 257) [
+      | inl four ↦ h.four (omega (arith, more)) (omega (arith, four))
+          ∙ sym (k.four (omega (arith, more)) (omega (arith, four)))
+      | inr most ↦ h.eights (omega (arith, most)) ∙ sym (k.eights (omega (arith, most)))
     ]
-
--- the first bit from one on, where it is below the length
-pub members_next : (words : List ℕ) (n from i : ℕ) → i < n → IsNextBit words from (Some i)
-    → IsNext (members_below words n) from (Some i)
-members_next words n from i at next = (
-  next.0,
-  omega (arith, at, members_length words n),
-  members_at words n i at ∙ next.1,
-  λ j above below. members_at words n j (omega (arith, below, at)) ∙ next.2 j above below,
-)
-
--- and where it is not
-pub members_past_end : (words : List ℕ) (n from i : ℕ) → n ≤ i → IsNextBit words from (Some i)
-    → IsNext (members_below words n) from None
-members_past_end words n from i past next j above = elim (cases_lt j n) [
-  | inl below ↦ members_at words n j below ∙ next.2 j above (omega (arith, below, past))
-  | inr over ↦ members_past words n j over
+  ]
 ]
 
--- one number more, as a call on the words leaves it
-pub row_set : (old now new after : List ℕ) (n e : ℕ) (row : List Bool) → members_below old n ≡ row → now ≡ old
-    → after ≡ new → e < n → ((j : ℕ) → bit_of new j ≡ (bit_of now j || (j == e))) → (j : ℕ)
-    → is_in (members_below after n) j ≡ (is_in row j || (j == e))
-row_set old now new after n e row seen same kept at h j =
-    subst (λ (r : List Bool). is_in (members_below after n) j ≡ (is_in r j || (j == e))) seen
-    (subst (λ (ws : List ℕ). is_in (members_below ws n) j ≡ (is_in (members_below old n) j || (j == e))) (sym kept)
-    (members_set old new n e at
-    (λ i. subst (λ (ws : List ℕ). bit_of new i ≡ (bit_of ws i || (i == e))) same (h i)) j))
+-- they are enough
+pub wide_enough : (words n : ℕ) → IsWidth words n → n ≤ 64 * words
+wide_enough words n h = elim (cases_lt n 65) [
+  | inl one ↦ omega (arith, one, h.one (omega (arith, one)))
+  | inr some ↦ elim (cases_lt n 129) [
+    | inl two ↦ omega (arith, two, h.two (omega (arith, some)) (omega (arith, two)))
+    | inr more ↦ elim (cases_lt n 257) [
+      | inl four ↦ omega (arith, four, h.four (omega (arith, more)) (omega (arith, four)))
+      | inr most ↦ omega (arith, h.eights (omega (arith, most)))
+    ]
+  ]
+]
 
--- one number fewer, as a call on the words leaves it
-pub row_clear : (old now new after : List ℕ) (n e : ℕ) (row : List Bool) → members_below old n ≡ row → now ≡ old
-    → after ≡ new → e < n → ((j : ℕ) → bit_of new j ≡ (bit_of now j && not (j == e))) → (j : ℕ)
-    → is_in (members_below after n) j ≡ (is_in row j && not (j == e))
-row_clear old now new after n e row seen same kept at h j =
-    subst (λ (r : List Bool). is_in (members_below after n) j ≡ (is_in r j && not (j == e))) seen
-    (subst (λ (ws : List ℕ). is_in (members_below ws n) j ≡ (is_in (members_below old n) j && not (j == e))) (sym kept)
-    (members_clear old new n e at
-    (λ i. subst (λ (ws : List ℕ). bit_of new i ≡ (bit_of ws i && not (i == e))) same (h i)) j))
-
--- the numbers of both sets, as a call on the words leaves them
-pub row_or : (old now other lent new after : List ℕ) (n m : ℕ) (row set : List Bool) → members_below old n ≡ row
-    → members_below other m ≡ set → m ≡ n → now ≡ old → lent ≡ other → after ≡ new
-    → ((j : ℕ) → bit_of new j ≡ (bit_of now j || bit_of lent j))
-    → (j : ℕ) → is_in (members_below after n) j ≡ (is_in row j || is_in set j)
-row_or old now other lent new after n m row set seen also size same second kept h j =
-    subst (λ (r : List Bool). is_in (members_below after n) j ≡ (is_in r j || is_in set j)) seen
-    (subst (λ (s : List Bool). is_in (members_below after n) j ≡ (is_in (members_below old n) j || is_in s j))
-    (ap (λ (k : ℕ). members_below other k) (sym size) ∙ also)
-    (subst (λ (ws : List ℕ). is_in (members_below ws n) j
-    ≡ (is_in (members_below old n) j || is_in (members_below other n) j)) (sym kept)
-    (members_or old other new n
-    (λ i. subst (λ (ws : List ℕ). bit_of new i ≡ (bit_of ws i || bit_of other i)) same
-    (subst (λ (ws : List ℕ). bit_of new i ≡ (bit_of now i || bit_of ws i)) second (h i))) j)))
-
--- the numbers of one set that are not in the other, as a call on the words leaves them
-pub row_and_not : (old now other lent new after : List ℕ) (n m : ℕ) (row set : List Bool) → members_below old n
-    ≡ row → members_below other m ≡ set → m ≡ n → now ≡ old → lent ≡ other → after ≡ new
-    → ((j : ℕ) → bit_of new j ≡ (bit_of now j && not (bit_of lent j)))
-    → (j : ℕ) → is_in (members_below after n) j ≡ (is_in row j && not (is_in set j))
-row_and_not old now other lent new after n m row set seen also size same second kept h j =
-    subst (λ (r : List Bool). is_in (members_below after n) j ≡ (is_in r j && not (is_in set j))) seen
-    (subst (λ (s : List Bool). is_in (members_below after n) j ≡ (is_in (members_below old n) j && not (is_in s j)))
-    (ap (λ (k : ℕ). members_below other k) (sym size) ∙ also)
-    (subst (λ (ws : List ℕ). is_in (members_below ws n) j ≡
-    (is_in (members_below old n) j && not (is_in (members_below other n) j))) (sym kept)
-    (members_and_not old other new n
-    (λ i. subst (λ (ws : List ℕ). bit_of new i ≡ (bit_of ws i && not (bit_of other i))) same
-    (subst (λ (ws : List ℕ). bit_of new i ≡ (bit_of now i && not (bit_of ws i))) second (h i))) j)))
-
--- a set's length
+-- a row's length
 pub row_length : (words : List ℕ) (n : ℕ) (row : List Bool) → members_below words n ≡ row → length row ≡ n
 row_length words n row seen = ap (λ (r : List Bool). length r) (sym seen) ∙ members_length words n
 
--- a number that a call on the words leaves as it is
-pub row_kept : (old now new after : List ℕ) (n j : ℕ) (row : List Bool) → members_below old n ≡ row → now ≡ old
-    → after ≡ new → bit_of new j ≡ bit_of now j → is_in (members_below after n) j ≡ is_in row j
-row_kept old now new after n j row seen same kept h =
-    subst (λ (r : List Bool). is_in (members_below after n) j ≡ is_in r j) seen
-    (elim (cases_lt j n) [
-      | inl below ↦ members_at after n j below
-          ∙ (ap (λ (ws : List ℕ). bit_of ws j) kept ∙ (h ∙ (ap (λ (ws : List ℕ). bit_of ws j) same
-          ∙ sym (members_at old n j below))))
-      | inr past ↦ members_past after n j past ∙ sym (members_past old n j past)
-    ])
+-- a row's number, by the words that hold it
+pub row_bit : (words : List ℕ) (n : ℕ) (row : List Bool) → members_below words n ≡ row → IsClear n words
+    → (j : ℕ) → is_in row j ≡ bit_of words j
+row_bit words n row seen clear j = ap (λ (r : List Bool). is_in r j) (sym seen) ∙ members_bit words n clear j
+
+-- rows of one length have as many words
+pub rows_wide : (words other : List ℕ) (n m : ℕ) (row set : List Bool) → members_below words n ≡ row
+    → members_below other m ≡ set → AreWordsOf words n → AreWordsOf other m → length row ≡ length set
+    → length words ≡ length other
+rows_wide words other n m row set seen also h k long = same_width (length words) (length other) m
+    (subst (λ (l : ℕ). IsWidth (length words) l)
+    (omega (arith, long, row_length words n row seen, row_length other m set also)) h.width) k.width
+
+-- a bit that is 1 is below the length
+pub bit_below : (words : List ℕ) (n e : ℕ) → IsClear n words → bit_of words e ≡ true → e < n
+bit_below words n e clear is = elim (cases_lt e n) [
+  | inl inside ↦ inside
+  | inr past ↦ absurd (true≢false (sym is ∙ clear e past))
+]
+
+-- a row's next number is that of the next bit
+pub row_next : (words : List ℕ) (n : ℕ) (row : List Bool) (from : ℕ) (next : Option ℕ) → members_below words n ≡ row
+    → IsClear n words → IsNextBit words from next → IsNext row from next
+row_next words n row from None seen clear none = λ j above. row_bit words n row seen clear j ∙ none j above
+row_next words n row from (Some i) seen clear next = (
+  next.0,
+  omega (arith, bit_below words n i clear next.1, row_length words n row seen),
+  row_bit words n row seen clear i ∙ next.1,
+  λ j above below. row_bit words n row seen clear j ∙ next.2 j above below,
+)
+
+-- and so in lanes
+pub bits_next : (words : List ℕ) (from : ℕ) (next : Option ℕ) → IsNextBit words from next
+    → IsNext (bits_of words) from next
+unfolding bits_of
+bits_next words from next h = row_next words (64 * length words) (members_below words (64 * length words)) from next
+    refl (clear_past words (64 * length words) (omega arith)) h
+
+-- words that a call leaves in the place of others, bit by bit: they hold a set of the same length, and each number is
+-- in it by what it was
+pub row_by : (f : ℕ → Bool → Bool) (old now new after : List ℕ) (n : ℕ) (row : List Bool)
+    → members_below old n ≡ row → AreWordsOf old n → now ≡ old → after ≡ new → length new ≡ length now
+    → ((j : ℕ) → n ≤ j → f j false ≡ false) → ((j : ℕ) → bit_of new j ≡ f j (bit_of now j))
+    → AreWordsOf after n × ((j : ℕ) → is_in (members_below after n) j ≡ f j (is_in row j))
+row_by f old now new after n row seen h same kept size fixed each = (
+  record {
+    width = subst (λ (k : ℕ). IsWidth k n)
+        (ap (λ (ws : List ℕ). length ws) (sym same) ∙ (sym size ∙ ap (λ (ws : List ℕ). length ws) (sym kept))) h.width;
+    clear = clear;
+    counted = h.counted;
+  },
+  λ j. members_bit after n clear j ∙ (by j ∙ ap (f j) (sym (row_bit old n row seen h.clear j))),
+)
+  where
+    by : (j : ℕ) → bit_of after j ≡ f j (bit_of old j)
+    by j = ap (λ (ws : List ℕ). bit_of ws j) kept ∙ (each j ∙ ap (λ (ws : List ℕ). f j (bit_of ws j)) same)
+
+    clear : IsClear n after
+    clear j past = by j ∙ (ap (f j) (h.clear j past) ∙ fixed j past)
+
+-- one number more
+pub row_set : (old now new after : List ℕ) (n e : ℕ) (row : List Bool) → members_below old n ≡ row
+    → AreWordsOf old n → now ≡ old → after ≡ new → length new ≡ length now → e < length row
+    → ((j : ℕ) → bit_of new j ≡ (bit_of now j || (j == e)))
+    → AreWordsOf after n × ((j : ℕ) → is_in (members_below after n) j ≡ (is_in row j || (j == e)))
+row_set old now new after n e row seen h same kept size inside each =
+    row_by (λ (j : ℕ) (b : Bool). b || (j == e)) old now new after n row seen h same kept size
+    (λ j past. ne_eqb j e (λ is. omega (arith, is, past, inside, row_length old n row seen))) each
+
+-- one number fewer
+pub row_remove : (old now new after : List ℕ) (n e : ℕ) (row : List Bool) → members_below old n ≡ row
+    → AreWordsOf old n → now ≡ old → after ≡ new → length new ≡ length now
+    → ((j : ℕ) → bit_of new j ≡ (bit_of now j && not (j == e)))
+    → AreWordsOf after n × ((j : ℕ) → is_in (members_below after n) j ≡ (is_in row j && not (j == e)))
+row_remove old now new after n e row seen h same kept size each =
+    row_by (λ (j : ℕ) (b : Bool). b && not (j == e)) old now new after n row seen h same kept size (λ j past. refl) each
+
+-- the numbers of both sets
+pub row_or : (old now new after other lent : List ℕ) (n m : ℕ) (row set : List Bool) → members_below old n ≡ row
+    → members_below other m ≡ set → AreWordsOf old n → AreWordsOf other m → now ≡ old → lent ≡ other → after ≡ new
+    → length new ≡ length now → length set ≡ length row
+    → ((j : ℕ) → bit_of new j ≡ (bit_of now j || bit_of lent j))
+    → AreWordsOf after n × ((j : ℕ) → is_in (members_below after n) j ≡ (is_in row j || is_in set j))
+row_or old now new after other lent n m row set seen also h k same second kept size long each =
+    row_by (λ (j : ℕ) (b : Bool). b || is_in set j) old now new after n row seen h same kept size
+    (λ j past. get_or_past set j false (omega (arith, past, long, row_length old n row seen)))
+    (λ j. each j ∙ ap (λ (b : Bool). bit_of now j || b)
+    (ap (λ (ws : List ℕ). bit_of ws j) second ∙ sym (row_bit other m set also k.clear j)))
+
+-- the numbers of one set that are not in the other
+pub row_and_not : (old now new after other lent : List ℕ) (n m : ℕ) (row set : List Bool) → members_below old n ≡ row
+    → members_below other m ≡ set → AreWordsOf old n → AreWordsOf other m → now ≡ old → lent ≡ other → after ≡ new
+    → length new ≡ length now → ((j : ℕ) → bit_of new j ≡ (bit_of now j && not (bit_of lent j)))
+    → AreWordsOf after n × ((j : ℕ) → is_in (members_below after n) j ≡ (is_in row j && not (is_in set j)))
+row_and_not old now new after other lent n m row set seen also h k same second kept size each =
+    row_by (λ (j : ℕ) (b : Bool). b && not (is_in set j)) old now new after n row seen h same kept size
+    (λ j past. refl)
+    (λ j. each j ∙ ap (λ (b : Bool). bit_of now j && not b)
+    (ap (λ (ws : List ℕ). bit_of ws j) second ∙ sym (row_bit other m set also k.clear j)))
+
+-- words of 0, of which there are enough
+pub words_of_zeros : (m n : ℕ) → IsWidth m n → n < 2 ^ 64 → AreWordsOf (replicate m 0) n
+words_of_zeros m n wide counted = record {
+  width = subst (λ (k : ℕ). IsWidth k n) (sym (length-replicate {A = ℕ} m 0)) wide;
+  clear = λ j past. zeros m j;
+  counted = counted;
+}

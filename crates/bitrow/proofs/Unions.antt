@@ -1,164 +1,108 @@
--- The union of the rows that a set names, word by word and part by part.
-use Rattle.std.proofs.Common.{◌≡◌, ◌<◌, ◌≤◌, ◌+◌, ◌*◌, ◌/◌, ◌%◌, ◌↔◌, ◌⊎◌}
-use Rattle.std.proofs.Common.{inl, inr, ℕ, Bool, true, false, ◌||◌, List, []}
-use Rattle.std.proofs.Common.{Some, length, get_or, replicate, arith, sym, ap, subst, ◌-◌, ◌∙◌}
-use Rattle.std.proofs.lemmas.Bool.{cases_eq, cases_lt, or_cases, or_left, or_right, true≢false}
-use Rattle.std.proofs.lemmas.List.{get_or_past, get_or-replicate, length-replicate}
-use Rattle.bitrow.specs.Bits.{bit_of, is_in, IsNext}
-use Rattle.bitrow.specs.Rows.{Marked, IsBitSquare, GetsLabel, AreUnionWords, IsUnionPart, IsUnion}
+-- The union of the rows that a set names, number by number.
+use Rattle.std.proofs.Common.{◌≡◌, ◌<◌, ◌≤◌, ◌+◌, ◌*◌, ◌^◌, inl, inr, ℕ, Bool, true, false, ◌||◌, List, [], Some, set}
+use Rattle.std.proofs.Common.{length, get_or, arith, w64, sym, ap, subst, ◌∙◌, get_or-set_other, get_or-set_same}
+use Rattle.std.proofs.lemmas.Bool.{cases_Bool, cases_eq, cases_lt, or_cases, or_left, or_right, true≢false}
+use Rattle.std.specs.Int.{trailing_zeros}
+use Rattle.bitrow.specs.Bits.{is_in, bits_of, IsNext}
+use Rattle.bitrow.specs.Rows.{Marked, IsBitSquare, IsBelow, GetsLabel, IsUnion}
 use Rattle.bitrow.specs.RowLaws.{marked_within}
-use Rattle.bitrow.proofs.Bits.{none_in}
+use Rattle.bitrow.specs.Walks.{IsRest}
+use Rattle.bitrow.proofs.Members.{bits_bit}
+use Rattle.bitrow.proofs.Rests.{rest_next}
 
 -- a test is not both true and false
 differ : (b : Bool) → b ≡ true → b ≡ false → ⊥
 differ b is other = true≢false (sym is ∙ other)
 
--- either of two
-either_true : (a b : Bool) → (a ≡ true) ⊎ (b ≡ true) → (a || b) ≡ true
-either_true a b h = elim h [ inl is ↦ or_left a b is | inr is ↦ or_right a b is ]
+-- a number of the set is below what it is below
+pub number_below : (n : ℕ) (set : List Bool) (e : ℕ) → IsBelow n set → is_in set e ≡ true → e < n
+number_below n set e below is = elim (cases_lt e n) [
+  | inl inside ↦ inside
+  | inr past ↦ absurd (differ (is_in set e) is (below e past))
+]
 
--- words of 0 have no bit
-pub zeros : (m j : ℕ) → bit_of (replicate m 0) j ≡ false
-zeros m j = none_in (replicate m 0) j (elim (cases_lt (j / 64) m) [
-  | inl inside ↦ get_or-replicate m (j / 64) 0 0 inside
-  | inr past ↦ get_or_past (replicate m 0) (j / 64) 0 (omega (arith, past, length-replicate {A = ℕ} m 0))
-])
+-- the lowest bit of what is left of a word is that of a number below it
+pub number_in : (n : ℕ) (words : List ℕ) (k rest from : ℕ) → IsBelow n (bits_of words) → IsRest words k rest from
+    → (rest ≡ 0 → ⊥) → rest < 2 ^ 64 → 64 * k + trailing_zeros w64 rest < n
+number_in n words k rest from below h some fits =
+    let number : ℕ = 64 * k + trailing_zeros w64 rest in
+    number_below n (bits_of words) number below
+    (bits_bit words number ∙ (rest_next words k rest from h some fits).1)
 
--- before the first number nothing joined
-pub joins_none : (R : ℕ → ℕ → Type 0) (set : List Bool) (n from size m : ℕ)
-    → AreUnionWords R set 0 n from size (replicate m 0)
-joins_none R set n from size m = record {
-  joined = λ e f at is small r. absurd (omega (arith, at));
-  only = λ f small inside is. absurd (differ (bit_of (replicate m 0) f) is (zeros m f));
+-- one number more has the label
+pub labels_more : (row : List Bool) (i number label : ℕ) (before now : List ℕ) → IsNext row i (Some number)
+    → number < length now → GetsLabel row i label before now
+    → GetsLabel row (number + 1) label before (set now number label)
+labels_more row i number label before now next inside h = record {
+  labelled = λ e at is. elim (cases_eq e number) [
+    | inl same ↦ ap (λ (k : ℕ). get_or (set now number label) k 0) same
+        ∙ get_or-set_same now number label 0 inside
+    | inr other ↦ get_or-set_other now number e label 0 other
+        ∙ h.labelled e (elim (cases_lt e i) [
+          | inl early ↦ early
+          | inr late ↦ absurd (differ (is_in row e) is (next.3 e late (omega (arith, at, other))))
+        ]) is
+  ];
+  left = λ e apart. elim apart [
+    | inl past ↦ get_or-set_other now number e label 0 (λ is. omega (arith, is, past))
+        ∙ h.left e (inl (omega (arith, past, next.0)))
+    | inr out ↦ get_or-set_other now number e label 0
+        (λ is. differ (is_in row number) next.2 (ap (λ (k : ℕ). is_in row k) (sym is) ∙ out))
+        ∙ h.left e (inr out)
+  ];
 }
 
--- one number more
-pub joins_more : (rows : List (List Bool)) (set : List Bool) (i number from size : ℕ) (words more : List ℕ)
-    → IsBitSquare rows → IsNext set i (Some number)
-    → ((f : ℕ) → f < size → from + f < length rows
-    → bit_of more f ≡ (bit_of words f || is_in (get_or rows number []) (from + f)))
-    → AreUnionWords (Marked rows) set i (length rows) from size words
-    → AreUnionWords (Marked rows) set (number + 1) (length rows) from size more
-joins_more rows set i number from size words more square next bits h = record {
-  joined = λ e f at is small r.
-      let inside : from + f < length rows = (marked_within rows square e (from + f) r).1 in
-      bits f small inside ∙ either_true (bit_of words f) (is_in (get_or rows number []) (from + f))
-      (elim (cases_eq e number) [
-        | inl same ↦ inr (subst (λ (k : ℕ). is_in (get_or rows k []) (from + f) ≡ true) same r)
-        | inr other ↦ elim (cases_lt e i) [
-          | inl early ↦ inl (h.joined e f early is small r)
-          | inr late ↦ absurd (differ (is_in set e) is
-              (next.3 e late (omega (arith, at, other))))
-        ]
-      ]);
-  only = λ f small inside is. elim (or_cases (bit_of words f) (is_in (get_or rows number []) (from + f))
-      (sym (bits f small inside) ∙ is)) [
-        | inl old ↦ h.only f small inside old
-        | inr new ↦ (number, next.2, new)
-      ];
+-- and its row is joined
+pub joins_more : (rows : List (List Bool)) (set : List Bool) (i number : ℕ) (union more : List Bool)
+    → IsNext set i (Some number) → ((f : ℕ) → is_in more f ≡ (is_in union f || is_in (get_or rows number []) f))
+    → IsUnion (Marked rows) set i union → IsUnion (Marked rows) set (number + 1) more
+joins_more rows set i number union more next each h = record {
+  joined = λ e f at is r. each f ∙ elim (cases_eq e number) [
+    | inl same ↦ or_right (is_in union f) (is_in (get_or rows number []) f)
+        (subst (λ (k : ℕ). is_in (get_or rows k []) f ≡ true) same r)
+    | inr other ↦ or_left (is_in union f) (is_in (get_or rows number []) f) (elim (cases_lt e i) [
+      | inl early ↦ h.joined e f early is r
+      | inr late ↦ absurd (differ (is_in set e) is (next.3 e late (omega (arith, at, other))))
+    ])
+  ];
+  only = λ f is. elim (or_cases (is_in union f) (is_in (get_or rows number []) f) (sym (each f) ∙ is)) [
+    | inl old ↦ h.only f old
+    | inr new ↦ (number, next.2, new)
+  ];
 }
 
--- past the last number all joined
-pub joins_all : (R : ℕ → ℕ → Type 0) (set : List Bool) (i n from size : ℕ) (words : List ℕ) → n ≤ i
-    → AreUnionWords R set i n from size words → AreUnionWords R set n n from size words
-joins_all R set i n from size words past h = record {
-  joined = λ e f at is small r. h.joined e f (omega (arith, at, past)) is small r;
+-- labels stay, where no number is between two places
+pub labels_on : (row : List Bool) (i to label : ℕ) (before after : List ℕ)
+    → ((e : ℕ) → i ≤ e → e < to → is_in row e ≡ false) → ((e : ℕ) → to ≤ e → e < i → is_in row e ≡ false)
+    → GetsLabel row i label before after → GetsLabel row to label before after
+labels_on row i to label before after none beyond h = record {
+  labelled = λ e at is. elim (cases_lt e i) [
+    | inl early ↦ h.labelled e early is
+    | inr late ↦ absurd (differ (is_in row e) is (none e late at))
+  ];
+  left = λ e apart. h.left e (elim apart [
+    | inr out ↦ inr out
+    | inl past ↦ elim (cases_lt e i) [ inl early ↦ inr (beyond e past early) | inr late ↦ inl late ]
+  ]);
+}
+
+-- and so does what is joined
+pub joins_on : (R : ℕ → ℕ → Type 0) (row : List Bool) (i to : ℕ) (union : List Bool)
+    → ((e : ℕ) → i ≤ e → e < to → is_in row e ≡ false) → IsUnion R row i union → IsUnion R row to union
+joins_on R row i to union none h = record {
+  joined = λ e f at is r. elim (cases_lt e i) [
+    | inl early ↦ h.joined e f early is r
+    | inr late ↦ absurd (differ (is_in row e) is (none e late at))
+  ];
   only = h.only;
 }
 
--- and have the label
-pub labels_all : (set : List Bool) (i n label : ℕ) (before after : List ℕ) → n ≤ i → length set ≤ n
-    → GetsLabel set i label before after → GetsLabel set n label before after
-labels_all set i n label before after past long h = record {
-  labelled = λ e at is. h.labelled e (omega (arith, at, past)) is;
-  left = λ e apart. h.left e (inr (elim apart [
-    | inl over ↦ get_or_past set e false (omega (arith, over, long))
-    | inr out ↦ out
-  ]));
-}
-
--- words that are put in their place
-pub part_put : (rows : List (List Bool)) (set : List Bool) (from size : ℕ) (words : List ℕ) (row : List Bool)
-    → IsBitSquare rows → AreUnionWords (Marked rows) set (length rows) (length rows) from size words
-    → ((f : ℕ) → f < size → from + f < length rows → is_in row (from + f) ≡ bit_of words f)
-    → length row ≡ length rows → IsUnionPart (Marked rows) set from (from + size) row
-part_put rows set from size words row square h here long = record {
-  joined = λ e f is r above below.
-      let within = marked_within rows square e f r in
-      let place : from + (f - from) ≡ f = omega (arith, above) in
-      ap (λ (k : ℕ). is_in row k) (sym place)
-      ∙ (here (f - from) (omega (arith, above, below)) (omega (arith, within.1, place))
-      ∙ h.joined e (f - from) within.0 is (omega (arith, above, below))
-      (subst (λ (k : ℕ). Marked rows e k) (sym place) r));
-  only = λ f above below is. elim (cases_lt f (length rows)) [
-    | inr past ↦ absurd (differ (is_in row f) is (get_or_past row f false (omega (arith, past, long))))
-    | inl inside ↦
-        let place : from + (f - from) ≡ f = omega (arith, above) in
-        let some = h.only (f - from) (omega (arith, above, below)) (omega (arith, inside, place))
-        (sym (here (f - from) (omega (arith, above, below)) (omega (arith, inside, place)))
-        ∙ (ap (λ (k : ℕ). is_in row k) place ∙ is)) in
-        (some.0, some.1, subst (λ (k : ℕ). Marked rows some.0 k) place some.2)
-  ];
-}
-
--- no part yet
-pub parts_none : (R : ℕ → ℕ → Type 0) (set row : List Bool) → IsUnionPart R set 0 0 row
-parts_none R set row = record {
-  joined = λ e f is r above below. absurd (omega (arith, below));
-  only = λ f above below is. absurd (omega (arith, below));
-}
-
--- one part more
-pub parts_more : (R : ℕ → ℕ → Type 0) (set : List Bool) (from to : ℕ) (row more : List Bool)
-    → ((j : ℕ) → j < from → is_in more j ≡ is_in row j)
-    → IsUnionPart R set 0 from row → IsUnionPart R set from to more → IsUnionPart R set 0 to more
-parts_more R set from to row more before h k = record {
-  joined = λ e f is r above below. elim (cases_lt f from) [
-    | inl early ↦ before f early ∙ h.joined e f is r above early
-    | inr late ↦ k.joined e f is r late below
-  ];
-  only = λ f above below is. elim (cases_lt f from) [
-    | inl early ↦ h.only f above early (sym (before f early) ∙ is)
-    | inr late ↦ k.only f late below is
-  ];
-}
-
--- all parts
-pub parts_all : (rows : List (List Bool)) (set : List Bool) (to : ℕ) (row : List Bool) → IsBitSquare rows
-    → length rows ≤ to → length row ≡ length rows → IsUnionPart (Marked rows) set 0 to row
-    → IsUnion (Marked rows) set row
-parts_all rows set to row square all long h = record {
-  joined = λ e f is r. h.joined e f is r (omega arith)
-      (omega (arith, all, (marked_within rows square e f r).1));
-  only = λ f is. elim (cases_lt f (length rows)) [
-    | inr past ↦ absurd (differ (is_in row f) is (get_or_past row f false (omega (arith, past, long))))
-    | inl inside ↦ h.only f (omega arith) (omega (arith, inside, all)) is
-  ];
-}
-
--- a row that is put whole is the union
-pub union_put : (rows : List (List Bool)) (set : List Bool) (size : ℕ) (words : List ℕ) (row : List Bool)
-    → IsBitSquare rows → AreUnionWords (Marked rows) set (length rows) (length rows) 0 size words
-    → ((f : ℕ) → f < size → 0 + f < length rows → is_in row (0 + f) ≡ bit_of words f)
-    → length row ≡ length rows → length rows ≤ size → IsUnion (Marked rows) set row
-union_put rows set size words row square h here long all =
-    parts_all rows set (0 + size) row square (omega (arith, all)) long
-    (part_put rows set 0 size words row square h here long)
-
--- whether a row of the set's has a number is whether its bit is in the union's word
-pub has_bit : (rows : List (List Bool)) (set : List Bool) (v : ℕ) (words : List ℕ) → IsBitSquare rows
-    → v < length rows → AreUnionWords (Marked rows) set (length rows) (length rows) (64 * (v / 64)) 64 words
-    → (bit_of words (v % 64) ≡ true) ↔ ((e : ℕ) × (is_in set e ≡ true) × Marked rows e v)
-has_bit rows set v words square inside h =
-    let place : 64 * (v / 64) + v % 64 ≡ v = omega arith in (
-      (λ is.
-          let some = h.only (v % 64) (omega arith) (omega (arith, place, inside)) is in
-          (some.0, some.1, subst (λ (k : ℕ). Marked rows some.0 k) place some.2)),
-      (λ some. h.joined some.0 (v % 64) (marked_within rows square some.0 v some.2).0 some.1 (omega arith)
-          (subst (λ (k : ℕ). Marked rows some.0 k) (sym place) some.2)),
-    )
-
--- whether the union has a number
-pub union_has : (R : ℕ → ℕ → Type 0) (set union : List Bool) (v : ℕ) → IsUnion R set union
-    → (is_in union v ≡ true) ↔ ((e : ℕ) × (is_in set e ≡ true) × R e v)
-union_has R set union v h = ((λ is. h.only v is), (λ some. h.joined some.0 v some.1 some.2))
+-- it has nothing that is no row's
+pub union_below : (rows : List (List Bool)) (set : List Bool) (i : ℕ) (union : List Bool) → IsBitSquare rows
+    → IsUnion (Marked rows) set i union → IsBelow (length rows) union
+union_below rows set i union square h f past = elim (cases_Bool (is_in union f)) [
+  | inr none ↦ none
+  | inl is ↦
+      let some = h.only f is in
+      absurd (omega (arith, past, (marked_within rows square some.0 f some.2).1))
+]

@@ -3,12 +3,6 @@ use Rattle.std.specs.Prelude.{◌≡◌, ◌<◌, ◌≤◌, ◌+◌, ◌*◌, �
 use Rattle.std.specs.Prelude.{Some, None, List, [], ◌∷◌, ◌==◌, length, slice_index, slice_index_or}
 use Rattle.std.specs.Int.{bit_at}
 
--- as many words as it takes for n bits, which a usize counts
-pub record IsRoom (words n : ℕ) : Type 0 where
-  pub enough : n ≤ 64 * words
-  pub few : 64 * words < n + 64
-  pub counted : n < 2 ^ 64
-
 -- whether bit i of the words is 1
 unfoldable pub bit_of : List ℕ → ℕ → Bool
 bit_of words i = bit_at (slice_index words (i / 64)) (i % 64) == 1
@@ -25,6 +19,27 @@ members_below words n = listed (bit_of words) 0 n
 -- whether a number is in the set
 abbrev pub is_in : List Bool → ℕ → Bool
 is_in row e = slice_index_or row e false
+
+-- the set of the numbers whose bits are 1
+unfoldable pub bits_of : List ℕ → List Bool
+bits_of words = members_below words (64 * length words)
+
+-- no bit is 1 from n on
+abbrev pub IsClear : ℕ → List ℕ → Type 0
+IsClear n words = (j : ℕ) → n ≤ j → bit_of words j ≡ false
+
+-- how many words hold a set of numbers below n: 1, 2, 4 or eights
+pub record IsWidth (words n : ℕ) : Type 0 where
+  pub one : n ≤ 64 → words ≡ 1
+  pub two : 64 < n → n ≤ 128 → words ≡ 2
+  pub four : 128 < n → n ≤ 256 → words ≡ 4
+  pub eights : 256 < n → words ≡ 8 * ((n + 511) / 512)
+
+-- the words hold a set of numbers below n, which a usize counts
+pub record AreWordsOf (words : List ℕ) (n : ℕ) : Type 0 where
+  pub width : IsWidth (length words) n
+  pub clear : IsClear n words
+  pub counted : n < 2 ^ 64
 
 -- the first bit that is 1 from one on, and none where there is none
 abbrev pub IsNextBit : List ℕ → ℕ → Option ℕ → Type 0

@@ -1,5 +1,4 @@
 pub mod Bits
-pub mod Combined
 pub mod RowLaws
 pub mod Rows
 pub mod Walks

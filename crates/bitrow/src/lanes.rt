@@ -1,48 +1,63 @@
-//! Words that lie side by side.
+//! Sets of numbers in lanes.
 
-ghost use Rattle.std.specs.Prelude.{◌≡◌, ◌⊎◌, ◌≤◌, ◌<◌, ◌+◌, ◌*◌, ◌||◌, ◌&&◌, ℕ, false, not, length};
-ghost use Rattle.bitrow.specs.Bits.{bit_of};
+ghost use Rattle.std.specs.Prelude.{◌≡◌, ◌<◌, ◌*◌, ◌==◌, ◌||◌, ◌&&◌, ℕ, IsTrue, false, not, length};
+ghost use Rattle.bitrow.specs.Bits.{bit_of, bits_of, is_in};
 
+use crate::word_bits::{set_bit, test_bit};
 use std::simd::prelude::*;
 
-/// Makes each bit of the lanes 1 that is 1 in the same number of words from one on.
-pub(crate) fn or_lanes<const N: usize>(
-    lanes: Simd<u64, N>,
-    words: &[u64],
-    at: usize,
-) -> Simd<u64, N>
-    requires lanes { length lanes ≡ N }
-    requires within { at + N ≤ length words.now }
-    ensures size { length result ≡ N }
-    ensures bits { (f : ℕ) → f < 64 * N
-        → bit_of result f ≡ (bit_of lanes.entry f || bit_of words.now (64 * at + f)) }
+/// The empty set.
+pub fn no_number<const N: usize>() -> Simd<u64, N>
+    ensures { (j : ℕ) → is_in (bits_of result) j ≡ false }
 {
-    lanes | Simd::<u64, N>::from_slice(&words[at..])
+    Simd::splat(0)
 }
 
-/// Puts the lanes in the place of the same number of words from one on.
-pub(crate) fn put_lanes<const N: usize>(words: &mut [u64], at: usize, lanes: Simd<u64, N>)
-    requires lanes { length lanes ≡ N }
-    requires within { at + N ≤ length words.old }
-    ensures here { (f : ℕ) → f < 64 * N → bit_of words.new (64 * at + f) ≡ bit_of lanes.entry f }
-    ensures others { (j : ℕ) → (j < 64 * at) ⊎ (64 * (at + N) ≤ j) → bit_of words.new j ≡ bit_of words.old j }
+/// The set of one number.
+pub fn one_number<const N: usize>(number: usize) -> Simd<u64, N>
+    requires { number < 64 * N }
+    ensures { (j : ℕ) → is_in (bits_of result) j ≡ (j == number) }
 {
-    lanes.copy_to_slice(&mut words[at..]);
+    let mut words = [0; N];
+    set_bit(&mut words, number);
+    Simd::from_array(words)
 }
 
-/// The bits of the lanes that are 0 in others.
+/// Makes each bit 1 that is 1 in the same number of words.
+pub(crate) fn or_lanes<const N: usize>(lanes: Simd<u64, N>, words: &[u64]) -> Simd<u64, N>
+    requires { length words.now ≡ N }
+    ensures { (j : ℕ) → bit_of result j ≡ (bit_of lanes.entry j || bit_of words.now j) }
+{
+    lanes | Simd::<u64, N>::from_slice(words)
+}
+
+/// The numbers of two sets.
+pub(crate) fn both<const N: usize>(lanes: Simd<u64, N>, other: Simd<u64, N>) -> Simd<u64, N>
+    ensures { (j : ℕ) → is_in (bits_of result) j
+        ≡ (is_in (bits_of lanes.entry) j || is_in (bits_of other.entry) j) }
+{
+    lanes | other
+}
+
+/// The numbers of a set that are not in another.
 pub(crate) fn without<const N: usize>(lanes: Simd<u64, N>, other: Simd<u64, N>) -> Simd<u64, N>
-    requires lanes { length lanes ≡ N }
-    requires other { length other ≡ N }
-    ensures size { length result ≡ N }
-    ensures bits { (f : ℕ) → bit_of result f ≡ (bit_of lanes.entry f && not (bit_of other.entry f)) }
+    ensures { (j : ℕ) → is_in (bits_of result) j
+        ≡ (is_in (bits_of lanes.entry) j && not (is_in (bits_of other.entry) j)) }
 {
     lanes & !other
 }
 
-/// Whether a bit is 1.
-pub(crate) fn has_bit<const N: usize>(lanes: Simd<u64, N>) -> bool
-    ensures { result ≡ false → (f : ℕ) → bit_of lanes.entry f ≡ false }
+/// Whether a number is in the set.
+pub(crate) fn has_number<const N: usize>(lanes: Simd<u64, N>, number: usize) -> bool
+    requires { number < 64 * N }
+    ensures { result ≡ is_in (bits_of lanes.entry) number }
 {
-    lanes.reduce_or() != 0
+    test_bit(&lanes.to_array(), number)
+}
+
+/// Whether no number is in the set.
+pub(crate) fn is_empty<const N: usize>(lanes: Simd<u64, N>) -> bool
+    ensures { IsTrue result → (j : ℕ) → is_in (bits_of lanes.entry) j ≡ false }
+{
+    lanes.reduce_or() == 0
 }

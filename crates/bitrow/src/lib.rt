@@ -9,7 +9,7 @@ mod row;
 mod rows;
 mod word_bits;
 
+pub use lanes::{no_number, one_number};
 pub use levels::take_level;
 pub use numbers::Numbers;
 pub use row::BitRow;
-pub use rows::{label_numbers, union_rows};

@@ -1,6 +1,6 @@
 //! The numbers of a set in turn.
 
-use crate::word_bits::{first_word, next_word, without_bit};
+use crate::word_bits::{first_word, next_word, without_lowest};
 use std::marker::Model;
 
 /// The numbers of a set in turn, the least first.
@@ -18,24 +18,24 @@ pub struct Numbers<'a> {
 
 impl<'a> Model for Numbers<'a> {
     ghost use Rattle.std.specs.Prelude.{length};
-    ghost use Rattle.bitrow.specs.Bits.{members_below, IsRoom};
+    ghost use Rattle.bitrow.specs.Bits.{members_below, AreWordsOf};
     ghost use Rattle.bitrow.specs.Walks.{RowWalk, walk_of, IsRest};
 
     ghost Value = { RowWalk };
 
     ghost view = { λ n. walk_of (members_below n.words.now n.len) n.from };
 
-    ghost invariant = { λ n. IsRoom (length n.words.now) n.len × IsRest n.words.now n.at n.rest n.from };
+    ghost invariant = { λ n. AreWordsOf n.words.now n.len × IsRest n.words.now n.at n.rest n.from };
 }
 
 impl<'a> Numbers<'a> {
     ghost use Rattle.std.specs.Prelude.{◌≡◌, ◌+◌, length, IfNone, IfSome};
-    ghost use Rattle.bitrow.specs.Bits.{members_below, IsNext, IsRoom};
+    ghost use Rattle.bitrow.specs.Bits.{members_below, IsNext, AreWordsOf};
     ghost use Rattle.bitrow.specs.Walks.{walk_of};
 
     /// The numbers below a length whose bits are 1.
     pub(crate) fn new(words: &'a [u64], len: usize) -> Numbers<'a>
-        requires { IsRoom (length words.now) len }
+        requires { AreWordsOf words.now len }
         ensures { result ≡ walk_of (members_below words.now len) 0 }
     {
         Numbers {
@@ -58,19 +58,13 @@ impl<'a> Numbers<'a> {
         if self.rest != 0 {
             let bit = self.rest.trailing_zeros() as usize;
             let number = 64 * self.at + bit;
-            if number >= self.len {
-                return None;
-            }
-            self.rest = without_bit(self.rest, bit);
+            self.rest = without_lowest(self.rest);
             self.from = number + 1;
             return Some(number);
         }
         let number = next_word(self.words, self.at + 1)?;
-        if number >= self.len {
-            return None;
-        }
         self.at = number / 64;
-        self.rest = without_bit(self.words[number / 64], number % 64);
+        self.rest = without_lowest(self.words[number / 64]);
         self.from = number + 1;
         Some(number)
     }

@@ -1,15 +1,32 @@
 //! Rows of bits.
 
+ghost use Rattle.bitrow.specs.Bits.{IsWidth};
+
 use crate::combine::{and_not_words, or_words};
-use crate::lanes::{or_lanes, put_lanes};
+use crate::lanes::or_lanes;
 use crate::numbers::Numbers;
-use crate::word_bits::{clear_bit, next_bit, set_bit, test_bit, word_at};
+use crate::word_bits::{clear_bit, next_word, set_bit, test_bit};
 use common::OutOfMemory;
 use std::alloc::Global;
 use std::marker::Model;
 use std::simd::prelude::*;
 
-/// A set of numbers below its length.
+/// How many words of 64 hold a set of numbers below a length.
+fn width(len: usize) -> usize
+    ensures { IsWidth result len }
+{
+    if len <= 64 {
+        1
+    } else if len <= 128 {
+        2
+    } else if len <= 256 {
+        4
+    } else {
+        8 * len.div_ceil(512)
+    }
+}
+
+/// A set of numbers below its length, in words of which there are 1, 2, 4 or eights.
 #[derive(Drop)]
 pub struct BitRow {
     words: Vec<u64>,
@@ -17,21 +34,19 @@ pub struct BitRow {
 }
 
 impl Model for BitRow {
-    ghost use Rattle.std.specs.Prelude.{List, Bool, vec_len};
-    ghost use Rattle.bitrow.specs.Bits.{members_below, IsRoom};
+    ghost use Rattle.std.specs.Prelude.{List, Bool};
+    ghost use Rattle.bitrow.specs.Bits.{members_below, AreWordsOf};
 
     ghost Value = { List Bool };
 
     ghost view = { λ r. members_below r.words.items r.len };
 
-    ghost invariant = { λ r. IsRoom (vec_len r.words) r.len };
+    ghost invariant = { λ r. AreWordsOf r.words.items r.len };
 }
 
 impl BitRow {
-    ghost use Rattle.std.specs.Prelude.{◌≡◌, ◌<◌, ◌==◌, ◌||◌, ◌&&◌, ◌↔◌, ℕ, not, false, length, IfOk, IsTrue};
-    ghost use Rattle.std.specs.Prelude.{◌⊎◌, ◌≤◌, ◌+◌, ◌*◌};
-    ghost use Rattle.std.specs.Int.{bit_at};
-    ghost use Rattle.bitrow.specs.Bits.{bit_of, is_in, IsNext};
+    ghost use Rattle.std.specs.Prelude.{◌≡◌, ◌<◌, ◌==◌, ◌||◌, ◌&&◌, ℕ, not, false, length, IfOk};
+    ghost use Rattle.bitrow.specs.Bits.{bits_of, is_in, IsNext, IsWidth};
     ghost use Rattle.bitrow.specs.Walks.{walk_of};
 
     /// The empty set of numbers below a length. Fails only if out of memory.
@@ -39,7 +54,7 @@ impl BitRow {
         ensures len { IfOk result (λ row. length row ≡ len) }
         ensures empty { IfOk result (λ row. (j : ℕ) → is_in row j ≡ false) }
     {
-        let words = vec![in alloc; 0u64; len.div_ceil(64)]?;
+        let words = vec![in alloc; 0u64; width(len)]?;
         Ok(BitRow { words, len })
     }
 
@@ -87,45 +102,12 @@ impl BitRow {
         and_not_words(self.words.as_mut_slice(), other.words.as_slice());
     }
 
-    /// The word of the 64 numbers from 64 times a number on.
-    pub(crate) fn word(&self, word: usize) -> u64
-        requires { 64 * word < length self.now }
-        ensures { (i : ℕ) → i < 64 → 64 * word + i < length self.now
-            → (bit_at result i == 1) ≡ is_in self.now (64 * word + i) }
+    /// Puts the numbers of the row into a set in as many lanes as it has words.
+    pub(crate) fn join<const N: usize>(&self, lanes: Simd<u64, N>) -> Simd<u64, N>
+        requires { IsWidth N (length self.now) }
+        ensures { (j : ℕ) → is_in (bits_of result) j ≡ (is_in (bits_of lanes.entry) j || is_in self.now j) }
     {
-        word_at(self.words.as_slice(), word)
-    }
-
-    /// Puts the numbers of the same number of words, of 64 numbers each, from one on into the lanes.
-    pub(crate) fn join<const N: usize>(&self, at: usize, lanes: Simd<u64, N>) -> Simd<u64, N>
-        requires lanes { length lanes ≡ N }
-        requires within { 64 * (at + N) < length self.now + 64 }
-        ensures size { length result ≡ N }
-        ensures bits { (f : ℕ) → f < 64 * N → 64 * at + f < length self.now
-            → bit_of result f ≡ (bit_of lanes.entry f || is_in self.now (64 * at + f)) }
-    {
-        or_lanes(lanes, self.words.as_slice(), at)
-    }
-
-    /// Puts the lanes in the place of the same number of words from one on.
-    pub(crate) fn put<const N: usize>(&mut self, at: usize, lanes: Simd<u64, N>)
-        requires lanes { length lanes ≡ N }
-        requires within { 64 * (at + N) < length self.old + 64 }
-        ensures len { length self.new ≡ length self.old }
-        ensures here { (f : ℕ) → f < 64 * N → 64 * at + f < length self.old
-            → is_in self.new (64 * at + f) ≡ bit_of lanes.entry f }
-        ensures others { (j : ℕ) → (j < 64 * at) ⊎ (64 * (at + N) ≤ j)
-            → is_in self.new j ≡ is_in self.old j }
-    {
-        put_lanes(self.words.as_mut_slice(), at, lanes);
-    }
-
-    /// Takes all numbers out of the set.
-    pub fn clear(&mut self)
-        ensures len { length self.new ≡ length self.old }
-        ensures empty { (j : ℕ) → is_in self.new j ≡ false }
-    {
-        self.words.as_mut_slice().fill(0);
+        or_lanes(lanes, self.words.as_slice())
     }
 
     /// The numbers of the set in turn.
@@ -135,27 +117,10 @@ impl BitRow {
         Numbers::new(self.words.as_slice(), self.len)
     }
 
-    /// The least number in the set that is at least `from`.
-    pub(crate) fn next_set(&self, from: usize) -> Option<usize>
-        ensures { IsNext self.now from result }
-    {
-        let Some(next) = next_bit(self.words.as_slice(), from) else {
-            return None;
-        };
-        if next < self.len { Some(next) } else { None }
-    }
-
-    /// Whether no number is in the set.
-    pub fn is_empty(&self) -> bool
-        ensures { IsTrue result ↔ ((i : ℕ) → is_in self.now i ≡ false) }
-    {
-        self.first_set().is_none()
-    }
-
     /// The least number in the set; none where there is none.
     pub fn first_set(&self) -> Option<usize>
         ensures { IsNext self.now 0 result }
     {
-        self.next_set(0)
+        next_word(self.words.as_slice(), 0)
     }
 }

@@ -28,23 +28,6 @@ pub(crate) fn first_word(words: &[u64]) -> u64
     if words.is_empty() { 0 } else { words[0] }
 }
 
-/// One of the words.
-pub(crate) fn word_at(words: &[u64], k: usize) -> u64
-    requires { k < length words.now }
-    ensures { result ≡ slice_index words.now k }
-{
-    words[k]
-}
-
-/// A word with one bit 0.
-pub(crate) fn without_bit(word: u64, i: usize) -> u64
-    requires { i < 64 }
-    ensures cleared { bit_at result i ≡ 0 }
-    ensures others { (j : ℕ) → j < 64 → j ≢ i → bit_at result j ≡ bit_at word j }
-{
-    word & !(1 << i)
-}
-
 /// A word without its lowest bit that is 1.
 pub(crate) fn without_lowest(word: u64) -> u64
     requires { 0 < word }
@@ -74,19 +57,4 @@ pub(crate) fn next_word(words: &[u64], from: usize) -> Option<usize>
         }
     }
     None
-}
-
-/// The first bit that is 1, from a bit on.
-pub(crate) fn next_bit(words: &[u64], from: usize) -> Option<usize>
-    requires { length words.now ≤ 2 ^ 58 }
-    ensures { IsNextBit words.now from result }
-{
-    if from / 64 >= words.len() {
-        return None;
-    }
-    let rest = words[from / 64] >> (from % 64);
-    if rest != 0 {
-        return Some(from + rest.trailing_zeros() as usize);
-    }
-    next_word(words, from / 64 + 1)
 }

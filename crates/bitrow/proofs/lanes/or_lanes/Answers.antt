@@ -1,16 +1,13 @@
-use Rattle.std.proofs.Common.{arith, ◌∙◌}
-use Rattle.std.specs.Prelude.{bit_or}
+use Rattle.std.proofs.Common.{◌||◌, ℕ, List, arith, ap, ◌∙◌, take_all}
 use Rattle.std.specs.Simd.Lanes.{chunk}
-use Rattle.std.proofs.lemmas.Simd.{length-zip2, length-chunk}
-use Rattle.bitrow.proofs.SideBySide.{or_beside}
+use Rattle.std.proofs.lemmas.Simd.{length-chunk}
+use Rattle.bitrow.specs.Bits.{bit_of}
+use Rattle.bitrow.proofs.InLanes.{lanes_or}
 use Rattle.bitrow.proofs.lanes.or_lanes.Goals as goal
 
-pub returns-clause-size : goal.returns-clause-size
-returns-clause-size g c =
-    length-zip2 (λ a b. bit_or a b) c.args.lanes (chunk c.args.at g.row.N c.args.words.now)
-    (omega (arith, c.requires.lanes, length-chunk c.args.at g.row.N c.args.words.now c.requires.within))
-    ∙ c.requires.lanes
-
-pub returns-clause-bits : goal.returns-clause-bits
-returns-clause-bits g c = or_beside c.args.lanes c.args.words.now c.args.at g.row.N c.requires.lanes
-    c.requires.within
+pub returns : goal.returns
+returns g c j =
+    let words = c.args.words.now in
+    lanes_or c.args.lanes (chunk 0 g.row.N words) g.row.N c.fits-lanes.0
+    (length-chunk 0 g.row.N words (omega (arith, c.requires))) j
+    ∙ ap (λ (ws : List ℕ). bit_of c.args.lanes j || bit_of ws j) (take_all g.row.N words (omega (arith, c.requires)))

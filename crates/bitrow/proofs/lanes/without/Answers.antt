@@ -1,33 +1,20 @@
-use Rattle.std.proofs.Common.{◌≡◌, ◌<◌, ◌^◌, inl, inr, ℕ, length, map, get_or, arith, ap, w64, ◌∙◌}
-use Rattle.std.specs.Prelude.{bit_and}
-use Rattle.std.specs.Int.{bit_not}
-use Rattle.std.specs.Simd.Lanes.{zip2}
+use Rattle.std.proofs.Common.{◌<◌, ◌^◌, ◌&&◌, inl, inr, not, ℕ, Bool, w64, arith, sym, ap, ◌∙◌}
 use Rattle.std.proofs.lemmas.Bool.{cases_lt}
-use Rattle.std.proofs.lemmas.List.{get_or-map, length-map, get_or_past}
-use Rattle.std.proofs.lemmas.Simd.{length-zip2, get_or-zip2, Each1-get_or, below_from_Fits}
-use Rattle.bitrow.proofs.Bits.{and_not_all}
+use Rattle.std.proofs.lemmas.List.{get_or_past}
+use Rattle.std.proofs.lemmas.Simd.{Each1-get_or, below_from_Fits}
+use Rattle.bitrow.specs.Bits.{bit_of, bits_of, is_in}
+use Rattle.bitrow.proofs.Members.{bits_bit}
+use Rattle.bitrow.proofs.InLanes.{lanes_without}
 use Rattle.bitrow.proofs.lanes.without.Goals as goal
 
-pub returns-clause-size : goal.returns-clause-size
-returns-clause-size g c =
-    length-zip2 (λ a b. bit_and a b) c.args.lanes (map (bit_not w64) c.args.other)
-    (omega (arith, c.requires.lanes, c.requires.other, length-map c.args.other (bit_not w64))) ∙ c.requires.lanes
-
-pub returns-clause-bits : goal.returns-clause-bits
-returns-clause-bits g c =
-    let lanes = c.args.lanes in
+pub returns : goal.returns
+returns g c j =
     let other = c.args.other in
-    let out = map (bit_not w64) other in
-    let long : length out ≡ g.row.N = length-map other (bit_not w64) ∙ c.requires.other in
-    and_not_all lanes (zip2 (λ a b. bit_and a b) lanes out) other g.row.N
-    (length-zip2 (λ a b. bit_and a b) lanes out (omega (arith, c.requires.lanes, long)))
-    (omega (arith, c.requires.lanes, c.requires.other)) (omega (arith, c.requires.lanes))
+    bits_bit _ j ∙ (lanes_without c.args.lanes other g.row.N c.fits-lanes.0 c.fits-other.0
     (λ m. elim (cases_lt m g.row.N) [
-      | inl below ↦ Each1-get_or (λ (w : ℕ). w < 2 ^ 64) other m 0 (omega (arith, below, c.requires.other))
+      | inl below ↦ Each1-get_or (λ (w : ℕ). w < 2 ^ 64) other m 0 (omega (arith, below, c.fits-other.0))
           (below_from_Fits w64 other c.fits-other.1)
-      | inr past ↦ omega (arith, get_or_past other m 0 (omega (arith, past, c.requires.other)))
-    ])
-    (λ m below. get_or-zip2 (λ a b. bit_and a b) lanes out m 0 0 0 (omega (arith, below, c.requires.lanes))
-    (omega (arith, below, long))
-    ∙ ap (λ (w : ℕ). bit_and (get_or lanes m 0) w)
-    (get_or-map (bit_not w64) other m 0 0 (omega (arith, below, c.requires.other))))
+      | inr past ↦ omega (arith, get_or_past other m 0 (omega (arith, past, c.fits-other.0)))
+    ]) j
+    ∙ (ap (λ (b : Bool). b && not (bit_of other j)) (sym (bits_bit c.args.lanes j))
+    ∙ ap (λ (b : Bool). is_in (bits_of c.args.lanes) j && not b) (sym (bits_bit other j))))

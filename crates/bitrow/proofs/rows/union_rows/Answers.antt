@@ -1,28 +1,60 @@
-use Rattle.std.proofs.Common.{◌*◌, arith, refl, ◌∙◌}
+use Rattle.std.proofs.Common.{rules, ◌*◌, length, arith, refl, sym, ◌∙◌}
+use Rattle.std.proofs.lemmas.Bool.{true≢false}
+use Rattle.bitrow.specs.Bits.{bits_of}
 use Rattle.bitrow.specs.Rows.{Marked}
-use Rattle.bitrow.proofs.Unions.{parts_none, parts_more, parts_all}
+use Rattle.bitrow.proofs.Members.{wide_enough}
+use Rattle.bitrow.proofs.Unions.{labels_on, joins_on}
 use Rattle.bitrow.proofs.rows.union_rows.Goals as goal
 
-pub loop-at-init : goal.loop-at-init
-loop-at-init c = record {
-  within = omega arith;
-  size = c.requires.into;
-  labelled = λ some. absurd (omega (arith, some));
-  left = λ e apart. refl;
-  union = parts_none (Marked c.args.rows.now) c.args.set.now c.args.into.now;
+pub loop-word-init : goal.loop-word-init
+loop-word-init g c = record {
+  labels = record { labelled = λ e at is. absurd (omega (arith, at)); left = λ e apart. refl };
+  joined = record {
+    joined = λ e f at is r. absurd (omega (arith, at));
+    only = λ f is. absurd (true≢false (sym is ∙ c.no_number-union.ensures f));
+  };
 }
 
-pub loop-at-preserved : goal.loop-at-preserved
-loop-at-preserved c = record {
-  within = c.union_some-at.ensures.within;
-  size = c.union_some-at.ensures.size;
-  labelled = λ some. c.union_some-at.ensures.labels.labelled;
-  left = λ e apart. c.union_some-at.ensures.labels.left e apart ∙ c.loop-at.invariant.left e apart;
-  union = parts_more (Marked c.args.rows.now) c.args.set.now (64 * c.loop-at.at) (64 * c.union_some-at.result)
-      c.loop-at.into c.union_some-at.new.into c.union_some-at.ensures.before c.loop-at.invariant.union
-      c.union_some-at.ensures.union;
+pub join_word-union-requires : goal.join_word-union-requires
+join_word-union-requires g c = (
+  search rules,
+  (
+    c.requires.square,
+    (
+      c.requires.width,
+      (
+        c.requires.set,
+        (omega (arith, c.requires.labels), (omega (arith, c.loop-word-test.true, c.fits-set.0), c.loop-word.invariant.joined)),
+      ),
+    ),
+  ),
+)
+
+pub loop-word-preserved : goal.loop-word-preserved
+loop-word-preserved g c = record {
+  labels = c.join_word-union.ensures.labels c.args.labels.now c.loop-word.invariant.labels;
+  joined = c.join_word-union.ensures.union;
 }
+
+pub returns-clause-labels : goal.returns-clause-labels
+returns-clause-labels g c = labels_on (bits_of c.args.set) (64 * c.loop-word.word) (length c.args.rows.now) c.args.label
+    c.args.labels.now c.loop-word.labels
+    (λ e above below. absurd (omega (
+      arith,
+      above,
+      below,
+      c.loop-word-test.false,
+      wide_enough g.row.N (length c.args.rows.now) c.requires.width,
+    ))) (λ e past _. c.requires.set e past)
+    c.loop-word.invariant.labels
 
 pub returns-clause-union : goal.returns-clause-union
-returns-clause-union c = parts_all c.args.rows.now c.args.set.now (64 * c.loop-at.at) c.loop-at.into
-    c.requires.square (omega arith) c.loop-at.invariant.size c.loop-at.invariant.union
+returns-clause-union g c = joins_on (Marked c.args.rows.now) (bits_of c.args.set) (64 * c.loop-word.word)
+    (length c.args.rows.now) (bits_of c.loop-word.union)
+    (λ e above below. absurd (omega (
+      arith,
+      above,
+      below,
+      c.loop-word-test.false,
+      wide_enough g.row.N (length c.args.rows.now) c.requires.width,
+    ))) c.loop-word.invariant.joined

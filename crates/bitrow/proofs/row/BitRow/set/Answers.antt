@@ -1,14 +1,21 @@
-use Rattle.std.proofs.Common.{◌≡◌, length, arith, sym, ◌∙◌}
+use Rattle.std.proofs.Common.{◌≡◌, arith, sym, ◌∙◌, length}
 use Rattle.std.proofs.lemmas.List.{with_items_is}
 use Rattle.std.specs.Vec.{with_items}
-use Rattle.bitrow.proofs.Members.{members_length, row_set, row_length}
+use Rattle.bitrow.proofs.Members.{members_length, row_length, row_set, wide_enough}
 use Rattle.bitrow.proofs.row.BitRow.set.Goals as goal
 
 pub set_bit-requires : goal.set_bit-requires
 set_bit-requires c =
     let size : length c.args.self.now ≡ c.self.inside.len =
     row_length c.self.inside.words.items c.self.inside.len c.args.self.now c.self.view_is in
-    omega (arith, size, c.requires, c.self.invariant.enough, c.as_mut_slice.ensures.len)
+    omega (arith, size, c.requires, wide_enough _ c.self.inside.len c.self.invariant.width, c.as_mut_slice.ensures.len)
+
+pub invariant_of-self : goal.invariant_of-self
+invariant_of-self c =
+    (row_set c.self.inside.words.items c.as_mut_slice.result.now c.set_bit.new.words
+    (with_items c.self.inside.words c.set_bit.new.words).items c.self.inside.len c.args.number c.args.self.now
+    c.self.view_is c.self.invariant c.as_mut_slice.ensures.value
+    (with_items_is c.self.inside.words c.set_bit.new.words (omega arith)) (omega arith) c.requires c.set_bit.ensures).0
 
 pub returns-clause-len : goal.returns-clause-len
 returns-clause-len c =
@@ -17,10 +24,7 @@ returns-clause-len c =
 
 pub returns-clause-numbers : goal.returns-clause-numbers
 returns-clause-numbers c =
-    let size : length c.args.self.now ≡ c.self.inside.len =
-    row_length c.self.inside.words.items c.self.inside.len c.args.self.now c.self.view_is in
-    row_set c.self.inside.words.items c.as_mut_slice.result.now c.set_bit.new.words
+    (row_set c.self.inside.words.items c.as_mut_slice.result.now c.set_bit.new.words
     (with_items c.self.inside.words c.set_bit.new.words).items c.self.inside.len c.args.number c.args.self.now
-    c.self.view_is c.as_mut_slice.ensures.value
-    (with_items_is c.self.inside.words c.set_bit.new.words (omega arith))
-    (omega (arith, size, c.requires)) c.set_bit.ensures
+    c.self.view_is c.self.invariant c.as_mut_slice.ensures.value
+    (with_items_is c.self.inside.words c.set_bit.new.words (omega arith)) (omega arith) c.requires c.set_bit.ensures).1
