@@ -65,19 +65,6 @@ same_width a b n h k = elim (cases_lt n 65) [
   ]
 ]
 
--- they are enough
-pub wide_enough : (words n : ℕ) → IsWidth words n → n ≤ 64 * words
-wide_enough words n h = elim (cases_lt n 65) [
-  | inl one ↦ omega (arith, one, h.one (omega (arith, one)))
-  | inr some ↦ elim (cases_lt n 129) [
-    | inl two ↦ omega (arith, two, h.two (omega (arith, some)) (omega (arith, two)))
-    | inr more ↦ elim (cases_lt n 257) [
-      | inl four ↦ omega (arith, four, h.four (omega (arith, more)) (omega (arith, four)))
-      | inr most ↦ omega (arith, h.eights (omega (arith, most)))
-    ]
-  ]
-]
-
 -- a row's length
 pub row_length : (words : List ℕ) (n : ℕ) (row : List Bool) → members_below words n ≡ row → length row ≡ n
 row_length words n row seen = ap (λ (r : List Bool). length r) (sym seen) ∙ members_length words n

@@ -1,7 +1,7 @@
 -- What holds of a breadth-first search before each level, and that the row is exact at the end.
 use Rattle.std.proofs.Common.{◌≡◌, ◌<◌, ◌≤◌, ◌+◌, ◌⊎◌, inl, inr, ℕ, suc, Bool, true, false, ◌||◌, ◌&&◌, ◌↔◌}
 use Rattle.std.proofs.Common.{not, List, length, get_or, take, drop, ◌++◌, arith, refl, sym, subst, ◌∙◌}
-use Rattle.std.proofs.lemmas.Bool.{cases_eq}
+use Rattle.std.proofs.lemmas.Bool.{cases_Bool, cases_eq}
 use Rattle.std.proofs.lemmas.List.{take-append-le, take_all}
 use Rattle.relations.specs.Cycle.{Walk, IsExactRow}
 use Rattle.bitrow.specs.Bits.{is_in}
@@ -11,12 +11,7 @@ use Rattle.search.specs.Levels.{Closes, IsClosing}
 use Rattle.relations.specs.CycleLaws.{walk_more}
 use Rattle.search.proofs.Walks.{walk_of, grows_along}
 
--- a test is true or false
-pub cases_bool : (b : Bool) → (b ≡ true) ⊎ (b ≡ false)
-cases_bool true = inl refl
-cases_bool false = inr refl
-
--- but not both
+-- a test is not both true and false
 pub not_both : (b : Bool) → b ≡ true → b ≡ false → ⊥
 not_both b is other = let wrong : true ≡ false = sym is ∙ other in cc
 
@@ -108,7 +103,7 @@ module _ (R : ℕ → ℕ → Type 0) (n k v label : ℕ) (within : (e f : ℕ) 
   -- an event has the label, or the one that it had
   now_has : (e : ℕ) → e < n → ((is_in level e ≡ true) × (get_or after e 0 ≡ label)) ⊎
       ((is_in level e ≡ false) × (get_or after e 0 ≡ get_or labels e 0))
-  now_has e at = elim (cases_bool (is_in level e)) [
+  now_has e at = elim (cases_Bool (is_in level e)) [
     | inl is ↦ inl (is, t.labelled e at is)
     | inr other ↦ inr (other, t.left e (inr other))
   ]
@@ -165,27 +160,6 @@ module _ (R : ℕ → ℕ → Type 0) (n k v label : ℕ) (within : (e f : ℕ) 
             | inl low ↦ omega (arith, low, kept.1, same)
             | inr last ↦ absurd (not_both (is_in level f) last.0 kept.0)
           ]
-        ]
-      ]
-
-  -- where the next label is the cap, the row is exact
-  pub last_exact : label + 1 ≡ k → IsExactRow R n k v after
-  last_exact last = exact_of R n k v after (size ∙ h.one_each) capped
-      (λ e at small. walk_now e at (omega (arith, small, last))) start_now grows
-    where
-      capped : (e : ℕ) → e < n → get_or after e 0 ≤ k
-      capped e at = elim (or_cap_now e at) [
-        | inl below ↦ omega (arith, below, last)
-        | inr full ↦ omega
-            (arith, full)
-      ]
-
-      grows : (e f : ℕ) → R e f → get_or after f 0 ≤ get_or after e 0 + 1
-      grows e f r = elim (or_cap_now e (within e f r).0) [
-        | inr full ↦ omega (arith, full, capped f (within e f r).1)
-        | inl below ↦ elim (now_has e (within e f r).0) [
-          | inl new ↦ omega (arith, new.1, last, capped f (within e f r).1)
-          | inr same ↦ grows_kept e f r same.1 below
         ]
       ]
 
@@ -271,7 +245,7 @@ module _ (R : ℕ → ℕ → Type 0) (n k v label : ℕ) (within : (e f : ℕ) 
   nearest_more P closing closing_more same c step = closed_nearest R n k v (label + 1) closing_more after
       within or_cap_now (closes_more P closing closing_more same c step)
 
-  module _ (more seen_more level_more : List Bool) (x : IsUnion R level more)
+  module _ (more seen_more level_more : List Bool) (x : IsUnion R level n more)
       (sees : (e : ℕ) → is_in seen_more e ≡ (is_in seen e || is_in level e))
       (goes : (e : ℕ) → is_in level_more e ≡ (is_in more e && not (is_in seen_more e))) where
     -- what was seen, or is taken, is seen
@@ -290,7 +264,7 @@ module _ (R : ℕ → ℕ → Type 0) (n k v label : ℕ) (within : (e f : ℕ) 
         let f_in : f < n = (within e f r).1 in
         elim (now_has e e_in) [
           | inr same ↦ inl (grows_kept e f r same.1 below)
-          | inl new ↦ elim (cases_bool (is_in seen_more f)) [
+          | inl new ↦ elim (cases_Bool (is_in seen_more f)) [
             | inl old ↦ elim (true_or (is_in seen f) (is_in level f) (sym (sees f) ∙ old)) [
               | inl before ↦ elim (now_has f f_in) [
                 | inl also ↦ inl (omega (arith, also.1, new.1))
@@ -300,7 +274,7 @@ module _ (R : ℕ → ℕ → Type 0) (n k v label : ℕ) (within : (e f : ℕ) 
             ]
             | inr fresh ↦ inr (
               goes f ∙ and_true (is_in more f) (is_in seen_more f)
-                  (x.joined e f new.0 r) fresh,
+                  (x.joined e f e_in new.0 r) fresh,
               omega (arith, new.1),
             )
           ]

@@ -1,6 +1,5 @@
 pub mod Bound
 pub mod WorkerJobs
-pub mod Memory
 pub mod Levels
 pub mod Cycles
 pub mod SourceRow

@@ -10,7 +10,6 @@ mod job;
 mod label_row;
 mod least;
 mod lists;
-mod room;
 mod row;
 mod slots;
 mod splitting;

@@ -1,14 +1,13 @@
 //! A breadth-first search.
 
-ghost use Rattle.std.specs.Prelude.{◌≡◌, ◌<◌, length, IsTrue};
+ghost use Rattle.std.specs.Prelude.{◌≡◌, ◌<◌, ◌≤◌, length, IsTrue};
 ghost use Rattle.relations.specs.Cycle.{IsExactRow};
+ghost use Rattle.bitrow.specs.Bits.{IsWidth};
 ghost use Rattle.bitrow.specs.Rows.{Marked, IsBitSquare};
 ghost use Rattle.search.specs.Cycles.{IsNearest};
-ghost use Rattle.search.specs.Memory.{AreSets};
 ghost use Rattle.search.specs.Levels.{IsClosing};
 
-use crate::room::Sets;
-use bitrow::{BitRow, label_numbers, take_level};
+use bitrow::{BitRow, no_number, one_number, take_level};
 use common::EventId;
 
 /// The least label that closes, with one more level; the cap where there is none.
@@ -23,39 +22,33 @@ fn closing_with(closes: bool, label: u16, cap: u16, closing: u16) -> u16
 }
 
 /// Writes the least number of steps from a source to each event, or the cap where none is less, and returns the
-/// least of these numbers for the events that are forced before the source. It is quickest where N words hold a
-/// set. It is compiled by itself: among the values of its callers, its loop would have too few registers.
+/// least of these numbers for the events that are forced before the source. It is compiled by itself: among the values
+/// of its callers, its loop would have too few registers.
 #[inline(never)]
 fn row_in_words<const N: usize>(
     rows: &[BitRow],
     source: EventId,
     cap: u16,
     labels: &mut [u16],
-    sets: &mut Sets,
 ) -> u16
     requires square { IsBitSquare rows.now }
+    requires width { IsWidth N (length rows.now) }
     requires source { source < length rows.now }
     requires labels { length labels.old ≡ length rows.now }
-    requires sets { AreSets (length rows.now) sets.old }
     ensures exact { IsExactRow (Marked rows.now) (length rows.now) cap source labels.new }
     ensures nearest { IsNearest (Marked rows.now) source labels.new cap result }
-    ensures sets { AreSets (length rows.now) sets.new }
 {
     labels.fill(cap);
-    sets.begin(source);
+    let mut seen = no_number::<N>();
+    let mut level = one_number::<N>(source as usize);
     let mut closing = cap;
     for label in 0..cap {
-        if label + 1 == cap {
-            let closes = label_numbers(rows, &sets.level, label, source as usize, labels);
-            return closing_with(closes, label, cap, closing);
-        }
-        let (closes, more) = take_level::<N>(
+        let (closes, more) = take_level(
             rows,
             label,
             source as usize,
-            &mut sets.level,
-            &mut sets.seen,
-            &mut sets.next,
+            &mut level,
+            &mut seen,
             labels,
         );
         closing = closing_with(closes, label, cap, closing);
@@ -67,25 +60,18 @@ fn row_in_words<const N: usize>(
 }
 
 /// Writes the same row and returns the same number.
-pub(crate) fn row_with(
-    rows: &[BitRow],
-    source: EventId,
-    cap: u16,
-    labels: &mut [u16],
-    sets: &mut Sets,
-) -> u16
+pub(crate) fn row_with(rows: &[BitRow], source: EventId, cap: u16, labels: &mut [u16]) -> u16
     requires square { IsBitSquare rows.now }
+    requires few { length rows.now ≤ 512 }
     requires source { source < length rows.now }
     requires labels { length labels.old ≡ length rows.now }
-    requires sets { AreSets (length rows.now) sets.old }
     ensures exact { IsExactRow (Marked rows.now) (length rows.now) cap source labels.new }
     ensures nearest { IsNearest (Marked rows.now) source labels.new cap result }
-    ensures sets { AreSets (length rows.now) sets.new }
 {
-    match rows.len().div_ceil(64) {
-        1 => row_in_words::<1>(rows, source, cap, labels, sets),
-        2 => row_in_words::<2>(rows, source, cap, labels, sets),
-        4 => row_in_words::<4>(rows, source, cap, labels, sets),
-        _ => row_in_words::<8>(rows, source, cap, labels, sets),
+    match rows.len() {
+        0..=64 => row_in_words::<1>(rows, source, cap, labels),
+        65..=128 => row_in_words::<2>(rows, source, cap, labels),
+        129..=256 => row_in_words::<4>(rows, source, cap, labels),
+        _ => row_in_words::<8>(rows, source, cap, labels),
     }
 }

@@ -3,14 +3,12 @@
 ghost use Rattle.std.specs.Prelude.{ℕ, List, ◌<◌, ◌+◌, length, All, IfOk, IfSome};
 ghost use Rattle.std.specs.Arc.{arc_value};
 ghost use Rattle.relations.specs.Relation.{Table};
-ghost use Rattle.search.specs.Memory.{AreSets};
 ghost use Rattle.search.specs.Bound.{IsSeatFor, Keeps, lengths_of};
 ghost use Rattle.search.specs.WorkerJobs.{IsRowFor, AreRowsFor};
 ghost use Rattle.search.specs.Slots.{AreSlots, AreSlotsFilled, IsRowFrom};
 
 use crate::label_row::LabelRow;
-use crate::room::Sets;
-use crate::under::row_by_sets;
+use crate::under::row_of;
 use crate::worker_jobs::WorkerRows;
 use best::{Best, BestSeat};
 use common::{EventId, Gate, OutOfMemory};
@@ -116,19 +114,16 @@ fn add_row<G: Gate>(
     slot: Option<LabelRow>,
     best: &Best,
     seat: &mut BestSeat,
-    sets: &mut Sets,
     gate: &G,
     rows: &mut Vec<LabelRow>,
 ) -> Result<(), OutOfMemory>
     requires source { source < length (arc_value relation.now) }
     requires slot { IfSome slot (IsRowFrom (arc_value relation.now) (lengths_of seat.old) source) }
     requires seat { IsSeatFor best.now (arc_value relation.now) seat.old }
-    requires sets { AreSets (length (arc_value relation.now)) sets.old }
     requires rows { AreSlotsFilled (arc_value relation.now) (lengths_of seat.old) source
         rows.old.items }
     ensures seat { IsSeatFor best.now (arc_value relation.now) seat.new }
     ensures kept { Keeps (lengths_of seat.old) (lengths_of seat.new) }
-    ensures sets { AreSets (length (arc_value relation.now)) sets.new }
     ensures rows { IfOk result (λ _. AreSlotsFilled (arc_value relation.now) (lengths_of seat.new)
         (source + 1) rows.new.items) }
 {
@@ -137,7 +132,7 @@ fn add_row<G: Gate>(
         return Ok(());
     }
     gate.begin(0, source as usize);
-    let made = row_by_sets(alloc, relation, source, best, seat, sets);
+    let made = row_of(alloc, relation, source, best, seat);
     gate.done(0, source as usize);
     rows.push(made?)?;
     Ok(())
@@ -163,13 +158,10 @@ pub(crate) fn filled<G: Gate>(
     table.sound();
     let mut slots = slots;
     let mut rows = Vec::with_capacity(alloc, table.len())?;
-    let mut sets = Sets::new(alloc, table.len())?;
     for number in 0..table.len() {
         let source = number as EventId;
         let slot = take_row(number, &mut slots);
-        add_row(
-            alloc, relation, source, slot, best, seat, &mut sets, gate, &mut rows,
-        )?;
+        add_row(alloc, relation, source, slot, best, seat, gate, &mut rows)?;
     }
     Ok(rows)
 }

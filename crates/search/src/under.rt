@@ -9,12 +9,10 @@ ghost use Rattle.relations.specs.Cycle.{IsExactRow};
 ghost use Rattle.best.specs.Rule.{IsLength};
 ghost use Rattle.best.specs.Seats.{IsBestSeatOf, known_of};
 ghost use Rattle.search.specs.Cycles.{IsNearest};
-ghost use Rattle.search.specs.Memory.{AreSets};
 ghost use Rattle.search.specs.Bound.{Covers, CoversClosing, IsCapWithin, Keeps, IsSeatFor, lengths_of};
 
 use crate::job::SourceJob;
 use crate::label_row::LabelRow;
-use crate::room::Sets;
 use crate::row::row_with;
 use best::{Best, BestSeat};
 use common::{EventId, OutOfMemory};
@@ -35,25 +33,17 @@ fn is_shorter(closing: u16, cap: Option<u16>, events: u16) -> bool
 
 /// Writes the row of a source, cut at the cap or else at the number of events, and returns the least label that
 /// closes a cycle through it.
-fn row_cut(
-    relation: &Relation,
-    source: EventId,
-    cap: Option<u16>,
-    labels: &mut [u16],
-    sets: &mut Sets,
-) -> u16
+fn row_cut(relation: &Relation, source: EventId, cap: Option<u16>, labels: &mut [u16]) -> u16
     requires source { source < length relation.now }
     requires labels { length labels.old ≡ length relation.now }
-    requires sets { AreSets (length relation.now) sets.old }
     ensures exact { IsExactRow (Related relation.now) (length relation.now)
         (unwrap_or cap (length relation.now)) source labels.new }
     ensures nearest { IsNearest (Related relation.now) source labels.new
         (unwrap_or cap (length relation.now)) result }
-    ensures sets { AreSets (length relation.now) sets.new }
 {
     relation.sound();
     let most = cap.unwrap_or(relation.len() as u16);
-    row_with(relation.successors(), source, most, labels, sets)
+    row_with(relation.successors(), source, most, labels)
 }
 
 /// Lowers the bound to the length of the cycle that the label closes, if it is shorter than the cap.
@@ -71,21 +61,18 @@ fn publish_length(best: &Best, seat: &mut BestSeat, cap: Option<u16>, closing: u
     }
 }
 
-/// The row of a source, as `row_under` gives it, by sets that are used again.
-pub(crate) fn row_by_sets(
+/// The row of a source, as `row_under` gives it.
+pub(crate) fn row_of(
     alloc: Global,
     relation: &Arc<Relation>,
     source: EventId,
     best: &Best,
     seat: &mut BestSeat,
-    sets: &mut Sets,
 ) -> Result<LabelRow, OutOfMemory>
     requires source { source < length (arc_value relation.now) }
     requires seat { IsSeatFor best.now (arc_value relation.now) seat.old }
-    requires sets { AreSets (length (arc_value relation.now)) sets.old }
     ensures seat { IsSeatFor best.now (arc_value relation.now) seat.new }
     ensures kept { Keeps (lengths_of seat.old) (lengths_of seat.new) }
-    ensures sets { AreSets (length (arc_value relation.now)) sets.new }
     ensures relation { IfOk result (λ row. row.relation ≡ arc_value relation.now) }
     ensures source { IfOk result (λ row. row.source ≡ source) }
     ensures cap { IfOk result (λ row. IsCapWithin (lengths_of seat.old) row.cap) }
@@ -99,7 +86,7 @@ pub(crate) fn row_by_sets(
     let shared = Arc::try_clone(relation)?;
     let mut labels = vec![in alloc; 0; events]?;
     let cap = best.read(seat);
-    let closing = row_cut(table, source, cap, labels.as_mut_slice(), sets);
+    let closing = row_cut(table, source, cap, labels.as_mut_slice());
     publish_length(best, seat, cap, closing, events as u16);
     Ok(LabelRow::of(shared, source, cap, labels))
 }
@@ -125,7 +112,5 @@ pub fn row_under(
         job.now.source) }
     ensures unchanged { IfErr result (λ _. seat.new ≡ seat.old) }
 {
-    let relation = job.relation();
-    let mut sets = Sets::new(alloc, relation.len())?;
-    row_by_sets(alloc, relation, job.source(), best, seat, &mut sets)
+    row_of(alloc, job.relation(), job.source(), best, seat)
 }

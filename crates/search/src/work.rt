@@ -3,15 +3,13 @@
 ghost use Rattle.std.specs.Prelude.{◌≡◌, ◌<◌, All, IfOk, IfSome, length};
 ghost use Rattle.relations.specs.Relation.{Table};
 ghost use Rattle.best.specs.declared.seat.Best.{Best};
-ghost use Rattle.search.specs.Memory.{AreSets};
 ghost use Rattle.search.specs.Bound.{IsSeatFor, lengths_of};
 ghost use Rattle.search.specs.WorkerJobs.{IsRowFor, AreRowsOf, AreJobsFor, AreRowsFor};
 ghost use Rattle.search.specs.Started.{IsStarted};
 
 use crate::job::SourceJob;
 use crate::label_row::LabelRow;
-use crate::room::Sets;
-use crate::under::row_by_sets;
+use crate::under::row_of;
 use crate::worker_jobs::{RowsPromise, WorkerJobs, WorkerRows};
 use best::{Best, BestSeat};
 use common::{Gate, OutOfMemory};
@@ -29,20 +27,17 @@ fn make_row<G: Gate>(
     job: SourceJob,
     best: &Best,
     seat: &mut BestSeat,
-    sets: &mut Sets,
     rows: &mut Vec<LabelRow>,
     gate: &G,
 )
     requires seat { IsSeatFor best.now job.relation seat.old }
-    requires sets { AreSets (length job.relation) sets.old }
     requires rows { All (IsRowFor job.relation (lengths_of seat.old)) rows.old.items }
     ensures seat { IsSeatFor best.now job.relation seat.new }
-    ensures sets { AreSets (length job.relation) sets.new }
     ensures rows { All (IsRowFor job.relation (lengths_of seat.new)) rows.new.items }
 {
     let source = job.source();
     gate.begin(worker, source as usize);
-    let made = row_by_sets(alloc, job.relation(), source, best, seat, sets);
+    let made = row_of(alloc, job.relation(), source, best, seat);
     gate.done(worker, source as usize);
     let Ok(row) = made else {
         return;
@@ -67,13 +62,8 @@ fn work<G: Gate>(
         jobs,
     } = worker_jobs;
     let mut rows = Vec::new(alloc);
-    let Ok(mut sets) = Sets::new(alloc, relation.len()) else {
-        return WorkerRows { seat, rows };
-    };
     for job in jobs {
-        make_row(
-            alloc, worker, job, best, &mut seat, &mut sets, &mut rows, gate,
-        );
+        make_row(alloc, worker, job, best, &mut seat, &mut rows, gate);
     }
     WorkerRows { seat, rows }
 }

@@ -1,7 +1,6 @@
-use Rattle.std.proofs.Common.{◌≡◌, ◌∙◌, ℕ, List, length, arith, ap, subst}
+use Rattle.std.proofs.Common.{◌≡◌, ℕ, List, length, arith, ap, subst}
 use Rattle.std.specs.Arc.{arc_value}
 use Rattle.relations.specs.Relation.{Table}
-use Rattle.search.specs.Memory.{AreSets}
 use Rattle.search.specs.SourceRow.{SourceRow}
 use Rattle.search.specs.Bound.{lengths_of}
 use Rattle.search.specs.Slots.{AreSlotsFilled}
@@ -23,9 +22,6 @@ pub add_row-requires-clause-slot : goal.add_row-requires-clause-slot
 add_row-requires-clause-slot g c κs within = (c.take_row-slot.ensures (arc_value c.args.relation.now)
     (lengths_of c.loop-number.seat) c.loop-number.invariant.3).0
 
-pub add_row-requires-clause-sets : goal.add_row-requires-clause-sets
-add_row-requires-clause-sets g c κs within = c.loop-number.invariant.4
-
 pub add_row-requires-clause-rows : goal.add_row-requires-clause-rows
 add_row-requires-clause-rows g c κs within = c.loop-number.invariant.2
 
@@ -45,7 +41,6 @@ loop-number-preserved g c =
       c.in_ok-add_row.ensures.rows,
       slots_kept t before (lengths_of c.add_row.new.seat) c.take_row-slot.new.slots.items c.add_row.ensures.kept
           (c.take_row-slot.ensures t before inv.3).1,
-      c.add_row.ensures.sets,
     )
 
 pub returns-clause-seat : goal.returns-clause-seat
@@ -71,6 +66,4 @@ loop-number-init g c = (
     each = λ v d at. absurd (omega (arith, at));
   },
   c.requires.slots,
-  subst (λ (n : ℕ). AreSets n c.in_ok-sets.sets)
-      (c.len-2.ensures ∙ ap (λ (t : Table). length t) c.deref-table.ensures) c.in_ok-sets.ensures,
 )

@@ -1,6 +1,4 @@
-use Rattle.std.proofs.Common.{length}
 use Rattle.std.specs.Arc.{arc_value}
-use Rattle.search.specs.Memory.{AreSets}
 use Rattle.search.specs.Bound.{IsSeatFor, Keeps, lengths_of}
 use Rattle.search.specs.Slots.{AreSlots, AreSlotsFilled}
 use Rattle.search.proofs.slots.filled.Given as goal
@@ -11,4 +9,3 @@ invariant-loop-number g l =
     × Keeps (lengths_of l.initial.seat) (lengths_of l.seat)
     × AreSlotsFilled (arc_value l.relation) (lengths_of l.seat) l.number l.rows.items
     × AreSlots (arc_value l.relation) (lengths_of l.seat) l.slots.items
-    × AreSets (length (arc_value l.relation)) l.sets

@@ -1,15 +1,10 @@
-use Rattle.std.proofs.Common.{◌≡◌, ◌∙◌, ℕ, Bool, List, length, ap, sym, subst}
+use Rattle.std.proofs.Common.{◌≡◌, ◌∙◌, ℕ, Bool, List, length, ap, subst}
 use Rattle.std.specs.Option.{unwrap_or}
 use Rattle.relations.specs.Relation.{Related}
 use Rattle.relations.specs.Cycle.{IsExactRow}
 use Rattle.bitrow.specs.Rows.{Marked}
 use Rattle.search.specs.Cycles.{IsNearest}
-use Rattle.search.specs.Memory.{AreSets}
 use Rattle.search.proofs.under.row_cut.Goals as goal
-
-pub row_with-requires-clause-sets : goal.row_with-requires-clause-sets
-row_with-requires-clause-sets c = subst (λ (n : ℕ). AreSets n c.args.sets.now) (sym c.successors.ensures.len)
-    c.requires.sets
 
 pub returns-clause-exact : goal.returns-clause-exact
 returns-clause-exact c =
@@ -32,7 +27,3 @@ returns-clause-nearest c =
     c.row_with.result) most
     (subst (λ (sets : List (List Bool)). IsNearest (Marked sets) c.args.source c.row_with.new.labels
     c.unwrap_or-most.result c.row_with.result) c.successors.ensures.sets c.row_with.ensures.nearest)
-
-pub returns-clause-sets : goal.returns-clause-sets
-returns-clause-sets c = subst (λ (n : ℕ). AreSets n c.row_with.new.sets) c.successors.ensures.len
-    c.row_with.ensures.sets

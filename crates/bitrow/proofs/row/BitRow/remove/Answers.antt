@@ -1,7 +1,8 @@
 use Rattle.std.proofs.Common.{◌≡◌, arith, sym, ◌∙◌, length}
 use Rattle.std.proofs.lemmas.List.{with_items_is}
 use Rattle.std.specs.Vec.{with_items}
-use Rattle.bitrow.proofs.Members.{members_length, row_length, row_remove, wide_enough}
+use Rattle.bitrow.specs.RowLaws.{wide_enough}
+use Rattle.bitrow.proofs.Members.{members_length, row_length, row_remove}
 use Rattle.bitrow.proofs.row.BitRow.remove.Goals as goal
 
 pub clear_bit-requires : goal.clear_bit-requires

@@ -1,7 +1,8 @@
 use Rattle.std.proofs.Common.{◌≡◌, arith, sym, ◌∙◌, length}
 use Rattle.std.proofs.lemmas.List.{with_items_is}
 use Rattle.std.specs.Vec.{with_items}
-use Rattle.bitrow.proofs.Members.{members_length, row_length, row_set, wide_enough}
+use Rattle.bitrow.specs.RowLaws.{wide_enough}
+use Rattle.bitrow.proofs.Members.{members_length, row_length, row_set}
 use Rattle.bitrow.proofs.row.BitRow.set.Goals as goal
 
 pub set_bit-requires : goal.set_bit-requires

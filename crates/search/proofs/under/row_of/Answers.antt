@@ -5,13 +5,12 @@ use Rattle.relations.specs.Relation.{Table, Related}
 use Rattle.relations.specs.Cycle.{IsExactRow}
 use Rattle.best.specs.Rule.{IsLength}
 use Rattle.best.specs.Seats.{known_of}
-use Rattle.search.specs.Memory.{AreSets}
 use Rattle.search.specs.SourceRow.{SourceRow}
 use Rattle.search.specs.Bound.{AtMost, Covers, CoversClosing, lengths_of}
 use Rattle.search.proofs.Known.{read_cycle, read_keeps, read_known, read_few, read_within}
 use Rattle.search.proofs.Levels.{written_back}
 use Rattle.search.proofs.Through.{covers_each, shown_length}
-use Rattle.search.proofs.under.row_by_sets.Goals as goal
+use Rattle.search.proofs.under.row_of.Goals as goal
 
 pub read-cap-requires : goal.read-cap-requires
 read-cap-requires c = record { seat = c.requires.seat.0 }
@@ -19,10 +18,6 @@ read-cap-requires c = record { seat = c.requires.seat.0 }
 pub row_cut-closing-requires-clause-source : goal.row_cut-closing-requires-clause-source
 row_cut-closing-requires-clause-source c = subst (λ (t : Table). c.args.source < length t)
     (sym c.deref-table.ensures) c.requires.source
-
-pub row_cut-closing-requires-clause-sets : goal.row_cut-closing-requires-clause-sets
-row_cut-closing-requires-clause-sets c = subst (λ (t : Table). AreSets (length t) c.args.sets.now)
-    (sym c.deref-table.ensures) c.requires.sets
 
 pub publish_length-requires-clause-seat : goal.publish_length-requires-clause-seat
 publish_length-requires-clause-seat c = c.read-cap.ensures.seat
@@ -55,10 +50,6 @@ pub returns-clause-kept : goal.returns-clause-kept
 returns-clause-kept c = λ k h. c.publish_length.ensures.kept k
     (read_keeps (known_of c.args.seat.now) (known_of c.read-cap.new.seat) c.read-cap.result
     c.read-cap.ensures.reads k h)
-
-pub returns-clause-sets : goal.returns-clause-sets
-returns-clause-sets c = subst (λ (t : Table). AreSets (length t) c.row_cut-closing.new.sets) c.deref-table.ensures
-    c.row_cut-closing.ensures.sets
 
 pub returns-clause-relation : goal.returns-clause-relation
 returns-clause-relation c = ap (λ (l : SourceRow). l.relation) c.of.ensures ∙ c.in_ok-shared.ensures
