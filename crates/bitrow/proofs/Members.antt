@@ -1,9 +1,10 @@
 -- The list of a row's numbers, from its bits.
 use Rattle.std.proofs.Common.{◌≡◌, ◌<◌, ◌≤◌, ◌+◌, ◌*◌, ◌/◌, inl, inr, ℕ, zero, suc, Bool, true, false, Option}
-use Rattle.std.proofs.Common.{Some, None, ◌||◌, ◌&&◌, not, ◌^◌, List, length, get_or, arith, refl, sym, ap, subst, ◌∙◌}
+use Rattle.std.proofs.Common.{Some, None, ◌||◌, ◌&&◌, not, ◌^◌, List, Vec, Global, length, get_or, arith, refl, sym, ap, subst, ◌∙◌}
 use Rattle.std.proofs.lemmas.Bool.{cases_lt, ne_eqb, true≢false}
-use Rattle.std.proofs.lemmas.List.{get_or_past, get_or-replicate, length-replicate}
+use Rattle.std.proofs.lemmas.List.{get_or_past, get_or-replicate, length-replicate, with_items_is}
 use Rattle.std.specs.Prelude.{◌==◌, replicate}
+use Rattle.std.specs.Vec.{with_items}
 use Rattle.bitrow.specs.Bits.{bit_of, bits_of, listed, members_below, is_in, IsClear, IsWidth, AreWordsOf}
 use Rattle.bitrow.specs.Bits.{IsNextBit, IsNext}
 use Rattle.bitrow.proofs.Bits.{none_in}
@@ -107,67 +108,67 @@ unfolding bits_of
 bits_next words from next h = row_next words (64 * length words) (members_below words (64 * length words)) from next
     refl (clear_past words (64 * length words) (omega arith)) h
 
--- words that a call leaves in the place of others, bit by bit: they hold a set of the same length, and each number is
--- in it by what it was
-pub row_by : (f : ℕ → Bool → Bool) (old now new after : List ℕ) (n : ℕ) (row : List Bool)
-    → members_below old n ≡ row → AreWordsOf old n → now ≡ old → after ≡ new → length new ≡ length now
-    → ((j : ℕ) → n ≤ j → f j false ≡ false) → ((j : ℕ) → bit_of new j ≡ f j (bit_of now j))
-    → AreWordsOf after n × ((j : ℕ) → is_in (members_below after n) j ≡ f j (is_in row j))
-row_by f old now new after n row seen h same kept size fixed each = (
-  record {
-    width = subst (λ (k : ℕ). IsWidth k n)
-        (ap (λ (ws : List ℕ). length ws) (sym same) ∙ (sym size ∙ ap (λ (ws : List ℕ). length ws) (sym kept))) h.width;
-    clear = clear;
-    counted = h.counted;
-  },
-  λ j. members_bit after n clear j ∙ (by j ∙ ap (f j) (sym (row_bit old n row seen h.clear j))),
-)
-  where
-    by : (j : ℕ) → bit_of after j ≡ f j (bit_of old j)
-    by j = ap (λ (ws : List ℕ). bit_of ws j) kept ∙ (each j ∙ ap (λ (ws : List ℕ). f j (bit_of ws j)) same)
+-- what a row has become, number by number
+pub record Becomes (each : ℕ → Bool → Bool) (row : List Bool) (words : List ℕ) (n : ℕ) : Type 0 where
+  pub held : AreWordsOf words n
+  pub size : length (members_below words n) ≡ length row
+  pub numbers : (j : ℕ) → is_in (members_below words n) j ≡ each j (is_in row j)
 
-    clear : IsClear n after
-    clear j past = by j ∙ (ap (f j) (h.clear j past) ∙ fixed j past)
+module _ (v : Vec ℕ Global) (now new : List ℕ) (n : ℕ) (row : List Bool) (seen : members_below v.items n ≡ row)
+    (h : AreWordsOf v.items n) (same : now ≡ v.items) (long : length new ≡ v.len) (size : length new ≡ length now) where
+  -- a row whose words a call leaves as new ones, bit by bit
+  row_by : (f : ℕ → Bool → Bool) → ((j : ℕ) → n ≤ j → f j false ≡ false)
+      → ((j : ℕ) → bit_of new j ≡ f j (bit_of now j)) → Becomes f row (with_items v new).items n
+  row_by f fixed each = record {
+    held = record {
+      width = subst (λ (k : ℕ). IsWidth k n) (ap (λ (ws : List ℕ). length ws) (sym same)
+          ∙ (sym size ∙ ap (λ (ws : List ℕ). length ws) (sym kept))) h.width;
+      clear = clear;
+      counted = h.counted;
+    };
+    size = members_length (with_items v new).items n ∙ sym (row_length v.items n row seen);
+    numbers = λ j. members_bit (with_items v new).items n clear j
+        ∙ (by j ∙ ap (f j) (sym (row_bit v.items n row seen h.clear j)));
+  }
+    where
+      kept : (with_items v new).items ≡ new
+      kept = with_items_is v new long
 
--- one number more
-pub row_set : (old now new after : List ℕ) (n e : ℕ) (row : List Bool) → members_below old n ≡ row
-    → AreWordsOf old n → now ≡ old → after ≡ new → length new ≡ length now → e < length row
-    → ((j : ℕ) → bit_of new j ≡ (bit_of now j || (j == e)))
-    → AreWordsOf after n × ((j : ℕ) → is_in (members_below after n) j ≡ (is_in row j || (j == e)))
-row_set old now new after n e row seen h same kept size inside each =
-    row_by (λ (j : ℕ) (b : Bool). b || (j == e)) old now new after n row seen h same kept size
-    (λ j past. ne_eqb j e (λ is. omega (arith, is, past, inside, row_length old n row seen))) each
+      by : (j : ℕ) → bit_of (with_items v new).items j ≡ f j (bit_of v.items j)
+      by j = ap (λ (ws : List ℕ). bit_of ws j) kept ∙ (each j ∙ ap (λ (ws : List ℕ). f j (bit_of ws j)) same)
 
--- one number fewer
-pub row_remove : (old now new after : List ℕ) (n e : ℕ) (row : List Bool) → members_below old n ≡ row
-    → AreWordsOf old n → now ≡ old → after ≡ new → length new ≡ length now
-    → ((j : ℕ) → bit_of new j ≡ (bit_of now j && not (j == e)))
-    → AreWordsOf after n × ((j : ℕ) → is_in (members_below after n) j ≡ (is_in row j && not (j == e)))
-row_remove old now new after n e row seen h same kept size each =
-    row_by (λ (j : ℕ) (b : Bool). b && not (j == e)) old now new after n row seen h same kept size (λ j past. refl) each
+      clear : IsClear n (with_items v new).items
+      clear j past = by j ∙ (ap (f j) (h.clear j past) ∙ fixed j past)
 
--- the numbers of both sets
-pub row_or : (old now new after other lent : List ℕ) (n m : ℕ) (row set : List Bool) → members_below old n ≡ row
-    → members_below other m ≡ set → AreWordsOf old n → AreWordsOf other m → now ≡ old → lent ≡ other → after ≡ new
-    → length new ≡ length now → length set ≡ length row
-    → ((j : ℕ) → bit_of new j ≡ (bit_of now j || bit_of lent j))
-    → AreWordsOf after n × ((j : ℕ) → is_in (members_below after n) j ≡ (is_in row j || is_in set j))
-row_or old now new after other lent n m row set seen also h k same second kept size long each =
-    row_by (λ (j : ℕ) (b : Bool). b || is_in set j) old now new after n row seen h same kept size
-    (λ j past. get_or_past set j false (omega (arith, past, long, row_length old n row seen)))
-    (λ j. each j ∙ ap (λ (b : Bool). bit_of now j || b)
-    (ap (λ (ws : List ℕ). bit_of ws j) second ∙ sym (row_bit other m set also k.clear j)))
+  -- one number more
+  pub row_set : (e : ℕ) → e < length row → ((j : ℕ) → bit_of new j ≡ (bit_of now j || (j == e)))
+      → Becomes (λ j b. b || (j == e)) row (with_items v new).items n
+  row_set e inside each = row_by (λ (j : ℕ) (b : Bool). b || (j == e))
+      (λ j past. ne_eqb j e (λ is. omega (arith, is, past, inside, row_length v.items n row seen))) each
 
--- the numbers of one set that are not in the other
-pub row_and_not : (old now new after other lent : List ℕ) (n m : ℕ) (row set : List Bool) → members_below old n ≡ row
-    → members_below other m ≡ set → AreWordsOf old n → AreWordsOf other m → now ≡ old → lent ≡ other → after ≡ new
-    → length new ≡ length now → ((j : ℕ) → bit_of new j ≡ (bit_of now j && not (bit_of lent j)))
-    → AreWordsOf after n × ((j : ℕ) → is_in (members_below after n) j ≡ (is_in row j && not (is_in set j)))
-row_and_not old now new after other lent n m row set seen also h k same second kept size each =
-    row_by (λ (j : ℕ) (b : Bool). b && not (is_in set j)) old now new after n row seen h same kept size
-    (λ j past. refl)
-    (λ j. each j ∙ ap (λ (b : Bool). bit_of now j && not b)
-    (ap (λ (ws : List ℕ). bit_of ws j) second ∙ sym (row_bit other m set also k.clear j)))
+  -- one number fewer
+  pub row_remove : (e : ℕ) → ((j : ℕ) → bit_of new j ≡ (bit_of now j && not (j == e)))
+      → Becomes (λ j b. b && not (j == e)) row (with_items v new).items n
+  row_remove e each = row_by (λ (j : ℕ) (b : Bool). b && not (j == e)) (λ j past. refl) each
+
+  module _ (other lent : List ℕ) (m : ℕ) (set : List Bool) (also : members_below other m ≡ set)
+      (k : AreWordsOf other m) (second : lent ≡ other) where
+    -- a bit of the other words, as a number of their set
+    lent_bit : (j : ℕ) → bit_of lent j ≡ is_in set j
+    lent_bit j = ap (λ (ws : List ℕ). bit_of ws j) second ∙ sym (row_bit other m set also k.clear j)
+
+    -- the numbers of both sets
+    pub row_or : length set ≡ length row → ((j : ℕ) → bit_of new j ≡ (bit_of now j || bit_of lent j))
+        → Becomes (λ j b. b || is_in set j) row (with_items v new).items n
+    row_or wide each = row_by (λ (j : ℕ) (b : Bool). b || is_in set j)
+        (λ j past. get_or_past set j false (omega (arith, past, wide, row_length v.items n row seen)))
+        (λ j. each j ∙ ap (λ (b : Bool). bit_of now j || b) (lent_bit j))
+
+    -- the numbers of one set that are not in the other
+    pub row_and_not : ((j : ℕ) → bit_of new j ≡ (bit_of now j && not (bit_of lent j)))
+        → Becomes (λ j b. b && not (is_in set j)) row (with_items v new).items n
+    row_and_not each = row_by (λ (j : ℕ) (b : Bool). b && not (is_in set j)) (λ j past. refl)
+        (λ j. each j ∙ ap (λ (b : Bool). bit_of now j && not b) (lent_bit j))
 
 -- words of 0, of which there are enough
 pub words_of_zeros : (m n : ℕ) → IsWidth m n → n < 2 ^ 64 → AreWordsOf (replicate m 0) n

@@ -1,8 +1,6 @@
-use Rattle.std.proofs.Common.{◌≡◌, arith, sym, ◌∙◌, length}
-use Rattle.std.proofs.lemmas.List.{with_items_is}
-use Rattle.std.specs.Vec.{with_items}
+use Rattle.std.proofs.Common.{arith, ◌≡◌, length}
 use Rattle.bitrow.specs.RowLaws.{wide_enough}
-use Rattle.bitrow.proofs.Members.{members_length, row_length, row_remove}
+use Rattle.bitrow.proofs.Members.{row_remove, row_length}
 use Rattle.bitrow.proofs.row.BitRow.remove.Goals as goal
 
 pub clear_bit-requires : goal.clear_bit-requires
@@ -13,19 +11,15 @@ clear_bit-requires c =
 
 pub invariant_of-self : goal.invariant_of-self
 invariant_of-self c =
-    (row_remove c.self.inside.words.items c.as_mut_slice.result.now c.clear_bit.new.words
-    (with_items c.self.inside.words c.clear_bit.new.words).items c.self.inside.len c.args.number c.args.self.now
-    c.self.view_is c.self.invariant c.as_mut_slice.ensures.value
-    (with_items_is c.self.inside.words c.clear_bit.new.words (omega arith)) (omega arith) c.clear_bit.ensures).0
+    (row_remove c.self.inside.words c.as_mut_slice.result.now c.clear_bit.new.words c.self.inside.len c.args.self.now c.self.view_is
+    c.self.invariant c.as_mut_slice.ensures.value (omega arith) (omega arith) c.args.number c.clear_bit.ensures).held
 
 pub returns-clause-len : goal.returns-clause-len
 returns-clause-len c =
-    members_length (with_items c.self.inside.words c.clear_bit.new.words).items c.self.inside.len
-    ∙ sym (row_length c.self.inside.words.items c.self.inside.len c.args.self.now c.self.view_is)
+    (row_remove c.self.inside.words c.as_mut_slice.result.now c.clear_bit.new.words c.self.inside.len c.args.self.now c.self.view_is
+    c.self.invariant c.as_mut_slice.ensures.value (omega arith) (omega arith) c.args.number c.clear_bit.ensures).size
 
 pub returns-clause-numbers : goal.returns-clause-numbers
 returns-clause-numbers c =
-    (row_remove c.self.inside.words.items c.as_mut_slice.result.now c.clear_bit.new.words
-    (with_items c.self.inside.words c.clear_bit.new.words).items c.self.inside.len c.args.number c.args.self.now
-    c.self.view_is c.self.invariant c.as_mut_slice.ensures.value
-    (with_items_is c.self.inside.words c.clear_bit.new.words (omega arith)) (omega arith) c.clear_bit.ensures).1
+    (row_remove c.self.inside.words c.as_mut_slice.result.now c.clear_bit.new.words c.self.inside.len c.args.self.now c.self.view_is
+    c.self.invariant c.as_mut_slice.ensures.value (omega arith) (omega arith) c.args.number c.clear_bit.ensures).numbers

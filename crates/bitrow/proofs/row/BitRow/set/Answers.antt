@@ -1,8 +1,6 @@
-use Rattle.std.proofs.Common.{◌≡◌, arith, sym, ◌∙◌, length}
-use Rattle.std.proofs.lemmas.List.{with_items_is}
-use Rattle.std.specs.Vec.{with_items}
+use Rattle.std.proofs.Common.{arith, ◌≡◌, length}
 use Rattle.bitrow.specs.RowLaws.{wide_enough}
-use Rattle.bitrow.proofs.Members.{members_length, row_length, row_set}
+use Rattle.bitrow.proofs.Members.{row_set, row_length}
 use Rattle.bitrow.proofs.row.BitRow.set.Goals as goal
 
 pub set_bit-requires : goal.set_bit-requires
@@ -13,19 +11,15 @@ set_bit-requires c =
 
 pub invariant_of-self : goal.invariant_of-self
 invariant_of-self c =
-    (row_set c.self.inside.words.items c.as_mut_slice.result.now c.set_bit.new.words
-    (with_items c.self.inside.words c.set_bit.new.words).items c.self.inside.len c.args.number c.args.self.now
-    c.self.view_is c.self.invariant c.as_mut_slice.ensures.value
-    (with_items_is c.self.inside.words c.set_bit.new.words (omega arith)) (omega arith) c.requires c.set_bit.ensures).0
+    (row_set c.self.inside.words c.as_mut_slice.result.now c.set_bit.new.words c.self.inside.len c.args.self.now c.self.view_is
+    c.self.invariant c.as_mut_slice.ensures.value (omega arith) (omega arith) c.args.number c.requires c.set_bit.ensures).held
 
 pub returns-clause-len : goal.returns-clause-len
 returns-clause-len c =
-    members_length (with_items c.self.inside.words c.set_bit.new.words).items c.self.inside.len
-    ∙ sym (row_length c.self.inside.words.items c.self.inside.len c.args.self.now c.self.view_is)
+    (row_set c.self.inside.words c.as_mut_slice.result.now c.set_bit.new.words c.self.inside.len c.args.self.now c.self.view_is
+    c.self.invariant c.as_mut_slice.ensures.value (omega arith) (omega arith) c.args.number c.requires c.set_bit.ensures).size
 
 pub returns-clause-numbers : goal.returns-clause-numbers
 returns-clause-numbers c =
-    (row_set c.self.inside.words.items c.as_mut_slice.result.now c.set_bit.new.words
-    (with_items c.self.inside.words c.set_bit.new.words).items c.self.inside.len c.args.number c.args.self.now
-    c.self.view_is c.self.invariant c.as_mut_slice.ensures.value
-    (with_items_is c.self.inside.words c.set_bit.new.words (omega arith)) (omega arith) c.requires c.set_bit.ensures).1
+    (row_set c.self.inside.words c.as_mut_slice.result.now c.set_bit.new.words c.self.inside.len c.args.self.now c.self.view_is
+    c.self.invariant c.as_mut_slice.ensures.value (omega arith) (omega arith) c.args.number c.requires c.set_bit.ensures).numbers
