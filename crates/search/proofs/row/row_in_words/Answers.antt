@@ -4,8 +4,7 @@ use Rattle.bitrow.specs.Bits.{bits_of}
 use Rattle.bitrow.specs.RowLaws.{marked_within, wide_enough}
 use Rattle.bitrow.specs.Rows.{Marked}
 use Rattle.search.proofs.Marks.{one_alone}
-use Rattle.search.proofs.Levels.{reached_none, reached_more, closes_more}
-use Rattle.search.proofs.Levels.{reached_exact, nearest_more, closed_nearest}
+use Rattle.search.proofs.Levels.{reached_none, reached_more, closes_more, reached_exact, closed_nearest}
 use Rattle.search.proofs.row.row_in_words.Goals as goal
 
 pub one_number-level-requires : goal.one_number-level-requires
@@ -27,7 +26,7 @@ loop-label-init g c =
           (c.one_number-level.ensures c.args.source ∙ eq-eqb c.args.source c.args.source refl)
           (λ e is. one_alone c.args.source e (sym (c.one_number-level.ensures e) ∙ is));
       closed = record {
-        below = omega arith;
+        early = inr refl;
         reached = inl refl;
         nearest = λ e r below. absurd
             (omega (arith, below));
@@ -36,57 +35,50 @@ loop-label-init g c =
 
 pub loop-label-preserved : goal.loop-label-preserved
 loop-label-preserved g c =
-    let R = Marked c.args.rows.now in
-    let n = length c.args.rows.now in
-    let take = c.take_level-closes in
-    let seen = bits_of c.loop-label.seen in
-    let level = bits_of c.loop-label.level in
+    let take = c.take_level-closes.ensures in
     let within = marked_within c.args.rows.now c.requires.square in
+    let reached = c.loop-label.invariant.reached in
     record {
-      within = take.ensures.within;
-      reached = reached_more R n c.args.cap c.args.source c.loop-label.label within c.loop-label.labels take.new.labels
-          seen level c.loop-label-test.true c.requires.source (omega arith) c.loop-label.invariant.reached
-          take.ensures.labels take.ensures.level.0 (bits_of take.new.seen) (bits_of take.new.level)
-          take.ensures.level.1 take.ensures.seen take.ensures.level.2;
-      closed = closes_more R n c.args.cap c.args.source c.loop-label.label within c.loop-label.labels take.new.labels
-          seen level c.loop-label-test.true c.requires.source (omega arith) c.loop-label.invariant.reached
-          take.ensures.labels (IsTrue take.result.0) c.loop-label.closing c.closing_with-closing.result
-          take.ensures.closes c.loop-label.invariant.closed c.closing_with-closing.ensures;
+      within = take.within;
+      reached = reached_more _ _ _ _ _ within c.requires.source _ _ _ reached c.take_level-closes.new.labels
+          c.loop-label-test.true (omega arith) take.labels (bits_of c.take_level-closes.new.seen)
+          (bits_of c.take_level-closes.new.level) take.seen take.level;
+      closed = closes_more _ _ _ _ _ within c.requires.source _ _ _ reached c.take_level-closes.new.labels
+          c.loop-label-test.true (omega arith) take.labels (IsTrue c.take_level-closes.result.0) c.loop-label.closing
+          c.closing_with-closing.result take.closes c.loop-label.invariant.closed c.closing_with-closing.ensures;
     }
 
 pub returns-then-not-more-clause-exact : goal.returns-then-not-more-clause-exact
 returns-then-not-more-clause-exact g c =
-    let R = Marked c.args.rows.now in
-    let n = length c.args.rows.now in
-    let take = c.take_level-closes in
+    let take = c.take_level-closes.ensures in
     let within = marked_within c.args.rows.now c.requires.square in
-    reached_exact R n c.args.cap c.args.source (c.loop-label.label + 1) take.new.labels
-    (bits_of take.new.seen) (bits_of take.new.level) within c.requires.source (omega arith)
-    (inr (take.ensures.none c.if-not-more.true))
-    (reached_more R n c.args.cap c.args.source c.loop-label.label within c.loop-label.labels take.new.labels
-    (bits_of c.loop-label.seen) (bits_of c.loop-label.level) c.loop-label-test.true c.requires.source (omega arith)
-    c.loop-label.invariant.reached take.ensures.labels take.ensures.level.0 (bits_of take.new.seen)
-    (bits_of take.new.level) take.ensures.level.1 take.ensures.seen take.ensures.level.2)
+    reached_exact _ _ _ _ (c.loop-label.label + 1) within c.requires.source c.take_level-closes.new.labels
+    (bits_of c.take_level-closes.new.seen) (bits_of c.take_level-closes.new.level)
+    (reached_more _ _ _ _ _ within c.requires.source _ _ _ c.loop-label.invariant.reached
+    c.take_level-closes.new.labels c.loop-label-test.true (omega arith) take.labels
+    (bits_of c.take_level-closes.new.seen) (bits_of c.take_level-closes.new.level) take.seen take.level)
+    (omega arith) (inr (take.none c.if-not-more.true))
 
 pub returns-then-not-more-clause-nearest : goal.returns-then-not-more-clause-nearest
 returns-then-not-more-clause-nearest g c =
-    let take = c.take_level-closes in
-    nearest_more (Marked c.args.rows.now) (length c.args.rows.now) c.args.cap c.args.source c.loop-label.label
-    (marked_within c.args.rows.now c.requires.square) c.loop-label.labels take.new.labels
-    (bits_of c.loop-label.seen) (bits_of c.loop-label.level) c.loop-label-test.true c.requires.source (omega arith)
-    c.loop-label.invariant.reached take.ensures.labels (IsTrue take.result.0) c.loop-label.closing
-    c.closing_with-closing.result take.ensures.closes c.loop-label.invariant.closed c.closing_with-closing.ensures
+    let take = c.take_level-closes.ensures in
+    let within = marked_within c.args.rows.now c.requires.square in
+    let reached = c.loop-label.invariant.reached in
+    closed_nearest _ _ _ _ (c.loop-label.label + 1) within c.requires.source c.take_level-closes.new.labels
+    (bits_of c.take_level-closes.new.seen) (bits_of c.take_level-closes.new.level)
+    (reached_more _ _ _ _ _ within c.requires.source _ _ _ reached c.take_level-closes.new.labels
+    c.loop-label-test.true (omega arith) take.labels (bits_of c.take_level-closes.new.seen)
+    (bits_of c.take_level-closes.new.level) take.seen take.level) c.closing_with-closing.result (omega arith)
+    (closes_more _ _ _ _ _ within c.requires.source _ _ _ reached c.take_level-closes.new.labels
+    c.loop-label-test.true (omega arith) take.labels (IsTrue c.take_level-closes.result.0) c.loop-label.closing
+    c.closing_with-closing.result take.closes c.loop-label.invariant.closed c.closing_with-closing.ensures)
 
 pub returns-clause-exact : goal.returns-clause-exact
 returns-clause-exact g c =
-    reached_exact (Marked c.args.rows.now) (length c.args.rows.now) c.args.cap c.args.source
-    c.loop-label.label c.loop-label.labels (bits_of c.loop-label.seen) (bits_of c.loop-label.level)
-    (marked_within c.args.rows.now c.requires.square) c.requires.source (omega arith)
-    (inl (omega arith)) c.loop-label.invariant.reached
+    reached_exact _ _ _ _ _ (marked_within c.args.rows.now c.requires.square) c.requires.source _ _ _
+    c.loop-label.invariant.reached (omega arith) (inl (omega arith))
 
 pub returns-clause-nearest : goal.returns-clause-nearest
 returns-clause-nearest g c =
-    closed_nearest (Marked c.args.rows.now) (length c.args.rows.now) c.args.cap c.args.source
-    c.loop-label.label c.loop-label.closing c.loop-label.labels
-    (marked_within c.args.rows.now c.requires.square) c.loop-label.invariant.reached.or_cap
-    c.loop-label.invariant.closed
+    closed_nearest _ _ _ _ _ (marked_within c.args.rows.now c.requires.square) c.requires.source _ _ _
+    c.loop-label.invariant.reached c.loop-label.closing (omega arith) c.loop-label.invariant.closed
