@@ -69,7 +69,11 @@ combined_bits f g before after other n long same all each law neither j = elim (
   | inl below ↦ ap (λ (w : ℕ). bit_at w (j % 64) == 1) (each (j / 64) below) ∙ law (j / 64) (j % 64) (omega arith)
   | inr past ↦ none_in after j (get_or_past after (j / 64) 0 (omega (arith, long, all, past)))
       ∙ (sym neither
-      ∙ (ap (λ (b : Bool). g b false) (sym (none_in before j (get_or_past before (j / 64) 0 (omega (arith, all, past)))))
+      ∙ (ap (λ (b : Bool). g b false) (sym (none_in before j (get_or_past before (j / 64) 0 (omega (
+        arith,
+        all,
+        past,
+      )))))
       ∙ ap (g (bit_at (get_or before (j / 64) 0) (j % 64) == 1))
       (sym (none_in other j (get_or_past other (j / 64) 0 (omega (arith, same, all, past)))))))
 ]

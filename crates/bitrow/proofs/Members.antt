@@ -1,6 +1,7 @@
 -- The list of a row's numbers, from its bits.
 use Rattle.std.proofs.Common.{◌≡◌, ◌<◌, ◌≤◌, ◌+◌, ◌*◌, ◌/◌, inl, inr, ℕ, zero, suc, Bool, true, false, Option}
-use Rattle.std.proofs.Common.{Some, None, ◌||◌, ◌&&◌, not, ◌^◌, List, Vec, Global, length, get_or, arith, refl, sym, ap, subst, ◌∙◌}
+use Rattle.std.proofs.Common.{Some, None, ◌||◌, ◌&&◌, not, ◌^◌, List, Vec, Global, length, get_or, arith, refl, sym}
+use Rattle.std.proofs.Common.{ap, subst, ◌∙◌}
 use Rattle.std.proofs.lemmas.Bool.{cases_lt, ne_eqb, true≢false}
 use Rattle.std.proofs.lemmas.List.{get_or_past, get_or-replicate, length-replicate, with_items_is}
 use Rattle.std.specs.Prelude.{◌==◌, replicate}

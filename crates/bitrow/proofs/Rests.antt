@@ -78,7 +78,12 @@ rest_behind words k rest from b after h small one low cleared others = record {
 -- where nothing is left of the word, no bit of it is 1
 pub rest_empty : (words : List ℕ) (k from : ℕ) → IsRest words k 0 from → (j : ℕ) → from ≤ j → j < 64 * (k + 1)
     → bit_of words j ≡ false
-rest_empty words k from h j above below = rest_bit words k 0 from h j (j - 64 * k) (omega (arith, below, h.begun, above))
+rest_empty words k from h j above below = rest_bit words k 0 from h j (j - 64 * k) (omega (
+  arith,
+  below,
+  h.begun,
+  above,
+))
     (omega (arith, h.begun, above)) above ∙ ap (λ (b : ℕ). b == 1) (bit_at-zero (j - 64 * k))
 
 -- and the first bit is in the words after it

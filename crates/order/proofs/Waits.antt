@@ -117,7 +117,13 @@ waits_same t p v (suc n) e h =
         | inr none ↦ ap (λ (k : ℕ). opens t (p ++ v ∷ []) k e) here ∙ (opens_own t p v e ∙ sym none.1)
       ]
     ] in
-    omega (arith, waits_step t (p ++ v ∷ []) n e, waits_step t p n e, waits_same t p v n e (λ r. omega (arith, h r)), same)
+    omega (
+      arith,
+      waits_step t (p ++ v ∷ []) n e,
+      waits_step t p n e,
+      waits_same t p v n e (λ r. omega (arith, h r)),
+      same,
+    )
 
 -- past v, where v is before e and was unplaced, there is one fewer
 pub waits_less : (t : Table) (p : List ℕ) (v n e : ℕ) → Related t v e → times p v ≡ 0 → v < n
@@ -211,7 +217,8 @@ counts_none t = record {
 -- before any event is placed, what is related is open
 opens_first : (t : Table) (d e : ℕ) → opens t [] d e ≡ one_if (relates t d e)
 unfolding opens
-opens_first t d e = ap (λ (k : ℕ). one_if (relates t d e && (k == 0))) (times_nil d) ∙ ap one_if (and-true (relates t d e))
+opens_first t d e = ap (λ (k : ℕ). one_if (relates t d e && (k == 0))) (times_nil d) ∙ ap one_if (and-true (relates t
+    d e))
 
 -- one row more is counted
 pub counts_more : (t : Table) (d : ℕ) (old new : List ℕ) → AreCounts t d old → length new ≡ length old

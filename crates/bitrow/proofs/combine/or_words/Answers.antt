@@ -8,7 +8,8 @@ pub loop-k-init : goal.loop-k-init
 loop-k-init c = combined_none (λ (a b : ℕ). bit_or a b) c.args.words.now c.args.other.now
 
 pub loop-k-preserved : goal.loop-k-preserved
-loop-k-preserved c = combined_more (λ (a b : ℕ). bit_or a b) c.args.words.now c.args.other.now c.loop-k.words c.loop-k.k _
+loop-k-preserved c = combined_more (λ (a b : ℕ). bit_or a b) c.args.words.now c.args.other.now c.loop-k.words
+    c.loop-k.k _
     c.loop-k-test.true refl c.loop-k.invariant
 
 pub returns : goal.returns

@@ -1,4 +1,5 @@
-use Rattle.std.proofs.Common.{rules, ◌<◌, ◌+◌, ◌*◌, ◌||◌, ℕ, Bool, [], Some, List, length, arith, sym, ap, subst, w64, ◌∙◌}
+use Rattle.std.proofs.Common.{rules, ◌<◌, ◌+◌, ◌*◌, ◌||◌, ℕ, Bool, [], Some, List, length, arith, sym, ap, subst}
+use Rattle.std.proofs.Common.{w64, ◌∙◌}
 use Rattle.std.specs.Int.{trailing_zeros}
 use Rattle.std.proofs.lemmas.List.{get_or_default}
 use Rattle.bitrow.specs.Bits.{is_in, bits_of, IsNext, IsWidth}
@@ -66,17 +67,20 @@ loop-rest-preserved g c =
     let next : IsNext (bits_of words) from (Some number) = bits_next words from (Some number)
     (rest_next words k rest from inv.rest c.loop-rest-test.true inv.fits) in
     let left : IsRest words k c.without_lowest-rest.result (number + 1) =
-    rest_behind words k rest from (trailing_zeros w64 rest) c.without_lowest-rest.result inv.rest low.0 low.1 low.2 after.0
+    rest_behind words k rest from (trailing_zeros w64 rest) c.without_lowest-rest.result inv.rest low.0 low.1 low.2
+    after.0
     (λ i _ other. after.1 i other) in (
       number + 1,
       record {
         fits = omega arith;
         rest = left;
-        inside = λ some. number_in (length rows) words k c.without_lowest-rest.result (number + 1) c.requires.set left some
+        inside = λ some. number_in (length rows) words k c.without_lowest-rest.result (number + 1) c.requires.set
+            left some
             (omega arith);
         labels = λ before h. labels_more (bits_of words) from number c.args.label before c.loop-rest.labels next
             (omega (arith, at, c.requires.labels)) (inv.labels before h);
-        joined = joins_more rows (bits_of words) from number (bits_of c.loop-rest.union) (bits_of c.join-union.result) next
+        joined = joins_more rows (bits_of words) from number (bits_of c.loop-rest.union) (bits_of
+            c.join-union.result) next
             (λ f. c.join-union.ensures f ∙ ap (λ (r : List Bool). is_in (bits_of c.loop-rest.union) f || is_in r f)
             (c.index-rows-number.is ∙ get_or_default rows number c.index-rows-number.result [] at)) inv.joined;
       },

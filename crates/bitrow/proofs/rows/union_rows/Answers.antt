@@ -24,7 +24,13 @@ join_word-union-requires g c = (
       c.requires.width,
       (
         c.requires.set,
-        (omega (arith, c.requires.labels), (omega (arith, c.loop-word-test.true, c.fits-set.0), c.loop-word.invariant.joined)),
+        (
+          omega (arith, c.requires.labels),
+          (
+            omega (arith, c.loop-word-test.true, c.fits-set.0),
+            c.loop-word.invariant.joined,
+          ),
+        ),
       ),
     ),
   ),

@@ -19,7 +19,12 @@ loop-label-init g c =
     let seen = bits_of c.no_number-seen.result in
     let level = bits_of c.one_number-level.result in
     record {
-      within = λ e past. c.one_number-level.ensures e ∙ ne_eqb e c.args.source (λ is. omega (arith, is, past, c.requires.source));
+      within = λ e past. c.one_number-level.ensures e ∙ ne_eqb e c.args.source (λ is. omega (
+        arith,
+        is,
+        past,
+        c.requires.source,
+      ));
       reached = reached_none (Marked c.args.rows.now) n c.args.cap c.args.source c.fill.new.self seen level
           (omega (arith, c.requires.labels, c.fill.ensures.len))
           (λ e at. c.fill.ensures.clones e 0 (omega (arith, at, c.requires.labels)) refl) c.no_number-seen.ensures

@@ -17,7 +17,8 @@ overflow_add-self c =
     )
 
 pub without_lowest-self-inside-requires-2 : goal.without_lowest-self-inside-requires-2
-without_lowest-self-inside-requires-2 c = some_bit c.self.inside.words.now c.in_ok-number.number c.in_ok-number.ensures.1
+without_lowest-self-inside-requires-2 c = some_bit c.self.inside.words.now c.in_ok-number.number
+    c.in_ok-number.ensures.1
 
 pub invariant_of-self : goal.invariant_of-self
 invariant_of-self c =
@@ -32,7 +33,8 @@ invariant_of-self c =
 pub returns-then-self-ne0-clause-found : goal.returns-then-self-ne0-clause-found
 returns-then-self-ne0-clause-found c =
     let s = c.self.inside in
-    rw (← c.self.view_is) (row_next s.words.now s.len _ s.from (Some (64 * s.at + trailing_zeros w64 s.rest)) refl c.self.invariant.0.clear
+    rw (← c.self.view_is) (row_next s.words.now s.len _ s.from (Some (64 * s.at + trailing_zeros w64 s.rest)) refl
+    c.self.invariant.0.clear
     (rest_next s.words.now s.at s.rest s.from c.self.invariant.1 c.if-self-ne0.true (omega arith)))
 
 pub returns-in_err-number-clause-found : goal.returns-in_err-number-clause-found
@@ -56,7 +58,8 @@ invariant_of-self-2 c =
 pub returns-clause-found : goal.returns-clause-found
 returns-clause-found c =
     let s = c.self.inside in
-    rw (← c.self.view_is) (row_next s.words.now s.len _ s.from (Some c.in_ok-number.number) refl c.self.invariant.0.clear
+    rw (← c.self.view_is) (row_next s.words.now s.len _ s.from (Some c.in_ok-number.number) refl
+    c.self.invariant.0.clear
     (rest_none s.words.now s.at s.from (Some c.in_ok-number.number)
     (subst (λ (r : ℕ). IsRest s.words.now s.at r s.from) c.if-self-ne0.false c.self.invariant.1)
     c.in_ok-number.ensures))

@@ -5,26 +5,28 @@ use Rattle.bitrow.proofs.row.BitRow.and_not.Goals as goal
 pub and_not_words-requires : goal.and_not_words-requires
 and_not_words-requires c = omega (
   arith,
-  rows_wide c.other.inside.words.items c.self.inside.words.items c.other.inside.len c.self.inside.len c.args.other.now
-      c.args.self.now c.other.view_is c.self.view_is c.other.invariant c.self.invariant c.requires,
+  rows_wide _ _ _ _ _ _ c.other.view_is c.self.view_is c.other.invariant c.self.invariant c.requires,
   c.as_mut_slice.ensures.len,
   c.as_slice.ensures.len,
 )
 
 pub invariant_of-self : goal.invariant_of-self
 invariant_of-self c =
-    (row_and_not c.self.inside.words c.as_mut_slice.result.now c.and_not_words.new.words c.self.inside.len c.args.self.now c.self.view_is
-    c.self.invariant c.as_mut_slice.ensures.value (omega arith) (omega arith) c.other.inside.words.items c.as_slice.result.now
-    c.other.inside.len c.args.other.now c.other.view_is c.other.invariant c.as_slice.ensures.value c.and_not_words.ensures).held
+    (row_and_not c.self.inside.words _ c.and_not_words.new.words _ _ c.self.view_is c.self.invariant
+    c.as_mut_slice.ensures.value
+    (omega arith) (omega arith) _ _ _ _ c.other.view_is c.other.invariant c.as_slice.ensures.value
+    c.and_not_words.ensures).held
 
 pub returns-clause-len : goal.returns-clause-len
 returns-clause-len c =
-    (row_and_not c.self.inside.words c.as_mut_slice.result.now c.and_not_words.new.words c.self.inside.len c.args.self.now c.self.view_is
-    c.self.invariant c.as_mut_slice.ensures.value (omega arith) (omega arith) c.other.inside.words.items c.as_slice.result.now
-    c.other.inside.len c.args.other.now c.other.view_is c.other.invariant c.as_slice.ensures.value c.and_not_words.ensures).size
+    (row_and_not c.self.inside.words _ c.and_not_words.new.words _ _ c.self.view_is c.self.invariant
+    c.as_mut_slice.ensures.value
+    (omega arith) (omega arith) _ _ _ _ c.other.view_is c.other.invariant c.as_slice.ensures.value
+    c.and_not_words.ensures).size
 
 pub returns-clause-numbers : goal.returns-clause-numbers
 returns-clause-numbers c =
-    (row_and_not c.self.inside.words c.as_mut_slice.result.now c.and_not_words.new.words c.self.inside.len c.args.self.now c.self.view_is
-    c.self.invariant c.as_mut_slice.ensures.value (omega arith) (omega arith) c.other.inside.words.items c.as_slice.result.now
-    c.other.inside.len c.args.other.now c.other.view_is c.other.invariant c.as_slice.ensures.value c.and_not_words.ensures).numbers
+    (row_and_not c.self.inside.words _ c.and_not_words.new.words _ _ c.self.view_is c.self.invariant
+    c.as_mut_slice.ensures.value
+    (omega arith) (omega arith) _ _ _ _ c.other.view_is c.other.invariant c.as_slice.ensures.value
+    c.and_not_words.ensures).numbers

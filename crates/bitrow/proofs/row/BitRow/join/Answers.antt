@@ -18,4 +18,5 @@ returns g c j =
     ∙ (ap (λ (b : Bool). b || bit_of c.as_slice.result.now j) (sym (bits_bit c.args.lanes j))
     ∙ ap (λ (b : Bool). is_in (bits_of c.args.lanes) j || b)
     (ap (λ (ws : List ℕ). bit_of ws j) c.as_slice.ensures.value
-    ∙ sym (row_bit c.self.inside.words.items c.self.inside.len c.args.self.now c.self.view_is c.self.invariant.clear j))))
+    ∙ sym (row_bit c.self.inside.words.items c.self.inside.len c.args.self.now c.self.view_is c.self.invariant.clear
+    j))))

@@ -5,26 +5,25 @@ use Rattle.bitrow.proofs.row.BitRow.or_into.Goals as goal
 pub or_words-requires : goal.or_words-requires
 or_words-requires c = omega (
   arith,
-  rows_wide c.self.inside.words.items c.into.inside.words.items c.self.inside.len c.into.inside.len c.args.self.now
-      c.args.into.now c.self.view_is c.into.view_is c.self.invariant c.into.invariant c.requires,
+  rows_wide _ _ _ _ _ _ c.self.view_is c.into.view_is c.self.invariant c.into.invariant c.requires,
   c.as_mut_slice.ensures.len,
   c.as_slice.ensures.len,
 )
 
 pub invariant_of-into : goal.invariant_of-into
 invariant_of-into c =
-    (row_or c.into.inside.words c.as_mut_slice.result.now c.or_words.new.words c.into.inside.len c.args.into.now c.into.view_is
-    c.into.invariant c.as_mut_slice.ensures.value (omega arith) (omega arith) c.self.inside.words.items c.as_slice.result.now
-    c.self.inside.len c.args.self.now c.self.view_is c.self.invariant c.as_slice.ensures.value c.requires c.or_words.ensures).held
+    (row_or c.into.inside.words _ c.or_words.new.words _ _ c.into.view_is c.into.invariant c.as_mut_slice.ensures.value
+    (omega arith) (omega arith) _ _ _ _ c.self.view_is c.self.invariant c.as_slice.ensures.value
+    c.requires c.or_words.ensures).held
 
 pub returns-clause-len : goal.returns-clause-len
 returns-clause-len c =
-    (row_or c.into.inside.words c.as_mut_slice.result.now c.or_words.new.words c.into.inside.len c.args.into.now c.into.view_is
-    c.into.invariant c.as_mut_slice.ensures.value (omega arith) (omega arith) c.self.inside.words.items c.as_slice.result.now
-    c.self.inside.len c.args.self.now c.self.view_is c.self.invariant c.as_slice.ensures.value c.requires c.or_words.ensures).size
+    (row_or c.into.inside.words _ c.or_words.new.words _ _ c.into.view_is c.into.invariant c.as_mut_slice.ensures.value
+    (omega arith) (omega arith) _ _ _ _ c.self.view_is c.self.invariant c.as_slice.ensures.value
+    c.requires c.or_words.ensures).size
 
 pub returns-clause-numbers : goal.returns-clause-numbers
 returns-clause-numbers c =
-    (row_or c.into.inside.words c.as_mut_slice.result.now c.or_words.new.words c.into.inside.len c.args.into.now c.into.view_is
-    c.into.invariant c.as_mut_slice.ensures.value (omega arith) (omega arith) c.self.inside.words.items c.as_slice.result.now
-    c.self.inside.len c.args.self.now c.self.view_is c.self.invariant c.as_slice.ensures.value c.requires c.or_words.ensures).numbers
+    (row_or c.into.inside.words _ c.or_words.new.words _ _ c.into.view_is c.into.invariant c.as_mut_slice.ensures.value
+    (omega arith) (omega arith) _ _ _ _ c.self.view_is c.self.invariant c.as_slice.ensures.value
+    c.requires c.or_words.ensures).numbers

@@ -1,4 +1,4 @@
-use Rattle.std.proofs.Common.{arith, ◌≡◌, length}
+use Rattle.std.proofs.Common.{◌≡◌, arith, length}
 use Rattle.bitrow.specs.RowLaws.{wide_enough}
 use Rattle.bitrow.proofs.Members.{row_remove, row_length}
 use Rattle.bitrow.proofs.row.BitRow.remove.Goals as goal
@@ -11,15 +11,18 @@ clear_bit-requires c =
 
 pub invariant_of-self : goal.invariant_of-self
 invariant_of-self c =
-    (row_remove c.self.inside.words c.as_mut_slice.result.now c.clear_bit.new.words c.self.inside.len c.args.self.now c.self.view_is
-    c.self.invariant c.as_mut_slice.ensures.value (omega arith) (omega arith) c.args.number c.clear_bit.ensures).held
+    (row_remove c.self.inside.words _ c.clear_bit.new.words _ _ c.self.view_is c.self.invariant
+    c.as_mut_slice.ensures.value
+    (omega arith) (omega arith) c.args.number c.clear_bit.ensures).held
 
 pub returns-clause-len : goal.returns-clause-len
 returns-clause-len c =
-    (row_remove c.self.inside.words c.as_mut_slice.result.now c.clear_bit.new.words c.self.inside.len c.args.self.now c.self.view_is
-    c.self.invariant c.as_mut_slice.ensures.value (omega arith) (omega arith) c.args.number c.clear_bit.ensures).size
+    (row_remove c.self.inside.words _ c.clear_bit.new.words _ _ c.self.view_is c.self.invariant
+    c.as_mut_slice.ensures.value
+    (omega arith) (omega arith) c.args.number c.clear_bit.ensures).size
 
 pub returns-clause-numbers : goal.returns-clause-numbers
 returns-clause-numbers c =
-    (row_remove c.self.inside.words c.as_mut_slice.result.now c.clear_bit.new.words c.self.inside.len c.args.self.now c.self.view_is
-    c.self.invariant c.as_mut_slice.ensures.value (omega arith) (omega arith) c.args.number c.clear_bit.ensures).numbers
+    (row_remove c.self.inside.words _ c.clear_bit.new.words _ _ c.self.view_is c.self.invariant
+    c.as_mut_slice.ensures.value
+    (omega arith) (omega arith) c.args.number c.clear_bit.ensures).numbers

@@ -1,4 +1,4 @@
-use Rattle.std.proofs.Common.{arith, ◌≡◌, length}
+use Rattle.std.proofs.Common.{◌≡◌, arith, length}
 use Rattle.bitrow.specs.RowLaws.{wide_enough}
 use Rattle.bitrow.proofs.Members.{row_set, row_length}
 use Rattle.bitrow.proofs.row.BitRow.set.Goals as goal
@@ -11,15 +11,15 @@ set_bit-requires c =
 
 pub invariant_of-self : goal.invariant_of-self
 invariant_of-self c =
-    (row_set c.self.inside.words c.as_mut_slice.result.now c.set_bit.new.words c.self.inside.len c.args.self.now c.self.view_is
-    c.self.invariant c.as_mut_slice.ensures.value (omega arith) (omega arith) c.args.number c.requires c.set_bit.ensures).held
+    (row_set c.self.inside.words _ c.set_bit.new.words _ _ c.self.view_is c.self.invariant c.as_mut_slice.ensures.value
+    (omega arith) (omega arith) c.args.number c.requires c.set_bit.ensures).held
 
 pub returns-clause-len : goal.returns-clause-len
 returns-clause-len c =
-    (row_set c.self.inside.words c.as_mut_slice.result.now c.set_bit.new.words c.self.inside.len c.args.self.now c.self.view_is
-    c.self.invariant c.as_mut_slice.ensures.value (omega arith) (omega arith) c.args.number c.requires c.set_bit.ensures).size
+    (row_set c.self.inside.words _ c.set_bit.new.words _ _ c.self.view_is c.self.invariant c.as_mut_slice.ensures.value
+    (omega arith) (omega arith) c.args.number c.requires c.set_bit.ensures).size
 
 pub returns-clause-numbers : goal.returns-clause-numbers
 returns-clause-numbers c =
-    (row_set c.self.inside.words c.as_mut_slice.result.now c.set_bit.new.words c.self.inside.len c.args.self.now c.self.view_is
-    c.self.invariant c.as_mut_slice.ensures.value (omega arith) (omega arith) c.args.number c.requires c.set_bit.ensures).numbers
+    (row_set c.self.inside.words _ c.set_bit.new.words _ _ c.self.view_is c.self.invariant c.as_mut_slice.ensures.value
+    (omega arith) (omega arith) c.args.number c.requires c.set_bit.ensures).numbers
