@@ -9,9 +9,9 @@ use crate::row::BitRow;
 use crate::rows::union_rows;
 use std::simd::prelude::*;
 
-/// Takes a level of a breadth-first search, in as many lanes as a row has words. Each of its numbers gets the label; the
-/// level joins what was seen, as by `or_into`, and becomes the union of its rows without what was seen, as by `and_not`.
-/// Says whether the union has the source, and whether the level may have a number: after a no it has none.
+/// Takes a level of a breadth-first search, in as many lanes as a row has words. Each of its numbers gets the label;
+/// the level joins what was seen, as by `or_into`, and becomes the union of its rows without what was seen, as by
+/// `and_not`. Says whether the union has the source, and whether the level may have a number: after a no it has none.
 pub fn take_level<const N: usize>(
     rows: &[BitRow],
     label: u16,
