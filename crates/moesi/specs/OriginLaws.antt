@@ -11,7 +11,7 @@ use Rattle.moesi.specs.declared.error.CacheError.{CacheError}
 use Rattle.moesi.specs.Lines.{is_valid, is_owned, is_shared, supplies}
 use Rattle.moesi.specs.Block.{Block, cell_of, invalid, copy_where, supplied, HasBlock}
 use Rattle.moesi.specs.Rows as row
-use Rattle.moesi.specs.State.{CacheState, block_of, at_address, Has, write}
+use Rattle.moesi.specs.State.{CacheState, block_of, at_address, Has}
 use Rattle.moesi.specs.Laws.{IsTransaction, IsAnyTransaction, EveryCopyWasThere, EveryWriteAddsItself}
 use Rattle.moesi.specs.LineLaws.{supplier_valid, lowered_valid}
 use Rattle.moesi.specs.RowLaws.{taken_else, taken_then}
@@ -185,32 +185,24 @@ module _ (s t : CacheState) (c a b : ℕ) (copy : ℕ × Option ℕ) where
       ]
 
   -- no transaction makes up data
-  pub copy_was_there : IsTransaction s c a t → Has t b copy → Has s b copy
+  copy_was_there : IsTransaction s c a t → Has t b copy → Has s b copy
   copy_was_there (inl k) = moved _ k (λ u h e. has_get_s (block_of s a) c copy u h e)
   copy_was_there (inr (inl k)) = moved _ k (λ u h e. has_get_m (block_of s a) c copy u h e)
   copy_was_there (inr (inr k)) = moved _ k (λ u h e. has_put (block_of s a) c copy u h e)
 
-  -- nor does the faulty one
-  pub any_copy_was_there : IsAnyTransaction s c a t → Has t b copy → Has s b copy
-  any_copy_was_there (inl k) = copy_was_there k
-  any_copy_was_there (inr k) = moved _ k (λ u h e. has_get_m_stale (block_of s a) c copy u h e)
-
-  -- a write adds what it writes
-  pub write_adds : (value event : ℕ) → write s c a value event ≡ Ok t → Has t b copy
-      → Has s b copy ⊎ ((b ≡ a) × (copy ≡ (value, Some event)))
-  write_adds value event k h =
-      elim (at_other s t a b _ copy k h) [
-        | inl g ↦ inl g
-        | inr g ↦ elim (has_write (block_of s a) c copy g.0 g.3 (value, Some event) g.1) [
-          | inl q ↦ inl (rw g.2 q)
-          | inr q ↦ inr (g.2, q)
-        ]
-      ]
-
 -- the laws of `Laws`: transactions
 pub every_copy_was_there : EveryCopyWasThere
-every_copy_was_there = any_copy_was_there
+every_copy_was_there s t c a b copy (inl k) = copy_was_there s t c a b copy k
+every_copy_was_there s t c a b copy (inr k) =
+    moved s t c a b copy _ k (λ u h e. has_get_m_stale (block_of s a) c copy u h e)
 
 -- writes
 pub every_write_adds_itself : EveryWriteAddsItself
-every_write_adds_itself s t c a value event b copy = write_adds s t c a b copy value event
+every_write_adds_itself s t c a value event b copy k h =
+    elim (at_other s t a b _ copy k h) [
+      | inl g ↦ inl g
+      | inr g ↦ elim (has_write (block_of s a) c copy g.0 g.3 (value, Some event) g.1) [
+        | inl q ↦ inl (rw g.2 q)
+        | inr q ↦ inr (g.2, q)
+      ]
+    ]

@@ -6,7 +6,7 @@ use Rattle.moesi.specs.Lines.{is_exclusive}
 use Rattle.moesi.specs.Block.{Block, cell_of, supplied}
 use Rattle.moesi.specs.Rows as row
 use Rattle.moesi.specs.Packed.{block_in, block_by}
-use Rattle.moesi.specs.Rows.{invalidated}
+use Rattle.moesi.specs.Rows.{turned}
 use Rattle.moesi.proofs.Turning.{TurnsInto, row_refused, row_taken}
 use Rattle.moesi.proofs.Replaced.{seen, turns_line}
 use Rattle.moesi.proofs.rows.get_m.Goals as goal
@@ -18,7 +18,7 @@ returns-then-is_exclusive c =
     seen c.args.cores c.args.addresses c.args.words.now c.args.core c.args.addr c.place-at.result
     c.unpack.result c.requires.core c.place-at.ensures c.unpack.ensures in
     let on : is_exclusive c.unpack.result.line ≡ true = cc in
-    row_refused (λ (b : Block). row.get_m b c.args.core) c.args.cores c.args.addresses c.args.addr c.args.words.now _
+    row_refused (λ (b : Block). row.get_m_by c.args.turn b c.args.core) c.args.cores c.args.addresses c.args.addr c.args.words.now _
     (cond-true _ _ _ (ap (λ (x : Cell). is_exclusive x.line) line ∙ on))
 
 pub returns : goal.returns
@@ -29,17 +29,17 @@ returns c =
     c.unpack.result c.requires.core c.place-at.ensures c.unpack.ensures in
     let off : is_exclusive c.unpack.result.line ≡ false = cc in
     let x : Cell = record { line = M; copy = supplied b } in
-    let mid : List ℕ = c.invalidate_all.new.words in
-    let turned : Block = block_by invalidated b in
-    let others : TurnsInto c.args.cores c.args.addresses c.args.addr c.args.words.now mid turned =
+    let mid : List ℕ = c.turn_all.new.words in
+    let all_turned : Block = block_by (turned c.args.turn) b in
+    let others : TurnsInto c.args.cores c.args.addresses c.args.addr c.args.words.now mid all_turned =
     record {
-      turned = c.invalidate_all.ensures.turned;
-      elsewhere = c.invalidate_all.ensures.elsewhere;
+      turned = c.turn_all.ensures.turned;
+      elsewhere = c.turn_all.ensures.elsewhere;
     } in
     let all = turns_line c.args.cores c.args.addresses c.args.addr c.args.words.now
-    mid turned c.requires.words c.requires.address others c.args.core c.place-at.result
+    mid all_turned c.requires.words c.requires.address others c.args.core c.place-at.result
     c.relined.result x c.requires.core c.place-at.ensures
     (c.relined.ensures ∙ ap (λ (d : ℕ × Option ℕ). record { line = M; copy = d }) c.asked-word.ensures.given)
     in
-    row_taken (λ (b : Block). row.get_m b c.args.core) c.args.cores c.args.addresses c.args.addr c.args.words.now _ _ _
+    row_taken (λ (b : Block). row.get_m_by c.args.turn b c.args.core) c.args.cores c.args.addresses c.args.addr c.args.words.now _ _ _
     all (cond-false _ _ _ (ap (λ (y : Cell). is_exclusive y.line) line ∙ off))

@@ -44,12 +44,12 @@ returns c =
     ∙ ap (λ (l : Line). record { line = l; copy = (cell_in c.asked-valid.result.1).copy }) filled in
     let is : cell_in c.relined.result ≡ x =
     lined ∙ ap (λ (d : ℕ × Option ℕ). record { line = fill; copy = d }) c.asked-valid.ensures.given in
-    let mid : List ℕ = c.share_all.new.words in
+    let mid : List ℕ = c.turn_all.new.words in
     let turned : Block = block_by shared b in
     let others : TurnsInto c.args.cores c.args.addresses c.args.addr c.args.words.now mid turned =
     record {
-      turned = c.share_all.ensures.turned;
-      elsewhere = c.share_all.ensures.elsewhere;
+      turned = c.turn_all.ensures.turned;
+      elsewhere = c.turn_all.ensures.elsewhere;
     } in
     let all = turns_line c.args.cores c.args.addresses c.args.addr c.args.words.now
     mid turned c.requires.words c.requires.address others c.args.core c.place-at.result
