@@ -3,9 +3,10 @@ use Rattle.std.proofs.Common.{◌≡◌, ◌<◌, ◌≤◌, ◌+◌, ◌-◌, i
 use Rattle.std.proofs.Common.{◌++◌, map, length, get_or, slice_index_or, replicate, arith, refl, sym, ap}
 use Rattle.std.proofs.Common.{subst, ◌∙◌}
 use Rattle.std.specs.List.{All, sum_by}
-use Rattle.std.proofs.lemmas.List.{length-replicate, get_or-replicate, get_or_append_left, length-map}
+use Rattle.std.proofs.lemmas.List.{length-replicate, get_or_append_left, length-map}
 use Rattle.std.proofs.lemmas.List.{get_or-append_right}
-use Rattle.std.proofs.lemmas.List.Sums.{sum_by-cons}
+use Rattle.std.proofs.lemmas.List.Elements.{All-replicate}
+use Rattle.std.proofs.lemmas.List.Folds.{sum_by-replicate}
 use Rattle.std.proofs.lemmas.Bool.{cases_lt}
 use Rattle.common.specs.declared.limits.TheConstants.{MAX_EVENTS}
 use Rattle.program.specs.declared.op.Op.{Op}
@@ -20,16 +21,6 @@ use Rattle.moesi.specs.State as moesi
 use Rattle.moesi.specs.Block.{block_with}
 use Rattle.machine.specs.Configuration.{BlankSize, IsSound, IsEntry, IsMachine, state_from, places_of}
 use Rattle.machine.proofs.Opening.{get_or_same}
-
--- what is true of an item is true of all its copies
-all_same : {X : Type 0} (P : X → Type 0) (n : ℕ) (x : X) → P x → All P (replicate n x)
-all_same P n x h k d inside = subst P
-    (sym (get_or-replicate n k x d (omega (arith, inside, length-replicate n x)))) h
-
--- copies of what counts nothing count nothing
-sum_same : {X : Type 0} (f : X → ℕ) (n : ℕ) (x : X) → f x ≡ 0 → sum_by f (replicate n x) ≡ 0
-sum_same f zero x h = refl
-sum_same f (suc n) x h = omega (arith, h, sum_by-cons f x (replicate n x), sum_same f n x h)
 
 -- a function of all copies
 map_same : {X Y : Type 0} (f : X → Y) (n : ℕ) (x : X) → map f (replicate n x) ≡ replicate n (f x)
@@ -115,27 +106,27 @@ module _ (p : Parts) (capacity cores total n : ℕ) (init : List ℕ) (units : L
             (length p.cores) c 0,
       );
       capacities = subst (λ (l : List Buffer). All (λ b. b.capacity ≡ capacity) l) (sym buffers_are)
-          (all_same (λ (b : Buffer). b.capacity ≡ capacity) cores
+          (All-replicate (λ (b : Buffer). b.capacity ≡ capacity) cores
           (record { entries = []; capacity = capacity }) refl);
       entries = subst (λ (l : List Buffer). All (λ b. All (IsEntry (length p.names)) b.entries) l)
           (sym buffers_are)
-          (all_same (λ (b : Buffer). All (IsEntry (length p.names)) b.entries) cores
+          (All-replicate (λ (b : Buffer). All (IsEntry (length p.names)) b.entries) cores
           (record { entries = []; capacity = capacity }) (λ k d h. absurd (omega (arith, h))));
       write_rooms = subst (λ (l : List (BoundedItems ℕ)). All (λ b. b.room ≡ op_count p.cores) l)
-          (sym writes_are) (all_same (λ (b : BoundedItems ℕ). b.room ≡ op_count p.cores) n
+          (sym writes_are) (All-replicate (λ (b : BoundedItems ℕ). b.room ≡ op_count p.cores) n
           (record { items = []; room = total }) are.events);
       write_lengths = subst (λ (l : List (BoundedItems ℕ)). All (λ b. length b.items ≤ length done.items) l)
           (sym writes_are)
-          (all_same (λ (b : BoundedItems ℕ). length b.items ≤ length done.items) n
+          (All-replicate (λ (b : BoundedItems ℕ). length b.items ≤ length done.items) n
           (record { items = []; room = total }) (omega arith));
       performed_room = ap (λ (r : BoundedItems ℕ). r.room) done_is ∙ are.events;
       counted = omega (
         arith,
         ap (λ (r : BoundedItems ℕ). length r.items) done_is,
         ap (λ (l : List Buffer). sum_by (λ b. length b.entries) l) buffers_are,
-        sum_same (λ (b : Buffer). length b.entries) cores (record { entries = []; capacity = capacity }) refl,
+        sum_by-replicate (λ (b : Buffer). length b.entries) cores (record { entries = []; capacity = capacity }),
         ap (λ (l : List ℕ). sum_by (λ (x : ℕ). x) l) places_are,
-        sum_same (λ (x : ℕ). x) (length p.cores) 0 refl,
+        sum_by-replicate (λ (x : ℕ). x) (length p.cores) 0,
       );
     }
 

@@ -16,8 +16,8 @@ pub record Counts (p : Static) (s t : Snapshot) (b : ℕ) : Type 0 where
   pub b_once : times (seen t (p.core b)) b ≡ 1
 
 -- such a step keeps the count
-pub counted_kept : (p : Static) (s t : Snapshot) (b : ℕ) → IsCounted p s → Counts p s t b → IsCounted p t
-counted_kept p s t b counted step = record { listed = listed; executed = executed; waiting = step.waiting }
+pub counted_kept : {p : Static} {s t : Snapshot} {b : ℕ} → IsCounted p s → Counts p s t b → IsCounted p t
+counted_kept {p} {s} {t} {b} counted step = record { listed = listed; executed = executed; waiting = step.waiting }
   where
     listed : (e : ℕ) → e < p.count → e < t.next (p.core e) → times (seen t (p.core e)) e ≡ 1
     listed e event done = elim (cases_eq e b) [
@@ -71,8 +71,8 @@ pub record Issues (p : Static) (s t : Snapshot) (b : ℕ) : Type 0 where
   pub source : (e : ℕ) → e ≢ b → t.source e ≡ s.source e
 
 -- a store that goes to its buffer is counted
-pub issue_counts : (p : Static) (s t : Snapshot) (b : ℕ) → IsCounted p s → Issues p s t b → Counts p s t b
-issue_counts p s t b counted i = record {
+pub issue_counts : {p : Static} {s t : Snapshot} {b : ℕ} → IsCounted p s → Issues p s t b → Counts p s t b
+issue_counts {p} {s} {t} {b} counted i = record {
   others = λ d e eb. elim (cases_eq d (p.core b)) [
     | inl own ↦ subst (λ (z : ℕ). times (seen t z) e ≡ times (seen s z) e) (sym own) (omega (
       arith,
@@ -146,8 +146,8 @@ pub record Performs (p : Static) (s t : Snapshot) (b : ℕ) : Type 0 where
   pub source : (e : ℕ) → e ≢ b → t.source e ≡ s.source e
 
 -- an event that is performed is counted
-pub perform_counts : (p : Static) (s t : Snapshot) (b : ℕ) → IsCounted p s → Performs p s t b → Counts p s t b
-perform_counts p s t b counted i = record {
+pub perform_counts : {p : Static} {s t : Snapshot} {b : ℕ} → IsCounted p s → Performs p s t b → Counts p s t b
+perform_counts {p} {s} {t} {b} counted i = record {
   others = λ d e eb. omega (arith, seen_more d e, times_there [] b e (λ z. eb (sym z)), times_nil e);
   next = next_step p s t b i.next_was i.next i.next_others;
   next_grows = next_up p s t b i.next_was i.next i.next_others;
@@ -184,7 +184,7 @@ pub record Drains (p : Static) (s t : Snapshot) (c b : ℕ) (front : List ℕ) :
   pub source : (e : ℕ) → t.source e ≡ s.source e
   pub reads : p.reads b ≡ None
 
-module _ (p : Static) (s t : Snapshot) (c b : ℕ) (front : List ℕ) (counted : IsCounted p s)
+module _ {p : Static} {s t : Snapshot} {c b : ℕ} {front : List ℕ} (counted : IsCounted p s)
     (i : Drains p s t c b front) where
   -- how often an event stands in core c's order, before and after
   times_was : (e : ℕ) → times (seen s c) e

@@ -4,6 +4,7 @@ use Rattle.std.proofs.Common.{List, [], ◌∷◌, ◌++◌, map, get_or, arith,
 use Rattle.std.specs.Prelude.{◌==◌}
 use Rattle.std.proofs.lemmas.Bool.{cases_eq, eq-eqb}
 use Rattle.std.proofs.lemmas.Bool.Decides.{nat_tests}
+use Rattle.std.proofs.lemmas.Option.{same_Some}
 use Rattle.recording.specs.Order.{times, Before}
 use Rattle.recording.specs.OrderLaws.{place_in, place_here, place_there, times_here, times_there, times_nil}
 use Rattle.recording.specs.OrderLaws.{times_append, cases_times, before_in_right, left_before_right}
@@ -28,10 +29,6 @@ IsYoungestOf p s b a (Some y) =
 -- a test of two different numbers
 pub not_equal : (a b : ℕ) → (a ≡ b → ⊥) → (a == b) ≡ false
 not_equal a b h = grind (arith, nat_tests)
-
--- one number, found twice
-pub some_one : {a b : ℕ} → Some a ≡ Some b → a ≡ b
-some_one h = cc
 
 -- the youngest entry of an address is its last store
 pub youngest_says : (p : List (List Op)) (s : State) (c : ℕ) (b : List Entry) (a : ℕ) → AreStores p c b
@@ -105,7 +102,7 @@ youngest_says p s c (x ∷ xs) a stores once =
       | inr isnt ↦ subst (λ (t : Bool). IsYoungestOf p s (x ∷ xs) a (cond t (Some x) None))
           (sym (not_equal x.addr a isnt))
           (λ w there wa. elim (cases_eq x.event w) [
-            | inl here ↦ isnt (some_one (sym writes
+            | inl here ↦ isnt (same_Some x.addr a (sym writes
                 ∙ (ap (λ (e : ℕ). written_address (done_by p s e)) here ∙ wa)))
             | inr behind ↦ says w (omega (
               arith,

@@ -25,9 +25,9 @@ pub record Orders (p : Static) (s t : Snapshot) (b : ℕ) : Type 0 where
       → IsLast p (seen t (p.core b)) b a (t.source b)
 
 -- such a step keeps the order
-pub ordered_kept : (p : Static) (s t : Snapshot) (b : ℕ) → IsCounted p s → IsOrdered p s → Counts p s t b
+pub ordered_kept : {p : Static} {s t : Snapshot} {b : ℕ} → IsCounted p s → IsOrdered p s → Counts p s t b
     → Orders p s t b → IsOrdered p t
-ordered_kept p s t b counted ordered count step = record { kept = kept; values = values }
+ordered_kept {p} {s} {t} {b} counted ordered count step = record { kept = kept; values = values }
   where
     kept : (e f : ℕ) → Own p e f → f < t.next (p.core f) → (p.store e && p.load f) ≡ false
         → Before (seen t (p.core f)) e f
@@ -68,8 +68,8 @@ earlier_seen p s b counted event new e own = subst (λ (z : ℕ). 0 < times (see
     ))
 
 -- a store that goes to its buffer comes last in its core's order
-pub issue_orders : (p : Static) (s t : Snapshot) (b : ℕ) → IsCounted p s → Issues p s t b → Orders p s t b
-issue_orders p s t b counted i = record {
+pub issue_orders : {p : Static} {s t : Snapshot} {b : ℕ} → IsCounted p s → Issues p s t b → Orders p s t b
+issue_orders {p} {s} {t} {b} counted i = record {
   grows = grows;
   source = i.source;
   performed = λ e eb. ap (λ (m : List ℕ). times m e) i.performed;
@@ -125,9 +125,9 @@ pub record Follows (p : Static) (s t : Snapshot) (b : ℕ) : Type 0 where
   pub newest : (a : ℕ) → p.reads b ≡ Some a → IsNewest p (seen s (p.core b)) a (t.source b)
 
 -- an event that is performed comes after all that was performed
-pub perform_orders : (p : Static) (s t : Snapshot) (b : ℕ) → IsCounted p s → Performs p s t b
+pub perform_orders : {p : Static} {s t : Snapshot} {b : ℕ} → IsCounted p s → Performs p s t b
     → Follows p s t b → Orders p s t b
-perform_orders p s t b counted i f = record {
+perform_orders {p} {s} {t} {b} counted i f = record {
   grows = λ d. subst (λ (o : List ℕ). Grows p b s.performed d (seen s d) o) (sym (seen_now d))
       (moved s.performed (s.buffer d) (fresh d) (λ e there. there)
       (λ e there core own. omega (
@@ -243,9 +243,9 @@ perform_orders p s t b counted i f = record {
     )
 
 -- the oldest store of a core goes to memory: its core's order stays as it was
-pub drain_orders : (p : Static) (s t : Snapshot) (c b : ℕ) → IsCounted p s → IsOrdered p s
+pub drain_orders : {p : Static} {s t : Snapshot} {c b : ℕ} → IsCounted p s → IsOrdered p s
     → Drains p s t c b [] → Orders p s t b
-drain_orders p s t c b counted ordered i = record {
+drain_orders {p} {s} {t} {c} {b} counted ordered i = record {
   grows = grows;
   source = λ e eb. i.source e;
   performed = λ e eb. omega (
@@ -267,10 +267,10 @@ drain_orders p s t c b counted ordered i = record {
     times_there_one e eb = omega (arith, times_there [] b e (λ z. eb (sym z)), times_nil e)
 
     core : p.core b ≡ c
-    core = drain_core p s t c b [] counted i
+    core = drain_core counted i
 
     event : (b < p.count) × (b < s.next (p.core b))
-    event = drain_event p s t c b [] counted i
+    event = drain_event counted i
 
     seen_own : seen t c ≡ seen s c
     seen_own = rw (i.performed, i.is, i.was) (append_assoc s.performed (b ∷ []) i.back)
@@ -282,9 +282,9 @@ drain_orders p s t c b counted ordered i = record {
     not_left = omega (
       arith,
       subst (λ (z : ℕ). times (seen s z) b ≡ 1) core
-          (drain_once p s t c b [] counted i),
+          (drain_once counted i),
       times_append s.performed (s.buffer c) b,
-      drain_waits p s t c b [] counted i,
+      drain_waits counted i,
     )
 
     fresh : (d : ℕ) → d ≢ c → times (seen s d) b ≡ 0

@@ -24,7 +24,7 @@ use Rattle.machine.specs.State.{State, buffer_of, current_copy, event_of}
 use Rattle.machine.specs.Step.{performed, written, with_read, forwarded_or_read, looked_up}
 use Rattle.machine.proofs.Seen.{seen, IsNewest}
 use Rattle.machine.proofs.Static.{static_of, snapshot_of, placed_op, done_by}
-use Rattle.machine.proofs.Newest.{last_of, last_one, last_two, filter_same, newest_in_memory}
+use Rattle.machine.proofs.Newest.{filter_yes, filter_no, last_of, last_one, last_two, filter_same, newest_in_memory}
 use Rattle.machine.proofs.DrainEvents.{AreStores}
 use Rattle.machine.proofs.Loads.{IsYoungestOf, not_equal, youngest_says, newest_in_buffer}
 
@@ -57,14 +57,6 @@ is_address_other b a h = grind (arith, nat_tests)
 is_address_none : (a : ℕ) → is_address None a ≡ false
 unfolding is_address
 is_address_none a = refl
-
--- a single event that passes
-filter_one_yes : (q : ℕ → Bool) (e : ℕ) → q e ≡ true → filter q (e ∷ []) ≡ e ∷ []
-filter_one_yes q e h = rw h refl
-
--- a single event that fails
-filter_one_no : (q : ℕ → Bool) (e : ℕ) → q e ≡ false → filter q (e ∷ []) ≡ []
-filter_one_no q e h = rw h refl
 
 -- what was put at the end is the last
 last_push : (xs : List ℕ) (e : ℕ) → last_of (xs ++ e ∷ []) ≡ Some e
@@ -107,7 +99,7 @@ listed_written p s caches a e large writes at listed = record {
         (omega (arith, at, listed.cells))
         ∙ (ap (λ (l : List ℕ). l ++ e ∷ []) (listed.lists a at)
         ∙ (ap (λ (l : List ℕ). filter (writes_to p s a) s.performed ++ l)
-        (sym (filter_one_yes (writes_to p s a) e
+        (sym (filter_yes (writes_to p s a) e []
         (is_address_back (written_address (done_by p s e)) a writes)))
         ∙ sym (filter-append (writes_to p s a) s.performed (e ∷ [])))))
     | inr other ↦
@@ -115,7 +107,7 @@ listed_written p s caches a e large writes at listed = record {
         ∙ (listed.lists b (omega (arith, inside, large))
         ∙ (sym (append-nil (filter (writes_to p s b) s.performed))
         ∙ (ap (λ (l : List ℕ). filter (writes_to p s b) s.performed ++ l)
-        (sym (filter_one_no (writes_to p s b) e
+        (sym (filter_no (writes_to p s b) e []
         (ap (λ (z : Option ℕ). is_address z b) writes
         ∙ is_address_other a b (λ same_as. other (sym same_as)))))
         ∙ sym (filter-append (writes_to p s b) s.performed (e ∷ [])))))
@@ -129,7 +121,7 @@ listed_performed p s e none listed = record {
   cells = listed.cells;
   lists = λ a inside. listed.lists a inside ∙ (sym (append-nil (filter (writes_to p s a) s.performed))
       ∙ (ap (λ (l : List ℕ). filter (writes_to p s a) s.performed ++ l)
-      (sym (filter_one_no (writes_to p s a) e
+      (sym (filter_no (writes_to p s a) e []
       (ap (λ (z : Option ℕ). is_address z a) none ∙ is_address_none a)))
       ∙ sym (filter-append (writes_to p s a) s.performed (e ∷ []))));
 }

@@ -1,25 +1,24 @@
 use Rattle.std.proofs.Common.{refl, sym, ◌∙◌, true}
-use Rattle.machine.specs.declared.step.Step.TheVariants.{GetS}
-use Rattle.machine.proofs.Transacted.{transacted_sound, get_s_taken, get_s_blocked}
+use Rattle.machine.specs.ScriptLine.{transaction_step}
+use Rattle.machine.proofs.Transacted.{transacted_sound, transaction_row}
 use Rattle.machine.proofs.Reached.{reached_step}
 use Rattle.machine.proofs.Inside.{line_inside}
-use Rattle.machine.proofs.machine.Machine.get_s.Goals as goal
+use Rattle.machine.proofs.machine.Machine.transact.Goals as goal
 
 pub invariant_of-self-2 : goal.invariant_of-self-2
 invariant_of-self-2 c =
     let there = line_inside c.args.core c.args.addr c.self.view_is (sym c.has.ensures ∙ c.if-not-has.false) in
     record {
-      sound = transacted_sound _ _ _ _ _ _ _ _ c.get_s.new.self c.self.invariant.sound c.get_s.ensures.cores
-          c.get_s.ensures.addresses;
-      reached = reached_step _ _ _ _ _ _ (GetS c.args.core c.args.addr) c.self.invariant.reached
-          (get_s_taken c.self.inside.program c.self.inside.capacity _ _ _ _ _ c.self.inside.performed
-          c.get_s.new.self c.self.inside.fault c.args.core c.args.addr there c.in-Ok.ensures.ok);
+      sound = transacted_sound c.self.invariant.sound c.transact.ensures.cores c.transact.ensures.addresses;
+      reached = reached_step (transaction_step c.args.kind c.args.core c.args.addr) c.self.invariant.reached
+          (transaction_row _ _ _ _ c.args.kind _ _
+          ∙ rw (there, c.in-Ok.ensures.ok) refl);
       blank_is = c.self.invariant.blank_is;
     }
 
 pub returns-then-not-has-clause-blocked : goal.returns-then-not-has-clause-blocked
 returns-then-not-has-clause-blocked c =
-    rw (sym c.has.ensures ∙ c.if-not-has.true) refl
+    transaction_row _ _ _ _ c.args.kind _ _ ∙ rw (sym c.has.ensures ∙ c.if-not-has.true) refl
 
 pub invariant_of-self : goal.invariant_of-self
 invariant_of-self c =
@@ -32,14 +31,14 @@ returns-in_default-clause-unchanged c =
 pub returns-in_default-clause-blocked : goal.returns-in_default-clause-blocked
 returns-in_default-clause-blocked c =
     let there = line_inside c.args.core c.args.addr c.self.view_is (sym c.has.ensures ∙ c.if-not-has.false) in
-    rw (← c.self.view_is) (get_s_blocked c.self.inside.program c.self.inside.capacity _ _ _ _ _
-    c.self.inside.performed c.self.inside.fault c.args.core c.args.addr there _ c.in_default.ensures.refused)
+    rw (← c.self.view_is) (transaction_row _ _ _ _ c.args.kind _ _
+    ∙ rw (there, c.in_default.ensures.refused) refl)
 
 pub returns-clause-ok : goal.returns-clause-ok
 returns-clause-ok c =
     let there = line_inside c.args.core c.args.addr c.self.view_is (sym c.has.ensures ∙ c.if-not-has.false) in
-    rw (← c.self.view_is) (get_s_taken c.self.inside.program c.self.inside.capacity _ _ _ _ _
-    c.self.inside.performed c.get_s.new.self c.self.inside.fault c.args.core c.args.addr there c.in-Ok.ensures.ok)
+    rw (← c.self.view_is) (transaction_row _ _ _ _ c.args.kind _ _
+    ∙ rw (there, c.in-Ok.ensures.ok) refl)
 
 pub returns-clause-rest : goal.returns-clause-rest
 returns-clause-rest c =
