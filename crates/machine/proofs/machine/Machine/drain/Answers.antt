@@ -23,6 +23,13 @@ push-requires-2 c =
     drained.has_room c.self.invariant.sound there c.index.ensures c.self.inside.fault c.in-Some.ensures
     c.index_mut.ensures.value c.drain.ensures.entries c.drain.ensures.capacity
 
+pub returns-clause-ok : goal.returns-clause-ok
+returns-clause-ok c =
+    let there = subst (λ (n : ℕ). c.args.core < n) c.cores.ensures.count c.if-core-cores.false in
+    rw (← c.self.view_is) (drained.drain_taken c.self.invariant.sound there c.index.ensures c.self.inside.fault
+    c.in-Some.ensures c.index_mut.ensures.value c.drain.ensures.entries c.drain.ensures.capacity
+    c.index_mut-2.ensures.value c.push.ensures c.push-2.ensures c.in-Ok.ensures.ok)
+
 pub invariant_of-self-2 : goal.invariant_of-self-2
 invariant_of-self-2 c =
     let there = subst (λ (n : ℕ). c.args.core < n) c.cores.ensures.count c.if-core-cores.false in
@@ -31,18 +38,9 @@ invariant_of-self-2 c =
           c.in-Some.ensures c.index_mut.ensures.value c.drain.ensures.entries c.drain.ensures.capacity
           c.index_mut-2.ensures.value c.push.ensures c.push-2.ensures c.write.ensures.cores c.write.ensures.addresses;
       reached = reached_step (Drain c.args.core) c.self.invariant.reached
-          (drained.drain_taken c.self.invariant.sound there c.index.ensures c.self.inside.fault
-          c.in-Some.ensures c.index_mut.ensures.value c.drain.ensures.entries c.drain.ensures.capacity
-          c.index_mut-2.ensures.value c.push.ensures c.push-2.ensures c.in-Ok.ensures.ok);
+          (rw (← c.self.view_is) at (returns-clause-ok c));
       blank_is = c.self.invariant.blank_is;
     }
-
-pub returns-clause-ok : goal.returns-clause-ok
-returns-clause-ok c =
-    let there = subst (λ (n : ℕ). c.args.core < n) c.cores.ensures.count c.if-core-cores.false in
-    rw (← c.self.view_is) (drained.drain_taken c.self.invariant.sound there c.index.ensures c.self.inside.fault
-    c.in-Some.ensures c.index_mut.ensures.value c.drain.ensures.entries c.drain.ensures.capacity
-    c.index_mut-2.ensures.value c.push.ensures c.push-2.ensures c.in-Ok.ensures.ok)
 
 pub returns-then-core-cores-clause-blocked : goal.returns-then-core-cores-clause-blocked
 returns-then-core-cores-clause-blocked c =

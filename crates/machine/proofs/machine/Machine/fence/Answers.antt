@@ -16,23 +16,21 @@ pub advance-requires-clause-few : goal.advance-requires-clause-few
 advance-requires-clause-few c =
     few c.self.invariant.sound (at_inside c.self.view_is c.requires).core c.index_mut.ensures.value c.ops.ensures
 
+pub returns-clause-ok : goal.returns-clause-ok
+returns-clause-ok c =
+    rw (← c.self.view_is, c.push.ensures)
+    (executed.fence_taken c.self.invariant.sound (at_inside c.self.view_is c.requires) c.index_mut.ensures.value
+    c.advance.ensures c.self.inside.fault c.index.ensures (sym c.may_fence.ensures ∙ c.if-not-may_fence.false))
+
 pub invariant_of-self : goal.invariant_of-self
 invariant_of-self c =
     let at = at_inside c.self.view_is c.requires in
     record {
       sound = executed.performed_sound c.self.invariant.sound at c.index_mut.ensures.value c.advance.ensures refl
           c.push.ensures;
-      reached = rw c.push.ensures (reached_exec at c.self.invariant.reached
-          (executed.fence_taken c.self.invariant.sound at c.index_mut.ensures.value c.advance.ensures
-          c.self.inside.fault c.index.ensures (sym c.may_fence.ensures ∙ c.if-not-may_fence.false)));
+      reached = reached_exec at c.self.invariant.reached (rw (← c.self.view_is) at (returns-clause-ok c));
       blank_is = c.self.invariant.blank_is;
     }
-
-pub returns-clause-ok : goal.returns-clause-ok
-returns-clause-ok c =
-    rw (← c.self.view_is, c.push.ensures)
-    (executed.fence_taken c.self.invariant.sound (at_inside c.self.view_is c.requires) c.index_mut.ensures.value
-    c.advance.ensures c.self.inside.fault c.index.ensures (sym c.may_fence.ensures ∙ c.if-not-may_fence.false))
 
 pub ops-requires : goal.ops-requires
 ops-requires c = (at_inside c.self.view_is c.requires).core

@@ -21,20 +21,6 @@ pub advance-requires-clause-few : goal.advance-requires-clause-few
 advance-requires-clause-few c =
     few c.self.invariant.sound (at_inside c.self.view_is c.requires).core c.index_mut-2.ensures.value c.ops.ensures
 
-pub invariant_of-self : goal.invariant_of-self
-invariant_of-self c =
-    let at = at_inside c.self.view_is c.requires in
-    record {
-      sound = executed.performed_sound c.self.invariant.sound at c.index_mut-2.ensures.value c.advance.ensures
-          (length-set c.self.inside.reads.items _ _) c.push.ensures;
-      reached = rw c.push.ensures (reached_exec at c.self.invariant.reached
-          (executed.load_taken c.self.invariant.sound at c.index_mut-2.ensures.value c.advance.ensures
-          c.self.inside.fault c.index.ensures c.args.addr c.forwarded-entry.result c.forwarded-entry.ensures
-          c.in-Ok.what (ap (forwarded_or_read c.forwarded-entry.result) (sym c.read.ensures)
-          ∙ sym c.in-Ok.ensures)));
-      blank_is = c.self.invariant.blank_is;
-    }
-
 pub returns-clause-ok : goal.returns-clause-ok
 returns-clause-ok c =
     rw (← c.self.view_is, c.push.ensures)
@@ -42,6 +28,16 @@ returns-clause-ok c =
     c.advance.ensures c.self.inside.fault c.index.ensures c.args.addr c.forwarded-entry.result
     c.forwarded-entry.ensures c.in-Ok.what
     (ap (forwarded_or_read c.forwarded-entry.result) (sym c.read.ensures) ∙ sym c.in-Ok.ensures))
+
+pub invariant_of-self : goal.invariant_of-self
+invariant_of-self c =
+    let at = at_inside c.self.view_is c.requires in
+    record {
+      sound = executed.performed_sound c.self.invariant.sound at c.index_mut-2.ensures.value c.advance.ensures
+          (length-set c.self.inside.reads.items _ _) c.push.ensures;
+      reached = reached_exec at c.self.invariant.reached (rw (← c.self.view_is) at (returns-clause-ok c));
+      blank_is = c.self.invariant.blank_is;
+    }
 
 pub read-requires-clause-core : goal.read-requires-clause-core
 read-requires-clause-core c = lines_there c.self.invariant.sound (at_inside c.self.view_is c.requires).core

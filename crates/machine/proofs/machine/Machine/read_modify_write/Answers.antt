@@ -1,10 +1,7 @@
-use Rattle.std.proofs.Common.{arith, refl, sym, ap, ◌∙◌, ◌≡◌, ◌<◌, ℕ, Ok, Err, subst, length-set}
+use Rattle.std.proofs.Common.{arith, refl, sym, ap, ◌∙◌, ◌<◌, ℕ, subst, length-set}
 use Rattle.recording.specs.Event.{value_written}
 use Rattle.moesi.specs.State as moesi
-use Rattle.machine.specs.declared.blocked.Blocked.TheVariants.{B5}
 use Rattle.machine.specs.State.{event_of}
-use Rattle.machine.specs.Configuration.{Configuration, exec_answer}
-use Rattle.machine.specs.Step.{exec, read_modify_written}
 use Rattle.machine.proofs.Cached.{read_is, unread_unwritten}
 use Rattle.machine.proofs.Parts.{few, lines_there, buffer_seen}
 use Rattle.machine.proofs.ExecuteParts as executed
@@ -15,30 +12,21 @@ use Rattle.machine.proofs.machine.Machine.read_modify_write.Goals as goal
 pub returns-in_default-clause-blocked : goal.returns-in_default-clause-blocked
 returns-in_default-clause-blocked c =
     let core = (at_inside c.self.view_is c.requires.at).core in
-    let row = subst (λ (h : Configuration). exec h.capacity h.fault h.state c.args.core c.args.event c.args.op
-    ≡ read_modify_written h.fault h.state c.args.core c.args.event c.args.op c.args.addr)
-    (sym c.self.view_is) c.requires.row in
     let may = sym c.may_rmw.ensures ∙ c.if-not-may_rmw.false in
     let refused = unread_unwritten c.self.inside.caches c.args.core c.args.addr
     (value_written (event_of c.args.op (moesi.copy_of c.self.inside.caches c.args.core c.args.addr))) c.args.event
     c.in_default.field-0 (sym c.read.ensures ∙ c.in_default.is) in
-    subst (λ (h : Configuration). exec_answer h c.args.core c.args.op c.args.event ≡ Err B5) c.self.view_is
-    (row ∙ rw (buffer_seen c.self.invariant.sound core c.index.ensures, may, refused) refl)
+    c.requires.row ∙ rw (← c.self.view_is)
+    (rw (buffer_seen c.self.invariant.sound core c.index.ensures, may, refused) refl)
 
 pub returns-in_default-write-clause-blocked : goal.returns-in_default-write-clause-blocked
 returns-in_default-write-clause-blocked c =
     let core = (at_inside c.self.view_is c.requires.at).core in
-    let row = subst (λ (h : Configuration). exec h.capacity h.fault h.state c.args.core c.args.event c.args.op
-    ≡ read_modify_written h.fault h.state c.args.core c.args.event c.args.op c.args.addr)
-    (sym c.self.view_is) c.requires.row in
     let may = sym c.may_rmw.ensures ∙ c.if-not-may_rmw.false in
     let what = (read_is c.self.inside.caches c.args.core c.args.addr c.in-Ok.read (sym c.in-Ok.ensures)).1 in
-    let value : c.value_written-value.result ≡ value_written (event_of c.args.op c.in-Ok.read) =
-    c.value_written-value.ensures ∙ ap value_written c.event_of.ensures in
-    let refused = subst (λ (v : ℕ). moesi.write c.self.inside.caches c.args.core c.args.addr v c.args.event
-    ≡ Err c.in_default-write.field-0) value c.in_default-write.ensures.refused in
-    subst (λ (h : Configuration). exec_answer h c.args.core c.args.op c.args.event ≡ Err B5) c.self.view_is
-    (row ∙ rw (buffer_seen c.self.invariant.sound core c.index.ensures, may, what, refused) refl)
+    let refused = rw (c.value_written-value.ensures, c.event_of.ensures) at c.in_default-write.ensures.refused in
+    c.requires.row ∙ rw (← c.self.view_is)
+    (rw (buffer_seen c.self.invariant.sound core c.index.ensures, may, what, refused) refl)
 
 pub write-requires-clause-event : goal.write-requires-clause-event
 write-requires-clause-event c =
@@ -64,46 +52,27 @@ pub advance-requires-clause-few : goal.advance-requires-clause-few
 advance-requires-clause-few c =
     few c.self.invariant.sound (at_inside c.self.view_is c.requires.at).core c.index_mut-3.ensures.value c.ops.ensures
 
-pub invariant_of-self-2 : goal.invariant_of-self-2
-invariant_of-self-2 c =
-    let at = at_inside c.self.view_is c.requires.at in
-    let within = address_inside c.self.view_is c.requires.address in
-    let row = subst (λ (h : Configuration). exec h.capacity h.fault h.state c.args.core c.args.event c.args.op
-    ≡ read_modify_written h.fault h.state c.args.core c.args.event c.args.op c.args.addr)
-    (sym c.self.view_is) c.requires.row in
-    let may = sym c.may_rmw.ensures ∙ c.if-not-may_rmw.false in
-    let what = (read_is c.self.inside.caches c.args.core c.args.addr c.in-Ok.read (sym c.in-Ok.ensures)).1 in
-    let value : c.value_written-value.result ≡ value_written (event_of c.args.op c.in-Ok.read) =
-    c.value_written-value.ensures ∙ ap value_written c.event_of.ensures in
-    let wrote = subst (λ (v : ℕ). moesi.write c.self.inside.caches c.args.core c.args.addr v c.args.event
-    ≡ Ok c.write.new.self) value c.in-Ok-write.ensures.ok in
-    record {
-      sound = executed.rmw_sound c.self.invariant.sound at c.index_mut-3.ensures.value c.advance.ensures within
-          c.index_mut-2.ensures.value c.write.ensures.cores c.write.ensures.addresses
-          (length-set c.self.inside.reads.items _ _) c.push.ensures c.push-2.ensures;
-      reached = rw c.push-2.ensures (reached_exec at c.self.invariant.reached
-          (row ∙ executed.rmw_taken c.self.invariant.sound at c.index_mut-3.ensures.value c.advance.ensures
-          c.self.inside.fault c.index.ensures may c.args.addr c.in-Ok.read what within c.write.new.self wrote
-          c.index_mut-2.result.now c.push.new.self c.index_mut-2.ensures.value c.push.ensures));
-      blank_is = c.self.invariant.blank_is;
-    }
-
 pub returns-clause-ok : goal.returns-clause-ok
 returns-clause-ok c =
-    let row = subst (λ (h : Configuration). exec h.capacity h.fault h.state c.args.core c.args.event c.args.op
-    ≡ read_modify_written h.fault h.state c.args.core c.args.event c.args.op c.args.addr)
-    (sym c.self.view_is) c.requires.row in
     let may = sym c.may_rmw.ensures ∙ c.if-not-may_rmw.false in
     let what = (read_is c.self.inside.caches c.args.core c.args.addr c.in-Ok.read (sym c.in-Ok.ensures)).1 in
-    let value : c.value_written-value.result ≡ value_written (event_of c.args.op c.in-Ok.read) =
-    c.value_written-value.ensures ∙ ap value_written c.event_of.ensures in
-    let wrote = subst (λ (v : ℕ). moesi.write c.self.inside.caches c.args.core c.args.addr v c.args.event
-    ≡ Ok c.write.new.self) value c.in-Ok-write.ensures.ok in
-    rw (← c.self.view_is, c.push-2.ensures)
-    (row ∙ executed.rmw_taken c.self.invariant.sound (at_inside c.self.view_is c.requires.at)
+    let wrote = rw (c.value_written-value.ensures, c.event_of.ensures) at c.in-Ok-write.ensures.ok in
+    c.requires.row ∙ rw (← c.self.view_is, c.push-2.ensures)
+    (executed.rmw_taken c.self.invariant.sound (at_inside c.self.view_is c.requires.at)
     c.index_mut-3.ensures.value c.advance.ensures c.self.inside.fault c.index.ensures may c.args.addr c.in-Ok.read
     what (address_inside c.self.view_is c.requires.address) c.write.new.self wrote c.index_mut-2.result.now
     c.push.new.self c.index_mut-2.ensures.value c.push.ensures)
+
+pub invariant_of-self-2 : goal.invariant_of-self-2
+invariant_of-self-2 c =
+    let at = at_inside c.self.view_is c.requires.at in
+    record {
+      sound = executed.rmw_sound c.self.invariant.sound at c.index_mut-3.ensures.value c.advance.ensures
+          (address_inside c.self.view_is c.requires.address) c.index_mut-2.ensures.value c.write.ensures.cores
+          c.write.ensures.addresses (length-set c.self.inside.reads.items _ _) c.push.ensures c.push-2.ensures;
+      reached = reached_exec at c.self.invariant.reached (rw (← c.self.view_is) at (returns-clause-ok c));
+      blank_is = c.self.invariant.blank_is;
+    }
 
 pub read-requires-clause-core : goal.read-requires-clause-core
 read-requires-clause-core c = lines_there c.self.invariant.sound (at_inside c.self.view_is c.requires.at).core

@@ -1,8 +1,6 @@
 use Rattle.std.proofs.Common.{arith, refl, sym, ap, ◌∙◌, ◌≡◌, ◌<◌, ℕ, subst, true, false, length-set}
 use Rattle.moesi.specs.Lines.{is_exclusive}
 use Rattle.moesi.specs.State as moesi
-use Rattle.machine.specs.Configuration.{Configuration}
-use Rattle.machine.specs.Step.{exec, read_unmodified}
 use Rattle.machine.proofs.Cached.{read_is, exclusive_read}
 use Rattle.machine.proofs.Parts.{few, lines_there, buffer_seen}
 use Rattle.machine.proofs.ExecuteParts as executed
@@ -25,38 +23,26 @@ pub advance-requires-clause-few : goal.advance-requires-clause-few
 advance-requires-clause-few c =
     few c.self.invariant.sound (at_inside c.self.view_is c.requires.at).core c.index_mut-2.ensures.value c.ops.ensures
 
+pub returns-clause-ok : goal.returns-clause-ok
+returns-clause-ok c =
+    let may = sym c.may_rmw.ensures ∙ c.if-not-may_rmw.false in
+    let owned : is_exclusive (moesi.line_of c.self.inside.caches c.args.core c.args.addr) ≡ true =
+    ap is_exclusive (sym c.line.ensures) ∙ (sym c.is_exclusive.ensures ∙ c.if-not-is_exclusive.false) in
+    let what = (read_is c.self.inside.caches c.args.core c.args.addr c.in-Ok.read (sym c.in-Ok.ensures)).1 in
+    c.requires.row ∙ rw (← c.self.view_is, c.push.ensures)
+    (executed.compare_taken c.self.invariant.sound (at_inside c.self.view_is c.requires.at)
+    c.index_mut-2.ensures.value c.advance.ensures c.self.inside.fault c.index.ensures may c.args.addr c.in-Ok.read
+    what owned)
+
 pub invariant_of-self : goal.invariant_of-self
 invariant_of-self c =
     let at = at_inside c.self.view_is c.requires.at in
-    let row = subst (λ (h : Configuration). exec h.capacity h.fault h.state c.args.core c.args.event c.args.op
-    ≡ read_unmodified h.fault h.state c.args.core c.args.event c.args.addr)
-    (sym c.self.view_is) c.requires.row in
-    let may = sym c.may_rmw.ensures ∙ c.if-not-may_rmw.false in
-    let owned : is_exclusive (moesi.line_of c.self.inside.caches c.args.core c.args.addr) ≡ true =
-    ap is_exclusive (sym c.line.ensures) ∙ (sym c.is_exclusive.ensures ∙ c.if-not-is_exclusive.false) in
-    let what = (read_is c.self.inside.caches c.args.core c.args.addr c.in-Ok.read (sym c.in-Ok.ensures)).1 in
     record {
       sound = executed.performed_sound c.self.invariant.sound at c.index_mut-2.ensures.value c.advance.ensures
           (length-set c.self.inside.reads.items _ _) c.push.ensures;
-      reached = rw c.push.ensures (reached_exec at c.self.invariant.reached
-          (row ∙ executed.compare_taken c.self.invariant.sound at c.index_mut-2.ensures.value c.advance.ensures
-          c.self.inside.fault c.index.ensures may c.args.addr c.in-Ok.read what owned));
+      reached = reached_exec at c.self.invariant.reached (rw (← c.self.view_is) at (returns-clause-ok c));
       blank_is = c.self.invariant.blank_is;
     }
-
-pub returns-clause-ok : goal.returns-clause-ok
-returns-clause-ok c =
-    let row = subst (λ (h : Configuration). exec h.capacity h.fault h.state c.args.core c.args.event c.args.op
-    ≡ read_unmodified h.fault h.state c.args.core c.args.event c.args.addr)
-    (sym c.self.view_is) c.requires.row in
-    let may = sym c.may_rmw.ensures ∙ c.if-not-may_rmw.false in
-    let owned : is_exclusive (moesi.line_of c.self.inside.caches c.args.core c.args.addr) ≡ true =
-    ap is_exclusive (sym c.line.ensures) ∙ (sym c.is_exclusive.ensures ∙ c.if-not-is_exclusive.false) in
-    let what = (read_is c.self.inside.caches c.args.core c.args.addr c.in-Ok.read (sym c.in-Ok.ensures)).1 in
-    rw (← c.self.view_is, c.push.ensures)
-    (row ∙ executed.compare_taken c.self.invariant.sound (at_inside c.self.view_is c.requires.at)
-    c.index_mut-2.ensures.value c.advance.ensures c.self.inside.fault c.index.ensures may c.args.addr c.in-Ok.read
-    what owned)
 
 pub line-requires-clause-core : goal.line-requires-clause-core
 line-requires-clause-core c = lines_there c.self.invariant.sound (at_inside c.self.view_is c.requires.at).core

@@ -24,6 +24,12 @@ pub advance-requires-clause-few : goal.advance-requires-clause-few
 advance-requires-clause-few c =
     few c.self.invariant.sound (at_inside c.self.view_is c.requires).core c.index_mut-2.ensures.value c.ops.ensures
 
+pub returns-clause-ok : goal.returns-clause-ok
+returns-clause-ok c =
+    rw (← c.self.view_is) (executed.store_taken c.self.invariant.sound (at_inside c.self.view_is c.requires)
+    c.index_mut-2.ensures.value c.advance.ensures c.index_mut.ensures.value _ c.in-Ok.ensures.ok
+    c.self.inside.fault refl (c.in-Ok.ensures.variant.0 refl))
+
 pub invariant_of-self-2 : goal.invariant_of-self-2
 invariant_of-self-2 c =
     let at = at_inside c.self.view_is c.requires in
@@ -31,17 +37,9 @@ invariant_of-self-2 c =
       sound = executed.stored_sound c.self.invariant.sound at c.index_mut-2.ensures.value c.advance.ensures
           c.index_mut.ensures.value _ c.in-Ok.ensures.ok
           (executed.within c.self.invariant.sound at, executed.number_few c.self.invariant.sound at);
-      reached = reached_exec at c.self.invariant.reached
-          (executed.store_taken c.self.invariant.sound at c.index_mut-2.ensures.value c.advance.ensures
-          c.index_mut.ensures.value _ c.in-Ok.ensures.ok c.self.inside.fault refl (c.in-Ok.ensures.variant.0 refl));
+      reached = reached_exec at c.self.invariant.reached (rw (← c.self.view_is) at (returns-clause-ok c));
       blank_is = c.self.invariant.blank_is;
     }
-
-pub returns-clause-ok : goal.returns-clause-ok
-returns-clause-ok c =
-    rw (← c.self.view_is) (executed.store_taken c.self.invariant.sound (at_inside c.self.view_is c.requires)
-    c.index_mut-2.ensures.value c.advance.ensures c.index_mut.ensures.value _ c.in-Ok.ensures.ok
-    c.self.inside.fault refl (c.in-Ok.ensures.variant.0 refl))
 
 pub ops-requires : goal.ops-requires
 ops-requires c = (at_inside c.self.view_is c.requires).core
