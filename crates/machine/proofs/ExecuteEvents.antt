@@ -9,7 +9,7 @@ use Rattle.write_buffer.specs.declared.entry.Entry.{Entry}
 use Rattle.recording.specs.Event.{written_address}
 use Rattle.machine.specs.State.{State, place_of, buffer_of, first_event, event_of}
 use Rattle.machine.proofs.Seen.{IsCounted, IsOrdered, seen, IsNewest}
-use Rattle.machine.proofs.Counting.{counted_kept, Issues, issue_counts, Performs, perform_counts}
+use Rattle.machine.proofs.Counting.{counted_kept, Executes, Issues, issue_counts, Performs, perform_counts}
 use Rattle.machine.proofs.Ordering.{ordered_kept, issue_orders, perform_orders}
 use Rattle.machine.proofs.Rewritten.{counted_rewritten, ordered_rewritten, newest_rewritten}
 use Rattle.recording.specs.PlacedLaws.{placed_at}
@@ -44,17 +44,20 @@ module _ {p : List (List Op)} {s : State} {c b : ℕ} {op : Op} (n : IsNext p s 
 
 module _ {p : List (List Op)} {s : State} {c b : ℕ} {op : Op} (n : IsNext p s c b op) (t : State)
     (places : t.places ≡ slice_set s.places c (place_of s c + 1)) where
-  -- the core goes on by one
-  next_new : (snapshot_of p t).next ((static_of p s).core b) ≡ b + 1
-  next_new = ap (snapshot_of p t).next (core_is n)
-      ∙ (ap (λ (ps : List ℕ). first_event p c + get_or ps c 0) places
-      ∙ omega (arith, n.event, get_or-set_same s.places c (place_of s c + 1) 0 n.core))
-
-  -- the others stay
-  next_other : (d : ℕ) → d ≢ (static_of p s).core b → (snapshot_of p t).next d ≡ (snapshot_of p s).next d
-  next_other d other = ap (λ (ps : List ℕ). first_event p d + get_or ps d 0) places
-      ∙ ap (λ (i : ℕ). first_event p d + i)
-      (get_or-set_other s.places c d (place_of s c + 1) 0 (λ same. other (same ∙ sym (core_is n))))
+  -- the event is executed
+  executes : ((e : ℕ) → e ≢ b → get_or t.reads e (0, None) ≡ get_or s.reads e (0, None))
+      → Executes (static_of p t) (snapshot_of p s) (snapshot_of p t) b
+  executes reads = record {
+    event = next_event n;
+    next_was = next_old n;
+    next = ap (snapshot_of p t).next (core_is n)
+        ∙ (ap (λ (ps : List ℕ). first_event p c + get_or ps c 0) places
+        ∙ omega (arith, n.event, get_or-set_same s.places c (place_of s c + 1) 0 n.core));
+    next_others = λ d other. ap (λ (ps : List ℕ). first_event p d + get_or ps d 0) places
+        ∙ ap (λ (i : ℕ). first_event p d + i)
+        (get_or-set_other s.places c d (place_of s c + 1) 0 (λ same. other (same ∙ sym (core_is n))));
+    source = λ e other. ap (λ (z : ℕ × Option ℕ). z.1) (reads e other);
+  }
 
   -- no other event writes anything else
   writes_same : ((e : ℕ) → e ≢ b → get_or t.reads e (0, None) ≡ get_or s.reads e (0, None)) → (e : ℕ) → e ≢ b
@@ -79,13 +82,9 @@ module _ {p : List (List Op)} {s : State} {c b : ℕ} {op : Op} (n : IsNext p s 
     -- the execution performs the event
     performs : Performs (static_of p t) (snapshot_of p s) (snapshot_of p t) b
     performs = record {
-      event = next_event n;
-      next_was = next_old n;
+      executes = executes reads;
       performed = performed;
       buffer = λ d. ap (λ (bs : List (List Entry)). map (λ (x : Entry). x.event) (get_or bs d [])) buffers;
-      next = next_new;
-      next_others = next_other;
-      source = λ e other. ap (λ (z : ℕ × Option ℕ). z.1) (reads e other);
     }
 
     -- so it keeps the count
@@ -123,10 +122,9 @@ module _ {p : List (List Op)} {s : State} {c b : ℕ} {op : Op} (n : IsNext p s 
       -- the execution puts the store into the buffer
       issues : Issues (static_of p t) (snapshot_of p s) (snapshot_of p t) b
       issues = record {
-        event = next_event n;
+        executes = executes (λ e other. ap (λ (rs : List (ℕ × Option ℕ)). get_or rs e (0, None)) reads);
         store = ap (λ (z : ℕ × Op). is_st z.1) (next_placed n) ∙ store;
         reads = ap (λ (z : ℕ × Op). op_reads z.1) (next_placed n) ∙ none;
-        next_was = next_old n;
         performed = performed;
         buffer = ap (snapshot_of p t).buffer (core_is n)
             ∙ (ap (λ (bs : List (List Entry)). map (λ (x : Entry). x.event) (get_or bs c [])) buffers
@@ -140,9 +138,6 @@ module _ {p : List (List Op)} {s : State} {c b : ℕ} {op : Op} (n : IsNext p s 
             ∙ ap (map (λ (x : Entry). x.event))
             (get_or-set_other s.buffers c d (buffer_of s c ++ entry ∷ []) []
             (λ same. other (same ∙ sym (core_is n))));
-        next = next_new;
-        next_others = next_other;
-        source = λ e other. ap (λ (rs : List (ℕ × Option ℕ)). (get_or rs e (0, None)).1) reads;
       }
 
       -- so it keeps the count

@@ -71,16 +71,16 @@ earlier_seen p s b counted event new e own = subst (λ (z : ℕ). 0 < times (see
 pub issue_orders : {p : Static} {s t : Snapshot} {b : ℕ} → IsCounted p s → Issues p s t b → Orders p s t b
 issue_orders {p} {s} {t} {b} counted i = record {
   grows = grows;
-  source = i.source;
+  source = i.executes.source;
   performed = λ e eb. ap (λ (m : List ℕ). times m e) i.performed;
   b_first = λ f own done strong. absurd
-      (omega (arith, own, i.next, subst (λ (c : ℕ). f < t.next c) (sym own.2) done));
+      (omega (arith, own, i.executes.next, subst (λ (c : ℕ). f < t.next c) (sym own.2) done));
   b_last = last;
   b_value = λ a reads there. absurd (let clash : None ≡ Some a = sym i.reads ∙ reads in cc);
 }
   where
     fresh : (d : ℕ) → times (seen s d) b ≡ 0
-    fresh d = not_seen p s counted b d (omega (arith, i.next_was))
+    fresh d = not_seen p s counted b d (omega (arith, i.executes.next_was))
 
     seen_own : seen t (p.core b) ≡ seen s (p.core b) ++ b ∷ []
     seen_own = rw (i.performed, i.buffer) (sym (append_assoc s.performed (s.buffer (p.core b)) (b ∷ [])))
@@ -98,7 +98,7 @@ issue_orders {p} {s} {t} {b} counted i = record {
         (λ e there core own. omega (
           arith,
           own,
-          i.next_was,
+          i.executes.next_was,
           subst (λ (z : ℕ). e < s.next z) core (counted.executed 0 e (performed_is_seen s 0 e there)).1,
         )))
 
@@ -114,7 +114,7 @@ issue_orders {p} {s} {t} {b} counted i = record {
     last : (e : ℕ) → Own p e b → (p.store e && p.load b) ≡ false → Before (seen t (p.core b)) e b
     last e own strong = subst (λ (o : List ℕ). Before o e b) (sym seen_own)
         (left_before_right (seen s (p.core b)) (b ∷ []) e b
-        (earlier_seen p s b counted i.event i.next_was e own) (fresh (p.core b))
+        (earlier_seen p s b counted i.executes.event i.executes.next_was e own) (fresh (p.core b))
         (omega (arith, times_here [] b b refl)))
 
 -- an event that is performed in TSO's order: no plain store, a plain load or with an empty buffer, and
@@ -133,11 +133,11 @@ perform_orders {p} {s} {t} {b} counted i f = record {
       (λ e there core own. omega (
         arith,
         own,
-        i.next_was,
+        i.executes.next_was,
         subst (λ (z : ℕ). e < s.next z) (sym own.2)
             (counted.executed 0 e (performed_is_seen s 0 e there)).1,
       )));
-  source = i.source;
+  source = i.executes.source;
   performed = λ e eb. omega (
     arith,
     ap (λ (m : List ℕ). times m e) i.performed,
@@ -145,7 +145,7 @@ perform_orders {p} {s} {t} {b} counted i f = record {
     times_other e eb,
   );
   b_first = λ g own done strong. absurd
-      (omega (arith, own, i.next, subst (λ (c : ℕ). g < t.next c) (sym own.2) done));
+      (omega (arith, own, i.executes.next, subst (λ (c : ℕ). g < t.next c) (sym own.2) done));
   b_last = last;
   b_value = λ a reads there. subst (λ (o : List ℕ). IsLast p o b a (t.source b)) (sym (seen_now (p.core b)))
       (value a (t.source b) (f.newest a reads));
@@ -155,13 +155,13 @@ perform_orders {p} {s} {t} {b} counted i f = record {
     times_other e eb = omega (arith, times_there [] b e (λ z. eb (sym z)), times_nil e)
 
     fresh : (d : ℕ) → times (seen s d) b ≡ 0
-    fresh d = not_seen p s counted b d (omega (arith, i.next_was))
+    fresh d = not_seen p s counted b d (omega (arith, i.executes.next_was))
 
     seen_now : (d : ℕ) → seen t d ≡ s.performed ++ b ∷ s.buffer d
     seen_now d = rw (i.performed, i.buffer) (append_assoc s.performed (b ∷ []) (s.buffer d))
 
     earlier : (e : ℕ) → Own p e b → 0 < times (seen s (p.core b)) e
-    earlier e own = earlier_seen p s b counted i.event i.next_was e own
+    earlier e own = earlier_seen p s b counted i.executes.event i.executes.next_was e own
 
     b_not_left : times s.performed b ≡ 0
     b_not_left = not_performed s (p.core b) b (fresh (p.core b))
@@ -219,11 +219,11 @@ perform_orders {p} {s} {t} {b} counted i f = record {
             inr (
               omega (
                 arith,
-                i.next_was,
+                i.executes.next_was,
                 subst (λ (z : ℕ). w < s.next z) core
                     (counted.executed (p.core b) w there).1,
               ),
-              i.event,
+              i.executes.event,
               core,
             )
         | inr left ↦ inl (left_first w left)
