@@ -12,7 +12,7 @@ use Rattle.program.specs.declared.name.Name.{Name}
 use Rattle.program.specs.Parts.{Parts, IsWithin, IsProgram, parts_of}
 use Rattle.recording.specs.declared.event.Event.{Event}
 use Rattle.recording.specs.declared.event.Event.TheVariants.{L, S, R, C, F}
-use Rattle.recording.specs.Event.{read_address, written_address, is_plain_store}
+use Rattle.recording.specs.Event.{read_address, written_address, value_read, source, is_plain_store}
 use Rattle.recording.specs.Execution.{Execution, placed_from, event_at}
 use Rattle.recording.specs.Order.{times}
 use Rattle.recording.specs.Recording.{IsRecording}
@@ -37,13 +37,15 @@ use Rattle.machine.specs.Tso.{EveryRunIsTso, EveryRunIsWellFormed}
 use Rattle.std.proofs.lemmas.List.Elements.{All-nil, All-cons}
 use Rattle.machine.specs.Orderly.{placed_op, is_st, IsOrderly, EveryStateIsOrderly}
 use Rattle.recording.specs.PlacedLaws.{placed_total, placed_at}
+use Rattle.machine.specs.PlaceLaws.{places_within}
+use Rattle.machine.specs.RunLaws.{guarded}
 use Rattle.replay.proofs.NamedProgram.{named_is_program}
-use Rattle.replay.proofs.Made.{placed_is, count_same, recorded_made}
+use Rattle.replay.proofs.Made.{placed_is, count_same, made_again, recorded_made}
 use Rattle.replay.proofs.Determined.{determined}
 use Rattle.replay.proofs.OrderlyRuns.{StaysOrderly, begun_going, goes_further, stores_same, waiting, waits_once}
-use Rattle.replay.proofs.StepLists.{AreTaken, StepsLead, all_of, goes_more, guarded}
+use Rattle.replay.proofs.StepLists.{AreTaken, StepsLead, all_of, goes_more}
 use Rattle.replay.proofs.Orders.{order_run}
-use Rattle.replay.proofs.Kept.{run_keeps, made_fits}
+use Rattle.replay.proofs.Kept.{run_keeps, op_within, all_within, made_fits}
 
 -- Room for the stores of a core
 
@@ -58,47 +60,18 @@ stores_most (es ∷ rest) (suc c) =
 
 -- The addresses of a recording's operations
 
--- an operation has the address of its event
-op_fits : (n : ℕ) (ev : Event) → ((a : ℕ) → read_address ev ≡ Some a → a < n)
-    → ((a : ℕ) → written_address ev ≡ Some a → a < n) → IsWithin n (op_of ev)
-op_fits n (L a r s) reads writes = reads a refl
-op_fits n (S a w) reads writes = writes a refl
-op_fits n (R a r s w) reads writes = reads a refl
-op_fits n (C a r s) reads writes = reads a refl
-op_fits n F reads writes = tt
-
 -- the operations of a recording have addresses with write lists
 recording_fits : (x : Execution) → IsRecording x
     → All (λ ops. All (IsWithin (length x.write_lists)) ops) (program_of x)
-recording_fits x r c other core i d inside =
-    let ops : List Op = get_or (program_of x) c [] in
-    let same : get_or (program_of x) c other ≡ ops = get_or_default (program_of x) c other [] core in
-    let here : i < length ops = omega (arith, inside, ap (λ (l : List Op). length l) same) in
-    let e : ℕ = first_event (program_of x) c + i in
-    let op : get_or ops i Fence ≡ op_of (event_at x e) =
-    ap (λ (z : ℕ × Op). z.1) (sym (placed_at 0 (program_of x) c i Fence here).0)
-    ∙ ap (λ (z : ℕ × Op). z.1) (placed_is x e) in
-    subst (λ (l : List Op). IsWithin (length x.write_lists) (get_or l i d)) (sym same)
-    (subst (λ (o : Op). IsWithin (length x.write_lists) o) (sym (get_or_default ops i d Fence here ∙ op))
-    (op_fits (length x.write_lists) (event_at x e) (λ a is. r.within.addresses e a (inl is))
-    (λ a is. r.within.addresses e a (inr is))))
+recording_fits x r =
+    all_within (program_of x) (length x.write_lists) (λ e.
+    let ev : Event = event_at x e in
+    subst (λ (z : ℕ × Op). IsWithin (length x.write_lists) z.1) (sym (placed_is x e))
+    (op_within (length x.write_lists) (op_of ev) (value_read ev, source ev)
+    (λ a is. r.within.addresses e a (inl (ap read_address (sym (made_again ev)) ∙ is)))
+    (λ a is. r.within.addresses e a (inr (ap written_address (sym (made_again ev)) ∙ is)))))
 
 -- The end
-
--- each core is within its operations, so all together are
-places_within : (places : List ℕ) (p : List (List Op)) → length places ≡ length p
-    → ((c : ℕ) → get_or places c 0 ≤ length (get_or p c [])) → sum places ≤ sum_by (λ ops. length ops) p
-places_within [] [] l h = omega arith
-places_within [] (ops ∷ p) l h = omega arith
-places_within (i ∷ places) [] l h = absurd (omega (arith, l))
-places_within (i ∷ places) (ops ∷ p) l h =
-    omega (
-      arith,
-      sum_by-cons (λ (k : ℕ). k) i places,
-      sum_by-cons (λ (os : List Op). length os) ops p,
-      h 0,
-      places_within places p (omega (arith, l)) (λ c. h (suc c)),
-    )
 
 -- empty buffers count nothing
 nothing_waits : (bs : List (List Entry)) → ((c : ℕ) → get_or bs c [] ≡ [])

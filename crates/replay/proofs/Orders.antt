@@ -64,13 +64,13 @@ module _ (x : Execution) (m : List ℕ) (tso : IsTsoOrder x m) (n capacity : ℕ
       → (t : State) × IsTurn (program_of x) n capacity s (perform s (core_of x e) ev) e t
   perform_turn s f e rest split (S a w) is ready = drain_turn x m tso n capacity room s f e rest split a w is
       (omega (arith, ready))
-  perform_turn s f e rest split (L a r o) is ready = load_turn x m tso n capacity room s f e rest split ready
+  perform_turn s f e rest split (L a r o) is ready = load_turn x m tso n capacity room s f e rest split ready (ap is_plain_store is)
       a r o is
-  perform_turn s f e rest split (R a r o w) is ready = rmw_turn x m tso n capacity room s f e rest split ready
+  perform_turn s f e rest split (R a r o w) is ready = rmw_turn x m tso n capacity room s f e rest split ready (ap is_plain_store is)
       a r w o is
-  perform_turn s f e rest split (C a r o) is ready = cas_turn x m tso n capacity room s f e rest split ready
+  perform_turn s f e rest split (C a r o) is ready = cas_turn x m tso n capacity room s f e rest split ready (ap is_plain_store is)
       a r o is
-  perform_turn s f e rest split F is ready = fence_turn x m tso n capacity room s f e rest split ready is
+  perform_turn s f e rest split F is ready = fence_turn x m tso n capacity room s f e rest split ready (ap is_plain_store is) is
 
   -- each event takes its turn
   event_turn : (s : State) (f : StaysOrderly (program_of x) n capacity s) (e : ℕ) (rest : List ℕ)
