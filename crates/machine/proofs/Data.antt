@@ -42,7 +42,8 @@ use Rattle.machine.proofs.Steady.{IsSteady, next_within, drain_steady, store_ste
 use Rattle.machine.proofs.Steady.{transact_steady}
 use Rattle.machine.proofs.Opening.{nothing_executed, opening_steady}
 use Rattle.machine.specs.RecordedLaws.{event_is, count_is}
-use Rattle.machine.proofs.Complete.{value_same, list_is, writes_is, reads_is, all_done, complete_listed}
+use Rattle.machine.specs.ProgramLaws.{value_same}
+use Rattle.machine.proofs.Complete.{list_is, writes_is, reads_is, all_done, complete_listed}
 
 -- the value is the initial one, or the source is an executed write of it to the address
 abbrev pub IsGiven : List (List Op) → State → ℕ → Option ℕ → ℕ → Type 0

@@ -148,8 +148,8 @@ module _ (x y : Execution) (m : List ℕ) (made : IsMade x y) (well : IsWellForm
         (subst (λ (o : Option ℕ). Gives y a o (value_read (event_at y e))) (sym sources)
         (well_other.sources e a there)) in
         let gave = made_given (event_at x e) d a reads in
-        let value : d.0 ≡ value_read (event_at x e) = sym gave.0 ∙ (ap value_read (sym is) ∙ values) in
-        let origin : d.1 ≡ source (event_at x e) = sym gave.1 ∙ (ap source (sym is) ∙ sym sources) in
+        let value : d.0 ≡ value_read (event_at x e) = sym gave.1 ∙ (ap value_read (sym is) ∙ values) in
+        let origin : d.1 ≡ source (event_at x e) = sym gave.0 ∙ (ap source (sym is) ∙ sym sources) in
         is ∙ (ap (λ (v : ℕ). event_of (op_of (event_at x e)) (v, d.1)) value
         ∙ (ap (λ (o : Option ℕ). event_of (op_of (event_at x e)) (value_read (event_at x e), o)) origin
         ∙ made_again (event_at x e)))

@@ -1,5 +1,5 @@
 -- Each TSO order of a recording is replayed.
-use Rattle.std.proofs.Common.{◌≡◌, ◌<◌, ◌≤◌, ◌+◌, inl, inr, ℕ, zero, suc, Some, List, [], ◌∷◌, map, length}
+use Rattle.std.proofs.Common.{◌≡◌, ◌<◌, ◌≤◌, ◌+◌, ◌⊎◌, inl, inr, ℕ, zero, suc, Some, List, [], ◌∷◌, map, length}
 use Rattle.std.proofs.Common.{get_or, arith, refl, sym, ap, subst, ◌∙◌, true, nat_lt, ltb-true, Result, Ok}
 use Rattle.std.specs.List.{All, sum, sum_by, count_by}
 use Rattle.std.proofs.Math.Nat.{le-max_left, le-max_right}
@@ -67,9 +67,8 @@ recording_fits x r =
     all_within (program_of x) (length x.write_lists) (λ e.
     let ev : Event = event_at x e in
     subst (λ (z : ℕ × Op). IsWithin (length x.write_lists) z.1) (sym (placed_is x e))
-    (op_within (length x.write_lists) (op_of ev) (value_read ev, source ev)
-    (λ a is. r.within.addresses e a (inl (ap read_address (sym (made_again ev)) ∙ is)))
-    (λ a is. r.within.addresses e a (inr (ap written_address (sym (made_again ev)) ∙ is)))))
+    (op_within (length x.write_lists) (op_of ev) (value_read ev, source ev) (λ a uses. r.within.addresses e a
+    (subst (λ (z : Event). (read_address z ≡ Some a) ⊎ (written_address z ≡ Some a)) (made_again ev) uses))))
 
 -- The end
 

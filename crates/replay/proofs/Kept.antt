@@ -1,5 +1,5 @@
 -- What every run leaves as it was: the initial values, and how many write lists there are.
-use Rattle.std.proofs.Common.{◌≡◌, ◌<◌, ◌+◌, ◌==◌, inl, inr, ℕ, Bool, true, false, cond, nat_lt, Option, Some}
+use Rattle.std.proofs.Common.{◌≡◌, ◌<◌, ◌+◌, ◌==◌, ◌⊎◌, inl, inr, ℕ, Bool, true, false, cond, nat_lt, Option, Some}
 use Rattle.std.proofs.Common.{None, Result, Ok, Err, List, [], ◌∷◌, length, get_or, slice_get, slice_index_or}
 use Rattle.std.proofs.Common.{arith, refl, sym, ap, subst, ◌∙◌, length-set}
 use Rattle.std.specs.List.{All}
@@ -7,7 +7,7 @@ use Rattle.std.proofs.lemmas.List.{get_or_default, length-replicate}
 use Rattle.program.specs.declared.op.Op.{Op}
 use Rattle.program.specs.declared.op.Op.TheVariants.{St, Ld, Fence, Swap, Add, Cas}
 use Rattle.program.specs.Parts.{Parts, IsWithin}
-use Rattle.recording.specs.declared.event.Event.TheVariants.{R, C}
+use Rattle.recording.specs.declared.event.Event.{Event}
 use Rattle.recording.specs.Event.{read_address, written_address}
 use Rattle.recording.specs.Execution.{Execution, event_at}
 use Rattle.recording.specs.Recording.{IsRecording}
@@ -26,6 +26,7 @@ use Rattle.machine.specs.Step.{exec, exec_next, drained_at, step_result, after, 
 use Rattle.machine.specs.Taken.{begun}
 use Rattle.machine.specs.Orderly.{placed_op}
 use Rattle.machine.specs.RecordedLaws.{event_is}
+use Rattle.machine.specs.ProgramLaws.{used_own}
 use Rattle.replay.specs.OrderReplay.{led_to}
 
 -- the initial values are the same, and the same number of write lists
@@ -111,21 +112,16 @@ run_keeps p capacity f s (step ∷ steps) =
     let rest = run_keeps p capacity f (after s (step_result p capacity f s step)) steps in
     (rest.0 ∙ one.0, rest.1 ∙ one.1)
 
--- a compare-and-swap reads its address, whether it writes or not
-cas_reads : (b : Bool) (a v : ℕ) (d : ℕ × Option ℕ)
-    → read_address (cond b (R a d.0 d.1 v) (C a d.0 d.1)) ≡ Some a
-cas_reads true a v d = refl
-cas_reads false a v d = refl
-
 -- an operation has the address of its event
-pub op_within : (n : ℕ) (op : Op) (d : ℕ × Option ℕ) → ((a : ℕ) → read_address (event_of op d) ≡ Some a → a < n)
-    → ((a : ℕ) → written_address (event_of op d) ≡ Some a → a < n) → IsWithin n op
-op_within n (St a v) d reads writes = writes a refl
-op_within n (Ld a) d reads writes = reads a refl
-op_within n Fence d reads writes = tt
-op_within n (Swap a v) d reads writes = reads a refl
-op_within n (Add a v) d reads writes = reads a refl
-op_within n (Cas a e v) d reads writes = reads a (cas_reads (d.0 == e) a v d)
+pub op_within : (n : ℕ) (op : Op) (d : ℕ × Option ℕ)
+    → ((a : ℕ) → (read_address (event_of op d) ≡ Some a) ⊎ (written_address (event_of op d) ≡ Some a) → a < n)
+    → IsWithin n op
+op_within n (St a v) d h = h a (inr refl)
+op_within n (Ld a) d h = h a (inl refl)
+op_within n Fence d h = tt
+op_within n (Swap a v) d h = h a (inl refl)
+op_within n (Add a v) d h = h a (inl refl)
+op_within n (Cas a e v) d h = h a (used_own (Cas a e v) d a refl)
 
 -- operations that have such addresses by number have them on each core
 pub all_within : (p : List (List Op)) (n : ℕ) → ((e : ℕ) → IsWithin n (placed_op p e).1)
@@ -153,6 +149,9 @@ made_fits p capacity steps x made r =
     let what : ℕ × Option ℕ = get_or s.reads e (0, None) in
     let event : event_at x e ≡ event_of (placed_op p.cores e).1 what =
     ap (λ (y : Execution). event_at y e) (sym made) ∙ event_is p.cores s e in
-    op_within n (placed_op p.cores e).1 what
-    (λ a is. omega (arith, lists, r.within.addresses e a (inl (ap read_address event ∙ is))))
-    (λ a is. omega (arith, lists, r.within.addresses e a (inr (ap written_address event ∙ is)))))
+    op_within n (placed_op p.cores e).1 what (λ a uses. omega (
+      arith,
+      lists,
+      r.within.addresses e a
+          (subst (λ (ev : Event). (read_address ev ≡ Some a) ⊎ (written_address ev ≡ Some a)) (sym event) uses),
+    )))
