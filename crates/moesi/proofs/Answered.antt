@@ -22,7 +22,7 @@ column cores n words a h = omega (arith, h, blocks_length cores n words)
 pub cell_seen : (cores n : ℕ) (words : List ℕ) (c a p : ℕ) (x : Cell) → c < cores → a < n → p ≡ c * n + a
     → x ≡ cell_in (slice_index words p) → cell_of (block_of (caches_in cores n words) a) c ≡ x
 cell_seen cores n words c a p x core at place is =
-    ap (λ (b : Block). cell_of b c) (block_at cores n words a at) ∙ seen cores n words c a p x core place is
+    ap (λ (b : Block). cell_of b c) (block_at cores n words a at) ∙ seen n words a core place is
 
 -- so it is with memory
 pub memory_seen : (cores n : ℕ) (words : List ℕ) (a p : ℕ) (x : Cell) → a < n → p ≡ cores * n + a
