@@ -267,6 +267,5 @@ module _ {p : Static} {s t : Snapshot} {c b : ℕ} {front : List ℕ} (counted :
       | inr other ↦ counted.waiting d e (omega (arith, h, ap (λ (q : List ℕ). times q e) (i.others d other)))
     ];
     b_event = (drain_event.0, omega (arith, drain_event.1, i.next (p.core b)));
-    b_once = subst (λ (z : ℕ). times (seen t z) b ≡ 1) (sym drain_core)
-        (omega (arith, times_is b, subst (λ (z : ℕ). times (seen s z) b ≡ 1) drain_core drain_once));
+    b_once = rw drain_core (omega (arith, times_is b, subst (λ (z : ℕ). times (seen s z) b ≡ 1) drain_core drain_once));
   }

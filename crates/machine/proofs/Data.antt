@@ -116,8 +116,7 @@ youngest_is p c (x ∷ xs) a y stores is =
       | inl here ↦
           let same_as : x ≡ y =
           same_Some x y (subst (λ (t : Bool). cond t (Some x) None ≡ Some y) (eq-eqb x.addr a here) one) in (
-            subst (λ (z : Entry). placed_op p z.event ≡ (c, St a z.value)) same_as
-                (stores.0 ∙ ap (λ (k : ℕ). (c, St k x.value)) here),
+            rw (← same_as) (stores.0 ∙ ap (λ (k : ℕ). (c, St k x.value)) here),
             omega (
               arith,
               times_here (map (λ (z : Entry). z.event) xs) x.event y.event
@@ -154,8 +153,7 @@ module _ {p : List (List Op)} {s : State} (d : IsData p s) where
       go (Some y) is got =
           let at = youngest_is p c (buffer_of s c) a y (d.steady.stores c)
           (forwarded_youngest f (buffer_of s c) a y is) in
-          subst (λ (z : ℕ × Option ℕ). IsPairGiven p s a z) (pair_one (y.value, Some y.event) what got)
-          (written_given p s y.event c a y.value (St a y.value) at.0
+          rw (← pair_one (y.value, Some y.event) what got) (written_given p s y.event c a y.value (St a y.value) at.0
           (subst (λ (k : ℕ). y.event < (snapshot_of p s).next k) (ap (λ (z : ℕ × Op). z.0) at.0)
           (executed_in c y.event at.1)) refl refl)
 
@@ -167,8 +165,7 @@ module _ {p : List (List Op)} {s : State} (d : IsData p s) where
   copies_given t caches c a b v wrote gave old k copy h =
       elim (every_write_adds_itself s.caches caches c a v b k copy wrote h) [
         | inl was ↦ old k copy was
-        | inr new ↦ subst (λ (z : ℕ). IsPairGiven p t z copy) (sym new.0)
-            (subst (λ (z : ℕ × Option ℕ). IsPairGiven p t a z) (sym new.1) gave)
+        | inr new ↦ rw new.0 (subst (λ (z : ℕ × Option ℕ). IsPairGiven p t a z) (sym new.1) gave)
       ]
 
   -- a drain keeps the data
@@ -180,8 +177,7 @@ module _ {p : List (List Op)} {s : State} (d : IsData p s) where
       let here = stores_out p c front x back
       (subst (λ (b : List Entry). AreStores p c b) is (d.steady.stores c)) in
       let waits : 0 < times (map (λ (y : Entry). y.event) (buffer_of s c)) x.event =
-      subst (λ (b : List Entry). 0 < times (map (λ (y : Entry). y.event) b) x.event) (sym is)
-      (subst (λ (l : List ℕ). 0 < times l x.event)
+      rw is (subst (λ (l : List ℕ). 0 < times l x.event)
       (sym (map-append (λ (y : Entry). y.event) front (x ∷ back)))
       (omega (
         arith,
@@ -202,8 +198,7 @@ module _ {p : List (List Op)} {s : State} (d : IsData p s) where
     -- no core goes back
     up : (k : ℕ) → place_of s k ≤ get_or (slice_set s.places c (place_of s c + 1)) k 0
     up k = elim (cases_eq k c) [
-      | inl same ↦ subst (λ (z : ℕ). get_or s.places z 0 ≤ get_or (slice_set s.places c (place_of s c + 1))
-          z 0) (sym same) (omega (arith, get_or-set_same s.places c (place_of s c + 1) 0 n.core))
+      | inl same ↦ rw same (omega (arith, get_or-set_same s.places c (place_of s c + 1) 0 n.core))
       | inr other ↦ omega (arith, get_or-set_other s.places c k (place_of s c + 1) 0 other)
     ]
 
@@ -212,8 +207,7 @@ module _ {p : List (List Op)} {s : State} (d : IsData p s) where
         → ((e : ℕ) → e ≢ b → get_or t.reads e (0, None) ≡ get_or s.reads e (0, None))
         → s.initial ≡ t.initial → (a : ℕ) (o : Option ℕ) (v : ℕ) → IsGiven p s a o v → IsGiven p t a o v
     go_on t places reads init =
-        given_kept p s t b (next_old n) reads (λ k. subst (λ (l : List ℕ). place_of s k ≤ get_or l k 0) (sym places)
-        (up k)) init
+        given_kept p s t b (next_old n) reads (λ k. rw places (up k)) init
 
     -- what was executed by then, other than b, was executed before
     earlier : (t : State) → t.places ≡ slice_set s.places c (place_of s c + 1) → (e : ℕ) → e ≢ b
@@ -349,8 +343,7 @@ opening_data : (p : List (List Op)) (init : List ℕ) → All (λ ops. All (IsWi
     → IsData p (opening p init)
 opening_data p init fits = record {
   steady = opening_steady p init fits;
-  copies = λ a copy h. subst (λ (z : ℕ × Option ℕ). IsPairGiven p (opening p init) a z)
-      (sym (opening_has (length p) init a copy h)) refl;
+  copies = λ a copy h. rw (opening_has (length p) init a copy h) refl;
   reads = λ e a done r. elim (cases_lt e (static_of p (opening p init)).count) [
     | inl event ↦ absurd (nothing_executed p init fits e event done)
     | inr past ↦ absurd (let clash : None ≡ Some a =
@@ -416,10 +409,8 @@ module _ (p : List (List Op)) (s : State) (d : IsData p s) (end : IsComplete p s
     sources = λ e a reads.
         let op : op_reads (placed_op p e).1 ≡ Some a = sym (reads_is p s e) ∙ reads in
         let same = value_same (placed_op p e).1 (get_or s.reads e (0, None)) a op in
-        subst (λ (o : Option ℕ). Gives (recorded p s) a o (value_read (event_at (recorded p s) e)))
-        (sym (ap source (event_is p s e) ∙ same.0))
-        (subst (λ (v : ℕ). Gives (recorded p s) a (get_or s.reads e (0, None)).1 v)
-        (sym (ap value_read (event_is p s e) ∙ same.1))
+        rw (ap source (event_is p s e) ∙ same.0)
+        (rw (ap value_read (event_is p s e) ∙ same.1)
         (gives p s a (get_or s.reads e (0, None)).1 (get_or s.reads e (0, None)).0 (d.reads e a
         ((all_done p s end).done e (omega (arith, Reads-event (recorded p s) e a reads, count_is p s))) op)));
     write_lists =

@@ -112,8 +112,7 @@ module _ {p : Parts} {capacity : ℕ} {units : List Progress} {buffers : List Bu
           capacities = All-set (λ b. b.capacity ≡ capacity) buffers core new
               (same ∙ capacity_is sound at now_is) sound.capacities;
           entries = All-set (λ b. All (IsEntry (length p.names)) b.entries) buffers core new
-              (subst (λ (l : List Entry). All (IsEntry (length p.names)) l) (sym popped)
-              (all_without (IsEntry (length p.names)) now.entries (draining fault now.entries)
+              (rw popped (all_without (IsEntry (length p.names)) now.entries (draining fault now.entries)
               (waiting_within sound at now_is))) sound.entries;
           write_rooms = All-set (λ l. l.room ≡ op_count p.cores) writes entry.addr list'
               (ap (λ (r : BoundedItems ℕ). r.room) pushed ∙ list_room sound entry_within.0 list_is)

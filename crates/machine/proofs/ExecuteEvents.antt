@@ -107,9 +107,7 @@ module _ {p : List (List Op)} {s : State} {c b : ℕ} {op : Op} (n : IsNext p s 
             | inl load ↦ inl (ap (λ (z : ℕ × Op). is_ld z.1) (next_placed n) ∙ load)
             | inr empty ↦ inr (ap (snapshot_of p s).buffer (core_is n) ∙ ap (map (λ (x : Entry). x.event)) empty)
           ];
-          newest = λ a is. subst (λ (d : ℕ). IsNewest (static_of p t) (seen (snapshot_of p s) d) a
-              (get_or t.reads b (0, None)).1) (sym (core_is n))
-              (newest_rewritten (static_of p t).writes counted (next_old n)
+          newest = λ a is. rw (core_is n) (newest_rewritten (static_of p t).writes counted (next_old n)
               (writes_same reads) c a (get_or t.reads b (0, None)).1
               (newest a (sym (ap (λ (z : ℕ × Op). op_reads z.1) (next_placed n)) ∙ is)));
         }))

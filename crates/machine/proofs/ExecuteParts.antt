@@ -70,12 +70,11 @@ module _ {p : Parts} {capacity : ℕ} {units : List Progress} {buffers : List Bu
   -- each core is within its operations
   place_up : (c : ℕ) → slice_index (places_on units core) c ≤ length (slice_index_or p.cores c [])
   place_up c = elim (cases_eq c core) [
-    | inl same ↦ subst (λ (d : ℕ). slice_index (places_on units core) d ≤ length (slice_index_or p.cores d [])) (sym same)
-        (omega (
-          arith,
-          get_or-set_same (places_of units) core (slice_index (places_of units) core + 1) 0 place_there,
-          below,
-        ))
+    | inl same ↦ rw same (omega (
+      arith,
+      get_or-set_same (places_of units) core (slice_index (places_of units) core + 1) 0 place_there,
+      below,
+    ))
     | inr other ↦ omega (
       arith,
       get_or-set_other (places_of units) core c (slice_index (places_of units) core + 1) 0 other,
@@ -128,9 +127,7 @@ module _ {p : Parts} {capacity : ℕ} {units : List Progress} {buffers : List Bu
       first_up : (c : ℕ) (d : Progress) → c < length p.cores
           → (slice_index_or (slice_set units core moved) c d).first ≡ first_event p.cores c
       first_up c d inside = elim (cases_eq c core) [
-        | inl same ↦ subst (λ (k : ℕ). (slice_index_or (slice_set units core moved) k d).first
-            ≡ first_event p.cores k) (sym same)
-            (ap (λ (u : Progress). u.first)
+        | inl same ↦ rw same (ap (λ (u : Progress). u.first)
             (get_or-set_same units core moved d (unit_there sound at.core) ∙ moved_is)
             ∙ first_at sound at.core unit_is)
         | inr other ↦ ap (λ (u : Progress). u.first) (get_or-set_other units core c moved d other)
@@ -152,8 +149,7 @@ module _ {p : Parts} {capacity : ℕ} {units : List Progress} {buffers : List Bu
         writes_length = sound.writes_length;
         events = same ∙ sound.events;
         first = first_up;
-        place = λ c. subst (λ (l : List ℕ). slice_index l c ≤ length (slice_index_or p.cores c []))
-            (sym places_set) (place_up c);
+        place = λ c. rw places_set (place_up c);
         capacities = sound.capacities;
         entries = sound.entries;
         write_rooms = sound.write_rooms;
@@ -277,8 +273,7 @@ module _ {p : Parts} {capacity : ℕ} {units : List Progress} {buffers : List Bu
           writes_length = sound.writes_length;
           events = sound.events;
           first = first_up;
-          place = λ c. subst (λ (l : List ℕ). slice_index l c ≤ length (slice_index_or p.cores c []))
-              (sym places_set) (place_up c);
+          place = λ c. rw places_set (place_up c);
           capacities =
               All-set (λ b. b.capacity ≡ capacity) buffers core new
               (ap (λ (b : Buffer). b.capacity) pushed ∙ capacity_is sound at.core is) sound.capacities;

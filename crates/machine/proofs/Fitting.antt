@@ -43,9 +43,7 @@ module _ {p : List (List Op)} {n : ℕ} {s : State} (f : IsFitting p n s) where
     -- one core goes on by one operation
     place_up : (d : ℕ) → get_or (slice_set s.places c (place_of s c + 1)) d 0 ≤ length (get_or p d [])
     place_up d = elim (cases_eq d c) [
-      | inl own ↦ subst (λ (z : ℕ). get_or (slice_set s.places c (place_of s c + 1)) z 0 ≤ length
-          (get_or p z [])) (sym own)
-          (omega (arith, get_or-set_same s.places c (place_of s c + 1) 0 at.core, at.there))
+      | inl own ↦ rw own (omega (arith, get_or-set_same s.places c (place_of s c + 1) 0 at.core, at.there))
       | inr other ↦ omega (arith, get_or-set_other s.places c d (place_of s c + 1) 0 other, f.places d)
     ]
 
@@ -57,14 +55,12 @@ module _ {p : List (List Op)} {n : ℕ} {s : State} (f : IsFitting p n s) where
     few_up : (d : ℕ) → count_by is_st (take (place_of s d) (get_or p d []))
         ≤ count_by is_st (take (get_or (slice_set s.places c (place_of s c + 1)) d 0) (get_or p d []))
     few_up d = elim (cases_eq d c) [
-      | inl own ↦ subst (λ (z : ℕ). count_by is_st (take (place_of s z) (get_or p z [])) ≤ count_by is_st
-          (take (get_or (slice_set s.places c (place_of s c + 1)) z 0) (get_or p z []))) (sym own)
-          (omega (
-            arith,
-            ap (λ (i : ℕ). count_by is_st (take i (get_or p c [])))
-                (get_or-set_same s.places c (place_of s c + 1) 0 at.core),
-            stores_more (place_of s c) (get_or p c []) at.there,
-          ))
+      | inl own ↦ rw own (omega (
+        arith,
+        ap (λ (i : ℕ). count_by is_st (take i (get_or p c [])))
+            (get_or-set_same s.places c (place_of s c + 1) 0 at.core),
+        stores_more (place_of s c) (get_or p c []) at.there,
+      ))
       | inr other ↦ omega (
         arith,
         ap (λ (i : ℕ). count_by is_st (take i (get_or p d [])))
@@ -89,14 +85,12 @@ module _ {p : List (List Op)} {n : ℕ} {s : State} (f : IsFitting p n s) where
       record {
         in_order = (in_order_kept f.in_order).drain caches c x front back at is first wrote;
         few = λ d. elim (cases_eq d c) [
-          | inl own ↦ subst (λ (z : ℕ). length (get_or (slice_set s.buffers c xs) z []) ≤ count_by is_st
-              (take (place_of s z) (get_or p z []))) (sym own)
-              (omega (
-                arith,
-                ap (λ (l : List Entry). length l) (get_or-set_same s.buffers c xs [] inside),
-                shorter,
-                f.few c,
-              ))
+          | inl own ↦ rw own (omega (
+            arith,
+            ap (λ (l : List Entry). length l) (get_or-set_same s.buffers c xs [] inside),
+            shorter,
+            f.few c,
+          ))
           | inr other ↦ omega (
             arith,
             ap (λ (l : List Entry). length l) (get_or-set_other s.buffers c d xs [] other),
@@ -122,18 +116,16 @@ module _ {p : List (List Op)} {n : ℕ} {s : State} (f : IsFitting p n s) where
       record {
         in_order = (in_order_kept f.in_order).store c b a v at core;
         few = λ d. elim (cases_eq d c) [
-          | inl own ↦ subst (λ (z : ℕ). length (get_or (slice_set s.buffers c more) z []) ≤ count_by is_st
-              (take (get_or (slice_set s.places c (place_of s c + 1)) z 0) (get_or p z []))) (sym own)
-              (omega (
-                arith,
-                ap (λ (l : List Entry). length l) (get_or-set_same s.buffers c more [] inside),
-                pushed (buffer_of s c) (record { addr = a; value = v; event = b }),
-                ap (λ (i : ℕ). count_by is_st (take i (get_or p c [])))
-                    (get_or-set_same s.places c (place_of s c + 1) 0 at.core),
-                stores_more (place_of s c) (get_or p c []) at.there,
-                ap {B = ℕ} (λ (o : Op). cond (is_st o) 1 0) at.operation,
-                f.few c,
-              ))
+          | inl own ↦ rw own (omega (
+            arith,
+            ap (λ (l : List Entry). length l) (get_or-set_same s.buffers c more [] inside),
+            pushed (buffer_of s c) (record { addr = a; value = v; event = b }),
+            ap (λ (i : ℕ). count_by is_st (take i (get_or p c [])))
+                (get_or-set_same s.places c (place_of s c + 1) 0 at.core),
+            stores_more (place_of s c) (get_or p c []) at.there,
+            ap {B = ℕ} (λ (o : Op). cond (is_st o) 1 0) at.operation,
+            f.few c,
+          ))
           | inr other ↦ omega (
             arith,
             ap (λ (l : List Entry). length l) (get_or-set_other s.buffers c d more [] other),

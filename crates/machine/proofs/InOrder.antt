@@ -92,8 +92,7 @@ module _ {p : List (List Op)} {s : State} (g : IsInOrder p s) where
         → (a : ℕ) → op_reads op ≡ Some a → IsNewest (static_of p s) (seen (snapshot_of p s) c) a
         (get_or (slice_set s.reads b what) b (0, None)).1
     newest_read got a reads =
-        subst (λ (z : ℕ × Option ℕ). IsNewest (static_of p s) (seen (snapshot_of p s) c) a z.1)
-        (sym (get_or-set_same s.reads b what (0, None) (next_within g.steady n)))
+        rw (get_or-set_same s.reads b what (0, None) (next_within g.steady n))
         (newest c a what (read_within g.steady n a reads) (got a reads))
 
     -- an event that writes nothing keeps the order

@@ -89,27 +89,24 @@ youngest_says p s c (x ∷ xs) a stores once =
           ],
         )
     go None says = elim (cases_eq x.addr a) [
-      | inl is ↦ subst (λ (t : Bool). IsYoungestOf p s (x ∷ xs) a (cond t (Some x) None))
-          (sym (eq-eqb x.addr a is)) (
-            omega (arith, times_here (map (λ (z : Entry). z.event) xs) x.event x.event refl),
-            writes ∙ ap Some is,
-            λ w there wa. elim (cases_eq x.event w) [
-              | inl here ↦ inl (sym here)
-              | inr behind ↦ absurd (says w (omega
-                  (arith, there, times_there (map (λ (z : Entry). z.event) xs) x.event w behind)) wa)
-            ],
-          )
-      | inr isnt ↦ subst (λ (t : Bool). IsYoungestOf p s (x ∷ xs) a (cond t (Some x) None))
-          (sym (not_equal x.addr a isnt))
-          (λ w there wa. elim (cases_eq x.event w) [
-            | inl here ↦ isnt (same_Some x.addr a (sym writes
-                ∙ (ap (λ (e : ℕ). written_address (done_by p s e)) here ∙ wa)))
-            | inr behind ↦ says w (omega (
-              arith,
-              there,
-              times_there (map (λ (z : Entry). z.event) xs) x.event w behind,
-            )) wa
-          ])
+      | inl is ↦ rw (eq-eqb x.addr a is) (
+        omega (arith, times_here (map (λ (z : Entry). z.event) xs) x.event x.event refl),
+        writes ∙ ap Some is,
+        λ w there wa. elim (cases_eq x.event w) [
+          | inl here ↦ inl (sym here)
+          | inr behind ↦ absurd (says w (omega
+              (arith, there, times_there (map (λ (z : Entry). z.event) xs) x.event w behind)) wa)
+        ],
+      )
+      | inr isnt ↦ rw (not_equal x.addr a isnt) (λ w there wa. elim (cases_eq x.event w) [
+        | inl here ↦ isnt (same_Some x.addr a (sym writes
+            ∙ (ap (λ (e : ℕ). written_address (done_by p s e)) here ∙ wa)))
+        | inr behind ↦ says w (omega (
+          arith,
+          there,
+          times_there (map (λ (z : Entry). z.event) xs) x.event w behind,
+        )) wa
+      ])
     ]
 
 -- a store of the own buffer is newer than all that was performed

@@ -67,10 +67,8 @@ module _ (p : List (List Op)) (init : List ℕ) (fits : All (λ ops. All (IsWith
   op_within e = elim (cases_lt e (length (placed_from 0 p))) [
     | inl event ↦
         let at = located 0 p e event in
-        subst (λ (o : Op). IsWithin (length init) o) (sym (event_op p e event))
-        (fits at.0 [] at.2 at.1 Fence at.3)
-    | inr past ↦ subst (λ (z : ℕ × Op). IsWithin (length init) z.1)
-        (sym (get_or_past (placed_from 0 p) e (0, Fence) past)) tt
+        rw (event_op p e event) (fits at.0 [] at.2 at.1 Fence at.3)
+    | inr past ↦ rw (get_or_past (placed_from 0 p) e (0, Fence) past) tt
   ]
 
   -- the opening state is steady

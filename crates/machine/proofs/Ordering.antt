@@ -60,12 +60,11 @@ ordered_kept {p} {s} {t} {b} counted ordered count step = record { kept = kept; 
 -- what is earlier on the core of its next event is seen there
 earlier_seen : (p : Static) (s : Snapshot) (b : ℕ) → IsCounted p s → b < p.count → s.next (p.core b) ≡ b
     → (e : ℕ) → Own p e b → 0 < times (seen s (p.core b)) e
-earlier_seen p s b counted event new e own = subst (λ (z : ℕ). 0 < times (seen s z) e) own.2
-    (omega (
-      arith,
-      counted.listed e (omega (arith, own, event))
-          (subst (λ (z : ℕ). e < s.next z) (sym own.2) (omega (arith, own, new))),
-    ))
+earlier_seen p s b counted event new e own = rw (← own.2) (omega (
+  arith,
+  counted.listed e (omega (arith, own, event))
+      (subst (λ (z : ℕ). e < s.next z) (sym own.2) (omega (arith, own, new))),
+))
 
 -- a store that goes to its buffer comes last in its core's order
 pub issue_orders : {p : Static} {s t : Snapshot} {b : ℕ} → IsCounted p s → Issues p s t b → Orders p s t b
@@ -104,16 +103,12 @@ issue_orders {p} {s} {t} {b} counted i = record {
 
     grows : (d : ℕ) → Grows p b s.performed d (seen s d) (seen t d)
     grows d = elim (cases_eq d (p.core b)) [
-      | inl own ↦ subst (λ (z : ℕ). Grows p b s.performed z (seen s z) (seen t z)) (sym own)
-          (subst (λ (o : List ℕ). Grows p b s.performed (p.core b) (seen s (p.core b)) o) (sym seen_own)
-          own_grows)
-      | inr other ↦ subst (λ (o : List ℕ). Grows p b s.performed d (seen s d) o) (sym (seen_other d other))
-          unmoved
+      | inl own ↦ rw own (rw seen_own own_grows)
+      | inr other ↦ rw (seen_other d other) unmoved
     ]
 
     last : (e : ℕ) → Own p e b → (p.store e && p.load b) ≡ false → Before (seen t (p.core b)) e b
-    last e own strong = subst (λ (o : List ℕ). Before o e b) (sym seen_own)
-        (left_before_right (seen s (p.core b)) (b ∷ []) e b
+    last e own strong = rw seen_own (left_before_right (seen s (p.core b)) (b ∷ []) e b
         (earlier_seen p s b counted i.executes.event i.executes.next_was e own) (fresh (p.core b))
         (omega (arith, times_here [] b b refl)))
 
@@ -173,8 +168,7 @@ perform_orders {p} {s} {t} {b} counted i f = record {
 
     last : (e : ℕ) → Own p e b → (p.store e && p.load b) ≡ false → Before (seen t (p.core b)) e b
     last e own strong =
-        subst (λ (o : List ℕ). Before o e b) (sym (seen_now (p.core b)))
-        (left_first e (elim (cases_times (s.buffer (p.core b)) e) [
+        rw (seen_now (p.core b)) (left_first e (elim (cases_times (s.buffer (p.core b)) e) [
           | inl none ↦ omega (arith, none, earlier e own, times_append s.performed (s.buffer (p.core b)) e)
           | inr waits ↦ elim f.allowed [
             | inl load ↦ absurd (let clash : true ≡ false =
@@ -254,12 +248,9 @@ drain_orders {p} {s} {t} {c} {b} counted ordered i = record {
     times_append s.performed (b ∷ []) e,
     times_there_one e eb,
   );
-  b_first = λ f own done strong. subst (λ (z : ℕ). Before (seen t z) b f) own.2
-      (subst (λ (o : List ℕ). Before o b f) (sym same_order)
-      (subst (λ (z : ℕ). Before (seen s z) b f) (sym own.2)
+  b_first = λ f own done strong. rw (← own.2) (rw same_order (subst (λ (z : ℕ). Before (seen s z) b f) (sym own.2)
       (ordered.kept b f own (omega (arith, done, i.next (p.core f))) strong)));
-  b_last = λ e own strong. subst (λ (o : List ℕ). Before o e b) (sym same_order)
-      (ordered.kept e b own event.1 strong);
+  b_last = λ e own strong. rw same_order (ordered.kept e b own event.1 strong);
   b_value = λ a reads there. absurd (let clash : None ≡ Some a = sym i.reads ∙ reads in cc);
 }
   where
@@ -301,10 +292,8 @@ drain_orders {p} {s} {t} {c} {b} counted ordered i = record {
 
     grows : (d : ℕ) → Grows p b s.performed d (seen s d) (seen t d)
     grows d = elim (cases_eq d c) [
-      | inl own ↦ subst (λ (z : ℕ). Grows p b s.performed z (seen s z) (seen t z)) (sym own)
-          (subst (λ (o : List ℕ). Grows p b s.performed c (seen s c) o) (sym seen_own) unmoved)
-      | inr other ↦ subst (λ (o : List ℕ). Grows p b s.performed d (seen s d) o) (sym (seen_other d other))
-          (moved s.performed (s.buffer d) (fresh d other) (λ e h. h)
+      | inl own ↦ rw own (subst (λ (o : List ℕ). Grows p b s.performed c (seen s c) o) (sym seen_own) unmoved)
+      | inr other ↦ rw (seen_other d other) (moved s.performed (s.buffer d) (fresh d other) (λ e h. h)
           (λ e h at own. other (sym at ∙ (sym own.2 ∙ core))))
     ]
 
@@ -321,8 +310,7 @@ seen_all s empty c = ap (λ (q : List ℕ). s.performed ++ q) (empty c) ∙ appe
 pub all_listed : (p : Static) (s : Snapshot) → IsCounted p s → IsAllDone p s
     → Enumerates (λ e. e < p.count) s.performed
 all_listed p s counted end = record {
-  once = λ e event. subst (λ (o : List ℕ). times o e ≡ 1) (seen_all s end.empty (p.core e))
-      (counted.listed e event (end.done e event));
+  once = λ e event. rw (← seen_all s end.empty (p.core e)) (counted.listed e event (end.done e event));
   nothing_else = λ e there. (counted.executed 0 e (performed_is_seen s 0 e there)).0;
 }
 
@@ -334,9 +322,7 @@ pub record Meets (p : Static) (s : Snapshot) : Type 0 where
 -- and the performed list is in order
 pub all_meet : (p : Static) (s : Snapshot) → IsCounted p s → IsOrdered p s → IsAllDone p s → Meets p s
 all_meet p s counted ordered end = record {
-  kept = λ e f own strong. subst (λ (o : List ℕ). Before o e f) (seen_all s end.empty (p.core f))
-      (ordered.kept e f own (end.done f own.1) strong);
-  values = λ e a event reads. subst (λ (o : List ℕ). IsLast p o e a (s.source e))
-      (seen_all s end.empty (p.core e))
+  kept = λ e f own strong. rw (← seen_all s end.empty (p.core f)) (ordered.kept e f own (end.done f own.1) strong);
+  values = λ e a event reads. rw (← seen_all s end.empty (p.core e))
       (ordered.values e a reads (omega (arith, (all_listed p s counted end).once e event)));
 }

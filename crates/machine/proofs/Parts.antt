@@ -83,5 +83,4 @@ module _ {p : Parts} {capacity : ℕ} {units : List Progress} {buffers : List Bu
 
       -- all waiting stores have addresses of the program
       pub waiting_within : All (IsEntry (length p.names)) old.entries
-      waiting_within = subst (λ (b : Buffer). All (IsEntry (length p.names)) b.entries) (sym is)
-          (sound.entries core old buffer_there)
+      waiting_within = rw is (sound.entries core old buffer_there)

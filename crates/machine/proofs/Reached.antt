@@ -34,8 +34,7 @@ reached_exec {p} {init} {capacity} {f} {s} {t} {c} {op} {e} at r took =
 pub reached_in_order : (p : List (List Op)) (init : List ℕ) (capacity : ℕ) (f : Fault) (s : State)
     → f ≡ fault.None → IsReached p init capacity f s → IsInOrder p s
 reached_in_order p init capacity f s none r = subst (λ (z : State). IsInOrder p z) r.leads
-    (subst (λ (g : Fault). IsInOrder p (run p capacity g (opening p init) r.steps)) (sym none)
-    (run_in_order p init capacity r.steps r.operations))
+    (rw none (run_in_order p init capacity r.steps r.operations))
 
 -- a reached state has its data from executed writes, under every fault
 pub reached_data : (p : List (List Op)) (init : List ℕ) (capacity : ℕ) (f : Fault) (s : State)

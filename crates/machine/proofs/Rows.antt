@@ -138,8 +138,7 @@ module _ (p : List (List Op)) (capacity : ℕ) (f : Fault) (s : State) (P : Stat
             allowed = λ none. inr (rmw_behind f (buffer_of s c) g.0 none);
             got = λ k reads. inr (
               rmw_behind f (buffer_of s c) g.0,
-              subst (λ (z : ℕ). moesi.read s.caches c z ≡ Ok (line_copy s c a)) (same_Some a k reads)
-                  (exclusive_read s.caches c a owned.0),
+              rw (← same_Some a k reads) (exclusive_read s.caches c a owned.0),
             );
           }))
 

@@ -89,10 +89,8 @@ module _ {p : List (List Op)} {s : State} (g : IsSteady p s) where
   stores_set : (c : ℕ) (l : List Entry) → c < length s.buffers → AreStores p c l → (d : ℕ)
       → AreStores p d (get_or (slice_set s.buffers c l) d [])
   stores_set c l inside all d = elim (cases_eq d c) [
-    | inl own ↦ subst (λ (z : ℕ). AreStores p z (get_or (slice_set s.buffers c l) z [])) (sym own)
-        (subst (λ (b : List Entry). AreStores p c b) (sym (get_or-set_same s.buffers c l [] inside)) all)
-    | inr other ↦ subst (λ (b : List Entry). AreStores p d b)
-        (sym (get_or-set_other s.buffers c d l [] other)) (g.stores d)
+    | inl own ↦ rw own (subst (λ (b : List Entry). AreStores p c b) (sym (get_or-set_same s.buffers c l [] inside)) all)
+    | inr other ↦ rw (get_or-set_other s.buffers c d l [] other) (g.stores d)
   ]
 
   -- a drain keeps it

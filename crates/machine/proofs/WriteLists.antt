@@ -93,9 +93,7 @@ pub listed_written : (p : List (List Op)) (s : State) (caches : moesi.CacheState
 listed_written p s caches a e large writes at listed = record {
   cells = length-set s.write_lists a (get_or s.write_lists a [] ++ e ∷ []) ∙ (listed.cells ∙ sym large);
   lists = λ b inside. elim (cases_eq b a) [
-    | inl here ↦ subst (λ (z : ℕ). get_or (slice_set s.write_lists a (get_or s.write_lists a [] ++ e ∷ []))
-        z [] ≡ filter (writes_to p s z) (s.performed ++ e ∷ [])) (sym here)
-        (get_or-set_same s.write_lists a (get_or s.write_lists a [] ++ e ∷ []) []
+    | inl here ↦ rw here (get_or-set_same s.write_lists a (get_or s.write_lists a [] ++ e ∷ []) []
         (omega (arith, at, listed.cells))
         ∙ (ap (λ (l : List ℕ). l ++ e ∷ []) (listed.lists a at)
         ∙ (ap (λ (l : List ℕ). filter (writes_to p s a) s.performed ++ l)
@@ -132,9 +130,7 @@ pub latest_written : (s : State) (caches : moesi.CacheState) (a value e : ℕ) �
     → ((b : ℕ) → moesi.current caches b ≡ cond (b == a) (value, Some e) (current_copy s b)) → IsLatest s
     → IsLatest (written s caches a e)
 latest_written s caches a value e at cells large sets latest b inside = elim (cases_eq b a) [
-  | inl here ↦ subst (λ (z : ℕ). (moesi.current caches z).1
-      ≡ last_of (get_or (slice_set s.write_lists a (get_or s.write_lists a [] ++ e ∷ [])) z [])) (sym here)
-      (ap (λ (z : ℕ × Option ℕ). z.1) (subst
+  | inl here ↦ rw here (ap (λ (z : ℕ × Option ℕ). z.1) (subst
       (λ (q : Bool). moesi.current caches a ≡ cond q (value, Some e) (current_copy s a)) (eq-eqb a a refl)
       (sets a))
       ∙ (sym (last_push (get_or s.write_lists a []) e)
@@ -175,6 +171,5 @@ loaded_newest p s c a what at listed latest coherent stores once once_waiting ap
         (λ e h. is_address_true (written_address (done_by p s e)) a h)
         (λ e h. is_address_back (written_address (done_by p s e)) a h) once says)
     go (Some y) says is =
-        subst (λ (z : ℕ × Option ℕ). IsNewest (static_of p s) (seen (snapshot_of p s) c) a z.1)
-        (pair_one (y.value, Some y.event) what is)
+        rw (← pair_one (y.value, Some y.event) what is)
         (newest_in_buffer p s s.performed (buffer_of s c) a y apart says)

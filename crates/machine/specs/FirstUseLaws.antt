@@ -251,8 +251,7 @@ module _ (x : Execution) where
               let op : get_or (by_number 0 p) i Fence ≡ (placed_op p i).1 =
               lists.get_or-map (λ (z : ℕ × Op). z.1) (placed_from 0 p) i (0, Fence) in
               let e : i ≡ 0 + i = omega arith in
-              subst (λ (o : Op). HasAddressOf o (event_at x (0 + i))) (sym op)
-              (subst (λ (n : ℕ). HasAddressOf (placed_op p i).1 (event_at x n)) e (have.each i));
+              rw op (subst (λ (n : ℕ). HasAddressOf (placed_op p i).1 (event_at x n)) e (have.each i));
           last = λ e a uses. let event : e < event_count x = elim uses [
             | inl reads ↦ Reads-event x e a reads
             | inr writes ↦ Writes-event x e a writes

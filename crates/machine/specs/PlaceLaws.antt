@@ -62,5 +62,4 @@ module _ (p : List (List Op)) (e : ℕ) (event : e < length (placed_from 0 p)) w
   -- it comes before the end of its core
   pub event_before : e < first_event p ((placed_op p e).0) + length (get_or p ((placed_op p e).0) [])
   event_before =
-      subst (λ (c : ℕ). e < first_event p c + length (get_or p c [])) (sym event_core)
-      (omega (arith, (located 0 p e event).4, (located 0 p e event).3))
+      rw event_core (omega (arith, (located 0 p e event).4, (located 0 p e event).3))

@@ -46,8 +46,7 @@ placed_makes k (ops ∷ p) (es ∷ cores) i count are =
       | inl here ↦
           let event : get_or (placed_from k (es ∷ cores)) i (0, F) ≡ (k, get_or es i F) =
           placed_here k es cores i (0, F) (omega (arith, here, first.one_each)) in
-          subst (λ (z : ℕ × Op). Makes z.1 (get_or (placed_from k (es ∷ cores)) i (0, F)).1)
-          (sym (op_here k ops p i (0, Fence) here))
+          rw (op_here k ops p i (0, Fence) here)
           (subst (λ (z : ℕ × Event). Makes (get_or ops i Fence) z.1) (sym event) (first.each i here))
       | inr behind ↦
           let same : i - length es ≡ i - length ops = omega (arith, first.one_each) in
@@ -55,10 +54,7 @@ placed_makes k (ops ∷ p) (es ∷ cores) i count are =
           ≡ get_or (placed_from (k + 1) cores) (i - length ops) (0, F) =
           placed_behind k es cores i (0, F) (omega (arith, behind, first.one_each))
           ∙ ap (λ (n : ℕ). get_or (placed_from (k + 1) cores) n (0, F)) same in
-          subst (λ (z : ℕ × Op). Makes z.1 (get_or (placed_from k (es ∷ cores)) i (0, F)).1)
-          (sym (op_behind k ops p i (0, Fence) behind))
-          (subst (λ (z : ℕ × Event).
-          Makes (get_or (placed_from (k + 1) p) (i - length ops) (0, Fence)).1 z.1) (sym event)
+          rw (op_behind k ops p i (0, Fence) behind) (rw event
           (placed_makes (k + 1) p cores (i - length ops) (omega arith)
           (λ c h. are (suc c) (omega (arith, h)))))
     ]
@@ -187,8 +183,7 @@ cores_made : (e : ℕ) (p : List (List Op)) (reads : List (ℕ × Option ℕ)) (
 cores_made e [] reads c h = absurd (omega arith)
 cores_made e (ops ∷ p) reads zero h = record {
   one_each = sym (events_length e ops reads);
-  each = λ i below. subst (λ (ev : Event). Makes (get_or ops i Fence) ev) (sym (events_at e ops reads i))
-      (makes_own (get_or ops i Fence) (get_or reads (e + i) (0, None)));
+  each = λ i below. rw (events_at e ops reads i) (makes_own (get_or ops i Fence) (get_or reads (e + i) (0, None)));
 }
 cores_made e (ops ∷ p) reads (suc c) h = cores_made (e + length ops) p reads c (omega (arith, h))
 

@@ -82,13 +82,11 @@ write-requires-clause-core c = lines_there c.self.invariant.sound (at_inside c.s
 
 pub read-requires-clause-address : goal.read-requires-clause-address
 read-requires-clause-address c =
-    subst (λ (n : ℕ). c.args.addr < n) (sym c.self.invariant.sound.cache_blocks)
-    (address_inside c.self.view_is c.requires.address)
+    rw c.self.invariant.sound.cache_blocks (address_inside c.self.view_is c.requires.address)
 
 pub write-requires-clause-address : goal.write-requires-clause-address
 write-requires-clause-address c =
-    subst (λ (n : ℕ). c.args.addr < n) (sym c.self.invariant.sound.cache_blocks)
-    (address_inside c.self.view_is c.requires.address)
+    rw c.self.invariant.sound.cache_blocks (address_inside c.self.view_is c.requires.address)
 
 pub returns-then-not-may_rmw-clause-blocked : goal.returns-then-not-may_rmw-clause-blocked
 returns-then-not-may_rmw-clause-blocked c =

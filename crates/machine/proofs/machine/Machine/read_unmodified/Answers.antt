@@ -49,16 +49,14 @@ line-requires-clause-core c = lines_there c.self.invariant.sound (at_inside c.se
 
 pub line-requires-clause-address : goal.line-requires-clause-address
 line-requires-clause-address c =
-    subst (λ (n : ℕ). c.args.addr < n) (sym c.self.invariant.sound.cache_blocks)
-    (address_inside c.self.view_is c.requires.address)
+    rw c.self.invariant.sound.cache_blocks (address_inside c.self.view_is c.requires.address)
 
 pub read-requires-clause-core : goal.read-requires-clause-core
 read-requires-clause-core c = lines_there c.self.invariant.sound (at_inside c.self.view_is c.requires.at).core
 
 pub read-requires-clause-address : goal.read-requires-clause-address
 read-requires-clause-address c =
-    subst (λ (n : ℕ). c.args.addr < n) (sym c.self.invariant.sound.cache_blocks)
-    (address_inside c.self.view_is c.requires.address)
+    rw c.self.invariant.sound.cache_blocks (address_inside c.self.view_is c.requires.address)
 
 pub ops-requires : goal.ops-requires
 ops-requires c = (at_inside c.self.view_is c.requires.at).core
