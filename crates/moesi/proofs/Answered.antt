@@ -89,7 +89,5 @@ answered {A} {cores} {n} {a} {slice} {new} {step} {result} {s} row words seen ad
     let there = subst (λ (t : CacheState). a < length t.blocks) (sym seen) address in
     let at : a < n = column cores n words.items a there in
     let after : List ℕ = (with_items words new).items in
-    subst (λ (t : CacheState). IsAnswer step a t (caches_in cores n after) result) seen
-    (subst (λ (ws : List ℕ). IsAnswer step a (caches_in cores n ws) (caches_in cores n after) result) lent
-    (subst (λ (ws : List ℕ). IsAnswer step a (caches_in cores n slice) (caches_in cores n ws) result)
-    (sym (with_items_is words new size)) (row_answered cores n a slice new step result at row)))
+    rw (← seen) (subst (λ (ws : List ℕ). IsAnswer step a (caches_in cores n ws) (caches_in cores n after) result) lent
+    (rw (with_items_is words new size) (row_answered cores n a slice new step result at row)))

@@ -40,8 +40,7 @@ turn b f c x m before kept still new e =
 turn_one : (b : Block) (c : ℕ) (x : Cell) (m : ℕ × Option ℕ) → EmptyBlock b → EmptyCell x
     → EmptyBlock (record { lines = slice_set b.lines c x; memory = m })
 turn_one b c x m before new =
-    subst (λ (ys : List Cell). EmptyBlock (record { lines = slice_set ys c x; memory = m }))
-    (map_same b.lines) (turn b (λ y. y) c x m before (λ y h. h) refl new)
+    rw (← map_same b.lines) (turn b (λ y. y) c x m before (λ y h. h) refl new)
 
 -- the line that GetS gives is valid
 valid_fill : (q : Bool) → is_valid (cond q S E) ≡ true

@@ -31,8 +31,7 @@ module _ (b : Block) (v : ℕ × Option ℕ) (s : IsSettled b v) (c : ℕ) (at :
     renewed_get_s : row.get_s b c ≡ Ok u → IsRenewed b u v
     renewed_get_s h =
         let k = taken_else _ _ _ u h in
-        subst (λ (t : Block). IsRenewed b t v) k.1
-        (record {
+        rw (← k.1) (record {
           settled = settled_get_s b v s c at k.0;
           lines =
               length-set (map row.shared b.lines) c _ ∙ length-map b.lines row.shared;
@@ -42,8 +41,7 @@ module _ (b : Block) (v : ℕ × Option ℕ) (s : IsSettled b v) (c : ℕ) (at :
     renewed_get_m : row.get_m b c ≡ Ok u → IsRenewed b u v
     renewed_get_m h =
         let k = taken_else _ _ _ u h in
-        subst (λ (t : Block). IsRenewed b t v) k.1
-        (record {
+        rw (← k.1) (record {
           settled = settled_get_m b v s c at;
           lines =
               length-set (map row.invalidated b.lines) c _ ∙ length-map b.lines row.invalidated;
@@ -53,15 +51,13 @@ module _ (b : Block) (v : ℕ × Option ℕ) (s : IsSettled b v) (c : ℕ) (at :
     renewed_put : row.put b c ≡ Ok u → IsRenewed b u v
     renewed_put h =
         let k = taken_then _ _ _ u h in
-        subst (λ (t : Block). IsRenewed b t v) k.1
-        (record { settled = settled_put b v s c at k.0; lines = length-set b.lines c invalid })
+        rw (← k.1) (record { settled = settled_put b v s c at k.0; lines = length-set b.lines c invalid })
 
     -- a write renews its block with its own data
     renewed_write : (w : ℕ × Option ℕ) → row.write b c w ≡ Ok u → IsRenewed b u w
     renewed_write w h =
         let k = taken_then _ _ _ u h in
-        subst (λ (t : Block). IsRenewed b t w) k.1
-        (record { settled = settled_write b v s c at w k.0; lines = length-set b.lines c _ })
+        rw (← k.1) (record { settled = settled_write b v s c at w k.0; lines = length-set b.lines c _ })
 
 -- all addresses agree, and at a it is w that is current
 pub record IsRenewedAt (s t : CacheState) (a : ℕ) (w : ℕ × Option ℕ) : Type 0 where

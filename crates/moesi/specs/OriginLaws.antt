@@ -82,8 +82,7 @@ origin_one : (b : Block) (c : ℕ) (x : Cell) (m copy : ℕ × Option ℕ)
 unfolding Tame
 origin_one b c x m copy h =
     origin b (λ y. y) c x m copy (λ y g. (g, refl)) refl
-    (subst (λ (ys : List Cell). HasBlock (record { lines = slice_set ys c x; memory = m }) copy)
-    (sym (map_same b.lines)) h)
+    (rw (map_same b.lines) h)
 
 -- a line that stays is as it was
 tame_stale : Tame row.left_stale

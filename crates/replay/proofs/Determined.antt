@@ -145,8 +145,7 @@ module _ (x y : Execution) (m : List ℕ) (made : IsMade x y) (well : IsWellForm
         let values : value_read (event_at y e) ≡ value_read (event_at x e) =
         gives_one a (source_of x e) (value_read (event_at x e)) (value_read (event_at y e))
         (λ s from. last_same a (source_of x e) s (tso.values e a reads) from) (well.sources e a reads)
-        (subst (λ (o : Option ℕ). Gives y a o (value_read (event_at y e))) (sym sources)
-        (well_other.sources e a there)) in
+        (rw sources (well_other.sources e a there)) in
         let gave = made_given (event_at x e) d a reads in
         let value : d.0 ≡ value_read (event_at x e) = sym gave.1 ∙ (ap value_read (sym is) ∙ values) in
         let origin : d.1 ≡ source (event_at x e) = sym gave.0 ∙ (ap source (sym is) ∙ sym sources) in

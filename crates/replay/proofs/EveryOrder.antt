@@ -114,8 +114,7 @@ module _ (x : Execution) (m : List ℕ) (tso : IsTsoOrder x m) (n : ℕ) (t : St
       go [] is = is
       go (y ∷ ys) is =
           let there : 0 < times (waiting t c) y.event =
-          subst (λ (b : List Entry). 0 < times (map (λ (z : Entry). z.event) b) y.event) (sym is)
-          (omega (arith, times_here (map (λ (z : Entry). z.event) ys) y.event y.event refl)) in
+          rw is (omega (arith, times_here (map (λ (z : Entry). z.event) ys) y.event y.event refl)) in
           let done = f.executed c y.event (omega
           (arith, there, times_append t.performed (waiting t c) y.event)) in
           absurd (omega (arith, there, each y.event done.0, waits_once (program_of x) n t f c y.event there))
@@ -200,11 +199,9 @@ module _ (law : Laws) where
       let there : IsComplete p (run p capacity fault.None (opening p init) steps) =
       subst (λ (z : State). IsComplete p z) (sym goes.1) end in
       let order : IsTsoOrder (recorded p t) t.performed =
-      subst (λ (z : State). IsTsoOrder (recorded p z) z.performed) goes.1
-      (law.tso p init capacity steps fits there) in
+      rw (← goes.1) (law.tso p init capacity steps fits there) in
       let well : IsWellFormed (recorded p t) =
-      subst (λ (z : State). IsWellFormed (recorded p z)) goes.1
-      (law.well_formed p init capacity steps fits there) in
+      rw (← goes.1) (law.well_formed p init capacity steps fits there) in
       let kept : t.initial ≡ init = ap (λ (z : State). z.initial) (sym goes.1)
       ∙ (run_keeps p capacity fault.None (opening p init) steps).0 in
       record {
@@ -244,8 +241,7 @@ module _ (law : Laws) where
         let order : List ℕ = (led_to made.0 capacity made.1).performed in
         let fits = made_fits made.0 capacity made.1 x made.4 of.recording in (
           order,
-          subst (λ (y : Execution). IsTsoOrder y order) made.4
-              (law.tso made.0.cores made.0.init capacity made.1 fits made.3),
+          rw (← made.4) (law.tso made.0.cores made.0.init capacity made.1 fits made.3),
         ),
     λ allowed.
         let replay = every_order_is_replayed x allowed.0 capacity of allowed.1 room in

@@ -33,8 +33,7 @@ made_ops es = record {
   one_each = length-map es op_of;
   each = λ i h.
       let inside : i < length es = omega (arith, h, length-map es op_of) in
-      subst (λ (op : Op). Makes op (get_or es i F)) (sym (get_or-map op_of es i F Fence inside))
-      (made_again (get_or es i F));
+      rw (get_or-map op_of es i F Fence inside) (made_again (get_or es i F));
 }
 
 -- so a recording is one of its program

@@ -146,13 +146,11 @@ module _ (x : Execution) (m : List ℕ) (tso : IsTsoOrder x m) (n capacity : ℕ
 
     -- it stands after the first of its core
     from : first_event (program_of x) (core_of x e) ≤ e
-    from = subst (λ (c : ℕ). first_event (program_of x) c ≤ e) (core_same e)
-        (event_behind (program_of x) e counted)
+    from = rw (← core_same e) (event_behind (program_of x) e counted)
 
     -- and before the end
     to : e < first_event (program_of x) (core_of x e) + length (get_or (program_of x) (core_of x e) [])
-    to = subst (λ (c : ℕ). e < first_event (program_of x) c + length (get_or (program_of x) c []))
-        (core_same e) (event_before (program_of x) e counted)
+    to = rw (← core_same e) (event_before (program_of x) e counted)
 
     -- so its core is there
     core : core_of x e < length (program_of x)
@@ -237,11 +235,9 @@ module _ (x : Execution) (m : List ℕ) (tso : IsTsoOrder x m) (n capacity : ℕ
         → 0 < times (waiting s (core_of x e)) e
     waits_itself done =
         let one : times (seen_by s (core_of x e)) e ≡ 1 =
-        subst (λ (c : ℕ). times (seen_by s c) e ≡ 1) (core_same e)
-        ((f.on []).once e (
+        rw (← core_same e) ((f.on []).once e (
           counted,
-          subst (λ (c : ℕ). e < first_event (program_of x) c + place_of s c)
-              (sym (core_same e)) done,
+          rw (core_same e) done,
         )) in
         omega (arith, one, fresh, times_append s.performed (waiting s (core_of x e)) e)
 
@@ -264,8 +260,7 @@ module _ (x : Execution) (m : List ℕ) (tso : IsTsoOrder x m) (n capacity : ℕ
           go [] is = is
           go (y ∷ ys) is =
               let there : 0 < times (waiting s (core_of x e)) y.event =
-              subst (λ (b : List Entry). 0 < times (map (λ (z : Entry). z.event) b) y.event) (sym is)
-              (omega (arith, times_here (map (λ (z : Entry). z.event) ys) y.event y.event refl)) in
+              rw is (omega (arith, times_here (map (λ (z : Entry). z.event) ys) y.event y.event refl)) in
               let own = waits y.event there in
               let both = behind y.event (omega (arith, own.2, is_next plain)) own.0 own.3 in
               absurd (let clash : true ≡ false =
