@@ -147,6 +147,23 @@ before_filter q (x ∷ xs) e f qe qf h = elim (cases_Bool (q x)) [
       (omega (arith, rest, e_there, f_there), omega (arith, rest, f_there))
 ]
 
+-- what stands before s among some, or is s, does so with x before them
+pub before_more : (x : ℕ) (xs : List ℕ) (s w : ℕ) → x ≢ s → 0 < times xs s
+    → (0 < times xs w → (w ≡ s) ⊎ Before xs w s) → 0 < times (x ∷ xs) w → (w ≡ s) ⊎ Before (x ∷ xs) w s
+before_more x xs s w apart s_in rest there = elim (cases_eq x w) [
+  | inl here ↦ inr (
+    omega (arith, place_here xs x w here, place_there xs x s apart),
+    omega (arith, place_there xs x s apart, place_in xs s s_in),
+  )
+  | inr behind ↦ elim (rest (omega (arith, there, times_there xs x w behind))) [
+    | inl is_s ↦ inl is_s
+    | inr before ↦ inr (
+      omega (arith, before, place_there xs x w behind, place_there xs x s apart),
+      omega (arith, before, place_there xs x s apart),
+    )
+  ]
+]
+
 -- in a list of distinct numbers the last stands after all others
 pub last_behind : (l : List ℕ) (s : ℕ) → ((e : ℕ) → times l e ≤ 1) → last_of l ≡ Some s
     → (0 < times l s) × ((w : ℕ) → 0 < times l w → (w ≡ s) ⊎ Before l w s)
@@ -162,30 +179,10 @@ last_behind (x ∷ []) s once is =
     )
 last_behind (x ∷ (y ∷ ys)) s once is =
     let rest : (0 < times (y ∷ ys) s) × ((w : ℕ) → 0 < times (y ∷ ys) w → (w ≡ s) ⊎ Before (y ∷ ys) w s) =
-    last_behind (y ∷ ys) s (λ e. elim (cases_eq x e) [
-      | inl same ↦ omega (arith, once e, times_here (y ∷ ys) x e same)
-      | inr other ↦ omega (arith, once e, times_there (y ∷ ys) x e other)
-    ]) is in
+    last_behind (y ∷ ys) s (λ e. omega (arith, once e, times_append (x ∷ []) (y ∷ ys) e)) is in
     let apart : x ≢ s = λ same. omega (arith, once s, times_here (y ∷ ys) x s same, rest.0) in (
       omega (arith, rest.0, times_there (y ∷ ys) x s apart),
-      λ w there. elim (cases_eq x w) [
-        | inl here ↦ inr (
-          omega (arith, place_here (y ∷ ys) x w here, place_there (y ∷ ys) x s apart),
-          omega (arith, place_there (y ∷ ys) x s apart, place_in (y ∷ ys) s rest.0),
-        )
-        | inr behind ↦ elim (rest.1 w (omega (arith, there, times_there (y ∷ ys) x w behind))) [
-          | inl is_s ↦ inl is_s
-          | inr before ↦ inr (
-            omega (
-              arith,
-              before,
-              place_there (y ∷ ys) x w behind,
-              place_there (y ∷ ys) x s apart,
-            ),
-            omega (arith, before, place_there (y ∷ ys) x s apart),
-          )
-        ]
-      ],
+      λ w there. before_more x (y ∷ ys) s w apart rest.0 (rest.1 w) there,
     )
 
 -- a list without a last has nothing
