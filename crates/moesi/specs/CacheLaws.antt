@@ -15,49 +15,10 @@ use Rattle.moesi.specs.Coherent.{IsCoherent}
 use Rattle.moesi.specs.Laws.{IsTransaction, OpeningIsCoherent, OpeningWithIsCoherent, EveryCallKeepsCoherence}
 use Rattle.moesi.specs.Laws.{EveryCopyIsCurrent, EveryReadIsCurrent, EveryTransactionKeepsCurrent}
 use Rattle.moesi.specs.Laws.{EveryWriteSetsCurrent}
-use Rattle.moesi.specs.RowLaws.{taken_else, taken_then}
+use Rattle.moesi.specs.RowLaws.{taken_then, IsRenewed, renewed_get_s, renewed_get_m, renewed_put}
 use Rattle.moesi.specs.BlockLaws.{IsSettled, settled_of, current_settled, coherent_settled, copy_is_current}
 use Rattle.moesi.specs.BlockLaws.{all_invalid}
-use Rattle.moesi.specs.RowLaws.{settled_get_s, settled_get_m, settled_put, settled_write}
-
--- a block becomes u, with its lines in number, and w is current there
-record IsRenewed (b u : Block) (w : ℕ × Option ℕ) : Type 0 where
-  settled : IsSettled u w
-  lines : length u.lines ≡ length b.lines
-
-module _ (b : Block) (v : ℕ × Option ℕ) (s : IsSettled b v) (c : ℕ) (at : c < length b.lines) (u : Block)
-  where
-    -- GetS renews its block
-    renewed_get_s : row.get_s b c ≡ Ok u → IsRenewed b u v
-    renewed_get_s h =
-        let k = taken_else _ _ _ u h in
-        rw (← k.1) (record {
-          settled = settled_get_s b v s c at k.0;
-          lines =
-              length-set (map row.shared b.lines) c _ ∙ length-map b.lines row.shared;
-        })
-
-    -- GetM renews its block
-    renewed_get_m : row.get_m b c ≡ Ok u → IsRenewed b u v
-    renewed_get_m h =
-        let k = taken_else _ _ _ u h in
-        rw (← k.1) (record {
-          settled = settled_get_m b v s c at;
-          lines =
-              length-set (map row.invalidated b.lines) c _ ∙ length-map b.lines row.invalidated;
-        })
-
-    -- Put renews its block
-    renewed_put : row.put b c ≡ Ok u → IsRenewed b u v
-    renewed_put h =
-        let k = taken_then _ _ _ u h in
-        rw (← k.1) (record { settled = settled_put b v s c at k.0; lines = length-set b.lines c invalid })
-
-    -- a write renews its block with its own data
-    renewed_write : (w : ℕ × Option ℕ) → row.write b c w ≡ Ok u → IsRenewed b u w
-    renewed_write w h =
-        let k = taken_then _ _ _ u h in
-        rw (← k.1) (record { settled = settled_write b v s c at w k.0; lines = length-set b.lines c _ })
+use Rattle.moesi.specs.RowLaws.{renewed_write}
 
 -- all addresses agree, and at a it is w that is current
 pub record IsRenewedAt (s t : CacheState) (a : ℕ) (w : ℕ × Option ℕ) : Type 0 where
