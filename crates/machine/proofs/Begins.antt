@@ -3,9 +3,10 @@ use Rattle.std.proofs.Common.{◌≡◌, ◌<◌, ◌≤◌, ◌+◌, ◌-◌, i
 use Rattle.std.proofs.Common.{◌++◌, map, length, get_or, slice_index_or, replicate, arith, refl, sym, ap}
 use Rattle.std.proofs.Common.{subst, ◌∙◌}
 use Rattle.std.specs.List.{All, sum_by}
-use Rattle.std.proofs.lemmas.List.{length-replicate, get_or-replicate, get_or_append_left, length-map}
+use Rattle.std.proofs.lemmas.List.{length-replicate, get_or_append_left, length-map}
 use Rattle.std.proofs.lemmas.List.{get_or-append_right}
-use Rattle.std.proofs.lemmas.List.Sums.{sum_by-cons}
+use Rattle.std.proofs.lemmas.List.Elements.{All-replicate}
+use Rattle.std.proofs.lemmas.List.Folds.{sum_by-replicate}
 use Rattle.std.proofs.lemmas.Bool.{cases_lt}
 use Rattle.common.specs.declared.limits.TheConstants.{MAX_EVENTS}
 use Rattle.program.specs.declared.op.Op.{Op}
@@ -20,16 +21,6 @@ use Rattle.moesi.specs.State as moesi
 use Rattle.moesi.specs.Block.{block_with}
 use Rattle.machine.specs.Configuration.{BlankSize, IsSound, IsEntry, IsMachine, state_from, places_of}
 use Rattle.machine.proofs.Opening.{get_or_same}
-
--- what is true of an item is true of all its copies
-all_same : {X : Type 0} (P : X → Type 0) (n : ℕ) (x : X) → P x → All P (replicate n x)
-all_same P n x h k d inside = subst P
-    (sym (get_or-replicate n k x d (omega (arith, inside, length-replicate n x)))) h
-
--- copies of what counts nothing count nothing
-sum_same : {X : Type 0} (f : X → ℕ) (n : ℕ) (x : X) → f x ≡ 0 → sum_by f (replicate n x) ≡ 0
-sum_same f zero x h = refl
-sum_same f (suc n) x h = omega (arith, h, sum_by-cons f x (replicate n x), sum_same f n x h)
 
 -- a function of all copies
 map_same : {X Y : Type 0} (f : X → Y) (n : ℕ) (x : X) → map f (replicate n x) ≡ replicate n (f x)
@@ -47,22 +38,21 @@ places_none (u ∷ units) (suc n) l h =
     ap (λ (k : ℕ). k ∷ places_of units) (h 0 u (omega arith)) ∙ ap (λ (ks : List ℕ). 0 ∷ ks)
     (places_none units n (omega (arith, l)) (λ c d inside. h (suc c) d (omega (arith, inside))))
 
-module _ (p : Parts) (capacity cores total n : ℕ) (init : List ℕ) (units : List Progress)
-    (cores_is : cores ≡ length p.cores) (n_is : n ≡ length init) (init_is : init ≡ p.init)
-    (initials : length p.init ≡ length p.names) (are : AreUnits p.cores units total)
+module _ (p : Parts) (capacity : ℕ) {cores total : ℕ} {init : List ℕ} {lists : List (List Op)} {units : List Progress}
+    (cores_is : cores ≡ length p.cores) (init_is : init ≡ p.init) (count : length init ≡ length p.names)
+    (lists_are : lists ≡ p.cores) (units_are : AreUnits lists units total)
     (fits : All (λ ops. All (IsWithin (length p.names)) ops) p.cores) (few : op_count p.cores ≤ MAX_EVENTS)
-    (buffers : List Buffer) (caches : moesi.CacheState) (reads : List (ℕ × Option ℕ))
-    (writes : List (BoundedItems ℕ)) (done : BoundedItems ℕ) (blank : BlankSize)
+    {buffers : List Buffer} {caches : moesi.CacheState} {writes : List (BoundedItems ℕ)}
+    {reads : List (ℕ × Option ℕ)} {done : BoundedItems ℕ} {blank : BlankSize}
     (buffers_are : buffers ≡ replicate cores (record { entries = []; capacity = capacity }))
     (caches_are : caches ≡ moesi.opening_with cores init)
-    (writes_are : writes ≡ replicate n (record { items = []; room = total }))
+    (writes_are : writes ≡ replicate (length init) (record { items = []; room = total }))
     (reads_are : reads ≡ replicate total (0, None)) (done_is : done ≡ record { items = []; room = total })
     (blank_is : blank ≡ record { cores = cores; events = total; addresses = length init; initial = init })
   where
-    -- each unit is at the start of its core
-    units_begun : (c : ℕ) (d : Progress) → c < length p.cores → slice_index_or units c d
-        ≡ record { first = first_event p.cores c; place = 0 }
-    units_begun = are.begun
+    -- the units are those of the program
+    are : AreUnits p.cores units total
+    are = subst (λ (l : List (List Op)). AreUnits l units total) lists_are units_are
 
     -- no core has executed anything
     places_are : places_of units ≡ replicate (length p.cores) 0
@@ -79,65 +69,51 @@ module _ (p : Parts) (capacity cores total n : ℕ) (init : List ℕ) (units : L
       reads_are,
       done_is,
       cores_is,
-      n_is,
       init_is,
       map_same (λ (b : Buffer). b.entries) (length p.cores) (record { entries = []; capacity = capacity }),
       map_same (λ (b : BoundedItems ℕ). b.items) (length p.init) (record { items = []; room = total }),
       are.events,
     ) refl
 
-    -- there are as many addresses as names
-    addresses_are : length init ≡ length p.names
-    addresses_are = ap (λ (l : List ℕ). length l) init_is ∙ initials
+    -- there are as many initial values as names
+    initials : length p.init ≡ length p.names
+    initials = ap (λ (l : List ℕ). length l) (sym init_is) ∙ count
 
     -- the parts fit together
     sound : IsSound p capacity units buffers caches writes reads done
-    sound = record {
-      operations = fits;
-      few = few;
-      initials = initials;
-      units_length = are.one_each;
-      buffers_length = ap (λ (l : List Buffer). length l) buffers_are
-          ∙ (length-replicate {A = Buffer} cores (record { entries = []; capacity = capacity }) ∙ cores_is);
-      cache_cores = ap (λ (m : moesi.CacheState). m.cores) caches_are ∙ cores_is;
-      cache_blocks = ap (λ (m : moesi.CacheState). length m.blocks) caches_are
-          ∙ (length-map init (λ v. block_with cores v) ∙ addresses_are);
-      writes_length = ap (λ (l : List (BoundedItems ℕ)). length l) writes_are
-          ∙ (length-replicate {A = BoundedItems ℕ} n (record { items = []; room = total })
-          ∙ (n_is ∙ addresses_are));
-      events = ap (λ (m : List (ℕ × Option ℕ)). length m) reads_are
-          ∙ (length-replicate total (0, None) ∙ are.events);
-      first = λ c d inside. ap (λ (u : Progress). u.first) (are.begun c d inside);
-      place = λ c. omega (
-        arith,
-        ap (λ (l : List ℕ). get_or l c 0) places_are,
-        get_or_same {A = ℕ}
-            (length p.cores) c 0,
-      );
-      capacities = subst (λ (l : List Buffer). All (λ b. b.capacity ≡ capacity) l) (sym buffers_are)
-          (all_same (λ (b : Buffer). b.capacity ≡ capacity) cores
-          (record { entries = []; capacity = capacity }) refl);
-      entries = subst (λ (l : List Buffer). All (λ b. All (IsEntry (length p.names)) b.entries) l)
-          (sym buffers_are)
-          (all_same (λ (b : Buffer). All (IsEntry (length p.names)) b.entries) cores
-          (record { entries = []; capacity = capacity }) (λ k d h. absurd (omega (arith, h))));
-      write_rooms = subst (λ (l : List (BoundedItems ℕ)). All (λ b. b.room ≡ op_count p.cores) l)
-          (sym writes_are) (all_same (λ (b : BoundedItems ℕ). b.room ≡ op_count p.cores) n
-          (record { items = []; room = total }) are.events);
-      write_lengths = subst (λ (l : List (BoundedItems ℕ)). All (λ b. length b.items ≤ length done.items) l)
-          (sym writes_are)
-          (all_same (λ (b : BoundedItems ℕ). length b.items ≤ length done.items) n
-          (record { items = []; room = total }) (omega arith));
-      performed_room = ap (λ (r : BoundedItems ℕ). r.room) done_is ∙ are.events;
-      counted = omega (
-        arith,
-        ap (λ (r : BoundedItems ℕ). length r.items) done_is,
-        ap (λ (l : List Buffer). sum_by (λ b. length b.entries) l) buffers_are,
-        sum_same (λ (b : Buffer). length b.entries) cores (record { entries = []; capacity = capacity }) refl,
-        ap (λ (l : List ℕ). sum_by (λ (x : ℕ). x) l) places_are,
-        sum_same (λ (x : ℕ). x) (length p.cores) 0 refl,
-      );
-    }
+    sound =
+        let buffer : Buffer = record { entries = []; capacity = capacity } in
+        let list : BoundedItems ℕ = record { items = []; room = total } in
+        rw (buffers_are, caches_are, writes_are, reads_are, done_is) (record {
+          operations = fits;
+          few = few;
+          initials = initials;
+          units_length = are.one_each;
+          buffers_length = length-replicate cores buffer ∙ cores_is;
+          cache_cores = cores_is;
+          cache_blocks = length-map init (λ v. block_with cores v) ∙ count;
+          writes_length = length-replicate (length init) list ∙ count;
+          events = length-replicate total (0, None) ∙ are.events;
+          first = λ c d inside. ap (λ (u : Progress). u.first) (are.begun c d inside);
+          place = λ c. omega (
+            arith,
+            ap (λ (l : List ℕ). get_or l c 0) places_are,
+            get_or_same {A = ℕ} (length p.cores) c 0,
+          );
+          capacities = All-replicate (λ (b : Buffer). b.capacity ≡ capacity) cores buffer refl;
+          entries = All-replicate (λ (b : Buffer). All (IsEntry (length p.names)) b.entries) cores buffer
+              (λ k d h. absurd (omega (arith, h)));
+          write_rooms = All-replicate (λ (b : BoundedItems ℕ). b.room ≡ op_count p.cores) (length init) list
+              are.events;
+          write_lengths = All-replicate (λ (b : BoundedItems ℕ). length b.items ≤ 0) (length init) list (omega arith);
+          performed_room = are.events;
+          counted = omega (
+            arith,
+            sum_by-replicate (λ (b : Buffer). length b.entries) cores buffer,
+            ap (λ (l : List ℕ). sum_by (λ (x : ℕ). x) l) places_are,
+            sum_by-replicate (λ (x : ℕ). x) (length p.cores) 0,
+          );
+        })
 
     -- so they are a machine
     pub is_machine : (fault : Fault) → IsMachine p capacity fault units buffers caches writes reads done blank

@@ -16,8 +16,8 @@ pub record Counts (p : Static) (s t : Snapshot) (b : ℕ) : Type 0 where
   pub b_once : times (seen t (p.core b)) b ≡ 1
 
 -- such a step keeps the count
-pub counted_kept : (p : Static) (s t : Snapshot) (b : ℕ) → IsCounted p s → Counts p s t b → IsCounted p t
-counted_kept p s t b counted step = record { listed = listed; executed = executed; waiting = step.waiting }
+pub counted_kept : {p : Static} {s t : Snapshot} {b : ℕ} → IsCounted p s → Counts p s t b → IsCounted p t
+counted_kept {p} {s} {t} {b} counted step = record { listed = listed; executed = executed; waiting = step.waiting }
   where
     listed : (e : ℕ) → e < p.count → e < t.next (p.core e) → times (seen t (p.core e)) e ≡ 1
     listed e event done = elim (cases_eq e b) [
@@ -38,41 +38,43 @@ counted_kept p s t b counted step = record { listed = listed; executed = execute
           (was.0, omega (arith, was.1, step.next_grows (p.core e)))
     ]
 
--- where core's next event is executed, no other event is executed with it
-next_step : (p : Static) (s t : Snapshot) (b : ℕ) → s.next (p.core b) ≡ b → t.next (p.core b) ≡ b + 1
-    → ((d : ℕ) → d ≢ p.core b → t.next d ≡ s.next d)
-    → ((e : ℕ) → e ≢ b → e < t.next (p.core e) → e < s.next (p.core e))
-next_step p s t b old new others e eb done = elim (cases_eq (p.core e) (p.core b)) [
-  | inl one ↦
-      let below : e < t.next (p.core b) = subst (λ (c : ℕ). e < t.next c) one done in
-      subst (λ (c : ℕ). e < s.next c) (sym one) (omega (arith, below, old, new, eb))
-  | inr other ↦ omega (arith, others (p.core e) other, done)
-]
-
--- no core goes back
-next_up : (p : Static) (s t : Snapshot) (b : ℕ) → s.next (p.core b) ≡ b → t.next (p.core b) ≡ b + 1
-    → ((d : ℕ) → d ≢ p.core b → t.next d ≡ s.next d) → (c : ℕ) → s.next c ≤ t.next c
-next_up p s t b old new others c = elim (cases_eq c (p.core b)) [
-  | inl one ↦ subst (λ (z : ℕ). s.next z ≤ t.next z) (sym one) (omega (arith, old, new))
-  | inr other ↦ omega (arith, others c other)
-]
-
--- a plain store goes to the back of its core's buffer
-pub record Issues (p : Static) (s t : Snapshot) (b : ℕ) : Type 0 where
+-- a core's next event is executed
+pub record Executes (p : Static) (s t : Snapshot) (b : ℕ) : Type 0 where
   pub event : b < p.count
-  pub store : p.store b ≡ true
-  pub reads : p.reads b ≡ None
   pub next_was : s.next (p.core b) ≡ b
-  pub performed : t.performed ≡ s.performed
-  pub buffer : t.buffer (p.core b) ≡ s.buffer (p.core b) ++ b ∷ []
-  pub others : (d : ℕ) → d ≢ p.core b → t.buffer d ≡ s.buffer d
   pub next : t.next (p.core b) ≡ b + 1
   pub next_others : (d : ℕ) → d ≢ p.core b → t.next d ≡ s.next d
   pub source : (e : ℕ) → e ≢ b → t.source e ≡ s.source e
 
+module _ {p : Static} {s t : Snapshot} {b : ℕ} (i : Executes p s t b) where
+  -- no other event is executed with it
+  next_step : (e : ℕ) → e ≢ b → e < t.next (p.core e) → e < s.next (p.core e)
+  next_step e eb done = elim (cases_eq (p.core e) (p.core b)) [
+    | inl one ↦
+        let below : e < t.next (p.core b) = subst (λ (c : ℕ). e < t.next c) one done in
+        subst (λ (c : ℕ). e < s.next c) (sym one) (omega (arith, below, i.next_was, i.next, eb))
+    | inr other ↦ omega (arith, i.next_others (p.core e) other, done)
+  ]
+
+  -- no core goes back
+  next_up : (c : ℕ) → s.next c ≤ t.next c
+  next_up c = elim (cases_eq c (p.core b)) [
+    | inl one ↦ subst (λ (z : ℕ). s.next z ≤ t.next z) (sym one) (omega (arith, i.next_was, i.next))
+    | inr other ↦ omega (arith, i.next_others c other)
+  ]
+
+-- a plain store goes to the back of its core's buffer
+pub record Issues (p : Static) (s t : Snapshot) (b : ℕ) : Type 0 where
+  pub executes : Executes p s t b
+  pub store : p.store b ≡ true
+  pub reads : p.reads b ≡ None
+  pub performed : t.performed ≡ s.performed
+  pub buffer : t.buffer (p.core b) ≡ s.buffer (p.core b) ++ b ∷ []
+  pub others : (d : ℕ) → d ≢ p.core b → t.buffer d ≡ s.buffer d
+
 -- a store that goes to its buffer is counted
-pub issue_counts : (p : Static) (s t : Snapshot) (b : ℕ) → IsCounted p s → Issues p s t b → Counts p s t b
-issue_counts p s t b counted i = record {
+pub issue_counts : {p : Static} {s t : Snapshot} {b : ℕ} → IsCounted p s → Issues p s t b → Counts p s t b
+issue_counts {p} {s} {t} {b} counted i = record {
   others = λ d e eb. elim (cases_eq d (p.core b)) [
     | inl own ↦ subst (λ (z : ℕ). times (seen t z) e ≡ times (seen s z) e) (sym own) (omega (
       arith,
@@ -92,13 +94,13 @@ issue_counts p s t b counted i = record {
       ap (λ (q : List ℕ). times q e) (i.others d other),
     )
   ];
-  next = next_step p s t b i.next_was i.next i.next_others;
-  next_grows = next_up p s t b i.next_was i.next i.next_others;
+  next = next_step i.executes;
+  next_grows = next_up i.executes;
   waiting = waiting;
-  b_event = (i.event, omega (arith, i.next));
+  b_event = (i.executes.event, omega (arith, i.executes.next));
   b_once = omega (
     arith,
-    not_seen p s counted b (p.core b) (omega (arith, i.next_was)),
+    not_seen p s counted b (p.core b) (omega (arith, i.executes.next_was)),
     times_append t.performed (t.buffer (p.core b)) b,
     times_append s.performed (s.buffer (p.core b)) b,
     ap (λ (m : List ℕ). times m b) i.performed,
@@ -137,27 +139,23 @@ issue_counts p s t b counted i = record {
 
 -- an event is performed as it is executed
 pub record Performs (p : Static) (s t : Snapshot) (b : ℕ) : Type 0 where
-  pub event : b < p.count
-  pub next_was : s.next (p.core b) ≡ b
+  pub executes : Executes p s t b
   pub performed : t.performed ≡ s.performed ++ b ∷ []
   pub buffer : (d : ℕ) → t.buffer d ≡ s.buffer d
-  pub next : t.next (p.core b) ≡ b + 1
-  pub next_others : (d : ℕ) → d ≢ p.core b → t.next d ≡ s.next d
-  pub source : (e : ℕ) → e ≢ b → t.source e ≡ s.source e
 
 -- an event that is performed is counted
-pub perform_counts : (p : Static) (s t : Snapshot) (b : ℕ) → IsCounted p s → Performs p s t b → Counts p s t b
-perform_counts p s t b counted i = record {
+pub perform_counts : {p : Static} {s t : Snapshot} {b : ℕ} → IsCounted p s → Performs p s t b → Counts p s t b
+perform_counts {p} {s} {t} {b} counted i = record {
   others = λ d e eb. omega (arith, seen_more d e, times_there [] b e (λ z. eb (sym z)), times_nil e);
-  next = next_step p s t b i.next_was i.next i.next_others;
-  next_grows = next_up p s t b i.next_was i.next i.next_others;
+  next = next_step i.executes;
+  next_grows = next_up i.executes;
   waiting = λ d e there. counted.waiting d e
       (omega (arith, there, ap (λ (q : List ℕ). times q e) (i.buffer d)));
-  b_event = (i.event, omega (arith, i.next));
+  b_event = (i.executes.event, omega (arith, i.executes.next));
   b_once = omega (
     arith,
     seen_more (p.core b) b,
-    not_seen p s counted b (p.core b) (omega (arith, i.next_was)),
+    not_seen p s counted b (p.core b) (omega (arith, i.executes.next_was)),
     times_here [] b b refl,
     times_nil b,
   );
@@ -184,7 +182,7 @@ pub record Drains (p : Static) (s t : Snapshot) (c b : ℕ) (front : List ℕ) :
   pub source : (e : ℕ) → t.source e ≡ s.source e
   pub reads : p.reads b ≡ None
 
-module _ (p : Static) (s t : Snapshot) (c b : ℕ) (front : List ℕ) (counted : IsCounted p s)
+module _ {p : Static} {s t : Snapshot} {c b : ℕ} {front : List ℕ} (counted : IsCounted p s)
     (i : Drains p s t c b front) where
   -- how often an event stands in core c's order, before and after
   times_was : (e : ℕ) → times (seen s c) e
@@ -269,6 +267,5 @@ module _ (p : Static) (s t : Snapshot) (c b : ℕ) (front : List ℕ) (counted :
       | inr other ↦ counted.waiting d e (omega (arith, h, ap (λ (q : List ℕ). times q e) (i.others d other)))
     ];
     b_event = (drain_event.0, omega (arith, drain_event.1, i.next (p.core b)));
-    b_once = subst (λ (z : ℕ). times (seen t z) b ≡ 1) (sym drain_core)
-        (omega (arith, times_is b, subst (λ (z : ℕ). times (seen s z) b ≡ 1) drain_core drain_once));
+    b_once = rw drain_core (omega (arith, times_is b, subst (λ (z : ℕ). times (seen s z) b ≡ 1) drain_core drain_once));
   }

@@ -7,6 +7,7 @@ use Rattle.std.specs.Prelude.{◌==◌}
 use Rattle.std.specs.List.{All, filter}
 use Rattle.std.proofs.lemmas.List.{get_or_past, map-append}
 use Rattle.std.proofs.lemmas.Bool.{cases_eq, cases_lt, eq-eqb}
+use Rattle.std.proofs.lemmas.Option.{same_Some}
 use Rattle.program.specs.declared.op.Op.{Op}
 use Rattle.program.specs.declared.op.Op.TheVariants.{St, Ld, Fence, Swap, Add, Cas}
 use Rattle.program.specs.Parts.{IsWithin}
@@ -30,19 +31,19 @@ use Rattle.machine.specs.Step.{with_caches, forwarded_or_read, looked_up, rmw_va
 use Rattle.machine.specs.Tso.{EveryRunIsWellFormed}
 use Rattle.machine.proofs.Cached.{read_has, written_read, opening_has}
 use Rattle.machine.proofs.Static.{static_of, snapshot_of, placed_op, done_by, op_reads}
-use Rattle.machine.proofs.Newest.{bool_cases, times_filter, times_filter_no}
+use Rattle.machine.proofs.Newest.{times_passes, times_filter}
 use Rattle.machine.proofs.WriteLists.{writes_to, is_address_true, is_address_back, pair_one}
 use Rattle.machine.proofs.DrainEvents.{AreStores, stores_out, drained_state}
 use Rattle.machine.proofs.Removed.{forwarded_youngest}
 use Rattle.machine.proofs.Loads.{not_equal}
-use Rattle.machine.proofs.ExecuteEvents.{IsNext, next_placed}
-use Rattle.machine.proofs.Rows.{IsKept, IsRmw, IsCompare, stored_state, loaded_state, fenced_state, rmw_state}
-use Rattle.machine.proofs.Rows.{run_kept}
-use Rattle.machine.proofs.Steady.{IsSteady, next_within, drain_steady, store_steady, load_steady}
-use Rattle.machine.proofs.Steady.{fence_steady, rmw_steady, compare_steady, transact_steady}
+use Rattle.machine.proofs.ExecuteEvents.{IsNext, next_placed, next_old}
+use Rattle.machine.proofs.Rows.{IsKept, IsRmw, IsLook, stored_state, loaded_state, rmw_state, run_kept}
+use Rattle.machine.proofs.Steady.{IsSteady, next_within, drain_steady, store_steady, look_steady, rmw_steady}
+use Rattle.machine.proofs.Steady.{transact_steady}
 use Rattle.machine.proofs.Opening.{nothing_executed, opening_steady}
 use Rattle.machine.specs.RecordedLaws.{event_is, count_is}
-use Rattle.machine.proofs.Complete.{both, list_is, writes_is, reads_is, all_done, complete_listed}
+use Rattle.machine.specs.ProgramLaws.{value_same}
+use Rattle.machine.proofs.Complete.{list_is, writes_is, reads_is, all_done, complete_listed}
 
 -- the value is the initial one, or the source is an executed write of it to the address
 abbrev pub IsGiven : List (List Op) → State → ℕ → Option ℕ → ℕ → Type 0
@@ -92,10 +93,6 @@ written_given p t w c a v op is executed address value =
       ap value_written does ∙ value,
     )
 
--- one entry, found twice
-some_entry : {u v : Entry} → Some u ≡ Some v → u ≡ v
-some_entry h = cc
-
 -- the youngest entry of an address is a store to it that waits
 youngest_is : (p : List (List Op)) (c : ℕ) (b : List Entry) (a : ℕ) (y : Entry) → AreStores p c b
     → youngest b a ≡ Some y
@@ -118,9 +115,8 @@ youngest_is p c (x ∷ xs) a y stores is =
     go later None at one = elim (cases_eq x.addr a) [
       | inl here ↦
           let same_as : x ≡ y =
-          some_entry (subst (λ (t : Bool). cond t (Some x) None ≡ Some y) (eq-eqb x.addr a here) one) in (
-            subst (λ (z : Entry). placed_op p z.event ≡ (c, St a z.value)) same_as
-                (stores.0 ∙ ap (λ (k : ℕ). (c, St k x.value)) here),
+          same_Some x y (subst (λ (t : Bool). cond t (Some x) None ≡ Some y) (eq-eqb x.addr a here) one) in (
+            rw (← same_as) (stores.0 ∙ ap (λ (k : ℕ). (c, St k x.value)) here),
             omega (
               arith,
               times_here (map (λ (z : Entry). z.event) xs) x.event y.event
@@ -131,7 +127,7 @@ youngest_is p c (x ∷ xs) a y stores is =
           subst (λ (t : Bool). cond t (Some x) None ≡ Some y) (not_equal x.addr a other) one in cc)
     ]
 
-module _ (p : List (List Op)) (s : State) (d : IsData p s) where
+module _ {p : List (List Op)} {s : State} (d : IsData p s) where
   -- what waits was executed
   executed_in : (c e : ℕ) → 0 < times (map (λ (x : Entry). x.event) (buffer_of s c)) e
       → e < (snapshot_of p s).next ((static_of p s).core e)
@@ -157,8 +153,7 @@ module _ (p : List (List Op)) (s : State) (d : IsData p s) where
       go (Some y) is got =
           let at = youngest_is p c (buffer_of s c) a y (d.steady.stores c)
           (forwarded_youngest f (buffer_of s c) a y is) in
-          subst (λ (z : ℕ × Option ℕ). IsPairGiven p s a z) (pair_one (y.value, Some y.event) what got)
-          (written_given p s y.event c a y.value (St a y.value) at.0
+          rw (← pair_one (y.value, Some y.event) what got) (written_given p s y.event c a y.value (St a y.value) at.0
           (subst (λ (k : ℕ). y.event < (snapshot_of p s).next k) (ap (λ (z : ℕ × Op). z.0) at.0)
           (executed_in c y.event at.1)) refl refl)
 
@@ -170,8 +165,7 @@ module _ (p : List (List Op)) (s : State) (d : IsData p s) where
   copies_given t caches c a b v wrote gave old k copy h =
       elim (every_write_adds_itself s.caches caches c a v b k copy wrote h) [
         | inl was ↦ old k copy was
-        | inr new ↦ subst (λ (z : ℕ). IsPairGiven p t z copy) (sym new.0)
-            (subst (λ (z : ℕ × Option ℕ). IsPairGiven p t a z) (sym new.1) gave)
+        | inr new ↦ rw new.0 (subst (λ (z : ℕ × Option ℕ). IsPairGiven p t a z) (sym new.1) gave)
       ]
 
   -- a drain keeps the data
@@ -183,8 +177,7 @@ module _ (p : List (List Op)) (s : State) (d : IsData p s) where
       let here = stores_out p c front x back
       (subst (λ (b : List Entry). AreStores p c b) is (d.steady.stores c)) in
       let waits : 0 < times (map (λ (y : Entry). y.event) (buffer_of s c)) x.event =
-      subst (λ (b : List Entry). 0 < times (map (λ (y : Entry). y.event) b) x.event) (sym is)
-      (subst (λ (l : List ℕ). 0 < times l x.event)
+      rw is (subst (λ (l : List ℕ). 0 < times l x.event)
       (sym (map-append (λ (y : Entry). y.event) front (x ∷ back)))
       (omega (
         arith,
@@ -196,21 +189,16 @@ module _ (p : List (List Op)) (s : State) (d : IsData p s) where
       written_given p s x.event c x.addr x.value (St x.addr x.value) here.0
       (waits_executed c x here.0 waits) refl refl in
       record {
-        steady = drain_steady p s d.steady caches c x front back at is wrote;
+        steady = drain_steady d.steady caches c x front back at is wrote;
         copies = copies_given s caches c x.addr x.event x.value wrote gave d.copies;
         reads = d.reads;
       }
 
-  module _ (c b : ℕ) (op : Op) (n : IsNext p s c b op) where
-    -- the event is the next of its core
-    new : (snapshot_of p s).next ((static_of p s).core b) ≡ b
-    new = ap (λ (z : ℕ × Op). (snapshot_of p s).next z.0) (next_placed p s c b op n) ∙ sym n.event
-
+  module _ {c b : ℕ} {op : Op} (n : IsNext p s c b op) where
     -- no core goes back
     up : (k : ℕ) → place_of s k ≤ get_or (slice_set s.places c (place_of s c + 1)) k 0
     up k = elim (cases_eq k c) [
-      | inl same ↦ subst (λ (z : ℕ). get_or s.places z 0 ≤ get_or (slice_set s.places c (place_of s c + 1))
-          z 0) (sym same) (omega (arith, get_or-set_same s.places c (place_of s c + 1) 0 n.core))
+      | inl same ↦ rw same (omega (arith, get_or-set_same s.places c (place_of s c + 1) 0 n.core))
       | inr other ↦ omega (arith, get_or-set_other s.places c k (place_of s c + 1) 0 other)
     ]
 
@@ -219,8 +207,7 @@ module _ (p : List (List Op)) (s : State) (d : IsData p s) where
         → ((e : ℕ) → e ≢ b → get_or t.reads e (0, None) ≡ get_or s.reads e (0, None))
         → s.initial ≡ t.initial → (a : ℕ) (o : Option ℕ) (v : ℕ) → IsGiven p s a o v → IsGiven p t a o v
     go_on t places reads init =
-        given_kept p s t b new reads (λ k. subst (λ (l : List ℕ). place_of s k ≤ get_or l k 0) (sym places)
-        (up k)) init
+        given_kept p s t b (next_old n) reads (λ k. rw places (up k)) init
 
     -- what was executed by then, other than b, was executed before
     earlier : (t : State) → t.places ≡ slice_set s.places c (place_of s c + 1) → (e : ℕ) → e ≢ b
@@ -247,32 +234,25 @@ module _ (p : List (List Op)) (s : State) (d : IsData p s) where
       )
     ]
 
-    -- an event that reads is not b where b reads nothing
-    unread : op_reads op ≡ None → (e k : ℕ) → op_reads (placed_op p e).1 ≡ Some k → e ≢ b
-    unread none e k r is =
-        let clash : None ≡ Some k =
-        sym none ∙ (sym (ap (λ (z : ℕ × Op). op_reads z.1) (next_placed p s c b op n))
-        ∙ (ap (λ (z : ℕ). op_reads (placed_op p z).1) (sym is) ∙ r)) in cc
-
-    -- what events read where b has read a pair that was given
-    read_given : (t : State) (a : ℕ) (what : ℕ × Option ℕ) → op_reads op ≡ Some a → IsPairGiven p s a what
+    -- what events read where b, if it reads, has read a pair that was given
+    read_given : (t : State) (what : ℕ × Option ℕ)
+        → ((k : ℕ) → op_reads op ≡ Some k → IsPairGiven p s k what)
         → t.places ≡ slice_set s.places c (place_of s c + 1) → t.reads ≡ slice_set s.reads b what
         → s.initial ≡ t.initial → (e k : ℕ) → e < (snapshot_of p t).next ((static_of p t).core e)
         → op_reads (placed_op p e).1 ≡ Some k → IsPairGiven p t k (get_or t.reads e (0, None))
-    read_given t a what reads_a was places reads init e k done r =
+    read_given t what was places reads init e k done r =
         let keep : (k : ℕ) (o : Option ℕ) (v : ℕ) → IsGiven p s k o v → IsGiven p t k o v =
         go_on t places (λ f other. ap (λ (l : List (ℕ × Option ℕ)). get_or l f (0, None)) reads
         ∙ get_or-set_other s.reads b f what (0, None) other) init in
         elim (cases_eq e b) [
           | inl is_b ↦
-              let one : a ≡ k = let h : Some a ≡ Some k =
-              sym reads_a ∙ (sym (ap (λ (z : ℕ × Op). op_reads z.1) (next_placed p s c b op n))
-              ∙ (ap (λ (z : ℕ). op_reads (placed_op p z).1) (sym is_b) ∙ r)) in cc in
+              let own : op_reads op ≡ Some k = sym (ap (λ (z : ℕ × Op). op_reads z.1) (next_placed n))
+              ∙ (ap (λ (z : ℕ). op_reads (placed_op p z).1) (sym is_b) ∙ r) in
               subst (λ (z : ℕ). IsPairGiven p t k (get_or t.reads z (0, None))) (sym is_b)
               (subst (λ (l : List (ℕ × Option ℕ)). IsPairGiven p t k (get_or l b (0, None))) (sym reads)
               (subst (λ (z : ℕ × Option ℕ). IsPairGiven p t k z)
-              (sym (get_or-set_same s.reads b what (0, None) (next_within p s d.steady c b op n)))
-              (subst (λ (z : ℕ). IsPairGiven p t z what) one (keep a what.1 what.0 was))))
+              (sym (get_or-set_same s.reads b what (0, None) (next_within d.steady n)))
+              (keep k what.1 what.0 (was k own))))
           | inr other ↦
               subst (λ (l : List (ℕ × Option ℕ)). IsPairGiven p t k (get_or l e (0, None))) (sym reads)
               (subst (λ (z : ℕ × Option ℕ). IsPairGiven p t k z)
@@ -283,39 +263,29 @@ module _ (p : List (List Op)) (s : State) (d : IsData p s) where
   -- a store keeps the data
   store_data : (c b a v : ℕ) → IsNext p s c b (St a v) → c < length p → IsData p (stored_state s c b a v)
   store_data c b a v n at =
-      let keep : (k : ℕ) (o : Option ℕ) (w : ℕ) → IsGiven p s k o w
-      → IsGiven p (stored_state s c b a v) k o w =
-      go_on c b (St a v) n (stored_state s c b a v) refl (λ e other. refl) refl in
+      let t : State = stored_state s c b a v in
+      let keep : (k : ℕ) (o : Option ℕ) (w : ℕ) → IsGiven p s k o w → IsGiven p t k o w =
+      go_on n t refl (λ e other. refl) refl in
       record {
-        steady = store_steady p s d.steady c b a v n at;
+        steady = store_steady d.steady n at;
         copies = λ k copy h. keep k _ _ (d.copies k copy h);
-        reads = λ e k done r. keep k _ _ (d.reads e k
-            (earlier c b (St a v) n (stored_state s c b a v) refl e (unread c b (St a v) n refl e k r) done)
-            r);
+        reads = λ e k done r. keep k _ _ (d.reads e k (earlier n t refl e (λ is. let clash : None ≡ Some k =
+            sym (ap (λ (z : ℕ × Op). op_reads z.1) (ap (placed_op p) is ∙ next_placed n)) ∙ r in cc) done) r);
       }
 
-  -- a fence keeps the data
-  fence_data : (c b : ℕ) → IsNext p s c b Fence → IsData p (fenced_state s c b)
-  fence_data c b n =
-      let keep : (k : ℕ) (o : Option ℕ) (w : ℕ) → IsGiven p s k o w → IsGiven p (fenced_state s c b) k o w =
-      go_on c b Fence n (fenced_state s c b) refl (λ e other. refl) refl in
-      record {
-        steady = fence_steady p s d.steady c b n;
-        copies = λ k copy h. keep k _ _ (d.copies k copy h);
-        reads = λ e k done r. keep k _ _ (d.reads e k
-            (earlier c b Fence n (fenced_state s c b) refl e (unread c b Fence n refl e k r) done) r);
-      }
-
-  -- a load keeps the data
-  load_data : (f : Fault) (c b a : ℕ) (what : ℕ × Option ℕ) → IsNext p s c b (Ld a)
-      → looked_up f s c a ≡ Ok what → IsData p (loaded_state s c b what)
-  load_data f c b a what n got =
+  -- an event that writes nothing keeps the data
+  look_data : (f : Fault) (c b : ℕ) (op : Op) (what : ℕ × Option ℕ) → IsNext p s c b op → IsLook f s c op what
+      → IsData p (loaded_state s c b what)
+  look_data f c b op what n is =
       let t : State = loaded_state s c b what in
       record {
-        steady = load_steady p s d.steady c b a what n;
-        copies = λ k copy h. go_on c b (Ld a) n t refl
+        steady = look_steady d.steady n is;
+        copies = λ k copy h. go_on n t refl
             (λ e other. get_or-set_other s.reads b e what (0, None) other) refl k _ _ (d.copies k copy h);
-        reads = read_given c b (Ld a) n t a what refl (loaded_given f c a what got) refl refl refl;
+        reads = read_given n t what (λ k reads. elim (is.got k reads) [
+          | inl got ↦ loaded_given f c k what got
+          | inr got ↦ d.copies k what (read_has s.caches c k what got.1)
+        ]) refl refl refl;
       }
 
   -- a read-modify-write keeps the data
@@ -327,33 +297,19 @@ module _ (p : List (List Op)) (s : State) (d : IsData p s) where
       let what : ℕ × Option ℕ = line_copy s c a in
       let value : ℕ = rmw_value s c op a in
       let read : get_or t.reads b (0, None) ≡ what =
-      get_or-set_same s.reads b what (0, None) (next_within p s d.steady c b op n) in
+      get_or-set_same s.reads b what (0, None) (next_within d.steady n) in
       let gave : IsGiven p t a (Some b) value =
-      written_given p t b c a value op (next_placed p s c b op n)
+      written_given p t b c a value op (next_placed n)
       (omega (arith, n.event, get_or-set_same s.places c (place_of s c + 1) 0 n.core))
       (ap (λ (z : ℕ × Option ℕ). written_address (event_of op z)) read ∙ is.address)
       (ap (λ (z : ℕ × Option ℕ). value_written (event_of op z)) read) in
       record {
-        steady = rmw_steady p s d.steady caches c b a op n is wrote;
-        copies = copies_given t caches c a b value wrote gave
-            (λ k copy h. go_on c b op n t refl (λ e other. get_or-set_other s.reads b e what (0, None) other)
-            refl k _ _ (d.copies k copy h));
-        reads = read_given c b op n t a what is.reads
-            (d.copies a what (read_has s.caches c a what (written_read s.caches caches c a value b wrote)))
-            refl refl refl;
-      }
-
-  -- a comparison keeps the data
-  compare_data : (c b a : ℕ) (op : Op) → IsNext p s c b op → IsCompare op (line_copy s c a) a
-      → moesi.read s.caches c a ≡ Ok (line_copy s c a) → IsData p (loaded_state s c b (line_copy s c a))
-  compare_data c b a op n is got =
-      let what : ℕ × Option ℕ = line_copy s c a in
-      let t : State = loaded_state s c b what in
-      record {
-        steady = compare_steady p s d.steady c b a op n is;
-        copies = λ k copy h. go_on c b op n t refl
-            (λ e other. get_or-set_other s.reads b e what (0, None) other) refl k _ _ (d.copies k copy h);
-        reads = read_given c b op n t a what is.reads (d.copies a what (read_has s.caches c a what got))
+        steady = rmw_steady d.steady n is wrote;
+        copies = copies_given t caches c a b value wrote gave (λ k copy h. go_on n t refl
+            (λ e other. get_or-set_other s.reads b e what (0, None) other) refl k _ _ (d.copies k copy h));
+        reads = read_given n t what (λ k reads. subst (λ (z : ℕ). IsPairGiven p s z what)
+            (same_Some a k (sym is.reads ∙ reads))
+            (d.copies a what (read_has s.caches c a what (written_read s.caches caches c a value b wrote))))
             refl refl refl;
       }
 
@@ -361,7 +317,7 @@ module _ (p : List (List Op)) (s : State) (d : IsData p s) where
   transact_data : (caches : moesi.CacheState) (c a : ℕ) → IsAnyTransaction s.caches c a caches
       → IsData p (with_caches s caches)
   transact_data caches c a made = record {
-    steady = transact_steady p s d.steady caches c a made;
+    steady = transact_steady d.steady caches c a made;
     copies = λ k copy h. given_same k copy
         (d.copies k copy (every_copy_was_there s.caches caches c a k copy made h));
     reads = λ e k done r. given_same k (get_or s.reads e (0, None)) (d.reads e k done r);
@@ -377,10 +333,8 @@ module _ (p : List (List Op)) (s : State) (d : IsData p s) where
   data_kept f = record {
     drain = λ caches c x front back at is first wrote. drain_data caches c x front back at is wrote;
     store = store_data;
-    load = load_data f;
-    fence = λ c b n empty. fence_data c b n;
+    look = look_data f;
     rmw = λ caches c b a op n at is empty wrote. rmw_data caches c b a op n is wrote;
-    compare = λ c b a op n is empty got. compare_data c b a op n is got;
     transact = λ caches c a at within made sound. transact_data caches c a made;
   }
 
@@ -389,8 +343,7 @@ opening_data : (p : List (List Op)) (init : List ℕ) → All (λ ops. All (IsWi
     → IsData p (opening p init)
 opening_data p init fits = record {
   steady = opening_steady p init fits;
-  copies = λ a copy h. subst (λ (z : ℕ × Option ℕ). IsPairGiven p (opening p init) a z)
-      (sym (opening_has (length p) init a copy h)) refl;
+  copies = λ a copy h. rw (opening_has (length p) init a copy h) refl;
   reads = λ e a done r. elim (cases_lt e (static_of p (opening p init)).count) [
     | inl event ↦ absurd (nothing_executed p init fits e event done)
     | inr past ↦ absurd (let clash : None ≡ Some a =
@@ -402,23 +355,10 @@ opening_data p init fits = record {
 pub run_data : (p : List (List Op)) (init : List ℕ) (capacity : ℕ) (f : Fault) (steps : List Step)
     → All (λ ops. All (IsWithin (length init)) ops) p → IsData p (run p capacity f (opening p init) steps)
 run_data p init capacity f steps fits =
-    run_kept p capacity f (IsData p) (λ s d. (data_kept p s d f, d.steady.places)) steps (opening p init)
+    run_kept p capacity f (IsData p) (λ s d. (data_kept d f, d.steady.places)) steps (opening p init)
     (opening_data p init fits)
 
 -- Well-formedness
-
--- an event read what it was given
-value_same : (op : Op) (d : ℕ × Option ℕ) (a : ℕ) → op_reads op ≡ Some a
-    → (source (event_of op d) ≡ d.1) × (value_read (event_of op d) ≡ d.0)
-value_same (St b v) d a h = absurd cc
-value_same (Ld b) d a h = (refl, refl)
-value_same Fence d a h = absurd cc
-value_same (Swap b v) d a h = (refl, refl)
-value_same (Add b v) d a h = (refl, refl)
-value_same (Cas b e v) d a h = (
-  both source d.1 b d v (d.0 == e) refl refl,
-  both value_read d.0 b d v (d.0 == e) refl refl,
-)
 
 -- what is given is what the recording asks of a source
 gives : (p : List (List Op)) (s : State) (a : ℕ) (o : Option ℕ) (v : ℕ) → IsGiven p s a o v
@@ -428,13 +368,6 @@ gives p s a (Some w) v h =
     (ap written_address (event_is p s w) ∙ h.1, ap value_written (event_is p s w) ∙ h.2)
 
 module _ (p : List (List Op)) (s : State) (d : IsData p s) (end : IsComplete p s) where
-  -- what stands in a write list writes its address
-  passes : (a e : ℕ) → 0 < times (filter (writes_to p s a) s.performed) e → writes_to p s a e ≡ true
-  passes a e there = elim (bool_cases (writes_to p s a e)) [
-    | inl is ↦ is
-    | inr fails ↦ absurd (omega (arith, there, times_filter_no (writes_to p s a) s.performed e fails))
-  ]
-
   -- the write list of an address of the program
   list_at : (a : ℕ) → a < length s.caches.blocks
       → write_list (recorded p s) a ≡ filter (writes_to p s a) s.performed
@@ -462,7 +395,7 @@ module _ (p : List (List Op)) (s : State) (d : IsData p s) (end : IsComplete p s
   nothing_else a e there = elim (cases_lt a (length s.caches.blocks)) [
     | inl inside ↦ writes_is p s e
         ∙ is_address_true ((static_of p s).writes e) a
-        (passes a e (subst (λ (l : List ℕ). 0 < times l e) (list_at a inside) there))
+        (times_passes (writes_to p s a) s.performed e (subst (λ (l : List ℕ). 0 < times l e) (list_at a inside) there))
     | inr past ↦ absurd (omega (
       arith,
       subst (λ (l : List ℕ). 0 < times l e) (list_past a past) there,
@@ -476,10 +409,8 @@ module _ (p : List (List Op)) (s : State) (d : IsData p s) (end : IsComplete p s
     sources = λ e a reads.
         let op : op_reads (placed_op p e).1 ≡ Some a = sym (reads_is p s e) ∙ reads in
         let same = value_same (placed_op p e).1 (get_or s.reads e (0, None)) a op in
-        subst (λ (o : Option ℕ). Gives (recorded p s) a o (value_read (event_at (recorded p s) e)))
-        (sym (ap source (event_is p s e) ∙ same.0))
-        (subst (λ (v : ℕ). Gives (recorded p s) a (get_or s.reads e (0, None)).1 v)
-        (sym (ap value_read (event_is p s e) ∙ same.1))
+        rw (ap source (event_is p s e) ∙ same.0)
+        (rw (ap value_read (event_is p s e) ∙ same.1)
         (gives p s a (get_or s.reads e (0, None)).1 (get_or s.reads e (0, None)).0 (d.reads e a
         ((all_done p s end).done e (omega (arith, Reads-event (recorded p s) e a reads, count_is p s))) op)));
     write_lists =

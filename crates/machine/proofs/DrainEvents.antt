@@ -27,49 +27,37 @@ stores_out p c (y ∷ front) x back h =
     let rest = stores_out p c front x back h.1 in
     (rest.0, (h.0, rest.1))
 
--- the drain of a waiting entry is one of event numbers
-pub drains : (p : List (List Op)) (s : State) (caches : moesi.CacheState) (c : ℕ) (x : Entry)
-    (front back : List Entry) → c < length s.buffers → buffer_of s c ≡ front ++ x ∷ back
-    → AreStores p c (front ++ x ∷ back)
-    → Drains (static_of p s) (snapshot_of p s) (snapshot_of p (drained_state s caches c x (front ++ back))) c
-    x.event (map (λ (y : Entry). y.event) front)
-drains p s caches c x front back at is stores = record {
-  back = map (λ (y : Entry). y.event) back;
-  performed = refl;
-  was = ap (map (λ (y : Entry). y.event)) is ∙ map-append (λ (y : Entry). y.event) front (x ∷ back);
-  is = ap (map (λ (y : Entry). y.event)) (get_or-set_same s.buffers c (front ++ back) [] at)
-      ∙ map-append (λ (y : Entry). y.event) front back;
-  others = λ d other. ap (map (λ (y : Entry). y.event))
-      (get_or-set_other s.buffers c d (front ++ back) [] other);
-  next = λ d. refl;
-  source = λ e. refl;
-  reads = ap (λ (z : ℕ × Op). op_reads z.1) (stores_out p c front x back stores).0;
-}
+module _ (p : List (List Op)) (s : State) (caches : moesi.CacheState) (c : ℕ) (x : Entry)
+    (at : c < length s.buffers) where
+  -- the drain of a waiting entry is one of event numbers
+  pub drains : (front back : List Entry) → buffer_of s c ≡ front ++ x ∷ back → AreStores p c (front ++ x ∷ back)
+      → Drains (static_of p s) (snapshot_of p s) (snapshot_of p (drained_state s caches c x (front ++ back))) c
+      x.event (map (λ (y : Entry). y.event) front)
+  drains front back is stores = record {
+    back = map (λ (y : Entry). y.event) back;
+    performed = refl;
+    was = ap (map (λ (y : Entry). y.event)) is ∙ map-append (λ (y : Entry). y.event) front (x ∷ back);
+    is = ap (map (λ (y : Entry). y.event)) (get_or-set_same s.buffers c (front ++ back) [] at)
+        ∙ map-append (λ (y : Entry). y.event) front back;
+    others = λ d other. ap (map (λ (y : Entry). y.event))
+        (get_or-set_other s.buffers c d (front ++ back) [] other);
+    next = λ d. refl;
+    source = λ e. refl;
+    reads = ap (λ (z : ℕ × Op). op_reads z.1) (stores_out p c front x back stores).0;
+  }
 
--- a drain keeps the count
-pub drain_counted : (p : List (List Op)) (s : State) (caches : moesi.CacheState) (c : ℕ) (x : Entry)
-    (front back : List Entry) → c < length s.buffers → buffer_of s c ≡ front ++ x ∷ back
-    → AreStores p c (front ++ x ∷ back)
-    → IsCounted (static_of p s) (snapshot_of p s)
-    → IsCounted (static_of p (drained_state s caches c x (front ++ back)))
-    (snapshot_of p (drained_state s caches c x (front ++ back)))
-drain_counted p s caches c x front back at is stores counted =
-    counted_kept (static_of p s) (snapshot_of p s)
-    (snapshot_of p (drained_state s caches c x (front ++ back))) x.event counted
-    (drain_counts (static_of p s) (snapshot_of p s)
-    (snapshot_of p (drained_state s caches c x (front ++ back))) c x.event
-    (map (λ (y : Entry). y.event) front) counted (drains p s caches c x front back at is stores))
+  -- a drain keeps the count
+  pub drain_counted : (front back : List Entry) → buffer_of s c ≡ front ++ x ∷ back
+      → AreStores p c (front ++ x ∷ back) → IsCounted (static_of p s) (snapshot_of p s)
+      → IsCounted (static_of p (drained_state s caches c x (front ++ back)))
+      (snapshot_of p (drained_state s caches c x (front ++ back)))
+  drain_counted front back is stores counted =
+      counted_kept counted (drain_counts counted (drains front back is stores))
 
--- a drain of the oldest store keeps the order
-pub drain_ordered : (p : List (List Op)) (s : State) (caches : moesi.CacheState) (c : ℕ) (x : Entry)
-    (xs : List Entry) → c < length s.buffers → buffer_of s c ≡ x ∷ xs → AreStores p c (x ∷ xs)
-    → IsCounted (static_of p s) (snapshot_of p s) → IsOrdered (static_of p s) (snapshot_of p s)
-    → IsOrdered (static_of p (drained_state s caches c x xs))
-    (snapshot_of p (drained_state s caches c x xs))
-drain_ordered p s caches c x xs at is stores counted ordered =
-    ordered_kept (static_of p s) (snapshot_of p s) (snapshot_of p (drained_state s caches c x xs)) x.event
-    counted ordered
-    (drain_counts (static_of p s) (snapshot_of p s) (snapshot_of p (drained_state s caches c x xs)) c x.event
-    [] counted (drains p s caches c x [] xs at is stores))
-    (drain_orders (static_of p s) (snapshot_of p s) (snapshot_of p (drained_state s caches c x xs)) c x.event
-    counted ordered (drains p s caches c x [] xs at is stores))
+  -- a drain of the oldest store keeps the order
+  pub drain_ordered : (xs : List Entry) → buffer_of s c ≡ x ∷ xs → AreStores p c (x ∷ xs)
+      → IsCounted (static_of p s) (snapshot_of p s) → IsOrdered (static_of p s) (snapshot_of p s)
+      → IsOrdered (static_of p (drained_state s caches c x xs)) (snapshot_of p (drained_state s caches c x xs))
+  drain_ordered xs is stores counted ordered =
+      let d = drains [] xs is stores in
+      ordered_kept counted ordered (drain_counts counted d) (drain_orders counted ordered d)

@@ -1,5 +1,5 @@
 -- What a drain does to the parts of a machine.
-use Rattle.std.proofs.Common.{◌≡◌, ◌<◌, ◌≤◌, ◌+◌, ℕ, Option, Some, Ok, Err, List, [], ◌∷◌, ◌++◌, length}
+use Rattle.std.proofs.Common.{◌≡◌, ◌<◌, ◌≤◌, ◌+◌, ℕ, Option, Some, Ok, List, [], ◌∷◌, ◌++◌, length}
 use Rattle.std.proofs.Common.{slice_get, slice_index_or, slice_set, arith, refl, sym, ap, subst, ◌∙◌}
 use Rattle.std.proofs.Common.{length-set, length-append}
 use Rattle.std.specs.List.{All, sum_by}
@@ -9,8 +9,6 @@ use Rattle.std.proofs.lemmas.List.{map-set, length-map, get_or_default}
 use Rattle.std.proofs.lemmas.Option.{slice_get_within, get_or_from_slice_get}
 use Rattle.std.proofs.lemmas.Bool.{lt-ltb}
 use Rattle.moesi.specs.State as moesi
-use Rattle.moesi.specs.declared.error.CacheError.{CacheError}
-use Rattle.machine.specs.declared.blocked.Blocked.TheVariants.{B5}
 use Rattle.program.specs.Parts.{Parts, op_count}
 use Rattle.write_buffer.specs.declared.entry.Entry.{Entry}
 use Rattle.write_buffer.specs.Buffer.{Buffer}
@@ -22,189 +20,134 @@ use Rattle.machine.specs.Step.{step_result}
 use Rattle.machine.specs.BoundedItems.{BoundedItems}
 use Rattle.machine.specs.Configuration.{IsSound, IsEntry, state_from, places_of}
 use Rattle.machine.proofs.Removed.{length_without, all_without}
-use Rattle.machine.proofs.ExecuteParts.{places_within, buffer_seen, list_seen}
+use Rattle.machine.specs.PlaceLaws.{places_within}
+use Rattle.machine.proofs.Parts.{list_seen, list_short, list_room, buffer_there, buffer_seen}
+use Rattle.machine.proofs.Parts.{capacity_is, waiting_within}
 
-module _ (p : Parts) (capacity : ℕ) (units : List Progress) (buffers : List Buffer)
-    (caches : moesi.CacheState)
-    (writes : List (BoundedItems ℕ)) (reads : List (ℕ × Option ℕ)) (done : BoundedItems ℕ)
-    (sound : IsSound p capacity units buffers caches writes reads done)
-    (core : ℕ) (at : core < length p.cores) (old : Buffer) (is : old ≡ slice_index_or buffers core old)
-    (fault : Fault) (entry : Entry) (here : Some entry ≡ slice_get old.entries
-    (draining fault old.entries)) where
-  -- the core has a buffer
-  buffer_there : core < length buffers
-  buffer_there = omega (arith, at, sound.buffers_length)
-
-  -- all waiting stores have addresses of the program
-  waiting_within : All (IsEntry (length p.names)) old.entries
-  waiting_within = subst (λ (b : Buffer). All (IsEntry (length p.names)) b.entries) (sym is)
-      (sound.entries core old buffer_there)
-
-  -- so has the one that drains
+module _ {p : Parts} {capacity : ℕ} {units : List Progress} {buffers : List Buffer} {caches : moesi.CacheState}
+    {writes : List (BoundedItems ℕ)} {reads : List (ℕ × Option ℕ)} {done : BoundedItems ℕ}
+    (sound : IsSound p capacity units buffers caches writes reads done) {core : ℕ} (at : core < length p.cores)
+    {old : Buffer} (is : old ≡ slice_index_or buffers core old) (fault : Fault) {entry : Entry}
+    (here : Some entry ≡ slice_get old.entries (draining fault old.entries)) where
+  -- the store that drains has an address of the program
   pub entry_within : IsEntry (length p.names) entry
   entry_within = subst (IsEntry (length p.names))
       (get_or_from_slice_get old.entries (draining fault old.entries) entry entry (sym here))
-      (waiting_within (draining fault old.entries) entry
+      (waiting_within sound at is (draining fault old.entries) entry
       (slice_get_within old.entries (draining fault old.entries) entry (sym here)))
 
-  -- the entry stands in the buffer, borrowed again
-  pub entry_again : (now : Buffer) → now ≡ slice_index_or buffers core now
-      → Some entry ≡ slice_get now.entries (draining fault now.entries)
-  entry_again now now_is = subst (λ (b : Buffer). Some entry ≡ slice_get b.entries (draining fault b.entries))
-      (is ∙ (get_or_default buffers core old now buffer_there ∙ sym now_is)) here
+  -- the buffer, borrowed again, loses it
+  module _ {now new : Buffer} (now_is : now ≡ slice_index_or buffers core now)
+      (popped : new.entries ≡ without (draining fault now.entries) now.entries)
+      (same : new.capacity ≡ now.capacity) where
+    -- it is the same buffer
+    again : old ≡ now
+    again = is ∙ (get_or_default buffers core old now (buffer_there sound at) ∙ sym now_is)
 
-  -- a drain that the caches refuse is blocked
-  pub drain_blocked : (e : CacheError) → moesi.write caches core entry.addr entry.value entry.event ≡ Err e
-      → step_result p.cores capacity fault (state_from p.init units buffers caches writes reads done.items)
-      (Drain core) ≡ Err B5
-  drain_blocked e refused = rw (
-    lt-ltb core (length p.cores) at,
-    buffer_seen buffers core old buffer_there is,
-    ← here,
-    refused,
-  ) refl
+    -- so the entry stands in it
+    here_again : slice_get now.entries (draining fault now.entries) ≡ Some entry
+    here_again = subst (λ (b : Buffer). slice_get b.entries (draining fault b.entries) ≡ Some entry) again (sym here)
 
-module _ (p : Parts) (capacity : ℕ) (units : List Progress) (buffers : List Buffer)
-    (caches : moesi.CacheState)
-    (writes : List (BoundedItems ℕ)) (reads : List (ℕ × Option ℕ)) (done : BoundedItems ℕ)
-    (sound : IsSound p capacity units buffers caches writes reads done)
-    (core : ℕ) (at : core < length p.cores) (old new : Buffer) (is : old ≡ slice_index_or buffers core old)
-    (fault : Fault) (entry : Entry) (here : Some entry ≡ slice_get old.entries (draining fault old.entries))
-    (popped : new.entries ≡ without (draining fault old.entries) old.entries)
-    (same : new.capacity ≡ old.capacity) where
-  -- the core has a buffer
-  there : core < length buffers
-  there = omega (arith, at, sound.buffers_length)
-
-  -- all waiting stores are as they should be
-  all_within : All (IsEntry (length p.names)) old.entries
-  all_within = subst (λ (b : Buffer). All (IsEntry (length p.names)) b.entries) (sym is)
-      (sound.entries core old there)
-
-  -- so is the one that drains
-  one_within : IsEntry (length p.names) entry
-  one_within = subst (IsEntry (length p.names))
-      (get_or_from_slice_get old.entries (draining fault old.entries) entry entry (sym here))
-      (all_within (draining fault old.entries) entry
-      (slice_get_within old.entries (draining fault old.entries) entry (sym here)))
-
-  -- and so are those that stay
-  rest_within : All (IsEntry (length p.names)) new.entries
-  rest_within = subst (λ (l : List Entry). All (IsEntry (length p.names)) l) (sym popped)
-      (all_without (IsEntry (length p.names)) old.entries (draining fault old.entries) all_within)
-
-  -- one store less waits
-  counted : sum_by (λ b. length b.entries) (slice_set buffers core new) + 1 ≡ sum_by
-      (λ b. length b.entries) buffers
-  counted = omega (
-    arith,
-    sum_by-set (λ b. length b.entries) buffers core new old there,
-    ap (λ (b : Buffer). length b.entries) (sym is),
-    ap (λ (l : List Entry). length l) popped,
-    length_without old.entries (draining fault old.entries) entry (sym here),
-  )
-
-  -- one more can be performed
-  room_left : length done.items < op_count p.cores
-  room_left = omega (
-    arith,
-    counted,
-    sound.counted,
-    places_within (places_of units) p.cores
-        (length-map units (λ (u : Progress). u.place) ∙ sound.units_length) sound.place,
-  )
-
-  -- the performed list has room for it
-  pub has_room : length done.items < done.room
-  has_room = omega (arith, room_left, sound.performed_room)
-
-  module _ (list : BoundedItems ℕ) (list_is : list ≡ slice_index_or writes entry.addr list) where
-    -- its address has a write list
-    in_writes : entry.addr < length writes
-    in_writes = omega (arith, one_within.0, sound.writes_length)
-
-    -- with room for every event
-    list_room : list.room ≡ op_count p.cores
-    list_room = ap (λ (l : BoundedItems ℕ). l.room) list_is ∙ sound.write_rooms entry.addr list in_writes
-
-    -- and no longer than the performed list
-    list_short : length list.items ≤ length done.items
-    list_short = omega (
+    -- one store less waits
+    counted : sum_by (λ b. length b.entries) (slice_set buffers core new) + 1 ≡ sum_by
+        (λ b. length b.entries) buffers
+    counted = omega (
       arith,
-      ap (λ (l : BoundedItems ℕ). length l.items) list_is,
-      sound.write_lengths entry.addr list in_writes,
+      sum_by-set (λ b. length b.entries) buffers core new now (buffer_there sound at),
+      ap (λ (b : Buffer). length b.entries) (sym now_is),
+      ap (λ (l : List Entry). length l) popped,
+      length_without now.entries (draining fault now.entries) entry here_again,
     )
 
-    -- so it has room for one more
-    pub list_has_room : length list.items < list.room
-    list_has_room = omega (arith, list_room, list_short, room_left)
+    -- one more can be performed
+    room_left : length done.items < op_count p.cores
+    room_left = omega (
+      arith,
+      counted,
+      sound.counted,
+      places_within (places_of units) p.cores
+          (length-map units (λ (u : Progress). u.place) ∙ sound.units_length) sound.place,
+    )
 
-    module _ (list' : BoundedItems ℕ) (pushed : list'
-        ≡ record { items = list.items ++ entry.event ∷ []; room = list.room })
-        (done' : BoundedItems ℕ) (done_is : done' ≡ record {
-          items = done.items ++ entry.event ∷ [];
-          room =
-              done.room;
-        }) where
-      -- the performed list grows by one
-      longer : length done'.items ≡ length done.items + 1
-      longer = ap (λ (r : BoundedItems ℕ). length r.items) done_is ∙ length-append done.items
-          (entry.event ∷ [])
+    -- the performed list has room for it
+    pub has_room : length done.items < done.room
+    has_room = omega (arith, room_left, sound.performed_room)
 
-      -- the parts still fit together
-      pub drained_sound : (caches' : moesi.CacheState) → caches'.cores ≡ caches.cores
-          → length caches'.blocks ≡ length caches.blocks
-          → IsSound p capacity units (slice_set buffers core new) caches' (slice_set writes entry.addr list')
-          reads done'
-      drained_sound caches' same_cores same_blocks = record {
-        operations = sound.operations;
-        few = sound.few;
-        initials = sound.initials;
-        units_length = sound.units_length;
-        buffers_length = length-set buffers core new ∙ sound.buffers_length;
-        cache_cores = same_cores ∙ sound.cache_cores;
-        cache_blocks = same_blocks ∙ sound.cache_blocks;
-        writes_length = length-set writes entry.addr list' ∙ sound.writes_length;
-        events = sound.events;
-        first = sound.first;
-        place = sound.place;
-        capacities = All-set (λ b. b.capacity ≡ capacity) buffers core new
-            (same ∙ (ap (λ (b : Buffer). b.capacity) is ∙ sound.capacities core old there)) sound.capacities;
-        entries = All-set (λ b. All (IsEntry (length p.names)) b.entries) buffers core new rest_within
-            sound.entries;
-        write_rooms = All-set (λ l. l.room ≡ op_count p.cores) writes entry.addr list'
-            (ap (λ (r : BoundedItems ℕ). r.room) pushed ∙ list_room) sound.write_rooms;
-        write_lengths = All-set (λ l. length l.items ≤ length done'.items) writes entry.addr list'
-            (omega (
-              arith,
-              list_short,
-              longer,
-              ap (λ (r : BoundedItems ℕ). length r.items) pushed,
-              length-append list.items (entry.event ∷ []),
-            ))
-            (All-weaker (λ l. length l.items ≤ length done.items) (λ l. length l.items ≤ length done'.items)
-            (λ l h. omega (arith, h, longer)) writes sound.write_lengths);
-        performed_room = ap (λ (r : BoundedItems ℕ). r.room) done_is ∙ sound.performed_room;
-        counted = omega (arith, counted, longer, sound.counted);
-      }
+    module _ {list : BoundedItems ℕ} (list_is : list ≡ slice_index_or writes entry.addr list) where
+      -- and so has the write list of its address
+      pub list_has_room : length list.items < list.room
+      list_has_room = omega (
+        arith,
+        list_room sound entry_within.0 list_is,
+        list_short sound entry_within.0 list_is,
+        room_left,
+      )
 
-      -- the row of a drain
-      pub drain_taken : (caches' : moesi.CacheState)
-          → moesi.write caches core entry.addr entry.value entry.event ≡ Ok caches'
-          → step_result p.cores capacity fault (state_from p.init units buffers caches writes reads done.items)
-          (Drain core)
-          ≡ Ok (state_from p.init units (slice_set buffers core new) caches'
-          (slice_set writes entry.addr list') reads done'.items)
-      drain_taken caches' wrote = rw (
-        lt-ltb core (length p.cores) at,
-        map-set (λ (b : Buffer). b.entries) buffers core new,
-        map-set (λ (b : BoundedItems ℕ). b.items) writes entry.addr list',
-        buffer_seen buffers core old there is,
-        popped,
-        ← here,
-        wrote,
-        buffer_seen buffers core old there is,
-        list_seen writes entry.addr list in_writes list_is,
-        pushed,
-        done_is,
-      ) refl
+      module _ {list' : BoundedItems ℕ}
+          (pushed : list' ≡ record { items = list.items ++ entry.event ∷ []; room = list.room })
+          {done' : BoundedItems ℕ}
+          (done_is : done' ≡ record { items = done.items ++ entry.event ∷ []; room = done.room }) where
+        -- the performed list grows by one
+        longer : length done'.items ≡ length done.items + 1
+        longer = ap (λ (r : BoundedItems ℕ). length r.items) done_is ∙ length-append done.items
+            (entry.event ∷ [])
+
+        -- the parts still fit together
+        pub drained_sound : {caches' : moesi.CacheState} → caches'.cores ≡ caches.cores
+            → length caches'.blocks ≡ length caches.blocks
+            → IsSound p capacity units (slice_set buffers core new) caches' (slice_set writes entry.addr list')
+            reads done'
+        drained_sound same_cores same_blocks = record {
+          operations = sound.operations;
+          few = sound.few;
+          initials = sound.initials;
+          units_length = sound.units_length;
+          buffers_length = length-set buffers core new ∙ sound.buffers_length;
+          cache_cores = same_cores ∙ sound.cache_cores;
+          cache_blocks = same_blocks ∙ sound.cache_blocks;
+          writes_length = length-set writes entry.addr list' ∙ sound.writes_length;
+          events = sound.events;
+          first = sound.first;
+          place = sound.place;
+          capacities = All-set (λ b. b.capacity ≡ capacity) buffers core new
+              (same ∙ capacity_is sound at now_is) sound.capacities;
+          entries = All-set (λ b. All (IsEntry (length p.names)) b.entries) buffers core new
+              (rw popped (all_without (IsEntry (length p.names)) now.entries (draining fault now.entries)
+              (waiting_within sound at now_is))) sound.entries;
+          write_rooms = All-set (λ l. l.room ≡ op_count p.cores) writes entry.addr list'
+              (ap (λ (r : BoundedItems ℕ). r.room) pushed ∙ list_room sound entry_within.0 list_is)
+              sound.write_rooms;
+          write_lengths = All-set (λ l. length l.items ≤ length done'.items) writes entry.addr list'
+              (omega (
+                arith,
+                list_short sound entry_within.0 list_is,
+                longer,
+                ap (λ (r : BoundedItems ℕ). length r.items) pushed,
+                length-append list.items (entry.event ∷ []),
+              ))
+              (All-weaker (λ l. length l.items ≤ length done.items) (λ l. length l.items ≤ length done'.items)
+              (λ l h. omega (arith, h, longer)) writes sound.write_lengths);
+          performed_room = ap (λ (r : BoundedItems ℕ). r.room) done_is ∙ sound.performed_room;
+          counted = omega (arith, counted, longer, sound.counted);
+        }
+
+        -- the row of a drain
+        pub drain_taken : {caches' : moesi.CacheState}
+            → moesi.write caches core entry.addr entry.value entry.event ≡ Ok caches'
+            → step_result p.cores capacity fault
+            (state_from p.init units buffers caches writes reads done.items) (Drain core)
+            ≡ Ok (state_from p.init units (slice_set buffers core new) caches'
+            (slice_set writes entry.addr list') reads done'.items)
+        drain_taken wrote = rw (
+          lt-ltb core (length p.cores) at,
+          map-set (λ (b : Buffer). b.entries) buffers core new,
+          map-set (λ (b : BoundedItems ℕ). b.items) writes entry.addr list',
+          buffer_seen sound at now_is,
+          popped,
+          here_again,
+          wrote,
+          buffer_seen sound at now_is,
+          list_seen sound entry_within.0 list_is,
+          pushed,
+          done_is,
+        ) refl

@@ -1,11 +1,11 @@
 -- What the execution of an operation does to the parts of a machine.
-use Rattle.std.proofs.Common.{◌≡◌, ◌<◌, ◌≤◌, ◌+◌, inl, inr, ℕ, true, suc, Option, Ok, Err, List, [], ◌∷◌}
-use Rattle.std.proofs.Common.{◌++◌, length, map, slice_index, slice_index_or, slice_set, arith, refl, sym, ap}
-use Rattle.std.proofs.Common.{subst, ◌∙◌, length-set, length-append, get_or-set_same, get_or-set_other}
+use Rattle.std.proofs.Common.{◌≡◌, ◌<◌, ◌≤◌, ◌+◌, inl, inr, ℕ, true, Option, Ok, List, [], ◌∷◌, ◌++◌, length, map}
+use Rattle.std.proofs.Common.{slice_index, slice_index_or, slice_set, arith, refl, sym, ap, subst, ◌∙◌, length-set}
+use Rattle.std.proofs.Common.{length-append, get_or-set_same, get_or-set_other}
 use Rattle.std.specs.List.{All, sum, sum_by}
 use Rattle.std.proofs.lemmas.List.Elements.{All-set, All-weaker, All-push}
-use Rattle.std.proofs.lemmas.List.Sums.{sum_by-set, sum_by-cons}
-use Rattle.std.proofs.lemmas.List.{map-set, get_or_default, get_or-map, length-map}
+use Rattle.std.proofs.lemmas.List.Sums.{sum_by-set}
+use Rattle.std.proofs.lemmas.List.{map-set, length-map}
 use Rattle.std.proofs.lemmas.Option.{slice_get_within, get_or_from_slice_get}
 use Rattle.std.proofs.lemmas.Bool.{cases_eq, lt-ltb}
 use Rattle.common.specs.declared.limits.TheConstants.{MAX_EVENTS}
@@ -16,8 +16,6 @@ use Rattle.write_buffer.specs.declared.entry.Entry.{Entry}
 use Rattle.write_buffer.specs.Buffer.{Buffer}
 use Rattle.core_unit.specs.Progress.{Progress}
 use Rattle.recording.specs.Event.{value_written}
-use Rattle.moesi.specs.declared.error.CacheError.{CacheError}
-use Rattle.machine.specs.declared.blocked.Blocked.TheVariants.{B5}
 use Rattle.moesi.specs.State as moesi
 use Rattle.moesi.specs.Lines.{is_exclusive}
 use Rattle.machine.specs.declared.fault.Fault.{Fault}
@@ -27,62 +25,18 @@ use Rattle.machine.specs.Step.{exec, read_modify_written, read_unmodified, IsAt,
 use Rattle.machine.specs.BoundedItems.{BoundedItems}
 use Rattle.machine.specs.Configuration.{IsSound, IsEntry, state_from, places_of}
 use Rattle.recording.specs.PlacedLaws.{placed_at, placed_total}
-use Rattle.machine.proofs.Static.{first_within}
+use Rattle.machine.specs.PlaceLaws.{places_within}
+use Rattle.machine.proofs.Parts.{list_there, list_seen, list_short, list_room, unit_there}
+use Rattle.machine.proofs.Parts.{buffer_there, place_at, first_at, buffer_seen, capacity_is, waiting_within}
 
--- each core is within its operations, so all together are
-pub places_within : (places : List ℕ) (program : List (List Op)) → length places ≡ length program
-    → ((c : ℕ) → slice_index places c ≤ length (slice_index_or program c []))
-    → sum places ≤ sum_by (λ ops. length ops) program
-places_within [] [] l h = omega arith
-places_within [] (ops ∷ program) l h = omega arith
-places_within (x ∷ places) [] l h = absurd (omega (arith, l))
-places_within (x ∷ places) (ops ∷ program) l h =
-    omega (
-      arith,
-      sum_by-cons (λ (y : ℕ). y) x places,
-      sum_by-cons (λ (os : List Op). length os) ops program,
-      h 0,
-      places_within places program (omega (arith, l)) (λ c. h (suc c)),
-    )
+-- the places, where a core went on
+abbrev pub places_on : List Progress → ℕ → List ℕ
+places_on units core = slice_set (places_of units) core (slice_index (places_of units) core + 1)
 
--- a buffer and a write list as what they hold
-pub buffer_seen : (buffers : List Buffer) (core : ℕ) (old : Buffer) → core < length buffers
-    → old ≡ slice_index_or buffers core old
-    → slice_index_or (map (λ b. b.entries) buffers) core [] ≡ old.entries
-buffer_seen buffers core old at is =
-    get_or-map (λ (b : Buffer). b.entries) buffers core old [] at ∙ ap (λ (b : Buffer). b.entries) (sym is)
-
--- a write list as what it holds
-pub list_seen : (writes : List (BoundedItems ℕ)) (a : ℕ) (old : BoundedItems ℕ) → a < length writes
-    → old ≡ slice_index_or writes a old → slice_index_or (map (λ b. b.items) writes) a [] ≡ old.items
-list_seen writes a old at is =
-    get_or-map (λ (b : BoundedItems ℕ). b.items) writes a old [] at
-    ∙ ap (λ (b : BoundedItems ℕ). b.items) (sym is)
-
-module _ (p : Parts) (capacity : ℕ) (units : List Progress) (buffers : List Buffer)
-    (caches : moesi.CacheState)
-    (writes : List (BoundedItems ℕ)) (reads : List (ℕ × Option ℕ)) (done : BoundedItems ℕ)
-    (sound : IsSound p capacity units buffers caches writes reads done)
-    (core : ℕ) (op : Op) (event : ℕ) (at : IsAt p.cores
-    (state_from p.init units buffers caches writes reads done.items) core op event) where
-  -- the core has a unit
-  pub unit_there : core < length units
-  unit_there = omega (arith, at.core, sound.units_length)
-
-  -- the core has a buffer
-  pub buffer_there : core < length buffers
-  buffer_there = omega (arith, at.core, sound.buffers_length)
-
-  -- a read-modify-write that the caches refuse is blocked
-  pub rmw_blocked : (fault : Fault) (old : Buffer) → old ≡ slice_index_or buffers core old
-      → may_rmw fault old.entries ≡ true → (addr : ℕ) (what : ℕ × Option ℕ)
-      → moesi.copy_of caches core addr ≡ what
-      → (e : CacheError) → moesi.write caches core addr (value_written (event_of op what)) event ≡ Err e
-      → read_modify_written fault (state_from p.init units buffers caches writes reads done.items)
-      core event op addr ≡ Err B5
-  rmw_blocked fault old is may addr what what_is e refused =
-      rw (buffer_seen buffers core old buffer_there is, may, what_is, refused) refl
-
+module _ {p : Parts} {capacity : ℕ} {units : List Progress} {buffers : List Buffer} {caches : moesi.CacheState}
+    {writes : List (BoundedItems ℕ)} {reads : List (ℕ × Option ℕ)} {done : BoundedItems ℕ}
+    (sound : IsSound p capacity units buffers caches writes reads done) {core : ℕ} {op : Op} {event : ℕ}
+    (at : IsAt p.cores (state_from p.init units buffers caches writes reads done.items) core op event) where
   -- the core has an operation left
   below : slice_index (places_of units) core < length (slice_index_or p.cores core [])
   below = slice_get_within (slice_index_or p.cores core []) (slice_index (places_of units) core)
@@ -93,8 +47,7 @@ module _ (p : Parts) (capacity : ℕ) (units : List Progress) (buffers : List Bu
   number = omega (
     arith,
     at.number,
-    (placed_at 0 p.cores core (slice_index (places_of units) core)
-        Fence below).1,
+    (placed_at 0 p.cores core (slice_index (places_of units) core) Fence below).1,
     placed_total 0 p.cores,
     sound.events,
   )
@@ -110,118 +63,93 @@ module _ (p : Parts) (capacity : ℕ) (units : List Progress) (buffers : List Bu
       op Fence at.operation)
       (sound.operations core [] at.core (slice_index (places_of units) core) Fence below)
 
-  -- the core's unit, before and after it goes on
-  module _ (unit : Progress) (unit_is : unit ≡ slice_index_or units core unit) (ops : List Op)
-      (ops_is : ops ≡ slice_index_or p.cores core []) where
-    -- the unit's place is the state's
-    place_at : unit.place ≡ slice_index (places_of units) core
-    place_at = ap (λ (u : Progress). u.place) unit_is
-        ∙ sym (get_or-map (λ (u : Progress). u.place) units core unit 0 unit_there)
+  -- the core has a place
+  place_there : core < length (places_of units)
+  place_there = omega (arith, unit_there sound at.core, length-map units (λ (u : Progress). u.place))
 
-    -- the unit's first event is the core's
-    first_at : unit.first ≡ first_event p.cores core
-    first_at = ap (λ (u : Progress). u.first) unit_is ∙ sound.first core unit at.core
-
-    -- an operation is left to the unit
-    pub left : unit.place < length ops
-    left = omega (arith, place_at, below, ap (λ (os : List Op). length os) ops_is)
-
-    -- all events of the core are within the limit
-    pub few : unit.first + length ops ≤ MAX_EVENTS
-    few = omega (
+  -- each core is within its operations
+  place_up : (c : ℕ) → slice_index (places_on units core) c ≤ length (slice_index_or p.cores c [])
+  place_up c = elim (cases_eq c core) [
+    | inl same ↦ rw same (omega (
       arith,
-      first_at,
-      ap (λ (os : List Op). length os) ops_is,
-      first_within p.cores core at.core,
-      sound.few,
+      get_or-set_same (places_of units) core (slice_index (places_of units) core + 1) 0 place_there,
+      below,
+    ))
+    | inr other ↦ omega (
+      arith,
+      get_or-set_other (places_of units) core c (slice_index (places_of units) core + 1) 0 other,
+      sound.place c,
     )
+  ]
 
-    module _ (moved : Progress) (moved_is : moved ≡ record unit { place = unit.place + 1 }) where
+  -- one more operation was executed
+  sum_up : sum (places_on units core) ≡ sum (places_of units) + 1
+  sum_up = omega (
+    arith,
+    sum_by-set (λ (x : ℕ). x) (places_of units) core (slice_index (places_of units) core + 1) 0 place_there,
+  )
+
+  -- one more than what was performed and waits has room
+  room_left : length done.items + sum_by (λ b. length b.entries) buffers < op_count p.cores
+  room_left = omega (
+    arith,
+    sound.counted,
+    sum_up,
+    places_within (places_on units core) p.cores
+        (length-set (places_of units) core (slice_index (places_of units) core + 1)
+        ∙ (length-map units (λ (u : Progress). u.place) ∙ sound.units_length)) place_up,
+  )
+
+  -- the performed list has room for one more
+  pub has_room : length done.items < done.room
+  has_room = omega (arith, room_left, sound.performed_room)
+
+  -- and so has each write list
+  pub list_has_room : {addr : ℕ} → addr < length p.names → {list : BoundedItems ℕ}
+      → list ≡ slice_index_or writes addr list → length list.items < list.room
+  list_has_room addressed list_is =
+      omega (arith, list_room sound addressed list_is, list_short sound addressed list_is, room_left)
+
+  -- the core's unit, before and after it goes on
+  module _ {unit : Progress} (unit_is : unit ≡ slice_index_or units core unit) where
+    -- an operation is left to the unit
+    pub left : {ops : List Op} → ops ≡ slice_index_or p.cores core [] → unit.place < length ops
+    left ops_is = omega (arith, place_at sound at.core unit_is, below, ap (λ (os : List Op). length os) ops_is)
+
+    module _ {moved : Progress} (moved_is : moved ≡ record unit { place = unit.place + 1 }) where
       -- the state's places, where the unit went on
-      pub places_set : places_of (slice_set units core moved)
-          ≡ slice_set (places_of units) core (slice_index (places_of units) core + 1)
+      places_set : places_of (slice_set units core moved) ≡ places_on units core
       places_set = map-set (λ (u : Progress). u.place) units core moved
           ∙ ap (λ (n : ℕ). slice_set (places_of units) core n)
-          (ap (λ (u : Progress). u.place) moved_is ∙ ap (λ (n : ℕ). n + 1) place_at)
+          (ap (λ (u : Progress). u.place) moved_is ∙ ap (λ (n : ℕ). n + 1) (place_at sound at.core unit_is))
 
-      -- the core has a place
-      place_there : core < length (places_of units)
-      place_there = omega (arith, unit_there, length-map units (λ (u : Progress). u.place))
-
-      -- there are the same number of units
-      units_up : length (slice_set units core moved) ≡ length p.cores
-      units_up = length-set units core moved ∙ sound.units_length
-
-      -- their first events stay
+      -- the first events of the units stay
       first_up : (c : ℕ) (d : Progress) → c < length p.cores
           → (slice_index_or (slice_set units core moved) c d).first ≡ first_event p.cores c
       first_up c d inside = elim (cases_eq c core) [
-        | inl same ↦ subst (λ (k : ℕ). (slice_index_or (slice_set units core moved) k d).first
-            ≡ first_event p.cores k) (sym same)
-            (ap (λ (u : Progress). u.first) (get_or-set_same units core moved d unit_there ∙ moved_is)
-            ∙ first_at)
+        | inl same ↦ rw same (ap (λ (u : Progress). u.first)
+            (get_or-set_same units core moved d (unit_there sound at.core) ∙ moved_is)
+            ∙ first_at sound at.core unit_is)
         | inr other ↦ ap (λ (u : Progress). u.first) (get_or-set_other units core c moved d other)
             ∙ sound.first c d inside
       ]
 
-      -- each core is within its operations
-      place_up : (c : ℕ) → slice_index (places_of (slice_set units core moved)) c ≤ length
-          (slice_index_or p.cores c [])
-      place_up c =
-          subst (λ (l : List ℕ). slice_index l c ≤ length (slice_index_or p.cores c [])) (sym places_set)
-          (elim (cases_eq c core) [
-            | inl same ↦ subst (λ (d : ℕ). slice_index
-                (slice_set (places_of units) core (slice_index (places_of units) core + 1)) d ≤ length
-                (slice_index_or p.cores d [])) (sym same)
-                (omega (
-                  arith,
-                  get_or-set_same (places_of units) core (slice_index (places_of units) core + 1)
-                      0 place_there,
-                  below,
-                ))
-            | inr other ↦ omega (
-              arith,
-              get_or-set_other (places_of units) core c
-                  (slice_index (places_of units) core + 1) 0 other,
-              sound.place c,
-            )
-          ])
-
-      -- one more operation was executed
-      sum_up : sum (places_of (slice_set units core moved)) ≡ sum (places_of units) + 1
-      sum_up = ap (λ (l : List ℕ). sum l) places_set
-          ∙ omega (
-            arith,
-            sum_by-set (λ (x : ℕ). x) (places_of units) core
-                (slice_index (places_of units) core + 1) 0 place_there,
-          )
-
-      -- one more than what was performed and waits has room
-      room_left : length done.items + sum_by (λ b. length b.entries) buffers < op_count p.cores
-      room_left = omega (
-        arith,
-        sound.counted,
-        sum_up,
-        places_within (places_of (slice_set units core moved)) p.cores
-            (length-map (slice_set units core moved) (λ (u : Progress). u.place) ∙ units_up) place_up,
-      )
-
       -- an event is performed; the reads are others of the same number
-      pub performed_sound : (reads' : List (ℕ × Option ℕ)) → length reads' ≡ length reads
-          → (new : BoundedItems ℕ) → new ≡ record { items = done.items ++ event ∷ []; room = done.room }
+      pub performed_sound : {reads' : List (ℕ × Option ℕ)} → length reads' ≡ length reads → {new : BoundedItems ℕ}
+          → new ≡ record { items = done.items ++ event ∷ []; room = done.room }
           → IsSound p capacity (slice_set units core moved) buffers caches writes reads' new
-      performed_sound reads' same new is = record {
+      performed_sound same {new} is = record {
         operations = sound.operations;
         few = sound.few;
         initials = sound.initials;
-        units_length = units_up;
+        units_length = length-set units core moved ∙ sound.units_length;
         buffers_length = sound.buffers_length;
         cache_cores = sound.cache_cores;
         cache_blocks = sound.cache_blocks;
         writes_length = sound.writes_length;
         events = same ∙ sound.events;
         first = first_up;
-        place = place_up;
+        place = λ c. rw places_set (place_up c);
         capacities = sound.capacities;
         entries = sound.entries;
         write_rooms = sound.write_rooms;
@@ -229,173 +157,140 @@ module _ (p : Parts) (capacity : ℕ) (units : List Progress) (buffers : List Bu
             All-weaker (λ l. length l.items ≤ length done.items) (λ l. length l.items ≤ length new.items)
             (λ l h. omega (arith, h, longer)) writes sound.write_lengths;
         performed_room = ap (λ (r : BoundedItems ℕ). r.room) is ∙ sound.performed_room;
-        counted = omega (arith, longer, sum_up, sound.counted);
+        counted = omega (arith, longer, ap (λ (l : List ℕ). sum l) places_set, sum_up, sound.counted);
       }
         where
           longer : length new.items ≡ length done.items + 1
           longer = ap (λ (r : BoundedItems ℕ). length r.items) is ∙ length-append done.items (event ∷ [])
 
-      -- the row of a fence
-      pub fence_taken : (fault : Fault) (old : Buffer) → old ≡ slice_index_or buffers core old
-          → may_fence fault old.entries ≡ true
-          → exec capacity fault (state_from p.init units buffers caches writes reads done.items)
-          core event Fence
-          ≡ Ok (state_from p.init (slice_set units core moved) buffers caches writes reads
-          (done.items ++ event ∷ []))
-      fence_taken fault old is may = rw (buffer_seen buffers core old buffer_there is, may, places_set) refl
+      module _ (fault : Fault) {old : Buffer} (is : old ≡ slice_index_or buffers core old) where
+        -- the row of a fence
+        pub fence_taken : may_fence fault old.entries ≡ true
+            → exec capacity fault (state_from p.init units buffers caches writes reads done.items)
+            core event Fence
+            ≡ Ok (state_from p.init (slice_set units core moved) buffers caches writes reads
+            (done.items ++ event ∷ []))
+        fence_taken may = rw (buffer_seen sound at.core is, may, places_set) refl
 
-      -- the row of a load
-      pub load_taken : (fault : Fault) (old : Buffer) → old ≡ slice_index_or buffers core old
-          → (addr : ℕ) (entry : Option Entry) → entry ≡ forwarded fault old.entries addr
-          → (what : ℕ × Option ℕ) → forwarded_or_read entry (moesi.read caches core addr) ≡ Ok what
-          → exec capacity fault (state_from p.init units buffers caches writes reads done.items)
-          core event (Ld addr)
-          ≡ Ok (state_from p.init (slice_set units core moved) buffers caches writes
-          (slice_set reads event what) (done.items ++ event ∷ []))
-      load_taken fault old is addr entry entry_is what got =
-          rw (buffer_seen buffers core old buffer_there is, ← entry_is, got, places_set) refl
+        -- the row of a load
+        pub load_taken : (addr : ℕ) (entry : Option Entry) → entry ≡ forwarded fault old.entries addr
+            → (what : ℕ × Option ℕ) → forwarded_or_read entry (moesi.read caches core addr) ≡ Ok what
+            → exec capacity fault (state_from p.init units buffers caches writes reads done.items)
+            core event (Ld addr)
+            ≡ Ok (state_from p.init (slice_set units core moved) buffers caches writes
+            (slice_set reads event what) (done.items ++ event ∷ []))
+        load_taken addr entry entry_is what got =
+            rw (buffer_seen sound at.core is, ← entry_is, got, places_set) refl
 
-      -- the row of a read-modify-write that only reads
-      pub compare_taken : (fault : Fault) (old : Buffer) → old ≡ slice_index_or buffers core old
-          → may_rmw fault old.entries ≡ true → (addr : ℕ)
-          → is_exclusive (moesi.line_of caches core addr) ≡ true
-          → (what : ℕ × Option ℕ) → moesi.copy_of caches core addr ≡ what
-          → read_unmodified fault (state_from p.init units buffers caches writes reads done.items)
-          core event addr
-          ≡ Ok (state_from p.init (slice_set units core moved) buffers caches writes
-          (slice_set reads event what) (done.items ++ event ∷ []))
-      compare_taken fault old is may addr owned what what_is =
-          rw (buffer_seen buffers core old buffer_there is, may, owned, what_is, places_set) refl
+        module _ (may : may_rmw fault old.entries ≡ true) (addr : ℕ) (what : ℕ × Option ℕ)
+            (what_is : moesi.copy_of caches core addr ≡ what) where
+          -- the row of a read-modify-write that only reads
+          pub compare_taken : is_exclusive (moesi.line_of caches core addr) ≡ true
+              → read_unmodified fault (state_from p.init units buffers caches writes reads done.items)
+              core event addr
+              ≡ Ok (state_from p.init (slice_set units core moved) buffers caches writes
+              (slice_set reads event what) (done.items ++ event ∷ []))
+          compare_taken owned = rw (buffer_seen sound at.core is, may, owned, what_is, places_set) refl
 
-      -- the row of a read-modify-write
-      pub rmw_taken : (fault : Fault) (old : Buffer) → old ≡ slice_index_or buffers core old
-          → may_rmw fault old.entries ≡ true → (addr : ℕ) → addr < length p.names
-          → (what : ℕ × Option ℕ) → moesi.copy_of caches core addr ≡ what → (caches' : moesi.CacheState)
-          → moesi.write caches core addr (value_written (event_of op what)) event ≡ Ok caches'
-          → (list new : BoundedItems ℕ) → list ≡ slice_index_or writes addr list
-          → new ≡ record { items = list.items ++ event ∷ []; room = list.room }
-          → read_modify_written fault (state_from p.init units buffers caches writes reads done.items)
-          core event op addr
-          ≡ Ok (state_from p.init (slice_set units core moved) buffers caches' (slice_set writes addr new)
-          (slice_set reads event what) (done.items ++ event ∷ []))
-      rmw_taken fault old is may addr addressed what what_is caches' wrote list new list_is pushed =
-          rw (
-            map-set (λ (b : BoundedItems ℕ). b.items) writes addr new,
-            pushed,
-            buffer_seen buffers core old buffer_there is,
-            may,
-            what_is,
-            wrote,
-            list_seen writes addr list (omega (arith, addressed, sound.writes_length)) list_is,
-            places_set,
-          ) refl
+          -- the row of a read-modify-write
+          pub rmw_taken : addr < length p.names → (caches' : moesi.CacheState)
+              → moesi.write caches core addr (value_written (event_of op what)) event ≡ Ok caches'
+              → (list new : BoundedItems ℕ) → list ≡ slice_index_or writes addr list
+              → new ≡ record { items = list.items ++ event ∷ []; room = list.room }
+              → read_modify_written fault (state_from p.init units buffers caches writes reads done.items)
+              core event op addr
+              ≡ Ok (state_from p.init (slice_set units core moved) buffers caches' (slice_set writes addr new)
+              (slice_set reads event what) (done.items ++ event ∷ []))
+          rmw_taken addressed caches' wrote list new list_is pushed =
+              rw (
+                map-set (λ (b : BoundedItems ℕ). b.items) writes addr new,
+                pushed,
+                buffer_seen sound at.core is,
+                may,
+                what_is,
+                wrote,
+                list_seen sound addressed list_is,
+                places_set,
+              ) refl
 
-      -- an event writes its address and is performed
-      module _ (addr : ℕ) (addressed : addr < length p.names) (list : BoundedItems ℕ)
-          (list_is : list ≡ slice_index_or writes addr list) where
-        -- the address has a write list
-        there : addr < length writes
-        there = omega (arith, addressed, sound.writes_length)
-
-        -- no longer than the performed list
-        list_short : length list.items ≤ length done.items
-        list_short =
-            omega (
-              arith,
-              ap (λ (l : BoundedItems ℕ). length l.items) list_is,
-              sound.write_lengths addr list there,
-            )
-
-        -- with room for every event
-        list_room : list.room ≡ op_count p.cores
-        list_room = ap (λ (l : BoundedItems ℕ). l.room) list_is ∙ sound.write_rooms addr list there
-
-        -- the parts still fit together after a read-modify-write
-        pub rmw_sound : (caches' : moesi.CacheState) → caches'.cores ≡ caches.cores
-            → length caches'.blocks ≡ length caches.blocks → (reads' : List (ℕ × Option ℕ))
-            → length reads' ≡ length reads → (list' new : BoundedItems ℕ)
-            → list' ≡ record { items = list.items ++ event ∷ []; room = list.room }
-            → new ≡ record { items = done.items ++ event ∷ []; room = done.room }
-            → IsSound p capacity (slice_set units core moved) buffers caches' (slice_set writes addr list')
-            reads' new
-        rmw_sound caches' same_cores same_blocks reads' same list' new pushed is =
-            let base : IsSound p capacity (slice_set units core moved) buffers caches writes reads' new =
-            performed_sound reads' same new is in
-            record {
-              operations = base.operations;
-              few = base.few;
-              initials = base.initials;
-              units_length = base.units_length;
-              buffers_length = base.buffers_length;
-              cache_cores = same_cores ∙ base.cache_cores;
-              cache_blocks = same_blocks ∙ base.cache_blocks;
-              writes_length = length-set writes addr list' ∙ base.writes_length;
-              events = base.events;
-              first = base.first;
-              place = base.place;
-              capacities = base.capacities;
-              entries = base.entries;
-              write_rooms =
-                  All-set (λ l. l.room ≡ op_count p.cores) writes addr list'
-                  (ap (λ (r : BoundedItems ℕ). r.room) pushed ∙ list_room) base.write_rooms;
-              write_lengths = All-set (λ l. length l.items ≤ length new.items) writes addr list'
-                  (omega (
-                    arith,
-                    list_short,
-                    ap (λ (r : BoundedItems ℕ). length r.items) pushed,
-                    length-append list.items (event ∷ []),
-                    ap (λ (r : BoundedItems ℕ). length r.items) is,
-                    length-append done.items (event ∷ []),
-                  ))
-                  base.write_lengths;
-              performed_room = base.performed_room;
-              counted = base.counted;
-            }
+      -- the parts still fit together after a read-modify-write
+      pub rmw_sound : {addr : ℕ} → addr < length p.names → {list : BoundedItems ℕ}
+          → list ≡ slice_index_or writes addr list → {caches' : moesi.CacheState} → caches'.cores ≡ caches.cores
+          → length caches'.blocks ≡ length caches.blocks → {reads' : List (ℕ × Option ℕ)}
+          → length reads' ≡ length reads → {list' new : BoundedItems ℕ}
+          → list' ≡ record { items = list.items ++ event ∷ []; room = list.room }
+          → new ≡ record { items = done.items ++ event ∷ []; room = done.room }
+          → IsSound p capacity (slice_set units core moved) buffers caches' (slice_set writes addr list')
+          reads' new
+      rmw_sound {addr} addressed {list} list_is same_cores same_blocks {reads'} same {list'} {new} pushed is =
+          let base : IsSound p capacity (slice_set units core moved) buffers caches writes reads' new =
+          performed_sound same is in
+          record {
+            operations = base.operations;
+            few = base.few;
+            initials = base.initials;
+            units_length = base.units_length;
+            buffers_length = base.buffers_length;
+            cache_cores = same_cores ∙ base.cache_cores;
+            cache_blocks = same_blocks ∙ base.cache_blocks;
+            writes_length = length-set writes addr list' ∙ base.writes_length;
+            events = base.events;
+            first = base.first;
+            place = base.place;
+            capacities = base.capacities;
+            entries = base.entries;
+            write_rooms =
+                All-set (λ l. l.room ≡ op_count p.cores) writes addr list'
+                (ap (λ (r : BoundedItems ℕ). r.room) pushed ∙ list_room sound addressed list_is) base.write_rooms;
+            write_lengths = All-set (λ l. length l.items ≤ length new.items) writes addr list'
+                (omega (
+                  arith,
+                  list_short sound addressed list_is,
+                  ap (λ (r : BoundedItems ℕ). length r.items) pushed,
+                  length-append list.items (event ∷ []),
+                  ap (λ (r : BoundedItems ℕ). length r.items) is,
+                  length-append done.items (event ∷ []),
+                ))
+                base.write_lengths;
+            performed_room = base.performed_room;
+            counted = base.counted;
+          }
 
       -- a store goes to the back of the buffer
-      module _ (old new : Buffer) (is : old ≡ slice_index_or buffers core old) (entry : Entry)
-          (pushed : new ≡ record old { entries = old.entries ++ entry ∷ [] })
-          (addressed : IsEntry (length p.names) entry) where
-        -- the buffer grows by one
-        longer : length new.entries ≡ length old.entries + 1
-        longer = ap (λ (b : Buffer). length b.entries) pushed ∙ length-append old.entries (entry ∷ [])
-
-        -- its capacity is the machine's
-        capacity_is : old.capacity ≡ capacity
-        capacity_is = ap (λ (b : Buffer). b.capacity) is ∙ sound.capacities core old buffer_there
-
+      module _ {old new : Buffer} (is : old ≡ slice_index_or buffers core old) (entry : Entry)
+          (pushed : new ≡ record old { entries = old.entries ++ entry ∷ [] }) where
         -- the parts still fit together after a store
-        pub stored_sound : IsSound p capacity (slice_set units core moved) (slice_set buffers core new)
-            caches writes reads done
-        stored_sound = record {
+        pub stored_sound : IsEntry (length p.names) entry
+            → IsSound p capacity (slice_set units core moved) (slice_set buffers core new) caches writes reads done
+        stored_sound addressed = record {
           operations = sound.operations;
           few = sound.few;
           initials = sound.initials;
-          units_length = units_up;
+          units_length = length-set units core moved ∙ sound.units_length;
           buffers_length = length-set buffers core new ∙ sound.buffers_length;
           cache_cores = sound.cache_cores;
           cache_blocks = sound.cache_blocks;
           writes_length = sound.writes_length;
           events = sound.events;
           first = first_up;
-          place = place_up;
+          place = λ c. rw places_set (place_up c);
           capacities =
               All-set (λ b. b.capacity ≡ capacity) buffers core new
-              (ap (λ (b : Buffer). b.capacity) pushed ∙ capacity_is) sound.capacities;
+              (ap (λ (b : Buffer). b.capacity) pushed ∙ capacity_is sound at.core is) sound.capacities;
           entries = All-set (λ b. All (IsEntry (length p.names)) b.entries) buffers core new
               (subst (λ (b : Buffer). All (IsEntry (length p.names)) b.entries) (sym pushed)
-              (All-push (IsEntry (length p.names)) old.entries entry
-              (subst (λ (b : Buffer). All (IsEntry (length p.names)) b.entries) (sym is)
-              (sound.entries core old buffer_there)) addressed))
+              (All-push (IsEntry (length p.names)) old.entries entry (waiting_within sound at.core is) addressed))
               sound.entries;
           write_rooms = sound.write_rooms;
           write_lengths = sound.write_lengths;
           performed_room = sound.performed_room;
           counted = omega (
             arith,
-            sum_by-set (λ b. length b.entries) buffers core new old buffer_there,
+            sum_by-set (λ b. length b.entries) buffers core new old (buffer_there sound at.core),
             ap (λ (b : Buffer). length b.entries) is,
-            longer,
+            ap (λ (b : Buffer). length b.entries) pushed,
+            length-append old.entries (entry ∷ []),
+            ap (λ (l : List ℕ). sum l) places_set,
             sum_up,
             sound.counted,
           );
@@ -410,51 +305,12 @@ module _ (p : Parts) (capacity : ℕ) (units : List Progress) (buffers : List Bu
         store_taken fault event_is room =
             let entry_is : entry ≡ record { addr = entry.addr; value = entry.value; event = event } =
             ap (λ (e : ℕ). record { addr = entry.addr; value = entry.value; event = e }) event_is in
-            let free : length (slice_index_or (map (λ b. b.entries) buffers) core []) < capacity =
-            omega (
-              arith,
-              room,
-              capacity_is,
-              ap (λ (l : List Entry). length l)
-                  (buffer_seen buffers core old buffer_there is),
-            ) in
+            let free : length old.entries < capacity = omega (arith, room, capacity_is sound at.core is) in
             rw (
-              lt-ltb (length (slice_index_or (map (λ b. b.entries) buffers) core [])) capacity free,
               map-set (λ (b : Buffer). b.entries) buffers core new,
               pushed,
-              buffer_seen buffers core old buffer_there is,
+              buffer_seen sound at.core is,
+              lt-ltb (length old.entries) capacity free,
               places_set,
               ← entry_is,
             ) refl
-
-  -- what was performed has room for one more, and so has each write list
-  module _ (unit : Progress) (unit_is : unit ≡ slice_index_or units core unit) where
-    -- there is room, whatever unit is looked at
-    has_room_left : length done.items + sum_by (λ b. length b.entries) buffers < op_count p.cores
-    has_room_left =
-        room_left unit unit_is (slice_index_or p.cores core []) refl (record unit { place = unit.place + 1 })
-        refl
-
-  -- the core's unit
-  abbrev some_unit : Progress
-  some_unit = slice_index_or units core (record { first = 0; place = 0 })
-
-  -- it is the core's
-  unit_is_some : some_unit ≡ slice_index_or units core some_unit
-  unit_is_some = get_or_default units core (record { first = 0; place = 0 }) some_unit unit_there
-
-  -- the performed list has room for one more
-  pub has_room : length done.items < done.room
-  has_room = omega (arith, has_room_left some_unit unit_is_some, sound.performed_room)
-
-  -- and so has each write list
-  pub list_has_room : (addr : ℕ) → addr < length p.names → (list : BoundedItems ℕ)
-      → list ≡ slice_index_or writes addr list → length list.items < list.room
-  list_has_room addr addressed list list_is = omega (
-    arith,
-    ap (λ (l : BoundedItems ℕ). l.room) list_is,
-    sound.write_rooms addr list (omega (arith, addressed, sound.writes_length)),
-    ap (λ (l : BoundedItems ℕ). length l.items) list_is,
-    sound.write_lengths addr list (omega (arith, addressed, sound.writes_length)),
-    has_room_left some_unit unit_is_some,
-  )

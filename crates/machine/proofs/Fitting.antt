@@ -1,67 +1,35 @@
 -- What every step without fault keeps of the sizes of a state, so that every such run leads to one that is
 -- orderly.
-use Rattle.std.proofs.Common.{◌≡◌, ◌<◌, ◌≤◌, ◌+◌, inl, inr, ℕ, zero, suc, cond, Option, Ok, List, [], ◌∷◌}
+use Rattle.std.proofs.Common.{◌≡◌, ◌<◌, ◌≤◌, ◌+◌, inl, inr, ℕ, cond, Ok, List, [], ◌∷◌}
 use Rattle.std.proofs.Common.{◌++◌, take, length, get_or, slice_set, replicate, arith, refl, sym, ap, subst}
 use Rattle.std.proofs.Common.{◌∙◌, get_or-set_same, get_or-set_other, length-set, length-append}
 use Rattle.std.specs.List.{All, sum, sum_by, count_by}
 use Rattle.std.proofs.lemmas.List.{length-replicate}
-use Rattle.std.proofs.lemmas.List.Sums.{sum_by-set, sum_by-cons}
+use Rattle.std.proofs.lemmas.List.Folds.{sum_by-replicate}
+use Rattle.std.proofs.lemmas.List.Sums.{sum_by-set}
 use Rattle.std.proofs.lemmas.Bool.{cases_eq}
 use Rattle.program.specs.declared.op.Op.{Op}
-use Rattle.program.specs.declared.op.Op.TheVariants.{St, Ld, Fence}
+use Rattle.program.specs.declared.op.Op.TheVariants.{St, Fence}
 use Rattle.program.specs.Parts.{IsWithin}
 use Rattle.write_buffer.specs.declared.entry.Entry.{Entry}
 use Rattle.moesi.specs.State as moesi
-use Rattle.moesi.specs.Laws.{IsTransaction}
 use Rattle.machine.specs.declared.fault.Fault.TheVariants as fault
-use Rattle.machine.specs.State.{State, place_of, buffer_of, line_copy, opening}
+use Rattle.machine.specs.State.{State, place_of, buffer_of, opening}
 use Rattle.machine.specs.declared.step.Step.{Step}
-use Rattle.machine.specs.Step.{looked_up, rmw_value, with_caches, run}
+use Rattle.machine.specs.Step.{run}
 use Rattle.machine.specs.Orderly.{placed_op, is_st, IsOrderly, EveryStateIsOrderly}
+use Rattle.machine.specs.PlaceLaws.{stores_more}
 use Rattle.machine.proofs.DrainEvents.{drained_state}
 use Rattle.machine.proofs.ExecuteEvents.{IsNext}
-use Rattle.machine.proofs.Rows.{IsKeptFaultless, IsRmw, IsCompare, stored_state, loaded_state, fenced_state}
-use Rattle.machine.proofs.Rows.{rmw_state}
-use Rattle.machine.proofs.Rows.{run_kept, faultless}
+use Rattle.machine.proofs.Rows.{IsKept, stored_state, run_kept}
 use Rattle.machine.proofs.InOrder.{IsInOrder, in_order_kept}
 use Rattle.machine.proofs.Opening.{get_or_same, op_within, opening_in_order}
-
--- how many of the first n operations are plain stores
-pub stores_before : ℕ → List Op → ℕ
-stores_before zero ops = 0
-stores_before (suc n) [] = 0
-stores_before (suc n) (op ∷ ops) = cond (is_st op) 1 0 + stores_before n ops
-
--- one operation more
-before_more : (i : ℕ) (ops : List Op) → i < length ops → stores_before (i + 1) ops ≡ stores_before i ops +
-    cond (is_st (get_or ops i Fence)) 1 0
-unfolding stores_before
-before_more i [] h = absurd (omega (arith, h))
-before_more zero (op ∷ ops) h = omega arith
-before_more (suc i) (op ∷ ops) h = omega (
-  arith,
-  before_more i ops (omega (arith, h)),
-  ap (λ (k : ℕ). stores_before k (op ∷ ops))
-      (let e : suc i + 1 ≡ suc (i + 1) = omega arith in e),
-)
-
--- they are counted so
-before_is : (i : ℕ) (ops : List Op) → stores_before i ops ≡ count_by is_st (take i ops)
-unfolding stores_before
-before_is zero ops = refl
-before_is (suc i) [] = refl
-before_is (suc i) (op ∷ ops) = omega (
-  arith,
-  before_is i ops,
-  sum_by-cons {X = Op}
-      (λ o. cond (is_st o) 1 0) op (take i ops),
-)
 
 -- what fits: no core waits for more stores than it executed, none is past its end, and each executed event
 -- was performed or waits
 pub record IsFitting (p : List (List Op)) (n : ℕ) (s : State) : Type 0 where
   pub in_order : IsInOrder p s
-  pub few : (c : ℕ) → length (buffer_of s c) ≤ stores_before (place_of s c) (get_or p c [])
+  pub few : (c : ℕ) → length (buffer_of s c) ≤ count_by is_st (take (place_of s c) (get_or p c []))
   pub places : (c : ℕ) → place_of s c ≤ length (get_or p c [])
   pub lists : length s.write_lists ≡ n
   pub counted : sum s.places ≡ length s.performed + sum_by (λ b. length b) s.buffers
@@ -70,63 +38,62 @@ pub record IsFitting (p : List (List Op)) (n : ℕ) (s : State) : Type 0 where
 pushed : {A : Type 0} (xs : List A) (x : A) → length (xs ++ x ∷ []) ≡ length xs + 1
 pushed xs x = length-append xs (x ∷ [])
 
-module _ (p : List (List Op)) (n : ℕ) (s : State) (f : IsFitting p n s) where
-  -- one core goes on by one operation
-  place_up : (c b : ℕ) (op : Op) → IsNext p s c b op → (d : ℕ)
-      → get_or (slice_set s.places c (place_of s c + 1)) d 0 ≤ length (get_or p d [])
-  place_up c b op at d = elim (cases_eq d c) [
-    | inl own ↦ subst (λ (z : ℕ). get_or (slice_set s.places c (place_of s c + 1)) z 0 ≤ length
-        (get_or p z [])) (sym own)
-        (omega (arith, get_or-set_same s.places c (place_of s c + 1) 0 at.core, at.there))
-    | inr other ↦ omega (arith, get_or-set_other s.places c d (place_of s c + 1) 0 other, f.places d)
-  ]
+module _ {p : List (List Op)} {n : ℕ} {s : State} (f : IsFitting p n s) where
+  module _ (c b : ℕ) (op : Op) (at : IsNext p s c b op) where
+    -- one core goes on by one operation
+    place_up : (d : ℕ) → get_or (slice_set s.places c (place_of s c + 1)) d 0 ≤ length (get_or p d [])
+    place_up d = elim (cases_eq d c) [
+      | inl own ↦ rw own (omega (arith, get_or-set_same s.places c (place_of s c + 1) 0 at.core, at.there))
+      | inr other ↦ omega (arith, get_or-set_other s.places c d (place_of s c + 1) 0 other, f.places d)
+    ]
 
-  -- all places together too
-  sum_up : (c b : ℕ) (op : Op) → IsNext p s c b op → sum (slice_set s.places c (place_of s c + 1))
-      ≡ sum s.places + 1
-  sum_up c b op at = omega (arith, sum_by-set (λ (x : ℕ). x) s.places c (place_of s c + 1) 0 at.core)
+    -- all places together too
+    sum_up : sum (slice_set s.places c (place_of s c + 1)) ≡ sum s.places + 1
+    sum_up = omega (arith, sum_by-set (λ (x : ℕ). x) s.places c (place_of s c + 1) 0 at.core)
 
-  -- a core that goes on has executed no fewer stores
-  few_up : (c b : ℕ) (op : Op) → IsNext p s c b op → (d : ℕ) → stores_before (place_of s d)
-      (get_or p d []) ≤ stores_before (get_or (slice_set s.places c (place_of s c + 1)) d 0) (get_or p d [])
-  few_up c b op at d = elim (cases_eq d c) [
-    | inl own ↦ subst (λ (z : ℕ). stores_before (place_of s z) (get_or p z []) ≤ stores_before
-        (get_or (slice_set s.places c (place_of s c + 1)) z 0) (get_or p z [])) (sym own)
-        (omega (
-          arith,
-          ap (λ (i : ℕ). stores_before i (get_or p c []))
-              (get_or-set_same s.places c (place_of s c + 1) 0 at.core),
-          before_more (place_of s c) (get_or p c []) at.there,
-        ))
-    | inr other ↦ omega (
-      arith,
-      ap (λ (i : ℕ). stores_before i (get_or p d []))
-          (get_or-set_other s.places c d (place_of s c + 1) 0 other),
-    )
-  ]
+    -- a core that goes on has executed no fewer stores
+    few_up : (d : ℕ) → count_by is_st (take (place_of s d) (get_or p d []))
+        ≤ count_by is_st (take (get_or (slice_set s.places c (place_of s c + 1)) d 0) (get_or p d []))
+    few_up d = elim (cases_eq d c) [
+      | inl own ↦ rw own (omega (
+        arith,
+        ap (λ (i : ℕ). count_by is_st (take i (get_or p c [])))
+            (get_or-set_same s.places c (place_of s c + 1) 0 at.core),
+        stores_more (place_of s c) (get_or p c []) at.there,
+      ))
+      | inr other ↦ omega (
+        arith,
+        ap (λ (i : ℕ). count_by is_st (take i (get_or p d [])))
+            (get_or-set_other s.places c d (place_of s c + 1) 0 other),
+      )
+    ]
 
   -- a drain keeps what fits
-  drain_fits : (caches : moesi.CacheState) (c : ℕ) (x : Entry) (xs : List Entry) → c < length p
-      → buffer_of s c ≡ x ∷ xs
+  drain_fits : (caches : moesi.CacheState) (c : ℕ) (x : Entry) (front back : List Entry) → c < length p
+      → buffer_of s c ≡ front ++ x ∷ back → (fault.None ≡ fault.None → front ≡ [])
       → moesi.write s.caches c x.addr x.value x.event ≡ Ok caches
-      → IsFitting p n (drained_state s caches c x xs)
-  drain_fits caches c x xs at is wrote =
+      → IsFitting p n (drained_state s caches c x (front ++ back))
+  drain_fits caches c x front back at is first wrote =
       let inside : c < length s.buffers = omega (arith, at, f.in_order.steady.buffers) in
+      let xs : List Entry = front ++ back in
+      let shorter : length xs + 1 ≡ length (buffer_of s c) = omega (
+        arith,
+        ap (λ (l : List Entry). length l) is,
+        length-append front (x ∷ back),
+        length-append front back,
+      ) in
       record {
-        in_order = (in_order_kept p s f.in_order).drain caches c x xs at is wrote;
+        in_order = (in_order_kept f.in_order).drain caches c x front back at is first wrote;
         few = λ d. elim (cases_eq d c) [
-          | inl own ↦ subst (λ (z : ℕ). length (get_or (slice_set s.buffers c xs) z []) ≤ stores_before
-              (place_of s z) (get_or p z [])) (sym own)
-              (omega (
-                arith,
-                ap (λ (l : List Entry). length l) (get_or-set_same s.buffers c xs [] inside),
-                ap (λ (l : List Entry). length l) is,
-                f.few c,
-              ))
+          | inl own ↦ rw own (omega (
+            arith,
+            ap (λ (l : List Entry). length l) (get_or-set_same s.buffers c xs [] inside),
+            shorter,
+            f.few c,
+          ))
           | inr other ↦ omega (
             arith,
-            ap (λ (l : List Entry). length l)
-                (get_or-set_other s.buffers c d xs [] other),
+            ap (λ (l : List Entry). length l) (get_or-set_other s.buffers c d xs [] other),
             f.few d,
           )
         ];
@@ -137,7 +104,7 @@ module _ (p : List (List Op)) (n : ℕ) (s : State) (f : IsFitting p n s) where
           f.counted,
           pushed s.performed x.event,
           sum_by-set (λ (b : List Entry). length b) s.buffers c xs [] inside,
-          ap (λ (l : List Entry). length l) is,
+          shorter,
         );
       }
 
@@ -147,24 +114,21 @@ module _ (p : List (List Op)) (n : ℕ) (s : State) (f : IsFitting p n s) where
       let inside : c < length s.buffers = omega (arith, core, f.in_order.steady.buffers) in
       let more : List Entry = buffer_of s c ++ record { addr = a; value = v; event = b } ∷ [] in
       record {
-        in_order = (in_order_kept p s f.in_order).store c b a v at core;
+        in_order = (in_order_kept f.in_order).store c b a v at core;
         few = λ d. elim (cases_eq d c) [
-          | inl own ↦ subst (λ (z : ℕ). length (get_or (slice_set s.buffers c more) z []) ≤ stores_before
-              (get_or (slice_set s.places c (place_of s c + 1)) z 0) (get_or p z [])) (sym own)
-              (omega (
-                arith,
-                ap (λ (l : List Entry). length l) (get_or-set_same s.buffers c more [] inside),
-                pushed (buffer_of s c) (record { addr = a; value = v; event = b }),
-                ap (λ (i : ℕ). stores_before i (get_or p c []))
-                    (get_or-set_same s.places c (place_of s c + 1) 0 at.core),
-                before_more (place_of s c) (get_or p c []) at.there,
-                ap {B = ℕ} (λ (o : Op). cond (is_st o) 1 0) at.operation,
-                f.few c,
-              ))
+          | inl own ↦ rw own (omega (
+            arith,
+            ap (λ (l : List Entry). length l) (get_or-set_same s.buffers c more [] inside),
+            pushed (buffer_of s c) (record { addr = a; value = v; event = b }),
+            ap (λ (i : ℕ). count_by is_st (take i (get_or p c [])))
+                (get_or-set_same s.places c (place_of s c + 1) 0 at.core),
+            stores_more (place_of s c) (get_or p c []) at.there,
+            ap {B = ℕ} (λ (o : Op). cond (is_st o) 1 0) at.operation,
+            f.few c,
+          ))
           | inr other ↦ omega (
             arith,
-            ap (λ (l : List Entry). length l)
-                (get_or-set_other s.buffers c d more [] other),
+            ap (λ (l : List Entry). length l) (get_or-set_other s.buffers c d more [] other),
             f.few d,
             few_up c b (St a v) at d,
           )
@@ -180,83 +144,33 @@ module _ (p : List (List Op)) (n : ℕ) (s : State) (f : IsFitting p n s) where
         );
       }
 
-  -- a load keeps what fits
-  load_fits : (c b a : ℕ) (what : ℕ × Option ℕ) → IsNext p s c b (Ld a) → looked_up fault.None s c a ≡ Ok what
-      → IsFitting p n (loaded_state s c b what)
-  load_fits c b a what at got = record {
-    in_order = (in_order_kept p s f.in_order).load c b a what at got;
-    few = λ d. omega (arith, f.few d, few_up c b (Ld a) at d);
-    places = place_up c b (Ld a) at;
-    lists = f.lists;
-    counted = omega (arith, f.counted, sum_up c b (Ld a) at, pushed s.performed b);
-  }
-
-  -- a fence keeps what fits
-  fence_fits : (c b : ℕ) → IsNext p s c b Fence → buffer_of s c ≡ [] → IsFitting p n (fenced_state s c b)
-  fence_fits c b at empty = record {
-    in_order = (in_order_kept p s f.in_order).fence c b at empty;
-    few = λ d. omega (arith, f.few d, few_up c b Fence at d);
-    places = place_up c b Fence at;
-    lists = f.lists;
-    counted = omega (arith, f.counted, sum_up c b Fence at, pushed s.performed b);
-  }
-
-  -- a read-modify-write keeps what fits
-  rmw_fits : (caches : moesi.CacheState) (c b a : ℕ) (op : Op) → IsNext p s c b op → c < length p
-      → IsRmw op (line_copy s c a) a → buffer_of s c ≡ []
-      → moesi.write s.caches c a (rmw_value s c op a) b ≡ Ok caches → IsFitting p n (rmw_state s caches c b a)
-  rmw_fits caches c b a op at core is empty wrote = record {
-    in_order = (in_order_kept p s f.in_order).rmw caches c b a op at core is empty wrote;
-    few = λ d. omega (arith, f.few d, few_up c b op at d);
-    places = place_up c b op at;
-    lists = length-set s.write_lists a (get_or s.write_lists a [] ++ b ∷ []) ∙ f.lists;
-    counted = omega (arith, f.counted, sum_up c b op at, pushed s.performed b);
-  }
-
-  -- a comparison keeps what fits
-  compare_fits : (c b a : ℕ) (op : Op) → IsNext p s c b op → IsCompare op (line_copy s c a) a
-      → buffer_of s c ≡ [] → moesi.read s.caches c a ≡ Ok (line_copy s c a)
-      → IsFitting p n (loaded_state s c b (line_copy s c a))
-  compare_fits c b a op at is empty got = record {
-    in_order = (in_order_kept p s f.in_order).compare c b a op at is empty got;
-    few = λ d. omega (arith, f.few d, few_up c b op at d);
-    places = place_up c b op at;
-    lists = f.lists;
-    counted = omega (arith, f.counted, sum_up c b op at, pushed s.performed b);
-  }
-
-  -- a transaction keeps what fits
-  transact_fits : (caches : moesi.CacheState) (c a : ℕ) → c < length p → a < length s.caches.blocks
-      → IsTransaction s.caches c a caches → IsFitting p n (with_caches s caches)
-  transact_fits caches c a core within made = record {
-    in_order = (in_order_kept p s f.in_order).transact caches c a core within made;
-    few = f.few;
-    places = f.places;
-    lists = f.lists;
-    counted = f.counted;
-  }
-
   -- each row keeps what fits
-  fitting_kept : IsKeptFaultless p s (IsFitting p n)
+  fitting_kept : IsKept p fault.None s (IsFitting p n)
   fitting_kept = record {
     drain = drain_fits;
     store = store_fits;
-    load = load_fits;
-    fence = fence_fits;
-    rmw = rmw_fits;
-    compare = compare_fits;
-    transact = transact_fits;
+    look = λ c b op what at is. record {
+      in_order = (in_order_kept f.in_order).look c b op what at is;
+      few = λ d. omega (arith, f.few d, few_up c b op at d);
+      places = place_up c b op at;
+      lists = f.lists;
+      counted = omega (arith, f.counted, sum_up c b op at, pushed s.performed b);
+    };
+    rmw = λ caches c b a op at core is empty wrote. record {
+      in_order = (in_order_kept f.in_order).rmw caches c b a op at core is empty wrote;
+      few = λ d. omega (arith, f.few d, few_up c b op at d);
+      places = place_up c b op at;
+      lists = length-set s.write_lists a (get_or s.write_lists a [] ++ b ∷ []) ∙ f.lists;
+      counted = omega (arith, f.counted, sum_up c b op at, pushed s.performed b);
+    };
+    transact = λ caches c a core within any made. record {
+      in_order = (in_order_kept f.in_order).transact caches c a core within any made;
+      few = f.few;
+      places = f.places;
+      lists = f.lists;
+      counted = f.counted;
+    };
   }
-
--- nothing was executed at first
-sum_none : (n : ℕ) → sum (replicate n 0) ≡ 0
-sum_none zero = refl
-sum_none (suc n) = omega (arith, sum_by-cons (λ (k : ℕ). k) 0 (replicate n 0), sum_none n)
-
--- and nothing waits
-wait_none : (n : ℕ) → sum_by (λ (b : List Entry). length b) (replicate n []) ≡ 0
-wait_none zero = refl
-wait_none (suc n) = omega (arith, sum_by-cons (λ (b : List Entry). length b) [] (replicate n []), wait_none n)
 
 -- the opening state fits
 opening_fits : (p : List (List Op)) (init : List ℕ) → All (λ ops. All (IsWithin (length init)) ops) p
@@ -266,7 +180,11 @@ opening_fits p init fits = record {
   few = λ c. omega (arith, ap (λ (l : List Entry). length l) (get_or_same {A = List Entry} (length p) c []));
   places = λ c. omega (arith, get_or_same {A = ℕ} (length p) c 0);
   lists = length-replicate {A = List ℕ} (length init) [];
-  counted = omega (arith, sum_none (length p), wait_none (length p));
+  counted = omega (
+    arith,
+    sum_by-replicate (λ (k : ℕ). k) (length p) 0,
+    sum_by-replicate (λ (b : List Entry). length b) (length p) [],
+  );
 }
 
 -- a state that fits is orderly
@@ -289,7 +207,7 @@ orderly p n s within f = record {
   once = λ e done. f.in_order.steady.counted.listed e done.0 done.1;
   executed = λ c e there. f.in_order.steady.counted.executed c e there;
   stores = f.in_order.steady.stores;
-  few = λ c. omega (arith, f.few c, before_is (place_of s c) (get_or p c []));
+  few = f.few;
   kept = λ e f' own done strong. f.in_order.ordered.kept e f' own done.1 strong;
 }
 
@@ -299,7 +217,4 @@ pub every_state_is_orderly : (p : List (List Op)) (init : List ℕ) (capacity : 
 every_state_is_orderly p init capacity steps fits =
     orderly p (length init) (run p capacity fault.None (opening p init) steps) (op_within p init fits)
     (run_kept p capacity fault.None (IsFitting p (length init))
-    (λ s f. (
-      faultless p s (IsFitting p (length init)) (fitting_kept p (length init) s f),
-      f.in_order.steady.places,
-    )) steps (opening p init) (opening_fits p init fits))
+    (λ s f. (fitting_kept f, f.in_order.steady.places)) steps (opening p init) (opening_fits p init fits))

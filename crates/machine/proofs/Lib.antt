@@ -16,6 +16,7 @@ pub mod Opening
 pub mod Complete
 pub mod Fitting
 pub mod Data
+pub mod Parts
 pub mod ExecuteParts
 pub mod DrainParts
 pub mod Transacted
@@ -27,6 +28,5 @@ pub mod Recorded
 pub mod ScriptAgain
 pub mod Removed
 pub mod OneRow
-pub mod Refused
 pub mod TextEnds
 pub mod Inside

@@ -4,8 +4,9 @@ use Rattle.std.proofs.Common.{List, [], ◌∷◌, ◌++◌, map, get_or, arith,
 use Rattle.std.specs.Prelude.{◌==◌}
 use Rattle.std.proofs.lemmas.Bool.{cases_eq, eq-eqb}
 use Rattle.std.proofs.lemmas.Bool.Decides.{nat_tests}
+use Rattle.std.proofs.lemmas.Option.{same_Some}
 use Rattle.recording.specs.Order.{times, Before}
-use Rattle.recording.specs.OrderLaws.{place_in, place_here, place_there, times_here, times_there, times_nil}
+use Rattle.recording.specs.OrderLaws.{times_here, times_there, times_nil}
 use Rattle.recording.specs.OrderLaws.{times_append, cases_times, before_in_right, left_before_right}
 use Rattle.program.specs.declared.op.Op.{Op}
 use Rattle.write_buffer.specs.declared.entry.Entry.{Entry}
@@ -14,6 +15,7 @@ use Rattle.machine.specs.State.{State, event_of}
 use Rattle.machine.proofs.Seen.{IsNewest}
 use Rattle.recording.specs.Event.{written_address}
 use Rattle.machine.proofs.Static.{static_of, done_by}
+use Rattle.machine.proofs.Newest.{before_more}
 use Rattle.machine.proofs.DrainEvents.{AreStores}
 
 -- what the buffer says of an address: nothing, or its last store
@@ -29,19 +31,13 @@ IsYoungestOf p s b a (Some y) =
 pub not_equal : (a b : ℕ) → (a ≡ b → ⊥) → (a == b) ≡ false
 not_equal a b h = grind (arith, nat_tests)
 
--- one number, found twice
-pub some_one : {a b : ℕ} → Some a ≡ Some b → a ≡ b
-some_one h = cc
-
 -- the youngest entry of an address is its last store
 pub youngest_says : (p : List (List Op)) (s : State) (c : ℕ) (b : List Entry) (a : ℕ) → AreStores p c b
     → ((e : ℕ) → times (map (λ (x : Entry). x.event) b) e ≤ 1) → IsYoungestOf p s b a (youngest b a)
 youngest_says p s c [] a stores once = λ w there. absurd (omega (arith, there, times_nil w))
 youngest_says p s c (x ∷ xs) a stores once =
-    go (youngest xs a) (youngest_says p s c xs a stores.1 (λ e. elim (cases_eq x.event e) [
-      | inl here ↦ omega (arith, once e, times_here (map (λ (y : Entry). y.event) xs) x.event e here)
-      | inr other ↦ omega (arith, once e, times_there (map (λ (y : Entry). y.event) xs) x.event e other)
-    ]))
+    go (youngest xs a) (youngest_says p s c xs a stores.1
+    (λ e. omega (arith, once e, times_append (x.event ∷ []) (map (λ (y : Entry). y.event) xs) e)))
   where
     writes : written_address (done_by p s x.event) ≡ Some x.addr
     writes = ap (λ (z : ℕ × Op). written_address (event_of z.1 (get_or s.reads x.event (0, None)))) stores.0
@@ -49,70 +45,32 @@ youngest_says p s c (x ∷ xs) a stores once =
     go : (found : Option Entry) → IsYoungestOf p s xs a found
         → IsYoungestOf p s (x ∷ xs) a (or_else found (cond (x.addr == a) (Some x) None))
     go (Some y) says =
+        let rest : List ℕ = map (λ (z : Entry). z.event) xs in
         let apart : x.event ≢ y.event =
-        λ one. omega (
-          arith,
-          once y.event,
-          times_here (map (λ (z : Entry). z.event) xs)
-              x.event y.event one,
-          says.0,
-        ) in (
-          omega (arith, says.0, times_there (map (λ (z : Entry). z.event) xs) x.event y.event apart),
+        λ one. omega (arith, once y.event, times_here rest x.event y.event one, says.0) in (
+          omega (arith, says.0, times_there rest x.event y.event apart),
           says.1,
-          λ w there wa. elim (cases_eq x.event w) [
-            | inl here ↦ inr (
-              omega (
-                arith,
-                place_here (map (λ (z : Entry). z.event) xs) x.event w here,
-                place_there (map (λ (z : Entry). z.event) xs) x.event y.event apart,
-              ),
-              omega (
-                arith,
-                place_there (map (λ (z : Entry). z.event) xs) x.event y.event apart,
-                place_in (map (λ (z : Entry). z.event) xs) y.event says.0,
-              ),
-            )
-            | inr behind ↦ elim (says.2 w (omega
-                (arith, there, times_there (map (λ (z : Entry). z.event) xs) x.event w behind)) wa) [
-                  | inl one ↦ inl one
-                  | inr before ↦ inr (
-                    omega (
-                      arith,
-                      before,
-                      place_there (map (λ (z : Entry). z.event) xs) x.event w behind,
-                      place_there (map (λ (z : Entry). z.event) xs) x.event y.event apart,
-                    ),
-                    omega (
-                      arith,
-                      before,
-                      place_there (map (λ (z : Entry). z.event) xs) x.event y.event apart,
-                    ),
-                  )
-                ]
-          ],
+          λ w there wa. before_more x.event rest y.event w apart says.0 (λ inside. says.2 w inside wa) there,
         )
     go None says = elim (cases_eq x.addr a) [
-      | inl is ↦ subst (λ (t : Bool). IsYoungestOf p s (x ∷ xs) a (cond t (Some x) None))
-          (sym (eq-eqb x.addr a is)) (
-            omega (arith, times_here (map (λ (z : Entry). z.event) xs) x.event x.event refl),
-            writes ∙ ap Some is,
-            λ w there wa. elim (cases_eq x.event w) [
-              | inl here ↦ inl (sym here)
-              | inr behind ↦ absurd (says w (omega
-                  (arith, there, times_there (map (λ (z : Entry). z.event) xs) x.event w behind)) wa)
-            ],
-          )
-      | inr isnt ↦ subst (λ (t : Bool). IsYoungestOf p s (x ∷ xs) a (cond t (Some x) None))
-          (sym (not_equal x.addr a isnt))
-          (λ w there wa. elim (cases_eq x.event w) [
-            | inl here ↦ isnt (some_one (sym writes
-                ∙ (ap (λ (e : ℕ). written_address (done_by p s e)) here ∙ wa)))
-            | inr behind ↦ says w (omega (
-              arith,
-              there,
-              times_there (map (λ (z : Entry). z.event) xs) x.event w behind,
-            )) wa
-          ])
+      | inl is ↦ rw (eq-eqb x.addr a is) (
+        omega (arith, times_here (map (λ (z : Entry). z.event) xs) x.event x.event refl),
+        writes ∙ ap Some is,
+        λ w there wa. elim (cases_eq x.event w) [
+          | inl here ↦ inl (sym here)
+          | inr behind ↦ absurd (says w (omega
+              (arith, there, times_there (map (λ (z : Entry). z.event) xs) x.event w behind)) wa)
+        ],
+      )
+      | inr isnt ↦ rw (not_equal x.addr a isnt) (λ w there wa. elim (cases_eq x.event w) [
+        | inl here ↦ isnt (same_Some x.addr a (sym writes
+            ∙ (ap (λ (e : ℕ). written_address (done_by p s e)) here ∙ wa)))
+        | inr behind ↦ says w (omega (
+          arith,
+          there,
+          times_there (map (λ (z : Entry). z.event) xs) x.event w behind,
+        )) wa
+      ])
     ]
 
 -- a store of the own buffer is newer than all that was performed

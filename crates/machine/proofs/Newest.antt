@@ -2,7 +2,7 @@
 use Rattle.std.proofs.Common.{◌≡◌, ◌≢◌, ◌<◌, ◌≤◌, ◌+◌, ◌⊎◌, inl, inr, ℕ, Bool, true, false, Option, Some}
 use Rattle.std.proofs.Common.{None, List, [], ◌∷◌, ◌++◌, arith, refl, sym, ap, subst, ◌∙◌}
 use Rattle.std.specs.List.{filter}
-use Rattle.std.proofs.lemmas.Bool.{cases_eq}
+use Rattle.std.proofs.lemmas.Bool.{cases_eq, cases_Bool}
 use Rattle.recording.specs.Order.{place, times, Before}
 use Rattle.recording.specs.OrderLaws.{place_in, times_in, place_here, place_there, place_nil, times_here}
 use Rattle.recording.specs.OrderLaws.{times_there, times_nil, times_append, cases_times, before_in_left}
@@ -30,23 +30,18 @@ unfolding last_of
 last_two x [] e = refl
 last_two x (y ∷ ys) e = refl
 
--- true or false
-pub bool_cases : (b : Bool) → (b ≡ true) ⊎ (b ≡ false)
-bool_cases true = inl refl
-bool_cases false = inr refl
-
 -- what passes is kept
-filter_yes : (q : ℕ → Bool) (x : ℕ) (xs : List ℕ) → q x ≡ true → filter q (x ∷ xs) ≡ x ∷ filter q xs
+pub filter_yes : (q : ℕ → Bool) (x : ℕ) (xs : List ℕ) → q x ≡ true → filter q (x ∷ xs) ≡ x ∷ filter q xs
 filter_yes q x xs h = rw h refl
 
 -- what fails is left out
-filter_no : (q : ℕ → Bool) (x : ℕ) (xs : List ℕ) → q x ≡ false → filter q (x ∷ xs) ≡ filter q xs
+pub filter_no : (q : ℕ → Bool) (x : ℕ) (xs : List ℕ) → q x ≡ false → filter q (x ∷ xs) ≡ filter q xs
 filter_no q x xs h = rw h refl
 
 -- what passes stands as often as before
 pub times_filter : (q : ℕ → Bool) (m : List ℕ) (e : ℕ) → q e ≡ true → times (filter q m) e ≡ times m e
 times_filter q [] e h = refl
-times_filter q (x ∷ xs) e h = elim (bool_cases (q x)) [
+times_filter q (x ∷ xs) e h = elim (cases_Bool (q x)) [
   | inl holds ↦ rw (filter_yes q x xs holds) (elim (cases_eq x e) [
     | inl same ↦ omega (
       arith,
@@ -72,7 +67,7 @@ times_filter q (x ∷ xs) e h = elim (bool_cases (q x)) [
 -- what fails stands nowhere
 pub times_filter_no : (q : ℕ → Bool) (m : List ℕ) (e : ℕ) → q e ≡ false → times (filter q m) e ≡ 0
 times_filter_no q [] e h = times_nil e
-times_filter_no q (x ∷ xs) e h = elim (bool_cases (q x)) [
+times_filter_no q (x ∷ xs) e h = elim (cases_Bool (q x)) [
   | inl holds ↦ rw (filter_yes q x xs holds)
       (omega (
         arith,
@@ -83,6 +78,13 @@ times_filter_no q (x ∷ xs) e h = elim (bool_cases (q x)) [
   | inr fails ↦ rw (filter_no q x xs fails) (times_filter_no q xs e h)
 ]
 
+-- so what is kept passes
+pub times_passes : (q : ℕ → Bool) (m : List ℕ) (e : ℕ) → 0 < times (filter q m) e → q e ≡ true
+times_passes q m e there = elim (cases_Bool (q e)) [
+  | inl is ↦ is
+  | inr fails ↦ absurd (omega (arith, there, times_filter_no q m e fails))
+]
+
 -- two tests that agree on what stands in a list keep the same of it
 pub filter_same : (q r : ℕ → Bool) (m : List ℕ) → ((e : ℕ) → 0 < times m e → q e ≡ r e)
     → filter q m ≡ filter r m
@@ -91,7 +93,7 @@ filter_same q r (x ∷ xs) h =
     let rest : filter q xs ≡ filter r xs =
     filter_same q r xs (λ e there. h e (omega (arith, there, times_append (x ∷ []) xs e))) in
     let here : q x ≡ r x = h x (omega (arith, times_here xs x x refl)) in
-    elim (bool_cases (r x)) [
+    elim (cases_Bool (r x)) [
       | inl holds ↦ filter_yes q x xs (here ∙ holds)
           ∙ (ap (λ (l : List ℕ). x ∷ l) rest ∙ sym (filter_yes r x xs holds))
       | inr fails ↦ filter_no q x xs (here ∙ fails) ∙ (rest ∙ sym (filter_no r x xs fails))
@@ -101,7 +103,7 @@ filter_same q r (x ∷ xs) h =
 pub before_filter : (q : ℕ → Bool) (m : List ℕ) (e f : ℕ) → q e ≡ true → q f ≡ true → Before (filter q m) e f
     → Before m e f
 before_filter q [] e f qe qf h = absurd (omega (arith, h, place_nil f))
-before_filter q (x ∷ xs) e f qe qf h = elim (bool_cases (q x)) [
+before_filter q (x ∷ xs) e f qe qf h = elim (cases_Bool (q x)) [
   | inl holds ↦
       let kept : Before (x ∷ filter q xs) e f =
       subst (λ (l : List ℕ). Before l e f) (filter_yes q x xs holds) h in
@@ -145,6 +147,23 @@ before_filter q (x ∷ xs) e f qe qf h = elim (bool_cases (q x)) [
       (omega (arith, rest, e_there, f_there), omega (arith, rest, f_there))
 ]
 
+-- what stands before s among some, or is s, does so with x before them
+pub before_more : (x : ℕ) (xs : List ℕ) (s w : ℕ) → x ≢ s → 0 < times xs s
+    → (0 < times xs w → (w ≡ s) ⊎ Before xs w s) → 0 < times (x ∷ xs) w → (w ≡ s) ⊎ Before (x ∷ xs) w s
+before_more x xs s w apart s_in rest there = elim (cases_eq x w) [
+  | inl here ↦ inr (
+    omega (arith, place_here xs x w here, place_there xs x s apart),
+    omega (arith, place_there xs x s apart, place_in xs s s_in),
+  )
+  | inr behind ↦ elim (rest (omega (arith, there, times_there xs x w behind))) [
+    | inl is_s ↦ inl is_s
+    | inr before ↦ inr (
+      omega (arith, before, place_there xs x w behind, place_there xs x s apart),
+      omega (arith, before, place_there xs x s apart),
+    )
+  ]
+]
+
 -- in a list of distinct numbers the last stands after all others
 pub last_behind : (l : List ℕ) (s : ℕ) → ((e : ℕ) → times l e ≤ 1) → last_of l ≡ Some s
     → (0 < times l s) × ((w : ℕ) → 0 < times l w → (w ≡ s) ⊎ Before l w s)
@@ -160,30 +179,10 @@ last_behind (x ∷ []) s once is =
     )
 last_behind (x ∷ (y ∷ ys)) s once is =
     let rest : (0 < times (y ∷ ys) s) × ((w : ℕ) → 0 < times (y ∷ ys) w → (w ≡ s) ⊎ Before (y ∷ ys) w s) =
-    last_behind (y ∷ ys) s (λ e. elim (cases_eq x e) [
-      | inl same ↦ omega (arith, once e, times_here (y ∷ ys) x e same)
-      | inr other ↦ omega (arith, once e, times_there (y ∷ ys) x e other)
-    ]) is in
+    last_behind (y ∷ ys) s (λ e. omega (arith, once e, times_append (x ∷ []) (y ∷ ys) e)) is in
     let apart : x ≢ s = λ same. omega (arith, once s, times_here (y ∷ ys) x s same, rest.0) in (
       omega (arith, rest.0, times_there (y ∷ ys) x s apart),
-      λ w there. elim (cases_eq x w) [
-        | inl here ↦ inr (
-          omega (arith, place_here (y ∷ ys) x w here, place_there (y ∷ ys) x s apart),
-          omega (arith, place_there (y ∷ ys) x s apart, place_in (y ∷ ys) s rest.0),
-        )
-        | inr behind ↦ elim (rest.1 w (omega (arith, there, times_there (y ∷ ys) x w behind))) [
-          | inl is_s ↦ inl is_s
-          | inr before ↦ inr (
-            omega (
-              arith,
-              before,
-              place_there (y ∷ ys) x w behind,
-              place_there (y ∷ ys) x s apart,
-            ),
-            omega (arith, before, place_there (y ∷ ys) x s apart),
-          )
-        ]
-      ],
+      λ w there. before_more x (y ∷ ys) s w apart rest.0 (rest.1 w) there,
     )
 
 -- a list without a last has nothing
@@ -216,15 +215,9 @@ newest_in_memory p q m buffer a holds back once none = go (last_of (filter q m))
     ]
 
     distinct : (e : ℕ) → times (filter q m) e ≤ 1
-    distinct e = elim (bool_cases (q e)) [
+    distinct e = elim (cases_Bool (q e)) [
       | inl is ↦ omega (arith, once e, times_filter q m e is)
       | inr fails ↦ omega (arith, times_filter_no q m e fails)
-    ]
-
-    passes : (w : ℕ) → 0 < times (filter q m) w → q w ≡ true
-    passes w there = elim (bool_cases (q w)) [
-      | inl is ↦ is
-      | inr fails ↦ absurd (omega (arith, there, times_filter_no q m w fails))
     ]
 
     go : (o : Option ℕ) → last_of (filter q m) ≡ o → IsNewest p (m ++ buffer) a o
@@ -233,7 +226,7 @@ newest_in_memory p q m buffer a holds back once none = go (last_of (filter q m))
         let last : (0 < times (filter q m) s)
         × ((w : ℕ) → 0 < times (filter q m) w → (w ≡ s) ⊎ Before (filter q m) w s) =
         last_behind (filter q m) s distinct is in
-        let qs : q s ≡ true = passes s last.0 in (
+        let qs : q s ≡ true = times_passes q m s last.0 in (
           omega (arith, last.0, times_filter q m s qs, times_append m buffer s),
           holds s qs,
           λ w there writes. elim (last.1 w (in_list w there writes)) [

@@ -15,37 +15,28 @@ use Rattle.machine.specs.Step.{exec, exec_next}
 -- an operation whose row the fault leaves
 exec_same : (capacity : ℕ) (f : Fault) (s : State) (c e : ℕ) (op : Op) → changes f (Exec c) (Some op) ≡ false
     → exec capacity f s c e op ≡ exec capacity fault.None s c e op
-exec_same capacity fault.None s c e (St a v) h = refl
-exec_same capacity fault.NoBypass s c e (St a v) h = refl
-exec_same capacity fault.YoungestFirst s c e (St a v) h = refl
-exec_same capacity fault.OpenFence s c e (St a v) h = refl
-exec_same capacity fault.StaleShare s c e (St a v) h = refl
-exec_same capacity fault.EarlyRmw s c e (St a v) h = refl
-exec_same capacity fault.None s c e (Ld a) h = refl
+exec_same capacity fault.None s c e op h = refl
+exec_same capacity f s c e (St a v) h = refl
 exec_same capacity fault.NoBypass s c e (Ld a) h = absurd cc
 exec_same capacity fault.YoungestFirst s c e (Ld a) h = refl
 exec_same capacity fault.OpenFence s c e (Ld a) h = refl
 exec_same capacity fault.StaleShare s c e (Ld a) h = refl
 exec_same capacity fault.EarlyRmw s c e (Ld a) h = refl
-exec_same capacity fault.None s c e Fence h = refl
 exec_same capacity fault.NoBypass s c e Fence h = refl
 exec_same capacity fault.YoungestFirst s c e Fence h = refl
 exec_same capacity fault.OpenFence s c e Fence h = absurd cc
 exec_same capacity fault.StaleShare s c e Fence h = refl
 exec_same capacity fault.EarlyRmw s c e Fence h = refl
-exec_same capacity fault.None s c e (Swap a v) h = refl
 exec_same capacity fault.NoBypass s c e (Swap a v) h = refl
 exec_same capacity fault.YoungestFirst s c e (Swap a v) h = refl
 exec_same capacity fault.OpenFence s c e (Swap a v) h = refl
 exec_same capacity fault.StaleShare s c e (Swap a v) h = refl
 exec_same capacity fault.EarlyRmw s c e (Swap a v) h = absurd cc
-exec_same capacity fault.None s c e (Add a v) h = refl
 exec_same capacity fault.NoBypass s c e (Add a v) h = refl
 exec_same capacity fault.YoungestFirst s c e (Add a v) h = refl
 exec_same capacity fault.OpenFence s c e (Add a v) h = refl
 exec_same capacity fault.StaleShare s c e (Add a v) h = refl
 exec_same capacity fault.EarlyRmw s c e (Add a v) h = absurd cc
-exec_same capacity fault.None s c n (Cas a e v) h = refl
 exec_same capacity fault.NoBypass s c n (Cas a e v) h = refl
 exec_same capacity fault.YoungestFirst s c n (Cas a e v) h = refl
 exec_same capacity fault.OpenFence s c n (Cas a e v) h = refl

@@ -12,13 +12,15 @@ use Rattle.program.specs.declared.op.Op.{Op}
 use Rattle.program.specs.declared.op.Op.TheVariants.{St, Ld, Fence, Swap, Add, Cas}
 use Rattle.write_buffer.specs.declared.entry.Entry.{Entry}
 use Rattle.machine.specs.State.{opening, event_of}
-use Rattle.program.specs.Parts.{IsWithin}
+use Rattle.program.specs.Parts.{IsWithin, addr_of}
 use Rattle.recording.specs.declared.event.Event.TheVariants.{R, C}
 use Rattle.recording.specs.Event.{written_address}
 use Rattle.moesi.specs.Block.{block_with}
 use Rattle.moesi.specs.CacheLaws.{opening_with_is_coherent}
 use Rattle.recording.specs.PlacedLaws.{located, placed_total}
 use Rattle.machine.specs.PlaceLaws.{event_behind, event_op}
+use Rattle.machine.specs.ProgramLaws.{same_kind, own_used}
+use Rattle.std.proofs.lemmas.Option.{same_Some}
 use Rattle.machine.proofs.Static.{static_of, snapshot_of, placed_op, op_reads}
 use Rattle.machine.proofs.Newest.{last_of, last_nil}
 use Rattle.machine.proofs.DrainEvents.{AreStores}
@@ -32,19 +34,14 @@ get_or_same n i x = elim (cases_lt i n) [
   | inr past ↦ get_or_past (replicate n x) i x (omega (arith, past, length-replicate n x))
 ]
 
--- an event writes the address of its operation, which is within the program's
-pub address_within : (n : ℕ) (o : Op) (a : ℕ) (d : ℕ × Option ℕ) → IsWithin n o
-    → written_address (event_of o d) ≡ Some a → a < n
-address_within n (St b v) a d h is = omega (arith, h, let one : b ≡ a = cc in one)
-address_within n (Ld b) a d h is = absurd cc
-address_within n Fence a d h is = absurd cc
-address_within n (Swap b v) a d h is = omega (arith, h, let one : b ≡ a = cc in one)
-address_within n (Add b v) a d h is = omega (arith, h, let one : b ≡ a = cc in one)
-address_within n (Cas b e v) a d h is = go (d.0 == e) is
-  where
-    go : (q : Bool) → written_address (cond q (R b d.0 d.1 v) (C b d.0 d.1)) ≡ Some a → a < n
-    go true wrote = omega (arith, h, let one : b ≡ a = cc in one)
-    go false wrote = absurd cc
+-- the address of an operation is within the program's
+address_within : (n : ℕ) (o : Op) (a : ℕ) → IsWithin n o → addr_of o ≡ Some a → a < n
+address_within n (St b v) a h is = omega (arith, h, same_Some b a is)
+address_within n (Ld b) a h is = omega (arith, h, same_Some b a is)
+address_within n Fence a h is = absurd cc
+address_within n (Swap b v) a h is = omega (arith, h, same_Some b a is)
+address_within n (Add b v) a h is = omega (arith, h, same_Some b a is)
+address_within n (Cas b e v) a h is = omega (arith, h, same_Some b a is)
 
 module _ (p : List (List Op)) (init : List ℕ) (fits : All (λ ops. All (IsWithin (length init)) ops) p) where
   -- nothing was executed
@@ -70,20 +67,9 @@ module _ (p : List (List Op)) (init : List ℕ) (fits : All (λ ops. All (IsWith
   op_within e = elim (cases_lt e (length (placed_from 0 p))) [
     | inl event ↦
         let at = located 0 p e event in
-        subst (λ (o : Op). IsWithin (length init) o) (sym (event_op p e event))
-        (fits at.0 [] at.2 at.1 Fence at.3)
-    | inr past ↦ subst (λ (z : ℕ × Op). IsWithin (length init) z.1)
-        (sym (get_or_past (placed_from 0 p) e (0, Fence) past)) tt
+        rw (event_op p e event) (fits at.0 [] at.2 at.1 Fence at.3)
+    | inr past ↦ rw (get_or_past (placed_from 0 p) e (0, Fence) past) tt
   ]
-
-  -- so has each read
-  reads_within : (o : Op) (a : ℕ) → IsWithin (length init) o → op_reads o ≡ Some a → a < length init
-  reads_within (St b v) a h is = absurd cc
-  reads_within (Ld b) a h is = omega (arith, h, let one : b ≡ a = cc in one)
-  reads_within Fence a h is = absurd cc
-  reads_within (Swap b v) a h is = omega (arith, h, let one : b ≡ a = cc in one)
-  reads_within (Add b v) a h is = omega (arith, h, let one : b ≡ a = cc in one)
-  reads_within (Cas b e v) a h is = omega (arith, h, let one : b ≡ a = cc in one)
 
   -- the opening state is steady
   pub opening_steady : IsSteady p (opening p init)
@@ -105,13 +91,14 @@ module _ (p : List (List Op)) (init : List ℕ) (fits : All (λ ops. All (IsWith
     writes_within =
         λ e a d is. omega (
           arith,
-          address_within (length init) (placed_op p e).1 a d (op_within e) is,
+          address_within (length init) (placed_op p e).1 a (op_within e) (own_used (placed_op p e).1 d a (inr is)),
           length-map init (λ v. block_with (length p) v),
         );
     reads_within =
         λ e a is. omega (
           arith,
-          reads_within (placed_op p e).1 a (op_within e) is,
+          address_within (length init) (placed_op p e).1 a (op_within e)
+              (own_used (placed_op p e).1 (0, None) a (inl ((same_kind (placed_op p e).1 (0, None)).0 ∙ is))),
           length-map init (λ v. block_with (length p) v),
         );
   }

@@ -25,9 +25,9 @@ pub record Orders (p : Static) (s t : Snapshot) (b : ℕ) : Type 0 where
       → IsLast p (seen t (p.core b)) b a (t.source b)
 
 -- such a step keeps the order
-pub ordered_kept : (p : Static) (s t : Snapshot) (b : ℕ) → IsCounted p s → IsOrdered p s → Counts p s t b
+pub ordered_kept : {p : Static} {s t : Snapshot} {b : ℕ} → IsCounted p s → IsOrdered p s → Counts p s t b
     → Orders p s t b → IsOrdered p t
-ordered_kept p s t b counted ordered count step = record { kept = kept; values = values }
+ordered_kept {p} {s} {t} {b} counted ordered count step = record { kept = kept; values = values }
   where
     kept : (e f : ℕ) → Own p e f → f < t.next (p.core f) → (p.store e && p.load f) ≡ false
         → Before (seen t (p.core f)) e f
@@ -60,27 +60,26 @@ ordered_kept p s t b counted ordered count step = record { kept = kept; values =
 -- what is earlier on the core of its next event is seen there
 earlier_seen : (p : Static) (s : Snapshot) (b : ℕ) → IsCounted p s → b < p.count → s.next (p.core b) ≡ b
     → (e : ℕ) → Own p e b → 0 < times (seen s (p.core b)) e
-earlier_seen p s b counted event new e own = subst (λ (z : ℕ). 0 < times (seen s z) e) own.2
-    (omega (
-      arith,
-      counted.listed e (omega (arith, own, event))
-          (subst (λ (z : ℕ). e < s.next z) (sym own.2) (omega (arith, own, new))),
-    ))
+earlier_seen p s b counted event new e own = rw (← own.2) (omega (
+  arith,
+  counted.listed e (omega (arith, own, event))
+      (subst (λ (z : ℕ). e < s.next z) (sym own.2) (omega (arith, own, new))),
+))
 
 -- a store that goes to its buffer comes last in its core's order
-pub issue_orders : (p : Static) (s t : Snapshot) (b : ℕ) → IsCounted p s → Issues p s t b → Orders p s t b
-issue_orders p s t b counted i = record {
+pub issue_orders : {p : Static} {s t : Snapshot} {b : ℕ} → IsCounted p s → Issues p s t b → Orders p s t b
+issue_orders {p} {s} {t} {b} counted i = record {
   grows = grows;
-  source = i.source;
+  source = i.executes.source;
   performed = λ e eb. ap (λ (m : List ℕ). times m e) i.performed;
   b_first = λ f own done strong. absurd
-      (omega (arith, own, i.next, subst (λ (c : ℕ). f < t.next c) (sym own.2) done));
+      (omega (arith, own, i.executes.next, subst (λ (c : ℕ). f < t.next c) (sym own.2) done));
   b_last = last;
   b_value = λ a reads there. absurd (let clash : None ≡ Some a = sym i.reads ∙ reads in cc);
 }
   where
     fresh : (d : ℕ) → times (seen s d) b ≡ 0
-    fresh d = not_seen p s counted b d (omega (arith, i.next_was))
+    fresh d = not_seen p s counted b d (omega (arith, i.executes.next_was))
 
     seen_own : seen t (p.core b) ≡ seen s (p.core b) ++ b ∷ []
     seen_own = rw (i.performed, i.buffer) (sym (append_assoc s.performed (s.buffer (p.core b)) (b ∷ [])))
@@ -98,23 +97,19 @@ issue_orders p s t b counted i = record {
         (λ e there core own. omega (
           arith,
           own,
-          i.next_was,
+          i.executes.next_was,
           subst (λ (z : ℕ). e < s.next z) core (counted.executed 0 e (performed_is_seen s 0 e there)).1,
         )))
 
     grows : (d : ℕ) → Grows p b s.performed d (seen s d) (seen t d)
     grows d = elim (cases_eq d (p.core b)) [
-      | inl own ↦ subst (λ (z : ℕ). Grows p b s.performed z (seen s z) (seen t z)) (sym own)
-          (subst (λ (o : List ℕ). Grows p b s.performed (p.core b) (seen s (p.core b)) o) (sym seen_own)
-          own_grows)
-      | inr other ↦ subst (λ (o : List ℕ). Grows p b s.performed d (seen s d) o) (sym (seen_other d other))
-          unmoved
+      | inl own ↦ rw own (rw seen_own own_grows)
+      | inr other ↦ rw (seen_other d other) unmoved
     ]
 
     last : (e : ℕ) → Own p e b → (p.store e && p.load b) ≡ false → Before (seen t (p.core b)) e b
-    last e own strong = subst (λ (o : List ℕ). Before o e b) (sym seen_own)
-        (left_before_right (seen s (p.core b)) (b ∷ []) e b
-        (earlier_seen p s b counted i.event i.next_was e own) (fresh (p.core b))
+    last e own strong = rw seen_own (left_before_right (seen s (p.core b)) (b ∷ []) e b
+        (earlier_seen p s b counted i.executes.event i.executes.next_was e own) (fresh (p.core b))
         (omega (arith, times_here [] b b refl)))
 
 -- an event that is performed in TSO's order: no plain store, a plain load or with an empty buffer, and
@@ -125,19 +120,19 @@ pub record Follows (p : Static) (s t : Snapshot) (b : ℕ) : Type 0 where
   pub newest : (a : ℕ) → p.reads b ≡ Some a → IsNewest p (seen s (p.core b)) a (t.source b)
 
 -- an event that is performed comes after all that was performed
-pub perform_orders : (p : Static) (s t : Snapshot) (b : ℕ) → IsCounted p s → Performs p s t b
+pub perform_orders : {p : Static} {s t : Snapshot} {b : ℕ} → IsCounted p s → Performs p s t b
     → Follows p s t b → Orders p s t b
-perform_orders p s t b counted i f = record {
+perform_orders {p} {s} {t} {b} counted i f = record {
   grows = λ d. subst (λ (o : List ℕ). Grows p b s.performed d (seen s d) o) (sym (seen_now d))
       (moved s.performed (s.buffer d) (fresh d) (λ e there. there)
       (λ e there core own. omega (
         arith,
         own,
-        i.next_was,
+        i.executes.next_was,
         subst (λ (z : ℕ). e < s.next z) (sym own.2)
             (counted.executed 0 e (performed_is_seen s 0 e there)).1,
       )));
-  source = i.source;
+  source = i.executes.source;
   performed = λ e eb. omega (
     arith,
     ap (λ (m : List ℕ). times m e) i.performed,
@@ -145,7 +140,7 @@ perform_orders p s t b counted i f = record {
     times_other e eb,
   );
   b_first = λ g own done strong. absurd
-      (omega (arith, own, i.next, subst (λ (c : ℕ). g < t.next c) (sym own.2) done));
+      (omega (arith, own, i.executes.next, subst (λ (c : ℕ). g < t.next c) (sym own.2) done));
   b_last = last;
   b_value = λ a reads there. subst (λ (o : List ℕ). IsLast p o b a (t.source b)) (sym (seen_now (p.core b)))
       (value a (t.source b) (f.newest a reads));
@@ -155,13 +150,13 @@ perform_orders p s t b counted i f = record {
     times_other e eb = omega (arith, times_there [] b e (λ z. eb (sym z)), times_nil e)
 
     fresh : (d : ℕ) → times (seen s d) b ≡ 0
-    fresh d = not_seen p s counted b d (omega (arith, i.next_was))
+    fresh d = not_seen p s counted b d (omega (arith, i.executes.next_was))
 
     seen_now : (d : ℕ) → seen t d ≡ s.performed ++ b ∷ s.buffer d
     seen_now d = rw (i.performed, i.buffer) (append_assoc s.performed (b ∷ []) (s.buffer d))
 
     earlier : (e : ℕ) → Own p e b → 0 < times (seen s (p.core b)) e
-    earlier e own = earlier_seen p s b counted i.event i.next_was e own
+    earlier e own = earlier_seen p s b counted i.executes.event i.executes.next_was e own
 
     b_not_left : times s.performed b ≡ 0
     b_not_left = not_performed s (p.core b) b (fresh (p.core b))
@@ -173,8 +168,7 @@ perform_orders p s t b counted i f = record {
 
     last : (e : ℕ) → Own p e b → (p.store e && p.load b) ≡ false → Before (seen t (p.core b)) e b
     last e own strong =
-        subst (λ (o : List ℕ). Before o e b) (sym (seen_now (p.core b)))
-        (left_first e (elim (cases_times (s.buffer (p.core b)) e) [
+        rw (seen_now (p.core b)) (left_first e (elim (cases_times (s.buffer (p.core b)) e) [
           | inl none ↦ omega (arith, none, earlier e own, times_append s.performed (s.buffer (p.core b)) e)
           | inr waits ↦ elim f.allowed [
             | inl load ↦ absurd (let clash : true ≡ false =
@@ -219,11 +213,11 @@ perform_orders p s t b counted i f = record {
             inr (
               omega (
                 arith,
-                i.next_was,
+                i.executes.next_was,
                 subst (λ (z : ℕ). w < s.next z) core
                     (counted.executed (p.core b) w there).1,
               ),
-              i.event,
+              i.executes.event,
               core,
             )
         | inr left ↦ inl (left_first w left)
@@ -243,9 +237,9 @@ perform_orders p s t b counted i f = record {
     )
 
 -- the oldest store of a core goes to memory: its core's order stays as it was
-pub drain_orders : (p : Static) (s t : Snapshot) (c b : ℕ) → IsCounted p s → IsOrdered p s
+pub drain_orders : {p : Static} {s t : Snapshot} {c b : ℕ} → IsCounted p s → IsOrdered p s
     → Drains p s t c b [] → Orders p s t b
-drain_orders p s t c b counted ordered i = record {
+drain_orders {p} {s} {t} {c} {b} counted ordered i = record {
   grows = grows;
   source = λ e eb. i.source e;
   performed = λ e eb. omega (
@@ -254,12 +248,9 @@ drain_orders p s t c b counted ordered i = record {
     times_append s.performed (b ∷ []) e,
     times_there_one e eb,
   );
-  b_first = λ f own done strong. subst (λ (z : ℕ). Before (seen t z) b f) own.2
-      (subst (λ (o : List ℕ). Before o b f) (sym same_order)
-      (subst (λ (z : ℕ). Before (seen s z) b f) (sym own.2)
+  b_first = λ f own done strong. rw (← own.2) (rw same_order (subst (λ (z : ℕ). Before (seen s z) b f) (sym own.2)
       (ordered.kept b f own (omega (arith, done, i.next (p.core f))) strong)));
-  b_last = λ e own strong. subst (λ (o : List ℕ). Before o e b) (sym same_order)
-      (ordered.kept e b own event.1 strong);
+  b_last = λ e own strong. rw same_order (ordered.kept e b own event.1 strong);
   b_value = λ a reads there. absurd (let clash : None ≡ Some a = sym i.reads ∙ reads in cc);
 }
   where
@@ -267,10 +258,10 @@ drain_orders p s t c b counted ordered i = record {
     times_there_one e eb = omega (arith, times_there [] b e (λ z. eb (sym z)), times_nil e)
 
     core : p.core b ≡ c
-    core = drain_core p s t c b [] counted i
+    core = drain_core counted i
 
     event : (b < p.count) × (b < s.next (p.core b))
-    event = drain_event p s t c b [] counted i
+    event = drain_event counted i
 
     seen_own : seen t c ≡ seen s c
     seen_own = rw (i.performed, i.is, i.was) (append_assoc s.performed (b ∷ []) i.back)
@@ -282,9 +273,9 @@ drain_orders p s t c b counted ordered i = record {
     not_left = omega (
       arith,
       subst (λ (z : ℕ). times (seen s z) b ≡ 1) core
-          (drain_once p s t c b [] counted i),
+          (drain_once counted i),
       times_append s.performed (s.buffer c) b,
-      drain_waits p s t c b [] counted i,
+      drain_waits counted i,
     )
 
     fresh : (d : ℕ) → d ≢ c → times (seen s d) b ≡ 0
@@ -301,10 +292,8 @@ drain_orders p s t c b counted ordered i = record {
 
     grows : (d : ℕ) → Grows p b s.performed d (seen s d) (seen t d)
     grows d = elim (cases_eq d c) [
-      | inl own ↦ subst (λ (z : ℕ). Grows p b s.performed z (seen s z) (seen t z)) (sym own)
-          (subst (λ (o : List ℕ). Grows p b s.performed c (seen s c) o) (sym seen_own) unmoved)
-      | inr other ↦ subst (λ (o : List ℕ). Grows p b s.performed d (seen s d) o) (sym (seen_other d other))
-          (moved s.performed (s.buffer d) (fresh d other) (λ e h. h)
+      | inl own ↦ rw own (subst (λ (o : List ℕ). Grows p b s.performed c (seen s c) o) (sym seen_own) unmoved)
+      | inr other ↦ rw (seen_other d other) (moved s.performed (s.buffer d) (fresh d other) (λ e h. h)
           (λ e h at own. other (sym at ∙ (sym own.2 ∙ core))))
     ]
 
@@ -321,8 +310,7 @@ seen_all s empty c = ap (λ (q : List ℕ). s.performed ++ q) (empty c) ∙ appe
 pub all_listed : (p : Static) (s : Snapshot) → IsCounted p s → IsAllDone p s
     → Enumerates (λ e. e < p.count) s.performed
 all_listed p s counted end = record {
-  once = λ e event. subst (λ (o : List ℕ). times o e ≡ 1) (seen_all s end.empty (p.core e))
-      (counted.listed e event (end.done e event));
+  once = λ e event. rw (← seen_all s end.empty (p.core e)) (counted.listed e event (end.done e event));
   nothing_else = λ e there. (counted.executed 0 e (performed_is_seen s 0 e there)).0;
 }
 
@@ -334,9 +322,7 @@ pub record Meets (p : Static) (s : Snapshot) : Type 0 where
 -- and the performed list is in order
 pub all_meet : (p : Static) (s : Snapshot) → IsCounted p s → IsOrdered p s → IsAllDone p s → Meets p s
 all_meet p s counted ordered end = record {
-  kept = λ e f own strong. subst (λ (o : List ℕ). Before o e f) (seen_all s end.empty (p.core f))
-      (ordered.kept e f own (end.done f own.1) strong);
-  values = λ e a event reads. subst (λ (o : List ℕ). IsLast p o e a (s.source e))
-      (seen_all s end.empty (p.core e))
+  kept = λ e f own strong. rw (← seen_all s end.empty (p.core f)) (ordered.kept e f own (end.done f own.1) strong);
+  values = λ e a event reads. rw (← seen_all s end.empty (p.core e))
       (ordered.values e a reads (omega (arith, (all_listed p s counted end).once e event)));
 }

@@ -17,12 +17,12 @@ with_writes p w = record {
 }
 
 -- the count does not look at writes
-pub counted_rewritten : (p : Static) (s : Snapshot) (w : ℕ → Option ℕ) → IsCounted p s
+pub counted_rewritten : {p : Static} {s : Snapshot} (w : ℕ → Option ℕ) → IsCounted p s
     → IsCounted (with_writes p w) s
-counted_rewritten p s w counted =
+counted_rewritten w counted =
     record { listed = counted.listed; executed = counted.executed; waiting = counted.waiting }
 
-module _ (p : Static) (s : Snapshot) (w : ℕ → Option ℕ) (b : ℕ) (counted : IsCounted p s)
+module _ {p : Static} {s : Snapshot} (w : ℕ → Option ℕ) {b : ℕ} (counted : IsCounted p s)
     (new : s.next (p.core b) ≡ b) (same : (e : ℕ) → e ≢ b → w e ≡ p.writes e) where
   -- what stands in an order, or is earlier than an executed event, is not b
   pub not_listed : (c e : ℕ) → 0 < times (seen s c) e → e ≢ b

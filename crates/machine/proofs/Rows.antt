@@ -1,10 +1,11 @@
 -- The rows of the table of steps, each as one change of the state.
-use Rattle.std.proofs.Common.{◌≡◌, ◌<◌, ◌+◌, ◌&&◌, inl, inr, ℕ, nat_lt, Bool, true, false, cond, Option, Some}
-use Rattle.std.proofs.Common.{None, Result, Ok, Err, List, [], ◌∷◌, ◌++◌, take, drop, length, slice_get}
+use Rattle.std.proofs.Common.{◌≡◌, ◌<◌, ◌+◌, ◌&&◌, ◌⊎◌, inl, inr, ℕ, nat_lt, Bool, true, false, cond, Option, Some}
+use Rattle.std.proofs.Common.{None, Result, Ok, Err, List, [], ◌∷◌, ◌++◌, take, drop, length, get_or, slice_get}
 use Rattle.std.proofs.Common.{slice_index_or, arith, refl, sym, ap, subst, ◌∙◌}
 use Rattle.std.specs.Prelude.{◌==◌}
 use Rattle.std.proofs.lemmas.Bool.{ltb-true}
-use Rattle.std.proofs.lemmas.Option.{slice_get_within, get_or_from_slice_get}
+use Rattle.std.proofs.lemmas.List.{set-get_or}
+use Rattle.std.proofs.lemmas.Option.{slice_get_within, get_or_from_slice_get, same_Some}
 use Rattle.program.specs.declared.op.Op.{Op}
 use Rattle.program.specs.declared.op.Op.TheVariants.{St, Ld, Fence, Swap, Add, Cas}
 use Rattle.recording.specs.Event.{written_address}
@@ -22,6 +23,7 @@ use Rattle.machine.specs.State.{State, place_of, buffer_of, line_copy, first_eve
 use Rattle.machine.specs.Step.{advanced, performed, with_read, written, with_buffer, with_caches, or_blocked}
 use Rattle.machine.specs.Step.{looked_up, read_modify_written, read_unmodified, compared_and_swapped}
 use Rattle.machine.specs.Step.{rmw_value, exec, exec_next, drained_at, has, step_result, after, run}
+use Rattle.machine.specs.RunLaws.{guarded}
 use Rattle.machine.proofs.Static.{op_reads, is_st, is_ld}
 use Rattle.machine.proofs.Cached.{exclusive_read}
 use Rattle.machine.proofs.ExecuteEvents.{IsNext}
@@ -38,10 +40,6 @@ stored_state s c b a v = advanced (with_buffer s c
 abbrev pub loaded_state : State → ℕ → ℕ → ℕ × Option ℕ → State
 loaded_state s c b what = advanced (performed (with_read s b what) b) c
 
--- the state after core c's fence
-abbrev pub fenced_state : State → ℕ → ℕ → State
-fenced_state s c b = advanced (performed s b) c
-
 -- the state after core c read its line of address a and wrote it, which left these caches
 abbrev pub rmw_state : State → moesi.CacheState → ℕ → ℕ → ℕ → State
 rmw_state s caches c b a = advanced (performed (written (with_read s b (line_copy s c a)) caches a b) b) c
@@ -49,16 +47,17 @@ rmw_state s caches c b a = advanced (performed (written (with_read s b (line_cop
 -- op reads address a and then writes it
 pub record IsRmw (op : Op) (d : ℕ × Option ℕ) (a : ℕ) : Type 0 where
   pub store : is_st op ≡ false
-  pub load : is_ld op ≡ false
   pub reads : op_reads op ≡ Some a
   pub address : written_address (event_of op d) ≡ Some a
 
--- op reads address a and writes nothing, though it is no load
-pub record IsCompare (op : Op) (d : ℕ × Option ℕ) (a : ℕ) : Type 0 where
+-- op writes nothing, and if it reads, what it gets as a load does, or from the line where nothing has to wait;
+-- without fault it is a plain load, or nothing waits
+pub record IsLook (f : Fault) (s : State) (c : ℕ) (op : Op) (what : ℕ × Option ℕ) : Type 0 where
   pub store : is_st op ≡ false
-  pub load : is_ld op ≡ false
-  pub reads : op_reads op ≡ Some a
-  pub address : written_address (event_of op d) ≡ None
+  pub address : written_address (event_of op what) ≡ None
+  pub allowed : f ≡ fault.None → (is_ld op ≡ true) ⊎ (buffer_of s c ≡ [])
+  pub got : (a : ℕ) → op_reads op ≡ Some a → (looked_up f s c a ≡ Ok what)
+      ⊎ ((f ≡ fault.None → buffer_of s c ≡ []) × (moesi.read s.caches c a ≡ Ok what))
 
 -- what each row of the table keeps under a fault; what a fault leaves out is known where there is none
 pub record IsKept (p : List (List Op)) (f : Fault) (s : State) (P : State → Type 0) : Type 0 where
@@ -67,52 +66,14 @@ pub record IsKept (p : List (List Op)) (f : Fault) (s : State) (P : State → Ty
       → moesi.write s.caches c x.addr x.value x.event ≡ Ok caches
       → P (drained_state s caches c x (front ++ back))
   pub store : (c b a v : ℕ) → IsNext p s c b (St a v) → c < length p → P (stored_state s c b a v)
-  pub load : (c b a : ℕ) (what : ℕ × Option ℕ) → IsNext p s c b (Ld a) → looked_up f s c a ≡ Ok what
+  pub look : (c b : ℕ) (op : Op) (what : ℕ × Option ℕ) → IsNext p s c b op → IsLook f s c op what
       → P (loaded_state s c b what)
-  pub fence : (c b : ℕ) → IsNext p s c b Fence → (f ≡ fault.None → buffer_of s c ≡ [])
-      → P (fenced_state s c b)
   pub rmw : (caches : moesi.CacheState) (c b a : ℕ) (op : Op) → IsNext p s c b op → c < length p
       → IsRmw op (line_copy s c a) a → (f ≡ fault.None → buffer_of s c ≡ [])
       → moesi.write s.caches c a (rmw_value s c op a) b ≡ Ok caches → P (rmw_state s caches c b a)
-  pub compare : (c b a : ℕ) (op : Op) → IsNext p s c b op → IsCompare op (line_copy s c a) a
-      → (f ≡ fault.None → buffer_of s c ≡ []) → moesi.read s.caches c a ≡ Ok (line_copy s c a)
-      → P (loaded_state s c b (line_copy s c a))
   pub transact : (caches : moesi.CacheState) (c a : ℕ) → c < length p → a < length s.caches.blocks
       → IsAnyTransaction s.caches c a caches → (f ≡ fault.None → IsTransaction s.caches c a caches)
       → P (with_caches s caches)
-
--- what each row of the table keeps where there is no fault
-pub record IsKeptFaultless (p : List (List Op)) (s : State) (P : State → Type 0) : Type 0 where
-  pub drain : (caches : moesi.CacheState) (c : ℕ) (x : Entry) (xs : List Entry) → c < length p
-      → buffer_of s c ≡ x ∷ xs
-      → moesi.write s.caches c x.addr x.value x.event ≡ Ok caches → P (drained_state s caches c x xs)
-  pub store : (c b a v : ℕ) → IsNext p s c b (St a v) → c < length p → P (stored_state s c b a v)
-  pub load : (c b a : ℕ) (what : ℕ × Option ℕ) → IsNext p s c b (Ld a) → looked_up fault.None s c a ≡ Ok what
-      → P (loaded_state s c b what)
-  pub fence : (c b : ℕ) → IsNext p s c b Fence → buffer_of s c ≡ [] → P (fenced_state s c b)
-  pub rmw : (caches : moesi.CacheState) (c b a : ℕ) (op : Op) → IsNext p s c b op → c < length p
-      → IsRmw op (line_copy s c a) a → buffer_of s c ≡ []
-      → moesi.write s.caches c a (rmw_value s c op a) b ≡ Ok caches → P (rmw_state s caches c b a)
-  pub compare : (c b a : ℕ) (op : Op) → IsNext p s c b op → IsCompare op (line_copy s c a) a
-      → buffer_of s c ≡ [] → moesi.read s.caches c a ≡ Ok (line_copy s c a)
-      → P (loaded_state s c b (line_copy s c a))
-  pub transact : (caches : moesi.CacheState) (c a : ℕ) → c < length p → a < length s.caches.blocks
-      → IsTransaction s.caches c a caches → P (with_caches s caches)
-
--- it is kept under the fault None
-pub faultless : (p : List (List Op)) (s : State) (P : State → Type 0) → IsKeptFaultless p s P
-    → IsKept p fault.None s P
-faultless p s P kept = record {
-  drain = λ caches c x front back at is first wrote. subst
-      (λ (l : List Entry). P (drained_state s caches c x (l ++ back))) (sym (first refl))
-      (kept.drain caches c x back at (is ∙ ap (λ (l : List Entry). l ++ x ∷ back) (first refl)) wrote);
-  store = kept.store;
-  load = kept.load;
-  fence = λ c b n empty. kept.fence c b n (empty refl);
-  rmw = λ caches c b a op n at is empty wrote. kept.rmw caches c b a op n at is (empty refl) wrote;
-  compare = λ c b a op n is empty got. kept.compare c b a op n is (empty refl) got;
-  transact = λ caches c a at within made sound. kept.transact caches c a at within (sound refl);
-}
 
 -- GetM is a transaction under every fault, and the one that keeps coherence where there is none
 pub get_m_any : (f : Fault) (m : moesi.CacheState) (c a : ℕ) (caches : moesi.CacheState)
@@ -123,12 +84,6 @@ get_m_any fault.YoungestFirst m c a caches h = inl (inr (inl h))
 get_m_any fault.OpenFence m c a caches h = inl (inr (inl h))
 get_m_any fault.StaleShare m c a caches h = inr h
 get_m_any fault.EarlyRmw m c a caches h = inl (inr (inl h))
-
--- a guarded step that is taken had its guard
-pub guarded : (b : Bool) (r : Result State Blocked) (e : Blocked) (t : State) → cond b r (Err e) ≡ Ok t
-    → (b ≡ true) × (r ≡ Ok t)
-guarded true r e t h = (refl, h)
-guarded false r e t h = absurd cc
 
 -- one state, answered twice
 pub ok_one : (s t : State) → (let r : Result State Blocked = Ok s in r) ≡ Ok t → s ≡ t
@@ -165,16 +120,7 @@ module _ (p : List (List Op)) (capacity : ℕ) (f : Fault) (s : State) (P : Stat
       let wrote = allowed_ok B5 _ (moesi.write s.caches c a (rmw_value s c op a) b) t g.1 in
       subst P wrote.2 (kept.rmw wrote.0 c b a op n at is (rmw_behind f (buffer_of s c) g.0) wrote.1)
 
-  -- so is one that only reads
-  compare_kept : (c b a : ℕ) (op : Op) (t : State) → IsNext p s c b op → IsCompare op (line_copy s c a) a
-      → read_unmodified f s c b a ≡ Ok t → P t
-  compare_kept c b a op t n is h =
-      let g = guarded _ _ _ t h in
-      let owned = guarded _ _ _ t g.1 in
-      subst P (ok_one _ t owned.1) (kept.compare c b a op n is (rmw_behind f (buffer_of s c) g.0)
-      (exclusive_read s.caches c a owned.0))
-
-  -- so is a compare-and-swap
+  -- so is a compare-and-swap, which writes or only reads
   cas_kept : (c b a e v : ℕ) (t : State) → IsNext p s c b (Cas a e v) → c < length p
       → compared_and_swapped f s c b a e v ≡ Ok t → P t
   cas_kept c b a e v t n at h = go ((line_copy s c a).0 == e) refl h
@@ -182,10 +128,19 @@ module _ (p : List (List Op)) (capacity : ℕ) (f : Fault) (s : State) (P : Stat
       go : (q : Bool) → ((line_copy s c a).0 == e) ≡ q
           → cond q (read_modify_written f s c b (Swap a v) a) (read_unmodified f s c b a) ≡ Ok t → P t
       go true is h' = rmw_kept c b a (Cas a e v) t n at
-          (record { store = refl; load = refl; reads = refl; address = rw is refl })
-          (swap_is f s c b a e v is ∙ h')
-      go false is h' = compare_kept c b a (Cas a e v) t n
-          (record { store = refl; load = refl; reads = refl; address = rw is refl }) h'
+          (record { store = refl; reads = refl; address = rw is refl }) (swap_is f s c b a e v is ∙ h')
+      go false is h' =
+          let g = guarded _ _ _ t h' in
+          let owned = guarded _ _ _ t g.1 in
+          subst P (ok_one _ t owned.1) (kept.look c b (Cas a e v) (line_copy s c a) n (record {
+            store = refl;
+            address = rw is refl;
+            allowed = λ none. inr (rmw_behind f (buffer_of s c) g.0 none);
+            got = λ k reads. inr (
+              rmw_behind f (buffer_of s c) g.0,
+              rw (← same_Some a k reads) (exclusive_read s.caches c a owned.0),
+            );
+          }))
 
   -- so is a transaction
   transaction_kept : (c a : ℕ) (t : State) (r : Result moesi.CacheState CacheError)
@@ -205,13 +160,27 @@ module _ (p : List (List Op)) (capacity : ℕ) (f : Fault) (s : State) (P : Stat
   exec_kept c b (St a v) t n at h = subst P (ok_one _ t (guarded _ _ _ t h).1) (kept.store c b a v n at)
   exec_kept c b (Ld a) t n at h =
       let got = allowed_ok B4 _ (looked_up f s c a) t h in
-      subst P got.2 (kept.load c b a got.0 n got.1)
-  exec_kept c b Fence t n at h = subst P (ok_one _ t (guarded _ _ _ t h).1)
-      (kept.fence c b n (fence_behind f (buffer_of s c) (guarded _ _ _ t h).0))
-  exec_kept c b (Swap a v) t n at h = rmw_kept c b a (Swap a v) t n at
-      (record { store = refl; load = refl; reads = refl; address = refl }) h
-  exec_kept c b (Add a v) t n at h = rmw_kept c b a (Add a v) t n at
-      (record { store = refl; load = refl; reads = refl; address = refl }) h
+      subst P got.2 (kept.look c b (Ld a) got.0 n (record {
+        store = refl;
+        address = refl;
+        allowed = λ none. inl refl;
+        got = λ k reads. inl (subst (λ (z : ℕ). looked_up f s c z ≡ Ok got.0) (same_Some a k reads) got.1);
+      }))
+  exec_kept c b Fence t n at h =
+      let g = guarded _ _ _ t h in
+      let same : loaded_state s c b (get_or s.reads b (0, None)) ≡ advanced (performed s b) c =
+      ap (λ (l : List (ℕ × Option ℕ)). advanced (performed (record s { reads = l }) b) c)
+      (set-get_or s.reads b (0, None)) in
+      subst P (same ∙ ok_one _ t g.1) (kept.look c b Fence (get_or s.reads b (0, None)) n (record {
+        store = refl;
+        address = refl;
+        allowed = λ none. inr (fence_behind f (buffer_of s c) g.0 none);
+        got = λ k reads. absurd cc;
+      }))
+  exec_kept c b (Swap a v) t n at h =
+      rmw_kept c b a (Swap a v) t n at (record { store = refl; reads = refl; address = refl }) h
+  exec_kept c b (Add a v) t n at h =
+      rmw_kept c b a (Add a v) t n at (record { store = refl; reads = refl; address = refl }) h
   exec_kept c b (Cas a e v) t n at h = cas_kept c b a e v t n at h
 
   -- a step that is taken is one of the rows

@@ -15,8 +15,8 @@ use Rattle.program.specs.TestLaws.{cases_of}
 use Rattle.program.specs.ReadingLaws.{kept}
 use Rattle.machine.specs.declared.script_line.CoreStep.{CoreStep}
 use Rattle.machine.specs.declared.script_line.CoreStep.TheVariants.{Exec, Drain}
-use Rattle.machine.specs.declared.script_line.Transaction.{Transaction}
-use Rattle.machine.specs.declared.script_line.Transaction.TheVariants.{GetS, GetM, Put}
+use Rattle.machine.specs.declared.step.Transaction.{Transaction}
+use Rattle.machine.specs.declared.step.Transaction.TheVariants.{GetS, GetM, Put}
 use Rattle.machine.specs.declared.script_refusal.StepRefusal.{StepRefusal}
 use Rattle.machine.specs.declared.script_refusal.StepRefusal.TheVariants.{S1, S4}
 use Rattle.machine.specs.declared.step.Step.{Step}

@@ -9,17 +9,8 @@ use Rattle.recording.specs.Event.{written_address}
 use Rattle.program.specs.declared.op.Op.{Op}
 use Rattle.program.specs.declared.op.Op.TheVariants.{St, Ld, Fence, Swap, Add, Cas}
 use Rattle.machine.specs.State.{State, place_of, buffer_of, first_event, event_of}
-pub use Rattle.machine.specs.Orderly.{placed_op, is_st, is_ld}
+pub use Rattle.machine.specs.Orderly.{placed_op, is_st, is_ld, op_reads}
 use Rattle.machine.proofs.Seen.{Static, Snapshot}
-
--- the address that an operation reads, if it reads
-abbrev pub op_reads : Op → Option ℕ
-op_reads (St a v) = None
-op_reads (Ld a) = Some a
-op_reads Fence = None
-op_reads (Swap a v) = Some a
-op_reads (Add a v) = Some a
-op_reads (Cas a e v) = Some a
 
 -- what event e did, as far as s goes
 abbrev pub done_by : List (List Op) → State → ℕ → Event

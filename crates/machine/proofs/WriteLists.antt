@@ -24,7 +24,7 @@ use Rattle.machine.specs.State.{State, buffer_of, current_copy, event_of}
 use Rattle.machine.specs.Step.{performed, written, with_read, forwarded_or_read, looked_up}
 use Rattle.machine.proofs.Seen.{seen, IsNewest}
 use Rattle.machine.proofs.Static.{static_of, snapshot_of, placed_op, done_by}
-use Rattle.machine.proofs.Newest.{last_of, last_one, last_two, filter_same, newest_in_memory}
+use Rattle.machine.proofs.Newest.{filter_yes, filter_no, last_of, last_one, last_two, filter_same, newest_in_memory}
 use Rattle.machine.proofs.DrainEvents.{AreStores}
 use Rattle.machine.proofs.Loads.{IsYoungestOf, not_equal, youngest_says, newest_in_buffer}
 
@@ -57,14 +57,6 @@ is_address_other b a h = grind (arith, nat_tests)
 is_address_none : (a : ℕ) → is_address None a ≡ false
 unfolding is_address
 is_address_none a = refl
-
--- a single event that passes
-filter_one_yes : (q : ℕ → Bool) (e : ℕ) → q e ≡ true → filter q (e ∷ []) ≡ e ∷ []
-filter_one_yes q e h = rw h refl
-
--- a single event that fails
-filter_one_no : (q : ℕ → Bool) (e : ℕ) → q e ≡ false → filter q (e ∷ []) ≡ []
-filter_one_no q e h = rw h refl
 
 -- what was put at the end is the last
 last_push : (xs : List ℕ) (e : ℕ) → last_of (xs ++ e ∷ []) ≡ Some e
@@ -101,13 +93,11 @@ pub listed_written : (p : List (List Op)) (s : State) (caches : moesi.CacheState
 listed_written p s caches a e large writes at listed = record {
   cells = length-set s.write_lists a (get_or s.write_lists a [] ++ e ∷ []) ∙ (listed.cells ∙ sym large);
   lists = λ b inside. elim (cases_eq b a) [
-    | inl here ↦ subst (λ (z : ℕ). get_or (slice_set s.write_lists a (get_or s.write_lists a [] ++ e ∷ []))
-        z [] ≡ filter (writes_to p s z) (s.performed ++ e ∷ [])) (sym here)
-        (get_or-set_same s.write_lists a (get_or s.write_lists a [] ++ e ∷ []) []
+    | inl here ↦ rw here (get_or-set_same s.write_lists a (get_or s.write_lists a [] ++ e ∷ []) []
         (omega (arith, at, listed.cells))
         ∙ (ap (λ (l : List ℕ). l ++ e ∷ []) (listed.lists a at)
         ∙ (ap (λ (l : List ℕ). filter (writes_to p s a) s.performed ++ l)
-        (sym (filter_one_yes (writes_to p s a) e
+        (sym (filter_yes (writes_to p s a) e []
         (is_address_back (written_address (done_by p s e)) a writes)))
         ∙ sym (filter-append (writes_to p s a) s.performed (e ∷ [])))))
     | inr other ↦
@@ -115,7 +105,7 @@ listed_written p s caches a e large writes at listed = record {
         ∙ (listed.lists b (omega (arith, inside, large))
         ∙ (sym (append-nil (filter (writes_to p s b) s.performed))
         ∙ (ap (λ (l : List ℕ). filter (writes_to p s b) s.performed ++ l)
-        (sym (filter_one_no (writes_to p s b) e
+        (sym (filter_no (writes_to p s b) e []
         (ap (λ (z : Option ℕ). is_address z b) writes
         ∙ is_address_other a b (λ same_as. other (sym same_as)))))
         ∙ sym (filter-append (writes_to p s b) s.performed (e ∷ [])))))
@@ -129,7 +119,7 @@ listed_performed p s e none listed = record {
   cells = listed.cells;
   lists = λ a inside. listed.lists a inside ∙ (sym (append-nil (filter (writes_to p s a) s.performed))
       ∙ (ap (λ (l : List ℕ). filter (writes_to p s a) s.performed ++ l)
-      (sym (filter_one_no (writes_to p s a) e
+      (sym (filter_no (writes_to p s a) e []
       (ap (λ (z : Option ℕ). is_address z a) none ∙ is_address_none a)))
       ∙ sym (filter-append (writes_to p s a) s.performed (e ∷ []))));
 }
@@ -140,9 +130,7 @@ pub latest_written : (s : State) (caches : moesi.CacheState) (a value e : ℕ) �
     → ((b : ℕ) → moesi.current caches b ≡ cond (b == a) (value, Some e) (current_copy s b)) → IsLatest s
     → IsLatest (written s caches a e)
 latest_written s caches a value e at cells large sets latest b inside = elim (cases_eq b a) [
-  | inl here ↦ subst (λ (z : ℕ). (moesi.current caches z).1
-      ≡ last_of (get_or (slice_set s.write_lists a (get_or s.write_lists a [] ++ e ∷ [])) z [])) (sym here)
-      (ap (λ (z : ℕ × Option ℕ). z.1) (subst
+  | inl here ↦ rw here (ap (λ (z : ℕ × Option ℕ). z.1) (subst
       (λ (q : Bool). moesi.current caches a ≡ cond q (value, Some e) (current_copy s a)) (eq-eqb a a refl)
       (sets a))
       ∙ (sym (last_push (get_or s.write_lists a []) e)
@@ -183,6 +171,5 @@ loaded_newest p s c a what at listed latest coherent stores once once_waiting ap
         (λ e h. is_address_true (written_address (done_by p s e)) a h)
         (λ e h. is_address_back (written_address (done_by p s e)) a h) once says)
     go (Some y) says is =
-        subst (λ (z : ℕ × Option ℕ). IsNewest (static_of p s) (seen (snapshot_of p s) c) a z.1)
-        (pair_one (y.value, Some y.event) what is)
+        rw (← pair_one (y.value, Some y.event) what is)
         (newest_in_buffer p s s.performed (buffer_of s c) a y apart says)

@@ -8,6 +8,8 @@ use Rattle.moesi.specs.declared.error.CacheError.{CacheError}
 use Rattle.machine.specs.declared.fault.Fault.{Fault}
 use Rattle.machine.specs.declared.fault.Fault.TheVariants.{NoBypass, YoungestFirst, OpenFence, StaleShare}
 use Rattle.machine.specs.declared.fault.Fault.TheVariants.{EarlyRmw}
+use Rattle.machine.specs.declared.step.Transaction.{Transaction}
+use Rattle.machine.specs.declared.step.Transaction.TheVariants.{GetS, GetM, Put}
 
 -- the waiting store that a load of address a gets: the youngest to a; none with NoBypass
 abbrev pub forwarded : Fault → List Entry → ℕ → Option Entry
@@ -34,6 +36,12 @@ may_rmw fault entries = length entries == 0
 abbrev pub get_m_under : Fault → moesi.CacheState → ℕ → ℕ → Result moesi.CacheState CacheError
 get_m_under StaleShare caches c a = moesi.get_m_stale caches c a
 get_m_under fault caches c a = moesi.get_m caches c a
+
+-- what a transaction of core c at address a does
+abbrev pub transacted : Fault → Transaction → moesi.CacheState → ℕ → ℕ → Result moesi.CacheState CacheError
+transacted fault GetS caches c a = moesi.get_s caches c a
+transacted fault GetM caches c a = get_m_under fault caches c a
+transacted fault Put caches c a = moesi.put caches c a
 
 -- the entries but the one at place i
 abbrev pub without : ℕ → List Entry → List Entry

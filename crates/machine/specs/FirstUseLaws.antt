@@ -28,10 +28,9 @@ pub record HaveAddressesOf (p : List (List Op)) (x : Execution) : Type 0 where
   pub count : length (placed_from 0 p) ≡ event_count x
   pub each : (e : ℕ) → HasAddressOf (placed_op p e).1 (event_at x e)
 
--- the operations of all cores, one after another
-flat : List (List Op) → List Op
-flat [] = []
-flat (ops ∷ rest) = ops ++ flat rest
+-- the operations of all cores, by number
+abbrev by_number : ℕ → List (List Op) → List Op
+by_number k cores = map (λ (z : ℕ × Op). z.1) (placed_from k cores)
 
 -- addresses used after one list and then another
 use_both : (m : ℕ) (xs ys : List Op)
@@ -45,30 +44,25 @@ use_both m (op ∷ xs) ys = go (λ k. use_both k xs ys) (use_addr m (addr_of op)
     go more None = refl
     go more (Some k) = more k
 
--- addresses used after all cores
-use_flat : (m : ℕ) (cores : List (List Op)) → use_cores m cores ≡ use_ops m (flat cores)
-unfolding flat
-use_flat m [] = refl
-use_flat m (ops ∷ cores) = go (λ k. use_flat k cores) (use_ops m ops) ∙ sym (use_both m ops (flat cores))
-  where
-    go : ((k : ℕ) → use_cores k cores ≡ use_ops k (flat cores)) → (o : Option ℕ)
-        → option_and_then (λ k. use_cores k cores) o ≡ option_and_then (λ k. use_ops k (flat cores)) o
-    go more None = refl
-    go more (Some k) = more k
-
 -- what stands beside the core
 untagged : (k : ℕ) (ops : List Op) → map (λ (z : ℕ × Op). z.1) (map (λ (op : Op). (k, op)) ops) ≡ ops
 untagged k [] = refl
 untagged k (op ∷ ops) = ap (λ (l : List Op). op ∷ l) (untagged k ops)
 
--- the operations by number are those of all cores
-flat_placed : (k : ℕ) (cores : List (List Op)) → map (λ (z : ℕ × Op). z.1) (placed_from k cores) ≡ flat cores
-unfolding flat
-flat_placed k [] = refl
-flat_placed k (ops ∷ cores) =
-    map-append (λ (z : ℕ × Op). z.1) (map (λ (op : Op). (k, op)) ops) (placed_from (k + 1) cores)
-    ∙ (ap (λ (l : List Op). l ++ map (λ (z : ℕ × Op). z.1) (placed_from (k + 1) cores)) (untagged k ops)
-    ∙ ap (λ (l : List Op). ops ++ l) (flat_placed (k + 1) cores))
+-- addresses used after all cores
+use_all : (k m : ℕ) (cores : List (List Op)) → use_cores m cores ≡ use_ops m (by_number k cores)
+use_all k m [] = refl
+use_all k m (ops ∷ cores) =
+    let rest : List Op = by_number (k + 1) cores in
+    go (λ i. use_all (k + 1) i cores) (use_ops m ops) ∙ sym (ap (use_ops m)
+    (map-append (λ (z : ℕ × Op). z.1) (map (λ (op : Op). (k, op)) ops) (placed_from (k + 1) cores)
+    ∙ ap (λ (l : List Op). l ++ rest) (untagged k ops)) ∙ use_both m ops rest)
+  where
+    go : ((i : ℕ) → use_cores i cores ≡ use_ops i (by_number (k + 1) cores)) → (o : Option ℕ)
+        → option_and_then (λ i. use_cores i cores) o
+        ≡ option_and_then (λ i. use_ops i (by_number (k + 1) cores)) o
+    go more None = refl
+    go more (Some i) = more i
 
 -- an address that is used too early
 use_late : (k a : ℕ) → k < a → use_addr k (Some a) ≡ None
@@ -248,20 +242,16 @@ module _ (x : Execution) where
 
   module _ (p : List (List Op)) (have : HaveAddressesOf p x) where
     -- all operations stand from the first event on
-    all_stand : Stands (flat p) 0
+    all_stand : Stands (by_number 0 p) 0
     all_stand =
-        let as_placed : map (λ (z : ℕ × Op). z.1) (placed_from 0 p) ≡ flat p = flat_placed 0 p in
-        let long : length (flat p) ≡ event_count x =
-        ap (λ (q : List Op). length q) (sym as_placed)
-        ∙ (length-map (placed_from 0 p) (λ (z : ℕ × Op). z.1) ∙ have.count) in
+        let long : length (by_number 0 p) ≡ event_count x =
+        length-map (placed_from 0 p) (λ (z : ℕ × Op). z.1) ∙ have.count in
         record {
           ops = λ i inside.
-              let op : get_or (flat p) i Fence ≡ (placed_op p i).1 =
-              ap (λ (q : List Op). get_or q i Fence) (sym as_placed)
-              ∙ lists.get_or-map (λ (z : ℕ × Op). z.1) (placed_from 0 p) i (0, Fence) in
+              let op : get_or (by_number 0 p) i Fence ≡ (placed_op p i).1 =
+              lists.get_or-map (λ (z : ℕ × Op). z.1) (placed_from 0 p) i (0, Fence) in
               let e : i ≡ 0 + i = omega arith in
-              subst (λ (o : Op). HasAddressOf o (event_at x (0 + i))) (sym op)
-              (subst (λ (n : ℕ). HasAddressOf (placed_op p i).1 (event_at x n)) e (have.each i));
+              rw op (subst (λ (n : ℕ). HasAddressOf (placed_op p i).1 (event_at x n)) e (have.each i));
           last = λ e a uses. let event : e < event_count x = elim uses [
             | inl reads ↦ Reads-event x e a reads
             | inr writes ↦ Writes-event x e a writes
@@ -272,10 +262,10 @@ module _ (x : Execution) where
     pub numbered_counts : IsNumberedByFirstUse x → ((e a : ℕ) → Uses x e a → a < length x.write_lists)
         → use_cores 0 p ≡ Some (length x.write_lists)
     numbered_counts numbered addresses =
-        use_flat 0 p ∙ numbered_on numbered addresses (flat p) 0 0 all_stand used_none
+        use_all 0 0 p ∙ numbered_on numbered addresses (by_number 0 p) 0 0 all_stand used_none
 
     -- and the other way round
     pub counts_numbered : use_cores 0 p ≡ Some (length x.write_lists) → IsNumberedByFirstUse x
     counts_numbered to =
-        let all : Numbers 0 = numbers_on (flat p) 0 0 all_stand used_none (sym (use_flat 0 p) ∙ to) in
+        let all : Numbers 0 = numbers_on (by_number 0 p) 0 0 all_stand used_none (sym (use_all 0 0 p) ∙ to) in
         record { used = all.used; in_order = λ e a b uses less. all.in_order e a b (omega arith) uses less }

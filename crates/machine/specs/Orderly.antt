@@ -1,5 +1,5 @@
 -- What holds of every state that a run without fault leads to.
-use Rattle.std.specs.Prelude.{◌≡◌, ◌<◌, ◌≤◌, ◌+◌, ◌&&◌, ℕ, Bool, true, false, List, [], ◌∷◌, ◌++◌, map, take}
+use Rattle.std.specs.Prelude.{◌≡◌, ◌<◌, ◌≤◌, ◌+◌, ◌&&◌, ℕ, Bool, true, false, Option, Some, None, List, [], ◌∷◌, ◌++◌, map, take}
 use Rattle.std.specs.Prelude.{length, slice_index_or, sum, sum_by, count_by, All}
 use Rattle.program.specs.declared.op.Op.{Op}
 use Rattle.program.specs.declared.op.Op.TheVariants.{St, Ld, Fence, Swap, Add, Cas}
@@ -34,6 +34,15 @@ is_ld Fence = false
 is_ld (Swap a v) = false
 is_ld (Add a v) = false
 is_ld (Cas a e v) = false
+
+-- the address that an operation reads, if it reads
+abbrev pub op_reads : Op → Option ℕ
+op_reads (St a v) = None
+op_reads (Ld a) = Some a
+op_reads Fence = None
+op_reads (Swap a v) = Some a
+op_reads (Add a v) = Some a
+op_reads (Cas a e v) = Some a
 
 -- e is earlier than f on one core
 abbrev pub IsBefore : List (List Op) → ℕ → ℕ → Type 0

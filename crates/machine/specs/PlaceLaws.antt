@@ -1,11 +1,38 @@
 -- Laws of where the events of a program stand on their cores.
-use Rattle.std.proofs.Common.{◌≡◌, ◌<◌, ◌≤◌, ◌+◌, ℕ, List, [], length, get_or, arith, sym, ap, subst, ◌∙◌}
+use Rattle.std.proofs.Common.{◌≡◌, ◌<◌, ◌≤◌, ◌+◌, inl, inr, ℕ, suc, cond, List, [], ◌∷◌, take, length, get_or, arith}
+use Rattle.std.proofs.Common.{sym, ap, subst, ◌∙◌}
+use Rattle.std.specs.List.{sum, sum_by, count_by}
+use Rattle.std.proofs.lemmas.Bool.{cases_Bool}
+use Rattle.std.proofs.lemmas.List.Sums.{sum_by-cons, count_by_more_yes, count_by_more_no}
 use Rattle.program.specs.declared.op.Op.{Op}
 use Rattle.program.specs.declared.op.Op.TheVariants.{Fence}
 use Rattle.recording.specs.Execution.{placed_from}
 use Rattle.recording.specs.PlacedLaws.{placed_at, located}
 use Rattle.machine.specs.State.{first_event}
-use Rattle.machine.specs.Orderly.{placed_op}
+use Rattle.machine.specs.Orderly.{placed_op, is_st}
+
+-- each core is within its operations, so all together are
+pub places_within : (places : List ℕ) (p : List (List Op)) → length places ≡ length p
+    → ((c : ℕ) → get_or places c 0 ≤ length (get_or p c [])) → sum places ≤ sum_by (λ ops. length ops) p
+places_within [] [] l h = omega arith
+places_within [] (ops ∷ p) l h = omega arith
+places_within (i ∷ places) [] l h = absurd (omega (arith, l))
+places_within (i ∷ places) (ops ∷ p) l h =
+    omega (
+      arith,
+      sum_by-cons (λ (k : ℕ). k) i places,
+      sum_by-cons (λ (os : List Op). length os) ops p,
+      h 0,
+      places_within places p (omega (arith, l)) (λ c. h (suc c)),
+    )
+
+-- the plain stores among the first operations, and one operation more
+pub stores_more : (i : ℕ) (ops : List Op) → i < length ops
+    → count_by is_st (take (i + 1) ops) ≡ count_by is_st (take i ops) + cond (is_st (get_or ops i Fence)) 1 0
+stores_more i ops h = elim (cases_Bool (is_st (get_or ops i Fence))) [
+  | inl holds ↦ rw holds (count_by_more_yes is_st ops i Fence h holds)
+  | inr fails ↦ rw fails (omega (arith, count_by_more_no is_st ops i Fence h fails))
+]
 
 module _ (p : List (List Op)) (e : ℕ) (event : e < length (placed_from 0 p)) where
   -- the core of event e
@@ -35,5 +62,4 @@ module _ (p : List (List Op)) (e : ℕ) (event : e < length (placed_from 0 p)) w
   -- it comes before the end of its core
   pub event_before : e < first_event p ((placed_op p e).0) + length (get_or p ((placed_op p e).0) [])
   event_before =
-      subst (λ (c : ℕ). e < first_event p c + length (get_or p c [])) (sym event_core)
-      (omega (arith, (located 0 p e event).4, (located 0 p e event).3))
+      rw event_core (omega (arith, (located 0 p e event).4, (located 0 p e event).3))

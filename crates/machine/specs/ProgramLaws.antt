@@ -9,12 +9,13 @@ use Rattle.program.specs.declared.op.Op.TheVariants.{St, Ld, Fence, Swap, Add, C
 use Rattle.program.specs.Parts.{Parts, addr_of}
 use Rattle.recording.specs.declared.event.Event.{Event}
 use Rattle.recording.specs.declared.event.Event.TheVariants.{R, C, F}
-use Rattle.recording.specs.Event.{read_address, written_address, value_read, source}
+use Rattle.recording.specs.Event.{read_address, written_address, value_read, source, is_plain_store}
+use Rattle.recording.specs.Event.{is_plain_load}
 use Rattle.recording.specs.EventLaws.{placed_here, placed_behind}
 use Rattle.recording.specs.Execution.{Execution, placed_from, event_count, event_at}
 use Rattle.recording.specs.PlacedLaws.{tagged}
 use Rattle.machine.specs.State.{State, event_of, cores_from, recorded}
-use Rattle.machine.specs.Orderly.{placed_op}
+use Rattle.machine.specs.Orderly.{placed_op, is_st, is_ld, op_reads}
 use Rattle.machine.specs.ProgramOf.{Makes, AreOpsOf, IsProgramOf}
 use Rattle.machine.specs.RecordedLaws.{events_length, events_at, cores_length}
 use Rattle.machine.specs.FirstUseLaws.{HasAddressOf, HaveAddressesOf}
@@ -45,8 +46,7 @@ placed_makes k (ops ∷ p) (es ∷ cores) i count are =
       | inl here ↦
           let event : get_or (placed_from k (es ∷ cores)) i (0, F) ≡ (k, get_or es i F) =
           placed_here k es cores i (0, F) (omega (arith, here, first.one_each)) in
-          subst (λ (z : ℕ × Op). Makes z.1 (get_or (placed_from k (es ∷ cores)) i (0, F)).1)
-          (sym (op_here k ops p i (0, Fence) here))
+          rw (op_here k ops p i (0, Fence) here)
           (subst (λ (z : ℕ × Event). Makes (get_or ops i Fence) z.1) (sym event) (first.each i here))
       | inr behind ↦
           let same : i - length es ≡ i - length ops = omega (arith, first.one_each) in
@@ -54,10 +54,7 @@ placed_makes k (ops ∷ p) (es ∷ cores) i count are =
           ≡ get_or (placed_from (k + 1) cores) (i - length ops) (0, F) =
           placed_behind k es cores i (0, F) (omega (arith, behind, first.one_each))
           ∙ ap (λ (n : ℕ). get_or (placed_from (k + 1) cores) n (0, F)) same in
-          subst (λ (z : ℕ × Op). Makes z.1 (get_or (placed_from k (es ∷ cores)) i (0, F)).1)
-          (sym (op_behind k ops p i (0, Fence) behind))
-          (subst (λ (z : ℕ × Event).
-          Makes (get_or (placed_from (k + 1) p) (i - length ops) (0, Fence)).1 z.1) (sym event)
+          rw (op_behind k ops p i (0, Fence) behind) (rw event
           (placed_makes (k + 1) p cores (i - length ops) (omega arith)
           (λ c h. are (suc c) (omega (arith, h)))))
     ]
@@ -87,6 +84,39 @@ pub event_made : (p : Parts) (x : Execution) → IsProgramOf p x → (e : ℕ)
 unfolding event_at
 event_made p x is e = placed_makes 0 p.cores x.cores e is.cores is.ops
 
+-- what is the same of an event that writes and of one that doesn't
+both : {A : Type 0} (f : Event → A) (c : A) (a : ℕ) (d : ℕ × Option ℕ) (v : ℕ) (b : Bool)
+    → f (R a d.0 d.1 v) ≡ c → f (C a d.0 d.1) ≡ c → f (cond b (R a d.0 d.1 v) (C a d.0 d.1)) ≡ c
+both f c a d v true wrote failed = wrote
+both f c a d v false wrote failed = failed
+
+-- an event reads, stores and loads as its operation says
+pub same_kind : (op : Op) (d : ℕ × Option ℕ) → (read_address (event_of op d) ≡ op_reads op)
+    × (is_plain_store (event_of op d) ≡ is_st op) × (is_plain_load (event_of op d) ≡ is_ld op)
+same_kind (St a v) d = (refl, refl, refl)
+same_kind (Ld a) d = (refl, refl, refl)
+same_kind Fence d = (refl, refl, refl)
+same_kind (Swap a v) d = (refl, refl, refl)
+same_kind (Add a v) d = (refl, refl, refl)
+same_kind (Cas a e v) d = (
+  both read_address (Some a) a d v (d.0 == e) refl refl,
+  both is_plain_store false a d v (d.0 == e) refl refl,
+  both is_plain_load false a d v (d.0 == e) refl refl,
+)
+
+-- an event read what it was given
+pub value_same : (op : Op) (d : ℕ × Option ℕ) (a : ℕ) → op_reads op ≡ Some a
+    → (source (event_of op d) ≡ d.1) × (value_read (event_of op d) ≡ d.0)
+value_same (St b v) d a h = absurd cc
+value_same (Ld b) d a h = (refl, refl)
+value_same Fence d a h = absurd cc
+value_same (Swap b v) d a h = (refl, refl)
+value_same (Add b v) d a h = (refl, refl)
+value_same (Cas b e v) d a h = (
+  both source d.1 b d v (d.0 == e) refl refl,
+  both value_read d.0 b d v (d.0 == e) refl refl,
+)
+
 -- a compare-and-swap uses its address, whether it writes or not
 either_uses : (t : Bool) (b : ℕ) (d : ℕ × Option ℕ) (v a : ℕ)
     → (read_address (cond t (R b d.0 d.1 v) (C b d.0 d.1)) ≡ Some a)
@@ -96,14 +126,8 @@ either_uses true b d v a (inr h) = h
 either_uses false b d v a (inl h) = h
 either_uses false b d v a (inr h) = absurd cc
 
--- and it reads it
-either_reads : (t : Bool) (b : ℕ) (d : ℕ × Option ℕ) (v a : ℕ) → Some b ≡ Some a
-    → read_address (cond t (R b d.0 d.1 v) (C b d.0 d.1)) ≡ Some a
-either_reads true b d v a h = h
-either_reads false b d v a h = h
-
 -- the event that an operation makes uses its address
-own_used : (op : Op) (d : ℕ × Option ℕ) (a : ℕ)
+pub own_used : (op : Op) (d : ℕ × Option ℕ) (a : ℕ)
     → (read_address (event_of op d) ≡ Some a) ⊎ (written_address (event_of op d) ≡ Some a)
     → addr_of op ≡ Some a
 own_used (St b v) d a (inl h) = absurd cc
@@ -119,14 +143,14 @@ own_used (Add b v) d a (inr h) = h
 own_used (Cas b e v) d a uses = either_uses (d.0 == e) b d v a uses
 
 -- and no other
-used_own : (op : Op) (d : ℕ × Option ℕ) (a : ℕ) → addr_of op ≡ Some a
+pub used_own : (op : Op) (d : ℕ × Option ℕ) (a : ℕ) → addr_of op ≡ Some a
     → (read_address (event_of op d) ≡ Some a) ⊎ (written_address (event_of op d) ≡ Some a)
 used_own (St b v) d a h = inr h
 used_own (Ld b) d a h = inl h
 used_own Fence d a h = absurd cc
 used_own (Swap b v) d a h = inl h
 used_own (Add b v) d a h = inl h
-used_own (Cas b e v) d a h = inl (either_reads (d.0 == e) b d v a h)
+used_own (Cas b e v) d a h = inl (both read_address (Some a) b d v (d.0 == e) h h)
 
 -- so the operations of a recording's program have the addresses of its events
 pub made_addresses : (p : Parts) (x : Execution) → IsProgramOf p x → HaveAddressesOf p.cores x
@@ -159,8 +183,7 @@ cores_made : (e : ℕ) (p : List (List Op)) (reads : List (ℕ × Option ℕ)) (
 cores_made e [] reads c h = absurd (omega arith)
 cores_made e (ops ∷ p) reads zero h = record {
   one_each = sym (events_length e ops reads);
-  each = λ i below. subst (λ (ev : Event). Makes (get_or ops i Fence) ev) (sym (events_at e ops reads i))
-      (makes_own (get_or ops i Fence) (get_or reads (e + i) (0, None)));
+  each = λ i below. rw (events_at e ops reads i) (makes_own (get_or ops i Fence) (get_or reads (e + i) (0, None)));
 }
 cores_made e (ops ∷ p) reads (suc c) h = cores_made (e + length ops) p reads c (omega (arith, h))
 

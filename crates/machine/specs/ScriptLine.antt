@@ -7,8 +7,8 @@ use Rattle.program.specs.Lines.{begins, is_space}
 use Rattle.program.specs.Numbers.{decimal_of}
 use Rattle.machine.specs.declared.script_line.CoreStep.{CoreStep}
 use Rattle.machine.specs.declared.script_line.CoreStep.TheVariants.{Exec, Drain}
-use Rattle.machine.specs.declared.script_line.Transaction.{Transaction}
-use Rattle.machine.specs.declared.script_line.Transaction.TheVariants.{GetS, GetM, Put}
+use Rattle.machine.specs.declared.step.Transaction.{Transaction}
+use Rattle.machine.specs.declared.step.Transaction.TheVariants.{GetS, GetM, Put}
 use Rattle.machine.specs.declared.step.Step.{Step}
 use Rattle.machine.specs.declared.step.Step.TheVariants as steps
 

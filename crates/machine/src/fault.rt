@@ -1,5 +1,6 @@
 //! Faults of the machine.
 
+use crate::step::Transaction;
 use common::{Addr, CoreId};
 use moesi::{CacheError, Caches};
 use write_buffer::{Entry, WriteBuffer};
@@ -23,7 +24,7 @@ pub enum Fault {
 
 impl Fault {
     ghost use Rattle.std.specs.Prelude.{◌≡◌, ◌<◌, Ok, Err, length, slice_get, OnOk, OnErr, IfErr};
-    ghost use Rattle.machine.specs.Faults.{forwarded, draining, without, may_fence, may_rmw, get_m_under};
+    ghost use Rattle.machine.specs.Faults.{forwarded, draining, without, may_fence, may_rmw, transacted};
 
     /// The store that a load of an address gets from its core's buffer.
     pub(crate) fn forwarded(self, buffer: &WriteBuffer, addr: Addr) -> Option<Entry>
@@ -77,24 +78,29 @@ impl Fault {
         }
     }
 
-    /// GetM.
-    pub(crate) fn get_m(
+    /// Makes a transaction of a core's line, where the caches allow it.
+    pub(crate) fn transact(
         self,
         caches: &mut Caches,
+        kind: Transaction,
         core: CoreId,
         addr: Addr,
     ) -> Result<(), CacheError>
         requires core { core < caches.old.cores }
         requires address { addr < length caches.old.blocks }
-        ensures ok { OnOk result (get_m_under self caches.old core addr ≡ Ok caches.new) }
-        ensures refused { IfErr result (λ e. get_m_under self caches.old core addr ≡ Err e) }
+        ensures ok { OnOk result (transacted self kind caches.old core addr ≡ Ok caches.new) }
+        ensures refused { IfErr result (λ e. transacted self kind caches.old core addr ≡ Err e) }
         ensures unchanged { OnErr result (caches.new ≡ caches.old) }
         ensures cores { caches.new.cores ≡ caches.old.cores }
         ensures addresses { length caches.new.blocks ≡ length caches.old.blocks }
     {
-        match self {
-            Fault::StaleShare => caches.get_m_stale(core, addr),
-            _ => caches.get_m(core, addr),
+        match kind {
+            Transaction::GetS => caches.get_s(core, addr),
+            Transaction::GetM => match self {
+                Fault::StaleShare => caches.get_m_stale(core, addr),
+                _ => caches.get_m(core, addr),
+            },
+            Transaction::Put => caches.put(core, addr),
         }
     }
 }

@@ -3,7 +3,7 @@
 use crate::blocked::Blocked;
 use crate::law::faults_change_one_row;
 use crate::machine::Machine;
-use crate::step::Step;
+use crate::step::{Step, Transaction};
 use common::{CoreId, EventId};
 use program::Op;
 
@@ -62,9 +62,9 @@ impl Machine {
         match step {
             Step::Exec(core) => self.exec(core),
             Step::Drain(core) => self.drain(core),
-            Step::GetS(core, addr) => self.get_s(core, addr),
-            Step::GetM(core, addr) => self.get_m(core, addr),
-            Step::Put(core, addr) => self.put(core, addr),
+            Step::GetS(core, addr) => self.transact(Transaction::GetS, core, addr),
+            Step::GetM(core, addr) => self.transact(Transaction::GetM, core, addr),
+            Step::Put(core, addr) => self.transact(Transaction::Put, core, addr),
         }
     }
 

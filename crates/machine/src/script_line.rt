@@ -6,7 +6,7 @@ ghost use Rattle.machine.specs.ScriptLine.{own_of, transaction_of, script_line_o
 ghost use Rattle.machine.specs.ScriptLine.{transaction_step};
 ghost use Rattle.machine.specs.ParsedScriptLine.{SaysScriptLine};
 
-use crate::step::Step;
+use crate::step::{Step, Transaction};
 use common::{Addr, CoreId};
 use program::{Name, Number, decimal, space_in};
 
@@ -15,14 +15,6 @@ use program::{Name, Number, decimal, space_in};
 pub enum CoreStep {
     Exec,
     Drain,
-}
-
-/// The kind of a transaction.
-#[derive(Clone, Copy)]
-pub enum Transaction {
-    GetS,
-    GetM,
-    Put,
 }
 
 /// What a line says, with its core and its name not yet looked up.

@@ -20,3 +20,11 @@ pub enum Step {
     /// The core gives its line of the address up.
     Put(CoreId, Addr),
 }
+
+/// The kind of a transaction.
+#[derive(Clone, Copy)]
+pub enum Transaction {
+    GetS,
+    GetM,
+    Put,
+}

@@ -2,18 +2,16 @@
 use Rattle.std.proofs.Common.{◌≡◌, ◌<◌, ◌+◌, ◌*◌, ℕ, Result, Ok, Err, Vec, Global, List, [], ◌∷◌}
 use Rattle.std.proofs.Common.{length, map, replicate}
 use Rattle.std.proofs.Common.{slice_index, suc, zero, arith, refl, sym, ap, subst, ◌∙◌, OnOk, OnErr, IfErr}
-use Rattle.std.specs.List.{range_with_len}
 use Rattle.std.specs.Vec.{with_items}
 use Rattle.std.proofs.lemmas.List.{with_items_is}
-use Rattle.std.proofs.lemmas.List.FromFn.{length-range_with_len}
 use Rattle.moesi.specs.declared.cell.Cell.{Cell}
 use Rattle.moesi.specs.declared.error.CacheError.{CacheError}
-use Rattle.moesi.specs.Block.{Block, cell_of, invalid, opening_block}
-use Rattle.moesi.specs.State.{CacheState, block_of, memory_of, at_address, opening_caches}
+use Rattle.moesi.specs.Block.{Block, cell_of}
+use Rattle.moesi.specs.State.{CacheState, block_of, memory_of, at_address}
 use Rattle.moesi.specs.Words.{cell_in}
 use Rattle.moesi.specs.Packed.{block_in, caches_in, IsRowOnWords}
 use Rattle.moesi.proofs.Grid.{block_at, blocks_length}
-use Rattle.moesi.proofs.Turning.{TurnsInto, caches_written, map_equal}
+use Rattle.moesi.proofs.Turning.{TurnsInto, caches_written}
 use Rattle.moesi.proofs.Replaced.{seen}
 
 -- an address of the state is one of the words
@@ -24,7 +22,7 @@ column cores n words a h = omega (arith, h, blocks_length cores n words)
 pub cell_seen : (cores n : ℕ) (words : List ℕ) (c a p : ℕ) (x : Cell) → c < cores → a < n → p ≡ c * n + a
     → x ≡ cell_in (slice_index words p) → cell_of (block_of (caches_in cores n words) a) c ≡ x
 cell_seen cores n words c a p x core at place is =
-    ap (λ (b : Block). cell_of b c) (block_at cores n words a at) ∙ seen cores n words c a p x core place is
+    ap (λ (b : Block). cell_of b c) (block_at cores n words a at) ∙ seen n words a core place is
 
 -- so it is with memory
 pub memory_seen : (cores n : ℕ) (words : List ℕ) (a p : ℕ) (x : Cell) → a < n → p ≡ cores * n + a
@@ -60,11 +58,11 @@ pub record IsAnswer {A : Type 0} (step : Block → Result Block CacheError) (a :
   pub unchanged : OnErr result (t ≡ s)
 
 -- what holds before, and wherever the row leads, holds after
-pub answer_keeps : {A : Type 0} (step : Block → Result Block CacheError) (a : ℕ) (s t : CacheState)
+pub answer_keeps : {A : Type 0} {step : Block → Result Block CacheError} {a : ℕ} {s t : CacheState}
     (result : Result A CacheError) (P : CacheState → Type 0) → IsAnswer step a s t result → P s
     → ((u : CacheState) → at_address s a (step (block_of s a)) ≡ Ok u → P u) → P t
-answer_keeps step a s t (Ok x) P h before leads = leads t h.ok
-answer_keeps step a s t (Err e) P h before leads = subst P (sym h.unchanged) before
+answer_keeps {A} {step} {a} {s} {t} (Ok x) P h before leads = leads t h.ok
+answer_keeps {A} {step} {a} {s} {t} (Err e) P h before leads = subst P (sym h.unchanged) before
 
 -- a row on the words of the caches
 row_answered : {A : Type 0} (cores n a : ℕ) (old new : List ℕ) (step : Block → Result Block CacheError)
@@ -83,47 +81,13 @@ row_answered cores n a old new step (Err e) at row = record {
 }
 
 -- a row on a slice of the words of caches that are seen
-pub answered : {A : Type 0} (cores n a : ℕ) (words : Vec ℕ Global) (slice new : List ℕ)
-    (step : Block → Result Block CacheError) (result : Result A CacheError) (s : CacheState)
-    → caches_in cores n words.items ≡ s → a < length s.blocks → slice ≡ words.items → length new ≡ words.len
-    → IsRowOnWords step cores n a slice new result
-    → IsAnswer step a s (caches_in cores n (with_items words new).items) result
-answered cores n a words slice new step result s seen address lent size row =
+pub answered : {A : Type 0} {cores n a : ℕ} {slice new : List ℕ} {step : Block → Result Block CacheError}
+    {result : Result A CacheError} {s : CacheState} → IsRowOnWords step cores n a slice new result
+    → (words : Vec ℕ Global) → caches_in cores n words.items ≡ s → a < length s.blocks → slice ≡ words.items
+    → length new ≡ words.len → IsAnswer step a s (caches_in cores n (with_items words new).items) result
+answered {A} {cores} {n} {a} {slice} {new} {step} {result} {s} row words seen address lent size =
     let there = subst (λ (t : CacheState). a < length t.blocks) (sym seen) address in
     let at : a < n = column cores n words.items a there in
     let after : List ℕ = (with_items words new).items in
-    subst (λ (t : CacheState). IsAnswer step a t (caches_in cores n after) result) seen
-    (subst (λ (ws : List ℕ). IsAnswer step a (caches_in cores n ws) (caches_in cores n after) result) lent
-    (subst (λ (ws : List ℕ). IsAnswer step a (caches_in cores n slice) (caches_in cores n ws) result)
-    (sym (with_items_is words new size)) (row_answered cores n a slice new step result at row)))
-
--- words that are all 0
-pub zeros : (k i : ℕ) → slice_index (replicate k 0) i ≡ 0
-zeros zero i = refl
-zeros (suc k) zero = refl
-zeros (suc k) (suc i) = zeros k i
-
--- a list of equal things
-map_same_thing : {X Y : Type 0} (y : Y) (xs : List X) → map (λ _. y) xs ≡ replicate (length xs) y
-map_same_thing y [] = refl
-map_same_thing y (x ∷ xs) = ap (λ ys. y ∷ ys) (map_same_thing y xs)
-
--- over a range
-map_range : {Y : Type 0} (f : ℕ → Y) (y : Y) (n : ℕ) → ((i : ℕ) → f i ≡ y)
-    → map f (range_with_len 0 n) ≡ replicate n y
-map_range f y n h =
-    map_equal f (λ _. y) (range_with_len 0 n) h
-    ∙ (map_same_thing y (range_with_len 0 n) ∙ ap (λ k. replicate k y) (length-range_with_len 0 n))
-
--- words that are all 0 are the opening state
-pub opening_words : (cores n k : ℕ) → caches_in cores n (replicate k 0) ≡ opening_caches cores n
-opening_words cores n k =
-    let words : List ℕ = replicate k 0 in
-    let block : (a : ℕ) → block_in cores n words a ≡ opening_block cores =
-    λ a. rw (
-      map_range (λ c. cell_in (slice_index words (c * n + a))) invalid cores
-          (λ c. ap cell_in (zeros k (c * n + a))),
-      zeros k (cores * n + a),
-    ) refl in
-    ap (λ (bs : List Block). record { cores = cores; blocks = bs })
-    (map_range (λ a. block_in cores n words a) (opening_block cores) n block)
+    rw (← seen) (subst (λ (ws : List ℕ). IsAnswer step a (caches_in cores n ws) (caches_in cores n after) result) lent
+    (rw (with_items_is words new size) (row_answered cores n a slice new step result at row)))

@@ -7,9 +7,9 @@ use Rattle.moesi.specs.declared.line.Line.TheVariants.{S, E}
 use Rattle.moesi.specs.declared.cell.Cell.{Cell}
 use Rattle.moesi.specs.declared.error.CacheError.{CacheError}
 use Rattle.moesi.specs.Lines.{is_valid, is_owned, is_shared}
-use Rattle.moesi.specs.Block.{Block, cell_of, invalid, opening_block, block_with, has_copy}
+use Rattle.moesi.specs.Block.{Block, cell_of, invalid, block_with, has_copy}
 use Rattle.moesi.specs.Rows as row
-use Rattle.moesi.specs.State.{CacheState, block_of, at_address, opening_caches, opening_with, write}
+use Rattle.moesi.specs.State.{CacheState, block_of, at_address, opening_with, write}
 use Rattle.moesi.specs.Laws.{IsTransaction, IsAnyTransaction, HasEmptyLines}
 use Rattle.moesi.specs.LineLaws.{lowered_valid}
 use Rattle.moesi.specs.BlockLaws.{all_invalid}
@@ -40,8 +40,7 @@ turn b f c x m before kept still new e =
 turn_one : (b : Block) (c : ℕ) (x : Cell) (m : ℕ × Option ℕ) → EmptyBlock b → EmptyCell x
     → EmptyBlock (record { lines = slice_set b.lines c x; memory = m })
 turn_one b c x m before new =
-    subst (λ (ys : List Cell). EmptyBlock (record { lines = slice_set ys c x; memory = m }))
-    (map_same b.lines) (turn b (λ y. y) c x m before (λ y h. h) refl new)
+    rw (← map_same b.lines) (turn b (λ y. y) c x m before (λ y h. h) refl new)
 
 -- the line that GetS gives is valid
 valid_fill : (q : Bool) → is_valid (cond q S E) ≡ true
@@ -121,16 +120,6 @@ empty_fill : (n : ℕ) (d : ℕ) → EmptyCell (slice_index_or (replicate n inva
 empty_fill n d g = rw (all_invalid n d) refl
 
 -- at first each line is in I, and empty
-pub empty_opening : (cores addresses : ℕ) → HasEmptyLines (opening_caches cores addresses)
-empty_opening cores addresses c a h = both addresses (opening_block cores) (empty_fill cores) a c h
-  where
-    both : (n : ℕ) (b : Block) → EmptyBlock b → (i : ℕ)
-        → EmptyBlock (slice_index_or (replicate n b) i (record { lines = []; memory = (0, None) }))
-    both zero b p i = λ d g. refl
-    both (suc n) b p zero = p
-    both (suc n) b p (suc i) = both n b p i
-
--- whatever memory begins with
 pub empty_opening_with : (cores : ℕ) (init : List ℕ) → HasEmptyLines (opening_with cores init)
 empty_opening_with cores init c a h = all init a c h
   where

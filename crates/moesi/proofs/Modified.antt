@@ -26,6 +26,6 @@ write_taken cores n words c a p w value event size core at place is on =
     ap (λ (k : Block). is_exclusive (cell_of k c).line) (sym (block_at cores n words a at)) ∙ on in
     let next : Block = record { lines = slice_set b.lines c x; memory = b.memory } in
     let turns : TurnsInto cores n a words (slice_set words p w) next =
-    turns_line cores n a words words b size at (turns_none cores n a words) c p w x core place is in
+    turns_line size at (turns_none cores n a words) c p w x core place is in
     taken_state cores n a words (λ (k : Block). row.write k c (value, Some event)) at (slice_set words p w)
     next turns (cond-true _ _ _ exclusive)

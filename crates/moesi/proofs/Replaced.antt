@@ -10,9 +10,9 @@ use Rattle.moesi.proofs.Turning.{TurnsInto, line_written, memory_written, word_e
 use Rattle.moesi.proofs.Turning.{both_elsewhere}
 
 -- what a core has of the address is what its word stands for
-pub seen : (cores n : ℕ) (words : List ℕ) (c a p : ℕ) (x : Cell) → c < cores → p ≡ c * n + a
+pub seen : {cores : ℕ} (n : ℕ) (words : List ℕ) (a : ℕ) {c p : ℕ} {x : Cell} → c < cores → p ≡ c * n + a
     → x ≡ cell_in (slice_index words p) → cell_of (block_in cores n words a) c ≡ x
-seen cores n words c a p x core place is =
+seen {cores} n words a {c} {p} {x} core place is =
     line_at cores n words c a invalid core
     ∙ sym (is ∙ ap (λ (i : ℕ). cell_in (slice_index words i)) place)
 
@@ -20,7 +20,7 @@ seen cores n words c a p x core place is =
 pub turns_none : (cores n a : ℕ) (words : List ℕ) → TurnsInto cores n a words words (block_in cores n words a)
 turns_none cores n a words = record { turned = refl; elsewhere = none_elsewhere cores n a words }
 
-module _ (cores n a : ℕ) (old mid : List ℕ) (b : Block) (size : AreWords cores n old) (column : a < n)
+module _ {cores n a : ℕ} {old mid : List ℕ} {b : Block} (size : AreWords cores n old) (column : a < n)
     (before : TurnsInto cores n a old mid b) where
   -- there are as many words as before
   sized : AreWords cores n mid

@@ -154,16 +154,16 @@ pub record TurnsInto (cores n a : ℕ) (old new : List ℕ) (b : Block) : Type 0
   pub elsewhere : StaysElsewhere cores n a old new
 
 -- a row that is refused
-pub row_refused : {A : Type 0} (row : Block → Result Block CacheError) (cores n a : ℕ) (words : List ℕ) (e : CacheError)
+pub row_refused : {A : Type 0} {row : Block → Result Block CacheError} {cores n a : ℕ} {words : List ℕ} {e : CacheError}
     → row (block_in cores n words a) ≡ Err e → IsRowOnWords {A = A} row cores n a words words (Err e)
-row_refused row cores n a words e h =
+row_refused {A} {row} {cores} {n} {a} {words} {e} h =
     record { ok = tt; refused = h; unchanged = refl; elsewhere = none_elsewhere cores n a words }
 
 -- a row that is taken
-pub row_taken : {A : Type 0} (row : Block → Result Block CacheError) (cores n a : ℕ) (old new : List ℕ) (b : Block)
-    (x : A) → TurnsInto cores n a old new b → row (block_in cores n old a) ≡ Ok b
+pub row_taken : {A : Type 0} {row : Block → Result Block CacheError} {cores n a : ℕ} {old new : List ℕ} {b : Block}
+    {x : A} → TurnsInto cores n a old new b → row (block_in cores n old a) ≡ Ok b
     → IsRowOnWords row cores n a old new (Ok x)
-row_taken row cores n a old new b x turns h =
+row_taken {A} {row} {cores} {n} {a} {old} {new} {b} {x} turns h =
     record { ok = h ∙ ap Ok (sym turns.turned); refused = tt; unchanged = tt; elsewhere = turns.elsewhere }
 
 -- at last all of them did

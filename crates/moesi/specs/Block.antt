@@ -16,11 +16,7 @@ pub record Block : Type 0 where
 abbrev pub invalid : Cell
 invalid = record { line = I; copy = (0, None) }
 
--- at first each line is in I, and memory is 0 with no event
-abbrev pub opening_block : ℕ → Block
-opening_block cores = record { lines = replicate cores invalid; memory = (0, None) }
-
--- the same where memory has a value with no event
+-- at first each line is in I, and memory has a value with no event
 abbrev pub block_with : ℕ → ℕ → Block
 block_with cores value = record { lines = replicate cores invalid; memory = (value, None) }
 

@@ -4,10 +4,10 @@ use Rattle.std.proofs.Common.{Result, Ok, Err, [], length, map, slice_index_or, 
 use Rattle.std.proofs.Common.{zero, arith, refl, sym, ap, subst, ◌∙◌, get_or-set_other, get_or-set_same}
 use Rattle.std.proofs.Common.{length-set, List, ◌∷◌, slice_index}
 use Rattle.std.proofs.lemmas.Bool.{cases_eq, eq-eqb, ne_eqb}
-use Rattle.std.proofs.lemmas.List.{length-map, length-replicate, get_or-replicate, get_or-map}
+use Rattle.std.proofs.lemmas.List.{length-map, length-replicate, get_or-map}
 use Rattle.moesi.specs.declared.error.CacheError.{CacheError}
 use Rattle.moesi.specs.Lines.{is_valid, is_owned}
-use Rattle.moesi.specs.Block.{Block, invalid, opening_block, block_with}
+use Rattle.moesi.specs.Block.{Block, invalid, block_with}
 use Rattle.moesi.specs.Rows as row
 use Rattle.moesi.specs.State.{CacheState, opening_caches, opening_with, block_of, current, at_address}
 use Rattle.moesi.specs.State.{get_s, get_m, put, read, write}
@@ -15,53 +15,10 @@ use Rattle.moesi.specs.Coherent.{IsCoherent}
 use Rattle.moesi.specs.Laws.{IsTransaction, OpeningIsCoherent, OpeningWithIsCoherent, EveryCallKeepsCoherence}
 use Rattle.moesi.specs.Laws.{EveryCopyIsCurrent, EveryReadIsCurrent, EveryTransactionKeepsCurrent}
 use Rattle.moesi.specs.Laws.{EveryWriteSetsCurrent}
-use Rattle.moesi.specs.RowLaws.{taken_else, taken_then}
+use Rattle.moesi.specs.RowLaws.{taken_then, IsRenewed, renewed_get_s, renewed_get_m, renewed_put}
 use Rattle.moesi.specs.BlockLaws.{IsSettled, settled_of, current_settled, coherent_settled, copy_is_current}
 use Rattle.moesi.specs.BlockLaws.{all_invalid}
-use Rattle.moesi.specs.RowLaws.{settled_get_s, settled_get_m, settled_put, settled_write}
-
--- a block becomes u, with its lines in number, and w is current there
-record IsRenewed (b u : Block) (w : ℕ × Option ℕ) : Type 0 where
-  settled : IsSettled u w
-  lines : length u.lines ≡ length b.lines
-
-module _ (b : Block) (v : ℕ × Option ℕ) (s : IsSettled b v) (c : ℕ) (at : c < length b.lines) (u : Block)
-  where
-    -- GetS renews its block
-    renewed_get_s : row.get_s b c ≡ Ok u → IsRenewed b u v
-    renewed_get_s h =
-        let k = taken_else _ _ _ u h in
-        subst (λ (t : Block). IsRenewed b t v) k.1
-        (record {
-          settled = settled_get_s b v s c at k.0;
-          lines =
-              length-set (map row.shared b.lines) c _ ∙ length-map b.lines row.shared;
-        })
-
-    -- GetM renews its block
-    renewed_get_m : row.get_m b c ≡ Ok u → IsRenewed b u v
-    renewed_get_m h =
-        let k = taken_else _ _ _ u h in
-        subst (λ (t : Block). IsRenewed b t v) k.1
-        (record {
-          settled = settled_get_m b v s c at;
-          lines =
-              length-set (map row.invalidated b.lines) c _ ∙ length-map b.lines row.invalidated;
-        })
-
-    -- Put renews its block
-    renewed_put : row.put b c ≡ Ok u → IsRenewed b u v
-    renewed_put h =
-        let k = taken_then _ _ _ u h in
-        subst (λ (t : Block). IsRenewed b t v) k.1
-        (record { settled = settled_put b v s c at k.0; lines = length-set b.lines c invalid })
-
-    -- a write renews its block with its own data
-    renewed_write : (w : ℕ × Option ℕ) → row.write b c w ≡ Ok u → IsRenewed b u w
-    renewed_write w h =
-        let k = taken_then _ _ _ u h in
-        subst (λ (t : Block). IsRenewed b t w) k.1
-        (record { settled = settled_write b v s c at w k.0; lines = length-set b.lines c _ })
+use Rattle.moesi.specs.RowLaws.{renewed_write}
 
 -- all addresses agree, and at a it is w that is current
 pub record IsRenewedAt (s t : CacheState) (a : ℕ) (w : ℕ × Option ℕ) : Type 0 where
@@ -138,28 +95,11 @@ module _ (s t : CacheState) (c a : ℕ) (k : IsCoherent s) (core : c < s.cores) 
   transaction_kept (inr (inl h)) = get_m_kept h
   transaction_kept (inr (inr h)) = put_kept h
 
-  -- no transaction changes what is current
-  pub transaction_current : (b : ℕ) → IsTransaction s c a t → current t b ≡ current s b
-  transaction_current b h =
-      let r = transaction_kept h in
-      elim (cases_eq b a) [ inl e ↦ rw e r.here | inr ne ↦ r.elsewhere b ne ]
-
-  -- a write changes what is current at its address alone
-  pub write_current : (value event b : ℕ) → write s c a value event ≡ Ok t
-      → current t b ≡ cond (b == a) (value, Some event) (current s b)
-  write_current value event b h =
-      let r = write_kept value event h in
-      elim (cases_eq b a) [
-        | inl e ↦ rw (eq-eqb b a e) (rw e r.here)
-        | inr ne ↦ rw (ne_eqb b a ne) (r.elsewhere b ne)
-      ]
-
--- what is read is current
-pub read_current : (s : CacheState) (c a : ℕ) (copy : ℕ × Option ℕ) → IsCoherent s → read s c a ≡ Ok copy
-    → copy ≡ current s a
-read_current s c a copy k h =
-    let r = taken_then _ _ _ copy h in
-    sym r.1 ∙ copy_is_current (block_of s a) (k.blocks a) c r.0
+-- numbers that are all 0
+pub zeros : (k i : ℕ) → slice_index (replicate k 0) i ≡ 0
+zeros zero i = refl
+zeros (suc k) zero = refl
+zeros (suc k) (suc i) = zeros k i
 
 -- a block where no line is valid
 settled_opening : (cores value : ℕ) → IsSettled (block_with cores value) (value, None)
@@ -172,36 +112,9 @@ settled_opening cores value =
       clean = λ h. refl;
     }
 
--- at first all is coherent, and 0 is current
-pub opening_coherent : (cores addresses : ℕ)
-    → IsCoherent (opening_caches cores addresses)
-    × ((a : ℕ) → current (opening_caches cores addresses) a ≡ (0, None))
-opening_coherent cores addresses =
-    let first : Block = opening_block cores in
-    let none : Block = record { lines = []; memory = (0, None) } in
-    let each : (a : ℕ) → IsSettled (block_of (opening_caches cores addresses) a) (0, None) =
-    λ a. replicated addresses first none (λ b. IsSettled b (0, None)) (settled_opening cores 0)
-    (settled_opening 0 0) a in (
-      record {
-        lines = λ a h. ap (λ (b : Block). length b.lines)
-            (get_or-replicate addresses a first none (omega (arith, h, length-replicate addresses first)))
-            ∙ length-replicate cores invalid;
-        blocks = λ a. coherent_settled _ (0, None) (each a);
-      },
-      λ a. current_settled _ (0, None) (each a),
-    )
-  where
-    replicated : (n : ℕ) (x d : Block) (P : Block → Type 0) → P x → P d → (a : ℕ)
-        → P (slice_index_or (replicate n x) a d)
-    replicated zero x d P p q a = q
-    replicated (suc n) x d P p q zero = p
-    replicated (suc n) x d P p q (suc a) = replicated n x d P p q a
-
--- so it is where memory begins with these values
-opening_with_coherent : (cores : ℕ) (init : List ℕ)
-    → IsCoherent (opening_with cores init)
-    × ((a : ℕ) → current (opening_with cores init) a ≡ (slice_index init a, None))
-opening_with_coherent cores init =
+-- the laws of `Laws`: at first all is coherent, and memory's values are current
+pub opening_with_is_coherent : OpeningWithIsCoherent
+opening_with_is_coherent cores init =
     let each : (a : ℕ) → IsSettled (block_of (opening_with cores init) a) (slice_index init a, None) =
     λ a. begun init a in (
       record {
@@ -224,13 +137,11 @@ opening_with_coherent cores init =
     begun (v ∷ values) zero = settled_opening cores v
     begun (v ∷ values) (suc a) = begun values a
 
--- the laws of `Laws`: the opening
+-- 0 where that is what memory has
 pub opening_is_coherent : OpeningIsCoherent
-opening_is_coherent = opening_coherent
-
--- with any values
-pub opening_with_is_coherent : OpeningWithIsCoherent
-opening_with_is_coherent = opening_with_coherent
+opening_is_coherent cores addresses =
+    let first = opening_with_is_coherent cores (replicate addresses 0) in
+    (first.0, λ a. first.1 a ∙ ap (λ (v : ℕ). (v, None)) (zeros addresses a))
 
 -- transactions and writes
 pub every_call_keeps_coherence : EveryCallKeepsCoherence
@@ -245,13 +156,21 @@ every_copy_is_current s c a k h = copy_is_current (block_of s a) (k.blocks a) c 
 
 -- reads
 pub every_read_is_current : EveryReadIsCurrent
-every_read_is_current = read_current
+every_read_is_current s c a copy k h =
+    let r = taken_then _ _ _ copy h in
+    sym r.1 ∙ copy_is_current (block_of s a) (k.blocks a) c r.0
 
 -- transactions
 pub every_transaction_keeps_current : EveryTransactionKeepsCurrent
-every_transaction_keeps_current s t c a b k core at made = transaction_current s t c a k core at b made
+every_transaction_keeps_current s t c a b k core at made =
+    let r = transaction_kept s t c a k core at made in
+    elim (cases_eq b a) [ inl e ↦ rw e r.here | inr ne ↦ r.elsewhere b ne ]
 
 -- writes
 pub every_write_sets_current : EveryWriteSetsCurrent
 every_write_sets_current s t c a value event b k core at wrote =
-    write_current s t c a k core at value event b wrote
+    let r = write_kept s t c a k core at value event wrote in
+    elim (cases_eq b a) [
+      | inl e ↦ rw (eq-eqb b a e) (rw e r.here)
+      | inr ne ↦ rw (ne_eqb b a ne) (r.elsewhere b ne)
+    ]

@@ -7,11 +7,13 @@ use Rattle.std.proofs.lemmas.Bool.{cases_Bool, cond-true, cond-false}
 use Rattle.moesi.specs.declared.line.Line.{Line}
 use Rattle.moesi.specs.declared.line.Line.TheVariants.{M}
 use Rattle.moesi.specs.declared.cell.Cell.{Cell}
+use Rattle.moesi.specs.declared.word.Turn.{Turn}
+use Rattle.moesi.specs.declared.word.Turn.TheVariants.{Share, Invalidate, LeaveStale}
 use Rattle.moesi.specs.declared.error.CacheError.{CacheError}
 use Rattle.moesi.specs.Lines.{is_valid, is_owned, is_shared, supplies}
 use Rattle.moesi.specs.Block.{Block, cell_of, invalid, copy_where, supplied, HasBlock}
 use Rattle.moesi.specs.Rows as row
-use Rattle.moesi.specs.State.{CacheState, block_of, at_address, Has, write}
+use Rattle.moesi.specs.State.{CacheState, block_of, at_address, Has}
 use Rattle.moesi.specs.Laws.{IsTransaction, IsAnyTransaction, EveryCopyWasThere, EveryWriteAddsItself}
 use Rattle.moesi.specs.LineLaws.{supplier_valid, lowered_valid}
 use Rattle.moesi.specs.RowLaws.{taken_else, taken_then}
@@ -82,18 +84,25 @@ origin_one : (b : Block) (c : ℕ) (x : Cell) (m copy : ℕ × Option ℕ)
 unfolding Tame
 origin_one b c x m copy h =
     origin b (λ y. y) c x m copy (λ y g. (g, refl)) refl
-    (subst (λ (ys : List Cell). HasBlock (record { lines = slice_set ys c x; memory = m }) copy)
-    (sym (map_same b.lines)) h)
+    (rw (map_same b.lines) h)
 
--- a line that stays is as it was
-tame_stale : Tame row.left_stale
+-- no transaction of another core makes a copy
+tame_turned : (turn : Turn) → Tame (row.turned turn)
 unfolding Tame
-tame_stale y g = go (is_shared y.line) refl g
+tame_turned Share y g = (sym (lowered_valid y.line) ∙ g, refl)
+tame_turned Invalidate y g = cc (g)
+tame_turned LeaveStale y g = go (is_shared y.line) refl g
   where
     go : (q : Bool) → is_shared y.line ≡ q → is_valid (cond q y invalid).line ≡ true
         → (is_valid y.line ≡ true) × ((row.left_stale y).copy ≡ y.copy)
     go true is k = (k, ap (λ (z : Cell). z.copy) (cond-true (is_shared y.line) y invalid is))
     go false is k = cc (k)
+
+-- nor of no line
+turned_invalid : (turn : Turn) → row.turned turn invalid ≡ invalid
+turned_invalid Share = refl
+turned_invalid Invalidate = refl
+turned_invalid LeaveStale = refl
 
 module _ (b : Block) (c : ℕ) (copy : ℕ × Option ℕ) (u : Block) (h : HasBlock u copy) where
   -- the requester's copy is what it is given, and memory stays
@@ -117,19 +126,11 @@ module _ (b : Block) (c : ℕ) (copy : ℕ × Option ℕ) (u : Block) (h : HasBl
 
   -- GetS makes no data
   has_get_s : row.get_s b c ≡ Ok u → HasBlock b copy
-  unfolding Tame
-  has_get_s e =
-      given row.shared _ (λ y g. (sym (lowered_valid y.line) ∙ g, refl)) refl (taken_else _ _ _ u e).1
+  has_get_s e = given row.shared _ (tame_turned Share) refl (taken_else _ _ _ u e).1
 
-  -- GetM makes no data
-  has_get_m : row.get_m b c ≡ Ok u → HasBlock b copy
-  unfolding Tame
-  has_get_m e = given row.invalidated M (λ y g. cc (g)) refl (taken_else _ _ _ u e).1
-
-  -- the faulty GetM makes no data
-  has_get_m_stale : row.get_m_stale b c ≡ Ok u → HasBlock b copy
-  unfolding Tame
-  has_get_m_stale e = given row.left_stale M tame_stale refl (taken_else _ _ _ u e).1
+  -- GetM makes no data, with the fault or without
+  has_get_m : (turn : Turn) → row.get_m_by turn b c ≡ Ok u → HasBlock b copy
+  has_get_m turn e = given (row.turned turn) M (tame_turned turn) (turned_invalid turn) (taken_else _ _ _ u e).1
 
   -- Put makes no data
   has_put : row.put b c ≡ Ok u → HasBlock b copy
@@ -185,32 +186,24 @@ module _ (s t : CacheState) (c a b : ℕ) (copy : ℕ × Option ℕ) where
       ]
 
   -- no transaction makes up data
-  pub copy_was_there : IsTransaction s c a t → Has t b copy → Has s b copy
+  copy_was_there : IsTransaction s c a t → Has t b copy → Has s b copy
   copy_was_there (inl k) = moved _ k (λ u h e. has_get_s (block_of s a) c copy u h e)
-  copy_was_there (inr (inl k)) = moved _ k (λ u h e. has_get_m (block_of s a) c copy u h e)
+  copy_was_there (inr (inl k)) = moved _ k (λ u h e. has_get_m (block_of s a) c copy u h Invalidate e)
   copy_was_there (inr (inr k)) = moved _ k (λ u h e. has_put (block_of s a) c copy u h e)
-
-  -- nor does the faulty one
-  pub any_copy_was_there : IsAnyTransaction s c a t → Has t b copy → Has s b copy
-  any_copy_was_there (inl k) = copy_was_there k
-  any_copy_was_there (inr k) = moved _ k (λ u h e. has_get_m_stale (block_of s a) c copy u h e)
-
-  -- a write adds what it writes
-  pub write_adds : (value event : ℕ) → write s c a value event ≡ Ok t → Has t b copy
-      → Has s b copy ⊎ ((b ≡ a) × (copy ≡ (value, Some event)))
-  write_adds value event k h =
-      elim (at_other s t a b _ copy k h) [
-        | inl g ↦ inl g
-        | inr g ↦ elim (has_write (block_of s a) c copy g.0 g.3 (value, Some event) g.1) [
-          | inl q ↦ inl (rw g.2 q)
-          | inr q ↦ inr (g.2, q)
-        ]
-      ]
 
 -- the laws of `Laws`: transactions
 pub every_copy_was_there : EveryCopyWasThere
-every_copy_was_there = any_copy_was_there
+every_copy_was_there s t c a b copy (inl k) = copy_was_there s t c a b copy k
+every_copy_was_there s t c a b copy (inr k) =
+    moved s t c a b copy _ k (λ u h e. has_get_m (block_of s a) c copy u h LeaveStale e)
 
 -- writes
 pub every_write_adds_itself : EveryWriteAddsItself
-every_write_adds_itself s t c a value event b copy = write_adds s t c a b copy value event
+every_write_adds_itself s t c a value event b copy k h =
+    elim (at_other s t a b _ copy k h) [
+      | inl g ↦ inl g
+      | inr g ↦ elim (has_write (block_of s a) c copy g.0 g.3 (value, Some event) g.1) [
+        | inl q ↦ inl (rw g.2 q)
+        | inr q ↦ inr (g.2, q)
+      ]
+    ]

@@ -1,7 +1,7 @@
 -- Laws of the rows of the table: when they are taken, and that the lines of the address agree afterwards.
 use Rattle.std.proofs.Common.{◌≡◌, ◌≢◌, ◌<◌, inl, inr, ℕ, Bool, true, false, cond, Option, length, map}
 use Rattle.std.proofs.Common.{slice_index_or, slice_set, arith, refl, sym, ap, ◌∙◌, get_or-set_other}
-use Rattle.std.proofs.Common.{get_or-set_same, Ok, Err}
+use Rattle.std.proofs.Common.{get_or-set_same, length-set, subst, Ok, Err}
 use Rattle.std.proofs.Math.ListN.{get_or-map}
 use Rattle.std.proofs.lemmas.Bool.{cond_both, cases_eq}
 use Rattle.std.proofs.lemmas.List.{length-map}
@@ -10,7 +10,7 @@ use Rattle.moesi.specs.declared.cell.Cell.{Cell}
 use Rattle.moesi.specs.declared.error.CacheError.{CacheError}
 use Rattle.moesi.specs.Lines.{is_valid, is_exclusive, is_owned}
 use Rattle.moesi.specs.Block.{Block, cell_of, invalid, supplied, has_copy}
-use Rattle.moesi.specs.Rows.{shared, invalidated}
+use Rattle.moesi.specs.Rows as row
 use Rattle.moesi.specs.BlockLaws.{IsSettled, IsTurned, supplied_settled, no_copy}
 use Rattle.moesi.specs.LineLaws.{not_valid, exclusive_valid}
 use Rattle.moesi.specs.LineLaws.{lowered_exclusive, lowered_owned, lowered_valid}
@@ -110,9 +110,14 @@ module _ (b t : Block) (f : Cell → Cell) (c : ℕ) (x : Cell) (w : ℕ × Opti
   settled : (((d : ℕ) → is_owned (cell_of t d).line ≡ false) → t.memory ≡ w) → IsSettled t w
   settled clean = record { single = single; owned = owned; copies = copies; clean = clean }
 
+-- a block becomes u, with its lines in number, and w is current there
+pub record IsRenewed (b u : Block) (w : ℕ × Option ℕ) : Type 0 where
+  pub settled : IsSettled u w
+  pub lines : length u.lines ≡ length b.lines
+
 module _ (b : Block) (v : ℕ × Option ℕ) (s : IsSettled b v) (c : ℕ) (at : c < length b.lines) where
   -- where the others are as they were, and the asking core's line was not owned or is not now
-  pub none_owned : (t : Block) (f : Cell → Cell) (x : Cell) → IsTurned b t f c x
+  none_owned : (t : Block) (f : Cell → Cell) (x : Cell) → IsTurned b t f c x
       → ((y : Cell) → is_owned (f y).line ≡ is_owned y.line) → is_owned (cell_of b c).line ≡ false
       → ((d : ℕ) → is_owned (cell_of t d).line ≡ false) → (d : ℕ) → is_owned (cell_of b d).line ≡ false
   none_owned t f x turn same own none d =
@@ -122,102 +127,98 @@ module _ (b : Block) (v : ℕ × Option ℕ) (s : IsSettled b v) (c : ℕ) (at :
             (ap (λ (y : Cell). is_owned y.line) (sym (turn.others d dn)) ∙ none d)
       ]
 
-  -- after GetS the lines agree on what was current
-  pub settled_get_s : is_valid (cell_of b c).line ≡ false
-      → IsSettled (record {
-        lines =
-            slice_set (map shared b.lines) c (record { line = cond (has_copy b) S E; copy = supplied b });
-        memory = b.memory;
-      }) v
-  settled_get_s free =
-      let x : Cell = record { line = cond (has_copy b) S E; copy = supplied b } in
-      let turn : IsTurned b (record { lines = slice_set (map shared b.lines) c x; memory = b.memory })
-      shared c x = turned b shared c x b.memory refl at in
-      settled b _ shared c x v turn
-      (record {
-        own_single = λ h d ne. lowered_valid _ ∙ no_copy b.lines (alone (has_copy b) h) d;
-        their_single = λ d ne h. cc (h, lowered_exclusive (cell_of b d).line);
-        both_single = λ d e dn en ne h. cc (h, lowered_exclusive (cell_of b d).line);
-        own_owned = λ h d ne. cc (h, not_owned (has_copy b));
-        both_owned = λ d e dn en h g. s.owned d e (sym (lowered_owned _) ∙ h) (sym (lowered_owned _) ∙ g);
-        own_copy = λ h. supplied_settled b v s;
-        their_copy = λ d ne h. s.copies d (sym (lowered_valid _) ∙ h);
-      })
-      (λ none. s.clean (none_owned _ shared x turn (λ y. lowered_owned y.line) (not_valid _ free) none))
-    where
-      alone : (q : Bool) → is_exclusive (cond q S E) ≡ true → q ≡ false
-      alone true h = sym h
-      alone false h = refl
+  module _ (u : Block) where
+    -- GetS renews its block
+    pub renewed_get_s : row.get_s b c ≡ Ok u → IsRenewed b u v
+    renewed_get_s h =
+        let k = taken_else _ _ _ u h in
+        let x : Cell = record { line = cond (has_copy b) S E; copy = supplied b } in
+        let turn = turned b row.shared c x b.memory refl at in
+        subst (λ (t : Block). IsRenewed b t v) k.1 (record {
+          settled = settled b _ row.shared c x v turn
+              (record {
+                own_single = λ h d ne. lowered_valid _ ∙ no_copy b.lines (alone (has_copy b) h) d;
+                their_single = λ d ne h. cc (h, lowered_exclusive (cell_of b d).line);
+                both_single = λ d e dn en ne h. cc (h, lowered_exclusive (cell_of b d).line);
+                own_owned = λ h d ne. cc (h, not_owned (has_copy b));
+                both_owned = λ d e dn en h g. s.owned d e (sym (lowered_owned _) ∙ h) (sym (lowered_owned _) ∙ g);
+                own_copy = λ h. supplied_settled b v s;
+                their_copy = λ d ne h. s.copies d (sym (lowered_valid _) ∙ h);
+              })
+              (λ none. s.clean (none_owned _ row.shared x turn (λ y. lowered_owned y.line) (not_valid _ k.0) none));
+          lines = length-set (map row.shared b.lines) c _ ∙ length-map b.lines row.shared;
+        })
+      where
+        alone : (q : Bool) → is_exclusive (cond q S E) ≡ true → q ≡ false
+        alone true h = sym h
+        alone false h = refl
 
-      not_owned : (q : Bool) → is_owned (cond q S E) ≡ false
-      not_owned true = refl
-      not_owned false = refl
+        not_owned : (q : Bool) → is_owned (cond q S E) ≡ false
+        not_owned true = refl
+        not_owned false = refl
 
-  -- after GetM they do
-  pub settled_get_m : IsSettled (record {
-    lines =
-        slice_set (map invalidated b.lines) c (record { line = M; copy = supplied b });
-    memory = b.memory;
-  }) v
-  settled_get_m =
-      let x : Cell = record { line = M; copy = supplied b } in
-      let turn : IsTurned b (record { lines = slice_set (map invalidated b.lines) c x; memory = b.memory })
-      invalidated c x = turned b invalidated c x b.memory refl at in
-      settled b _ invalidated c x v turn
-      (record {
-        own_single = λ h d ne. refl;
-        their_single = λ d ne h. cc (h);
-        both_single = λ d e dn en ne h. refl;
-        own_owned = λ h d ne. refl;
-        both_owned = λ d e dn en h g. cc (h);
-        own_copy = λ h. supplied_settled b v s;
-        their_copy = λ d ne h. cc (h);
-      })
-      (λ none. let off : is_owned x.line ≡ false = rw turn.own at (none c) in cc (off))
+    -- GetM renews its block
+    pub renewed_get_m : row.get_m b c ≡ Ok u → IsRenewed b u v
+    renewed_get_m h =
+        let k = taken_else _ _ _ u h in
+        let x : Cell = record { line = M; copy = supplied b } in
+        let turn = turned b row.invalidated c x b.memory refl at in
+        subst (λ (t : Block). IsRenewed b t v) k.1 (record {
+          settled = settled b _ row.invalidated c x v turn
+              (record {
+                own_single = λ h d ne. refl;
+                their_single = λ d ne h. cc (h);
+                both_single = λ d e dn en ne h. refl;
+                own_owned = λ h d ne. refl;
+                both_owned = λ d e dn en h g. cc (h);
+                own_copy = λ h. supplied_settled b v s;
+                their_copy = λ d ne h. cc (h);
+              })
+              (λ none. let off : is_owned x.line ≡ false = rw turn.own at (none c) in cc (off));
+          lines = length-set (map row.invalidated b.lines) c _ ∙ length-map b.lines row.invalidated;
+        })
 
-  -- after Put they do
-  pub settled_put : is_valid (cell_of b c).line ≡ true
-      → IsSettled (record {
-        lines = slice_set b.lines c invalid;
-        memory =
-            cond (is_owned (cell_of b c).line) (cell_of b c).copy b.memory;
-      }) v
-  settled_put held =
-      let m : ℕ × Option ℕ = cond (is_owned (cell_of b c).line) (cell_of b c).copy b.memory in
-      let turn : IsTurned b (record { lines = slice_set b.lines c invalid; memory = m }) (λ y. y) c invalid =
-      set_one b c invalid m at in
-      settled b _ (λ y. y) c invalid v turn
-      (record {
-        own_single = λ h d ne. cc (h);
-        their_single = λ d ne h. refl;
-        both_single = λ d e dn en ne h. s.single d e h ne;
-        own_owned = λ h d ne. cc (h);
-        both_owned = λ d e dn en h g. s.owned d e h g;
-        own_copy = λ h. cc (h);
-        their_copy = λ d ne h. s.copies d h;
-      })
-      (λ none. cond_both (is_owned (cell_of b c).line) (cell_of b c).copy b.memory (λ w. w ≡ v)
-      (λ e. s.copies c held)
-      (λ e. s.clean (none_owned _ (λ y. y) invalid turn (λ y. refl) e none)))
+    -- Put renews its block
+    pub renewed_put : row.put b c ≡ Ok u → IsRenewed b u v
+    renewed_put h =
+        let k = taken_then _ _ _ u h in
+        let turn = set_one b c invalid (cond (is_owned (cell_of b c).line) (cell_of b c).copy b.memory) at in
+        subst (λ (t : Block). IsRenewed b t v) k.1 (record {
+          settled = settled b _ (λ y. y) c invalid v turn
+              (record {
+                own_single = λ h d ne. cc (h);
+                their_single = λ d ne h. refl;
+                both_single = λ d e dn en ne h. s.single d e h ne;
+                own_owned = λ h d ne. cc (h);
+                both_owned = λ d e dn en h g. s.owned d e h g;
+                own_copy = λ h. cc (h);
+                their_copy = λ d ne h. s.copies d h;
+              })
+              (λ none. cond_both (is_owned (cell_of b c).line) (cell_of b c).copy b.memory (λ w. w ≡ v)
+              (λ e. s.copies c k.0)
+              (λ e. s.clean (none_owned _ (λ y. y) invalid turn (λ y. refl) e none)));
+          lines = length-set b.lines c invalid;
+        })
 
-  -- after a write they agree on what was written
-  pub settled_write : (w : ℕ × Option ℕ) → is_exclusive (cell_of b c).line ≡ true
-      → IsSettled (record { lines = slice_set b.lines c (record { line = M; copy = w }); memory = b.memory })
-      w
-  settled_write w held =
-      let x : Cell = record { line = M; copy = w } in
-      let turn : IsTurned b (record { lines = slice_set b.lines c x; memory = b.memory }) (λ y. y) c x =
-      set_one b c x b.memory at in
-      let free : (d : ℕ) → d ≢ c → is_valid (cell_of b d).line ≡ false =
-      λ d ne. s.single c d held (λ e. ne (sym e)) in
-      settled b _ (λ y. y) c x w turn
-      (record {
-        own_single = λ h d ne. free d ne;
-        their_single = λ d ne h. cc (free d ne, exclusive_valid _ h);
-        both_single = λ d e dn en ne h. free e en;
-        own_owned = λ h d ne. not_valid _ (free d ne);
-        both_owned = λ d e dn en h g. cc (h, not_valid _ (free d dn));
-        own_copy = λ h. refl;
-        their_copy = λ d ne h. cc (h, free d ne);
-      })
-      (λ none. let off : is_owned x.line ≡ false = rw turn.own at (none c) in cc (off))
+    -- a write renews its block with its own data
+    pub renewed_write : (w : ℕ × Option ℕ) → row.write b c w ≡ Ok u → IsRenewed b u w
+    renewed_write w h =
+        let k = taken_then _ _ _ u h in
+        let x : Cell = record { line = M; copy = w } in
+        let turn = set_one b c x b.memory at in
+        let free : (d : ℕ) → d ≢ c → is_valid (cell_of b d).line ≡ false =
+        λ d ne. s.single c d k.0 (λ e. ne (sym e)) in
+        subst (λ (t : Block). IsRenewed b t w) k.1 (record {
+          settled = settled b _ (λ y. y) c x w turn
+              (record {
+                own_single = λ h d ne. free d ne;
+                their_single = λ d ne h. cc (free d ne, exclusive_valid _ h);
+                both_single = λ d e dn en ne h. free e en;
+                own_owned = λ h d ne. not_valid _ (free d ne);
+                both_owned = λ d e dn en h g. cc (h, not_valid _ (free d dn));
+                own_copy = λ h. refl;
+                their_copy = λ d ne h. cc (h, free d ne);
+              })
+              (λ none. let off : is_owned x.line ≡ false = rw turn.own at (none c) in cc (off));
+          lines = length-set b.lines c x;
+        })

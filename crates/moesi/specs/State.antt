@@ -3,7 +3,7 @@ use Rattle.std.specs.Prelude.{ℕ, Option, Some, None, Result, Ok, Err, List, []
 use Rattle.std.specs.Prelude.{slice_set, map}
 use Rattle.moesi.specs.declared.line.Line.{Line}
 use Rattle.moesi.specs.declared.error.CacheError.{CacheError}
-use Rattle.moesi.specs.Block.{Block, cell_of, opening_block, block_with, current_of, HasBlock}
+use Rattle.moesi.specs.Block.{Block, cell_of, block_with, current_of, HasBlock}
 use Rattle.moesi.specs.Rows as row
 
 -- the number of cores, and what there is of each address
@@ -35,16 +35,13 @@ current s a = current_of (block_of s a)
 abbrev pub Has : CacheState → ℕ → ℕ × Option ℕ → Type 0
 Has s a copy = HasBlock (block_of s a) copy
 
--- at first no line is valid, and memory is 0 with no event
-abbrev pub opening_caches : ℕ → ℕ → CacheState
-opening_caches cores addresses = record {
-  cores = cores;
-  blocks = replicate addresses (opening_block cores);
-}
-
--- the same where memory has these values, one for each address
+-- at first no line is valid, and memory has these values, one for each address, with no event
 abbrev pub opening_with : ℕ → List ℕ → CacheState
 opening_with cores init = record { cores = cores; blocks = map (λ v. block_with cores v) init }
+
+-- the same where memory is 0
+abbrev pub opening_caches : ℕ → ℕ → CacheState
+opening_caches cores addresses = opening_with cores (replicate addresses 0)
 
 -- a row of the table, taken at address a
 abbrev pub at_address : CacheState → ℕ → Result Block CacheError → Result CacheState CacheError

@@ -7,7 +7,7 @@ use crate::error::CacheError;
 use crate::laws::{coherent_caches, copies_of_caches};
 use crate::line::Line;
 use crate::rows;
-use crate::word::{INVALID, unpack, written};
+use crate::word::{INVALID, Turn, unpack, written};
 use crate::words::{fill_memory, place, words_for};
 use common::{Addr, CoreId, EventId, OutOfMemory};
 use std::alloc::Global;
@@ -165,6 +165,7 @@ impl Caches {
             self.addresses,
             core as usize,
             addr as usize,
+            Turn::Invalidate,
         )
     }
 
@@ -188,12 +189,13 @@ impl Caches {
         ensures empty { EveryCallKeepsEmptyLines }
     {
         copies_of_caches();
-        rows::get_m_stale(
+        rows::get_m(
             &mut self.words,
             self.cores,
             self.addresses,
             core as usize,
             addr as usize,
+            Turn::LeaveStale,
         )
     }
 

@@ -1,13 +1,13 @@
 //! The table of transactions, on the words of one address.
 
 ghost use Rattle.std.specs.Prelude.{◌<◌};
-ghost use Rattle.moesi.specs.Rows.{get_s, get_m, get_m_stale, put};
+ghost use Rattle.moesi.specs.Rows.{get_s, get_m_by, put};
 ghost use Rattle.moesi.specs.Packed.{AreWords, IsRowOnWords};
 
 use crate::error::CacheError;
 use crate::line::Line;
-use crate::word::{INVALID, relined, unpack};
-use crate::words::{asked, invalidate_all, invalidate_unshared, place, share_all};
+use crate::word::{INVALID, Turn, relined, unpack};
+use crate::words::{asked, place, turn_all};
 
 /// The row of GetS; C1 where the core's line is valid.
 pub(crate) fn get_s(
@@ -27,53 +27,31 @@ pub(crate) fn get_s(
         return Err(CacheError::C1);
     }
     let (valid, word) = asked(words, cores, addresses, addr);
-    share_all(words, cores, addresses, addr);
+    turn_all(words, cores, addresses, addr, Turn::Share);
     words[at] = relined(word, if valid { Line::S } else { Line::E });
     Ok(())
 }
 
-/// The row of GetM; C2 where the core's line is M or E.
+/// The row of GetM, which turns the others; C2 where the core's line is M or E.
 pub(crate) fn get_m(
     words: &mut [u64],
     cores: usize,
     addresses: usize,
     core: usize,
     addr: usize,
+    turn: Turn,
 ) -> Result<(), CacheError>
     requires words { AreWords cores addresses words.old }
     requires core { core < cores }
     requires address { addr < addresses }
-    ensures { IsRowOnWords (λ b. get_m b core) cores addresses addr words.old words.new result }
+    ensures { IsRowOnWords (λ b. get_m_by turn b core) cores addresses addr words.old words.new result }
 {
     let at = place(core, addresses, addr);
     if unpack(words[at]).line.is_exclusive() {
         return Err(CacheError::C2);
     }
     let (_, word) = asked(words, cores, addresses, addr);
-    invalidate_all(words, cores, addresses, addr);
-    words[at] = relined(word, Line::M);
-    Ok(())
-}
-
-/// The row of the faulty GetM; C2 where the core's line is M or E.
-pub(crate) fn get_m_stale(
-    words: &mut [u64],
-    cores: usize,
-    addresses: usize,
-    core: usize,
-    addr: usize,
-) -> Result<(), CacheError>
-    requires words { AreWords cores addresses words.old }
-    requires core { core < cores }
-    requires address { addr < addresses }
-    ensures { IsRowOnWords (λ b. get_m_stale b core) cores addresses addr words.old words.new result }
-{
-    let at = place(core, addresses, addr);
-    if unpack(words[at]).line.is_exclusive() {
-        return Err(CacheError::C2);
-    }
-    let (_, word) = asked(words, cores, addresses, addr);
-    invalidate_unshared(words, cores, addresses, addr);
+    turn_all(words, cores, addresses, addr, turn);
     words[at] = relined(word, Line::M);
     Ok(())
 }

@@ -3,7 +3,7 @@
 ghost use Rattle.std.specs.Prelude.{◌≡◌, ◌<◌, ◌^◌, Some};
 ghost use Rattle.common.specs.declared.limits.TheConstants.{MAX_EVENTS};
 ghost use Rattle.moesi.specs.declared.line.Line.TheVariants.{M};
-ghost use Rattle.moesi.specs.Rows.{shared, left_stale};
+ghost use Rattle.moesi.specs.Rows.{shared, left_stale, turned};
 ghost use Rattle.moesi.specs.Words.{line_code, line_from, event_from, cell_in, memory_cell};
 
 use crate::cell::Cell;
@@ -18,6 +18,17 @@ const COPY_BITS: u32 = 48;
 
 /// The word of a line in I, which has value 0 and no event.
 pub(crate) const INVALID: u64 = 0;
+
+/// What a transaction of another core makes of a line.
+#[derive(Clone, Copy)]
+pub(crate) enum Turn {
+    /// The core shares it: M becomes O, E becomes S.
+    Share,
+    /// The core takes it for itself: it becomes I.
+    Invalidate,
+    /// The core takes it for itself with a fault: it becomes I but in S, where it stays.
+    LeaveStale,
+}
 
 /// The number of a state.
 fn line_code(line: Line) -> u64
@@ -92,7 +103,7 @@ pub(crate) fn in_memory(value: u32) -> u64
 }
 
 /// The word once another core shares its line.
-pub(crate) fn shared(word: u64) -> u64
+fn shared(word: u64) -> u64
     ensures { cell_in result ≡ shared (cell_in word) }
 {
     let line = unpack(word).line;
@@ -103,12 +114,23 @@ pub(crate) fn shared(word: u64) -> u64
 }
 
 /// The word once another core takes its line for itself and leaves those in S as they are.
-pub(crate) fn left_stale(word: u64) -> u64
+fn left_stale(word: u64) -> u64
     ensures { cell_in result ≡ left_stale (cell_in word) }
 {
     if unpack(word).line.is_shared() {
         word
     } else {
         INVALID
+    }
+}
+
+/// The word once another core made its transaction.
+pub(crate) fn turned(word: u64, turn: Turn) -> u64
+    ensures { cell_in result ≡ turned turn (cell_in word) }
+{
+    match turn {
+        Turn::Share => shared(word),
+        Turn::Invalidate => INVALID,
+        Turn::LeaveStale => left_stale(word),
     }
 }

@@ -2,11 +2,11 @@
 
 ghost use Rattle.std.specs.Prelude.{◌≡◌, ◌<◌, ◌+◌, ◌*◌, ◌^◌, ℕ, IfSome, length, slice_index};
 ghost use Rattle.moesi.specs.Block.{has_copy, supplied};
-ghost use Rattle.moesi.specs.Rows.{shared, invalidated, left_stale};
+ghost use Rattle.moesi.specs.Rows.{turned};
 ghost use Rattle.moesi.specs.Words.{cell_in, memory_cell};
 ghost use Rattle.moesi.specs.Packed.{AreWords, block_in, block_by, StaysElsewhere};
 
-use crate::word::{INVALID, in_memory, left_stale, shared, unpack};
+use crate::word::{Turn, in_memory, turned, unpack};
 
 /// How many words there are; none where their number is too large.
 pub(crate) fn words_for(cores: usize, addresses: usize) -> Option<usize>
@@ -60,47 +60,17 @@ pub(crate) fn asked(words: &[u64], cores: usize, addresses: usize, addr: usize) 
     (valid, words[at])
 }
 
-/// Lowers each line of the address, since another core shares it.
-pub(crate) fn share_all(words: &mut [u64], cores: usize, addresses: usize, addr: usize)
+/// Turns each line of the address.
+pub(crate) fn turn_all(words: &mut [u64], cores: usize, addresses: usize, addr: usize, turn: Turn)
     requires words { AreWords cores addresses words.old }
     requires address { addr < addresses }
     ensures turned { block_in cores addresses words.new addr
-        ≡ block_by shared (block_in cores addresses words.old addr) }
+        ≡ block_by (turned turn) (block_in cores addresses words.old addr) }
     ensures elsewhere { StaysElsewhere cores addresses addr words.old words.new }
 {
     let mut at = addr;
     for _ in 0..cores {
-        words[at] = shared(words[at]);
-        at += addresses;
-    }
-}
-
-/// Makes each line of the address I.
-pub(crate) fn invalidate_all(words: &mut [u64], cores: usize, addresses: usize, addr: usize)
-    requires words { AreWords cores addresses words.old }
-    requires address { addr < addresses }
-    ensures turned { block_in cores addresses words.new addr
-        ≡ block_by invalidated (block_in cores addresses words.old addr) }
-    ensures elsewhere { StaysElsewhere cores addresses addr words.old words.new }
-{
-    let mut at = addr;
-    for _ in 0..cores {
-        words[at] = INVALID;
-        at += addresses;
-    }
-}
-
-/// Makes each line of the address I but those in S, which stay as they are.
-pub(crate) fn invalidate_unshared(words: &mut [u64], cores: usize, addresses: usize, addr: usize)
-    requires words { AreWords cores addresses words.old }
-    requires address { addr < addresses }
-    ensures turned { block_in cores addresses words.new addr
-        ≡ block_by left_stale (block_in cores addresses words.old addr) }
-    ensures elsewhere { StaysElsewhere cores addresses addr words.old words.new }
-{
-    let mut at = addr;
-    for _ in 0..cores {
-        words[at] = left_stale(words[at]);
+        words[at] = turned(words[at], turn);
         at += addresses;
     }
 }

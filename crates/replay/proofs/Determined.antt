@@ -14,7 +14,7 @@ use Rattle.recording.specs.Execution.{Execution, placed_from, event_at, write_li
 use Rattle.recording.specs.Execution.{ProgramOrder}
 use Rattle.recording.specs.Order.{place, times, Before, Enumerates}
 use Rattle.recording.specs.Tso.{Gives, IsWellFormed, Visible, IsLastVisible, IsTsoOrder}
-use Rattle.recording.specs.OrderLaws.{times_here, times_there, times_nil, times_in, cases_times}
+use Rattle.recording.specs.OrderLaws.{times_here, times_there, times_nil, times_in, times_append, cases_times}
 use Rattle.recording.specs.OrderLaws.{left_before_right, before_in_right}
 use Rattle.machine.specs.State.{event_of}
 use Rattle.replay.specs.Program.{op_of}
@@ -41,19 +41,14 @@ sorted_one m (x ∷ xs) (y ∷ ys) same once left right = elim (cases_eq x y) [
       let single : (e : ℕ) → x ≢ e → times (x ∷ []) e ≡ 0 =
       λ e other. omega (arith, times_there [] x e other, times_nil e) in
       ap (λ (h : ℕ). h ∷ xs) one ∙ ap (λ (l : List ℕ). y ∷ l) (sorted_one m xs ys
-      (λ e. elim (cases_eq x e) [
-        | inl here ↦ omega (arith, same e, times_here xs x e here, times_here ys y e (sym one ∙ here))
-        | inr other ↦ omega (
-          arith,
-          same e,
-          times_there xs x e other,
-          times_there ys y e (λ is. other (one ∙ is)),
-        )
-      ])
-      (λ e. elim (cases_eq x e) [
-        | inl here ↦ omega (arith, once e, times_here xs x e here)
-        | inr other ↦ omega (arith, once e, times_there xs x e other)
-      ])
+      (λ e. omega (
+        arith,
+        same e,
+        times_append (x ∷ []) xs e,
+        times_append (y ∷ []) ys e,
+        ap (λ (h : ℕ). times (h ∷ []) e) one,
+      ))
+      (λ e. omega (arith, once e, times_append (x ∷ []) xs e))
       (λ e f b. left e f (before_in_right (x ∷ []) xs e f
       (single e (apart e xs none (times_in xs e (omega (arith, b)))))
       (single f (apart f xs none (times_in xs f b.1))) b))
@@ -145,11 +140,10 @@ module _ (x y : Execution) (m : List ℕ) (made : IsMade x y) (well : IsWellForm
         let values : value_read (event_at y e) ≡ value_read (event_at x e) =
         gives_one a (source_of x e) (value_read (event_at x e)) (value_read (event_at y e))
         (λ s from. last_same a (source_of x e) s (tso.values e a reads) from) (well.sources e a reads)
-        (subst (λ (o : Option ℕ). Gives y a o (value_read (event_at y e))) (sym sources)
-        (well_other.sources e a there)) in
+        (rw sources (well_other.sources e a there)) in
         let gave = made_given (event_at x e) d a reads in
-        let value : d.0 ≡ value_read (event_at x e) = sym gave.0 ∙ (ap value_read (sym is) ∙ values) in
-        let origin : d.1 ≡ source (event_at x e) = sym gave.1 ∙ (ap source (sym is) ∙ sym sources) in
+        let value : d.0 ≡ value_read (event_at x e) = sym gave.1 ∙ (ap value_read (sym is) ∙ values) in
+        let origin : d.1 ≡ source (event_at x e) = sym gave.0 ∙ (ap source (sym is) ∙ sym sources) in
         is ∙ (ap (λ (v : ℕ). event_of (op_of (event_at x e)) (v, d.1)) value
         ∙ (ap (λ (o : Option ℕ). event_of (op_of (event_at x e)) (value_read (event_at x e), o)) origin
         ∙ made_again (event_at x e)))

@@ -1,5 +1,5 @@
 -- Each TSO order of a recording is replayed.
-use Rattle.std.proofs.Common.{◌≡◌, ◌<◌, ◌≤◌, ◌+◌, inl, inr, ℕ, zero, suc, Some, List, [], ◌∷◌, map, length}
+use Rattle.std.proofs.Common.{◌≡◌, ◌<◌, ◌≤◌, ◌+◌, ◌⊎◌, inl, inr, ℕ, zero, suc, Some, List, [], ◌∷◌, map, length}
 use Rattle.std.proofs.Common.{get_or, arith, refl, sym, ap, subst, ◌∙◌, true, nat_lt, ltb-true, Result, Ok}
 use Rattle.std.specs.List.{All, sum, sum_by, count_by}
 use Rattle.std.proofs.Math.Nat.{le-max_left, le-max_right}
@@ -12,7 +12,7 @@ use Rattle.program.specs.declared.name.Name.{Name}
 use Rattle.program.specs.Parts.{Parts, IsWithin, IsProgram, parts_of}
 use Rattle.recording.specs.declared.event.Event.{Event}
 use Rattle.recording.specs.declared.event.Event.TheVariants.{L, S, R, C, F}
-use Rattle.recording.specs.Event.{read_address, written_address, is_plain_store}
+use Rattle.recording.specs.Event.{read_address, written_address, value_read, source, is_plain_store}
 use Rattle.recording.specs.Execution.{Execution, placed_from, event_at}
 use Rattle.recording.specs.Order.{times}
 use Rattle.recording.specs.Recording.{IsRecording}
@@ -37,13 +37,15 @@ use Rattle.machine.specs.Tso.{EveryRunIsTso, EveryRunIsWellFormed}
 use Rattle.std.proofs.lemmas.List.Elements.{All-nil, All-cons}
 use Rattle.machine.specs.Orderly.{placed_op, is_st, IsOrderly, EveryStateIsOrderly}
 use Rattle.recording.specs.PlacedLaws.{placed_total, placed_at}
+use Rattle.machine.specs.PlaceLaws.{places_within}
+use Rattle.machine.specs.RunLaws.{guarded}
 use Rattle.replay.proofs.NamedProgram.{named_is_program}
-use Rattle.replay.proofs.Made.{placed_is, count_same, recorded_made}
+use Rattle.replay.proofs.Made.{placed_is, count_same, made_again, recorded_made}
 use Rattle.replay.proofs.Determined.{determined}
 use Rattle.replay.proofs.OrderlyRuns.{StaysOrderly, begun_going, goes_further, stores_same, waiting, waits_once}
-use Rattle.replay.proofs.StepLists.{AreTaken, StepsLead, all_of, goes_more, guarded}
+use Rattle.replay.proofs.StepLists.{AreTaken, StepsLead, all_of, goes_more}
 use Rattle.replay.proofs.Orders.{order_run}
-use Rattle.replay.proofs.Kept.{run_keeps, made_fits}
+use Rattle.replay.proofs.Kept.{run_keeps, op_within, all_within, made_fits}
 
 -- Room for the stores of a core
 
@@ -58,47 +60,17 @@ stores_most (es ∷ rest) (suc c) =
 
 -- The addresses of a recording's operations
 
--- an operation has the address of its event
-op_fits : (n : ℕ) (ev : Event) → ((a : ℕ) → read_address ev ≡ Some a → a < n)
-    → ((a : ℕ) → written_address ev ≡ Some a → a < n) → IsWithin n (op_of ev)
-op_fits n (L a r s) reads writes = reads a refl
-op_fits n (S a w) reads writes = writes a refl
-op_fits n (R a r s w) reads writes = reads a refl
-op_fits n (C a r s) reads writes = reads a refl
-op_fits n F reads writes = tt
-
 -- the operations of a recording have addresses with write lists
 recording_fits : (x : Execution) → IsRecording x
     → All (λ ops. All (IsWithin (length x.write_lists)) ops) (program_of x)
-recording_fits x r c other core i d inside =
-    let ops : List Op = get_or (program_of x) c [] in
-    let same : get_or (program_of x) c other ≡ ops = get_or_default (program_of x) c other [] core in
-    let here : i < length ops = omega (arith, inside, ap (λ (l : List Op). length l) same) in
-    let e : ℕ = first_event (program_of x) c + i in
-    let op : get_or ops i Fence ≡ op_of (event_at x e) =
-    ap (λ (z : ℕ × Op). z.1) (sym (placed_at 0 (program_of x) c i Fence here).0)
-    ∙ ap (λ (z : ℕ × Op). z.1) (placed_is x e) in
-    subst (λ (l : List Op). IsWithin (length x.write_lists) (get_or l i d)) (sym same)
-    (subst (λ (o : Op). IsWithin (length x.write_lists) o) (sym (get_or_default ops i d Fence here ∙ op))
-    (op_fits (length x.write_lists) (event_at x e) (λ a is. r.within.addresses e a (inl is))
-    (λ a is. r.within.addresses e a (inr is))))
+recording_fits x r =
+    all_within (program_of x) (length x.write_lists) (λ e.
+    let ev : Event = event_at x e in
+    subst (λ (z : ℕ × Op). IsWithin (length x.write_lists) z.1) (sym (placed_is x e))
+    (op_within (length x.write_lists) (op_of ev) (value_read ev, source ev) (λ a uses. r.within.addresses e a
+    (subst (λ (z : Event). (read_address z ≡ Some a) ⊎ (written_address z ≡ Some a)) (made_again ev) uses))))
 
 -- The end
-
--- each core is within its operations, so all together are
-places_within : (places : List ℕ) (p : List (List Op)) → length places ≡ length p
-    → ((c : ℕ) → get_or places c 0 ≤ length (get_or p c [])) → sum places ≤ sum_by (λ ops. length ops) p
-places_within [] [] l h = omega arith
-places_within [] (ops ∷ p) l h = omega arith
-places_within (i ∷ places) [] l h = absurd (omega (arith, l))
-places_within (i ∷ places) (ops ∷ p) l h =
-    omega (
-      arith,
-      sum_by-cons (λ (k : ℕ). k) i places,
-      sum_by-cons (λ (os : List Op). length os) ops p,
-      h 0,
-      places_within places p (omega (arith, l)) (λ c. h (suc c)),
-    )
 
 -- empty buffers count nothing
 nothing_waits : (bs : List (List Entry)) → ((c : ℕ) → get_or bs c [] ≡ [])
@@ -142,8 +114,7 @@ module _ (x : Execution) (m : List ℕ) (tso : IsTsoOrder x m) (n : ℕ) (t : St
       go [] is = is
       go (y ∷ ys) is =
           let there : 0 < times (waiting t c) y.event =
-          subst (λ (b : List Entry). 0 < times (map (λ (z : Entry). z.event) b) y.event) (sym is)
-          (omega (arith, times_here (map (λ (z : Entry). z.event) ys) y.event y.event refl)) in
+          rw is (omega (arith, times_here (map (λ (z : Entry). z.event) ys) y.event y.event refl)) in
           let done = f.executed c y.event (omega
           (arith, there, times_append t.performed (waiting t c) y.event)) in
           absurd (omega (arith, there, each y.event done.0, waits_once (program_of x) n t f c y.event there))
@@ -228,11 +199,9 @@ module _ (law : Laws) where
       let there : IsComplete p (run p capacity fault.None (opening p init) steps) =
       subst (λ (z : State). IsComplete p z) (sym goes.1) end in
       let order : IsTsoOrder (recorded p t) t.performed =
-      subst (λ (z : State). IsTsoOrder (recorded p z) z.performed) goes.1
-      (law.tso p init capacity steps fits there) in
+      rw (← goes.1) (law.tso p init capacity steps fits there) in
       let well : IsWellFormed (recorded p t) =
-      subst (λ (z : State). IsWellFormed (recorded p z)) goes.1
-      (law.well_formed p init capacity steps fits there) in
+      rw (← goes.1) (law.well_formed p init capacity steps fits there) in
       let kept : t.initial ≡ init = ap (λ (z : State). z.initial) (sym goes.1)
       ∙ (run_keeps p capacity fault.None (opening p init) steps).0 in
       record {
@@ -272,8 +241,7 @@ module _ (law : Laws) where
         let order : List ℕ = (led_to made.0 capacity made.1).performed in
         let fits = made_fits made.0 capacity made.1 x made.4 of.recording in (
           order,
-          subst (λ (y : Execution). IsTsoOrder y order) made.4
-              (law.tso made.0.cores made.0.init capacity made.1 fits made.3),
+          rw (← made.4) (law.tso made.0.cores made.0.init capacity made.1 fits made.3),
         ),
     λ allowed.
         let replay = every_order_is_replayed x allowed.0 capacity of allowed.1 room in

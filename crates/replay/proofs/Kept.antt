@@ -1,5 +1,5 @@
 -- What every run leaves as it was: the initial values, and how many write lists there are.
-use Rattle.std.proofs.Common.{◌≡◌, ◌<◌, ◌+◌, ◌==◌, inl, inr, ℕ, Bool, true, false, cond, nat_lt, Option, Some}
+use Rattle.std.proofs.Common.{◌≡◌, ◌<◌, ◌+◌, ◌==◌, ◌⊎◌, inl, inr, ℕ, Bool, true, false, cond, nat_lt, Option, Some}
 use Rattle.std.proofs.Common.{None, Result, Ok, Err, List, [], ◌∷◌, length, get_or, slice_get, slice_index_or}
 use Rattle.std.proofs.Common.{arith, refl, sym, ap, subst, ◌∙◌, length-set}
 use Rattle.std.specs.List.{All}
@@ -7,7 +7,7 @@ use Rattle.std.proofs.lemmas.List.{get_or_default, length-replicate}
 use Rattle.program.specs.declared.op.Op.{Op}
 use Rattle.program.specs.declared.op.Op.TheVariants.{St, Ld, Fence, Swap, Add, Cas}
 use Rattle.program.specs.Parts.{Parts, IsWithin}
-use Rattle.recording.specs.declared.event.Event.TheVariants.{R, C}
+use Rattle.recording.specs.declared.event.Event.{Event}
 use Rattle.recording.specs.Event.{read_address, written_address}
 use Rattle.recording.specs.Execution.{Execution, event_at}
 use Rattle.recording.specs.Recording.{IsRecording}
@@ -26,19 +26,20 @@ use Rattle.machine.specs.Step.{exec, exec_next, drained_at, step_result, after, 
 use Rattle.machine.specs.Taken.{begun}
 use Rattle.machine.specs.Orderly.{placed_op}
 use Rattle.machine.specs.RecordedLaws.{event_is}
+use Rattle.machine.specs.ProgramLaws.{used_own}
 use Rattle.replay.specs.OrderReplay.{led_to}
 
 -- the initial values are the same, and the same number of write lists
 abbrev pub IsKept : State → State → Type 0
 IsKept s t = (t.initial ≡ s.initial) × (length t.write_lists ≡ length s.write_lists)
 
--- a step that is taken leaves them so
+-- a step leaves them so, taken or blocked
 record Keeps (s : State) (r : Result State Blocked) : Type 0 where
-  kept : (t : State) → r ≡ Ok t → IsKept s t
+  kept : IsKept s (after s r)
 
--- one that is blocked is not taken
+-- one that is blocked does
 keeps_blocked : (s : State) (b : Blocked) → Keeps s (Err b)
-keeps_blocked s b = record { kept = λ t is. absurd cc }
+keeps_blocked s b = record { kept = (refl, refl) }
 
 -- also after a guard
 keeps_if : (b : Bool) (s : State) (r : Result State Blocked) (e : Blocked) → Keeps s r
@@ -49,12 +50,7 @@ keeps_if false s r e h = keeps_blocked s e
 -- a state with other parts
 keeps_ok : (s t : State) → t.initial ≡ s.initial → length t.write_lists ≡ length s.write_lists
     → Keeps s (Ok t)
-keeps_ok s t initial lists =
-    record {
-      kept =
-          λ u is. let one : t ≡ u = cc in
-          let both : IsKept s t = (initial, lists) in subst (λ (v : State). IsKept s v) one both;
-    }
+keeps_ok s t initial lists = record { kept = (initial, lists) }
 
 -- and in one case or another
 keeps_either : (b : Bool) (s : State) (r q : Result State Blocked) → Keeps s r → Keeps s q
@@ -107,58 +103,55 @@ keeps_taken p capacity f s (GetS c a) = keeps_if _ s _ B8 (keeps_allowed B7 s _ 
 keeps_taken p capacity f s (GetM c a) = keeps_if _ s _ B8 (keeps_allowed B7 s _ _ (λ caches. keeps_ok s _ refl refl))
 keeps_taken p capacity f s (Put c a) = keeps_if _ s _ B8 (keeps_allowed B7 s _ _ (λ caches. keeps_ok s _ refl refl))
 
--- also one that is blocked
-keeps_after : (s : State) (r : Result State Blocked) → Keeps s r → IsKept s (after s r)
-keeps_after s (Ok t) h = h.kept t refl
-keeps_after s (Err b) h = (refl, refl)
-
 -- so all of them do
 pub run_keeps : (p : List (List Op)) (capacity : ℕ) (f : Fault) (s : State) (steps : List Step)
     → IsKept s (run p capacity f s steps)
 run_keeps p capacity f s [] = (refl, refl)
 run_keeps p capacity f s (step ∷ steps) =
-    let t : State = after s (step_result p capacity f s step) in
-    let one = keeps_after s (step_result p capacity f s step) (keeps_taken p capacity f s step) in
-    let rest = run_keeps p capacity f t steps in
+    let one = (keeps_taken p capacity f s step).kept in
+    let rest = run_keeps p capacity f (after s (step_result p capacity f s step)) steps in
     (rest.0 ∙ one.0, rest.1 ∙ one.1)
 
--- a compare-and-swap reads its address, whether it writes or not
-cas_reads : (b : Bool) (a v : ℕ) (d : ℕ × Option ℕ)
-    → read_address (cond b (R a d.0 d.1 v) (C a d.0 d.1)) ≡ Some a
-cas_reads true a v d = refl
-cas_reads false a v d = refl
-
 -- an operation has the address of its event
-op_within : (n : ℕ) (op : Op) (d : ℕ × Option ℕ) → ((a : ℕ) → read_address (event_of op d) ≡ Some a → a < n)
-    → ((a : ℕ) → written_address (event_of op d) ≡ Some a → a < n) → IsWithin n op
-op_within n (St a v) d reads writes = writes a refl
-op_within n (Ld a) d reads writes = reads a refl
-op_within n Fence d reads writes = tt
-op_within n (Swap a v) d reads writes = reads a refl
-op_within n (Add a v) d reads writes = reads a refl
-op_within n (Cas a e v) d reads writes = reads a (cas_reads (d.0 == e) a v d)
+pub op_within : (n : ℕ) (op : Op) (d : ℕ × Option ℕ)
+    → ((a : ℕ) → (read_address (event_of op d) ≡ Some a) ⊎ (written_address (event_of op d) ≡ Some a) → a < n)
+    → IsWithin n op
+op_within n (St a v) d h = h a (inr refl)
+op_within n (Ld a) d h = h a (inl refl)
+op_within n Fence d h = tt
+op_within n (Swap a v) d h = h a (inl refl)
+op_within n (Add a v) d h = h a (inl refl)
+op_within n (Cas a e v) d h = h a (used_own (Cas a e v) d a refl)
+
+-- operations that have such addresses by number have them on each core
+pub all_within : (p : List (List Op)) (n : ℕ) → ((e : ℕ) → IsWithin n (placed_op p e).1)
+    → All (λ ops. All (IsWithin n) ops) p
+all_within p n each c other core i d inside =
+    let ops : List Op = get_or p c [] in
+    let same : get_or p c other ≡ ops = get_or_default p c other [] core in
+    let here : i < length ops = omega (arith, inside, ap (λ (l : List Op). length l) same) in
+    let op : get_or ops i Fence ≡ (placed_op p (first_event p c + i)).1 =
+    ap (λ (z : ℕ × Op). z.1) (sym (placed_at 0 p c i Fence here).0) in
+    subst (λ (l : List Op). IsWithin n (get_or l i d)) (sym same)
+    (subst (λ (o : Op). IsWithin n o) (sym (get_or_default ops i d Fence here ∙ op)) (each (first_event p c + i)))
 
 -- the operations of a program that makes a recording have addresses with initial values
 pub made_fits : (p : Parts) (capacity : ℕ) (steps : List Step) (x : Execution)
     → recorded p.cores (led_to p capacity steps) ≡ x → IsRecording x
     → All (λ ops. All (IsWithin (length p.init)) ops) p.cores
-made_fits p capacity steps x made r c other core i d inside =
+made_fits p capacity steps x made r =
     let s : State = led_to p capacity steps in
     let n : ℕ = length p.init in
-    let ops : List Op = get_or p.cores c [] in
-    let same : get_or p.cores c other ≡ ops = get_or_default p.cores c other [] core in
-    let here : i < length ops = omega (arith, inside, ap (λ (l : List Op). length l) same) in
-    let e : ℕ = first_event p.cores c + i in
-    let op : get_or ops i Fence ≡ (placed_op p.cores e).1 =
-    ap (λ (z : ℕ × Op). z.1) (sym (placed_at 0 p.cores c i Fence here).0) in
-    let what : ℕ × Option ℕ = get_or s.reads e (0, None) in
-    let event : event_at x e ≡ event_of (placed_op p.cores e).1 what =
-    ap (λ (y : Execution). event_at y e) (sym made) ∙ event_is p.cores s e in
     let lists : length x.write_lists ≡ n =
     ap (λ (y : Execution). length y.write_lists) (sym made)
     ∙ ((run_keeps p.cores capacity fault.None (begun p) steps).1 ∙ length-replicate n []) in
-    subst (λ (l : List Op). IsWithin n (get_or l i d)) (sym same)
-    (subst (λ (o : Op). IsWithin n o) (sym (get_or_default ops i d Fence here ∙ op))
-    (op_within n (placed_op p.cores e).1 what
-    (λ a is. omega (arith, lists, r.within.addresses e a (inl (ap read_address event ∙ is))))
-    (λ a is. omega (arith, lists, r.within.addresses e a (inr (ap written_address event ∙ is))))))
+    all_within p.cores n (λ e.
+    let what : ℕ × Option ℕ = get_or s.reads e (0, None) in
+    let event : event_at x e ≡ event_of (placed_op p.cores e).1 what =
+    ap (λ (y : Execution). event_at y e) (sym made) ∙ event_is p.cores s e in
+    op_within n (placed_op p.cores e).1 what (λ a uses. omega (
+      arith,
+      lists,
+      r.within.addresses e a
+          (subst (λ (ev : Event). (read_address ev ≡ Some a) ⊎ (written_address ev ≡ Some a)) (sym event) uses),
+    )))

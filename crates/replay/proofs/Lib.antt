@@ -7,5 +7,4 @@ pub mod Turns
 pub mod Orders
 pub mod EveryOrder
 pub mod WrittenSteps
-pub mod FirstUse
 pub mod NamedProgram

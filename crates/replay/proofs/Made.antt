@@ -16,6 +16,7 @@ use Rattle.replay.specs.Program.{op_of, program_of}
 use Rattle.machine.specs.Orderly.{placed_op, is_st}
 use Rattle.machine.specs.PlaceLaws.{event_behind, event_before}
 use Rattle.machine.specs.RecordedLaws.{events_length, event_is, core_is, count_is}
+use Rattle.machine.specs.ProgramLaws.{same_kind, value_same}
 
 -- no number is the next one modulo 2^32
 never_next : (r : ℕ) → (r == (r + 1) % 2 ^ 32) ≡ false
@@ -37,35 +38,15 @@ made_unread (R a r s w) d h = absurd cc
 made_unread (C a r s) d h = absurd cc
 made_unread F d h = refl
 
--- a compare-and-swap reads its address, whether it writes or not
-reads_either : (b : Bool) (a : ℕ) (d : ℕ × Option ℕ)
-    → read_address (cond b (R a d.0 d.1 0) (C a d.0 d.1)) ≡ Some a
-reads_either true a d = refl
-reads_either false a d = refl
-
--- and has the value and the source that it was given
-given_either : (b : Bool) (a : ℕ) (d : ℕ × Option ℕ)
-    → (value_read (cond b (R a d.0 d.1 0) (C a d.0 d.1)) ≡ d.0)
-    × (source (cond b (R a d.0 d.1 0) (C a d.0 d.1)) ≡ d.1)
-given_either true a d = (refl, refl)
-given_either false a d = (refl, refl)
-
 -- what it makes reads the same address
 pub made_reads : (ev : Event) (d : ℕ × Option ℕ) → read_address (event_of (op_of ev) d) ≡ read_address ev
-made_reads (L a r s) d = refl
-made_reads (S a w) d = refl
-made_reads (R a r s w) d = refl
-made_reads (C a r s) d = reads_either (d.0 == (r + 1) % 2 ^ 32) a d
-made_reads F d = refl
+made_reads ev d = (same_kind (op_of ev) d).0 ∙ (sym (same_kind (op_of ev) (value_read ev, source ev)).0
+    ∙ ap read_address (made_again ev))
 
 -- and has the value and the source that it was given
 pub made_given : (ev : Event) (d : ℕ × Option ℕ) (a : ℕ) → read_address ev ≡ Some a
-    → (value_read (event_of (op_of ev) d) ≡ d.0) × (source (event_of (op_of ev) d) ≡ d.1)
-made_given (L b r s) d a h = (refl, refl)
-made_given (S b w) d a h = absurd cc
-made_given (R b r s w) d a h = (refl, refl)
-made_given (C b r s) d a h = given_either (d.0 == (r + 1) % 2 ^ 32) b d
-made_given F d a h = absurd cc
+    → (source (event_of (op_of ev) d) ≡ d.1) × (value_read (event_of (op_of ev) d) ≡ d.0)
+made_given ev d a h = value_same (op_of ev) d a (sym (same_kind (op_of ev) d).0 ∙ (made_reads ev d ∙ h))
 
 -- a plain store reads nothing
 pub store_unread : (ev : Event) → is_plain_store ev ≡ true → read_address ev ≡ None

@@ -23,8 +23,38 @@ use Rattle.recording.specs.PlacedLaws.{placed_total}
 use Rattle.machine.specs.ProgramOf.{Makes, AreOpsOf, IsProgramOf}
 use Rattle.replay.proofs.Made.{count_same, made_again}
 use Rattle.std.proofs.lemmas.Option.{same_Some}
-use Rattle.replay.proofs.FirstUse.{program_numbered, numbered_by_program}
+use Rattle.machine.specs.FirstUseLaws.{HaveAddressesOf, numbered_counts, counts_numbered}
+use Rattle.machine.specs.ProgramLaws.{made_addresses}
 use Rattle.program.specs.AddressNameLaws.{names_lawful, names_distinct, names_count}
+
+-- the operations of events make these
+made_ops : (es : List Event) → AreOpsOf (map op_of es) es
+made_ops es = record {
+  one_each = length-map es op_of;
+  each = λ i h.
+      let inside : i < length es = omega (arith, h, length-map es op_of) in
+      rw (get_or-map op_of es i F Fence inside) (made_again (get_or es i F));
+}
+
+-- so a recording is one of its program
+pub named_is_of : (x : Execution) → IsProgramOf (named_program x) x
+named_is_of x = record {
+  cores = length-map x.cores (λ es. map op_of es);
+  ops = λ c h.
+      let inside : c < length x.cores = omega (arith, h, length-map x.cores (λ (es : List Event). map op_of es)) in
+      subst (λ (ops : List Op). AreOpsOf ops (get_or x.cores c []))
+      (sym (get_or-map (λ (es : List Event). map op_of es) x.cores c [] [] inside)) (made_ops (get_or x.cores c []));
+  values = refl;
+}
+
+-- and has the addresses of its events
+have_addresses : (x : Execution) → HaveAddressesOf (program_of x) x
+have_addresses x = made_addresses (named_program x) x (named_is_of x)
+
+-- so it counts addresses that are numbered by first use
+program_numbered : (x : Execution) → IsNumberedByFirstUse x → IsRecording x
+    → use_cores 0 (program_of x) ≡ Some (length x.write_lists)
+program_numbered x numbered r = numbered_counts x (program_of x) (have_addresses x) numbered r.within.addresses
 
 -- the names, the operations and the initial values of a recording are a program
 pub named_is_program : (x : Execution) → IsRecording x → IsNumberedByFirstUse x
@@ -41,31 +71,10 @@ named_is_program x r numbered small small_init =
       values = small;
       lawful = names_lawful (length x.write_lists) (omega (arith, limit, r.within.few_addresses));
       distinct = names_distinct (length x.write_lists) (omega (arith, limit, r.within.few_addresses));
-      numbered = program_numbered x numbered r.within.addresses ∙ ap Some (sym count);
+      numbered = program_numbered x numbered r ∙ ap Some (sym count);
       init_length = r.within.initial ∙ sym count;
       init_values = small_init;
     }
-
--- the operations of events make these
-made_ops : (es : List Event) → AreOpsOf (map op_of es) es
-made_ops es = record {
-  one_each = length-map es op_of;
-  each = λ i h.
-      let inside : i < length es = omega (arith, h, length-map es op_of) in
-      subst (λ (op : Op). Makes op (get_or es i F)) (sym (get_or-map op_of es i F Fence inside))
-      (made_again (get_or es i F));
-}
-
--- so a recording is one of its program
-pub named_is_of : (x : Execution) → IsProgramOf (named_program x) x
-named_is_of x = record {
-  cores = length-map x.cores (λ es. map op_of es);
-  ops = λ c h.
-      let inside : c < length x.cores = omega (arith, h, length-map x.cores (λ (es : List Event). map op_of es)) in
-      subst (λ (ops : List Op). AreOpsOf ops (get_or x.cores c []))
-      (sym (get_or-map (λ (es : List Event). map op_of es) x.cores c [] [] inside)) (made_ops (get_or x.cores c []));
-  values = refl;
-}
 
 -- a core has room for one store at least
 most_least : (cores : List (List Event)) → 1 ≤ most_stores cores
@@ -111,9 +120,9 @@ module _ (x : Execution) (lists : List (Vec Event Global)) (are : map (λ v. v.i
   pub is_numbered_end : length lists ≤ i → (n : ℕ) → n ≡ length x.write_lists
       → (IsTrue (nat_eq used n) → IsNumberedByFirstUse x) × (IsNumberedByFirstUse x → IsTrue (nat_eq used n))
   is_numbered_end past n is = (
-    λ same. numbered_by_program x (all_used past ∙ ap Some (eqb-true used n same ∙ is)),
+    λ same. counts_numbered x (program_of x) (have_addresses x) (all_used past ∙ ap Some (eqb-true used n same ∙ is)),
     λ numbered. eq-eqb used n (same_Some _ _
-        (sym (all_used past) ∙ program_numbered x numbered r.within.addresses) ∙ sym is),
+        (sym (all_used past) ∙ program_numbered x numbered r) ∙ sym is),
   )
 
   -- where an address is used before its turn they are not numbered
@@ -125,4 +134,4 @@ module _ (x : Execution) (lists : List (Vec Event Global)) (are : map (λ v. v.i
       ∙ ap (option_and_then (λ k. use_cores k (map list_ops (drop (suc i) lists)))) early in
       let clash : None ≡ Some (length x.write_lists) =
       sym none ∙ (so_far ∙ (ap (use_cores 0) list_program
-      ∙ program_numbered x numbered r.within.addresses)) in cc
+      ∙ program_numbered x numbered r)) in cc

@@ -43,22 +43,6 @@ goes_further p n capacity s t step f took =
           took (f.on (step ∷ steps));
     }
 
--- one operation more
-pub before_more : (i : ℕ) (ops : List Op) → i < length ops
-    → count_by is_st (take (i + 1) ops) ≡ count_by is_st (take i ops) + cond (is_st (get_or ops i Fence)) 1 0
-before_more i [] h = absurd (omega (arith, h))
-before_more zero (op ∷ ops) h =
-    ap (λ (k : ℕ). count_by is_st (take k (op ∷ ops))) (let e : 0 + 1 ≡ suc 0 = omega arith in e)
-    ∙ omega (arith, sum_by-cons {X = Op} (λ o. cond (is_st o) 1 0) op (take 0 ops))
-before_more (suc i) (op ∷ ops) h =
-    ap (λ (k : ℕ). count_by is_st (take k (op ∷ ops))) (let e : suc i + 1 ≡ suc (i + 1) = omega arith in e)
-    ∙ omega (
-      arith,
-      before_more i ops (omega (arith, h)),
-      sum_by-cons {X = Op} (λ o. cond (is_st o) 1 0) op (take (i + 1) ops),
-      sum_by-cons {X = Op} (λ o. cond (is_st o) 1 0) op (take i ops),
-    )
-
 -- no part has more than all
 pub before_all : (i : ℕ) (ops : List Op) → count_by is_st (take i ops) ≤ count_by is_st ops
 before_all zero ops = omega arith

@@ -64,13 +64,13 @@ module _ (x : Execution) (m : List ℕ) (tso : IsTsoOrder x m) (n capacity : ℕ
       → (t : State) × IsTurn (program_of x) n capacity s (perform s (core_of x e) ev) e t
   perform_turn s f e rest split (S a w) is ready = drain_turn x m tso n capacity room s f e rest split a w is
       (omega (arith, ready))
-  perform_turn s f e rest split (L a r o) is ready = load_turn x m tso n capacity room s f e rest split ready
+  perform_turn s f e rest split (L a r o) is ready = load_turn x m tso n capacity room s f e rest split ready (ap is_plain_store is)
       a r o is
-  perform_turn s f e rest split (R a r o w) is ready = rmw_turn x m tso n capacity room s f e rest split ready
+  perform_turn s f e rest split (R a r o w) is ready = rmw_turn x m tso n capacity room s f e rest split ready (ap is_plain_store is)
       a r w o is
-  perform_turn s f e rest split (C a r o) is ready = cas_turn x m tso n capacity room s f e rest split ready
+  perform_turn s f e rest split (C a r o) is ready = cas_turn x m tso n capacity room s f e rest split ready (ap is_plain_store is)
       a r o is
-  perform_turn s f e rest split F is ready = fence_turn x m tso n capacity room s f e rest split ready is
+  perform_turn s f e rest split F is ready = fence_turn x m tso n capacity room s f e rest split ready (ap is_plain_store is) is
 
   -- each event takes its turn
   event_turn : (s : State) (f : StaysOrderly (program_of x) n capacity s) (e : ℕ) (rest : List ℕ)
@@ -88,9 +88,7 @@ module _ (x : Execution) (m : List ℕ) (tso : IsTsoOrder x m) (n capacity : ℕ
       let took = perform_turn ran.0 ran.2.fits e rest later (event_at x e) refl
       (omega (arith, ran.2.place)) in (
         took.0,
-        subst (λ (z : State). IsTurn p n capacity s (execute_to p s c far ++ perform z c (event_at x e)) e
-            took.0) (sym ran.1.1)
-            (turn_behind p n capacity s ran.0 took.0 c (far - (first_event p c + place_of s c)) e
+        rw ran.1.1 (turn_behind p n capacity s ran.0 took.0 c (far - (first_event p c + place_of s c)) e
             (perform ran.0 c (event_at x e)) ran.1 ran.2 took.1),
       )
 
@@ -127,8 +125,7 @@ module _ (x : Execution) (m : List ℕ) (tso : IsTsoOrder x m) (n capacity : ℕ
       ap (λ (z : State). front ++ order_steps x capacity fault.None z rest) (sym took.1.goes.1) in (
         ran.0,
         record {
-          goes = subst (λ (steps : List Step). StepsLead (program_of x) capacity s steps ran.0) same
-              (goes_on (program_of x) capacity s took.0 ran.0 front back took.1.goes ran.1.goes);
+          goes = rw (← same) (goes_on (program_of x) capacity s took.0 ran.0 front back took.1.goes ran.1.goes);
           fits = ran.1.fits;
           performed = ran.1.performed;
           few = omega (

@@ -27,7 +27,9 @@ use Rattle.machine.specs.Step.{forwarded_or_read, has, IsAt}
 use Rattle.replay.specs.Steps.{get_to_write, get_to_read}
 use Rattle.machine.specs.Taken.{all_taken, unless_blocked}
 use Rattle.machine.specs.Orderly.{is_st}
-use Rattle.replay.proofs.OrderlyRuns.{StaysOrderly, goes_further, before_more, before_all}
+use Rattle.machine.specs.PlaceLaws.{stores_more}
+use Rattle.machine.specs.RunLaws.{at_taken, guarded}
+use Rattle.replay.proofs.OrderlyRuns.{StaysOrderly, goes_further, before_all}
 
 -- the step is taken
 abbrev pub IsTaken : List (List Op) → ℕ → State → Step → Type 0
@@ -75,12 +77,6 @@ goes_on p capacity s t u (x ∷ xs) ys front back =
     let rest : StepsLead p capacity (after s (step_result p capacity fault.None s x)) (xs ++ ys) u = goes_on p capacity
     (after s (step_result p capacity fault.None s x)) t u xs ys (front.0.1, front.1) back in
     ((front.0.0, rest.0), rest.1)
-
--- a guarded step that is taken had its guard
-pub guarded : (b : Bool) (r : Result State Blocked) (e : Blocked) (t : State) → cond b r (Err e) ≡ Ok t
-    → (b ≡ true) × (r ≡ Ok t)
-guarded true r e t h = (refl, h)
-guarded false r e t h = absurd cc
 
 -- a test that only grows
 more_room : (k capacity larger : ℕ) (r t : State) → capacity ≤ larger → cond (nat_lt k capacity) (Ok r)
@@ -154,11 +150,6 @@ is_at p s c core there = record {
   number = refl;
 }
 
--- the execution of a core's operation is a step
-pub at_taken : (p : List (List Op)) (capacity : ℕ) (s : State) (c : ℕ) (op : Op) (e : ℕ) → IsAt p s c op e
-    → step_result p capacity fault.None s (Exec c) ≡ exec capacity fault.None s c e op
-at_taken p capacity s c op e at = rw (lt-ltb c (length p) at.core, at.operation, at.number) refl
-
 -- core c has executed j stores more
 pub record HasStored (p : List (List Op)) (n capacity : ℕ) (s t : State) (c j : ℕ) : Type 0 where
   pub fits : StaysOrderly p n capacity t
@@ -180,7 +171,7 @@ store_one p n capacity s c f core there room store =
       arith,
       (f.on []).few c,
       room,
-      before_more (place_of s c) (get_or p c []) there,
+      stores_more (place_of s c) (get_or p c []) there,
       ap {B = ℕ} (λ (b : Bool). cond b 1 0) store,
       before_all (place_of s c + 1) (get_or p c []),
     )
@@ -196,7 +187,7 @@ store_one p n capacity s c f core there room store =
         (buffer_of s c ++ record { addr = a; value = v; event = b } ∷ [])) c in
         let did : exec capacity fault.None s c b (St a v) ≡ Ok t =
         rw (lt-ltb (length (buffer_of s c)) capacity fewer) refl in
-        let took : step_result p capacity fault.None s (Exec c) ≡ Ok t = at_taken p capacity s c
+        let took : step_result p capacity fault.None s (Exec c) ≡ Ok t = at_taken p capacity fault.None s c
         (get_or (get_or p c []) (place_of s c) Fence) b (is_at p s c core there)
         ∙ (ap (exec capacity fault.None s c b) is ∙ did) in (
           t,
@@ -255,9 +246,13 @@ has_line : (p : List (List Op)) (s : State) (c a : ℕ) → c < length p → a <
     → has p s c a ≡ true
 has_line p s c a core within = rw (lt-ltb c (length p) core, lt-ltb a (length s.caches.blocks) within) refl
 
+-- the caches with another block at an address
+abbrev with_block : moesi.CacheState → ℕ → Block → moesi.CacheState
+with_block s a u = record { cores = s.cores; blocks = slice_set s.blocks a u }
+
 -- a core's new line is that line
 line_new : (s : moesi.CacheState) (c a : ℕ) (u : Block) → a < length s.blocks
-    → moesi.line_of (record { cores = s.cores; blocks = slice_set s.blocks a u }) c a ≡ (cell_of u c).line
+    → moesi.line_of (with_block s a u) c a ≡ (cell_of u c).line
 line_new s c a u within = ap (λ (b : Block). (cell_of b c).line)
     (get_or-set_same s.blocks a u (record { lines = []; memory = (0, None) }) within)
 
@@ -277,6 +272,16 @@ module _ (p : List (List Op)) (n capacity : ℕ) (s : State) (f : StaysOrderly p
   line_within : c < length (moesi.block_of s.caches a).lines
   line_within = omega (arith, core, (f.on []).lines a (omega (arith, within, (f.on []).blocks)))
 
+  -- a step that is a transaction of the line
+  fetched : (step : Step) (u : Block)
+      → step_result p capacity fault.None s step ≡ Ok (with_caches s (with_block s.caches a u))
+      → Fetches p n capacity s (step ∷ []) (with_block s.caches a u)
+  fetched step u took = (
+    goes_one p capacity s _ step took,
+    goes_further p n capacity s _ step f took,
+    length-set s.caches.blocks a u,
+  )
+
   -- a core that wants to write a line gets it
   pub fetch_write : (caches : moesi.CacheState) × Fetches p n capacity s (get_to_write s c a) caches
       × (is_exclusive (moesi.line_of caches c a) ≡ true)
@@ -289,28 +294,15 @@ module _ (p : List (List Op)) (n capacity : ℕ) (s : State) (f : StaysOrderly p
       go false is =
           let b : Block = moesi.block_of s.caches a in
           let u : Block = record {
-            lines = slice_set (map row.invalidated b.lines) c
-                (record { line = line.M; copy = supplied b });
+            lines = slice_set (map row.invalidated b.lines) c (record { line = line.M; copy = supplied b });
             memory = b.memory;
           } in
-          let caches : moesi.CacheState = record {
-            cores = s.caches.cores;
-            blocks =
-                slice_set s.caches.blocks a u;
-          } in
-          let mine : (get_or u.lines c invalid).line ≡ line.M =
-          rw (get_or-set_same (map row.invalidated b.lines) c (record { line = line.M; copy = supplied b })
-          invalid (omega (arith, line_within, length-map b.lines row.invalidated))) refl in
-          let made : moesi.get_m s.caches c a ≡ Ok caches = rw is refl in
-          let took : step_result p capacity fault.None s (GetM c a) ≡ Ok (with_caches s caches) =
-          rw (has_line p s c a core within, made) refl in (
-            caches,
-            (
-              goes_one p capacity s (with_caches s caches) (GetM c a) took,
-              goes_further p n capacity s
-                  (with_caches s caches) (GetM c a) f took,
-              length-set s.caches.blocks a u,
-            ),
+          let mine : (cell_of u c).line ≡ line.M = rw (get_or-set_same (map row.invalidated b.lines) c
+          (record { line = line.M; copy = supplied b }) invalid
+          (omega (arith, line_within, length-map b.lines row.invalidated))) refl in
+          let made : moesi.get_m s.caches c a ≡ Ok (with_block s.caches a u) = rw is refl in (
+            with_block s.caches a u,
+            fetched (GetM c a) u (rw (has_line p s c a core within, made) refl),
             ap is_exclusive (line_new s.caches c a u within ∙ mine),
           )
 
@@ -328,46 +320,31 @@ module _ (p : List (List Op)) (n capacity : ℕ) (s : State) (f : StaysOrderly p
       go false is =
           let b : Block = moesi.block_of s.caches a in
           let u : Block = record {
-            lines =
-                slice_set (map row.shared b.lines) c
+            lines = slice_set (map row.shared b.lines) c
                 (record { line = cond (has_copy b) line.S line.E; copy = supplied b });
             memory = b.memory;
           } in
-          let mine : (get_or u.lines c invalid).line ≡ cond (has_copy b) line.S line.E =
+          let mine : (cell_of u c).line ≡ cond (has_copy b) line.S line.E =
           rw (get_or-set_same (map row.shared b.lines) c
           (record { line = cond (has_copy b) line.S line.E; copy = supplied b }) invalid
           (omega (arith, line_within, length-map b.lines row.shared))) refl in
-          let caches : moesi.CacheState = record {
-            cores = s.caches.cores;
-            blocks =
-                slice_set s.caches.blocks a u;
-          } in
-          let made : moesi.get_s s.caches c a ≡ Ok caches = rw is refl in
-          let took : step_result p capacity fault.None s (GetS c a) ≡ Ok (with_caches s caches) =
-          rw (has_line p s c a core within, made) refl in
-          let valid : is_valid (moesi.line_of caches c a) ≡ true = ap is_valid (line_new s.caches c a u within
-          ∙ mine) ∙ shared_valid (has_copy b) in (
-            caches,
-            (
-              goes_one p capacity s (with_caches s caches) (GetS c a) took,
-              goes_further p n capacity s
-                  (with_caches s caches) (GetS c a) f took,
-              length-set s.caches.blocks a u,
-            ),
-            (moesi.copy_of caches c a, rw valid refl),
+          let made : moesi.get_s s.caches c a ≡ Ok (with_block s.caches a u) = rw is refl in
+          let valid : is_valid (moesi.line_of (with_block s.caches a u) c a) ≡ true =
+          ap is_valid (line_new s.caches c a u within ∙ mine) ∙ shared_valid (has_copy b) in (
+            with_block s.caches a u,
+            fetched (GetS c a) u (rw (has_line p s c a core within, made) refl),
+            (moesi.copy_of (with_block s.caches a u) c a, rw valid refl),
           )
 
 -- a line that may be written takes what is written
 pub write_made : (s : moesi.CacheState) (c a value event : ℕ) → is_exclusive (moesi.line_of s c a) ≡ true
     → (caches : moesi.CacheState) × (moesi.write s c a value event ≡ Ok caches)
 write_made s c a value event is =
-    let b : Block = moesi.block_of s a in
     let u : Block = record {
-      lines = slice_set b.lines c
-          (record { line = line.M; copy = (value, Some event) });
-      memory = b.memory;
+      lines = slice_set (moesi.block_of s a).lines c (record { line = line.M; copy = (value, Some event) });
+      memory = (moesi.block_of s a).memory;
     } in
-    (record { cores = s.cores; blocks = slice_set s.blocks a u }, rw is refl)
+    (with_block s a u, rw is refl)
 
 -- at most one step gets a line
 pub few_write : (s : State) (c a : ℕ) → length (get_to_write s c a) ≤ 1

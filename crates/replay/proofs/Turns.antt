@@ -35,7 +35,8 @@ use Rattle.recording.specs.PlacedLaws.{placed_at}
 use Rattle.machine.specs.PlaceLaws.{event_behind, event_before}
 use Rattle.replay.proofs.Made.{store_same, placed_is, count_same, core_there}
 use Rattle.replay.proofs.OrderlyRuns.{StaysOrderly, goes_further, waiting, stores_wait, waits_once}
-use Rattle.replay.proofs.StepLists.{StepsLead, goes_one, goes_on, is_at, at_taken, HasStored, store_all, fetch_write}
+use Rattle.machine.specs.RunLaws.{at_taken}
+use Rattle.replay.proofs.StepLists.{StepsLead, goes_one, goes_on, is_at, HasStored, store_all, Fetches, fetch_write}
 use Rattle.replay.proofs.StepLists.{fetch_read, write_made, few_write, few_read}
 
 -- a plain store is no plain load
@@ -90,6 +91,10 @@ pub record IsTurn (p : List (List Op)) (n capacity : ℕ) (s : State) (steps : L
   pub performed : t.performed ≡ s.performed ++ e ∷ []
   pub few : length steps + sum s.places ≤ sum t.places + 2
 
+-- the number of the next event of e's core
+abbrev pub next_number : Execution → State → ℕ → ℕ
+next_number x s e = first_event (program_of x) (core_of x e) + place_of s (core_of x e)
+
 module _ (x : Execution) (m : List ℕ) (tso : IsTsoOrder x m) (n capacity : ℕ) (room : (c : ℕ)
     → count_by is_st (get_or (program_of x) c []) ≤ capacity) where
   module _ (s : State) (f : StaysOrderly (program_of x) n capacity s) (e : ℕ) (rest : List ℕ)
@@ -141,13 +146,11 @@ module _ (x : Execution) (m : List ℕ) (tso : IsTsoOrder x m) (n capacity : ℕ
 
     -- it stands after the first of its core
     from : first_event (program_of x) (core_of x e) ≤ e
-    from = subst (λ (c : ℕ). first_event (program_of x) c ≤ e) (core_same e)
-        (event_behind (program_of x) e counted)
+    from = rw (← core_same e) (event_behind (program_of x) e counted)
 
     -- and before the end
     to : e < first_event (program_of x) (core_of x e) + length (get_or (program_of x) (core_of x e) [])
-    to = subst (λ (c : ℕ). e < first_event (program_of x) c + length (get_or (program_of x) c []))
-        (core_same e) (event_before (program_of x) e counted)
+    to = rw (← core_same e) (event_before (program_of x) e counted)
 
     -- so its core is there
     core : core_of x e < length (program_of x)
@@ -167,7 +170,7 @@ module _ (x : Execution) (m : List ℕ) (tso : IsTsoOrder x m) (n capacity : ℕ
 
     -- what its core has not executed is not performed
     new : (w : ℕ) → core_of x w ≡ core_of x e
-        → first_event (program_of x) (core_of x e) + place_of s (core_of x e) ≤ w → times s.performed w ≡ 0
+        → next_number x s e ≤ w → times s.performed w ≡ 0
     new w own behind_all = elim (cases_times s.performed w) [
       | inl none ↦ none
       | inr there ↦
@@ -196,10 +199,10 @@ module _ (x : Execution) (m : List ℕ) (tso : IsTsoOrder x m) (n capacity : ℕ
     pub caught_up : (far : ℕ) → far ≤ e + 1 → (e < far → is_plain_store (event_at x e) ≡ true)
         → (t : State) × StepsLead (program_of x) capacity s (execute_to (program_of x) s (core_of x e) far) t
         × HasStored (program_of x) n capacity s t (core_of x e)
-        (far - (first_event (program_of x) (core_of x e) + place_of s (core_of x e)))
+        (far - next_number x s e)
     caught_up far short store =
         store_all (program_of x) n capacity (core_of x e)
-        (far - (first_event (program_of x) (core_of x e) + place_of s (core_of x e))) s f core
+        (far - next_number x s e) s f core
         (omega (arith, from, to, short, (f.on []).within (core_of x e))) (room (core_of x e))
         (λ i next earlier. elim (cases_lt (first_event (program_of x) (core_of x e) + i) e) [
           | inl before ↦ stores_first i next before
@@ -213,7 +216,7 @@ module _ (x : Execution) (m : List ℕ) (tso : IsTsoOrder x m) (n capacity : ℕ
     -- what waits on its core is a plain store of it, executed and not performed
     waits : (w : ℕ) → 0 < times (waiting s (core_of x e)) w
         → (core_of x w ≡ core_of x e) × (is_plain_store (event_at x w) ≡ true)
-        × (w < first_event (program_of x) (core_of x e) + place_of s (core_of x e))
+        × (w < next_number x s e)
         × (times s.performed w ≡ 0)
     waits w there =
         let o : IsOrderly (program_of x) n s = f.on [] in
@@ -228,24 +231,22 @@ module _ (x : Execution) (m : List ℕ) (tso : IsTsoOrder x m) (n capacity : ℕ
         )
 
     -- if it is executed it waits
-    waits_itself : e < first_event (program_of x) (core_of x e) + place_of s (core_of x e)
+    waits_itself : e < next_number x s e
         → 0 < times (waiting s (core_of x e)) e
     waits_itself done =
         let one : times (seen_by s (core_of x e)) e ≡ 1 =
-        subst (λ (c : ℕ). times (seen_by s c) e ≡ 1) (core_same e)
-        ((f.on []).once e (
+        rw (← core_same e) ((f.on []).once e (
           counted,
-          subst (λ (c : ℕ). e < first_event (program_of x) c + place_of s c)
-              (sym (core_same e)) done,
+          rw (core_same e) done,
         )) in
         omega (arith, one, fresh, times_append s.performed (waiting s (core_of x e)) e)
 
-    module _ (ready : e ≤ first_event (program_of x) (core_of x e) + place_of s (core_of x e)) where
+    module _ (ready : e ≤ next_number x s e) where
       -- if it is no plain store it is next
       is_next : is_plain_store (event_at x e) ≡ false
-          → e ≡ first_event (program_of x) (core_of x e) + place_of s (core_of x e)
+          → e ≡ next_number x s e
       is_next plain =
-          elim (cases_lt e (first_event (program_of x) (core_of x e) + place_of s (core_of x e))) [
+          elim (cases_lt e (next_number x s e)) [
             | inl done ↦ absurd (let clash : true ≡ false = sym (waits e (waits_itself done)).1 ∙ plain in cc)
             | inr not_yet ↦ omega (arith, ready, not_yet)
           ]
@@ -259,8 +260,7 @@ module _ (x : Execution) (m : List ℕ) (tso : IsTsoOrder x m) (n capacity : ℕ
           go [] is = is
           go (y ∷ ys) is =
               let there : 0 < times (waiting s (core_of x e)) y.event =
-              subst (λ (b : List Entry). 0 < times (map (λ (z : Entry). z.event) b) y.event) (sym is)
-              (omega (arith, times_here (map (λ (z : Entry). z.event) ys) y.event y.event refl)) in
+              rw is (omega (arith, times_here (map (λ (z : Entry). z.event) ys) y.event y.event refl)) in
               let own = waits y.event there in
               let both = behind y.event (omega (arith, own.2, is_next plain)) own.0 own.3 in
               absurd (let clash : true ≡ false =
@@ -269,7 +269,7 @@ module _ (x : Execution) (m : List ℕ) (tso : IsTsoOrder x m) (n capacity : ℕ
 
     -- where it is a plain store that is executed, it is the oldest that waits
     oldest : is_plain_store (event_at x e) ≡ true → is_plain_load (event_at x e) ≡ false
-        → e < first_event (program_of x) (core_of x e) + place_of s (core_of x e)
+        → e < next_number x s e
         → (y : Entry) × (ys : List Entry) × (buffer_of s (core_of x e) ≡ y ∷ ys) × (y.event ≡ e)
     oldest store strong done = go (buffer_of s (core_of x e)) refl
       where
@@ -341,112 +341,97 @@ module _ (x : Execution) (m : List ℕ) (tso : IsTsoOrder x m) (n capacity : ℕ
           (omega (arith, core, (f.on []).places)),
     )
 
-    -- the core executes e, after a transaction that left these caches
-    executed : (caches : moesi.CacheState) (op : Op) (t : State)
-        → StaysOrderly (program_of x) n capacity (with_caches s caches)
-        → e ≡ first_event (program_of x) (core_of x e) + place_of s (core_of x e) → op_of (event_at x e) ≡ op
-        → exec capacity fault.None (with_caches s caches) (core_of x e)
-        (first_event (program_of x) (core_of x e) + place_of s (core_of x e)) op ≡ Ok t
-        → (step_result (program_of x) capacity fault.None (with_caches s caches) (Exec (core_of x e)) ≡ Ok t)
-        × StaysOrderly (program_of x) n capacity t
-    executed caches op t fits next is did =
-        let p : List (List Op) = program_of x in
-        let u : State = with_caches s caches in
-        let b : ℕ = first_event p (core_of x e) + place_of s (core_of x e) in
-        let inside : place_of s (core_of x e) < length (get_or p (core_of x e) []) =
-        omega (arith, next, to) in
-        let op_is : get_or (get_or p (core_of x e) []) (place_of s (core_of x e)) Fence ≡ op =
-        (op_there (place_of s (core_of x e)) inside).0
-        ∙ (ap (λ (k : ℕ). op_of (event_at x k)) (sym next) ∙ is) in
-        let took : step_result p capacity fault.None u (Exec (core_of x e)) ≡ Ok t =
-        at_taken p capacity u (core_of x e) (get_or (get_or p (core_of x e) []) (place_of s (core_of x e))
-        Fence) b (is_at p u (core_of x e) core inside)
-        ∙ (ap (exec capacity fault.None u (core_of x e) b) op_is ∙ did) in
-        (took, goes_further p n capacity u t (Exec (core_of x e)) fits took)
+    module _ (ready : e ≤ next_number x s e)
+        (plain : is_plain_store (event_at x e) ≡ false) where
+      -- the core executes e as its next event, after at most one step that left these caches
+      executed : (gets : List Step) (caches : moesi.CacheState) (op : Op) (t : State)
+          → Fetches (program_of x) n capacity s gets caches → length gets ≤ 1 → op_of (event_at x e) ≡ op
+          → exec capacity fault.None (with_caches s caches) (core_of x e) (next_number x s e) op ≡ Ok t
+          → t.places ≡ slice_set s.places (core_of x e) (place_of s (core_of x e) + 1)
+          → t.performed ≡ s.performed ++ next_number x s e ∷ []
+          → (t : State) × IsTurn (program_of x) n capacity s (gets ++ Exec (core_of x e) ∷ []) e t
+      executed gets caches op t got short is did places done =
+          let p : List (List Op) = program_of x in
+          let c : ℕ = core_of x e in
+          let u : State = with_caches s caches in
+          let b : ℕ = next_number x s e in
+          let next : e ≡ b = is_next ready plain in
+          let inside : place_of s c < length (get_or p c []) = omega (arith, next, to) in
+          let op_is : get_or (get_or p c []) (place_of s c) Fence ≡ op =
+          (op_there (place_of s c) inside).0 ∙ (ap (λ (k : ℕ). op_of (event_at x k)) (sym next) ∙ is) in
+          let took : step_result p capacity fault.None u (Exec c) ≡ Ok t =
+          at_taken p capacity fault.None u c (get_or (get_or p c []) (place_of s c) Fence) b
+          (is_at p u c core inside) ∙ (ap (exec capacity fault.None u c b) op_is ∙ did) in (
+            t,
+            record {
+              goes = goes_on p capacity s u t gets (Exec c ∷ []) got.0 (goes_one p capacity u t (Exec c) took);
+              fits = goes_further p n capacity u t (Exec c) got.1 took;
+              performed = done ∙ ap (λ (k : ℕ). s.performed ++ k ∷ []) (sym next);
+              few = omega (
+                arith,
+                sum_up,
+                ap (λ (l : List ℕ). sum l) places,
+                short,
+                length-append gets (Exec c ∷ []),
+              );
+            },
+          )
 
-    -- what is performed is e
-    performed_it : e ≡ first_event (program_of x) (core_of x e) + place_of s (core_of x e)
-        → s.performed ++ (first_event (program_of x) (core_of x e) + place_of s (core_of x e)) ∷ []
-        ≡ s.performed ++ e ∷ []
-    performed_it next = ap (λ (k : ℕ). s.performed ++ k ∷ []) (sym next)
-
-    module _ (ready : e ≤ first_event (program_of x) (core_of x e) + place_of s (core_of x e)) where
       -- a fence takes its turn
       pub fence_turn : event_at x e ≡ F → (t : State)
           × IsTurn (program_of x) n capacity s (Exec (core_of x e) ∷ []) e t
       fence_turn is =
           let c : ℕ = core_of x e in
-          let b : ℕ = first_event (program_of x) c + place_of s c in
-          let next : e ≡ b = is_next ready (ap is_plain_store is) in
-          let empty : buffer_of s c ≡ [] = is_emptied ready (ap is_plain_store is) (ap is_plain_load is) in
-          let t : State = advanced (performed s b) c in
-          let did : exec capacity fault.None s c b Fence ≡ Ok t = rw empty refl in
-          let took = executed s.caches Fence t f next (ap op_of is) did in (
-            t,
-            record {
-              goes = goes_one (program_of x) capacity s t (Exec c) took.0;
-              fits = took.1;
-              performed = performed_it next;
-              few = omega (arith, sum_up);
-            },
-          )
+          let b : ℕ = next_number x s e in
+          let empty : buffer_of s c ≡ [] = is_emptied ready plain (ap is_plain_load is) in
+          executed [] s.caches Fence (advanced (performed s b) c) ((tt, refl), f, refl) (omega arith) (ap op_of is)
+          (rw empty refl) refl refl
 
-      -- a read-modify-write takes its turn
+      -- an event that needs a line that is M or E takes its turn
+      write_turn : (a : ℕ) (op : Op) → op_of (event_at x e) ≡ op → IsWithin (length s.caches.blocks) (St a 0)
+          → ((caches : moesi.CacheState) → is_exclusive (moesi.line_of caches (core_of x e) a) ≡ true
+          → (t : State)
+          × (exec capacity fault.None (with_caches s caches) (core_of x e) (next_number x s e) op ≡ Ok t)
+          × (t.places ≡ slice_set s.places (core_of x e) (place_of s (core_of x e) + 1))
+          × (t.performed ≡ s.performed ++ next_number x s e ∷ []))
+          → (t : State) × IsTurn (program_of x) n capacity s
+          (get_to_write s (core_of x e) a ++ Exec (core_of x e) ∷ []) e t
+      write_turn a op is within does =
+          let got = fetch_write (program_of x) n capacity s f (core_of x e) a core within in
+          let did = does got.0 got.2 in
+          executed (get_to_write s (core_of x e) a) got.0 op did.0 got.1 (few_write s (core_of x e) a) is did.1 did.2
+          did.3
+
+      -- so does a read-modify-write
       pub rmw_turn : (a r w : ℕ) (o : Option ℕ) → event_at x e ≡ R a r o w
           → (t : State) × IsTurn (program_of x) n capacity s
           (get_to_write s (core_of x e) a ++ Exec (core_of x e) ∷ []) e t
       rmw_turn a r w o is =
           let c : ℕ = core_of x e in
-          let b : ℕ = first_event (program_of x) c + place_of s c in
-          let next : e ≡ b = is_next ready (ap is_plain_store is) in
-          let empty : buffer_of s c ≡ [] = is_emptied ready (ap is_plain_store is) (ap is_plain_load is) in
-          let got = fetch_write (program_of x) n capacity s f c a core
-          (address_there (Swap a w) (ap op_of is)) in
-          let u : State = with_caches s got.0 in
-          let made = write_made got.0 c a (rmw_value u c (Swap a w) a) b got.2 in
-          let t : State = advanced (performed (written (with_read u b (line_copy u c a)) made.0 a b) b) c in
-          let did : exec capacity fault.None u c b (Swap a w) ≡ Ok t = rw (empty, made.1) refl in
-          let took = executed got.0 (Swap a w) t got.1.1 next (ap op_of is) did in (
-            t,
-            record {
-              goes = goes_on (program_of x) capacity s u t (get_to_write s c a) (Exec c ∷ []) got.1.0
-                  (goes_one (program_of x) capacity u t (Exec c) took.0);
-              fits = took.1;
-              performed = performed_it next;
-              few = omega (arith, sum_up, few_write s c a, length-append (get_to_write s c a) (Exec c ∷ []));
-            },
-          )
+          let b : ℕ = next_number x s e in
+          let empty : buffer_of s c ≡ [] = is_emptied ready plain (ap is_plain_load is) in
+          write_turn a (Swap a w) (ap op_of is) (address_there (Swap a w) (ap op_of is)) (λ caches own.
+          let u : State = with_caches s caches in
+          let made = write_made caches c a (rmw_value u c (Swap a w) a) b own in (
+            advanced (performed (written (with_read u b (line_copy u c a)) made.0 a b) b) c,
+            rw (empty, made.1) refl,
+            refl,
+            refl,
+          ))
 
-      -- a compare-and-swap that failed takes its turn
+      -- and a compare-and-swap that failed
       pub cas_turn : (a r : ℕ) (o : Option ℕ) → event_at x e ≡ C a r o
           → (t : State) × IsTurn (program_of x) n capacity s
           (get_to_write s (core_of x e) a ++ Exec (core_of x e) ∷ []) e t
       cas_turn a r o is =
           let c : ℕ = core_of x e in
-          let b : ℕ = first_event (program_of x) c + place_of s c in
+          let b : ℕ = next_number x s e in
           let op : Op = Cas a ((r + 1) % 2 ^ 32) 0 in
-          let next : e ≡ b = is_next ready (ap is_plain_store is) in
-          let empty : buffer_of s c ≡ [] = is_emptied ready (ap is_plain_store is) (ap is_plain_load is) in
-          let got = fetch_write (program_of x) n capacity s f c a core (address_there op (ap op_of is)) in
-          let u : State = with_caches s got.0 in
-          let made = write_made got.0 c a (rmw_value u c (Swap a 0) a) b got.2 in
-          let did = cas_did capacity u made.0 c b a ((r + 1) % 2 ^ 32) 0 empty got.2 made.1 in
-          let took = executed got.0 op did.0 got.1.1 next (ap op_of is) did.1 in (
-            did.0,
-            record {
-              goes = goes_on (program_of x) capacity s u did.0 (get_to_write s c a) (Exec c ∷ []) got.1.0
-                  (goes_one (program_of x) capacity u did.0 (Exec c) took.0);
-              fits = took.1;
-              performed = did.3 ∙ performed_it next;
-              few = omega (
-                arith,
-                sum_up,
-                ap (λ (l : List ℕ). sum l) did.2,
-                few_write s c a,
-                length-append (get_to_write s c a) (Exec c ∷ []),
-              );
-            },
-          )
+          let empty : buffer_of s c ≡ [] = is_emptied ready plain (ap is_plain_load is) in
+          write_turn a op (ap op_of is) (address_there op (ap op_of is)) (λ caches own.
+          let u : State = with_caches s caches in
+          let made = write_made caches c a (rmw_value u c (Swap a 0) a) b own in
+          cas_did capacity u made.0 c b a ((r + 1) % 2 ^ 32) 0 empty own made.1)
 
       -- a load takes its turn
       pub load_turn : (a r : ℕ) (o : Option ℕ) → event_at x e ≡ L a r o
@@ -455,33 +440,17 @@ module _ (x : Execution) (m : List ℕ) (tso : IsTsoOrder x m) (n capacity : ℕ
           e t
       load_turn a r o is =
           let c : ℕ = core_of x e in
-          let b : ℕ = first_event (program_of x) c + place_of s c in
-          let next : e ≡ b = is_next ready (ap is_plain_store is) in
-          let got = fetch_read (program_of x) n capacity s f c a core (address_there (Ld a) (ap op_of is))
-          (youngest (buffer_of s c) a) in
+          let b : ℕ = next_number x s e in
+          let found : Option Entry = youngest (buffer_of s c) a in
+          let got = fetch_read (program_of x) n capacity s f c a core (address_there (Ld a) (ap op_of is)) found in
           let u : State = with_caches s got.0 in
-          let t : State = advanced (performed (with_read u b got.2.0) b) c in
-          let did : exec capacity fault.None u c b (Ld a) ≡ Ok t =
-          ap (or_blocked B4 (λ what. advanced (performed (with_read u b what) b) c)) got.2.1 in
-          let took = executed got.0 (Ld a) t got.1.1 next (ap op_of is) did in (
-            t,
-            record {
-              goes = goes_on (program_of x) capacity s u t (get_to_read s c a (youngest (buffer_of s c) a))
-                  (Exec c ∷ []) got.1.0 (goes_one (program_of x) capacity u t (Exec c) took.0);
-              fits = took.1;
-              performed = performed_it next;
-              few = omega (
-                arith,
-                sum_up,
-                few_read s c a (youngest (buffer_of s c) a),
-                length-append (get_to_read s c a (youngest (buffer_of s c) a)) (Exec c ∷ []),
-              );
-            },
-          )
+          executed (get_to_read s c a found) got.0 (Ld a) (advanced (performed (with_read u b got.2.0) b) c) got.1
+          (few_read s c a found) (ap op_of is)
+          (ap (or_blocked B4 (λ what. advanced (performed (with_read u b what) b) c)) got.2.1) refl refl
 
     -- a store that is executed takes its turn
     pub drain_turn : (a w : ℕ) → event_at x e ≡ S a w
-        → e < first_event (program_of x) (core_of x e) + place_of s (core_of x e)
+        → e < next_number x s e
         → (t : State) × IsTurn (program_of x) n capacity s
         (get_to_write s (core_of x e) a ++ Drain (core_of x e) ∷ []) e t
     drain_turn a w is done = go (oldest (ap is_plain_store is) (ap is_plain_load is) done)

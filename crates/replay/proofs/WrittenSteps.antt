@@ -1,23 +1,19 @@
 -- A machine that takes steps and writes them down, step by step.
 use Rattle.std.proofs.Common.{◌≡◌, ◌+◌, ℕ, zero, suc, Result, Ok, Err, OnOk, List, [], ◌∷◌, ◌++◌, replicate}
 use Rattle.std.proofs.Common.{arith, refl, sym, ap, ◌∙◌, append_assoc}
+use Rattle.std.proofs.lemmas.List.{replicate_more}
 use Rattle.program.specs.declared.op.Op.{Op}
 use Rattle.recording.specs.declared.event.Event.{Event}
 use Rattle.recording.specs.Execution.{Execution, core_of, event_at}
 use Rattle.machine.specs.declared.fault.Fault.{Fault}
 use Rattle.machine.specs.declared.step.Step.{Step}
 use Rattle.machine.specs.State.{State}
-use Rattle.machine.specs.Step.{step_result, after, run}
+use Rattle.machine.specs.Step.{run}
+use Rattle.machine.specs.RunLaws.{run_append}
 use Rattle.machine.specs.Configuration.{Configuration}
 use Rattle.replay.specs.Program.{program_of}
 use Rattle.replay.specs.Steps.{executed_before, execute_to, perform, turn, order_steps}
 use Rattle.replay.specs.Replaying.{Replaying, with_steps}
-
--- steps in two parts
-run_append : (p : List (List Op)) (capacity : ℕ) (f : Fault) (s : State) (xs ys : List Step)
-    → run p capacity f s (xs ++ ys) ≡ run p capacity f (run p capacity f s xs) ys
-run_append p capacity f s [] ys = refl
-run_append p capacity f s (x ∷ xs) ys = run_append p capacity f (after s (step_result p capacity f s x)) xs ys
 
 -- more steps, and then more
 pub more_steps : (r : Replaying) (xs ys : List Step) → with_steps (with_steps r xs) ys ≡ with_steps r
@@ -39,12 +35,6 @@ then_steps r s t xs ys first second = second
 pub ok_then : {A B T E : Type 0} (r : Result T E) → (A → B) → OnOk r A → OnOk r B
 ok_then (Ok x) f h = f h
 ok_then (Err e) f h = tt
-
--- one copy more
-replicate_more : (n : ℕ) (x : Step) → replicate n x ++ x ∷ [] ≡ replicate (n + 1) x
-replicate_more zero x = refl
-replicate_more (suc n) x = ap (λ (l : List Step). x ∷ l) (replicate_more n x) ∙ ap (λ (k : ℕ). replicate k x)
-    (let e : suc (n + 1) ≡ suc n + 1 = omega arith in e)
 
 -- one step more of a kind
 pub one_more : (r s t : Replaying) (x : Step) (i j : ℕ) → s ≡ with_steps r (replicate i x)

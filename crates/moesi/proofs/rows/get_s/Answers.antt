@@ -18,18 +18,15 @@ pub returns-then-is_valid : goal.returns-then-is_valid
 returns-then-is_valid c =
     let b : Block = block_in c.args.cores c.args.addresses c.args.words.now c.args.addr in
     let line : cell_of b c.args.core ≡ c.unpack.result =
-    seen c.args.cores c.args.addresses c.args.words.now c.args.core c.args.addr c.place-at.result
-    c.unpack.result c.requires.core c.place-at.ensures c.unpack.ensures in
+    seen c.args.addresses c.args.words.now c.args.addr c.requires.core c.place-at.ensures c.unpack.ensures in
     let on : is_valid c.unpack.result.line ≡ true = cc in
-    row_refused (λ (b : Block). row.get_s b c.args.core) c.args.cores c.args.addresses c.args.addr c.args.words.now _
-    (cond-true _ _ _ (ap (λ (x : Cell). is_valid x.line) line ∙ on))
+    row_refused (cond-true _ _ _ (ap (λ (x : Cell). is_valid x.line) line ∙ on))
 
 pub returns : goal.returns
 returns c =
     let b : Block = block_in c.args.cores c.args.addresses c.args.words.now c.args.addr in
     let line : cell_of b c.args.core ≡ c.unpack.result =
-    seen c.args.cores c.args.addresses c.args.words.now c.args.core c.args.addr c.place-at.result
-    c.unpack.result c.requires.core c.place-at.ensures c.unpack.ensures in
+    seen c.args.addresses c.args.words.now c.args.addr c.requires.core c.place-at.ensures c.unpack.ensures in
     let off : is_valid c.unpack.result.line ≡ false = cc in
     let fill : Line = cond (has_copy b) S E in
     let filled : c.if-valid.relined ≡ fill =
@@ -44,15 +41,9 @@ returns c =
     ∙ ap (λ (l : Line). record { line = l; copy = (cell_in c.asked-valid.result.1).copy }) filled in
     let is : cell_in c.relined.result ≡ x =
     lined ∙ ap (λ (d : ℕ × Option ℕ). record { line = fill; copy = d }) c.asked-valid.ensures.given in
-    let mid : List ℕ = c.share_all.new.words in
-    let turned : Block = block_by shared b in
-    let others : TurnsInto c.args.cores c.args.addresses c.args.addr c.args.words.now mid turned =
-    record {
-      turned = c.share_all.ensures.turned;
-      elsewhere = c.share_all.ensures.elsewhere;
-    } in
-    let all = turns_line c.args.cores c.args.addresses c.args.addr c.args.words.now
-    mid turned c.requires.words c.requires.address others c.args.core c.place-at.result
-    c.relined.result x c.requires.core c.place-at.ensures is in
-    row_taken (λ (b : Block). row.get_s b c.args.core) c.args.cores c.args.addresses c.args.addr c.args.words.now _ _ _
-    all (cond-false _ _ _ (ap (λ (y : Cell). is_valid y.line) line ∙ off))
+    let others : TurnsInto c.args.cores c.args.addresses c.args.addr c.args.words.now c.turn_all.new.words
+    (block_by shared b) =
+    record { turned = c.turn_all.ensures.turned; elsewhere = c.turn_all.ensures.elsewhere } in
+    let all = turns_line c.requires.words c.requires.address others c.args.core c.place-at.result c.relined.result x
+    c.requires.core c.place-at.ensures is in
+    row_taken all (cond-false _ _ _ (ap (λ (y : Cell). is_valid y.line) line ∙ off))

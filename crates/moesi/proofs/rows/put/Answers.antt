@@ -16,18 +16,15 @@ pub returns-then-not-is_valid : goal.returns-then-not-is_valid
 returns-then-not-is_valid c =
     let b : Block = block_in c.args.cores c.args.addresses c.args.words.now c.args.addr in
     let line : cell_of b c.args.core ≡ c.unpack-line.result =
-    seen c.args.cores c.args.addresses c.args.words.now c.args.core c.args.addr c.place-at.result
-    c.unpack-line.result c.requires.core c.place-at.ensures c.unpack-line.ensures in
+    seen c.args.addresses c.args.words.now c.args.addr c.requires.core c.place-at.ensures c.unpack-line.ensures in
     let off : is_valid c.unpack-line.result.line ≡ false = cc in
-    row_refused (λ (b : Block). row.put b c.args.core) c.args.cores c.args.addresses c.args.addr c.args.words.now _
-    (cond-false _ _ _ (ap (λ (x : Cell). is_valid x.line) line ∙ off))
+    row_refused (cond-false _ _ _ (ap (λ (x : Cell). is_valid x.line) line ∙ off))
 
 pub returns : goal.returns
 returns c =
     let b : Block = block_in c.args.cores c.args.addresses c.args.words.now c.args.addr in
     let line : cell_of b c.args.core ≡ c.unpack-line.result =
-    seen c.args.cores c.args.addresses c.args.words.now c.args.core c.args.addr c.place-at.result
-    c.unpack-line.result c.requires.core c.place-at.ensures c.unpack-line.ensures in
+    seen c.args.addresses c.args.words.now c.args.addr c.requires.core c.place-at.ensures c.unpack-line.ensures in
     let on : is_valid c.unpack-line.result.line ≡ true = cc in
     let x : Cell = c.unpack-line.result in
     let none : TurnsInto c.args.cores c.args.addresses c.args.addr c.args.words.now c.args.words.now b =
@@ -39,16 +36,14 @@ returns c =
     elim c.if-is_owned.branch [
       | then-is_owned w ↦
           rw w.words-is
-          (turns_memory c.args.cores c.args.addresses c.args.addr c.args.words.now c.args.words.now b
-          c.requires.words c.requires.address none w.place.result w.relined.result m w.place.ensures
+          (turns_memory c.requires.words c.requires.address none w.place.result w.relined.result m w.place.ensures
           (ap (λ (y : Cell). y.copy) w.relined.ensures
           ∙ (ap (λ (y : Cell). y.copy) (sym c.unpack-line.ensures)
           ∙ sym (cond-true (is_owned x.line) x.copy b.memory (cc)))))
       | else-is_owned w ↦
           rw (w.words-is, cond-false (is_owned x.line) x.copy b.memory (cc)) none
     ] in
-    let all = turns_line c.args.cores c.args.addresses c.args.addr c.args.words.now words mid c.requires.words
-    c.requires.address memory c.args.core c.place-at.result 0 invalid c.requires.core
+    let all = turns_line c.requires.words c.requires.address memory c.args.core c.place-at.result 0 invalid c.requires.core
     c.place-at.ensures refl
     in
     let by : Cell → Result Block CacheError =
@@ -59,5 +54,4 @@ returns c =
     let taken : row.put b c.args.core ≡ by (cell_of b c.args.core) =
     cond-true _ _ _ (ap (λ (y : Cell). is_valid y.line) line ∙ on) in
     let put_line : row.put b c.args.core ≡ by x = taken ∙ ap by line in
-    row_taken (λ (b : Block). row.put b c.args.core) c.args.cores c.args.addresses c.args.addr c.args.words.now _ _ _
-    all (put_line)
+    row_taken all (put_line)

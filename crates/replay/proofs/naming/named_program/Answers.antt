@@ -14,21 +14,15 @@ pub unreachable-requires : goal.unreachable-requires
 unreachable-requires c =
     let x : Execution = c.args.recording.now in
     let small : AllByRecursion (AllByRecursion Small) (program_of x) =
-    subst (λ (p : List (List Op)). AllByRecursion (AllByRecursion Small) p) c.in-Ok.ensures.cores
-    c.in-Ok.ensures.small in
+    rw (← c.in-Ok.ensures.cores) c.in-Ok.ensures.small in
     let names : c.in_ok-names.names.keys ≡ address_names (length x.write_lists) =
     c.in_ok-names.ensures ∙ ap address_names c.addresses.ensures in
     let init : c.in-Ok-values_of.init.items ≡ x.initial = c.in-Ok-values_of.ensures.values ∙ c.init.ensures.value in
     let small_init : AllByRecursion IsSmall x.initial =
     subst (λ (l : List ℕ). AllByRecursion IsSmall l) init c.in-Ok-values_of.ensures.small in
     c.in-None.ensures.none refl
-    (subst (λ (l : List Name). IsProgram (parts_of l c.in-Ok.cores.items c.in-Ok-values_of.init.items))
-    (sym names)
-    (subst (λ (p : List (List Op)). IsProgram
-    (parts_of (address_names (length x.write_lists)) p c.in-Ok-values_of.init.items))
-    (sym c.in-Ok.ensures.cores)
-    (subst (λ (l : List ℕ). IsProgram (parts_of (address_names (length x.write_lists)) (program_of x) l))
-    (sym init) (named_is_program x c.sound.ensures c.requires small small_init))))
+    (rw names (rw c.in-Ok.ensures.cores
+    (rw init (named_is_program x c.sound.ensures c.requires small small_init))))
 
 pub returns-clause-made : goal.returns-clause-made
 returns-clause-made c =

@@ -14,8 +14,7 @@ returns-in-None c =
       λ numbered. absurd (is_not_numbered c.args.recording.now c.cores-lists.result.now c.cores-lists.ensures
           c.sound.ensures c.loop-events.used c.loop-events.events-index c.loop-events.invariant
           c.events-item.result c.loop-events-test.true
-          (subst (λ (v : Vec Event Global). use_ops c.loop-events.used (map op_of v.items) ≡ None)
-          c.events-item.is early) numbered),
+          (rw (← c.events-item.is) early) numbered),
     )
 
 pub returns : goal.returns

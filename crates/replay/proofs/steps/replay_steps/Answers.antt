@@ -48,6 +48,4 @@ returns-clause-replay c = λ capacity room.
       small = (lawful.values, lawful.init_values);
       numbered = c.requires.numbered;
     } in
-    subst (λ (p : Parts). IsReplay x m p capacity c.replay.inside.steps.items) (sym program)
-    (subst (λ (l : List Step). IsReplay x m (named_program x) capacity l) (sym steps)
-    (c.every_order_is_replayed.ensures.replay x m capacity of c.requires.order room))
+    rw program (rw steps (c.every_order_is_replayed.ensures.replay x m capacity of c.requires.order room))

@@ -26,10 +26,8 @@ turn-requires-clause-core c =
     let x : Execution = c.args.recording.now in
     let e : ℕ = get_or c.args.order.now c.loop-number.number-index 0 in
     let within : core_of x e < length c.args.machine.program.cores =
-    subst (λ (p : List (List Op)). core_of x e < length p) (sym c.requires.cores)
-    (core_there x e c.in-Some.ensures.0) in
-    subst (λ (m : Configuration). c.in-Some.placed.0 < length m.program.cores)
-    (sym c.loop-number.invariant.machine)
+    rw c.requires.cores (core_there x e c.in-Some.ensures.0) in
+    rw c.loop-number.invariant.machine
     (subst (λ (k : ℕ). k < length c.args.machine.program.cores) (sym c.in-Some.ensures.1) within)
 
 pub turn-requires-clause-addresses : goal.turn-requires-clause-addresses
@@ -38,10 +36,8 @@ turn-requires-clause-addresses c = λ a uses.
     let e : ℕ = get_or c.args.order.now c.loop-number.number-index 0 in
     let within : a < length x.write_lists =
     c.sound.ensures.within.addresses e a
-    (subst (λ (ev : Event). (read_address ev ≡ Some a) ⊎ (written_address ev ≡ Some a))
-    c.in-Some.ensures.2 uses) in
-    subst (λ (m : Configuration). a < length m.program.names) (sym c.loop-number.invariant.machine)
-    (omega (arith, within, c.requires.names))
+    (rw (← c.in-Some.ensures.2) uses) in
+    rw c.loop-number.invariant.machine (omega (arith, within, c.requires.names))
 
 pub loop-number-preserved : goal.loop-number-preserved
 loop-number-preserved c =

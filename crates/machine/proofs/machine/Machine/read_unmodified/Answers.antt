@@ -1,123 +1,84 @@
 use Rattle.std.proofs.Common.{arith, refl, sym, ap, ◌∙◌, ◌≡◌, ◌<◌, ℕ, subst, true, false, length-set}
 use Rattle.moesi.specs.Lines.{is_exclusive}
 use Rattle.moesi.specs.State as moesi
-use Rattle.machine.specs.Configuration.{Configuration}
-use Rattle.machine.specs.Step.{exec, read_unmodified}
 use Rattle.machine.proofs.Cached.{read_is, exclusive_read}
+use Rattle.machine.proofs.Parts.{few, lines_there, buffer_seen}
 use Rattle.machine.proofs.ExecuteParts as executed
-use Rattle.machine.proofs.Refused as refused
 use Rattle.machine.proofs.Reached.{reached_exec}
 use Rattle.machine.proofs.Inside.{address_inside, at_inside}
 use Rattle.machine.proofs.machine.Machine.read_unmodified.Goals as goal
 
 pub index_mut-requires : goal.index_mut-requires
-index_mut-requires c =
-    let at = at_inside c.self.view_is c.requires.at in
-    omega (
-      arith,
-      executed.number _ _ _ _ _ _ _ _ c.self.invariant.sound c.args.core c.args.op c.args.event
-          at,
-    )
+index_mut-requires c = omega (arith, executed.number c.self.invariant.sound (at_inside c.self.view_is c.requires.at))
 
 pub push-requires : goal.push-requires
-push-requires c =
-    let at = at_inside c.self.view_is c.requires.at in
-    executed.has_room _ _ _ _ _ _ _ _ c.self.invariant.sound c.args.core c.args.op c.args.event at
+push-requires c = executed.has_room c.self.invariant.sound (at_inside c.self.view_is c.requires.at)
 
 pub advance-requires-clause-left : goal.advance-requires-clause-left
 advance-requires-clause-left c =
-    let at = at_inside c.self.view_is c.requires.at in
-    executed.left _ _ _ _ _ _ _ _ c.self.invariant.sound c.args.core c.args.op c.args.event at
-    c.index_mut-2.result.now c.index_mut-2.ensures.value c.ops.result.now c.ops.ensures
+    executed.left c.self.invariant.sound (at_inside c.self.view_is c.requires.at) c.index_mut-2.ensures.value
+    c.ops.ensures
 
 pub advance-requires-clause-few : goal.advance-requires-clause-few
 advance-requires-clause-few c =
-    let at = at_inside c.self.view_is c.requires.at in
-    executed.few _ _ _ _ _ _ _ _ c.self.invariant.sound c.args.core c.args.op c.args.event at
-    c.index_mut-2.result.now c.index_mut-2.ensures.value c.ops.result.now c.ops.ensures
+    few c.self.invariant.sound (at_inside c.self.view_is c.requires.at).core c.index_mut-2.ensures.value c.ops.ensures
+
+pub returns-clause-ok : goal.returns-clause-ok
+returns-clause-ok c =
+    let may = sym c.may_rmw.ensures ∙ c.if-not-may_rmw.false in
+    let owned : is_exclusive (moesi.line_of c.self.inside.caches c.args.core c.args.addr) ≡ true =
+    ap is_exclusive (sym c.line.ensures) ∙ (sym c.is_exclusive.ensures ∙ c.if-not-is_exclusive.false) in
+    let what = (read_is c.self.inside.caches c.args.core c.args.addr c.in-Ok.read (sym c.in-Ok.ensures)).1 in
+    c.requires.row ∙ rw (← c.self.view_is, c.push.ensures)
+    (executed.compare_taken c.self.invariant.sound (at_inside c.self.view_is c.requires.at)
+    c.index_mut-2.ensures.value c.advance.ensures c.self.inside.fault c.index.ensures may c.args.addr c.in-Ok.read
+    what owned)
 
 pub invariant_of-self : goal.invariant_of-self
 invariant_of-self c =
     let at = at_inside c.self.view_is c.requires.at in
-    let row = subst (λ (h : Configuration). exec h.capacity h.fault h.state c.args.core c.args.event c.args.op
-    ≡ read_unmodified h.fault h.state c.args.core c.args.event c.args.addr)
-    (sym c.self.view_is) c.requires.row in
-    let may = sym c.may_rmw.ensures ∙ c.if-not-may_rmw.false in
-    let owned : is_exclusive (moesi.line_of c.self.inside.caches c.args.core c.args.addr) ≡ true =
-    ap is_exclusive (sym c.line.ensures) ∙ (sym c.is_exclusive.ensures ∙ c.if-not-is_exclusive.false) in
-    let what = (read_is c.self.inside.caches c.args.core c.args.addr c.in-Ok.read (sym c.in-Ok.ensures)).1 in
     record {
-      sound = executed.performed_sound _ _ _ _ _ _ _ _ c.self.invariant.sound c.args.core c.args.op
-          c.args.event at c.index_mut-2.result.now c.index_mut-2.ensures.value
-          c.ops.result.now c.ops.ensures c.advance.new.self c.advance.ensures _
-          (length-set c.self.inside.reads.items _ _) c.push.new.self c.push.ensures;
-      reached = rw (c.push.ensures) (reached_exec _ _ _ _ _ _ c.args.core c.args.op c.args.event at
-          c.self.invariant.reached (row ∙ executed.compare_taken _ _ _ _ _ _ _ _ c.self.invariant.sound
-          c.args.core c.args.op c.args.event at c.index_mut-2.result.now c.index_mut-2.ensures.value
-          c.ops.result.now c.ops.ensures c.advance.new.self c.advance.ensures c.self.inside.fault
-          c.index.result.now c.index.ensures may c.args.addr owned c.in-Ok.read what));
+      sound = executed.performed_sound c.self.invariant.sound at c.index_mut-2.ensures.value c.advance.ensures
+          (length-set c.self.inside.reads.items _ _) c.push.ensures;
+      reached = reached_exec at c.self.invariant.reached (rw (← c.self.view_is) at (returns-clause-ok c));
       blank_is = c.self.invariant.blank_is;
     }
 
-pub returns-clause-ok : goal.returns-clause-ok
-returns-clause-ok c =
-    let at = at_inside c.self.view_is c.requires.at in
-    let row = subst (λ (h : Configuration). exec h.capacity h.fault h.state c.args.core c.args.event c.args.op
-    ≡ read_unmodified h.fault h.state c.args.core c.args.event c.args.addr)
-    (sym c.self.view_is) c.requires.row in
-    let may = sym c.may_rmw.ensures ∙ c.if-not-may_rmw.false in
-    let owned : is_exclusive (moesi.line_of c.self.inside.caches c.args.core c.args.addr) ≡ true =
-    ap is_exclusive (sym c.line.ensures) ∙ (sym c.is_exclusive.ensures ∙ c.if-not-is_exclusive.false) in
-    let what = (read_is c.self.inside.caches c.args.core c.args.addr c.in-Ok.read (sym c.in-Ok.ensures)).1 in
-    rw (← c.self.view_is, c.push.ensures)
-    (row ∙ executed.compare_taken _ _ _ _ _ _ _ _ c.self.invariant.sound c.args.core c.args.op c.args.event
-    at c.index_mut-2.result.now c.index_mut-2.ensures.value c.ops.result.now c.ops.ensures
-    c.advance.new.self c.advance.ensures c.self.inside.fault c.index.result.now c.index.ensures may
-    c.args.addr owned c.in-Ok.read what)
-
 pub line-requires-clause-core : goal.line-requires-clause-core
-line-requires-clause-core c =
-    let at = at_inside c.self.view_is c.requires.at in
-    refused.lines_there _ _ _ _ _ _ _ _ c.self.invariant.sound c.args.core at.core
+line-requires-clause-core c = lines_there c.self.invariant.sound (at_inside c.self.view_is c.requires.at).core
 
 pub line-requires-clause-address : goal.line-requires-clause-address
 line-requires-clause-address c =
-    let within = address_inside c.self.view_is c.requires.address in
-    subst (λ (n : ℕ). c.args.addr < n) (sym c.self.invariant.sound.cache_blocks) within
+    rw c.self.invariant.sound.cache_blocks (address_inside c.self.view_is c.requires.address)
 
 pub read-requires-clause-core : goal.read-requires-clause-core
-read-requires-clause-core c =
-    let at = at_inside c.self.view_is c.requires.at in
-    refused.lines_there _ _ _ _ _ _ _ _ c.self.invariant.sound c.args.core at.core
+read-requires-clause-core c = lines_there c.self.invariant.sound (at_inside c.self.view_is c.requires.at).core
 
 pub read-requires-clause-address : goal.read-requires-clause-address
 read-requires-clause-address c =
-    let within = address_inside c.self.view_is c.requires.address in
-    subst (λ (n : ℕ). c.args.addr < n) (sym c.self.invariant.sound.cache_blocks) within
+    rw c.self.invariant.sound.cache_blocks (address_inside c.self.view_is c.requires.address)
 
 pub ops-requires : goal.ops-requires
-ops-requires c =
-    let at = at_inside c.self.view_is c.requires.at in
-    at.core
+ops-requires c = (at_inside c.self.view_is c.requires.at).core
 
 pub returns-then-not-may_rmw-clause-blocked : goal.returns-then-not-may_rmw-clause-blocked
 returns-then-not-may_rmw-clause-blocked c =
-    let at = at_inside c.self.view_is c.requires.at in
-    c.requires.row ∙ rw (← c.self.view_is)
-    (refused.unmodified_waits _ _ _ _ _ _ _ _ c.self.invariant.sound c.args.core at.core
-    c.index.result.now
-    c.index.ensures c.self.inside.fault c.args.event c.args.addr
-    (sym c.may_rmw.ensures ∙ c.if-not-may_rmw.true))
+    let core = (at_inside c.self.view_is c.requires.at).core in
+    c.requires.row ∙ rw (← c.self.view_is) (rw (
+      buffer_seen c.self.invariant.sound core c.index.ensures,
+      sym c.may_rmw.ensures ∙ c.if-not-may_rmw.true,
+    ) refl)
 
 pub returns-then-not-is_exclusive-clause-blocked : goal.returns-then-not-is_exclusive-clause-blocked
 returns-then-not-is_exclusive-clause-blocked c =
-    let at = at_inside c.self.view_is c.requires.at in
+    let core = (at_inside c.self.view_is c.requires.at).core in
     let shared : is_exclusive (moesi.line_of c.self.inside.caches c.args.core c.args.addr) ≡ false =
     ap is_exclusive (sym c.line.ensures) ∙ (sym c.is_exclusive.ensures ∙ c.if-not-is_exclusive.true) in
-    c.requires.row ∙ rw (← c.self.view_is)
-    (refused.unmodified_blocked _ _ _ _ _ _ _ _ c.self.invariant.sound c.args.core at.core
-    c.index.result.now c.index.ensures c.self.inside.fault c.args.event c.args.addr
-    (sym c.may_rmw.ensures ∙ c.if-not-may_rmw.false) shared)
+    c.requires.row ∙ rw (← c.self.view_is) (rw (
+      buffer_seen c.self.invariant.sound core c.index.ensures,
+      sym c.may_rmw.ensures ∙ c.if-not-may_rmw.false,
+      shared,
+    ) refl)
 
 pub returns-in_default-clause-blocked : goal.returns-in_default-clause-blocked
 returns-in_default-clause-blocked c =

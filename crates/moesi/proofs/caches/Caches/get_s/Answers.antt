@@ -1,6 +1,4 @@
 use Rattle.std.proofs.Common.{arith}
-use Rattle.moesi.specs.Block.{Block}
-use Rattle.moesi.specs.Rows as row
 use Rattle.moesi.specs.Coherent.{IsCoherent}
 use Rattle.moesi.specs.CacheLaws.{get_s_kept}
 use Rattle.moesi.proofs.Answered.{column, answered, answer_keeps}
@@ -12,18 +10,15 @@ get_s-requires-clause-address c =
     (rw (← c.self.view_is) at c.requires.address)
 
 pub returns-clause-ok : goal.returns-clause-ok
-returns-clause-ok c = (answered c.self.inside.cores c.self.inside.addresses c.args.addr c.self.inside.words
-    c.deref_mut.result.now c.get_s.new.words (λ (b : Block). row.get_s b c.args.core) c.get_s.result c.args.self.now c.self.view_is
-    c.requires.address c.deref_mut.ensures.value (omega arith) c.get_s.ensures).ok
+returns-clause-ok c = (answered c.get_s.ensures c.self.inside.words c.self.view_is c.requires.address
+    c.deref_mut.ensures.value (omega arith)).ok
 
 pub returns-clause-refused : goal.returns-clause-refused
-returns-clause-refused c = (answered c.self.inside.cores c.self.inside.addresses c.args.addr c.self.inside.words
-    c.deref_mut.result.now c.get_s.new.words (λ (b : Block). row.get_s b c.args.core) c.get_s.result c.args.self.now c.self.view_is
-    c.requires.address c.deref_mut.ensures.value (omega arith) c.get_s.ensures).refused
+returns-clause-refused c = (answered c.get_s.ensures c.self.inside.words c.self.view_is c.requires.address
+    c.deref_mut.ensures.value (omega arith)).refused
 
 pub returns-clause-coherent : goal.returns-clause-coherent
-returns-clause-coherent c = λ before. answer_keeps (λ (b : Block). row.get_s b c.args.core) c.args.addr c.args.self.now _
-    c.get_s.result IsCoherent (answered c.self.inside.cores c.self.inside.addresses c.args.addr c.self.inside.words
-    c.deref_mut.result.now c.get_s.new.words (λ (b : Block). row.get_s b c.args.core) c.get_s.result c.args.self.now c.self.view_is
-    c.requires.address c.deref_mut.ensures.value (omega arith) c.get_s.ensures) before
+returns-clause-coherent c = λ before. answer_keeps c.get_s.result IsCoherent
+    (answered c.get_s.ensures c.self.inside.words c.self.view_is c.requires.address
+    c.deref_mut.ensures.value (omega arith)) before
     (λ t h. (get_s_kept c.args.self.now t c.args.core c.args.addr before c.requires.core c.requires.address h).coherent)

@@ -5,8 +5,7 @@ use Rattle.replay.proofs.WrittenSteps.{turn_taken, ok_then}
 use Rattle.replay.proofs.replaying.Replay.turn.Goals as goal
 
 pub perform-requires-clause-addresses : goal.perform-requires-clause-addresses
-perform-requires-clause-addresses c = λ a uses. subst (λ (r : Replaying). a < length r.machine.program.names)
-    (sym c.in_ok-execute_to.ensures) (c.requires.addresses a uses)
+perform-requires-clause-addresses c = λ a uses. rw c.in_ok-execute_to.ensures (c.requires.addresses a uses)
 
 pub returns : goal.returns
 returns c =
