@@ -1,4 +1,4 @@
-//! What single JSON values of a recording give.
+//! The items of a recording's lists, and what single JSON values give.
 
 ghost use Rattle.std.specs.Prelude.{◌≡◌, option_map};
 ghost use Rattle.serde_json.specs.View.{view};
@@ -7,17 +7,134 @@ ghost use Rattle.recorder.specs.Reading.{count_members, failed_cas_in};
 ghost use Rattle.recorder.specs.Clipped.{clip, clip_event, clipped_number, clipped_event};
 ghost use Rattle.serde_json.specs.Find.{as_object};
 
+use crate::cursor::Cursor;
+use crate::values::event_value;
+use crate::written_events::take_event;
 use recording::Event;
 use serde_json::Value;
+use std::alloc::{AllocError, Global};
 
-pub(crate) fn number_in(value: &Value) -> Option<u16>
+/// An item of a list: an event, the number of an event, or an initial value.
+pub(crate) trait Item: Drop + Sized {
+    ghost use Rattle.std.specs.Prelude.{◌≡◌, Option, Some, IfOk, IfSome};
+    ghost use Rattle.serde_json.specs.Data.{Data};
+    ghost use Rattle.serde_json.specs.View.{view};
+    ghost use Rattle.recorder.specs.Written.{Begins};
+
+    /// The value that is written of it.
+    ghost datum: { Self → Data };
+
+    /// What a value gives.
+    ghost given: { Data → Option Self };
+
+    /// What is held of that.
+    ghost held: { Data → Option Self };
+
+    /// Each number of it fits.
+    ghost fits: { Self → Type 0 };
+
+    /// Takes the item that stands next in a text in the layout of `write_recording`.
+    fn take(rest: &mut Cursor<'_>) -> Option<Self>
+        ensures { IfSome result (λ x. Begins datum fits rest.old x rest.new) };
+
+    /// The item that a value gives.
+    fn read(value: &Value) -> Option<Self>
+        ensures { result ≡ held (view value.now) };
+
+    /// The value of the item.
+    fn value(&self, alloc: Global) -> Result<Value, AllocError>
+        ensures value { IfOk result (λ v. view v ≡ datum self.now) }
+        ensures again { IfOk result (λ _. given (datum self.now) ≡ Some self.now) };
+}
+
+impl Item for Event {
+    ghost use Rattle.recorder.specs.Text.{event_data};
+    ghost use Rattle.recorder.specs.Reading.{event_in};
+    ghost use Rattle.recorder.specs.Clipped.{clipped_event};
+    ghost use Rattle.recorder.specs.Written.{IsFitting};
+
+    ghost datum = { event_data };
+
+    ghost given = { event_in };
+
+    ghost held = { clipped_event };
+
+    ghost fits = { IsFitting };
+
+    fn take(rest: &mut Cursor<'_>) -> Option<Event> {
+        take_event(rest)
+    }
+
+    fn read(value: &Value) -> Option<Event> {
+        event_in(value)
+    }
+
+    fn value(&self, alloc: Global) -> Result<Value, AllocError> {
+        event_value(alloc, self)
+    }
+}
+
+impl Item for u16 {
+    ghost use Rattle.recorder.specs.Text.{number_data};
+    ghost use Rattle.recorder.specs.Reading.{number_in};
+    ghost use Rattle.recorder.specs.Clipped.{clipped_number};
+    ghost use Rattle.recorder.specs.Written.{IsShort};
+
+    ghost datum = { number_data };
+
+    ghost given = { number_in };
+
+    ghost held = { clipped_number };
+
+    ghost fits = { IsShort };
+
+    fn take(rest: &mut Cursor<'_>) -> Option<u16> {
+        rest.short()
+    }
+
+    fn read(value: &Value) -> Option<u16> {
+        number_in(value)
+    }
+
+    fn value(&self, _alloc: Global) -> Result<Value, AllocError> {
+        Ok(Value::from(*self))
+    }
+}
+
+impl Item for u32 {
+    ghost use Rattle.recorder.specs.Text.{number_data};
+    ghost use Rattle.recorder.specs.Reading.{value_in};
+    ghost use Rattle.recorder.specs.Written.{IsWord};
+
+    ghost datum = { number_data };
+
+    ghost given = { value_in };
+
+    ghost held = { value_in };
+
+    ghost fits = { IsWord };
+
+    fn take(rest: &mut Cursor<'_>) -> Option<u32> {
+        rest.word()
+    }
+
+    fn read(value: &Value) -> Option<u32> {
+        value_in(value)
+    }
+
+    fn value(&self, _alloc: Global) -> Result<Value, AllocError> {
+        Ok(Value::from(*self))
+    }
+}
+
+fn number_in(value: &Value) -> Option<u16>
     ensures { result ≡ clipped_number (view value.now) }
 {
     let n = value.as_u64()?;
     Some(u16::try_from(n).unwrap_or(u16::MAX))
 }
 
-pub(crate) fn value_in(value: &Value) -> Option<u32>
+fn value_in(value: &Value) -> Option<u32>
     ensures { result ≡ value_in (view value.now) }
 {
     let n = value.as_u64()?;
@@ -123,7 +240,7 @@ pub(crate) fn keys_of(value: &Value) -> Option<usize>
 }
 
 #[tactic(auto, unfolding(crate::specs::Reading::event_in))]
-pub(crate) fn event_in(value: &Value) -> Option<Event>
+fn event_in(value: &Value) -> Option<Event>
     ensures { result ≡ clipped_event (view value.now) }
 {
     let keys = keys_of(value)?;

@@ -9,6 +9,7 @@ ghost use Rattle.recorder.specs.Text.{number_data, list_data, source_data, event
 ghost use Rattle.recorder.specs.Values.{read_members, cores_member, with_writes};
 ghost use Rattle.recorder.specs.Values.{AreCoresAgain, AreWritesAgain, IsInitAgain, ArePartsAgain};
 
+use crate::items::Item;
 use crate::versions::is_of_version_1;
 use common::{Addr, EventId};
 use recording::{Event, Recording};
@@ -110,7 +111,7 @@ fn fence_value(alloc: Global) -> Result<Value, AllocError>
     Ok(Value::Object(members))
 }
 
-fn event_value(alloc: Global, event: &Event) -> Result<Value, AllocError>
+pub(crate) fn event_value(alloc: Global, event: &Event) -> Result<Value, AllocError>
     ensures value { IfOk result (λ v. view v ≡ event_data event.now) }
     ensures again { IfOk result (λ _. event_in (event_data event.now) ≡ Some event.now) }
 {
@@ -123,64 +124,26 @@ fn event_value(alloc: Global, event: &Event) -> Result<Value, AllocError>
     }
 }
 
-fn core_value(alloc: Global, events: &[Event]) -> Result<Value, AllocError>
-    ensures value { IfOk result (λ v. view v ≡ list_data event_data events.now) }
-    ensures again { IfOk result (λ _. list_in event_in (list_data event_data events.now) ≡ Some events.now) }
+fn list_value<T: Item>(alloc: Global, items: &[T]) -> Result<Value, AllocError>
+    ensures value { IfOk result (λ v. view v ≡ list_data T.datum items.now) }
+    ensures again { IfOk result (λ _. list_in T.given (list_data T.datum items.now) ≡ Some items.now) }
 {
-    let mut values = Vec::with_capacity(alloc, events.len())?;
-    for event in events {
-        values.push(event_value(alloc, event)?)?;
+    let mut values = Vec::with_capacity(alloc, items.len())?;
+    for item in items {
+        values.push(item.value(alloc)?)?;
     }
     Ok(Value::Array(values))
 }
 
-fn cores_value(alloc: Global, cores: &[Vec<Event>]) -> Result<Value, AllocError>
+fn lists_value<T: Item>(alloc: Global, lists: &[Vec<T>]) -> Result<Value, AllocError>
     ensures value { IfOk result (λ v. view v
-        ≡ list_data (list_data event_data) (map (λ w. w.items) cores.now)) }
-    ensures again { let lists = map (λ w. w.items) cores.now
-        in IfOk result (λ _. list_in (list_in event_in) (list_data (list_data event_data) lists)
-        ≡ Some lists) }
-{
-    let mut values = Vec::with_capacity(alloc, cores.len())?;
-    for events in cores {
-        values.push(core_value(alloc, events.as_slice())?)?;
-    }
-    Ok(Value::Array(values))
-}
-
-fn list_value(alloc: Global, writes: &[EventId]) -> Result<Value, AllocError>
-    ensures value { IfOk result (λ v. view v ≡ list_data number_data writes.now) }
-    ensures again { IfOk result (λ _. list_in number_in (list_data number_data writes.now)
-        ≡ Some writes.now) }
-{
-    let mut values = Vec::with_capacity(alloc, writes.len())?;
-    for write in writes {
-        values.push(Value::from(*write))?;
-    }
-    Ok(Value::Array(values))
-}
-
-fn lists_value(alloc: Global, lists: &[Vec<EventId>]) -> Result<Value, AllocError>
-    ensures value { IfOk result (λ v. view v
-        ≡ list_data (list_data number_data) (map (λ w. w.items) lists.now)) }
-    ensures again { let numbers = map (λ w. w.items) lists.now
-        in IfOk result (λ _. list_in (list_in number_in) (list_data (list_data number_data) numbers)
-        ≡ Some numbers) }
+        ≡ list_data (list_data T.datum) (map (λ w. w.items) lists.now)) }
+    ensures again { let items = map (λ w. w.items) lists.now
+        in IfOk result (λ _. list_in (list_in T.given) (list_data (list_data T.datum) items) ≡ Some items) }
 {
     let mut values = Vec::with_capacity(alloc, lists.len())?;
-    for writes in lists {
-        values.push(list_value(alloc, writes.as_slice())?)?;
-    }
-    Ok(Value::Array(values))
-}
-
-fn init_value(alloc: Global, init: &[u32]) -> Result<Value, AllocError>
-    ensures value { IfOk result (λ v. view v ≡ list_data number_data init.now) }
-    ensures again { IfOk result (λ _. list_in value_in (list_data number_data init.now) ≡ Some init.now) }
-{
-    let mut values = Vec::with_capacity(alloc, init.len())?;
-    for value in init {
-        values.push(Value::from(*value))?;
+    for list in lists {
+        values.push(list_value(alloc, list.as_slice())?)?;
     }
     Ok(Value::Array(values))
 }
@@ -190,7 +153,7 @@ fn with_cores(alloc: Global, recording: &Recording) -> Result<Map<String, Value>
     ensures value { IfOk result (λ m. members_view m.entries ≡ cores_member recording.now) }
     ensures again { IfOk result (λ _. AreCoresAgain recording.now) }
 {
-    let cores = cores_value(alloc, recording.cores())?;
+    let cores = lists_value(alloc, recording.cores())?;
     with(alloc, Map::new(alloc), "cores", cores)
 }
 
@@ -217,7 +180,7 @@ fn with_init(
         ≡ put (codes "init") (list_data number_data recording.now.initial) (members_view members.entries)) }
     ensures again { IfOk result (λ _. IsInitAgain recording.now) }
 {
-    let init = init_value(alloc, recording.init())?;
+    let init = list_value(alloc, recording.init())?;
     with(alloc, members, "init", init)
 }
 
