@@ -8,17 +8,24 @@ ghost use Rattle.recorder.specs.Clipped.{clip, clip_event, clipped_number, clipp
 ghost use Rattle.serde_json.specs.Find.{as_object};
 
 use crate::cursor::Cursor;
+use crate::fields::pull_event;
+use crate::tokens::{pull_number, pull_value};
 use crate::values::event_value;
+use crate::versions::has_failed;
 use crate::written_events::take_event;
+use common::{MAX_ADDRESSES, MAX_CORES, MAX_EVENTS};
+use json::Reader;
 use recording::Event;
 use serde_json::Value;
 use std::alloc::{AllocError, Global};
 
 /// An item of a list: an event, the number of an event, or an initial value.
 pub(crate) trait Item: Drop + Sized {
-    ghost use Rattle.std.specs.Prelude.{◌≡◌, Option, Some, IfOk, IfSome};
+    ghost use Rattle.std.specs.Prelude.{◌≡◌, ◌++◌, ◌∷◌, [], ℕ, suc, List, Option, Some, IfOk, IfSome};
+    ghost use Rattle.recorder.specs.Held.{lists_of};
     ghost use Rattle.serde_json.specs.Data.{Data};
     ghost use Rattle.serde_json.specs.View.{view};
+    ghost use Rattle.recorder.specs.Pulled.{GivesValue};
     ghost use Rattle.recorder.specs.Written.{Begins};
 
     /// The value that is written of it.
@@ -33,9 +40,30 @@ pub(crate) trait Item: Drop + Sized {
     /// Each number of it fits.
     ghost fits: { Self → Type 0 };
 
+    /// What is held for a list.
+    ghost holds: { List Self → List Self → Type 0 };
+
+    /// What is held for lists.
+    ghost holds_lists: { List (List Self) → List (List Self) → Type 0 };
+
     /// Takes the item that stands next in a text in the layout of `write_recording`.
     fn take(rest: &mut Cursor<'_>) -> Option<Self>
         ensures { IfSome result (λ x. Begins datum fits rest.old x rest.new) };
+
+    /// Reads the item that stands next among tokens.
+    fn pull(reader: &mut Reader<'_>) -> Option<Self>
+        ensures { IfSome result (λ x. (depth : ℕ) → GivesValue held (suc depth) reader.old x reader.new) };
+
+    /// Holds an item more of a list.
+    fn hold(found: &mut Vec<Self>, item: Self) -> Result<(), AllocError>
+        ensures { IfOk result (λ _. (items : List Self) → holds found.old.items items
+            → holds found.new.items (items ++ item ∷ [])) };
+
+    /// Holds a list more.
+    fn hold_list(found: &mut Vec<Vec<Self>>, list: Vec<Self>) -> Result<(), AllocError>
+        ensures { IfOk result (λ _. (lists : List (List Self)) (items : List Self)
+            → holds_lists (lists_of found.old.items) lists → holds list.items items
+            → holds_lists (lists_of found.new.items) (lists ++ items ∷ [])) };
 
     /// The item that a value gives.
     fn read(value: &Value) -> Option<Self>
@@ -45,9 +73,16 @@ pub(crate) trait Item: Drop + Sized {
     fn value(&self, alloc: Global) -> Result<Value, AllocError>
         ensures value { IfOk result (λ v. view v ≡ datum self.now) }
         ensures again { IfOk result (λ _. given (datum self.now) ≡ Some self.now) };
+
+    ghost holds_none: { holds [] [] };
+
+    ghost holds_no_list: { holds_lists [] [] };
 }
 
 impl Item for Event {
+    ghost use Rattle.std.proofs.Common.{◌++◌, ◌∷◌, [], List, IfOk, refl, inl};
+    ghost use Rattle.recording.specs.declared.event.Event.{Event};
+    ghost use Rattle.recorder.specs.Held.{lists_of, HoldsEvents, HoldsCores};
     ghost use Rattle.recorder.specs.Text.{event_data};
     ghost use Rattle.recorder.specs.Reading.{event_in};
     ghost use Rattle.recorder.specs.Clipped.{clipped_event};
@@ -61,8 +96,46 @@ impl Item for Event {
 
     ghost fits = { IsFitting };
 
+    ghost holds = { HoldsEvents };
+
+    ghost holds_lists = { HoldsCores };
+
     fn take(rest: &mut Cursor<'_>) -> Option<Event> {
         take_event(rest)
+    }
+
+    fn pull(reader: &mut Reader<'_>) -> Option<Event> {
+        pull_event(reader)
+    }
+
+    /// Of those that are too many the first is held, or the last compare-and-swap that failed.
+    fn hold(found: &mut Vec<Event>, item: Event) -> Result<(), AllocError> {
+        if found.len() <= MAX_EVENTS {
+            found.push(item)?;
+            return Ok(());
+        }
+        if item.is_failed_cas() {
+            found.truncate(MAX_EVENTS);
+            found.push(item)?;
+        }
+        Ok(())
+    }
+
+    /// Of those that are too many the first is held, or the last in which a compare-and-swap failed.
+    fn hold_list(found: &mut Vec<Vec<Event>>, list: Vec<Event>) -> Result<(), AllocError>
+        ensures { IfOk result (λ _. (lists : List (List Event)) (items : List Event)
+            → HoldsCores (lists_of found.old.items) lists → HoldsEvents list.items items
+            → HoldsCores (lists_of found.new.items) (lists ++ items ∷ [])) }
+    {
+        if found.len() <= MAX_CORES {
+            found.push(list)?;
+            return Ok(());
+        }
+        if has_failed(list.as_slice()) {
+            found.truncate(MAX_CORES);
+            found.push(list)?;
+        }
+        Ok(())
     }
 
     fn read(value: &Value) -> Option<Event> {
@@ -72,9 +145,15 @@ impl Item for Event {
     fn value(&self, alloc: Global) -> Result<Value, AllocError> {
         event_value(alloc, self)
     }
+
+    ghost holds_none = { inl refl };
+
+    ghost holds_no_list = { inl refl };
 }
 
 impl Item for u16 {
+    ghost use Rattle.std.proofs.Common.{◌≡◌, ◌++◌, ◌∷◌, [], ℕ, List, IfOk, refl, inl};
+    ghost use Rattle.recorder.specs.Held.{lists_of, HoldsLists};
     ghost use Rattle.recorder.specs.Text.{number_data};
     ghost use Rattle.recorder.specs.Reading.{number_in};
     ghost use Rattle.recorder.specs.Clipped.{clipped_number};
@@ -88,8 +167,33 @@ impl Item for u16 {
 
     ghost fits = { IsShort };
 
+    ghost holds = { λ held items. held ≡ items };
+
+    ghost holds_lists = { HoldsLists };
+
     fn take(rest: &mut Cursor<'_>) -> Option<u16> {
         rest.short()
+    }
+
+    fn pull(reader: &mut Reader<'_>) -> Option<u16> {
+        pull_number(reader)
+    }
+
+    fn hold(found: &mut Vec<u16>, item: u16) -> Result<(), AllocError> {
+        found.push(item)?;
+        Ok(())
+    }
+
+    /// Of those that are too many the first is held.
+    fn hold_list(found: &mut Vec<Vec<u16>>, list: Vec<u16>) -> Result<(), AllocError>
+        ensures { IfOk result (λ _. (lists : List (List ℕ)) (items : List ℕ)
+            → HoldsLists (lists_of found.old.items) lists → list.items ≡ items
+            → HoldsLists (lists_of found.new.items) (lists ++ items ∷ [])) }
+    {
+        if found.len() <= MAX_ADDRESSES {
+            found.push(list)?;
+        }
+        Ok(())
     }
 
     fn read(value: &Value) -> Option<u16> {
@@ -99,9 +203,15 @@ impl Item for u16 {
     fn value(&self, _alloc: Global) -> Result<Value, AllocError> {
         Ok(Value::from(*self))
     }
+
+    ghost holds_none = { refl };
+
+    ghost holds_no_list = { inl refl };
 }
 
 impl Item for u32 {
+    ghost use Rattle.std.specs.Prelude.{◌≡◌, ◌++◌, ◌∷◌, [], ℕ, List, IfOk, refl};
+    ghost use Rattle.recorder.specs.Held.{lists_of};
     ghost use Rattle.recorder.specs.Text.{number_data};
     ghost use Rattle.recorder.specs.Reading.{value_in};
     ghost use Rattle.recorder.specs.Written.{IsWord};
@@ -114,8 +224,30 @@ impl Item for u32 {
 
     ghost fits = { IsWord };
 
+    ghost holds = { λ held items. held ≡ items };
+
+    ghost holds_lists = { λ held lists. held ≡ lists };
+
     fn take(rest: &mut Cursor<'_>) -> Option<u32> {
         rest.word()
+    }
+
+    fn pull(reader: &mut Reader<'_>) -> Option<u32> {
+        pull_value(reader)
+    }
+
+    fn hold(found: &mut Vec<u32>, item: u32) -> Result<(), AllocError> {
+        found.push(item)?;
+        Ok(())
+    }
+
+    fn hold_list(found: &mut Vec<Vec<u32>>, list: Vec<u32>) -> Result<(), AllocError>
+        ensures { IfOk result (λ _. (lists : List (List ℕ)) (items : List ℕ)
+            → lists_of found.old.items ≡ lists → list.items ≡ items
+            → lists_of found.new.items ≡ lists ++ items ∷ []) }
+    {
+        found.push(list)?;
+        Ok(())
     }
 
     fn read(value: &Value) -> Option<u32> {
@@ -125,6 +257,10 @@ impl Item for u32 {
     fn value(&self, _alloc: Global) -> Result<Value, AllocError> {
         Ok(Value::from(*self))
     }
+
+    ghost holds_none = { refl };
+
+    ghost holds_no_list = { refl };
 }
 
 fn number_in(value: &Value) -> Option<u16>
