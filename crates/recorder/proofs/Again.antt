@@ -9,7 +9,7 @@ use Rattle.serde_json.specs.declared.value.Value.{Value}
 use Rattle.serde_json.specs.View.{view, items_of}
 use Rattle.recording.specs.declared.event.Event.TheVariants.{L, S, R, C, F}
 use Rattle.recorder.specs.Text.{number_data, list_data, source_data, event_data}
-use Rattle.recorder.specs.Reading.{number_in, value_in, source_in, load_in, store_in, rmw_in, failed_cas_in}
+use Rattle.recorder.specs.Reading.{number_in, value_in, source_in}
 use Rattle.recorder.specs.Reading.{event_of_kind, event_in, each, list_in}
 
 -- the number of an event or of an address
@@ -27,24 +27,24 @@ source_again (Some n) = refl
 
 -- a load
 pub load_again : (a r : ℕ) (s : Option ℕ) → r < 2 ^ 32 → event_in (event_data (L a r s)) ≡ Some (L a r s)
-unfolding event_in event_of_kind load_in
+unfolding event_in event_of_kind
 load_again a r s hr = rw (lt-ltb r (2 ^ 32) hr, source_again s) refl
 
 -- a store
 pub store_again : (a w : ℕ) → w < 2 ^ 32 → event_in (event_data (S a w)) ≡ Some (S a w)
-unfolding event_in event_of_kind store_in
+unfolding event_in event_of_kind
 store_again a w hw = rw (lt-ltb w (2 ^ 32) hw) refl
 
 -- a read-modify-write
 pub rmw_again : (a r : ℕ) (s : Option ℕ) (w : ℕ) → r < 2 ^ 32 → w < 2 ^ 32
     → event_in (event_data (R a r s w)) ≡ Some (R a r s w)
-unfolding event_in event_of_kind rmw_in
+unfolding event_in event_of_kind
 rmw_again a r s w hr hw = rw (lt-ltb r (2 ^ 32) hr, source_again s, lt-ltb w (2 ^ 32) hw) refl
 
 -- a compare-and-swap that failed
 pub failed_cas_again : (a r : ℕ) (s : Option ℕ) → r < 2 ^ 32
     → event_in (event_data (C a r s)) ≡ Some (C a r s)
-unfolding event_in event_of_kind failed_cas_in
+unfolding event_in event_of_kind
 failed_cas_again a r s hr = rw (lt-ltb r (2 ^ 32) hr, source_again s) refl
 
 -- a fence

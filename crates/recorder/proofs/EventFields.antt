@@ -7,8 +7,7 @@ use Rattle.serde_json.specs.Find.{get_member, as_str}
 use Rattle.recording.specs.declared.event.Event.{Event}
 use Rattle.recording.specs.declared.event.Event.TheVariants.{L, S, R, C, F}
 use Rattle.recorder.specs.declared.fields.Fields.{Fields}
-use Rattle.recorder.specs.Reading.{number_in, value_in, source_in, at_key, load_in, store_in}
-use Rattle.recorder.specs.Reading.{rmw_in, failed_cas_in, event_of_kind, event_in}
+use Rattle.recorder.specs.Reading.{number_in, value_in, source_in, at_key, event_of_kind, event_in}
 use Rattle.recorder.specs.Clipped.{clip, clip_event, clipped_number, clipped_event}
 use Rattle.recorder.specs.Pulled.{clipped_source, AtKey, GivesValue, Adds}
 use Rattle.recorder.specs.Fields.{count_of, AreFields}
@@ -196,7 +195,7 @@ read_from make (Some x) (Some y) (Some z) a r s clips ha hr hs =
 pub load_gives : (f : Fields) (ms : Members) (a r : ℕ) (s : Option ℕ) → AreFields f ms
     → option_map (λ s. s.now) f.k ≡ Some (codes "L") → f.a ≡ Some a → f.r ≡ Some r → f.s ≡ Some s
     → f.w ≡ None → clipped_event (object ms) ≡ Some (L a r s)
-unfolding event_of_kind load_in
+unfolding event_of_kind
 load_gives f ms a r s h kind fa fr fs fw =
     ap (option_map clip_event) (event_is f ms (codes "L") 4 h kind
     (rw (kind_counts f.k (codes "L") kind, fa, fr, fs, fw) refl))
@@ -211,7 +210,7 @@ load_gives f ms a r s h kind fa fr fs fw =
 pub failed_cas_gives : (f : Fields) (ms : Members) (a r : ℕ) (s : Option ℕ) → AreFields f ms
     → option_map (λ s. s.now) f.k ≡ Some (codes "C") → f.a ≡ Some a → f.r ≡ Some r → f.s ≡ Some s
     → f.w ≡ None → clipped_event (object ms) ≡ Some (C a r s)
-unfolding event_of_kind failed_cas_in
+unfolding event_of_kind
 failed_cas_gives f ms a r s h kind fa fr fs fw =
     ap (option_map clip_event) (event_is f ms (codes "C") 4 h kind
     (rw (kind_counts f.k (codes "C") kind, fa, fr, fs, fw) refl))
@@ -236,7 +235,7 @@ store_from (Some x) (Some y) a w ha hw =
 pub store_gives : (f : Fields) (ms : Members) (a w : ℕ) → AreFields f ms
     → option_map (λ s. s.now) f.k ≡ Some (codes "S") → f.a ≡ Some a → f.r ≡ None → f.s ≡ None
     → f.w ≡ Some w → clipped_event (object ms) ≡ Some (S a w)
-unfolding event_of_kind store_in
+unfolding event_of_kind
 store_gives f ms a w h kind fa fr fs fw =
     ap (option_map clip_event) (event_is f ms (codes "S") 3 h kind
     (rw (kind_counts f.k (codes "S") kind, fa, fr, fs, fw) refl))
@@ -264,7 +263,7 @@ rmw_from (Some x) (Some y) (Some z) (Some v) a r s w ha hr hs hw =
 pub rmw_gives : (f : Fields) (ms : Members) (a r : ℕ) (s : Option ℕ) (w : ℕ) → AreFields f ms
     → option_map (λ s. s.now) f.k ≡ Some (codes "R") → f.a ≡ Some a → f.r ≡ Some r → f.s ≡ Some s
     → f.w ≡ Some w → clipped_event (object ms) ≡ Some (R a r s w)
-unfolding event_of_kind rmw_in
+unfolding event_of_kind
 rmw_gives f ms a r s w h kind fa fr fs fw =
     ap (option_map clip_event) (event_is f ms (codes "R") 5 h kind
     (rw (kind_counts f.k (codes "R") kind, fa, fr, fs, fw) refl))

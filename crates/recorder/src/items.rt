@@ -2,8 +2,8 @@
 
 ghost use Rattle.std.specs.Prelude.{◌≡◌, option_map};
 ghost use Rattle.serde_json.specs.View.{view};
-ghost use Rattle.recorder.specs.Reading.{value_in, source_in, at_key, load_in, store_in, rmw_in, event_of_kind};
-ghost use Rattle.recorder.specs.Reading.{count_members, failed_cas_in};
+ghost use Rattle.recorder.specs.Reading.{value_in, source_in, at_key, event_of_kind};
+ghost use Rattle.recorder.specs.Reading.{count_members};
 ghost use Rattle.recorder.specs.Clipped.{clip, clip_event, clipped_number, clipped_event};
 ghost use Rattle.serde_json.specs.Find.{as_object};
 
@@ -305,61 +305,33 @@ fn source_at(value: &Value, key: &str) -> Option<Option<u16>>
     source_in(value.get(key)?)
 }
 
-#[tactic(auto, unfolding(crate::specs::Reading::load_in))]
-fn load_in(value: &Value) -> Option<Event>
-    ensures { result ≡ option_map clip_event (load_in (view value.now)) }
-{
-    let a = number_at(value, "a")?;
-    let r = value_at(value, "r")?;
-    let s = source_at(value, "s")?;
-    Some(Event::L { a, r, s })
-}
-
-#[tactic(auto, unfolding(crate::specs::Reading::store_in))]
-fn store_in(value: &Value) -> Option<Event>
-    ensures { result ≡ option_map clip_event (store_in (view value.now)) }
-{
-    let a = number_at(value, "a")?;
-    let w = value_at(value, "w")?;
-    Some(Event::S { a, w })
-}
-
-#[tactic(auto, unfolding(crate::specs::Reading::rmw_in))]
-fn rmw_in(value: &Value) -> Option<Event>
-    ensures { result ≡ option_map clip_event (rmw_in (view value.now)) }
-{
-    let a = number_at(value, "a")?;
-    let r = value_at(value, "r")?;
-    let s = source_at(value, "s")?;
-    let w = value_at(value, "w")?;
-    Some(Event::R { a, r, s, w })
-}
-
-#[tactic(auto, unfolding(crate::specs::Reading::failed_cas_in))]
-fn failed_cas_in(value: &Value) -> Option<Event>
-    ensures { result ≡ option_map clip_event (failed_cas_in (view value.now)) }
-{
-    let a = number_at(value, "a")?;
-    let r = value_at(value, "r")?;
-    let s = source_at(value, "s")?;
-    Some(Event::C { a, r, s })
-}
-
 #[tactic(auto, unfolding(crate::specs::Reading::event_of_kind))]
 fn event_of_kind(kind: &str, keys: usize, value: &Value) -> Option<Event>
     ensures { result ≡ option_map clip_event (event_of_kind kind.now keys (view value.now)) }
 {
     if kind == "L" && keys == 4 {
-        return load_in(value);
+        let a = number_at(value, "a")?;
+        let r = value_at(value, "r")?;
+        let s = source_at(value, "s")?;
+        return Some(Event::L { a, r, s });
     }
     if kind == "S" && keys == 3 {
-        return store_in(value);
+        let a = number_at(value, "a")?;
+        let w = value_at(value, "w")?;
+        return Some(Event::S { a, w });
     }
     if kind == "R" && keys == 5 {
-        return rmw_in(value);
+        let a = number_at(value, "a")?;
+        let r = value_at(value, "r")?;
+        let s = source_at(value, "s")?;
+        let w = value_at(value, "w")?;
+        return Some(Event::R { a, r, s, w });
     }
     if kind == "C" && keys == 4 {
-        return failed_cas_in(value);
+        let a = number_at(value, "a")?;
+        let r = value_at(value, "r")?;
+        let s = source_at(value, "s")?;
+        return Some(Event::C { a, r, s });
     }
     if kind == "F" && keys == 1 {
         return Some(Event::F);

@@ -6,8 +6,8 @@ ghost use Rattle.serde_json.specs.View.{view, members_view};
 ghost use Rattle.recording.specs.declared.event.Event.TheVariants.{S, R, F};
 ghost use Rattle.recorder.specs.Reading.{number_in, value_in, event_in, list_in, Decodes};
 ghost use Rattle.recorder.specs.Text.{number_data, list_data, source_data, event_data, data_1, data_2, data_of};
-ghost use Rattle.recorder.specs.Values.{read_members, cores_member, with_writes};
-ghost use Rattle.recorder.specs.Values.{AreCoresAgain, AreWritesAgain, IsInitAgain, ArePartsAgain};
+ghost use Rattle.recorder.specs.Values.{read_members, parts_members};
+ghost use Rattle.recorder.specs.Values.{IsInitAgain, ArePartsAgain};
 
 use crate::items::Item;
 use crate::versions::is_of_version_1;
@@ -68,60 +68,33 @@ fn read_members(
     with(alloc, members, "s", source_value(s))
 }
 
-fn read_value(
-    alloc: Global,
-    kind: &str,
-    a: Addr,
-    r: u32,
-    s: Option<EventId>,
-) -> Result<Value, AllocError>
-    ensures { IfOk result (λ v. view v ≡ object (read_members kind.now a r s)) }
+/// The members of an event.
+fn event_members(alloc: Global, event: &Event) -> Result<Map<String, Value>, AllocError>
+    ensures value { IfOk result (λ m. object (members_view m.entries) ≡ event_data event.now) }
+    ensures again { IfOk result (λ _. event_in (event_data event.now) ≡ Some event.now) }
 {
-    let members = read_members(alloc, kind, a, r, s)?;
-    Ok(Value::Object(members))
-}
-
-fn store_value(alloc: Global, a: Addr, w: u32) -> Result<Value, AllocError>
-    ensures { IfOk result (λ v. view v ≡ event_data (S a w)) }
-{
-    let members = with(alloc, Map::new(alloc), "a", Value::from(a))?;
-    let members = with_text(alloc, members, "k", "S")?;
-    let members = with(alloc, members, "w", Value::from(w))?;
-    Ok(Value::Object(members))
-}
-
-fn rmw_value(
-    alloc: Global,
-    a: Addr,
-    r: u32,
-    s: Option<EventId>,
-    w: u32,
-) -> Result<Value, AllocError>
-    ensures { IfOk result (λ v. view v ≡ event_data (R a r s w)) }
-{
-    let members = read_members(alloc, "R", a, r, s)?;
-    let members = with(alloc, members, "w", Value::from(w))?;
-    Ok(Value::Object(members))
-}
-
-fn fence_value(alloc: Global) -> Result<Value, AllocError>
-    ensures { IfOk result (λ v. view v ≡ event_data F) }
-{
-    let members = with_text(alloc, Map::new(alloc), "k", "F")?;
-    Ok(Value::Object(members))
+    match *event {
+        Event::L { a, r, s } => read_members(alloc, "L", a, r, s),
+        Event::S { a, w } => {
+            let members = with(alloc, Map::new(alloc), "a", Value::from(a))?;
+            let members = with_text(alloc, members, "k", "S")?;
+            with(alloc, members, "w", Value::from(w))
+        }
+        Event::R { a, r, s, w } => {
+            let members = read_members(alloc, "R", a, r, s)?;
+            with(alloc, members, "w", Value::from(w))
+        }
+        Event::C { a, r, s } => read_members(alloc, "C", a, r, s),
+        Event::F => with_text(alloc, Map::new(alloc), "k", "F"),
+    }
 }
 
 pub(crate) fn event_value(alloc: Global, event: &Event) -> Result<Value, AllocError>
     ensures value { IfOk result (λ v. view v ≡ event_data event.now) }
     ensures again { IfOk result (λ _. event_in (event_data event.now) ≡ Some event.now) }
 {
-    match *event {
-        Event::L { a, r, s } => read_value(alloc, "L", a, r, s),
-        Event::S { a, w } => store_value(alloc, a, w),
-        Event::R { a, r, s, w } => rmw_value(alloc, a, r, s, w),
-        Event::C { a, r, s } => read_value(alloc, "C", a, r, s),
-        Event::F => fence_value(alloc),
-    }
+    let members = event_members(alloc, event)?;
+    Ok(Value::Object(members))
 }
 
 fn list_value<T: Item>(alloc: Global, items: &[T]) -> Result<Value, AllocError>
@@ -148,49 +121,24 @@ fn lists_value<T: Item>(alloc: Global, lists: &[Vec<T>]) -> Result<Value, AllocE
     Ok(Value::Array(values))
 }
 
-/// The member that both versions have first.
-fn with_cores(alloc: Global, recording: &Recording) -> Result<Map<String, Value>, AllocError>
-    ensures value { IfOk result (λ m. members_view m.entries ≡ cores_member recording.now) }
-    ensures again { IfOk result (λ _. AreCoresAgain recording.now) }
+/// The members that both versions have.
+fn parts(alloc: Global, recording: &Recording) -> Result<Map<String, Value>, AllocError>
+    ensures value { IfOk result (λ m. members_view m.entries ≡ parts_members recording.now) }
+    ensures again { IfOk result (λ _. ArePartsAgain recording.now) }
 {
     let cores = lists_value(alloc, recording.cores())?;
-    with(alloc, Map::new(alloc), "cores", cores)
-}
-
-/// The object with the member that both versions have last.
-fn with_writes(
-    alloc: Global,
-    members: Map<String, Value>,
-    recording: &Recording,
-) -> Result<Value, AllocError>
-    ensures value { IfOk result (λ v. view v ≡ with_writes (members_view members.entries) recording.now) }
-    ensures again { IfOk result (λ _. AreWritesAgain recording.now) }
-{
+    let members = with(alloc, Map::new(alloc), "cores", cores)?;
     let writes = lists_value(alloc, recording.writes())?;
-    let members = with(alloc, members, "writes", writes)?;
-    Ok(Value::Object(members))
-}
-
-fn with_init(
-    alloc: Global,
-    members: Map<String, Value>,
-    recording: &Recording,
-) -> Result<Map<String, Value>, AllocError>
-    ensures value { IfOk result (λ m. members_view m.entries
-        ≡ put (codes "init") (list_data number_data recording.now.initial) (members_view members.entries)) }
-    ensures again { IfOk result (λ _. IsInitAgain recording.now) }
-{
-    let init = list_value(alloc, recording.init())?;
-    with(alloc, members, "init", init)
+    with(alloc, members, "writes", writes)
 }
 
 fn value_1(alloc: Global, recording: &Recording) -> Result<Value, AllocError>
     ensures value { IfOk result (λ v. view v ≡ data_1 recording.now) }
     ensures again { IfOk result (λ _. ArePartsAgain recording.now) }
 {
-    let members = with_cores(alloc, recording)?;
+    let members = parts(alloc, recording)?;
     let members = with(alloc, members, "version", Value::from(1u64))?;
-    with_writes(alloc, members, recording)
+    Ok(Value::Object(members))
 }
 
 fn value_2(alloc: Global, recording: &Recording) -> Result<Value, AllocError>
@@ -198,10 +146,11 @@ fn value_2(alloc: Global, recording: &Recording) -> Result<Value, AllocError>
     ensures again { IfOk result (λ _. ArePartsAgain recording.now) }
     ensures init { IfOk result (λ _. IsInitAgain recording.now) }
 {
-    let members = with_cores(alloc, recording)?;
-    let members = with_init(alloc, members, recording)?;
+    let members = parts(alloc, recording)?;
+    let init = list_value(alloc, recording.init())?;
+    let members = with(alloc, members, "init", init)?;
     let members = with(alloc, members, "version", Value::from(2u64))?;
-    with_writes(alloc, members, recording)
+    Ok(Value::Object(members))
 }
 
 pub(crate) fn value_of(alloc: Global, recording: &Recording) -> Result<Value, AllocError>
