@@ -76,7 +76,7 @@ pub passed_start : {A : Type 0} (f : A → Data) (Fits : A → Type 0) (text : L
 passed_start f Fits text xs none = rw none (record { passes = refl; fit = tt })
 
 -- an item more
-push_fits : {A : Type 0} (Fits : A → Type 0) (xs : List A) (x : A) → AllByRecursion Fits xs → Fits x
+pub push_fits : {A : Type 0} (Fits : A → Type 0) (xs : List A) (x : A) → AllByRecursion Fits xs → Fits x
     → AllByRecursion Fits (xs ++ x ∷ [])
 push_fits Fits [] x all one = (one, tt)
 push_fits Fits (y ∷ ys) x all one = (all.0, push_fits Fits ys x all.1 one)

@@ -21,7 +21,7 @@ use std::alloc::{AllocError, Global};
 
 /// An item of a list: an event, the number of an event, or an initial value.
 pub(crate) trait Item: Drop + Sized {
-    ghost use Rattle.std.specs.Prelude.{◌≡◌, ◌++◌, ◌∷◌, [], ℕ, suc, List, Option, Some, IfOk, IfSome};
+    ghost use Rattle.std.specs.Prelude.{◌≡◌, ◌++◌, ◌∷◌, [], ℕ, suc, List, Option, IfOk, IfSome};
     ghost use Rattle.recorder.specs.Held.{lists_of};
     ghost use Rattle.serde_json.specs.Data.{Data};
     ghost use Rattle.serde_json.specs.View.{view};
@@ -31,10 +31,7 @@ pub(crate) trait Item: Drop + Sized {
     /// The value that is written of it.
     ghost datum: { Self → Data };
 
-    /// What a value gives.
-    ghost given: { Data → Option Self };
-
-    /// What is held of that.
+    /// What is held of what a value gives.
     ghost held: { Data → Option Self };
 
     /// Each number of it fits.
@@ -72,7 +69,7 @@ pub(crate) trait Item: Drop + Sized {
     /// The value of the item.
     fn value(&self, alloc: Global) -> Result<Value, AllocError>
         ensures value { IfOk result (λ v. view v ≡ datum self.now) }
-        ensures again { IfOk result (λ _. given (datum self.now) ≡ Some self.now) };
+        ensures fits { IfOk result (λ _. fits self.now) };
 
     ghost holds_none: { holds [] [] };
 
@@ -84,13 +81,10 @@ impl Item for Event {
     ghost use Rattle.recording.specs.declared.event.Event.{Event};
     ghost use Rattle.recorder.specs.Held.{lists_of, HoldsEvents, HoldsCores};
     ghost use Rattle.recorder.specs.Text.{event_data};
-    ghost use Rattle.recorder.specs.Reading.{event_in};
     ghost use Rattle.recorder.specs.Clipped.{clipped_event};
     ghost use Rattle.recorder.specs.Written.{IsFitting};
 
     ghost datum = { event_data };
-
-    ghost given = { event_in };
 
     ghost held = { clipped_event };
 
@@ -155,13 +149,10 @@ impl Item for u16 {
     ghost use Rattle.std.proofs.Common.{◌≡◌, ◌++◌, ◌∷◌, [], ℕ, List, IfOk, refl, inl};
     ghost use Rattle.recorder.specs.Held.{lists_of, HoldsLists};
     ghost use Rattle.recorder.specs.Text.{number_data};
-    ghost use Rattle.recorder.specs.Reading.{number_in};
     ghost use Rattle.recorder.specs.Clipped.{clipped_number};
     ghost use Rattle.recorder.specs.Written.{IsShort};
 
     ghost datum = { number_data };
-
-    ghost given = { number_in };
 
     ghost held = { clipped_number };
 
@@ -217,8 +208,6 @@ impl Item for u32 {
     ghost use Rattle.recorder.specs.Written.{IsWord};
 
     ghost datum = { number_data };
-
-    ghost given = { value_in };
 
     ghost held = { value_in };
 

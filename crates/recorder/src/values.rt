@@ -1,13 +1,14 @@
 //! The JSON value of a recording.
 
-ghost use Rattle.std.specs.Prelude.{◌≡◌, IfOk, Some, map, codes};
+ghost use Rattle.std.specs.Prelude.{◌≡◌, IfOk, None, Some, map};
+ghost use Rattle.std.specs.List.{AllByRecursion};
 ghost use Rattle.serde_json.specs.Data.{put, string, object};
 ghost use Rattle.serde_json.specs.View.{view, members_view};
 ghost use Rattle.recording.specs.declared.event.Event.TheVariants.{S, R, F};
-ghost use Rattle.recorder.specs.Reading.{number_in, value_in, event_in, list_in, Decodes};
+ghost use Rattle.recorder.specs.Written.{IsShortSource, IsFitting};
 ghost use Rattle.recorder.specs.Text.{number_data, list_data, source_data, event_data, data_1, data_2, data_of};
 ghost use Rattle.recorder.specs.Values.{read_members, parts_members};
-ghost use Rattle.recorder.specs.Values.{IsInitAgain, ArePartsAgain};
+ghost use Rattle.recorder.specs.Values.{AreFitting, values_of};
 
 use crate::items::Item;
 use crate::versions::is_of_version_1;
@@ -44,7 +45,8 @@ fn with_text(
 }
 
 fn source_value(source: Option<EventId>) -> Value
-    ensures { view result ≡ source_data source }
+    ensures value { view result ≡ source_data source }
+    ensures fits { IsShortSource source }
 {
     match source {
         Some(write) => Value::from(write),
@@ -60,7 +62,8 @@ fn read_members(
     r: u32,
     s: Option<EventId>,
 ) -> Result<Map<String, Value>, AllocError>
-    ensures { IfOk result (λ m. members_view m.entries ≡ read_members kind.now a r s) }
+    ensures value { IfOk result (λ m. members_view m.entries ≡ read_members kind.now a r s) }
+    ensures fits { IfOk result (λ _. IsShortSource s) }
 {
     let members = with(alloc, Map::new(alloc), "a", Value::from(a))?;
     let members = with_text(alloc, members, "k", kind)?;
@@ -71,7 +74,7 @@ fn read_members(
 /// The members of an event.
 fn event_members(alloc: Global, event: &Event) -> Result<Map<String, Value>, AllocError>
     ensures value { IfOk result (λ m. object (members_view m.entries) ≡ event_data event.now) }
-    ensures again { IfOk result (λ _. event_in (event_data event.now) ≡ Some event.now) }
+    ensures fits { IfOk result (λ _. IsFitting event.now) }
 {
     match *event {
         Event::L { a, r, s } => read_members(alloc, "L", a, r, s),
@@ -91,7 +94,7 @@ fn event_members(alloc: Global, event: &Event) -> Result<Map<String, Value>, All
 
 pub(crate) fn event_value(alloc: Global, event: &Event) -> Result<Value, AllocError>
     ensures value { IfOk result (λ v. view v ≡ event_data event.now) }
-    ensures again { IfOk result (λ _. event_in (event_data event.now) ≡ Some event.now) }
+    ensures fits { IfOk result (λ _. IsFitting event.now) }
 {
     let members = event_members(alloc, event)?;
     Ok(Value::Object(members))
@@ -99,7 +102,7 @@ pub(crate) fn event_value(alloc: Global, event: &Event) -> Result<Value, AllocEr
 
 fn list_value<T: Item>(alloc: Global, items: &[T]) -> Result<Value, AllocError>
     ensures value { IfOk result (λ v. view v ≡ list_data T.datum items.now) }
-    ensures again { IfOk result (λ _. list_in T.given (list_data T.datum items.now) ≡ Some items.now) }
+    ensures fits { IfOk result (λ _. AllByRecursion T.fits items.now) }
 {
     let mut values = Vec::with_capacity(alloc, items.len())?;
     for item in items {
@@ -111,8 +114,7 @@ fn list_value<T: Item>(alloc: Global, items: &[T]) -> Result<Value, AllocError>
 fn lists_value<T: Item>(alloc: Global, lists: &[Vec<T>]) -> Result<Value, AllocError>
     ensures value { IfOk result (λ v. view v
         ≡ list_data (list_data T.datum) (map (λ w. w.items) lists.now)) }
-    ensures again { let items = map (λ w. w.items) lists.now
-        in IfOk result (λ _. list_in (list_in T.given) (list_data (list_data T.datum) items) ≡ Some items) }
+    ensures fits { IfOk result (λ _. AllByRecursion (AllByRecursion T.fits) (map (λ w. w.items) lists.now)) }
 {
     let mut values = Vec::with_capacity(alloc, lists.len())?;
     for list in lists {
@@ -124,7 +126,7 @@ fn lists_value<T: Item>(alloc: Global, lists: &[Vec<T>]) -> Result<Value, AllocE
 /// The members that both versions have.
 fn parts(alloc: Global, recording: &Recording) -> Result<Map<String, Value>, AllocError>
     ensures value { IfOk result (λ m. members_view m.entries ≡ parts_members recording.now) }
-    ensures again { IfOk result (λ _. ArePartsAgain recording.now) }
+    ensures fits { IfOk result (λ _. AreFitting None recording.now) }
 {
     let cores = lists_value(alloc, recording.cores())?;
     let members = with(alloc, Map::new(alloc), "cores", cores)?;
@@ -134,7 +136,7 @@ fn parts(alloc: Global, recording: &Recording) -> Result<Map<String, Value>, All
 
 fn value_1(alloc: Global, recording: &Recording) -> Result<Value, AllocError>
     ensures value { IfOk result (λ v. view v ≡ data_1 recording.now) }
-    ensures again { IfOk result (λ _. ArePartsAgain recording.now) }
+    ensures fits { IfOk result (λ _. AreFitting None recording.now) }
 {
     let members = parts(alloc, recording)?;
     let members = with(alloc, members, "version", Value::from(1u64))?;
@@ -143,8 +145,7 @@ fn value_1(alloc: Global, recording: &Recording) -> Result<Value, AllocError>
 
 fn value_2(alloc: Global, recording: &Recording) -> Result<Value, AllocError>
     ensures value { IfOk result (λ v. view v ≡ data_2 recording.now) }
-    ensures again { IfOk result (λ _. ArePartsAgain recording.now) }
-    ensures init { IfOk result (λ _. IsInitAgain recording.now) }
+    ensures fits { IfOk result (λ _. AreFitting (Some recording.now.initial) recording.now) }
 {
     let members = parts(alloc, recording)?;
     let init = list_value(alloc, recording.init())?;
@@ -155,9 +156,8 @@ fn value_2(alloc: Global, recording: &Recording) -> Result<Value, AllocError>
 
 pub(crate) fn value_of(alloc: Global, recording: &Recording) -> Result<Value, AllocError>
     ensures value { IfOk result (λ v. view v ≡ data_of recording.now) }
-    ensures again { IfOk result (λ _. Decodes (data_of recording.now) recording.now) }
+    ensures fits { IfOk result (λ _. AreFitting (values_of recording.now) recording.now) }
 {
-    recording.sound();
     if is_of_version_1(recording) {
         return value_1(alloc, recording);
     }

@@ -1,32 +1,26 @@
-use Rattle.std.proofs.Common.{◌≡◌, Some, arith, sym, subst}
-use Rattle.recording.specs.declared.event.Event.{Event}
-use Rattle.recorder.specs.Reading.{event_in}
-use Rattle.recorder.specs.Text.{event_data}
-use Rattle.recorder.proofs.Somes.{always}
-use Rattle.recorder.proofs.Again.{load_again, store_again, rmw_again, failed_cas_again, fence_again}
+use Rattle.std.proofs.Common.{arith, sym, subst}
+use Rattle.recorder.specs.Written.{IsFitting}
+use Rattle.recorder.proofs.Somes.{always, if_ok}
 use Rattle.recorder.proofs.values.event_members.Goals as goal
 
-pub returns-in-L-clause-again : goal.returns-in-L-clause-again
-returns-in-L-clause-again c =
-    always _ (subst (λ (e : Event). event_in (event_data e) ≡ Some e) (sym c.in-L.is)
-    (load_again c.in-L.a c.in-L.r c.in-L.s (omega arith)))
+pub returns-in-L-clause-fits : goal.returns-in-L-clause-fits
+returns-in-L-clause-fits c =
+    if_ok c.read_members.result (λ short. subst IsFitting (sym c.in-L.is) (omega arith, omega arith, short))
+    c.read_members.ensures.fits
 
-pub returns-in_ok-members-in-S-2-clause-again : goal.returns-in_ok-members-in-S-2-clause-again
-returns-in_ok-members-in-S-2-clause-again c =
-    always _ (subst (λ (e : Event). event_in (event_data e) ≡ Some e) (sym c.in-S.is)
-    (store_again c.in-S.a c.in-S.w (omega arith)))
+pub returns-in_ok-members-in-S-2-clause-fits : goal.returns-in_ok-members-in-S-2-clause-fits
+returns-in_ok-members-in-S-2-clause-fits c =
+    always _ (subst IsFitting (sym c.in-S.is) (omega arith, omega arith))
 
-pub returns-in_ok-members-in-R-clause-again : goal.returns-in_ok-members-in-R-clause-again
-returns-in_ok-members-in-R-clause-again c =
-    always _ (subst (λ (e : Event). event_in (event_data e) ≡ Some e) (sym c.in-R.is)
-    (rmw_again c.in-R.a c.in-R.r c.in-R.s c.in-R.w (omega arith) (omega arith)))
+pub returns-in_ok-members-in-R-clause-fits : goal.returns-in_ok-members-in-R-clause-fits
+returns-in_ok-members-in-R-clause-fits c =
+    always _ (subst IsFitting (sym c.in-R.is)
+    (omega arith, omega arith, c.in_ok-members-in-R.ensures.fits, omega arith))
 
-pub returns-in-C-clause-again : goal.returns-in-C-clause-again
-returns-in-C-clause-again c =
-    always _ (subst (λ (e : Event). event_in (event_data e) ≡ Some e) (sym c.in-C.is)
-    (failed_cas_again c.in-C.a c.in-C.r c.in-C.s (omega arith)))
+pub returns-in-C-clause-fits : goal.returns-in-C-clause-fits
+returns-in-C-clause-fits c =
+    if_ok c.read_members-in-C.result (λ short. subst IsFitting (sym c.in-C.is) (omega arith, omega arith, short))
+    c.read_members-in-C.ensures.fits
 
-pub returns-in-F-clause-again : goal.returns-in-F-clause-again
-returns-in-F-clause-again c =
-    always _ (subst (λ (e : Event). event_in (event_data e) ≡ Some e) (sym c.in-F.is)
-    fence_again)
+pub returns-in-F-clause-fits : goal.returns-in-F-clause-fits
+returns-in-F-clause-fits c = always _ (subst IsFitting (sym c.in-F.is) tt)

@@ -1,6 +1,6 @@
 use Rattle.std.proofs.Common.{◌∙◌}
 use Rattle.serde_json.proofs.Views.{view-Array}
-use Rattle.recorder.proofs.Again.{values_more, values_all, again_more, list_again}
+use Rattle.recorder.proofs.Again.{values_more, values_all, fits_more, fits_all}
 use Rattle.recorder.proofs.values.list_value.Goals as goal
 
 pub loop-item-preserved : goal.loop-item-preserved
@@ -12,8 +12,8 @@ loop-item-preserved g c =
       values = values_more g.T.Item.datum xs l.item-index item item l.values.items c.push.new.self.items
           c.in_ok-value.field-0 c.loop-item-test.true c.item-item.is l.invariant.values
           c.in_ok-value.ensures.value c.in_ok-push.ensures.items;
-      again = again_more g.T.Item.given g.T.Item.datum xs l.item-index item item c.loop-item-test.true
-          c.item-item.is l.invariant.again c.in_ok-value.ensures.again;
+      fits = fits_more g.T.Item.fits xs l.item-index item c.loop-item-test.true c.item-item.is l.invariant.fits
+          c.in_ok-value.ensures.fits;
     }
 
 pub returns-clause-value : goal.returns-clause-value
@@ -21,7 +21,6 @@ returns-clause-value g c = view-Array c.loop-item.values
     ∙ values_all g.T.Item.datum c.args.items.now c.loop-item.item-index c.loop-item.values.items
     c.loop-item-test.false c.loop-item.invariant.values
 
-pub returns-clause-again : goal.returns-clause-again
-returns-clause-again g c =
-    list_again g.T.Item.given g.T.Item.datum c.args.items.now c.loop-item.item-index c.loop-item-test.false
-    c.loop-item.invariant.again
+pub returns-clause-fits : goal.returns-clause-fits
+returns-clause-fits g c =
+    fits_all g.T.Item.fits c.args.items.now c.loop-item.item-index c.loop-item-test.false c.loop-item.invariant.fits

@@ -1,9 +1,9 @@
 use Rattle.std.proofs.Common.{◌≡◌, ◌∙◌, ◌<◌, map, arith, ap, subst, Some, get_or, length, List}
 use Rattle.std.proofs.lemmas.List.{length-map}
 use Rattle.serde_json.proofs.Views.{view-Array}
-use Rattle.recorder.specs.Reading.{list_in}
+use Rattle.std.specs.List.{AllByRecursion}
 use Rattle.recorder.specs.Text.{list_data}
-use Rattle.recorder.proofs.Again.{values_more, values_all, again_more, list_again, item_seen}
+use Rattle.recorder.proofs.Again.{values_more, values_all, fits_more, fits_all, item_seen}
 use Rattle.recorder.proofs.values.lists_value.Goals as goal
 
 pub loop-list-preserved : goal.loop-list-preserved
@@ -21,9 +21,8 @@ loop-list-preserved g c =
           c.in_ok-list_value.field-0 at seen l.invariant.values
           (c.in_ok-list_value.ensures.value ∙ ap (list_data g.T.Item.datum) c.as_slice.ensures.value)
           c.in_ok-push.ensures.items;
-      again = again_more (list_in g.T.Item.given)
-          (list_data g.T.Item.datum) xs l.list-index item.items item.items at seen l.invariant.again
-          (rw c.as_slice.ensures.value at c.in_ok-list_value.ensures.again);
+      fits = fits_more (AllByRecursion g.T.Item.fits) xs l.list-index item.items at seen l.invariant.fits
+          (rw c.as_slice.ensures.value at c.in_ok-list_value.ensures.fits);
     }
 
 pub returns-clause-value : goal.returns-clause-value
@@ -31,7 +30,7 @@ returns-clause-value g c = view-Array c.loop-list.values
     ∙ values_all (list_data g.T.Item.datum) (map (λ v. v.items) c.args.lists.now) c.loop-list.list-index
     c.loop-list.values.items (rw length-map c.loop-list-test.false) c.loop-list.invariant.values
 
-pub returns-clause-again : goal.returns-clause-again
-returns-clause-again g c =
-    list_again (list_in g.T.Item.given) (list_data g.T.Item.datum) (map (λ v. v.items) c.args.lists.now)
-    c.loop-list.list-index (rw length-map c.loop-list-test.false) c.loop-list.invariant.again
+pub returns-clause-fits : goal.returns-clause-fits
+returns-clause-fits g c =
+    fits_all (AllByRecursion g.T.Item.fits) (map (λ v. v.items) c.args.lists.now) c.loop-list.list-index
+    (rw length-map c.loop-list-test.false) c.loop-list.invariant.fits
