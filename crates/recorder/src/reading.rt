@@ -115,7 +115,7 @@ fn init_in(
     Ok(Some(Some(init)))
 }
 
-#[tactic(auto, unfolding(crate::specs::Reading::contents_with), using(crate::proofs::ClippedLists::cores_clipped, crate::proofs::ClippedLists::writes_clipped))]
+#[tactic(auto, unfolding(crate::specs::Reading::contents_with), using(crate::proofs::ClippedLists::clipped))]
 fn contents_with(
     alloc: Global,
     init: Option<Vec<u32>>,
