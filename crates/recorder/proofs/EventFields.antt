@@ -26,7 +26,13 @@ kind_added f o k depth ts rest g none is =
       value_read = at_other (codes "k") d refl h.value_read;
       source = at_other (codes "k") d refl h.source;
       value_written = at_other (codes "k") d refl h.value_written;
-      count = omega (arith, count_new d h.kind (ap (option_map (λ s. s.now)) none), h.count, ap count_of none, ap count_of is);
+      count = omega (
+        arith,
+        count_new d h.kind (ap (option_map (λ s. s.now)) none),
+        h.count,
+        ap count_of none,
+        ap count_of is,
+      );
     })
 
 -- the address
