@@ -7,7 +7,7 @@ use Rattle.std.proofs.lemmas.List.{length-map, map-append}
 use Rattle.common.specs.declared.limits.TheConstants.{MAX_EVENTS, MAX_ADDRESSES}
 use Rattle.recording.specs.declared.event.Event.{Event}
 use Rattle.recording.specs.declared.event.Event.TheVariants.{L, S, R, C, F}
-use Rattle.recording.specs.Event.{read_address, written_address, source, value_read, value_written}
+use Rattle.recording.specs.Event.{read_address, written_address, source}
 use Rattle.recording.specs.Execution.{Execution, placed_from, event_count, event_at, write_list, source_of}
 use Rattle.recorder.specs.Clipped.{clip, clip_event, clipped}
 
@@ -36,16 +36,15 @@ pub clipped_from : (o : Option ℕ) (b : ℕ) → option_map clip o ≡ Some b �
 clipped_from None b h = absurd cc
 clipped_from (Some a) b h = (a, refl, cc)
 
--- the addresses and the source of a clipped event are clipped, and its values are as they were
+-- the addresses and the source of a clipped event are clipped
 parts_clipped : (v : Event) → (read_address (clip_event v) ≡ option_map clip (read_address v))
     × (written_address (clip_event v) ≡ option_map clip (written_address v))
     × (source (clip_event v) ≡ option_map clip (source v))
-    × (value_read (clip_event v) ≡ value_read v) × (value_written (clip_event v) ≡ value_written v)
-parts_clipped (L a r s) = (refl, refl, refl, refl, refl)
-parts_clipped (S a w) = (refl, refl, refl, refl, refl)
-parts_clipped (R a r s w) = (refl, refl, refl, refl, refl)
-parts_clipped (C a r s) = (refl, refl, refl, refl, refl)
-parts_clipped F = (refl, refl, refl, refl, refl)
+parts_clipped (L a r s) = (refl, refl, refl)
+parts_clipped (S a w) = (refl, refl, refl)
+parts_clipped (R a r s w) = (refl, refl, refl)
+parts_clipped (C a r s) = (refl, refl, refl)
+parts_clipped F = (refl, refl, refl)
 
 -- an event clipped on its core
 abbrev clip_placed : ℕ × Event → ℕ × Event
@@ -98,13 +97,3 @@ writes_clipped x e = ap written_address (event_clipped x e) ∙ (parts_clipped (
 -- and its source
 pub sources_clipped : (x : Execution) (e : ℕ) → source_of (clipped x) e ≡ option_map clip (source_of x e)
 sources_clipped x e = ap source (event_clipped x e) ∙ (parts_clipped (event_at x e)).2
-
--- event e reads the value that it read
-pub values_read_clipped : (x : Execution) (e : ℕ)
-    → value_read (event_at (clipped x) e) ≡ value_read (event_at x e)
-values_read_clipped x e = ap value_read (event_clipped x e) ∙ (parts_clipped (event_at x e)).3
-
--- and writes the value that it wrote
-pub values_written_clipped : (x : Execution) (e : ℕ)
-    → value_written (event_at (clipped x) e) ≡ value_written (event_at x e)
-values_written_clipped x e = ap value_written (event_clipped x e) ∙ (parts_clipped (event_at x e)).4
