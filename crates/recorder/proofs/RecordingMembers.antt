@@ -32,10 +32,10 @@ abbrev lists_of : {A : Type 0} → Option (Vec (Vec A Global) Global) → Option
 lists_of o = option_map (λ v. map (λ w. w.items) v.items) o
 
 -- the version
-pub version_added : (p : ReadMembers) (o : Option ℕ) (x : ℕ) (depth : ℕ) (ts rest : List Token)
+pub version_added : (p : ReadMembers) (o : Option ℕ) {x depth : ℕ} {ts rest : List Token}
     → GivesValue natural depth ts x rest → p.version ≡ None → o ≡ Some x
     → Adds AreParts (codes "version") depth ts rest p (record p { version = o })
-version_added p o x depth ts rest g none is =
+version_added p o {x} {depth} {ts} {rest} g none is =
     adds AreParts natural (codes "version") depth ts rest x p (record p { version = o }) g (λ ms d gives h. record {
       version = at_new ms d x gives is;
       cores = (h.cores.0, at_other (codes "version") d refl h.cores.1, h.cores.2);
@@ -45,12 +45,12 @@ version_added p o x depth ts rest g none is =
     })
 
 -- the events of each core
-pub cores_added : (p : ReadMembers) (o : Option (Vec (Vec Event Global) Global))
-    (x : Vec (Vec Event Global) Global) (xs : List (List Event)) (depth : ℕ) (ts rest : List Token)
+pub cores_added : (p : ReadMembers) (o : Option (Vec (Vec Event Global) Global)) {x : Vec (Vec Event Global) Global}
+    {xs : List (List Event)} {depth : ℕ} {ts rest : List Token}
     → GivesValue (list_in (list_in clipped_event)) depth ts xs rest
     → HoldsCores (map (λ w. w.items) x.items) xs → p.cores ≡ None → o ≡ Some x
     → Adds AreParts (codes "cores") depth ts rest p (record p { cores = o })
-cores_added p o x xs depth ts rest g holds none is =
+cores_added p o {x} {xs} {depth} {ts} {rest} g holds none is =
     adds AreParts (list_in (list_in clipped_event)) (codes "cores") depth ts rest xs p (record p { cores = o }) g
     (λ ms d gives h. record {
       version = at_other (codes "cores") d refl h.version;
@@ -67,12 +67,12 @@ cores_added p o x xs depth ts rest g holds none is =
     })
 
 -- the write lists
-pub writes_added : (p : ReadMembers) (o : Option (Vec (Vec ℕ Global) Global)) (x : Vec (Vec ℕ Global) Global)
-    (xs : List (List ℕ)) (depth : ℕ) (ts rest : List Token)
+pub writes_added : (p : ReadMembers) (o : Option (Vec (Vec ℕ Global) Global)) {x : Vec (Vec ℕ Global) Global}
+    {xs : List (List ℕ)} {depth : ℕ} {ts rest : List Token}
     → GivesValue (list_in (list_in clipped_number)) depth ts xs rest
     → HoldsLists (map (λ w. w.items) x.items) xs → p.writes ≡ None → o ≡ Some x
     → Adds AreParts (codes "writes") depth ts rest p (record p { writes = o })
-writes_added p o x xs depth ts rest g holds none is =
+writes_added p o {x} {xs} {depth} {ts} {rest} g holds none is =
     adds AreParts (list_in (list_in clipped_number)) (codes "writes") depth ts rest xs p (record p { writes = o }) g
     (λ ms d gives h. record {
       version = at_other (codes "writes") d refl h.version;
@@ -89,10 +89,10 @@ writes_added p o x xs depth ts rest g holds none is =
     })
 
 -- the initial values
-pub init_added : (p : ReadMembers) (o : Option (Vec ℕ Global)) (x : Vec ℕ Global) (depth : ℕ) (ts rest : List Token)
+pub init_added : (p : ReadMembers) (o : Option (Vec ℕ Global)) {x : Vec ℕ Global} {depth : ℕ} {ts rest : List Token}
     → GivesValue (list_in value_in) depth ts x.items rest → p.init ≡ None → o ≡ Some x
     → Adds AreParts (codes "init") depth ts rest p (record p { init = o })
-init_added p o x depth ts rest g none is =
+init_added p o {x} {depth} {ts} {rest} g none is =
     let items : Option (Vec ℕ Global) → Option (List ℕ) = λ i. option_map (λ v. v.items) i in
     adds AreParts (list_in value_in) (codes "init") depth ts rest x.items p (record p { init = o }) g
     (λ ms d gives h. record {
