@@ -16,11 +16,11 @@ use Rattle.program.specs.declared.refusal.LineRefusal.{LineRefusal}
 use Rattle.program.specs.declared.refusal.LineRefusal.TheVariants.{L1}
 use Rattle.common.specs.declared.limits.TheConstants.{MAX_CORES, MAX_EVENTS, MAX_ADDRESSES}
 use Rattle.program.specs.Names.{AreLawful, name_eq, name_of, name_text, no_name}
-use Rattle.program.specs.Lines.{core_line, write_line}
+use Rattle.program.specs.Lines.{Line, core_line, fence_line, load_line, write_line, compare_line}
 use Rattle.program.specs.Parts.{Small, Body, op_count, addr_of, use_addr, use_ops, use_cores}
 use Rattle.program.specs.Steps.{names_with, name_number, with_op, write_op, op_fault, core_step, fence_step}
 use Rattle.program.specs.Steps.{load_step, write_step, compare_step}
-use Rattle.program.specs.Drafts.{Draft, body_step, plain, said_step, step, with_body}
+use Rattle.program.specs.Drafts.{Draft, plain, said_step, step}
 use Rattle.program.specs.Reading.{read_from}
 use Rattle.program.specs.Spelling.{core_text, op_text, op_line, name_at}
 use Rattle.program.specs.TestLaws.{bind_some}
@@ -38,43 +38,47 @@ fault_none : (p : Body) → 0 < length p.cores → op_count p.cores < MAX_EVENTS
 fault_none p some room =
     rw (is_zero_no (length p.cores) some, lt-ltb (op_count p.cores) MAX_EVENTS room) refl
 
+-- what lines do to names and operations without an `init` line
+abbrev Does : Body → Line → Body → Type 0
+Does p l q = said_step (plain p) (Some l) ≡ Ok (plain q)
+
+-- what a new core does
+core_so : (p : Body) → length p.cores < MAX_CORES → Does p core_line (record p { cores = p.cores ++ [] ∷ [] })
+unfolding core_step
+core_so p few = rw (lt-ltb (length p.cores) MAX_CORES few) refl
+
 -- what a fence does
-fence_so : (p : Body) → op_fault p ≡ None → fence_step p
-    ≡ Ok (record p { cores = with_op p.cores Fence })
+fence_so : (p : Body) → op_fault p ≡ None → Does p fence_line (record p { cores = with_op p.cores Fence })
 unfolding fence_step
 fence_so p none = rw none refl
 
+-- where an operation may come, the address of its name is this, and these are the names with it
+record Takes (p : Body) (name : Name) (more : List Name) (a : ℕ) : Type 0 where
+  none : op_fault p ≡ None
+  next : names_with p.names name ≡ more
+  number : name_number p.names name ≡ a
+  few : nat_lt MAX_ADDRESSES (length more) ≡ false
+
 -- what a load does
-load_so : (p : Body) (name : Name) (more : List Name) (a : ℕ) → op_fault p ≡ None →
-    names_with p.names name ≡ more → name_number p.names name ≡ a → nat_lt MAX_ADDRESSES (length more)
-    ≡ false →
-    load_step p name ≡ Ok (record { names = more; cores = with_op p.cores (Ld a) })
+load_so : (p : Body) (name : Name) (more : List Name) (a : ℕ) → Takes p name more a
+    → Does p (load_line name) (record { names = more; cores = with_op p.cores (Ld a) })
 unfolding load_step
-load_so p name more a none next number few = rw (none, next, number, few) refl
+load_so p name more a t = rw (t.none, t.next, t.number, t.few) refl
 
 -- what a write does
-write_so : (p : Body) (write : WriteKind) (name : Name) (n : ℕ) (more : List Name) (a : ℕ) → op_fault p
-    ≡ None → names_with p.names name ≡ more → name_number p.names name ≡ a →
-    nat_lt MAX_ADDRESSES (length more) ≡ false →
-    nat_lt n (2 ^ 32) ≡ true → write_step p write name n
-    ≡ Ok (record { names = more; cores = with_op p.cores (write_op write a n) })
+write_so : (p : Body) (write : WriteKind) (name : Name) (n : ℕ) (more : List Name) (a : ℕ) → n < 2 ^ 32
+    → Takes p name more a
+    → Does p (write_line write name n) (record { names = more; cores = with_op p.cores (write_op write a n) })
 unfolding write_step
-write_so p write name n more a none next number few small = rw (none, next, number, few, small) refl
+write_so p write name n more a small t = rw (t.none, t.next, t.number, t.few, lt-ltb n (2 ^ 32) small) refl
 
 -- what a compare-and-swap does
-compare_so : (p : Body) (name : Name) (v n : ℕ) (more : List Name) (a : ℕ) → op_fault p ≡ None →
-    names_with p.names name ≡ more → name_number p.names name ≡ a →
-    nat_lt MAX_ADDRESSES (length more) ≡ false → v < 2 ^ 32 → n < 2 ^ 32 → compare_step p name v n
-    ≡ Ok (record { names = more; cores = with_op p.cores (Cas a v n) })
+compare_so : (p : Body) (name : Name) (v n : ℕ) (more : List Name) (a : ℕ) → v < 2 ^ 32 → n < 2 ^ 32
+    → Takes p name more a
+    → Does p (compare_line name v n) (record { names = more; cores = with_op p.cores (Cas a v n) })
 unfolding compare_step
-compare_so p name v n more a none next number few first second =
-    rw (none, next, number, few, lt-ltb v (2 ^ 32) first, lt-ltb n (2 ^ 32) second) refl
-
--- what a new core does
-core_so : (p : Body) → length p.cores < MAX_CORES → core_step p
-    ≡ Ok (record p { cores = p.cores ++ [] ∷ [] })
-unfolding core_step
-core_so p few = rw (lt-ltb (length p.cores) MAX_CORES few) refl
+compare_so p name v n more a first second t =
+    rw (t.none, t.next, t.number, t.few, lt-ltb v (2 ^ 32) first, lt-ltb n (2 ^ 32) second) refl
 
 -- an operation is read
 record Next (all : List Name) (p : Body) (op : Op) (n : ℕ) : Type 0 where
@@ -84,12 +88,7 @@ record Next (all : List Name) (p : Body) (op : Op) (n : ℕ) : Type 0 where
   long : length more ≡ n
   named : IsNamed (op_line all op)
   fits : Fits (op_line all op)
-  step_is : said_step (plain p) (Some (op_line all op))
-      ≡ Ok (plain (record { names = more; cores = with_op p.cores op }))
-
--- what a line does to names and operations it does to them without an `init` line
-taken_so : (p q : Body) (r : Result Body LineRefusal) → r ≡ Ok q → body_step (plain p) r ≡ Ok (plain q)
-taken_so p q r e = ap (λ (x : Result Body LineRefusal). with_body (plain p) x) e
+  step_is : Does p (op_line all op) (record { names = more; cores = with_op p.cores op })
 
 -- the names of a program that is read
 pub record AreNames (all : List Name) : Type 0 where
@@ -97,51 +96,25 @@ pub record AreNames (all : List Name) : Type 0 where
   pub distinct : IsDistinct name_eq all
   pub few : length all ≤ MAX_ADDRESSES
 
--- the names before the cut are within the limit
-few_test : (all more back : List Name) → all ≡ more ++ back → length all ≤ MAX_ADDRESSES →
-    nat_lt MAX_ADDRESSES (length more) ≡ false
-few_test all more back parts few =
-    le-ltb _ _ (omega (arith, few, ap length parts, length-append more back))
-
--- a load is read
-load_next : (all : List Name) (p : Body) (back : List Name) (a n : ℕ) → AreNames all → all
+-- an operation with a name is read
+named_next : (all : List Name) (p : Body) (back : List Name) (a n : ℕ) (op : Op) → AreNames all → all
     ≡ p.names ++ back → op_fault p ≡ None → use_addr (length p.names) (Some a) ≡ Some n →
-    n ≤ length all → Next all p (Ld a) n
-load_next all p back a n h parts none used le =
+    n ≤ length all → (name_of (name_text (name_at all a)) ≡ Some (name_at all a) → IsNamed (op_line all op)) →
+    Fits (op_line all op) → ((more : List Name) → Takes p (name_at all a) more a →
+    Does p (op_line all op) (record { names = more; cores = with_op p.cores op })) → Next all p op n
+named_next all p back a n op h parts none used le named fits does =
     let c = cut_at all p.names back a n parts h.distinct (used_so (length p.names) a n used) le in
     let within : a < length all = omega (arith, le, (use_below (length p.names) a n used).0) in
+    let few : nat_lt MAX_ADDRESSES (length c.more) ≡ false =
+    le-ltb _ _ (omega (arith, h.few, ap length c.parts, length-append c.more c.back)) in
     record {
       more = c.more;
       back = c.back;
       parts = c.parts;
       long = c.long;
-      named = All-from_recursion (λ (m : Name). name_of (name_text m) ≡ Some m) all h.lawful a no_name within;
-      fits = tt;
-      step_is = taken_so p (record { names = c.more; cores = with_op p.cores (Ld a) })
-          (load_step p (name_at all a)) (load_so p (name_at all a) c.more a none c.next c.number
-          (few_test all c.more c.back c.parts h.few));
-    }
-
--- a store, swap or add is read
-write_next : (all : List Name) (p : Body) (back : List Name) (write : WriteKind) (a value n : ℕ) (op : Op) →
-    op_line all op ≡ write_line write (name_at all a) value → op ≡ write_op write a value →
-    AreNames all → all ≡ p.names ++ back → op_fault p ≡ None → use_addr (length p.names) (Some a)
-    ≡ Some n → n ≤ length all → value < 2 ^ 32 → Next all p op n
-write_next all p back write a value n op line made h parts none used le small =
-    let c = cut_at all p.names back a n parts h.distinct (used_so (length p.names) a n used) le in
-    let within : a < length all = omega (arith, le, (use_below (length p.names) a n used).0) in
-    record {
-      more = c.more;
-      back = c.back;
-      parts = c.parts;
-      long = c.long;
-      named = subst IsNamed (sym line)
-          (All-from_recursion (λ (m : Name). name_of (name_text m) ≡ Some m) all h.lawful a no_name within);
-      fits = subst Fits (sym line) small;
-      step_is = rw (line, made)
-          (taken_so p (record { names = c.more; cores = with_op p.cores (write_op write a value) })
-          (write_step p write (name_at all a) value) (write_so p write (name_at all a) value c.more a none
-          c.next c.number (few_test all c.more c.back c.parts h.few) (lt-ltb value (2 ^ 32) small)));
+      named = named (All-from_recursion (λ (m : Name). name_of (name_text m) ≡ Some m) all h.lawful a no_name within);
+      fits = fits;
+      step_is = does c.more (record { none = none; next = c.next; number = c.number; few = few });
     }
 
 -- two counts that are some count
@@ -160,31 +133,23 @@ op_next all p back Fence n h parts none used le small =
       long = same_count (length p.names) n used;
       named = tt;
       fits = tt;
-      step_is = taken_so p (record { names = p.names; cores = with_op p.cores Fence }) (fence_step p)
-          (fence_so p none);
+      step_is = fence_so p none;
     }
 op_next all p back (Ld a) n h parts none used le small =
-    load_next all p back a n h parts none used le
+    named_next all p back a n (Ld a) h parts none used le (λ m. m) tt
+    (λ more. load_so p (name_at all a) more a)
 op_next all p back (St a v) n h parts none used le small =
-    write_next all p back writes.Store a v n (St a v) refl refl h parts none used le small
+    named_next all p back a n (St a v) h parts none used le (λ m. m) small
+    (λ more. write_so p writes.Store (name_at all a) v more a small)
 op_next all p back (Swap a v) n h parts none used le small =
-    write_next all p back writes.Swap a v n (Swap a v) refl refl h parts none used le small
+    named_next all p back a n (Swap a v) h parts none used le (λ m. m) small
+    (λ more. write_so p writes.Swap (name_at all a) v more a small)
 op_next all p back (Add a v) n h parts none used le small =
-    write_next all p back writes.Add a v n (Add a v) refl refl h parts none used le small
+    named_next all p back a n (Add a v) h parts none used le (λ m. m) small
+    (λ more. write_so p writes.Add (name_at all a) v more a small)
 op_next all p back (Cas a v m) n h parts none used le small =
-    let c = cut_at all p.names back a n parts h.distinct (used_so (length p.names) a n used) le in
-    let within : a < length all = omega (arith, le, (use_below (length p.names) a n used).0) in
-    record {
-      more = c.more;
-      back = c.back;
-      parts = c.parts;
-      long = c.long;
-      named = All-from_recursion (λ (o : Name). name_of (name_text o) ≡ Some o) all h.lawful a no_name within;
-      fits = small;
-      step_is = taken_so p (record { names = c.more; cores = with_op p.cores (Cas a v m) })
-          (compare_step p (name_at all a) v m) (compare_so p (name_at all a) v m c.more a none c.next c.number
-          (few_test all c.more c.back c.parts h.few) small.0 small.1);
-    }
+    named_next all p back a n (Cas a v m) h parts none used le (λ o. o) small
+    (λ more. compare_so p (name_at all a) v m more a small.0 small.1)
 
 -- some operations are read, in line k and on
 record OpsRead (all names : List Name) (cores : Cores) (ops : List Op) (after : Cores) (n k : ℕ)
@@ -280,7 +245,7 @@ cores_read all h (ops ∷ cores) names back front rest k n parts used le few roo
     let b = bind_some (use_ops (length names) ops) (λ m. use_cores m cores) n used in
     let grows = cores_grow b.0 cores n b.2 in
     let first = said_again k (plain p) (plain q) core_line (flat_map (op_text all) ops ++ behind) tt tt
-    (taken_so p q (core_step p) (core_so p (omega (arith, few)))) in
+    (core_so p (omega (arith, few))) in
     let inner = ops_read all h ops names back front [] behind (k + 1) b.0 parts b.1
     (omega (arith, grows, le)) (omega (arith, room, sum_by-cons (λ (os : List Op). length os) ops cores))
     small.0 in

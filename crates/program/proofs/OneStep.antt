@@ -3,7 +3,7 @@ use Rattle.std.proofs.Common.{◌≡◌, ℕ, ◌<◌, ◌==◌, ◌^◌, ◌&&�
 use Rattle.std.proofs.Common.{true, false, cond, Option, Some, None, Result, Ok, Err, refl, arith, sym, ap}
 use Rattle.std.proofs.Common.{◌∙◌, codes}
 use Rattle.std.specs.List.{AllByRecursion}
-use Rattle.std.proofs.lemmas.Bool.{ltb-true, ltb-false, eqb-false}
+use Rattle.std.proofs.lemmas.Bool.{and_parts, ltb-true, ltb-false, eqb-false}
 use Rattle.std.proofs.lemmas.List.{length-append, append-nil}
 use Rattle.std.proofs.lemmas.Grind.{flat_map-append}
 use Rattle.program.specs.declared.name.Name.{Name}
@@ -18,7 +18,7 @@ use Rattle.program.specs.Names.{name_of, name_text}
 use Rattle.program.specs.Lines.{load_line, write_line, compare_line}
 use Rattle.program.specs.Parts.{Small, Body, IsBody, op_count, addr_of, use_addr}
 use Rattle.program.specs.Steps.{names_with, name_number, with_op, write_op, op_fault, unless, core_step}
-use Rattle.program.specs.Steps.{fence_step, load_step, write_step, compare_step}
+use Rattle.program.specs.Steps.{at_name, fence_step, load_step, write_step, compare_step}
 use Rattle.program.specs.Spelling.{body_text, core_text, op_text, line_text, name_at}
 use Rattle.program.specs.NameListLaws.{one_name, all_push}
 use Rattle.program.specs.CoreLaws.{Grown, grown, count-append, use_cores-push}
@@ -109,43 +109,47 @@ keeps_fence p q line h is e =
     h.few_names h.lawful h.distinct tt in
     rw (← ok_is _ _ u.1) (keeps_op p line Fence p.names (codes "fence") g refl is)
 
+-- after the line of an operation with a name there is a body
+keeps_named : (p q : Body) (line : List ℕ) (name : Name) (op : Op) (spell : Name → List ℕ)
+    (r : Result Body LineRefusal) → IsBody p → name_of (name_text name) ≡ Some name →
+    addr_of op ≡ Some (name_number p.names name) →
+    ((names : List Name) → op_text names op ≡ spell (name_at names (name_number p.names name)) ++ 10 ∷ []) →
+    (r ≡ done q → (record { names = names_with p.names name; cores = with_op p.cores op } ≡ q) × Small op ×
+    (spell name ≡ line)) → at_name p name r ≡ done q → Keeps p line q
+keeps_named p q line name op spell r h named address texts reads e =
+    let more = names_with p.names name in
+    let u = unless_ok (op_fault p) (cond (nat_lt MAX_ADDRESSES (length more)) (Err L4) r) q e in
+    let room = op_room p u.0 in
+    let few = guard_ok (nat_lt MAX_ADDRESSES (length more)) r L4 q u.1 in
+    let is = reads few.1 in
+    let m = one_name p.names name h.lawful h.distinct named in
+    let used : use_addr (length p.names) (addr_of op) ≡ Some (length more) = rw address m.used in
+    let g = grown p.names more m.extra p.cores op h room.0 room.1 m.kept used (ltb-false _ _ few.0)
+    m.lawful m.distinct is.1 in
+    let this : op_text more op ≡ spell name ++ 10 ∷ [] =
+    texts more ∙ ap (λ (n : Name). spell n ++ 10 ∷ []) m.there in
+    rw (← is.0) (keeps_op p line op more (spell name) g this is.2)
+
+-- what is read where an operation with a name comes
+abbrev with_named : Body → Name → Op → Body
+with_named p name op = record { names = names_with p.names name; cores = with_op p.cores op }
+
 -- after the line of a load there is a body
 pub keeps_load : (p q : Body) (line : List ℕ) (name : Name) → IsBody p → name_of (name_text name)
     ≡ Some name → line_text (load_line name) ≡ line → load_step p name ≡ Ok q → Keeps p line q
 unfolding load_step
 keeps_load p q line name h named is e =
-    let more = names_with p.names name in
     let op = Ld (name_number p.names name) in
-    let after : Body = record { names = more; cores = with_op p.cores op } in
-    let u = unless_ok (op_fault p)
-    (cond (nat_lt MAX_ADDRESSES (length more)) (Err L4) (done after)) q e in
-    let room = op_room p u.0 in
-    let few = guard_ok (nat_lt MAX_ADDRESSES (length more)) (done after) L4 q u.1 in
-    let n = one_name p.names name h.lawful h.distinct named in
-    let g = grown p.names more n.extra p.cores op h room.0 room.1 n.kept n.used
-    (ltb-false _ _ few.0) n.lawful n.distinct tt in
-    let this : op_text more op ≡ line_text (load_line name) ++ 10 ∷ [] =
-    ap (λ (m : Name). line_text (load_line m) ++ 10 ∷ []) n.there in
-    rw (← ok_is after q few.1) (keeps_op p line op more (line_text (load_line name)) g this is)
+    keeps_named p q line name op (λ m. line_text (load_line m)) (done (with_named p name op)) h named refl
+    (λ names. refl) (λ ok. (ok_is (with_named p name op) q ok, tt, is)) e
 
--- the text of a write
-written_text : (write : WriteKind) (names : List Name) (a n : ℕ) → op_text names (write_op write a n)
-    ≡ line_text (write_line write (name_at names a) n) ++ 10 ∷ []
-written_text writes.Store names a n = refl
-written_text writes.Swap names a n = refl
-written_text writes.Add names a n = refl
-
--- the address of a write
-written_addr : (write : WriteKind) (a n : ℕ) → addr_of (write_op write a n) ≡ Some a
-written_addr writes.Store a n = refl
-written_addr writes.Swap a n = refl
-written_addr writes.Add a n = refl
-
--- the value of a write
-written_small : (write : WriteKind) (a n : ℕ) → n < 2 ^ 32 → Small (write_op write a n)
-written_small writes.Store a n h = h
-written_small writes.Swap a n h = h
-written_small writes.Add a n h = h
+-- the address, the text and the value of a write
+written : (write : WriteKind) (a n : ℕ) → (addr_of (write_op write a n) ≡ Some a) × ((names : List Name) →
+    op_text names (write_op write a n) ≡ line_text (write_line write (name_at names a) n) ++ 10 ∷ []) ×
+    (n < 2 ^ 32 → Small (write_op write a n))
+written writes.Store a n = (refl, λ names. refl, λ h. h)
+written writes.Swap a n = (refl, λ names. refl, λ h. h)
+written writes.Add a n = (refl, λ names. refl, λ h. h)
 
 -- after the line of a write there is a body
 pub keeps_write : (p q : Body) (line : List ℕ) (write : WriteKind) (name : Name) (n : ℕ) → IsBody p →
@@ -154,32 +158,14 @@ pub keeps_write : (p q : Body) (line : List ℕ) (write : WriteKind) (name : Nam
     write_step p write name n ≡ Ok q → Keeps p line q
 unfolding write_step
 keeps_write p q line write name n h named is e =
-    let more = names_with p.names name in
-    let a = name_number p.names name in
-    let op = write_op write a n in
-    let after : Body = record { names = more; cores = with_op p.cores op } in
-    let u = unless_ok (op_fault p)
-    (cond (nat_lt MAX_ADDRESSES (length more)) (Err L4)
-    (cond (nat_lt n (2 ^ 32)) (done after) (Err L5))) q e in
-    let room = op_room p u.0 in
-    let few = guard_ok (nat_lt MAX_ADDRESSES (length more))
-    (cond (nat_lt n (2 ^ 32)) (done after) (Err L5)) L4 q u.1 in
-    let fits = test_ok (nat_lt n (2 ^ 32)) after L5 q few.1 in
+    let op = write_op write (name_number p.names name) n in
+    let after = with_named p name op in
+    let w = written write (name_number p.names name) n in
+    keeps_named p q line name op (λ m. line_text (write_line write m n))
+    (cond (nat_lt n (2 ^ 32)) (done after) (Err L5)) h named w.0 w.1 (λ ok.
+    let fits = test_ok (nat_lt n (2 ^ 32)) after L5 q ok in
     let small : n < 2 ^ 32 = ltb-true _ _ fits.0 in
-    let m = one_name p.names name h.lawful h.distinct named in
-    let used : use_addr (length p.names) (addr_of op) ≡ Some (length more) =
-    rw (written_addr write a n) m.used in
-    let g = grown p.names more m.extra p.cores op h room.0 room.1 m.kept used (ltb-false _ _ few.0)
-    m.lawful m.distinct (written_small write a n small) in
-    let this : op_text more op ≡ line_text (write_line write name n) ++ 10 ∷ [] =
-    written_text write more a n
-    ∙ ap (λ (o : Name). line_text (write_line write o n) ++ 10 ∷ []) m.there in
-    rw (← fits.1) (keeps_op p line op more (line_text (write_line write name n)) g this (is small))
-
--- both values fit
-both_fit : (a b : Bool) → (a && b) ≡ true → (a ≡ true) × (b ≡ true)
-both_fit true b e = (refl, e)
-both_fit false b e = absurd cc
+    (fits.1, w.2 small, is small)) e
 
 -- after the line of a compare-and-swap there is a body
 pub keeps_compare : (p q : Body) (line : List ℕ) (name : Name) (v n : ℕ) → IsBody p →
@@ -188,21 +174,12 @@ pub keeps_compare : (p q : Body) (line : List ℕ) (name : Name) (v n : ℕ) →
     compare_step p name v n ≡ Ok q → Keeps p line q
 unfolding compare_step
 keeps_compare p q line name v n h named is e =
-    let more = names_with p.names name in
-    let a = name_number p.names name in
-    let op = Cas a v n in
-    let after : Body = record { names = more; cores = with_op p.cores op } in
+    let op = Cas (name_number p.names name) v n in
+    let after = with_named p name op in
     let fit = nat_lt v (2 ^ 32) && nat_lt n (2 ^ 32) in
-    let u = unless_ok (op_fault p)
-    (cond (nat_lt MAX_ADDRESSES (length more)) (Err L4) (cond fit (done after) (Err L5))) q e in
-    let room = op_room p u.0 in
-    let few = guard_ok (nat_lt MAX_ADDRESSES (length more)) (cond fit (done after) (Err L5)) L4 q u.1 in
-    let fits = test_ok fit after L5 q few.1 in
-    let both = both_fit (nat_lt v (2 ^ 32)) (nat_lt n (2 ^ 32)) fits.0 in
+    keeps_named p q line name op (λ m. line_text (compare_line m v n)) (cond fit (done after) (Err L5)) h named
+    refl (λ names. refl) (λ ok.
+    let fits = test_ok fit after L5 q ok in
+    let both = and_parts (nat_lt v (2 ^ 32)) (nat_lt n (2 ^ 32)) fits.0 in
     let small : (v < 2 ^ 32) × (n < 2 ^ 32) = (ltb-true _ _ both.0, ltb-true _ _ both.1) in
-    let m = one_name p.names name h.lawful h.distinct named in
-    let g = grown p.names more m.extra p.cores op h room.0 room.1 m.kept m.used (ltb-false _ _ few.0)
-    m.lawful m.distinct small in
-    let this : op_text more op ≡ line_text (compare_line name v n) ++ 10 ∷ [] =
-    ap (λ (o : Name). line_text (compare_line o v n) ++ 10 ∷ []) m.there in
-    rw (← fits.1) (keeps_op p line op more (line_text (compare_line name v n)) g this (is small))
+    (fits.1, small, is small)) e

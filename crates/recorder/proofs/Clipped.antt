@@ -7,7 +7,7 @@ use Rattle.std.proofs.lemmas.List.{length-map, map-append}
 use Rattle.common.specs.declared.limits.TheConstants.{MAX_EVENTS, MAX_ADDRESSES}
 use Rattle.recording.specs.declared.event.Event.{Event}
 use Rattle.recording.specs.declared.event.Event.TheVariants.{L, S, R, C, F}
-use Rattle.recording.specs.Event.{read_address, written_address, source, value_read, value_written}
+use Rattle.recording.specs.Event.{read_address, written_address, source}
 use Rattle.recording.specs.Execution.{Execution, placed_from, event_count, event_at, write_list, source_of}
 use Rattle.recorder.specs.Clipped.{clip, clip_event, clipped}
 
@@ -36,45 +36,15 @@ pub clipped_from : (o : Option ℕ) (b : ℕ) → option_map clip o ≡ Some b �
 clipped_from None b h = absurd cc
 clipped_from (Some a) b h = (a, refl, cc)
 
--- the address that a clipped event reads is clipped
-read_clipped : (v : Event) → read_address (clip_event v) ≡ option_map clip (read_address v)
-read_clipped (L a r s) = refl
-read_clipped (S a w) = refl
-read_clipped (R a r s w) = refl
-read_clipped (C a r s) = refl
-read_clipped F = refl
-
--- the address that it writes is clipped
-written_clipped : (v : Event) → written_address (clip_event v) ≡ option_map clip (written_address v)
-written_clipped (L a r s) = refl
-written_clipped (S a w) = refl
-written_clipped (R a r s w) = refl
-written_clipped (C a r s) = refl
-written_clipped F = refl
-
--- its source is clipped
-source_clipped : (v : Event) → source (clip_event v) ≡ option_map clip (source v)
-source_clipped (L a r s) = refl
-source_clipped (S a w) = refl
-source_clipped (R a r s w) = refl
-source_clipped (C a r s) = refl
-source_clipped F = refl
-
--- the value that it reads is as it was
-value_read_clipped : (v : Event) → value_read (clip_event v) ≡ value_read v
-value_read_clipped (L a r s) = refl
-value_read_clipped (S a w) = refl
-value_read_clipped (R a r s w) = refl
-value_read_clipped (C a r s) = refl
-value_read_clipped F = refl
-
--- the value that it writes is as it was
-value_written_clipped : (v : Event) → value_written (clip_event v) ≡ value_written v
-value_written_clipped (L a r s) = refl
-value_written_clipped (S a w) = refl
-value_written_clipped (R a r s w) = refl
-value_written_clipped (C a r s) = refl
-value_written_clipped F = refl
+-- the addresses and the source of a clipped event are clipped
+parts_clipped : (v : Event) → (read_address (clip_event v) ≡ option_map clip (read_address v))
+    × (written_address (clip_event v) ≡ option_map clip (written_address v))
+    × (source (clip_event v) ≡ option_map clip (source v))
+parts_clipped (L a r s) = (refl, refl, refl)
+parts_clipped (S a w) = (refl, refl, refl)
+parts_clipped (R a r s w) = (refl, refl, refl)
+parts_clipped (C a r s) = (refl, refl, refl)
+parts_clipped F = (refl, refl, refl)
 
 -- an event clipped on its core
 abbrev clip_placed : ℕ × Event → ℕ × Event
@@ -117,23 +87,13 @@ list_clipped x a = get_or-map (map clip) x.write_lists a []
 -- so is the address that event e reads
 pub reads_clipped : (x : Execution) (e : ℕ) → read_address (event_at (clipped x) e)
     ≡ option_map clip (read_address (event_at x e))
-reads_clipped x e = ap read_address (event_clipped x e) ∙ read_clipped (event_at x e)
+reads_clipped x e = ap read_address (event_clipped x e) ∙ (parts_clipped (event_at x e)).0
 
 -- the address that it writes
 pub writes_clipped : (x : Execution) (e : ℕ)
     → written_address (event_at (clipped x) e) ≡ option_map clip (written_address (event_at x e))
-writes_clipped x e = ap written_address (event_clipped x e) ∙ written_clipped (event_at x e)
+writes_clipped x e = ap written_address (event_clipped x e) ∙ (parts_clipped (event_at x e)).1
 
 -- and its source
 pub sources_clipped : (x : Execution) (e : ℕ) → source_of (clipped x) e ≡ option_map clip (source_of x e)
-sources_clipped x e = ap source (event_clipped x e) ∙ source_clipped (event_at x e)
-
--- event e reads the value that it read
-pub values_read_clipped : (x : Execution) (e : ℕ)
-    → value_read (event_at (clipped x) e) ≡ value_read (event_at x e)
-values_read_clipped x e = ap value_read (event_clipped x e) ∙ value_read_clipped (event_at x e)
-
--- and writes the value that it wrote
-pub values_written_clipped : (x : Execution) (e : ℕ)
-    → value_written (event_at (clipped x) e) ≡ value_written (event_at x e)
-values_written_clipped x e = ap value_written (event_clipped x e) ∙ value_written_clipped (event_at x e)
+sources_clipped x e = ap source (event_clipped x e) ∙ (parts_clipped (event_at x e)).2

@@ -49,3 +49,6 @@ pub writes_clipped : (key : List ℕ) (d : Data)
     → at_key (list_in (list_in clipped_number)) key d
     ≡ option_map (map (map clip)) (at_key (list_in (list_in number_in)) key d)
 writes_clipped = lists_clipped clipped_number number_in clip (λ d. refl)
+
+-- both
+pub ruleset clipped = (cores_clipped, writes_clipped)

@@ -4,16 +4,14 @@ use Rattle.std.proofs.Common.{get_or, arith, refl, sym, ap, subst, ◌∙◌}
 use Rattle.std.proofs.lemmas.List.{length-map, ext_get_or, get_or-map}
 use Rattle.recording.specs.declared.event.Event.{Event}
 use Rattle.recording.specs.declared.event.Event.TheVariants.{L, S, R, C, F}
-use Rattle.recording.specs.Event.{read_address, written_address, source}
 use Rattle.recording.specs.Execution.{Execution, placed_from, event_at, write_list}
 use Rattle.recording.specs.Recording.{IsRecording, IsWithinLimits}
-use Rattle.recording.specs.Refusals.{HasSource}
 use Rattle.recorder.specs.Clipped.{clip, clip_event, clipped}
 use Rattle.recording.specs.EventLaws.{placed_here, placed_behind}
 use Rattle.recording.specs.RefusalLaws.{source_of_recording}
-use Rattle.recorder.proofs.Clipped.{sources_clipped}
-use Rattle.recorder.proofs.ClippedLimits.{within_from, fits}
-use Rattle.recorder.proofs.ClippedRefusals.{source_from, source_fits, list_from}
+use Rattle.recorder.proofs.Clipped.{event_clipped}
+use Rattle.recorder.proofs.ClippedLimits.{within_from}
+use Rattle.recorder.proofs.ClippedRefusals.{source_from, event_same, list_from}
 
 -- a list of items that g leaves as they are is left as it is
 map_fixed : {A : Type 0} (g : A → A) (d : A) (xs : List A)
@@ -22,16 +20,6 @@ map_fixed g d xs fixed =
     ext_get_or d (map g xs) xs (length-map xs g)
     (λ i at. let within : i < length xs = omega (arith, at, length-map xs g) in get_or-map g xs i d d within
     ∙ fixed i within)
-
--- an event is not clipped where its addresses and its source are not
-event_fixed : (v : Event) → ((a : ℕ) → read_address v ≡ Some a
-    → (clip a ≡ a) × (option_map clip (source v) ≡ source v))
-    → ((a : ℕ) → written_address v ≡ Some a → clip a ≡ a) → clip_event v ≡ v
-event_fixed (L a r s) reads writes = rw ((reads a refl).0, (reads a refl).1) refl
-event_fixed (S a w) reads writes = rw (writes a refl) refl
-event_fixed (R a r s w) reads writes = rw ((reads a refl).0, (reads a refl).1) refl
-event_fixed (C a r s) reads writes = rw ((reads a refl).0, (reads a refl).1) refl
-event_fixed F reads writes = refl
 
 -- cores are not clipped where no event is
 cores_fixed : (k : ℕ) (cores : List (List Event))
@@ -52,18 +40,6 @@ cores_fixed k (es ∷ rest) fixed = rw (
         placed_behind k es rest (length es + e) (0, F) (omega arith)
         ∙ ap (λ (i : ℕ). get_or (placed_from (k + 1) rest) i (0, F)) same
 
--- no event is clipped within the limits, where each read has its source
-event_kept : (x : Execution) → IsWithinLimits x → ((e : ℕ) → HasSource x e) → (e : ℕ)
-    → clip_event (event_at x e) ≡ event_at x e
-event_kept x within sources e =
-    event_fixed (event_at x e)
-    (λ a reads. (
-      fits x within e a (inl reads),
-      sym (sources_clipped x e)
-          ∙ source_fits x within e a (sources e) reads,
-    ))
-    (λ a writes. fits x within e a (inr writes))
-
 -- write lists are not clipped where no number is
 lists_fixed : (x : Execution) → ((a : ℕ) → map clip (write_list x a) ≡ write_list x a)
     → map (map clip) x.write_lists ≡ x.write_lists
@@ -80,6 +56,6 @@ execution_fixed x events lists = rw (cores_fixed 0 x.cores events, lists_fixed x
 pub recording_from : (x : Execution) → IsRecording (clipped x) → clipped x ≡ x
 recording_from x is =
     let within : IsWithinLimits x = within_from x is.within in
-    execution_fixed x (event_kept x within (λ e. source_from x within e
-    (source_of_recording (clipped x) is e))) (λ a.
-    (list_from x within a (is.well_formed.write_lists a)).0)
+    let same = event_same x within (λ e. source_from x within e (source_of_recording (clipped x) is e)) in
+    execution_fixed x (λ e. sym (event_clipped x e) ∙ same e)
+    (λ a. (list_from x within a (is.well_formed.write_lists a)).0)

@@ -1,21 +1,22 @@
 -- What is refused of a clipped execution is refused of the execution.
 use Rattle.std.proofs.Common.{◌≡◌, ◌<◌, ◌↔◌, ◌^◌, ◌-◌, inl, inr, ℕ, Option, Some, None, option_map, List, []}
-use Rattle.std.proofs.Common.{◌∷◌, map, arith, refl, sym, ap, subst, ◌∙◌}
+use Rattle.std.proofs.Common.{◌∷◌, map, slice_index, arith, refl, sym, ap, subst, ◌∙◌}
 use Rattle.std.proofs.lemmas.Bool.{cases_eq}
 use Rattle.recording.specs.declared.fault.RecError.{RecError}
 use Rattle.recording.specs.declared.fault.RecError.TheVariants.{NotJson, Shape, Version, Limits, Source, Value}
 use Rattle.recording.specs.declared.fault.RecError.TheVariants.{WriteList, OutOfMemory}
-use Rattle.recording.specs.Event.{value_read}
+use Rattle.recording.specs.declared.event.Event.{Event}
+use Rattle.recording.specs.declared.event.Event.TheVariants.{L, S, R, C, F}
+use Rattle.recording.specs.Event.{read_address, written_address, source, value_read, value_written}
 use Rattle.recording.specs.Execution.{Execution, event_at, write_list, source_of, Reads, Writes}
 use Rattle.recording.specs.Order.{times}
 use Rattle.recording.specs.Refusals.{HasSource, HasValue, HasWriteList, IsLeastWithout, IsRefusal}
 use Rattle.recording.specs.Recording.{IsWithinLimits}
 use Rattle.recording.specs.Tso.{IsValueOf}
-use Rattle.recorder.specs.Clipped.{clip, clipped}
+use Rattle.recorder.specs.Clipped.{clip, clip_event, clipped}
 use Rattle.recording.specs.OrderLaws.{times_here, times_there}
-use Rattle.recorder.proofs.Clipped.{small, unclipped, clipped_from, list_clipped, sources_clipped}
-use Rattle.recorder.proofs.Clipped.{values_read_clipped, values_written_clipped}
-use Rattle.recorder.proofs.ClippedLimits.{within_from, within_to, reads_to, reads_from, writes_to}
+use Rattle.recorder.proofs.Clipped.{small, unclipped, clipped_from, event_clipped, list_clipped, sources_clipped}
+use Rattle.recorder.proofs.ClippedLimits.{fits, within_from, within_to, reads_to, reads_from, writes_to}
 use Rattle.recorder.proofs.ClippedLimits.{writes_from, writer_fits}
 
 -- where a clipped event has its source, the event has it
@@ -44,34 +45,37 @@ source_fits x within e a has reads = sources_clipped x e
     fixed None same = refl
     fixed (Some s) same = ap Some (same s refl)
 
--- what a source gives is as it was
-value_same : (x : Execution) (a : ℕ) (o : Option ℕ) (v w : ℕ) → v ≡ w
-    → IsValueOf (clipped x) a o v ↔ IsValueOf x a o w
-value_same x a None v w same = (λ is. sym same ∙ is, λ is. same ∙ is)
-value_same x a (Some s) v w same = (
-  λ is. sym (values_written_clipped x s)
-      ∙ (is ∙ same),
-  λ is. values_written_clipped x s ∙ (is ∙ sym same),
-)
+-- an event is not clipped where its addresses and its source are not
+event_fixed : (v : Event) → ((a : ℕ) → read_address v ≡ Some a
+    → (clip a ≡ a) × (option_map clip (source v) ≡ source v))
+    → ((a : ℕ) → written_address v ≡ Some a → clip a ≡ a) → clip_event v ≡ v
+event_fixed (L a r s) reads writes = rw ((reads a refl).0, (reads a refl).1) refl
+event_fixed (S a w) reads writes = rw (writes a refl) refl
+event_fixed (R a r s w) reads writes = rw ((reads a refl).0, (reads a refl).1) refl
+event_fixed (C a r s) reads writes = rw ((reads a refl).0, (reads a refl).1) refl
+event_fixed F reads writes = refl
 
--- where a clipped event has its value, the event has it
-pub value_from : (x : Execution) → IsWithinLimits x → (e : ℕ) → HasSource x e → HasValue (clipped x) e
-    → HasValue x e
-value_from x within e source has a reads =
-    (value_same x a (source_of x e) (value_read (event_at (clipped x) e)) (value_read (event_at x e))
-    (values_read_clipped x e)).0
-    (subst (λ (o : Option ℕ). IsValueOf (clipped x) a o (value_read (event_at (clipped x) e)))
-    (source_fits x within e a source reads) (has a (reads_to x within e a reads)))
+-- within the limits, where each read has its source, no event is clipped
+pub event_same : (x : Execution) → IsWithinLimits x → ((e : ℕ) → HasSource x e) → (e : ℕ)
+    → event_at (clipped x) e ≡ event_at x e
+event_same x within sources e =
+    event_clipped x e ∙ event_fixed (event_at x e)
+    (λ a reads. (
+      fits x within e a (inl reads),
+      sym (sources_clipped x e) ∙ source_fits x within e a (sources e) reads,
+    ))
+    (λ a writes. fits x within e a (inr writes))
 
--- and the other way round
-value_to : (x : Execution) → IsWithinLimits x → (e : ℕ) → HasSource x e → HasValue x e
-    → HasValue (clipped x) e
-value_to x within e source has a reads =
-    let before = reads_from x within e a reads in
-    subst (λ (o : Option ℕ). IsValueOf (clipped x) a o (value_read (event_at (clipped x) e)))
-    (sym (source_fits x within e a source before))
-    ((value_same x a (source_of x e) (value_read (event_at (clipped x) e)) (value_read (event_at x e))
-    (values_read_clipped x e)).1 (has a before))
+-- executions with the same events and initial values have the same values
+value_alike : (x y : Execution) → ((e : ℕ) → event_at x e ≡ event_at y e) → x.initial ≡ y.initial → (e : ℕ)
+    → HasValue x e → HasValue y e
+value_alike x y same begins e has a reads =
+    gives (source_of y e) (value_read (event_at y e))
+    (subst (λ (v : Event). IsValueOf x a (source v) (value_read v)) (same e) (has a (ap read_address (same e) ∙ reads)))
+  where
+    gives : (o : Option ℕ) (v : ℕ) → IsValueOf x a o v → IsValueOf y a o v
+    gives None v is = is ∙ ap (λ (values : List ℕ). slice_index values a) begins
+    gives (Some w) v is = sym (ap value_written (same w)) ∙ is
 
 -- what stands after the first number stands in the list
 stands_behind : (x : ℕ) (xs : List ℕ) (e : ℕ) → 0 < times xs e → 0 < times (x ∷ xs) e
@@ -97,6 +101,15 @@ list_small (x ∷ xs) below =
     let first : clip x ≡ x = small x (below x (omega (arith, times_here xs x x refl))) in
     rw (first, list_small xs (λ e stands. below e (stands_behind x xs e stands))) refl
 
+-- executions with the same list of an address and the same writes of it
+list_alike : (x y : Execution) (a : ℕ) → write_list x a ≡ write_list y a
+    → ((e : ℕ) → Writes y e a → Writes x e a) → ((e : ℕ) → Writes x e a → Writes y e a) → HasWriteList x a
+    → HasWriteList y a
+list_alike x y a same back on has = record {
+  once = λ e writes. subst (λ (ws : List ℕ). times ws e ≡ 1) same (has.once e (back e writes));
+  nothing_else = λ e stands. on e (has.nothing_else e (subst (λ (ws : List ℕ). 0 < times ws e) (sym same) stands));
+}
+
 -- a write list that a clipped execution has was not clipped, and the execution has it
 pub list_from : (x : Execution) → IsWithinLimits x → (a : ℕ) → HasWriteList (clipped x) a
     → (map clip (write_list x a) ≡ write_list x a) × HasWriteList x a
@@ -104,15 +117,10 @@ list_from x within a has =
     let same : map clip (write_list x a) ≡ write_list x a =
     list_unclipped (write_list x a) (λ e stands. writer_fits x within e a
     (writes_from x within e a (has.nothing_else e
-    (subst (λ (ws : List ℕ). 0 < times ws e) (sym (list_clipped x a)) stands)))) in
-    let all : write_list (clipped x) a ≡ write_list x a = list_clipped x a ∙ same in (
+    (subst (λ (ws : List ℕ). 0 < times ws e) (sym (list_clipped x a)) stands)))) in (
       same,
-      record {
-        once = λ e writes. subst (λ (ws : List ℕ). times ws e ≡ 1) all
-            (has.once e (writes_to x within e a writes));
-        nothing_else = λ e stands. writes_from x within e a
-            (has.nothing_else e (subst (λ (ws : List ℕ). 0 < times ws e) (sym all) stands));
-      },
+      list_alike (clipped x) x a (list_clipped x a ∙ same) (λ e. writes_to x within e a)
+          (λ e. writes_from x within e a) has,
     )
 
 -- and the other way round
@@ -120,13 +128,8 @@ list_to : (x : Execution) → IsWithinLimits x → (a : ℕ) → HasWriteList x 
 list_to x within a has =
     let same : map clip (write_list x a) ≡ write_list x a =
     list_small (write_list x a) (λ e stands. writer_fits x within e a (has.nothing_else e stands)) in
-    let all : write_list (clipped x) a ≡ write_list x a = list_clipped x a ∙ same in
-    record {
-      once = λ e writes. subst (λ (ws : List ℕ). times ws e ≡ 1) (sym all)
-          (has.once e (writes_from x within e a writes));
-      nothing_else = λ e stands. writes_to x within e a
-          (has.nothing_else e (subst (λ (ws : List ℕ). 0 < times ws e) all stands));
-    }
+    list_alike x (clipped x) a (sym (list_clipped x a ∙ same)) (λ e. writes_from x within e a)
+    (λ e. writes_to x within e a) has
 
 -- the least number without P is the least without Q, where both hold of the same numbers
 least_same : (P Q : ℕ → Type 0) (n : ℕ) → ((m : ℕ) → P m → Q m) → ((m : ℕ) → Q m → P m) → IsLeastWithout P n
@@ -147,15 +150,15 @@ refusal_from x (Value e) (clips, sources, least) =
     let has : (f : ℕ) → HasSource x f = λ f. source_from x within f (sources f) in (
       within,
       has,
-      least_same (HasValue (clipped x)) (HasValue x) e (λ f. value_from x within f (has f))
-          (λ f. value_to x within f (has f)) least,
+      least_same (HasValue (clipped x)) (HasValue x) e (value_alike (clipped x) x (event_same x within has) refl)
+          (value_alike x (clipped x) (λ f. sym (event_same x within has f)) refl) least,
     )
 refusal_from x (WriteList a) (clips, sources, values, least) =
     let within = within_from x clips in
     let has : (f : ℕ) → HasSource x f = λ f. source_from x within f (sources f) in (
       within,
       has,
-      λ f. value_from x within f (has f) (values f),
+      λ f. value_alike (clipped x) x (event_same x within has) refl f (values f),
       least_same (HasWriteList (clipped x)) (HasWriteList x) a (λ b is. (list_from x within b is).1)
           (list_to x within) least,
     )

@@ -7,11 +7,20 @@ use Rattle.serde_json.specs.Data.{Data}
 use Rattle.recording.specs.Execution.{Execution}
 use Rattle.recording.specs.Recording.{executed}
 use Rattle.recorder.specs.ParsedModel.{ParsedModel}
-use Rattle.recorder.specs.Text.{data_of, data_1, data_2, has_failed_cas}
+use Rattle.recorder.specs.Text.{data_of, data_1, data_2, has_failed_cas, list_data, event_data, number_data}
 use Rattle.recorder.specs.Text.{is_of_version_1}
-use Rattle.recorder.specs.Reading.{values_in, contents_with, shape_in}
+use Rattle.recorder.specs.Reading.{values_in, contents_with, shape_in, number_in, value_in, event_in, list_in}
 use Rattle.recorder.specs.Reading.{Decodes}
-use Rattle.recorder.specs.Values.{IsInitAgain, ArePartsAgain}
+
+-- what both versions have is read again
+pub record ArePartsAgain (x : Execution) : Type 0 where
+  pub cores : list_in (list_in event_in) (list_data (list_data event_data) x.cores) ≡ Some x.cores
+  pub lists : list_in (list_in number_in) (list_data (list_data number_data) x.write_lists)
+      ≡ Some x.write_lists
+
+-- so are the initial values
+abbrev pub IsInitAgain : Execution → Type 0
+IsInitAgain x = list_in value_in (list_data number_data x.initial) ≡ Some x.initial
 
 -- the contents of a text of version 1
 abbrev contents_1 : Execution → ParsedModel

@@ -272,12 +272,6 @@ whole_read o d e =
     let j = converted_some of_json o d [] e in
     ap (λ r. option_and_then of_json (option_and_then (λ p. if_last p.0 p.1) r)) j.1 ∙ j.2
 
--- at the key under another name
-pub adds_at : {S : Type 0} (Are : S → Members → Type 0) (key other : List ℕ) (depth : ℕ)
-    (ts rest : List Token)
-    (s t : S) → key ≡ other → Adds Are other depth ts rest s t → Adds Are key depth ts rest s t
-adds_at Are key other depth ts rest s t named h = rw named h
-
 -- a member makes the tokens fewer
 pub adds_shorter : {S : Type 0} (Are : S → Members → Type 0) (key : List ℕ) (depth : ℕ)
     (ts mid rest : List Token)

@@ -20,156 +20,88 @@ use Rattle.recorder.specs.Clipped.{clip, clip_event, clipped_shape, clipped_numb
 use Rattle.recorder.specs.Pulled.{GivesValue, Adds}
 use Rattle.recorder.specs.Fields.{count_of}
 use Rattle.recorder.specs.ReadMembers.{AreParts, clipped_contents, IsParsedFrom}
-use Rattle.recorder.proofs.AtKeys.{at_new, at_other, at_key_is, count_new}
+use Rattle.recorder.proofs.AtKeys.{adds, at_new, at_other, at_key_is, count_new}
 use Rattle.recorder.proofs.Pulled.{whole_read}
 use Rattle.recorder.proofs.Held.{none_held, some_held}
 use Rattle.recorder.proofs.ClippedLists.{cores_clipped, writes_clipped}
 
 -- ---- one member more
 
+-- lists that stand for others
+abbrev lists_of : {A : Type 0} → Option (Vec (Vec A Global) Global) → Option (List (List A))
+lists_of o = option_map (λ v. map (λ w. w.items) v.items) o
+
 -- the version
-pub version_added : (p : ReadMembers) (o : Option (ℕ)) (x : ℕ) (depth : ℕ) (ts rest : List Token)
+pub version_added : (p : ReadMembers) (o : Option ℕ) {x depth : ℕ} {ts rest : List Token}
     → GivesValue natural depth ts x rest → p.version ≡ None → o ≡ Some x
     → Adds AreParts (codes "version") depth ts rest p (record p { version = o })
-version_added p o x depth ts rest g none is = record {
-  datum = g.datum;
-  read = g.read;
-  adds = λ ms h. record {
-    version = at_new natural (codes "version") ms g.datum x
-        o g.gives is;
-    cores = (
-      h.cores.0,
-      at_other (list_in (list_in clipped_event)) (codes "cores") (codes "version") ms g.datum h.cores.0 refl
-          h.cores.1,
-      h.cores.2,
-    );
-    writes = (
-      h.writes.0,
-      at_other (list_in (list_in clipped_number)) (codes "writes") (codes "version") ms g.datum h.writes.0
-          refl h.writes.1,
-      h.writes.2,
-    );
-    init = at_other (list_in value_in) (codes "init") (codes "version") ms g.datum
-        (option_map (λ v. v.items) p.init) refl h.init;
-    count = omega (
-      arith,
-      count_new natural (codes "version") g.datum ms p.version h.version
-          none,
-      h.count,
-      ap count_of none,
-      ap count_of is,
-    );
-  };
-}
+version_added p o {x} {depth} {ts} {rest} g none is =
+    adds AreParts natural (codes "version") depth ts rest x p (record p { version = o }) g (λ ms d gives h. record {
+      version = at_new ms d x gives is;
+      cores = (h.cores.0, at_other (codes "version") d refl h.cores.1, h.cores.2);
+      writes = (h.writes.0, at_other (codes "version") d refl h.writes.1, h.writes.2);
+      init = at_other (codes "version") d refl h.init;
+      count = omega (arith, count_new d h.version none, h.count, ap count_of none, ap count_of is);
+    })
 
 -- the events of each core
-pub cores_added : (p : ReadMembers) (o : Option (Vec (Vec Event Global) Global))
-    (x : Vec (Vec Event Global) Global) (xs : List (List Event)) (depth : ℕ) (ts rest : List Token)
+pub cores_added : (p : ReadMembers) (o : Option (Vec (Vec Event Global) Global)) {x : Vec (Vec Event Global) Global}
+    {xs : List (List Event)} {depth : ℕ} {ts rest : List Token}
     → GivesValue (list_in (list_in clipped_event)) depth ts xs rest
     → HoldsCores (map (λ w. w.items) x.items) xs → p.cores ≡ None → o ≡ Some x
     → Adds AreParts (codes "cores") depth ts rest p (record p { cores = o })
-cores_added p o x xs depth ts rest g holds none is = record {
-  datum = g.datum;
-  read = g.read;
-  adds = λ ms h. record {
-    version = at_other natural (codes "version") (codes "cores") ms g.datum
-        p.version refl h.version;
-    cores = (
-      Some xs,
-      at_new (list_in (list_in clipped_event)) (codes "cores") ms g.datum xs (Some xs) g.gives refl,
-      rw is holds,
-    );
-    writes = (
-      h.writes.0,
-      at_other (list_in (list_in clipped_number)) (codes "writes") (codes "cores") ms g.datum h.writes.0 refl
-          h.writes.1,
-      h.writes.2,
-    );
-    init = at_other (list_in value_in) (codes "init") (codes "cores") ms g.datum
-        (option_map (λ v. v.items) p.init) refl h.init;
-    count = omega (
-      arith,
-      count_new (list_in (list_in clipped_event)) (codes "cores") g.datum ms h.cores.0 h.cores.1
-          (none_held HoldsCores (option_map (λ v. map (λ w. w.items) v.items) p.cores) h.cores.0 h.cores.2
-          (ap (option_map (λ (v : Vec (Vec Event Global) Global). map (λ w. w.items) v.items)) none)),
-      h.count,
-      ap count_of none,
-      ap count_of is,
-    );
-  };
-}
+cores_added p o {x} {xs} {depth} {ts} {rest} g holds none is =
+    adds AreParts (list_in (list_in clipped_event)) (codes "cores") depth ts rest xs p (record p { cores = o }) g
+    (λ ms d gives h. record {
+      version = at_other (codes "cores") d refl h.version;
+      cores = (Some xs, at_new ms d xs gives refl, rw is holds);
+      writes = (h.writes.0, at_other (codes "cores") d refl h.writes.1, h.writes.2);
+      init = at_other (codes "cores") d refl h.init;
+      count = omega (
+        arith,
+        count_new d h.cores.1 (none_held HoldsCores (lists_of p.cores) h.cores.0 h.cores.2 (ap lists_of none)),
+        h.count,
+        ap count_of none,
+        ap count_of is,
+      );
+    })
 
 -- the write lists
-pub writes_added : (p : ReadMembers) (o : Option (Vec (Vec ℕ Global) Global)) (x : Vec (Vec ℕ Global) Global)
-    (xs : List (List ℕ)) (depth : ℕ) (ts rest : List Token)
+pub writes_added : (p : ReadMembers) (o : Option (Vec (Vec ℕ Global) Global)) {x : Vec (Vec ℕ Global) Global}
+    {xs : List (List ℕ)} {depth : ℕ} {ts rest : List Token}
     → GivesValue (list_in (list_in clipped_number)) depth ts xs rest
     → HoldsLists (map (λ w. w.items) x.items) xs → p.writes ≡ None → o ≡ Some x
     → Adds AreParts (codes "writes") depth ts rest p (record p { writes = o })
-writes_added p o x xs depth ts rest g holds none is = record {
-  datum = g.datum;
-  read = g.read;
-  adds = λ ms h. record {
-    version = at_other natural (codes "version") (codes "writes") ms g.datum
-        p.version refl h.version;
-    cores = (
-      h.cores.0,
-      at_other (list_in (list_in clipped_event)) (codes "cores") (codes "writes") ms g.datum h.cores.0 refl
-          h.cores.1,
-      h.cores.2,
-    );
-    writes = (
-      Some xs,
-      at_new (list_in (list_in clipped_number)) (codes "writes") ms g.datum xs (Some xs) g.gives refl,
-      rw is holds,
-    );
-    init = at_other (list_in value_in) (codes "init") (codes "writes") ms g.datum
-        (option_map (λ v. v.items) p.init) refl h.init;
-    count = omega (
-      arith,
-      count_new (list_in (list_in clipped_number)) (codes "writes") g.datum ms h.writes.0 h.writes.1
-          (none_held HoldsLists (option_map (λ v. map (λ w. w.items) v.items) p.writes) h.writes.0 h.writes.2
-          (ap (option_map (λ (v : Vec (Vec ℕ Global) Global). map (λ w. w.items) v.items)) none)),
-      h.count,
-      ap count_of none,
-      ap count_of is,
-    );
-  };
-}
+writes_added p o {x} {xs} {depth} {ts} {rest} g holds none is =
+    adds AreParts (list_in (list_in clipped_number)) (codes "writes") depth ts rest xs p (record p { writes = o }) g
+    (λ ms d gives h. record {
+      version = at_other (codes "writes") d refl h.version;
+      cores = (h.cores.0, at_other (codes "writes") d refl h.cores.1, h.cores.2);
+      writes = (Some xs, at_new ms d xs gives refl, rw is holds);
+      init = at_other (codes "writes") d refl h.init;
+      count = omega (
+        arith,
+        count_new d h.writes.1 (none_held HoldsLists (lists_of p.writes) h.writes.0 h.writes.2 (ap lists_of none)),
+        h.count,
+        ap count_of none,
+        ap count_of is,
+      );
+    })
 
 -- the initial values
-pub init_added : (p : ReadMembers) (o : Option (Vec ℕ Global)) (x : Vec ℕ Global) (depth : ℕ) (ts rest : List Token)
+pub init_added : (p : ReadMembers) (o : Option (Vec ℕ Global)) {x : Vec ℕ Global} {depth : ℕ} {ts rest : List Token}
     → GivesValue (list_in value_in) depth ts x.items rest → p.init ≡ None → o ≡ Some x
     → Adds AreParts (codes "init") depth ts rest p (record p { init = o })
-init_added p o x depth ts rest g none is = record {
-  datum = g.datum;
-  read = g.read;
-  adds = λ ms h. record {
-    version = at_other natural (codes "version") (codes "init") ms g.datum
-        p.version refl h.version;
-    cores = (
-      h.cores.0,
-      at_other (list_in (list_in clipped_event)) (codes "cores") (codes "init") ms g.datum h.cores.0 refl
-          h.cores.1,
-      h.cores.2,
-    );
-    writes = (
-      h.writes.0,
-      at_other (list_in (list_in clipped_number)) (codes "writes") (codes "init") ms g.datum h.writes.0 refl
-          h.writes.1,
-      h.writes.2,
-    );
-    init = at_new (list_in value_in) (codes "init") ms g.datum x.items
-        (option_map (λ v. v.items) o) g.gives (ap (option_map (λ (v : Vec ℕ Global). v.items)) is);
-    count = omega (
-      arith,
-      count_new (list_in value_in) (codes "init") g.datum ms (option_map (λ v. v.items) p.init) h.init
-          (ap (option_map (λ (v : Vec ℕ Global). v.items)) none),
-      h.count,
-      ap count_of none,
-      ap count_of is,
-    );
-  };
-}
+init_added p o {x} {depth} {ts} {rest} g none is =
+    let items : Option (Vec ℕ Global) → Option (List ℕ) = λ i. option_map (λ v. v.items) i in
+    adds AreParts (list_in value_in) (codes "init") depth ts rest x.items p (record p { init = o }) g
+    (λ ms d gives h. record {
+      version = at_other (codes "init") d refl h.version;
+      cores = (h.cores.0, at_other (codes "init") d refl h.cores.1, h.cores.2);
+      writes = (h.writes.0, at_other (codes "init") d refl h.writes.1, h.writes.2);
+      init = at_new ms d x.items gives (ap items is);
+      count = omega (arith, count_new d h.init (ap items none), h.count, ap count_of none, ap count_of is);
+    })
 
 -- ---- the contents
 
@@ -228,18 +160,14 @@ cores_held : (p : ReadMembers) (ms : Members) (cs : Vec (Vec Event Global) Globa
     → p.cores ≡ Some cs
     → (xs : List (List Event)) × (h.cores.0 ≡ Some xs) × HoldsCores (map (λ w. w.items) cs.items) xs
 cores_held p ms cs h hc =
-    some_held HoldsCores (option_map (λ v. map (λ w. w.items) v.items) p.cores) h.cores.0
-    (map (λ w. w.items) cs.items) h.cores.2
-    (ap (option_map (λ (v : Vec (Vec Event Global) Global). map (λ w. w.items) v.items)) hc)
+    some_held HoldsCores (lists_of p.cores) h.cores.0 (map (λ w. w.items) cs.items) h.cores.2 (ap lists_of hc)
 
 -- and of the write lists
 lists_held : (p : ReadMembers) (ms : Members) (ws : Vec (Vec ℕ Global) Global) (h : AreParts p ms)
     → p.writes ≡ Some ws
     → (xs : List (List ℕ)) × (h.writes.0 ≡ Some xs) × HoldsLists (map (λ w. w.items) ws.items) xs
 lists_held p ms ws h hw =
-    some_held HoldsLists (option_map (λ v. map (λ w. w.items) v.items) p.writes) h.writes.0
-    (map (λ w. w.items) ws.items) h.writes.2
-    (ap (option_map (λ (v : Vec (Vec ℕ Global) Global). map (λ w. w.items) v.items)) hw)
+    some_held HoldsLists (lists_of p.writes) h.writes.0 (map (λ w. w.items) ws.items) h.writes.2 (ap lists_of hw)
 
 -- what was found stands for the contents
 pub found_gives : (p : ReadMembers) (init : Option (Vec ℕ Global)) (ms : Members) (v : ℕ)

@@ -2,9 +2,9 @@
 use Rattle.std.proofs.Common.{◌≡◌, Option, Some, None, IfSome, IsSome, refl, Result, Ok, Err, IfOk, subst}
 
 -- where something was found, more is known of it
-pub if_some : {A : Type 0} {P Q : A → Type 0} (o : Option A) → ((x : A) → P x → Q x) → IfSome o P → IfSome o Q
-if_some None more h = tt
-if_some (Some x) more h = more x h
+pub if_some : {A : Type 0} {P Q : A → Type 0} (o : Option A) → IfSome o P → ((x : A) → P x → Q x) → IfSome o Q
+if_some None h more = tt
+if_some (Some x) h more = more x h
 
 -- what is known of what was found
 pub found_is : {A : Type 0} (P : A → Type 0) (o : Option A) (x : A) → o ≡ Some x → IfSome o P → P x

@@ -1,53 +1,59 @@
 -- What a text in the layout of `write_recording` has is what is read of it.
 use Rattle.std.proofs.Common.{◌≡◌, ◌<◌, ◌≤◌, ◌^◌, ◌+◌, ℕ, List, [], ◌∷◌, ◌++◌, Option, Some, None, option_map, map}
-use Rattle.std.proofs.Common.{option_and_then}
+use Rattle.std.proofs.Common.{option_and_then, Bool, true, false, length, codes, if◌then◌else◌}
 use Rattle.std.proofs.Common.{inl, inr, ◌⊎◌, IsUtf8, refl, sym, ap, ◌∙◌, arith, append-nil}
 use Rattle.std.proofs.lemmas.Bool.{lt-ltb}
 use Rattle.std.specs.List.{AllByRecursion}
 use Rattle.json.specs.Token.{Token}
 use Rattle.json.specs.Lex.{tokens}
+use Rattle.json.specs.Print.{print}
 use Rattle.json.specs.Json as json
 use Rattle.json.specs.Tree as tree
 use Rattle.json.specs.Tree.{json_tokens, HasNumbers, ItemsHaveNumbers}
 use Rattle.json.proofs.Printed.Decimals.{IsNumber-decimal}
 use Rattle.json.proofs.Printed.Tokens.{tokens-print}
 use Rattle.json.proofs.Printed.Trees.{value-json_tokens, ArePrintable-json_tokens}
-use Rattle.serde_json.specs.Data.{Data, Items}
+use Rattle.serde_json.specs.Data.{Data, Items, object}
 use Rattle.serde_json.specs.Read.{of_json, of_items, read, max_depth}
 use Rattle.serde_json.specs.View.{items_of}
-use Rattle.serde_json.specs.Written.{outline, items_outline, compact_text}
+use Rattle.serde_json.specs.Written.{outline, items_outline, compact_text, has_float, items_have_float}
 use Rattle.serde_json.proofs.Numbers.{number_of-decimal}
 use Rattle.serde_json.proofs.Texts.{print-outline}
 use Rattle.recording.specs.declared.event.Event.{Event}
 use Rattle.recording.specs.declared.event.Event.TheVariants.{L, S, R, C, F}
+use Rattle.recording.specs.Execution.{Execution}
 use Rattle.recording.specs.Recording.{executed}
 use Rattle.recorder.specs.declared.reading.Parsed.{Parsed}
 use Rattle.recorder.specs.ParsedModel.{ParsedModel}
 use Rattle.recorder.specs.Parsed.{model_of}
 use Rattle.recorder.specs.ReadMembers.{IsParsedFrom, clipped_contents}
 use Rattle.recorder.specs.Clipped.{clip, clip_event, clipped_shape}
-use Rattle.recorder.specs.Reading.{number_in, value_in, event_in, list_in}
-use Rattle.recorder.specs.Text.{number_data, list_data, source_data, event_data}
+use Rattle.recorder.specs.Reading.{number_in, value_in, event_in, list_in, Decodes}
+use Rattle.recorder.specs.Text.{number_data, list_data, source_data, event_data, data_of, data_1, data_2}
+use Rattle.recorder.specs.Text.{is_of_version_1}
+use Rattle.recorder.specs.Values.{read_members, AreFitting, values_of}
 use Rattle.recorder.specs.Written.{IsShort, IsWord, IsShortSource, IsFitting, AreFittingValues, version_of}
 use Rattle.recorder.specs.Written.{written_data, BeginsRecording}
-use Rattle.recorder.proofs.Again.{AllAgain, each_again, number_again, value_again, load_again, store_again}
+use Rattle.recorder.proofs.Again.{number_again, value_again, load_again, store_again}
 use Rattle.recorder.proofs.Again.{rmw_again, failed_cas_again, fence_again}
-use Rattle.recorder.proofs.Newline.{read_newline}
-use Rattle.recorder.proofs.Decoded.{shape_1, shape_2}
+use Rattle.recorder.proofs.Newline.{tokens_newline}
+use Rattle.recorder.proofs.Decoded.{ArePartsAgain, shape_1, shape_2, tells_1, tells_2}
 
 -- ---- the value is read of its text
 
--- the value as JSON is read as the value, its numbers are numbers, and it nests at most so deep
+-- the value as JSON is read as the value, its numbers are numbers and no floats, and it nests at most so deep
 pub record Rereads (k : ℕ) (d : Data) : Type 0 where
   pub same : of_json (outline d) ≡ Some d
   pub numbers : HasNumbers (outline d)
   pub shallow : tree.depth (outline d) ≤ k
+  pub no_float : has_float d ≡ false
 
 -- the same of items
 record ItemsReread (k : ℕ) (ds : Items) : Type 0 where
   pub same : of_items (items_outline ds) ≡ Some ds
   pub numbers : ItemsHaveNumbers (items_outline ds)
   pub shallow : tree.items_depth (items_outline ds) ≤ k
+  pub no_float : items_have_float ds ≡ false
 
 -- a number
 number_rereads : (n : ℕ) → n < 2 ^ 64 → Rereads 0 (number_data n)
@@ -55,17 +61,18 @@ number_rereads n h = record {
   same = rw (number_of-decimal n h) refl;
   numbers = IsNumber-decimal n h;
   shallow = omega arith;
+  no_float = refl;
 }
 
 -- a source
 source_rereads : (s : Option ℕ) → IsShortSource s → Rereads 0 (source_data s)
-source_rereads None h = record { same = refl; numbers = tt; shallow = omega arith }
+source_rereads None h = record { same = refl; numbers = tt; shallow = omega arith; no_float = refl }
 source_rereads (Some s) h = number_rereads s (omega (arith, h))
 
 -- items
 items_reread : {A : Type 0} (f : A → Data) (Fits : A → Type 0) (k : ℕ) → ((x : A) → Fits x → Rereads k (f x))
     → (xs : List A) → AllByRecursion Fits xs → ItemsReread k (items_of (map f xs))
-items_reread f Fits k each [] all = record { same = refl; numbers = tt; shallow = omega arith }
+items_reread f Fits k each [] all = record { same = refl; numbers = tt; shallow = omega arith; no_float = refl }
 items_reread f Fits k each (x ∷ xs) all =
     let one = each x all.0 in
     let rest = items_reread f Fits k each xs all.1 in
@@ -73,6 +80,7 @@ items_reread f Fits k each (x ∷ xs) all =
       same = rw (one.same, rest.same) refl;
       numbers = (one.numbers, rest.numbers);
       shallow = omega (arith, one.shallow, rest.shallow);
+      no_float = rw one.no_float rest.no_float;
     }
 
 -- a list
@@ -84,19 +92,26 @@ list_rereads f Fits k each xs all =
       same = rw items.same refl;
       numbers = items.numbers;
       shallow = omega (arith, items.shallow);
+      no_float = items.no_float;
     }
 
--- an event
-event_rereads : (e : Event) → IsFitting e → Rereads 1 (event_data e)
-event_rereads (L a r s) h =
-    let x = number_rereads a (omega (arith, h.0)) in
-    let y = number_rereads r (omega (arith, h.1)) in
-    let z = source_rereads s h.2 in
+-- an event that reads, of this kind
+read_rereads : (kind : List ℕ) (a r : ℕ) (s : Option ℕ) → IsShort a → IsWord r → IsShortSource s
+    → Rereads 1 (object (read_members kind a r s))
+read_rereads kind a r s short word source =
+    let x = number_rereads a (omega (arith, short)) in
+    let y = number_rereads r (omega (arith, word)) in
+    let z = source_rereads s source in
     record {
       same = rw (x.same, y.same, z.same) refl;
       numbers = (x.numbers, (tt, (y.numbers, (z.numbers, tt))));
       shallow = omega (arith, z.shallow);
+      no_float = rw z.no_float refl;
     }
+
+-- an event
+event_rereads : (e : Event) → IsFitting e → Rereads 1 (event_data e)
+event_rereads (L a r s) h = read_rereads (codes "L") a r s h.0 h.1 h.2
 event_rereads (S a w) h =
     let x = number_rereads a (omega (arith, h.0)) in
     let y = number_rereads w (omega (arith, h.1)) in
@@ -104,6 +119,7 @@ event_rereads (S a w) h =
       same = rw (x.same, y.same) refl;
       numbers = (x.numbers, (tt, (y.numbers, tt)));
       shallow = omega arith;
+      no_float = refl;
     }
 event_rereads (R a r s w) h =
     let x = number_rereads a (omega (arith, h.0)) in
@@ -114,17 +130,10 @@ event_rereads (R a r s w) h =
       same = rw (x.same, y.same, z.same, u.same) refl;
       numbers = (x.numbers, (tt, (y.numbers, (z.numbers, (u.numbers, tt)))));
       shallow = omega (arith, z.shallow);
+      no_float = rw z.no_float refl;
     }
-event_rereads (C a r s) h =
-    let x = number_rereads a (omega (arith, h.0)) in
-    let y = number_rereads r (omega (arith, h.1)) in
-    let z = source_rereads s h.2 in
-    record {
-      same = rw (x.same, y.same, z.same) refl;
-      numbers = (x.numbers, (tt, (y.numbers, (z.numbers, tt))));
-      shallow = omega (arith, z.shallow);
-    }
-event_rereads F h = record { same = refl; numbers = (tt, tt); shallow = omega arith }
+event_rereads (C a r s) h = read_rereads (codes "C") a r s h.0 h.1 h.2
+event_rereads F h = record { same = refl; numbers = (tt, tt); shallow = omega arith; no_float = refl }
 
 -- the events of each core
 cores_reread : (cores : List (List Event)) → AllByRecursion (AllByRecursion IsFitting) cores
@@ -155,6 +164,7 @@ contents_reread None cores lists words fitting short =
       same = rw (x.same, y.same, z.same) refl;
       numbers = (x.numbers, (y.numbers, (z.numbers, tt)));
       shallow = omega (arith, x.shallow, z.shallow);
+      no_float = rw (x.no_float, z.no_float) refl;
     }
 contents_reread (Some values) cores lists words fitting short =
     let x = cores_reread cores fitting in
@@ -165,28 +175,28 @@ contents_reread (Some values) cores lists words fitting short =
       same = rw (x.same, u.same, y.same, z.same) refl;
       numbers = (x.numbers, (u.numbers, (y.numbers, (z.numbers, tt))));
       shallow = omega (arith, x.shallow, u.shallow, z.shallow);
+      no_float = rw (x.no_float, u.no_float, z.no_float) refl;
     }
 
 -- the value of a whole text
 abbrev whole : Option (json.Json × List Token) → Option Data
 whole o = option_and_then of_json (option_and_then (λ p. json.if_last p.0 p.1) o)
 
--- what is read of the text
-read_text : (d : Data) → Rereads 4 d → read (compact_text d) ≡ Some d
-read_text d h =
-    let ts = json_tokens (outline d) in
-    let same : tokens (compact_text d) ≡ ts =
-    ap tokens (sym (print-outline d)) ∙ tokens-print ts (ArePrintable-json_tokens (outline d) h.numbers) in
-    ap whole (ap (json.value max_depth) (same ∙ sym (append-nil ts))
-    ∙ value-json_tokens (outline d) max_depth [] (omega (arith, h.shallow))) ∙ h.same
-
--- and of the text with what may follow it
-read_bytes : (bytes rest : List ℕ) (d : Data) → Rereads 4 d → bytes ≡ compact_text d ++ rest
+-- what is read of the text, and of the text with the newline that may follow it
+pub read_bytes : (bytes rest : List ℕ) (d : Data) → Rereads 4 d → bytes ≡ compact_text d ++ rest
     → (rest ≡ []) ⊎ (rest ≡ 10 ∷ []) → read bytes ≡ Some d
-read_bytes bytes rest d h is (inl over) =
-    ap read (is ∙ ap (λ (t : List ℕ). compact_text d ++ t) over ∙ append-nil (compact_text d)) ∙ read_text d h
-read_bytes bytes rest d h is (inr newline) =
-    ap read (is ∙ ap (λ (t : List ℕ). compact_text d ++ t) newline) ∙ read_newline (compact_text d) ∙ read_text d h
+read_bytes bytes rest d h is ends =
+    let ts = json_tokens (outline d) in
+    let fine = ArePrintable-json_tokens (outline d) h.numbers in
+    let text : (r : List ℕ) → compact_text d ++ r ≡ print ts ++ r =
+    λ r. ap (λ (t : List ℕ). t ++ r) (sym (print-outline d)) in
+    let same : tokens bytes ≡ tokens (print ts) = elim ends [
+      | inl over ↦ ap tokens (is ∙ text rest ∙ ap (λ (r : List ℕ). print ts ++ r) over ∙ append-nil (print ts))
+      | inr newline ↦ ap tokens (is ∙ text rest ∙ ap (λ (r : List ℕ). print ts ++ r) newline)
+          ∙ tokens_newline ts fine
+    ] in
+    ap whole (ap (json.value max_depth) (same ∙ tokens-print ts fine ∙ sym (append-nil ts))
+    ∙ value-json_tokens (outline d) max_depth [] (omega (arith, h.shallow))) ∙ h.same
 
 -- ---- the value has the contents, and none of them is clipped
 
@@ -221,17 +231,12 @@ event_again (R a r s w) h = rmw_again a r s w h.1 h.3
 event_again (C a r s) h = failed_cas_again a r s h.1
 event_again F h = fence_again
 
--- so does each item of a list
-all_again : {A : Type 0} (f : Data → Option A) (g : A → Data) (Fits : A → Type 0)
-    → ((x : A) → Fits x → f (g x) ≡ Some x) → (xs : List A) → AllByRecursion Fits xs → AllAgain f g xs
-all_again f g Fits each [] all = tt
-all_again f g Fits each (x ∷ xs) all = (each x all.0, all_again f g Fits each xs all.1)
-
--- and the list
+-- and so do all items of a list
 fitting_again : {A : Type 0} (f : Data → Option A) (g : A → Data) (Fits : A → Type 0)
     → ((x : A) → Fits x → f (g x) ≡ Some x) → (xs : List A) → AllByRecursion Fits xs
     → list_in f (list_data g xs) ≡ Some xs
-fitting_again f g Fits each xs all = each_again f g xs (all_again f g Fits each xs all)
+fitting_again f g Fits each [] all = refl
+fitting_again f g Fits each (x ∷ xs) all = rw (each x all.0, fitting_again f g Fits each xs all.1) refl
 
 -- the events of each core
 cores_again : (cores : List (List Event)) → AllByRecursion (AllByRecursion IsFitting) cores
@@ -245,6 +250,15 @@ lists_again : (lists : List (List ℕ)) → AllByRecursion (AllByRecursion IsSho
 lists_again = fitting_again (list_in number_in) (list_data number_data) (AllByRecursion IsShort)
     (fitting_again number_in number_data IsShort (λ n h. number_again n))
 
+-- so do the cores and the write lists
+parts_again : (values : Option (List ℕ)) (x : Execution) → AreFitting values x → ArePartsAgain x
+parts_again values x h = record { cores = cores_again x.cores h.cores; lists = lists_again x.write_lists h.lists }
+
+-- and the initial values
+init_again : (values : List ℕ) → AllByRecursion IsWord values
+    → list_in value_in (list_data number_data values) ≡ Some values
+init_again = fitting_again value_in number_data IsWord value_again
+
 -- the contents
 contents_again : (values : Option (List ℕ)) (cores : List (List Event)) (lists : List (List ℕ))
     → AreFittingValues values → AllByRecursion (AllByRecursion IsFitting) cores
@@ -253,7 +267,7 @@ contents_again : (values : Option (List ℕ)) (cores : List (List Event)) (lists
     ≡ Some (record { version = version_of values; cores = cores; write_lists = lists; values = values })
 contents_again None cores lists words fitting short =
     ap (option_map clipped_shape) (shape_1 (executed cores lists [])
-    (record { cores = cores_again cores fitting; lists = lists_again lists short }))
+    (parts_again None _ (record { cores = fitting; lists = short; words = tt })))
     ∙ rw (
       map_same (map clip_event) (AllByRecursion IsFitting) (map_same clip_event IsFitting clip_event_same) cores
           fitting,
@@ -261,8 +275,7 @@ contents_again None cores lists words fitting short =
     ) refl
 contents_again (Some values) cores lists words fitting short =
     ap (option_map clipped_shape) (shape_2 (executed cores lists values)
-    (record { cores = cores_again cores fitting; lists = lists_again lists short })
-    (fitting_again value_in number_data IsWord value_again values words))
+    (parts_again None _ (record { cores = fitting; lists = short; words = tt })) (init_again values words))
     ∙ rw (
       map_same (map clip_event) (AllByRecursion IsFitting) (map_same clip_event IsFitting clip_event_same) cores
           fitting,
@@ -289,3 +302,30 @@ written_read bytes rest q utf8 h ends =
       contents_again c.values c.cores c.write_lists h.values h.cores h.lists ∙ versioned c h.versioned,
       record { version = refl; values = refl; cores = inl refl; lists = inl refl },
     )
+
+-- the value of an execution whose numbers fit is read of its text
+pub execution_rereads : (x : Execution) → AreFitting (values_of x) x → Rereads 4 (data_of x)
+execution_rereads x h = by (is_of_version_1 x) h
+  where
+    by : (b : Bool) → AreFitting (if b then None else Some x.initial) x
+        → Rereads 4 (if b then data_1 x else data_2 x)
+    by true h = contents_reread None x.cores x.write_lists tt h.cores h.lists
+    by false h = contents_reread (Some x.initial) x.cores x.write_lists h.words h.cores h.lists
+
+-- its text and a newline
+pub execution_written : (x : Execution) (bytes text : List ℕ) (d : Data) → AreFitting (values_of x) x
+    → d ≡ data_of x → (has_float d ≡ false → text ≡ compact_text d) → bytes ≡ text ++ 10 ∷ []
+    → bytes ≡ compact_text (data_of x) ++ 10 ∷ []
+execution_written x bytes text d fits is written whole =
+    let none : has_float d ≡ false = rw is (execution_rereads x fits).no_float in
+    whole ∙ ap (λ (t : List ℕ). t ++ 10 ∷ []) (written none ∙ ap compact_text is)
+
+-- and tells it
+pub execution_told : (x : Execution) → AreFitting (values_of x) x → length x.initial ≡ length x.write_lists
+    → Decodes (data_of x) x
+execution_told x h size = by (is_of_version_1 x) refl h
+  where
+    by : (b : Bool) → is_of_version_1 x ≡ b → AreFitting (if b then None else Some x.initial) x
+        → Decodes (data_of x) x
+    by true is h = tells_1 x (parts_again None x h) size is
+    by false is h = tells_2 x (parts_again (Some x.initial) x h) (init_again x.initial h.words) is

@@ -76,7 +76,7 @@ pub passed_start : {A : Type 0} (f : A → Data) (Fits : A → Type 0) (text : L
 passed_start f Fits text xs none = rw none (record { passes = refl; fit = tt })
 
 -- an item more
-push_fits : {A : Type 0} (Fits : A → Type 0) (xs : List A) (x : A) → AllByRecursion Fits xs → Fits x
+pub push_fits : {A : Type 0} (Fits : A → Type 0) (xs : List A) (x : A) → AllByRecursion Fits xs → Fits x
     → AllByRecursion Fits (xs ++ x ∷ [])
 push_fits Fits [] x all one = (one, tt)
 push_fits Fits (y ∷ ys) x all one = (all.0, push_fits Fits ys x all.1 one)
@@ -122,185 +122,19 @@ pub passed_none : {A : Type 0} (f : A → Data) (Fits : A → Type 0) (old text 
 passed_none f Fits old text rest xs opens closes none =
     rw none (record { begins = opens ∙ ap (λ (t : List ℕ). 91 ∷ t) closes; fits = tt })
 
--- ---- events
-
--- two texts of any length with others after them
-two_then : (p q m n t : List ℕ) → p ++ (m ++ (q ++ (n ++ t))) ≡ (p ++ (m ++ (q ++ n))) ++ t
-two_then p q m n t = simp append_assoc
-
--- three
-three_then : (p q r m n k t : List ℕ)
-    → p ++ (m ++ (q ++ (n ++ (r ++ (k ++ t))))) ≡ (p ++ (m ++ (q ++ (n ++ (r ++ k))))) ++ t
-three_then p q r m n k t = simp append_assoc
-
--- four
-four_then : (p q r s m n k l t : List ℕ)
-    → p ++ (m ++ (q ++ (n ++ (r ++ (k ++ (s ++ (l ++ t)))))))
-    ≡ (p ++ (m ++ (q ++ (n ++ (r ++ (k ++ (s ++ l))))))) ++ t
-four_then p q r s m n k l t = simp append_assoc
-
--- a load
-pub load_text : (a r : ℕ) (s : Option ℕ) (t : List ℕ)
-    → codes "{\"a\":" ++ (decimal a ++ (codes ",\"k\":\"L\"" ++ (codes ",\"r\":" ++ (decimal r
-    ++ (codes ",\"s\":" ++ (compact_text (source_data s) ++ 125 ∷ t))))))
-    ≡ compact_text (event_data (L a r s)) ++ t
-unfolding escape_byte
-load_text a r s t =
-    ap (λ (u : List ℕ). codes "{\"a\":" ++ u)
-    (three_then (decimal a) (decimal r) (compact_text (source_data s)) (codes ",\"k\":\"L\",\"r\":")
-    (codes ",\"s\":") (125 ∷ []) t)
-
--- a compare-and-swap that failed
-pub failed_cas_text : (a r : ℕ) (s : Option ℕ) (t : List ℕ)
-    → codes "{\"a\":" ++ (decimal a ++ (codes ",\"k\":\"C\"" ++ (codes ",\"r\":" ++ (decimal r
-    ++ (codes ",\"s\":" ++ (compact_text (source_data s) ++ 125 ∷ t))))))
-    ≡ compact_text (event_data (C a r s)) ++ t
-unfolding escape_byte
-failed_cas_text a r s t =
-    ap (λ (u : List ℕ). codes "{\"a\":" ++ u)
-    (three_then (decimal a) (decimal r) (compact_text (source_data s)) (codes ",\"k\":\"C\",\"r\":")
-    (codes ",\"s\":") (125 ∷ []) t)
-
--- a store
-pub store_text : (a w : ℕ) (t : List ℕ)
-    → codes "{\"a\":" ++ (decimal a ++ (codes ",\"k\":\"S\"" ++ (codes ",\"w\":" ++ (decimal w ++ 125 ∷ t))))
-    ≡ compact_text (event_data (S a w)) ++ t
-unfolding escape_byte
-store_text a w t =
-    ap (λ (u : List ℕ). codes "{\"a\":" ++ u)
-    (two_then (decimal a) (decimal w) (codes ",\"k\":\"S\",\"w\":") (125 ∷ []) t)
-
--- a read-modify-write
-pub rmw_text : (a r : ℕ) (s : Option ℕ) (w : ℕ) (t : List ℕ)
-    → codes "{\"a\":" ++ (decimal a ++ (codes ",\"k\":\"R\"" ++ (codes ",\"r\":" ++ (decimal r
-    ++ (codes ",\"s\":" ++ (compact_text (source_data s) ++ (codes ",\"w\":" ++ (decimal w ++ 125 ∷ t))))))))
-    ≡ compact_text (event_data (R a r s w)) ++ t
-unfolding escape_byte
-rmw_text a r s w t =
-    ap (λ (u : List ℕ). codes "{\"a\":" ++ u)
-    (four_then (decimal a) (decimal r) (compact_text (source_data s)) (decimal w)
-    (codes ",\"k\":\"R\",\"r\":") (codes ",\"s\":") (codes ",\"w\":") (125 ∷ []) t)
-
--- a fence
-pub fence_text : (t : List ℕ) → codes "{\"k\":\"F\"}" ++ t ≡ compact_text (event_data F) ++ t
-unfolding escape_byte
-fence_text t = refl
-
--- what follows the kind of a read
-abbrev pub IsRead : List ℕ → ℕ → Option ℕ → List ℕ → Type 0
-IsRead text r s rest = IsWord r × IsShortSource s
-    × (text ≡ codes ",\"r\":" ++ (decimal r ++ (codes ",\"s\":" ++ (compact_text (source_data s) ++ rest))))
-
--- what follows the kind of a store, or what a read-modify-write reads
-abbrev pub IsWritten : List ℕ → ℕ → List ℕ → Type 0
-IsWritten text w rest = IsWord w × (text ≡ codes ",\"w\":" ++ (decimal w ++ rest))
-
--- a load of this address
-pub load_begins : (text mid rest : List ℕ) (a r : ℕ) (s : Option ℕ) → IsShort a → IsRead text r s mid
-    → mid ≡ 125 ∷ rest
-    → Begins event_data IsFitting (codes "{\"a\":" ++ (decimal a ++ (codes ",\"k\":\"L\"" ++ text))) (L a r s) rest
-load_begins text mid rest a r s short reads closes = record {
-  begins = ap (λ (t : List ℕ). codes "{\"a\":" ++ (decimal a ++ (codes ",\"k\":\"L\"" ++ t))) (reads.2
-      ∙ ap (λ (t : List ℕ). codes ",\"r\":" ++ (decimal r ++ (codes ",\"s\":" ++ (compact_text (source_data s)
-      ++ t)))) closes) ∙ load_text a r s rest;
-  fits = (short, reads.0, reads.1);
-}
-
--- a compare-and-swap of this address that failed
-pub failed_cas_begins : (text mid rest : List ℕ) (a r : ℕ) (s : Option ℕ) → IsShort a → IsRead text r s mid
-    → mid ≡ 125 ∷ rest
-    → Begins event_data IsFitting (codes "{\"a\":" ++ (decimal a ++ (codes ",\"k\":\"C\"" ++ text))) (C a r s) rest
-failed_cas_begins text mid rest a r s short reads closes = record {
-  begins = ap (λ (t : List ℕ). codes "{\"a\":" ++ (decimal a ++ (codes ",\"k\":\"C\"" ++ t))) (reads.2
-      ∙ ap (λ (t : List ℕ). codes ",\"r\":" ++ (decimal r ++ (codes ",\"s\":" ++ (compact_text (source_data s)
-      ++ t)))) closes) ∙ failed_cas_text a r s rest;
-  fits = (short, reads.0, reads.1);
-}
-
--- a store to this address
-pub store_begins : (text mid rest : List ℕ) (a w : ℕ) → IsShort a → IsWritten text w mid → mid ≡ 125 ∷ rest
-    → Begins event_data IsFitting (codes "{\"a\":" ++ (decimal a ++ (codes ",\"k\":\"S\"" ++ text))) (S a w) rest
-store_begins text mid rest a w short writes closes = record {
-  begins = ap (λ (t : List ℕ). codes "{\"a\":" ++ (decimal a ++ (codes ",\"k\":\"S\"" ++ t))) (writes.1
-      ∙ ap (λ (t : List ℕ). codes ",\"w\":" ++ (decimal w ++ t)) closes) ∙ store_text a w rest;
-  fits = (short, writes.0);
-}
-
--- a read-modify-write of this address
-pub rmw_begins : (text next mid rest : List ℕ) (a r : ℕ) (s : Option ℕ) (w : ℕ) → IsShort a
-    → IsRead text r s next → IsWritten next w mid → mid ≡ 125 ∷ rest
-    → Begins event_data IsFitting (codes "{\"a\":" ++ (decimal a ++ (codes ",\"k\":\"R\"" ++ text))) (R a r s w) rest
-rmw_begins text next mid rest a r s w short reads writes closes = record {
-  begins = ap (λ (t : List ℕ). codes "{\"a\":" ++ (decimal a ++ (codes ",\"k\":\"R\"" ++ t))) (reads.2
-      ∙ ap (λ (t : List ℕ). codes ",\"r\":" ++ (decimal r ++ (codes ",\"s\":" ++ (compact_text (source_data s)
-      ++ t)))) (writes.1 ∙ ap (λ (t : List ℕ). codes ",\"w\":" ++ (decimal w ++ t)) closes))
-      ∙ rmw_text a r s w rest;
-  fits = (short, reads.0, reads.1, writes.0);
-}
-
--- a fence
-pub fence_begins : (text rest : List ℕ) → text ≡ codes "{\"k\":\"F\"}" ++ rest
-    → Begins event_data IsFitting text F rest
-fence_begins text rest is = record { begins = is ∙ fence_text rest; fits = tt }
-
 -- ---- contents
 
--- without initial values
-pub text_1 : (cores : List (List Event)) (lists : List (List ℕ)) (t : List ℕ)
-    → codes "{\"cores\":" ++ (compact_text (list_data (list_data event_data) cores)
-    ++ (codes ",\"version\":1" ++ (codes ",\"writes\":" ++ (compact_text (list_data (list_data number_data) lists)
-    ++ 125 ∷ t)))) ≡ compact_text (written_data None cores lists) ++ t
-unfolding escape_byte
-text_1 cores lists t =
-    let front = compact_text (list_data (list_data event_data) cores) in
-    let back = compact_text (list_data (list_data number_data) lists) in
-    ap (λ (d : List ℕ). codes "{\"cores\":" ++ (front ++ (codes ",\"version\":" ++ (d ++ (codes ",\"writes\":"
-    ++ (back ++ 125 ∷ t)))))) (sym (decimal_digit 1 (omega arith)))
-    ∙ ap (λ (u : List ℕ). codes "{\"cores\":" ++ u)
-    (three_then front (decimal 1) back (codes ",\"version\":") (codes ",\"writes\":") (125 ∷ []) t)
+-- the members of version 1, and what follows them
+follow_1 : (p q t : List ℕ) → codes "{\"cores\":" ++ (p ++ (codes ",\"version\":1" ++ (codes ",\"writes\":"
+    ++ (q ++ 125 ∷ t)))) ≡ (codes "{\"cores\":" ++ (p ++ (codes ",\"version\":1,\"writes\":"
+    ++ (q ++ 125 ∷ [])))) ++ t
+follow_1 p q t = simp append_assoc
 
--- with initial values
-pub text_2 : (values : List ℕ) (cores : List (List Event)) (lists : List (List ℕ)) (t : List ℕ)
-    → codes "{\"cores\":" ++ (compact_text (list_data (list_data event_data) cores)
-    ++ (codes ",\"init\":" ++ (compact_text (list_data number_data values) ++ (codes ",\"version\":2"
-    ++ (codes ",\"writes\":" ++ (compact_text (list_data (list_data number_data) lists) ++ 125 ∷ t))))))
-    ≡ compact_text (written_data (Some values) cores lists) ++ t
-unfolding escape_byte
-text_2 values cores lists t =
-    let front = compact_text (list_data (list_data event_data) cores) in
-    let mid = compact_text (list_data number_data values) in
-    let back = compact_text (list_data (list_data number_data) lists) in
-    ap (λ (d : List ℕ). codes "{\"cores\":" ++ (front ++ (codes ",\"init\":" ++ (mid ++ (codes ",\"version\":"
-    ++ (d ++ (codes ",\"writes\":" ++ (back ++ 125 ∷ t)))))))) (sym (decimal_digit 2 (omega arith)))
-    ∙ ap (λ (u : List ℕ). codes "{\"cores\":" ++ u)
-    (four_then front mid (decimal 2) back (codes ",\"init\":") (codes ",\"version\":") (codes ",\"writes\":")
-    (125 ∷ []) t)
-
--- the value of contents, in the order of its members
-pub contents_begin : (text a b c d e rest : List ℕ) (values : Option (List ℕ)) (cores : List (List Event))
-    (lists : List (List ℕ)) → text ≡ codes "{\"cores\":" ++ a
-    → a ≡ compact_text (list_data (list_data event_data) cores) ++ b → IsHead b values c
-    → c ≡ codes ",\"writes\":" ++ d → d ≡ compact_text (list_data (list_data number_data) lists) ++ e
-    → e ≡ 125 ∷ rest → text ≡ compact_text (written_data values cores lists) ++ rest
-contents_begin text a b c d e rest None cores lists opens first head then second closes =
-    let front = compact_text (list_data (list_data event_data) cores) in
-    let back = compact_text (list_data (list_data number_data) lists) in
-    opens ∙ ap (λ (t : List ℕ). codes "{\"cores\":" ++ t) (first ∙ ap (λ (t : List ℕ). front ++ t) (head
-    ∙ ap (λ (t : List ℕ). codes ",\"version\":1" ++ t) (then ∙ ap (λ (t : List ℕ). codes ",\"writes\":" ++ t)
-    (second ∙ ap (λ (t : List ℕ). back ++ t) closes)))) ∙ text_1 cores lists rest
-contents_begin text a b c d e rest (Some values) cores lists opens first head then second closes =
-    let front = compact_text (list_data (list_data event_data) cores) in
-    let mid = compact_text (list_data number_data values) in
-    let back = compact_text (list_data (list_data number_data) lists) in
-    opens ∙ ap (λ (t : List ℕ). codes "{\"cores\":" ++ t) (first ∙ ap (λ (t : List ℕ). front ++ t) (head.1
-    ∙ ap (λ (t : List ℕ). codes ",\"init\":" ++ (mid ++ (codes ",\"version\":2" ++ t)))
-    (then ∙ ap (λ (t : List ℕ). codes ",\"writes\":" ++ t)
-    (second ∙ ap (λ (t : List ℕ). back ++ t) closes)))) ∙ text_2 values cores lists rest
-
--- the initial values fit
-head_words : (text rest : List ℕ) (values : Option (List ℕ)) → IsHead text values rest → AreFittingValues values
-head_words text rest None h = tt
-head_words text rest (Some values) h = h.0
+-- and of version 2
+follow_2 : (p m q t : List ℕ) → codes "{\"cores\":" ++ (p ++ (codes ",\"init\":" ++ (m ++ (codes ",\"version\":2"
+    ++ (codes ",\"writes\":" ++ (q ++ 125 ∷ t)))))) ≡ (codes "{\"cores\":" ++ (p ++ (codes ",\"init\":"
+    ++ (m ++ (codes ",\"version\":2,\"writes\":" ++ (q ++ 125 ∷ [])))))) ++ t
+follow_2 p m q t = simp append_assoc
 
 -- the contents
 pub found_begins : (text a b c d e rest : List ℕ) (version : ℕ) (values : Option (List ℕ))
@@ -310,10 +144,26 @@ pub found_begins : (text a b c d e rest : List ℕ) (version : ℕ) (values : Op
     → Begins (list_data (list_data number_data)) (AllByRecursion (AllByRecursion IsShort)) d lists e
     → e ≡ 125 ∷ rest → version ≡ version_of values
     → BeginsRecording text (record { version = version; cores = cores; write_lists = lists; values = values }) rest
-found_begins text a b c d e rest version values cores lists opens first head then second closes is = record {
-  begins = contents_begin text a b c d e rest values cores lists opens first.begins head then second.begins closes;
-  versioned = is;
-  cores = first.fits;
-  lists = second.fits;
-  values = head_words b c values head;
-}
+unfolding escape_byte
+found_begins text a b c d e rest version None cores lists opens first head then second closes is =
+    let one : decimal 1 ≡ 49 ∷ [] = decimal_digit 1 (omega arith) in
+    record {
+      begins = rw (opens, first.begins, head, then, second.begins, closes, one)
+          (follow_1 (compact_text (list_data (list_data event_data) cores))
+          (compact_text (list_data (list_data number_data) lists)) rest);
+      versioned = is;
+      cores = first.fits;
+      lists = second.fits;
+      values = tt;
+    }
+found_begins text a b c d e rest version (Some values) cores lists opens first head then second closes is =
+    let two : decimal 2 ≡ 50 ∷ [] = decimal_digit 2 (omega arith) in
+    record {
+      begins = rw (opens, first.begins, head.1, then, second.begins, closes, two)
+          (follow_2 (compact_text (list_data (list_data event_data) cores))
+          (compact_text (list_data number_data values)) (compact_text (list_data (list_data number_data) lists)) rest);
+      versioned = is;
+      cores = first.fits;
+      lists = second.fits;
+      values = head.0;
+    }

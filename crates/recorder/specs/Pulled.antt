@@ -20,8 +20,8 @@ pub record GivesValue {A : Type 0} (f : Data → Option A) (depth : ℕ) (tokens
   pub gives : f datum ≡ Some x
 
 -- the value at a key, if there is one, gives what was read at it
-abbrev pub AtKey : {A : Type 0} → (Data → Option A) → List ℕ → Members → Option A → Type 0
-AtKey f key ms o = option_map f (get_member key ms) ≡ option_map Some o
+pub record AtKey {A : Type 0} (f : Data → Option A) (key : List ℕ) (ms : Members) (o : Option A) : Type 0 where
+  pub gives : option_map f (get_member key ms) ≡ option_map Some o
 
 -- the tokens begin with a value that, put at the key of members that are `old`, makes them `new`
 pub record Adds {S : Type 0} (Are : S → Members → Type 0) (key : List ℕ) (depth : ℕ)

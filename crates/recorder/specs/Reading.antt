@@ -52,24 +52,26 @@ count_members (member k d ms) = suc (count_members ms)
 abbrev pub at_key : {A : Type 0} → (Data → Option A) → List ℕ → Data → Option A
 at_key f k d = option_and_then f (get k d)
 
--- an event of each kind, by the keys that it has
-unfoldable pub load_in : Data → Option Event
-load_in d =
+-- an event that reads alone, made of what it has
+abbrev pub read_in : (ℕ → ℕ → Option ℕ → Event) → Data → Option Event
+read_in make d =
     option_and_then (λ a.
     option_and_then (λ r.
-    option_map (λ s. L a r s)
+    option_map (λ s. make a r s)
     (at_key source_in (codes "s") d))
     (at_key value_in (codes "r") d))
     (at_key number_in (codes "a") d)
 
-unfoldable pub store_in : Data → Option Event
+-- a store
+abbrev pub store_in : Data → Option Event
 store_in d =
     option_and_then (λ a.
     option_map (λ w. S a w)
     (at_key value_in (codes "w") d))
     (at_key number_in (codes "a") d)
 
-unfoldable pub rmw_in : Data → Option Event
+-- a read-modify-write
+abbrev pub rmw_in : Data → Option Event
 rmw_in d =
     option_and_then (λ a.
     option_and_then (λ r.
@@ -80,22 +82,13 @@ rmw_in d =
     (at_key value_in (codes "r") d))
     (at_key number_in (codes "a") d)
 
-unfoldable pub failed_cas_in : Data → Option Event
-failed_cas_in d =
-    option_and_then (λ a.
-    option_and_then (λ r.
-    option_map (λ s. C a r s)
-    (at_key source_in (codes "s") d))
-    (at_key value_in (codes "r") d))
-    (at_key number_in (codes "a") d)
-
 -- an event of a kind, in an object with this many keys
 unfoldable pub event_of_kind : List ℕ → ℕ → Data → Option Event
 event_of_kind k n d =
-    if bytes_eq k (codes "L") && n == 4 then load_in d
+    if bytes_eq k (codes "L") && n == 4 then read_in (λ a r s. L a r s) d
     else (if bytes_eq k (codes "S") && n == 3 then store_in d
     else (if bytes_eq k (codes "R") && n == 5 then rmw_in d
-    else (if bytes_eq k (codes "C") && n == 4 then failed_cas_in d
+    else (if bytes_eq k (codes "C") && n == 4 then read_in (λ a r s. C a r s) d
     else (if bytes_eq k (codes "F") && n == 1 then Some F else None))))
 
 unfoldable pub event_in : Data → Option Event

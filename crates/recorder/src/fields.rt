@@ -59,92 +59,16 @@ impl<'a> Fields<'a> {
         }
     }
 
-    fn load(&self) -> Option<Event>
-        ensures { IfSome result (λ e. (ms : Members) → AreFields self.now ms
-            → option_map (λ s. s.now) self.now.k ≡ Some (codes "L")
-            → clipped_event (object ms) ≡ Some e) }
-    {
-        let None = self.w else {
-            return None;
-        };
-        let a = self.a?;
-        let r = self.r?;
-        let s = self.s?;
-        Some(Event::L { a, r, s })
-    }
-
-    fn store(&self) -> Option<Event>
-        ensures { IfSome result (λ e. (ms : Members) → AreFields self.now ms
-            → option_map (λ s. s.now) self.now.k ≡ Some (codes "S")
-            → clipped_event (object ms) ≡ Some e) }
-    {
-        let None = self.r else {
-            return None;
-        };
-        let None = self.s else {
-            return None;
-        };
-        let a = self.a?;
-        let w = self.w?;
-        Some(Event::S { a, w })
-    }
-
-    fn rmw(&self) -> Option<Event>
-        ensures { IfSome result (λ e. (ms : Members) → AreFields self.now ms
-            → option_map (λ s. s.now) self.now.k ≡ Some (codes "R")
-            → clipped_event (object ms) ≡ Some e) }
-    {
-        let a = self.a?;
-        let r = self.r?;
-        let s = self.s?;
-        let w = self.w?;
-        Some(Event::R { a, r, s, w })
-    }
-
-    fn failed_cas(&self) -> Option<Event>
-        ensures { IfSome result (λ e. (ms : Members) → AreFields self.now ms
-            → option_map (λ s. s.now) self.now.k ≡ Some (codes "C")
-            → clipped_event (object ms) ≡ Some e) }
-    {
-        let None = self.w else {
-            return None;
-        };
-        let a = self.a?;
-        let r = self.r?;
-        let s = self.s?;
-        Some(Event::C { a, r, s })
-    }
-
-    fn fence(&self) -> Option<Event>
-        ensures { IfSome result (λ e. (ms : Members) → AreFields self.now ms
-            → option_map (λ s. s.now) self.now.k ≡ Some (codes "F")
-            → clipped_event (object ms) ≡ Some e) }
-    {
-        let None = self.a else {
-            return None;
-        };
-        let None = self.r else {
-            return None;
-        };
-        let None = self.s else {
-            return None;
-        };
-        let None = self.w else {
-            return None;
-        };
-        Some(Event::F)
-    }
-
     fn event(&self) -> Option<Event>
         ensures { IfSome result (λ e. (ms : Members) → AreFields self.now ms
             → clipped_event (object ms) ≡ Some e) }
     {
-        match self.k? {
-            "L" => self.load(),
-            "S" => self.store(),
-            "R" => self.rmw(),
-            "C" => self.failed_cas(),
-            "F" => self.fence(),
+        match (self.k?, self.a, self.r, self.s, self.w) {
+            ("L", Some(a), Some(r), Some(s), None) => Some(Event::L { a, r, s }),
+            ("S", Some(a), None, None, Some(w)) => Some(Event::S { a, w }),
+            ("R", Some(a), Some(r), Some(s), Some(w)) => Some(Event::R { a, r, s, w }),
+            ("C", Some(a), Some(r), Some(s), None) => Some(Event::C { a, r, s }),
+            ("F", None, None, None, None) => Some(Event::F),
             _ => None,
         }
     }

@@ -1,23 +1,265 @@
-//! What single JSON values of a recording give.
+//! The items of a recording's lists, and what single JSON values give.
 
 ghost use Rattle.std.specs.Prelude.{◌≡◌, option_map};
 ghost use Rattle.serde_json.specs.View.{view};
-ghost use Rattle.recorder.specs.Reading.{value_in, source_in, at_key, load_in, store_in, rmw_in, event_of_kind};
-ghost use Rattle.recorder.specs.Reading.{count_members, failed_cas_in};
+ghost use Rattle.recorder.specs.Reading.{value_in, source_in, at_key, event_of_kind};
+ghost use Rattle.recorder.specs.Reading.{count_members};
 ghost use Rattle.recorder.specs.Clipped.{clip, clip_event, clipped_number, clipped_event};
 ghost use Rattle.serde_json.specs.Find.{as_object};
 
+use crate::cursor::Cursor;
+use crate::fields::pull_event;
+use crate::tokens::{pull_number, pull_value};
+use crate::values::event_value;
+use crate::versions::has_failed;
+use crate::written_events::take_event;
+use common::{MAX_ADDRESSES, MAX_CORES, MAX_EVENTS};
+use json::Reader;
 use recording::Event;
 use serde_json::Value;
+use std::alloc::{AllocError, Global};
 
-pub(crate) fn number_in(value: &Value) -> Option<u16>
+/// An item of a list: an event, the number of an event, or an initial value.
+pub(crate) trait Item: Drop + Sized {
+    ghost use Rattle.std.specs.Prelude.{◌≡◌, ◌++◌, ◌∷◌, [], ℕ, suc, List, Option, IfOk, IfSome};
+    ghost use Rattle.recorder.specs.Held.{lists_of};
+    ghost use Rattle.serde_json.specs.Data.{Data};
+    ghost use Rattle.serde_json.specs.View.{view};
+    ghost use Rattle.recorder.specs.Pulled.{GivesValue};
+    ghost use Rattle.recorder.specs.Written.{Begins};
+
+    /// The value that is written of it.
+    ghost datum: { Self → Data };
+
+    /// What is held of what a value gives.
+    ghost held: { Data → Option Self };
+
+    /// Each number of it fits.
+    ghost fits: { Self → Type 0 };
+
+    /// What is held for a list.
+    ghost holds: { List Self → List Self → Type 0 };
+
+    /// What is held for lists.
+    ghost holds_lists: { List (List Self) → List (List Self) → Type 0 };
+
+    /// Takes the item that stands next in a text in the layout of `write_recording`.
+    fn take(rest: &mut Cursor<'_>) -> Option<Self>
+        ensures { IfSome result (λ x. Begins datum fits rest.old x rest.new) };
+
+    /// Reads the item that stands next among tokens.
+    fn pull(reader: &mut Reader<'_>) -> Option<Self>
+        ensures { IfSome result (λ x. (depth : ℕ) → GivesValue held (suc depth) reader.old x reader.new) };
+
+    /// Holds an item more of a list.
+    fn hold(found: &mut Vec<Self>, item: Self) -> Result<(), AllocError>
+        ensures { IfOk result (λ _. (items : List Self) → holds found.old.items items
+            → holds found.new.items (items ++ item ∷ [])) };
+
+    /// Holds a list more.
+    fn hold_list(found: &mut Vec<Vec<Self>>, list: Vec<Self>) -> Result<(), AllocError>
+        ensures { IfOk result (λ _. (lists : List (List Self)) (items : List Self)
+            → holds_lists (lists_of found.old.items) lists → holds list.items items
+            → holds_lists (lists_of found.new.items) (lists ++ items ∷ [])) };
+
+    /// The item that a value gives.
+    fn read(value: &Value) -> Option<Self>
+        ensures { result ≡ held (view value.now) };
+
+    /// The value of the item.
+    fn value(&self, alloc: Global) -> Result<Value, AllocError>
+        ensures value { IfOk result (λ v. view v ≡ datum self.now) }
+        ensures fits { IfOk result (λ _. fits self.now) };
+
+    ghost holds_none: { holds [] [] };
+
+    ghost holds_no_list: { holds_lists [] [] };
+}
+
+impl Item for Event {
+    ghost use Rattle.std.proofs.Common.{◌++◌, ◌∷◌, [], List, IfOk, refl, inl};
+    ghost use Rattle.recording.specs.declared.event.Event.{Event};
+    ghost use Rattle.recorder.specs.Held.{lists_of, HoldsEvents, HoldsCores};
+    ghost use Rattle.recorder.specs.Text.{event_data};
+    ghost use Rattle.recorder.specs.Clipped.{clipped_event};
+    ghost use Rattle.recorder.specs.Written.{IsFitting};
+
+    ghost datum = { event_data };
+
+    ghost held = { clipped_event };
+
+    ghost fits = { IsFitting };
+
+    ghost holds = { HoldsEvents };
+
+    ghost holds_lists = { HoldsCores };
+
+    fn take(rest: &mut Cursor<'_>) -> Option<Event> {
+        take_event(rest)
+    }
+
+    fn pull(reader: &mut Reader<'_>) -> Option<Event> {
+        pull_event(reader)
+    }
+
+    /// Of those that are too many the first is held, or the last compare-and-swap that failed.
+    fn hold(found: &mut Vec<Event>, item: Event) -> Result<(), AllocError> {
+        if found.len() <= MAX_EVENTS {
+            found.push(item)?;
+            return Ok(());
+        }
+        if item.is_failed_cas() {
+            found.truncate(MAX_EVENTS);
+            found.push(item)?;
+        }
+        Ok(())
+    }
+
+    /// Of those that are too many the first is held, or the last in which a compare-and-swap failed.
+    fn hold_list(found: &mut Vec<Vec<Event>>, list: Vec<Event>) -> Result<(), AllocError>
+        ensures { IfOk result (λ _. (lists : List (List Event)) (items : List Event)
+            → HoldsCores (lists_of found.old.items) lists → HoldsEvents list.items items
+            → HoldsCores (lists_of found.new.items) (lists ++ items ∷ [])) }
+    {
+        if found.len() <= MAX_CORES {
+            found.push(list)?;
+            return Ok(());
+        }
+        if has_failed(list.as_slice()) {
+            found.truncate(MAX_CORES);
+            found.push(list)?;
+        }
+        Ok(())
+    }
+
+    fn read(value: &Value) -> Option<Event> {
+        event_in(value)
+    }
+
+    fn value(&self, alloc: Global) -> Result<Value, AllocError> {
+        event_value(alloc, self)
+    }
+
+    ghost holds_none = { inl refl };
+
+    ghost holds_no_list = { inl refl };
+}
+
+impl Item for u16 {
+    ghost use Rattle.std.proofs.Common.{◌≡◌, ◌++◌, ◌∷◌, [], ℕ, List, IfOk, refl, inl};
+    ghost use Rattle.recorder.specs.Held.{lists_of, HoldsLists};
+    ghost use Rattle.recorder.specs.Text.{number_data};
+    ghost use Rattle.recorder.specs.Clipped.{clipped_number};
+    ghost use Rattle.recorder.specs.Written.{IsShort};
+
+    ghost datum = { number_data };
+
+    ghost held = { clipped_number };
+
+    ghost fits = { IsShort };
+
+    ghost holds = { λ held items. held ≡ items };
+
+    ghost holds_lists = { HoldsLists };
+
+    fn take(rest: &mut Cursor<'_>) -> Option<u16> {
+        rest.short()
+    }
+
+    fn pull(reader: &mut Reader<'_>) -> Option<u16> {
+        pull_number(reader)
+    }
+
+    fn hold(found: &mut Vec<u16>, item: u16) -> Result<(), AllocError> {
+        found.push(item)?;
+        Ok(())
+    }
+
+    /// Of those that are too many the first is held.
+    fn hold_list(found: &mut Vec<Vec<u16>>, list: Vec<u16>) -> Result<(), AllocError>
+        ensures { IfOk result (λ _. (lists : List (List ℕ)) (items : List ℕ)
+            → HoldsLists (lists_of found.old.items) lists → list.items ≡ items
+            → HoldsLists (lists_of found.new.items) (lists ++ items ∷ [])) }
+    {
+        if found.len() <= MAX_ADDRESSES {
+            found.push(list)?;
+        }
+        Ok(())
+    }
+
+    fn read(value: &Value) -> Option<u16> {
+        number_in(value)
+    }
+
+    fn value(&self, _alloc: Global) -> Result<Value, AllocError> {
+        Ok(Value::from(*self))
+    }
+
+    ghost holds_none = { refl };
+
+    ghost holds_no_list = { inl refl };
+}
+
+impl Item for u32 {
+    ghost use Rattle.std.specs.Prelude.{◌≡◌, ◌++◌, ◌∷◌, [], ℕ, List, IfOk, refl};
+    ghost use Rattle.recorder.specs.Held.{lists_of};
+    ghost use Rattle.recorder.specs.Text.{number_data};
+    ghost use Rattle.recorder.specs.Reading.{value_in};
+    ghost use Rattle.recorder.specs.Written.{IsWord};
+
+    ghost datum = { number_data };
+
+    ghost held = { value_in };
+
+    ghost fits = { IsWord };
+
+    ghost holds = { λ held items. held ≡ items };
+
+    ghost holds_lists = { λ held lists. held ≡ lists };
+
+    fn take(rest: &mut Cursor<'_>) -> Option<u32> {
+        rest.word()
+    }
+
+    fn pull(reader: &mut Reader<'_>) -> Option<u32> {
+        pull_value(reader)
+    }
+
+    fn hold(found: &mut Vec<u32>, item: u32) -> Result<(), AllocError> {
+        found.push(item)?;
+        Ok(())
+    }
+
+    fn hold_list(found: &mut Vec<Vec<u32>>, list: Vec<u32>) -> Result<(), AllocError>
+        ensures { IfOk result (λ _. (lists : List (List ℕ)) (items : List ℕ)
+            → lists_of found.old.items ≡ lists → list.items ≡ items
+            → lists_of found.new.items ≡ lists ++ items ∷ []) }
+    {
+        found.push(list)?;
+        Ok(())
+    }
+
+    fn read(value: &Value) -> Option<u32> {
+        value_in(value)
+    }
+
+    fn value(&self, _alloc: Global) -> Result<Value, AllocError> {
+        Ok(Value::from(*self))
+    }
+
+    ghost holds_none = { refl };
+
+    ghost holds_no_list = { refl };
+}
+
+fn number_in(value: &Value) -> Option<u16>
     ensures { result ≡ clipped_number (view value.now) }
 {
     let n = value.as_u64()?;
     Some(u16::try_from(n).unwrap_or(u16::MAX))
 }
 
-pub(crate) fn value_in(value: &Value) -> Option<u32>
+fn value_in(value: &Value) -> Option<u32>
     ensures { result ≡ value_in (view value.now) }
 {
     let n = value.as_u64()?;
@@ -52,61 +294,33 @@ fn source_at(value: &Value, key: &str) -> Option<Option<u16>>
     source_in(value.get(key)?)
 }
 
-#[tactic(auto, unfolding(crate::specs::Reading::load_in))]
-fn load_in(value: &Value) -> Option<Event>
-    ensures { result ≡ option_map clip_event (load_in (view value.now)) }
-{
-    let a = number_at(value, "a")?;
-    let r = value_at(value, "r")?;
-    let s = source_at(value, "s")?;
-    Some(Event::L { a, r, s })
-}
-
-#[tactic(auto, unfolding(crate::specs::Reading::store_in))]
-fn store_in(value: &Value) -> Option<Event>
-    ensures { result ≡ option_map clip_event (store_in (view value.now)) }
-{
-    let a = number_at(value, "a")?;
-    let w = value_at(value, "w")?;
-    Some(Event::S { a, w })
-}
-
-#[tactic(auto, unfolding(crate::specs::Reading::rmw_in))]
-fn rmw_in(value: &Value) -> Option<Event>
-    ensures { result ≡ option_map clip_event (rmw_in (view value.now)) }
-{
-    let a = number_at(value, "a")?;
-    let r = value_at(value, "r")?;
-    let s = source_at(value, "s")?;
-    let w = value_at(value, "w")?;
-    Some(Event::R { a, r, s, w })
-}
-
-#[tactic(auto, unfolding(crate::specs::Reading::failed_cas_in))]
-fn failed_cas_in(value: &Value) -> Option<Event>
-    ensures { result ≡ option_map clip_event (failed_cas_in (view value.now)) }
-{
-    let a = number_at(value, "a")?;
-    let r = value_at(value, "r")?;
-    let s = source_at(value, "s")?;
-    Some(Event::C { a, r, s })
-}
-
 #[tactic(auto, unfolding(crate::specs::Reading::event_of_kind))]
 fn event_of_kind(kind: &str, keys: usize, value: &Value) -> Option<Event>
     ensures { result ≡ option_map clip_event (event_of_kind kind.now keys (view value.now)) }
 {
     if kind == "L" && keys == 4 {
-        return load_in(value);
+        let a = number_at(value, "a")?;
+        let r = value_at(value, "r")?;
+        let s = source_at(value, "s")?;
+        return Some(Event::L { a, r, s });
     }
     if kind == "S" && keys == 3 {
-        return store_in(value);
+        let a = number_at(value, "a")?;
+        let w = value_at(value, "w")?;
+        return Some(Event::S { a, w });
     }
     if kind == "R" && keys == 5 {
-        return rmw_in(value);
+        let a = number_at(value, "a")?;
+        let r = value_at(value, "r")?;
+        let s = source_at(value, "s")?;
+        let w = value_at(value, "w")?;
+        return Some(Event::R { a, r, s, w });
     }
     if kind == "C" && keys == 4 {
-        return failed_cas_in(value);
+        let a = number_at(value, "a")?;
+        let r = value_at(value, "r")?;
+        let s = source_at(value, "s")?;
+        return Some(Event::C { a, r, s });
     }
     if kind == "F" && keys == 1 {
         return Some(Event::F);
@@ -123,7 +337,7 @@ pub(crate) fn keys_of(value: &Value) -> Option<usize>
 }
 
 #[tactic(auto, unfolding(crate::specs::Reading::event_in))]
-pub(crate) fn event_in(value: &Value) -> Option<Event>
+fn event_in(value: &Value) -> Option<Event>
     ensures { result ≡ clipped_event (view value.now) }
 {
     let keys = keys_of(value)?;

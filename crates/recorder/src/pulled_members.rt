@@ -10,7 +10,7 @@ ghost use Rattle.recorder.specs.ReadMembers.{AreParts, clipped_contents, IsParse
 ghost use Rattle.recorder.specs.Pulled.{Adds, GivesValue, GivesMembers};
 
 use crate::fields::once;
-use crate::pulled_lists::{pull_cores, pull_lists, pull_values};
+use crate::pulled_lists::{pull_list, pull_lists};
 use crate::reading::Parsed;
 use crate::tokens::{begins_object, pull_natural};
 use common::EventId;
@@ -62,7 +62,7 @@ impl ReadMembers {
         match key {
             "version" => Ok(once(&mut self.version, pull_natural(reader))),
             "cores" => {
-                let cores = pull_cores(alloc, reader)?;
+                let cores = pull_lists(alloc, reader)?;
                 Ok(once(&mut self.cores, cores))
             }
             "writes" => {
@@ -70,7 +70,7 @@ impl ReadMembers {
                 Ok(once(&mut self.writes, writes))
             }
             "init" => {
-                let init = pull_values(alloc, reader)?;
+                let init = pull_list(alloc, reader)?;
                 Ok(once(&mut self.init, init))
             }
             _ => Ok(None),

@@ -1,16 +1,16 @@
 //! Reading the text of a recording.
 
-ghost use Rattle.std.specs.Prelude.{◌≡◌, ◌↔◌, ℕ, List, Err, IfOk, IfErr, IsTrue, option_map, map, codes};
+ghost use Rattle.std.specs.Prelude.{◌≡◌, ◌↔◌, ℕ, List, Err, IfOk, IfErr, IsTrue, option_map, map};
 ghost use Rattle.serde_json.specs.View.{view, items_view};
 ghost use Rattle.recorder.specs.ParsedModel.{initial_values, IsVersioned};
 ghost use Rattle.recorder.specs.Parsed.{model_of};
 ghost use Rattle.recorder.specs.ReadMembers.{IsParsedFrom};
-ghost use Rattle.recorder.specs.Reading.{each, list_in, number_in, value_in, event_in, at_key, values_in};
+ghost use Rattle.recorder.specs.Reading.{each, list_in, at_key, values_in};
 ghost use Rattle.recorder.specs.Reading.{contents_with, shape_in, IsReadingResult};
 ghost use Rattle.recorder.specs.Text.{IsReadAs};
-ghost use Rattle.recorder.specs.Clipped.{clip, clip_event, clipped_shape, clipped_number, clipped_event};
+ghost use Rattle.recorder.specs.Clipped.{clipped_shape};
 
-use crate::items::{event_in, keys_of, number_in, value_in};
+use crate::items::{Item, keys_of};
 use crate::pulled_members::parsed_by_tokens;
 use crate::versions::has_failed_cas;
 use crate::written::written;
@@ -41,123 +41,54 @@ impl Parsed {
     }
 }
 
-fn events_in(alloc: Global, list: &[Value]) -> Result<Option<Vec<Event>>, AllocError>
-    ensures { IfOk result (λ o. option_map (λ v. v.items) o ≡ each clipped_event (items_view list.now)) }
+fn items_in<T: Item>(alloc: Global, list: &[Value]) -> Result<Option<Vec<T>>, AllocError>
+    ensures { IfOk result (λ o. option_map (λ v. v.items) o ≡ each T.held (items_view list.now)) }
 {
     let mut found = Vec::new(alloc);
     for value in list {
-        let Some(event) = event_in(value) else {
+        let Some(item) = T::read(value) else {
             return Ok(None);
         };
-        found.push(event)?;
+        found.push(item)?;
     }
     Ok(Some(found))
 }
 
-fn numbers_in(alloc: Global, list: &[Value]) -> Result<Option<Vec<EventId>>, AllocError>
-    ensures { IfOk result (λ o. option_map (λ v. v.items) o ≡ each clipped_number (items_view list.now)) }
-{
-    let mut found = Vec::new(alloc);
-    for value in list {
-        let Some(number) = number_in(value) else {
-            return Ok(None);
-        };
-        found.push(number)?;
-    }
-    Ok(Some(found))
-}
-
-fn core_in(alloc: Global, value: &Value) -> Result<Option<Vec<Event>>, AllocError>
-    ensures { IfOk result (λ o. option_map (λ v. v.items) o ≡ list_in clipped_event (view value.now)) }
+fn list_in<T: Item>(alloc: Global, value: &Value) -> Result<Option<Vec<T>>, AllocError>
+    ensures { IfOk result (λ o. option_map (λ v. v.items) o ≡ list_in T.held (view value.now)) }
 {
     let Some(list) = value.as_array() else {
         return Ok(None);
     };
-    events_in(alloc, list.as_slice())
+    items_in(alloc, list.as_slice())
 }
 
-fn writes_in(alloc: Global, value: &Value) -> Result<Option<Vec<EventId>>, AllocError>
-    ensures { IfOk result (λ o. option_map (λ v. v.items) o ≡ list_in clipped_number (view value.now)) }
-{
-    let Some(list) = value.as_array() else {
-        return Ok(None);
-    };
-    numbers_in(alloc, list.as_slice())
-}
-
-fn cores_in(alloc: Global, list: &[Value]) -> Result<Option<Vec<Vec<Event>>>, AllocError>
+fn lists_in<T: Item>(alloc: Global, list: &[Value]) -> Result<Option<Vec<Vec<T>>>, AllocError>
     ensures { IfOk result (λ o. option_map (λ v. map (λ w. w.items) v.items) o
-        ≡ each (list_in clipped_event) (items_view list.now)) }
+        ≡ each (list_in T.held) (items_view list.now)) }
 {
     let mut found = Vec::new(alloc);
     for value in list {
-        let Some(core) = core_in(alloc, value)? else {
+        let Some(items) = list_in(alloc, value)? else {
             return Ok(None);
         };
-        found.push(core)?;
+        found.push(items)?;
     }
     Ok(Some(found))
 }
 
-fn lists_in(alloc: Global, list: &[Value]) -> Result<Option<Vec<Vec<EventId>>>, AllocError>
+fn lists_at<T: Item>(
+    alloc: Global,
+    value: &Value,
+    key: &str,
+) -> Result<Option<Vec<Vec<T>>>, AllocError>
     ensures { IfOk result (λ o. option_map (λ v. map (λ w. w.items) v.items) o
-        ≡ each (list_in clipped_number) (items_view list.now)) }
+        ≡ at_key (list_in (list_in T.held)) key.now (view value.now)) }
 {
-    let mut found = Vec::new(alloc);
-    for value in list {
-        let Some(writes) = writes_in(alloc, value)? else {
-            return Ok(None);
-        };
-        found.push(writes)?;
-    }
-    Ok(Some(found))
-}
-
-#[tactic(auto, using(crate::proofs::ClippedLists::cores_clipped))]
-fn cores_at(alloc: Global, value: &Value) -> Result<Option<Vec<Vec<Event>>>, AllocError>
-    ensures { IfOk result (λ o. option_map (λ v. map (λ w. w.items) v.items) o
-        ≡ option_map (map (map clip_event))
-        (at_key (list_in (list_in event_in)) (codes "cores") (view value.now))) }
-{
-    let Some(list) = value.get("cores").and_then(Value::as_array) else {
-        return Ok(None);
-    };
-    cores_in(alloc, list.as_slice())
-}
-
-#[tactic(auto, using(crate::proofs::ClippedLists::writes_clipped))]
-fn lists_at(alloc: Global, value: &Value) -> Result<Option<Vec<Vec<EventId>>>, AllocError>
-    ensures { IfOk result (λ o. option_map (λ v. map (λ w. w.items) v.items) o
-        ≡ option_map (map (map clip))
-        (at_key (list_in (list_in number_in)) (codes "writes") (view value.now))) }
-{
-    let Some(list) = value.get("writes").and_then(Value::as_array) else {
+    let Some(list) = value.get(key).and_then(Value::as_array) else {
         return Ok(None);
     };
     lists_in(alloc, list.as_slice())
-}
-
-fn values_in(alloc: Global, list: &[Value]) -> Result<Option<Vec<u32>>, AllocError>
-    ensures { IfOk result (λ o. option_map (λ v. v.items) o ≡ each value_in (items_view list.now)) }
-{
-    let mut found = Vec::new(alloc);
-    for value in list {
-        let Some(number) = value_in(value) else {
-            return Ok(None);
-        };
-        found.push(number)?;
-    }
-    Ok(Some(found))
-}
-
-fn values_at(alloc: Global, value: &Value) -> Result<Option<Vec<u32>>, AllocError>
-    ensures { IfOk result (λ o. option_map (λ v. v.items) o
-        ≡ at_key (list_in value_in) (codes "init") (view value.now)) }
-{
-    let Some(list) = value.get("init").and_then(Value::as_array) else {
-        return Ok(None);
-    };
-    values_in(alloc, list.as_slice())
 }
 
 #[tactic(auto, unfolding(crate::specs::Reading::values_in))]
@@ -175,13 +106,16 @@ fn init_in(
     if keys != 4 {
         return Ok(None);
     }
-    let Some(init) = values_at(alloc, value)? else {
+    let Some(init) = value.get("init") else {
+        return Ok(None);
+    };
+    let Some(init) = list_in(alloc, init)? else {
         return Ok(None);
     };
     Ok(Some(Some(init)))
 }
 
-#[tactic(auto, unfolding(crate::specs::Reading::contents_with))]
+#[tactic(auto, unfolding(crate::specs::Reading::contents_with), using(crate::proofs::ClippedLists::clipped))]
 fn contents_with(
     alloc: Global,
     init: Option<Vec<u32>>,
@@ -193,10 +127,10 @@ fn contents_with(
     let Some(version) = value.get("version").and_then(Value::as_u64) else {
         return Ok(None);
     };
-    let Some(cores) = cores_at(alloc, value)? else {
+    let Some(cores) = lists_at(alloc, value, "cores")? else {
         return Ok(None);
     };
-    let Some(writes) = lists_at(alloc, value)? else {
+    let Some(writes) = lists_at(alloc, value, "writes")? else {
         return Ok(None);
     };
     Ok(Some(Parsed {

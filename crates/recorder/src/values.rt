@@ -1,14 +1,16 @@
 //! The JSON value of a recording.
 
-ghost use Rattle.std.specs.Prelude.{◌≡◌, IfOk, Some, map, codes};
+ghost use Rattle.std.specs.Prelude.{◌≡◌, IfOk, None, Some, map};
+ghost use Rattle.std.specs.List.{AllByRecursion};
 ghost use Rattle.serde_json.specs.Data.{put, string, object};
 ghost use Rattle.serde_json.specs.View.{view, members_view};
 ghost use Rattle.recording.specs.declared.event.Event.TheVariants.{S, R, F};
-ghost use Rattle.recorder.specs.Reading.{number_in, value_in, event_in, list_in, Decodes};
+ghost use Rattle.recorder.specs.Written.{IsShortSource, IsFitting};
 ghost use Rattle.recorder.specs.Text.{number_data, list_data, source_data, event_data, data_1, data_2, data_of};
-ghost use Rattle.recorder.specs.Values.{read_members, cores_member, with_writes};
-ghost use Rattle.recorder.specs.Values.{AreCoresAgain, AreWritesAgain, IsInitAgain, ArePartsAgain};
+ghost use Rattle.recorder.specs.Values.{read_members, parts_members};
+ghost use Rattle.recorder.specs.Values.{AreFitting, values_of};
 
+use crate::items::Item;
 use crate::versions::is_of_version_1;
 use common::{Addr, EventId};
 use recording::{Event, Recording};
@@ -43,7 +45,8 @@ fn with_text(
 }
 
 fn source_value(source: Option<EventId>) -> Value
-    ensures { view result ≡ source_data source }
+    ensures value { view result ≡ source_data source }
+    ensures fits { IsShortSource source }
 {
     match source {
         Some(write) => Value::from(write),
@@ -59,7 +62,8 @@ fn read_members(
     r: u32,
     s: Option<EventId>,
 ) -> Result<Map<String, Value>, AllocError>
-    ensures { IfOk result (λ m. members_view m.entries ≡ read_members kind.now a r s) }
+    ensures value { IfOk result (λ m. members_view m.entries ≡ read_members kind.now a r s) }
+    ensures fits { IfOk result (λ _. IsShortSource s) }
 {
     let members = with(alloc, Map::new(alloc), "a", Value::from(a))?;
     let members = with_text(alloc, members, "k", kind)?;
@@ -67,185 +71,93 @@ fn read_members(
     with(alloc, members, "s", source_value(s))
 }
 
-fn read_value(
-    alloc: Global,
-    kind: &str,
-    a: Addr,
-    r: u32,
-    s: Option<EventId>,
-) -> Result<Value, AllocError>
-    ensures { IfOk result (λ v. view v ≡ object (read_members kind.now a r s)) }
-{
-    let members = read_members(alloc, kind, a, r, s)?;
-    Ok(Value::Object(members))
-}
-
-fn store_value(alloc: Global, a: Addr, w: u32) -> Result<Value, AllocError>
-    ensures { IfOk result (λ v. view v ≡ event_data (S a w)) }
-{
-    let members = with(alloc, Map::new(alloc), "a", Value::from(a))?;
-    let members = with_text(alloc, members, "k", "S")?;
-    let members = with(alloc, members, "w", Value::from(w))?;
-    Ok(Value::Object(members))
-}
-
-fn rmw_value(
-    alloc: Global,
-    a: Addr,
-    r: u32,
-    s: Option<EventId>,
-    w: u32,
-) -> Result<Value, AllocError>
-    ensures { IfOk result (λ v. view v ≡ event_data (R a r s w)) }
-{
-    let members = read_members(alloc, "R", a, r, s)?;
-    let members = with(alloc, members, "w", Value::from(w))?;
-    Ok(Value::Object(members))
-}
-
-fn fence_value(alloc: Global) -> Result<Value, AllocError>
-    ensures { IfOk result (λ v. view v ≡ event_data F) }
-{
-    let members = with_text(alloc, Map::new(alloc), "k", "F")?;
-    Ok(Value::Object(members))
-}
-
-fn event_value(alloc: Global, event: &Event) -> Result<Value, AllocError>
-    ensures value { IfOk result (λ v. view v ≡ event_data event.now) }
-    ensures again { IfOk result (λ _. event_in (event_data event.now) ≡ Some event.now) }
+/// The members of an event.
+fn event_members(alloc: Global, event: &Event) -> Result<Map<String, Value>, AllocError>
+    ensures value { IfOk result (λ m. object (members_view m.entries) ≡ event_data event.now) }
+    ensures fits { IfOk result (λ _. IsFitting event.now) }
 {
     match *event {
-        Event::L { a, r, s } => read_value(alloc, "L", a, r, s),
-        Event::S { a, w } => store_value(alloc, a, w),
-        Event::R { a, r, s, w } => rmw_value(alloc, a, r, s, w),
-        Event::C { a, r, s } => read_value(alloc, "C", a, r, s),
-        Event::F => fence_value(alloc),
+        Event::L { a, r, s } => read_members(alloc, "L", a, r, s),
+        Event::S { a, w } => {
+            let members = with(alloc, Map::new(alloc), "a", Value::from(a))?;
+            let members = with_text(alloc, members, "k", "S")?;
+            with(alloc, members, "w", Value::from(w))
+        }
+        Event::R { a, r, s, w } => {
+            let members = read_members(alloc, "R", a, r, s)?;
+            with(alloc, members, "w", Value::from(w))
+        }
+        Event::C { a, r, s } => read_members(alloc, "C", a, r, s),
+        Event::F => with_text(alloc, Map::new(alloc), "k", "F"),
     }
 }
 
-fn core_value(alloc: Global, events: &[Event]) -> Result<Value, AllocError>
-    ensures value { IfOk result (λ v. view v ≡ list_data event_data events.now) }
-    ensures again { IfOk result (λ _. list_in event_in (list_data event_data events.now) ≡ Some events.now) }
+pub(crate) fn event_value(alloc: Global, event: &Event) -> Result<Value, AllocError>
+    ensures value { IfOk result (λ v. view v ≡ event_data event.now) }
+    ensures fits { IfOk result (λ _. IsFitting event.now) }
 {
-    let mut values = Vec::with_capacity(alloc, events.len())?;
-    for event in events {
-        values.push(event_value(alloc, event)?)?;
-    }
-    Ok(Value::Array(values))
-}
-
-fn cores_value(alloc: Global, cores: &[Vec<Event>]) -> Result<Value, AllocError>
-    ensures value { IfOk result (λ v. view v
-        ≡ list_data (list_data event_data) (map (λ w. w.items) cores.now)) }
-    ensures again { let lists = map (λ w. w.items) cores.now
-        in IfOk result (λ _. list_in (list_in event_in) (list_data (list_data event_data) lists)
-        ≡ Some lists) }
-{
-    let mut values = Vec::with_capacity(alloc, cores.len())?;
-    for events in cores {
-        values.push(core_value(alloc, events.as_slice())?)?;
-    }
-    Ok(Value::Array(values))
-}
-
-fn list_value(alloc: Global, writes: &[EventId]) -> Result<Value, AllocError>
-    ensures value { IfOk result (λ v. view v ≡ list_data number_data writes.now) }
-    ensures again { IfOk result (λ _. list_in number_in (list_data number_data writes.now)
-        ≡ Some writes.now) }
-{
-    let mut values = Vec::with_capacity(alloc, writes.len())?;
-    for write in writes {
-        values.push(Value::from(*write))?;
-    }
-    Ok(Value::Array(values))
-}
-
-fn lists_value(alloc: Global, lists: &[Vec<EventId>]) -> Result<Value, AllocError>
-    ensures value { IfOk result (λ v. view v
-        ≡ list_data (list_data number_data) (map (λ w. w.items) lists.now)) }
-    ensures again { let numbers = map (λ w. w.items) lists.now
-        in IfOk result (λ _. list_in (list_in number_in) (list_data (list_data number_data) numbers)
-        ≡ Some numbers) }
-{
-    let mut values = Vec::with_capacity(alloc, lists.len())?;
-    for writes in lists {
-        values.push(list_value(alloc, writes.as_slice())?)?;
-    }
-    Ok(Value::Array(values))
-}
-
-fn init_value(alloc: Global, init: &[u32]) -> Result<Value, AllocError>
-    ensures value { IfOk result (λ v. view v ≡ list_data number_data init.now) }
-    ensures again { IfOk result (λ _. list_in value_in (list_data number_data init.now) ≡ Some init.now) }
-{
-    let mut values = Vec::with_capacity(alloc, init.len())?;
-    for value in init {
-        values.push(Value::from(*value))?;
-    }
-    Ok(Value::Array(values))
-}
-
-/// The member that both versions have first.
-fn with_cores(alloc: Global, recording: &Recording) -> Result<Map<String, Value>, AllocError>
-    ensures value { IfOk result (λ m. members_view m.entries ≡ cores_member recording.now) }
-    ensures again { IfOk result (λ _. AreCoresAgain recording.now) }
-{
-    let cores = cores_value(alloc, recording.cores())?;
-    with(alloc, Map::new(alloc), "cores", cores)
-}
-
-/// The object with the member that both versions have last.
-fn with_writes(
-    alloc: Global,
-    members: Map<String, Value>,
-    recording: &Recording,
-) -> Result<Value, AllocError>
-    ensures value { IfOk result (λ v. view v ≡ with_writes (members_view members.entries) recording.now) }
-    ensures again { IfOk result (λ _. AreWritesAgain recording.now) }
-{
-    let writes = lists_value(alloc, recording.writes())?;
-    let members = with(alloc, members, "writes", writes)?;
+    let members = event_members(alloc, event)?;
     Ok(Value::Object(members))
 }
 
-fn with_init(
-    alloc: Global,
-    members: Map<String, Value>,
-    recording: &Recording,
-) -> Result<Map<String, Value>, AllocError>
-    ensures value { IfOk result (λ m. members_view m.entries
-        ≡ put (codes "init") (list_data number_data recording.now.initial) (members_view members.entries)) }
-    ensures again { IfOk result (λ _. IsInitAgain recording.now) }
+fn list_value<T: Item>(alloc: Global, items: &[T]) -> Result<Value, AllocError>
+    ensures value { IfOk result (λ v. view v ≡ list_data T.datum items.now) }
+    ensures fits { IfOk result (λ _. AllByRecursion T.fits items.now) }
 {
-    let init = init_value(alloc, recording.init())?;
-    with(alloc, members, "init", init)
+    let mut values = Vec::with_capacity(alloc, items.len())?;
+    for item in items {
+        values.push(item.value(alloc)?)?;
+    }
+    Ok(Value::Array(values))
+}
+
+fn lists_value<T: Item>(alloc: Global, lists: &[Vec<T>]) -> Result<Value, AllocError>
+    ensures value { IfOk result (λ v. view v
+        ≡ list_data (list_data T.datum) (map (λ w. w.items) lists.now)) }
+    ensures fits { IfOk result (λ _. AllByRecursion (AllByRecursion T.fits) (map (λ w. w.items) lists.now)) }
+{
+    let mut values = Vec::with_capacity(alloc, lists.len())?;
+    for list in lists {
+        values.push(list_value(alloc, list.as_slice())?)?;
+    }
+    Ok(Value::Array(values))
+}
+
+/// The members that both versions have.
+fn parts(alloc: Global, recording: &Recording) -> Result<Map<String, Value>, AllocError>
+    ensures value { IfOk result (λ m. members_view m.entries ≡ parts_members recording.now) }
+    ensures fits { IfOk result (λ _. AreFitting None recording.now) }
+{
+    let cores = lists_value(alloc, recording.cores())?;
+    let members = with(alloc, Map::new(alloc), "cores", cores)?;
+    let writes = lists_value(alloc, recording.writes())?;
+    with(alloc, members, "writes", writes)
 }
 
 fn value_1(alloc: Global, recording: &Recording) -> Result<Value, AllocError>
     ensures value { IfOk result (λ v. view v ≡ data_1 recording.now) }
-    ensures again { IfOk result (λ _. ArePartsAgain recording.now) }
+    ensures fits { IfOk result (λ _. AreFitting None recording.now) }
 {
-    let members = with_cores(alloc, recording)?;
+    let members = parts(alloc, recording)?;
     let members = with(alloc, members, "version", Value::from(1u64))?;
-    with_writes(alloc, members, recording)
+    Ok(Value::Object(members))
 }
 
 fn value_2(alloc: Global, recording: &Recording) -> Result<Value, AllocError>
     ensures value { IfOk result (λ v. view v ≡ data_2 recording.now) }
-    ensures again { IfOk result (λ _. ArePartsAgain recording.now) }
-    ensures init { IfOk result (λ _. IsInitAgain recording.now) }
+    ensures fits { IfOk result (λ _. AreFitting (Some recording.now.initial) recording.now) }
 {
-    let members = with_cores(alloc, recording)?;
-    let members = with_init(alloc, members, recording)?;
+    let members = parts(alloc, recording)?;
+    let init = list_value(alloc, recording.init())?;
+    let members = with(alloc, members, "init", init)?;
     let members = with(alloc, members, "version", Value::from(2u64))?;
-    with_writes(alloc, members, recording)
+    Ok(Value::Object(members))
 }
 
 pub(crate) fn value_of(alloc: Global, recording: &Recording) -> Result<Value, AllocError>
     ensures value { IfOk result (λ v. view v ≡ data_of recording.now) }
-    ensures again { IfOk result (λ _. Decodes (data_of recording.now) recording.now) }
+    ensures fits { IfOk result (λ _. AreFitting (values_of recording.now) recording.now) }
 {
-    recording.sound();
     if is_of_version_1(recording) {
         return value_1(alloc, recording);
     }

@@ -7,7 +7,8 @@ ghost use Rattle.recorder.specs.Written.{IsHead, version_of, BeginsRecording};
 
 use crate::cursor::Cursor;
 use crate::reading::Parsed;
-use crate::written_lists::{take_cores, take_lists, take_values};
+use crate::written_lists::{take_list, take_lists};
+use common::{MAX_ADDRESSES, MAX_CORES};
 use std::alloc::{AllocError, Global};
 
 /// Takes the version and, before it, the initial values, where the text has them.
@@ -20,7 +21,7 @@ fn take_init(alloc: Global, rest: &mut Cursor<'_>) -> Result<Option<Option<Vec<u
     if !rest.take(b",\"init\":") {
         return Ok(None);
     }
-    let Some(values) = take_values(alloc, rest)? else {
+    let Some(values) = take_list(alloc, rest, MAX_ADDRESSES)? else {
         return Ok(None);
     };
     if !rest.take(b",\"version\":2") {
@@ -45,7 +46,7 @@ fn take_found(alloc: Global, rest: &mut Cursor<'_>) -> Result<Option<Parsed>, Al
     if !rest.take(b"{\"cores\":") {
         return Ok(None);
     }
-    let Some(cores) = take_cores(alloc, rest)? else {
+    let Some(cores) = take_lists(alloc, rest, MAX_CORES)? else {
         return Ok(None);
     };
     let Some(init) = take_init(alloc, rest)? else {
@@ -54,7 +55,7 @@ fn take_found(alloc: Global, rest: &mut Cursor<'_>) -> Result<Option<Parsed>, Al
     if !rest.take(b",\"writes\":") {
         return Ok(None);
     }
-    let Some(writes) = take_lists(alloc, rest)? else {
+    let Some(writes) = take_lists(alloc, rest, MAX_ADDRESSES)? else {
         return Ok(None);
     };
     if !rest.take(b"}") {

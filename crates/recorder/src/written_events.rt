@@ -1,6 +1,6 @@
 //! Events, read from a text in the layout of `write_recording`.
 
-ghost use Rattle.std.specs.Prelude.{◌≡◌, ◌++◌, codes, decimal, IfSome};
+ghost use Rattle.std.specs.Prelude.{◌≡◌, ◌++◌, ◌∷◌, ℕ, List, codes, decimal, IfSome};
 ghost use Rattle.serde_json.specs.Written.{compact_text};
 ghost use Rattle.recorder.specs.Text.{source_data, event_data};
 ghost use Rattle.recorder.specs.Written.{IsWord, IsShortSource, IsFitting, Begins};
@@ -37,81 +37,27 @@ fn written(rest: &mut Cursor<'_>) -> Option<u32>
     Some(value)
 }
 
-/// Takes what follows the kind of a load.
-fn load(a: Addr, rest: &mut Cursor<'_>) -> Option<Event>
-    ensures { IfSome result (λ e. Begins event_data IsFitting
-        (codes "{\"a\":" ++ (decimal a ++ (codes ",\"k\":\"L\"" ++ rest.old))) e rest.new) }
-{
-    let (r, s) = read(rest)?;
-    if !rest.take(b"}") {
-        return None;
-    }
-    Some(Event::L { a, r, s })
-}
-
-/// Takes what follows the kind of a store.
-fn store(a: Addr, rest: &mut Cursor<'_>) -> Option<Event>
-    ensures { IfSome result (λ e. Begins event_data IsFitting
-        (codes "{\"a\":" ++ (decimal a ++ (codes ",\"k\":\"S\"" ++ rest.old))) e rest.new) }
-{
-    let w = written(rest)?;
-    if !rest.take(b"}") {
-        return None;
-    }
-    Some(Event::S { a, w })
-}
-
-/// Takes what follows the kind of a read-modify-write.
-fn rmw(a: Addr, rest: &mut Cursor<'_>) -> Option<Event>
-    ensures { IfSome result (λ e. Begins event_data IsFitting
-        (codes "{\"a\":" ++ (decimal a ++ (codes ",\"k\":\"R\"" ++ rest.old))) e rest.new) }
-{
-    let (r, s) = read(rest)?;
-    let w = written(rest)?;
-    if !rest.take(b"}") {
-        return None;
-    }
-    Some(Event::R { a, r, s, w })
-}
-
-/// Takes what follows the kind of a compare-and-swap that failed.
-fn failed_cas(a: Addr, rest: &mut Cursor<'_>) -> Option<Event>
-    ensures { IfSome result (λ e. Begins event_data IsFitting
-        (codes "{\"a\":" ++ (decimal a ++ (codes ",\"k\":\"C\"" ++ rest.old))) e rest.new) }
-{
-    let (r, s) = read(rest)?;
-    if !rest.take(b"}") {
-        return None;
-    }
-    Some(Event::C { a, r, s })
-}
-
-/// Takes the kind of an event at this address, and what follows it.
+/// Takes the kind of an event at this address and what the kind has, all but the brace that closes the event.
 fn of_kind(a: Addr, rest: &mut Cursor<'_>) -> Option<Event>
-    ensures { IfSome result (λ e. Begins event_data IsFitting
-        (codes "{\"a\":" ++ (decimal a ++ (codes ",\"k\":\"" ++ rest.old))) e rest.new) }
+    ensures { IfSome result (λ e. (t : List ℕ) → rest.new ≡ 125 ∷ t → Begins event_data IsFitting
+        (codes "{\"a\":" ++ (decimal a ++ (codes ",\"k\":\"" ++ rest.old))) e t) }
 {
     if rest.take(b"L\"") {
-        return load(a, rest);
+        let (r, s) = read(rest)?;
+        return Some(Event::L { a, r, s });
     }
     if rest.take(b"S\"") {
-        return store(a, rest);
+        let w = written(rest)?;
+        return Some(Event::S { a, w });
     }
     if rest.take(b"R\"") {
-        return rmw(a, rest);
+        let (r, s) = read(rest)?;
+        let w = written(rest)?;
+        return Some(Event::R { a, r, s, w });
     }
     if rest.take(b"C\"") {
-        return failed_cas(a, rest);
-    }
-    None
-}
-
-/// Takes a fence.
-fn fence(rest: &mut Cursor<'_>) -> Option<Event>
-    ensures { IfSome result (λ e. Begins event_data IsFitting rest.old e rest.new) }
-{
-    if rest.take(b"{\"k\":\"F\"}") {
-        return Some(Event::F);
+        let (r, s) = read(rest)?;
+        return Some(Event::C { a, r, s });
     }
     None
 }
@@ -121,11 +67,18 @@ pub(crate) fn take_event(rest: &mut Cursor<'_>) -> Option<Event>
     ensures { IfSome result (λ e. Begins event_data IsFitting rest.old e rest.new) }
 {
     if !rest.take(b"{\"a\":") {
-        return fence(rest);
+        if rest.take(b"{\"k\":\"F\"}") {
+            return Some(Event::F);
+        }
+        return None;
     }
     let a = rest.short()?;
     if !rest.take(b",\"k\":\"") {
         return None;
     }
-    of_kind(a, rest)
+    let event = of_kind(a, rest)?;
+    if !rest.take(b"}") {
+        return None;
+    }
+    Some(event)
 }

@@ -158,23 +158,25 @@ before_in_right u v e f ne nf h = (
   omega (arith, place_append_right u v f nf, length-append u v, h),
 )
 
--- with b put between the two parts, what stood in the right part moves by one
-moved : (u v : List ℕ) (b e : ℕ) → e ≢ b → times u e ≡ 0
-    → (place (u ++ b ∷ v) e ≡ place (u ++ v) e + 1) × (length u ≤ place (u ++ v) e)
-moved u v b e other none = (
-  omega (
-    arith,
-    place_append_right u (b ∷ v) e none,
-    place_append_right u v e none,
-    place_there v b e (λ s. other (sym s)),
-  ),
-  omega (arith, place_append_right u v e none),
-)
-
--- what stands in the left part stays
-stayed : (u v : List ℕ) (b e : ℕ) → 0 < times u e
-    → (place (u ++ b ∷ v) e ≡ place u e) × (place (u ++ v) e ≡ place u e)
-stayed u v b e left = (place_append_left u (b ∷ v) e left, place_append_left u v e left)
+-- with b put between the two parts, what stood in the right part alone moves by one, and the rest stays
+moved : (u v : List ℕ) (b e : ℕ) → e ≢ b
+    → ((place (u ++ v) e < length u) × (place (u ++ b ∷ v) e ≡ place (u ++ v) e))
+    ⊎ ((length u ≤ place (u ++ v) e) × (place (u ++ b ∷ v) e ≡ place (u ++ v) e + 1))
+moved u v b e other = elim (cases_times u e) [
+  | inl none ↦ inr (
+    omega (arith, place_append_right u v e none),
+    omega (
+      arith,
+      place_append_right u (b ∷ v) e none,
+      place_append_right u v e none,
+      place_there v b e (λ s. other (sym s)),
+    ),
+  )
+  | inr left ↦ inl (
+    omega (arith, place_append_left u v e left, place_in u e left),
+    omega (arith, place_append_left u (b ∷ v) e left, place_append_left u v e left),
+  )
+]
 
 -- the list is longer by one
 longer : (u v : List ℕ) (b : ℕ) → length (u ++ b ∷ v) ≡ length (u ++ v) + 1
@@ -182,56 +184,9 @@ longer u v b = omega (arith, length-append u (b ∷ v), length-append u v)
 
 -- to put b between the two parts changes no pair of others
 pub inserted : (u v : List ℕ) (b e f : ℕ) → e ≢ b → f ≢ b → Before (u ++ v) e f → Before (u ++ b ∷ v) e f
-inserted u v b e f eb fb h = elim (cases_times u e) [
-  | inl none ↦ elim (cases_times u f) [
-    | inl f_none ↦ (
-      omega (arith, h, moved u v b e eb none, moved u v b f fb f_none),
-      omega (arith, h, moved u v b f fb f_none, longer u v b),
-    )
-    | inr f_left ↦ absurd (omega (
-      arith,
-      h,
-      moved u v b e eb none,
-      stayed u v b f f_left,
-      place_in u f f_left,
-    ))
-  ]
-  | inr left ↦ elim (cases_times u f) [
-    | inl f_none ↦ (
-      omega (arith, stayed u v b e left, moved u v b f fb f_none, place_in u e left),
-      omega (arith, h, moved u v b f fb f_none, longer u v b),
-    )
-    | inr f_left ↦ (
-      omega (arith, h, stayed u v b e left, stayed u v b f f_left),
-      omega (arith, h, stayed u v b f f_left, longer u v b),
-    )
-  ]
-]
+inserted u v b e f eb fb h = grind (arith, moved u v b e eb, moved u v b f fb, longer u v b)
 
 -- and the other way round
 pub removed : (u v : List ℕ) (b e f : ℕ) → e ≢ b → f ≢ b → Before (u ++ b ∷ v) e f → Before (u ++ v) e f
-removed u v b e f eb fb h = elim (cases_times u e) [
-  | inl none ↦ elim (cases_times u f) [
-    | inl f_none ↦ (
-      omega (arith, h, moved u v b e eb none, moved u v b f fb f_none),
-      omega (arith, h, moved u v b f fb f_none, longer u v b),
-    )
-    | inr f_left ↦ absurd (omega (
-      arith,
-      h,
-      moved u v b e eb none,
-      stayed u v b f f_left,
-      place_in u f f_left,
-    ))
-  ]
-  | inr left ↦ elim (cases_times u f) [
-    | inl f_none ↦ (
-      omega (arith, stayed u v b e left, moved u v b f fb f_none, place_in u e left),
-      omega (arith, h, moved u v b f fb f_none, longer u v b),
-    )
-    | inr f_left ↦ (
-      omega (arith, h, stayed u v b e left, stayed u v b f f_left),
-      omega (arith, h, stayed u v b f f_left, place_in u f f_left, length-append u v),
-    )
-  ]
-]
+removed u v b e f eb fb h =
+    grind (arith, moved u v b e eb, moved u v b f fb, longer u v b, length-append u v)

@@ -6,9 +6,7 @@ use Rattle.recorder.proofs.Pulled.{gives_object}
 use Rattle.recorder.proofs.fields.pull_event.Goals as goal
 
 pub returns : goal.returns
-returns c = if_some c.event.result (λ e gives depth.
+returns c = if_some c.event.result c.event.ensures (λ e gives depth.
     gives_object AreFields clipped_event depth c.args.reader.now c.begins_object.new.reader
     c.pull_fields.new.reader
-    c.in_ok-pull_fields.field-0 e (c.if-not-begins_object.ensures refl) (c.in_ok-pull_fields.ensures depth)
-    gives)
-    c.event.ensures
+    c.in_ok-pull_fields.field-0 e (c.if-not-begins_object.ensures refl) (c.in_ok-pull_fields.ensures depth) gives)

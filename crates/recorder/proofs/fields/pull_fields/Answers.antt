@@ -1,37 +1,22 @@
-use Rattle.std.proofs.Common.{◌≡◌, ◌∙◌, Bor, List, ℕ, Option, Some, None, option_map, ap}
-use Rattle.json.specs.Json.{read_key}
 use Rattle.recorder.specs.Fields.{AreFields}
 use Rattle.recorder.proofs.Pulled.{reached_start, reached_more, reached_all, adds_shorter}
 use Rattle.recorder.proofs.fields.pull_fields.Goals as goal
 
 pub members-init : goal.members-init
-members-init c depth = reached_start AreFields depth c.args.reader.now c.new-fields.result
-    c.new-fields.ensures
+members-init c depth = reached_start AreFields depth c.args.reader.now c.new-fields.result c.new-fields.ensures
 
 pub members-preserved : goal.members-preserved
 members-preserved c depth =
-    let mid = c.next_key.new.self in
-    let named : read_key c.members.reader ≡ Some (Some c.in-Some.key.now, mid) =
-    c.in-Ok.ensures.value ∙ ap (λ (k : Option (Bor (List ℕ))). Some (option_map (λ s. s.now) k, mid))
-    c.in-Some.is in
-    reached_more AreFields depth c.args.reader.now c.members.reader mid c.pull.new.reader c.in-Some.key.now
-    c.members.fields c.pull.new.self (c.members.invariant depth) named (c.in_ok-pull.ensures depth)
+    reached_more AreFields depth c.args.reader.now c.members.reader c.next_key.new.self c.pull.new.reader
+    c.in-Some.key.now c.members.fields c.pull.new.self (c.members.invariant depth)
+    (rw c.in-Some.is at c.in-Ok.ensures.value) (c.in_ok-pull.ensures depth)
 
 pub members-smaller : goal.members-smaller
 members-smaller c =
-    let mid = c.next_key.new.self in
-    let named : read_key c.members.reader ≡ Some (Some c.in-Some.key.now, mid) =
-    c.in-Ok.ensures.value ∙ ap (λ (k : Option (Bor (List ℕ))). Some (option_map (λ s. s.now) k, mid))
-    c.in-Some.is in
-    adds_shorter AreFields c.in-Some.key.now 0 c.members.reader mid c.pull.new.reader c.members.fields
-    c.pull.new.self
-    named (c.in_ok-pull.ensures 0)
+    adds_shorter AreFields c.in-Some.key.now 0 c.members.reader c.next_key.new.self c.pull.new.reader c.members.fields
+    c.pull.new.self (rw c.in-Some.is at c.in-Ok.ensures.value) (c.in_ok-pull.ensures 0)
 
 pub returns-in_default-key : goal.returns-in_default-key
 returns-in_default-key c depth =
-    let over : read_key c.members.reader ≡ Some (None, c.next_key.new.self) =
-    c.in-Ok.ensures.value
-    ∙ ap (λ (k : Option (Bor (List ℕ))). Some (option_map (λ s. s.now) k, c.next_key.new.self))
-    c.in_default-key.is in
     reached_all AreFields depth c.args.reader.now c.members.reader c.next_key.new.self c.members.fields
-    (c.members.invariant depth) over
+    (c.members.invariant depth) (rw c.in_default-key.is at c.in-Ok.ensures.value)

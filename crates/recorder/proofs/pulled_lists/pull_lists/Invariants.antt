@@ -1,15 +1,13 @@
 use Rattle.std.proofs.Common.{ℕ, List, suc, map, length}
 use Rattle.recorder.specs.Reading.{list_in}
-use Rattle.recorder.specs.Clipped.{clipped_number}
-use Rattle.recorder.specs.Held.{HoldsLists}
 use Rattle.recorder.proofs.Pulled.{Came}
 use Rattle.recorder.proofs.pulled_lists.pull_lists.Given as goal
 
--- for the items so far stand those that were found
+-- for the lists so far stand those that were found
 abbrev pub invariant-items : goal.invariant-items
-invariant-items l = (depth : ℕ) → (xs : List (List ℕ))
-    × Came (list_in clipped_number) (suc depth) l.initial.reader xs l.reader
-    × HoldsLists (map (λ v. v.items) l.found.items) xs
+invariant-items g l = (depth : ℕ) → (xs : List (List _))
+    × Came (list_in g.T.Item.held) (suc (suc depth)) l.initial.reader xs l.reader
+    × g.T.Item.holds_lists (map (λ v. v.items) l.found.items) xs
 
 abbrev pub decreases-items : goal.decreases-items
-decreases-items l = length l.reader
+decreases-items g l = length l.reader

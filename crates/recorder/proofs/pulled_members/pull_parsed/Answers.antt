@@ -7,7 +7,7 @@ use Rattle.recorder.proofs.Pulled.{gives_object_of}
 use Rattle.recorder.proofs.pulled_members.pull_parsed.Goals as goal
 
 pub returns : goal.returns
-returns c = if_some c.found.result (λ q gives.
+returns c = if_some c.found.result c.found.ensures (λ q gives.
     let all = c.begins_object.new.reader in
     let members : GivesMembers AreParts 126 all c.pull_members.new.reader c.in-Some.read_members =
     found_is _ c.in_ok-read_members.field-0 c.in-Some.read_members c.in-Some.is c.in_ok-read_members.ensures 123 in
@@ -19,4 +19,4 @@ returns c = if_some c.found.result (λ q gives.
       gives_object_of AreParts clipped_contents 126 c.args.reader.now all [] c.in-Some.read_members is.0
           (c.if-not-begins_object.ensures refl) known is.1,
       is.2,
-    )) c.found.ensures
+    ))

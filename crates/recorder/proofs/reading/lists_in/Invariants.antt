@@ -1,13 +1,12 @@
 use Rattle.std.proofs.Common.{◌≡◌, drop, map}
 use Rattle.serde_json.specs.View.{items_view}
 use Rattle.recorder.specs.Reading.{each, list_in}
-use Rattle.recorder.specs.Clipped.{clipped_number}
 use Rattle.recorder.proofs.Each.{with_front}
 use Rattle.recorder.proofs.reading.lists_in.Given as goal
 
 -- what was found, and what is left gives, is what all gives
 abbrev pub invariant-loop-value : goal.invariant-loop-value
-invariant-loop-value l =
+invariant-loop-value g l =
     with_front (map (λ v. v.items) l.found.items)
-    (each (list_in clipped_number) (items_view (drop l.value-index l.list)))
-    ≡ each (list_in clipped_number) (items_view l.list)
+    (each (list_in g.T.Item.held) (items_view (drop l.value-index l.list)))
+    ≡ each (list_in g.T.Item.held) (items_view l.list)

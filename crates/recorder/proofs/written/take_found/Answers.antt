@@ -5,8 +5,8 @@ use Rattle.recorder.proofs.written.take_found.Goals as goal
 
 pub returns : goal.returns
 returns c =
-    found_begins c.args.rest.now c.take.new.self c.take_cores.new.rest c.take_init.new.rest c.take-2.new.self
-    c.take_lists.new.rest c.take-3.new.self c.version_of-version.result
+    found_begins c.args.rest.now c.take.new.self c.take_lists.new.rest c.take_init.new.rest c.take-2.new.self
+    c.take_lists-2.new.rest c.take-3.new.self c.version_of-version.result
     (option_map (λ w. w.items) c.in-Some-2.init) (map (λ w. w.items) c.in-Some.cores.items)
     (map (λ w. w.items) c.in-Some-3.writes.items) (c.if-not-take.ensures.found refl)
     (found_is _ c.in_ok-cores.field-0 c.in-Some.cores c.in-Some.is c.in_ok-cores.ensures)

@@ -1,40 +1,31 @@
-use Rattle.std.proofs.Common.{codes, suc, ◌∙◌}
-use Rattle.recorder.specs.ReadMembers.{AreParts}
+use Rattle.std.proofs.Common.{suc, ◌∙◌, sym, subst, ℕ, List}
+use Rattle.recorder.specs.Reading.{list_in, value_in}
+use Rattle.recorder.specs.Pulled.{GivesValue}
 use Rattle.recorder.proofs.Somes.{if_some, some_is}
-use Rattle.recorder.proofs.Pulled.{adds_at}
 use Rattle.recorder.proofs.RecordingMembers.{version_added, cores_added, writes_added, init_added}
 use Rattle.recorder.proofs.pulled_members.ReadMembers.pull.Goals as goal
 
 pub returns-in-version : goal.returns-in-version
-returns-in-version c = if_some c.once.result (λ u h depth.
+returns-in-version c = if_some c.once.result c.once.ensures (λ u h depth.
     let read = some_is _ c.pull_natural.result h.1 c.pull_natural.ensures in
-    adds_at AreParts c.args.key.now (codes "version") (suc (suc (suc depth))) c.args.reader.now
-    c.pull_natural.new.reader c.args.self.now _ c.in-version.is
-    (version_added c.args.self.now c.once.new.place read.0 (suc (suc (suc depth))) c.args.reader.now
-    c.pull_natural.new.reader (read.2 (suc (suc (suc depth)))) h.0 (h.2 ∙ read.1))) c.once.ensures
+    rw c.in-version.is (version_added c.args.self.now c.once.new.place (read.2 (suc (suc (suc depth)))) h.0
+    (h.2 ∙ read.1)))
 
 pub returns-in_ok-cores-in-cores : goal.returns-in_ok-cores-in-cores
-returns-in_ok-cores-in-cores c = if_some c.once-in-cores.result (λ u h depth.
+returns-in_ok-cores-in-cores c = if_some c.once-in-cores.result c.once-in-cores.ensures (λ u h depth.
     let read = some_is _ c.in_ok-cores-in-cores.cores h.1 c.in_ok-cores-in-cores.ensures in
-    adds_at AreParts c.args.key.now (codes "cores") (suc (suc (suc depth))) c.args.reader.now
-    c.pull_cores.new.reader c.args.self.now _ c.in-cores.is
-    (cores_added c.args.self.now c.once-in-cores.new.place read.0 (read.2 depth).0 (suc (suc (suc depth)))
-    c.args.reader.now c.pull_cores.new.reader (read.2 depth).1 (read.2 depth).2 h.0 (h.2 ∙ read.1)))
-    c.once-in-cores.ensures
+    rw c.in-cores.is (cores_added c.args.self.now c.once-in-cores.new.place (read.2 depth).1 (read.2 depth).2 h.0
+    (h.2 ∙ read.1)))
 
 pub returns-in_ok-writes-in-writes : goal.returns-in_ok-writes-in-writes
-returns-in_ok-writes-in-writes c = if_some c.once-in-writes.result (λ u h depth.
+returns-in_ok-writes-in-writes c = if_some c.once-in-writes.result c.once-in-writes.ensures (λ u h depth.
     let read = some_is _ c.in_ok-writes-in-writes.writes h.1 c.in_ok-writes-in-writes.ensures in
-    adds_at AreParts c.args.key.now (codes "writes") (suc (suc (suc depth))) c.args.reader.now
-    c.pull_lists.new.reader c.args.self.now _ c.in-writes.is
-    (writes_added c.args.self.now c.once-in-writes.new.place read.0 (read.2 (suc depth)).0
-    (suc (suc (suc depth))) c.args.reader.now c.pull_lists.new.reader (read.2 (suc depth)).1
-    (read.2 (suc depth)).2 h.0 (h.2 ∙ read.1))) c.once-in-writes.ensures
+    rw c.in-writes.is (writes_added c.args.self.now c.once-in-writes.new.place (read.2 depth).1 (read.2 depth).2 h.0
+    (h.2 ∙ read.1)))
 
 pub returns-in_ok-init-in-init : goal.returns-in_ok-init-in-init
-returns-in_ok-init-in-init c = if_some c.once-in-init.result (λ u h depth.
+returns-in_ok-init-in-init c = if_some c.once-in-init.result c.once-in-init.ensures (λ u h depth.
     let read = some_is _ c.in_ok-init-in-init.init h.1 c.in_ok-init-in-init.ensures in
-    adds_at AreParts c.args.key.now (codes "init") (suc (suc (suc depth))) c.args.reader.now
-    c.pull_values.new.reader c.args.self.now _ c.in-init.is
-    (init_added c.args.self.now c.once-in-init.new.place read.0 (suc (suc (suc depth))) c.args.reader.now
-    c.pull_values.new.reader (read.2 (suc (suc depth))) h.0 (h.2 ∙ read.1))) c.once-in-init.ensures
+    let given = subst (λ (xs : List ℕ). GivesValue (list_in value_in) (suc (suc (suc depth))) c.args.reader.now xs
+    c.pull_list.new.reader) (sym (read.2 (suc depth)).2) (read.2 (suc depth)).1 in
+    rw c.in-init.is (init_added c.args.self.now c.once-in-init.new.place given h.0 (h.2 ∙ read.1)))
