@@ -9,7 +9,6 @@ ghost use Rattle.search.specs.Bound.{IsSeatFor};
 
 use crate::recordings::{THREE_AND_FOUR, related};
 use best::{Best, BestSeat};
-use common::EventId;
 use relations::Relation;
 use search::{SourceJob, jobs, row_under};
 use std::alloc::Global;
@@ -18,82 +17,16 @@ use std::test::Fail;
 use std::thread;
 use std::thread::{Scope, Threads};
 
-/// Whether events 0 to 3 are a cycle.
-fn is_first(relation: &Relation) -> bool
-    ensures { result ≡ true → IsCycle (Related relation.now) (0 ∷ 1 ∷ 2 ∷ 3 ∷ []) }
-{
-    relation.forced(0, 1) && relation.forced(1, 2) && relation.forced(2, 3) && relation.forced(3, 0)
-}
-
-/// Whether events 4 to 6 are a cycle.
-fn is_second(relation: &Relation) -> bool
-    ensures { result ≡ true → IsCycle (Related relation.now) (4 ∷ 5 ∷ 6 ∷ []) }
-{
-    relation.forced(4, 5) && relation.forced(5, 6) && relation.forced(6, 4)
-}
-
-/// What a seat reads once it has lowered the bound to a cycle.
-fn read_below(
-    best: &Best,
-    seat: &mut BestSeat,
-    relation: &Relation,
-    cycle: &[EventId],
-) -> Option<u16>
-    requires seat { IsBestSeatOf best.now seat.old }
-    requires relation { relation.now ≡ (known_of seat.old).relation }
-    requires cycle { IsCycle (Related relation.now) cycle.now }
-    requires short { length cycle.now ≤ length relation.now }
-    ensures seat { IsBestSeatOf best.now seat.new }
-    ensures relation { (known_of seat.new).relation ≡ (known_of seat.old).relation }
-{
-    best.lower(seat, relation, cycle);
-    best.read(seat)
-}
-
 /// Whether a relation has seven events, and both cycles.
 fn has_two_cycles(relation: &Relation) -> bool
     ensures events { result ≡ true → 7 ≤ length relation.now }
     ensures first { result ≡ true → IsCycle (Related relation.now) (0 ∷ 1 ∷ 2 ∷ 3 ∷ []) }
     ensures second { result ≡ true → IsCycle (Related relation.now) (4 ∷ 5 ∷ 6 ∷ []) }
 {
-    relation.len() == 7 && is_first(relation) && is_second(relation)
-}
-
-/// Whether a seat reads none, its own length, a shorter one of another seat, this one beside its own again, and
-/// once it has taken the other seat in.
-fn read_the_least(alloc: Global, relation: &Relation) -> bool
-    requires events { 7 ≤ length relation.now }
-    requires first { IsCycle (Related relation.now) (0 ∷ 1 ∷ 2 ∷ 3 ∷ []) }
-    requires second { IsCycle (Related relation.now) (4 ∷ 5 ∷ 6 ∷ []) }
-{
-    let Ok((best, mut a)) = Best::open(alloc, relation) else {
-        return false;
-    };
-    let none = best.read(&mut a);
-    let own = read_below(&best, &mut a, relation, &[0, 1, 2, 3]);
-    let Ok(mut b) = a.split() else {
-        return false;
-    };
-    best.lower(&mut b, relation, &[4, 5, 6]);
-    let of_another = best.read(&mut a);
-    let beside_its_own = read_below(&best, &mut a, relation, &[0, 1, 2, 3]);
-    a.absorb(b);
-    [none, own, of_another, beside_its_own, best.read(&mut a)]
-        == [None, Some(4), Some(3), Some(3), Some(3)]
-}
-
-/// Whether seats of a bound for two cycles read the least length.
-fn are_read(alloc: Global) -> bool {
-    let Some(relation) = related(alloc, THREE_AND_FOUR) else {
-        return false;
-    };
-    has_two_cycles(&relation) && read_the_least(alloc, &relation)
-}
-
-#[test]
-fn seats_read_the_least_length(rt: HostRuntime) -> Result<(), Fail> {
-    assert!(rt; are_read(rt.alloc()));
-    Ok(())
+    relation.len() == 7
+        && (relation.forced(0, 1) && relation.forced(1, 2) && relation.forced(2, 3))
+        && relation.forced(3, 0)
+        && (relation.forced(4, 5) && relation.forced(5, 6) && relation.forced(6, 4))
 }
 
 /// Starts a thread that lowers the bound to the second cycle.
@@ -137,12 +70,9 @@ fn lower_in_a_thread(
     )
 }
 
-/// Whether a seat reads the length of the second cycle, which an ended thread found, and not its own.
-fn reads_below_a_thread(
-    rt: &(impl Threads + Wait + Sync),
-    alloc: Global,
-    relation: &Relation,
-) -> bool
+/// Whether a seat reads none, its own length, a shorter one that another seat found in a thread that has ended, and
+/// this one beside its own again.
+fn read_the_least(rt: &(impl Threads + Wait + Sync), alloc: Global, relation: &Relation) -> bool
     requires events { 7 ≤ length relation.now }
     requires first { IsCycle (Related relation.now) (0 ∷ 1 ∷ 2 ∷ 3 ∷ []) }
     requires second { IsCycle (Related relation.now) (4 ∷ 5 ∷ 6 ∷ []) }
@@ -150,25 +80,29 @@ fn reads_below_a_thread(
     let Ok((best, mut a)) = Best::open(alloc, relation) else {
         return false;
     };
+    let none = best.read(&mut a);
     best.lower(&mut a, relation, &[0, 1, 2, 3]);
-    let Ok(mut b) = a.split() else {
+    let own = best.read(&mut a);
+    let Ok(b) = a.split() else {
         return false;
     };
-    lower_in_a_thread(rt, &best, a, relation);
-    best.read(&mut b) == Some(3)
+    lower_in_a_thread(rt, &best, b, relation);
+    let of_another = best.read(&mut a);
+    best.lower(&mut a, relation, &[0, 1, 2, 3]);
+    [none, own, of_another, best.read(&mut a)] == [None, Some(4), Some(3), Some(3)]
 }
 
-/// Whether a seat of a bound for two cycles reads what an ended thread found.
-fn is_read_after_a_thread(rt: &(impl Threads + Wait + Sync), alloc: Global) -> bool {
+/// Whether seats of a bound for two cycles read the least length.
+fn are_read(rt: &(impl Threads + Wait + Sync), alloc: Global) -> bool {
     let Some(relation) = related(alloc, THREE_AND_FOUR) else {
         return false;
     };
-    has_two_cycles(&relation) && reads_below_a_thread(rt, alloc, &relation)
+    has_two_cycles(&relation) && read_the_least(rt, alloc, &relation)
 }
 
 #[test]
-fn a_seat_reads_what_an_ended_thread_found(rt: HostRuntime) -> Result<(), Fail> {
-    assert!(rt; is_read_after_a_thread(&rt, rt.alloc()));
+fn seats_read_the_least_length(rt: HostRuntime) -> Result<(), Fail> {
+    assert!(rt; are_read(&rt, rt.alloc()));
     Ok(())
 }
 

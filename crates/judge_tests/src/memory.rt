@@ -5,6 +5,7 @@
 ghost use Rattle.std.specs.Prelude.{◌≤◌};
 ghost use Rattle.common.specs.declared.limits.TheConstants.{MAX_WORKERS};
 
+use crate::recordings::{OVERLOOKED_STORE, STORE_BUFFERING, THREE_AND_FOUR};
 use judge::judge;
 use recorder::read_recording;
 use recording::{RecError, Recording};
@@ -14,30 +15,13 @@ use std::sync::Wait;
 use std::test::Fail;
 use std::thread::Threads;
 
-/// Store buffering, of which TSO allows an order.
-const ORDERED: &str =
-    "{\"cores\":[[{\"a\":0,\"k\":\"S\",\"w\":1},{\"a\":1,\"k\":\"L\",\"r\":0,\"s\":null}],\
-    [{\"a\":1,\"k\":\"S\",\"w\":1},{\"a\":0,\"k\":\"L\",\"r\":0,\"s\":null}]],\"version\":1,\"writes\":[[0],[2]]}";
-
-/// A load that overlooks its core's store.
-const OVERLOOK: &str =
-    "{\"cores\":[[{\"a\":0,\"k\":\"S\",\"w\":1},{\"a\":0,\"k\":\"L\",\"r\":0,\"s\":null}]],\
-    \"version\":1,\"writes\":[[0]]}";
-
-/// Two cycles, of 4 and of 3 events.
-const CYCLIC: &str = "{\"cores\":[[{\"a\":0,\"k\":\"S\",\"w\":1},{\"a\":1,\"k\":\"S\",\"w\":1}],\
-    [{\"a\":1,\"k\":\"L\",\"r\":1,\"s\":1},{\"a\":0,\"k\":\"L\",\"r\":0,\"s\":null}],\
-    [{\"a\":2,\"k\":\"S\",\"w\":1}],\
-    [{\"a\":2,\"k\":\"L\",\"r\":1,\"s\":4},{\"a\":2,\"k\":\"L\",\"r\":0,\"s\":null}]],\
-    \"version\":1,\"writes\":[[0],[1],[4]]}";
-
 /// Whether the text of the verdict begins as usual; none where there was no memory.
 fn is_usual<R: Threads + Wait + Sync>(
     rt: &R,
     alloc: Global,
     recording: &Recording,
     workers: usize,
-    usual: &[u8],
+    usual: &str,
 ) -> Option<bool>
     requires { (1 ≤ workers) × (workers ≤ MAX_WORKERS) }
 {
@@ -47,7 +31,7 @@ fn is_usual<R: Threads + Wait + Sync>(
     let Ok(text) = verdict_text(alloc, recording, &verdict) else {
         return None;
     };
-    Some(text.as_slice().starts_with(usual))
+    Some(text.as_slice().starts_with(usual.as_bytes()))
 }
 
 /// Whether a text is judged as usual by this many workers, twice, where at most one growth is refused.
@@ -56,7 +40,7 @@ fn is_judged<R: Threads + Wait + Sync>(
     alloc: Global,
     text: &str,
     workers: usize,
-    usual: &[u8],
+    usual: &str,
 ) -> bool
     requires { (1 ≤ workers) × (workers ≤ MAX_WORKERS) }
 {
@@ -73,39 +57,21 @@ fn is_judged<R: Threads + Wait + Sync>(
     }
 }
 
-#[test]
-fn an_order_or_no_memory(rt: HostRuntime) -> Result<(), Fail> {
-    assert!(rt; is_judged(&rt, rt.alloc(), ORDERED, 1, b"ordered: 1 2 3 0\n"));
-    assert!(rt; is_judged(&rt, rt.alloc(), ORDERED, 2, b"ordered: 1 2 3 0\n"));
-    Ok(())
-}
+/// An order, an overlook and a cycle, and how their texts begin.
+const USUAL: &[(&str, &str)] = &[
+    (STORE_BUFFERING, "ordered: 1 2 3 0\n"),
+    (OVERLOOKED_STORE, "overlook: load 1 store 0\n"),
+    (
+        THREE_AND_FOUR,
+        "cycle of 3\n4 -> 5 Rf\n5 -> 6 Po\n6 -> 4 Fr\n",
+    ),
+];
 
 #[test]
-fn an_overlook_or_no_memory(rt: HostRuntime) -> Result<(), Fail> {
-    assert!(rt; is_judged(&rt, rt.alloc(), OVERLOOK, 1, b"overlook: load 1 store 0\n"));
-    assert!(rt; is_judged(&rt, rt.alloc(), OVERLOOK, 2, b"overlook: load 1 store 0\n"));
-    Ok(())
-}
-
-#[test]
-fn a_cycle_or_no_memory(rt: HostRuntime) -> Result<(), Fail> {
-    assert!(rt;
-        is_judged(
-            &rt,
-            rt.alloc(),
-            CYCLIC,
-            1,
-            b"cycle of 3\n4 -> 5 Rf\n5 -> 6 Po\n6 -> 4 Fr\n"
-        )
-    );
-    assert!(rt;
-        is_judged(
-            &rt,
-            rt.alloc(),
-            CYCLIC,
-            2,
-            b"cycle of 3\n4 -> 5 Rf\n5 -> 6 Po\n6 -> 4 Fr\n"
-        )
-    );
+fn a_verdict_or_no_memory(rt: HostRuntime) -> Result<(), Fail> {
+    for (text, usual) in USUAL {
+        assert!(rt; is_judged(&rt, rt.alloc(), *text, 1, *usual));
+        assert!(rt; is_judged(&rt, rt.alloc(), *text, 2, *usual));
+    }
     Ok(())
 }

@@ -6,14 +6,11 @@ ghost use Rattle.best.specs.Seats.{IsBestSeatOf, known_of};
 ghost use Rattle.search.specs.SourceRow.{AreShared};
 
 use crate::bound::begun;
-use crate::limits::puts_reversed_write_list;
 use crate::recordings::{THREE_AND_FOUR, recorded, related};
 use best::{Best, BestSeat};
 use common::{EventId, Gate, MAX_EVENTS, OpenGate};
 use judge::{Verdict, judge_gated};
-use recorder::read_recording;
-use recording::Recording;
-use relations::Relation;
+use recording::{Event, Recording};
 use report::{MemorySink, MemorySource, Outcome, answer};
 use search::{SourceJob, least_length, run_jobs};
 use std::alloc::Global;
@@ -29,7 +26,7 @@ const DONE: u64 = 1 << 32;
 /// Notes who begins and is done with each piece, and holds the worker that begins first until
 /// another is done with a piece.
 #[derive(Drop)]
-pub struct Watch {
+struct Watch {
     /// Of each piece 0, then its worker's number plus 1, and `DONE` more once it is done.
     pieces: Vec<AtomicU64>,
     workers: usize,
@@ -45,7 +42,7 @@ fn note_of(worker: usize) -> u64 {
 
 impl Watch {
     /// One of this many pieces and workers.
-    pub fn new(alloc: Global, pieces: usize, workers: usize) -> Option<Watch> {
+    fn new(alloc: Global, pieces: usize, workers: usize) -> Option<Watch> {
         let mut notes = Vec::new(alloc);
         for _ in 0..pieces {
             notes.push(AtomicU64::new(0)).ok()?;
@@ -76,28 +73,15 @@ impl Watch {
         }
     }
 
-    /// Whether another worker is done with a piece.
-    fn another_is_done(&self, worker: usize) -> bool {
-        for note in &self.pieces {
-            let noted = note.load(Ordering::SeqCst);
-            if noted > DONE && noted != DONE.wrapping_add(note_of(worker)) {
-                return true;
-            }
-        }
-        false
-    }
-
     /// Whether a worker is done with a piece.
     fn has_worked(&self, worker: usize) -> bool {
-        for note in &self.pieces {
-            if note.load(Ordering::SeqCst) == DONE.wrapping_add(note_of(worker)) {
-                return true;
-            }
-        }
-        false
+        let done = DONE.wrapping_add(note_of(worker));
+        self.pieces
+            .iter()
+            .any(|note| note.load(Ordering::SeqCst) == done)
     }
 
-    /// How many workers have worked.
+    /// How many workers are done with a piece.
     fn at_work(&self) -> usize {
         let mut count = 0usize;
         for worker in 0..self.workers {
@@ -110,17 +94,17 @@ impl Watch {
 
     /// Whether each piece was begun once and then done once by its worker.
     fn is_done(&self) -> bool {
-        for note in &self.pieces {
-            if note.load(Ordering::SeqCst) <= DONE {
-                return false;
-            }
-        }
-        !self.wrong.load(Ordering::SeqCst)
+        let wrong = self.wrong.load(Ordering::SeqCst);
+        !wrong
+            && self
+                .pieces
+                .iter()
+                .all(|note| note.load(Ordering::SeqCst) > DONE)
     }
 
     /// Whether each piece was made once, by this many workers, of which the first that began was passed by
     /// another, where there is one.
-    pub fn is_right(&self, at_work: usize) -> bool {
+    fn is_right(&self, at_work: usize) -> bool {
         let passed = self.passed.load(Ordering::SeqCst);
         self.is_done() && self.at_work() == at_work && passed == (at_work > 1)
     }
@@ -131,7 +115,8 @@ impl Gate for Watch {
         self.change(worker, piece, 0, note_of(worker));
         if self.started.fetch_add(1, Ordering::SeqCst) == 0 && self.workers > 1 {
             for _ in 0..10_000_000 {
-                if self.another_is_done(worker) {
+                // This worker is not.
+                if self.at_work() > 0 {
                     self.passed.store(true, Ordering::SeqCst);
                     break;
                 }
@@ -146,7 +131,7 @@ impl Gate for Watch {
     }
 }
 
-/// Whether workers leave a shortest length in the seat, where it is the cap of the rows too.
+/// Whether workers leave the length of the shorter cycle in the seat, where it is the cap of the rows too.
 fn leave<G: Gate>(
     rt: &(impl Threads + Wait + Sync),
     alloc: Global,
@@ -154,7 +139,6 @@ fn leave<G: Gate>(
     best: &Best,
     seat: &mut BestSeat,
     workers: usize,
-    length: u16,
     gate: &G,
 ) -> bool
     requires seat { IsBestSeatOf best.now seat.old }
@@ -164,24 +148,7 @@ fn leave<G: Gate>(
     let Ok(rows) = run_jobs(rt, alloc, jobs, best, seat, workers, gate) else {
         return false;
     };
-    best.read(seat) == Some(length) && least_length(&rows) == Some(length)
-}
-
-/// Whether this many workers find the length of the shortest cycles of a relation.
-fn find<G: Gate>(
-    rt: &(impl Threads + Wait + Sync),
-    alloc: Global,
-    relation: Relation,
-    workers: usize,
-    length: u16,
-    gate: &G,
-) -> bool
-    requires { (1 ≤ workers) × (workers ≤ MAX_WORKERS) }
-{
-    let Some((jobs, best, mut seat)) = begun(alloc, relation) else {
-        return false;
-    };
-    leave(rt, alloc, jobs, &best, &mut seat, workers, length, gate)
+    best.read(seat) == Some(3) && least_length(&rows) == Some(3)
 }
 
 /// Whether this many workers find the shorter of two cycles.
@@ -196,34 +163,20 @@ fn find_the_shorter<G: Gate>(
     let Some(relation) = related(alloc, THREE_AND_FOUR) else {
         return false;
     };
-    find(rt, alloc, relation, workers, 3, gate)
-}
-
-/// Whether two workers find the shorter cycle while the one that begins first is held.
-fn find_past_a_held_worker(rt: &(impl Threads + Wait + Sync), alloc: Global) -> bool {
-    let Some(watch) = Watch::new(alloc, 7, 2) else {
+    let Some((jobs, best, mut seat)) = begun(alloc, relation) else {
         return false;
     };
-    find_the_shorter(rt, alloc, 2, &watch) && watch.is_right(2)
+    leave(rt, alloc, jobs, &best, &mut seat, workers, gate)
 }
 
 #[test]
 fn workers_leave_the_shortest_length(rt: HostRuntime) -> Result<(), Fail> {
     assert!(rt; find_the_shorter(&rt, rt.alloc(), 1, &OpenGate));
     assert!(rt; find_the_shorter(&rt, rt.alloc(), 2, &OpenGate));
-    assert!(rt; find_past_a_held_worker(&rt, rt.alloc()));
     Ok(())
 }
 
-/// Whether the verdict is a cycle of these events.
-fn is_cycle(verdict: &Verdict, events: &[EventId]) -> bool {
-    match verdict {
-        Verdict::Cycle(certificate) => certificate.cycle.as_slice() == events,
-        _ => false,
-    }
-}
-
-/// Whether this many workers judge that a cycle is the least.
+/// Whether this many workers judge that a recording has a cycle of these events.
 fn is_judged<R: Threads + Wait + Sync>(
     rt: &R,
     alloc: Global,
@@ -234,139 +187,90 @@ fn is_judged<R: Threads + Wait + Sync>(
 ) -> bool
     requires { (1 ≤ workers) × (workers ≤ MAX_WORKERS) }
 {
-    let Ok(verdict) = judge_gated(rt, alloc, recording, workers, watch) else {
-        return false;
-    };
-    is_cycle(&verdict, events)
+    match judge_gated(rt, alloc, recording, workers, watch) {
+        Ok(Verdict::Cycle(certificate)) => certificate.cycle.as_slice() == events,
+        _ => false,
+    }
 }
 
-/// Whether two workers judge so while the one that begins first is held.
-fn is_judged_past_a_held_worker<R: Threads + Wait + Sync>(rt: &R, alloc: Global) -> bool {
-    let (Some(recording), Some(watch)) = (recorded(alloc, THREE_AND_FOUR), Watch::new(alloc, 7, 2))
-    else {
-        return false;
-    };
-    is_judged(rt, alloc, &recording, 2, &[4, 5, 6], &watch) && watch.is_right(2)
+/// Whether two workers judge that the shorter of two cycles is the least.
+fn is_judged_shorter<R: Threads + Wait + Sync>(rt: &R, alloc: Global, watch: &Watch) -> bool {
+    match recorded(alloc, THREE_AND_FOUR) {
+        Some(recording) => is_judged(rt, alloc, &recording, 2, &[4, 5, 6], watch),
+        None => false,
+    }
 }
 
-#[test]
-fn a_judge_waits_for_no_worker(rt: HostRuntime) -> Result<(), Fail> {
-    assert!(rt; is_judged_past_a_held_worker(&rt, rt.alloc()));
-    Ok(())
+/// Whether the answer of two workers begins with the shorter of two cycles.
+fn is_answered_shorter<R: Threads + Wait + Sync>(rt: &R, alloc: Global, watch: &Watch) -> bool {
+    let mut source = MemorySource::new(THREE_AND_FOUR.as_bytes());
+    let mut sink = MemorySink::new(alloc);
+    let answered = answer(rt, alloc, &mut source, &mut sink, 2, watch);
+    let shorter = b"cycle of 3\n4 -> 5 Rf\n5 -> 6 Po\n6 -> 4 Fr\n";
+    answered == Ok(Outcome::Violation) && sink.written().starts_with(shorter)
 }
 
-/// The recording of a text.
-fn read(alloc: Global, text: &[u8]) -> Option<Recording> {
-    read_recording(alloc, text).ok()
-}
-
-/// The forced pairs of the recording of a text.
-fn related_in(alloc: Global, text: &[u8]) -> Option<Relation> {
-    let Some(recording) = read(alloc, text) else {
-        return None;
-    };
-    Relation::of(alloc, &recording).ok()
-}
-
-/// Whether this many workers find the cycle of a text's stores in reverse, and this many of them make each
-/// row once.
-fn find_in_reverse<R: Threads + Wait + Sync>(
-    rt: &R,
-    alloc: Global,
-    text: &[u8],
-    events: usize,
-    workers: usize,
-    at_work: usize,
-) -> bool
-    requires { (1 ≤ workers) × (workers ≤ MAX_WORKERS) }
-{
-    let (Some(relation), Some(watch)) = (
-        related_in(alloc, text),
-        Watch::new(alloc, events, workers),
+/// Whether two workers find, judge and answer so while the one that begins first is held.
+fn is_passed<R: Threads + Wait + Sync>(rt: &R, alloc: Global) -> bool {
+    let (Some(found), Some(judged), Some(answered)) = (
+        Watch::new(alloc, 7, 2),
+        Watch::new(alloc, 7, 2),
+        Watch::new(alloc, 7, 2),
     ) else {
         return false;
     };
-    find(rt, alloc, relation, workers, 2, &watch) && watch.is_right(at_work)
+    find_the_shorter(rt, alloc, 2, &found)
+        && found.is_right(2)
+        && is_judged_shorter(rt, alloc, &judged)
+        && judged.is_right(2)
+        && is_answered_shorter(rt, alloc, &answered)
+        && answered.is_right(2)
 }
 
-/// Whether they judge so.
-fn is_judged_in_reverse<R: Threads + Wait + Sync>(
-    rt: &R,
-    alloc: Global,
-    text: &[u8],
-    events: usize,
-    workers: usize,
-    at_work: usize,
-) -> bool
-    requires { (1 ≤ workers) × (workers ≤ MAX_WORKERS) }
-{
-    let (Some(recording), Some(watch)) = (read(alloc, text), Watch::new(alloc, events, workers))
-    else {
-        return false;
-    };
-    is_judged(rt, alloc, &recording, workers, &[0, 1], &watch) && watch.is_right(at_work)
+#[test]
+fn a_worker_waits_for_no_other(rt: HostRuntime) -> Result<(), Fail> {
+    assert!(rt; is_passed(&rt, rt.alloc()));
+    Ok(())
 }
 
-/// Whether the answer of this many workers to a text begins so.
-pub fn begins_so<R: Threads + Wait + Sync>(
-    rt: &R,
-    alloc: Global,
-    text: &[u8],
-    workers: usize,
-    beginning: &[u8],
-    watch: &Watch,
-) -> bool
-    requires { (1 ≤ workers) × (workers ≤ MAX_WORKERS) }
-{
-    let mut source = MemorySource::new(text);
-    let mut sink = MemorySink::new(alloc);
-    let answered = answer(rt, alloc, &mut source, &mut sink, workers, watch);
-    answered == Ok(Outcome::Violation) && sink.written().starts_with(beginning)
-}
-
-/// Whether they answer so.
-fn is_answered_in_reverse<R: Threads + Wait + Sync>(
-    rt: &R,
-    alloc: Global,
-    text: &[u8],
-    events: usize,
-    workers: usize,
-    at_work: usize,
-) -> bool
-    requires { (1 ≤ workers) × (workers ≤ MAX_WORKERS) }
-{
-    let Some(watch) = Watch::new(alloc, events, workers) else {
-        return false;
-    };
-    begins_so(rt, alloc, text, workers, b"cycle of 2\n0 -> 1 Po\n", &watch)
-        && watch.is_right(at_work)
+/// A core with this many stores to one address, whose write list is their reverse.
+fn reversed(alloc: Global, events: EventId) -> Option<Recording> {
+    let mut list = Vec::new(alloc);
+    for number in 0..events {
+        list.push(events - 1 - number).ok()?;
+    }
+    let core = Vec::from_elem(alloc, Event::S { a: 0, w: 1 }, events as usize).ok()?;
+    let cores = vec![in alloc; core].ok()?;
+    let writes = vec![in alloc; list].ok()?;
+    let init = vec![in alloc; 0].ok()?;
+    Recording::from_parts(cores, writes, init).ok()
 }
 
 /// Whether each row of this many stores in reverse is made once, by this many of the workers.
 fn is_made_once<R: Threads + Wait + Sync>(
     rt: &R,
     alloc: Global,
-    events: usize,
+    events: EventId,
     workers: usize,
     at_work: usize,
 ) -> bool
     requires { (1 ≤ workers) × (workers ≤ MAX_WORKERS) }
 {
-    let mut text = String::new(alloc);
-    puts_reversed_write_list(&mut text, events)
-        && find_in_reverse(rt, alloc, text.as_bytes(), events, workers, at_work)
-        && is_judged_in_reverse(rt, alloc, text.as_bytes(), events, workers, at_work)
-        && is_answered_in_reverse(rt, alloc, text.as_bytes(), events, workers, at_work)
+    let (Some(recording), Some(watch)) = (
+        reversed(alloc, events),
+        Watch::new(alloc, events as usize, workers),
+    ) else {
+        return false;
+    };
+    is_judged(rt, alloc, &recording, workers, &[0, 1], &watch) && watch.is_right(at_work)
 }
 
 // Of as many workers as may be asked for, few events occupy two, and the most events three.
 #[test]
 fn workers_make_each_row_once(rt: HostRuntime) -> Result<(), Fail> {
     assert!(rt; is_made_once(&rt, rt.alloc(), 40, 1, 1));
-    assert!(rt; is_made_once(&rt, rt.alloc(), 40, 3, 2));
     assert!(rt; is_made_once(&rt, rt.alloc(), 40, 8, 2));
-    assert!(rt; is_made_once(&rt, rt.alloc(), MAX_EVENTS, 2, 2));
-    assert!(rt; is_made_once(&rt, rt.alloc(), MAX_EVENTS, 3, 3));
-    assert!(rt; is_made_once(&rt, rt.alloc(), MAX_EVENTS, 8, 3));
+    assert!(rt; is_made_once(&rt, rt.alloc(), MAX_EVENTS as EventId, 2, 2));
+    assert!(rt; is_made_once(&rt, rt.alloc(), MAX_EVENTS as EventId, 8, 3));
     Ok(())
 }

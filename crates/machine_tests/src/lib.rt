@@ -1,4 +1,4 @@
-//! Tests of the machine and its parts, its scripts and its threads, together with the rules of TSO.
+//! Tests of the machine and its parts and its threads, together with the rules of TSO.
 #![tactic(auto)]
 
 #[cfg(test)]
@@ -13,11 +13,5 @@ mod memory;
 mod plain;
 #[cfg(test)]
 mod runs;
-#[cfg(test)]
-mod scripts;
-#[cfg(test)]
-mod threads;
-#[cfg(test)]
-mod told;
 #[cfg(test)]
 mod traces;

@@ -29,7 +29,6 @@ type Data = (u32, Option<EventId>);
 enum Row {
     GetS(CoreId, Answer),
     GetM(CoreId, Answer),
-    GetMStale(CoreId, Answer),
     Put(CoreId, Answer),
     Write(CoreId, u32, EventId, Answer),
     Read(CoreId, Result<Data, CacheError>),
@@ -46,54 +45,6 @@ impl OneAddress {
         })
     }
 
-    // Each of these calls answers none where its core or its event is not there.
-
-    fn get_s(&mut self, core: CoreId) -> Option<Answer> {
-        if core >= self.cores {
-            return None;
-        }
-        Some(self.caches.get_s(core, 0))
-    }
-
-    fn get_m(&mut self, core: CoreId) -> Option<Answer> {
-        if core >= self.cores {
-            return None;
-        }
-        Some(self.caches.get_m(core, 0))
-    }
-
-    fn get_m_stale(&mut self, core: CoreId) -> Option<Answer> {
-        if core >= self.cores {
-            return None;
-        }
-        Some(self.caches.get_m_stale(core, 0))
-    }
-
-    fn put(&mut self, core: CoreId) -> Option<Answer> {
-        if core >= self.cores {
-            return None;
-        }
-        Some(self.caches.put(core, 0))
-    }
-
-    fn write(&mut self, core: CoreId, value: u32, event: EventId) -> Option<Answer> {
-        if core >= self.cores || event as usize >= MAX_EVENTS {
-            return None;
-        }
-        Some(self.caches.write(core, 0, value, event))
-    }
-
-    fn read(&self, core: CoreId) -> Option<Result<Data, CacheError>> {
-        if core >= self.cores {
-            return None;
-        }
-        Some(self.caches.read(core, 0))
-    }
-
-    fn memory(&self) -> Data {
-        self.caches.memory(0)
-    }
-
     /// Whether the lines of the cores are these.
     fn are(&self, lines: &[Line]) -> bool {
         for core in 0..self.cores {
@@ -107,15 +58,20 @@ impl OneAddress {
     /// Whether the row's call answers so.
     fn answers(&mut self, row: &Row) -> bool {
         match row {
-            Row::GetS(core, answer) => self.get_s(*core) == Some(*answer),
-            Row::GetM(core, answer) => self.get_m(*core) == Some(*answer),
-            Row::GetMStale(core, answer) => self.get_m_stale(*core) == Some(*answer),
-            Row::Put(core, answer) => self.put(*core) == Some(*answer),
-            Row::Write(core, value, event, answer) => {
-                self.write(*core, *value, *event) == Some(*answer)
+            Row::GetS(core, answer) => {
+                *core < self.cores && self.caches.get_s(*core, 0) == *answer
             }
-            Row::Read(core, answer) => self.read(*core) == Some(*answer),
-            Row::Memory(data) => self.memory() == *data,
+            Row::GetM(core, answer) => {
+                *core < self.cores && self.caches.get_m(*core, 0) == *answer
+            }
+            Row::Put(core, answer) => *core < self.cores && self.caches.put(*core, 0) == *answer,
+            Row::Write(core, value, event, answer) => {
+                *core < self.cores
+                    && (*event as usize) < MAX_EVENTS
+                    && self.caches.write(*core, 0, *value, *event) == *answer
+            }
+            Row::Read(core, answer) => *core < self.cores && self.caches.read(*core, 0) == *answer,
+            Row::Memory(data) => self.caches.memory(0) == *data,
             Row::Lines(lines) => self.are(lines),
         }
     }
@@ -179,25 +135,5 @@ const GIVEN_AWAY: &[Row] = &[
 #[test]
 fn an_owner_gives_its_line_away(rt: HostRuntime) -> Result<(), Fail> {
     assert!(rt; answers_all(rt.alloc(), 2, GIVEN_AWAY)?);
-    Ok(())
-}
-
-const STALE: &[Row] = &[
-    Row::GetS(0, DONE),
-    Row::GetS(1, DONE),
-    Row::Lines(&[S, S, I]),
-    Row::GetMStale(0, DONE),
-    Row::Write(0, 7, 0, DONE),
-    Row::Lines(&[M, S, I]),
-    Row::GetMStale(0, Err(CacheError::C2)),
-    Row::GetS(2, DONE),
-    Row::Lines(&[O, S, S]),
-    Row::Read(1, Ok((0, None))),
-    Row::Read(2, Ok((7, Some(0)))),
-];
-
-#[test]
-fn a_stale_line_keeps_its_old_data(rt: HostRuntime) -> Result<(), Fail> {
-    assert!(rt; answers_all(rt.alloc(), 3, STALE)?);
     Ok(())
 }

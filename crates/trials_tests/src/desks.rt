@@ -6,16 +6,18 @@ ghost use Rattle.trials.specs.Campaigns.{Plan};
 ghost use Rattle.trials.specs.Looking.{IsDeskSeatOf};
 
 use crate::campaigns::campaign;
+use common::{Gate, OpenGate};
 use machine::Fault;
 use std::alloc::Global;
 use std::sync::Wait;
+use std::sync::atomic::{AtomicBool, Ordering};
 use std::test::Fail;
 use std::thread;
 use std::thread::{Scope, Threads};
-use trials::{Campaign, Desk, DeskSeat, Filed, Look, trial};
+use trials::{Campaign, Desk, DeskSeat, Filed, Look, trial, try_one};
 
 /// The campaign of three trials.
-pub fn three_trials() -> Result<Campaign, Fail>
+fn three_trials() -> Result<Campaign, Fail>
     ensures { IfOk result (λ short. short.trials ≡ 3) }
 {
     let short = campaign((2, 1, 1), 3, 1, Fault::None)?;
@@ -37,7 +39,7 @@ fn first_trial(alloc: Global, short: &Campaign) -> Result<Filed, Fail>
 }
 
 /// A desk, and a seat.
-pub fn desk_of(alloc: Global, short: &Campaign) -> Result<(Desk, DeskSeat), Fail>
+fn desk_of(alloc: Global, short: &Campaign) -> Result<(Desk, DeskSeat), Fail>
     ensures { IfOk result (λ r. IsDeskSeatOf r.0 r.1 × (r.1.seat.me.0 ≡ first_view short.now)) }
 {
     match Desk::open(alloc, short) {
@@ -47,7 +49,7 @@ pub fn desk_of(alloc: Global, short: &Campaign) -> Result<(Desk, DeskSeat), Fail
 }
 
 /// A second seat beside one that has claimed and seen nothing, and neither has it.
-pub fn beside(first: &mut DeskSeat) -> Result<DeskSeat, Fail>
+fn beside(first: &mut DeskSeat) -> Result<DeskSeat, Fail>
     requires { (plan : Plan) × (first.old.seat.me.0 ≡ first_view plan) }
     ensures same { first.new.seat.table_id ≡ first.old.seat.table_id }
     ensures old { OnOk result (first.new.seat.me.0 ≡ with_others first.old.seat.me.0) }
@@ -75,7 +77,7 @@ fn claims(desk: &Desk, seat: &mut DeskSeat, k: usize) -> bool
 }
 
 /// What a seat sees of a trial.
-pub fn sees(desk: &Desk, seat: &mut DeskSeat, k: usize) -> Look
+fn sees(desk: &Desk, seat: &mut DeskSeat, k: usize) -> Look
     requires seat { IsDeskSeatOf desk.now seat.old }
     requires trial { k < seat.old.seat.me.0.campaign.trials }
     ensures seat { IsDeskSeatOf desk.now seat.new }
@@ -173,39 +175,44 @@ fn what_a_seat_files_another_sees(rt: HostRuntime) -> Result<(), Fail> {
     Ok(())
 }
 
-/// Starts a thread that claims and files a trial.
-fn start<'s, E>(scope: &Scope<'s, E>, desk: &'s Desk, seat: DeskSeat, filed: Filed)
+/// Starts a thread that claims and files trial 0.
+fn start<'s, E, G: Gate>(
+    scope: &Scope<'s, E>,
+    alloc: Global,
+    short: &'s Campaign,
+    desk: &'s Desk,
+    seat: DeskSeat,
+    gate: &'s G,
+)
     requires seat { IsDeskSeatOf desk.now seat }
-    requires new { seat.seat.me.0 ≡ with_others (first_view filed.campaign) }
-    requires trial { filed.trial < filed.campaign.trials }
+    requires campaign { (seat.seat.me.0.campaign ≡ short.now) × (short.now.trials ≡ 3) }
 {
     let mut seat = seat;
     let there = move ||
         requires seat { IsDeskSeatOf desk.now seat }
-        requires new { seat.seat.me.0 ≡ with_others (first_view filed.campaign) }
-        requires trial { filed.trial < filed.campaign.trials }
-    {
-        if desk.claim(&mut seat, filed.trial()) {
-            desk.file(&mut seat, &filed);
-        }
-    };
+        requires campaign { (seat.seat.me.0.campaign ≡ short.now) × (short.now.trials ≡ 3) }
+    { try_one(alloc, short, desk, &mut seat, gate, 0, 0) };
     let _ = scope.spawn(there);
 }
 
-/// Claims and files a trial in a thread, which has ended when this returns.
-fn file_in_a_thread(rt: &(impl Threads + Wait + Sync), desk: &Desk, seat: DeskSeat, filed: Filed)
+/// Claims and files trial 0 in a thread, which has ended when this returns.
+fn file_in_a_thread(
+    rt: &(impl Threads + Wait + Sync),
+    alloc: Global,
+    short: &Campaign,
+    desk: &Desk,
+    seat: DeskSeat,
+)
     requires seat { IsDeskSeatOf desk.now seat }
-    requires new { seat.seat.me.0 ≡ with_others (first_view filed.campaign) }
-    requires trial { filed.trial < filed.campaign.trials }
+    requires campaign { (seat.seat.me.0.campaign ≡ short.now) × (short.now.trials ≡ 3) }
 {
     thread::scope(
         thread::scope_env(),
         rt,
         |scope|
             requires seat { IsDeskSeatOf desk.now seat }
-            requires new { seat.seat.me.0 ≡ with_others (first_view filed.campaign) }
-            requires trial { filed.trial < filed.campaign.trials }
-        { start(scope, desk, seat, filed) },
+            requires campaign { (seat.seat.me.0.campaign ≡ short.now) × (short.now.trials ≡ 3) }
+        { start(scope, alloc, short, desk, seat, &OpenGate) },
     )
 }
 
@@ -214,21 +221,102 @@ fn seen_after(
     rt: &(impl Threads + Wait + Sync),
     alloc: Global,
     short: &Campaign,
-    filed: Filed,
 ) -> Result<Look, Fail>
-    requires campaign { (filed.campaign ≡ short.now) × (short.now.trials ≡ 3) }
-    requires trial { filed.trial ≡ 0 }
+    requires { short.now.trials ≡ 3 }
 {
     let (desk, mut first) = desk_of(alloc, short)?;
     let mut second = beside(&mut first)?;
-    file_in_a_thread(rt, &desk, first, filed);
+    file_in_a_thread(rt, alloc, short, &desk, first);
     Ok(sees(&desk, &mut second, 0))
 }
 
 #[test]
 fn a_seat_sees_what_an_ended_thread_filed(rt: HostRuntime) -> Result<(), Fail> {
     let short = three_trials()?;
-    let filed = first_trial(rt.alloc(), &short)?;
-    assert!(rt; seen_after(&rt, rt.alloc(), &short, filed)? == Look::Filed(2));
+    assert!(rt; seen_after(&rt, rt.alloc(), &short)? == Look::Filed(2));
+    Ok(())
+}
+
+/// The end of a trial, which is held until another seat has looked.
+#[derive(Drop)]
+struct Ending {
+    done: AtomicBool,
+    looked: AtomicBool,
+}
+
+/// Waits for a flag, for this many turns at most.
+fn wait_for(flag: &AtomicBool) {
+    for _ in 0..100_000_000 {
+        if flag.load(Ordering::SeqCst) {
+            break;
+        }
+        thread::yield_now();
+    }
+}
+
+impl Gate for Ending {
+    fn begin(&self, _worker: usize, _trial: usize) {}
+
+    fn done(&self, _worker: usize, _trial: usize) {
+        self.done.store(true, Ordering::SeqCst);
+        wait_for(&self.looked);
+    }
+}
+
+/// What a seat sees of trial 0, while the end of it in another thread is held.
+fn seen_while_held(
+    rt: &(impl Threads + Wait + Sync),
+    alloc: Global,
+    short: &Campaign,
+    desk: &Desk,
+    first: DeskSeat,
+    second: DeskSeat,
+    gate: &Ending,
+) -> Look
+    requires seats { IsDeskSeatOf desk.now first × IsDeskSeatOf desk.now second }
+    requires first { first.seat.me.0.campaign ≡ short.now }
+    requires second { second.seat.me.0.campaign ≡ short.now }
+    requires trials { short.now.trials ≡ 3 }
+{
+    thread::scope(
+        thread::scope_env(),
+        rt,
+        |scope| -> Look
+            requires seats { IsDeskSeatOf desk.now first × IsDeskSeatOf desk.now second }
+            requires first { first.seat.me.0.campaign ≡ short.now }
+            requires second { second.seat.me.0.campaign ≡ short.now }
+            requires trials { short.now.trials ≡ 3 }
+        {
+            let mut second = second;
+            start(scope, alloc, short, desk, first, gate);
+            wait_for(&gate.done);
+            let seen = sees(desk, &mut second, 0);
+            gate.looked.store(true, Ordering::SeqCst);
+            seen
+        },
+    )
+}
+
+/// What another seat sees of a trial of which the gate is told that it is done.
+fn seen_when_done(
+    rt: &(impl Threads + Wait + Sync),
+    alloc: Global,
+    short: &Campaign,
+) -> Result<Look, Fail>
+    requires { short.now.trials ≡ 3 }
+{
+    let gate = Ending {
+        done: AtomicBool::new(false),
+        looked: AtomicBool::new(false),
+    };
+    let (desk, mut first) = desk_of(alloc, short)?;
+    let second = beside(&mut first)?;
+    Ok(seen_while_held(rt, alloc, short, &desk, first, second, &gate))
+}
+
+#[test]
+fn a_trial_is_filed_before_it_is_done(rt: HostRuntime) -> Result<(), Fail> {
+    let short = three_trials()?;
+    assert!(rt; seen_when_done(&rt, rt.alloc(), &short)? == Look::Filed(2));
     Ok(())
 }

@@ -6,23 +6,13 @@ mod campaigns;
 #[cfg(test)]
 mod desks;
 #[cfg(test)]
-mod endings;
-#[cfg(test)]
 mod judged;
 #[cfg(test)]
-mod limits;
-#[cfg(test)]
 mod memory;
-#[cfg(test)]
-mod programs;
 #[cfg(test)]
 mod progress_lines;
 #[cfg(test)]
 mod reproduced;
-#[cfg(test)]
-mod schedules;
-#[cfg(test)]
-mod surveyed;
 #[cfg(test)]
 mod told;
 #[cfg(test)]

@@ -1,24 +1,26 @@
 //! What a gate is told of a campaign, or of a survey.
 
-ghost use Rattle.std.specs.Prelude.{◌≤◌, ◌<◌};
+ghost use Rattle.std.specs.Prelude.{◌≤◌};
 ghost use Rattle.common.specs.declared.limits.TheConstants.{MAX_WORKERS};
 
 use crate::campaigns::{campaign, ledger_by};
 use common::Gate;
 use machine::Fault;
-use std::alloc::Global;
+use report::{MemorySink, MemorySource};
+use std::alloc::{AllocError, Global};
 use std::sync::Wait;
 use std::sync::atomic::{AtomicBool, AtomicU64, Ordering};
 use std::test::Fail;
 use std::thread::Threads;
-use trials::{Campaign, Ledger, ORDERED, UNFINISHED, trial};
+use surveys::survey;
+use trials::Campaign;
 
-/// What was told of each trial, by worker w of eight: 1 + w that it begins, 16 more that it is a violation,
-/// 32 more that it is done.
+/// What was told of each trial or recording, by worker w of eight: 1 + w that it begins, 16 more that it is a
+/// violation, 32 more that it is done.
 #[derive(Drop)]
-pub(crate) struct Told {
-    trials: Vec<AtomicU64>,
-    others: AtomicBool,
+struct Told {
+    pieces: Vec<AtomicU64>,
+    wrong: AtomicBool,
 }
 
 /// What worker w adds to begin.
@@ -30,122 +32,126 @@ fn mark(worker: usize) -> u64 {
 }
 
 impl Told {
-    /// A call adds to what was told of a trial before, which has to be one of these two.
-    fn add(&self, trial: usize, more: u64, either: u64, or: u64) {
-        let before = match self.trials.get(trial) {
+    /// The gate of this many pieces, before it is told anything.
+    fn new(alloc: Global, count: usize) -> Result<Told, AllocError> {
+        let mut pieces = Vec::new(alloc);
+        for _ in 0..count {
+            pieces.push(AtomicU64::new(0))?;
+        }
+        Ok(Told {
+            pieces,
+            wrong: AtomicBool::new(false),
+        })
+    }
+
+    /// A call adds to what was told of a piece before, which has to be one of these two.
+    fn add(&self, piece: usize, more: u64, either: u64, or: u64) {
+        let before = match self.pieces.get(piece) {
             Some(told) => told.fetch_add(more, Ordering::SeqCst),
             None => 1000,
         };
         if before != either && before != or {
-            self.others.store(true, Ordering::SeqCst);
+            self.wrong.store(true, Ordering::SeqCst);
         }
     }
 
-    /// How many trials were told of by numbers in these bounds.
-    fn count(&self, least: u64, most: u64) -> usize {
-        self.trials
+    /// How many pieces were told of by numbers from this one to 56.
+    fn count(&self, least: u64) -> usize {
+        self.pieces
             .iter()
-            .filter(|told| (least..=most).contains(&told.load(Ordering::SeqCst)))
+            .filter(|told| (least..=56).contains(&told.load(Ordering::SeqCst)))
             .count()
     }
 
-    /// Whether a trial was told of as a violation.
-    pub(crate) fn is_found(&self, trial: usize) -> bool {
-        match self.trials.get(trial) {
-            Some(told) => told.load(Ordering::SeqCst) >= 49,
-            None => false,
-        }
+    /// Whether each piece was told of as it begins and is done, by one worker, and this many violations, of which
+    /// this is the first.
+    fn is_right(&self, violations: usize, first: Option<usize>) -> bool {
+        let found = self
+            .pieces
+            .iter()
+            .position(|told| told.load(Ordering::SeqCst) >= 49);
+        !self.wrong.load(Ordering::SeqCst)
+            && self.count(33) == self.pieces.len()
+            && self.count(49) == violations
+            && found == first
     }
 }
 
 impl Gate for Told {
-    fn begin(&self, worker: usize, trial: usize) {
-        self.add(trial, mark(worker), 0, 0);
+    fn begin(&self, worker: usize, piece: usize) {
+        self.add(piece, mark(worker), 0, 0);
     }
 
-    fn found(&self, worker: usize, trial: usize) {
-        self.add(trial, 16, mark(worker), mark(worker));
+    fn found(&self, worker: usize, piece: usize) {
+        self.add(piece, 16, mark(worker), mark(worker));
     }
 
-    fn done(&self, worker: usize, trial: usize) {
-        self.add(trial, 32, mark(worker), mark(worker).wrapping_add(16));
-    }
-}
-
-/// The gate of this many trials, before it is told anything.
-pub(crate) fn told_of(alloc: Global, trials: usize) -> Result<Told, Fail> {
-    let mut told = Vec::new(alloc);
-    for _ in 0..trials {
-        told.push(AtomicU64::new(0))?;
-    }
-    Ok(Told {
-        trials: told,
-        others: AtomicBool::new(false),
-    })
-}
-
-/// Whether this many trials were told of, each as it begins and is done, by one worker, and this many violations.
-pub(crate) fn is_told(gate: &Told, trials: usize, violations: usize) -> bool {
-    !gate.others.load(Ordering::SeqCst)
-        && gate.count(33, 56) == trials
-        && gate.count(49, 56) == violations
-}
-
-/// Whether trial k is a violation.
-fn is_violation(alloc: Global, plan: &Campaign, k: usize) -> Result<bool, Fail>
-    requires { k < plan.now.trials }
-{
-    match trial(alloc, plan, k) {
-        Ok(filed) => Ok(filed.code() != UNFINISHED && filed.code() != ORDERED),
-        Err(_) => Err("memory")?,
+    fn done(&self, worker: usize, piece: usize) {
+        self.add(piece, 32, mark(worker), mark(worker).wrapping_add(16));
     }
 }
 
-/// Whether the trials that were told of as violations are those that are.
-fn is_each_found(alloc: Global, plan: &Campaign, gate: &Told) -> Result<bool, Fail> {
-    for k in 0..plan.trials() {
-        if gate.is_found(k) != is_violation(alloc, plan, k)? {
-            return Ok(false);
-        }
-    }
-    Ok(true)
-}
-
-/// The unfinished trials, the overlooks and the cycles of 2 of a campaign.
-type Kinds = (usize, usize, usize);
-
-/// Whether a ledger has this many.
-fn has_kinds(ledger: &Ledger, kinds: Kinds) -> bool {
-    ledger.unjudged == kinds.0
-        && ledger.overlook == kinds.1
-        && ledger.cycles.get(2) == Some(&kinds.2)
-        && ledger.cycles.iter().filter(|count| **count > 0).count() == kinds.2.min(1)
-}
-
-/// Whether this many workers tell so of a campaign with these attempts and this fault, and it has these kinds.
-fn is_each_told<R: Threads + Wait + Sync>(
+/// Whether this many workers tell so of a campaign of 64 trials with this many violations.
+fn is_campaign_told<R: Threads + Wait + Sync>(
     rt: &R,
     alloc: Global,
     faulty: &Campaign,
     workers: usize,
-    kinds: Kinds,
+    violations: usize,
 ) -> Result<bool, Fail>
     requires { (1 ≤ workers) × (workers ≤ MAX_WORKERS) }
 {
-    let gate = told_of(alloc, 64)?;
+    let gate = Told::new(alloc, 64)?;
     let ledger = ledger_by(rt, alloc, faulty, workers, &gate)?;
-    let violations = kinds.1.wrapping_add(kinds.2);
-    let told = is_told(&gate, 64, violations) && has_kinds(&ledger, kinds);
-    Ok(is_each_found(alloc, faulty, &gate)? && told)
+    Ok(gate.is_right(violations, ledger.first))
 }
 
 #[test]
 fn each_trial_begins_once_and_is_done_once_by_one_worker(rt: HostRuntime) -> Result<(), Fail> {
     let overlooks = campaign((2, 4, 2), 64, 100_000, Fault::NoBypass)?;
-    assert!(rt; is_each_told(&rt, rt.alloc(), &overlooks, 2, (0, 17, 0))?);
-    let unfinished = campaign((2, 4, 2), 64, 250, Fault::YoungestFirst)?;
-    assert!(rt; is_each_told(&rt, rt.alloc(), &unfinished, 3, (15, 3, 8))?);
+    assert!(rt; is_campaign_told(&rt, rt.alloc(), &overlooks, 2, 17)?);
     let cycles = campaign((2, 4, 2), 64, 100_000, Fault::YoungestFirst)?;
-    assert!(rt; is_each_told(&rt, rt.alloc(), &cycles, 8, (0, 4, 15))?);
+    assert!(rt; is_campaign_told(&rt, rt.alloc(), &cycles, 8, 19)?);
+    Ok(())
+}
+
+/// An order, nothing, an overlook, a load without its source, and no end.
+const LINES: &str = r#"{"version":1,"writes":[[0]],"cores":[[{"k":"S","a":0,"w":1}]]}
+
+{"version":1,"writes":[[0]],"cores":[[{"k":"S","a":0,"w":1},{"k":"L","a":0,"r":0,"s":null}]]}
+{"version":1,"writes":[[0]],"cores":[[{"k":"S","a":0,"w":1},{"k":"L","a":0,"r":1,"s":1}]]}"#;
+
+/// These lines, 128 times.
+fn many_lines(alloc: Global) -> Result<String, AllocError> {
+    let mut lines = String::new(alloc);
+    for _ in 0..128 {
+        lines.push_str(LINES)?;
+        lines.push('\n')?;
+    }
+    Ok(lines)
+}
+
+/// Whether this many workers tell a gate of each of 384 recordings, a third of which are violations.
+fn is_survey_told<R: Threads + Wait + Sync>(
+    rt: &R,
+    alloc: Global,
+    each: bool,
+    workers: usize,
+) -> Result<bool, AllocError> {
+    let lines = many_lines(alloc)?;
+    let gate = Told::new(alloc, 384)?;
+    let mut source = MemorySource::new(lines.as_bytes());
+    let mut sink = MemorySink::new(alloc);
+    let Ok(_) = survey(rt, alloc, &mut source, &mut sink, each, workers, &gate) else {
+        return Ok(false);
+    };
+    Ok(gate.is_right(128, Some(1)))
+}
+
+#[test]
+fn each_recording_begins_once_and_is_done_once_by_one_worker(rt: HostRuntime) -> Result<(), Fail> {
+    assert!(rt; is_survey_told(&rt, rt.alloc(), false, 1)?);
+    assert!(rt; is_survey_told(&rt, rt.alloc(), false, 8)?);
+    assert!(rt; is_survey_told(&rt, rt.alloc(), true, 3)?);
     Ok(())
 }
