@@ -8,7 +8,7 @@ ghost use Rattle.search.specs.WorkerJobs.{IsRowFor, AreRowsFor};
 ghost use Rattle.search.specs.Slots.{AreSlots, AreSlotsFilled, IsRowFrom};
 
 use crate::label_row::LabelRow;
-use crate::under::row_of;
+use crate::under::row_for;
 use crate::worker_jobs::WorkerRows;
 use best::{Best, BestSeat};
 use common::{EventId, Gate, OutOfMemory};
@@ -132,7 +132,7 @@ fn add_row<G: Gate>(
         return Ok(());
     }
     gate.begin(0, source as usize);
-    let made = row_of(alloc, relation, source, best, seat);
+    let made = row_for(alloc, relation, source, best, seat);
     gate.done(0, source as usize);
     rows.push(made?)?;
     Ok(())

@@ -62,7 +62,7 @@ fn publish_length(best: &Best, seat: &mut BestSeat, cap: Option<u16>, closing: u
 }
 
 /// The row of a source, as `row_under` gives it.
-pub(crate) fn row_of(
+pub(crate) fn row_for(
     alloc: Global,
     relation: &Arc<Relation>,
     source: EventId,
@@ -112,5 +112,5 @@ pub fn row_under(
         job.now.source) }
     ensures unchanged { IfErr result (λ _. seat.new ≡ seat.old) }
 {
-    row_of(alloc, job.relation(), job.source(), best, seat)
+    row_for(alloc, job.relation(), job.source(), best, seat)
 }

@@ -9,7 +9,7 @@ ghost use Rattle.search.specs.Started.{IsStarted};
 
 use crate::job::SourceJob;
 use crate::label_row::LabelRow;
-use crate::under::row_of;
+use crate::under::row_for;
 use crate::worker_jobs::{RowsPromise, WorkerJobs, WorkerRows};
 use best::{Best, BestSeat};
 use common::{Gate, OutOfMemory};
@@ -37,7 +37,7 @@ fn make_row<G: Gate>(
 {
     let source = job.source();
     gate.begin(worker, source as usize);
-    let made = row_of(alloc, job.relation(), source, best, seat);
+    let made = row_for(alloc, job.relation(), source, best, seat);
     gate.done(worker, source as usize);
     let Ok(row) = made else {
         return;

@@ -18,11 +18,11 @@ returns-in-Some-clause-rows g c =
 pub returns-clause-rows : goal.returns-clause-rows
 returns-clause-rows g c =
     let t = arc_value c.args.relation.now in
-    let after = lengths_of c.row_of-made.new.seat in
+    let after = lengths_of c.row_for-made.new.seat in
     let row : IsRowFrom t after c.args.source c.in_ok-made.field-0 = record {
       shares = c.in_ok-made.ensures.relation;
       from = c.in_ok-made.ensures.source;
       covers = c.in_ok-made.ensures.covers;
     } in
     filled_more t (lengths_of c.args.seat.now) after c.args.source c.args.rows.now.items c.push-2.new.self.items
-    c.in_ok-made.field-0 c.row_of-made.ensures.kept c.requires.rows row c.in_ok-push-2.ensures.items
+    c.in_ok-made.field-0 c.row_for-made.ensures.kept c.requires.rows row c.in_ok-push-2.ensures.items

@@ -10,7 +10,7 @@ use Rattle.search.specs.Bound.{AtMost, Covers, CoversClosing, lengths_of}
 use Rattle.search.proofs.Known.{read_cycle, read_keeps, read_known, read_few, read_within}
 use Rattle.search.proofs.Levels.{written_back}
 use Rattle.search.proofs.Through.{covers_each, shown_length}
-use Rattle.search.proofs.under.row_of.Goals as goal
+use Rattle.search.proofs.under.row_for.Goals as goal
 
 pub read-cap-requires : goal.read-cap-requires
 read-cap-requires c = record { seat = c.requires.seat.0 }
