@@ -34,8 +34,7 @@ pub record IsCampaignAnswer (p : Plan) (answer : Answer) : Type 0 where
   pub all : AreCodes p codes
   pub ledger : Ledger
   pub counted : IsLedger codes ledger
-  pub outcome : answer.outcome ≡ ledger_outcome Unfinished ledger
-  pub text : answer.text.items ≡ campaign_text ledger
+  pub answered : IsTrialsAnswer ledger answer
 
 -- the program of a run, an empty line, and the answer of the run
 pub record IsWholeShown (fault : Fault) (p : Parts) (s : State) (answer : Answer) : Type 0 where

@@ -1,6 +1,6 @@
 //! Violations that are cut down to the events that they need, as answers.
 
-ghost use Rattle.std.specs.Prelude.{◌≡◌, ◌++◌, IfOk, OnOk, IfSome, IfNone, option_map, true};
+ghost use Rattle.std.specs.Prelude.{◌≡◌, ◌++◌, IfOk, OnOk, IfSome, IfNone, option_map};
 ghost use Rattle.recording.specs.FirstUse.{IsNumberedByFirstUse};
 ghost use Rattle.machine.specs.ProgramOf.{IsProgramOf};
 ghost use Rattle.verdicts.specs.Judgement.{IsVerdict};
@@ -22,26 +22,17 @@ use report::{Answer, answer_alone, read_or_refuse, verdict_answer};
 use std::alloc::Global;
 use texts::put_numbers;
 
-/// The line of the numbers that the kept events had, and an empty line.
-fn events_line(alloc: Global, events: &[EventId]) -> Result<Vec<u8>, OutOfMemory>
-    ensures { IfOk result (λ text. text.items ≡ heading true events.now) }
-{
-    let mut out = Vec::new(alloc);
-    out.extend_from_slice(b"events")?;
-    put_numbers(&mut out, events)?;
-    out.extend_from_slice(b"\n\n")?;
-    Ok(out)
-}
-
-/// The same where they are asked for, and else nothing.
+/// The line of the numbers that the kept events had, and an empty line, where they are asked for.
 fn heading_of(alloc: Global, events: &[EventId], headed: bool) -> Result<Vec<u8>, OutOfMemory>
     ensures { IfOk result (λ text. text.items ≡ heading headed events.now) }
 {
+    let mut out = Vec::new(alloc);
     if headed {
-        events_line(alloc, events)
-    } else {
-        Ok(Vec::new(alloc))
+        out.extend_from_slice(b"events")?;
+        put_numbers(&mut out, events)?;
+        out.extend_from_slice(b"\n\n")?;
     }
+    Ok(out)
 }
 
 /// Adds a program, an empty line, and the line of a recording.

@@ -7,7 +7,7 @@ ghost use Rattle.answers.specs.Campaign.{IsShownAnswer, IsShownRun, IsWholeShown
 ghost use Rattle.answers.specs.Reduced.{IsCutAnswer};
 
 use crate::reduced::cut_answer;
-use crate::runs::{ended, finished};
+use crate::runs::ended;
 use common::OutOfMemory;
 use litmus::print;
 use machine::Machine;
@@ -30,16 +30,7 @@ fn prepend_text(mut text: Vec<u8>, answer: Answer) -> Result<Answer, OutOfMemory
     Ok(Answer { outcome, text })
 }
 
-/// The program of a run, an empty line, and what `finished` answers of the machine in which it ends.
-fn whole_run(alloc: Global, machine: Machine) -> Result<Answer, OutOfMemory>
-    ensures { IfOk result (IsWholeShown machine.fault machine.program machine.state) }
-{
-    let text = print(alloc, machine.program())?;
-    let run = finished(alloc, machine)?;
-    prepend_text(text, run)
-}
-
-/// The same by what is judged of the machine.
+/// The program of a run, an empty line, and what is answered of the machine in which it ends, by what is judged of it.
 fn whole_end(
     alloc: Global,
     program: &Program,
@@ -54,18 +45,23 @@ fn whole_end(
     prepend_text(text, run)
 }
 
-/// What is left of the violation in which a run ends; none where it ends in none.
+/// What is left of the violation in which a run ends, where it is to be reduced; none where it ends in none.
 fn cut_end(
     alloc: Global,
     program: &Program,
     judged: &Option<Judged>,
+    reduced: bool,
 ) -> Result<Option<Answer>, OutOfMemory>
     requires { (h : Configuration) × (h.program ≡ program.now) × IsJudgedEnd h judged.now }
+    ensures asked { IfOk result (λ r. IfSome r (λ _. reduced ≡ true)) }
     ensures some { IfOk result (λ r. IfSome r (λ answer. (h : Configuration) → h.program ≡ program.now
         → IsJudgedEnd h judged.now → IsAtEnd h × IsCutAnswer (recording_of h) (Some h.program) false answer)) }
-    ensures none { IfOk result (λ r. IfNone r ((h : Configuration) → h.program ≡ program.now
+    ensures none { IfOk result (λ r. IfNone r (reduced ≡ true → (h : Configuration) → h.program ≡ program.now
         → IsJudgedEnd h judged.now → ¬ IsViolation h.program h.state)) }
 {
+    if !reduced {
+        return Ok(None);
+    }
     match judged {
         Some(Judged { recording, verdict }) => {
             let answer = cut_answer(alloc, recording, Some(program), verdict, false)?;
@@ -75,13 +71,13 @@ fn cut_end(
     }
 }
 
-/// What is left of the violation in which a run ends, and of another end what `whole_run` answers.
-fn reduced_run(alloc: Global, machine: Machine) -> Result<Answer, OutOfMemory>
-    ensures { IfOk result (IsShownRun machine.fault machine.program machine.state true) }
+/// What is left of the violation in which a run ends, where it is to be reduced, and else what `whole_end` answers.
+fn shown_run(alloc: Global, machine: Machine, reduced: bool) -> Result<Answer, OutOfMemory>
+    ensures { IfOk result (IsShownRun machine.fault machine.program machine.state reduced) }
 {
     let program = machine.program().copy(alloc)?;
     let judged = judged_end(alloc, machine)?;
-    match cut_end(alloc, &program, &judged)? {
+    match cut_end(alloc, &program, &judged, reduced)? {
         Some(answer) => Ok(answer),
         None => whole_end(alloc, &program, judged),
     }
@@ -100,9 +96,5 @@ pub fn shown_answer(
     ensures { IfOk result (IsShownAnswer campaign.now k reduced) }
 {
     let machine = run_trial(alloc, campaign, k)?;
-    if reduced {
-        reduced_run(alloc, machine)
-    } else {
-        whole_run(alloc, machine)
-    }
+    shown_run(alloc, machine, reduced)
 }

@@ -7,6 +7,5 @@ returns g c = IfOk-weaker c.trials_answer.result _ _ (λ answer is. record {
   all = c.in-Ok.ensures.counted.1;
   ledger = c.in-Ok.ledger;
   counted = c.in-Ok.ensures.counted.2;
-  outcome = is.outcome;
-  text = is.text;
+  answered = is;
 }) c.trials_answer.ensures
