@@ -313,20 +313,11 @@ module _ {p : List (List Op)} {s : State} (d : IsData p s) where
             refl refl refl;
       }
 
-  -- a transaction keeps the data
-  transact_data : (caches : moesi.CacheState) (c a : ℕ) → IsAnyTransaction s.caches c a caches
-      → IsData p (with_caches s caches)
-  transact_data caches c a made = record {
-    steady = transact_steady d.steady caches c a made;
-    copies = λ k copy h. given_same k copy
-        (d.copies k copy (every_copy_was_there s.caches caches c a k copy made h));
-    reads = λ e k done r. given_same k (get_or s.reads e (0, None)) (d.reads e k done r);
-  }
-    where
-      given_same : (k : ℕ) (copy : ℕ × Option ℕ) → IsPairGiven p s k copy
-          → IsPairGiven p (with_caches s caches) k copy
-      given_same k (v, None) h = h
-      given_same k (v, Some w) h = h
+  -- what was given is given after a transaction
+  given_same : (caches : moesi.CacheState) (k : ℕ) (copy : ℕ × Option ℕ) → IsPairGiven p s k copy
+      → IsPairGiven p (with_caches s caches) k copy
+  given_same caches k (v, None) h = h
+  given_same caches k (v, Some w) h = h
 
   -- each row keeps the data, under every fault
   pub data_kept : (f : Fault) → IsKept p f s (IsData p)
@@ -335,7 +326,12 @@ module _ {p : List (List Op)} {s : State} (d : IsData p s) where
     store = store_data;
     look = look_data f;
     rmw = λ caches c b a op n at is empty wrote. rmw_data caches c b a op n is wrote;
-    transact = λ caches c a at within made sound. transact_data caches c a made;
+    transact = λ caches c a at within made sound. record {
+      steady = transact_steady d.steady caches c a made;
+      copies = λ k copy h. given_same caches k copy
+          (d.copies k copy (every_copy_was_there s.caches caches c a k copy made h));
+      reads = λ e k done r. given_same caches k (get_or s.reads e (0, None)) (d.reads e k done r);
+    };
   }
 
 -- the opening state has only initial values

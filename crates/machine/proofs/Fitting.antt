@@ -6,7 +6,7 @@ use Rattle.std.proofs.Common.{◌∙◌, get_or-set_same, get_or-set_other, leng
 use Rattle.std.specs.List.{All, sum, sum_by, count_by}
 use Rattle.std.proofs.lemmas.List.{length-replicate}
 use Rattle.std.proofs.lemmas.List.Folds.{sum_by-replicate}
-use Rattle.std.proofs.lemmas.List.Sums.{sum_by-set}
+use Rattle.std.proofs.lemmas.List.Sums.{sum_by-set, sum_by_more}
 use Rattle.std.proofs.lemmas.Bool.{cases_eq}
 use Rattle.program.specs.declared.op.Op.{Op}
 use Rattle.program.specs.declared.op.Op.TheVariants.{St, Fence}
@@ -18,7 +18,6 @@ use Rattle.machine.specs.State.{State, place_of, buffer_of, opening}
 use Rattle.machine.specs.declared.step.Step.{Step}
 use Rattle.machine.specs.Step.{run}
 use Rattle.machine.specs.Orderly.{placed_op, is_st, IsOrderly, EveryStateIsOrderly}
-use Rattle.machine.specs.PlaceLaws.{stores_more}
 use Rattle.machine.proofs.DrainEvents.{drained_state}
 use Rattle.machine.proofs.ExecuteEvents.{IsNext}
 use Rattle.machine.proofs.Rows.{IsKept, stored_state, run_kept}
@@ -59,7 +58,7 @@ module _ {p : List (List Op)} {n : ℕ} {s : State} (f : IsFitting p n s) where
         arith,
         ap (λ (i : ℕ). count_by is_st (take i (get_or p c [])))
             (get_or-set_same s.places c (place_of s c + 1) 0 at.core),
-        stores_more (place_of s c) (get_or p c []) at.there,
+        sum_by_more (λ o. cond (is_st o) 1 0) (get_or p c []) (place_of s c) Fence at.there,
       ))
       | inr other ↦ omega (
         arith,
@@ -122,7 +121,7 @@ module _ {p : List (List Op)} {n : ℕ} {s : State} (f : IsFitting p n s) where
             pushed (buffer_of s c) (record { addr = a; value = v; event = b }),
             ap (λ (i : ℕ). count_by is_st (take i (get_or p c [])))
                 (get_or-set_same s.places c (place_of s c + 1) 0 at.core),
-            stores_more (place_of s c) (get_or p c []) at.there,
+            sum_by_more (λ o. cond (is_st o) 1 0) (get_or p c []) (place_of s c) Fence at.there,
             ap {B = ℕ} (λ (o : Op). cond (is_st o) 1 0) at.operation,
             f.few c,
           ))

@@ -4,7 +4,6 @@ use Rattle.std.proofs.Common.{◌≡◌, ◌<◌, inl, inr, ℕ, Option, Some, N
 use Rattle.std.proofs.Common.{slice_set, arith, refl, sym, ap, subst, ◌∙◌, get_or-set_same, get_or-set_other}
 use Rattle.std.proofs.lemmas.Option.{same_Some}
 use Rattle.program.specs.declared.op.Op.{Op}
-use Rattle.program.specs.declared.op.Op.TheVariants.{St}
 use Rattle.recording.specs.Event.{written_address}
 use Rattle.write_buffer.specs.declared.entry.Entry.{Entry}
 use Rattle.write_buffer.specs.Buffer.{youngest}
@@ -74,18 +73,6 @@ module _ {p : List (List Op)} {s : State} (g : IsInOrder p s) where
             (core_within c at) within wrote) g.latest;
       }
 
-  -- a store keeps the order
-  store_in_order : (c b a v : ℕ) → IsNext p s c b (St a v) → c < length p
-      → IsInOrder p (stored_state s c b a v)
-  store_in_order c b a v n at = record {
-    steady = store_steady g.steady n at;
-    ordered = issue_ordered n (stored_state s c b a v) refl refl refl refl
-        (record { addr = a; value = v; event = b }) refl (omega (arith, at, g.steady.buffers))
-        refl refl g.steady.counted g.ordered;
-    coherent = g.coherent;
-    latest = g.latest;
-  }
-
   module _ (c b : ℕ) (op : Op) (what : ℕ × Option ℕ) (n : IsNext p s c b op) where
     -- what an event gets as a load does has the newest write as its source
     newest_read : ((a : ℕ) → op_reads op ≡ Some a → looked_up fault.None s c a ≡ Ok what)
@@ -137,7 +124,14 @@ module _ {p : List (List Op)} {s : State} (g : IsInOrder p s) where
   pub in_order_kept : IsKept p fault.None s (IsInOrder p)
   in_order_kept = record {
     drain = drain_in_order;
-    store = store_in_order;
+    store = λ c b a v n at. record {
+      steady = store_steady g.steady n at;
+      ordered = issue_ordered n (stored_state s c b a v) refl refl refl refl
+          (record { addr = a; value = v; event = b }) refl (omega (arith, at, g.steady.buffers))
+          refl refl g.steady.counted g.ordered;
+      coherent = g.coherent;
+      latest = g.latest;
+    };
     look = look_in_order;
     rmw = rmw_in_order;
     transact = λ caches c a at within any made. record {

@@ -2,7 +2,8 @@
 use Rattle.std.proofs.Common.{◌≡◌, ◌<◌, ◌≤◌, ◌+◌, ℕ, zero, suc, Option, Some, None, List, []}
 use Rattle.std.proofs.Common.{◌∷◌, map, take, length, get_or, arith, ap, ◌∙◌}
 use Rattle.std.specs.List.{sum_by}
-use Rattle.std.proofs.lemmas.List.Sums.{sum_by-cons}
+use Rattle.std.proofs.lemmas.List.Sums.{sum_by_more, sum_by-take-le, sum-map}
+use Rattle.std.proofs.lemmas.List.{get_or-map, length-map}
 use Rattle.recording.specs.Execution.{placed_from}
 use Rattle.recording.specs.declared.event.Event.{Event}
 use Rattle.recording.specs.Event.{written_address}
@@ -39,26 +40,17 @@ snapshot_of p s = record {
 -- one core more, whose events come after those before it
 pub first_more : (p : List (List Op)) (c : ℕ) → c < length p
     → first_event p (c + 1) ≡ first_event p c + length (get_or p c [])
-first_more [] c h = absurd (omega (arith, h))
-first_more (ops ∷ p) zero h =
-    omega (arith, sum_by-cons (λ (n : ℕ). n) (length ops) (take 0 (map (λ os. length os) p)))
-first_more (ops ∷ p) (suc c) h =
-    ap (λ (n : ℕ). first_event (ops ∷ p) n) (let e : suc c + 1 ≡ suc (c + 1) = omega arith in e)
-    ∙ omega (
-      arith,
-      sum_by-cons (λ (n : ℕ). n) (length ops) (take (c + 1) (map (λ os. length os) p)),
-      sum_by-cons (λ (n : ℕ). n) (length ops) (take c (map (λ os. length os) p)),
-      first_more p c (omega (arith, h)),
-    )
+first_more p c h =
+    sum_by_more (λ (n : ℕ). n) (map (λ (ops : List Op). length ops) p) c 0
+    (omega (arith, h, length-map p (λ (ops : List Op). length ops)))
+    ∙ ap (λ (n : ℕ). first_event p c + n) (get_or-map (λ (ops : List Op). length ops) p c [] 0 h)
 
 -- all events of a core are among those of the program
 pub first_within : (p : List (List Op)) (c : ℕ) → c < length p
     → first_event p c + length (get_or p c []) ≤ sum_by (λ ops. length ops) p
-first_within [] c h = absurd (omega (arith, h))
-first_within (ops ∷ p) zero h = omega (arith, sum_by-cons (λ (os : List Op). length os) ops p)
-first_within (ops ∷ p) (suc c) h = omega (
+first_within p c h = omega (
   arith,
-  sum_by-cons (λ (n : ℕ). n) (length ops) (take c (map (λ os. length os) p)),
-  sum_by-cons (λ (os : List Op). length os) ops p,
-  first_within p c (omega (arith, h)),
+  first_more p c h,
+  sum_by-take-le (λ (n : ℕ). n) (map (λ (ops : List Op). length ops) p) (c + 1),
+  sum-map (λ (ops : List Op). length ops) p,
 )

@@ -2,7 +2,8 @@
 -- events counts them.
 use Rattle.std.proofs.Common.{◌≡◌, ◌<◌, ◌≤◌, ◌+◌, ◌⊎◌, ◌↔◌, inl, inr, ℕ, suc, Option, Some, None, List, [], ◌∷◌}
 use Rattle.std.proofs.Common.{◌++◌, map, length, get_or, arith, refl, sym, ap, subst, ◌∙◌, option_and_then}
-use Rattle.std.proofs.lemmas.List.{length-map, map-append}
+use Rattle.std.proofs.lemmas.List.{length-map, map-append, map-id}
+use Rattle.std.proofs.lemmas.Simd.{map-map}
 use Rattle.std.proofs.lemmas.Bool.{cases_lt, cases_eq}
 use Rattle.std.proofs.Math.ListN as lists
 use Rattle.program.specs.declared.op.Op.{Op}
@@ -44,11 +45,6 @@ use_both m (op ∷ xs) ys = go (λ k. use_both k xs ys) (use_addr m (addr_of op)
     go more None = refl
     go more (Some k) = more k
 
--- what stands beside the core
-untagged : (k : ℕ) (ops : List Op) → map (λ (z : ℕ × Op). z.1) (map (λ (op : Op). (k, op)) ops) ≡ ops
-untagged k [] = refl
-untagged k (op ∷ ops) = ap (λ (l : List Op). op ∷ l) (untagged k ops)
-
 -- addresses used after all cores
 use_all : (k m : ℕ) (cores : List (List Op)) → use_cores m cores ≡ use_ops m (by_number k cores)
 use_all k m [] = refl
@@ -56,7 +52,8 @@ use_all k m (ops ∷ cores) =
     let rest : List Op = by_number (k + 1) cores in
     go (λ i. use_all (k + 1) i cores) (use_ops m ops) ∙ sym (ap (use_ops m)
     (map-append (λ (z : ℕ × Op). z.1) (map (λ (op : Op). (k, op)) ops) (placed_from (k + 1) cores)
-    ∙ ap (λ (l : List Op). l ++ rest) (untagged k ops)) ∙ use_both m ops rest)
+    ∙ ap (λ (l : List Op). l ++ rest)
+    (map-map (λ (z : ℕ × Op). z.1) (λ (op : Op). (k, op)) ops ∙ map-id ops)) ∙ use_both m ops rest)
   where
     go : ((i : ℕ) → use_cores i cores ≡ use_ops i (by_number (k + 1) cores)) → (o : Option ℕ)
         → option_and_then (λ i. use_cores i cores) o

@@ -1,15 +1,14 @@
 -- Laws of where the events of a program stand on their cores.
-use Rattle.std.proofs.Common.{◌≡◌, ◌<◌, ◌≤◌, ◌+◌, inl, inr, ℕ, suc, cond, List, [], ◌∷◌, take, length, get_or, arith}
+use Rattle.std.proofs.Common.{◌≡◌, ◌<◌, ◌≤◌, ◌+◌, ℕ, suc, List, [], ◌∷◌, length, get_or, arith}
 use Rattle.std.proofs.Common.{sym, ap, subst, ◌∙◌}
-use Rattle.std.specs.List.{sum, sum_by, count_by}
-use Rattle.std.proofs.lemmas.Bool.{cases_Bool}
-use Rattle.std.proofs.lemmas.List.Sums.{sum_by-cons, count_by_more_yes, count_by_more_no}
+use Rattle.std.specs.List.{sum, sum_by}
+use Rattle.std.proofs.lemmas.List.Sums.{sum_by-cons}
 use Rattle.program.specs.declared.op.Op.{Op}
 use Rattle.program.specs.declared.op.Op.TheVariants.{Fence}
 use Rattle.recording.specs.Execution.{placed_from}
 use Rattle.recording.specs.PlacedLaws.{placed_at, located}
 use Rattle.machine.specs.State.{first_event}
-use Rattle.machine.specs.Orderly.{placed_op, is_st}
+use Rattle.machine.specs.Orderly.{placed_op}
 
 -- each core is within its operations, so all together are
 pub places_within : (places : List ℕ) (p : List (List Op)) → length places ≡ length p
@@ -25,14 +24,6 @@ places_within (i ∷ places) (ops ∷ p) l h =
       h 0,
       places_within places p (omega (arith, l)) (λ c. h (suc c)),
     )
-
--- the plain stores among the first operations, and one operation more
-pub stores_more : (i : ℕ) (ops : List Op) → i < length ops
-    → count_by is_st (take (i + 1) ops) ≡ count_by is_st (take i ops) + cond (is_st (get_or ops i Fence)) 1 0
-stores_more i ops h = elim (cases_Bool (is_st (get_or ops i Fence))) [
-  | inl holds ↦ rw holds (count_by_more_yes is_st ops i Fence h holds)
-  | inr fails ↦ rw fails (omega (arith, count_by_more_no is_st ops i Fence h fails))
-]
 
 module _ (p : List (List Op)) (e : ℕ) (event : e < length (placed_from 0 p)) where
   -- the core of event e

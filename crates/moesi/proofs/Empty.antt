@@ -3,8 +3,11 @@ use Rattle.std.proofs.Common.{◌≡◌, inl, inr, ℕ, suc, zero, Bool, true, f
 use Rattle.std.proofs.Common.{Result, Ok, Err, List, [], ◌∷◌, map, replicate, slice_index_or, slice_set, refl}
 use Rattle.std.proofs.Common.{sym, ap, subst, ◌∙◌}
 use Rattle.std.proofs.Math.ListN.{get_or-map}
+use Rattle.std.proofs.lemmas.List.{map-id}
 use Rattle.moesi.specs.declared.line.Line.TheVariants.{S, E}
 use Rattle.moesi.specs.declared.cell.Cell.{Cell}
+use Rattle.moesi.specs.declared.word.Turn.{Turn}
+use Rattle.moesi.specs.declared.word.Turn.TheVariants.{Share, Invalidate, LeaveStale}
 use Rattle.moesi.specs.declared.error.CacheError.{CacheError}
 use Rattle.moesi.specs.Lines.{is_valid, is_owned, is_shared}
 use Rattle.moesi.specs.Block.{Block, cell_of, invalid, block_with, has_copy}
@@ -14,7 +17,7 @@ use Rattle.moesi.specs.Laws.{IsTransaction, IsAnyTransaction, HasEmptyLines}
 use Rattle.moesi.specs.LineLaws.{lowered_valid}
 use Rattle.moesi.specs.BlockLaws.{all_invalid}
 use Rattle.moesi.specs.RowLaws.{taken_else, taken_then}
-use Rattle.moesi.specs.OriginLaws.{set_cases, map_same}
+use Rattle.moesi.specs.OriginLaws.{set_cases, turned_invalid}
 
 -- a cell in I has value 0 and no event
 abbrev EmptyCell : Cell → Type 0
@@ -40,16 +43,18 @@ turn b f c x m before kept still new e =
 turn_one : (b : Block) (c : ℕ) (x : Cell) (m : ℕ × Option ℕ) → EmptyBlock b → EmptyCell x
     → EmptyBlock (record { lines = slice_set b.lines c x; memory = m })
 turn_one b c x m before new =
-    rw (← map_same b.lines) (turn b (λ y. y) c x m before (λ y h. h) refl new)
+    rw (← map-id b.lines) (turn b (λ y. y) c x m before (λ y h. h) refl new)
 
 -- the line that GetS gives is valid
 valid_fill : (q : Bool) → is_valid (cond q S E) ≡ true
 valid_fill true = refl
 valid_fill false = refl
 
--- a line that stays is as empty as it was
-stale_empty : (y : Cell) → EmptyCell y → EmptyCell (row.left_stale y)
-stale_empty y k = go (is_shared y.line)
+-- what another core's transaction leaves in I is as empty as it was
+turned_empty : (turn : Turn) (y : Cell) → EmptyCell y → EmptyCell (row.turned turn y)
+turned_empty Share y k = λ g. k (sym (lowered_valid y.line) ∙ g)
+turned_empty Invalidate y k = λ g. refl
+turned_empty LeaveStale y k = go (is_shared y.line)
   where
     go : (q : Bool) → EmptyCell (cond q y invalid)
     go true = k
@@ -60,20 +65,13 @@ module _ (b : Block) (c : ℕ) (before : EmptyBlock b) (u : Block) where
   empty_get_s : row.get_s b c ≡ Ok u → EmptyBlock u
   empty_get_s h =
       subst EmptyBlock (taken_else _ _ _ u h).1
-      (turn b row.shared c _ b.memory before (λ y k g. k (sym (lowered_valid y.line) ∙ g)) refl
-      (λ g. cc (g, valid_fill (has_copy b))))
+      (turn b row.shared c _ b.memory before (turned_empty Share) refl (λ g. cc (g, valid_fill (has_copy b))))
 
-  -- GetM keeps them so
-  empty_get_m : row.get_m b c ≡ Ok u → EmptyBlock u
-  empty_get_m h =
+  -- GetM keeps them so, with the fault or without
+  empty_get_m : (turning : Turn) → row.get_m_by turning b c ≡ Ok u → EmptyBlock u
+  empty_get_m turning h =
       subst EmptyBlock (taken_else _ _ _ u h).1
-      (turn b row.invalidated c _ b.memory before (λ y k g. refl) refl (λ g. cc (g)))
-
-  -- the faulty GetM keeps them so
-  empty_get_m_stale : row.get_m_stale b c ≡ Ok u → EmptyBlock u
-  empty_get_m_stale h =
-      subst EmptyBlock (taken_else _ _ _ u h).1
-      (turn b row.left_stale c _ b.memory before stale_empty refl (λ g. cc (g)))
+      (turn b (row.turned turning) c _ b.memory before (turned_empty turning) (turned_invalid turning) (λ g. cc (g)))
 
   -- Put keeps them so
   empty_put : row.put b c ≡ Ok u → EmptyBlock u
@@ -102,13 +100,13 @@ module _ (s t : CacheState) (c a : ℕ) (before : HasEmptyLines s) where
   -- transactions keep lines in I empty
   pub empty_transaction : IsTransaction s c a t → HasEmptyLines t
   empty_transaction (inl h) = moved _ (λ u g. empty_get_s (block_of s a) c (λ d. before d a) u g) h
-  empty_transaction (inr (inl h)) = moved _ (λ u g. empty_get_m (block_of s a) c (λ d. before d a) u g) h
+  empty_transaction (inr (inl h)) = moved _ (λ u g. empty_get_m (block_of s a) c (λ d. before d a) u Invalidate g) h
   empty_transaction (inr (inr h)) = moved _ (λ u g. empty_put (block_of s a) c (λ d. before d a) u g) h
 
   -- so does the faulty one
   pub empty_any : IsAnyTransaction s c a t → HasEmptyLines t
   empty_any (inl h) = empty_transaction h
-  empty_any (inr h) = moved _ (λ u g. empty_get_m_stale (block_of s a) c (λ d. before d a) u g) h
+  empty_any (inr h) = moved _ (λ u g. empty_get_m (block_of s a) c (λ d. before d a) u LeaveStale g) h
 
   -- writes keep them so
   pub empty_written : (value event : ℕ) → write s c a value event ≡ Ok t → HasEmptyLines t

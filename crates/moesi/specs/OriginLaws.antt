@@ -3,6 +3,7 @@ use Rattle.std.proofs.Common.{◌≡◌, ◌⊎◌, inl, inr, ℕ, suc, zero, Bo
 use Rattle.std.proofs.Common.{Result, Ok, Err, List, [], ◌∷◌, map, slice_index_or, slice_set, refl, sym, ap}
 use Rattle.std.proofs.Common.{subst, ◌∙◌}
 use Rattle.std.proofs.Math.ListN.{get_or-map}
+use Rattle.std.proofs.lemmas.List.{map-id}
 use Rattle.std.proofs.lemmas.Bool.{cases_Bool, cond-true, cond-false}
 use Rattle.moesi.specs.declared.line.Line.{Line}
 use Rattle.moesi.specs.declared.line.Line.TheVariants.{M}
@@ -72,11 +73,6 @@ origin b f c x m copy tame still (inr h) =
       | inr g ↦ inr (inr (rw g.1 at h.1, rw g.1 at h.2))
     ]
 
--- a map that changes nothing
-pub map_same : (xs : List Cell) → map (λ (y : Cell). y) xs ≡ xs
-map_same [] = refl
-map_same (x ∷ xs) = ap (λ (ys : List Cell). x ∷ ys) (map_same xs)
-
 -- the same where one line alone changed
 origin_one : (b : Block) (c : ℕ) (x : Cell) (m copy : ℕ × Option ℕ)
     → HasBlock (record { lines = slice_set b.lines c x; memory = m }) copy
@@ -84,7 +80,7 @@ origin_one : (b : Block) (c : ℕ) (x : Cell) (m copy : ℕ × Option ℕ)
 unfolding Tame
 origin_one b c x m copy h =
     origin b (λ y. y) c x m copy (λ y g. (g, refl)) refl
-    (rw (map_same b.lines) h)
+    (rw (map-id b.lines) h)
 
 -- no transaction of another core makes a copy
 tame_turned : (turn : Turn) → Tame (row.turned turn)
@@ -99,7 +95,7 @@ tame_turned LeaveStale y g = go (is_shared y.line) refl g
     go false is k = cc (k)
 
 -- nor of no line
-turned_invalid : (turn : Turn) → row.turned turn invalid ≡ invalid
+pub turned_invalid : (turn : Turn) → row.turned turn invalid ≡ invalid
 turned_invalid Share = refl
 turned_invalid Invalidate = refl
 turned_invalid LeaveStale = refl

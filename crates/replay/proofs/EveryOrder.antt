@@ -4,7 +4,7 @@ use Rattle.std.proofs.Common.{get_or, arith, refl, sym, ap, subst, ◌∙◌, tr
 use Rattle.std.specs.List.{All, sum, sum_by, count_by}
 use Rattle.std.proofs.Math.Nat.{le-max_left, le-max_right}
 use Rattle.std.proofs.lemmas.List.{get_or_default, get_or_past}
-use Rattle.std.proofs.lemmas.List.Sums.{sum_by-cons}
+use Rattle.std.proofs.lemmas.List.Sums.{sum_by-le}
 use Rattle.std.proofs.lemmas.Bool.{cases_lt, and_parts}
 use Rattle.program.specs.declared.op.Op.{Op}
 use Rattle.program.specs.declared.op.Op.TheVariants.{Fence}
@@ -71,18 +71,6 @@ recording_fits x r =
     (subst (λ (z : Event). (read_address z ≡ Some a) ⊎ (written_address z ≡ Some a)) (made_again ev) uses))))
 
 -- The end
-
--- empty buffers count nothing
-nothing_waits : (bs : List (List Entry)) → ((c : ℕ) → get_or bs c [] ≡ [])
-    → sum_by (λ (b : List Entry). length b) bs ≡ 0
-nothing_waits [] h = refl
-nothing_waits (b ∷ bs) h =
-    omega (
-      arith,
-      ap (λ (l : List Entry). length l) (h 0),
-      nothing_waits bs (λ c. h (suc c)),
-      sum_by-cons (λ (l : List Entry). length l) b bs,
-    )
 
 module _ (x : Execution) (m : List ℕ) (tso : IsTsoOrder x m) (n : ℕ) (t : State)
     (f : IsOrderly (program_of x) n t) (whole : t.performed ≡ m) where
@@ -220,7 +208,11 @@ module _ (law : Laws) where
           ran.1.few,
           f.counted,
           ap (λ (l : List ℕ). length l) ran.1.performed,
-          nothing_waits t.buffers (all_drained x m tso n t f ran.1.performed),
+          sum_by-le (λ (b : List Entry). length b) 0 t.buffers (λ c d inside. omega (
+            arith,
+            ap (λ (b : List Entry). length b) (get_or_default t.buffers c d [] inside
+                ∙ all_drained x m tso n t f ran.1.performed c),
+          )),
           places_within t.places p f.places f.within,
           placed_total 0 p,
           count_same x,

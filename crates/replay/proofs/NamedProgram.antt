@@ -5,6 +5,7 @@ use Rattle.std.proofs.Common.{Global, option_and_then, drop-cons, drop_of_length
 use Rattle.std.specs.List.{AllByRecursion}
 use Rattle.std.proofs.Math.Nat.{le-max_right, max-eq_left, max-eq_right}
 use Rattle.std.proofs.lemmas.List.{length-map, get_or-map}
+use Rattle.std.proofs.lemmas.Simd.{map-map}
 use Rattle.common.specs.declared.limits.TheConstants.{MAX_ADDRESSES}
 use Rattle.program.specs.declared.op.Op.{Op}
 use Rattle.program.specs.declared.op.Op.TheVariants.{Fence}
@@ -90,12 +91,6 @@ most_of_one cores = max-eq_right (most_least cores)
 pub most_one : (n : ℕ) → 1 ≤ n → max n 1 ≡ n
 most_one n h = max-eq_left h
 
--- the operations of each core, in two steps
-pub program_lists : (lists : List (Vec Event Global))
-    → map (λ v. map op_of v.items) lists ≡ map (λ es. map op_of es) (map (λ v. v.items) lists)
-program_lists [] = refl
-program_lists (v ∷ lists) = ap (λ (l : List (List Op)). map op_of v.items ∷ l) (program_lists lists)
-
 -- The test of a recording's addresses, over the lists of its events
 
 -- the operations of each core, from its list
@@ -107,7 +102,7 @@ module _ (x : Execution) (lists : List (Vec Event Global)) (are : map (λ v. v.i
     (so_far : use_cores used (map list_ops (drop i lists)) ≡ use_cores 0 (map list_ops lists)) where
   -- they are the program's
   list_program : map list_ops lists ≡ program_of x
-  list_program = program_lists lists ∙ ap (λ (cs : List (List Event)). map (λ es. map op_of es) cs) are
+  list_program = sym (map-map (λ (es : List Event). map op_of es) (λ (v : Vec Event Global). v.items) lists) ∙ ap (λ (cs : List (List Event)). map (λ es. map op_of es) cs) are
 
   -- at the end the count is that of the program
   all_used : length lists ≤ i → use_cores 0 (program_of x) ≡ Some used

@@ -43,18 +43,6 @@ goes_further p n capacity s t step f took =
           took (f.on (step ∷ steps));
     }
 
--- no part has more than all
-pub before_all : (i : ℕ) (ops : List Op) → count_by is_st (take i ops) ≤ count_by is_st ops
-before_all zero ops = omega arith
-before_all (suc i) [] = omega arith
-before_all (suc i) (op ∷ ops) =
-    omega (
-      arith,
-      before_all i ops,
-      sum_by-cons {X = Op} (λ o. cond (is_st o) 1 0) op (take i ops),
-      sum_by-cons {X = Op} (λ o. cond (is_st o) 1 0) op ops,
-    )
-
 -- a core has as many plain stores as its operations
 pub stores_same : (es : List Event) → count_by is_st (map op_of es) ≡ count_by is_plain_store es
 stores_same [] = refl

@@ -7,7 +7,7 @@ use Rattle.std.specs.List.{sum, count_by}
 use Rattle.std.proofs.lemmas.Bool.{lt-ltb, ltb-true}
 use Rattle.std.proofs.lemmas.List.{length-map}
 use Rattle.std.proofs.lemmas.Option.{slice_get-get_or}
-use Rattle.std.proofs.lemmas.List.Sums.{sum_by-set}
+use Rattle.std.proofs.lemmas.List.Sums.{sum_by-set, sum_by_more, sum_by-take-le}
 use Rattle.program.specs.declared.op.Op.{Op}
 use Rattle.program.specs.declared.op.Op.TheVariants.{St, Ld, Fence, Swap, Add, Cas}
 use Rattle.moesi.specs.declared.line.Line.TheVariants as line
@@ -27,9 +27,8 @@ use Rattle.machine.specs.Step.{forwarded_or_read, has, IsAt}
 use Rattle.replay.specs.Steps.{get_to_write, get_to_read}
 use Rattle.machine.specs.Taken.{all_taken, unless_blocked}
 use Rattle.machine.specs.Orderly.{is_st}
-use Rattle.machine.specs.PlaceLaws.{stores_more}
 use Rattle.machine.specs.RunLaws.{at_taken, guarded}
-use Rattle.replay.proofs.OrderlyRuns.{StaysOrderly, goes_further, before_all}
+use Rattle.replay.proofs.OrderlyRuns.{StaysOrderly, goes_further}
 
 -- the step is taken
 abbrev pub IsTaken : List (List Op) → ℕ → State → Step → Type 0
@@ -171,9 +170,9 @@ store_one p n capacity s c f core there room store =
       arith,
       (f.on []).few c,
       room,
-      stores_more (place_of s c) (get_or p c []) there,
+      sum_by_more (λ o. cond (is_st o) 1 0) (get_or p c []) (place_of s c) Fence there,
       ap {B = ℕ} (λ (b : Bool). cond b 1 0) store,
-      before_all (place_of s c + 1) (get_or p c []),
+      sum_by-take-le (λ o. cond (is_st o) 1 0) (get_or p c []) (place_of s c + 1),
     )
 
     within : c < length s.places

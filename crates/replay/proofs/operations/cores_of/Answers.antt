@@ -3,7 +3,7 @@ use Rattle.std.proofs.Common.{drop_of_length-le}
 use Rattle.program.specs.declared.op.Op.{Op}
 use Rattle.recording.specs.declared.event.Event.{Event}
 use Rattle.replay.specs.Program.{op_of}
-use Rattle.replay.proofs.NamedProgram.{program_lists}
+use Rattle.std.proofs.lemmas.Simd.{map-map}
 use Rattle.replay.proofs.operations.cores_of.Goals as goal
 
 pub returns-clause-cores : goal.returns-clause-cores
@@ -14,5 +14,5 @@ returns-clause-cores c =
     drop_of_length-le lists c.loop-events-test.false in
     sym (append-nil made) ∙ (ap (λ (l : List (Vec Event Global)). made ++ map
     (λ (v : Vec Event Global). map op_of v.items) l) (sym none)
-    ∙ (c.loop-events.invariant.cores ∙ (program_lists lists
+    ∙ (c.loop-events.invariant.cores ∙ (sym (map-map (λ (es : List Event). map op_of es) (λ (v : Vec Event Global). v.items) lists)
     ∙ ap (λ (cs : List (List Event)). map (λ es. map op_of es) cs) c.cores-lists.ensures)))
