@@ -5,7 +5,7 @@ ghost use Rattle.std.specs.Prelude.{◌≡◌};
 use crate::builder::Builder;
 use crate::line::{ParsedLine, parsed_line};
 use common::OutOfMemory;
-use program::{LineRefusal, LitmusError, Name, Number, Program, WriteKind};
+use program::{LineRefusal, LitmusError, Name, Number, Program};
 use std::alloc::Global;
 
 /// The names, the operations, and the initial values up to that of the last `init` line.
@@ -26,12 +26,10 @@ impl Drop for Reader {
 impl Reader {
     ghost use Rattle.std.specs.Prelude.{◌≡◌, ◌≤◌, ◌++◌, ◌∷◌, [], ℕ, IfOk, OnOk, length};
     ghost use Rattle.litmus.specs.Built.{draft, state};
-    ghost use Rattle.program.specs.Drafts.{body_step, drafted_program, filled, init_step, plain};
-    ghost use Rattle.program.specs.Drafts.{step};
+    ghost use Rattle.program.specs.Drafts.{drafted_program, filled, init_step, plain, step};
     ghost use Rattle.program.specs.Numbers.{IsValue};
     ghost use Rattle.program.specs.Parts.{IsProgram};
     ghost use Rattle.program.specs.Reading.{AnswersLine, seen_as};
-    ghost use Rattle.program.specs.Steps.{compare_step, core_step, fence_step, load_step, write_step};
 
     /// These names and operations, without an `init` line.
     pub fn of(alloc: Global, builder: Builder) -> Reader
@@ -41,70 +39,6 @@ impl Reader {
             builder,
             init: Vec::new(alloc),
         }
-    }
-
-    fn begin_core(&mut self, alloc: Global, number: usize) -> Result<(), LitmusError>
-        ensures { AnswersLine (seen_as result (λ _. draft self.new)) number
-            (body_step (draft self.old) (core_step (state self.old.builder))) }
-    {
-        if !self.init.is_empty() {
-            return Err(LitmusError::AtLine(LineRefusal::L1, number));
-        }
-        self.builder.begin_core(alloc, number)
-    }
-
-    fn fence(&mut self, number: usize) -> Result<(), LitmusError>
-        ensures { AnswersLine (seen_as result (λ _. draft self.new)) number
-            (body_step (draft self.old) (fence_step (state self.old.builder))) }
-    {
-        if !self.init.is_empty() {
-            return Err(LitmusError::AtLine(LineRefusal::L1, number));
-        }
-        self.builder.fence(number)
-    }
-
-    fn load(&mut self, name: Name, number: usize) -> Result<(), LitmusError>
-        ensures { AnswersLine (seen_as result (λ _. draft self.new)) number
-            (body_step (draft self.old) (load_step (state self.old.builder) name)) }
-    {
-        if !self.init.is_empty() {
-            return Err(LitmusError::AtLine(LineRefusal::L1, number));
-        }
-        self.builder.load(name, number)
-    }
-
-    fn write(
-        &mut self,
-        write: WriteKind,
-        name: Name,
-        value: Number,
-        number: usize,
-    ) -> Result<(), LitmusError>
-        ensures { (n : ℕ) → IsValue value n →
-            AnswersLine (seen_as result (λ _. draft self.new)) number
-            (body_step (draft self.old) (write_step (state self.old.builder) write name n)) }
-    {
-        if !self.init.is_empty() {
-            return Err(LitmusError::AtLine(LineRefusal::L1, number));
-        }
-        self.builder.write(write, name, value, number)
-    }
-
-    fn compare(
-        &mut self,
-        name: Name,
-        expected: Number,
-        value: Number,
-        number: usize,
-    ) -> Result<(), LitmusError>
-        ensures { (e n : ℕ) → IsValue expected e → IsValue value n →
-            AnswersLine (seen_as result (λ _. draft self.new)) number
-            (body_step (draft self.old) (compare_step (state self.old.builder) name e n)) }
-    {
-        if !self.init.is_empty() {
-            return Err(LitmusError::AtLine(LineRefusal::L1, number));
-        }
-        self.builder.compare(name, expected, value, number)
     }
 
     // Adds the initial value of an address that is above those so far.
@@ -151,14 +85,20 @@ impl Reader {
         ensures { AnswersLine (seen_as result (λ _. draft self.new)) number
             (step (draft self.old) line.now) }
     {
-        match parsed_line(line) {
+        let said = parsed_line(line);
+        if !self.init.is_empty() && !matches!(said, Some(ParsedLine::Init(_, _))) {
+            return Err(LitmusError::AtLine(LineRefusal::L1, number));
+        }
+        match said {
             None => Err(LitmusError::AtLine(LineRefusal::L1, number)),
-            Some(ParsedLine::Core) => self.begin_core(alloc, number),
-            Some(ParsedLine::Fence) => self.fence(number),
-            Some(ParsedLine::Load(name)) => self.load(name, number),
-            Some(ParsedLine::Write(write, name, value)) => self.write(write, name, value, number),
+            Some(ParsedLine::Core) => self.builder.begin_core(alloc, number),
+            Some(ParsedLine::Fence) => self.builder.fence(number),
+            Some(ParsedLine::Load(name)) => self.builder.load(name, number),
+            Some(ParsedLine::Write(write, name, value)) => {
+                self.builder.write(write, name, value, number)
+            }
             Some(ParsedLine::Compare(name, expected, value)) => {
-                self.compare(name, expected, value, number)
+                self.builder.compare(name, expected, value, number)
             }
             Some(ParsedLine::Init(name, value)) => self.init(name, value, number),
         }

@@ -4,6 +4,7 @@ use Rattle.std.proofs.Common.{false, true, Some, None, Result, Ok, refl, arith, 
 use Rattle.std.proofs.Common.{codes}
 use Rattle.std.specs.List.{AllByRecursion, IsDistinct, flat_map}
 use Rattle.std.proofs.lemmas.Bool.{lt-ltb, le-ltb}
+use Rattle.std.proofs.lemmas.Option.{same_Some}
 use Rattle.std.proofs.lemmas.List.{length-append, append-nil, append_assoc}
 use Rattle.std.proofs.lemmas.List.Elements.{All-from_recursion}
 use Rattle.std.proofs.lemmas.List.Sums.{sum_by-cons}
@@ -117,10 +118,6 @@ named_next all p back a n op h parts none used le named fits does =
       step_is = does c.more (record { none = none; next = c.next; number = c.number; few = few });
     }
 
--- two counts that are some count
-same_count : (m n : ℕ) → Some m ≡ Some n → m ≡ n
-same_count m n e = cc
-
 -- an operation is read
 op_next : (all : List Name) (p : Body) (back : List Name) (op : Op) (n : ℕ) → AreNames all → all
     ≡ p.names ++ back → op_fault p ≡ None → use_addr (length p.names) (addr_of op) ≡ Some n →
@@ -130,7 +127,7 @@ op_next all p back Fence n h parts none used le small =
       more = p.names;
       back = back;
       parts = parts;
-      long = same_count (length p.names) n used;
+      long = same_Some (length p.names) n used;
       named = tt;
       fits = tt;
       step_is = fence_so p none;
@@ -178,7 +175,7 @@ ops_read all h [] names back front before rest k n parts used le room small =
       back = back;
       line = k;
       parts = parts;
-      long = same_count (length names) n used;
+      long = same_Some (length names) n used;
       text = refl;
     })
 ops_read all h (op ∷ ops) names back front before rest k n parts used le room small =
@@ -235,7 +232,7 @@ cores_read all h [] names back front rest k n parts used le few room small =
       back = back;
       line = k;
       parts = parts;
-      long = same_count (length names) n used;
+      long = same_Some (length names) n used;
       text = rw (append-nil front) refl;
     }
 cores_read all h (ops ∷ cores) names back front rest k n parts used le few room small =

@@ -3,6 +3,7 @@ use Rattle.std.proofs.Common.{◌≡◌, ℕ, ◌+◌, ◌<◌, ◌≤◌, ◌==
 use Rattle.std.proofs.Common.{false, Some, None, refl, arith, sym, ap, subst, inl, inr, ◌⊎◌}
 use Rattle.std.specs.List.{AllByRecursion, IsDistinct}
 use Rattle.std.proofs.lemmas.Bool.{eqb-true, ltb-true}
+use Rattle.std.proofs.lemmas.Option.{none-some, same_Some}
 use Rattle.std.proofs.lemmas.List.{length-append, append-nil, append_assoc, get_or_append_left}
 use Rattle.std.proofs.Math.Seq.{get_or-append_seam}
 use Rattle.program.specs.declared.name.Name.{Name}
@@ -30,18 +31,12 @@ IsUsed m a n = ((a < m) × (n ≡ m)) ⊎ ((a ≡ m) × (n ≡ m + 1))
 pub used_so : (m a n : ℕ) → use_addr m (Some a) ≡ Some n → IsUsed m a n
 used_so m a n e = elim (cases_of (nat_lt a m) (Some m) (cond (a == m) (Some (m + 1)) None)
     (Some n) e) [
-      | inl said ↦ inl (ltb-true _ _ said.0, sym (same m n said.1))
+      | inl said ↦ inl (ltb-true _ _ said.0, sym (same_Some m n said.1))
       | inr other ↦ elim (cases_of (a == m) (Some (m + 1)) None (Some n) other.1) [
-        | inl eq ↦ inr (eqb-true _ _ eq.0, sym (same (m + 1) n eq.1))
-        | inr none ↦ absurd (bad none.1)
+        | inl eq ↦ inr (eqb-true _ _ eq.0, sym (same_Some (m + 1) n eq.1))
+        | inr none ↦ absurd (none-some n none.1)
       ]
     ]
-  where
-    same : (i j : ℕ) → Some i ≡ Some j → i ≡ j
-    same i j f = cc
-
-    bad : (let o : Option ℕ = None in o) ≡ Some n → ⊥
-    bad f = cc
 
 -- what holds of all holds of the front
 all_front : {X : Type 0} (P : X → Type 0) (xs ys : List X) → AllByRecursion P (xs ++ ys) →

@@ -18,6 +18,7 @@ use Rattle.program.specs.Drafts.{Draft, IsDraft, body_step, filled, init_fault, 
 use Rattle.program.specs.Drafts.{drafted_program, said_step, step, with_body}
 use Rattle.program.specs.Spelling.{body_text, init_text, line_text, name_at, spelling, value_text}
 use Rattle.program.specs.NameListLaws.{all_push, is_new, is_there}
+use Rattle.program.specs.TestLaws.{same_ok, no_ok}
 use Rattle.program.specs.DraftLaws.{filled_length, filled_text, init_append, zeros_small}
 use Rattle.program.proofs.OneLine.{Reads, line_reads}
 use Rattle.program.proofs.OneStep.{Keeps, keeps_core, keeps_fence, keeps_load, keeps_write, keeps_compare}
@@ -35,10 +36,6 @@ pub record KeepsDraft (d : Draft) (line : List ℕ) (e : Draft) : Type 0 where
 abbrev pub taken : Draft → Result Draft LineRefusal
 taken d = Ok d
 
--- two drafts that are one answer
-taken_is : (d e : Draft) → taken d ≡ taken e → d ≡ e
-taken_is d e h = cc
-
 -- ---- lines of cores
 
 -- no initial value
@@ -52,7 +49,7 @@ keeps_plain : (b : Body) (line : List ℕ) (r : Result Body LineRefusal) (e : Dr
 keeps_plain b line (Err f) e keeps h = absurd cc
 keeps_plain b line (Ok q) e keeps h =
     let k = keeps q refl in
-    rw (← taken_is (plain q) e h) (record {
+    rw (← same_ok (plain q) e h) (record {
       draft = record { body = k.body; few = omega arith; values = tt };
       text = append-nil (body_text q) ∙ (k.text
           ∙ ap (λ t. t ++ (line ++ 10 ∷ [])) (sym (append-nil (body_text b))));
@@ -75,10 +72,7 @@ keeps_body d e line r keeps h = by (length d.init == 0) refl
     by : (b : Bool) → (length d.init == 0) ≡ b → KeepsDraft d line e
     by true none = keeps_still d.body d.init line r e (no_values d.init none) keeps
         (sym (rw none refl) ∙ h)
-    by false some = absurd (refused (sym (rw some refl) ∙ h))
-      where
-        refused : (let s : Result Draft LineRefusal = Err L1 in s) ≡ Ok e → ⊥
-        refused f = cc
+    by false some = absurd (no_ok L1 e (sym (rw some refl) ∙ h))
 
 -- ---- lines of initial values
 
@@ -155,13 +149,10 @@ keeps_init d e line name n h is f = by (init_fault d a n) refl
         }
 
     by : (o : Option LineRefusal) → init_fault d a n ≡ o → KeepsDraft d line e
-    by None none = rw (← taken_is after e (sym (ap (λ (o : Option LineRefusal). unless o (taken after)) none)
+    by None none = rw (← same_ok after e (sym (ap (λ (o : Option LineRefusal). unless o (taken after)) none)
         ∙ f)) (kept (no_fault d a n none))
-    by (Some g) some = absurd (refused (sym (ap (λ (o : Option LineRefusal). unless o (taken after)) some)
+    by (Some g) some = absurd (no_ok g e (sym (ap (λ (o : Option LineRefusal). unless o (taken after)) some)
         ∙ f))
-      where
-        refused : (let s : Result Draft LineRefusal = Err g in s) ≡ Ok e → ⊥
-        refused f = cc
 
 -- ---- each line
 
@@ -188,10 +179,7 @@ pub step_keeps : (d e : Draft) (line : List ℕ) → IsDraft d → step d line �
 step_keeps d e line h f = by (parsed_line line) refl
   where
     by : (o : Option Line) → parsed_line line ≡ o → KeepsDraft d line e
-    by None is = absurd (none_ok (sym (ap (λ (o : Option Line). said_step d o) is) ∙ f))
-      where
-        none_ok : said_step d None ≡ taken e → ⊥
-        none_ok g = cc
+    by None is = absurd (no_ok L1 e (sym (ap (λ (o : Option Line). said_step d o) is) ∙ f))
     by (Some l) is = keeps_said d e line l h (line_reads line l is)
         (sym (ap (λ (o : Option Line). said_step d o) is) ∙ f)
 

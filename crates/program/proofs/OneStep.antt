@@ -21,20 +21,17 @@ use Rattle.program.specs.Steps.{names_with, name_number, with_op, write_op, op_f
 use Rattle.program.specs.Steps.{at_name, fence_step, load_step, write_step, compare_step}
 use Rattle.program.specs.Spelling.{body_text, core_text, op_text, line_text, name_at}
 use Rattle.program.specs.NameListLaws.{one_name, all_push}
+use Rattle.program.specs.TestLaws.{same_ok}
 use Rattle.program.specs.CoreLaws.{Grown, grown, count-append, use_cores-push}
 
 -- a line that was read
 abbrev pub done : Body → Result Body LineRefusal
 done p = Ok p
 
--- two programs that are one answer
-ok_is : (p q : Body) → done p ≡ done q → p ≡ q
-ok_is p q e = cc
-
 -- a test that was passed
 test_ok : (b : Bool) (p : Body) (f : LineRefusal) (q : Body) → cond b (done p) (Err f) ≡ done q →
     (b ≡ true) × (p ≡ q)
-test_ok true p f q e = (refl, ok_is p q e)
+test_ok true p f q e = (refl, same_ok p q e)
 test_ok false p f q e = absurd cc
 
 -- a fault that was not met
@@ -107,7 +104,7 @@ keeps_fence p q line h is e =
     let room = op_room p u.0 in
     let g = grown p.names p.names [] p.cores Fence h room.0 room.1 (sym (append-nil p.names)) refl
     h.few_names h.lawful h.distinct tt in
-    rw (← ok_is _ _ u.1) (keeps_op p line Fence p.names (codes "fence") g refl is)
+    rw (← same_ok _ _ u.1) (keeps_op p line Fence p.names (codes "fence") g refl is)
 
 -- after the line of an operation with a name there is a body
 keeps_named : (p q : Body) (line : List ℕ) (name : Name) (op : Op) (spell : Name → List ℕ)
@@ -141,7 +138,7 @@ unfolding load_step
 keeps_load p q line name h named is e =
     let op = Ld (name_number p.names name) in
     keeps_named p q line name op (λ m. line_text (load_line m)) (done (with_named p name op)) h named refl
-    (λ names. refl) (λ ok. (ok_is (with_named p name op) q ok, tt, is)) e
+    (λ names. refl) (λ ok. (same_ok (with_named p name op) q ok, tt, is)) e
 
 -- the address, the text and the value of a write
 written : (write : WriteKind) (a n : ℕ) → (addr_of (write_op write a n) ≡ Some a) × ((names : List Name) →

@@ -12,7 +12,7 @@ use Rattle.program.specs.Drafts.{Draft, IsDraft, blank, drafted_program, said_st
 use Rattle.program.specs.Reading.{Reading, after_line, read_from}
 use Rattle.program.specs.Text.{drafting, finished, reading}
 use Rattle.program.specs.Spelling.{spelling, line_text}
-use Rattle.program.specs.TestLaws.{cases_of}
+use Rattle.program.specs.TestLaws.{cases_of, same_ok, no_ok}
 use Rattle.program.proofs.OneLine.{IsNamed, Fits, line_again, line_plain}
 use Rattle.program.specs.ReadingLaws.{one_line}
 use Rattle.program.specs.DraftLaws.{program_is}
@@ -46,10 +46,6 @@ pub record Gives (d : Draft) (text : List ℕ) (e : Draft) : Type 0 where
 abbrev read : Draft → Reading Draft LineRefusal
 read d = Ok d
 
--- two drafts that are one reading
-read_is : (d e : Draft) → read d ≡ read e → d ≡ e
-read_is d e h = cc
-
 -- no byte is left
 none_left : (line : List ℕ) → (length line == 0) ≡ true → line ≡ []
 none_left [] e = refl
@@ -59,13 +55,10 @@ none_left (b ∷ line) e = absurd (let h = eqb-true _ _ e in omega (arith, h))
 end_gives : (d e : Draft) (line : List ℕ) (k : ℕ) → IsDraft d → cond (length line == 0) (read d)
     (Err (L1, k)) ≡ read e → Gives d line e
 end_gives d e line k h f = elim (cases_of (length line == 0) (read d) (Err (L1, k)) (read e) f) [
-  | inl said ↦ rw (← read_is d e said.1, none_left line said.0)
+  | inl said ↦ rw (← same_ok d e said.1, none_left line said.0)
       (record { draft = h; text_is = sym (append-nil (draft_text d)) })
-  | inr other ↦ absurd (bad other.1)
+  | inr other ↦ absurd (no_ok (L1, k) e other.1)
 ]
-  where
-    bad : (let r : Reading Draft LineRefusal = Err (L1, k) in r) ≡ read e → ⊥
-    bad g = cc
 
 -- what holds after a text that is read
 pub text_gives : (k : ℕ) (d : Draft) (line text : List ℕ) (e : Draft) → IsDraft d →
@@ -106,16 +99,10 @@ only text p e = by (drafting text) refl
     by (Ok d) is =
         let g = draft_only text d is in
         let this : drafted_program d ≡ p =
-        same (sym (ap (λ (r : Reading Draft LineRefusal). finished r) is) ∙ e) in
+        same_ok (drafted_program d) p (sym (ap (λ (r : Reading Draft LineRefusal). finished r) is) ∙ e) in
         subst (λ (q : Parts). IsProgram q × (text ≡ spelling q)) this
         (program_is d g.0, g.1 ∙ sym (program_text d))
-      where
-        same : (let r : Reading Parts LineRefusal = Ok (drafted_program d) in r) ≡ Ok p → drafted_program d ≡ p
-        same f = cc
-    by (Err f) is = absurd (bad (sym (ap (λ (r : Reading Draft LineRefusal). finished r) is) ∙ e))
-      where
-        bad : (let r : Reading Parts LineRefusal = Err f in r) ≡ Ok p → ⊥
-        bad g = cc
+    by (Err f) is = absurd (no_ok f p (sym (ap (λ (r : Reading Draft LineRefusal). finished r) is) ∙ e))
 
 -- ---- the text of a program is read as it
 

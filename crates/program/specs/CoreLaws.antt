@@ -6,6 +6,7 @@ use Rattle.std.specs.List.{AllByRecursion, IsDistinct, flat_map}
 use Rattle.std.proofs.lemmas.List.{length-append, append-nil, append_assoc, get_or_append_left}
 use Rattle.std.proofs.lemmas.List.Sums.{sum_by_push, sum_by-drop_more}
 use Rattle.std.proofs.lemmas.Grind.{flat_map-append}
+use Rattle.std.proofs.lemmas.Option.{same_Some}
 use Rattle.std.proofs.Math.Seq.{get_or-append_seam, set-append_seam}
 use Rattle.program.specs.declared.name.Name.{Name}
 use Rattle.program.specs.declared.op.Op.{Op}
@@ -102,18 +103,14 @@ use_with_op front last op =
 pub use_below : (m a j : ℕ) → use_addr m (Some a) ≡ Some j → (a < j) × (m ≤ j)
 use_below m a j e = (grind (arith, e), grind (arith, e))
 
--- two numbers that are some number
-same_some : (m j : ℕ) → Some m ≡ Some j → m ≡ j
-same_some m j e = cc
-
 -- an operation never makes the count of addresses smaller
 pub use_grows : (m : ℕ) (o : Option ℕ) (j : ℕ) → use_addr m o ≡ Some j → m ≤ j
-use_grows m None j e = let h = same_some m j e in omega (arith, h)
+use_grows m None j e = let h = same_Some m j e in omega (arith, h)
 use_grows m (Some a) j e = (use_below m a j e).1
 
 -- nor do the operations of a core
 pub ops_grow : (m : ℕ) (ops : List Op) (k : ℕ) → use_ops m ops ≡ Some k → m ≤ k
-ops_grow m [] k e = let h = same_some m k e in omega (arith, h)
+ops_grow m [] k e = let h = same_Some m k e in omega (arith, h)
 ops_grow m (op ∷ ops) k e =
     let b = bind_some (use_addr m (addr_of op)) (λ j. use_ops j ops) k e in
     let first = use_grows m (addr_of op) b.0 b.1 in
@@ -150,7 +147,7 @@ ops_kept names extra (op ∷ ops) m k e le =
 
 -- nor do cores
 pub cores_grow : (m : ℕ) (cores : Cores) (k : ℕ) → use_cores m cores ≡ Some k → m ≤ k
-cores_grow m [] k e = let h = same_some m k e in omega (arith, h)
+cores_grow m [] k e = let h = same_Some m k e in omega (arith, h)
 cores_grow m (ops ∷ cores) k e =
     let b = bind_some (use_ops m ops) (λ j. use_cores j cores) k e in
     let first = ops_grow m ops b.0 b.1 in

@@ -7,7 +7,7 @@ use Rattle.std.proofs.lemmas.List.{take_more, get_or-drop, append-nil, append_as
 use Rattle.std.proofs.lemmas.Bool.{and_parts}
 use Rattle.std.proofs.lemmas.Bool.Decides.{eqb_tells}
 use Rattle.program.specs.Reading.{Reading, read_from, after_line}
-use Rattle.program.specs.TestLaws.{not_true, cases_of}
+use Rattle.program.specs.TestLaws.{not_true, cases_of, same_ok}
 
 -- a range that is one longer
 range_more : (xs : List ℕ) (start i : ℕ) → start ≤ i → i < length xs →
@@ -36,10 +36,6 @@ module _ {S F : Type 0} (step : S → List ℕ → Result S F) (unended : F) whe
   -- a text that was read
   abbrev done : S → Reading S F
   done s = Ok s
-
-  -- two states that are one reading
-  done_is : (s t : S) → done s ≡ done t → s ≡ t
-  done_is s t e = cc
 
   -- reading on in line k, which began at `start`, gives what reading the whole text gives
   abbrev pub ReadsOn : List ℕ → Reading S F → ℕ → S → ℕ → ℕ → Type 0
@@ -103,7 +99,7 @@ module _ {S F : Type 0} (step : S → List ℕ → Result S F) (unended : F) whe
       P t
   kept P each k s t line [] h e =
       elim (cases_of (length line == 0) (done s) (Err (unended, k)) (done t) e) [
-        | inl said ↦ subst P (done_is s t said.1) h
+        | inl said ↦ subst P (same_ok s t said.1) h
         | inr other ↦ absurd cc
       ]
   kept P each k s t line (b ∷ bs) h e =

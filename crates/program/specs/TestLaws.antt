@@ -1,6 +1,6 @@
 -- Laws of tests on lists, and of what they tell.
 use Rattle.std.proofs.Common.{◌≡◌, ℕ, ◌<◌, not, List, [], ◌∷◌, ◌++◌, length, Bool, true, false, cond, Some}
-use Rattle.std.proofs.Common.{None, Option}
+use Rattle.std.proofs.Common.{None, Option, Result, Ok, Err}
 use Rattle.std.proofs.Common.{refl, arith, position, inl, inr, ◌⊎◌}
 use Rattle.std.specs.Prelude.{option_and_then}
 use Rattle.std.specs.List.{list_all, position_or_len}
@@ -17,6 +17,14 @@ pub cases_of : {A : Type 0} (b : Bool) (x y z : A) → cond b x y ≡ z →
     ((b ≡ true) × (x ≡ z)) ⊎ ((b ≡ false) × (y ≡ z))
 cases_of true x y z e = inl (refl, e)
 cases_of false x y z e = inr (refl, e)
+
+-- two answers that are one have one value
+pub same_ok : {A E : Type 0} (x y : A) → (let r : Result A E = Ok x in r) ≡ Ok y → x ≡ y
+same_ok x y e = cc
+
+-- a fault is no answer
+pub no_ok : {A E : Type 0} (f : E) (y : A) → (let r : Result A E = Err f in r) ≡ Ok y → ⊥
+no_ok f y e = cc
 
 -- both steps of a chain gave something
 pub bind_some : {A B : Type 0} (o : Option A) (f : A → Option B) (y : B) → option_and_then f o

@@ -31,11 +31,6 @@ unclipped n h = elim (cases_lt n (2 ^ 16)) [
       rw (le-ltb n (2 ^ 16) past) refl in absurd (omega (arith, h, most))
 ]
 
--- a clipped number comes from a number
-pub clipped_from : (o : Option ℕ) (b : ℕ) → option_map clip o ≡ Some b → (a : ℕ) × (o ≡ Some a) × (b ≡ clip a)
-clipped_from None b h = absurd cc
-clipped_from (Some a) b h = (a, refl, cc)
-
 -- the addresses and the source of a clipped event are clipped
 parts_clipped : (v : Event) → (read_address (clip_event v) ≡ option_map clip (read_address v))
     × (written_address (clip_event v) ≡ option_map clip (written_address v))

@@ -39,22 +39,31 @@ read bytes d x z reads tells held is =
       subst IsRecording (sym held) is,
     )
 
+-- an execution whose clipped form the contents that are held tell, where their version is right
+pub told_from : (d : Data) (q : ParsedModel) → Some q ≡ option_map clipped_shape (shape_in d) → IsVersioned q
+    → (c : ParsedModel) × (clipped_shape c ≡ q) × Decodes d (execution_of c)
+told_from d q is versioned =
+    let from = contents_from (shape_in d) q is in (
+      from.0,
+      from.2,
+      record {
+        contents = from.0;
+        shape = from.1;
+        versioned = versioned_from from.0 (subst IsVersioned (sym from.2) versioned);
+        same = refl;
+      },
+    )
+
 -- what the contents that are held give, where their version is right, is an answer
 pub answers_from : (bytes : List ℕ) (d : Data) (q : ParsedModel) (x : Execution) (r : Result Execution RecError)
     → IsReadAs bytes d → Some q ≡ option_map clipped_shape (shape_in d) → IsVersioned q → x ≡ execution_of q
     → IsOk r ↔ IsRecording x → IfOk r (λ z. z ≡ x) → IfErr r (λ e. IsRefusal x e)
     → IsReadingResult bytes r
 answers_from bytes d q x r reads is versioned held exact ok err =
-    let from = contents_from (shape_in d) q is in
-    let tells : Decodes d (execution_of from.0) = record {
-      contents = from.0;
-      shape = from.1;
-      versioned = versioned_from from.0 (subst IsVersioned (sym from.2) versioned);
-      same = refl;
-    } in
+    let from = told_from d q is versioned in
     let parts : clipped (execution_of from.0) ≡ x = sym (execution_clipped from.0)
-    ∙ (ap execution_of from.2 ∙ sym held) in
-    go (execution_of from.0) tells parts r exact ok err
+    ∙ (ap execution_of from.1 ∙ sym held) in
+    go (execution_of from.0) from.2 parts r exact ok err
   where
     go : (y : Execution) → Decodes d y → clipped y ≡ x → (s : Result Execution RecError)
         → IsOk s ↔ IsRecording x → IfOk s (λ z. z ≡ x) → IfErr s (λ e. IsRefusal x e)

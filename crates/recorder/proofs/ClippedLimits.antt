@@ -7,8 +7,9 @@ use Rattle.recording.specs.Execution.{Execution, event_at, Reads, Writes}
 use Rattle.recording.specs.Recording.{IsWithinLimits}
 use Rattle.recorder.specs.Clipped.{clip, clip_event, clipped}
 use Rattle.recording.specs.EventLaws.{Writes-event}
-use Rattle.recorder.proofs.Clipped.{events_fit, addresses_fit, small, unclipped, clipped_from, count_clipped}
+use Rattle.recorder.proofs.Clipped.{events_fit, addresses_fit, small, unclipped, count_clipped}
 use Rattle.recorder.proofs.Clipped.{reads_clipped, writes_clipped}
+use Rattle.recorder.proofs.Somes.{some_mapped}
 
 -- a clipped execution has the same number of write lists
 lists_count : (x : Execution) → length (clipped x).write_lists ≡ length x.write_lists
@@ -60,8 +61,8 @@ reads_to x within e a reads = reads_clipped x e
 -- and the other way round
 pub reads_from : (x : Execution) → IsWithinLimits x → (e a : ℕ) → Reads (clipped x) e a → Reads x e a
 reads_from x within e a reads =
-    let from = clipped_from (read_address (event_at x e)) a (sym (reads_clipped x e) ∙ reads) in
-    from.1 ∙ ap Some (sym (fits x within e from.0 (inl from.1)) ∙ sym from.2)
+    let from = some_mapped clip (read_address (event_at x e)) a (sym (reads_clipped x e) ∙ reads) in
+    from.1 ∙ ap Some (sym (fits x within e from.0 (inl from.1)) ∙ from.2)
 
 -- what was written is written
 pub writes_to : (x : Execution) → IsWithinLimits x → (e a : ℕ) → Writes x e a → Writes (clipped x) e a
@@ -71,8 +72,8 @@ writes_to x within e a writes = writes_clipped x e
 -- and the other way round
 pub writes_from : (x : Execution) → IsWithinLimits x → (e a : ℕ) → Writes (clipped x) e a → Writes x e a
 writes_from x within e a writes =
-    let from = clipped_from (written_address (event_at x e)) a (sym (writes_clipped x e) ∙ writes) in
-    from.1 ∙ ap Some (sym (fits x within e from.0 (inr from.1)) ∙ sym from.2)
+    let from = some_mapped clip (written_address (event_at x e)) a (sym (writes_clipped x e) ∙ writes) in
+    from.1 ∙ ap Some (sym (fits x within e from.0 (inr from.1)) ∙ from.2)
 
 -- an execution within the limits stays within them
 pub within_to : (x : Execution) → IsWithinLimits x → IsWithinLimits (clipped x)

@@ -15,7 +15,8 @@ use Rattle.recording.specs.Recording.{IsWithinLimits}
 use Rattle.recording.specs.Tso.{IsValueOf}
 use Rattle.recorder.specs.Clipped.{clip, clip_event, clipped}
 use Rattle.recording.specs.OrderLaws.{times_here, times_there}
-use Rattle.recorder.proofs.Clipped.{small, unclipped, clipped_from, event_clipped, list_clipped, sources_clipped}
+use Rattle.recorder.proofs.Clipped.{small, unclipped, event_clipped, list_clipped, sources_clipped}
+use Rattle.recorder.proofs.Somes.{some_mapped}
 use Rattle.recorder.proofs.ClippedLimits.{fits, within_from, within_to, reads_to, reads_from, writes_to}
 use Rattle.recorder.proofs.ClippedLimits.{writes_from, writer_fits}
 
@@ -30,10 +31,10 @@ source_from x within e has a s reads is =
 -- and the other way round
 source_to : (x : Execution) → IsWithinLimits x → (e : ℕ) → HasSource x e → HasSource (clipped x) e
 source_to x within e has a t reads is =
-    let from = clipped_from (source_of x e) t (sym (sources_clipped x e) ∙ is) in
+    let from = some_mapped clip (source_of x e) t (sym (sources_clipped x e) ∙ is) in
     let writes : Writes x from.0 a = has a from.0 (reads_from x within e a reads) from.1 in
     writes_to x within t a (subst (λ (s : ℕ). Writes x s a)
-    (sym (from.2 ∙ small from.0 (writer_fits x within from.0 a writes))) writes)
+    (sym (sym from.2 ∙ small from.0 (writer_fits x within from.0 a writes))) writes)
 
 -- where each read has its source, no source is clipped
 pub source_fits : (x : Execution) → IsWithinLimits x → (e a : ℕ) → HasSource x e → Reads x e a

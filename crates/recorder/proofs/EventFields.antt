@@ -11,6 +11,7 @@ use Rattle.recorder.specs.Reading.{number_in, value_in, source_in, at_key, event
 use Rattle.recorder.specs.Clipped.{clip, clip_event, clipped_number, clipped_event}
 use Rattle.recorder.specs.Pulled.{clipped_source, AtKey, GivesValue, Adds}
 use Rattle.recorder.specs.Fields.{count_of, AreFields}
+use Rattle.recorder.proofs.Somes.{some_mapped}
 use Rattle.recorder.proofs.AtKeys.{adds, at_new, at_other, at_key_is, count_new}
 
 -- ---- one member more
@@ -98,11 +99,7 @@ clipped_from : {A : Type 0} (f : Data → Option A) (g : A → A) (m : Option Da
     → option_and_then (λ d. option_map g (f d)) m ≡ Some y
     → (x : A) × (option_and_then f m ≡ Some x) × (g x ≡ y)
 clipped_from f g None y is = absurd cc
-clipped_from f g (Some d) y is = within (f d) is
-  where
-    within : (o : Option _) → option_map g o ≡ Some y → (x : _) × (o ≡ Some x) × (g x ≡ y)
-    within None is = absurd cc
-    within (Some x) is = (x, refl, cc)
+clipped_from f g (Some d) y is = some_mapped g (f d) y is
 
 -- the address that was read
 address_there : (f : Fields) (ms : Members) (a : ℕ) → AreFields f ms → f.a ≡ Some a

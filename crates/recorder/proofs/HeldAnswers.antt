@@ -19,8 +19,7 @@ use Rattle.recorder.specs.ParsedModel.{ParsedModel, execution_of, IsVersioned}
 use Rattle.recorder.specs.Reading.{shape_in, Decodes, IsReadingResult}
 use Rattle.recorder.specs.Clipped.{clip, clip_event, clipped_shape}
 use Rattle.recorder.specs.Held.{AreTooMany, HoldsCores, StandsFor}
-use Rattle.recorder.proofs.ClippedContents.{contents_from, versioned_from}
-use Rattle.recorder.proofs.ClippedAnswers.{answers_from, version_from}
+use Rattle.recorder.proofs.ClippedAnswers.{answers_from, told_from, version_from}
 
 -- a compare-and-swap failed in what is held where one did
 failed_same : (held cores : List (List Event)) → HoldsCores held cores
@@ -90,14 +89,8 @@ limits_refused : (bytes : List ℕ) (d : Data) (c : ParsedModel) (x : Execution)
 limits_refused bytes d c x (Ok z) reads is versioned large over exact err =
     absurd (over (exact.0 refl).within)
 limits_refused bytes d c x (Err Limits) reads is versioned large over exact err =
-    let from = contents_from (shape_in d) c is in
-    let tells : Decodes d (execution_of from.0) = record {
-      contents = from.0;
-      shape = from.1;
-      versioned = versioned_from from.0 (subst IsVersioned (sym from.2) versioned);
-      same = refl;
-    } in
-    (d, reads, (execution_of from.0, tells, beyond from.0 (large_from from.0 (subst IsLarge (sym from.2) large))))
+    let from = told_from d c is versioned in
+    (d, reads, (execution_of from.0, from.2, beyond from.0 (large_from from.0 (subst IsLarge (sym from.1) large))))
 limits_refused bytes d c x (Err (Source e)) reads is versioned large over exact err = absurd (over err.0)
 limits_refused bytes d c x (Err (Value e)) reads is versioned large over exact err = absurd (over err.0)
 limits_refused bytes d c x (Err (WriteList a)) reads is versioned large over exact err = absurd (over err.0)

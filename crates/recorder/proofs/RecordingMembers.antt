@@ -23,6 +23,7 @@ use Rattle.recorder.specs.ReadMembers.{AreParts, clipped_contents, IsParsedFrom}
 use Rattle.recorder.proofs.AtKeys.{adds, at_new, at_other, at_key_is, count_new}
 use Rattle.recorder.proofs.Pulled.{whole_read}
 use Rattle.recorder.proofs.Held.{none_held, some_held}
+use Rattle.recorder.proofs.Somes.{some_mapped}
 use Rattle.recorder.proofs.ClippedLists.{cores_clipped, writes_clipped}
 
 -- ---- one member more
@@ -105,28 +106,6 @@ init_added p o {x} {depth} {ts} {rest} g none is =
 
 -- ---- the contents
 
--- contents from their parts
-shape_from : (values : Option (List ℕ)) (version : Option ℕ) (cores : Option (List (List Event)))
-    (writes : Option (List (List ℕ))) (v : ℕ) (cs : List (List Event)) (ws : List (List ℕ))
-    → version ≡ Some v → option_map (map (map clip_event)) cores ≡ Some cs
-    → option_map (map (map clip)) writes ≡ Some ws
-    → option_map clipped_shape (option_and_then (λ version. option_and_then
-    (λ cores. option_map (λ writes. record {
-      version = version;
-      cores = cores;
-      write_lists = writes;
-      values = values;
-    }) writes) cores) version)
-    ≡ Some (record { version = v; cores = cs; write_lists = ws; values = values })
-shape_from values None cores writes v cs ws hv hc hw = absurd cc
-shape_from values (Some a) None writes v cs ws hv hc hw = absurd cc
-shape_from values (Some a) (Some b) None v cs ws hv hc hw = absurd cc
-shape_from values (Some a) (Some b) (Some d) v cs ws hv hc hw =
-    let av : a ≡ v = cc in
-    let bc : map (map clip_event) b ≡ cs = cc in
-    let dw : map (map clip) d ≡ ws = cc in
-    rw (av, bc, dw) refl
-
 -- the version, the cores and the write lists, with these initial values
 shaped : (values : Option (List ℕ)) (p : ReadMembers) (ms : Members) (v : ℕ) (cs : List (List Event))
     (ws : List (List ℕ)) (h : AreParts p ms) → p.version ≡ Some v → h.cores.0 ≡ Some cs
@@ -138,14 +117,19 @@ shaped : (values : Option (List ℕ)) (p : ReadMembers) (ms : Members) (v : ℕ)
     })
 unfolding contents_with
 shaped values p ms v cs ws h hv hc hw =
-    shape_from values (at_key natural (codes "version") (object ms))
-    (at_key (list_in (list_in event_in)) (codes "cores") (object ms))
-    (at_key (list_in (list_in number_in)) (codes "writes") (object ms)) v cs ws
-    (at_key_is natural (codes "version") ms p.version h.version ∙ hv)
-    (sym (cores_clipped (codes "cores") (object ms))
-    ∙ at_key_is (list_in (list_in clipped_event)) (codes "cores") ms h.cores.0 h.cores.1 ∙ hc)
+    let cores = some_mapped (map (map clip_event)) (at_key (list_in (list_in event_in)) (codes "cores") (object ms))
+    cs (sym (cores_clipped (codes "cores") (object ms))
+    ∙ at_key_is (list_in (list_in clipped_event)) (codes "cores") ms h.cores.0 h.cores.1 ∙ hc) in
+    let lists = some_mapped (map (map clip)) (at_key (list_in (list_in number_in)) (codes "writes") (object ms)) ws
     (sym (writes_clipped (codes "writes") (object ms))
-    ∙ at_key_is (list_in (list_in clipped_number)) (codes "writes") ms h.writes.0 h.writes.1 ∙ hw)
+    ∙ at_key_is (list_in (list_in clipped_number)) (codes "writes") ms h.writes.0 h.writes.1 ∙ hw) in
+    rw (
+      at_key_is natural (codes "version") ms p.version h.version ∙ hv,
+      cores.1,
+      lists.1,
+      cores.2,
+      lists.2,
+    ) refl
 
 -- the contents, by how many keys there are
 contents_by : (values : Option (List ℕ)) (n : ℕ) (p : ReadMembers) (ms : Members)

@@ -1,5 +1,5 @@
 -- What is known of something that was found, or made.
-use Rattle.std.proofs.Common.{◌≡◌, Option, Some, None, IfSome, IsSome, refl, Result, Ok, Err, IfOk, subst}
+use Rattle.std.proofs.Common.{◌≡◌, Option, Some, None, option_map, IfSome, IsSome, refl, Result, Ok, Err, IfOk, subst}
 
 -- where something was found, more is known of it
 pub if_some : {A : Type 0} {P Q : A → Type 0} (o : Option A) → IfSome o P → ((x : A) → P x → Q x) → IfSome o Q
@@ -15,6 +15,12 @@ pub some_is : {A : Type 0} (P : A → Type 0) (o : Option A) → IsSome o → If
     → (x : A) × (o ≡ Some x) × P x
 some_is P None there h = absurd cc
 some_is P (Some x) there h = (x, refl, h)
+
+-- what was made of something
+pub some_mapped : {A B : Type 0} (g : A → B) (o : Option A) (y : B) → option_map g o ≡ Some y
+    → (x : A) × (o ≡ Some x) × (g x ≡ y)
+some_mapped g None y is = absurd cc
+some_mapped g (Some x) y is = (x, refl, cc)
 
 -- what is always so, where all went well
 pub always : {A E : Type 0} {P : Type 0} (r : Result A E) → P → IfOk r (λ x. P)
