@@ -1,5 +1,5 @@
 -- What options ask for.
-use Rattle.std.proofs.Common.{◌≡◌, ◌<◌, ap, length, sym, subst, ℕ, List, Option, Some, None, Ok}
+use Rattle.std.proofs.Common.{◌≡◌, ◌<◌, ap, length, sym, subst, ℕ, List, Option, Some, None}
 use Rattle.std.specs.Prelude.{option_map, string_bytes}
 use Rattle.clap.specs.Words.{Row, Text}
 use Rattle.verdicts.specs.declared.printed.Answer.{Answer}
@@ -10,9 +10,8 @@ use Rattle.command_line.specs.declared.options.RunOptions.{RunOptions}
 use Rattle.command_line.specs.declared.options.TrialsOptions.{TrialsOptions}
 use Rattle.command_line.specs.Options.{AreOptions, AreTrialsOptions}
 use Rattle.program.specs.Parts.{Parts}
-use Rattle.program.specs.Text.{reading}
-use Rattle.inputs.specs.Inputs.{AreBytesOf}
-use Rattle.commands.specs.Run.{IsRun, IsRunBy}
+use Rattle.inputs.specs.Program.{IsProgramAt}
+use Rattle.commands.specs.Run.{IsRun, IsRunOf}
 
 -- options of trials are those of some entries
 pub trials_rows : (o : TrialsOptions) (command : Option (Text × List Row)) → AreOptions (Trials o) command
@@ -27,11 +26,12 @@ merge_some o None are = absurd are
 merge_some o (Some command) are = (are.2.1).some
 
 -- without a script the run is a random one
-pub seeded_run : (inputs : List ℕ → Option (List ℕ)) (o : RunOptions) (text : List ℕ) (program : Parts)
-    (answer : Answer) → AreBytesOf inputs (string_bytes o.program) text → reading text ≡ Ok program
-    → IsSeededAnswer program o.buffer o.fault o.seed o.attempts answer → o.steps ≡ None
-    → IsRun inputs o answer
-seeded_run inputs o text program answer given read is none =
-    subst (λ (steps : Option (List ℕ)). IsRunBy inputs o steps answer)
-    (sym (ap (λ steps. option_map string_bytes steps) none))
-    (record { program_text = text; program_given = given; program = program; read = read; answered = is })
+pub seeded_run : (inputs : List ℕ → Option (List ℕ)) (o : RunOptions) (program : Parts) (answer : Answer)
+    → IsProgramAt inputs (string_bytes o.program) program
+    → IsSeededAnswer program o.buffer o.fault o.seed o.attempts answer → o.steps ≡ None → IsRun inputs o answer
+seeded_run inputs o program answer at is none = record {
+  program = program;
+  at = at;
+  run = subst (λ (steps : Option (List ℕ)). IsRunOf inputs o program steps answer)
+      (sym (ap (λ steps. option_map string_bytes steps) none)) is;
+}

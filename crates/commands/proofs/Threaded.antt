@@ -3,7 +3,6 @@ use Rattle.std.proofs.Common.{◌≡◌, inl, inr, ℕ, List, Option, Ok, subst,
 use Rattle.std.specs.Prelude.{string_bytes}
 use Rattle.command_line.specs.declared.options.LiveOptions.{LiveOptions}
 use Rattle.program.specs.Parts.{Parts}
-use Rattle.program.specs.Text.{reading}
 use Rattle.machine.specs.declared.fault.Fault.{Fault}
 use Rattle.machine.specs.declared.fault.Fault.TheVariants.{None}
 use Rattle.machine.specs.State.{IsComplete}
@@ -12,17 +11,16 @@ use Rattle.machine.specs.Configuration.{Configuration}
 use Rattle.live.specs.Trace.{Trace, IsEnded, IsTrace}
 use Rattle.live.specs.Driven.{IsAsRequested}
 use Rattle.verdicts.specs.declared.printed.Answer.{Answer}
-use Rattle.inputs.specs.Inputs.{AreBytesOf}
+use Rattle.inputs.specs.Program.{IsProgramAt}
 use Rattle.answers.specs.Run.{IsRunAnswer}
 use Rattle.commands.specs.Run.{IsLive}
 
 -- the answer of the machine that they leave is that of the run of its trace
-pub live_answer : (inputs : List ℕ → Option (List ℕ)) (o : LiveOptions) (text : List ℕ) (program : Parts)
-    (t : Trace) (machine : Configuration) (answer : Answer)
-    → AreBytesOf inputs (string_bytes o.program) text → reading text ≡ Ok program
+pub live_answer : (inputs : List ℕ → Option (List ℕ)) (o : LiveOptions) (program : Parts) (t : Trace)
+    (machine : Configuration) (answer : Answer) → IsProgramAt inputs (string_bytes o.program) program
     → IsAsRequested program o.buffer o.limit t → IsEnded t → IsTrace t → machine ≡ t.machine
     → IsRunAnswer machine.fault machine.program machine.state answer → IsLive inputs o answer
-live_answer inputs o text program t machine answer bytes read given ended replay same is =
+live_answer inputs o program t machine answer at given ended replay same is =
     let taken : all_taken program.cores o.buffer None (begun program) t.steps ≡ Ok t.machine.state =
     subst (λ (f : Fault). all_taken program.cores o.buffer f (begun program) t.steps ≡ Ok t.machine.state)
     given.fault_is
@@ -35,10 +33,8 @@ live_answer inputs o text program t machine answer bytes read given ended replay
     let faultless : IsRunAnswer None t.machine.program t.machine.state answer =
     subst (λ (f : Fault). IsRunAnswer f t.machine.program t.machine.state answer) given.fault_is here in
     record {
-      program_text = text;
-      given = bytes;
       program = program;
-      read = read;
+      at = at;
       steps = t.steps;
       state = t.machine.state;
       taken = taken;

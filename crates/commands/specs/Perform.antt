@@ -7,7 +7,6 @@ use Rattle.clap.specs.declared.error.kind.ErrorKind.TheVariants.{DisplayHelp, Di
 use Rattle.program.specs.Parts.{Parts}
 use Rattle.live.specs.declared.error.LiveError.{LiveError}
 use Rattle.live.specs.declared.error.LiveError.TheVariants as live
-use Rattle.program.specs.Text.{reading}
 use Rattle.machine.specs.Script.{steps_of}
 use Rattle.verdicts.specs.declared.printed.Answer.{Answer}
 use Rattle.answers.specs.declared.rendering.Rendering.TheVariants.{Words, Picture, Reduction}
@@ -36,7 +35,7 @@ use Rattle.report.specs.Answer.{IsAnswerOf}
 use Rattle.commands.specs.Judge.{AnswerHolds, IsJudgeFault}
 use Rattle.commands.specs.Replay.{IsReplayedInput, IsReplayError}
 use Rattle.commands.specs.Render.{IsRendered, IsRenderingError}
-use Rattle.inputs.specs.Program.{IsProgramRead, IsProgramRefused, IsProgramError}
+use Rattle.inputs.specs.Program.{IsProgramAt, IsProgramRead, IsProgramRefused, IsProgramError}
 use Rattle.command_line.specs.Options.{AreOptions, IsFault}
 use Rattle.inputs.specs.Refusal.{IsReadingError, option_line, step_fault_name}
 use Rattle.commands.specs.Run.{IsRun, IsLive}
@@ -54,23 +53,16 @@ IsScriptError inputs program name (Fault fault) = IsInputFault inputs name fault
 
 -- the script of this name stops the named program, which is read
 pub record IsStoppedByScript (inputs : List ℕ → Option (List ℕ)) (o : RunOptions) (name : List ℕ)
-    (error : CommandError)
-    : Type 0 where
-  pub text : List ℕ
-  pub given : AreBytesOf inputs (string_bytes o.program) text
+    (error : CommandError) : Type 0 where
   pub program : Parts
-  pub read : reading text ≡ Ok program
+  pub at : IsProgramAt inputs (string_bytes o.program) program
   pub stops : IsScriptError inputs program name error
 
 -- why a run stops: its program does, or the script where one is named
-abbrev pub IsRunErrorBy : (List ℕ → Option (List ℕ)) → RunOptions → Option (List ℕ) → CommandError → Type 0
-IsRunErrorBy inputs o (Some name) error = IsProgramError inputs (string_bytes o.program) error
+abbrev pub IsRunError : (List ℕ → Option (List ℕ)) → RunOptions → Option (List ℕ) → CommandError → Type 0
+IsRunError inputs o (Some name) error = IsProgramError inputs (string_bytes o.program) error
     ⊎ IsStoppedByScript inputs o name error
-IsRunErrorBy inputs o None error = IsProgramError inputs (string_bytes o.program) error
-
--- why a run stops
-abbrev pub IsRunError : (List ℕ → Option (List ℕ)) → RunOptions → CommandError → Type 0
-IsRunError inputs o error = IsRunErrorBy inputs o (option_map string_bytes o.steps) error
+IsRunError inputs o None error = IsProgramError inputs (string_bytes o.program) error
 
 -- the fault that an error of threads is; they have no other errors
 abbrev pub thread_fault : LiveError → CommandFault
@@ -91,19 +83,19 @@ abbrev pub IsAnswerTo : (List ℕ → Option (List ℕ)) → Options → Answer 
 IsAnswerTo inputs (Run o) answer = IsRun inputs o answer
 IsAnswerTo inputs (Judge o) answer = (bytes : List ℕ) × AreBytesOf inputs (string_bytes o.file) bytes
     × IsAnswerOf bytes answer × AnswerHolds bytes answer
-IsAnswerTo inputs (Trials o) answer = IsTrials o answer
+IsAnswerTo inputs (Trials o) answer = IsTrials o o.show answer
 IsAnswerTo inputs (Live o) answer = IsLive inputs o answer
 IsAnswerTo inputs (Replay o) answer = IsReplayedInput inputs o answer
 IsAnswerTo inputs (Explain o) answer = IsRendered inputs Words o answer
 IsAnswerTo inputs (Draw o) answer = IsRendered inputs (Picture o.all) o.recording answer
 IsAnswerTo inputs (Reduce o) answer = IsRendered inputs Reduction o answer
 IsAnswerTo inputs (Verify o) answer = IsVerified inputs o answer
-IsAnswerTo inputs (Survey o) answer = IsSurveyOf inputs o answer
+IsAnswerTo inputs (Survey o) answer = IsSurveyOf inputs o o.show answer
 IsAnswerTo inputs (Merge o) answer = IsMerged inputs o answer
 
 -- why a command with these options and inputs stops
 abbrev pub IsCommandError : (List ℕ → Option (List ℕ)) → Options → CommandError → Type 0
-IsCommandError inputs (Run o) error = IsRunError inputs o error
+IsCommandError inputs (Run o) error = IsRunError inputs o (option_map string_bytes o.steps) error
 IsCommandError inputs (Judge o) (Refused refusal) = ⊥
 IsCommandError inputs (Judge o) (Fault fault) = IsJudgeFault inputs o fault
 IsCommandError inputs (Trials o) error = error ≡ Fault fault.OutOfMemory
@@ -113,7 +105,7 @@ IsCommandError inputs (Explain o) error = IsRenderingError inputs o error
 IsCommandError inputs (Draw o) error = IsRenderingError inputs o.recording error
 IsCommandError inputs (Reduce o) error = IsRenderingError inputs o error
 IsCommandError inputs (Verify o) error = IsVerifyError inputs o error
-IsCommandError inputs (Survey o) error = IsSurveyError inputs o error
+IsCommandError inputs (Survey o) error = IsSurveyError inputs o o.show error
 IsCommandError inputs (Merge o) error = IsMergeError inputs o error
 
 -- what clap says goes to standard error: it is neither help nor the version

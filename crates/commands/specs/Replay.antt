@@ -42,14 +42,18 @@ abbrev pub ReplaysOrder : Execution → List ℕ → Type 0
 ReplaysOrder x m = (capacity : ℕ) → most_stores x.cores ≤ capacity
     → IsReplay x m (named_program x) capacity (replay_steps x m)
 
--- the replay of a recording's least order, whose parts are read back and make the recording again
+-- the text of the replay of an order, whose parts are read back and make the recording again
+pub record IsReplayText (x : Execution) (m text : List ℕ) : Type 0 where
+  pub is : text ≡ replay_text x m
+  pub read : IsReadBack x m
+  pub replay : ReplaysOrder x m
+
+-- the replay of a recording's least order
 pub record IsReplayAnswer (x : Execution) (answer : Answer) : Type 0 where
   pub order : List ℕ
   pub least : IsOrderedVerdict x order
   pub outcome : answer.outcome ≡ Done
-  pub text : answer.text.items ≡ replay_text x order
-  pub read : IsReadBack x order
-  pub replay : ReplaysOrder x order
+  pub text : IsReplayText x order answer.text.items
 
 -- the verdict on a recording that TSO does not allow
 pub record IsViolationAnswer (x : Execution) (answer : Answer) : Type 0 where

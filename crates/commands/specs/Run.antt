@@ -5,13 +5,13 @@ use Rattle.answers.specs.Run.{IsRunAnswer, IsSeededAnswer, state_after}
 use Rattle.command_line.specs.declared.options.LiveOptions.{LiveOptions}
 use Rattle.command_line.specs.declared.options.RunOptions.{RunOptions}
 use Rattle.program.specs.Parts.{Parts}
-use Rattle.program.specs.Text.{reading}
 use Rattle.machine.specs.declared.fault.Fault.TheVariants as fault
 use Rattle.machine.specs.declared.step.Step.{Step}
 use Rattle.machine.specs.State.{State, IsComplete}
 use Rattle.machine.specs.Taken.{all_taken, begun}
 use Rattle.machine.specs.Script.{steps_of}
 use Rattle.inputs.specs.Inputs.{AreBytesOf}
+use Rattle.inputs.specs.Program.{IsProgramAt}
 
 -- the answer of a program and the script of this name
 pub record IsScriptAnswer (inputs : List ℕ → Option (List ℕ)) (o : RunOptions) (program : Parts)
@@ -22,39 +22,22 @@ pub record IsScriptAnswer (inputs : List ℕ → Option (List ℕ)) (o : RunOpti
   pub listed : steps_of program text ≡ Ok script
   pub answered : IsRunAnswer o.fault program (state_after program o.buffer o.fault script) answer
 
--- the answer of the named program and the script of this name
-pub record IsScriptRun (inputs : List ℕ → Option (List ℕ)) (o : RunOptions) (name : List ℕ) (answer : Answer)
-    : Type 0 where
-  pub program_text : List ℕ
-  pub program_given : AreBytesOf inputs (string_bytes o.program) program_text
-  pub program : Parts
-  pub read : reading program_text ≡ Ok program
-  pub run : IsScriptAnswer inputs o program name answer
-
--- the answer of the named program and random steps
-pub record IsSeededRun (inputs : List ℕ → Option (List ℕ)) (o : RunOptions) (answer : Answer) : Type 0 where
-  pub program_text : List ℕ
-  pub program_given : AreBytesOf inputs (string_bytes o.program) program_text
-  pub program : Parts
-  pub read : reading program_text ≡ Ok program
-  pub answered : IsSeededAnswer program o.buffer o.fault o.seed o.attempts answer
-
--- the answer of the named program, and of a script where one is named
-abbrev pub IsRunBy : (List ℕ → Option (List ℕ)) → RunOptions → Option (List ℕ) → Answer → Type 0
-IsRunBy inputs o (Some name) answer = IsScriptRun inputs o name answer
-IsRunBy inputs o None answer = IsSeededRun inputs o answer
+-- the answer of a program, and of a script where one is named, or else of random steps
+abbrev pub IsRunOf : (List ℕ → Option (List ℕ)) → RunOptions → Parts → Option (List ℕ) → Answer → Type 0
+IsRunOf inputs o program (Some name) answer = IsScriptAnswer inputs o program name answer
+IsRunOf inputs o program None answer = IsSeededAnswer program o.buffer o.fault o.seed o.attempts answer
 
 -- the answer of run
-abbrev pub IsRun : (List ℕ → Option (List ℕ)) → RunOptions → Answer → Type 0
-IsRun inputs o answer = IsRunBy inputs o (option_map string_bytes o.steps) answer
+pub record IsRun (inputs : List ℕ → Option (List ℕ)) (o : RunOptions) (answer : Answer) : Type 0 where
+  pub program : Parts
+  pub at : IsProgramAt inputs (string_bytes o.program) program
+  pub run : IsRunOf inputs o program (option_map string_bytes o.steps) answer
 
 -- the answer of the named program, and of the steps that threads chose: they come to an end, or are
 -- as many as may be
 pub record IsLive (inputs : List ℕ → Option (List ℕ)) (o : LiveOptions) (answer : Answer) : Type 0 where
-  pub program_text : List ℕ
-  pub given : AreBytesOf inputs (string_bytes o.program) program_text
   pub program : Parts
-  pub read : reading program_text ≡ Ok program
+  pub at : IsProgramAt inputs (string_bytes o.program) program
   pub steps : List Step
   pub state : State
   pub taken : all_taken program.cores o.buffer fault.None (begun program) steps ≡ Ok state

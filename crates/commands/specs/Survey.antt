@@ -65,14 +65,10 @@ pub record IsShownLine (inputs : List ℕ → Option (List ℕ)) (o : SurveyOpti
   pub at : IsLineAt bytes k line
   pub answered : IsLineAnswer o.reduce line answer
 
--- the answer, by the recording that is to be shown
-abbrev pub IsSurveyBy : (List ℕ → Option (List ℕ)) → SurveyOptions → Option ℕ → Answer → Type 0
-IsSurveyBy inputs o None answer = (o.each ≢ true) × IsSurveyed inputs (string_bytes o.file) answer
-IsSurveyBy inputs o (Some k) answer = IsShownLine inputs o k answer
-
--- the answer of survey, where no recording is told
-abbrev pub IsSurveyOf : (List ℕ → Option (List ℕ)) → SurveyOptions → Answer → Type 0
-IsSurveyOf inputs o answer = IsSurveyBy inputs o o.show answer
+-- the answer of survey, where no recording is told, by the one that is to be shown
+abbrev pub IsSurveyOf : (List ℕ → Option (List ℕ)) → SurveyOptions → Option ℕ → Answer → Type 0
+IsSurveyOf inputs o None answer = (o.each ≢ true) × IsSurveyed inputs (string_bytes o.file) answer
+IsSurveyOf inputs o (Some k) answer = IsShownLine inputs o k answer
 
 -- the line of recording k of the named input, or none where there are fewer
 pub record IsLineOfInput (inputs : List ℕ → Option (List ℕ)) (name : List ℕ) (k : ℕ) (line : Option (List ℕ))
@@ -98,11 +94,7 @@ IsEachFault inputs o WriteFailed = ⊤
 IsEachFault inputs o fault = IsSurveyFault inputs o fault
 
 -- why nothing is surveyed: there is no recording with the number that is asked for, or the input isn't read
-abbrev pub IsSurveyErrorBy : (List ℕ → Option (List ℕ)) → SurveyOptions → Option ℕ → CommandError → Type 0
-IsSurveyErrorBy inputs o show (Refused refusal) = IsPastTheEnd inputs o show
+abbrev pub IsSurveyError : (List ℕ → Option (List ℕ)) → SurveyOptions → Option ℕ → CommandError → Type 0
+IsSurveyError inputs o show (Refused refusal) = IsPastTheEnd inputs o show
     × (string_bytes refusal.line ≡ codes "refused: K11" ++ 10 ∷ [])
-IsSurveyErrorBy inputs o show (Fault fault) = IsSurveyFault inputs o fault
-
--- why survey stops
-abbrev pub IsSurveyError : (List ℕ → Option (List ℕ)) → SurveyOptions → CommandError → Type 0
-IsSurveyError inputs o error = IsSurveyErrorBy inputs o o.show error
+IsSurveyError inputs o show (Fault fault) = IsSurveyFault inputs o fault

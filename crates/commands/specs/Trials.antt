@@ -4,11 +4,7 @@ use Rattle.verdicts.specs.declared.printed.Answer.{Answer}
 use Rattle.answers.specs.Campaign.{IsCampaignAnswer, IsShownAnswer}
 use Rattle.command_line.specs.declared.options.TrialsOptions.{TrialsOptions}
 
--- the counts of all trials, or the trial that is to be shown
-abbrev pub IsTrialsBy : TrialsOptions → Option ℕ → Answer → Type 0
-IsTrialsBy o None answer = IsCampaignAnswer o.campaign answer
-IsTrialsBy o (Some k) answer = IsShownAnswer o.campaign k o.reduce answer
-
--- the answer of trials
-abbrev pub IsTrials : TrialsOptions → Answer → Type 0
-IsTrials o answer = IsTrialsBy o o.show answer
+-- the answer of trials: the counts of all of them, or the one that is to be shown
+abbrev pub IsTrials : TrialsOptions → Option ℕ → Answer → Type 0
+IsTrials o None answer = IsCampaignAnswer o.campaign answer
+IsTrials o (Some k) answer = IsShownAnswer o.campaign k o.reduce answer

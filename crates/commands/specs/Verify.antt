@@ -5,7 +5,7 @@ use Rattle.recording.specs.Execution.{Execution}
 use Rattle.verdicts.specs.declared.printed.Answer.{Answer}
 use Rattle.verification.specs.Checked.{IsCheckAnswer}
 use Rattle.inputs.specs.declared.command_error.CommandError.{CommandError}
-use Rattle.inputs.specs.declared.command_error.CommandError.TheVariants.{Refused, Fault}
+use Rattle.inputs.specs.CommandErrors.{IsFaultError}
 use Rattle.inputs.specs.Inputs.{AreBytesOf, IsInputFault}
 use Rattle.inputs.specs.Recording.{IsRecordingAt, IsRecordingError}
 
@@ -18,12 +18,7 @@ pub record IsVerified (inputs : List ℕ
   pub given : AreBytesOf inputs (string_bytes o.verdict) text
   pub answered : IsCheckAnswer recording text answer
 
--- the text of this name isn't read, or there is no memory
-abbrev pub IsUnreadText : (List ℕ → Option (List ℕ)) → List ℕ → CommandError → Type 0
-IsUnreadText inputs name (Refused refusal) = ⊥
-IsUnreadText inputs name (Fault fault) = IsInputFault inputs name fault
-
 -- why a text is not checked: the recording is refused or isn't read, or the text isn't
 abbrev pub IsVerifyError : (List ℕ → Option (List ℕ)) → VerifyOptions → CommandError → Type 0
 IsVerifyError inputs o error = IsRecordingError inputs (string_bytes o.recording) error
-    ⊎ IsUnreadText inputs (string_bytes o.verdict) error
+    ⊎ IsFaultError (IsInputFault inputs (string_bytes o.verdict)) error

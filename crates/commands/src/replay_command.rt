@@ -10,8 +10,7 @@ ghost use Rattle.verdicts.specs.Judgement.{IsVerdict, Verifies};
 ghost use Rattle.recording.specs.Tso.{IsTsoOrder};
 ghost use Rattle.recording.specs.FirstUse.{IsNumberedByFirstUse};
 ghost use Rattle.inputs.specs.Inputs.{CanRead, ReadsNamed, seen};
-ghost use Rattle.commands.specs.Replay.{IsReadBack, IsReplayedInput, IsReplayOf, IsReplayError, ReplaysOrder};
-ghost use Rattle.commands.specs.Replay.{parts_text, replay_text};
+ghost use Rattle.commands.specs.Replay.{IsReplayedInput, IsReplayOf, IsReplayError, IsReplayText, parts_text};
 
 use command_line::FileOptions;
 use common::{EventId, OutOfMemory};
@@ -80,9 +79,7 @@ fn replay_text(
 ) -> Result<Vec<u8>, OutOfMemory>
     requires numbered { IsNumberedByFirstUse recording.now }
     requires order { IsTsoOrder recording.now order.now }
-    ensures text { IfOk result (λ text. text.items ≡ replay_text recording.now order.now) }
-    ensures read { IfOk result (λ _. IsReadBack recording.now order.now) }
-    ensures replay { IfOk result (λ _. ReplaysOrder recording.now order.now) }
+    ensures { IfOk result (λ text. IsReplayText recording.now order.now text.items) }
 {
     recording.sound();
     let (program, steps) = replay_steps(alloc, recording, order)?;

@@ -1,5 +1,5 @@
 //! The command `run`.
-ghost use Rattle.std.specs.Prelude.{◌≡◌, ◌∷◌, [], ℕ, List, IfErr, IfOk, Ok};
+ghost use Rattle.std.specs.Prelude.{◌≡◌, ◌∷◌, [], ℕ, List, IfErr, IfOk, Ok, option_map, string_bytes};
 ghost use Rattle.machine.specs.Script.{steps_of};
 ghost use Rattle.inputs.specs.Inputs.{AreBytesOf, CanRead, ReadsNamed, seen};
 ghost use Rattle.commands.specs.Names.{run_names};
@@ -84,7 +84,7 @@ pub fn run_command<P: Place>(
 ) -> Result<Answer, CommandError>
     requires { CanRead (P.tally place.old) }
     ensures ok { IfOk result (IsRun (P.bytes place.old) options.now) }
-    ensures err { IfErr result (IsRunError (P.bytes place.old) options.now) }
+    ensures err { IfErr result (IsRunError (P.bytes place.old) options.now (option_map string_bytes options.now.steps)) }
     ensures reads { ReadsNamed (run_names options.now) (seen (P.asked place.old) (P.asked place.new)
         (P.tally place.old) (P.tally place.new)) result }
 {

@@ -5,8 +5,8 @@ ghost use Rattle.devices.specs.Bytes.{CanGrow, CountsBy};
 ghost use Rattle.surveys.specs.Surveys.{IsSurveyOfRead, survey_failed_reads, survey_failed_writes};
 ghost use Rattle.inputs.specs.Inputs.{CanRead, ReadsNamed, ReadsInput, seen};
 ghost use Rattle.commands.specs.Output.{command_failed_writes};
-ghost use Rattle.commands.specs.Survey.{IsCountedInput, IsEachFault, IsEachWritten, IsLineOfInput, IsSurveyBy};
-ghost use Rattle.commands.specs.Survey.{IsSurveyFault, IsSurveyOf, IsSurveyError, IsSurveyErrorBy, IsSurveyed};
+ghost use Rattle.commands.specs.Survey.{IsCountedInput, IsEachFault, IsEachWritten, IsLineOfInput};
+ghost use Rattle.commands.specs.Survey.{IsSurveyFault, IsSurveyOf, IsSurveyError, IsSurveyed};
 ghost use Rattle.commands.specs.Survey.{TellsEach};
 
 use crate::output::put;
@@ -156,8 +156,8 @@ fn shown_line<P: Place>(
     place: &mut P,
 ) -> Result<Answer, CommandError>
     requires { CanRead (P.tally place.old) }
-    ensures ok { IfOk result (IsSurveyBy (P.bytes place.old) options.now (Some k)) }
-    ensures err { IfErr result (IsSurveyErrorBy (P.bytes place.old) options.now (Some k)) }
+    ensures ok { IfOk result (IsSurveyOf (P.bytes place.old) options.now (Some k)) }
+    ensures err { IfErr result (IsSurveyError (P.bytes place.old) options.now (Some k)) }
     ensures reads { ReadsNamed (string_bytes options.now.file ∷ []) (seen (P.asked place.old) (P.asked place.new)
         (P.tally place.old) (P.tally place.new)) result }
 {
@@ -176,8 +176,8 @@ pub fn survey_command<R: Threads + Wait + Sync, P: Place>(
 ) -> Result<Answer, CommandError>
     requires told { TellsEach options.now → ⊥ }
     requires inputs { CanRead (P.tally place.old) }
-    ensures ok { IfOk result (IsSurveyOf (P.bytes place.old) options.now) }
-    ensures err { IfErr result (IsSurveyError (P.bytes place.old) options.now) }
+    ensures ok { IfOk result (IsSurveyOf (P.bytes place.old) options.now options.now.show) }
+    ensures err { IfErr result (IsSurveyError (P.bytes place.old) options.now options.now.show) }
     ensures reads { ReadsNamed (string_bytes options.now.file ∷ []) (seen (P.asked place.old) (P.asked place.new)
         (P.tally place.old) (P.tally place.new)) result }
 {

@@ -24,7 +24,7 @@ fn answer_of<R: Threads + Wait + Sync, P: Place>(
     place: &P,
 ) -> Result<Answer, common::OutOfMemory>
     requires { (rows : List Row) × AreTrialsOptions options.now rows }
-    ensures { IfOk result (IsTrials options.now) }
+    ensures { IfOk result (IsTrials options.now options.now.show) }
 {
     match options.show {
         Some(k) => shown_answer(alloc, &options.campaign, k, options.reduce),
@@ -47,7 +47,7 @@ pub fn trials_command<R: Threads + Wait + Sync, P: Place>(
     place: &P,
 ) -> Result<Answer, CommandError>
     requires { (rows : List Row) × AreTrialsOptions options.now rows }
-    ensures ok { IfOk result (IsTrials options.now) }
+    ensures ok { IfOk result (IsTrials options.now options.now.show) }
     ensures err { IfErr result (λ error. error ≡ Fault OutOfMemory) }
 {
     Ok(answer_of(rt, alloc, options, place)?)

@@ -1,9 +1,10 @@
 //! The command `verify`.
 ghost use Rattle.std.specs.Prelude.{◌∷◌, [], ℕ, List, IfErr, IfOk, string_bytes};
 ghost use Rattle.verification.specs.Checked.{IsCheckAnswer};
-ghost use Rattle.inputs.specs.Inputs.{AreBytesOf, CanRead, ReadsNamed, seen};
+ghost use Rattle.inputs.specs.CommandErrors.{IsFaultError};
+ghost use Rattle.inputs.specs.Inputs.{AreBytesOf, CanRead, IsInputFault, ReadsNamed, seen};
 ghost use Rattle.commands.specs.Names.{verify_names};
-ghost use Rattle.commands.specs.Verify.{IsUnreadText, IsVerified, IsVerifyError};
+ghost use Rattle.commands.specs.Verify.{IsVerified, IsVerifyError};
 
 use command_line::VerifyOptions;
 use devices::Place;
@@ -27,7 +28,7 @@ fn checked<R: Threads + Wait + Sync, P: Place>(
     requires { CanRead (P.tally place.old) }
     ensures ok { IfOk result (λ answer. (text : List ℕ) × AreBytesOf (P.bytes place.old) name.now text
         × IsCheckAnswer recording.now text answer) }
-    ensures err { IfErr result (IsUnreadText (P.bytes place.old) name.now) }
+    ensures err { IfErr result (IsFaultError (IsInputFault (P.bytes place.old) name.now)) }
     ensures reads { ReadsNamed (name.now ∷ []) (seen (P.asked place.old) (P.asked place.new)
         (P.tally place.old) (P.tally place.new)) result }
 {

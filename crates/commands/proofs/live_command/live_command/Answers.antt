@@ -6,11 +6,10 @@ use Rattle.commands.proofs.live_command.live_command.Goals as goal
 
 pub returns-clause-ok : goal.returns-clause-ok
 returns-clause-ok g c =
-    let at = c.in_ok-program.ensures.ok in
-    live_answer (g.P.Place.bytes c.args.place.now) c.args.options.now at.text c.in_ok-program.program
-    c.in-Ok.traced c.into_machine.result c.in_ok-finished.field-0
-    (rw (sym c.as_str.ensures.value) at.given) at.read c.in-Ok.ensures.given c.in-Ok.ensures.ended c.in-Ok.ensures.replay
-    c.into_machine.ensures.machine c.in_ok-finished.ensures
+    live_answer (g.P.Place.bytes c.args.place.now) c.args.options.now c.in_ok-program.program c.in-Ok.traced
+    c.into_machine.result c.in_ok-finished.field-0 (rw (sym c.as_str.ensures.value) c.in_ok-program.ensures.ok)
+    c.in-Ok.ensures.given c.in-Ok.ensures.ended c.in-Ok.ensures.replay c.into_machine.ensures.machine
+    c.in_ok-finished.ensures
 
 pub returns-in-Err-clause-err : goal.returns-in-Err-clause-err
 returns-in-Err-clause-err g c = rw c.fault_of.ensures
