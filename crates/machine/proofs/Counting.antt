@@ -6,6 +6,14 @@ use Rattle.recording.specs.Order.{times}
 use Rattle.recording.specs.OrderLaws.{times_here, times_there, times_nil, times_append}
 use Rattle.machine.proofs.Seen.{Static, Snapshot, seen, IsCounted, not_seen}
 
+-- an event alone stands once
+pub single : (b : ℕ) → times (b ∷ []) b ≡ 1
+single b = omega (arith, times_here [] b b refl, times_nil b)
+
+-- and no other does
+pub single_other : (b e : ℕ) → e ≢ b → times (b ∷ []) e ≡ 0
+single_other b e other = omega (arith, times_there [] b e (λ z. other (sym z)), times_nil e)
+
 -- the step from s to t moves the event b
 pub record Counts (p : Static) (s t : Snapshot) (b : ℕ) : Type 0 where
   pub others : (d e : ℕ) → e ≢ b → times (seen t d) e ≡ times (seen s d) e
@@ -83,8 +91,7 @@ issue_counts {p} {s} {t} {b} counted i = record {
       ap (λ (m : List ℕ). times m e) i.performed,
       ap (λ (q : List ℕ). times q e) i.buffer,
       times_append (s.buffer (p.core b)) (b ∷ []) e,
-      times_there [] b e (λ z. eb (sym z)),
-      times_nil e,
+      single_other b e eb,
     ))
     | inr other ↦ omega (
       arith,
@@ -106,8 +113,7 @@ issue_counts {p} {s} {t} {b} counted i = record {
     ap (λ (m : List ℕ). times m b) i.performed,
     ap (λ (q : List ℕ). times q b) i.buffer,
     times_append (s.buffer (p.core b)) (b ∷ []) b,
-    times_here [] b b refl,
-    times_nil b,
+    single b,
   );
 }
   where
@@ -128,8 +134,7 @@ issue_counts {p} {s} {t} {b} counted i = record {
               at_own,
               ap (λ (q : List ℕ). times q e) i.buffer,
               times_append (s.buffer (p.core b)) (b ∷ []) e,
-              times_there [] b e (λ z. old (sym z)),
-              times_nil e,
+              single_other b e old,
             )) in
             (was.0 ∙ sym own, was.1)
         | inr other ↦ counted.waiting d e (omega
@@ -146,7 +151,7 @@ pub record Performs (p : Static) (s t : Snapshot) (b : ℕ) : Type 0 where
 -- an event that is performed is counted
 pub perform_counts : {p : Static} {s t : Snapshot} {b : ℕ} → IsCounted p s → Performs p s t b → Counts p s t b
 perform_counts {p} {s} {t} {b} counted i = record {
-  others = λ d e eb. omega (arith, seen_more d e, times_there [] b e (λ z. eb (sym z)), times_nil e);
+  others = λ d e eb. omega (arith, seen_more d e, single_other b e eb);
   next = next_step i.executes;
   next_grows = next_up i.executes;
   waiting = λ d e there. counted.waiting d e
@@ -156,8 +161,7 @@ perform_counts {p} {s} {t} {b} counted i = record {
     arith,
     seen_more (p.core b) b,
     not_seen p s counted b (p.core b) (omega (arith, i.executes.next_was)),
-    times_here [] b b refl,
-    times_nil b,
+    single b,
   );
 }
   where
@@ -207,10 +211,6 @@ module _ {p : Static} {s t : Snapshot} {c b : ℕ} {front : List ℕ} (counted :
     times_append front i.back e,
   )
 
-  -- the drained store stands once by itself
-  one : times (b ∷ []) b ≡ 1
-  one = omega (arith, times_here [] b b refl, times_nil b)
-
   -- it waited
   pub drain_waits : 0 < times (s.buffer c) b
   drain_waits =
@@ -244,8 +244,7 @@ module _ {p : Static} {s t : Snapshot} {c b : ℕ} {front : List ℕ} (counted :
         times_append s.performed (s.buffer d) e,
         ap (λ (m : List ℕ). times m e) i.performed,
         times_append s.performed (b ∷ []) e,
-        times_there [] b e (λ z. eb (sym z)),
-        times_nil e,
+        single_other b e eb,
         ap (λ (q : List ℕ). times q e) (i.others d other),
       )
     ];

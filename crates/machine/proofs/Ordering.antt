@@ -10,8 +10,8 @@ use Rattle.recording.specs.OrderLaws.{place_append_right, cases_times, left_befo
 use Rattle.machine.proofs.Seen.{Static, Snapshot, seen, Own, CanSee, IsLast, IsNewest, IsCounted, IsOrdered}
 use Rattle.machine.proofs.Seen.{performed_is_seen, not_seen, not_performed, seen_is_listed, last_seen, Grows}
 use Rattle.machine.proofs.Seen.{unmoved, moved, before_grown, is_last_grown}
-use Rattle.machine.proofs.Counting.{Counts, Issues, Performs, Drains, drain_waits, drain_core, drain_event}
-use Rattle.machine.proofs.Counting.{drain_once}
+use Rattle.machine.proofs.Counting.{single_other, Counts, Executes, Issues, Performs, Drains, drain_waits}
+use Rattle.machine.proofs.Counting.{drain_core, drain_event, drain_once}
 
 -- the step from s to t moves the event b, and the orders that cores see grow by b alone
 pub record Orders (p : Static) (s t : Snapshot) (b : ℕ) : Type 0 where
@@ -57,14 +57,31 @@ ordered_kept {p} {s} {t} {b} counted ordered count step = record { kept = kept; 
           (last_seen p (seen s (p.core e)) e a (s.source e) w is last)) last)
     ]
 
--- what is earlier on the core of its next event is seen there
-earlier_seen : (p : Static) (s : Snapshot) (b : ℕ) → IsCounted p s → b < p.count → s.next (p.core b) ≡ b
-    → (e : ℕ) → Own p e b → 0 < times (seen s (p.core b)) e
-earlier_seen p s b counted event new e own = rw (← own.2) (omega (
-  arith,
-  counted.listed e (omega (arith, own, event))
-      (subst (λ (z : ℕ). e < s.next z) (sym own.2) (omega (arith, own, new))),
-))
+module _ {p : Static} {s t : Snapshot} {b : ℕ} (counted : IsCounted p s) (i : Executes p s t b) where
+  -- an event that is executed was seen nowhere
+  unseen : (d : ℕ) → times (seen s d) b ≡ 0
+  unseen d = not_seen p s counted b d (omega (arith, i.next_was))
+
+  -- what is earlier on its core is seen there
+  seen_earlier : (e : ℕ) → Own p e b → 0 < times (seen s (p.core b)) e
+  seen_earlier e own = subst (λ (z : ℕ). 0 < times (seen s z) e) own.2 (omega (
+    arith,
+    counted.listed e (omega (arith, own, i.event))
+        (subst (λ (z : ℕ). e < s.next z) (sym own.2) (omega (arith, own, i.next_was))),
+  ))
+
+  -- what is later on its core is not executed
+  not_later : (f : ℕ) → Own p b f → ¬ (f < t.next (p.core f))
+  not_later f own done = omega (arith, own, i.next, subst (λ (c : ℕ). f < t.next c) (sym own.2) done)
+
+  -- nor performed
+  hidden : (e : ℕ) → 0 < times s.performed e → ¬ Own p b e
+  hidden e there own = omega (
+    arith,
+    own,
+    i.next_was,
+    subst (λ (z : ℕ). e < s.next z) (sym own.2) (counted.executed 0 e (performed_is_seen s 0 e there)).1,
+  )
 
 -- a store that goes to its buffer comes last in its core's order
 pub issue_orders : {p : Static} {s t : Snapshot} {b : ℕ} → IsCounted p s → Issues p s t b → Orders p s t b
@@ -72,15 +89,11 @@ issue_orders {p} {s} {t} {b} counted i = record {
   grows = grows;
   source = i.executes.source;
   performed = λ e eb. ap (λ (m : List ℕ). times m e) i.performed;
-  b_first = λ f own done strong. absurd
-      (omega (arith, own, i.executes.next, subst (λ (c : ℕ). f < t.next c) (sym own.2) done));
+  b_first = λ f own done strong. absurd (not_later counted i.executes f own done);
   b_last = last;
   b_value = λ a reads there. absurd (let clash : None ≡ Some a = sym i.reads ∙ reads in cc);
 }
   where
-    fresh : (d : ℕ) → times (seen s d) b ≡ 0
-    fresh d = not_seen p s counted b d (omega (arith, i.executes.next_was))
-
     seen_own : seen t (p.core b) ≡ seen s (p.core b) ++ b ∷ []
     seen_own = rw (i.performed, i.buffer) (sym (append_assoc s.performed (s.buffer (p.core b)) (b ∷ [])))
 
@@ -92,14 +105,9 @@ issue_orders {p} {s} {t} {b} counted i = record {
     own_grows : Grows p b s.performed (p.core b) (seen s (p.core b)) (seen s (p.core b) ++ b ∷ [])
     own_grows = subst (λ (o : List ℕ). Grows p b s.performed (p.core b) o (seen s (p.core b) ++ b ∷ []))
         (append-nil (seen s (p.core b)))
-        (moved (seen s (p.core b)) [] (rw append-nil (fresh (p.core b)))
+        (moved (seen s (p.core b)) [] (rw append-nil (unseen counted i.executes (p.core b)))
         (λ e there. performed_is_seen s (p.core b) e there)
-        (λ e there core own. omega (
-          arith,
-          own,
-          i.executes.next_was,
-          subst (λ (z : ℕ). e < s.next z) core (counted.executed 0 e (performed_is_seen s 0 e there)).1,
-        )))
+        (λ e there core. hidden counted i.executes e there))
 
     grows : (d : ℕ) → Grows p b s.performed d (seen s d) (seen t d)
     grows d = elim (cases_eq d (p.core b)) [
@@ -109,7 +117,7 @@ issue_orders {p} {s} {t} {b} counted i = record {
 
     last : (e : ℕ) → Own p e b → (p.store e && p.load b) ≡ false → Before (seen t (p.core b)) e b
     last e own strong = rw seen_own (left_before_right (seen s (p.core b)) (b ∷ []) e b
-        (earlier_seen p s b counted i.executes.event i.executes.next_was e own) (fresh (p.core b))
+        (seen_earlier counted i.executes e own) (unseen counted i.executes (p.core b))
         (omega (arith, times_here [] b b refl)))
 
 -- an event that is performed in TSO's order: no plain store, a plain load or with an empty buffer, and
@@ -124,42 +132,26 @@ pub perform_orders : {p : Static} {s t : Snapshot} {b : ℕ} → IsCounted p s �
     → Follows p s t b → Orders p s t b
 perform_orders {p} {s} {t} {b} counted i f = record {
   grows = λ d. subst (λ (o : List ℕ). Grows p b s.performed d (seen s d) o) (sym (seen_now d))
-      (moved s.performed (s.buffer d) (fresh d) (λ e there. there)
-      (λ e there core own. omega (
-        arith,
-        own,
-        i.executes.next_was,
-        subst (λ (z : ℕ). e < s.next z) (sym own.2)
-            (counted.executed 0 e (performed_is_seen s 0 e there)).1,
-      )));
+      (moved s.performed (s.buffer d) (unseen counted i.executes d) (λ e there. there)
+      (λ e there core. hidden counted i.executes e there));
   source = i.executes.source;
   performed = λ e eb. omega (
     arith,
     ap (λ (m : List ℕ). times m e) i.performed,
     times_append s.performed (b ∷ []) e,
-    times_other e eb,
+    single_other b e eb,
   );
-  b_first = λ g own done strong. absurd
-      (omega (arith, own, i.executes.next, subst (λ (c : ℕ). g < t.next c) (sym own.2) done));
+  b_first = λ g own done strong. absurd (not_later counted i.executes g own done);
   b_last = last;
   b_value = λ a reads there. subst (λ (o : List ℕ). IsLast p o b a (t.source b)) (sym (seen_now (p.core b)))
       (value a (t.source b) (f.newest a reads));
 }
   where
-    times_other : (e : ℕ) → e ≢ b → times (b ∷ []) e ≡ 0
-    times_other e eb = omega (arith, times_there [] b e (λ z. eb (sym z)), times_nil e)
-
-    fresh : (d : ℕ) → times (seen s d) b ≡ 0
-    fresh d = not_seen p s counted b d (omega (arith, i.executes.next_was))
-
     seen_now : (d : ℕ) → seen t d ≡ s.performed ++ b ∷ s.buffer d
     seen_now d = rw (i.performed, i.buffer) (append_assoc s.performed (b ∷ []) (s.buffer d))
 
-    earlier : (e : ℕ) → Own p e b → 0 < times (seen s (p.core b)) e
-    earlier e own = earlier_seen p s b counted i.executes.event i.executes.next_was e own
-
     b_not_left : times s.performed b ≡ 0
-    b_not_left = not_performed s (p.core b) b (fresh (p.core b))
+    b_not_left = not_performed s (p.core b) b (unseen counted i.executes (p.core b))
 
     left_first : (e : ℕ) → 0 < times s.performed e → Before (s.performed ++ b ∷ s.buffer (p.core b)) e b
     left_first e there =
@@ -169,7 +161,8 @@ perform_orders {p} {s} {t} {b} counted i f = record {
     last : (e : ℕ) → Own p e b → (p.store e && p.load b) ≡ false → Before (seen t (p.core b)) e b
     last e own strong =
         rw (seen_now (p.core b)) (left_first e (elim (cases_times (s.buffer (p.core b)) e) [
-          | inl none ↦ omega (arith, none, earlier e own, times_append s.performed (s.buffer (p.core b)) e)
+          | inl none ↦ omega
+              (arith, none, seen_earlier counted i.executes e own, times_append s.performed (s.buffer (p.core b)) e)
           | inr waits ↦ elim f.allowed [
             | inl load ↦ absurd (let clash : true ≡ false =
                 sym (ap (λ (x : Bool). x && p.load b) (counted.waiting (p.core b) e waits).1 ∙ load)
@@ -197,14 +190,14 @@ perform_orders {p} {s} {t} {b} counted i f = record {
             ))
             | inr there ↦ performed_is_seen s (p.core b) w there
           ]
-      | inr own ↦ earlier w own
+      | inr own ↦ seen_earlier counted i.executes w own
     ]
 
     seen_visible : (a w : ℕ) → p.writes w ≡ Some a → 0 < times (seen s (p.core b)) w
         → CanSee p (s.performed ++ b ∷ s.buffer (p.core b)) b a w
     seen_visible a w writes there = (
       writes,
-      (λ wb. omega (arith, there, fresh (p.core b), ap (times (seen s (p.core b))) wb)),
+      (λ wb. omega (arith, there, unseen counted i.executes (p.core b), ap (times (seen s (p.core b))) wb)),
       elim (cases_times s.performed w) [
         | inl none ↦
             let waits : 0 < times (s.buffer (p.core b)) w =
@@ -232,7 +225,12 @@ perform_orders {p} {s} {t} {b} counted i f = record {
       λ v h. elim (newest.2 v (visible_seen a v h) h.0) [
         | inl one ↦ inl one
         | inr before ↦ inr (inserted s.performed (s.buffer (p.core b)) b v w
-            h.1 (λ wb. omega (arith, newest.0, fresh (p.core b), ap (times (seen s (p.core b))) wb)) before)
+            h.1 (λ wb. omega (
+              arith,
+              newest.0,
+              unseen counted i.executes (p.core b),
+              ap (times (seen s (p.core b))) wb,
+            )) before)
       ],
     )
 
@@ -246,7 +244,7 @@ drain_orders {p} {s} {t} {c} {b} counted ordered i = record {
     arith,
     ap (λ (m : List ℕ). times m e) i.performed,
     times_append s.performed (b ∷ []) e,
-    times_there_one e eb,
+    single_other b e eb,
   );
   b_first = λ f own done strong. rw (← own.2) (rw same_order (subst (λ (z : ℕ). Before (seen s z) b f) (sym own.2)
       (ordered.kept b f own (omega (arith, done, i.next (p.core f))) strong)));
@@ -254,9 +252,6 @@ drain_orders {p} {s} {t} {c} {b} counted ordered i = record {
   b_value = λ a reads there. absurd (let clash : None ≡ Some a = sym i.reads ∙ reads in cc);
 }
   where
-    times_there_one : (e : ℕ) → e ≢ b → times (b ∷ []) e ≡ 0
-    times_there_one e eb = omega (arith, times_there [] b e (λ z. eb (sym z)), times_nil e)
-
     core : p.core b ≡ c
     core = drain_core counted i
 
