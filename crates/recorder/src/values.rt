@@ -6,7 +6,7 @@ ghost use Rattle.serde_json.specs.Data.{put, string, object};
 ghost use Rattle.serde_json.specs.View.{view, members_view};
 ghost use Rattle.recording.specs.declared.event.Event.TheVariants.{S, R, F};
 ghost use Rattle.recorder.specs.Written.{IsShortSource, IsFitting};
-ghost use Rattle.recorder.specs.Text.{number_data, list_data, source_data, event_data, data_1, data_2, data_of};
+ghost use Rattle.recorder.specs.Text.{number_data, list_data, source_data, event_data, data_of};
 ghost use Rattle.recorder.specs.Values.{read_members, parts_members};
 ghost use Rattle.recorder.specs.Values.{AreFitting, values_of};
 
@@ -134,32 +134,17 @@ fn parts(alloc: Global, recording: &Recording) -> Result<Map<String, Value>, All
     with(alloc, members, "writes", writes)
 }
 
-fn value_1(alloc: Global, recording: &Recording) -> Result<Value, AllocError>
-    ensures value { IfOk result (λ v. view v ≡ data_1 recording.now) }
-    ensures fits { IfOk result (λ _. AreFitting None recording.now) }
-{
-    let members = parts(alloc, recording)?;
-    let members = with(alloc, members, "version", Value::from(1u64))?;
-    Ok(Value::Object(members))
-}
-
-fn value_2(alloc: Global, recording: &Recording) -> Result<Value, AllocError>
-    ensures value { IfOk result (λ v. view v ≡ data_2 recording.now) }
-    ensures fits { IfOk result (λ _. AreFitting (Some recording.now.initial) recording.now) }
-{
-    let members = parts(alloc, recording)?;
-    let init = list_value(alloc, recording.init())?;
-    let members = with(alloc, members, "init", init)?;
-    let members = with(alloc, members, "version", Value::from(2u64))?;
-    Ok(Value::Object(members))
-}
-
 pub(crate) fn value_of(alloc: Global, recording: &Recording) -> Result<Value, AllocError>
     ensures value { IfOk result (λ v. view v ≡ data_of recording.now) }
     ensures fits { IfOk result (λ _. AreFitting (values_of recording.now) recording.now) }
 {
+    let members = parts(alloc, recording)?;
     if is_of_version_1(recording) {
-        return value_1(alloc, recording);
+        let members = with(alloc, members, "version", Value::from(1u64))?;
+        return Ok(Value::Object(members));
     }
-    value_2(alloc, recording)
+    let init = list_value(alloc, recording.init())?;
+    let members = with(alloc, members, "init", init)?;
+    let members = with(alloc, members, "version", Value::from(2u64))?;
+    Ok(Value::Object(members))
 }
