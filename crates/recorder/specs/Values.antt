@@ -3,7 +3,7 @@ use Rattle.std.specs.Prelude.{ℕ, List, [], ◌∷◌, Option, None, Some, code
 use Rattle.std.specs.List.{AllByRecursion}
 use Rattle.serde_json.specs.Data.{Members, string}
 use Rattle.recording.specs.Execution.{Execution}
-use Rattle.recorder.specs.Text.{members, number_data, list_data, source_data, event_data, is_of_version_1}
+use Rattle.recorder.specs.Text.{members, number_data, source_data, is_of_version_1}
 use Rattle.recorder.specs.Written.{IsShort, IsFitting, AreFittingValues}
 
 -- the members of an event of this kind that reads
@@ -11,11 +11,6 @@ abbrev pub read_members : List ℕ → ℕ → ℕ → Option ℕ → Members
 read_members kind a r s =
     members ((codes "a", number_data a) ∷ (codes "k", string kind) ∷ (codes "r", number_data r)
     ∷ (codes "s", source_data s) ∷ [])
-
--- the members that both versions have
-abbrev pub parts_members : Execution → Members
-parts_members x = members ((codes "cores", list_data (list_data event_data) x.cores)
-    ∷ (codes "writes", list_data (list_data number_data) x.write_lists) ∷ [])
 
 -- the initial values that its text has
 abbrev pub values_of : Execution → Option (List ℕ)

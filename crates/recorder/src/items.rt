@@ -10,7 +10,7 @@ ghost use Rattle.serde_json.specs.Find.{as_object};
 use crate::cursor::Cursor;
 use crate::fields::pull_event;
 use crate::tokens::{pull_number, pull_value};
-use crate::values::event_value;
+use crate::values::event_members;
 use crate::versions::has_failed;
 use crate::written_events::take_event;
 use common::{MAX_ADDRESSES, MAX_CORES, MAX_EVENTS};
@@ -137,7 +137,8 @@ impl Item for Event {
     }
 
     fn value(&self, alloc: Global) -> Result<Value, AllocError> {
-        event_value(alloc, self)
+        let members = event_members(alloc, self)?;
+        Ok(Value::Object(members))
     }
 
     ghost holds_none = { inl refl };

@@ -4,11 +4,9 @@ ghost use Rattle.std.specs.Prelude.{◌≡◌, IfOk, None, Some, map};
 ghost use Rattle.std.specs.List.{AllByRecursion};
 ghost use Rattle.serde_json.specs.Data.{put, string, object};
 ghost use Rattle.serde_json.specs.View.{view, members_view};
-ghost use Rattle.recording.specs.declared.event.Event.TheVariants.{S, R, F};
 ghost use Rattle.recorder.specs.Written.{IsShortSource, IsFitting};
-ghost use Rattle.recorder.specs.Text.{number_data, list_data, source_data, event_data, data_1, data_2, data_of};
-ghost use Rattle.recorder.specs.Values.{read_members, parts_members};
-ghost use Rattle.recorder.specs.Values.{AreFitting, values_of};
+ghost use Rattle.recorder.specs.Text.{list_data, source_data, event_data, data_of};
+ghost use Rattle.recorder.specs.Values.{read_members, AreFitting, values_of};
 
 use crate::items::Item;
 use crate::versions::is_of_version_1;
@@ -72,7 +70,7 @@ fn read_members(
 }
 
 /// The members of an event.
-fn event_members(alloc: Global, event: &Event) -> Result<Map<String, Value>, AllocError>
+pub(crate) fn event_members(alloc: Global, event: &Event) -> Result<Map<String, Value>, AllocError>
     ensures value { IfOk result (λ m. object (members_view m.entries) ≡ event_data event.now) }
     ensures fits { IfOk result (λ _. IsFitting event.now) }
 {
@@ -90,14 +88,6 @@ fn event_members(alloc: Global, event: &Event) -> Result<Map<String, Value>, All
         Event::C { a, r, s } => read_members(alloc, "C", a, r, s),
         Event::F => with_text(alloc, Map::new(alloc), "k", "F"),
     }
-}
-
-pub(crate) fn event_value(alloc: Global, event: &Event) -> Result<Value, AllocError>
-    ensures value { IfOk result (λ v. view v ≡ event_data event.now) }
-    ensures fits { IfOk result (λ _. IsFitting event.now) }
-{
-    let members = event_members(alloc, event)?;
-    Ok(Value::Object(members))
 }
 
 fn list_value<T: Item>(alloc: Global, items: &[T]) -> Result<Value, AllocError>
@@ -123,43 +113,20 @@ fn lists_value<T: Item>(alloc: Global, lists: &[Vec<T>]) -> Result<Value, AllocE
     Ok(Value::Array(values))
 }
 
-/// The members that both versions have.
-fn parts(alloc: Global, recording: &Recording) -> Result<Map<String, Value>, AllocError>
-    ensures value { IfOk result (λ m. members_view m.entries ≡ parts_members recording.now) }
-    ensures fits { IfOk result (λ _. AreFitting None recording.now) }
-{
-    let cores = lists_value(alloc, recording.cores())?;
-    let members = with(alloc, Map::new(alloc), "cores", cores)?;
-    let writes = lists_value(alloc, recording.writes())?;
-    with(alloc, members, "writes", writes)
-}
-
-fn value_1(alloc: Global, recording: &Recording) -> Result<Value, AllocError>
-    ensures value { IfOk result (λ v. view v ≡ data_1 recording.now) }
-    ensures fits { IfOk result (λ _. AreFitting None recording.now) }
-{
-    let members = parts(alloc, recording)?;
-    let members = with(alloc, members, "version", Value::from(1u64))?;
-    Ok(Value::Object(members))
-}
-
-fn value_2(alloc: Global, recording: &Recording) -> Result<Value, AllocError>
-    ensures value { IfOk result (λ v. view v ≡ data_2 recording.now) }
-    ensures fits { IfOk result (λ _. AreFitting (Some recording.now.initial) recording.now) }
-{
-    let members = parts(alloc, recording)?;
-    let init = list_value(alloc, recording.init())?;
-    let members = with(alloc, members, "init", init)?;
-    let members = with(alloc, members, "version", Value::from(2u64))?;
-    Ok(Value::Object(members))
-}
-
 pub(crate) fn value_of(alloc: Global, recording: &Recording) -> Result<Value, AllocError>
     ensures value { IfOk result (λ v. view v ≡ data_of recording.now) }
     ensures fits { IfOk result (λ _. AreFitting (values_of recording.now) recording.now) }
 {
+    let cores = lists_value(alloc, recording.cores())?;
+    let members = with(alloc, Map::new(alloc), "cores", cores)?;
+    let writes = lists_value(alloc, recording.writes())?;
+    let members = with(alloc, members, "writes", writes)?;
     if is_of_version_1(recording) {
-        return value_1(alloc, recording);
+        let members = with(alloc, members, "version", Value::from(1u64))?;
+        return Ok(Value::Object(members));
     }
-    value_2(alloc, recording)
+    let init = list_value(alloc, recording.init())?;
+    let members = with(alloc, members, "init", init)?;
+    let members = with(alloc, members, "version", Value::from(2u64))?;
+    Ok(Value::Object(members))
 }
