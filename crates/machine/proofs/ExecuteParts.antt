@@ -1,5 +1,5 @@
 -- What the execution of an operation does to the parts of a machine.
-use Rattle.std.proofs.Common.{◌≡◌, ◌<◌, ◌≤◌, ◌+◌, inl, inr, ℕ, true, Option, Ok, List, [], ◌∷◌, ◌++◌, length, map}
+use Rattle.std.proofs.Common.{◌≡◌, ◌<◌, ◌≤◌, ◌+◌, inl, inr, ℕ, true, Option, Ok, List, [], ◌∷◌, ◌++◌, length}
 use Rattle.std.proofs.Common.{slice_index, slice_index_or, slice_set, arith, refl, sym, ap, subst, ◌∙◌, length-set}
 use Rattle.std.proofs.Common.{length-append, get_or-set_same, get_or-set_other}
 use Rattle.std.specs.List.{All, sum, sum_by}
@@ -26,7 +26,7 @@ use Rattle.machine.specs.BoundedItems.{BoundedItems}
 use Rattle.machine.specs.Configuration.{IsSound, IsEntry, state_from, places_of}
 use Rattle.recording.specs.PlacedLaws.{placed_at, placed_total}
 use Rattle.machine.specs.PlaceLaws.{places_within}
-use Rattle.machine.proofs.Parts.{list_there, list_seen, list_short, list_room, unit_there}
+use Rattle.machine.proofs.Parts.{list_seen, list_short, list_room, unit_there}
 use Rattle.machine.proofs.Parts.{buffer_there, place_at, first_at, buffer_seen, capacity_is, waiting_within}
 
 -- the places, where a core went on

@@ -1,12 +1,11 @@
 -- What is known of the parts of a machine that fit together.
 use Rattle.std.proofs.Common.{◌≡◌, ◌<◌, ◌≤◌, ◌+◌, ℕ, Option, List, [], length, map, slice_index}
-use Rattle.std.proofs.Common.{slice_index_or, arith, sym, ap, subst, ◌∙◌}
+use Rattle.std.proofs.Common.{slice_index_or, arith, sym, ap, ◌∙◌}
 use Rattle.std.specs.List.{All}
 use Rattle.std.proofs.lemmas.List.{get_or-map}
 use Rattle.common.specs.declared.limits.TheConstants.{MAX_EVENTS}
 use Rattle.program.specs.declared.op.Op.{Op}
 use Rattle.program.specs.Parts.{Parts, op_count}
-use Rattle.write_buffer.specs.declared.entry.Entry.{Entry}
 use Rattle.write_buffer.specs.Buffer.{Buffer}
 use Rattle.core_unit.specs.Progress.{Progress}
 use Rattle.moesi.specs.State as moesi
