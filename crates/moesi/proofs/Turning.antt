@@ -14,7 +14,7 @@ use Rattle.moesi.specs.declared.error.CacheError.{CacheError}
 use Rattle.moesi.specs.Block.{Block, invalid}
 use Rattle.moesi.specs.Words.{cell_in}
 use Rattle.moesi.specs.Packed.{AreWords, block_in, block_by, caches_in, StaysElsewhere, IsRowOnWords}
-use Rattle.moesi.proofs.Grid.{same_core, same_address, inside, lines_length, blocks_length, line_at}
+use Rattle.moesi.proofs.Grid.{same_core, same_address, inside, lines_length, line_at}
 
 -- equal functions make equal lists
 pub map_equal : {X Y : Type 0} (f g : X → Y) (xs : List X) → ((x : X) → f x ≡ g x) → map f xs ≡ map g xs
