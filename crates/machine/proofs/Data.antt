@@ -1,6 +1,6 @@
 -- Each value in a line, in memory, in a buffer or read is one that an executed write of its address
 -- wrote, so a complete state's recording is well formed.
-use Rattle.std.proofs.Common.{◌≡◌, ◌≢◌, ◌<◌, ◌≤◌, ◌+◌, ◌⊎◌, inl, inr, ℕ, Bool, true, cond, Option, Some, None}
+use Rattle.std.proofs.Common.{◌≡◌, ◌≢◌, ◌<◌, ◌≤◌, ◌+◌, ◌⊎◌, inl, inr, ℕ, Bool, cond, Option, Some, None}
 use Rattle.std.proofs.Common.{Ok, List, [], ◌∷◌, ◌++◌, map, length, get_or, slice_index, slice_set, arith}
 use Rattle.std.proofs.Common.{refl, sym, ap, subst, ◌∙◌, get_or-set_same, get_or-set_other}
 use Rattle.std.specs.Prelude.{◌==◌}
@@ -9,10 +9,10 @@ use Rattle.std.proofs.lemmas.List.{get_or_past, map-append}
 use Rattle.std.proofs.lemmas.Bool.{cases_eq, cases_lt, eq-eqb}
 use Rattle.std.proofs.lemmas.Option.{same_Some}
 use Rattle.program.specs.declared.op.Op.{Op}
-use Rattle.program.specs.declared.op.Op.TheVariants.{St, Ld, Fence, Swap, Add, Cas}
+use Rattle.program.specs.declared.op.Op.TheVariants.{St, Fence}
 use Rattle.program.specs.Parts.{IsWithin}
 use Rattle.recording.specs.Event.{written_address, source, value_read, value_written}
-use Rattle.recording.specs.Execution.{placed_from, event_at, write_list, Reads, Writes}
+use Rattle.recording.specs.Execution.{placed_from, write_list, Reads, Writes}
 use Rattle.recording.specs.Order.{times}
 use Rattle.recording.specs.Tso.{Gives, IsWellFormed}
 use Rattle.recording.specs.OrderLaws.{times_nil, times_here, times_append}
@@ -21,7 +21,6 @@ use Rattle.write_buffer.specs.declared.entry.Entry.{Entry}
 use Rattle.write_buffer.specs.Buffer.{youngest, or_else}
 use Rattle.machine.specs.declared.step.Step.{Step}
 use Rattle.moesi.specs.State as moesi
-use Rattle.moesi.specs.Laws.{IsAnyTransaction}
 use Rattle.moesi.specs.OriginLaws.{every_copy_was_there, every_write_adds_itself}
 use Rattle.machine.specs.declared.fault.Fault.{Fault}
 use Rattle.machine.specs.Faults.{forwarded}

@@ -1,9 +1,9 @@
 -- What a drain does to the parts of a machine.
-use Rattle.std.proofs.Common.{◌≡◌, ◌<◌, ◌≤◌, ◌+◌, ℕ, Option, Some, Ok, List, [], ◌∷◌, ◌++◌, length}
+use Rattle.std.proofs.Common.{◌≡◌, ◌<◌, ◌+◌, ℕ, Option, Some, Ok, List, [], ◌∷◌, ◌++◌, length}
 use Rattle.std.proofs.Common.{slice_get, slice_index_or, slice_set, arith, refl, sym, ap, subst, ◌∙◌}
 use Rattle.std.proofs.Common.{length-set, length-append}
 use Rattle.std.specs.List.{All, sum_by}
-use Rattle.std.proofs.lemmas.List.Elements.{All-set, All-weaker}
+use Rattle.std.proofs.lemmas.List.Elements.{All-set}
 use Rattle.std.proofs.lemmas.List.Sums.{sum_by-set}
 use Rattle.std.proofs.lemmas.List.{map-set, length-map, get_or_default}
 use Rattle.std.proofs.lemmas.Option.{slice_get_within, get_or_from_slice_get}
@@ -21,6 +21,7 @@ use Rattle.machine.specs.BoundedItems.{BoundedItems}
 use Rattle.machine.specs.Configuration.{IsSound, IsEntry, state_from, places_of}
 use Rattle.machine.proofs.Removed.{length_without, all_without}
 use Rattle.machine.specs.PlaceLaws.{places_within}
+use Rattle.machine.proofs.Parts.{rooms_pushed, lengths_pushed}
 use Rattle.machine.proofs.Parts.{list_seen, list_short, list_room, buffer_there, buffer_seen}
 use Rattle.machine.proofs.Parts.{capacity_is, waiting_within}
 
@@ -114,19 +115,8 @@ module _ {p : Parts} {capacity : ℕ} {units : List Progress} {buffers : List Bu
           entries = All-set (λ b. All (IsEntry (length p.names)) b.entries) buffers core new
               (rw popped (all_without (IsEntry (length p.names)) now.entries (draining fault now.entries)
               (waiting_within sound at now_is))) sound.entries;
-          write_rooms = All-set (λ l. l.room ≡ op_count p.cores) writes entry.addr list'
-              (ap (λ (r : BoundedItems ℕ). r.room) pushed ∙ list_room sound entry_within.0 list_is)
-              sound.write_rooms;
-          write_lengths = All-set (λ l. length l.items ≤ length done'.items) writes entry.addr list'
-              (omega (
-                arith,
-                list_short sound entry_within.0 list_is,
-                longer,
-                ap (λ (r : BoundedItems ℕ). length r.items) pushed,
-                length-append list.items (entry.event ∷ []),
-              ))
-              (All-weaker (λ l. length l.items ≤ length done.items) (λ l. length l.items ≤ length done'.items)
-              (λ l h. omega (arith, h, longer)) writes sound.write_lengths);
+          write_rooms = rooms_pushed sound entry_within.0 list_is entry.event pushed;
+          write_lengths = rw longer (lengths_pushed sound entry_within.0 list_is entry.event pushed);
           performed_room = ap (λ (r : BoundedItems ℕ). r.room) done_is ∙ sound.performed_room;
           counted = omega (arith, counted, longer, sound.counted);
         }

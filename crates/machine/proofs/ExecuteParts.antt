@@ -1,9 +1,9 @@
 -- What the execution of an operation does to the parts of a machine.
-use Rattle.std.proofs.Common.{◌≡◌, ◌<◌, ◌≤◌, ◌+◌, inl, inr, ℕ, true, Option, Ok, List, [], ◌∷◌, ◌++◌, length, map}
+use Rattle.std.proofs.Common.{◌≡◌, ◌<◌, ◌≤◌, ◌+◌, inl, inr, ℕ, true, Option, Ok, List, [], ◌∷◌, ◌++◌, length}
 use Rattle.std.proofs.Common.{slice_index, slice_index_or, slice_set, arith, refl, sym, ap, subst, ◌∙◌, length-set}
 use Rattle.std.proofs.Common.{length-append, get_or-set_same, get_or-set_other}
 use Rattle.std.specs.List.{All, sum, sum_by}
-use Rattle.std.proofs.lemmas.List.Elements.{All-set, All-weaker, All-push}
+use Rattle.std.proofs.lemmas.List.Elements.{All-set, All-push}
 use Rattle.std.proofs.lemmas.List.Sums.{sum_by-set}
 use Rattle.std.proofs.lemmas.List.{map-set, length-map}
 use Rattle.std.proofs.lemmas.Option.{slice_get_within, get_or_from_slice_get}
@@ -26,7 +26,9 @@ use Rattle.machine.specs.BoundedItems.{BoundedItems}
 use Rattle.machine.specs.Configuration.{IsSound, IsEntry, state_from, places_of}
 use Rattle.recording.specs.PlacedLaws.{placed_at, placed_total}
 use Rattle.machine.specs.PlaceLaws.{places_within}
-use Rattle.machine.proofs.Parts.{list_there, list_seen, list_short, list_room, unit_there}
+use Rattle.machine.proofs.Transacted.{transacted_sound}
+use Rattle.machine.proofs.Parts.{lengths_more, rooms_pushed, lengths_pushed}
+use Rattle.machine.proofs.Parts.{list_seen, list_short, list_room, unit_there}
 use Rattle.machine.proofs.Parts.{buffer_there, place_at, first_at, buffer_seen, capacity_is, waiting_within}
 
 -- the places, where a core went on
@@ -134,34 +136,40 @@ module _ {p : Parts} {capacity : ℕ} {units : List Progress} {buffers : List Bu
             ∙ sound.first c d inside
       ]
 
-      -- an event is performed; the reads are others of the same number
+      -- an event is performed; the reads and the write lists are others of the same number
+      performed_with : {reads' : List (ℕ × Option ℕ)} → length reads' ≡ length reads → {new : BoundedItems ℕ}
+          → new ≡ record { items = done.items ++ event ∷ []; room = done.room } → {writes' : List (BoundedItems ℕ)}
+          → length writes' ≡ length writes → All (λ l. l.room ≡ op_count p.cores) writes'
+          → All (λ l. length l.items ≤ length done.items + 1) writes'
+          → IsSound p capacity (slice_set units core moved) buffers caches writes' reads' new
+      performed_with same {new} is {writes'} as_many rooms lengths =
+          let longer : length new.items ≡ length done.items + 1 =
+          ap (λ (r : BoundedItems ℕ). length r.items) is ∙ length-append done.items (event ∷ []) in
+          record {
+            operations = sound.operations;
+            few = sound.few;
+            initials = sound.initials;
+            units_length = length-set units core moved ∙ sound.units_length;
+            buffers_length = sound.buffers_length;
+            cache_cores = sound.cache_cores;
+            cache_blocks = sound.cache_blocks;
+            writes_length = as_many ∙ sound.writes_length;
+            events = same ∙ sound.events;
+            first = first_up;
+            place = λ c. rw places_set (place_up c);
+            capacities = sound.capacities;
+            entries = sound.entries;
+            write_rooms = rooms;
+            write_lengths = rw longer lengths;
+            performed_room = ap (λ (r : BoundedItems ℕ). r.room) is ∙ sound.performed_room;
+            counted = omega (arith, longer, ap (λ (l : List ℕ). sum l) places_set, sum_up, sound.counted);
+          }
+
+      -- an event is performed that writes nothing
       pub performed_sound : {reads' : List (ℕ × Option ℕ)} → length reads' ≡ length reads → {new : BoundedItems ℕ}
           → new ≡ record { items = done.items ++ event ∷ []; room = done.room }
           → IsSound p capacity (slice_set units core moved) buffers caches writes reads' new
-      performed_sound same {new} is = record {
-        operations = sound.operations;
-        few = sound.few;
-        initials = sound.initials;
-        units_length = length-set units core moved ∙ sound.units_length;
-        buffers_length = sound.buffers_length;
-        cache_cores = sound.cache_cores;
-        cache_blocks = sound.cache_blocks;
-        writes_length = sound.writes_length;
-        events = same ∙ sound.events;
-        first = first_up;
-        place = λ c. rw places_set (place_up c);
-        capacities = sound.capacities;
-        entries = sound.entries;
-        write_rooms = sound.write_rooms;
-        write_lengths =
-            All-weaker (λ l. length l.items ≤ length done.items) (λ l. length l.items ≤ length new.items)
-            (λ l h. omega (arith, h, longer)) writes sound.write_lengths;
-        performed_room = ap (λ (r : BoundedItems ℕ). r.room) is ∙ sound.performed_room;
-        counted = omega (arith, longer, ap (λ (l : List ℕ). sum l) places_set, sum_up, sound.counted);
-      }
-        where
-          longer : length new.items ≡ length done.items + 1
-          longer = ap (λ (r : BoundedItems ℕ). length r.items) is ∙ length-append done.items (event ∷ [])
+      performed_sound same is = performed_with same is refl sound.write_rooms (lengths_more sound)
 
       module _ (fault : Fault) {old : Buffer} (is : old ≡ slice_index_or buffers core old) where
         -- the row of a fence
@@ -222,39 +230,9 @@ module _ {p : Parts} {capacity : ℕ} {units : List Progress} {buffers : List Bu
           → new ≡ record { items = done.items ++ event ∷ []; room = done.room }
           → IsSound p capacity (slice_set units core moved) buffers caches' (slice_set writes addr list')
           reads' new
-      rmw_sound {addr} addressed {list} list_is same_cores same_blocks {reads'} same {list'} {new} pushed is =
-          let base : IsSound p capacity (slice_set units core moved) buffers caches writes reads' new =
-          performed_sound same is in
-          record {
-            operations = base.operations;
-            few = base.few;
-            initials = base.initials;
-            units_length = base.units_length;
-            buffers_length = base.buffers_length;
-            cache_cores = same_cores ∙ base.cache_cores;
-            cache_blocks = same_blocks ∙ base.cache_blocks;
-            writes_length = length-set writes addr list' ∙ base.writes_length;
-            events = base.events;
-            first = base.first;
-            place = base.place;
-            capacities = base.capacities;
-            entries = base.entries;
-            write_rooms =
-                All-set (λ l. l.room ≡ op_count p.cores) writes addr list'
-                (ap (λ (r : BoundedItems ℕ). r.room) pushed ∙ list_room sound addressed list_is) base.write_rooms;
-            write_lengths = All-set (λ l. length l.items ≤ length new.items) writes addr list'
-                (omega (
-                  arith,
-                  list_short sound addressed list_is,
-                  ap (λ (r : BoundedItems ℕ). length r.items) pushed,
-                  length-append list.items (event ∷ []),
-                  ap (λ (r : BoundedItems ℕ). length r.items) is,
-                  length-append done.items (event ∷ []),
-                ))
-                base.write_lengths;
-            performed_room = base.performed_room;
-            counted = base.counted;
-          }
+      rmw_sound {addr} addressed list_is same_cores same_blocks same {list'} pushed is = transacted_sound
+          (performed_with same is (length-set writes addr list') (rooms_pushed sound addressed list_is event pushed)
+          (lengths_pushed sound addressed list_is event pushed)) same_cores same_blocks
 
       -- a store goes to the back of the buffer
       module _ {old new : Buffer} (is : old ≡ slice_index_or buffers core old) (entry : Entry)

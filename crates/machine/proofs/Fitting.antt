@@ -1,7 +1,7 @@
 -- What every step without fault keeps of the sizes of a state, so that every such run leads to one that is
 -- orderly.
 use Rattle.std.proofs.Common.{◌≡◌, ◌<◌, ◌≤◌, ◌+◌, inl, inr, ℕ, cond, Ok, List, [], ◌∷◌}
-use Rattle.std.proofs.Common.{◌++◌, take, length, get_or, slice_set, replicate, arith, refl, sym, ap, subst}
+use Rattle.std.proofs.Common.{◌++◌, take, length, get_or, slice_set, arith, ap}
 use Rattle.std.proofs.Common.{◌∙◌, get_or-set_same, get_or-set_other, length-set, length-append}
 use Rattle.std.specs.List.{All, sum, sum_by, count_by}
 use Rattle.std.proofs.lemmas.List.{length-replicate}

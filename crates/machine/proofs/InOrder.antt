@@ -63,7 +63,8 @@ module _ {p : List (List Op)} {s : State} (g : IsInOrder p s) where
       (ap (λ (z : ℕ × Op). written_address (event_of z.1 (0, None))) here.0) in
       record {
         steady = drain_steady g.steady caches c x [] xs at is wrote;
-        ordered = drain_ordered p s caches c x (omega (arith, at, g.steady.buffers)) xs is here g.steady.counted g.ordered;
+        ordered = drain_ordered p s caches c x (omega (arith, at, g.steady.buffers)) xs is here g.steady.counted
+            g.ordered;
         coherent = every_call_keeps_coherence s.caches caches c x.addr x.value x.event g.coherent
             (core_within c at) within (inr wrote);
         latest = latest_written (with_buffer s c xs)

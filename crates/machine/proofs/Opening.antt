@@ -1,7 +1,6 @@
 -- The opening state keeps all that a step keeps, and where the events of a core stand.
-use Rattle.std.proofs.Common.{◌≡◌, ◌<◌, inl, inr, ℕ, Bool, true, false, cond, Option, Some, None, List, []}
+use Rattle.std.proofs.Common.{◌≡◌, ◌<◌, inl, inr, ℕ, Option, Some, None, List, []}
 use Rattle.std.proofs.Common.{map, length, get_or, replicate, arith, refl, sym, ap, subst, ◌∙◌}
-use Rattle.std.specs.Prelude.{◌==◌}
 use Rattle.std.specs.List.{All, sum_by}
 use Rattle.std.proofs.lemmas.List.{length-replicate, get_or-replicate, get_or_past, length-map}
 use Rattle.std.proofs.lemmas.Bool.{cases_lt}
@@ -11,17 +10,15 @@ use Rattle.recording.specs.OrderLaws.{times_nil}
 use Rattle.program.specs.declared.op.Op.{Op}
 use Rattle.program.specs.declared.op.Op.TheVariants.{St, Ld, Fence, Swap, Add, Cas}
 use Rattle.write_buffer.specs.declared.entry.Entry.{Entry}
-use Rattle.machine.specs.State.{opening, event_of}
+use Rattle.machine.specs.State.{opening}
 use Rattle.program.specs.Parts.{IsWithin, addr_of}
-use Rattle.recording.specs.declared.event.Event.TheVariants.{R, C}
-use Rattle.recording.specs.Event.{written_address}
 use Rattle.moesi.specs.Block.{block_with}
 use Rattle.moesi.specs.CacheLaws.{opening_with_is_coherent}
 use Rattle.recording.specs.PlacedLaws.{located, placed_total}
 use Rattle.machine.specs.PlaceLaws.{event_behind, event_op}
 use Rattle.machine.specs.ProgramLaws.{same_kind, own_used}
 use Rattle.std.proofs.lemmas.Option.{same_Some}
-use Rattle.machine.proofs.Static.{static_of, snapshot_of, placed_op, op_reads}
+use Rattle.machine.proofs.Static.{static_of, snapshot_of, placed_op}
 use Rattle.machine.proofs.Newest.{last_of, last_nil}
 use Rattle.machine.proofs.DrainEvents.{AreStores}
 use Rattle.machine.proofs.Steady.{IsSteady}

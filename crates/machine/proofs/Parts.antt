@@ -1,12 +1,13 @@
 -- What is known of the parts of a machine that fit together.
+use Rattle.std.proofs.Common.{◌++◌, ◌∷◌, [], slice_set, length-append}
 use Rattle.std.proofs.Common.{◌≡◌, ◌<◌, ◌≤◌, ◌+◌, ℕ, Option, List, [], length, map, slice_index}
-use Rattle.std.proofs.Common.{slice_index_or, arith, sym, ap, subst, ◌∙◌}
+use Rattle.std.proofs.Common.{slice_index_or, arith, sym, ap, ◌∙◌}
 use Rattle.std.specs.List.{All}
 use Rattle.std.proofs.lemmas.List.{get_or-map}
+use Rattle.std.proofs.lemmas.List.Elements.{All-set, All-weaker}
 use Rattle.common.specs.declared.limits.TheConstants.{MAX_EVENTS}
 use Rattle.program.specs.declared.op.Op.{Op}
 use Rattle.program.specs.Parts.{Parts, op_count}
-use Rattle.write_buffer.specs.declared.entry.Entry.{Entry}
 use Rattle.write_buffer.specs.Buffer.{Buffer}
 use Rattle.core_unit.specs.Progress.{Progress}
 use Rattle.moesi.specs.State as moesi
@@ -18,6 +19,11 @@ use Rattle.machine.proofs.Static.{first_within}
 module _ {p : Parts} {capacity : ℕ} {units : List Progress} {buffers : List Buffer} {caches : moesi.CacheState}
     {writes : List (BoundedItems ℕ)} {reads : List (ℕ × Option ℕ)} {done : BoundedItems ℕ}
     (sound : IsSound p capacity units buffers caches writes reads done) where
+  -- each write list is no longer than one more than what was performed
+  pub lengths_more : All (λ l. length l.items ≤ length done.items + 1) writes
+  lengths_more = All-weaker (λ l. length l.items ≤ length done.items) (λ l. length l.items ≤ length done.items + 1)
+      (λ l h. omega (arith, h)) writes sound.write_lengths
+
   module _ {addr : ℕ} (addressed : addr < length p.names) {list : BoundedItems ℕ}
       (list_is : list ≡ slice_index_or writes addr list) where
     -- an address has a write list
@@ -37,6 +43,23 @@ module _ {p : Parts} {capacity : ℕ} {units : List Progress} {buffers : List Bu
     -- and has room for every event
     pub list_room : list.room ≡ op_count p.cores
     list_room = ap (λ (l : BoundedItems ℕ). l.room) list_is ∙ sound.write_rooms addr list list_there
+
+    module _ (event : ℕ) {list' : BoundedItems ℕ}
+        (pushed : list' ≡ record { items = list.items ++ event ∷ []; room = list.room }) where
+      -- with one event more each has room for every event
+      pub rooms_pushed : All (λ l. l.room ≡ op_count p.cores) (slice_set writes addr list')
+      rooms_pushed = All-set (λ l. l.room ≡ op_count p.cores) writes addr list'
+          (ap (λ (r : BoundedItems ℕ). r.room) pushed ∙ list_room) sound.write_rooms
+
+      -- and is no longer than what is performed with it
+      pub lengths_pushed : All (λ l. length l.items ≤ length done.items + 1) (slice_set writes addr list')
+      lengths_pushed = All-set (λ l. length l.items ≤ length done.items + 1) writes addr list'
+          (omega (
+            arith,
+            list_short,
+            ap (λ (r : BoundedItems ℕ). length r.items) pushed,
+            length-append list.items (event ∷ []),
+          )) lengths_more
 
   module _ {core : ℕ} (there : core < length p.cores) where
     -- a core has a unit

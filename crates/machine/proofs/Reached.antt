@@ -1,5 +1,5 @@
 -- A step from a reached state leads to one, and what is known of reached states.
-use Rattle.std.proofs.Common.{◌≡◌, ℕ, Ok, List, [], ◌∷◌, ◌++◌, refl, sym, ap, subst, ◌∙◌}
+use Rattle.std.proofs.Common.{◌≡◌, ℕ, Ok, List, [], ◌∷◌, ◌++◌, ap, subst, ◌∙◌}
 use Rattle.program.specs.declared.op.Op.{Op}
 use Rattle.machine.specs.declared.fault.Fault.{Fault}
 use Rattle.machine.specs.declared.fault.Fault.TheVariants as fault
@@ -7,7 +7,7 @@ use Rattle.machine.specs.declared.step.Step.{Step}
 use Rattle.machine.specs.declared.step.Step.TheVariants.{Exec}
 use Rattle.machine.specs.State.{State, opening}
 use Rattle.machine.specs.Configuration.{IsReached}
-use Rattle.machine.specs.Step.{exec, step_result, after, run, IsAt}
+use Rattle.machine.specs.Step.{exec, step_result, after, IsAt}
 use Rattle.machine.specs.RunLaws.{run_append, at_taken}
 use Rattle.machine.proofs.InOrder.{IsInOrder}
 use Rattle.machine.proofs.Complete.{run_in_order}

@@ -1,6 +1,6 @@
 -- What a program fixes of its events, and a state as lists of event numbers.
-use Rattle.std.proofs.Common.{◌≡◌, ◌<◌, ◌≤◌, ◌+◌, ℕ, zero, suc, Option, Some, None, List, []}
-use Rattle.std.proofs.Common.{◌∷◌, map, take, length, get_or, arith, ap, ◌∙◌}
+use Rattle.std.proofs.Common.{◌≡◌, ◌<◌, ◌≤◌, ◌+◌, ℕ, None, List, []}
+use Rattle.std.proofs.Common.{map, length, get_or, arith, ap, ◌∙◌}
 use Rattle.std.specs.List.{sum_by}
 use Rattle.std.proofs.lemmas.List.Sums.{sum_by_more, sum_by-take-le, sum-map}
 use Rattle.std.proofs.lemmas.List.{get_or-map, length-map}
@@ -8,7 +8,6 @@ use Rattle.recording.specs.Execution.{placed_from}
 use Rattle.recording.specs.declared.event.Event.{Event}
 use Rattle.recording.specs.Event.{written_address}
 use Rattle.program.specs.declared.op.Op.{Op}
-use Rattle.program.specs.declared.op.Op.TheVariants.{St, Ld, Fence, Swap, Add, Cas}
 use Rattle.machine.specs.State.{State, place_of, buffer_of, first_event, event_of}
 pub use Rattle.machine.specs.Orderly.{placed_op, is_st, is_ld, op_reads}
 use Rattle.machine.proofs.Seen.{Static, Snapshot}

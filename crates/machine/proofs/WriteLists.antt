@@ -1,7 +1,7 @@
 -- Write lists are what was performed, memory has the last of each, and so a load gets the newest write
 -- that its core sees.
 use Rattle.std.proofs.Common.{◌≡◌, ◌<◌, ◌≤◌, inl, inr, ℕ, Bool, true, false, cond, Result, Ok, Option, Some}
-use Rattle.std.proofs.Common.{None, List, [], ◌∷◌, ◌++◌, map, length, get_or, slice_set, arith, refl, sym, ap}
+use Rattle.std.proofs.Common.{None, List, [], ◌∷◌, ◌++◌, map, length, get_or, arith, refl, sym, ap}
 use Rattle.std.proofs.Common.{subst, ◌∙◌, get_or-set_same, get_or-set_other, length-set}
 use Rattle.std.specs.Prelude.{◌==◌}
 use Rattle.std.specs.List.{filter}

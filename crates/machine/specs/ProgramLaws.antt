@@ -1,9 +1,11 @@
 -- Laws of programs and the recordings of them: each operation makes the event of its number.
 use Rattle.std.proofs.Common.{◌≡◌, ◌<◌, ◌≤◌, ◌+◌, ◌-◌, ◌==◌, ◌⊎◌, inl, inr, ℕ, zero, suc, Bool, true, false}
-use Rattle.std.proofs.Common.{cond, Option, Some, None, List, [], ◌∷◌, map, length, get_or, arith, refl, sym}
-use Rattle.std.proofs.Common.{ap, subst, ◌∙◌, length-append}
+use Rattle.std.proofs.Common.{cond, Option, Some, None, List, [], ◌∷◌, map, take, length, get_or, ext_get_or, arith}
+use Rattle.std.proofs.Common.{refl, sym, ap, subst, ◌∙◌}
+use Rattle.std.specs.List.{sum}
+use Rattle.std.proofs.lemmas.List.Sums.{sum-map}
 use Rattle.std.proofs.lemmas.Bool.{cases_lt}
-use Rattle.std.proofs.lemmas.List.{get_or_append_left, get_or-append_right, get_or-map, length-map}
+use Rattle.std.proofs.lemmas.List.{get_or_append_left, get_or-append_right, get_or-map, get_or_past, length-map}
 use Rattle.program.specs.declared.op.Op.{Op}
 use Rattle.program.specs.declared.op.Op.TheVariants.{St, Ld, Fence, Swap, Add, Cas}
 use Rattle.program.specs.Parts.{Parts, addr_of}
@@ -11,12 +13,12 @@ use Rattle.recording.specs.declared.event.Event.{Event}
 use Rattle.recording.specs.declared.event.Event.TheVariants.{R, C, F}
 use Rattle.recording.specs.Event.{read_address, written_address, value_read, source, is_plain_store}
 use Rattle.recording.specs.Event.{is_plain_load}
-use Rattle.recording.specs.EventLaws.{placed_here, placed_behind}
 use Rattle.recording.specs.Execution.{Execution, placed_from, event_count, event_at}
-use Rattle.recording.specs.PlacedLaws.{tagged}
+use Rattle.recording.specs.PlacedLaws.{tagged, placed_at, placed_total, located}
 use Rattle.machine.specs.State.{State, event_of, cores_from, recorded}
 use Rattle.machine.specs.Orderly.{placed_op, is_st, is_ld, op_reads}
 use Rattle.machine.specs.ProgramOf.{Makes, AreOpsOf, IsProgramOf}
+use Rattle.machine.specs.PlaceLaws.{event_op}
 use Rattle.machine.specs.RecordedLaws.{events_length, events_at, cores_length}
 use Rattle.machine.specs.FirstUseLaws.{HasAddressOf, HaveAddressesOf}
 
@@ -33,56 +35,44 @@ pub op_behind : (k : ℕ) (ops : List Op) (rest : List (List Op)) (i : ℕ) (d :
 op_behind k ops rest i d h =
     get_or-append_right (map (λ op. (k, op)) ops) (placed_from (k + 1) rest) (length ops) i d (tagged k ops) h
 
--- operations that make the events of each core make the event of each number
-placed_makes : (k : ℕ) (p : List (List Op)) (cores : List (List Event)) (i : ℕ) → length p ≡ length cores
-    → ((c : ℕ) → c < length p → AreOpsOf (get_or p c []) (get_or cores c []))
-    → Makes (get_or (placed_from k p) i (0, Fence)).1 (get_or (placed_from k cores) i (0, F)).1
-placed_makes k [] [] i count are = refl
-placed_makes k [] (es ∷ cores) i count are = absurd (omega arith)
-placed_makes k (ops ∷ p) [] i count are = absurd (omega arith)
-placed_makes k (ops ∷ p) (es ∷ cores) i count are =
-    let first : AreOpsOf ops es = are 0 (omega arith) in
-    elim (cases_lt i (length ops)) [
-      | inl here ↦
-          let event : get_or (placed_from k (es ∷ cores)) i (0, F) ≡ (k, get_or es i F) =
-          placed_here k es cores i (0, F) (omega (arith, here, first.one_each)) in
-          rw (op_here k ops p i (0, Fence) here)
-          (subst (λ (z : ℕ × Event). Makes (get_or ops i Fence) z.1) (sym event) (first.each i here))
-      | inr behind ↦
-          let same : i - length es ≡ i - length ops = omega (arith, first.one_each) in
-          let event : get_or (placed_from k (es ∷ cores)) i (0, F)
-          ≡ get_or (placed_from (k + 1) cores) (i - length ops) (0, F) =
-          placed_behind k es cores i (0, F) (omega (arith, behind, first.one_each))
-          ∙ ap (λ (n : ℕ). get_or (placed_from (k + 1) cores) n (0, F)) same in
-          rw (op_behind k ops p i (0, Fence) behind) (rw event
-          (placed_makes (k + 1) p cores (i - length ops) (omega arith)
-          (λ c h. are (suc c) (omega (arith, h)))))
-    ]
+module _ (p : Parts) (x : Execution) (is : IsProgramOf p x) where
+  -- each core has as many events as operations
+  lengths : map (λ (ops : List Op). length ops) p.cores ≡ map (λ (es : List Event). length es) x.cores
+  lengths =
+      ext_get_or 0 _ _ (length-map p.cores (λ (ops : List Op). length ops)
+      ∙ (is.cores ∙ sym (length-map x.cores (λ (es : List Event). length es))))
+      (λ c inside.
+      let core : c < length p.cores = omega (arith, inside, length-map p.cores (λ (ops : List Op). length ops)) in
+      get_or-map (λ (ops : List Op). length ops) p.cores c [] 0 core ∙ ((is.ops c core).one_each
+      ∙ sym (get_or-map (λ (es : List Event). length es) x.cores c [] 0 (omega (arith, core, is.cores)))))
 
--- there are as many operations as events
-placed_count : (k : ℕ) (p : List (List Op)) (cores : List (List Event)) → length p ≡ length cores
-    → ((c : ℕ) → c < length p → AreOpsOf (get_or p c []) (get_or cores c []))
-    → length (placed_from k p) ≡ length (placed_from k cores)
-placed_count k [] [] count are = refl
-placed_count k [] (es ∷ cores) count are = absurd (omega arith)
-placed_count k (ops ∷ p) [] count are = absurd (omega arith)
-placed_count k (ops ∷ p) (es ∷ cores) count are =
-    let first : AreOpsOf ops es = are 0 (omega arith) in
-    length-append (map (λ op. (k, op)) ops) (placed_from (k + 1) p)
-    ∙ (omega (
-      arith,
-      tagged k ops,
-      tagged k es,
-      first.one_each,
-      placed_count (k + 1) p cores (omega arith) (λ c h. are (suc c) (omega (arith, h))),
-    )
-    ∙ sym (length-append (map (λ e. (k, e)) es) (placed_from (k + 1) cores)))
+  -- so there are as many in all
+  placed_count : length (placed_from 0 p.cores) ≡ length (placed_from 0 x.cores)
+  placed_count = omega (
+    arith,
+    placed_total 0 p.cores,
+    placed_total 0 x.cores,
+    sum-map (λ (ops : List Op). length ops) p.cores,
+    sum-map (λ (es : List Event). length es) x.cores,
+    ap (λ (l : List ℕ). sum l) lengths,
+  )
 
--- of a recording of a program each operation makes the event of its number
-pub event_made : (p : Parts) (x : Execution) → IsProgramOf p x → (e : ℕ)
-    → Makes (placed_op p.cores e).1 (event_at x e)
-unfolding event_at
-event_made p x is e = placed_makes 0 p.cores x.cores e is.cores is.ops
+  -- and each operation makes the event of its number
+  pub event_made : (e : ℕ) → Makes (placed_op p.cores e).1 (event_at x e)
+  unfolding event_at
+  event_made e = elim (cases_lt e (length (placed_from 0 p.cores))) [
+    | inl event ↦
+        let at = located 0 p.cores e event in
+        let of : AreOpsOf (get_or p.cores at.0 []) (get_or x.cores at.0 []) = is.ops at.0 at.2 in
+        let same : (get_or (placed_from 0 x.cores) e (0, F)).1 ≡ get_or (get_or x.cores at.0 []) at.1 F =
+        ap (λ (n : ℕ). (get_or (placed_from 0 x.cores) n (0, F)).1)
+        (sym at.4 ∙ ap (λ (l : List ℕ). sum (take at.0 l) + at.1) lengths)
+        ∙ ap (λ (z : ℕ × Event). z.1) (placed_at 0 x.cores at.0 at.1 F (omega (arith, at.3, of.one_each))).0 in
+        rw (event_op p.cores e event, same) (of.each at.1 at.3)
+    | inr past ↦ subst (λ (z : ℕ × Op). Makes z.1 (get_or (placed_from 0 x.cores) e (0, F)).1)
+        (sym (get_or_past (placed_from 0 p.cores) e (0, Fence) past)) (subst (λ (z : ℕ × Event). Makes Fence z.1)
+        (sym (get_or_past (placed_from 0 x.cores) e (0, F) (omega (arith, past, placed_count)))) refl)
+  ]
 
 -- what is the same of an event that writes and of one that doesn't
 both : {A : Type 0} (f : Event → A) (c : A) (a : ℕ) (d : ℕ × Option ℕ) (v : ℕ) (b : Bool)
@@ -156,7 +146,7 @@ used_own (Cas b e v) d a h = inl (both read_address (Some a) b d v (d.0 == e) h 
 pub made_addresses : (p : Parts) (x : Execution) → IsProgramOf p x → HaveAddressesOf p.cores x
 unfolding event_count
 made_addresses p x is = record {
-  count = placed_count 0 p.cores x.cores is.cores is.ops;
+  count = placed_count p x is;
   each = λ e.
       let op : Op = (placed_op p.cores e).1 in
       let ev : Event = event_at x e in

@@ -1,7 +1,7 @@
 -- What a call is on the state that the words stand for.
-use Rattle.std.proofs.Common.{◌≡◌, ◌<◌, ◌+◌, ◌*◌, ℕ, Result, Ok, Err, Vec, Global, List, [], ◌∷◌}
-use Rattle.std.proofs.Common.{length, map, replicate}
-use Rattle.std.proofs.Common.{slice_index, suc, zero, arith, refl, sym, ap, subst, ◌∙◌, OnOk, OnErr, IfErr}
+use Rattle.std.proofs.Common.{◌≡◌, ◌<◌, ◌+◌, ◌*◌, ℕ, Result, Ok, Err, Vec, Global, List}
+use Rattle.std.proofs.Common.{length}
+use Rattle.std.proofs.Common.{slice_index, arith, refl, sym, ap, subst, ◌∙◌, OnOk, OnErr, IfErr}
 use Rattle.std.specs.Vec.{with_items}
 use Rattle.std.proofs.lemmas.List.{with_items_is}
 use Rattle.moesi.specs.declared.cell.Cell.{Cell}

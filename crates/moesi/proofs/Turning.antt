@@ -6,7 +6,7 @@ use Rattle.std.proofs.Common.{get_or-set_other, get_or-set_same, length-set, tak
 use Rattle.std.specs.List.{range_with_len}
 use Rattle.std.proofs.lemmas.Bool.{cases_eq}
 use Rattle.std.proofs.lemmas.List.{ext_get_or, append-nil}
-use Rattle.std.proofs.lemmas.List.FromFn.{get_or-map-range_with_len}
+use Rattle.std.proofs.lemmas.List.FromFn.{get_or-map-range_with_len, length-map-range_with_len}
 use Rattle.std.proofs.lemmas.List.Edits.{map_over_more}
 use Rattle.std.proofs.Math.Seq.{take-length, drop-length}
 use Rattle.moesi.specs.declared.cell.Cell.{Cell}
@@ -14,12 +14,31 @@ use Rattle.moesi.specs.declared.error.CacheError.{CacheError}
 use Rattle.moesi.specs.Block.{Block, invalid}
 use Rattle.moesi.specs.Words.{cell_in}
 use Rattle.moesi.specs.Packed.{AreWords, block_in, block_by, caches_in, StaysElsewhere, IsRowOnWords}
-use Rattle.moesi.proofs.Grid.{same_core, same_address, inside, lines_length, blocks_length, line_at}
+use Rattle.moesi.proofs.Grid.{same_core, same_address, inside, lines_length, line_at}
 
 -- equal functions make equal lists
 pub map_equal : {X Y : Type 0} (f g : X → Y) (xs : List X) → ((x : X) → f x ≡ g x) → map f xs ≡ map g xs
 map_equal f g [] h = refl
 map_equal f g (x ∷ xs) h = rw (h x, map_equal f g xs h) refl
+
+-- a function of each number that is another at one of them
+range_set : {X : Type 0} (f g : ℕ → X) (n c : ℕ) (d : X) → c < n → ((i : ℕ) → i < n → i ≢ c → g i ≡ f i)
+    → map g (range_with_len 0 n) ≡ slice_set (map f (range_with_len 0 n)) c (g c)
+range_set {X} f g n c d at same =
+    let old : List X = map f (range_with_len 0 n) in
+    let long : length (map g (range_with_len 0 n)) ≡ n = length-map-range_with_len g 0 n in
+    let short : length old ≡ n = length-map-range_with_len f 0 n in
+    ext_get_or d _ _ (long ∙ sym (length-set old c (g c) ∙ short))
+    (λ i h. let inside : i < n = omega (arith, h, long) in
+    get_or-map-range_with_len g 0 n i i d inside (omega arith)
+    ∙ elim (cases_eq i c) as (λ _. g i ≡ slice_index_or (slice_set old c (g c)) i d) [
+      | inl e ↦ ap g e
+          ∙ sym (ap (λ (j : ℕ). slice_index_or (slice_set old c (g c)) j d) e
+          ∙ get_or-set_same old c (g c) d (omega (arith, short, at)))
+      | inr ne ↦ same i inside ne
+          ∙ sym (get_or-set_other old c i (g c) d ne
+          ∙ get_or-map-range_with_len f 0 n i i d inside (omega arith))
+    ])
 
 -- where one word is written, of core c, or of memory, and address a
 module _ (cores n : ℕ) (words : List ℕ) (c a w : ℕ) (size : AreWords cores n words) (core : c < cores + 1)
@@ -64,22 +83,9 @@ module _ (cores n : ℕ) (words : List ℕ) (c a w : ℕ) (size : AreWords cores
   line_written within =
       let f : ℕ → Cell = λ d. cell_in (slice_index words (d * n + a)) in
       let g : ℕ → Cell = λ d. cell_in (slice_index now (d * n + a)) in
-      let old : List Cell = map f (range_with_len 0 cores) in
-      let long : length (map g (range_with_len 0 cores)) ≡ cores = lines_length cores n now a in
-      let short : length old ≡ cores = lines_length cores n words a in
-      let lines : map g (range_with_len 0 cores) ≡ slice_set old c (cell_in w) =
-      ext_get_or invalid _ _ (long ∙ sym (length-set old c (cell_in w) ∙ short))
-      (λ i h. let at : i < cores = omega (arith, h, long) in
-      get_or-map-range_with_len g 0 cores i i invalid at (omega arith)
-      ∙ elim (cases_eq i c) as (λ _. g i ≡ slice_index_or (slice_set old c (cell_in w)) i invalid) [
-        | inl e ↦ ap g e
-            ∙ (ap cell_in here
-            ∙ sym (ap (λ (j : ℕ). slice_index_or (slice_set old c (cell_in w)) j invalid) e
-            ∙ get_or-set_same old c (cell_in w) invalid (omega (arith, short, within))))
-        | inr ne ↦ ap cell_in (other_core i ne)
-            ∙ sym (get_or-set_other old c i (cell_in w) invalid ne
-            ∙ get_or-map-range_with_len f 0 cores i i invalid at (omega arith))
-      ]) in
+      let lines : map g (range_with_len 0 cores) ≡ slice_set (map f (range_with_len 0 cores)) c (cell_in w) =
+      range_set f g cores c invalid within (λ d inside ne. ap cell_in (other_core d ne))
+      ∙ ap (λ (x : Cell). slice_set (map f (range_with_len 0 cores)) c x) (ap cell_in here) in
       rw (lines, other_core cores (λ e. omega (arith, e, within))) refl
 
 -- memory's word is memory
@@ -123,26 +129,9 @@ pub caches_written : (cores n a : ℕ) (old new : List ℕ) → a < n → StaysE
       blocks = slice_set (caches_in cores n old).blocks a (block_in cores n new a);
     }
 caches_written cores n a old new column h =
-    let f : ℕ → Block = λ b. block_in cores n old b in
-    let g : ℕ → Block = λ b. block_in cores n new b in
-    let x : Block = block_in cores n new a in
-    let none : Block = record { lines = []; memory = (0, None) } in
-    let before : List Block = map f (range_with_len 0 n) in
-    let long : length (map g (range_with_len 0 n)) ≡ n = blocks_length cores n new in
-    let short : length before ≡ n = blocks_length cores n old in
-    let blocks : map g (range_with_len 0 n) ≡ slice_set before a x =
-    ext_get_or none _ _ (long ∙ sym (length-set before a x ∙ short))
-    (λ i k. let at : i < n = omega (arith, k, long) in
-    get_or-map-range_with_len g 0 n i i none at (omega arith)
-    ∙ elim (cases_eq i a) as (λ _. g i ≡ slice_index_or (slice_set before a x) i none) [
-      | inl e ↦ ap g e
-          ∙ sym (ap (λ (j : ℕ). slice_index_or (slice_set before a x) j none) e
-          ∙ get_or-set_same before a x none (omega (arith, short, column)))
-      | inr ne ↦ h.others i at ne
-          ∙ sym (get_or-set_other before a i x none ne
-          ∙ get_or-map-range_with_len f 0 n i i none at (omega arith))
-    ]) in
-    ap (λ (bs : List Block). record { cores = cores; blocks = bs }) blocks
+    ap (λ (bs : List Block). record { cores = cores; blocks = bs })
+    (range_set (λ b. block_in cores n old b) (λ b. block_in cores n new b) n a
+    (record { lines = []; memory = (0, None) }) column h.others)
 
 -- the lines of the cores below c became what f makes of them
 abbrev pub block_up_to : (Cell → Cell) → ℕ → Block → Block

@@ -1,5 +1,5 @@
 -- Laws of the caches: coherence and current data of all addresses, call by call.
-use Rattle.std.proofs.Common.{◌≡◌, ◌≢◌, ◌<◌, ◌==◌, inl, inr, ℕ, true, cond, Option, Some, None}
+use Rattle.std.proofs.Common.{◌≡◌, ◌≢◌, ◌<◌, inl, inr, ℕ, true, Option, Some, None}
 use Rattle.std.proofs.Common.{Result, Ok, Err, [], length, map, slice_index_or, slice_set, replicate, suc}
 use Rattle.std.proofs.Common.{zero, arith, refl, sym, ap, subst, ◌∙◌, get_or-set_other, get_or-set_same}
 use Rattle.std.proofs.Common.{length-set, List, ◌∷◌, slice_index}
@@ -8,9 +8,8 @@ use Rattle.std.proofs.lemmas.List.{length-map, length-replicate, get_or-map}
 use Rattle.moesi.specs.declared.error.CacheError.{CacheError}
 use Rattle.moesi.specs.Lines.{is_valid, is_owned}
 use Rattle.moesi.specs.Block.{Block, invalid, block_with}
-use Rattle.moesi.specs.Rows as row
-use Rattle.moesi.specs.State.{CacheState, opening_caches, opening_with, block_of, current, at_address}
-use Rattle.moesi.specs.State.{get_s, get_m, put, read, write}
+use Rattle.moesi.specs.State.{CacheState, opening_with, block_of, current, at_address}
+use Rattle.moesi.specs.State.{get_s, get_m, put, write}
 use Rattle.moesi.specs.Coherent.{IsCoherent}
 use Rattle.moesi.specs.Laws.{IsTransaction, OpeningIsCoherent, OpeningWithIsCoherent, EveryCallKeepsCoherence}
 use Rattle.moesi.specs.Laws.{EveryCopyIsCurrent, EveryReadIsCurrent, EveryTransactionKeepsCurrent}

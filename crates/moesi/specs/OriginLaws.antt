@@ -1,7 +1,7 @@
 -- Laws of where the copies come from.
 use Rattle.std.proofs.Common.{◌≡◌, ◌⊎◌, inl, inr, ℕ, suc, zero, Bool, true, false, cond, Option, Some, None}
 use Rattle.std.proofs.Common.{Result, Ok, Err, List, [], ◌∷◌, map, slice_index_or, slice_set, refl, sym, ap}
-use Rattle.std.proofs.Common.{subst, ◌∙◌}
+use Rattle.std.proofs.Common.{◌∙◌}
 use Rattle.std.proofs.Math.ListN.{get_or-map}
 use Rattle.std.proofs.lemmas.List.{map-id}
 use Rattle.std.proofs.lemmas.Bool.{cases_Bool, cond-true, cond-false}
@@ -15,7 +15,7 @@ use Rattle.moesi.specs.Lines.{is_valid, is_owned, is_shared, supplies}
 use Rattle.moesi.specs.Block.{Block, cell_of, invalid, copy_where, supplied, HasBlock}
 use Rattle.moesi.specs.Rows as row
 use Rattle.moesi.specs.State.{CacheState, block_of, at_address, Has}
-use Rattle.moesi.specs.Laws.{IsTransaction, IsAnyTransaction, EveryCopyWasThere, EveryWriteAddsItself}
+use Rattle.moesi.specs.Laws.{IsTransaction, EveryCopyWasThere, EveryWriteAddsItself}
 use Rattle.moesi.specs.LineLaws.{supplier_valid, lowered_valid}
 use Rattle.moesi.specs.RowLaws.{taken_else, taken_then}
 

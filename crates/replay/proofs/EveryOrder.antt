@@ -1,7 +1,7 @@
 -- Each TSO order of a recording is replayed.
 use Rattle.std.proofs.Common.{◌≡◌, ◌<◌, ◌≤◌, ◌+◌, ◌⊎◌, inl, inr, ℕ, zero, suc, Some, List, [], ◌∷◌, map, length}
 use Rattle.std.proofs.Common.{get_or, arith, refl, sym, ap, subst, ◌∙◌, true, nat_lt, ltb-true, Result, Ok}
-use Rattle.std.specs.List.{All, sum, sum_by, count_by}
+use Rattle.std.specs.List.{All, count_by}
 use Rattle.std.proofs.Math.Nat.{le-max_left, le-max_right}
 use Rattle.std.proofs.lemmas.List.{get_or_default, get_or_past}
 use Rattle.std.proofs.lemmas.List.Sums.{sum_by-le}
@@ -11,7 +11,6 @@ use Rattle.program.specs.declared.op.Op.TheVariants.{Fence}
 use Rattle.program.specs.declared.name.Name.{Name}
 use Rattle.program.specs.Parts.{Parts, IsWithin, IsProgram, parts_of}
 use Rattle.recording.specs.declared.event.Event.{Event}
-use Rattle.recording.specs.declared.event.Event.TheVariants.{L, S, R, C, F}
 use Rattle.recording.specs.Event.{read_address, written_address, value_read, source, is_plain_store}
 use Rattle.recording.specs.Execution.{Execution, placed_from, event_at}
 use Rattle.recording.specs.Order.{times}

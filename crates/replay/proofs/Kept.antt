@@ -1,5 +1,5 @@
 -- What every run leaves as it was: the initial values, and how many write lists there are.
-use Rattle.std.proofs.Common.{◌≡◌, ◌<◌, ◌+◌, ◌==◌, ◌⊎◌, inl, inr, ℕ, Bool, true, false, cond, nat_lt, Option, Some}
+use Rattle.std.proofs.Common.{◌≡◌, ◌<◌, ◌+◌, ◌==◌, ◌⊎◌, inl, inr, ℕ, Bool, true, false, cond, Option, Some}
 use Rattle.std.proofs.Common.{None, Result, Ok, Err, List, [], ◌∷◌, length, get_or, slice_get, slice_index_or}
 use Rattle.std.proofs.Common.{arith, refl, sym, ap, subst, ◌∙◌, length-set}
 use Rattle.std.specs.List.{All}

@@ -21,7 +21,7 @@ use Rattle.recording.specs.FirstUse.{IsNumberedByFirstUse}
 use Rattle.program.specs.AddressNames.{address_names}
 use Rattle.replay.specs.Program.{named_program}
 use Rattle.recording.specs.PlacedLaws.{placed_total}
-use Rattle.machine.specs.ProgramOf.{Makes, AreOpsOf, IsProgramOf}
+use Rattle.machine.specs.ProgramOf.{AreOpsOf, IsProgramOf}
 use Rattle.replay.proofs.Made.{count_same, made_again}
 use Rattle.std.proofs.lemmas.Option.{same_Some}
 use Rattle.machine.specs.FirstUseLaws.{HaveAddressesOf, numbered_counts, counts_numbered}
@@ -102,7 +102,9 @@ module _ (x : Execution) (lists : List (Vec Event Global)) (are : map (λ v. v.i
     (so_far : use_cores used (map list_ops (drop i lists)) ≡ use_cores 0 (map list_ops lists)) where
   -- they are the program's
   list_program : map list_ops lists ≡ program_of x
-  list_program = sym (map-map (λ (es : List Event). map op_of es) (λ (v : Vec Event Global). v.items) lists) ∙ ap (λ (cs : List (List Event)). map (λ es. map op_of es) cs) are
+  list_program =
+      sym (map-map (λ (es : List Event). map op_of es) (λ (v : Vec Event Global). v.items) lists)
+      ∙ ap (λ (cs : List (List Event)). map (λ es. map op_of es) cs) are
 
   -- at the end the count is that of the program
   all_used : length lists ≤ i → use_cores 0 (program_of x) ≡ Some used

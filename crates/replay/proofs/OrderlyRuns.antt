@@ -1,11 +1,11 @@
 -- Runs that go on, of which every state is orderly, and the stores that a core executes.
-use Rattle.std.proofs.Common.{◌≡◌, ◌<◌, ◌≤◌, ◌+◌, inl, inr, ℕ, zero, suc, Bool, true, cond, Result, Ok, List}
-use Rattle.std.proofs.Common.{[], ◌∷◌, map, take, length, get_or, arith, refl, sym, ap, subst, ◌∙◌}
+use Rattle.std.proofs.Common.{◌≡◌, ◌<◌, ◌+◌, inl, inr, ℕ, Bool, true, cond, Result, Ok, List}
+use Rattle.std.proofs.Common.{[], ◌∷◌, map, length, arith, refl, sym, ap, subst, ◌∙◌}
 use Rattle.std.specs.List.{All, count_by}
 use Rattle.std.proofs.lemmas.List.Sums.{sum_by-cons}
 use Rattle.std.proofs.lemmas.Bool.{cases_eq}
 use Rattle.program.specs.declared.op.Op.{Op}
-use Rattle.program.specs.declared.op.Op.TheVariants.{St, Fence}
+use Rattle.program.specs.declared.op.Op.TheVariants.{St}
 use Rattle.program.specs.Parts.{IsWithin}
 use Rattle.recording.specs.declared.event.Event.{Event}
 use Rattle.recording.specs.Event.{is_plain_store}

@@ -1,6 +1,6 @@
 -- The events of a TSO order take their turns, one after another.
 use Rattle.std.proofs.Common.{◌≡◌, ◌<◌, ◌≤◌, ◌+◌, ◌-◌, ◌*◌, ℕ, true, List, [], ◌∷◌, ◌++◌, length, get_or}
-use Rattle.std.proofs.Common.{replicate, arith, refl, sym, ap, subst, ◌∙◌, length-append, append_assoc}
+use Rattle.std.proofs.Common.{replicate, arith, refl, sym, ap, ◌∙◌, length-append, append_assoc}
 use Rattle.std.proofs.Common.{append-nil}
 use Rattle.std.specs.List.{sum, count_by}
 use Rattle.std.proofs.lemmas.List.{length-replicate}
@@ -15,7 +15,7 @@ use Rattle.machine.specs.declared.step.Step.{Step}
 use Rattle.machine.specs.declared.step.Step.TheVariants.{Exec}
 use Rattle.machine.specs.State.{State, place_of, first_event}
 use Rattle.replay.specs.Program.{program_of}
-use Rattle.replay.specs.Steps.{execute_to, executed_before, perform, turn, order_steps}
+use Rattle.replay.specs.Steps.{executed_before, perform, turn, order_steps}
 use Rattle.machine.specs.Orderly.{is_st}
 use Rattle.replay.proofs.OrderlyRuns.{StaysOrderly}
 use Rattle.replay.proofs.StepLists.{StepsLead, goes_on, HasStored}
@@ -64,13 +64,14 @@ module _ (x : Execution) (m : List ℕ) (tso : IsTsoOrder x m) (n capacity : ℕ
       → (t : State) × IsTurn (program_of x) n capacity s (perform s (core_of x e) ev) e t
   perform_turn s f e rest split (S a w) is ready = drain_turn x m tso n capacity room s f e rest split a w is
       (omega (arith, ready))
-  perform_turn s f e rest split (L a r o) is ready = load_turn x m tso n capacity room s f e rest split ready (ap is_plain_store is)
-      a r o is
-  perform_turn s f e rest split (R a r o w) is ready = rmw_turn x m tso n capacity room s f e rest split ready (ap is_plain_store is)
-      a r w o is
-  perform_turn s f e rest split (C a r o) is ready = cas_turn x m tso n capacity room s f e rest split ready (ap is_plain_store is)
-      a r o is
-  perform_turn s f e rest split F is ready = fence_turn x m tso n capacity room s f e rest split ready (ap is_plain_store is) is
+  perform_turn s f e rest split (L a r o) is ready =
+      load_turn x m tso n capacity room s f e rest split ready (ap is_plain_store is) a r o is
+  perform_turn s f e rest split (R a r o w) is ready =
+      rmw_turn x m tso n capacity room s f e rest split ready (ap is_plain_store is) a r w o is
+  perform_turn s f e rest split (C a r o) is ready =
+      cas_turn x m tso n capacity room s f e rest split ready (ap is_plain_store is) a r o is
+  perform_turn s f e rest split F is ready =
+      fence_turn x m tso n capacity room s f e rest split ready (ap is_plain_store is) is
 
   -- each event takes its turn
   event_turn : (s : State) (f : StaysOrderly (program_of x) n capacity s) (e : ℕ) (rest : List ℕ)

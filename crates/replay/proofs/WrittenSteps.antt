@@ -1,11 +1,10 @@
 -- A machine that takes steps and writes them down, step by step.
-use Rattle.std.proofs.Common.{◌≡◌, ◌+◌, ℕ, zero, suc, Result, Ok, Err, OnOk, List, [], ◌∷◌, ◌++◌, replicate}
-use Rattle.std.proofs.Common.{arith, refl, sym, ap, ◌∙◌, append_assoc}
+use Rattle.std.proofs.Common.{◌≡◌, ◌+◌, ℕ, Result, Ok, Err, OnOk, List, [], ◌∷◌, ◌++◌, replicate}
+use Rattle.std.proofs.Common.{sym, ap, ◌∙◌, append_assoc}
 use Rattle.std.proofs.lemmas.List.{replicate_more}
 use Rattle.program.specs.declared.op.Op.{Op}
 use Rattle.recording.specs.declared.event.Event.{Event}
 use Rattle.recording.specs.Execution.{Execution, core_of, event_at}
-use Rattle.machine.specs.declared.fault.Fault.{Fault}
 use Rattle.machine.specs.declared.step.Step.{Step}
 use Rattle.machine.specs.State.{State}
 use Rattle.machine.specs.Step.{run}

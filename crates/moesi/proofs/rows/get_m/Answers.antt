@@ -1,10 +1,9 @@
-use Rattle.std.proofs.Common.{◌≡◌, ℕ, true, false, Option, List, ap, ◌∙◌}
+use Rattle.std.proofs.Common.{◌≡◌, ℕ, true, false, Option, ap, ◌∙◌}
 use Rattle.std.proofs.lemmas.Bool.{cond-true, cond-false}
 use Rattle.moesi.specs.declared.line.Line.TheVariants.{M}
 use Rattle.moesi.specs.declared.cell.Cell.{Cell}
 use Rattle.moesi.specs.Lines.{is_exclusive}
 use Rattle.moesi.specs.Block.{Block, cell_of, supplied}
-use Rattle.moesi.specs.Rows as row
 use Rattle.moesi.specs.Packed.{block_in, block_by}
 use Rattle.moesi.specs.Rows.{turned}
 use Rattle.moesi.proofs.Turning.{TurnsInto, row_refused, row_taken}

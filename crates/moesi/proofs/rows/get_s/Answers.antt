@@ -1,4 +1,4 @@
-use Rattle.std.proofs.Common.{◌≡◌, ℕ, true, false, cond, Option, List, ap, sym, ◌∙◌}
+use Rattle.std.proofs.Common.{◌≡◌, ℕ, true, false, cond, Option, ap, sym, ◌∙◌}
 use Rattle.std.proofs.lemmas.Bool.{cond-true, cond-false}
 use Rattle.moesi.specs.declared.line.Line.{Line}
 use Rattle.moesi.specs.declared.line.Line.TheVariants.{S, E}
@@ -6,7 +6,6 @@ use Rattle.moesi.specs.declared.cell.Cell.{Cell}
 use Rattle.moesi.specs.Lines.{is_valid}
 use Rattle.moesi.specs.Block.{Block, cell_of, has_copy, supplied}
 use Rattle.moesi.specs.Words.{cell_in}
-use Rattle.moesi.specs.Rows as row
 use Rattle.moesi.specs.Packed.{block_in, block_by}
 use Rattle.moesi.specs.Rows.{shared}
 use Rattle.moesi.proofs.Turning.{TurnsInto, row_refused, row_taken}

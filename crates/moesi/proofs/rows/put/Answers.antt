@@ -43,7 +43,8 @@ returns c =
       | else-is_owned w ↦
           rw (w.words-is, cond-false (is_owned x.line) x.copy b.memory (cc)) none
     ] in
-    let all = turns_line c.requires.words c.requires.address memory c.args.core c.place-at.result 0 invalid c.requires.core
+    let all = turns_line c.requires.words c.requires.address memory c.args.core c.place-at.result 0 invalid
+    c.requires.core
     c.place-at.ensures refl
     in
     let by : Cell → Result Block CacheError =

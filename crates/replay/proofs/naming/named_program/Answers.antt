@@ -2,7 +2,7 @@ use Rattle.std.proofs.Common.{◌≡◌, ◌∙◌, ap, sym, subst, refl, length
 use Rattle.std.specs.List.{AllByRecursion}
 use Rattle.program.specs.declared.name.Name.{Name}
 use Rattle.program.specs.declared.op.Op.{Op}
-use Rattle.program.specs.Parts.{Parts, Small, IsSmall, IsProgram, parts_of}
+use Rattle.program.specs.Parts.{Parts, Small, IsSmall, parts_of}
 use Rattle.machine.specs.ProgramOf.{IsProgramOf}
 use Rattle.recording.specs.Execution.{Execution}
 use Rattle.replay.specs.Program.{program_of, named_program}

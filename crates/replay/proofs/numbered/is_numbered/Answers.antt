@@ -1,4 +1,4 @@
-use Rattle.std.proofs.Common.{◌≡◌, ◌∙◌, ap, sym, subst, None, map, List, Vec, Global}
+use Rattle.std.proofs.Common.{◌≡◌, ◌∙◌, ap, sym, None, map, List}
 use Rattle.program.specs.Parts.{use_ops}
 use Rattle.recording.specs.declared.event.Event.{Event}
 use Rattle.replay.specs.Program.{op_of}

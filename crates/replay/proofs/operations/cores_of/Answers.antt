@@ -14,5 +14,6 @@ returns-clause-cores c =
     drop_of_length-le lists c.loop-events-test.false in
     sym (append-nil made) ∙ (ap (λ (l : List (Vec Event Global)). made ++ map
     (λ (v : Vec Event Global). map op_of v.items) l) (sym none)
-    ∙ (c.loop-events.invariant.cores ∙ (sym (map-map (λ (es : List Event). map op_of es) (λ (v : Vec Event Global). v.items) lists)
+    ∙ (c.loop-events.invariant.cores
+    ∙ (sym (map-map (λ (es : List Event). map op_of es) (λ (v : Vec Event Global). v.items) lists)
     ∙ ap (λ (cs : List (List Event)). map (λ es. map op_of es) cs) c.cores-lists.ensures)))

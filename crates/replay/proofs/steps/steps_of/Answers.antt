@@ -1,11 +1,8 @@
-use Rattle.std.proofs.Common.{◌<◌, ◌≡◌, ◌+◌, ◌++◌, ◌∷◌, ◌∙◌, ◌⊎◌, ℕ, suc, Some, List, ap, subst, sym, length}
+use Rattle.std.proofs.Common.{◌<◌, ◌≡◌, ◌+◌, ◌++◌, ◌∷◌, ◌∙◌, ℕ, suc, List, ap, subst, sym, length}
 use Rattle.std.proofs.Common.{get_or, drop, drop-cons, arith}
-use Rattle.program.specs.declared.op.Op.{Op}
 use Rattle.recording.specs.declared.event.Event.{Event}
 use Rattle.recording.specs.Execution.{Execution, core_of, event_at}
-use Rattle.recording.specs.Event.{read_address, written_address}
 use Rattle.recording.specs.PlaceLaws.{times_at}
-use Rattle.machine.specs.Configuration.{Configuration}
 use Rattle.replay.specs.Steps.{turn, order_steps}
 use Rattle.replay.specs.Replaying.{Replaying, with_steps}
 use Rattle.replay.proofs.Made.{core_there}

@@ -6,8 +6,8 @@ use Rattle.machine.proofs.machine.Machine.new.Goals as goal
 pub invariant_of-result : goal.invariant_of-result
 invariant_of-result c =
     is_machine c.args.program c.args.capacity c.cores-cores.ensures.count c.init-init.ensures.values
-    c.init-init.ensures.count c.lists.ensures c.in-Ok.ensures.units c.sound.ensures.within c.sound.ensures.few c.in-Ok.ensures.buffers
-    c.in-Ok.ensures.caches c.in-Ok-room_for.ensures.writes c.in-Ok-room_for.ensures.reads
+    c.init-init.ensures.count c.lists.ensures c.in-Ok.ensures.units c.sound.ensures.within c.sound.ensures.few
+    c.in-Ok.ensures.buffers c.in-Ok.ensures.caches c.in-Ok-room_for.ensures.writes c.in-Ok-room_for.ensures.reads
     c.in-Ok-room_for.ensures.performed c.in-Ok-room_for.ensures.blank c.args.fault
 
 pub returns : goal.returns
@@ -19,6 +19,6 @@ returns c =
       state = s;
     })
     (opening_held c.args.program c.args.capacity c.cores-cores.ensures.count c.init-init.ensures.values
-    c.init-init.ensures.count c.lists.ensures c.in-Ok.ensures.units c.sound.ensures.within c.sound.ensures.few c.in-Ok.ensures.buffers
-    c.in-Ok.ensures.caches c.in-Ok-room_for.ensures.writes c.in-Ok-room_for.ensures.reads
+    c.init-init.ensures.count c.lists.ensures c.in-Ok.ensures.units c.sound.ensures.within c.sound.ensures.few
+    c.in-Ok.ensures.buffers c.in-Ok.ensures.caches c.in-Ok-room_for.ensures.writes c.in-Ok-room_for.ensures.reads
     c.in-Ok-room_for.ensures.performed c.in-Ok-room_for.ensures.blank)

@@ -1,4 +1,4 @@
-use Rattle.std.proofs.Common.{arith, refl, sym, ap, ◌∙◌, ◌<◌, ℕ, subst, length-set}
+use Rattle.std.proofs.Common.{arith, refl, sym, ◌∙◌, length-set}
 use Rattle.recording.specs.Event.{value_written}
 use Rattle.moesi.specs.State as moesi
 use Rattle.machine.specs.State.{event_of}

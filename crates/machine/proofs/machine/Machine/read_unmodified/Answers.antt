@@ -1,4 +1,4 @@
-use Rattle.std.proofs.Common.{arith, refl, sym, ap, ◌∙◌, ◌≡◌, ◌<◌, ℕ, subst, true, false, length-set}
+use Rattle.std.proofs.Common.{arith, refl, sym, ap, ◌∙◌, ◌≡◌, true, false, length-set}
 use Rattle.moesi.specs.Lines.{is_exclusive}
 use Rattle.moesi.specs.State as moesi
 use Rattle.machine.proofs.Cached.{read_is, exclusive_read}

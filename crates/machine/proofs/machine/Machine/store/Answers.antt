@@ -1,4 +1,5 @@
-use Rattle.std.proofs.Common.{◌≡◌, ◌<◌, ◌≤◌, ℕ, true, false, List, length, slice_index_or, slice_set, arith, ap, ◌∙◌, refl}
+use Rattle.std.proofs.Common.{◌≡◌, ◌<◌, ◌≤◌, ℕ, true, false, List, length, slice_index_or, slice_set, arith, ap, ◌∙◌}
+use Rattle.std.proofs.Common.{refl}
 use Rattle.std.proofs.lemmas.List.{set-get_or}
 use Rattle.std.proofs.lemmas.Bool.{le-ltb}
 use Rattle.write_buffer.specs.Buffer.{Buffer}

@@ -1,4 +1,4 @@
-use Rattle.std.proofs.Common.{refl, sym, ◌∙◌, true}
+use Rattle.std.proofs.Common.{refl, sym, ◌∙◌}
 use Rattle.machine.specs.ScriptLine.{transaction_step}
 use Rattle.machine.proofs.Transacted.{transacted_sound, transaction_row}
 use Rattle.machine.proofs.Reached.{reached_step}
