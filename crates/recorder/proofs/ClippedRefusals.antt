@@ -1,5 +1,5 @@
 -- What is refused of a clipped execution is refused of the execution.
-use Rattle.std.proofs.Common.{◌≡◌, ◌<◌, ◌↔◌, ◌^◌, ◌-◌, inl, inr, ℕ, Option, Some, None, option_map, List, []}
+use Rattle.std.proofs.Common.{◌≡◌, ◌<◌, ◌^◌, ◌-◌, inl, inr, ℕ, Option, Some, None, option_map, List, []}
 use Rattle.std.proofs.Common.{◌∷◌, map, slice_index, arith, refl, sym, ap, subst, ◌∙◌}
 use Rattle.std.proofs.lemmas.Bool.{cases_eq}
 use Rattle.recording.specs.declared.fault.RecError.{RecError}

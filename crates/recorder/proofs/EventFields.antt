@@ -1,15 +1,14 @@
 -- What the members of an event give by those that were read.
 use Rattle.std.proofs.Common.{◌≡◌, ◌+◌, ℕ, List, Bor, Option, Some, None, option_map, option_and_then}
-use Rattle.std.proofs.Common.{codes, refl, sym, ap, ◌∙◌, arith}
+use Rattle.std.proofs.Common.{codes, refl, ap, ◌∙◌, arith}
 use Rattle.json.specs.Token.{Token}
 use Rattle.serde_json.specs.Data.{Data, Members, object}
 use Rattle.serde_json.specs.Find.{get_member, as_str}
-use Rattle.recording.specs.declared.event.Event.{Event}
 use Rattle.recording.specs.declared.event.Event.TheVariants.{L, S, R, C, F}
 use Rattle.recorder.specs.declared.fields.Fields.{Fields}
 use Rattle.recorder.specs.Reading.{number_in, value_in, source_in, at_key, event_of_kind, event_in}
 use Rattle.recorder.specs.Clipped.{clip, clip_event, clipped_number, clipped_event}
-use Rattle.recorder.specs.Pulled.{clipped_source, AtKey, GivesValue, Adds}
+use Rattle.recorder.specs.Pulled.{clipped_source, GivesValue, Adds}
 use Rattle.recorder.specs.Fields.{count_of, AreFields}
 use Rattle.recorder.proofs.Somes.{some_mapped}
 use Rattle.recorder.proofs.AtKeys.{adds, at_new, at_other, at_key_is, count_new}

@@ -16,7 +16,7 @@ use Rattle.recording.specs.Recording.{IsRecording, IsWithinLimits}
 use Rattle.recording.specs.Refusals.{IsRefusal}
 use Rattle.recorder.specs.Text.{IsReadAs, has_failed_cas}
 use Rattle.recorder.specs.ParsedModel.{ParsedModel, execution_of, IsVersioned}
-use Rattle.recorder.specs.Reading.{shape_in, Decodes, IsReadingResult}
+use Rattle.recorder.specs.Reading.{shape_in, IsReadingResult}
 use Rattle.recorder.specs.Clipped.{clip, clip_event, clipped_shape}
 use Rattle.recorder.specs.Held.{AreTooMany, HoldsCores, StandsFor}
 use Rattle.recorder.proofs.ClippedAnswers.{answers_from, told_from, version_from}

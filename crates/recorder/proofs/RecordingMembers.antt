@@ -1,6 +1,6 @@
 -- What the members of a recording give by those that were read.
 use Rattle.std.proofs.Common.{◌≡◌, ◌+◌, ℕ, List, Vec, Global, Option, Some, None, option_map}
-use Rattle.std.proofs.Common.{option_and_then, map}
+use Rattle.std.proofs.Common.{map}
 use Rattle.std.proofs.Common.{codes, IsUtf8, [], refl, sym, ap, ◌∙◌, subst, arith}
 use Rattle.json.specs.Token.{Token}
 use Rattle.json.specs.Lex.{tokens}

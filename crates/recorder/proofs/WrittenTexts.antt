@@ -8,10 +8,9 @@ use Rattle.serde_json.specs.Data.{Data}
 use Rattle.serde_json.specs.View.{items_of}
 use Rattle.serde_json.specs.Written.{compact_text, items_text}
 use Rattle.recording.specs.declared.event.Event.{Event}
-use Rattle.recording.specs.declared.event.Event.TheVariants.{L, S, R, C, F}
-use Rattle.recorder.specs.Text.{number_data, list_data, source_data, event_data}
-use Rattle.recorder.specs.Written.{IsShort, IsWord, IsShortSource, IsFitting, AreFittingValues, IsHead, Begins}
-use Rattle.recorder.specs.Written.{version_of, written_data, BeginsRecording}
+use Rattle.recorder.specs.Text.{number_data, list_data, event_data}
+use Rattle.recorder.specs.Written.{IsShort, IsFitting, IsHead, Begins}
+use Rattle.recorder.specs.Written.{version_of, BeginsRecording}
 
 -- one digit more
 pub digit_more : (n d : ℕ) (rest : List ℕ) → 0 < n → n < 2 ^ 60 → d < 10

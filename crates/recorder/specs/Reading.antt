@@ -52,12 +52,12 @@ count_members (member k d ms) = suc (count_members ms)
 abbrev pub at_key : {A : Type 0} → (Data → Option A) → List ℕ → Data → Option A
 at_key f k d = option_and_then f (get k d)
 
--- an event that reads alone, made of what it has
-abbrev pub read_in : (ℕ → ℕ → Option ℕ → Event) → Data → Option Event
-read_in make d =
+-- the address, the value and the source of an event that reads
+abbrev pub reads_in : Data → Option (ℕ × ℕ × Option ℕ)
+reads_in d =
     option_and_then (λ a.
     option_and_then (λ r.
-    option_map (λ s. make a r s)
+    option_map (λ s. (a, r, s))
     (at_key source_in (codes "s") d))
     (at_key value_in (codes "r") d))
     (at_key number_in (codes "a") d)
@@ -73,22 +73,15 @@ store_in d =
 -- a read-modify-write
 abbrev pub rmw_in : Data → Option Event
 rmw_in d =
-    option_and_then (λ a.
-    option_and_then (λ r.
-    option_and_then (λ s.
-    option_map (λ w. R a r s w)
-    (at_key value_in (codes "w") d))
-    (at_key source_in (codes "s") d))
-    (at_key value_in (codes "r") d))
-    (at_key number_in (codes "a") d)
+    option_and_then (λ p. option_map (λ w. R p.0 p.1 p.2 w) (at_key value_in (codes "w") d)) (reads_in d)
 
 -- an event of a kind, in an object with this many keys
 unfoldable pub event_of_kind : List ℕ → ℕ → Data → Option Event
 event_of_kind k n d =
-    if bytes_eq k (codes "L") && n == 4 then read_in (λ a r s. L a r s) d
+    if bytes_eq k (codes "L") && n == 4 then option_map (λ p. L p.0 p.1 p.2) (reads_in d)
     else (if bytes_eq k (codes "S") && n == 3 then store_in d
     else (if bytes_eq k (codes "R") && n == 5 then rmw_in d
-    else (if bytes_eq k (codes "C") && n == 4 then read_in (λ a r s. C a r s) d
+    else (if bytes_eq k (codes "C") && n == 4 then option_map (λ p. C p.0 p.1 p.2) (reads_in d)
     else (if bytes_eq k (codes "F") && n == 1 then Some F else None))))
 
 unfoldable pub event_in : Data → Option Event

@@ -4,7 +4,7 @@ ghost use Rattle.std.specs.Prelude.{◌≡◌, option_map};
 ghost use Rattle.serde_json.specs.View.{view};
 ghost use Rattle.recorder.specs.Reading.{value_in, source_in, at_key, event_of_kind};
 ghost use Rattle.recorder.specs.Reading.{count_members};
-ghost use Rattle.recorder.specs.Clipped.{clip, clip_event, clipped_number, clipped_event};
+ghost use Rattle.recorder.specs.Clipped.{clip, clip_event, clipped_number, clipped_event, clipped_reads};
 ghost use Rattle.serde_json.specs.Find.{as_object};
 
 use crate::cursor::Cursor;
@@ -295,14 +295,22 @@ fn source_at(value: &Value, key: &str) -> Option<Option<u16>>
     source_in(value.get(key)?)
 }
 
+/// The address, the value and the source of an event that reads.
+fn reads_in(value: &Value) -> Option<(u16, u32, Option<u16>)>
+    ensures { result ≡ clipped_reads (view value.now) }
+{
+    let a = number_at(value, "a")?;
+    let r = value_at(value, "r")?;
+    let s = source_at(value, "s")?;
+    Some((a, r, s))
+}
+
 #[tactic(auto, unfolding(crate::specs::Reading::event_of_kind))]
 fn event_of_kind(kind: &str, keys: usize, value: &Value) -> Option<Event>
     ensures { result ≡ option_map clip_event (event_of_kind kind.now keys (view value.now)) }
 {
     if kind == "L" && keys == 4 {
-        let a = number_at(value, "a")?;
-        let r = value_at(value, "r")?;
-        let s = source_at(value, "s")?;
+        let (a, r, s) = reads_in(value)?;
         return Some(Event::L { a, r, s });
     }
     if kind == "S" && keys == 3 {
@@ -311,16 +319,12 @@ fn event_of_kind(kind: &str, keys: usize, value: &Value) -> Option<Event>
         return Some(Event::S { a, w });
     }
     if kind == "R" && keys == 5 {
-        let a = number_at(value, "a")?;
-        let r = value_at(value, "r")?;
-        let s = source_at(value, "s")?;
+        let (a, r, s) = reads_in(value)?;
         let w = value_at(value, "w")?;
         return Some(Event::R { a, r, s, w });
     }
     if kind == "C" && keys == 4 {
-        let a = number_at(value, "a")?;
-        let r = value_at(value, "r")?;
-        let s = source_at(value, "s")?;
+        let (a, r, s) = reads_in(value)?;
         return Some(Event::C { a, r, s });
     }
     if kind == "F" && keys == 1 {

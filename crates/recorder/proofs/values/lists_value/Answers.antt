@@ -1,4 +1,4 @@
-use Rattle.std.proofs.Common.{◌≡◌, ◌∙◌, ◌<◌, map, arith, ap, subst, Some, get_or, length, List}
+use Rattle.std.proofs.Common.{◌≡◌, ◌∙◌, ◌<◌, map, ap, get_or, length}
 use Rattle.std.proofs.lemmas.List.{length-map}
 use Rattle.serde_json.proofs.Views.{view-Array}
 use Rattle.std.specs.List.{AllByRecursion}

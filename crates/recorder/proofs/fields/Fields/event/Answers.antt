@@ -1,4 +1,4 @@
-use Rattle.std.proofs.Common.{◌≡◌, ◌∙◌, Some, ap, codes, option_map}
+use Rattle.std.proofs.Common.{◌∙◌, Some, ap, option_map}
 use Rattle.recorder.proofs.EventFields.{load_gives, store_gives, rmw_gives, failed_cas_gives, fence_gives}
 use Rattle.recorder.proofs.fields.Fields.event.Goals as goal
 
