@@ -1,6 +1,5 @@
 //! Command lines of cases, performed.
 
-use crate::printed::Printed;
 use crate::test_environment::{TestEnvironment, words_of};
 use commands::perform::perform;
 use devices::MemorySink;
@@ -11,6 +10,15 @@ use std::io;
 use std::sync::Wait;
 use std::thread::Threads;
 
+/// What a command printed, with its status.
+#[derive(Drop)]
+pub struct Printed {
+    /// The exit status.
+    pub status: u8,
+    /// Standard output and standard error after it.
+    pub text: Vec<u8>,
+}
+
 /// The text of a fault on standard error.
 fn fault_text(alloc: Global, fault: CommandFault) -> Result<String, AllocError> {
     match fault {
@@ -20,32 +28,21 @@ fn fault_text(alloc: Global, fault: CommandFault) -> Result<String, AllocError> 
     }
 }
 
-/// What a command printed that ended with a fault.
-fn with_fault(alloc: Global, printed: &[u8], fault: CommandFault) -> Result<Printed, AllocError> {
-    let mut text = Vec::from_slice(alloc, printed)?;
-    text.extend_from_slice(fault_text(alloc, fault)?.as_bytes())?;
-    Ok(Printed {
-        status: Outcome::Fault.status(),
-        text,
-    })
-}
-
-/// Performs the words of a command line with this standard input.
-fn perform_on<R: Threads + Wait + Sync>(
-    rt: &HostRuntime,
-    threads: &R,
-    words: &[String],
-    text: &[u8],
+/// What a command printed that came out so.
+fn printed_of(
+    alloc: Global,
+    written: &[u8],
+    performed: Result<Outcome, CommandFault>,
 ) -> Result<Printed, AllocError> {
-    let mut place = TestEnvironment::new(rt, text);
-    let mut out = MemorySink::new(rt.alloc());
-    match perform(threads, rt.alloc(), words, &mut place, &mut out) {
-        Ok(outcome) => Ok(Printed {
-            status: outcome.status(),
-            text: Vec::from_slice(rt.alloc(), out.written())?,
-        }),
-        Err(fault) => with_fault(rt.alloc(), out.written(), fault),
-    }
+    let mut text = Vec::from_slice(alloc, written)?;
+    let status = match performed {
+        Ok(outcome) => outcome.status(),
+        Err(fault) => {
+            text.extend_from_slice(fault_text(alloc, fault)?.as_bytes())?;
+            Outcome::Fault.status()
+        }
+    };
+    Ok(Printed { status, text })
 }
 
 /// Performs a command line with this standard input.
@@ -56,5 +53,8 @@ pub fn perform_words<R: Threads + Wait + Sync>(
     text: &[u8],
 ) -> io::Result<Printed> {
     let words = words_of(rt.alloc(), line)?;
-    Ok(perform_on(rt, threads, words.as_slice(), text)?)
+    let mut place = TestEnvironment::new(rt, text);
+    let mut out = MemorySink::new(rt.alloc());
+    let performed = perform(threads, rt.alloc(), &words, &mut place, &mut out);
+    Ok(printed_of(rt.alloc(), out.written(), performed)?)
 }

@@ -1,35 +1,38 @@
-//! What the files of classic tests, which have the names of the field, and of programs that print back want.
+//! What files of classic tests, which have the names of the field, and other files of a folder have to meet.
 
 ghost use Rattle.std.specs.Prelude.{◌≡◌, ◌↔◌, IsTrue};
 ghost use Rattle.cases.specs.PrintedStatus.{verdict_status};
 
-use crate::folder::names_in;
-use crate::printed::Printed;
-use crate::rules::{has_order, is_kept, is_run_in_order, prints_back};
-use crate::tally::Tally;
+use crate::files::{is_shown, names_in};
+use crate::performing::{Printed, perform_words};
+use crate::rules::{has_order, is_run_in_order, prints_back};
+use crate::tally::Counts;
 use std::sync::Wait;
 use std::thread::Threads;
 use std::{fs, io};
+
+/// What a file, or the one of its name that ends otherwise, has to meet.
+#[derive(Clone, Copy)]
+pub enum Rule {
+    /// A verdict is printed of the recording beside it.
+    Judged,
+    /// The order of a verdict, if it is one, is one of the recording beside it, and its reverse is none.
+    Order,
+    /// A program's run by the words of a seed is complete, and in order.
+    Seed(usize),
+    /// A text is a complete run, and in order.
+    Run,
+    /// A program prints back, and its runs by threads are complete, and in order.
+    Kept,
+    /// A program prints back.
+    PrintsBack,
+}
 
 /// The status of what TSO allows.
 const DONE: u8 = 0;
 
 /// The status of what TSO does not allow.
 const VIOLATION: u8 = 2;
-
-/// Whether a run was printed that is complete, and in order.
-pub fn is_ordered_run(rt: &HostRuntime, found: &Printed) -> io::Result<bool> {
-    match str::from_utf8(found.text.as_slice()) {
-        Ok(text) => Ok(found.status == DONE && is_run_in_order(rt.alloc(), text)?),
-        Err(_) => Ok(false),
-    }
-}
-
-/// What the file has whose name is these two parts.
-pub fn file_of(rt: &HostRuntime, path: &str, ending: &str) -> io::Result<Vec<u8>> {
-    let name = format!(in rt.alloc(); "{path}{ending}")?;
-    fs::read(rt, name.as_str())
-}
 
 /// The status that a verdict is printed with.
 fn verdict_status(verdict: &[u8]) -> u8
@@ -43,46 +46,121 @@ fn verdict_status(verdict: &[u8]) -> u8
 }
 
 /// Whether a verdict was printed, with its status.
-pub fn is_verdict(found: &Printed, verdict: &[u8]) -> bool
+fn is_verdict(found: &Printed, verdict: &[u8]) -> bool
     ensures { IsTrue result ↔ ((found.now.text.items ≡ verdict.now)
         × (found.now.status ≡ verdict_status verdict.now)) }
 {
     found.status == verdict_status(verdict) && found.text.as_slice() == verdict
 }
 
-/// Whether the order of a verdict is one of a test's recording, and its reverse is none.
-pub fn is_in_order(rt: &HostRuntime, path: &str, verdict: &[u8]) -> io::Result<bool> {
-    let recording = file_of(rt, path, ".json")?;
-    match str::from_utf8(verdict) {
-        Ok(verdict) => Ok(has_order(rt.alloc(), recording.as_slice(), verdict)?),
+/// Whether the verdict on the recording at this path is printed, with its status.
+fn is_judged<R: Threads + Wait + Sync>(
+    rt: &HostRuntime,
+    threads: &R,
+    path: &str,
+    verdict: &str,
+) -> io::Result<bool> {
+    let line = format!(in rt.alloc(); "judge {path}.json")?;
+    let found = perform_words(rt, threads, line.as_str(), b"")?;
+    Ok(is_verdict(&found, verdict.as_bytes()))
+}
+
+/// Whether the order of a verdict is one of the recording at this path.
+fn is_in_order(rt: &HostRuntime, path: &str, verdict: &str) -> io::Result<bool> {
+    let name = format!(in rt.alloc(); "{path}.json")?;
+    let recording = fs::read(rt, name.as_str())?;
+    Ok(has_order(rt.alloc(), recording.as_slice(), verdict)?)
+}
+
+/// Whether a command line prints a run that is complete, and in order.
+fn is_run<R: Threads + Wait + Sync>(rt: &HostRuntime, threads: &R, line: &str) -> io::Result<bool> {
+    let found = perform_words(rt, threads, line, b"")?;
+    match str::from_utf8(found.text.as_slice()) {
+        Ok(text) => Ok(found.status == DONE && is_run_in_order(rt.alloc(), text)?),
         Err(_) => Ok(false),
     }
 }
 
-/// Whether a test's program is kept by printing and by threads.
-pub fn is_kept_program<R: Threads + Wait + Sync>(
+/// The same of a command, a program's path and an option with its value.
+fn is_run_with<R: Threads + Wait + Sync>(
+    rt: &HostRuntime,
+    threads: &R,
+    command: &str,
+    path: &str,
+    option: &str,
+    value: usize,
+) -> io::Result<bool> {
+    let line = format!(in rt.alloc(); "{command} {path}.litmus {option} {value}")?;
+    is_run(rt, threads, line.as_str())
+}
+
+/// Whether the file at this path, which has this text, meets a rule.
+fn is_met<R: Threads + Wait + Sync>(
+    rt: &HostRuntime,
+    threads: &R,
+    rule: Rule,
+    path: &str,
+    text: &str,
+) -> io::Result<bool> {
+    match rule {
+        Rule::Judged => is_judged(rt, threads, path, text),
+        Rule::Order => is_in_order(rt, path, text),
+        Rule::Seed(seed) => is_run_with(rt, threads, "run", path, "--seed", seed),
+        Rule::Run => Ok(is_run_in_order(rt.alloc(), text)?),
+        Rule::Kept => Ok(
+            prints_back(rt.alloc(), text)
+                && is_run_with(rt, threads, "live", path, "--buffer", 1)?
+                && is_run_with(rt, threads, "live", path, "--buffer", 8)?,
+        ),
+        Rule::PrintsBack => Ok(prints_back(rt.alloc(), text)),
+    }
+}
+
+/// Counts whether the file at this path meets a rule, by its kind.
+fn count(counts: &mut Counts, path: &str, rule: Rule, is_as_wanted: bool) {
+    if !is_shown(path) {
+        return counts.wrong.count(is_as_wanted);
+    }
+    match rule {
+        Rule::Judged => counts.verdicts.count(is_as_wanted),
+        Rule::Order => counts.orders.count(is_as_wanted),
+        Rule::Seed(_) => counts.runs.count(is_as_wanted),
+        _ => counts.programs.count(is_as_wanted),
+    }
+}
+
+/// Counts whether the file at this path with this ending meets a rule, and names it where it is to meet it and does
+/// not.
+fn count_one<R: Threads + Wait + Sync>(
     rt: &HostRuntime,
     threads: &R,
     path: &str,
-) -> io::Result<bool> {
-    let program = file_of(rt, path, ".litmus")?;
-    Ok(is_kept(threads, rt.alloc(), program.as_slice())?)
-}
-
-/// Prints the program of this name back, and answers whether it has its text.
-fn print_one(rt: &HostRuntime, name: &str) -> io::Result<bool> {
-    let text = file_of(rt, "programs/", name)?;
-    let is_well = prints_back(rt.alloc(), text.as_slice());
-    if !is_well {
-        println!(rt; "differs: programs/{name}")?;
+    ending: &str,
+    rule: Rule,
+    counts: &mut Counts,
+) -> io::Result<()> {
+    let name = format!(in rt.alloc(); "{path}{ending}")?;
+    let text = fs::read_to_string(rt, name.as_str())?;
+    let is_as_wanted = is_met(rt, threads, rule, path, text.as_str())?;
+    count(counts, path, rule, is_as_wanted);
+    if !is_as_wanted && is_shown(path) {
+        println!(rt; "differs: {path}")?;
     }
-    Ok(is_well)
+    Ok(())
 }
 
-/// Prints the program of each file of the folder `programs` back.
-pub fn print_all(rt: &HostRuntime, tally: &mut Tally) -> io::Result<()> {
-    for name in &names_in(rt, "programs", "")? {
-        tally.count(print_one(rt, name.as_str())?);
+/// Counts whether each file of a folder whose name ends so meets a rule.
+pub fn count_all<R: Threads + Wait + Sync>(
+    rt: &HostRuntime,
+    threads: &R,
+    folder: &str,
+    ending: &str,
+    rule: Rule,
+    counts: &mut Counts,
+) -> io::Result<()> {
+    for name in &names_in(rt, folder, ending)? {
+        let path = format!(in rt.alloc(); "{folder}/{name}")?;
+        count_one(rt, threads, path.as_str(), ending, rule, counts)?;
     }
     Ok(())
 }

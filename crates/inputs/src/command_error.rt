@@ -3,7 +3,7 @@ ghost use Rattle.inputs.specs.CommandErrors.{IsLineError};
 
 use crate::fault::CommandFault;
 use common::OutOfMemory;
-use std::alloc::{AllocError, AllocFailed, Global};
+use std::alloc::{AllocError, Global};
 
 /// What is printed of a text, a number or a name that is refused.
 #[derive(Debug, Drop)]
@@ -66,18 +66,6 @@ impl From<AllocError> for CommandError {
     ghost from_gives = { λ _ error. error ≡ Fault OutOfMemory };
 
     fn from(_refused: AllocError) -> CommandError {
-        CommandError::Fault(CommandFault::OutOfMemory)
-    }
-}
-
-impl<T: Drop> From<AllocFailed<T>> for CommandError {
-    ghost use Rattle.std.specs.Prelude.{◌≡◌};
-    ghost use Rattle.inputs.specs.declared.command_error.CommandError.TheVariants.{Fault};
-    ghost use Rattle.inputs.specs.declared.fault.CommandFault.TheVariants.{OutOfMemory};
-
-    ghost from_gives = { λ _ error. error ≡ Fault OutOfMemory };
-
-    fn from(_refused: AllocFailed<T>) -> CommandError {
         CommandError::Fault(CommandFault::OutOfMemory)
     }
 }
