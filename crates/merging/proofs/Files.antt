@@ -16,7 +16,6 @@ use Rattle.merging.specs.declared.kind.Kind.{Kind}
 use Rattle.merging.specs.declared.merged.Merged.{Merged}
 use Rattle.merging.specs.Merges.{IsFileAdded, IsFileError, IsLocated, IsMerge, IsMergingError, Refuses}
 use Rattle.merging.specs.TextOf.{HasTextOf}
-use Rattle.merging.specs.TextOfLaws.{ledger_tells}
 use Rattle.merging.specs.Texts.{AreFiles, IsFile, text_of}
 use Rattle.merging.proofs.UnderWay.{first_text, refuses_more}
 
@@ -29,15 +28,6 @@ pub record AreAdded (kind : Kind) (sum : Ledger) (files : List (List ℕ)) (i : 
   pub only : (later lists : List (List ℕ)) → AreFiles kind lists (take i files ++ later)
       → (front : List ℕ) × (back : List (List ℕ)) × AreFiles kind back later × (concat lists ≡ front ++ concat back)
       × HasTextOf kind front sum
-
--- before the first
-pub none_added : (kind : Kind) (sum : Ledger) (files : List (List ℕ)) → IsLedger [] sum → AreAdded kind sum files 0
-none_added kind sum files is = record {
-  done = [];
-  ledger = is;
-  whole = λ back are. (back, are, refl);
-  only = λ later lists are. ([], lists, are, refl, ledger_tells kind [] sum is);
-}
 
 -- the codes of the first file, and the others
 first_file : (kind : Kind) (lists files : List (List ℕ)) (bytes : List ℕ) → AreFiles kind lists (bytes ∷ files)

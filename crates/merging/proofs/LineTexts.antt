@@ -1,13 +1,7 @@
 -- Lines, and what stands after them.
-use Rattle.std.proofs.Common.{◌≡◌, ◌∙◌, ◌<◌, ◌++◌, ◌∷◌, [], ℕ, List, Option, Some, ap, append_assoc}
+use Rattle.std.proofs.Common.{◌≡◌, ◌<◌, ◌++◌, ◌∷◌, ℕ, List, Option, Some, append_assoc}
 use Rattle.std.proofs.Common.{codes, decimal, arith, nat_eq, ne_eqb, false}
-use Rattle.ledger.specs.Counted.{count_line, cycle_line, first_line, place_name}
-
--- a line of how many there are
-pub count_then : (name : List ℕ) (n : ℕ) (more : List ℕ)
-    → count_line name n ++ more ≡ name ++ (32 ∷ (decimal n ++ 10 ∷ more))
-count_then name n more = append_assoc name (32 ∷ (decimal n ++ 10 ∷ [])) more
-    ∙ ap (λ (t : List ℕ). name ++ (32 ∷ t)) (append_assoc (decimal n) (10 ∷ []) more)
+use Rattle.ledger.specs.Counted.{cycle_line, first_line, place_name}
 
 -- a line of a length of cycles
 pub cycle_then : (k n : ℕ) (more : List ℕ) → 0 < n

@@ -125,11 +125,6 @@ text_fault kind old mid bytes rest (Refused refusal left) codes some u is fault 
     ))
     (fault f.0 f.2 f.3)
 
--- an empty file has no text
-pub empty_fault : (kind : Kind) (old : Ledger) (bytes : List ℕ) (refusal : MergeRefusal) (left : ℕ) → bytes ≡ []
-    → IsFileError kind old bytes (Refused refusal left)
-empty_fault kind old bytes refusal left none = λ codes file. absurd (file.some none)
-
 -- no text is unread where none begins
 pub unread_fault : (kind : Kind) (sum : Ledger) (before : List ℕ) (fault : TextError) → IsNoText kind before fault
     → IsLedgerTextError kind sum before fault
