@@ -1,6 +1,6 @@
 -- The text of the cores of a program is read as they.
 use Rattle.std.proofs.Common.{◌≡◌, ℕ, ◌+◌, ◌<◌, ◌≤◌, ◌==◌, ◌^◌, nat_lt, List, [], ◌∷◌, ◌++◌, length}
-use Rattle.std.proofs.Common.{false, true, Some, None, Result, Ok, refl, arith, sym, ap, ◌∙◌, subst}
+use Rattle.std.proofs.Common.{false, Some, None, Result, Ok, refl, arith, sym, ap, ◌∙◌, subst}
 use Rattle.std.proofs.Common.{codes}
 use Rattle.std.specs.List.{AllByRecursion, IsDistinct, flat_map}
 use Rattle.std.proofs.lemmas.Bool.{lt-ltb, le-ltb}

@@ -1,10 +1,9 @@
 -- The rules that parts of a recording may break, one event or one list at a time.
 use Rattle.std.proofs.Common.{◌≡◌, ◌≢◌, ◌<◌, ◌≤◌, ◌⊎◌, ◌↔◌, inl, inr, ℕ, suc, Option, Some, None, List, []}
-use Rattle.std.proofs.Common.{◌∷◌, Bool, nat_lt, nat_eq, IsTrue, length, get_or, arith, refl, sym, ap, subst}
+use Rattle.std.proofs.Common.{◌∷◌, Bool, nat_eq, IsTrue, length, get_or, arith, sym, ap, subst}
 use Rattle.std.proofs.Common.{◌∙◌}
-use Rattle.std.proofs.lemmas.Bool.{cases_eq, ltb-true, lt-ltb, eqb-true, eq-eqb}
+use Rattle.std.proofs.lemmas.Bool.{cases_eq, eqb-true, eq-eqb}
 use Rattle.recording.specs.declared.event.Event.{Event}
-use Rattle.recording.specs.declared.event.Event.TheVariants.{L, S, R, C}
 use Rattle.recording.specs.Event.{read_address, written_address, value_read, value_written}
 use Rattle.recording.specs.Execution.{Execution, event_at, initial_value, source_of, Reads}
 use Rattle.recording.specs.Refusals.{HasValue}

@@ -1,5 +1,5 @@
 -- Laws of the events of all cores in one list: each is the event of one core, at one place there.
-use Rattle.std.proofs.Common.{◌≡◌, ◌<◌, ◌≤◌, ◌+◌, ◌-◌, inl, inr, ℕ, zero, suc, List, [], ◌∷◌, ◌++◌, map, take}
+use Rattle.std.proofs.Common.{◌≡◌, ◌<◌, ◌+◌, ◌-◌, inl, inr, ℕ, zero, suc, List, [], ◌∷◌, map, take}
 use Rattle.std.proofs.Common.{length, get_or, arith, refl, ap, ◌∙◌, length-append}
 use Rattle.std.specs.List.{sum, sum_by}
 use Rattle.std.proofs.lemmas.Bool.{cases_lt}

@@ -1,6 +1,6 @@
 -- Why parts of a recording are refused: the first refusal in the order of the tests, with the least
 -- event or address.
-use Rattle.std.specs.Prelude.{◌≡◌, ◌<◌, ℕ, Option, Some}
+use Rattle.std.specs.Prelude.{◌≡◌, ◌<◌, ℕ, Some}
 use Rattle.recording.specs.declared.fault.RecError.{RecError}
 use Rattle.recording.specs.declared.fault.RecError.TheVariants.{NotJson, Shape, Version, Limits, Source, Value}
 use Rattle.recording.specs.declared.fault.RecError.TheVariants.{WriteList, OutOfMemory}
