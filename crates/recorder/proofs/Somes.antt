@@ -31,9 +31,3 @@ always (Err e) p = tt
 pub if_ok : {A E : Type 0} {P Q : Type 0} (r : Result A E) → (P → Q) → IfOk r (λ x. P) → IfOk r (λ x. Q)
 if_ok (Ok x) more p = more p
 if_ok (Err e) more p = tt
-
--- the same of two things that are so
-pub both_ok : {A E : Type 0} {P Q S : Type 0} (r : Result A E) → (P → Q → S) → IfOk r (λ x. P)
-    → IfOk r (λ x. Q) → IfOk r (λ x. S)
-both_ok (Ok x) more p q = more p q
-both_ok (Err e) more p q = tt

@@ -69,11 +69,6 @@ pub record Passed {A : Type 0} (f : A → Data) (Fits : A → Type 0) (text : Li
   pub passes : text ≡ before f xs ++ rest
   pub fit : AllByRecursion Fits xs
 
--- at the start there is none
-pub passed_start : {A : Type 0} (f : A → Data) (Fits : A → Type 0) (text : List ℕ) (xs : List A) → xs ≡ []
-    → Passed f Fits text xs text
-passed_start f Fits text xs none = rw none (record { passes = refl; fit = tt })
-
 -- an item more
 pub push_fits : {A : Type 0} (Fits : A → Type 0) (xs : List A) (x : A) → AllByRecursion Fits xs → Fits x
     → AllByRecursion Fits (xs ++ x ∷ [])
@@ -114,12 +109,6 @@ passed_all f Fits old text mid next rest xs zs x opens came one is push =
           ∙ ap (λ (t : List ℕ). t ++ rest) (closed f xs x));
       fits = push_fits Fits xs x came.fit one.fits;
     })
-
--- a list of no item
-pub passed_none : {A : Type 0} (f : A → Data) (Fits : A → Type 0) (old text rest : List ℕ) (xs : List A)
-    → old ≡ 91 ∷ text → text ≡ 93 ∷ rest → xs ≡ [] → Begins (list_data f) (AllByRecursion Fits) old xs rest
-passed_none f Fits old text rest xs opens closes none =
-    rw none (record { begins = opens ∙ ap (λ (t : List ℕ). 91 ∷ t) closes; fits = tt })
 
 -- ---- contents
 
