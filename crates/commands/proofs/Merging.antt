@@ -1,12 +1,10 @@
 -- What merge answers of its texts.
-use Rattle.std.proofs.Common.{◌≡◌, ◌∙◌, ◌<◌, ◌+◌, ◌++◌, ◌∷◌, [], ℕ, List, Option, Vec, Global, Result, Ok, Err, IfErr, IfOk}
+use Rattle.std.proofs.Common.{◌≡◌, ◌∙◌, ◌<◌, ◌+◌, ◌++◌, ◌∷◌, [], ℕ, List, Option, Vec, Global}
 use Rattle.std.proofs.Common.{ap, arith, get_or, inl, inr, length, map, refl, subst, sym}
-use Rattle.std.specs.Prelude.{string_bytes}
 use Rattle.std.specs.List.{concat}
 use Rattle.std.proofs.lemmas.Bool.{cases_lt}
 use Rattle.std.proofs.lemmas.List.{get_or-map, get_or_append_left, length-map, map-append}
 use Rattle.std.proofs.Math.Seq.{get_or-append_seam}
-use Rattle.command_line.specs.declared.options.MergeOptions.{MergeOptions}
 use Rattle.ledger.specs.declared.ledger.Ledger.{Ledger}
 use Rattle.merging.specs.declared.kind.Kind.{Kind}
 use Rattle.merging.specs.declared.kind.Kind.TheVariants.{Campaign, Survey}
@@ -18,12 +16,8 @@ use Rattle.verdicts.specs.declared.outcome.Outcome.{Outcome}
 use Rattle.verdicts.specs.declared.outcome.Outcome.TheVariants.{Refused, Unfinished}
 use Rattle.verdicts.specs.declared.printed.Answer.{Answer}
 use Rattle.answers.specs.Campaign.{ledger_outcome}
-use Rattle.inputs.specs.declared.command_error.CommandError.{CommandError}
-use Rattle.inputs.specs.declared.command_error.CommandError.TheVariants as errors
-use Rattle.inputs.specs.Inputs.{AreBytesOf, AreRead, ReadsNamed, Seen}
-use Rattle.commands.specs.Merge.{AreGiven, IsMergeAnswer, IsMerged, IsMergedAnswer, IsMergeError, IsTextsError}
-use Rattle.commands.specs.Names.{merge_names}
-use Rattle.commands.proofs.Asking.{stopped_later}
+use Rattle.inputs.specs.Inputs.{AreBytesOf}
+use Rattle.commands.specs.Merge.{IsMergeAnswer, IsMergedAnswer}
 
 -- ledgers with the same first violation and the same number without verdict come out alike
 same_outcome : (unjudged : Outcome) (l m : Ledger) → l.first ≡ m.first → l.unjudged ≡ m.unjudged
@@ -87,29 +81,3 @@ given_more inputs names texts text i size before here k low =
           subst (λ (t : List ℕ). AreBytesOf inputs (get_or names k []) t) (sym seam)
           (subst (λ (j : ℕ). AreBytesOf inputs (get_or names j []) text.items) (sym at) here)
     ])
-
--- the answer of merge
-pub merged_of : (inputs : List ℕ → Option (List ℕ)) (o : MergeOptions) (texts : List (List ℕ))
-    (r : Result Answer CommandError)
-    → AreGiven inputs (merge_names o) texts → IfOk r (IsMergeAnswer texts) → IfOk r (IsMerged inputs o)
-merged_of inputs o texts (Ok answer) given is = record { texts = texts; given = given; answered = is }
-merged_of inputs o texts (Err error) given is = tt
-
--- why it stops
-pub stop_of : (inputs : List ℕ → Option (List ℕ)) (o : MergeOptions) (texts : List (List ℕ))
-    (r : Result Answer CommandError)
-    → 0 < length o.files.items → AreGiven inputs (merge_names o) texts → IfErr r (IsTextsError (merge_names o) texts)
-    → IfErr r (IsMergeError inputs o)
-stop_of inputs o texts (Ok answer) some given is = tt
-stop_of inputs o texts (Err (errors.Refused refusal)) some given is = (texts, given, is)
-stop_of inputs o texts (Err (errors.Fault fault)) some given is =
-    let names : length (merge_names o) ≡ length o.files.items = length-map o.files.items string_bytes in
-    (0, omega (arith, names, some), rw is tt)
-
--- all was read before it stops
-pub texts_read : (names texts : List (List ℕ)) (r : Result Answer CommandError) (s : Seen) → AreRead names s
-    → IfErr r (IsTextsError names texts) → ReadsNamed names s r
-texts_read names texts (Ok answer) s read is = read
-texts_read names texts (Err (errors.Refused refusal)) s read is = stopped_later names (errors.Refused refusal) s refl read
-texts_read names texts (Err (errors.Fault fault)) s read is =
-    stopped_later names (errors.Fault fault) s (rw is refl) read

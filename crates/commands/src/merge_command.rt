@@ -100,10 +100,7 @@ fn texts_answer(alloc: Global, names: &[String], texts: &[Vec<u8>]) -> Result<An
     ensures err { IfErr result (IsTextsError (map string_bytes names.now) (map (λ v. v.items) texts.now)) }
 {
     match merge(alloc, texts) {
-        Ok(merged) => match merged_answer(alloc, &merged) {
-            Ok(answer) => Ok(answer),
-            Err(OutOfMemory) => Err(CommandError::Fault(CommandFault::OutOfMemory)),
-        },
+        Ok(merged) => Ok(merged_answer(alloc, &merged)?),
         Err(MergeError::OutOfMemory) => Err(CommandError::Fault(CommandFault::OutOfMemory)),
         Err(
             MergeError::Refused {
@@ -113,10 +110,8 @@ fn texts_answer(alloc: Global, names: &[String], texts: &[Vec<u8>]) -> Result<An
             },
         ) => {
             let name = names[file].as_str();
-            match merge_refusal(alloc, refusal, line, name, texts[file].as_slice()) {
-                Ok(printed) => Err(CommandError::Refused(printed)),
-                Err(_) => Err(CommandError::Fault(CommandFault::OutOfMemory)),
-            }
+            let text = texts[file].as_slice();
+            Err(CommandError::Refused(merge_refusal(alloc, refusal, line, name, text)?))
         }
     }
 }

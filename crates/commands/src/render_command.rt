@@ -2,40 +2,18 @@
 ghost use Rattle.std.specs.Prelude.{◌∷◌, [], IfErr, IfOk, Some, option_map, string_bytes};
 ghost use Rattle.inputs.specs.Inputs.{CanRead, ReadsNamed, seen};
 ghost use Rattle.commands.specs.Names.{maybe_name, render_names};
-ghost use Rattle.commands.specs.Render.{IsNamesError, IsOwnProgram, IsRenderingError, IsRendered, IsRenderedBy};
+ghost use Rattle.commands.specs.Render.{IsNamesError, IsRenderingError, IsRendered, IsRenderedBy};
 
 use answers::{Rendering, rendered_answer};
 use command_line::ExplainOptions;
 use devices::Place;
 use explanation::is_program_of;
 use inputs::{CommandError, program_at, recording_at};
-use program::Program;
 use recording::Recording;
 use report::Answer;
 use std::alloc::Global;
 
-/// The program of this name, of which the recording has to be one.
-fn own_program<P: Place>(
-    alloc: Global,
-    recording: &Recording,
-    name: &str,
-    place: &mut P,
-) -> Result<Program, CommandError>
-    requires { CanRead (P.tally place.old) }
-    ensures ok { IfOk result (IsOwnProgram (P.bytes place.old) recording.now name.now) }
-    ensures err { IfErr result (IsNamesError (P.bytes place.old) recording.now (Some name.now)) }
-    ensures reads { ReadsNamed (name.now ∷ []) (seen (P.asked place.old) (P.asked place.new)
-        (P.tally place.old) (P.tally place.new)) result }
-{
-    let program = program_at(alloc, place, name)?;
-    if is_program_of(&program, recording) {
-        Ok(program)
-    } else {
-        Err(CommandError::of_line(alloc, "refused: N9\n"))
-    }
-}
-
-/// The rendering of a recording, by the program of this name.
+/// The rendering of a recording, by the program of this name, of which it has to be one.
 fn named_answer<P: Place>(
     alloc: Global,
     rendering: Rendering,
@@ -49,8 +27,12 @@ fn named_answer<P: Place>(
     ensures reads { ReadsNamed (name.now ∷ []) (seen (P.asked place.old) (P.asked place.new)
         (P.tally place.old) (P.tally place.new)) result }
 {
-    let program = own_program(alloc, recording, name, place)?;
-    Ok(rendered_answer(alloc, rendering, recording, Some(&program))?)
+    let program = program_at(alloc, place, name)?;
+    if is_program_of(&program, recording) {
+        Ok(rendered_answer(alloc, rendering, recording, Some(&program))?)
+    } else {
+        Err(CommandError::of_line(alloc, "refused: N9\n"))
+    }
 }
 
 /// The rendering of a recording, by the program that the options name.

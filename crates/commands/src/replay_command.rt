@@ -107,15 +107,6 @@ fn replay_of(alloc: Global, recording: &Recording, verdict: &Verdict) -> Result<
     }
 }
 
-/// The replay of a recording, or the verdict on it where it is a violation.
-fn replay(alloc: Global, recording: &Recording) -> Result<Answer, OutOfMemory>
-    requires { IsNumberedByFirstUse recording.now }
-    ensures { IfOk result (IsReplayOf recording.now) }
-{
-    let verdict = judge_alone(alloc, recording)?;
-    replay_of(alloc, recording, &verdict)
-}
-
 /// Replays the recording of a named input, whose addresses have to be numbered by first use.
 pub fn replay_command<P: Place>(
     alloc: Global,
@@ -130,7 +121,8 @@ pub fn replay_command<P: Place>(
 {
     let recording = recording_at(alloc, place, options.file.as_str())?;
     if is_numbered(&recording) {
-        Ok(replay(alloc, &recording)?)
+        let verdict = judge_alone(alloc, &recording)?;
+        Ok(replay_of(alloc, &recording, &verdict)?)
     } else {
         Err(CommandError::of_line(alloc, "refused: N8\n"))
     }

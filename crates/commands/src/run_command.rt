@@ -1,7 +1,7 @@
 //! The command `run`.
-ghost use Rattle.std.specs.Prelude.{◌≡◌, ◌∷◌, [], ℕ, List, IfErr, IfOk, Ok, option_map, string_bytes};
+ghost use Rattle.std.specs.Prelude.{◌≡◌, ◌∷◌, [], IfErr, IfOk, Ok, option_map, string_bytes};
 ghost use Rattle.machine.specs.Script.{steps_of};
-ghost use Rattle.inputs.specs.Inputs.{AreBytesOf, CanRead, ReadsNamed, seen};
+ghost use Rattle.inputs.specs.Inputs.{CanRead, ReadsNamed, seen};
 ghost use Rattle.commands.specs.Names.{run_names};
 ghost use Rattle.inputs.specs.Refusal.{IsReadingError, step_fault_name};
 ghost use Rattle.commands.specs.Perform.{IsRunError, IsScriptError};
@@ -33,24 +33,6 @@ fn steps_of(alloc: Global, text: &[u8], program: &Program) -> Result<Vec<Step>, 
     }
 }
 
-/// The steps of the script of this name for a program, or why it is not read.
-fn steps_at<P: Place>(
-    alloc: Global,
-    program: &Program,
-    name: &str,
-    place: &mut P,
-) -> Result<Vec<Step>, CommandError>
-    requires { CanRead (P.tally place.old) }
-    ensures ok { IfOk result (λ steps. (text : List ℕ) × AreBytesOf (P.bytes place.old) name.now text
-        × (steps_of program.now text ≡ Ok steps.items)) }
-    ensures err { IfErr result (IsScriptError (P.bytes place.old) program.now name.now) }
-    ensures reads { ReadsNamed (name.now ∷ []) (seen (P.asked place.old) (P.asked place.new)
-        (P.tally place.old) (P.tally place.new)) result }
-{
-    let text = text_at(alloc, place, name)?;
-    steps_of(alloc, text.as_slice(), program)
-}
-
 /// The answer of a program that is run by the script of this name.
 fn script_run<P: Place>(
     alloc: Global,
@@ -65,7 +47,9 @@ fn script_run<P: Place>(
     ensures reads { ReadsNamed (name.now ∷ []) (seen (P.asked place.old) (P.asked place.new)
         (P.tally place.old) (P.tally place.new)) result }
 {
-    let steps = steps_at(alloc, &program, name, place)?;
+    let text = text_at(alloc, place, name)?;
+    let steps = steps_of(alloc, text.as_slice(), &program)?;
+    drop(text);
     Ok(script_answer(
         alloc,
         program,

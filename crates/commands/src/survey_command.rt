@@ -148,25 +148,6 @@ fn line_at<P: Place>(
     }
 }
 
-/// What is answered to recording `k` of the named input.
-fn shown_line<P: Place>(
-    alloc: Global,
-    options: &SurveyOptions,
-    k: usize,
-    place: &mut P,
-) -> Result<Answer, CommandError>
-    requires { CanRead (P.tally place.old) }
-    ensures ok { IfOk result (IsSurveyOf (P.bytes place.old) options.now (Some k)) }
-    ensures err { IfErr result (IsSurveyError (P.bytes place.old) options.now (Some k)) }
-    ensures reads { ReadsNamed (string_bytes options.now.file ∷ []) (seen (P.asked place.old) (P.asked place.new)
-        (P.tally place.old) (P.tally place.new)) result }
-{
-    match line_at(alloc, options, k, place)? {
-        Some(line) => Ok(line_answer(alloc, line.as_slice(), options.reduce)?),
-        None => Err(CommandError::of_line(alloc, "refused: K11\n")),
-    }
-}
-
 /// Counts the recordings of the named input, or answers one of them.
 pub fn survey_command<R: Threads + Wait + Sync, P: Place>(
     rt: &R,
@@ -182,7 +163,10 @@ pub fn survey_command<R: Threads + Wait + Sync, P: Place>(
         (P.tally place.old) (P.tally place.new)) result }
 {
     match options.show {
-        Some(k) => shown_line(alloc, options, k, place),
+        Some(k) => match line_at(alloc, options, k, place)? {
+            Some(line) => Ok(line_answer(alloc, line.as_slice(), options.reduce)?),
+            None => Err(CommandError::of_line(alloc, "refused: K11\n")),
+        },
         None => Ok(counts_answer(rt, alloc, options, place)?),
     }
 }

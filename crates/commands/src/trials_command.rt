@@ -16,28 +16,6 @@ use std::alloc::Global;
 use std::sync::Wait;
 use std::thread::Threads;
 
-/// What the campaign that the options ask for gives: its counts, or one of its trials.
-fn answer_of<R: Threads + Wait + Sync, P: Place>(
-    rt: &R,
-    alloc: Global,
-    options: &TrialsOptions,
-    place: &P,
-) -> Result<Answer, common::OutOfMemory>
-    requires { (rows : List Row) × AreTrialsOptions options.now rows }
-    ensures { IfOk result (IsTrials options.now options.now.show) }
-{
-    match options.show {
-        Some(k) => shown_answer(alloc, &options.campaign, k, options.reduce),
-        None if options.quiet => {
-            campaign_answer(rt, alloc, &options.campaign, options.workers, &OpenGate)
-        }
-        None => {
-            let progress = place.progress(Some(options.campaign.trials()));
-            campaign_answer(rt, alloc, &options.campaign, options.workers, &progress)
-        }
-    }
-}
-
 /// Runs the trials of a campaign and counts their codes, of which the place is told unless the options are
 /// quiet, or shows one of them.
 pub fn trials_command<R: Threads + Wait + Sync, P: Place>(
@@ -50,5 +28,18 @@ pub fn trials_command<R: Threads + Wait + Sync, P: Place>(
     ensures ok { IfOk result (IsTrials options.now options.now.show) }
     ensures err { IfErr result (λ error. error ≡ Fault OutOfMemory) }
 {
-    Ok(answer_of(rt, alloc, options, place)?)
+    match options.show {
+        Some(k) => Ok(shown_answer(alloc, &options.campaign, k, options.reduce)?),
+        None if options.quiet => Ok(campaign_answer(
+            rt,
+            alloc,
+            &options.campaign,
+            options.workers,
+            &OpenGate,
+        )?),
+        None => {
+            let progress = place.progress(Some(options.campaign.trials()));
+            Ok(campaign_answer(rt, alloc, &options.campaign, options.workers, &progress)?)
+        }
+    }
 }

@@ -51,9 +51,7 @@ pub returns-in-Err-clause-reads : goal.returns-in-Err-clause-reads
 returns-in-Err-clause-reads g c =
     let names : List (List ℕ) = map string_bytes c.args.names.now in
     let low : c.loop-i.i < length names = omega (arith, length-map c.args.names.now string_bytes) in
-    stopped_among names c.loop-i.i c.as_str.result.now (Fault c.in-Err.fault) (g.P.Place.asked c.args.place.now)
-    (g.P.Place.asked c.loop-i.place) (g.P.Place.asked c.text_at.new.place) (g.P.Place.tally c.args.place.now)
-    (g.P.Place.tally c.loop-i.place) (g.P.Place.tally c.text_at.new.place) low
+    stopped_among names c.loop-i.i c.as_str.result.now (Fault c.in-Err.fault) _ _ _ _ _ _ low
     (c.as_str.ensures.value
     ∙ name_at string_bytes c.args.names.now c.loop-i.i c.index-names-i.result (omega arith) c.index-names-i.is)
     c.loop-i.invariant.read c.in-Err.ensures.reads
@@ -62,12 +60,8 @@ pub returns-in_default-clause-reads : goal.returns-in_default-clause-reads
 returns-in_default-clause-reads g c =
     let names : List (List ℕ) = map string_bytes c.args.names.now in
     let low : c.loop-i.i < length names = omega (arith, length-map c.args.names.now string_bytes) in
-    stopped_behind names (c.loop-i.i + 1) (Fault OutOfMemory)
-    (seen (g.P.Place.asked c.args.place.now) (g.P.Place.asked c.text_at.new.place) (g.P.Place.tally c.args.place.now)
-    (g.P.Place.tally c.text_at.new.place)) refl
-    (read_more names c.loop-i.i c.as_str.result.now (g.P.Place.asked c.args.place.now) (g.P.Place.asked c.loop-i.place)
-    (g.P.Place.asked c.text_at.new.place) (g.P.Place.tally c.args.place.now) (g.P.Place.tally c.loop-i.place)
-    (g.P.Place.tally c.text_at.new.place) low
+    stopped_behind names (c.loop-i.i + 1) (Fault OutOfMemory) _ refl
+    (read_more names c.loop-i.i c.as_str.result.now _ _ _ _ _ _ low
     (c.as_str.ensures.value
     ∙ name_at string_bytes c.args.names.now c.loop-i.i c.index-names-i.result (omega arith) c.index-names-i.is)
     c.loop-i.invariant.read c.in-Ok.ensures.reads)
@@ -82,9 +76,7 @@ loop-i-preserved g c =
     let inputs : List ℕ → Option (List ℕ) = g.P.Place.bytes c.args.place.now in
     let text = c.in-Ok.text in
     let pushed = c.in-Ok-push.ensures.items in record {
-      read = read_more names c.loop-i.i c.as_str.result.now (g.P.Place.asked c.args.place.now)
-          (g.P.Place.asked c.loop-i.place) (g.P.Place.asked c.text_at.new.place) (g.P.Place.tally c.args.place.now)
-          (g.P.Place.tally c.loop-i.place) (g.P.Place.tally c.text_at.new.place) low name h.read c.in-Ok.ensures.reads;
+      read = read_more names c.loop-i.i c.as_str.result.now _ _ _ _ _ _ low name h.read c.in-Ok.ensures.reads;
       kept = c.text_at.ensures.kept ∙ h.kept;
       size = ap (λ (l : List (Vec ℕ Global)). length l) pushed
           ∙ omega (arith, h.size, length-append c.loop-i.texts.items (text ∷ []));

@@ -13,7 +13,5 @@ returns-in_err-recording-clause-reads g c =
 pub returns-clause-reads : goal.returns-clause-reads
 returns-clause-reads g c =
     reads_then c.rendered.result (string_bytes c.args.options.now.file ∷ [])
-    (maybe_name (option_map string_bytes c.args.options.now.program)) (g.P.Place.asked c.args.place.now)
-    (g.P.Place.asked c.recording_at.new.place) (g.P.Place.asked c.rendered.new.place) (g.P.Place.tally c.args.place.now)
-    (g.P.Place.tally c.recording_at.new.place) (g.P.Place.tally c.rendered.new.place)
+    (maybe_name (option_map string_bytes c.args.options.now.program)) _ _ _ _ _ _
     (rw (sym c.as_str.ensures.value) c.in_ok-recording.ensures.reads) c.rendered.ensures.reads
