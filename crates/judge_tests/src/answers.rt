@@ -24,18 +24,26 @@ labels 2: 2 3 0 1
 labels 3: 1 2 3 0
 ";
 
-/// A writer that takes this many bytes of each write.
+/// A writer that takes this many bytes of each write, of which one is interrupted after this many in all.
 #[derive(Drop)]
 struct Narrow {
     width: usize,
+    whole: usize,
     taken: Vec<u8>,
 }
 
 impl Write for Narrow {
     fn write(&mut self, buf: &[u8]) -> io::Result<usize> {
-        let n = buf.len().min(self.width);
+        if self.whole == 0 {
+            self.whole = usize::MAX;
+            return Err(io::Error::from(ErrorKind::Interrupted));
+        }
+        let n = buf.len().min(self.width).min(self.whole);
         match self.taken.extend_from_slice(&buf[..n]) {
-            Ok(()) => Ok(n),
+            Ok(()) => {
+                self.whole -= n;
+                Ok(n)
+            }
             Err(_) => Err(io::Error::from(ErrorKind::OutOfMemory)),
         }
     }
@@ -120,16 +128,19 @@ fn a_failed_write_leaves_a_beginning(rt: HostRuntime) -> Result<(), Fail> {
     Ok(())
 }
 
-/// Whether a device that takes this many bytes of each write is answered so, and has taken these bytes.
+/// Whether a device that takes this many bytes of each write, of which one is interrupted after this many in all, is
+/// answered so, and has taken these bytes.
 fn is_taken<R: Threads + Wait + Sync>(
     rt: &R,
     alloc: Global,
     width: usize,
+    whole: usize,
     outcome: Result<Outcome, ReportError>,
     taken: &[u8],
 ) -> bool {
     let mut device = Device::new(Narrow {
         width,
+        whole,
         taken: Vec::new(alloc),
     });
     let mut source = MemorySource::new(MESSAGE_PASSING.as_bytes());
@@ -139,8 +150,44 @@ fn is_taken<R: Threads + Wait + Sync>(
 
 #[test]
 fn a_device_may_take_a_byte_at_a_time_but_not_none(rt: HostRuntime) -> Result<(), Fail> {
-    assert!(rt; is_taken(&rt, rt.alloc(), 1, Ok(Outcome::Violation), CYCLE));
-    assert!(rt; is_taken(&rt, rt.alloc(), 0, Err(ReportError::WriteFailed), b""));
+    assert!(rt;
+        is_taken(
+            &rt,
+            rt.alloc(),
+            1,
+            usize::MAX,
+            Ok(Outcome::Violation),
+            CYCLE
+        )
+    );
+    assert!(rt;
+        is_taken(
+            &rt,
+            rt.alloc(),
+            0,
+            usize::MAX,
+            Err(ReportError::WriteFailed),
+            b""
+        )
+    );
+    Ok(())
+}
+
+#[test]
+fn an_interrupted_write_leaves_a_beginning(rt: HostRuntime) -> Result<(), Fail> {
+    for whole in 0..CYCLE.len() {
+        let taken = &CYCLE[..whole];
+        assert!(rt;
+            is_taken(
+                &rt,
+                rt.alloc(),
+                123,
+                whole,
+                Err(ReportError::WriteFailed),
+                taken
+            )
+        );
+    }
     Ok(())
 }
 
