@@ -1,9 +1,10 @@
 -- The rules that parts of a recording may break, one event or one list at a time.
 use Rattle.std.proofs.Common.{◌≡◌, ◌≢◌, ◌<◌, ◌≤◌, ◌⊎◌, ◌↔◌, inl, inr, ℕ, suc, Option, Some, None, List, []}
-use Rattle.std.proofs.Common.{◌∷◌, Bool, nat_eq, IsTrue, length, get_or, arith, sym, ap, subst}
+use Rattle.std.proofs.Common.{◌∷◌, Bool, nat_lt, nat_eq, IsTrue, length, get_or, arith, refl, sym, ap, subst}
 use Rattle.std.proofs.Common.{◌∙◌}
-use Rattle.std.proofs.lemmas.Bool.{cases_eq, eqb-true, eq-eqb}
+use Rattle.std.proofs.lemmas.Bool.{cases_eq, ltb-true, lt-ltb, eqb-true, eq-eqb}
 use Rattle.recording.specs.declared.event.Event.{Event}
+use Rattle.recording.specs.declared.event.Event.TheVariants.{L, S, R, C}
 use Rattle.recording.specs.Event.{read_address, written_address, value_read, value_written}
 use Rattle.recording.specs.Execution.{Execution, event_at, initial_value, source_of, Reads}
 use Rattle.recording.specs.Refusals.{HasValue}
@@ -16,6 +17,36 @@ use Rattle.recording.specs.PlaceLaws.{at_place}
 -- each address that is read or written is below n
 abbrev pub UsesBelow : Option ℕ → Option ℕ → ℕ → Type 0
 UsesBelow o p n = (a : ℕ) → (o ≡ Some a) ⊎ (p ≡ Some a) → a < n
+
+-- one address is below n exactly where it is tested so
+below : (o p : Option ℕ) (a n : ℕ) → (o ≡ Some a) ⊎ (p ≡ Some a)
+    → ((b : ℕ) → (o ≡ Some b) ⊎ (p ≡ Some b) → b ≡ a) → IsTrue (nat_lt a n) ↔ UsesBelow o p n
+below o p a n is only = (λ t b uses. omega (arith, only b uses, ltb-true a n t), λ all. lt-ltb a n (all a is))
+
+-- an event uses one address
+pub uses_one : (v : Event) (a n : ℕ) → ((r : ℕ) × (s : Option ℕ) × (v ≡ L a r s))
+    ⊎ (((w : ℕ) × (v ≡ S a w)) ⊎ (((r : ℕ) × (s : Option ℕ) × (w : ℕ) × (v ≡ R a r s w))
+    ⊎ ((r : ℕ) × (s : Option ℕ) × (v ≡ C a r s))))
+    → IsTrue (nat_lt a n) ↔ UsesBelow (read_address v) (written_address v) n
+uses_one v a n is = elim is [
+  | inl l ↦ subst (λ (u : Event). IsTrue (nat_lt a n) ↔ UsesBelow (read_address u) (written_address u) n)
+      (sym l.2) (below (Some a) None a n (inl refl) (λ b uses. elim uses [ inl e ↦ cc | inr e ↦ absurd cc ]))
+  | inr other ↦ elim other [
+    | inl s ↦ subst (λ (u : Event). IsTrue (nat_lt a n) ↔ UsesBelow (read_address u) (written_address u) n)
+        (sym s.1) (below None (Some a) a n (inr refl)
+        (λ b uses. elim uses [ inl e ↦ absurd cc | inr e ↦ cc ]))
+    | inr atomic ↦ elim atomic [
+      | inl r ↦ subst
+          (λ (u : Event). IsTrue (nat_lt a n) ↔ UsesBelow (read_address u) (written_address u) n)
+          (sym r.3) (below (Some a) (Some a) a n (inl refl)
+          (λ b uses. elim uses [ inl e ↦ cc | inr e ↦ cc ]))
+      | inr c ↦ subst
+          (λ (u : Event). IsTrue (nat_lt a n) ↔ UsesBelow (read_address u) (written_address u) n)
+          (sym c.2) (below (Some a) None a n (inl refl)
+          (λ b uses. elim uses [ inl e ↦ cc | inr e ↦ absurd cc ]))
+    ]
+  ]
+]
 
 -- equal events use equal addresses
 pub uses_same : (v w : Event) (m n : ℕ) (t : Bool) → v ≡ w → m ≡ n
