@@ -18,6 +18,7 @@ impl Machine {
     }
 
     /// Makes a transaction of the core's line of an address.
+    #[inline(always)]
     pub(crate) fn transact(
         &mut self,
         kind: Transaction,
