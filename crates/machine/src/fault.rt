@@ -79,6 +79,7 @@ impl Fault {
     }
 
     /// Makes a transaction of a core's line, where the caches allow it.
+    #[inline(always)]
     pub(crate) fn transact(
         self,
         caches: &mut Caches,
