@@ -1,8 +1,8 @@
 -- Each step keeps the desk legal.
-use Rattle.std.proofs.Common.{true≢false, ◌≡◌, ◌≢◌, ◌⊎◌, ℕ, zero, suc, ◌<◌, ◌≤◌, Bool, true, false}
+use Rattle.std.proofs.Common.{true≢false, ◌≡◌, ◌≢◌, ◌⊎◌, ℕ, zero, suc, ◌<◌, ◌≤◌, true, false}
 use Rattle.std.proofs.Common.{eqb, List, [], ◌∷◌, ◌++◌, length, get_or, set, sym, refl, ap, ◌∙◌, subst, inl}
 use Rattle.std.proofs.Common.{inr, ⊎_elim, arith, eq-eqb, ne_eqb}
-use Rattle.std.specs.Prelude.{Contains, MatchBool, Option, None, Some}
+use Rattle.std.specs.Prelude.{Contains, Option, None, Some}
 use Rattle.std.proofs.lemmas.List.{get_or-set_same, get_or-set_other, length-set}
 use Rattle.std.proofs.lemmas.List.Elements.{Contains-append_left, Contains-append_right}
 use Rattle.std.proofs.lemmas.List.Elements.{Contains-append_cases, Contains-push, Contains-push_cases}
@@ -483,9 +483,3 @@ joins c id v other w lv lw s r at ne at' =
       sole = λ i u e l. absurd (kinds (λ _ u. u.alone ≡ true → ⊥) (λ l. off l) (λ l. off l)
           (λ j u ni _ e l. ni (only_one s j id u v (r.sole j u e l) e at)) i u e l);
     }
-
--- after a claim the trial was seen at least claimed, whatever it answered
-pub seen_after : (v w : SeatKnowledge) (k : ℕ) (b : Bool) → MatchBool b (w ≡ claimed v k) (w ≡ saw_claimed v k)
-    → Contains w.seen k
-seen_after v w k true e = subst (λ (x : SeatKnowledge). Contains x.seen k) (sym e) (Contains-push v.seen k)
-seen_after v w k false e = subst (λ (x : SeatKnowledge). Contains x.seen k) (sym e) (Contains-push v.seen k)

@@ -6,12 +6,17 @@ use Rattle.trials.specs.declared.seat.Look.{Look}
 use Rattle.trials.specs.declared.seat.Look.TheVariants.{Open, Claimed, Filed}
 use Rattle.trials.specs.declared.seat.Desk.{Desk}
 use Rattle.trials.specs.declared.seat.DeskSeat.{DeskSeat}
+use Rattle.trials.specs.Campaigns.{Plan}
 use Rattle.trials.specs.Codes.{IsCode}
 use Rattle.trials.specs.LegalDesk.{saw_claimed, saw_filed, Was}
 
 -- the seat is of the desk
 abbrev pub IsDeskSeatOf : Desk → DeskSeat → Type 0
 IsDeskSeatOf d s = s.seat.table_id ≡ (arc_value d.table).shared.table_id
+
+-- the same, where the desk is of this campaign
+abbrev pub SitsAt : Desk → Plan → DeskSeat → Type 0
+SitsAt d p s = IsDeskSeatOf d s × (s.seat.me.0.campaign ≡ p)
 
 -- at least what was claimed, filed or seen; and that is seen from then on
 abbrev pub IsLook : SeatKnowledge → ℕ → Look → SeatKnowledge → Type 0

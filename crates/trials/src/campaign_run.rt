@@ -4,7 +4,7 @@ ghost use Rattle.std.specs.Prelude.{◌≡◌, ◌<◌, ◌≤◌, ℕ, List, If
 ghost use Rattle.ledger.specs.Counts.{IsLedger};
 ghost use Rattle.trials.specs.LegalDesk.{AreDeskWords, IsDeskWord};
 ghost use Rattle.trials.specs.Codes.{AreCodes, IsCode};
-ghost use Rattle.trials.specs.Looking.{IsDeskSeatOf};
+ghost use Rattle.trials.specs.Looking.{IsDeskSeatOf, SitsAt};
 ghost use Rattle.trials.specs.OneLedger.{EveryTrialHasOneCode, EveryCampaignHasOneLedger};
 ghost use Rattle.trials.specs.OneLedger.{EveryCampaignAddsUp, EveryTrialHasItsKind};
 ghost use Rattle.trials.specs.declared.desk_table.SeatKnowledge.{SeatKnowledge};
@@ -83,8 +83,7 @@ fn ledger_of(
     desk: Desk,
     seat: DeskSeat,
 ) -> Result<Ledger, OutOfMemory>
-    requires seat { IsDeskSeatOf desk seat }
-    requires campaign { seat.seat.me.0.campaign ≡ campaign.now }
+    requires { SitsAt desk campaign.now seat }
     ensures { IfOk result (λ l. (codes : List ℕ) × AreCodes campaign.now codes × IsLedger codes l) }
 {
     let words = desk.close(alloc, seat)?;

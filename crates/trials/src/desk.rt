@@ -3,9 +3,9 @@
 ghost use Rattle.std.specs.Prelude.{◌≡◌, ◌≢◌, ◌<◌, ℕ, Bool, true, false, [], ◌==◌, length, IfOk, MatchBool};
 ghost use Rattle.std.specs.Prelude.{Contains, replicate};
 ghost use Rattle.trials.specs.LegalDesk.{first_view, claimed, saw_claimed, completed, AreAllOpen, AreDeskWords, Was};
-ghost use Rattle.trials.specs.Looking.{IsDeskSeatOf, IsLook};
+ghost use Rattle.trials.specs.Looking.{IsDeskSeatOf, IsLook, LoadsWord};
 
-use crate::desk_table::DeskTable;
+use crate::desk_table::{Claims, DeskTable, Files, Looks};
 use crate::filed::Filed;
 use crate::seat::{Desk, DeskSeat, Look};
 use campaign::Campaign;
@@ -40,7 +40,11 @@ impl Desk {
             × (Contains seat.old.seat.me.0.share k → ⊥) }
         ensures later { Contains seat.new.seat.me.0.seen k }
     {
-        seat.claim(k)
+        let found = seat
+            .table
+            .shared
+            .compare_exchange::<Claims>(&mut seat.seat, k, 0, 1);
+        found == 0
     }
 
     /// Files a trial of the desk's campaign that this seat has claimed and not yet filed.
@@ -53,7 +57,9 @@ impl Desk {
         ensures seat { IsDeskSeatOf self.now seat.new }
         ensures new { seat.new.seat.me.0 ≡ completed seat.old.seat.me.0 filed.now.trial }
     {
-        seat.file(filed);
+        seat.table
+            .shared
+            .store::<Files>(&mut seat.seat, filed.trial(), filed.code());
     }
 
     /// What the word of a trial below the number of trials says, at least what this seat has claimed, filed
@@ -64,7 +70,7 @@ impl Desk {
         ensures seat { IsDeskSeatOf self.now seat.new }
         ensures says { IsLook seat.old.seat.me.0 k result seat.new.seat.me.0 }
     {
-        match seat.load(k) {
+        match word_at(seat, k) {
             0 => Look::Open,
             1 => Look::Claimed,
             code => Look::Filed(code),
@@ -77,8 +83,23 @@ impl Desk {
         ensures { IfOk result (λ ws. AreDeskWords seat.seat.me.0 ws.items) }
     {
         drop(self);
-        seat.read_all(alloc)
+        let mut seat = seat;
+        let count = seat.table.word_count();
+        let mut words = Vec::with_capacity(alloc, count)?;
+        for k in 0..count {
+            words.push(word_at(&mut seat, k))?;
+        }
+        Ok(words)
     }
+}
+
+/// The word of a trial.
+fn word_at(seat: &mut DeskSeat, k: usize) -> u64
+    requires trial { k < seat.old.seat.me.0.campaign.trials }
+    ensures same { seat.new.seat.table_id ≡ seat.old.seat.table_id }
+    ensures says { LoadsWord seat.old.seat.me.0 k result seat.new.seat.me.0 }
+{
+    seat.table.shared.load::<Looks>(&mut seat.seat, k)
 }
 
 fn zeros(alloc: Global, count: usize) -> Result<Vec<u64>, OutOfMemory>

@@ -12,7 +12,6 @@ mod one_trial;
 mod running;
 mod schedule;
 mod seat;
-mod steps;
 mod workers;
 
 pub use campaign::Campaign;

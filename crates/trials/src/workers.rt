@@ -1,7 +1,7 @@
 //! Workers that claim trials one after another.
 
 ghost use Rattle.std.specs.Prelude.{◌≡◌, ◌<◌, ◌≤◌, Contains};
-ghost use Rattle.trials.specs.Looking.{IsDeskSeatOf};
+ghost use Rattle.trials.specs.Looking.{SitsAt};
 
 use crate::filed::Filed;
 use crate::one_trial::trial;
@@ -31,11 +31,9 @@ pub fn try_one<G: Gate>(
     worker: usize,
     k: usize,
 )
-    requires seat { IsDeskSeatOf desk.now seat.old }
-    requires campaign { seat.old.seat.me.0.campaign ≡ campaign.now }
+    requires seat { SitsAt desk.now campaign.now seat.old }
     requires trial { k < campaign.now.trials }
-    ensures seat { IsDeskSeatOf desk.now seat.new }
-    ensures campaign { seat.new.seat.me.0.campaign ≡ campaign.now }
+    ensures seat { SitsAt desk.now campaign.now seat.new }
     ensures later { Contains seat.new.seat.me.0.seen k }
 {
     if desk.claim(seat, k) {
@@ -56,32 +54,9 @@ fn first_of(trials: usize, worker: usize, workers: usize) -> usize
     (trials / workers).saturating_mul(worker).min(trials)
 }
 
-/// Takes the trials from the first one on in ascending order, and then those before it, one claim at a time.
+/// Takes the trials from the first one on in ascending order, and then those before it, one claim at a time, with a
+/// seat of its own, which it gives back.
 fn work<G: Gate>(
-    alloc: Global,
-    campaign: &Campaign,
-    desk: &Desk,
-    seat: &mut DeskSeat,
-    gate: &G,
-    worker: usize,
-    first: usize,
-)
-    requires seat { IsDeskSeatOf desk.now seat.old }
-    requires campaign { seat.old.seat.me.0.campaign ≡ campaign.now }
-    requires first { first ≤ campaign.now.trials }
-    ensures seat { IsDeskSeatOf desk.now seat.new }
-    ensures campaign { seat.new.seat.me.0.campaign ≡ campaign.now }
-{
-    for k in first..campaign.trials() {
-        try_one(alloc, campaign, desk, seat, gate, worker, k);
-    }
-    for earlier in 0..first {
-        try_one(alloc, campaign, desk, seat, gate, worker, earlier);
-    }
-}
-
-/// The same with a seat of its own, which it gives back.
-fn work_there<G: Gate>(
     alloc: Global,
     campaign: &Campaign,
     desk: &Desk,
@@ -90,13 +65,16 @@ fn work_there<G: Gate>(
     worker: usize,
     first: usize,
 ) -> DeskSeat
-    requires seat { IsDeskSeatOf desk.now seat }
-    requires campaign { seat.seat.me.0.campaign ≡ campaign.now }
+    requires seat { SitsAt desk.now campaign.now seat }
     requires first { first ≤ campaign.now.trials }
-    ensures seat { IsDeskSeatOf desk.now result }
-    ensures campaign { result.seat.me.0.campaign ≡ campaign.now }
+    ensures { SitsAt desk.now campaign.now result }
 {
-    work(alloc, campaign, desk, &mut seat, gate, worker, first);
+    for k in first..campaign.trials() {
+        try_one(alloc, campaign, desk, &mut seat, gate, worker, k);
+    }
+    for earlier in 0..first {
+        try_one(alloc, campaign, desk, &mut seat, gate, worker, earlier);
+    }
     seat
 }
 
@@ -111,19 +89,16 @@ fn start<'s, E, G: Gate>(
     worker: usize,
     first: usize,
 )
-    requires seat { IsDeskSeatOf desk.now seat.old }
-    requires campaign { seat.old.seat.me.0.campaign ≡ campaign.now }
+    requires seat { SitsAt desk.now campaign.now seat.old }
     requires first { first ≤ campaign.now.trials }
-    ensures seat { IsDeskSeatOf desk.now seat.new }
-    ensures campaign { seat.new.seat.me.0.campaign ≡ campaign.now }
+    ensures seat { SitsAt desk.now campaign.now seat.new }
 {
     let Ok(other) = seat.split() else {
         return;
     };
     let there = move || -> DeskSeat
-        requires { IsDeskSeatOf desk.now other × (other.seat.me.0.campaign ≡ campaign.now)
-            × (first ≤ campaign.now.trials) }
-    { work_there(alloc, campaign, desk, other, gate, worker, first) };
+        requires { SitsAt desk.now campaign.now other × (first ≤ campaign.now.trials) }
+    { work(alloc, campaign, desk, other, gate, worker, first) };
     let _ = scope.spawn(there);
 }
 
@@ -137,10 +112,8 @@ fn start_all<'s, E, G: Gate>(
     gate: &'s G,
     workers: usize,
 )
-    requires seat { IsDeskSeatOf desk.now seat.old }
-    requires campaign { seat.old.seat.me.0.campaign ≡ campaign.now }
-    ensures seat { IsDeskSeatOf desk.now seat.new }
-    ensures campaign { seat.new.seat.me.0.campaign ≡ campaign.now }
+    requires seat { SitsAt desk.now campaign.now seat.old }
+    ensures seat { SitsAt desk.now campaign.now seat.new }
 {
     for worker in 1..workers {
         let first = first_of(campaign.trials(), worker, workers);
@@ -158,22 +131,19 @@ pub(crate) fn work_all<R: Threads + Wait + Sync, G: Gate>(
     workers: usize,
     gate: &G,
 ) -> DeskSeat
-    requires seat { IsDeskSeatOf desk.now seat }
-    requires campaign { seat.seat.me.0.campaign ≡ campaign.now }
-    ensures seat { IsDeskSeatOf desk.now result }
-    ensures campaign { result.seat.me.0.campaign ≡ campaign.now }
+    requires seat { SitsAt desk.now campaign.now seat }
+    ensures { SitsAt desk.now campaign.now result }
 {
     thread::scope(
         thread::scope_env(),
         rt,
         |scope| -> DeskSeat
-            requires { IsDeskSeatOf desk.now seat × (seat.seat.me.0.campaign ≡ campaign.now) }
-            ensures { IsDeskSeatOf desk.entry.now result
-                × (result.seat.me.0.campaign ≡ campaign.entry.now) }
+            requires { SitsAt desk.now campaign.now seat }
+            ensures { SitsAt desk.entry.now campaign.entry.now result }
         {
             let mut mine = seat;
             start_all(scope, alloc, campaign, desk, &mut mine, gate, workers);
-            work_there(alloc, campaign, desk, mine, gate, 0, 0)
+            work(alloc, campaign, desk, mine, gate, 0, 0)
         },
     )
 }

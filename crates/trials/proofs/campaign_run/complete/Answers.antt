@@ -1,4 +1,4 @@
-use Rattle.std.proofs.Common.{◌<◌, ◌∙◌, ℕ, length, arith}
+use Rattle.std.proofs.Common.{◌<◌, ◌∙◌, length, arith}
 use Rattle.std.proofs.lemmas.List.{length-set}
 use Rattle.trials.proofs.Completed.{closed_size, closed_words, one_written, words_written}
 use Rattle.trials.proofs.campaign_run.complete.Goals as goal

@@ -1,4 +1,4 @@
-use Rattle.std.proofs.Common.{◌≡◌, ◌+◌, ◌*◌, ◌≤◌, ◌<◌, arith}
+use Rattle.std.proofs.Common.{arith}
 use Rattle.trials.proofs.Remainders.{rest_is, next_is}
 use Rattle.trials.proofs.divisor.rest_of.Goals as goal
 

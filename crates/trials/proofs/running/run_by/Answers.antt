@@ -1,4 +1,4 @@
-use Rattle.std.proofs.Common.{◌≡◌, ◌<◌, ◌+◌, ℕ, List, [], ◌∷◌, length, true, false, inl, inr, refl, arith}
+use Rattle.std.proofs.Common.{◌≡◌, ℕ, List, [], ◌∷◌, length, true, false, inl, inr, refl, arith}
 use Rattle.std.proofs.Common.{sym, ap, ◌∙◌, subst}
 use borrow.Author.Count.{below_more}
 use Rattle.rand_core.specs.Steps.{first_words}

@@ -1,6 +1,6 @@
-use Rattle.std.proofs.Common.{◌≡◌, ◌<◌, ◌≤◌, ℕ, length, get_or}
+use Rattle.std.proofs.Common.{◌≡◌, ◌<◌, ℕ, length, get_or}
 use Rattle.machine.specs.declared.step.Step.{Step}
-use Rattle.trials.specs.Schedule.{step_at, step_count}
+use Rattle.trials.specs.Schedule.{step_at}
 use Rattle.trials.proofs.schedule.fill.Given as goal
 
 -- the steps below i are there

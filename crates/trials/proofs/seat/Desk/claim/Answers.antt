@@ -1,6 +1,14 @@
-use Rattle.trials.proofs.Keeps.{seen_after}
+use Rattle.std.proofs.Common.{sym, ◌∙◌, ap, subst, ℕ, ◌<◌}
+use Rattle.trials.proofs.Keeps.{claims}
 use Rattle.trials.proofs.seat.Desk.claim.Goals as goal
 
-pub returns-clause-later : goal.returns-clause-later
-returns-clause-later c = seen_after c.args.seat.now.seat.me.0 c.claim.new.self.seat.me.0 c.args.k
-    c.claim.result c.claim.ensures.new
+pub compare_exchange-found-requires : goal.compare_exchange-found-requires
+compare_exchange-found-requires c =
+    let h = c.args.seat.now in
+    let t = c.deref.ensures in
+    let trials = ap (λ b. b.shared.key.trials) t ∙ ap (λ z. z.trials) h.campaign in
+    let size = ap (λ b. b.shared.table_id.words) t ∙ h.size in (
+      h.seated ∙ sym (ap (λ b. b.shared.table_id) t),
+      subst (λ (n : ℕ). c.args.k < n) (sym size) c.requires.trial,
+      claims _ _ _ _ _ (subst (λ (n : ℕ). c.args.k < n) (sym trials) c.requires.trial) h.live,
+    )

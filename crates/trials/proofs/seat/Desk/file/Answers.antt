@@ -3,11 +3,11 @@ use Rattle.std.specs.Prelude.{Contains}
 use Rattle.trials.specs.Campaigns.{Plan}
 use Rattle.trials.specs.Codes.{IsCode}
 use Rattle.trials.proofs.Keeps.{files}
-use Rattle.trials.proofs.seat.DeskSeat.file.Goals as goal
+use Rattle.trials.proofs.seat.Desk.file.Goals as goal
 
 pub store-requires : goal.store-requires
 store-requires c =
-    let h = c.args.self.now in
+    let h = c.args.seat.now in
     let t = c.deref.ensures in
     let v = h.seat.me.0 in
     let k = c.trial.ensures in
