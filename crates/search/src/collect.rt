@@ -88,25 +88,6 @@ fn rows_by_workers<R: Threads + Wait + Sync, G: Gate>(
     run_workers(rt, alloc, mine, jobs_of_workers, best, relation, gate)
 }
 
-/// The places for the rows of all events, with the rows of the workers.
-fn places(
-    alloc: Global,
-    relation: &Relation,
-    best: &Best,
-    seat: &mut BestSeat,
-    rows_of_workers: Vec<WorkerRows>,
-) -> Result<Vec<Option<LabelRow>>, OutOfMemory>
-    requires seat { IsSeatFor best.now relation.now seat.old }
-    requires rows_of_workers { All (AreRowsFor best.now relation.now) rows_of_workers.items }
-    ensures seat { IsSeatFor best.now relation.now seat.new }
-    ensures kept { Keeps (lengths_of seat.old) (lengths_of seat.new) }
-    ensures slots { IfOk result (λ slots. AreSlots relation.now (lengths_of seat.new) slots.items) }
-{
-    let mut slots = empty_slots(alloc, relation)?;
-    store_rows(relation, best, seat, rows_of_workers, &mut slots);
-    Ok(slots)
-}
-
 /// The rows of all events of the relation that the jobs share.
 fn collected<R: Threads + Wait + Sync, G: Gate>(
     rt: &R,
@@ -130,7 +111,8 @@ fn collected<R: Threads + Wait + Sync, G: Gate>(
 {
     let table: &Relation = relation;
     let rows_of_workers = rows_by_workers(rt, alloc, table, jobs, best, seat, workers, gate)?;
-    let slots = places(alloc, table, best, seat, rows_of_workers)?;
+    let mut slots = empty_slots(alloc, table)?;
+    store_rows(table, best, seat, rows_of_workers, &mut slots);
     let rows = filled(alloc, relation, slots, best, seat, gate)?;
     Ok(cut_by(table, rows, best, seat))
 }

@@ -64,29 +64,7 @@ fn put_rows(rows: Vec<LabelRow>, slots: &mut Vec<Option<LabelRow>>)
     }
 }
 
-/// Stores the rows of a worker: the seat comes to know what the worker's knew.
-fn store_worker_rows(
-    relation: &Relation,
-    best: &Best,
-    seat: &mut BestSeat,
-    worker_rows: WorkerRows,
-    slots: &mut Vec<Option<LabelRow>>,
-)
-    requires seat { IsSeatFor best.now relation.now seat.old }
-    requires worker_rows { AreRowsFor best.now relation.now worker_rows }
-    requires slots { AreSlots relation.now (lengths_of seat.old) slots.old.items }
-    ensures seat { IsSeatFor best.now relation.now seat.new }
-    ensures kept { Keeps (lengths_of seat.old) (lengths_of seat.new) }
-    ensures slots { AreSlots relation.now (lengths_of seat.new) slots.new.items }
-{
-    let _ = best;
-    let _ = relation;
-    let WorkerRows { seat: other, rows } = worker_rows;
-    seat.absorb(other);
-    put_rows(rows, slots);
-}
-
-/// Stores the rows of all workers.
+/// Stores the rows of all workers: the seat comes to know what theirs knew.
 pub(crate) fn store_rows(
     relation: &Relation,
     best: &Best,
@@ -101,8 +79,12 @@ pub(crate) fn store_rows(
     ensures kept { Keeps (lengths_of seat.old) (lengths_of seat.new) }
     ensures slots { AreSlots relation.now (lengths_of seat.new) slots.new.items }
 {
+    let _ = best;
+    let _ = relation;
     for worker_rows in rows_of_workers {
-        store_worker_rows(relation, best, seat, worker_rows, slots);
+        let WorkerRows { seat: other, rows } = worker_rows;
+        seat.absorb(other);
+        put_rows(rows, slots);
     }
 }
 

@@ -18,34 +18,7 @@ const PART: usize = 8;
 /// This many jobs pay for one more thread.
 const PAYS: usize = 512;
 
-/// The jobs of a worker with a seat of its own: its share of the last ones; the others stay.
-fn jobs_of_worker(
-    relation: &Relation,
-    best: &Best,
-    seat: &mut BestSeat,
-    worker: usize,
-    share: usize,
-    jobs: &mut Vec<SourceJob>,
-) -> Result<WorkerJobs, OutOfMemory>
-    requires seat { IsSeatFor best.now relation.now seat.old }
-    requires jobs { All (λ job. job.relation ≡ relation.now) jobs.old.items }
-    ensures seat { IsSeatFor best.now relation.now seat.new }
-    ensures kept { lengths_of seat.new ≡ lengths_of seat.old }
-    ensures jobs { All (λ job. job.relation ≡ relation.now) jobs.new.items }
-    ensures worker_jobs { IfOk result (AreJobsFor best.now relation.now) }
-{
-    let _ = relation;
-    let _ = best;
-    let other = seat.split()?;
-    let mine = jobs.split_off(jobs.len() - share.min(jobs.len()))?;
-    Ok(WorkerJobs {
-        worker,
-        seat: other,
-        jobs: mine,
-    })
-}
-
-/// Adds the jobs of such a worker.
+/// Adds the jobs of a worker with a seat of its own: its share of the last ones; the others stay.
 fn add_worker(
     relation: &Relation,
     best: &Best,
@@ -63,8 +36,15 @@ fn add_worker(
     ensures jobs { All (λ job. job.relation ≡ relation.now) jobs.new.items }
     ensures jobs_of_workers { IfOk result (λ _. All (AreJobsFor best.now relation.now) jobs_of_workers.new.items) }
 {
-    let worker_jobs = jobs_of_worker(relation, best, seat, worker, share, jobs)?;
-    jobs_of_workers.push(worker_jobs)?;
+    let _ = relation;
+    let _ = best;
+    let other = seat.split()?;
+    let mine = jobs.split_off(jobs.len() - share.min(jobs.len()))?;
+    jobs_of_workers.push(WorkerJobs {
+        worker,
+        seat: other,
+        jobs: mine,
+    })?;
     Ok(())
 }
 

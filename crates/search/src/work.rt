@@ -68,31 +68,8 @@ fn work<G: Gate>(
     WorkerRows { seat, rows }
 }
 
-/// Starts a thread for a worker. One that is not started is done without.
+/// Starts a thread for a worker, and keeps it. One that is not started is done without.
 fn start<'s, E, G: Gate>(
-    scope: &Scope<'s, E>,
-    alloc: Global,
-    worker_jobs: WorkerJobs,
-    best: &'s Best,
-    relation: &'s Relation,
-    gate: &'s G,
-) -> Option<PromisedHandle<WorkerRows, RowsPromise>>
-    requires { AreJobsFor best.now relation.now worker_jobs }
-    ensures { IfSome result (λ h. h.promise.0.value ≡ worker_jobs) }
-{
-    let promise = RowsPromise(Snapshot::of(&worker_jobs));
-    let work_there = move || -> WorkerRows
-        requires { AreJobsFor best.now relation.now worker_jobs }
-        ensures { AreRowsOf worker_jobs result }
-    { work(alloc, worker_jobs, best, relation, gate) };
-    match scope.spawn_with(promise, work_there) {
-        Ok(child) => Some(child),
-        Err(_) => None,
-    }
-}
-
-/// Starts a thread for a worker, and keeps it.
-fn start_one<'s, E, G: Gate>(
     scope: &Scope<'s, E>,
     alloc: Global,
     worker_jobs: WorkerJobs,
@@ -105,7 +82,12 @@ fn start_one<'s, E, G: Gate>(
     requires started { All (IsStarted best.now relation.now) started.old.items }
     ensures { All (IsStarted best.now relation.now) started.new.items }
 {
-    let Some(child) = start(scope, alloc, worker_jobs, best, relation, gate) else {
+    let promise = RowsPromise(Snapshot::of(&worker_jobs));
+    let work_there = move || -> WorkerRows
+        requires { AreJobsFor best.now relation.now worker_jobs }
+        ensures { AreRowsOf worker_jobs result }
+    { work(alloc, worker_jobs, best, relation, gate) };
+    let Ok(child) = scope.spawn_with(promise, work_there) else {
         return;
     };
     let _kept = started.push(child);
@@ -127,7 +109,7 @@ fn start_all<'s, E, G: Gate>(
 {
     let mut started = started;
     for worker_jobs in jobs_of_workers {
-        start_one(
+        start(
             scope,
             alloc,
             worker_jobs,
@@ -138,19 +120,6 @@ fn start_all<'s, E, G: Gate>(
         );
     }
     started
-}
-
-/// Adds the rows of one started worker to those of others.
-fn join_one<R: Threads>(
-    rt: &R,
-    child: PromisedHandle<WorkerRows, RowsPromise>,
-    rows_of_workers: &mut Vec<WorkerRows>,
-)
-    ensures { (b : Best) (t : Table) → IsStarted b t child → All (AreRowsFor b t) rows_of_workers.old.items
-        → All (AreRowsFor b t) rows_of_workers.new.items }
-{
-    let worker_rows = child.join(rt);
-    let _kept = rows_of_workers.push(worker_rows);
 }
 
 /// Adds the rows of the started workers to those of others.
@@ -164,7 +133,8 @@ fn join_all<R: Threads>(
 {
     let mut rows_of_workers = rows_of_workers;
     for child in started {
-        join_one(rt, child, &mut rows_of_workers);
+        let worker_rows = child.join(rt);
+        let _kept = rows_of_workers.push(worker_rows);
     }
     rows_of_workers
 }
@@ -187,38 +157,7 @@ pub(crate) fn run_workers<R: Threads + Wait + Sync, G: Gate>(
     // All memory for what is collected is taken before the first thread starts.
     let started = Vec::with_capacity(alloc, jobs_of_workers.len())?;
     let rows_of_workers = Vec::with_capacity(alloc, jobs_of_workers.len() + 1)?;
-    Ok(run_workers_into(
-        rt,
-        alloc,
-        mine,
-        jobs_of_workers,
-        best,
-        relation,
-        gate,
-        started,
-        rows_of_workers,
-    ))
-}
-
-/// The rows of the workers, in lists that have room for them.
-fn run_workers_into<R: Threads + Wait + Sync, G: Gate>(
-    rt: &R,
-    alloc: Global,
-    mine: WorkerJobs,
-    jobs_of_workers: Vec<WorkerJobs>,
-    best: &Best,
-    relation: &Relation,
-    gate: &G,
-    started: Vec<PromisedHandle<WorkerRows, RowsPromise>>,
-    rows_of_workers: Vec<WorkerRows>,
-) -> Vec<WorkerRows>
-    requires mine { AreJobsFor best.now relation.now mine }
-    requires jobs_of_workers { All (AreJobsFor best.now relation.now) jobs_of_workers.items }
-    requires started { All (IsStarted best.now relation.now) started.items }
-    requires rows_of_workers { All (AreRowsFor best.now relation.now) rows_of_workers.items }
-    ensures { All (AreRowsFor best.now relation.now) result.items }
-{
-    thread::scope(
+    let rows_of_workers = thread::scope(
         thread::scope_env(),
         rt,
         |scope| -> Vec<WorkerRows>
@@ -229,27 +168,11 @@ fn run_workers_into<R: Threads + Wait + Sync, G: Gate>(
             ensures { All (AreRowsFor best.entry.now relation.entry.now) result.items }
         {
             let started = start_all(scope, alloc, jobs_of_workers, best, relation, gate, started);
-            let rows_of_workers = work_here(alloc, mine, best, relation, gate, rows_of_workers);
+            let mut rows_of_workers = rows_of_workers;
+            let worker_rows = work(alloc, mine, best, relation, gate);
+            let _kept = rows_of_workers.push(worker_rows);
             join_all(rt, started, rows_of_workers)
         },
-    )
-}
-
-/// Adds the rows of the worker that works here to those of others.
-fn work_here<G: Gate>(
-    alloc: Global,
-    mine: WorkerJobs,
-    best: &Best,
-    relation: &Relation,
-    gate: &G,
-    rows_of_workers: Vec<WorkerRows>,
-) -> Vec<WorkerRows>
-    requires mine { AreJobsFor best.now relation.now mine }
-    requires rows_of_workers { All (AreRowsFor best.now relation.now) rows_of_workers.items }
-    ensures { All (AreRowsFor best.now relation.now) result.items }
-{
-    let mut rows_of_workers = rows_of_workers;
-    let worker_rows = work(alloc, mine, best, relation, gate);
-    let _kept = rows_of_workers.push(worker_rows);
-    rows_of_workers
+    );
+    Ok(rows_of_workers)
 }

@@ -21,33 +21,34 @@ pub returns-in_err-rows_of_workers-clause-kept : goal.returns-in_err-rows_of_wor
 returns-in_err-rows_of_workers-clause-kept g c = λ k h. subst (λ (lengths : List ℕ). Contains lengths k)
     (sym c.rows_by_workers.ensures.kept) h
 
-pub places-requires-clause-seat : goal.places-requires-clause-seat
-places-requires-clause-seat g c = c.rows_by_workers.ensures.seat
-
-pub places-requires-clause-rows_of_workers : goal.places-requires-clause-rows_of_workers
-places-requires-clause-rows_of_workers g c = c.in_ok-rows_of_workers.ensures.rows_of_workers
-
 pub returns-in_err-slots-clause-seat : goal.returns-in_err-slots-clause-seat
-returns-in_err-slots-clause-seat g c = (c.places.ensures.seat.0, c.places.ensures.seat.1 ∙ c.deref-table.ensures)
+returns-in_err-slots-clause-seat g c =
+    (c.rows_by_workers.ensures.seat.0, c.rows_by_workers.ensures.seat.1 ∙ c.deref-table.ensures)
 
 pub returns-in_err-slots-clause-kept : goal.returns-in_err-slots-clause-kept
-returns-in_err-slots-clause-kept g c = λ k h. c.places.ensures.kept k
-    (subst (λ (lengths : List ℕ). Contains lengths k) (sym c.rows_by_workers.ensures.kept) h)
+returns-in_err-slots-clause-kept g c = λ k h. subst (λ (lengths : List ℕ). Contains lengths k)
+    (sym c.rows_by_workers.ensures.kept) h
+
+pub store_rows-requires-clause-rows_of_workers : goal.store_rows-requires-clause-rows_of_workers
+store_rows-requires-clause-rows_of_workers g c = c.in_ok-rows_of_workers.ensures.rows_of_workers
+
+pub store_rows-requires-clause-slots : goal.store_rows-requires-clause-slots
+store_rows-requires-clause-slots g c = c.in_ok-slots.ensures (lengths_of c.rows_by_workers.new.seat)
 
 pub filled-requires-clause-seat : goal.filled-requires-clause-seat
 filled-requires-clause-seat g c κs within =
-    (c.places.ensures.seat.0, c.places.ensures.seat.1 ∙ c.deref-table.ensures)
+    (c.store_rows.ensures.seat.0, c.store_rows.ensures.seat.1 ∙ c.deref-table.ensures)
 
 pub filled-requires-clause-slots : goal.filled-requires-clause-slots
 filled-requires-clause-slots g c κs within =
-    subst (λ (t : Table). AreSlots t (lengths_of c.places.new.seat) c.in_ok-slots.slots.items)
-    c.deref-table.ensures c.in_ok-slots.ensures.slots
+    subst (λ (t : Table). AreSlots t (lengths_of c.store_rows.new.seat) c.store_rows.new.slots.items)
+    c.deref-table.ensures c.store_rows.ensures.slots
 
 pub returns-in_err-rows-clause-seat : goal.returns-in_err-rows-clause-seat
 returns-in_err-rows-clause-seat g c = c.filled.ensures.seat
 
 pub returns-in_err-rows-clause-kept : goal.returns-in_err-rows-clause-kept
-returns-in_err-rows-clause-kept g c = λ k h. c.filled.ensures.kept k (c.places.ensures.kept k
+returns-in_err-rows-clause-kept g c = λ k h. c.filled.ensures.kept k (c.store_rows.ensures.kept k
     (subst (λ (lengths : List ℕ). Contains lengths k) (sym c.rows_by_workers.ensures.kept) h))
 
 pub cut_by-requires-clause-seat : goal.cut_by-requires-clause-seat
@@ -62,7 +63,7 @@ pub returns-clause-seat : goal.returns-clause-seat
 returns-clause-seat g c = (c.cut_by.ensures.seat.0, c.cut_by.ensures.seat.1 ∙ c.deref-table.ensures)
 
 pub returns-clause-kept : goal.returns-clause-kept
-returns-clause-kept g c = λ k h. c.cut_by.ensures.kept k (c.filled.ensures.kept k (c.places.ensures.kept k
+returns-clause-kept g c = λ k h. c.cut_by.ensures.kept k (c.filled.ensures.kept k (c.store_rows.ensures.kept k
     (subst (λ (lengths : List ℕ). Contains lengths k) (sym c.rows_by_workers.ensures.kept) h)))
 
 pub returns-clause-rows : goal.returns-clause-rows
