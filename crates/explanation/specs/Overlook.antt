@@ -17,11 +17,10 @@ store_line x l = indent x ++ (codes "before " ++ decimal l) ++ (codes " in progr
 
 -- the lines that say what was read instead: an older write, or the initial value
 abbrev pub instead_lines : Execution → List Name → List ℕ → Option ℕ → List ℕ
-instead_lines x names address None = indent x
-    ++ (codes "the initial value is older than each write of " ++ address) ++ 10 ∷ []
-instead_lines x names address (Some w) = indent x
-    ++ (codes "read it from " ++ decimal w ++ codes ", which is older in the write list of " ++ address)
-    ++ 10 ∷ [] ++ event_line x names w
+instead_lines x names address None = indent x ++ codes "the initial value is older than each write of "
+    ++ address ++ 10 ∷ []
+instead_lines x names address (Some w) = indent x ++ (codes "read it from " ++ decimal w)
+    ++ codes ", which is older in the write list of " ++ address ++ 10 ∷ [] ++ event_line x names w
 
 -- an overlook in words, and in those of diy
 abbrev pub overlook_text : Execution → List Name → ℕ → ℕ → List ℕ

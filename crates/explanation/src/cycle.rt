@@ -1,114 +1,106 @@
 //! A cycle in words.
 
-ghost use Rattle.std.specs.Prelude.{◌≡◌, ◌++◌, ℕ, List, OnOk, Some, codes, length};
-ghost use Rattle.relations.specs.Cycle.{IsCycle};
-ghost use Rattle.relations.specs.Forced.{Forced, IsReason};
-ghost use Rattle.event_texts.specs.Events.{written_text};
-ghost use Rattle.explanation.specs.Cycle.{reason_text, reason_line, cycle_heading, IsLink, AreLinks};
-ghost use Rattle.explanation.specs.Cycle.{SaysCycle};
+ghost use Rattle.std.specs.Prelude.{◌≡◌, ◌++◌, OnOk};
+ghost use Rattle.explanation.specs.Cycle.{cycle_heading};
 
 use crate::diy::put_diy;
+use crate::named::Named;
 use common::{Addr, EventId, OutOfMemory};
 use event_texts::{put_before, put_indent, put_line, put_written};
-use indexmap::IndexSet;
-use program::Name;
-use recording::Recording;
 use relations::{Places, Reason, next_in_cycle};
 use std::alloc::Global;
 use texts::{put_text, put_text_and_number};
 
-/// Adds some words and the name of the address that an event writes.
-fn put_words_and_written(
-    out: &mut Vec<u8>,
-    words: &[u8],
-    names: &IndexSet<Name>,
-    address: Option<Addr>,
-) -> Result<(), OutOfMemory>
-    ensures { OnOk result (out.new.items ≡ out.old.items
-        ++ (words.now ++ written_text names.now.keys address)) }
-{
-    put_text(out, words)?;
-    put_written(out, names, address)
-}
+impl<'a> Named<'a> {
+    ghost use Rattle.std.specs.Prelude.{◌≡◌, ◌++◌, ℕ, List, OnOk, Some, length};
+    ghost use Rattle.relations.specs.Cycle.{IsCycle};
+    ghost use Rattle.relations.specs.Forced.{Forced, IsReason};
+    ghost use Rattle.event_texts.specs.Events.{written_text};
+    ghost use Rattle.explanation.specs.Cycle.{reason_text, IsLink, AreLinks, SaysCycle};
 
-/// Adds why an event comes before another, which writes this address.
-fn put_reason(
-    out: &mut Vec<u8>,
-    names: &IndexSet<Name>,
-    reason: Reason,
-    address: Option<Addr>,
-) -> Result<(), OutOfMemory>
-    ensures { OnOk result (out.new.items ≡ out.old.items
-        ++ reason_text reason (written_text names.now.keys address)) }
-{
-    match reason {
-        Reason::Po => { put_text(out, b" in program order") }
-        Reason::Wo => put_words_and_written(out, b" in the write list of ", names, address),
-        Reason::Rf => { put_text(out, b", which read it") }
-        Reason::Fr => put_words_and_written(
-            out,
-            b", which wrote a newer value of ",
-            names,
-            address,
-        ),
+    /// Adds why an event comes before another, which writes this address.
+    fn put_reason(
+        &self,
+        out: &mut Vec<u8>,
+        reason: Reason,
+        address: Option<Addr>,
+    ) -> Result<(), OutOfMemory>
+        ensures { OnOk result (out.new.items ≡ out.old.items
+            ++ reason_text reason (written_text self.now.names.now.keys address)) }
+    {
+        match reason {
+            Reason::Po => { put_text(out, b" in program order") }
+            Reason::Wo => {
+                put_text(out, b" in the write list of ")?;
+                put_written(out, self.names, address)
+            }
+            Reason::Rf => { put_text(out, b", which read it") }
+            Reason::Fr => {
+                put_text(out, b", which wrote a newer value of ")?;
+                put_written(out, self.names, address)
+            }
+        }
     }
-}
 
-/// Adds the line that says why an event comes before another.
-#[tactic(auto, unfolding(crate::specs::Cycle::reason_line))]
-fn put_reason_line(
-    out: &mut Vec<u8>,
-    recording: &Recording,
-    names: &IndexSet<Name>,
-    second: EventId,
-    reason: Reason,
-) -> Result<(), OutOfMemory>
-    ensures { OnOk result (out.new.items ≡ out.old.items
-        ++ reason_line recording.now names.now.keys second reason) }
-{
-    put_indent(out, recording)?;
-    put_before(out, second)?;
-    put_reason(out, names, reason, recording.written_address(second))?;
-    put_text(out, b"\n")
-}
-
-/// Adds the lines of an event that comes before another for this reason.
-fn put_link(
-    out: &mut Vec<u8>,
-    recording: &Recording,
-    names: &IndexSet<Name>,
-    first: EventId,
-    second: EventId,
-    reason: Reason,
-) -> Result<(), OutOfMemory>
-    requires { IsReason recording.now first second (Some reason) }
-    ensures { OnOk result ((link : List ℕ) × IsLink recording.now names.now.keys first second link
-        × (out.new.items ≡ out.old.items ++ link)) }
-{
-    put_line(out, recording, names, first)?;
-    put_reason_line(out, recording, names, second, reason)
-}
-
-/// Adds the lines of each event of a cycle.
-fn put_links(
-    out: &mut Vec<u8>,
-    recording: &Recording,
-    places: &Places<'_>,
-    names: &IndexSet<Name>,
-    cycle: &[EventId],
-) -> Result<(), OutOfMemory>
-    requires places { places.now ≡ recording.now }
-    requires cycle { IsCycle (Forced recording.now) cycle.now }
-    ensures { OnOk result ((links : List ℕ)
-        × AreLinks recording.now names.now.keys cycle.now (length cycle.now) links
-        × (out.new.items ≡ out.old.items ++ links)) }
-{
-    for i in 0..cycle.len() {
-        let (first, second) = (cycle[i], next_in_cycle(cycle, i));
-        let reason = places.forced_reason(first, second);
-        put_link(out, recording, names, first, second, reason)?;
+    /// Adds the lines of an event that comes before another for this reason.
+    #[tactic(auto, unfolding(crate::specs::Cycle::reason_line))]
+    fn put_link(
+        &self,
+        out: &mut Vec<u8>,
+        first: EventId,
+        second: EventId,
+        reason: Reason,
+    ) -> Result<(), OutOfMemory>
+        requires { IsReason self.now.recording.now first second (Some reason) }
+        ensures { OnOk result ((link : List ℕ)
+            × IsLink self.now.recording.now self.now.names.now.keys first second link
+            × (out.new.items ≡ out.old.items ++ link)) }
+    {
+        put_line(out, self.recording, self.names, first)?;
+        put_indent(out, self.recording)?;
+        put_before(out, second)?;
+        self.put_reason(out, reason, self.recording.written_address(second))?;
+        put_text(out, b"\n")
     }
-    Ok(())
+
+    /// Adds the lines of each event of a cycle.
+    fn put_links(
+        &self,
+        out: &mut Vec<u8>,
+        places: &Places<'_>,
+        cycle: &[EventId],
+    ) -> Result<(), OutOfMemory>
+        requires places { places.now ≡ self.now.recording.now }
+        requires cycle { IsCycle (Forced self.now.recording.now) cycle.now }
+        ensures { OnOk result ((links : List ℕ)
+            × AreLinks self.now.recording.now self.now.names.now.keys cycle.now (length cycle.now) links
+            × (out.new.items ≡ out.old.items ++ links)) }
+    {
+        for i in 0..cycle.len() {
+            let (first, second) = (cycle[i], next_in_cycle(cycle, i));
+            let reason = places.forced_reason(first, second);
+            self.put_link(out, first, second, reason)?;
+        }
+        Ok(())
+    }
+
+    /// Adds a cycle in words.
+    pub(crate) fn put_cycle(
+        &self,
+        out: &mut Vec<u8>,
+        alloc: Global,
+        cycle: &[EventId],
+    ) -> Result<(), OutOfMemory>
+        requires { IsCycle (Forced self.now.recording.now) cycle.now }
+        ensures { OnOk result ((text : List ℕ)
+            × SaysCycle self.now.recording.now self.now.names.now.keys cycle.now text
+            × (out.new.items ≡ out.old.items ++ text)) }
+    {
+        put_heading(out, cycle.len())?;
+        let places = Places::of(alloc, self.recording)?;
+        self.put_links(out, &places, cycle)?;
+        put_diy(out, alloc, self.recording, &places, cycle)
+    }
 }
 
 /// Adds what is said first of a cycle of this many events.
@@ -121,22 +113,4 @@ fn put_heading(out: &mut Vec<u8>, count: usize) -> Result<(), OutOfMemory>
         count,
     )?;
     put_text(out, b" events would each come before the next.\n")
-}
-
-/// Adds a cycle in words.
-pub(crate) fn put_cycle(
-    out: &mut Vec<u8>,
-    alloc: Global,
-    recording: &Recording,
-    names: &IndexSet<Name>,
-    cycle: &[EventId],
-) -> Result<(), OutOfMemory>
-    requires { IsCycle (Forced recording.now) cycle.now }
-    ensures { OnOk result ((text : List ℕ) × SaysCycle recording.now names.now.keys cycle.now text
-        × (out.new.items ≡ out.old.items ++ text)) }
-{
-    put_heading(out, cycle.len())?;
-    let places = Places::of(alloc, recording)?;
-    put_links(out, recording, &places, names, cycle)?;
-    put_diy(out, alloc, recording, &places, cycle)
 }

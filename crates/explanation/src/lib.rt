@@ -4,6 +4,7 @@
 mod cycle;
 mod diy;
 mod memory_order;
+mod named;
 mod overlook;
 mod program_of;
 mod words;

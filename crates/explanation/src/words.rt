@@ -4,9 +4,7 @@ ghost use Rattle.std.specs.Prelude.{IfOk};
 ghost use Rattle.verdicts.specs.Judgement.{Verifies};
 ghost use Rattle.explanation.specs.Explanation.{IsExplanation};
 
-use crate::cycle::put_cycle;
-use crate::memory_order::put_order;
-use crate::overlook::put_overlook;
+use crate::named::Named;
 use common::OutOfMemory;
 use indexmap::IndexSet;
 use program::Name;
@@ -29,19 +27,12 @@ pub fn explanation_text(
     requires { Verifies recording.now verdict.now }
     ensures { IfOk result (λ text. IsExplanation recording.now names.now.keys verdict.now text.items) }
 {
+    let named = Named { recording, names };
     let mut out = Vec::new(alloc);
     match verdict {
-        Verdict::Ordered(order) => put_order(&mut out, recording, names, order)?,
-        Verdict::Overlook { load, store } => put_overlook(
-            &mut out, recording, names, *load, *store,
-        )?,
-        Verdict::Cycle(certificate) => put_cycle(
-            &mut out,
-            alloc,
-            recording,
-            names,
-            &certificate.cycle,
-        )?,
+        Verdict::Ordered(order) => named.put_order(&mut out, order)?,
+        Verdict::Overlook { load, store } => named.put_overlook(&mut out, *load, *store)?,
+        Verdict::Cycle(certificate) => named.put_cycle(&mut out, alloc, &certificate.cycle)?,
     }
     Ok(out)
 }

@@ -1,13 +1,13 @@
 use Rattle.std.proofs.Common.{◌≡◌, ◌++◌, ℕ, List, length, refl}
 use Rattle.explanation.specs.Cycle.{SaysCycle, cycle_heading}
 use Rattle.texts.specs.TextLaws.{on_ok, two}
-use Rattle.explanation.proofs.cycle.put_cycle.Goals as goal
+use Rattle.explanation.proofs.named.Named.put_cycle.Goals as goal
 
 pub returns : goal.returns
 returns c =
     let links = c.in_ok-put_links.ensures in
     let heading = cycle_heading (length c.args.cycle.now) in
-    on_ok _ _ ((text : List ℕ) × SaysCycle c.args.recording.now c.args.names.now.keys c.args.cycle.now text
+    on_ok _ _ ((text : List ℕ) × SaysCycle c.args.self.now.recording.now c.args.self.now.names.now.keys c.args.cycle.now text
     × (c.put_diy.new.out.items ≡ c.args.out.now.items ++ text)) (λ told. (
       heading ++ (links.0 ++ told.0),
       record { links = links.0; lines = links.1; line = told.0; steps = told.1; whole = refl },

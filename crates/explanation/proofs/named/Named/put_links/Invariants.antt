@@ -1,7 +1,7 @@
 use Rattle.std.proofs.Common.{◌≡◌, ◌++◌, ℕ, List}
 use Rattle.explanation.specs.Cycle.{AreLinks}
-use Rattle.explanation.proofs.cycle.put_links.Given as goal
+use Rattle.explanation.proofs.named.Named.put_links.Given as goal
 
 abbrev pub invariant-loop-i : goal.invariant-loop-i
-invariant-loop-i l = (links : List ℕ) × AreLinks l.recording l.names.keys l.cycle l.i links
+invariant-loop-i l = (links : List ℕ) × AreLinks l.self.recording.now l.self.names.now.keys l.cycle l.i links
     × (l.out.items ≡ l.fn.out.items ++ links)

@@ -3,14 +3,14 @@ use Rattle.std.proofs.lemmas.List.{append_assoc}
 use Rattle.recording.specs.Execution.{Execution}
 use Rattle.relations.specs.Forced.{Forced, IsReason}
 use Rattle.explanation.specs.Cycle.{IsLink, AreLinks}
-use Rattle.explanation.proofs.cycle.put_links.Goals as goal
+use Rattle.explanation.proofs.named.Named.put_links.Goals as goal
 
 pub forced_reason-reason-requires : goal.forced_reason-reason-requires
 forced_reason-reason-requires c =
     let i = c.loop-i.i in
     subst (λ (x : Execution). Forced x (get_or c.args.cycle.now i 0) c.next_in_cycle-second.result)
     (sym c.requires.places)
-    (c.next_in_cycle-second.ensures.forced c.args.recording.now c.requires.cycle)
+    (c.next_in_cycle-second.ensures.forced c.args.self.now.recording.now c.requires.cycle)
 
 pub put_link-requires : goal.put_link-requires
 put_link-requires c =
@@ -20,8 +20,8 @@ put_link-requires c =
 
 pub loop-i-preserved : goal.loop-i-preserved
 loop-i-preserved c =
-    let x = c.args.recording.now in
-    let names = c.args.names.now.keys in
+    let x = c.args.self.now.recording.now in
+    let names = c.args.self.now.names.now.keys in
     let cycle = c.args.cycle.now in
     let i = c.loop-i.i in
     let h = c.loop-i.invariant in

@@ -1,5 +1,0 @@
-use Rattle.texts.specs.TextLaws.{two_last}
-use Rattle.explanation.proofs.overlook.put_end.Goals as goal
-
-pub returns : goal.returns
-returns c = two_last _ _ _ _ _ _ c.in_ok-put_read_instead.ensures c.put_last_line.ensures
