@@ -62,66 +62,6 @@ fn put_read(
     put_source(out, source)
 }
 
-/// Adds what a load did.
-#[tactic(auto, unfolding(crate::specs::Events::event_text))]
-fn put_load(
-    out: &mut Vec<u8>,
-    names: &IndexSet<Name>,
-    read: (Addr, u32, Option<EventId>),
-) -> Result<(), OutOfMemory>
-    ensures { OnOk result (out.new.items ≡ out.old.items
-        ++ event_text names.now.keys (L read.0 read.1 read.2)) }
-{
-    put_text(out, b"ld ")?;
-    put_read(out, names, read)
-}
-
-/// Adds what a store did.
-#[tactic(auto, unfolding(crate::specs::Events::event_text))]
-fn put_store(
-    out: &mut Vec<u8>,
-    names: &IndexSet<Name>,
-    address: Addr,
-    value: u32,
-) -> Result<(), OutOfMemory>
-    ensures { OnOk result (out.new.items ≡ out.old.items ++ event_text names.now.keys (S address value)) }
-{
-    put_text(out, b"st ")?;
-    put_address(out, names, address)?;
-    put_text_and_number(out, b" ", value as usize)
-}
-
-/// Adds what a read-modify-write did.
-#[tactic(auto, unfolding(crate::specs::Events::event_text))]
-fn put_rmw(
-    out: &mut Vec<u8>,
-    names: &IndexSet<Name>,
-    read: (Addr, u32, Option<EventId>),
-    value: u32,
-) -> Result<(), OutOfMemory>
-    ensures { OnOk result (out.new.items ≡ out.old.items
-        ++ event_text names.now.keys (R read.0 read.1 read.2 value)) }
-{
-    put_text(out, b"rmw ")?;
-    put_read(out, names, read)?;
-    put_text_and_number(out, b", wrote ", value as usize)
-}
-
-/// Adds what a compare-and-swap did that failed.
-#[tactic(auto, unfolding(crate::specs::Events::event_text))]
-fn put_failed_cas(
-    out: &mut Vec<u8>,
-    names: &IndexSet<Name>,
-    read: (Addr, u32, Option<EventId>),
-) -> Result<(), OutOfMemory>
-    ensures { OnOk result (out.new.items ≡ out.old.items
-        ++ event_text names.now.keys (C read.0 read.1 read.2)) }
-{
-    put_text(out, b"cas ")?;
-    put_read(out, names, read)?;
-    put_text(out, b", wrote nothing")
-}
-
 /// Adds what an event did.
 #[tactic(auto, unfolding(crate::specs::Events::event_text))]
 pub fn put_event(
@@ -132,10 +72,25 @@ pub fn put_event(
     ensures { OnOk result (out.new.items ≡ out.old.items ++ event_text names.now.keys event.now) }
 {
     match event {
-        Event::L { a, r, s } => put_load(out, names, (*a, *r, *s)),
-        Event::S { a, w } => put_store(out, names, *a, *w),
-        Event::R { a, r, s, w } => put_rmw(out, names, (*a, *r, *s), *w),
-        Event::C { a, r, s } => put_failed_cas(out, names, (*a, *r, *s)),
+        Event::L { a, r, s } => {
+            put_text(out, b"ld ")?;
+            put_read(out, names, (*a, *r, *s))
+        }
+        Event::S { a, w } => {
+            put_text(out, b"st ")?;
+            put_address(out, names, *a)?;
+            put_text_and_number(out, b" ", *w as usize)
+        }
+        Event::R { a, r, s, w } => {
+            put_text(out, b"rmw ")?;
+            put_read(out, names, (*a, *r, *s))?;
+            put_text_and_number(out, b", wrote ", *w as usize)
+        }
+        Event::C { a, r, s } => {
+            put_text(out, b"cas ")?;
+            put_read(out, names, (*a, *r, *s))?;
+            put_text(out, b", wrote nothing")
+        }
         Event::F => { put_text(out, b"fence") }
     }
 }

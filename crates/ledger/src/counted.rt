@@ -45,15 +45,6 @@ fn put_cycle_counts(out: &mut Vec<u8>, counts: &[usize]) -> Result<(), OutOfMemo
     Ok(())
 }
 
-/// Adds what is printed of a place.
-fn put_place(out: &mut Vec<u8>, noun: &[u8], place: usize) -> Result<(), OutOfMemory>
-    ensures { OnOk result (out.new.items ≡ out.old.items ++ place_name noun.now (Some place)) }
-{
-    out.extend_from_slice(noun)?;
-    out.push(b' ')?;
-    put_number(out, place)
-}
-
 /// Adds what is printed of a place, or that there is none.
 fn put_place_or_none(
     out: &mut Vec<u8>,
@@ -66,7 +57,9 @@ fn put_place_or_none(
         out.extend_from_slice(b"none")?;
         return Ok(());
     };
-    put_place(out, noun, place)
+    out.extend_from_slice(noun)?;
+    out.push(b' ')?;
+    put_number(out, place)
 }
 
 /// Adds the line of the first of a kind.
