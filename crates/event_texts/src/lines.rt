@@ -37,24 +37,6 @@ pub fn event_of(recording: &Recording, number: EventId) -> (CoreId, Event)
     }
 }
 
-/// Adds the number of an event and its core.
-fn put_place(
-    out: &mut Vec<u8>,
-    recording: &Recording,
-    number: EventId,
-    core: CoreId,
-) -> Result<(), OutOfMemory>
-    ensures { OnOk result (out.new.items ≡ out.old.items ++ (codes "  "
-        ++ aligned (event_width recording.now) number ++ codes "  core "
-        ++ aligned (core_width recording.now) core ++ codes "  ")) }
-{
-    put_text(out, b"  ")?;
-    put_aligned(out, event_width(recording), number as usize)?;
-    put_text(out, b"  core ")?;
-    put_aligned(out, core_width(recording), core as usize)?;
-    put_text(out, b"  ")
-}
-
 /// Adds the line of an event.
 #[tactic(auto, unfolding(crate::specs::Events::event_line))]
 pub fn put_line(
@@ -66,7 +48,11 @@ pub fn put_line(
     ensures { OnOk result (out.new.items ≡ out.old.items ++ event_line recording.now names.now.keys number) }
 {
     let (core, event) = event_of(recording, number);
-    put_place(out, recording, number, core)?;
+    put_text(out, b"  ")?;
+    put_aligned(out, event_width(recording), number as usize)?;
+    put_text(out, b"  core ")?;
+    put_aligned(out, core_width(recording), core as usize)?;
+    put_text(out, b"  ")?;
     put_event(out, names, &event)?;
     put_text(out, b"\n")
 }
