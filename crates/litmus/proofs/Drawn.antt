@@ -21,8 +21,9 @@ use Rattle.litmus.specs.Random.{IsDrawn, drawn_op, with_fence, with_access, with
 use Rattle.program.specs.AddressNameLaws.{name_is}
 use Rattle.program.specs.NameLaws.{name_again}
 use Rattle.program.specs.NameLaws.{name_laws}
-use Rattle.program.specs.NameListLaws.{one_name, all_push}
-use Rattle.program.specs.CoreLaws.{count-append, grown, last_core, use_cores-push, with_op-is, Cores}
+use Rattle.program.specs.NameListLaws.{all_push}
+use Rattle.program.proofs.OneName.{one_name}
+use Rattle.program.proofs.CoreLaws.{count-append, grown, last_core, use_cores-push, with_op-is, Cores}
 
 -- ---- the addresses that are drawn
 

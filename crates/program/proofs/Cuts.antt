@@ -12,7 +12,8 @@ use Rattle.program.specs.Parts.{use_addr}
 use Rattle.program.specs.Steps.{names_with, name_number}
 use Rattle.program.specs.Spelling.{name_at}
 use Rattle.program.specs.TestLaws.{cases_of}
-use Rattle.program.specs.NameListLaws.{name_at_place, not_before, is_new}
+use Rattle.program.specs.NameListLaws.{name_at_place, not_before}
+use Rattle.program.proofs.OneName.{is_new}
 
 -- the names of a program, cut where one more was used
 pub record Cut (all : List Name) (front : List Name) (n : ℕ) (name : Name) (a : ℕ) : Type 0 where

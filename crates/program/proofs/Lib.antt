@@ -1,6 +1,9 @@
 pub mod Values
 pub mod OnLists
 pub mod ManyNames
+pub mod CoreLaws
+pub mod DraftLaws
+pub mod OneName
 pub mod OneLine
 pub mod OneStep
 pub mod OneDraft

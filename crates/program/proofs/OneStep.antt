@@ -20,9 +20,10 @@ use Rattle.program.specs.Parts.{Small, Body, IsBody, op_count, addr_of, use_addr
 use Rattle.program.specs.Steps.{names_with, name_number, with_op, write_op, op_fault, unless, core_step}
 use Rattle.program.specs.Steps.{at_name, fence_step, load_step, write_step, compare_step}
 use Rattle.program.specs.Spelling.{body_text, core_text, op_text, line_text, name_at}
-use Rattle.program.specs.NameListLaws.{one_name, all_push}
+use Rattle.program.specs.NameListLaws.{all_push}
+use Rattle.program.proofs.OneName.{one_name}
 use Rattle.program.specs.TestLaws.{same_ok}
-use Rattle.program.specs.CoreLaws.{Grown, grown, count-append, use_cores-push}
+use Rattle.program.proofs.CoreLaws.{Grown, grown, count-append, use_cores-push}
 
 -- a line that was read
 abbrev pub done : Body → Result Body LineRefusal

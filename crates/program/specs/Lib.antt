@@ -13,8 +13,6 @@ pub mod ReadingLaws
 pub mod Text
 pub mod Spelling
 pub mod NameListLaws
-pub mod CoreLaws
-pub mod DraftLaws
 pub mod AddressNames
 pub mod AddressNameLaws
 pub mod Shapes
