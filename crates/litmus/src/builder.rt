@@ -3,7 +3,7 @@
 ghost use Rattle.std.specs.Prelude.{◌≡◌};
 ghost use Rattle.program.specs.Steps.{write_op};
 
-use common::{Addr, MAX_ADDRESSES, MAX_CORES, MAX_EVENTS};
+use common::{Addr, MAX_ADDRESSES, MAX_CORES, MAX_EVENTS, OutOfMemory};
 use indexmap::IndexSet;
 use program::{LineRefusal, LitmusError, Name, Number, Op, Ops, WriteKind, are_below};
 use std::alloc::Global;
@@ -27,6 +27,7 @@ impl Builder {
     ghost use Rattle.program.specs.Reading.{AnswersLine, seen_as};
     ghost use Rattle.program.specs.declared.line.WriteKind.{WriteKind};
     ghost use Rattle.litmus.specs.Built.{state};
+    ghost use Rattle.litmus.specs.Random.{with_core};
 
     pub fn new(alloc: Global) -> Builder
         ensures { state result ≡ empty }
@@ -63,13 +64,22 @@ impl Builder {
         None
     }
 
-    fn push(&mut self, op: Op) -> Result<(), LitmusError>
+    /// Adds a core without operations. Fails only if out of memory.
+    pub fn add_core(&mut self, alloc: Global) -> Result<(), OutOfMemory>
+        ensures { OnOk result (state self.new ≡ with_core (state self.old)) }
+    {
+        self.cores.push(Ops::new(alloc))?;
+        Ok(())
+    }
+
+    /// Adds an operation on the last core. Fails only if out of memory.
+    pub fn add(&mut self, op: Op) -> Result<(), OutOfMemory>
         requires { 0 < length self.old.cores.items }
         ensures ok { OnOk result (self.new.cores.items ≡ with_op self.old.cores.items op) }
-        ensures err { IfErr result (λ e. e ≡ OutOfMemory) }
         ensures names { self.new.names ≡ self.old.names }
     {
-        self.add(op)?;
+        let last = self.cores.len() - 1;
+        self.cores[last].push(op)?;
         Ok(())
     }
 
@@ -82,7 +92,8 @@ impl Builder {
         if let Some(fault) = self.op_fault() {
             return Err(LitmusError::AtLine(fault, number));
         }
-        self.push(Op::Fence)
+        self.add(Op::Fence)?;
+        Ok(())
     }
 
     /// The address of a name, where an operation with it may come; else the line's fault.
@@ -113,7 +124,8 @@ impl Builder {
             (load_step (state self.old) name) }
     {
         let addr = self.address_of(name, number)?;
-        self.push(Op::Ld(addr))
+        self.add(Op::Ld(addr))?;
+        Ok(())
     }
 
     /// A line `st`, `swap` or `add`. The addresses are tested before the value.
@@ -131,9 +143,10 @@ impl Builder {
     {
         let addr = self.address_of(name, number)?;
         match value {
-            Number::Value(value) => self.push(write_op(write, addr, value)),
-            Number::TooLarge => Err(LitmusError::AtLine(LineRefusal::L5, number)),
+            Number::Value(value) => self.add(write_op(write, addr, value))?,
+            Number::TooLarge => return Err(LitmusError::AtLine(LineRefusal::L5, number)),
         }
+        Ok(())
     }
 
     /// A line `cas`. The addresses are tested before the values.
@@ -152,10 +165,11 @@ impl Builder {
         let addr = self.address_of(name, number)?;
         match (expected, value) {
             (Number::Value(expected), Number::Value(value)) => {
-                self.push(Op::Cas(addr, expected, value))
+                self.add(Op::Cas(addr, expected, value))?
             }
-            _ => Err(LitmusError::AtLine(LineRefusal::L5, number)),
+            _ => return Err(LitmusError::AtLine(LineRefusal::L5, number)),
         }
+        Ok(())
     }
 }
 

@@ -2,7 +2,6 @@
 #![tactic(auto)]
 
 mod builder;
-mod growing;
 mod line;
 mod random;
 mod reader;
