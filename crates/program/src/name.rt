@@ -5,7 +5,6 @@ ghost use Rattle.program.specs.Spelling.{name_at};
 ghost use Rattle.program.specs.Names.{is_letter_or_digit, is_name, is_zero, name_of, name_text};
 ghost use Rattle.std.specs.List.{list_all, position_or_len};
 
-use common::OutOfMemory;
 use indexmap::IndexSet;
 
 /// The name of an address: one letter `a` to `z`, then at most 7 of `a` to `z` and `0` to `9`.
@@ -66,13 +65,6 @@ pub fn name_at(names: &IndexSet<Name>, number: usize) -> Name
         Some(name) => *name,
         None => Name::none(),
     }
-}
-
-/// The same names, in the same order.
-pub(crate) fn copy_names(names: &IndexSet<Name>) -> Result<IndexSet<Name>, OutOfMemory>
-    ensures { IfOk result (λ copy. copy.keys ≡ names.now.keys) }
-{
-    Ok(names.clone()?)
 }
 
 /// Whether some text is this name.

@@ -1,7 +1,7 @@
 //! Litmus programs.
 
 use crate::lawful::is_program;
-use crate::name::{Name, copy_names};
+use crate::name::Name;
 use crate::op::{Op, Ops, copies_of};
 use crate::same::{are_same_cores, are_same_names, are_same_values};
 use common::{CoreId, MAX_ADDRESSES, MAX_CORES, MAX_EVENTS, OutOfMemory};
@@ -79,7 +79,7 @@ impl Program {
     pub fn copy(&self, alloc: Global) -> Result<Program, OutOfMemory>
         ensures { IfOk result (λ p. p ≡ self.now) }
     {
-        let names = copy_names(&self.names)?;
+        let names = self.names.clone()?;
         let cores = copies_of(alloc, &self.cores)?;
         let init = Vec::from_slice(alloc, &self.init)?;
         Ok(Program { names, cores, init })
