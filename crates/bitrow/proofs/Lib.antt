@@ -5,3 +5,4 @@ pub mod Lowest
 pub mod Members
 pub mod Rests
 pub mod Unions
+pub mod RowLemmas

@@ -5,7 +5,7 @@ use Rattle.std.proofs.lemmas.Bool.{cases_Bool, cases_eq, cases_lt, or_cases, or_
 use Rattle.std.specs.Int.{trailing_zeros}
 use Rattle.bitrow.specs.Bits.{is_in, bits_of, IsNext}
 use Rattle.bitrow.specs.Rows.{Marked, IsBitSquare, IsBelow, GetsLabel, IsUnion}
-use Rattle.bitrow.specs.RowLaws.{marked_within}
+use Rattle.bitrow.proofs.RowLemmas.{marked_within}
 use Rattle.bitrow.specs.Walks.{IsRest}
 use Rattle.bitrow.proofs.Members.{bits_bit}
 use Rattle.bitrow.proofs.Rests.{rest_next}

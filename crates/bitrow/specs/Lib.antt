@@ -1,4 +1,3 @@
 pub mod Bits
-pub mod RowLaws
 pub mod Rows
 pub mod Walks

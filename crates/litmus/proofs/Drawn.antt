@@ -23,7 +23,7 @@ use Rattle.program.specs.NameLaws.{name_again}
 use Rattle.program.specs.NameLaws.{name_laws}
 use Rattle.program.specs.NameListLaws.{all_push}
 use Rattle.program.proofs.OneName.{one_name}
-use Rattle.program.proofs.CoreLaws.{count-append, grown, last_core, use_cores-push, with_op-is, Cores}
+use Rattle.program.proofs.CoreLemmas.{count-append, grown, last_core, use_cores-push, with_op-is, Cores}
 
 -- ---- the addresses that are drawn
 

@@ -6,7 +6,7 @@ use Rattle.std.proofs.lemmas.List.{take_more}
 use Rattle.program.specs.declared.name.Name.{Name}
 use Rattle.program.specs.Drafts.{filled}
 use Rattle.program.specs.Spelling.{init_text, value_text}
-use Rattle.program.proofs.DraftLaws.{init_append}
+use Rattle.program.proofs.DraftLemmas.{init_append}
 
 -- values that are filled up to some count are no more
 pub few_filled : (a : ℕ) (init : List ℕ) → length (filled a init) ≡ a → length init ≤ a

@@ -16,7 +16,7 @@ use Rattle.program.specs.Reading.{Reading, read_from}
 use Rattle.program.specs.Text.{drafting, finished, reading}
 use Rattle.program.specs.Spelling.{spelling, init_text, name_at}
 use Rattle.program.specs.NameListLaws.{name_at_place}
-use Rattle.program.proofs.DraftLaws.{filled_more, filled_whole}
+use Rattle.program.proofs.DraftLemmas.{filled_more, filled_whole}
 use Rattle.program.proofs.CoresAgain.{AreNames, all_of_it, cores_read}
 use Rattle.program.proofs.OneText.{said_again}
 

@@ -26,7 +26,7 @@ use Rattle.program.specs.Reading.{read_from}
 use Rattle.program.specs.Spelling.{core_text, op_text, op_line, name_at}
 use Rattle.program.specs.TestLaws.{bind_some}
 use Rattle.program.proofs.OneLine.{IsNamed, Fits}
-use Rattle.program.proofs.CoreLaws.{Cores, with_op-is, count-append, ops_grow, cores_grow, use_below}
+use Rattle.program.proofs.CoreLemmas.{Cores, with_op-is, count-append, ops_grow, cores_grow, use_below}
 use Rattle.program.proofs.Cuts.{cut_at, used_so}
 use Rattle.program.proofs.OneText.{said_again}
 

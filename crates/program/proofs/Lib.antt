@@ -1,8 +1,8 @@
 pub mod Values
 pub mod OnLists
 pub mod ManyNames
-pub mod CoreLaws
-pub mod DraftLaws
+pub mod CoreLemmas
+pub mod DraftLemmas
 pub mod OneName
 pub mod OneLine
 pub mod OneStep

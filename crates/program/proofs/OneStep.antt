@@ -23,7 +23,7 @@ use Rattle.program.specs.Spelling.{body_text, core_text, op_text, line_text, nam
 use Rattle.program.specs.NameListLaws.{all_push}
 use Rattle.program.proofs.OneName.{one_name}
 use Rattle.program.specs.TestLaws.{same_ok}
-use Rattle.program.proofs.CoreLaws.{Grown, grown, count-append, use_cores-push}
+use Rattle.program.proofs.CoreLemmas.{Grown, grown, count-append, use_cores-push}
 
 -- a line that was read
 abbrev pub done : Body → Result Body LineRefusal

@@ -15,7 +15,7 @@ use Rattle.program.specs.Spelling.{spelling, line_text}
 use Rattle.program.specs.TestLaws.{cases_of, same_ok, no_ok}
 use Rattle.program.proofs.OneLine.{IsNamed, Fits, line_again, line_plain}
 use Rattle.program.specs.ReadingLaws.{one_line}
-use Rattle.program.proofs.DraftLaws.{program_is}
+use Rattle.program.proofs.DraftLemmas.{program_is}
 use Rattle.program.proofs.OneDraft.{draft_text, program_text, step_keeps}
 
 -- ---- what is read is the text of its program

@@ -6,7 +6,7 @@ use Rattle.program.specs.declared.op.Op.{Op}
 use Rattle.program.specs.declared.op.Op.TheVariants.{St, Ld, Fence, Swap, Add, Cas}
 use Rattle.program.specs.Parts.{IsWithin, addr_of, use_addr, use_ops, use_cores}
 use Rattle.program.specs.TestLaws.{bind_some}
-use Rattle.program.proofs.CoreLaws.{use_below, ops_grow, cores_grow}
+use Rattle.program.proofs.CoreLemmas.{use_below, ops_grow, cores_grow}
 
 -- an address that was used is below the number after it
 op_within : (op : Op) (m j k : ℕ) → use_addr m (addr_of op) ≡ Some j → j ≤ k → IsWithin k op

@@ -12,7 +12,7 @@ use common::{MAX_ADDRESSES, MAX_CORES, MAX_EVENTS};
 use indexmap::IndexSet;
 
 /// Whether the cores have fewer operations than `limit`.
-#[tactic(auto, using(crate::proofs::CoreLaws::count_more))]
+#[tactic(auto, using(crate::proofs::CoreLemmas::count_more))]
 pub fn are_below(cores: &[Ops], limit: usize) -> bool
     ensures { result ≡ nat_lt (op_count cores.now) limit }
 {

@@ -2,7 +2,7 @@ use Rattle.std.proofs.Common.{rules, ◌*◌, length, arith, refl, sym, ◌∙�
 use Rattle.std.proofs.lemmas.Bool.{true≢false}
 use Rattle.bitrow.specs.Bits.{bits_of}
 use Rattle.bitrow.specs.Rows.{Marked}
-use Rattle.bitrow.specs.RowLaws.{wide_enough}
+use Rattle.bitrow.proofs.RowLemmas.{wide_enough}
 use Rattle.bitrow.proofs.Unions.{labels_on, joins_on}
 use Rattle.bitrow.proofs.rows.union_rows.Goals as goal
 

@@ -6,7 +6,7 @@ use Rattle.rand_xoshiro.specs.Xoshiro256.{plus_plus}
 use Rattle.litmus.specs.Built.{state}
 use Rattle.program.specs.Parts.{Body, Parts, IsProgram, op_count}
 use Rattle.program.specs.Steps.{empty}
-use Rattle.program.proofs.DraftLaws.{program_is}
+use Rattle.program.proofs.DraftLemmas.{program_is}
 use Rattle.program.specs.Drafts.{Draft, plain, drafted_program}
 use Rattle.litmus.specs.Random.{IsDrawn, after_words, with_core, with_cores, with_words}
 use Rattle.litmus.proofs.Drawn.{keeps_empty}

@@ -1,7 +1,7 @@
 use Rattle.std.proofs.Common.{rules, ◌+◌, inl, inr, IsTrue, length, refl, arith, sym, ◌∙◌}
 use Rattle.std.proofs.lemmas.Bool.{eq-eqb, ne_eqb}
 use Rattle.bitrow.specs.Bits.{bits_of}
-use Rattle.bitrow.specs.RowLaws.{marked_within, wide_enough}
+use Rattle.bitrow.proofs.RowLemmas.{marked_within, wide_enough}
 use Rattle.bitrow.specs.Rows.{Marked}
 use Rattle.search.proofs.Marks.{one_alone}
 use Rattle.search.proofs.Levels.{reached_none, reached_more, closes_more, reached_exact, closed_nearest}

@@ -1,5 +1,5 @@
 use Rattle.std.proofs.Common.{◌≡◌, arith, length}
-use Rattle.bitrow.specs.RowLaws.{wide_enough}
+use Rattle.bitrow.proofs.RowLemmas.{wide_enough}
 use Rattle.bitrow.proofs.Members.{row_set, row_length}
 use Rattle.bitrow.proofs.row.BitRow.set.Goals as goal
 

@@ -1,6 +1,6 @@
 use Rattle.std.proofs.Common.{◌≡◌, ℕ, List, length, arith, sym, ap, ◌∙◌}
 use Rattle.bitrow.specs.Bits.{bit_of}
-use Rattle.bitrow.specs.RowLaws.{wide_enough}
+use Rattle.bitrow.proofs.RowLemmas.{wide_enough}
 use Rattle.bitrow.proofs.Members.{row_bit, row_length}
 use Rattle.bitrow.proofs.row.BitRow.test.Goals as goal
 

@@ -1,4 +1,4 @@
--- Laws of cores and their operations, and of one operation more.
+-- Lemmas on cores and their operations, and of one operation more.
 use Rattle.std.proofs.Common.{◌≡◌, ℕ, ◌+◌, ◌-◌, ◌<◌, ◌≤◌, List, [], ◌∷◌, ◌++◌, length, Option, Some, None}
 use Rattle.std.proofs.Common.{refl, arith, sym, ap, ◌∙◌, subst, codes, drop, get_or}
 use Rattle.std.specs.Prelude.{option_and_then}

@@ -1,4 +1,4 @@
--- Laws of drafts: initial values that are filled up with 0, and their text.
+-- Lemmas on drafts: initial values that are filled up with 0, and their text.
 use Rattle.std.proofs.Common.{◌≡◌, ℕ, zero, suc, ◌+◌, ◌-◌, ◌≤◌, List, [], ◌∷◌, ◌++◌, length}
 use Rattle.std.proofs.Common.{replicate, refl, arith, sym, ◌∙◌}
 use Rattle.std.specs.List.{AllByRecursion}
