@@ -41,7 +41,7 @@ impl Best {
         ensures alone { IsAlone seat.old → IsAlone seat.new }
     {
         relation.sound();
-        seat.lower(cycle.len() as u64);
+        self.lower_to_length(seat, cycle.len() as u16);
     }
 
     /// The bound is at most this length of some cycle of the seat's relation from now on, and the seat knows it.
@@ -53,7 +53,9 @@ impl Best {
         ensures relation { (known_of seat.new).relation ≡ (known_of seat.old).relation }
         ensures alone { IsAlone seat.old → IsAlone seat.new }
     {
-        seat.lower(size as u64);
+        seat.table
+            .shared
+            .fetch_min::<Lowers>(&mut seat.seat, 0, size as u64);
     }
 
     /// None, only where the seat knows no length; or the length of a cycle, at most each that the
@@ -76,18 +78,6 @@ impl Best {
 }
 
 impl BestSeat {
-    fn lower(&mut self, size: u64)
-        requires size { IsLength (known_of self.old).relation size }
-        requires small { size < 65536 }
-        ensures same { self.new.seat.table_id ≡ self.old.seat.table_id }
-        ensures new { known_of self.new ≡ knows (known_of self.old) size }
-        ensures alone { IsAlone self.old → IsAlone self.new }
-    {
-        self.table
-            .shared
-            .fetch_min::<Lowers>(&mut self.seat, 0, size);
-    }
-
     fn load(&mut self) -> u64
         ensures same { self.new.seat.table_id ≡ self.old.seat.table_id }
         ensures loads { LoadsView self.old.seat.me.0 result self.new.seat.me.0 }
@@ -110,13 +100,9 @@ impl BestSeat {
         requires { AreBeside self other }
         ensures { AreBeside self result × Unites (known_of self) (known_of other) (known_of result) }
     {
-        let BestSeat { table, mut seat } = self;
-        let BestSeat {
-            table: _,
-            seat: second,
-        } = other;
-        table.shared.join_seat::<SeatRule>(&mut seat, second);
-        BestSeat { table, seat }
+        let mut one = self;
+        one.absorb(other);
+        one
     }
 
     /// Takes in another seat of the same bound, and knows what either knew.
