@@ -26,9 +26,3 @@ abbrev pub IsCutAt : Option ℕ → List ℕ → List ℕ → Type 0
 IsCutAt None before after = after ≡ before
 IsCutAt (Some k) before after = (length after ≡ length before)
     × ((e : ℕ) → slice_index after e ≡ min (slice_index before e) k)
-
--- a row of each event, under any caps
-pub record AreOfEach (t : Table) (rows : List SourceRow) : Type 0 where
-  pub size : length rows ≡ length t
-  pub shares : (v : ℕ) (d : SourceRow) → v < length t → (slice_index_or rows v d).relation ≡ t
-  pub from : (v : ℕ) (d : SourceRow) → v < length t → (slice_index_or rows v d).source ≡ v

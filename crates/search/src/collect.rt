@@ -9,11 +9,11 @@ ghost use Rattle.search.specs.Cycles.{IsLeastLength};
 ghost use Rattle.search.specs.SourceRow.{AreShared, AreLeastRows};
 ghost use Rattle.search.specs.Bound.{IsSeatFor, Keeps, KnowsShortest, lengths_of};
 ghost use Rattle.search.specs.WorkerJobs.{AreRowsFor};
-ghost use Rattle.search.specs.Slots.{AreSlots, AreSlotsFilled, AreOfEach};
+ghost use Rattle.search.specs.Slots.{AreSlots, AreSlotsFilled};
 
 use crate::job::SourceJob;
 use crate::label_row::LabelRow;
-use crate::slots::{empty_slots, filled, store_rows};
+use crate::slots::{empty_slots, filled, put_rows};
 use crate::splitting::split_jobs;
 use crate::work::run_workers;
 use crate::worker_jobs::{WorkerJobs, WorkerRows};
@@ -23,19 +23,6 @@ use relations::Relation;
 use std::alloc::Global;
 use std::sync::{Arc, Wait};
 use std::thread::Threads;
-
-/// Cuts the rows of all events at the length of the shortest cycles, if there is one.
-fn cut_all(relation: &Relation, rows: &mut [LabelRow], cap: Option<u16>)
-    requires least { IsLeastLength (Related relation.now) cap }
-    requires rows { AreOfEach relation.now rows.old }
-    ensures { AreLeastRows relation.now cap rows.new }
-{
-    let _ = relation;
-    for row in rows.iter_mut() {
-        row.cut_to(cap);
-        row.sound();
-    }
-}
 
 /// Cuts the rows of all events at what the bound has in the end.
 pub(crate) fn cut_by(
@@ -54,7 +41,10 @@ pub(crate) fn cut_by(
     relation.sound();
     let mut rows = rows;
     let cap = best.read(seat);
-    cut_all(relation, rows.as_mut_slice(), cap);
+    for row in rows.iter_mut() {
+        row.cut_to(cap);
+        row.sound();
+    }
     rows
 }
 
@@ -78,7 +68,7 @@ fn rows_by_workers<R: Threads + Wait + Sync, G: Gate>(
         (λ rows_of_workers. All (AreRowsFor best.now relation.now) rows_of_workers.items) }
 {
     let mut jobs = jobs;
-    let jobs_of_workers = split_jobs(alloc, relation, best, seat, workers, &mut jobs)?;
+    let jobs_of_workers = split_jobs(alloc, seat, workers, &mut jobs)?;
     let other = seat.split()?;
     let mine = WorkerJobs {
         worker: 0,
@@ -112,7 +102,11 @@ fn collected<R: Threads + Wait + Sync, G: Gate>(
     let table: &Relation = relation;
     let rows_of_workers = rows_by_workers(rt, alloc, table, jobs, best, seat, workers, gate)?;
     let mut slots = empty_slots(alloc, table)?;
-    store_rows(table, best, seat, rows_of_workers, &mut slots);
+    for worker_rows in rows_of_workers {
+        let WorkerRows { seat: other, rows } = worker_rows;
+        seat.absorb(other);
+        put_rows(rows, &mut slots);
+    }
     let rows = filled(alloc, relation, slots, best, seat, gate)?;
     Ok(cut_by(table, rows, best, seat))
 }

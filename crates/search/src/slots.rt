@@ -55,36 +55,12 @@ fn take_row(source: usize, slots: &mut Vec<Option<LabelRow>>) -> Option<LabelRow
 }
 
 /// Puts rows into their sources' places.
-fn put_rows(rows: Vec<LabelRow>, slots: &mut Vec<Option<LabelRow>>)
+pub(crate) fn put_rows(rows: Vec<LabelRow>, slots: &mut Vec<Option<LabelRow>>)
     ensures { (t : Table) (lengths : List ℕ) → All (IsRowFor t lengths) rows.items
         → AreSlots t lengths slots.old.items → AreSlots t lengths slots.new.items }
 {
     for row in rows {
         put_row(row, slots);
-    }
-}
-
-/// Stores the rows of all workers: the seat comes to know what theirs knew.
-pub(crate) fn store_rows(
-    relation: &Relation,
-    best: &Best,
-    seat: &mut BestSeat,
-    rows_of_workers: Vec<WorkerRows>,
-    slots: &mut Vec<Option<LabelRow>>,
-)
-    requires seat { IsSeatFor best.now relation.now seat.old }
-    requires rows_of_workers { All (AreRowsFor best.now relation.now) rows_of_workers.items }
-    requires slots { AreSlots relation.now (lengths_of seat.old) slots.old.items }
-    ensures seat { IsSeatFor best.now relation.now seat.new }
-    ensures kept { Keeps (lengths_of seat.old) (lengths_of seat.new) }
-    ensures slots { AreSlots relation.now (lengths_of seat.new) slots.new.items }
-{
-    let _ = best;
-    let _ = relation;
-    for worker_rows in rows_of_workers {
-        let WorkerRows { seat: other, rows } = worker_rows;
-        seat.absorb(other);
-        put_rows(rows, slots);
     }
 }
 

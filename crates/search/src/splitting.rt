@@ -1,14 +1,15 @@
 //! Jobs split among workers.
 
 ghost use Rattle.std.specs.Prelude.{◌≡◌, ◌≤◌, All, IfOk};
+ghost use Rattle.relations.specs.Relation.{Table};
+ghost use Rattle.best.specs.declared.seat.Best.{Best};
 ghost use Rattle.search.specs.Bound.{IsSeatFor, lengths_of};
 ghost use Rattle.search.specs.WorkerJobs.{AreJobsFor};
 
 use crate::job::SourceJob;
 use crate::worker_jobs::WorkerJobs;
-use best::{Best, BestSeat};
+use best::BestSeat;
 use common::OutOfMemory;
-use relations::Relation;
 use std::alloc::Global;
 
 /// A worker beside the first gets at most one job in this many: a thread that shares few jobs evenly is
@@ -20,24 +21,18 @@ const PAYS: usize = 512;
 
 /// Adds the jobs of a worker with a seat of its own: its share of the last ones; the others stay.
 fn add_worker(
-    relation: &Relation,
-    best: &Best,
     seat: &mut BestSeat,
     worker: usize,
     share: usize,
     jobs: &mut Vec<SourceJob>,
     jobs_of_workers: &mut Vec<WorkerJobs>,
 ) -> Result<(), OutOfMemory>
-    requires seat { IsSeatFor best.now relation.now seat.old }
-    requires jobs { All (λ job. job.relation ≡ relation.now) jobs.old.items }
-    requires jobs_of_workers { All (AreJobsFor best.now relation.now) jobs_of_workers.old.items }
-    ensures seat { IsSeatFor best.now relation.now seat.new }
     ensures kept { lengths_of seat.new ≡ lengths_of seat.old }
-    ensures jobs { All (λ job. job.relation ≡ relation.now) jobs.new.items }
-    ensures jobs_of_workers { IfOk result (λ _. All (AreJobsFor best.now relation.now) jobs_of_workers.new.items) }
+    ensures jobs { (b : Best) (t : Table) → IsSeatFor b t seat.old → All (λ job. job.relation ≡ t) jobs.old.items
+        → All (AreJobsFor b t) jobs_of_workers.old.items
+        → IsSeatFor b t seat.new × All (λ job. job.relation ≡ t) jobs.new.items
+        × IfOk result (λ _. All (AreJobsFor b t) jobs_of_workers.new.items) }
 {
-    let _ = relation;
-    let _ = best;
     let other = seat.split()?;
     let mine = jobs.split_off(jobs.len() - share.min(jobs.len()))?;
     jobs_of_workers.push(WorkerJobs {
@@ -52,34 +47,22 @@ fn add_worker(
 /// at least while there are any; the other jobs stay.
 pub(crate) fn split_jobs(
     alloc: Global,
-    relation: &Relation,
-    best: &Best,
     seat: &mut BestSeat,
     workers: usize,
     jobs: &mut Vec<SourceJob>,
 ) -> Result<Vec<WorkerJobs>, OutOfMemory>
-    requires seat { IsSeatFor best.now relation.now seat.old }
-    requires jobs { All (λ job. job.relation ≡ relation.now) jobs.old.items }
     requires workers { 1 ≤ workers }
-    ensures seat { IsSeatFor best.now relation.now seat.new }
     ensures kept { lengths_of seat.new ≡ lengths_of seat.old }
-    ensures jobs { All (λ job. job.relation ≡ relation.now) jobs.new.items }
-    ensures jobs_of_workers { IfOk result
-        (λ jobs_of_workers. All (AreJobsFor best.now relation.now) jobs_of_workers.items) }
+    ensures jobs { (b : Best) (t : Table) → IsSeatFor b t seat.old → All (λ job. job.relation ≡ t) jobs.old.items
+        → IsSeatFor b t seat.new × All (λ job. job.relation ≡ t) jobs.new.items }
+    ensures jobs_of_workers { IfOk result (λ jobs_of_workers. (b : Best) (t : Table) → IsSeatFor b t seat.old
+        → All (λ job. job.relation ≡ t) jobs.old.items → All (AreJobsFor b t) jobs_of_workers.items) }
 {
     let mut jobs_of_workers = Vec::with_capacity(alloc, workers)?;
     let paid = jobs.len() / PAYS + 2;
     for worker in 1..workers.min(paid) {
         let share = (jobs.len() / PART.max(workers)).max(1);
-        add_worker(
-            relation,
-            best,
-            seat,
-            worker,
-            share,
-            jobs,
-            &mut jobs_of_workers,
-        )?;
+        add_worker(seat, worker, share, jobs, &mut jobs_of_workers)?;
     }
     Ok(jobs_of_workers)
 }

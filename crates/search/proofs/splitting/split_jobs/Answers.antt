@@ -1,28 +1,23 @@
 use Rattle.std.proofs.Common.{◌∙◌}
 use Rattle.search.proofs.splitting.split_jobs.Goals as goal
 
-pub add_worker-requires-clause-seat : goal.add_worker-requires-clause-seat
-add_worker-requires-clause-seat c = c.loop-worker.invariant.0
-
-pub add_worker-requires-clause-jobs : goal.add_worker-requires-clause-jobs
-add_worker-requires-clause-jobs c = c.loop-worker.invariant.2
-
-pub add_worker-requires-clause-jobs_of_workers : goal.add_worker-requires-clause-jobs_of_workers
-add_worker-requires-clause-jobs_of_workers c = c.loop-worker.invariant.3
-
-pub returns-in_err-add_worker-clause-seat : goal.returns-in_err-add_worker-clause-seat
-returns-in_err-add_worker-clause-seat c = c.add_worker.ensures.seat
-
 pub returns-in_err-add_worker-clause-kept : goal.returns-in_err-add_worker-clause-kept
-returns-in_err-add_worker-clause-kept c = c.add_worker.ensures.kept ∙ c.loop-worker.invariant.1
+returns-in_err-add_worker-clause-kept c = c.add_worker.ensures.kept ∙ c.loop-worker.invariant.0
 
 pub returns-in_err-add_worker-clause-jobs : goal.returns-in_err-add_worker-clause-jobs
-returns-in_err-add_worker-clause-jobs c = c.add_worker.ensures.jobs
+returns-in_err-add_worker-clause-jobs c = λ b t seat jobs.
+    let inv = c.loop-worker.invariant.1 b t seat jobs in
+    let h = c.add_worker.ensures.jobs b t inv.0 inv.1 inv.2 in (h.0, h.1)
 
 pub loop-worker-preserved : goal.loop-worker-preserved
 loop-worker-preserved c = (
-  c.add_worker.ensures.seat,
-  c.add_worker.ensures.kept ∙ c.loop-worker.invariant.1,
-  c.add_worker.ensures.jobs,
-  c.in_ok-add_worker.ensures.jobs_of_workers,
+  c.add_worker.ensures.kept ∙ c.loop-worker.invariant.0,
+  (λ b t seat jobs.
+      let inv = c.loop-worker.invariant.1 b t seat jobs in c.in_ok-add_worker.ensures.jobs b t inv.0 inv.1 inv.2),
 )
+
+pub returns-clause-jobs : goal.returns-clause-jobs
+returns-clause-jobs c = λ b t seat jobs. let inv = c.loop-worker.invariant.1 b t seat jobs in (inv.0, inv.1)
+
+pub returns-clause-jobs_of_workers : goal.returns-clause-jobs_of_workers
+returns-clause-jobs_of_workers c = λ b t seat jobs. (c.loop-worker.invariant.1 b t seat jobs).2

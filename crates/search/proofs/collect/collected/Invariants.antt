@@ -3,11 +3,11 @@ use Rattle.std.specs.Vec.Iter.{into_iter_items}
 use Rattle.search.specs.Bound.{IsSeatFor, Keeps, lengths_of}
 use Rattle.search.specs.WorkerJobs.{AreRowsFor}
 use Rattle.search.specs.Slots.{AreSlots}
-use Rattle.search.proofs.slots.store_rows.Given as goal
+use Rattle.search.proofs.collect.collected.Given as goal
 
 abbrev pub invariant-loop-worker_rows : goal.invariant-loop-worker_rows
-invariant-loop-worker_rows l =
-    IsSeatFor l.best l.relation l.seat
+invariant-loop-worker_rows g l =
+    IsSeatFor l.best l.table l.seat
     × Keeps (lengths_of l.initial.seat) (lengths_of l.seat)
-    × AreSlots l.relation (lengths_of l.seat) l.slots.items
-    × All (AreRowsFor l.best l.relation) (into_iter_items l.worker_rows-iterator)
+    × AreSlots l.table (lengths_of l.seat) l.slots.items
+    × All (AreRowsFor l.best l.table) (into_iter_items l.worker_rows-iterator)
