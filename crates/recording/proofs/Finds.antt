@@ -1,11 +1,11 @@
 -- The walk over the cores that finds an event.
 use Rattle.std.proofs.Common.{◌≡◌, ◌<◌, ◌≤◌, ℕ, ◌+◌, ◌-◌, List, [], ◌∷◌, map, drop, length, get_or, arith}
-use Rattle.std.proofs.Common.{refl, sym, ap, ◌∙◌, length-append, Vec, Global}
+use Rattle.std.proofs.Common.{refl, sym, ap, ◌∙◌, Vec, Global}
 use Rattle.std.proofs.lemmas.List.{get_or_past, drop_more, drop_all, length-map, get_or-map}
 use Rattle.recording.specs.declared.event.Event.{Event}
 use Rattle.recording.specs.declared.event.Event.TheVariants.{F}
 use Rattle.recording.specs.Execution.{Execution, placed_from, event_count, event_at, core_of}
-use Rattle.recording.specs.EventLaws.{placed_here, placed_behind}
+use Rattle.recording.specs.PlacedLaws.{placed_here, placed_behind, count_from}
 
 -- number is rest events after the first event of core i
 pub record IsBehind (cores : List (List Event)) (i rest number : ℕ) : Type 0 where
@@ -15,12 +15,6 @@ pub record IsBehind (cores : List (List Event)) (i rest number : ℕ) : Type 0 w
 -- at the first core a number is as far on as it says
 pub behind_start : (cores : List (List Event)) (number : ℕ) → IsBehind cores 0 number number
 behind_start cores number = record { here = refl; count = refl }
-
--- a core has its own events, and those of the cores after it
-placed_length : (k : ℕ) (es : List Event) (rest : List (List Event))
-    → length (placed_from k (es ∷ rest)) ≡ length es + length (placed_from (k + 1) rest)
-placed_length k es rest = length-append (map (λ e. (k, e)) es) (placed_from (k + 1) rest)
-    ∙ ap (λ (n : ℕ). n + length (placed_from (k + 1) rest)) (length-map es (λ e. (k, e)))
 
 -- one core further
 pub behind_more : (cores : List (List Event)) (i rest number : ℕ) → i < length cores
@@ -35,7 +29,7 @@ behind_more cores i rest number at past h =
         arith,
         h.count,
         ap (λ (cs : List (List Event)). length (placed_from i cs)) front,
-        placed_length i (get_or cores i []) (drop (i + 1) cores),
+        count_from i (get_or cores i []) (drop (i + 1) cores),
       );
     }
 
@@ -55,7 +49,7 @@ behind_found x i rest number at within h =
         within,
         h.count,
         ap (λ (cs : List (List Event)). length (placed_from i cs)) front,
-        placed_length i (get_or x.cores i []) (drop (i + 1) x.cores),
+        count_from i (get_or x.cores i []) (drop (i + 1) x.cores),
       ),
       sym (ap (λ p. p.0) is),
       sym (ap (λ p. p.1) is),
@@ -122,7 +116,7 @@ counted_more vs cores i count v is at read h =
         h.rest,
         ap (λ (es : List Event). length es) seen.1,
         ap (λ (cs : List (List Event)). length (placed_from i cs)) front,
-        placed_length i (get_or cores i []) (drop (i + 1) cores),
+        count_from i (get_or cores i []) (drop (i + 1) cores),
       );
     }
 

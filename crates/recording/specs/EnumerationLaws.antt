@@ -1,9 +1,9 @@
 -- Laws of lists of distinct numbers below n.
 use Rattle.std.proofs.Common.{◌≡◌, ◌<◌, ◌≤◌, ◌+◌, inl, inr, ℕ, zero, suc, List, [], ◌∷◌, length, arith}
-use Rattle.std.proofs.Common.{refl, ap}
-use Rattle.std.proofs.lemmas.Bool.{cases_eq}
+use Rattle.std.proofs.Common.{refl}
+use Rattle.std.proofs.lemmas.Bool.Decides.{nat_tests}
 use Rattle.recording.specs.Order.{times, Enumerates}
-use Rattle.recording.specs.OrderLaws.{times_here, times_there, times_nil, cases_times}
+use Rattle.recording.specs.OrderLaws.{cases_times}
 
 -- how many members below n
 below : ℕ → List ℕ → ℕ
@@ -12,42 +12,31 @@ below (suc n) xs = times xs n + below n xs
 
 -- none in no list
 below_nil : (n : ℕ) → below n [] ≡ 0
-unfolding below
+unfolding below times
 below_nil zero = refl
-below_nil (suc n) = omega (arith, times_nil n, below_nil n)
+below_nil (suc n) = omega (arith, below_nil n)
 
 -- one past n more
 below_past : (n x : ℕ) (xs : List ℕ) → n ≤ x → below n (x ∷ xs) ≡ below n xs
-unfolding below
+unfolding below times
 below_past zero x xs h = refl
-below_past (suc n) x xs h = omega (
-  arith,
-  times_there xs x n (λ s. omega arith),
-  below_past n x xs (omega arith),
-)
+below_past (suc n) x xs h = grind (arith, nat_tests, below_past n x xs)
 
 -- one below n more
 below_cons : (n x : ℕ) (xs : List ℕ) → x < n → below n (x ∷ xs) ≡ below n xs + 1
-unfolding below
+unfolding below times
 below_cons zero x xs h = absurd (omega arith)
-below_cons (suc n) x xs h = elim (cases_eq x n) [
-  | inl last ↦ omega (arith, times_here xs x n last, below_past n x xs (omega arith))
-  | inr other ↦ omega (arith, times_there xs x n other, below_cons n x xs (omega arith))
-]
+below_cons (suc n) x xs h = grind (arith, nat_tests, below_past n x xs, below_cons n x xs)
 
 -- where all are below n, as many as the list has
 below_all : (n : ℕ) (xs : List ℕ) → ((e : ℕ) → 0 < times xs e → e < n) → below n xs ≡ length xs
+unfolding times
 below_all n [] h = below_nil n
-below_all n (x ∷ xs) h =
-    omega (
-      arith,
-      below_cons n x xs (h x (omega (arith, times_here xs x x refl))),
-      below_all n xs (λ e there. h e (elim (cases_eq x e) [
-        | inl same ↦ omega
-            (arith, times_here xs x e same)
-        | inr other ↦ omega (arith, times_there xs x e other, there)
-      ])),
-    )
+below_all n (x ∷ xs) h = omega (
+  arith,
+  below_cons n x xs (h x (grind (arith, nat_tests))),
+  below_all n xs (λ e there. h e (omega (arith, there))),
+)
 
 -- n at most, where none stands twice
 below_most : (n : ℕ) (xs : List ℕ) → ((e : ℕ) → times xs e ≤ 1) → below n xs ≤ n
@@ -80,8 +69,7 @@ unfolding below
 find_missing zero xs h = absurd (omega arith)
 find_missing (suc n) xs h = elim (cases_times xs n) [
   | inl none ↦ (n, omega arith, none)
-  | inr some ↦ let rest : (e : ℕ) × (e < n) × (times xs e ≡ 0) =
-      find_missing n xs (omega arith) in (rest.0, (let b : rest.0 < n = rest.1 in omega arith), rest.2)
+  | inr some ↦ let rest = find_missing n xs (omega arith) in (rest.0, omega (arith, rest.1), rest.2)
 ]
 
 -- a list of fewer than n numbers, all below n, misses one
@@ -94,18 +82,12 @@ below_less : (n : ℕ) (xs : List ℕ) → ((e : ℕ) → times xs e ≤ 1) → 
     → below n xs < n
 unfolding below
 below_less zero xs once e h none = absurd (omega arith)
-below_less (suc n) xs once e h none = elim (cases_eq e n) [
-  | inl one ↦ omega (arith, below_most n xs once, ap (times xs) one, none)
-  | inr other ↦ omega (arith, once n, below_less n xs once e (omega arith) none)
-]
+below_less (suc n) xs once e h none = grind (arith, below_most n xs once, once n, below_less n xs once e)
 
 -- n distinct numbers below n are all of them
 pub all_listed : (n : ℕ) (xs : List ℕ) → ((e : ℕ) → times xs e ≤ 1) → ((e : ℕ) → 0 < times xs e → e < n)
     → length xs ≡ n → Enumerates (λ e. e < n) xs
 all_listed n xs once within size = record {
-  once = λ e h. elim (cases_times xs e) [
-    | inl none ↦ absurd (omega (arith, below_all n xs within, below_less n xs once e h none))
-    | inr some ↦ omega (arith, once e)
-  ];
+  once = λ e h. grind (arith, below_all n xs within, below_less n xs once e h, once e);
   nothing_else = within;
 }
