@@ -20,7 +20,7 @@ each_clipped k f g is no_items = refl
 each_clipped k f g is (item d ds) = rw (is d, each_clipped k f g is ds) (item_clipped g (f d) (each f ds))
 
 -- with a value that may be missing
-value_clipped : {A B : Type 0} (k f : A → Option B) (g : B → B) → ((x : A) → k x ≡ option_map g (f x))
+pub value_clipped : {A B : Type 0} (k f : A → Option B) (g : B → B) → ((x : A) → k x ≡ option_map g (f x))
     → (o : Option A) → option_and_then k o ≡ option_map g (option_and_then f o)
 value_clipped k f g is None = refl
 value_clipped k f g is (Some x) = is x

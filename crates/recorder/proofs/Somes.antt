@@ -6,6 +6,11 @@ pub if_some : {A : Type 0} {P Q : A → Type 0} (o : Option A) → IfSome o P �
 if_some None h more = tt
 if_some (Some x) h more = more x h
 
+-- what is known of something by what it is
+pub known : {A : Type 0} {P : A → Type 0} (o : Option A) → ((x : A) → o ≡ Some x → P x) → IfSome o P
+known None each = tt
+known (Some x) each = each x refl
+
 -- what is known of what was found
 pub found_is : {A : Type 0} (P : A → Type 0) (o : Option A) (x : A) → o ≡ Some x → IfSome o P → P x
 found_is {A} P o x is h = subst (λ (q : Option A). IfSome q P) is h

@@ -34,8 +34,7 @@ use Rattle.recorder.specs.Text.{is_of_version_1}
 use Rattle.recorder.specs.Values.{read_members, AreFitting, values_of}
 use Rattle.recorder.specs.Written.{IsShort, IsWord, IsShortSource, IsFitting, AreFittingValues, version_of}
 use Rattle.recorder.specs.Written.{written_data, BeginsRecording}
-use Rattle.recorder.proofs.Again.{number_again, value_again, load_again, store_again}
-use Rattle.recorder.proofs.Again.{rmw_again, failed_cas_again, fence_again}
+use Rattle.recorder.proofs.Again.{number_again, value_again, event_again}
 use Rattle.recorder.proofs.Newline.{tokens_newline}
 use Rattle.recorder.proofs.Decoded.{ArePartsAgain, shape_1, shape_2, tells_1, tells_2}
 
@@ -222,14 +221,6 @@ map_same : {A : Type 0} (g : A → A) (Fits : A → Type 0) → ((x : A) → Fit
     → AllByRecursion Fits xs → map g xs ≡ xs
 map_same g Fits each [] all = refl
 map_same g Fits each (x ∷ xs) all = rw (each x all.0, map_same g Fits each xs all.1) refl
-
--- each event gives itself
-event_again : (e : Event) → IsFitting e → event_in (event_data e) ≡ Some e
-event_again (L a r s) h = load_again a r s h.1
-event_again (S a w) h = store_again a w h.1
-event_again (R a r s w) h = rmw_again a r s w h.1 h.3
-event_again (C a r s) h = failed_cas_again a r s h.1
-event_again F h = fence_again
 
 -- and so do all items of a list
 fitting_again : {A : Type 0} (f : Data → Option A) (g : A → Data) (Fits : A → Type 0)

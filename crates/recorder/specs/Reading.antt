@@ -52,41 +52,25 @@ count_members (member k d ms) = suc (count_members ms)
 abbrev pub at_key : {A : Type 0} → (Data → Option A) → List ℕ → Data → Option A
 at_key f k d = option_and_then f (get k d)
 
--- the address, the value and the source of an event that reads
-abbrev pub reads_in : Data → Option (ℕ × ℕ × Option ℕ)
-reads_in d =
-    option_and_then (λ a.
-    option_and_then (λ r.
-    option_map (λ s. (a, r, s))
-    (at_key source_in (codes "s") d))
-    (at_key value_in (codes "r") d))
-    (at_key number_in (codes "a") d)
+-- what reads, with this address, this value and this source
+abbrev pub read_of : (ℕ → ℕ → Option ℕ → Event) → Option ℕ → Option ℕ → Option (Option ℕ) → Option Event
+read_of make a r s = option_and_then (λ x. option_and_then (λ y. option_map (λ z. make x y z) s) r) a
 
--- a store
-abbrev pub store_in : Data → Option Event
-store_in d =
-    option_and_then (λ a.
-    option_map (λ w. S a w)
-    (at_key value_in (codes "w") d))
-    (at_key number_in (codes "a") d)
-
--- a read-modify-write
-abbrev pub rmw_in : Data → Option Event
-rmw_in d =
-    option_and_then (λ p. option_map (λ w. R p.0 p.1 p.2 w) (at_key value_in (codes "w") d)) (reads_in d)
-
--- an event of a kind, in an object with this many keys
-unfoldable pub event_of_kind : List ℕ → ℕ → Data → Option Event
-event_of_kind k n d =
-    if bytes_eq k (codes "L") && n == 4 then option_map (λ p. L p.0 p.1 p.2) (reads_in d)
-    else (if bytes_eq k (codes "S") && n == 3 then store_in d
-    else (if bytes_eq k (codes "R") && n == 5 then rmw_in d
-    else (if bytes_eq k (codes "C") && n == 4 then option_map (λ p. C p.0 p.1 p.2) (reads_in d)
+-- an event of a kind with this many keys, by what its keys give
+unfoldable pub event_of : List ℕ → ℕ → Option ℕ → Option ℕ → Option (Option ℕ) → Option ℕ → Option Event
+event_of k n a r s w =
+    if bytes_eq k (codes "L") && n == 4 then read_of L a r s
+    else (if bytes_eq k (codes "S") && n == 3 then option_and_then (λ x. option_map (λ v. S x v) w) a
+    else (if bytes_eq k (codes "R") && n == 5 then option_and_then (λ v. read_of (λ x y z. R x y z v) a r s) w
+    else (if bytes_eq k (codes "C") && n == 4 then read_of C a r s
     else (if bytes_eq k (codes "F") && n == 1 then Some F else None))))
 
-unfoldable pub event_in : Data → Option Event
-event_in d = option_and_then (λ n. option_and_then (λ k. event_of_kind k n d) (at_key as_str (codes "k") d))
-    (option_map count_members (as_object d))
+-- an event: an object with its kind and what the kind has
+abbrev pub event_in : Data → Option Event
+event_in d = option_and_then (λ n. option_and_then (λ k. event_of k n
+    (at_key number_in (codes "a") d) (at_key value_in (codes "r") d)
+    (at_key source_in (codes "s") d) (at_key value_in (codes "w") d))
+    (at_key as_str (codes "k") d)) (option_map count_members (as_object d))
 
 -- the initial values of an object with this many keys: none with three, and the fourth of four
 unfoldable pub values_in : ℕ → Data → Option (Option (List ℕ))

@@ -2,13 +2,13 @@
 
 ghost use Rattle.std.specs.Prelude.{◌≡◌, option_map};
 ghost use Rattle.serde_json.specs.View.{view};
-ghost use Rattle.recorder.specs.Reading.{value_in, source_in, at_key, event_of_kind};
-ghost use Rattle.recorder.specs.Reading.{count_members};
-ghost use Rattle.recorder.specs.Clipped.{clip, clip_event, clipped_number, clipped_event, clipped_reads};
+ghost use Rattle.recorder.specs.Reading.{value_in, at_key, count_members};
+ghost use Rattle.recorder.specs.Clipped.{clipped_number, clipped_event};
+ghost use Rattle.recorder.specs.Pulled.{clipped_source};
 ghost use Rattle.serde_json.specs.Find.{as_object};
 
 use crate::cursor::Cursor;
-use crate::fields::pull_event;
+use crate::fields::{Fields, pull_event};
 use crate::tokens::{pull_number, pull_value};
 use crate::values::event_members;
 use crate::versions::has_failed;
@@ -268,7 +268,7 @@ fn value_in(value: &Value) -> Option<u32>
 }
 
 fn source_in(value: &Value) -> Option<Option<u16>>
-    ensures { result ≡ option_map (option_map clip) (source_in (view value.now)) }
+    ensures { result ≡ clipped_source (view value.now) }
 {
     if value.is_null() {
         return Some(None);
@@ -290,47 +290,9 @@ fn value_at(value: &Value, key: &str) -> Option<u32>
 }
 
 fn source_at(value: &Value, key: &str) -> Option<Option<u16>>
-    ensures { result ≡ option_map (option_map clip) (at_key source_in key.now (view value.now)) }
+    ensures { result ≡ at_key clipped_source key.now (view value.now) }
 {
     source_in(value.get(key)?)
-}
-
-/// The address, the value and the source of an event that reads.
-fn reads_in(value: &Value) -> Option<(u16, u32, Option<u16>)>
-    ensures { result ≡ clipped_reads (view value.now) }
-{
-    let a = number_at(value, "a")?;
-    let r = value_at(value, "r")?;
-    let s = source_at(value, "s")?;
-    Some((a, r, s))
-}
-
-#[tactic(auto, unfolding(crate::specs::Reading::event_of_kind))]
-fn event_of_kind(kind: &str, keys: usize, value: &Value) -> Option<Event>
-    ensures { result ≡ option_map clip_event (event_of_kind kind.now keys (view value.now)) }
-{
-    if kind == "L" && keys == 4 {
-        let (a, r, s) = reads_in(value)?;
-        return Some(Event::L { a, r, s });
-    }
-    if kind == "S" && keys == 3 {
-        let a = number_at(value, "a")?;
-        let w = value_at(value, "w")?;
-        return Some(Event::S { a, w });
-    }
-    if kind == "R" && keys == 5 {
-        let (a, r, s) = reads_in(value)?;
-        let w = value_at(value, "w")?;
-        return Some(Event::R { a, r, s, w });
-    }
-    if kind == "C" && keys == 4 {
-        let (a, r, s) = reads_in(value)?;
-        return Some(Event::C { a, r, s });
-    }
-    if kind == "F" && keys == 1 {
-        return Some(Event::F);
-    }
-    None
 }
 
 #[tactic(auto, using(crate::proofs::Members::count_members_length))]
@@ -341,11 +303,17 @@ pub(crate) fn keys_of(value: &Value) -> Option<usize>
     Some(members.len())
 }
 
-#[tactic(auto, unfolding(crate::specs::Reading::event_in))]
 fn event_in(value: &Value) -> Option<Event>
     ensures { result ≡ clipped_event (view value.now) }
 {
     let keys = keys_of(value)?;
     let kind = value.get("k")?.as_str()?;
-    event_of_kind(kind, keys, value)
+    let fields = Fields {
+        k: Some(kind),
+        a: number_at(value, "a"),
+        r: value_at(value, "r"),
+        s: source_at(value, "s"),
+        w: value_at(value, "w"),
+    };
+    fields.event(keys)
 }
