@@ -9,7 +9,7 @@ use Rattle.recording.specs.Recording.{executed}
 use Rattle.recorder.specs.ParsedModel.{ParsedModel}
 use Rattle.recorder.specs.Text.{data_of, data_1, data_2, has_failed_cas, list_data, event_data, number_data}
 use Rattle.recorder.specs.Text.{is_of_version_1}
-use Rattle.recorder.specs.Reading.{values_in, contents_with, shape_in, number_in, value_in, event_in, list_in}
+use Rattle.recorder.specs.Reading.{contents_of, shape_in, number_in, value_in, event_in, list_in}
 use Rattle.recorder.specs.Reading.{Decodes}
 
 -- what both versions have is read again
@@ -32,13 +32,13 @@ contents_2 x = record { version = 2; cores = x.cores; write_lists = x.write_list
 
 -- so the contents are
 pub shape_1 : (x : Execution) → ArePartsAgain x → shape_in (data_1 x) ≡ Some (contents_1 x)
-unfolding shape_in contents_with values_in
+unfolding shape_in contents_of
 shape_1 x parts = rw (parts.cores, parts.lists) refl
 
 -- also with initial values
 pub shape_2 : (x : Execution) → ArePartsAgain x → IsInitAgain x
     → shape_in (data_2 x) ≡ Some (contents_2 x)
-unfolding shape_in contents_with values_in
+unfolding shape_in contents_of
 shape_2 x parts values = rw (values, parts.cores, parts.lists) refl
 
 -- what version 1 tells

@@ -1,10 +1,10 @@
 -- What the members of an event give by those that were read.
 use Rattle.std.proofs.Common.{◌≡◌, ◌+◌, ℕ, List, Bor, Option, Some, None, option_map, option_and_then}
-use Rattle.std.proofs.Common.{codes, refl, sym, ap, ◌∙◌, arith, Bool, true, false, if◌then◌else◌}
+use Rattle.std.proofs.Common.{codes, refl, sym, ap, ◌∙◌, arith}
 use Rattle.json.specs.Token.{Token}
 use Rattle.serde_json.specs.Data.{Data, Members, object}
 use Rattle.serde_json.specs.Find.{get, as_str, as_object}
-use Rattle.recording.specs.declared.event.Event.TheVariants.{L, S, R, C, F}
+use Rattle.recording.specs.declared.event.Event.TheVariants.{L, S, R, C}
 use Rattle.recorder.specs.declared.fields.Fields.{Fields}
 use Rattle.recording.specs.declared.event.Event.{Event}
 use Rattle.recorder.specs.Reading.{number_in, value_in, source_in, at_key, read_of, event_of, count_members}
@@ -12,6 +12,7 @@ use Rattle.recorder.specs.Clipped.{clip, clip_event, clipped_number, clipped_eve
 use Rattle.recorder.specs.Pulled.{clipped_source, GivesValue, Adds}
 use Rattle.recorder.specs.Fields.{count_of, AreFields}
 use Rattle.recorder.proofs.ClippedLists.{value_clipped}
+use Rattle.recorder.proofs.Somes.{map_if}
 use Rattle.recorder.proofs.AtKeys.{adds, at_new, at_other, at_key_is, count_new}
 
 -- ---- one member more
@@ -94,12 +95,6 @@ value_written_added f o {w} {depth} {ts} {rest} g none is =
 
 -- ---- the event
 
--- a function goes into both cases
-map_if : {A B : Type 0} (g : A → B) (b : Bool) (p q : Option A)
-    → option_map g (if b then p else q) ≡ (if b then option_map g p else option_map g q)
-map_if g true p q = refl
-map_if g false p q = refl
-
 -- what is clipped of what reads
 read_clipped : (make : ℕ → ℕ → Option ℕ → Event)
     → ((x y : ℕ) (z : Option ℕ) → clip_event (make x y z) ≡ make (clip x) y (option_map clip z))
@@ -148,12 +143,16 @@ event_given f n d count k a r s w =
   where
     number : Option ℕ
     number = at_key number_in (codes "a") d
+
     from : Option (Option ℕ)
     from = at_key source_in (codes "s") d
+
     address_is : option_map clip number ≡ f.a
     address_is = sym (value_clipped clipped_number number_in clip (λ e. refl) (get (codes "a") d)) ∙ a
+
     source_is : option_map (option_map clip) from ≡ f.s
     source_is = sym (value_clipped clipped_source source_in (option_map clip) (λ e. refl) (get (codes "s") d)) ∙ s
+
     go : (o : Option (Bor (List ℕ)))
         → option_map clip_event (option_and_then (λ q. event_of q n number f.r from f.w) (option_map (λ s. s.now) o))
         ≡ option_and_then (λ q. event_of q.now n f.a f.r f.s f.w) o

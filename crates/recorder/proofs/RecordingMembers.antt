@@ -1,21 +1,20 @@
 -- What the members of a recording give by those that were read.
-use Rattle.std.proofs.Common.{◌≡◌, ◌+◌, ℕ, List, Vec, Global, Option, Some, None, option_map}
-use Rattle.std.proofs.Common.{map}
+use Rattle.std.proofs.Common.{◌≡◌, ◌+◌, ◌==◌, ℕ, List, Vec, Global, Option, Some, None, option_map, option_and_then}
+use Rattle.std.proofs.Common.{map, Bool, true, false, if◌then◌else◌}
 use Rattle.std.proofs.Common.{codes, IsUtf8, [], refl, sym, ap, ◌∙◌, subst, arith}
 use Rattle.json.specs.Token.{Token}
 use Rattle.json.specs.Lex.{tokens}
 use Rattle.json.specs.Json.{value}
 use Rattle.serde_json.specs.Read.{max_depth}
-use Rattle.serde_json.specs.Data.{Members, object}
+use Rattle.serde_json.specs.Data.{Data, Members, object}
+use Rattle.serde_json.specs.Find.{as_object}
 use Rattle.recording.specs.declared.event.Event.{Event}
 use Rattle.recorder.specs.declared.pulled_members.ReadMembers.{ReadMembers}
 use Rattle.recorder.specs.declared.reading.Parsed.{Parsed}
 use Rattle.recorder.specs.ParsedModel.{ParsedModel}
 use Rattle.recorder.specs.Parsed.{model_of}
-use Rattle.recorder.specs.Held.{HoldsCores, HoldsLists, StandsFor}
-use Rattle.recorder.specs.Reading.{natural, number_in, value_in, event_in, list_in, at_key, values_in}
-use Rattle.recorder.specs.Reading.{contents_with}
-use Rattle.recorder.specs.Reading.{shape_in}
+use Rattle.recorder.specs.Held.{HoldsCores, HoldsLists, HoldsSome, StandsFor}
+use Rattle.recorder.specs.Reading.{natural, number_in, value_in, event_in, list_in, at_key, count_members, parts_of, contents_of, shape_in}
 use Rattle.recorder.specs.Clipped.{clip, clip_event, clipped_shape, clipped_number, clipped_event}
 use Rattle.recorder.specs.Pulled.{GivesValue, Adds}
 use Rattle.recorder.specs.Fields.{count_of}
@@ -23,7 +22,7 @@ use Rattle.recorder.specs.ReadMembers.{AreParts, clipped_contents, IsParsedFrom}
 use Rattle.recorder.proofs.AtKeys.{adds, at_new, at_other, at_key_is, count_new}
 use Rattle.recorder.proofs.Pulled.{whole_read}
 use Rattle.recorder.proofs.Held.{none_held, some_held}
-use Rattle.recorder.proofs.Somes.{some_mapped}
+use Rattle.recorder.proofs.Somes.{map_if}
 use Rattle.recorder.proofs.ClippedLists.{cores_clipped, writes_clipped}
 
 -- ---- one member more
@@ -106,78 +105,114 @@ init_added p o {x} {depth} {ts} {rest} g none is =
 
 -- ---- the contents
 
--- the version, the cores and the write lists, with these initial values
-shaped : (values : Option (List ℕ)) (p : ReadMembers) (ms : Members) (v : ℕ) (cs : List (List Event))
-    (ws : List (List ℕ)) (h : AreParts p ms) → p.version ≡ Some v → h.cores.0 ≡ Some cs
-    → h.writes.0 ≡ Some ws → option_map clipped_shape (contents_with values (object ms)) ≡ Some (record {
-      version = v;
-      cores = cs;
-      write_lists = ws;
-      values = values;
-    })
-unfolding contents_with
-shaped values p ms v cs ws h hv hc hw =
-    let cores = some_mapped (map (map clip_event)) (at_key (list_in (list_in event_in)) (codes "cores") (object ms))
-    cs (sym (cores_clipped (codes "cores") (object ms))
-    ∙ at_key_is (list_in (list_in clipped_event)) (codes "cores") ms h.cores.0 h.cores.1 ∙ hc) in
-    let lists = some_mapped (map (map clip)) (at_key (list_in (list_in number_in)) (codes "writes") (object ms)) ws
-    (sym (writes_clipped (codes "writes") (object ms))
-    ∙ at_key_is (list_in (list_in clipped_number)) (codes "writes") ms h.writes.0 h.writes.1 ∙ hw) in
-    rw (
-      at_key_is natural (codes "version") ms p.version h.version ∙ hv,
-      cores.1,
-      lists.1,
-      cores.2,
-      lists.2,
-    ) refl
+-- what is clipped of parts
+parts_clipped : (v : Option ℕ) (cs : Option (List (List Event))) (ws : Option (List (List ℕ)))
+    (values : Option (List ℕ)) → option_map clipped_shape (parts_of v cs ws values)
+    ≡ parts_of v (option_map (map (map clip_event)) cs) (option_map (map (map clip)) ws) values
+parts_clipped None cs ws values = refl
+parts_clipped (Some v) None ws values = refl
+parts_clipped (Some v) (Some cs) None values = refl
+parts_clipped (Some v) (Some cs) (Some ws) values = refl
 
--- the contents, by how many keys there are
-contents_by : (values : Option (List ℕ)) (n : ℕ) (p : ReadMembers) (ms : Members)
-    → count_of p.version + count_of p.cores + count_of p.writes + count_of p.init ≡ n → AreParts p ms
-    → values_in n (object ms) ≡ Some values
-    → clipped_contents (object ms) ≡ option_map clipped_shape (contents_with values (object ms))
+-- of contents with initial values
+valued_clipped : (v : Option ℕ) (cs : Option (List (List Event))) (ws : Option (List (List ℕ)))
+    (init : Option (List ℕ)) → option_map clipped_shape (option_and_then (λ i. parts_of v cs ws (Some i)) init)
+    ≡ option_and_then (λ i. parts_of v (option_map (map (map clip_event)) cs) (option_map (map (map clip)) ws)
+    (Some i)) init
+valued_clipped v cs ws None = refl
+valued_clipped v cs ws (Some i) = parts_clipped v cs ws (Some i)
+
+-- of all contents
+contents_clipped : (n : ℕ) (v : Option ℕ) (cs : Option (List (List Event))) (ws : Option (List (List ℕ)))
+    (init : Option (List ℕ)) → option_map clipped_shape (contents_of n v cs ws init)
+    ≡ contents_of n v (option_map (map (map clip_event)) cs) (option_map (map (map clip)) ws) init
+unfolding contents_of
+contents_clipped n v cs ws init =
+    simp (map_if, parts_clipped v cs ws None, valued_clipped v cs ws init) refl
+
+-- what a value's members give are the contents of what was read of them
+pub shape_given : (d : Data) (n : ℕ) (v : Option ℕ) (cs : Option (List (List Event)))
+    (ws : Option (List (List ℕ))) (init : Option (List ℕ)) → option_map count_members (as_object d) ≡ Some n
+    → at_key natural (codes "version") d ≡ v → at_key (list_in (list_in clipped_event)) (codes "cores") d ≡ cs
+    → at_key (list_in (list_in clipped_number)) (codes "writes") d ≡ ws
+    → at_key (list_in value_in) (codes "init") d ≡ init → clipped_contents d ≡ contents_of n v cs ws init
 unfolding shape_in
-contents_by values n p ms count h is = rw (h.count, count, is) refl
+shape_given d n v cs ws init count version cores writes values =
+    let events = at_key (list_in (list_in event_in)) (codes "cores") d in
+    let lists = at_key (list_in (list_in number_in)) (codes "writes") d in
+    let cores_are : option_map (map (map clip_event)) events ≡ cs = sym (cores_clipped (codes "cores") d) ∙ cores in
+    let writes_are : option_map (map (map clip)) lists ≡ ws = sym (writes_clipped (codes "writes") d) ∙ writes in
+    ap (option_map clipped_shape) (rw (count, version, values) refl)
+    ∙ contents_clipped n v events lists init ∙ rw (cores_are, writes_are) refl
 
--- what is held of the cores that the members have
-cores_held : (p : ReadMembers) (ms : Members) (cs : Vec (Vec Event Global) Global) (h : AreParts p ms)
-    → p.cores ≡ Some cs
-    → (xs : List (List Event)) × (h.cores.0 ≡ Some xs) × HoldsCores (map (λ w. w.items) cs.items) xs
-cores_held p ms cs h hc =
-    some_held HoldsCores (lists_of p.cores) h.cores.0 (map (λ w. w.items) cs.items) h.cores.2 (ap lists_of hc)
-
--- and of the write lists
-lists_held : (p : ReadMembers) (ms : Members) (ws : Vec (Vec ℕ Global) Global) (h : AreParts p ms)
-    → p.writes ≡ Some ws
-    → (xs : List (List ℕ)) × (h.writes.0 ≡ Some xs) × HoldsLists (map (λ w. w.items) ws.items) xs
-lists_held p ms ws h hw =
-    some_held HoldsLists (lists_of p.writes) h.writes.0 (map (λ w. w.items) ws.items) h.writes.2 (ap lists_of hw)
-
--- what was found stands for the contents
-pub found_gives : (p : ReadMembers) (init : Option (Vec ℕ Global)) (ms : Members) (v : ℕ)
-    (cs : Vec (Vec Event Global) Global) (ws : Vec (Vec ℕ Global) Global) → AreParts p ms → p.version ≡ Some v
-    → p.cores ≡ Some cs → p.writes ≡ Some ws → p.init ≡ init
-    → (c : ParsedModel) × (clipped_contents (object ms) ≡ Some c)
-    × StandsFor (model_of (record { version = v; cores = cs; writes = ws; init = init })) c
-unfolding values_in
-found_gives p None ms v cs ws h hv hc hw hi =
-    let cores = cores_held p ms cs h hc in
-    let lists = lists_held p ms ws h hw in (
-      record { version = v; cores = cores.0; write_lists = lists.0; values = None },
-      contents_by None 3 p ms (rw (hv, hc, hw, hi) refl) h refl
-          ∙ shaped None p ms v cores.0 lists.0 h hv cores.1 lists.1,
-      record { version = refl; values = refl; cores = cores.2; lists = lists.2 },
+-- where parts are there they are these
+parts_there : (v : Option ℕ) (cs : Option (List (List Event))) (ws : Option (List (List ℕ)))
+    (values : Option (List ℕ)) (q : ParsedModel) → parts_of v cs ws values ≡ Some q
+    → (v ≡ Some q.version) × (cs ≡ Some q.cores) × (ws ≡ Some q.write_lists) × (q.values ≡ values)
+parts_there None cs ws values q is = absurd cc
+parts_there (Some v) None ws values q is = absurd cc
+parts_there (Some v) (Some cs) None values q is = absurd cc
+parts_there (Some v) (Some cs) (Some ws) values q is =
+    let c : ParsedModel = record { version = v; cores = cs; write_lists = ws; values = values } in
+    let same : c ≡ q = cc in (
+      ap (λ (p : ParsedModel). Some p.version) same,
+      ap (λ (p : ParsedModel). Some p.cores) same,
+      ap (λ (p : ParsedModel). Some p.write_lists) same,
+      ap (λ (p : ParsedModel). p.values) (sym same),
     )
-found_gives p (Some vs) ms v cs ws h hv hc hw hi =
-    let cores = cores_held p ms cs h hc in
-    let lists = lists_held p ms ws h hw in (
-      record { version = v; cores = cores.0; write_lists = lists.0; values = Some vs.items },
-      contents_by (Some vs.items) 4 p ms (rw (hv, hc, hw, hi) refl) h
-          (ap (option_map Some) (at_key_is (list_in value_in) (codes "init") ms
-          (option_map (λ v. v.items) p.init) h.init
-          ∙ ap (option_map (λ (v : Vec ℕ Global). v.items)) hi))
-          ∙ shaped (Some vs.items) p ms v cores.0 lists.0 h hv cores.1 lists.1,
-      record { version = refl; values = refl; cores = cores.2; lists = lists.2 },
+
+-- for parts that stand for others
+parts_stand : (v : Option ℕ) (cs ds : Option (List (List Event))) (ws us : Option (List (List ℕ)))
+    (values : Option (List ℕ)) (q : ParsedModel) → HoldsSome HoldsCores cs ds → HoldsSome HoldsLists ws us
+    → parts_of v cs ws values ≡ Some q → (c : ParsedModel) × (parts_of v ds us values ≡ Some c) × StandsFor q c
+parts_stand v cs ds ws us values q cores lists is =
+    let there = parts_there v cs ws values q is in
+    let all = some_held HoldsCores cs ds q.cores cores there.1 in
+    let both = some_held HoldsLists ws us q.write_lists lists there.2 in (
+      record { version = q.version; cores = all.0; write_lists = both.0; values = values },
+      are v ds us there.0 all.1 both.1,
+      record { version = refl; values = there.3; cores = all.2; lists = both.2 },
+    )
+  where
+    are : (o : Option ℕ) (es : Option (List (List Event))) (xs : Option (List (List ℕ))) {n : ℕ}
+        {fs : List (List Event)} {ys : List (List ℕ)} → o ≡ Some n → es ≡ Some fs → xs ≡ Some ys
+        → parts_of o es xs values ≡ Some (record { version = n; cores = fs; write_lists = ys; values = values })
+    are o es xs first second third = rw (first, second, third) refl
+
+-- so do contents
+contents_stand : (n : ℕ) (v : Option ℕ) (cs ds : Option (List (List Event))) (ws us : Option (List (List ℕ)))
+    (init : Option (List ℕ)) (q : ParsedModel) → HoldsSome HoldsCores cs ds → HoldsSome HoldsLists ws us
+    → contents_of n v cs ws init ≡ Some q → (c : ParsedModel) × (contents_of n v ds us init ≡ Some c) × StandsFor q c
+unfolding contents_of
+contents_stand n v cs ds ws us init q cores lists is = go (n == 3) (n == 4) init is
+  where
+    go : (three four : Bool) (i : Option (List ℕ))
+        → (if three then parts_of v cs ws None
+        else (if four then option_and_then (λ j. parts_of v cs ws (Some j)) i else None)) ≡ Some q
+        → (c : ParsedModel) × ((if three then parts_of v ds us None
+        else (if four then option_and_then (λ j. parts_of v ds us (Some j)) i else None)) ≡ Some c) × StandsFor q c
+    go true four i is = parts_stand v cs ds ws us None q cores lists is
+    go false true None is = absurd cc
+    go false true (Some j) is = parts_stand v cs ds ws us (Some j) q cores lists is
+    go false false i is = absurd cc
+
+-- what was found stands for the contents that the members give
+pub found_gives : (p : ReadMembers) (n : ℕ) (ms : Members) (o : Option Parsed) (q : Parsed) → AreParts p ms
+    → n ≡ count_of p.version + count_of p.cores + count_of p.writes + count_of p.init
+    → option_map model_of o ≡ contents_of n p.version (lists_of p.cores) (lists_of p.writes)
+    (option_map (λ v. v.items) p.init) → o ≡ Some q
+    → (c : ParsedModel) × (clipped_contents (object ms) ≡ Some c) × StandsFor (model_of q) c
+found_gives p n ms o q h count is found =
+    let init = option_map (λ (v : Vec ℕ Global). v.items) p.init in
+    let c = contents_stand n p.version (lists_of p.cores) h.cores.0 (lists_of p.writes) h.writes.0 init (model_of q)
+    h.cores.2 h.writes.2 (sym is ∙ ap (option_map model_of) found) in (
+      c.0,
+      shape_given (object ms) n p.version h.cores.0 h.writes.0 init (ap Some (h.count ∙ sym count))
+          (at_key_is natural (codes "version") ms _ h.version)
+          (at_key_is (list_in (list_in clipped_event)) (codes "cores") ms _ h.cores.1)
+          (at_key_is (list_in (list_in clipped_number)) (codes "writes") ms _ h.writes.1)
+          (at_key_is (list_in value_in) (codes "init") ms _ h.init) ∙ c.1,
+      c.2,
     )
 
 -- the bytes are read so, where their tokens give the contents and nothing follows

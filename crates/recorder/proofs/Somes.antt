@@ -1,5 +1,6 @@
 -- What is known of something that was found, or made.
 use Rattle.std.proofs.Common.{◌≡◌, Option, Some, None, option_map, IfSome, IsSome, refl, Result, Ok, Err, IfOk, subst}
+use Rattle.std.proofs.Common.{Bool, true, false, if◌then◌else◌}
 
 -- where something was found, more is known of it
 pub if_some : {A : Type 0} {P Q : A → Type 0} (o : Option A) → IfSome o P → ((x : A) → P x → Q x) → IfSome o Q
@@ -36,3 +37,9 @@ always (Err e) p = tt
 pub if_ok : {A E : Type 0} {P Q : Type 0} (r : Result A E) → (P → Q) → IfOk r (λ x. P) → IfOk r (λ x. Q)
 if_ok (Ok x) more p = more p
 if_ok (Err e) more p = tt
+
+-- a function goes into both cases
+pub map_if : {A B : Type 0} (g : A → B) (b : Bool) (p q : Option A)
+    → option_map g (if b then p else q) ≡ (if b then option_map g p else option_map g q)
+map_if g true p q = refl
+map_if g false p q = refl

@@ -72,29 +72,29 @@ event_in d = option_and_then (λ n. option_and_then (λ k. event_of k n
     (at_key source_in (codes "s") d) (at_key value_in (codes "w") d))
     (at_key as_str (codes "k") d)) (option_map count_members (as_object d))
 
--- the initial values of an object with this many keys: none with three, and the fourth of four
-unfoldable pub values_in : ℕ → Data → Option (Option (List ℕ))
-values_in n d =
-    if n == 3 then Some None
-    else (if n == 4 then option_map Some (at_key (list_in value_in) (codes "init") d) else None)
-
--- the contents of an object, with initial values or without
-unfoldable pub contents_with : Option (List ℕ) → Data → Option ParsedModel
-contents_with values d =
-    option_and_then (λ version.
-    option_and_then (λ cores.
-    option_map (λ writes. record {
-      version = version;
-      cores = cores;
-      write_lists = writes;
+-- contents of these parts, with initial values or without
+abbrev pub parts_of : Option ℕ → Option (List (List Event)) → Option (List (List ℕ)) → Option (List ℕ)
+    → Option ParsedModel
+parts_of version cores writes values =
+    option_and_then (λ v. option_and_then (λ cs. option_map (λ ws. record {
+      version = v;
+      cores = cs;
+      write_lists = ws;
       values = values;
-    })
-    (at_key (list_in (list_in number_in)) (codes "writes") d))
-    (at_key (list_in (list_in event_in)) (codes "cores") d))
-    (at_key natural (codes "version") d)
+    }) writes) cores) version
 
+-- contents with this many keys, by what the keys give: the fourth of four has initial values
+unfoldable pub contents_of : ℕ → Option ℕ → Option (List (List Event)) → Option (List (List ℕ)) → Option (List ℕ)
+    → Option ParsedModel
+contents_of n version cores writes init =
+    if n == 3 then parts_of version cores writes None
+    else (if n == 4 then option_and_then (λ values. parts_of version cores writes (Some values)) init else None)
+
+-- the contents of a text: an object with its version, its cores, its write lists and perhaps initial values
 unfoldable pub shape_in : Data → Option ParsedModel
-shape_in d = option_and_then (λ n. option_and_then (λ values. contents_with values d) (values_in n d))
+shape_in d = option_and_then (λ n. contents_of n (at_key natural (codes "version") d)
+    (at_key (list_in (list_in event_in)) (codes "cores") d)
+    (at_key (list_in (list_in number_in)) (codes "writes") d) (at_key (list_in value_in) (codes "init") d))
     (option_map count_members (as_object d))
 
 -- a value has the contents of a text of its version, and they tell the execution

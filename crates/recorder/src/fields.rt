@@ -79,10 +79,26 @@ impl<'a> Fields<'a> {
             self.now.k }
     {
         match (self.k?, keys) {
-            ("L", 4) => Some(Event::L { a: self.a?, r: self.r?, s: self.s? }),
-            ("S", 3) => Some(Event::S { a: self.a?, w: self.w? }),
-            ("R", 5) => Some(Event::R { a: self.a?, r: self.r?, s: self.s?, w: self.w? }),
-            ("C", 4) => Some(Event::C { a: self.a?, r: self.r?, s: self.s? }),
+            ("L", 4) => Some(Event::L {
+                a: self.a?,
+                r: self.r?,
+                s: self.s?,
+            }),
+            ("S", 3) => Some(Event::S {
+                a: self.a?,
+                w: self.w?,
+            }),
+            ("R", 5) => Some(Event::R {
+                a: self.a?,
+                r: self.r?,
+                s: self.s?,
+                w: self.w?,
+            }),
+            ("C", 4) => Some(Event::C {
+                a: self.a?,
+                r: self.r?,
+                s: self.s?,
+            }),
             ("F", 1) => Some(Event::F),
             _ => None,
         }

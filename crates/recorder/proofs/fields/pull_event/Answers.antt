@@ -1,4 +1,4 @@
-use Rattle.std.proofs.Common.{◌∙◌, refl, Some, subst, sym}
+use Rattle.std.proofs.Common.{◌∙◌, refl, sym}
 use Rattle.recorder.specs.Fields.{AreFields}
 use Rattle.recorder.specs.Clipped.{clipped_event}
 use Rattle.recorder.proofs.Somes.{known}
