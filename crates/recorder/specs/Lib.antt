@@ -7,5 +7,4 @@ pub mod Pulled
 pub mod Fields
 pub mod Held
 pub mod ReadMembers
-pub mod Values
 pub mod Written
