@@ -9,14 +9,14 @@ use Rattle.serde_json.specs.declared.value.Value.{Value}
 use Rattle.serde_json.specs.View.{view, items_of}
 use Rattle.recording.specs.declared.event.Event.TheVariants.{L, S, R, C, F}
 use Rattle.recorder.specs.Text.{number_data, list_data, source_data, event_data}
-use Rattle.recorder.specs.Reading.{number_in, value_in, source_in}
+use Rattle.recorder.specs.Reading.{natural, value_in, source_in}
 use Rattle.recorder.specs.Reading.{event_of, event_in}
 use Rattle.recorder.specs.Written.{IsFitting}
 use Rattle.recording.specs.declared.event.Event.{Event}
 use Rattle.recorder.proofs.WrittenTexts.{push_fits}
 
 -- the number of an event or of an address
-pub number_again : (n : ℕ) → number_in (number_data n) ≡ Some n
+pub number_again : (n : ℕ) → natural (number_data n) ≡ Some n
 number_again n = refl
 
 -- an initial value

@@ -2,7 +2,7 @@
 use Rattle.std.proofs.Common.{◌≡◌, ℕ, Option, Some, None, option_map, option_and_then, List, ◌∷◌, map, refl}
 use Rattle.serde_json.specs.Data.{Data, Items, no_items, item}
 use Rattle.serde_json.specs.Find.{get, as_array}
-use Rattle.recorder.specs.Reading.{number_in, event_in, each, list_in, at_key}
+use Rattle.recorder.specs.Reading.{natural, event_in, each, list_in, at_key}
 use Rattle.recorder.specs.Clipped.{clip, clip_event, clipped_number, clipped_event}
 
 -- it is so with one item more
@@ -47,8 +47,8 @@ cores_clipped = lists_clipped clipped_event event_in clip_event (λ d. refl)
 -- and with the write lists
 pub writes_clipped : (key : List ℕ) (d : Data)
     → at_key (list_in (list_in clipped_number)) key d
-    ≡ option_map (map (map clip)) (at_key (list_in (list_in number_in)) key d)
-writes_clipped = lists_clipped clipped_number number_in clip (λ d. refl)
+    ≡ option_map (map (map clip)) (at_key (list_in (list_in natural)) key d)
+writes_clipped = lists_clipped clipped_number natural clip (λ d. refl)
 
 -- both
 pub ruleset clipped = (cores_clipped, writes_clipped)

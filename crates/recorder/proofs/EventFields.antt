@@ -7,7 +7,7 @@ use Rattle.serde_json.specs.Find.{get, as_str, as_object}
 use Rattle.recording.specs.declared.event.Event.TheVariants.{L, S, R, C}
 use Rattle.recorder.specs.declared.fields.Fields.{Fields}
 use Rattle.recording.specs.declared.event.Event.{Event}
-use Rattle.recorder.specs.Reading.{number_in, value_in, source_in, at_key, read_of, event_of, count_members}
+use Rattle.recorder.specs.Reading.{natural, value_in, source_in, at_key, read_of, event_of, count_members}
 use Rattle.recorder.specs.Clipped.{clip, clip_event, clipped_number, clipped_event}
 use Rattle.recorder.specs.Pulled.{clipped_source, GivesValue, Adds}
 use Rattle.recorder.specs.Fields.{count_of, AreFields}
@@ -142,13 +142,13 @@ event_given f n d count k a r s w =
     ap (option_map clip_event) (rw (count, k, r, w) refl) ∙ go f.k
   where
     number : Option ℕ
-    number = at_key number_in (codes "a") d
+    number = at_key natural (codes "a") d
 
     from : Option (Option ℕ)
     from = at_key source_in (codes "s") d
 
     address_is : option_map clip number ≡ f.a
-    address_is = sym (value_clipped clipped_number number_in clip (λ e. refl) (get (codes "a") d)) ∙ a
+    address_is = sym (value_clipped clipped_number natural clip (λ e. refl) (get (codes "a") d)) ∙ a
 
     source_is : option_map (option_map clip) from ≡ f.s
     source_is = sym (value_clipped clipped_source source_in (option_map clip) (λ e. refl) (get (codes "s") d)) ∙ s

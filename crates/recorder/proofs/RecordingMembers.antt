@@ -12,16 +12,15 @@ use Rattle.recording.specs.declared.event.Event.{Event}
 use Rattle.recorder.specs.declared.pulled_members.ReadMembers.{ReadMembers}
 use Rattle.recorder.specs.declared.reading.Parsed.{Parsed}
 use Rattle.recorder.specs.ParsedModel.{ParsedModel}
-use Rattle.recorder.specs.Parsed.{model_of}
+use Rattle.recorder.specs.ParsedModel.{model_of}
 use Rattle.recorder.specs.Held.{HoldsCores, HoldsLists, HoldsSome, StandsFor}
-use Rattle.recorder.specs.Reading.{natural, number_in, value_in, event_in, list_in, at_key, count_members, parts_of, contents_of, shape_in}
+use Rattle.recorder.specs.Reading.{natural, value_in, event_in, list_in, at_key, count_members, parts_of, contents_of, shape_in}
 use Rattle.recorder.specs.Clipped.{clip, clip_event, clipped_shape, clipped_number, clipped_event}
 use Rattle.recorder.specs.Pulled.{GivesValue, Adds}
 use Rattle.recorder.specs.Fields.{count_of}
 use Rattle.recorder.specs.ReadMembers.{AreParts, clipped_contents, IsParsedFrom}
 use Rattle.recorder.proofs.AtKeys.{adds, at_new, at_other, at_key_is, count_new}
 use Rattle.recorder.proofs.Pulled.{whole_read}
-use Rattle.recorder.proofs.Held.{none_held, some_held}
 use Rattle.recorder.proofs.Somes.{map_if}
 use Rattle.recorder.proofs.ClippedLists.{cores_clipped, writes_clipped}
 
@@ -54,12 +53,12 @@ cores_added p o {x} {xs} {depth} {ts} {rest} g holds none is =
     adds AreParts (list_in (list_in clipped_event)) (codes "cores") depth ts rest xs p (record p { cores = o }) g
     (λ ms d gives h. record {
       version = at_other (codes "cores") d refl h.version;
-      cores = (Some xs, at_new ms d xs gives refl, rw is holds);
+      cores = (Some xs, at_new ms d xs gives refl, rw is (xs, refl, holds));
       writes = (h.writes.0, at_other (codes "cores") d refl h.writes.1, h.writes.2);
       init = at_other (codes "cores") d refl h.init;
       count = omega (
         arith,
-        count_new d h.cores.1 (none_held HoldsCores (lists_of p.cores) h.cores.0 h.cores.2 (ap lists_of none)),
+        count_new d h.cores.1 (let held = h.cores.2 in rw none at held),
         h.count,
         ap count_of none,
         ap count_of is,
@@ -77,11 +76,11 @@ writes_added p o {x} {xs} {depth} {ts} {rest} g holds none is =
     (λ ms d gives h. record {
       version = at_other (codes "writes") d refl h.version;
       cores = (h.cores.0, at_other (codes "writes") d refl h.cores.1, h.cores.2);
-      writes = (Some xs, at_new ms d xs gives refl, rw is holds);
+      writes = (Some xs, at_new ms d xs gives refl, rw is (xs, refl, holds));
       init = at_other (codes "writes") d refl h.init;
       count = omega (
         arith,
-        count_new d h.writes.1 (none_held HoldsLists (lists_of p.writes) h.writes.0 h.writes.2 (ap lists_of none)),
+        count_new d h.writes.1 (let held = h.writes.2 in rw none at held),
         h.count,
         ap count_of none,
         ap count_of is,
@@ -139,7 +138,7 @@ pub shape_given : (d : Data) (n : ℕ) (v : Option ℕ) (cs : Option (List (List
 unfolding shape_in
 shape_given d n v cs ws init count version cores writes values =
     let events = at_key (list_in (list_in event_in)) (codes "cores") d in
-    let lists = at_key (list_in (list_in number_in)) (codes "writes") d in
+    let lists = at_key (list_in (list_in natural)) (codes "writes") d in
     let cores_are : option_map (map (map clip_event)) events ≡ cs = sym (cores_clipped (codes "cores") d) ∙ cores in
     let writes_are : option_map (map (map clip)) lists ≡ ws = sym (writes_clipped (codes "writes") d) ∙ writes in
     ap (option_map clipped_shape) (rw (count, version, values) refl)
@@ -167,8 +166,8 @@ parts_stand : (v : Option ℕ) (cs ds : Option (List (List Event))) (ws us : Opt
     → parts_of v cs ws values ≡ Some q → (c : ParsedModel) × (parts_of v ds us values ≡ Some c) × StandsFor q c
 parts_stand v cs ds ws us values q cores lists is =
     let there = parts_there v cs ws values q is in
-    let all = some_held HoldsCores cs ds q.cores cores there.1 in
-    let both = some_held HoldsLists ws us q.write_lists lists there.2 in (
+    let all = rw there.1 at cores in
+    let both = rw there.2 at lists in (
       record { version = q.version; cores = all.0; write_lists = both.0; values = values },
       are v ds us there.0 all.1 both.1,
       record { version = refl; values = there.3; cores = all.2; lists = both.2 },

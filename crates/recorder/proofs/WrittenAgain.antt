@@ -25,10 +25,10 @@ use Rattle.recording.specs.Execution.{Execution}
 use Rattle.recording.specs.Recording.{executed}
 use Rattle.recorder.specs.declared.reading.Parsed.{Parsed}
 use Rattle.recorder.specs.ParsedModel.{ParsedModel}
-use Rattle.recorder.specs.Parsed.{model_of}
+use Rattle.recorder.specs.ParsedModel.{model_of}
 use Rattle.recorder.specs.ReadMembers.{IsParsedFrom, clipped_contents}
 use Rattle.recorder.specs.Clipped.{clip, clip_event, clipped_shape}
-use Rattle.recorder.specs.Reading.{number_in, value_in, event_in, list_in, contents_of, shape_in, Decodes}
+use Rattle.recorder.specs.Reading.{natural, value_in, event_in, list_in, contents_of, shape_in, Decodes}
 use Rattle.recorder.specs.Text.{number_data, list_data, source_data, members, read_members, event_data, data_of}
 use Rattle.recorder.specs.Text.{contents_data, values_of, is_of_version_1}
 use Rattle.recorder.specs.Written.{IsShort, IsWord, IsShortSource, IsFitting, AreFitting, version_of}
@@ -234,9 +234,9 @@ cores_again = fitting_again (list_in event_in) (list_data event_data) (AllByRecu
 
 -- the write lists
 lists_again : (lists : List (List ℕ)) → AllByRecursion (AllByRecursion IsShort) lists
-    → list_in (list_in number_in) (list_data (list_data number_data) lists) ≡ Some lists
-lists_again = fitting_again (list_in number_in) (list_data number_data) (AllByRecursion IsShort)
-    (fitting_again number_in number_data IsShort (λ n h. number_again n))
+    → list_in (list_in natural) (list_data (list_data number_data) lists) ≡ Some lists
+lists_again = fitting_again (list_in natural) (list_data number_data) (AllByRecursion IsShort)
+    (fitting_again natural number_data IsShort (λ n h. number_again n))
 
 -- and the initial values
 init_again : (values : List ℕ) → AllByRecursion IsWord values

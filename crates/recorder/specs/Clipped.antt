@@ -7,7 +7,7 @@ use Rattle.recording.specs.declared.event.Event.TheVariants.{L, S, R, C, F}
 use Rattle.recording.specs.Execution.{Execution}
 use Rattle.recording.specs.Recording.{executed}
 use Rattle.recorder.specs.ParsedModel.{ParsedModel}
-use Rattle.recorder.specs.Reading.{number_in, event_in}
+use Rattle.recorder.specs.Reading.{natural, event_in}
 
 -- a number, or the greatest of 16 bits where it is greater
 abbrev pub clip : ℕ → ℕ
@@ -37,7 +37,7 @@ clipped_shape c = record {
 
 -- what is held of the number of an event or of an address
 abbrev pub clipped_number : Data → Option ℕ
-clipped_number d = option_map clip (number_in d)
+clipped_number d = option_map clip (natural d)
 
 -- what is held of an event
 abbrev pub clipped_event : Data → Option Event

@@ -2,7 +2,6 @@ pub mod Text
 pub mod ParsedModel
 pub mod Reading
 pub mod Clipped
-pub mod Parsed
 pub mod Pulled
 pub mod Fields
 pub mod Held

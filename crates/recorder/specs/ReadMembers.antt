@@ -5,7 +5,7 @@ use Rattle.recorder.specs.declared.pulled_members.ReadMembers.{ReadMembers}
 use Rattle.recorder.specs.declared.reading.Parsed.{Parsed}
 use Rattle.recorder.specs.Text.{IsReadAs}
 use Rattle.recorder.specs.ParsedModel.{ParsedModel}
-use Rattle.recorder.specs.Parsed.{model_of}
+use Rattle.recorder.specs.ParsedModel.{model_of}
 use Rattle.recorder.specs.Reading.{count_members, natural, value_in, list_in, shape_in}
 use Rattle.recorder.specs.Clipped.{clipped_number, clipped_event, clipped_shape}
 use Rattle.recorder.specs.Fields.{count_of}

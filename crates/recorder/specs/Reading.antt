@@ -8,21 +8,16 @@ use Rattle.serde_json.specs.Find.{get, as_null, as_number, as_u64, as_str, as_ar
 use Rattle.recording.specs.declared.event.Event.{Event}
 use Rattle.recording.specs.declared.event.Event.TheVariants.{L, S, R, C, F}
 use Rattle.recording.specs.declared.fault.RecError.{RecError}
-use Rattle.recording.specs.declared.fault.RecError.TheVariants.{NotJson, Shape, Version, Limits, Source, Value}
-use Rattle.recording.specs.declared.fault.RecError.TheVariants.{WriteList, OutOfMemory}
+use Rattle.recording.specs.declared.fault.RecError.TheVariants.{NotJson, Shape, Version, OutOfMemory}
 use Rattle.recording.specs.Execution.{Execution}
 use Rattle.recording.specs.Recording.{IsRecording}
 use Rattle.recorder.specs.ParsedModel.{ParsedModel, execution_of, IsVersioned}
 use Rattle.recording.specs.Refusals.{IsRefusal}
 use Rattle.recorder.specs.Text.{IsReadAs}
 
--- a natural number
+-- a natural number of any size: a version, an address, or the number of an event
 abbrev pub natural : Data → Option ℕ
 natural d = option_and_then as_u64 (as_number d)
-
--- the number of an event or of an address, of any size
-abbrev pub number_in : Data → Option ℕ
-number_in d = natural d
 
 -- a value of 32 bits
 abbrev pub value_word : ℕ → Option ℕ
@@ -33,7 +28,7 @@ value_in d = option_and_then value_word (natural d)
 
 -- a source: null, or the number of an event
 abbrev pub source_in : Data → Option (Option ℕ)
-source_in d = if is_some (as_null d) then Some None else option_map Some (number_in d)
+source_in d = if is_some (as_null d) then Some None else option_map Some (natural d)
 
 -- what a list gives, where each item gives something
 abbrev pub each : {A : Type 0} → (Data → Option A) → Items → Option (List A)
@@ -68,7 +63,7 @@ event_of k n a r s w =
 -- an event: an object with its kind and what the kind has
 abbrev pub event_in : Data → Option Event
 event_in d = option_and_then (λ n. option_and_then (λ k. event_of k n
-    (at_key number_in (codes "a") d) (at_key value_in (codes "r") d)
+    (at_key natural (codes "a") d) (at_key value_in (codes "r") d)
     (at_key source_in (codes "s") d) (at_key value_in (codes "w") d))
     (at_key as_str (codes "k") d)) (option_map count_members (as_object d))
 
@@ -94,7 +89,7 @@ contents_of n version cores writes init =
 unfoldable pub shape_in : Data → Option ParsedModel
 shape_in d = option_and_then (λ n. contents_of n (at_key natural (codes "version") d)
     (at_key (list_in (list_in event_in)) (codes "cores") d)
-    (at_key (list_in (list_in number_in)) (codes "writes") d) (at_key (list_in value_in) (codes "init") d))
+    (at_key (list_in (list_in natural)) (codes "writes") d) (at_key (list_in value_in) (codes "init") d))
     (option_map count_members (as_object d))
 
 -- a value has the contents of a text of its version, and they tell the execution
@@ -111,12 +106,5 @@ IsReadingResult bytes (Err NotJson) = (d : Data) → IsReadAs bytes d → ⊥
 IsReadingResult bytes (Err Shape) = (d : Data) × IsReadAs bytes d × (shape_in d ≡ None)
 IsReadingResult bytes (Err Version) = (d : Data) × IsReadAs bytes d
     × ((c : ParsedModel) × (shape_in d ≡ Some c) × (¬ IsVersioned c))
-IsReadingResult bytes (Err Limits) = (d : Data) × IsReadAs bytes d
-    × ((x : Execution) × Decodes d x × IsRefusal x Limits)
-IsReadingResult bytes (Err (Source e)) = (d : Data) × IsReadAs bytes d
-    × ((x : Execution) × Decodes d x × IsRefusal x (Source e))
-IsReadingResult bytes (Err (Value e)) = (d : Data) × IsReadAs bytes d
-    × ((x : Execution) × Decodes d x × IsRefusal x (Value e))
-IsReadingResult bytes (Err (WriteList a)) = (d : Data) × IsReadAs bytes d
-    × ((x : Execution) × Decodes d x × IsRefusal x (WriteList a))
 IsReadingResult bytes (Err OutOfMemory) = ⊤
+IsReadingResult bytes (Err e) = (d : Data) × IsReadAs bytes d × ((x : Execution) × Decodes d x × IsRefusal x e)

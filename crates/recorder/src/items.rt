@@ -21,8 +21,7 @@ use std::alloc::{AllocError, Global};
 
 /// An item of a list: an event, the number of an event, or an initial value.
 pub(crate) trait Item: Drop + Sized {
-    ghost use Rattle.std.specs.Prelude.{◌≡◌, ◌++◌, ◌∷◌, [], ℕ, suc, List, Option, IfOk, IfSome};
-    ghost use Rattle.recorder.specs.Held.{lists_of};
+    ghost use Rattle.std.specs.Prelude.{◌≡◌, ◌++◌, ◌∷◌, [], ℕ, suc, List, Option, map, IfOk, IfSome};
     ghost use Rattle.serde_json.specs.Data.{Data};
     ghost use Rattle.serde_json.specs.View.{view};
     ghost use Rattle.recorder.specs.Pulled.{GivesValue};
@@ -59,8 +58,8 @@ pub(crate) trait Item: Drop + Sized {
     /// Holds a list more.
     fn hold_list(found: &mut Vec<Vec<Self>>, list: Vec<Self>) -> Result<(), AllocError>
         ensures { IfOk result (λ _. (lists : List (List Self)) (items : List Self)
-            → holds_lists (lists_of found.old.items) lists → holds list.items items
-            → holds_lists (lists_of found.new.items) (lists ++ items ∷ [])) };
+            → holds_lists (map (λ v. v.items) found.old.items) lists → holds list.items items
+            → holds_lists (map (λ v. v.items) found.new.items) (lists ++ items ∷ [])) };
 
     /// The item that a value gives.
     fn read(value: &Value) -> Option<Self>
@@ -77,9 +76,9 @@ pub(crate) trait Item: Drop + Sized {
 }
 
 impl Item for Event {
-    ghost use Rattle.std.proofs.Common.{◌++◌, ◌∷◌, [], List, IfOk, refl, inl};
+    ghost use Rattle.std.proofs.Common.{◌++◌, ◌∷◌, [], List, map, IfOk, refl, inl};
     ghost use Rattle.recording.specs.declared.event.Event.{Event};
-    ghost use Rattle.recorder.specs.Held.{lists_of, HoldsEvents, HoldsCores};
+    ghost use Rattle.recorder.specs.Held.{HoldsEvents, HoldsCores};
     ghost use Rattle.recorder.specs.Text.{event_data};
     ghost use Rattle.recorder.specs.Clipped.{clipped_event};
     ghost use Rattle.recorder.specs.Written.{IsFitting};
@@ -118,8 +117,8 @@ impl Item for Event {
     /// Of those that are too many the first is held, or the last in which a compare-and-swap failed.
     fn hold_list(found: &mut Vec<Vec<Event>>, list: Vec<Event>) -> Result<(), AllocError>
         ensures { IfOk result (λ _. (lists : List (List Event)) (items : List Event)
-            → HoldsCores (lists_of found.old.items) lists → HoldsEvents list.items items
-            → HoldsCores (lists_of found.new.items) (lists ++ items ∷ [])) }
+            → HoldsCores (map (λ v. v.items) found.old.items) lists → HoldsEvents list.items items
+            → HoldsCores (map (λ v. v.items) found.new.items) (lists ++ items ∷ [])) }
     {
         if found.len() <= MAX_CORES {
             found.push(list)?;
@@ -147,8 +146,8 @@ impl Item for Event {
 }
 
 impl Item for u16 {
-    ghost use Rattle.std.proofs.Common.{◌≡◌, ◌++◌, ◌∷◌, [], ℕ, List, IfOk, refl, inl};
-    ghost use Rattle.recorder.specs.Held.{lists_of, HoldsLists};
+    ghost use Rattle.std.proofs.Common.{◌≡◌, ◌++◌, ◌∷◌, [], ℕ, List, map, IfOk, refl, inl};
+    ghost use Rattle.recorder.specs.Held.{HoldsLists};
     ghost use Rattle.recorder.specs.Text.{number_data};
     ghost use Rattle.recorder.specs.Clipped.{clipped_number};
     ghost use Rattle.recorder.specs.Written.{IsShort};
@@ -179,8 +178,8 @@ impl Item for u16 {
     /// Of those that are too many the first is held.
     fn hold_list(found: &mut Vec<Vec<u16>>, list: Vec<u16>) -> Result<(), AllocError>
         ensures { IfOk result (λ _. (lists : List (List ℕ)) (items : List ℕ)
-            → HoldsLists (lists_of found.old.items) lists → list.items ≡ items
-            → HoldsLists (lists_of found.new.items) (lists ++ items ∷ [])) }
+            → HoldsLists (map (λ v. v.items) found.old.items) lists → list.items ≡ items
+            → HoldsLists (map (λ v. v.items) found.new.items) (lists ++ items ∷ [])) }
     {
         if found.len() <= MAX_ADDRESSES {
             found.push(list)?;
@@ -202,8 +201,7 @@ impl Item for u16 {
 }
 
 impl Item for u32 {
-    ghost use Rattle.std.specs.Prelude.{◌≡◌, ◌++◌, ◌∷◌, [], ℕ, List, IfOk, refl};
-    ghost use Rattle.recorder.specs.Held.{lists_of};
+    ghost use Rattle.std.specs.Prelude.{◌≡◌, ◌++◌, ◌∷◌, [], ℕ, List, map, IfOk, refl};
     ghost use Rattle.recorder.specs.Text.{number_data};
     ghost use Rattle.recorder.specs.Reading.{value_in};
     ghost use Rattle.recorder.specs.Written.{IsWord};
@@ -233,8 +231,8 @@ impl Item for u32 {
 
     fn hold_list(found: &mut Vec<Vec<u32>>, list: Vec<u32>) -> Result<(), AllocError>
         ensures { IfOk result (λ _. (lists : List (List ℕ)) (items : List ℕ)
-            → lists_of found.old.items ≡ lists → list.items ≡ items
-            → lists_of found.new.items ≡ lists ++ items ∷ []) }
+            → map (λ v. v.items) found.old.items ≡ lists → list.items ≡ items
+            → map (λ v. v.items) found.new.items ≡ lists ++ items ∷ []) }
     {
         found.push(list)?;
         Ok(())

@@ -4,7 +4,7 @@ ghost use Rattle.std.specs.Prelude.{◌≡◌, ◌+◌, ℕ, suc, [], IfOk, IfSo
 ghost use Rattle.serde_json.specs.Data.{no_members};
 ghost use Rattle.serde_json.specs.Read.{max_depth};
 ghost use Rattle.recorder.specs.ParsedModel.{ParsedModel};
-ghost use Rattle.recorder.specs.Parsed.{model_of};
+ghost use Rattle.recorder.specs.ParsedModel.{model_of};
 ghost use Rattle.recorder.specs.Held.{StandsFor};
 ghost use Rattle.recorder.specs.Fields.{count_of};
 ghost use Rattle.recorder.specs.Reading.{contents_of};

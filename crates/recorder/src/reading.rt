@@ -3,7 +3,7 @@
 ghost use Rattle.std.specs.Prelude.{◌≡◌, ◌↔◌, ℕ, List, Err, IfOk, IfErr, IsTrue, option_map, map};
 ghost use Rattle.serde_json.specs.View.{view, items_view};
 ghost use Rattle.recorder.specs.ParsedModel.{initial_values, IsVersioned};
-ghost use Rattle.recorder.specs.Parsed.{model_of};
+ghost use Rattle.recorder.specs.ParsedModel.{model_of};
 ghost use Rattle.recorder.specs.ReadMembers.{IsParsedFrom};
 ghost use Rattle.recorder.specs.Reading.{each, natural, list_in, at_key, shape_in, IsReadingResult};
 ghost use Rattle.recorder.specs.Text.{IsReadAs};
