@@ -90,22 +90,14 @@ impl<'a> Cursor<'a> {
     pub(crate) fn short(&mut self) -> Option<u16>
         ensures { IfSome result (λ n. Begins number_data IsShort self.old n self.new) }
     {
-        let n = self.number()?;
-        if n > u16::MAX as u64 {
-            return None;
-        }
-        Some(n as u16)
+        u16::try_from(self.number()?).ok()
     }
 
     /// Takes the number of 32 bits that stands next, if one does.
     pub(crate) fn word(&mut self) -> Option<u32>
         ensures { IfSome result (λ n. Begins number_data IsWord self.old n self.new) }
     {
-        let n = self.number()?;
-        if n > u32::MAX as u64 {
-            return None;
-        }
-        Some(n as u32)
+        u32::try_from(self.number()?).ok()
     }
 
     /// Takes the source that stands next, if one does.

@@ -2,8 +2,8 @@
 
 ghost use Rattle.std.specs.Prelude.{◌≡◌, option_map};
 ghost use Rattle.serde_json.specs.View.{view};
-ghost use Rattle.recorder.specs.Reading.{value_in, at_key, count_members};
-ghost use Rattle.recorder.specs.Clipped.{clipped_number, clipped_event};
+ghost use Rattle.recorder.specs.Reading.{at_key, count_members};
+ghost use Rattle.recorder.specs.Clipped.{clipped_event};
 ghost use Rattle.recorder.specs.Pulled.{clipped_source};
 ghost use Rattle.serde_json.specs.Find.{as_object};
 
@@ -188,7 +188,8 @@ impl Item for u16 {
     }
 
     fn read(value: &Value) -> Option<u16> {
-        number_in(value)
+        let n = value.as_u64()?;
+        Some(u16::try_from(n).unwrap_or(u16::MAX))
     }
 
     fn value(&self, _alloc: Global) -> Result<Value, AllocError> {
@@ -239,7 +240,7 @@ impl Item for u32 {
     }
 
     fn read(value: &Value) -> Option<u32> {
-        value_in(value)
+        u32::try_from(value.as_u64()?).ok()
     }
 
     fn value(&self, _alloc: Global) -> Result<Value, AllocError> {
@@ -251,40 +252,20 @@ impl Item for u32 {
     ghost holds_no_list = { refl };
 }
 
-fn number_in(value: &Value) -> Option<u16>
-    ensures { result ≡ clipped_number (view value.now) }
-{
-    let n = value.as_u64()?;
-    Some(u16::try_from(n).unwrap_or(u16::MAX))
-}
-
-fn value_in(value: &Value) -> Option<u32>
-    ensures { result ≡ value_in (view value.now) }
-{
-    let n = value.as_u64()?;
-    u32::try_from(n).ok()
-}
-
 fn source_in(value: &Value) -> Option<Option<u16>>
     ensures { result ≡ clipped_source (view value.now) }
 {
     if value.is_null() {
         return Some(None);
     }
-    let source = number_in(value)?;
+    let source = u16::read(value)?;
     Some(Some(source))
 }
 
-fn number_at(value: &Value, key: &str) -> Option<u16>
-    ensures { result ≡ at_key clipped_number key.now (view value.now) }
+fn read_at<T: Item>(value: &Value, key: &str) -> Option<T>
+    ensures { result ≡ at_key T.held key.now (view value.now) }
 {
-    number_in(value.get(key)?)
-}
-
-fn value_at(value: &Value, key: &str) -> Option<u32>
-    ensures { result ≡ at_key value_in key.now (view value.now) }
-{
-    value_in(value.get(key)?)
+    T::read(value.get(key)?)
 }
 
 fn source_at(value: &Value, key: &str) -> Option<Option<u16>>
@@ -308,10 +289,10 @@ fn event_in(value: &Value) -> Option<Event>
     let kind = value.get("k")?.as_str()?;
     let fields = Fields {
         k: Some(kind),
-        a: number_at(value, "a"),
-        r: value_at(value, "r"),
+        a: read_at(value, "a"),
+        r: read_at(value, "r"),
         s: source_at(value, "s"),
-        w: value_at(value, "w"),
+        w: read_at(value, "w"),
     };
     fields.event(keys)
 }

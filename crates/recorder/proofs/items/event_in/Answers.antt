@@ -8,10 +8,10 @@ pub returns : goal.returns
 returns c =
     let f : Fields = record {
       k = Some c.in_ok-kind.kind;
-      a = c.number_at.result;
-      r = c.value_at.result;
+      a = c.read_at.result;
+      r = c.read_at-2.result;
       s = c.source_at.result;
-      w = c.value_at-2.result;
+      w = c.read_at-3.result;
     } in
     c.event.ensures ∙ sym (event_given f c.in_ok-keys.keys (view c.args.value.now) (search rules) (search rules)
-    (sym c.number_at.ensures) (sym c.value_at.ensures) (sym c.source_at.ensures) (sym c.value_at-2.ensures))
+    (sym c.read_at.ensures) (sym c.read_at-2.ensures) (sym c.source_at.ensures) (sym c.read_at-3.ensures))
