@@ -1,14 +1,15 @@
 -- Laws of rows that are filled.
-use Rattle.std.proofs.Common.{◌≡◌, ◌⊎◌, inl, inr, ℕ, Bool, true, false, Some, List, length}
+use Rattle.std.proofs.Common.{◌≡◌, ◌⊎◌, inl, inr, ℕ, Bool, true, false, List, length}
 use Rattle.std.proofs.Common.{replicate, arith, refl, sym, subst, ◌∙◌}
 use Rattle.std.proofs.lemmas.Bool.{cases_Bool, cases_eq, cases_lt}
 use Rattle.std.proofs.lemmas.List.{get_or-replicate, get_or_past, length-replicate}
 use Rattle.bitrow.specs.Bits.{is_in}
 use Rattle.relations.specs.declared.reason.Reason.{Reason}
-use Rattle.recording.specs.Execution.{Execution, event_count, source_of}
+use Rattle.recording.specs.Execution.{Execution, event_count}
 use Rattle.relations.specs.Forced.{Holds, Forced}
 use Rattle.relations.specs.declared.reason.Reason.TheVariants.{Po, Wo, Rf, Fr}
-use Rattle.relations.specs.Filled.{IsMarkedAs, TellsForced, IsFilled, IsOwnOrWrite, IsFilledRow, IsNoPair}
+use Rattle.relations.specs.Direct.{IsPair}
+use Rattle.relations.specs.Filled.{IsMarkedAs, TellsForced, IsFilled, IsFilledRow, IsNoPair}
 
 -- a row that was not changed is filled for no event
 pub filled_none : (x : Execution) (e : ℕ) (P : ℕ → Type 0) (row : List Bool) → ((f : ℕ) → P f → ⊥)
@@ -64,7 +65,7 @@ filled_both x e P Q R old mid new split h k = record {
 
 -- what an event is forced before is after it on its core, or a write of its address, or reads from it
 pub forced_split : (x : Execution) (e f : ℕ) (reason : Reason) → Holds x reason e f
-    → IsOwnOrWrite x e f ⊎ (source_of x f ≡ Some e)
+    → IsPair true x e f
 forced_split x e f Po h = inl (inl h.0)
 forced_split x e f Wo h = inl (inr (inl h))
 forced_split x e f Rf h = inr h.0
