@@ -21,77 +21,72 @@ use Rattle.recorder.proofs.AtKeys.{adds, at_new, at_other, at_key_is, count_new}
 pub kind_added : (f : Fields) (o : Option (Bor (List ℕ))) {k : Bor (List ℕ)} {depth : ℕ} {ts rest : List Token}
     → GivesValue as_str depth ts k.now rest → f.k ≡ None → o ≡ Some k
     → Adds AreFields (codes "k") depth ts rest f (record f { k = o })
-kind_added f o {k} {depth} {ts} {rest} g none is =
-    adds AreFields as_str (codes "k") depth ts rest k.now f (record f { k = o }) g (λ ms d gives h. record {
-      kind = at_new ms d k.now gives (ap (option_map (λ s. s.now)) is);
-      address = at_other (codes "k") d refl h.address;
-      value_read = at_other (codes "k") d refl h.value_read;
-      source = at_other (codes "k") d refl h.source;
-      value_written = at_other (codes "k") d refl h.value_written;
-      count = omega (
-        arith,
-        count_new d h.kind (ap (option_map (λ s. s.now)) none),
-        h.count,
-        ap count_of none,
-        ap count_of is,
-      );
-    })
+kind_added f o g none is = adds g (λ ms d gives h. record {
+  kind = at_new ms d gives (ap (option_map (λ s. s.now)) is);
+  address = at_other (codes "k") d refl h.address;
+  value_read = at_other (codes "k") d refl h.value_read;
+  source = at_other (codes "k") d refl h.source;
+  value_written = at_other (codes "k") d refl h.value_written;
+  count = omega (
+    arith,
+    count_new d h.kind (ap (option_map (λ s. s.now)) none),
+    h.count,
+    ap count_of none,
+    ap count_of is,
+  );
+})
 
 -- the address
 pub address_added : (f : Fields) (o : Option ℕ) {a : ℕ} {depth : ℕ} {ts rest : List Token}
     → GivesValue clipped_number depth ts a rest → f.a ≡ None → o ≡ Some a
     → Adds AreFields (codes "a") depth ts rest f (record f { a = o })
-address_added f o {a} {depth} {ts} {rest} g none is =
-    adds AreFields clipped_number (codes "a") depth ts rest a f (record f { a = o }) g (λ ms d gives h. record {
-      kind = at_other (codes "a") d refl h.kind;
-      address = at_new ms d a gives is;
-      value_read = at_other (codes "a") d refl h.value_read;
-      source = at_other (codes "a") d refl h.source;
-      value_written = at_other (codes "a") d refl h.value_written;
-      count = omega (arith, count_new d h.address none, h.count, ap count_of none, ap count_of is);
-    })
+address_added f o g none is = adds g (λ ms d gives h. record {
+  kind = at_other (codes "a") d refl h.kind;
+  address = at_new ms d gives is;
+  value_read = at_other (codes "a") d refl h.value_read;
+  source = at_other (codes "a") d refl h.source;
+  value_written = at_other (codes "a") d refl h.value_written;
+  count = omega (arith, count_new d h.address none, h.count, ap count_of none, ap count_of is);
+})
 
 -- the value that is read
 pub value_read_added : (f : Fields) (o : Option ℕ) {r : ℕ} {depth : ℕ} {ts rest : List Token}
     → GivesValue value_in depth ts r rest → f.r ≡ None → o ≡ Some r
     → Adds AreFields (codes "r") depth ts rest f (record f { r = o })
-value_read_added f o {r} {depth} {ts} {rest} g none is =
-    adds AreFields value_in (codes "r") depth ts rest r f (record f { r = o }) g (λ ms d gives h. record {
-      kind = at_other (codes "r") d refl h.kind;
-      address = at_other (codes "r") d refl h.address;
-      value_read = at_new ms d r gives is;
-      source = at_other (codes "r") d refl h.source;
-      value_written = at_other (codes "r") d refl h.value_written;
-      count = omega (arith, count_new d h.value_read none, h.count, ap count_of none, ap count_of is);
-    })
+value_read_added f o g none is = adds g (λ ms d gives h. record {
+  kind = at_other (codes "r") d refl h.kind;
+  address = at_other (codes "r") d refl h.address;
+  value_read = at_new ms d gives is;
+  source = at_other (codes "r") d refl h.source;
+  value_written = at_other (codes "r") d refl h.value_written;
+  count = omega (arith, count_new d h.value_read none, h.count, ap count_of none, ap count_of is);
+})
 
 -- the source
 pub source_added : (f : Fields) (o : Option (Option ℕ)) {s : Option ℕ} {depth : ℕ} {ts rest : List Token}
     → GivesValue clipped_source depth ts s rest → f.s ≡ None → o ≡ Some s
     → Adds AreFields (codes "s") depth ts rest f (record f { s = o })
-source_added f o {s} {depth} {ts} {rest} g none is =
-    adds AreFields clipped_source (codes "s") depth ts rest s f (record f { s = o }) g (λ ms d gives h. record {
-      kind = at_other (codes "s") d refl h.kind;
-      address = at_other (codes "s") d refl h.address;
-      value_read = at_other (codes "s") d refl h.value_read;
-      source = at_new ms d s gives is;
-      value_written = at_other (codes "s") d refl h.value_written;
-      count = omega (arith, count_new d h.source none, h.count, ap count_of none, ap count_of is);
-    })
+source_added f o g none is = adds g (λ ms d gives h. record {
+  kind = at_other (codes "s") d refl h.kind;
+  address = at_other (codes "s") d refl h.address;
+  value_read = at_other (codes "s") d refl h.value_read;
+  source = at_new ms d gives is;
+  value_written = at_other (codes "s") d refl h.value_written;
+  count = omega (arith, count_new d h.source none, h.count, ap count_of none, ap count_of is);
+})
 
 -- the value that is written
 pub value_written_added : (f : Fields) (o : Option ℕ) {w : ℕ} {depth : ℕ} {ts rest : List Token}
     → GivesValue value_in depth ts w rest → f.w ≡ None → o ≡ Some w
     → Adds AreFields (codes "w") depth ts rest f (record f { w = o })
-value_written_added f o {w} {depth} {ts} {rest} g none is =
-    adds AreFields value_in (codes "w") depth ts rest w f (record f { w = o }) g (λ ms d gives h. record {
-      kind = at_other (codes "w") d refl h.kind;
-      address = at_other (codes "w") d refl h.address;
-      value_read = at_other (codes "w") d refl h.value_read;
-      source = at_other (codes "w") d refl h.source;
-      value_written = at_new ms d w gives is;
-      count = omega (arith, count_new d h.value_written none, h.count, ap count_of none, ap count_of is);
-    })
+value_written_added f o g none is = adds g (λ ms d gives h. record {
+  kind = at_other (codes "w") d refl h.kind;
+  address = at_other (codes "w") d refl h.address;
+  value_read = at_other (codes "w") d refl h.value_read;
+  source = at_other (codes "w") d refl h.source;
+  value_written = at_new ms d gives is;
+  count = omega (arith, count_new d h.value_written none, h.count, ap count_of none, ap count_of is);
+})
 
 -- ---- the event
 

@@ -34,14 +34,13 @@ lists_of o = option_map (λ v. map (λ w. w.items) v.items) o
 pub version_added : (p : ReadMembers) (o : Option ℕ) {x depth : ℕ} {ts rest : List Token}
     → GivesValue natural depth ts x rest → p.version ≡ None → o ≡ Some x
     → Adds AreParts (codes "version") depth ts rest p (record p { version = o })
-version_added p o {x} {depth} {ts} {rest} g none is =
-    adds AreParts natural (codes "version") depth ts rest x p (record p { version = o }) g (λ ms d gives h. record {
-      version = at_new ms d x gives is;
-      cores = (h.cores.0, at_other (codes "version") d refl h.cores.1, h.cores.2);
-      writes = (h.writes.0, at_other (codes "version") d refl h.writes.1, h.writes.2);
-      init = at_other (codes "version") d refl h.init;
-      count = omega (arith, count_new d h.version none, h.count, ap count_of none, ap count_of is);
-    })
+version_added p o g none is = adds g (λ ms d gives h. record {
+  version = at_new ms d gives is;
+  cores = (h.cores.0, at_other (codes "version") d refl h.cores.1, h.cores.2);
+  writes = (h.writes.0, at_other (codes "version") d refl h.writes.1, h.writes.2);
+  init = at_other (codes "version") d refl h.init;
+  count = omega (arith, count_new d h.version none, h.count, ap count_of none, ap count_of is);
+})
 
 -- the events of each core
 pub cores_added : (p : ReadMembers) (o : Option (Vec (Vec Event Global) Global)) {x : Vec (Vec Event Global) Global}
@@ -49,21 +48,19 @@ pub cores_added : (p : ReadMembers) (o : Option (Vec (Vec Event Global) Global))
     → GivesValue (list_in (list_in clipped_event)) depth ts xs rest
     → HoldsCores (map (λ w. w.items) x.items) xs → p.cores ≡ None → o ≡ Some x
     → Adds AreParts (codes "cores") depth ts rest p (record p { cores = o })
-cores_added p o {x} {xs} {depth} {ts} {rest} g holds none is =
-    adds AreParts (list_in (list_in clipped_event)) (codes "cores") depth ts rest xs p (record p { cores = o }) g
-    (λ ms d gives h. record {
-      version = at_other (codes "cores") d refl h.version;
-      cores = (Some xs, at_new ms d xs gives refl, rw is (xs, refl, holds));
-      writes = (h.writes.0, at_other (codes "cores") d refl h.writes.1, h.writes.2);
-      init = at_other (codes "cores") d refl h.init;
-      count = omega (
-        arith,
-        count_new d h.cores.1 (let held = h.cores.2 in rw none at held),
-        h.count,
-        ap count_of none,
-        ap count_of is,
-      );
-    })
+cores_added p o {xs = xs} g holds none is = adds g (λ ms d gives h. record {
+  version = at_other (codes "cores") d refl h.version;
+  cores = (Some xs, at_new ms d gives refl, rw is (xs, refl, holds));
+  writes = (h.writes.0, at_other (codes "cores") d refl h.writes.1, h.writes.2);
+  init = at_other (codes "cores") d refl h.init;
+  count = omega (
+    arith,
+    count_new d h.cores.1 (let held = h.cores.2 in rw none at held),
+    h.count,
+    ap count_of none,
+    ap count_of is,
+  );
+})
 
 -- the write lists
 pub writes_added : (p : ReadMembers) (o : Option (Vec (Vec ℕ Global) Global)) {x : Vec (Vec ℕ Global) Global}
@@ -71,34 +68,31 @@ pub writes_added : (p : ReadMembers) (o : Option (Vec (Vec ℕ Global) Global)) 
     → GivesValue (list_in (list_in clipped_number)) depth ts xs rest
     → HoldsLists (map (λ w. w.items) x.items) xs → p.writes ≡ None → o ≡ Some x
     → Adds AreParts (codes "writes") depth ts rest p (record p { writes = o })
-writes_added p o {x} {xs} {depth} {ts} {rest} g holds none is =
-    adds AreParts (list_in (list_in clipped_number)) (codes "writes") depth ts rest xs p (record p { writes = o }) g
-    (λ ms d gives h. record {
-      version = at_other (codes "writes") d refl h.version;
-      cores = (h.cores.0, at_other (codes "writes") d refl h.cores.1, h.cores.2);
-      writes = (Some xs, at_new ms d xs gives refl, rw is (xs, refl, holds));
-      init = at_other (codes "writes") d refl h.init;
-      count = omega (
-        arith,
-        count_new d h.writes.1 (let held = h.writes.2 in rw none at held),
-        h.count,
-        ap count_of none,
-        ap count_of is,
-      );
-    })
+writes_added p o {xs = xs} g holds none is = adds g (λ ms d gives h. record {
+  version = at_other (codes "writes") d refl h.version;
+  cores = (h.cores.0, at_other (codes "writes") d refl h.cores.1, h.cores.2);
+  writes = (Some xs, at_new ms d gives refl, rw is (xs, refl, holds));
+  init = at_other (codes "writes") d refl h.init;
+  count = omega (
+    arith,
+    count_new d h.writes.1 (let held = h.writes.2 in rw none at held),
+    h.count,
+    ap count_of none,
+    ap count_of is,
+  );
+})
 
 -- the initial values
 pub init_added : (p : ReadMembers) (o : Option (Vec ℕ Global)) {x : Vec ℕ Global} {depth : ℕ} {ts rest : List Token}
     → GivesValue (list_in value_in) depth ts x.items rest → p.init ≡ None → o ≡ Some x
     → Adds AreParts (codes "init") depth ts rest p (record p { init = o })
-init_added p o {x} {depth} {ts} {rest} g none is =
+init_added p o g none is =
     let items : Option (Vec ℕ Global) → Option (List ℕ) = λ i. option_map (λ v. v.items) i in
-    adds AreParts (list_in value_in) (codes "init") depth ts rest x.items p (record p { init = o }) g
-    (λ ms d gives h. record {
+    adds g (λ ms d gives h. record {
       version = at_other (codes "init") d refl h.version;
       cores = (h.cores.0, at_other (codes "init") d refl h.cores.1, h.cores.2);
       writes = (h.writes.0, at_other (codes "init") d refl h.writes.1, h.writes.2);
-      init = at_new ms d x.items gives (ap items is);
+      init = at_new ms d gives (ap items is);
       count = omega (arith, count_new d h.init (ap items none), h.count, ap count_of none, ap count_of is);
     })
 
