@@ -21,15 +21,16 @@ pub behind_more : (cores : List (List Event)) (i rest number : ℕ) → i < leng
     → length (get_or cores i []) ≤ rest → IsBehind cores i rest number
     → IsBehind cores (i + 1) (rest - length (get_or cores i [])) number
 behind_more cores i rest number at past h =
-    let front : drop i cores ≡ get_or cores i [] ∷ drop (i + 1) cores = drop_more cores i [] at in
+    let here = h.here in
+    let count = h.count in
     record {
-      here = h.here ∙ (ap (λ (cs : List (List Event)). get_or (placed_from i cs) rest (0, F)) front
-          ∙ placed_behind i (get_or cores i []) (drop (i + 1) cores) rest (0, F) past);
+      here = (rw (drop_more cores i [] at) at here)
+          ∙ placed_behind i (get_or cores i []) (drop (i + 1) cores) rest (0, F) past;
       count = omega (
         arith,
-        h.count,
-        ap (λ (cs : List (List Event)). length (placed_from i cs)) front,
+        rw (drop_more cores i [] at) at count,
         count_from i (get_or cores i []) (drop (i + 1) cores),
+        past,
       );
     }
 
@@ -69,35 +70,22 @@ behind_all x i rest number at h = omega (
 pub core_seen : (vs : List (Vec Event Global)) (cores : List (List Event)) (i : ℕ) (v : Vec Event Global)
     → cores ≡ map (λ v. v.items) vs → i < length vs → v ≡ get_or vs i v
     → (i < length cores) × (get_or cores i [] ≡ v.items)
-core_seen vs cores i v is at read = (
-  omega (
-    arith,
-    ap (λ (cs : List (List Event)). length cs) is,
-    length-map vs (λ (w : Vec Event Global). w.items),
-    at,
-  ),
-  ap (λ (cs : List (List Event)). get_or cs i []) is
-      ∙ (get_or-map (λ (w : Vec Event Global). w.items) vs i v [] at
-      ∙ ap (λ (w : Vec Event Global). w.items) (sym read)),
+core_seen vs cores i v is at read = rw is (
+  omega (arith, length-map vs (λ (w : Vec Event Global). w.items), at),
+  get_or-map (λ (w : Vec Event Global). w.items) vs i v [] at ∙ ap (λ (w : Vec Event Global). w.items) (sym read),
 )
 
 -- the list of an address
 pub list_seen : (vs : List (Vec ℕ Global)) (lists : List (List ℕ)) (a : ℕ) (v : Vec ℕ Global)
     → lists ≡ map (λ v. v.items) vs → a < length vs → v ≡ get_or vs a v → get_or lists a [] ≡ v.items
-list_seen vs lists a v is at read =
-    ap (λ (ls : List (List ℕ)). get_or ls a []) is
-    ∙ (get_or-map (λ (w : Vec ℕ Global). w.items) vs a v [] at
-    ∙ ap (λ (w : Vec ℕ Global). w.items) (sym read))
+list_seen vs lists a v is at read = rw is
+    (get_or-map (λ (w : Vec ℕ Global). w.items) vs a v [] at ∙ ap (λ (w : Vec ℕ Global). w.items) (sym read))
 
 -- past the last address there is none
 pub list_past : (vs : List (Vec ℕ Global)) (lists : List (List ℕ)) (a : ℕ) → lists ≡ map (λ v. v.items) vs
     → length vs ≤ a → [] ≡ get_or lists a []
-list_past vs lists a is past = sym (get_or_past lists a [] (omega (
-  arith,
-  ap (λ (ls : List (List ℕ)). length ls) is,
-  length-map vs (λ (w : Vec ℕ Global). w.items),
-  past,
-)))
+list_past vs lists a is past = rw is (sym (get_or_past (map (λ (w : Vec ℕ Global). w.items) vs) a []
+    (omega (arith, length-map vs (λ (w : Vec ℕ Global). w.items), past))))
 
 -- the first i cores have this many events
 pub record IsCounted (cores : List (List Event)) (i count : ℕ) : Type 0 where
