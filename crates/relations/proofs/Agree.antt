@@ -1,6 +1,6 @@
 -- A table of the forced pairs relates the forced pairs.
 use Rattle.std.proofs.Common.{◌≡◌, ◌<◌, ◌≤◌, ◌↔◌, ◌++◌, inl, inr, ℕ, Bool, true, false, Option, Some, None, List, [], length}
-use Rattle.std.proofs.Common.{get_or, take, arith, refl, sym, ap, subst, ◌∙◌}
+use Rattle.std.proofs.Common.{get_or, take, arith, refl, sym, ap, ◌∙◌}
 use Rattle.std.specs.Prelude.{is_some, All}
 use Rattle.std.proofs.lemmas.Bool.{cases_lt}
 use Rattle.std.proofs.lemmas.List.{get_or_past, length-map, take_at}
@@ -78,8 +78,7 @@ related_is_forced x t wf filled e f = (
 -- the events of a table are those that it is made of
 pub still_indexed : (x : Execution) (ps : List IndexedEvent) (sets : List (List Bool)) (t : Table)
     → table_of ps sets ≡ t → IsRelation ps sets → IsTableOf x t → AreIndexed x ps
-still_indexed x ps sets t seen r of =
-    subst (λ (l : List IndexedEvent). AreIndexed x l) (ap placed_of (sym seen) ∙ events_same ps sets r.size) of
+still_indexed x ps sets t seen r of = rw (ap placed_of (sym seen) ∙ events_same ps sets r.size) at of
 
 -- sets of a table that relates forced pairs alone are filled for none
 pub filled_for_none : (x : Execution) (ps : List IndexedEvent) (sets : List (List Bool)) (t : Table)
@@ -99,10 +98,8 @@ pub filled_table : (x : Execution) (P : ℕ → ℕ → Type 0) (ps : List Index
     → AreIndexed x ps → AreFilled x P sets
     → IsTableOf x (table_of ps sets) × AreFilled x P (sets_of (table_of ps sets))
 filled_table x P ps sets placed filled =
-    let size : length sets ≡ length ps = filled.size ∙ sym placed.size in (
-      subst (λ (l : List IndexedEvent). AreIndexed x l) (sym (events_same ps sets size)) placed,
-      subst (λ (l : List (List Bool)). AreFilled x P l) (sym (sets_same ps sets size)) filled,
-    )
+    let size : length sets ≡ length ps = filled.size ∙ sym placed.size in
+    (rw (events_same ps sets size) placed, rw (sets_same ps sets size) filled)
 
 -- a table of events and of sets that are filled in the place of others
 pub refilled : (x : Execution) (P : ℕ → ℕ → Type 0) (ps : List IndexedEvent) (sets new rest : List (List Bool)) (n : ℕ)
@@ -111,7 +108,6 @@ pub refilled : (x : Execution) (P : ℕ → ℕ → Type 0) (ps : List IndexedEv
     → IsRelation ps (take n (new ++ rest)) × (IsTableOf x (table_of ps (take n (new ++ rest)))
     × AreFilled x P (sets_of (table_of ps (take n (new ++ rest)))))
 refilled x P ps sets new rest n t seen r of few size filled =
-    let placed : AreIndexed x ps = still_indexed x ps sets t seen r of in
-    let same : take n (new ++ rest) ≡ new = take_at new rest n (omega (arith, size, r.size, placed.size, filled.size)) in
-    subst (λ (l : List (List Bool)). IsRelation ps l × (IsTableOf x (table_of ps l) × AreFilled x P (sets_of (table_of ps l))))
-    (sym same) (relation_of_filled x P ps new few placed filled, filled_table x P ps new placed filled)
+    let placed = still_indexed x ps sets t seen r of in
+    rw (take_at new rest n (omega (arith, size, r.size, placed.size, filled.size)))
+    (relation_of_filled x P ps new few placed filled, filled_table x P ps new placed filled)

@@ -79,8 +79,8 @@ pub tells_placed : (x : Execution) (ps : List IndexedEvent) (e f : ℕ) (d k : I
 tells_placed x ps e f d k answer placed he hf tells =
     let first = placed.each e d (omega (arith, placed.size)) in
     let second = placed.each f k (omega (arith, placed.size)) in
-    subst (λ (g : ℕ). TellsForced x g f answer) first.1 (subst
-    (λ (g : ℕ). TellsForced x (get_or ps e d).number g answer) second.1 (tells first.0 second.0))
+    let told = tells first.0 second.0 in
+    rw (first.1, second.1) at told
 
 -- rows of which one is filled for other pairs, the rest for fewer
 pub rows_with : (x : Execution) (P Q : ℕ → ℕ → Type 0) (s : ℕ) (rows : List (List Bool)) (row : List Bool)
@@ -89,10 +89,8 @@ pub rows_with : (x : Execution) (P Q : ℕ → ℕ → Type 0) (s : ℕ) (rows :
 rows_with x P Q s rows row at here others h = record {
   size = length-set rows s row ∙ h.size;
   each = λ e event. elim (cases_eq e s) [
-    | inl one ↦ subst (λ (g : ℕ). IsFilledRow x g (Q g) (get_or (set rows s row) g [])) (sym one)
-        (subst (λ (v : List Bool). IsFilledRow x s (Q s) v)
-        (sym (get_or-set_same rows s row [] (omega (arith, h.size, at)))) here)
-    | inr other ↦ subst (λ (v : List Bool). IsFilledRow x e (Q e) v) (sym (get_or-set_other rows s e row [] other))
+    | inl one ↦ rw (one, get_or-set_same rows s row [] (omega (arith, h.size, at))) here
+    | inr other ↦ rw (get_or-set_other rows s e row [] other)
         (filled_fewer x e (P e) (Q e) _ (get_or rows e []) (others e other) (h.each e event))
   ];
 }
