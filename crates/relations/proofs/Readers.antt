@@ -10,7 +10,7 @@ use Rattle.relations.specs.Forced.{Forced}
 use Rattle.relations.specs.Indexed.{IsIndexed, AreIndexed}
 use Rattle.relations.specs.Filled.{IsMarkedAs, TellsForced, IsFilled, IsFilledRow, IsNoPair, AreFilled}
 use Rattle.relations.specs.Direct.{IsCandidate, IsPair}
-use Rattle.relations.specs.ForcedLaws.{source_writes}
+use Rattle.relations.specs.ForcedLaws.{source_writes, source_within}
 use Rattle.relations.proofs.Filled.{filled_fewer, filled_more, filled_both, forced_split}
 
 -- e may be forced before f without being read, or f is an event below n that reads from e
@@ -70,6 +70,12 @@ pub source_placed : (x : Execution) (ps : List IndexedEvent) (n : ℕ) (d : Inde
 source_placed x ps n d o placed at is =
     let here = placed.each n d (omega (arith, placed.size)) in
     ap (source_of x) (sym here.1) ∙ (sym here.0.source ∙ is)
+
+-- which is an event
+pub source_event : (x : Execution) (ps : List IndexedEvent) (n s : ℕ) (d : IndexedEvent) → AreIndexed x ps
+    → n < event_count x → (get_or ps n d).source ≡ Some s → s < event_count x
+source_event x ps n s d placed at is =
+    source_within x placed.well_formed s n (source_placed x ps n d (Some s) placed at is)
 
 -- what is told of two placed events is told of their numbers
 pub tells_placed : (x : Execution) (ps : List IndexedEvent) (e f : ℕ) (d k : IndexedEvent) (answer : Bool)
