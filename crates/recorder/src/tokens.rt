@@ -8,7 +8,7 @@ ghost use Rattle.recorder.specs.Reading.{natural, value_word, value_in};
 ghost use Rattle.recorder.specs.Clipped.{clip, clipped_number};
 ghost use Rattle.recorder.specs.Pulled.{clipped_source, GivesValue};
 
-use crate::digits::plain_number;
+use crate::cursor::plain_number;
 use json::{Reader, Token};
 
 pub(crate) fn begins_array(reader: &mut Reader<'_>) -> bool
