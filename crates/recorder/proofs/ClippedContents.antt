@@ -1,6 +1,6 @@
 -- The contents of a text, clipped, are of the same version and tell the clipped execution.
-use Rattle.std.proofs.Common.{◌≡◌, inl, inr, ℕ, Option, Some, None, option_map, List, [], ◌∷◌, map}
-use Rattle.std.proofs.Common.{refl, sym, ap, ◌∙◌, replicate}
+use Rattle.std.proofs.Common.{◌≡◌, ℕ, Option, Some, None, List, [], ◌∷◌, map}
+use Rattle.std.proofs.Common.{refl, ap, replicate}
 use Rattle.std.proofs.lemmas.List.{length-map}
 use Rattle.std.specs.List.{list_any}
 use Rattle.recording.specs.declared.event.Event.{Event}
@@ -10,12 +10,6 @@ use Rattle.recording.specs.Event.{is_failed_cas}
 use Rattle.recorder.specs.Text.{has_failed_cas}
 use Rattle.recorder.specs.ParsedModel.{ParsedModel, initial_values, execution_of, IsVersioned}
 use Rattle.recorder.specs.Clipped.{clip, clip_event, clipped, clipped_shape}
-
--- clipped contents come from contents
-pub contents_from : (o : Option ParsedModel) (q : ParsedModel) → Some q ≡ option_map clipped_shape o
-    → (c : ParsedModel) × (o ≡ Some c) × (clipped_shape c ≡ q)
-contents_from None q is = absurd cc
-contents_from (Some c) q is = let same : q ≡ clipped_shape c = cc in (c, refl, sym same)
 
 -- a compare-and-swap that failed is one
 failed_clipped : (v : Event) → is_failed_cas (clip_event v) ≡ is_failed_cas v
@@ -37,13 +31,11 @@ cores_clipped (es ∷ rest) = rw (core_clipped es, cores_clipped rest) refl
 
 -- contents whose clipped form has what its version has have it
 pub versioned_from : (c : ParsedModel) → IsVersioned (clipped_shape c) → IsVersioned c
-versioned_from c (inl (one, none, fails)) = inl (one, none, sym (cores_clipped c.cores) ∙ fails)
-versioned_from c (inr two) = inr two
+versioned_from c h = rw (cores_clipped c.cores) at h
 
 -- and the other way round
 pub versioned_to : (c : ParsedModel) → IsVersioned c → IsVersioned (clipped_shape c)
-versioned_to c (inl (one, none, fails)) = inl (one, none, cores_clipped c.cores ∙ fails)
-versioned_to c (inr two) = inr two
+versioned_to c h = rw (cores_clipped c.cores) h
 
 -- the initial values are the same
 values_same : (values : Option (List ℕ)) (lists : List (List ℕ))

@@ -84,17 +84,14 @@ stands_behind x xs e stands = omega arith
 list_unclipped : (xs : List ℕ) → ((e : ℕ) → 0 < times (map clip xs) e → e < 2 ^ 16 - 1) → map clip xs ≡ xs
 list_unclipped [] below = refl
 list_unclipped (x ∷ xs) below =
-    let first : clip x ≡ x = unclipped x (below (clip x) (omega (
-      arith,
-      times_here (map clip xs) (clip x) (clip x) refl,
-    ))) in
+    let first = unclipped x (below (clip x) (omega (arith, times_here (map clip xs) (clip x) (clip x) refl))) in
     rw (first, list_unclipped xs (λ e stands. below e (stands_behind (clip x) (map clip xs) e stands))) refl
 
 -- a list of numbers below the greatest of 16 bits is not clipped
 list_small : (xs : List ℕ) → ((e : ℕ) → 0 < times xs e → e < 2 ^ 16 - 1) → map clip xs ≡ xs
 list_small [] below = refl
 list_small (x ∷ xs) below =
-    let first : clip x ≡ x = small x (below x (omega (arith, times_here xs x x refl))) in
+    let first = small x (below x (omega (arith, times_here xs x x refl))) in
     rw (first, list_small xs (λ e stands. below e (stands_behind x xs e stands))) refl
 
 -- executions with the same list of an address and the same writes of it
@@ -102,18 +99,16 @@ list_alike : (x y : Execution) (a : ℕ) → write_list x a ≡ write_list y a
     → ((e : ℕ) → Writes y e a → Writes x e a) → ((e : ℕ) → Writes x e a → Writes y e a) → HasWriteList x a
     → HasWriteList y a
 list_alike x y a same back on has = record {
-  once = λ e writes. subst (λ (ws : List ℕ). times ws e ≡ 1) same (has.once e (back e writes));
-  nothing_else = λ e stands. on e (has.nothing_else e (subst (λ (ws : List ℕ). 0 < times ws e) (sym same) stands));
+  once = λ e writes. rw (← same) (has.once e (back e writes));
+  nothing_else = λ e stands. on e (has.nothing_else e (rw same stands));
 }
 
 -- a write list that a clipped execution has was not clipped, and the execution has it
 pub list_from : (x : Execution) → IsWithinLimits x → (a : ℕ) → HasWriteList (clipped x) a
     → (map clip (write_list x a) ≡ write_list x a) × HasWriteList x a
 list_from x within a has =
-    let same : map clip (write_list x a) ≡ write_list x a =
-    list_unclipped (write_list x a) (λ e stands. writer_fits x within e a
-    (writes_from x within e a (has.nothing_else e
-    (subst (λ (ws : List ℕ). 0 < times ws e) (sym (list_clipped x a)) stands)))) in (
+    let same = list_unclipped (write_list x a) (λ e stands. writer_fits x within e a
+    (writes_from x within e a (has.nothing_else e (rw (list_clipped x a) stands)))) in (
       same,
       list_alike (clipped x) x a (list_clipped x a ∙ same) (λ e. writes_to x within e a)
           (λ e. writes_from x within e a) has,
@@ -122,8 +117,7 @@ list_from x within a has =
 -- and the other way round
 list_to : (x : Execution) → IsWithinLimits x → (a : ℕ) → HasWriteList x a → HasWriteList (clipped x) a
 list_to x within a has =
-    let same : map clip (write_list x a) ≡ write_list x a =
-    list_small (write_list x a) (λ e stands. writer_fits x within e a (has.nothing_else e stands)) in
+    let same = list_small (write_list x a) (λ e stands. writer_fits x within e a (has.nothing_else e stands)) in
     list_alike x (clipped x) a (sym (list_clipped x a ∙ same)) (λ e. writes_from x within e a)
     (λ e. writes_to x within e a) has
 
