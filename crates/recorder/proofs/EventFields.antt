@@ -10,7 +10,7 @@ use Rattle.recording.specs.declared.event.Event.{Event}
 use Rattle.recorder.specs.Reading.{natural, value_in, source_in, at_key, read_of, event_of, count_members}
 use Rattle.recorder.specs.Clipped.{clip, clip_event, clipped_number, clipped_event}
 use Rattle.recorder.specs.Pulled.{clipped_source, GivesValue, Adds}
-use Rattle.recorder.specs.Fields.{count_of, AreFields}
+use Rattle.recorder.specs.ReadMembers.{count_of, AreFields}
 use Rattle.recorder.proofs.ClippedLists.{value_clipped}
 use Rattle.recorder.proofs.Somes.{map_if}
 use Rattle.recorder.proofs.AtKeys.{adds, at_new, at_other, at_key_is, count_new}

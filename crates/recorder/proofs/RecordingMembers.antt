@@ -17,7 +17,7 @@ use Rattle.recorder.specs.Held.{HoldsCores, HoldsLists, HoldsSome, StandsFor}
 use Rattle.recorder.specs.Reading.{natural, value_in, event_in, list_in, at_key, count_members, parts_of, contents_of, shape_in}
 use Rattle.recorder.specs.Clipped.{clip, clip_event, clipped_shape, clipped_number, clipped_event}
 use Rattle.recorder.specs.Pulled.{GivesValue, Adds}
-use Rattle.recorder.specs.Fields.{count_of}
+use Rattle.recorder.specs.ReadMembers.{count_of}
 use Rattle.recorder.specs.ReadMembers.{AreParts, clipped_contents, IsParsedFrom}
 use Rattle.recorder.proofs.AtKeys.{adds, at_new, at_other, at_key_is, count_new}
 use Rattle.recorder.proofs.Pulled.{whole_read}

@@ -3,7 +3,6 @@ pub mod ParsedModel
 pub mod Reading
 pub mod Clipped
 pub mod Pulled
-pub mod Fields
 pub mod Held
 pub mod ReadMembers
 pub mod Written

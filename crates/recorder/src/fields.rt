@@ -4,7 +4,7 @@ ghost use Rattle.std.specs.Prelude.{◌≡◌, ℕ, suc, codes, Some, None, IsSo
 ghost use Rattle.recorder.specs.Clipped.{clipped_event};
 ghost use Rattle.recorder.specs.Reading.{event_of};
 ghost use Rattle.recorder.specs.Pulled.{AtKey, Adds, GivesValue, GivesMembers};
-ghost use Rattle.recorder.specs.Fields.{AreFields, count_of};
+ghost use Rattle.recorder.specs.ReadMembers.{AreFields, count_of};
 ghost use Rattle.serde_json.specs.Data.{Members, no_members, object};
 
 use crate::tokens::{begins_object, pull_number, pull_source, pull_text, pull_value};

@@ -6,7 +6,7 @@ ghost use Rattle.serde_json.specs.Read.{max_depth};
 ghost use Rattle.recorder.specs.ParsedModel.{ParsedModel};
 ghost use Rattle.recorder.specs.ParsedModel.{model_of};
 ghost use Rattle.recorder.specs.Held.{StandsFor};
-ghost use Rattle.recorder.specs.Fields.{count_of};
+ghost use Rattle.recorder.specs.ReadMembers.{count_of};
 ghost use Rattle.recorder.specs.Reading.{contents_of};
 ghost use Rattle.recorder.specs.ReadMembers.{AreParts, clipped_contents, IsParsedFrom};
 ghost use Rattle.recorder.specs.Pulled.{Adds, GivesValue, GivesMembers};

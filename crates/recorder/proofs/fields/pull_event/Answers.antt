@@ -1,5 +1,5 @@
 use Rattle.std.proofs.Common.{◌∙◌, refl, sym}
-use Rattle.recorder.specs.Fields.{AreFields}
+use Rattle.recorder.specs.ReadMembers.{AreFields}
 use Rattle.recorder.specs.Clipped.{clipped_event}
 use Rattle.recorder.proofs.Somes.{known}
 use Rattle.recorder.proofs.Pulled.{gives_object}
