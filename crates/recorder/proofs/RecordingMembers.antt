@@ -6,23 +6,21 @@ use Rattle.json.specs.Token.{Token}
 use Rattle.json.specs.Lex.{tokens}
 use Rattle.json.specs.Json.{value}
 use Rattle.serde_json.specs.Read.{max_depth}
-use Rattle.serde_json.specs.Data.{Data, Members, object}
-use Rattle.serde_json.specs.Find.{as_object}
+use Rattle.serde_json.specs.Data.{Members, object}
 use Rattle.recording.specs.declared.event.Event.{Event}
 use Rattle.recorder.specs.declared.pulled_members.ReadMembers.{ReadMembers}
 use Rattle.recorder.specs.declared.reading.Parsed.{Parsed}
 use Rattle.recorder.specs.ParsedModel.{ParsedModel}
 use Rattle.recorder.specs.ParsedModel.{model_of}
 use Rattle.recorder.specs.Held.{HoldsCores, HoldsLists, HoldsSome, StandsFor}
-use Rattle.recorder.specs.Reading.{natural, value_in, event_in, list_in, at_key, count_members, parts_of, contents_of, shape_in}
-use Rattle.recorder.specs.Clipped.{clip, clip_event, clipped_shape, clipped_number, clipped_event}
+use Rattle.recorder.specs.Reading.{natural, value_in, list_in, parts_of, contents_of}
+use Rattle.recorder.specs.Clipped.{clipped_number, clipped_event}
 use Rattle.recorder.specs.Pulled.{GivesValue, Adds}
 use Rattle.recorder.specs.ReadMembers.{count_of}
 use Rattle.recorder.specs.ReadMembers.{AreParts, clipped_contents, IsParsedFrom}
 use Rattle.recorder.proofs.AtKeys.{adds, at_new, at_other, at_key_is, count_new}
 use Rattle.recorder.proofs.Pulled.{whole_read}
-use Rattle.recorder.proofs.Somes.{map_if}
-use Rattle.recorder.proofs.ClippedLists.{cores_clipped, writes_clipped}
+use Rattle.recorder.proofs.ClippedContents.{shape_given}
 
 -- ---- one member more
 
@@ -97,46 +95,6 @@ init_added p o g none is =
     })
 
 -- ---- the contents
-
--- what is clipped of parts
-parts_clipped : (v : Option ℕ) (cs : Option (List (List Event))) (ws : Option (List (List ℕ)))
-    (values : Option (List ℕ)) → option_map clipped_shape (parts_of v cs ws values)
-    ≡ parts_of v (option_map (map (map clip_event)) cs) (option_map (map (map clip)) ws) values
-parts_clipped None cs ws values = refl
-parts_clipped (Some v) None ws values = refl
-parts_clipped (Some v) (Some cs) None values = refl
-parts_clipped (Some v) (Some cs) (Some ws) values = refl
-
--- of contents with initial values
-valued_clipped : (v : Option ℕ) (cs : Option (List (List Event))) (ws : Option (List (List ℕ)))
-    (init : Option (List ℕ)) → option_map clipped_shape (option_and_then (λ i. parts_of v cs ws (Some i)) init)
-    ≡ option_and_then (λ i. parts_of v (option_map (map (map clip_event)) cs) (option_map (map (map clip)) ws)
-    (Some i)) init
-valued_clipped v cs ws None = refl
-valued_clipped v cs ws (Some i) = parts_clipped v cs ws (Some i)
-
--- of all contents
-contents_clipped : (n : ℕ) (v : Option ℕ) (cs : Option (List (List Event))) (ws : Option (List (List ℕ)))
-    (init : Option (List ℕ)) → option_map clipped_shape (contents_of n v cs ws init)
-    ≡ contents_of n v (option_map (map (map clip_event)) cs) (option_map (map (map clip)) ws) init
-unfolding contents_of
-contents_clipped n v cs ws init =
-    simp (map_if, parts_clipped v cs ws None, valued_clipped v cs ws init) refl
-
--- what a value's members give are the contents of what was read of them
-pub shape_given : (d : Data) (n : ℕ) (v : Option ℕ) (cs : Option (List (List Event)))
-    (ws : Option (List (List ℕ))) (init : Option (List ℕ)) → option_map count_members (as_object d) ≡ Some n
-    → at_key natural (codes "version") d ≡ v → at_key (list_in (list_in clipped_event)) (codes "cores") d ≡ cs
-    → at_key (list_in (list_in clipped_number)) (codes "writes") d ≡ ws
-    → at_key (list_in value_in) (codes "init") d ≡ init → clipped_contents d ≡ contents_of n v cs ws init
-unfolding shape_in
-shape_given d n v cs ws init count version cores writes values =
-    let events = at_key (list_in (list_in event_in)) (codes "cores") d in
-    let lists = at_key (list_in (list_in natural)) (codes "writes") d in
-    let cores_are : option_map (map (map clip_event)) events ≡ cs = sym (cores_clipped (codes "cores") d) ∙ cores in
-    let writes_are : option_map (map (map clip)) lists ≡ ws = sym (writes_clipped (codes "writes") d) ∙ writes in
-    ap (option_map clipped_shape) (rw (count, version, values) refl)
-    ∙ contents_clipped n v events lists init ∙ rw (cores_are, writes_are) refl
 
 -- where parts are there they are these
 parts_there : (v : Option ℕ) (cs : Option (List (List Event))) (ws : Option (List (List ℕ)))

@@ -1,6 +1,6 @@
 use Rattle.std.proofs.Common.{sym, ◌∙◌}
 use Rattle.serde_json.specs.View.{view}
-use Rattle.recorder.proofs.RecordingMembers.{shape_given}
+use Rattle.recorder.proofs.ClippedContents.{shape_given}
 use Rattle.recorder.proofs.reading.shape_in.Goals as goal
 
 pub returns : goal.returns
