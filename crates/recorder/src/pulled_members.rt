@@ -53,18 +53,9 @@ impl ReadMembers {
     {
         match key {
             "version" => Ok(once(&mut self.version, pull_natural(reader))),
-            "cores" => {
-                let cores = pull_lists(alloc, reader)?;
-                Ok(once(&mut self.cores, cores))
-            }
-            "writes" => {
-                let writes = pull_lists(alloc, reader)?;
-                Ok(once(&mut self.writes, writes))
-            }
-            "init" => {
-                let init = pull_list(alloc, reader)?;
-                Ok(once(&mut self.init, init))
-            }
+            "cores" => Ok(once(&mut self.cores, pull_lists(alloc, reader)?)),
+            "writes" => Ok(once(&mut self.writes, pull_lists(alloc, reader)?)),
+            "init" => Ok(once(&mut self.init, pull_list(alloc, reader)?)),
             _ => Ok(None),
         }
     }
