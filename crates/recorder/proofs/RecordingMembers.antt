@@ -25,8 +25,8 @@ use Rattle.recorder.proofs.ClippedContents.{shape_given}
 -- ---- one member more
 
 -- lists that stand for others
-abbrev lists_of : {A : Type 0} → Option (Vec (Vec A Global) Global) → Option (List (List A))
-lists_of o = option_map (λ v. map (λ w. w.items) v.items) o
+abbrev lists_there : {A : Type 0} → Option (Vec (Vec A Global) Global) → Option (List (List A))
+lists_there o = option_map (λ v. map (λ w. w.items) v.items) o
 
 -- the version
 pub version_added : (p : ReadMembers) (o : Option ℕ) {x depth : ℕ} {ts rest : List Token}
@@ -150,12 +150,12 @@ contents_stand n v cs ds ws us init q cores lists is = go (n == 3) (n == 4) init
 -- what was found stands for the contents that the members give
 pub found_gives : (p : ReadMembers) (n : ℕ) (ms : Members) (o : Option Parsed) (q : Parsed) → AreParts p ms
     → n ≡ count_of p.version + count_of p.cores + count_of p.writes + count_of p.init
-    → option_map model_of o ≡ contents_of n p.version (lists_of p.cores) (lists_of p.writes)
+    → option_map model_of o ≡ contents_of n p.version (lists_there p.cores) (lists_there p.writes)
     (option_map (λ v. v.items) p.init) → o ≡ Some q
     → (c : ParsedModel) × (clipped_contents (object ms) ≡ Some c) × StandsFor (model_of q) c
 found_gives p n ms o q h count is found =
     let init = option_map (λ (v : Vec ℕ Global). v.items) p.init in
-    let c = contents_stand n p.version (lists_of p.cores) h.cores.0 (lists_of p.writes) h.writes.0 init (model_of q)
+    let c = contents_stand n p.version (lists_there p.cores) h.cores.0 (lists_there p.writes) h.writes.0 init (model_of q)
     h.cores.2 h.writes.2 (sym is ∙ ap (option_map model_of) found) in (
       c.0,
       shape_given (object ms) n p.version h.cores.0 h.writes.0 init (ap Some (h.count ∙ sym count))

@@ -6,7 +6,7 @@ use Rattle.recording.specs.declared.event.Event.{Event}
 use Rattle.recording.specs.declared.event.Event.TheVariants.{F}
 use Rattle.recording.specs.Execution.{Execution, event_count, event_at}
 use Rattle.recording.specs.EventLaws.{event_past}
-use Rattle.recording.specs.Numbered.{numbered, AreNumbered}
+use Rattle.recording.specs.Listed.{numbered, AreNumbered}
 use Rattle.recording.proofs.Finds.{IsBehind, behind_start, behind_more, behind_found, behind_all}
 
 -- the first i events of a list are put into a table from a number on, and the others stay

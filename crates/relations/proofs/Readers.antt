@@ -1,6 +1,6 @@
 -- Rows as the events that read are put into them.
-use Rattle.std.proofs.Common.{◌≡◌, ◌≢◌, ◌<◌, ◌+◌, ◌⊎◌, inl, inr, ℕ, Bool, true, Option, Some, None, List, [], get_or, set}
-use Rattle.std.proofs.Common.{arith, sym, ap, subst, ◌∙◌, get_or-set_other, get_or-set_same, length-set}
+use Rattle.std.proofs.Common.{◌≡◌, ◌≢◌, ◌<◌, ◌+◌, ◌⊎◌, inl, inr, ℕ, Bool, true, Option, Some, None, List}
+use Rattle.std.proofs.Common.{[], get_or, set, arith, sym, ap, subst, ◌∙◌, get_or-set_other, get_or-set_same, length-set}
 use Rattle.std.proofs.lemmas.Bool.{cases_eq}
 use Rattle.std.proofs.lemmas.List.{get_or_default}
 use Rattle.recording.specs.Execution.{Execution, event_count, source_of}

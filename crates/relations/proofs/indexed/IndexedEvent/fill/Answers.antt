@@ -29,10 +29,10 @@ returns-else-all c =
     let written : ℕ → Type 0 = λ f. own f ⊎ write f in
     let two = filled_both x e load store own c.args.row.now c.fill_one.new.row c.fill_one-else-all.new.row (λ f h. h)
     (c.fill_one.ensures x p ps) (c.fill_one-else-all.ensures x p ps) in
-    let three = filled_both x e own write written c.args.row.now c.fill_one-else-all.new.row c.fill_one-else-all-2.new.row
-    (λ f h. h) two (c.fill_one-else-all-2.ensures x p ps) in
-    rw c.if-all.false (filled_both x e written newer (IsCandidate false x e) c.args.row.now c.fill_one-else-all-2.new.row
-    c.fill_one-else-all-3.new.row (λ f next. elim next [
+    let three = filled_both x e own write written c.args.row.now c.fill_one-else-all.new.row
+    c.fill_one-else-all-2.new.row (λ f h. h) two (c.fill_one-else-all-2.ensures x p ps) in
+    rw c.if-all.false (filled_both x e written newer (IsCandidate false x e) c.args.row.now
+    c.fill_one-else-all-2.new.row c.fill_one-else-all-3.new.row (λ f next. elim next [
       | inl behind ↦ inl (inl (inl (c.next_after.ensures.next x f p ps behind)))
       | inr (inl behind) ↦ inl (inl (inr (c.next_after-else-all.ensures.next x f p ps behind)))
       | inr (inr (inl write)) ↦ inl (inr (c.next_write.ensures.next f write))
