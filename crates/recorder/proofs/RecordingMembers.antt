@@ -155,8 +155,8 @@ pub found_gives : (p : ReadMembers) (n : ℕ) (ms : Members) (o : Option Parsed)
     → (c : ParsedModel) × (clipped_contents (object ms) ≡ Some c) × StandsFor (model_of q) c
 found_gives p n ms o q h count is found =
     let init = option_map (λ (v : Vec ℕ Global). v.items) p.init in
-    let c = contents_stand n p.version (lists_there p.cores) h.cores.0 (lists_there p.writes) h.writes.0 init (model_of q)
-    h.cores.2 h.writes.2 (sym is ∙ ap (option_map model_of) found) in (
+    let c = contents_stand n p.version (lists_there p.cores) h.cores.0 (lists_there p.writes) h.writes.0 init
+    (model_of q) h.cores.2 h.writes.2 (sym is ∙ ap (option_map model_of) found) in (
       c.0,
       shape_given (object ms) n p.version h.cores.0 h.writes.0 init (ap Some (h.count ∙ sym count))
           (at_key_is natural (codes "version") ms _ h.version)

@@ -15,8 +15,8 @@ put_pairs-requires-clause-rows c = rw c.as_mut_slice.ensures.value
 
 pub invariant_of-result : goal.invariant_of-result
 invariant_of-result c = (refilled c.args.recording.now (IsPair c.args.all c.args.recording.now)
-    c.self.inside.events.items c.self.inside.rows.items c.put_pairs.new.rows _ c.self.inside.rows.len c.args.self c.self.view_is c.self.invariant
-    c.requires.table c.sound.ensures.within.few_events
+    c.self.inside.events.items c.self.inside.rows.items c.put_pairs.new.rows _ c.self.inside.rows.len c.args.self
+    c.self.view_is c.self.invariant c.requires.table c.sound.ensures.within.few_events
     (omega (arith, ap (λ (l : List (List Bool)). length l) c.as_mut_slice.ensures.value, c.as_mut_slice.ensures.len))
     c.put_pairs.ensures).0
 
