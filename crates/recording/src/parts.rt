@@ -5,6 +5,7 @@ use common::{Addr, CoreId, EventId, MAX_CORES, MAX_EVENTS};
 use std::marker::Model;
 
 /// The events of each core, and the writes and the initial value of each address.
+#[derive(Drop)]
 pub(crate) struct RecordingParts {
     cores: Vec<Vec<Event>>,
     writes: Vec<Vec<EventId>>,
@@ -20,16 +21,6 @@ impl Model for RecordingParts {
 
     ghost view = { λ p. executed (map (λ v. v.items) p.cores.items) (map (λ v. v.items) p.writes.items)
         p.init.items };
-}
-
-impl Drop for RecordingParts {
-    fn drop(self) {
-        let RecordingParts {
-            cores: _,
-            writes: _,
-            init: _,
-        } = self;
-    }
 }
 
 impl RecordingParts {
