@@ -9,12 +9,14 @@ use Rattle.serde_json.specs.declared.value.Value.{Value}
 use Rattle.serde_json.specs.View.{view, items_of}
 use Rattle.recording.specs.declared.event.Event.TheVariants.{L, S, R, C, F}
 use Rattle.recorder.specs.Text.{number_data, list_data, source_data, event_data}
-use Rattle.recorder.specs.Reading.{number_in, value_in, source_in}
-use Rattle.recorder.specs.Reading.{event_of_kind, event_in}
+use Rattle.recorder.specs.Reading.{natural, value_in, source_in}
+use Rattle.recorder.specs.Reading.{event_of, event_in}
+use Rattle.recorder.specs.Written.{IsFitting}
+use Rattle.recording.specs.declared.event.Event.{Event}
 use Rattle.recorder.proofs.WrittenTexts.{push_fits}
 
 -- the number of an event or of an address
-pub number_again : (n : ℕ) → number_in (number_data n) ≡ Some n
+pub number_again : (n : ℕ) → natural (number_data n) ≡ Some n
 number_again n = refl
 
 -- an initial value
@@ -26,32 +28,14 @@ source_again : (s : Option ℕ) → source_in (source_data s) ≡ Some s
 source_again None = refl
 source_again (Some n) = refl
 
--- a load
-pub load_again : (a r : ℕ) (s : Option ℕ) → r < 2 ^ 32 → event_in (event_data (L a r s)) ≡ Some (L a r s)
-unfolding event_in event_of_kind
-load_again a r s hr = rw (lt-ltb r (2 ^ 32) hr, source_again s) refl
-
--- a store
-pub store_again : (a w : ℕ) → w < 2 ^ 32 → event_in (event_data (S a w)) ≡ Some (S a w)
-unfolding event_in event_of_kind
-store_again a w hw = rw (lt-ltb w (2 ^ 32) hw) refl
-
--- a read-modify-write
-pub rmw_again : (a r : ℕ) (s : Option ℕ) (w : ℕ) → r < 2 ^ 32 → w < 2 ^ 32
-    → event_in (event_data (R a r s w)) ≡ Some (R a r s w)
-unfolding event_in event_of_kind
-rmw_again a r s w hr hw = rw (lt-ltb r (2 ^ 32) hr, source_again s, lt-ltb w (2 ^ 32) hw) refl
-
--- a compare-and-swap that failed
-pub failed_cas_again : (a r : ℕ) (s : Option ℕ) → r < 2 ^ 32
-    → event_in (event_data (C a r s)) ≡ Some (C a r s)
-unfolding event_in event_of_kind
-failed_cas_again a r s hr = rw (lt-ltb r (2 ^ 32) hr, source_again s) refl
-
--- a fence
-pub fence_again : event_in (event_data F) ≡ Some F
-unfolding event_in event_of_kind
-fence_again = refl
+-- an event
+pub event_again : (e : Event) → IsFitting e → event_in (event_data e) ≡ Some e
+unfolding event_of
+event_again (L a r s) h = rw (lt-ltb r (2 ^ 32) h.1, source_again s) refl
+event_again (S a w) h = rw (lt-ltb w (2 ^ 32) h.1) refl
+event_again (R a r s w) h = rw (lt-ltb r (2 ^ 32) h.1, source_again s, lt-ltb w (2 ^ 32) h.3) refl
+event_again (C a r s) h = rw (lt-ltb r (2 ^ 32) h.1, source_again s) refl
+event_again F h = refl
 
 -- one item more that fits
 pub fits_more : {A : Type 0} (Fits : A → Type 0) (xs : List A) (i : ℕ) (x : A) → i < length xs

@@ -12,9 +12,9 @@ use Rattle.json.specs.Token.{Token}
 use Rattle.recorder.specs.Pulled.{AtKey, Adds, GivesValue}
 
 -- a value that gives x
-pub at_new : {A : Type 0} {f : Data → Option A} {key : List ℕ} (ms : Members) (d : Data) (x : A) {o : Option A}
+pub at_new : {A : Type 0} {f : Data → Option A} {key : List ℕ} (ms : Members) (d : Data) {x : A} {o : Option A}
     → f d ≡ Some x → o ≡ Some x → AtKey f key (put key d ms) o
-at_new {A} {f} {key} ms d x gives is = record { gives = rw (get_member-put key d ms, is, gives) refl }
+at_new {A} {f} {key} ms d gives is = record { gives = rw (get_member-put key d ms, is, gives) refl }
 
 -- texts that a test tells apart
 apart : (xs ys : List ℕ) → bytes_eq xs ys ≡ false → xs ≡ ys → ⊥
@@ -67,11 +67,11 @@ count_new {A} {f} {key} d {ms} h none =
     count_put key d ms (none_there f (get_member key ms) (h.gives ∙ ap (option_map Some) none))
 
 -- a value that was read is put at a new key
-pub adds : {S A : Type 0} (Are : S → Members → Type 0) (f : Data → Option A) (key : List ℕ) (depth : ℕ)
-    (ts rest : List Token) (x : A) (old new : S) → GivesValue f depth ts x rest
+pub adds : {S A : Type 0} {Are : S → Members → Type 0} {f : Data → Option A} {key : List ℕ} {depth : ℕ}
+    {ts rest : List Token} {x : A} {old new : S} → GivesValue f depth ts x rest
     → ((ms : Members) (d : Data) → f d ≡ Some x → Are old ms → Are new (put key d ms))
     → Adds Are key depth ts rest old new
-adds Are f key depth ts rest x old new g put_in = record {
+adds g put_in = record {
   datum = g.datum;
   read = g.read;
   adds = λ ms h. put_in ms g.datum g.gives h;

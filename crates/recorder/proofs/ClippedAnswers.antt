@@ -12,8 +12,9 @@ use Rattle.recorder.specs.ParsedModel.{ParsedModel, execution_of, IsVersioned}
 use Rattle.recorder.specs.Reading.{shape_in, Decodes, IsReadingResult}
 use Rattle.recorder.specs.Text.{IsReadAs}
 use Rattle.recorder.specs.Clipped.{clipped, clipped_shape}
-use Rattle.recorder.proofs.ClippedContents.{contents_from, versioned_from, versioned_to, execution_clipped}
+use Rattle.recorder.proofs.ClippedContents.{versioned_from, versioned_to, execution_clipped}
 use Rattle.recorder.proofs.ClippedRecording.{recording_from}
+use Rattle.recorder.proofs.Somes.{some_mapped}
 use Rattle.recorder.proofs.ClippedRefusals.{refusal_from}
 
 -- the first refusal is an answer
@@ -31,28 +32,15 @@ refused bytes d x OutOfMemory reads tells is = absurd is
 -- and so is a recording
 read : (bytes : List ℕ) (d : Data) (x z : Execution) → IsReadAs bytes d → Decodes d x → z ≡ clipped x
     → IsRecording (clipped x) → IsReadingResult bytes (Ok z)
-read bytes d x z reads tells held is =
-    let same : z ≡ x = held ∙ recording_from x is in (
-      d,
-      reads,
-      subst (λ (y : Execution). Decodes d y) (sym same) tells,
-      subst IsRecording (sym held) is,
-    )
+read bytes d x z reads tells held is = (d, reads, rw (held ∙ recording_from x is) tells, rw held is)
 
 -- an execution whose clipped form the contents that are held tell, where their version is right
 pub told_from : (d : Data) (q : ParsedModel) → Some q ≡ option_map clipped_shape (shape_in d) → IsVersioned q
     → (c : ParsedModel) × (clipped_shape c ≡ q) × Decodes d (execution_of c)
 told_from d q is versioned =
-    let from = contents_from (shape_in d) q is in (
-      from.0,
-      from.2,
-      record {
-        contents = from.0;
-        shape = from.1;
-        versioned = versioned_from from.0 (subst IsVersioned (sym from.2) versioned);
-        same = refl;
-      },
-    )
+    let from = some_mapped clipped_shape (shape_in d) q (sym is) in
+    let right = versioned_from from.0 (subst IsVersioned (sym from.2) versioned) in
+    (from.0, from.2, record { contents = from.0; shape = from.1; versioned = right; same = refl })
 
 -- what the contents that are held give, where their version is right, is an answer
 pub answers_from : (bytes : List ℕ) (d : Data) (q : ParsedModel) (x : Execution) (r : Result Execution RecError)
@@ -69,15 +57,14 @@ answers_from bytes d q x r reads is versioned held exact ok err =
         → IsOk s ↔ IsRecording x → IfOk s (λ z. z ≡ x) → IfErr s (λ e. IsRefusal x e)
         → IsReadingResult bytes s
     go y tells parts (Ok z) exact ok err =
-        read bytes d y z reads tells (ok ∙ sym parts) (subst IsRecording (sym parts) (exact.0 refl))
+        read bytes d y z reads tells (ok ∙ sym parts) (rw parts (exact.0 refl))
     go y tells parts (Err e) exact ok err =
-        refused bytes d y e reads tells (refusal_from y e
-        (subst (λ (z : Execution). IsRefusal z e) (sym parts) err))
+        refused bytes d y e reads tells (refusal_from y e (rw parts err))
 
 -- where the version of what is held is wrong, that is the answer
 pub version_from : (bytes : List ℕ) (d : Data) (q : ParsedModel) → IsReadAs bytes d
     → Some q ≡ option_map clipped_shape (shape_in d) → (IsVersioned q → ⊥)
     → IsReadingResult bytes (Err Version)
 version_from bytes d q reads is wrong =
-    let from = contents_from (shape_in d) q is in
+    let from = some_mapped clipped_shape (shape_in d) q (sym is) in
     (d, reads, (from.0, from.1, λ right. wrong (subst IsVersioned from.2 (versioned_to from.0 right))))

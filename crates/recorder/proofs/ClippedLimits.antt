@@ -1,9 +1,8 @@
 -- Within the limits a clipped execution reads and writes the same addresses.
-use Rattle.std.proofs.Common.{◌≡◌, ◌<◌, ◌⊎◌, ◌^◌, ◌-◌, inl, inr, ℕ, Some, option_map, map, length, arith, sym}
+use Rattle.std.proofs.Common.{◌≡◌, ◌<◌, ◌⊎◌, ◌^◌, ◌-◌, inl, inr, ℕ, Option, Some, option_map, map, length, arith, sym}
 use Rattle.std.proofs.Common.{ap, ◌∙◌}
 use Rattle.std.proofs.lemmas.List.{length-map}
-use Rattle.recording.specs.Event.{read_address, written_address}
-use Rattle.recording.specs.Execution.{Execution, event_at, Reads, Writes}
+use Rattle.recording.specs.Execution.{Execution, Reads, Writes}
 use Rattle.recording.specs.Recording.{IsWithinLimits}
 use Rattle.recorder.specs.Clipped.{clip, clip_event, clipped}
 use Rattle.recording.specs.EventLaws.{Writes-event}
@@ -21,26 +20,12 @@ within_from x is = record {
   few_cores = omega (arith, is.few_cores, length-map x.cores (map clip_event));
   few_events = omega (arith, is.few_events, count_clipped x);
   few_addresses = omega (arith, is.few_addresses, lists_count x);
-  addresses = λ e a uses. elim uses [
-    | inl reads ↦
-        let below = is.addresses e (clip a) (inl (reads_clipped x e ∙ ap (option_map clip) reads)) in
-        omega (
-          arith,
-          below,
-          lists_count x,
-          unclipped a
-              (omega (arith, below, is.few_addresses, addresses_fit)),
-        )
-    | inr writes ↦
-        let below = is.addresses e (clip a) (inr (writes_clipped x e ∙ ap (option_map clip) writes)) in
-        omega (
-          arith,
-          below,
-          lists_count x,
-          unclipped a
-              (omega (arith, below, is.few_addresses, addresses_fit)),
-        )
-  ];
+  addresses = λ e a uses.
+      let below = is.addresses e (clip a) (elim uses [
+        | inl reads ↦ inl (reads_clipped x e ∙ ap (option_map clip) reads)
+        | inr writes ↦ inr (writes_clipped x e ∙ ap (option_map clip) writes)
+      ]) in
+      omega (arith, below, lists_count x, unclipped a (omega (arith, below, is.few_addresses, addresses_fit)));
   initial = is.initial ∙ lists_count x;
 }
 
@@ -53,27 +38,32 @@ fits x within e a uses = small a (omega (
   addresses_fit,
 ))
 
+-- what is there and not clipped is there in what is clipped
+same_to : {o c : Option ℕ} {a : ℕ} → c ≡ option_map clip o → ((b : ℕ) → o ≡ Some b → clip b ≡ b) → o ≡ Some a
+    → c ≡ Some a
+same_to {a = a} clips fixed is = clips ∙ ap (option_map clip) is ∙ ap Some (fixed a is)
+
+-- and the other way round
+same_from : {o c : Option ℕ} {a : ℕ} → c ≡ option_map clip o → ((b : ℕ) → o ≡ Some b → clip b ≡ b) → c ≡ Some a
+    → o ≡ Some a
+same_from {o} {a = a} clips fixed is =
+    let from = some_mapped clip o a (sym clips ∙ is) in from.1 ∙ ap Some (sym (fixed from.0 from.1) ∙ from.2)
+
 -- so what was read is read
 pub reads_to : (x : Execution) → IsWithinLimits x → (e a : ℕ) → Reads x e a → Reads (clipped x) e a
-reads_to x within e a reads = reads_clipped x e
-    ∙ (ap (option_map clip) reads ∙ ap Some (fits x within e a (inl reads)))
+reads_to x within e a = same_to (reads_clipped x e) (λ b reads. fits x within e b (inl reads))
 
 -- and the other way round
 pub reads_from : (x : Execution) → IsWithinLimits x → (e a : ℕ) → Reads (clipped x) e a → Reads x e a
-reads_from x within e a reads =
-    let from = some_mapped clip (read_address (event_at x e)) a (sym (reads_clipped x e) ∙ reads) in
-    from.1 ∙ ap Some (sym (fits x within e from.0 (inl from.1)) ∙ from.2)
+reads_from x within e a = same_from (reads_clipped x e) (λ b reads. fits x within e b (inl reads))
 
 -- what was written is written
 pub writes_to : (x : Execution) → IsWithinLimits x → (e a : ℕ) → Writes x e a → Writes (clipped x) e a
-writes_to x within e a writes = writes_clipped x e
-    ∙ (ap (option_map clip) writes ∙ ap Some (fits x within e a (inr writes)))
+writes_to x within e a = same_to (writes_clipped x e) (λ b writes. fits x within e b (inr writes))
 
 -- and the other way round
 pub writes_from : (x : Execution) → IsWithinLimits x → (e a : ℕ) → Writes (clipped x) e a → Writes x e a
-writes_from x within e a writes =
-    let from = some_mapped clip (written_address (event_at x e)) a (sym (writes_clipped x e) ∙ writes) in
-    from.1 ∙ ap Some (sym (fits x within e from.0 (inr from.1)) ∙ from.2)
+writes_from x within e a = same_from (writes_clipped x e) (λ b writes. fits x within e b (inr writes))
 
 -- an execution within the limits stays within them
 pub within_to : (x : Execution) → IsWithinLimits x → IsWithinLimits (clipped x)

@@ -2,7 +2,7 @@
 use Rattle.std.proofs.Common.{◌≡◌, ℕ, Option, Some, None, option_map, option_and_then, List, ◌∷◌, map, refl}
 use Rattle.serde_json.specs.Data.{Data, Items, no_items, item}
 use Rattle.serde_json.specs.Find.{get, as_array}
-use Rattle.recorder.specs.Reading.{number_in, event_in, each, list_in, at_key}
+use Rattle.recorder.specs.Reading.{natural, event_in, each, list_in, at_key}
 use Rattle.recorder.specs.Clipped.{clip, clip_event, clipped_number, clipped_event}
 
 -- it is so with one item more
@@ -20,7 +20,7 @@ each_clipped k f g is no_items = refl
 each_clipped k f g is (item d ds) = rw (is d, each_clipped k f g is ds) (item_clipped g (f d) (each f ds))
 
 -- with a value that may be missing
-value_clipped : {A B : Type 0} (k f : A → Option B) (g : B → B) → ((x : A) → k x ≡ option_map g (f x))
+pub value_clipped : {A B : Type 0} (k f : A → Option B) (g : B → B) → ((x : A) → k x ≡ option_map g (f x))
     → (o : Option A) → option_and_then k o ≡ option_map g (option_and_then f o)
 value_clipped k f g is None = refl
 value_clipped k f g is (Some x) = is x
@@ -47,8 +47,8 @@ cores_clipped = lists_clipped clipped_event event_in clip_event (λ d. refl)
 -- and with the write lists
 pub writes_clipped : (key : List ℕ) (d : Data)
     → at_key (list_in (list_in clipped_number)) key d
-    ≡ option_map (map (map clip)) (at_key (list_in (list_in number_in)) key d)
-writes_clipped = lists_clipped clipped_number number_in clip (λ d. refl)
+    ≡ option_map (map (map clip)) (at_key (list_in (list_in natural)) key d)
+writes_clipped = lists_clipped clipped_number natural clip (λ d. refl)
 
 -- both
 pub ruleset clipped = (cores_clipped, writes_clipped)

@@ -7,7 +7,7 @@ use Rattle.recording.specs.declared.event.Event.TheVariants.{F}
 use Rattle.recording.specs.Execution.{Execution, placed_from, event_at, write_list}
 use Rattle.recording.specs.Recording.{IsRecording, IsWithinLimits}
 use Rattle.recorder.specs.Clipped.{clip, clip_event, clipped}
-use Rattle.recording.specs.EventLaws.{placed_here, placed_behind}
+use Rattle.recording.specs.PlacedLaws.{placed_here, placed_behind}
 use Rattle.recording.specs.RefusalLaws.{source_of_recording}
 use Rattle.recorder.proofs.Clipped.{event_clipped}
 use Rattle.recorder.proofs.ClippedLimits.{within_from}

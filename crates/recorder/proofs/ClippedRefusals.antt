@@ -1,7 +1,6 @@
 -- What is refused of a clipped execution is refused of the execution.
 use Rattle.std.proofs.Common.{◌≡◌, ◌<◌, ◌^◌, ◌-◌, inl, inr, ℕ, Option, Some, None, option_map, List, []}
 use Rattle.std.proofs.Common.{◌∷◌, map, slice_index, arith, refl, sym, ap, subst, ◌∙◌}
-use Rattle.std.proofs.lemmas.Bool.{cases_eq}
 use Rattle.recording.specs.declared.fault.RecError.{RecError}
 use Rattle.recording.specs.declared.fault.RecError.TheVariants.{NotJson, Shape, Version, Limits, Source, Value}
 use Rattle.recording.specs.declared.fault.RecError.TheVariants.{WriteList, OutOfMemory}
@@ -14,7 +13,7 @@ use Rattle.recording.specs.Refusals.{HasSource, HasValue, HasWriteList, IsLeastW
 use Rattle.recording.specs.Recording.{IsWithinLimits}
 use Rattle.recording.specs.Tso.{IsValueOf}
 use Rattle.recorder.specs.Clipped.{clip, clip_event, clipped}
-use Rattle.recording.specs.OrderLaws.{times_here, times_there}
+use Rattle.recording.specs.OrderLaws.{times_here}
 use Rattle.recorder.proofs.Clipped.{small, unclipped, event_clipped, list_clipped, sources_clipped}
 use Rattle.recorder.proofs.Somes.{some_mapped}
 use Rattle.recorder.proofs.ClippedLimits.{fits, within_from, within_to, reads_to, reads_from, writes_to}
@@ -23,18 +22,16 @@ use Rattle.recorder.proofs.ClippedLimits.{writes_from, writer_fits}
 -- where a clipped event has its source, the event has it
 pub source_from : (x : Execution) → IsWithinLimits x → (e : ℕ) → HasSource (clipped x) e → HasSource x e
 source_from x within e has a s reads is =
-    let writes : Writes x (clip s) a =
-    writes_from x within (clip s) a (has a (clip s) (reads_to x within e a reads)
+    let writes = writes_from x within (clip s) a (has a (clip s) (reads_to x within e a reads)
     (sources_clipped x e ∙ ap (option_map clip) is)) in
-    subst (λ (t : ℕ). Writes x t a) (unclipped s (writer_fits x within (clip s) a writes)) writes
+    rw (unclipped s (writer_fits x within (clip s) a writes)) at writes
 
 -- and the other way round
 source_to : (x : Execution) → IsWithinLimits x → (e : ℕ) → HasSource x e → HasSource (clipped x) e
 source_to x within e has a t reads is =
     let from = some_mapped clip (source_of x e) t (sym (sources_clipped x e) ∙ is) in
-    let writes : Writes x from.0 a = has a from.0 (reads_from x within e a reads) from.1 in
-    writes_to x within t a (subst (λ (s : ℕ). Writes x s a)
-    (sym (sym from.2 ∙ small from.0 (writer_fits x within from.0 a writes))) writes)
+    let writes = has a from.0 (reads_from x within e a reads) from.1 in
+    writes_to x within t a (rw (sym (small from.0 (writer_fits x within from.0 a writes)) ∙ from.2) at writes)
 
 -- where each read has its source, no source is clipped
 pub source_fits : (x : Execution) → IsWithinLimits x → (e a : ℕ) → HasSource x e → Reads x e a
@@ -80,26 +77,21 @@ value_alike x y same begins e has a reads =
 
 -- what stands after the first number stands in the list
 stands_behind : (x : ℕ) (xs : List ℕ) (e : ℕ) → 0 < times xs e → 0 < times (x ∷ xs) e
-stands_behind x xs e stands = elim (cases_eq x e) [
-  | inl same ↦ omega (arith, times_here xs x e same)
-  | inr other ↦ omega (arith, times_there xs x e other, stands)
-]
+unfolding times
+stands_behind x xs e stands = omega arith
 
 -- a list whose clipped numbers are below the greatest of 16 bits was not clipped
 list_unclipped : (xs : List ℕ) → ((e : ℕ) → 0 < times (map clip xs) e → e < 2 ^ 16 - 1) → map clip xs ≡ xs
 list_unclipped [] below = refl
 list_unclipped (x ∷ xs) below =
-    let first : clip x ≡ x = unclipped x (below (clip x) (omega (
-      arith,
-      times_here (map clip xs) (clip x) (clip x) refl,
-    ))) in
+    let first = unclipped x (below (clip x) (omega (arith, times_here (map clip xs) (clip x) (clip x) refl))) in
     rw (first, list_unclipped xs (λ e stands. below e (stands_behind (clip x) (map clip xs) e stands))) refl
 
 -- a list of numbers below the greatest of 16 bits is not clipped
 list_small : (xs : List ℕ) → ((e : ℕ) → 0 < times xs e → e < 2 ^ 16 - 1) → map clip xs ≡ xs
 list_small [] below = refl
 list_small (x ∷ xs) below =
-    let first : clip x ≡ x = small x (below x (omega (arith, times_here xs x x refl))) in
+    let first = small x (below x (omega (arith, times_here xs x x refl))) in
     rw (first, list_small xs (λ e stands. below e (stands_behind x xs e stands))) refl
 
 -- executions with the same list of an address and the same writes of it
@@ -107,18 +99,16 @@ list_alike : (x y : Execution) (a : ℕ) → write_list x a ≡ write_list y a
     → ((e : ℕ) → Writes y e a → Writes x e a) → ((e : ℕ) → Writes x e a → Writes y e a) → HasWriteList x a
     → HasWriteList y a
 list_alike x y a same back on has = record {
-  once = λ e writes. subst (λ (ws : List ℕ). times ws e ≡ 1) same (has.once e (back e writes));
-  nothing_else = λ e stands. on e (has.nothing_else e (subst (λ (ws : List ℕ). 0 < times ws e) (sym same) stands));
+  once = λ e writes. rw (← same) (has.once e (back e writes));
+  nothing_else = λ e stands. on e (has.nothing_else e (rw same stands));
 }
 
 -- a write list that a clipped execution has was not clipped, and the execution has it
 pub list_from : (x : Execution) → IsWithinLimits x → (a : ℕ) → HasWriteList (clipped x) a
     → (map clip (write_list x a) ≡ write_list x a) × HasWriteList x a
 list_from x within a has =
-    let same : map clip (write_list x a) ≡ write_list x a =
-    list_unclipped (write_list x a) (λ e stands. writer_fits x within e a
-    (writes_from x within e a (has.nothing_else e
-    (subst (λ (ws : List ℕ). 0 < times ws e) (sym (list_clipped x a)) stands)))) in (
+    let same = list_unclipped (write_list x a) (λ e stands. writer_fits x within e a
+    (writes_from x within e a (has.nothing_else e (rw (list_clipped x a) stands)))) in (
       same,
       list_alike (clipped x) x a (list_clipped x a ∙ same) (λ e. writes_to x within e a)
           (λ e. writes_from x within e a) has,
@@ -127,8 +117,7 @@ list_from x within a has =
 -- and the other way round
 list_to : (x : Execution) → IsWithinLimits x → (a : ℕ) → HasWriteList x a → HasWriteList (clipped x) a
 list_to x within a has =
-    let same : map clip (write_list x a) ≡ write_list x a =
-    list_small (write_list x a) (λ e stands. writer_fits x within e a (has.nothing_else e stands)) in
+    let same = list_small (write_list x a) (λ e stands. writer_fits x within e a (has.nothing_else e stands)) in
     list_alike x (clipped x) a (sym (list_clipped x a ∙ same)) (λ e. writes_from x within e a)
     (λ e. writes_to x within e a) has
 

@@ -1,45 +1,12 @@
 -- What was written of an execution tells it again.
-use Rattle.std.proofs.Common.{◌≡◌, ◌==◌, not, inl, inr, ℕ, Bool, true, false, Some, None, List, [], ◌∷◌}
-use Rattle.std.proofs.Common.{length, replicate, refl, sym, ap, subst, ◌∙◌}
+use Rattle.std.proofs.Common.{◌≡◌, ◌==◌, not, inl, inr, ℕ, Bool, true, false, Option, Some, None, List, [], ◌∷◌}
+use Rattle.std.proofs.Common.{length, replicate, refl, sym, ap, ◌∙◌, if◌then◌else◌}
 use Rattle.std.proofs.lemmas.Bool.{and_parts, eqb-true}
 use Rattle.std.specs.List.{list_all}
-use Rattle.serde_json.specs.Data.{Data}
 use Rattle.recording.specs.Execution.{Execution}
-use Rattle.recording.specs.Recording.{executed}
-use Rattle.recorder.specs.ParsedModel.{ParsedModel}
-use Rattle.recorder.specs.Text.{data_of, data_1, data_2, has_failed_cas, list_data, event_data, number_data}
-use Rattle.recorder.specs.Text.{is_of_version_1}
-use Rattle.recorder.specs.Reading.{values_in, contents_with, shape_in, number_in, value_in, event_in, list_in}
-use Rattle.recorder.specs.Reading.{Decodes}
-
--- what both versions have is read again
-pub record ArePartsAgain (x : Execution) : Type 0 where
-  pub cores : list_in (list_in event_in) (list_data (list_data event_data) x.cores) ≡ Some x.cores
-  pub lists : list_in (list_in number_in) (list_data (list_data number_data) x.write_lists)
-      ≡ Some x.write_lists
-
--- so are the initial values
-abbrev pub IsInitAgain : Execution → Type 0
-IsInitAgain x = list_in value_in (list_data number_data x.initial) ≡ Some x.initial
-
--- the contents of a text of version 1
-abbrev contents_1 : Execution → ParsedModel
-contents_1 x = record { version = 1; cores = x.cores; write_lists = x.write_lists; values = None }
-
--- and of version 2
-abbrev contents_2 : Execution → ParsedModel
-contents_2 x = record { version = 2; cores = x.cores; write_lists = x.write_lists; values = Some x.initial }
-
--- so the contents are
-pub shape_1 : (x : Execution) → ArePartsAgain x → shape_in (data_1 x) ≡ Some (contents_1 x)
-unfolding shape_in contents_with values_in
-shape_1 x parts = rw (parts.cores, parts.lists) refl
-
--- also with initial values
-pub shape_2 : (x : Execution) → ArePartsAgain x → IsInitAgain x
-    → shape_in (data_2 x) ≡ Some (contents_2 x)
-unfolding shape_in contents_with values_in
-shape_2 x parts values = rw (values, parts.cores, parts.lists) refl
+use Rattle.recorder.specs.ParsedModel.{ParsedModel, initial_values, IsVersioned}
+use Rattle.recorder.specs.Written.{version_of}
+use Rattle.recorder.specs.Text.{has_failed_cas, is_of_version_1}
 
 -- what version 1 tells
 pub of_version_1 : (x : Execution) → is_of_version_1 x ≡ true
@@ -60,29 +27,15 @@ zeros (v ∷ vs) all =
     let parts = and_parts (v == 0) (list_all (λ (w : ℕ). w == 0) vs) all in
     rw (eqb-true v 0 parts.0, zeros vs parts.1) refl
 
--- a text of version 1 tells its execution
-pub tells_1 : (x : Execution) → ArePartsAgain x → length x.initial ≡ length x.write_lists
-    → is_of_version_1 x ≡ true → Decodes (data_of x) x
-tells_1 x parts size is =
-    let written : data_of x ≡ data_1 x = rw is refl in
-    let plain = of_version_1 x is in
-    let values : replicate (length x.write_lists) 0 ≡ x.initial =
-    ap (λ (n : ℕ). replicate n 0) (sym size) ∙ zeros x.initial plain.1 in
-    subst (λ (d : Data). Decodes d x) (sym written) (record {
-      contents = contents_1 x;
-      shape = shape_1 x parts;
-      versioned = inl (refl, refl, plain.0);
-      same = ap (λ (vs : List ℕ). executed x.cores x.write_lists vs) values;
-    })
-
--- and so does one of version 2
-pub tells_2 : (x : Execution) → ArePartsAgain x → IsInitAgain x
-    → is_of_version_1 x ≡ false → Decodes (data_of x) x
-tells_2 x parts values is =
-    let written : data_of x ≡ data_2 x = rw is refl in
-    subst (λ (d : Data). Decodes d x) (sym written) (record {
-      contents = contents_2 x;
-      shape = shape_2 x parts values;
-      versioned = inr (refl, refl);
-      same = refl;
-    })
+-- the contents that are written have what their version has, and tell the initial values
+pub tells : (x : Execution) → length x.initial ≡ length x.write_lists → (b : Bool) → is_of_version_1 x ≡ b
+    → let values : Option (List ℕ) = if b then None else Some x.initial in
+    let c : ParsedModel =
+    record { version = version_of values; cores = x.cores; write_lists = x.write_lists; values = values } in
+    IsVersioned c × (initial_values values x.write_lists ≡ x.initial)
+tells x size true is =
+    let plain = of_version_1 x is in (
+      inl (refl, refl, plain.0),
+      ap (λ (n : ℕ). replicate n 0) (sym size) ∙ zeros x.initial plain.1,
+    )
+tells x size false is = (inr (refl, refl), refl)

@@ -30,27 +30,27 @@ first_gives f list i v x at is gives = rw (drop_more list i v at, ← is, gives)
 
 -- what was found, and what is left gives, is the same with one item more
 pub front_more : {A : Type 0} (f : Data → Option A) (list : List Value) (i : ℕ) (v : Value) (x : A)
-    (front more : List A) (all : Option (List A)) → i < length list → v ≡ get_or list i v
+    (front more : List A) {all : Option (List A)} → i < length list → v ≡ get_or list i v
     → f (view v) ≡ Some x → more ≡ front ++ x ∷ []
     → with_front front (each f (items_view (drop i list))) ≡ all
     → with_front more (each f (items_view (drop (i + 1) list))) ≡ all
-front_more f list i v x front more all at is gives push same =
+front_more f list i v x front more at is gives push same =
     rw push (item_moved front x (each f (items_view (drop (i + 1) list)))
     ∙ ap (with_front front) (sym (first_gives f list i v x at is gives)) ∙ same)
 
 -- where an item gives nothing, all gives nothing
 pub front_none : {A : Type 0} (f : Data → Option A) (list : List Value) (i : ℕ) (v : Value) (front : List A)
-    (all : Option (List A)) → i < length list → v ≡ get_or list i v → f (view v) ≡ None
+    {all : Option (List A)} → i < length list → v ≡ get_or list i v → f (view v) ≡ None
     → with_front front (each f (items_view (drop i list))) ≡ all → None ≡ all
-front_none f list i v front all at is gives same =
+front_none f list i v front at is gives same =
     let nothing : each f (items_view (drop i list)) ≡ None = rw (drop_more list i v at, ← is, gives) refl in
     sym (ap (with_front front) nothing) ∙ same
 
 -- after the last item what was found is what all gives
 pub front_all : {A : Type 0} (f : Data → Option A) (list : List Value) (i : ℕ) (front : List A)
-    (all : Option (List A)) → length list ≤ i
+    {all : Option (List A)} → length list ≤ i
     → with_front front (each f (items_view (drop i list))) ≡ all → Some front ≡ all
-front_all f list i front all past same =
+front_all f list i front past same =
     let over : each f (items_view (drop i list)) ≡ Some [] = rw (drop_all i list past) refl in
     sym (ap Some (append-nil front)) ∙ sym (ap (with_front front) over) ∙ same
 

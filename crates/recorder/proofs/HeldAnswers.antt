@@ -1,5 +1,5 @@
 -- What is answered of contents for which others stand.
-use Rattle.std.proofs.Common.{◌≡◌, ◌<◌, ◌⊎◌, ◌↔◌, ◌∙◌, inl, inr, ℕ, Option, Some, IsSome, option_map, List, [], ◌∷◌}
+use Rattle.std.proofs.Common.{◌≡◌, ◌<◌, ◌⊎◌, ◌↔◌, inl, inr, ℕ, Option, Some, option_map, List, [], ◌∷◌}
 use Rattle.std.proofs.Common.{map, length, refl, sym, ap, subst, arith, Result, Ok, Err, IsOk, IfOk, IfErr}
 use Rattle.std.proofs.lemmas.List.{length-map}
 use Rattle.std.proofs.lemmas.List.Sums.{sum_by-cons}
@@ -30,10 +30,7 @@ failed_same held cores (inr both) = both.2
 -- the version is right for the one where it is for the other
 versioned_by : (q c : ParsedModel) → q.version ≡ c.version → q.values ≡ c.values
     → has_failed_cas q.cores ≡ has_failed_cas c.cores → IsVersioned q → IsVersioned c
-versioned_by q c version values failed (inl (one, none, fine)) =
-    inl (sym version ∙ one, sym values ∙ none, sym failed ∙ fine)
-versioned_by q c version values failed (inr (two, some)) =
-    inr (sym version ∙ two, subst (λ (o : Option (List ℕ)). IsSome o) values some)
+versioned_by q c version values failed h = rw (← version, ← values, ← failed) h
 
 -- contents beyond the limits
 abbrev IsLarge : ParsedModel → Type 0

@@ -1,6 +1,6 @@
 -- What a text in the layout of `write_recording` has is what is read of it.
 use Rattle.std.proofs.Common.{◌≡◌, ◌<◌, ◌≤◌, ◌^◌, ◌+◌, ℕ, List, [], ◌∷◌, ◌++◌, Option, Some, None, option_map, map}
-use Rattle.std.proofs.Common.{option_and_then, Bool, true, false, length, codes, if◌then◌else◌}
+use Rattle.std.proofs.Common.{option_and_then, false, length, codes}
 use Rattle.std.proofs.Common.{inl, inr, ◌⊎◌, IsUtf8, refl, sym, ap, ◌∙◌, arith, append-nil}
 use Rattle.std.proofs.lemmas.Bool.{lt-ltb}
 use Rattle.std.specs.List.{AllByRecursion}
@@ -25,19 +25,17 @@ use Rattle.recording.specs.Execution.{Execution}
 use Rattle.recording.specs.Recording.{executed}
 use Rattle.recorder.specs.declared.reading.Parsed.{Parsed}
 use Rattle.recorder.specs.ParsedModel.{ParsedModel}
-use Rattle.recorder.specs.Parsed.{model_of}
+use Rattle.recorder.specs.ParsedModel.{model_of}
 use Rattle.recorder.specs.ReadMembers.{IsParsedFrom, clipped_contents}
 use Rattle.recorder.specs.Clipped.{clip, clip_event, clipped_shape}
-use Rattle.recorder.specs.Reading.{number_in, value_in, event_in, list_in, Decodes}
-use Rattle.recorder.specs.Text.{number_data, list_data, source_data, event_data, data_of, data_1, data_2}
-use Rattle.recorder.specs.Text.{is_of_version_1}
-use Rattle.recorder.specs.Values.{read_members, AreFitting, values_of}
-use Rattle.recorder.specs.Written.{IsShort, IsWord, IsShortSource, IsFitting, AreFittingValues, version_of}
-use Rattle.recorder.specs.Written.{written_data, BeginsRecording}
-use Rattle.recorder.proofs.Again.{number_again, value_again, load_again, store_again}
-use Rattle.recorder.proofs.Again.{rmw_again, failed_cas_again, fence_again}
+use Rattle.recorder.specs.Reading.{natural, value_in, event_in, list_in, contents_of, shape_in, Decodes}
+use Rattle.recorder.specs.Text.{number_data, list_data, source_data, members, read_members, event_data, data_of}
+use Rattle.recorder.specs.Text.{contents_data, values_of, is_of_version_1}
+use Rattle.recorder.specs.Written.{IsShort, IsWord, IsShortSource, IsFitting, AreFitting, version_of}
+use Rattle.recorder.specs.Written.{BeginsRecording}
+use Rattle.recorder.proofs.Again.{number_again, value_again, event_again}
 use Rattle.recorder.proofs.Newline.{tokens_newline}
-use Rattle.recorder.proofs.Decoded.{ArePartsAgain, shape_1, shape_2, tells_1, tells_2}
+use Rattle.recorder.proofs.Decoded.{tells}
 
 -- ---- the value is read of its text
 
@@ -97,7 +95,7 @@ list_rereads f Fits k each xs all =
 
 -- an event that reads, of this kind
 read_rereads : (kind : List ℕ) (a r : ℕ) (s : Option ℕ) → IsShort a → IsWord r → IsShortSource s
-    → Rereads 1 (object (read_members kind a r s))
+    → Rereads 1 (object (members (read_members kind a r s)))
 read_rereads kind a r s short word source =
     let x = number_rereads a (omega (arith, short)) in
     let y = number_rereads r (omega (arith, word)) in
@@ -153,24 +151,22 @@ values_reread = list_rereads number_data IsWord 0 (λ n h. number_rereads n (ome
 
 -- the contents
 contents_reread : (values : Option (List ℕ)) (cores : List (List Event)) (lists : List (List ℕ))
-    → AreFittingValues values → AllByRecursion (AllByRecursion IsFitting) cores
-    → AllByRecursion (AllByRecursion IsShort) lists
-    → Rereads 4 (written_data values cores lists)
-contents_reread None cores lists words fitting short =
-    let x = cores_reread cores fitting in
+    → AreFitting values cores lists → Rereads 4 (contents_data values cores lists)
+contents_reread None cores lists h =
+    let x = cores_reread cores h.events in
     let y = number_rereads 1 (omega arith) in
-    let z = lists_reread lists short in
+    let z = lists_reread lists h.numbers in
     record {
       same = rw (x.same, y.same, z.same) refl;
       numbers = (x.numbers, (y.numbers, (z.numbers, tt)));
       shallow = omega (arith, x.shallow, z.shallow);
       no_float = rw (x.no_float, z.no_float) refl;
     }
-contents_reread (Some values) cores lists words fitting short =
-    let x = cores_reread cores fitting in
-    let u = values_reread values words in
+contents_reread (Some values) cores lists h =
+    let x = cores_reread cores h.events in
+    let u = values_reread values h.words in
     let y = number_rereads 2 (omega arith) in
-    let z = lists_reread lists short in
+    let z = lists_reread lists h.numbers in
     record {
       same = rw (x.same, u.same, y.same, z.same) refl;
       numbers = (x.numbers, (u.numbers, (y.numbers, (z.numbers, tt))));
@@ -223,14 +219,6 @@ map_same : {A : Type 0} (g : A → A) (Fits : A → Type 0) → ((x : A) → Fit
 map_same g Fits each [] all = refl
 map_same g Fits each (x ∷ xs) all = rw (each x all.0, map_same g Fits each xs all.1) refl
 
--- each event gives itself
-event_again : (e : Event) → IsFitting e → event_in (event_data e) ≡ Some e
-event_again (L a r s) h = load_again a r s h.1
-event_again (S a w) h = store_again a w h.1
-event_again (R a r s w) h = rmw_again a r s w h.1 h.3
-event_again (C a r s) h = failed_cas_again a r s h.1
-event_again F h = fence_again
-
 -- and so do all items of a list
 fitting_again : {A : Type 0} (f : Data → Option A) (g : A → Data) (Fits : A → Type 0)
     → ((x : A) → Fits x → f (g x) ≡ Some x) → (xs : List A) → AllByRecursion Fits xs
@@ -246,13 +234,9 @@ cores_again = fitting_again (list_in event_in) (list_data event_data) (AllByRecu
 
 -- the write lists
 lists_again : (lists : List (List ℕ)) → AllByRecursion (AllByRecursion IsShort) lists
-    → list_in (list_in number_in) (list_data (list_data number_data) lists) ≡ Some lists
-lists_again = fitting_again (list_in number_in) (list_data number_data) (AllByRecursion IsShort)
-    (fitting_again number_in number_data IsShort (λ n h. number_again n))
-
--- so do the cores and the write lists
-parts_again : (values : Option (List ℕ)) (x : Execution) → AreFitting values x → ArePartsAgain x
-parts_again values x h = record { cores = cores_again x.cores h.cores; lists = lists_again x.write_lists h.lists }
+    → list_in (list_in natural) (list_data (list_data number_data) lists) ≡ Some lists
+lists_again = fitting_again (list_in natural) (list_data number_data) (AllByRecursion IsShort)
+    (fitting_again natural number_data IsShort (λ n h. number_again n))
 
 -- and the initial values
 init_again : (values : List ℕ) → AllByRecursion IsWord values
@@ -260,26 +244,24 @@ init_again : (values : List ℕ) → AllByRecursion IsWord values
 init_again = fitting_again value_in number_data IsWord value_again
 
 -- the contents
-contents_again : (values : Option (List ℕ)) (cores : List (List Event)) (lists : List (List ℕ))
-    → AreFittingValues values → AllByRecursion (AllByRecursion IsFitting) cores
-    → AllByRecursion (AllByRecursion IsShort) lists
-    → clipped_contents (written_data values cores lists)
+shape_again : (values : Option (List ℕ)) (cores : List (List Event)) (lists : List (List ℕ))
+    → AreFitting values cores lists → shape_in (contents_data values cores lists)
     ≡ Some (record { version = version_of values; cores = cores; write_lists = lists; values = values })
-contents_again None cores lists words fitting short =
-    ap (option_map clipped_shape) (shape_1 (executed cores lists [])
-    (parts_again None _ (record { cores = fitting; lists = short; words = tt })))
+unfolding shape_in contents_of
+shape_again None cores lists h = rw (cores_again cores h.events, lists_again lists h.numbers) refl
+shape_again (Some values) cores lists h =
+    rw (init_again values h.words, cores_again cores h.events, lists_again lists h.numbers) refl
+
+-- and none of their numbers is clipped
+contents_again : (values : Option (List ℕ)) (cores : List (List Event)) (lists : List (List ℕ))
+    → AreFitting values cores lists → clipped_contents (contents_data values cores lists)
+    ≡ Some (record { version = version_of values; cores = cores; write_lists = lists; values = values })
+contents_again values cores lists h =
+    ap (option_map clipped_shape) (shape_again values cores lists h)
     ∙ rw (
       map_same (map clip_event) (AllByRecursion IsFitting) (map_same clip_event IsFitting clip_event_same) cores
-          fitting,
-      map_same (map clip) (AllByRecursion IsShort) (map_same clip IsShort clip_same) lists short,
-    ) refl
-contents_again (Some values) cores lists words fitting short =
-    ap (option_map clipped_shape) (shape_2 (executed cores lists values)
-    (parts_again None _ (record { cores = fitting; lists = short; words = tt })) (init_again values words))
-    ∙ rw (
-      map_same (map clip_event) (AllByRecursion IsFitting) (map_same clip_event IsFitting clip_event_same) cores
-          fitting,
-      map_same (map clip) (AllByRecursion IsShort) (map_same clip IsShort clip_same) lists short,
+          h.events,
+      map_same (map clip) (AllByRecursion IsShort) (map_same clip IsShort clip_same) lists h.numbers,
     ) refl
 
 -- contents of another number of the version
@@ -295,25 +277,24 @@ pub written_read : (bytes rest : List ℕ) (q : Parsed) → IsUtf8 bytes → Beg
     → (rest ≡ []) ⊎ (rest ≡ 10 ∷ []) → IsParsedFrom bytes q
 written_read bytes rest q utf8 h ends =
     let c : ParsedModel = model_of q in
-    let again = contents_reread c.values c.cores c.write_lists h.values h.cores h.lists in (
-      written_data c.values c.cores c.write_lists,
-      (utf8, read_bytes bytes rest (written_data c.values c.cores c.write_lists) again h.begins ends),
+    let again = contents_reread c.values c.cores c.write_lists h.fits in (
+      contents_data c.values c.cores c.write_lists,
+      (utf8, read_bytes bytes rest (contents_data c.values c.cores c.write_lists) again h.begins ends),
       c,
-      contents_again c.values c.cores c.write_lists h.values h.cores h.lists ∙ versioned c h.versioned,
+      contents_again c.values c.cores c.write_lists h.fits ∙ versioned c h.versioned,
       record { version = refl; values = refl; cores = inl refl; lists = inl refl },
     )
 
+-- the numbers of an execution fit
+abbrev pub FitsText : Execution → Type 0
+FitsText x = AreFitting (values_of x) x.cores x.write_lists
+
 -- the value of an execution whose numbers fit is read of its text
-pub execution_rereads : (x : Execution) → AreFitting (values_of x) x → Rereads 4 (data_of x)
-execution_rereads x h = by (is_of_version_1 x) h
-  where
-    by : (b : Bool) → AreFitting (if b then None else Some x.initial) x
-        → Rereads 4 (if b then data_1 x else data_2 x)
-    by true h = contents_reread None x.cores x.write_lists tt h.cores h.lists
-    by false h = contents_reread (Some x.initial) x.cores x.write_lists h.words h.cores h.lists
+pub execution_rereads : (x : Execution) → FitsText x → Rereads 4 (data_of x)
+execution_rereads x h = contents_reread (values_of x) x.cores x.write_lists h
 
 -- its text and a newline
-pub execution_written : (x : Execution) (bytes text : List ℕ) (d : Data) → AreFitting (values_of x) x
+pub execution_written : (x : Execution) (bytes text : List ℕ) (d : Data) → FitsText x
     → d ≡ data_of x → (has_float d ≡ false → text ≡ compact_text d) → bytes ≡ text ++ 10 ∷ []
     → bytes ≡ compact_text (data_of x) ++ 10 ∷ []
 execution_written x bytes text d fits is written whole =
@@ -321,11 +302,17 @@ execution_written x bytes text d fits is written whole =
     whole ∙ ap (λ (t : List ℕ). t ++ 10 ∷ []) (written none ∙ ap compact_text is)
 
 -- and tells it
-pub execution_told : (x : Execution) → AreFitting (values_of x) x → length x.initial ≡ length x.write_lists
-    → Decodes (data_of x) x
-execution_told x h size = by (is_of_version_1 x) refl h
-  where
-    by : (b : Bool) → is_of_version_1 x ≡ b → AreFitting (if b then None else Some x.initial) x
-        → Decodes (data_of x) x
-    by true is h = tells_1 x (parts_again None x h) size is
-    by false is h = tells_2 x (parts_again (Some x.initial) x h) (init_again x.initial h.words) is
+pub execution_told : (x : Execution) → FitsText x → length x.initial ≡ length x.write_lists → Decodes (data_of x) x
+execution_told x h size =
+    let told = tells x size (is_of_version_1 x) refl in
+    record {
+      contents = record {
+        version = version_of (values_of x);
+        cores = x.cores;
+        write_lists = x.write_lists;
+        values = values_of x;
+      };
+      shape = shape_again (values_of x) x.cores x.write_lists h;
+      versioned = told.0;
+      same = ap (λ (values : List ℕ). executed x.cores x.write_lists values) told.1;
+    }

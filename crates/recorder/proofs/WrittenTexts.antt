@@ -140,9 +140,7 @@ found_begins text a b c d e rest version None cores lists opens first head then 
           (follow_1 (compact_text (list_data (list_data event_data) cores))
           (compact_text (list_data (list_data number_data) lists)) rest);
       versioned = is;
-      cores = first.fits;
-      lists = second.fits;
-      values = tt;
+      fits = record { events = first.fits; numbers = second.fits; words = tt };
     }
 found_begins text a b c d e rest version (Some values) cores lists opens first head then second closes is =
     let two : decimal 2 ≡ 50 ∷ [] = decimal_digit 2 (omega arith) in
@@ -151,7 +149,5 @@ found_begins text a b c d e rest version (Some values) cores lists opens first h
           (follow_2 (compact_text (list_data (list_data event_data) cores))
           (compact_text (list_data number_data values)) (compact_text (list_data (list_data number_data) lists)) rest);
       versioned = is;
-      cores = first.fits;
-      lists = second.fits;
-      values = head.0;
+      fits = record { events = first.fits; numbers = second.fits; words = head.0 };
     }

@@ -7,7 +7,7 @@ use Rattle.recording.specs.declared.event.Event.TheVariants.{L, S, R, C, F}
 use Rattle.recording.specs.Execution.{Execution}
 use Rattle.recording.specs.Recording.{executed}
 use Rattle.recorder.specs.ParsedModel.{ParsedModel}
-use Rattle.recorder.specs.Reading.{number_in, reads_in, event_in}
+use Rattle.recorder.specs.Reading.{natural, event_in}
 
 -- a number, or the greatest of 16 bits where it is greater
 abbrev pub clip : ℕ → ℕ
@@ -37,12 +37,8 @@ clipped_shape c = record {
 
 -- what is held of the number of an event or of an address
 abbrev pub clipped_number : Data → Option ℕ
-clipped_number d = option_map clip (number_in d)
+clipped_number d = option_map clip (natural d)
 
 -- what is held of an event
 abbrev pub clipped_event : Data → Option Event
 clipped_event d = option_map clip_event (event_in d)
-
--- what is held of the address, the value and the source of an event that reads
-abbrev pub clipped_reads : Data → Option (ℕ × ℕ × Option ℕ)
-clipped_reads d = option_map (λ p. (clip p.0, p.1, option_map clip p.2)) (reads_in d)

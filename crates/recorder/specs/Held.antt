@@ -1,17 +1,12 @@
 -- What is held of a text with more cores, events or write lists than a recording may have: as many as show
 -- that, so that a long text takes no room for the others.
-use Rattle.std.specs.Prelude.{◌≡◌, ◌<◌, ◌⊎◌, ℕ, List, Option, None, Some, length, map, sum_by, ⊤}
-use Rattle.std.proofs.Common.{Vec, Global}
+use Rattle.std.specs.Prelude.{◌≡◌, ◌<◌, ◌⊎◌, ℕ, List, Option, None, Some, length, sum_by}
 use Rattle.std.specs.List.{list_any}
 use Rattle.common.specs.declared.limits.TheConstants.{MAX_CORES, MAX_EVENTS, MAX_ADDRESSES}
 use Rattle.recording.specs.declared.event.Event.{Event}
 use Rattle.recording.specs.Event.{is_failed_cas}
 use Rattle.recorder.specs.Text.{has_failed_cas}
 use Rattle.recorder.specs.ParsedModel.{ParsedModel}
-
--- what vectors have
-abbrev pub lists_of : {A : Type 0} → List (Vec A Global) → List (List A)
-lists_of vs = map (λ v. v.items) vs
 
 -- the events of a core; or too many of too many, in which a compare-and-swap failed where one did in all
 abbrev pub HoldsEvents : List Event → List Event → Type 0
@@ -34,10 +29,8 @@ HoldsLists held lists = (held ≡ lists) ⊎ ((MAX_ADDRESSES < length held) × (
 
 -- what is held of something that may be there
 abbrev pub HoldsSome : {A : Type 0} → (A → A → Type 0) → Option A → Option A → Type 0
-HoldsSome Holds None None = ⊤
-HoldsSome Holds None (Some y) = ⊥
-HoldsSome Holds (Some x) None = ⊥
-HoldsSome Holds (Some x) (Some y) = Holds x y
+HoldsSome Holds None o = o ≡ None
+HoldsSome {A} Holds (Some x) o = (y : A) × (o ≡ Some y) × Holds x y
 
 -- what is held of the contents of a text
 pub record StandsFor (held c : ParsedModel) : Type 0 where

@@ -2,10 +2,7 @@ pub mod Text
 pub mod ParsedModel
 pub mod Reading
 pub mod Clipped
-pub mod Parsed
 pub mod Pulled
-pub mod Fields
 pub mod Held
 pub mod ReadMembers
-pub mod Values
 pub mod Written

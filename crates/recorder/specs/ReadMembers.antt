@@ -1,19 +1,33 @@
--- What was read of a recording's members, and what they are.
-use Rattle.std.specs.Prelude.{◌≡◌, ◌+◌, ℕ, List, Option, Some, codes, map, option_map}
+-- What was read of the members of an event or of a recording, and what they are.
+use Rattle.std.specs.Prelude.{◌≡◌, ◌+◌, ℕ, List, Option, Some, None, codes, map, option_map}
 use Rattle.serde_json.specs.Data.{Data, Members}
+use Rattle.serde_json.specs.Find.{as_str}
+use Rattle.recording.specs.declared.event.Event.{Event}
+use Rattle.recorder.specs.declared.fields.Fields.{Fields}
 use Rattle.recorder.specs.declared.pulled_members.ReadMembers.{ReadMembers}
 use Rattle.recorder.specs.declared.reading.Parsed.{Parsed}
 use Rattle.recorder.specs.Text.{IsReadAs}
-use Rattle.recorder.specs.ParsedModel.{ParsedModel}
-use Rattle.recorder.specs.Parsed.{model_of}
+use Rattle.recorder.specs.ParsedModel.{ParsedModel, model_of}
 use Rattle.recorder.specs.Reading.{count_members, natural, value_in, list_in, shape_in}
 use Rattle.recorder.specs.Clipped.{clipped_number, clipped_event, clipped_shape}
-use Rattle.recorder.specs.Fields.{count_of}
-use Rattle.recorder.specs.Pulled.{AtKey}
+use Rattle.recorder.specs.Pulled.{clipped_source, AtKey}
 use Rattle.recorder.specs.Held.{HoldsCores, HoldsLists, HoldsSome, StandsFor}
-use Rattle.recording.specs.declared.event.Event.{Event}
 
--- the members have what was read, or what that stands for, and nothing else
+-- 1 for what was read
+abbrev pub count_of : {A : Type 0} → Option A → ℕ
+count_of None = 0
+count_of (Some x) = 1
+
+-- the members of an event have what was read, and nothing else
+pub record AreFields (f : Fields) (ms : Members) : Type 0 where
+  pub kind : AtKey as_str (codes "k") ms (option_map (λ s. s.now) f.k)
+  pub address : AtKey clipped_number (codes "a") ms f.a
+  pub value_read : AtKey value_in (codes "r") ms f.r
+  pub source : AtKey clipped_source (codes "s") ms f.s
+  pub value_written : AtKey value_in (codes "w") ms f.w
+  pub count : count_members ms ≡ count_of f.k + count_of f.a + count_of f.r + count_of f.s + count_of f.w
+
+-- the members of a recording have what was read, or what that stands for, and nothing else
 pub record AreParts (p : ReadMembers) (ms : Members) : Type 0 where
   pub version : AtKey natural (codes "version") ms p.version
   pub cores : (o : Option (List (List Event))) × AtKey (list_in (list_in clipped_event)) (codes "cores") ms o

@@ -30,27 +30,18 @@ abbrev pub source_data : Option ℕ → Data
 source_data None = null
 source_data (Some s) = number_data s
 
+-- what an event of this kind that reads has
+abbrev pub read_members : List ℕ → ℕ → ℕ → Option ℕ → List (List ℕ × Data)
+read_members kind a r s = (codes "a", number_data a) ∷ (codes "k", string kind) ∷ (codes "r", number_data r)
+    ∷ (codes "s", source_data s) ∷ []
+
 -- an event is an object with its kind and what the kind has
 abbrev pub event_data : Event → Data
-event_data (L a r s) =
-    object (members ((codes "a", number_data a) ∷ (codes "k", string (codes "L")) ∷ (
-      codes "r",
-      number_data r,
-    ) ∷ (codes "s", source_data s) ∷ []))
-event_data (S a w) = object (members ((codes "a", number_data a) ∷ (
-  codes "k",
-  string (codes "S"),
-) ∷ (codes "w", number_data w) ∷ []))
-event_data (R a r s w) =
-    object (members ((codes "a", number_data a) ∷ (codes "k", string (codes "R")) ∷ (
-      codes "r",
-      number_data r,
-    ) ∷ (codes "s", source_data s) ∷ (codes "w", number_data w) ∷ []))
-event_data (C a r s) =
-    object (members ((codes "a", number_data a) ∷ (codes "k", string (codes "C")) ∷ (
-      codes "r",
-      number_data r,
-    ) ∷ (codes "s", source_data s) ∷ []))
+event_data (L a r s) = object (members (read_members (codes "L") a r s))
+event_data (S a w) = object (members ((codes "a", number_data a) ∷ (codes "k", string (codes "S"))
+    ∷ (codes "w", number_data w) ∷ []))
+event_data (R a r s w) = object (members (read_members (codes "R") a r s ++ (codes "w", number_data w) ∷ []))
+event_data (C a r s) = object (members (read_members (codes "C") a r s))
 event_data F = object (members ((codes "k", string (codes "F")) ∷ []))
 
 -- a core has a compare-and-swap that failed
@@ -61,26 +52,21 @@ has_failed_cas cores = list_any (list_any is_failed_cas) cores
 unfoldable pub is_of_version_1 : Execution → Bool
 is_of_version_1 x = not (has_failed_cas x.cores) && list_all (λ v. v == 0) x.initial
 
--- version 1: the cores' events, the version, and the write lists
-abbrev pub data_1 : Execution → Data
-data_1 x = object (members ((codes "cores", list_data (list_data event_data) x.cores) ∷ (
-  codes "version",
-  number_data 1,
-) ∷ (codes "writes", list_data (list_data number_data) x.write_lists) ∷ []))
+-- contents without initial values are of version 1, and with them of version 2
+abbrev pub contents_data : Option (List ℕ) → List (List Event) → List (List ℕ) → Data
+contents_data None cores lists = object (members ((codes "cores", list_data (list_data event_data) cores)
+    ∷ (codes "version", number_data 1) ∷ (codes "writes", list_data (list_data number_data) lists) ∷ []))
+contents_data (Some values) cores lists = object (members ((codes "cores", list_data (list_data event_data) cores)
+    ∷ (codes "init", list_data number_data values) ∷ (codes "version", number_data 2)
+    ∷ (codes "writes", list_data (list_data number_data) lists) ∷ []))
 
--- version 2: the initial values too
-abbrev pub data_2 : Execution → Data
-data_2 x = object (members ((codes "cores", list_data (list_data event_data) x.cores) ∷ (
-  codes "init",
-  list_data number_data x.initial,
-) ∷ (codes "version", number_data 2) ∷ (
-  codes "writes",
-  list_data (list_data number_data) x.write_lists,
-) ∷ []))
+-- the initial values that the text of an execution has: none where version 1 tells all
+abbrev pub values_of : Execution → Option (List ℕ)
+values_of x = if is_of_version_1 x then None else Some x.initial
 
--- version 1 where it tells all, else version 2
+-- the value that is written of an execution
 abbrev pub data_of : Execution → Data
-data_of x = if is_of_version_1 x then data_1 x else data_2 x
+data_of x = contents_data (values_of x) x.cores x.write_lists
 
 -- the text without spaces, and a newline
 unfoldable pub recording_text : Execution → List ℕ

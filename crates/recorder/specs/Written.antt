@@ -1,13 +1,12 @@
 -- What a text in the layout of `write_recording` has: no blanks, and the keys of each object in ascending order.
-use Rattle.std.specs.Prelude.{◌≡◌, ◌<◌, ◌^◌, ℕ, List, [], ◌++◌, Option, None, Some, codes, ⊤}
+use Rattle.std.specs.Prelude.{◌≡◌, ◌<◌, ◌^◌, ℕ, List, ◌++◌, Option, None, Some, codes, ⊤}
 use Rattle.std.specs.List.{AllByRecursion}
 use Rattle.serde_json.specs.Data.{Data}
 use Rattle.serde_json.specs.Written.{compact_text}
 use Rattle.recording.specs.declared.event.Event.{Event}
 use Rattle.recording.specs.declared.event.Event.TheVariants.{L, S, R, C, F}
-use Rattle.recording.specs.Recording.{executed}
 use Rattle.recorder.specs.ParsedModel.{ParsedModel}
-use Rattle.recorder.specs.Text.{number_data, list_data, data_1, data_2}
+use Rattle.recorder.specs.Text.{number_data, list_data, contents_data}
 
 -- 16 bits of the number of an event or of an address
 abbrev pub IsShort : ℕ → Type 0
@@ -52,15 +51,14 @@ abbrev pub version_of : Option (List ℕ) → ℕ
 version_of None = 1
 version_of (Some values) = 2
 
--- the value of contents, by whether they have initial values
-abbrev pub written_data : Option (List ℕ) → List (List Event) → List (List ℕ) → Data
-written_data None cores lists = data_1 (executed cores lists [])
-written_data (Some values) cores lists = data_2 (executed cores lists values)
+-- each number of contents fits
+pub record AreFitting (values : Option (List ℕ)) (cores : List (List Event)) (lists : List (List ℕ)) : Type 0 where
+  pub events : AllByRecursion (AllByRecursion IsFitting) cores
+  pub numbers : AllByRecursion (AllByRecursion IsShort) lists
+  pub words : AreFittingValues values
 
 -- the text begins with the contents, which fit, and the rest follows them
 pub record BeginsRecording (text : List ℕ) (c : ParsedModel) (rest : List ℕ) : Type 0 where
-  pub begins : text ≡ compact_text (written_data c.values c.cores c.write_lists) ++ rest
+  pub begins : text ≡ compact_text (contents_data c.values c.cores c.write_lists) ++ rest
   pub versioned : c.version ≡ version_of c.values
-  pub cores : AllByRecursion (AllByRecursion IsFitting) c.cores
-  pub lists : AllByRecursion (AllByRecursion IsShort) c.write_lists
-  pub values : AreFittingValues c.values
+  pub fits : AreFitting c.values c.cores c.write_lists

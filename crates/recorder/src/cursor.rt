@@ -1,5 +1,9 @@
 //! What is left of a text, and the numbers that it begins with.
 
+ghost use Rattle.std.specs.Prelude.{◌≡◌, Some, IfSome};
+ghost use Rattle.serde_json.specs.Data.{unsigned};
+ghost use Rattle.serde_json.specs.Read.{number_of};
+
 use std::marker::Model;
 
 /// The least number that gets no further digit.
@@ -43,14 +47,18 @@ impl<'a> Cursor<'a> {
         false
     }
 
+    /// Whether nothing is left.
+    fn is_empty(&self) -> bool
+        ensures { IsTrue result → self.now ≡ [] }
+    {
+        self.rest.is_empty()
+    }
+
     /// Whether nothing is left, or a newline alone.
     pub(crate) fn is_at_end(&self) -> bool
         ensures { IsTrue result → (self.now ≡ []) ⊎ (self.now ≡ 10 ∷ []) }
     {
-        if self.rest.is_empty() {
-            return true;
-        }
-        self.rest.len() == 1 && self.rest[0] == b'\n'
+        self.is_empty() || self.rest.len() == 1 && self.rest[0] == b'\n'
     }
 
     /// Takes the digit that stands next, if one does.
@@ -90,22 +98,14 @@ impl<'a> Cursor<'a> {
     pub(crate) fn short(&mut self) -> Option<u16>
         ensures { IfSome result (λ n. Begins number_data IsShort self.old n self.new) }
     {
-        let n = self.number()?;
-        if n > u16::MAX as u64 {
-            return None;
-        }
-        Some(n as u16)
+        u16::try_from(self.number()?).ok()
     }
 
     /// Takes the number of 32 bits that stands next, if one does.
     pub(crate) fn word(&mut self) -> Option<u32>
         ensures { IfSome result (λ n. Begins number_data IsWord self.old n self.new) }
     {
-        let n = self.number()?;
-        if n > u32::MAX as u64 {
-            return None;
-        }
-        Some(n as u32)
+        u32::try_from(self.number()?).ok()
     }
 
     /// Takes the source that stands next, if one does.
@@ -118,4 +118,13 @@ impl<'a> Cursor<'a> {
         let source = self.short()?;
         Some(Some(source))
     }
+}
+
+/// The number that digits alone write; none for any other text, or for a number of 10^10 or more.
+pub(crate) fn plain_number(text: &str) -> Option<u64>
+    ensures { IfSome result (λ n. number_of text.now ≡ Some (unsigned n)) }
+{
+    let mut cursor = Cursor::new(text.as_bytes());
+    let n = cursor.number()?;
+    if cursor.is_empty() { Some(n) } else { None }
 }

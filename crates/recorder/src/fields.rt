@@ -1,9 +1,10 @@
 //! Events, read from the tokens of a text.
 
-ghost use Rattle.std.specs.Prelude.{◌≡◌, ℕ, suc, codes, Some, None, IsSome, IfSome, option_map};
+ghost use Rattle.std.specs.Prelude.{◌≡◌, ℕ, suc, codes, Some, None, IsSome, IfSome, option_and_then, ◌+◌};
 ghost use Rattle.recorder.specs.Clipped.{clipped_event};
+ghost use Rattle.recorder.specs.Reading.{event_of};
 ghost use Rattle.recorder.specs.Pulled.{AtKey, Adds, GivesValue, GivesMembers};
-ghost use Rattle.recorder.specs.Fields.{AreFields};
+ghost use Rattle.recorder.specs.ReadMembers.{AreFields, count_of};
 ghost use Rattle.serde_json.specs.Data.{Members, no_members, object};
 
 use crate::tokens::{begins_object, pull_number, pull_source, pull_text, pull_value};
@@ -12,12 +13,12 @@ use recording::Event;
 
 /// The members that were read of an event.
 #[derive(Drop)]
-struct Fields<'a> {
-    k: Option<&'a str>,
-    a: Option<u16>,
-    r: Option<u32>,
-    s: Option<Option<u16>>,
-    w: Option<u32>,
+pub(crate) struct Fields<'a> {
+    pub(crate) k: Option<&'a str>,
+    pub(crate) a: Option<u16>,
+    pub(crate) r: Option<u32>,
+    pub(crate) s: Option<Option<u16>>,
+    pub(crate) w: Option<u32>,
 }
 
 /// Fills a place that is empty with what was read, if something was.
@@ -59,16 +60,46 @@ impl<'a> Fields<'a> {
         }
     }
 
-    fn event(&self) -> Option<Event>
-        ensures { IfSome result (λ e. (ms : Members) → AreFields self.now ms
-            → clipped_event (object ms) ≡ Some e) }
+    /// How many members were read.
+    fn len(&self) -> usize
+        ensures { result ≡ count_of self.now.k + count_of self.now.a + count_of self.now.r
+            + count_of self.now.s + count_of self.now.w }
     {
-        match (self.k?, self.a, self.r, self.s, self.w) {
-            ("L", Some(a), Some(r), Some(s), None) => Some(Event::L { a, r, s }),
-            ("S", Some(a), None, None, Some(w)) => Some(Event::S { a, w }),
-            ("R", Some(a), Some(r), Some(s), Some(w)) => Some(Event::R { a, r, s, w }),
-            ("C", Some(a), Some(r), Some(s), None) => Some(Event::C { a, r, s }),
-            ("F", None, None, None, None) => Some(Event::F),
+        self.k.is_some() as usize
+            + self.a.is_some() as usize
+            + self.r.is_some() as usize
+            + self.s.is_some() as usize
+            + self.w.is_some() as usize
+    }
+
+    /// The event of an object with this many members.
+    #[tactic(auto, unfolding(crate::specs::Reading::event_of))]
+    pub(crate) fn event(&self, keys: usize) -> Option<Event>
+        ensures { result ≡ option_and_then (λ k. event_of k.now keys self.now.a self.now.r self.now.s self.now.w)
+            self.now.k }
+    {
+        match (self.k?, keys) {
+            ("L", 4) => Some(Event::L {
+                a: self.a?,
+                r: self.r?,
+                s: self.s?,
+            }),
+            ("S", 3) => Some(Event::S {
+                a: self.a?,
+                w: self.w?,
+            }),
+            ("R", 5) => Some(Event::R {
+                a: self.a?,
+                r: self.r?,
+                s: self.s?,
+                w: self.w?,
+            }),
+            ("C", 4) => Some(Event::C {
+                a: self.a?,
+                r: self.r?,
+                s: self.s?,
+            }),
+            ("F", 1) => Some(Event::F),
             _ => None,
         }
     }
@@ -99,5 +130,6 @@ pub(crate) fn pull_event(reader: &mut Reader<'_>) -> Option<Event>
     if !begins_object(reader) {
         return None;
     }
-    pull_fields(reader)?.event()
+    let fields = pull_fields(reader)?;
+    fields.event(fields.len())
 }

@@ -2,13 +2,13 @@
 
 ghost use Rattle.std.specs.Prelude.{◌≡◌, option_map};
 ghost use Rattle.serde_json.specs.View.{view};
-ghost use Rattle.recorder.specs.Reading.{value_in, source_in, at_key, event_of_kind};
-ghost use Rattle.recorder.specs.Reading.{count_members};
-ghost use Rattle.recorder.specs.Clipped.{clip, clip_event, clipped_number, clipped_event, clipped_reads};
+ghost use Rattle.recorder.specs.Reading.{at_key, count_members};
+ghost use Rattle.recorder.specs.Clipped.{clipped_event};
+ghost use Rattle.recorder.specs.Pulled.{clipped_source};
 ghost use Rattle.serde_json.specs.Find.{as_object};
 
 use crate::cursor::Cursor;
-use crate::fields::pull_event;
+use crate::fields::{Fields, pull_event};
 use crate::tokens::{pull_number, pull_value};
 use crate::values::event_members;
 use crate::versions::has_failed;
@@ -21,8 +21,7 @@ use std::alloc::{AllocError, Global};
 
 /// An item of a list: an event, the number of an event, or an initial value.
 pub(crate) trait Item: Drop + Sized {
-    ghost use Rattle.std.specs.Prelude.{◌≡◌, ◌++◌, ◌∷◌, [], ℕ, suc, List, Option, IfOk, IfSome};
-    ghost use Rattle.recorder.specs.Held.{lists_of};
+    ghost use Rattle.std.specs.Prelude.{◌≡◌, ◌++◌, ◌∷◌, [], ℕ, suc, List, Option, map, IfOk, IfSome};
     ghost use Rattle.serde_json.specs.Data.{Data};
     ghost use Rattle.serde_json.specs.View.{view};
     ghost use Rattle.recorder.specs.Pulled.{GivesValue};
@@ -59,8 +58,8 @@ pub(crate) trait Item: Drop + Sized {
     /// Holds a list more.
     fn hold_list(found: &mut Vec<Vec<Self>>, list: Vec<Self>) -> Result<(), AllocError>
         ensures { IfOk result (λ _. (lists : List (List Self)) (items : List Self)
-            → holds_lists (lists_of found.old.items) lists → holds list.items items
-            → holds_lists (lists_of found.new.items) (lists ++ items ∷ [])) };
+            → holds_lists (map (λ v. v.items) found.old.items) lists → holds list.items items
+            → holds_lists (map (λ v. v.items) found.new.items) (lists ++ items ∷ [])) };
 
     /// The item that a value gives.
     fn read(value: &Value) -> Option<Self>
@@ -77,9 +76,9 @@ pub(crate) trait Item: Drop + Sized {
 }
 
 impl Item for Event {
-    ghost use Rattle.std.proofs.Common.{◌++◌, ◌∷◌, [], List, IfOk, refl, inl};
+    ghost use Rattle.std.proofs.Common.{◌++◌, ◌∷◌, [], List, map, IfOk, refl, inl};
     ghost use Rattle.recording.specs.declared.event.Event.{Event};
-    ghost use Rattle.recorder.specs.Held.{lists_of, HoldsEvents, HoldsCores};
+    ghost use Rattle.recorder.specs.Held.{HoldsEvents, HoldsCores};
     ghost use Rattle.recorder.specs.Text.{event_data};
     ghost use Rattle.recorder.specs.Clipped.{clipped_event};
     ghost use Rattle.recorder.specs.Written.{IsFitting};
@@ -118,8 +117,8 @@ impl Item for Event {
     /// Of those that are too many the first is held, or the last in which a compare-and-swap failed.
     fn hold_list(found: &mut Vec<Vec<Event>>, list: Vec<Event>) -> Result<(), AllocError>
         ensures { IfOk result (λ _. (lists : List (List Event)) (items : List Event)
-            → HoldsCores (lists_of found.old.items) lists → HoldsEvents list.items items
-            → HoldsCores (lists_of found.new.items) (lists ++ items ∷ [])) }
+            → HoldsCores (map (λ v. v.items) found.old.items) lists → HoldsEvents list.items items
+            → HoldsCores (map (λ v. v.items) found.new.items) (lists ++ items ∷ [])) }
     {
         if found.len() <= MAX_CORES {
             found.push(list)?;
@@ -147,8 +146,8 @@ impl Item for Event {
 }
 
 impl Item for u16 {
-    ghost use Rattle.std.proofs.Common.{◌≡◌, ◌++◌, ◌∷◌, [], ℕ, List, IfOk, refl, inl};
-    ghost use Rattle.recorder.specs.Held.{lists_of, HoldsLists};
+    ghost use Rattle.std.proofs.Common.{◌≡◌, ◌++◌, ◌∷◌, [], ℕ, List, map, IfOk, refl, inl};
+    ghost use Rattle.recorder.specs.Held.{HoldsLists};
     ghost use Rattle.recorder.specs.Text.{number_data};
     ghost use Rattle.recorder.specs.Clipped.{clipped_number};
     ghost use Rattle.recorder.specs.Written.{IsShort};
@@ -179,8 +178,8 @@ impl Item for u16 {
     /// Of those that are too many the first is held.
     fn hold_list(found: &mut Vec<Vec<u16>>, list: Vec<u16>) -> Result<(), AllocError>
         ensures { IfOk result (λ _. (lists : List (List ℕ)) (items : List ℕ)
-            → HoldsLists (lists_of found.old.items) lists → list.items ≡ items
-            → HoldsLists (lists_of found.new.items) (lists ++ items ∷ [])) }
+            → HoldsLists (map (λ v. v.items) found.old.items) lists → list.items ≡ items
+            → HoldsLists (map (λ v. v.items) found.new.items) (lists ++ items ∷ [])) }
     {
         if found.len() <= MAX_ADDRESSES {
             found.push(list)?;
@@ -189,7 +188,8 @@ impl Item for u16 {
     }
 
     fn read(value: &Value) -> Option<u16> {
-        number_in(value)
+        let n = value.as_u64()?;
+        Some(u16::try_from(n).unwrap_or(u16::MAX))
     }
 
     fn value(&self, _alloc: Global) -> Result<Value, AllocError> {
@@ -202,8 +202,7 @@ impl Item for u16 {
 }
 
 impl Item for u32 {
-    ghost use Rattle.std.specs.Prelude.{◌≡◌, ◌++◌, ◌∷◌, [], ℕ, List, IfOk, refl};
-    ghost use Rattle.recorder.specs.Held.{lists_of};
+    ghost use Rattle.std.specs.Prelude.{◌≡◌, ◌++◌, ◌∷◌, [], ℕ, List, map, IfOk, refl};
     ghost use Rattle.recorder.specs.Text.{number_data};
     ghost use Rattle.recorder.specs.Reading.{value_in};
     ghost use Rattle.recorder.specs.Written.{IsWord};
@@ -233,15 +232,15 @@ impl Item for u32 {
 
     fn hold_list(found: &mut Vec<Vec<u32>>, list: Vec<u32>) -> Result<(), AllocError>
         ensures { IfOk result (λ _. (lists : List (List ℕ)) (items : List ℕ)
-            → lists_of found.old.items ≡ lists → list.items ≡ items
-            → lists_of found.new.items ≡ lists ++ items ∷ []) }
+            → map (λ v. v.items) found.old.items ≡ lists → list.items ≡ items
+            → map (λ v. v.items) found.new.items ≡ lists ++ items ∷ []) }
     {
         found.push(list)?;
         Ok(())
     }
 
     fn read(value: &Value) -> Option<u32> {
-        value_in(value)
+        u32::try_from(value.as_u64()?).ok()
     }
 
     fn value(&self, _alloc: Global) -> Result<Value, AllocError> {
@@ -253,84 +252,26 @@ impl Item for u32 {
     ghost holds_no_list = { refl };
 }
 
-fn number_in(value: &Value) -> Option<u16>
-    ensures { result ≡ clipped_number (view value.now) }
-{
-    let n = value.as_u64()?;
-    Some(u16::try_from(n).unwrap_or(u16::MAX))
-}
-
-fn value_in(value: &Value) -> Option<u32>
-    ensures { result ≡ value_in (view value.now) }
-{
-    let n = value.as_u64()?;
-    u32::try_from(n).ok()
-}
-
 fn source_in(value: &Value) -> Option<Option<u16>>
-    ensures { result ≡ option_map (option_map clip) (source_in (view value.now)) }
+    ensures { result ≡ clipped_source (view value.now) }
 {
     if value.is_null() {
         return Some(None);
     }
-    let source = number_in(value)?;
+    let source = u16::read(value)?;
     Some(Some(source))
 }
 
-fn number_at(value: &Value, key: &str) -> Option<u16>
-    ensures { result ≡ at_key clipped_number key.now (view value.now) }
+fn read_at<T: Item>(value: &Value, key: &str) -> Option<T>
+    ensures { result ≡ at_key T.held key.now (view value.now) }
 {
-    number_in(value.get(key)?)
-}
-
-fn value_at(value: &Value, key: &str) -> Option<u32>
-    ensures { result ≡ at_key value_in key.now (view value.now) }
-{
-    value_in(value.get(key)?)
+    T::read(value.get(key)?)
 }
 
 fn source_at(value: &Value, key: &str) -> Option<Option<u16>>
-    ensures { result ≡ option_map (option_map clip) (at_key source_in key.now (view value.now)) }
+    ensures { result ≡ at_key clipped_source key.now (view value.now) }
 {
     source_in(value.get(key)?)
-}
-
-/// The address, the value and the source of an event that reads.
-fn reads_in(value: &Value) -> Option<(u16, u32, Option<u16>)>
-    ensures { result ≡ clipped_reads (view value.now) }
-{
-    let a = number_at(value, "a")?;
-    let r = value_at(value, "r")?;
-    let s = source_at(value, "s")?;
-    Some((a, r, s))
-}
-
-#[tactic(auto, unfolding(crate::specs::Reading::event_of_kind))]
-fn event_of_kind(kind: &str, keys: usize, value: &Value) -> Option<Event>
-    ensures { result ≡ option_map clip_event (event_of_kind kind.now keys (view value.now)) }
-{
-    if kind == "L" && keys == 4 {
-        let (a, r, s) = reads_in(value)?;
-        return Some(Event::L { a, r, s });
-    }
-    if kind == "S" && keys == 3 {
-        let a = number_at(value, "a")?;
-        let w = value_at(value, "w")?;
-        return Some(Event::S { a, w });
-    }
-    if kind == "R" && keys == 5 {
-        let (a, r, s) = reads_in(value)?;
-        let w = value_at(value, "w")?;
-        return Some(Event::R { a, r, s, w });
-    }
-    if kind == "C" && keys == 4 {
-        let (a, r, s) = reads_in(value)?;
-        return Some(Event::C { a, r, s });
-    }
-    if kind == "F" && keys == 1 {
-        return Some(Event::F);
-    }
-    None
 }
 
 #[tactic(auto, using(crate::proofs::Members::count_members_length))]
@@ -341,11 +282,17 @@ pub(crate) fn keys_of(value: &Value) -> Option<usize>
     Some(members.len())
 }
 
-#[tactic(auto, unfolding(crate::specs::Reading::event_in))]
 fn event_in(value: &Value) -> Option<Event>
     ensures { result ≡ clipped_event (view value.now) }
 {
     let keys = keys_of(value)?;
     let kind = value.get("k")?.as_str()?;
-    event_of_kind(kind, keys, value)
+    let fields = Fields {
+        k: Some(kind),
+        a: read_at(value, "a"),
+        r: read_at(value, "r"),
+        s: source_at(value, "s"),
+        w: read_at(value, "w"),
+    };
+    fields.event(keys)
 }

@@ -2,7 +2,6 @@
 #![tactic(auto)]
 
 mod cursor;
-mod digits;
 mod fields;
 mod items;
 mod pulled_lists;

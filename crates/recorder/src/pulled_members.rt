@@ -1,11 +1,13 @@
 //! The contents of a recording's text, read from its tokens.
 
-ghost use Rattle.std.specs.Prelude.{◌≡◌, ℕ, suc, [], Some, IfOk, IfSome};
-ghost use Rattle.serde_json.specs.Data.{Members, no_members, object};
+ghost use Rattle.std.specs.Prelude.{◌≡◌, ◌+◌, ℕ, suc, [], IfOk, IfSome, option_map, map};
+ghost use Rattle.serde_json.specs.Data.{no_members};
 ghost use Rattle.serde_json.specs.Read.{max_depth};
 ghost use Rattle.recorder.specs.ParsedModel.{ParsedModel};
-ghost use Rattle.recorder.specs.Parsed.{model_of};
+ghost use Rattle.recorder.specs.ParsedModel.{model_of};
 ghost use Rattle.recorder.specs.Held.{StandsFor};
+ghost use Rattle.recorder.specs.ReadMembers.{count_of};
+ghost use Rattle.recorder.specs.Reading.{contents_of};
 ghost use Rattle.recorder.specs.ReadMembers.{AreParts, clipped_contents, IsParsedFrom};
 ghost use Rattle.recorder.specs.Pulled.{Adds, GivesValue, GivesMembers};
 
@@ -19,22 +21,12 @@ use recording::Event;
 use std::alloc::{AllocError, Global};
 
 /// The members that were read of a recording.
-struct ReadMembers {
-    version: Option<u64>,
-    cores: Option<Vec<Vec<Event>>>,
-    writes: Option<Vec<Vec<EventId>>>,
-    init: Option<Vec<u32>>,
-}
-
-impl Drop for ReadMembers {
-    fn drop(self) {
-        let ReadMembers {
-            version: _,
-            cores: _,
-            writes: _,
-            init: _,
-        } = self;
-    }
+#[derive(Drop)]
+pub(crate) struct ReadMembers {
+    pub(crate) version: Option<u64>,
+    pub(crate) cores: Option<Vec<Vec<Event>>>,
+    pub(crate) writes: Option<Vec<Vec<EventId>>>,
+    pub(crate) init: Option<Vec<u32>>,
 }
 
 impl ReadMembers {
@@ -61,26 +53,30 @@ impl ReadMembers {
     {
         match key {
             "version" => Ok(once(&mut self.version, pull_natural(reader))),
-            "cores" => {
-                let cores = pull_lists(alloc, reader)?;
-                Ok(once(&mut self.cores, cores))
-            }
-            "writes" => {
-                let writes = pull_lists(alloc, reader)?;
-                Ok(once(&mut self.writes, writes))
-            }
-            "init" => {
-                let init = pull_list(alloc, reader)?;
-                Ok(once(&mut self.init, init))
-            }
+            "cores" => Ok(once(&mut self.cores, pull_lists(alloc, reader)?)),
+            "writes" => Ok(once(&mut self.writes, pull_lists(alloc, reader)?)),
+            "init" => Ok(once(&mut self.init, pull_list(alloc, reader)?)),
             _ => Ok(None),
         }
     }
 
-    /// What was found, where nothing is missing.
-    fn found(self) -> Option<Parsed>
-        ensures { IfSome result (λ q. (ms : Members) → AreParts self ms
-            → (c : ParsedModel) × (clipped_contents (object ms) ≡ Some c) × StandsFor (model_of q) c) }
+    /// How many members were read.
+    fn len(&self) -> usize
+        ensures { result ≡ count_of self.now.version + count_of self.now.cores + count_of self.now.writes
+            + count_of self.now.init }
+    {
+        self.version.is_some() as usize
+            + self.cores.is_some() as usize
+            + self.writes.is_some() as usize
+            + self.init.is_some() as usize
+    }
+
+    /// The contents of an object with this many members.
+    #[tactic(auto, unfolding(crate::specs::Reading::contents_of))]
+    pub(crate) fn found(self, keys: usize) -> Option<Parsed>
+        ensures { option_map model_of result ≡ contents_of keys self.version
+            (option_map (λ v. map (λ w. w.items) v.items) self.cores)
+            (option_map (λ v. map (λ w. w.items) v.items) self.writes) (option_map (λ v. v.items) self.init) }
     {
         let ReadMembers {
             version,
@@ -88,6 +84,11 @@ impl ReadMembers {
             writes,
             init,
         } = self;
+        let init = match keys {
+            3 => None,
+            4 => Some(init?),
+            _ => return None,
+        };
         Some(Parsed {
             version: version?,
             cores: cores?,
@@ -129,7 +130,8 @@ fn pull_parsed(alloc: Global, reader: &mut Reader<'_>) -> Result<Option<Parsed>,
     let None = reader.next() else {
         return Ok(None);
     };
-    Ok(read_members.found())
+    let keys = read_members.len();
+    Ok(read_members.found(keys))
 }
 
 /// What a text in the simplest form has; nothing is told of other texts.

@@ -3,15 +3,14 @@
 ghost use Rattle.std.specs.Prelude.{◌≡◌, ◌↔◌, ℕ, List, Err, IfOk, IfErr, IsTrue, option_map, map};
 ghost use Rattle.serde_json.specs.View.{view, items_view};
 ghost use Rattle.recorder.specs.ParsedModel.{initial_values, IsVersioned};
-ghost use Rattle.recorder.specs.Parsed.{model_of};
+ghost use Rattle.recorder.specs.ParsedModel.{model_of};
 ghost use Rattle.recorder.specs.ReadMembers.{IsParsedFrom};
-ghost use Rattle.recorder.specs.Reading.{each, list_in, at_key, values_in};
-ghost use Rattle.recorder.specs.Reading.{contents_with, shape_in, IsReadingResult};
+ghost use Rattle.recorder.specs.Reading.{each, natural, list_in, at_key, shape_in, IsReadingResult};
 ghost use Rattle.recorder.specs.Text.{IsReadAs};
 ghost use Rattle.recorder.specs.Clipped.{clipped_shape};
 
 use crate::items::{Item, keys_of};
-use crate::pulled_members::parsed_by_tokens;
+use crate::pulled_members::{ReadMembers, parsed_by_tokens};
 use crate::versions::has_failed_cas;
 use crate::written::written;
 use common::EventId;
@@ -91,54 +90,19 @@ fn lists_at<T: Item>(
     lists_in(alloc, list.as_slice())
 }
 
-#[tactic(auto, unfolding(crate::specs::Reading::values_in))]
-fn init_in(
-    alloc: Global,
-    keys: usize,
-    value: &Value,
-) -> Result<Option<Option<Vec<u32>>>, AllocError>
-    ensures { IfOk result (λ o. option_map (option_map (λ v. v.items)) o
-        ≡ values_in keys (view value.now)) }
+fn natural_at(value: &Value, key: &str) -> Option<u64>
+    ensures { result ≡ at_key natural key.now (view value.now) }
 {
-    if keys == 3 {
-        return Ok(Some(None));
-    }
-    if keys != 4 {
-        return Ok(None);
-    }
-    let Some(init) = value.get("init") else {
-        return Ok(None);
-    };
-    let Some(init) = list_in(alloc, init)? else {
-        return Ok(None);
-    };
-    Ok(Some(Some(init)))
+    value.get(key)?.as_u64()
 }
 
-#[tactic(auto, unfolding(crate::specs::Reading::contents_with), using(crate::proofs::ClippedLists::clipped))]
-fn contents_with(
-    alloc: Global,
-    init: Option<Vec<u32>>,
-    value: &Value,
-) -> Result<Option<Parsed>, AllocError>
-    ensures { IfOk result (λ o. option_map model_of o
-        ≡ option_map clipped_shape (contents_with (option_map (λ v. v.items) init) (view value.now))) }
+fn list_at<T: Item>(alloc: Global, value: &Value, key: &str) -> Result<Option<Vec<T>>, AllocError>
+    ensures { IfOk result (λ o. option_map (λ v. v.items) o ≡ at_key (list_in T.held) key.now (view value.now)) }
 {
-    let Some(version) = value.get("version").and_then(Value::as_u64) else {
+    let Some(list) = value.get(key) else {
         return Ok(None);
     };
-    let Some(cores) = lists_at(alloc, value, "cores")? else {
-        return Ok(None);
-    };
-    let Some(writes) = lists_at(alloc, value, "writes")? else {
-        return Ok(None);
-    };
-    Ok(Some(Parsed {
-        version,
-        cores,
-        writes,
-        init,
-    }))
+    list_in(alloc, list)
 }
 
 #[tactic(auto, unfolding(crate::specs::Reading::shape_in))]
@@ -148,10 +112,13 @@ fn shape_in(alloc: Global, value: &Value) -> Result<Option<Parsed>, AllocError>
     let Some(keys) = keys_of(value) else {
         return Ok(None);
     };
-    let Some(init) = init_in(alloc, keys, value)? else {
-        return Ok(None);
+    let read_members = ReadMembers {
+        version: natural_at(value, "version"),
+        cores: lists_at(alloc, value, "cores")?,
+        writes: lists_at(alloc, value, "writes")?,
+        init: list_at(alloc, value, "init")?,
     };
-    contents_with(alloc, init, value)
+    Ok(read_members.found(keys))
 }
 
 /// The initial values that were read; where none were, 0 for each write list.

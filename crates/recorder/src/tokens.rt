@@ -8,7 +8,7 @@ ghost use Rattle.recorder.specs.Reading.{natural, value_word, value_in};
 ghost use Rattle.recorder.specs.Clipped.{clip, clipped_number};
 ghost use Rattle.recorder.specs.Pulled.{clipped_source, GivesValue};
 
-use crate::digits::plain_number;
+use crate::cursor::plain_number;
 use json::{Reader, Token};
 
 pub(crate) fn begins_array(reader: &mut Reader<'_>) -> bool
@@ -38,10 +38,7 @@ pub(crate) fn pull_natural(reader: &mut Reader<'_>) -> Option<u64>
     ensures { IfSome result (λ n. (depth : ℕ) → GivesValue natural depth reader.old n reader.new) }
 {
     match reader.next()? {
-        Token::Number(text) => {
-            let n = plain_number(text)?;
-            Some(n)
-        }
+        Token::Number(text) => plain_number(text),
         _ => None,
     }
 }
@@ -56,8 +53,7 @@ fn clipped(n: u64) -> u16
 pub(crate) fn pull_number(reader: &mut Reader<'_>) -> Option<u16>
     ensures { IfSome result (λ n. (depth : ℕ) → GivesValue clipped_number depth reader.old n reader.new) }
 {
-    let n = pull_natural(reader)?;
-    Some(clipped(n))
+    Some(clipped(pull_natural(reader)?))
 }
 
 fn word(n: u64) -> Option<u32>
@@ -70,9 +66,7 @@ fn word(n: u64) -> Option<u32>
 pub(crate) fn pull_value(reader: &mut Reader<'_>) -> Option<u32>
     ensures { IfSome result (λ n. (depth : ℕ) → GivesValue value_in depth reader.old n reader.new) }
 {
-    let n = pull_natural(reader)?;
-    let value = word(n)?;
-    Some(value)
+    word(pull_natural(reader)?)
 }
 
 /// The source of a read.
@@ -81,10 +75,7 @@ pub(crate) fn pull_source(reader: &mut Reader<'_>) -> Option<Option<u16>>
 {
     match reader.next()? {
         Token::Null => Some(None),
-        Token::Number(text) => {
-            let n = plain_number(text)?;
-            Some(Some(clipped(n)))
-        }
+        Token::Number(text) => Some(Some(clipped(plain_number(text)?))),
         _ => None,
     }
 }

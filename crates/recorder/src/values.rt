@@ -4,9 +4,8 @@ ghost use Rattle.std.specs.Prelude.{◌≡◌, IfOk, None, Some, map};
 ghost use Rattle.std.specs.List.{AllByRecursion};
 ghost use Rattle.serde_json.specs.Data.{put, string, object};
 ghost use Rattle.serde_json.specs.View.{view, members_view};
-ghost use Rattle.recorder.specs.Written.{IsShortSource, IsFitting};
-ghost use Rattle.recorder.specs.Text.{list_data, source_data, event_data, data_of};
-ghost use Rattle.recorder.specs.Values.{read_members, AreFitting, values_of};
+ghost use Rattle.recorder.specs.Written.{IsShortSource, IsFitting, AreFitting};
+ghost use Rattle.recorder.specs.Text.{list_data, source_data, members, read_members, event_data, values_of, data_of};
 
 use crate::items::Item;
 use crate::versions::is_of_version_1;
@@ -60,7 +59,7 @@ fn read_members(
     r: u32,
     s: Option<EventId>,
 ) -> Result<Map<String, Value>, AllocError>
-    ensures value { IfOk result (λ m. members_view m.entries ≡ read_members kind.now a r s) }
+    ensures value { IfOk result (λ m. members_view m.entries ≡ members (read_members kind.now a r s)) }
     ensures fits { IfOk result (λ _. IsShortSource s) }
 {
     let members = with(alloc, Map::new(alloc), "a", Value::from(a))?;
@@ -115,7 +114,8 @@ fn lists_value<T: Item>(alloc: Global, lists: &[Vec<T>]) -> Result<Value, AllocE
 
 pub(crate) fn value_of(alloc: Global, recording: &Recording) -> Result<Value, AllocError>
     ensures value { IfOk result (λ v. view v ≡ data_of recording.now) }
-    ensures fits { IfOk result (λ _. AreFitting (values_of recording.now) recording.now) }
+    ensures fits { IfOk result (λ _. AreFitting (values_of recording.now) recording.now.cores
+        recording.now.write_lists) }
 {
     let cores = lists_value(alloc, recording.cores())?;
     let members = with(alloc, Map::new(alloc), "cores", cores)?;

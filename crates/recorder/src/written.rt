@@ -2,7 +2,7 @@
 
 ghost use Rattle.std.specs.Prelude.{◌≡◌, option_map, IfOk, IfSome};
 ghost use Rattle.recorder.specs.ReadMembers.{IsParsedFrom};
-ghost use Rattle.recorder.specs.Parsed.{model_of};
+ghost use Rattle.recorder.specs.ParsedModel.{model_of};
 ghost use Rattle.recorder.specs.Written.{IsHead, version_of, BeginsRecording};
 
 use crate::cursor::Cursor;

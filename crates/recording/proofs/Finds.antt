@@ -1,11 +1,11 @@
 -- The walk over the cores that finds an event.
 use Rattle.std.proofs.Common.{◌≡◌, ◌<◌, ◌≤◌, ℕ, ◌+◌, ◌-◌, List, [], ◌∷◌, map, drop, length, get_or, arith}
-use Rattle.std.proofs.Common.{refl, sym, ap, ◌∙◌, length-append, Vec, Global}
+use Rattle.std.proofs.Common.{refl, sym, ap, ◌∙◌, Vec, Global}
 use Rattle.std.proofs.lemmas.List.{get_or_past, drop_more, drop_all, length-map, get_or-map}
 use Rattle.recording.specs.declared.event.Event.{Event}
 use Rattle.recording.specs.declared.event.Event.TheVariants.{F}
 use Rattle.recording.specs.Execution.{Execution, placed_from, event_count, event_at, core_of}
-use Rattle.recording.specs.EventLaws.{placed_here, placed_behind}
+use Rattle.recording.specs.PlacedLaws.{placed_here, placed_behind, count_from}
 
 -- number is rest events after the first event of core i
 pub record IsBehind (cores : List (List Event)) (i rest number : ℕ) : Type 0 where
@@ -16,26 +16,21 @@ pub record IsBehind (cores : List (List Event)) (i rest number : ℕ) : Type 0 w
 pub behind_start : (cores : List (List Event)) (number : ℕ) → IsBehind cores 0 number number
 behind_start cores number = record { here = refl; count = refl }
 
--- a core has its own events, and those of the cores after it
-placed_length : (k : ℕ) (es : List Event) (rest : List (List Event))
-    → length (placed_from k (es ∷ rest)) ≡ length es + length (placed_from (k + 1) rest)
-placed_length k es rest = length-append (map (λ e. (k, e)) es) (placed_from (k + 1) rest)
-    ∙ ap (λ (n : ℕ). n + length (placed_from (k + 1) rest)) (length-map es (λ e. (k, e)))
-
 -- one core further
 pub behind_more : (cores : List (List Event)) (i rest number : ℕ) → i < length cores
     → length (get_or cores i []) ≤ rest → IsBehind cores i rest number
     → IsBehind cores (i + 1) (rest - length (get_or cores i [])) number
 behind_more cores i rest number at past h =
-    let front : drop i cores ≡ get_or cores i [] ∷ drop (i + 1) cores = drop_more cores i [] at in
+    let here = h.here in
+    let count = h.count in
     record {
-      here = h.here ∙ (ap (λ (cs : List (List Event)). get_or (placed_from i cs) rest (0, F)) front
-          ∙ placed_behind i (get_or cores i []) (drop (i + 1) cores) rest (0, F) past);
+      here = (rw (drop_more cores i [] at) at here)
+          ∙ placed_behind i (get_or cores i []) (drop (i + 1) cores) rest (0, F) past;
       count = omega (
         arith,
-        h.count,
-        ap (λ (cs : List (List Event)). length (placed_from i cs)) front,
-        placed_length i (get_or cores i []) (drop (i + 1) cores),
+        rw (drop_more cores i [] at) at count,
+        count_from i (get_or cores i []) (drop (i + 1) cores),
+        past,
       );
     }
 
@@ -55,7 +50,7 @@ behind_found x i rest number at within h =
         within,
         h.count,
         ap (λ (cs : List (List Event)). length (placed_from i cs)) front,
-        placed_length i (get_or x.cores i []) (drop (i + 1) x.cores),
+        count_from i (get_or x.cores i []) (drop (i + 1) x.cores),
       ),
       sym (ap (λ p. p.0) is),
       sym (ap (λ p. p.1) is),
@@ -75,35 +70,22 @@ behind_all x i rest number at h = omega (
 pub core_seen : (vs : List (Vec Event Global)) (cores : List (List Event)) (i : ℕ) (v : Vec Event Global)
     → cores ≡ map (λ v. v.items) vs → i < length vs → v ≡ get_or vs i v
     → (i < length cores) × (get_or cores i [] ≡ v.items)
-core_seen vs cores i v is at read = (
-  omega (
-    arith,
-    ap (λ (cs : List (List Event)). length cs) is,
-    length-map vs (λ (w : Vec Event Global). w.items),
-    at,
-  ),
-  ap (λ (cs : List (List Event)). get_or cs i []) is
-      ∙ (get_or-map (λ (w : Vec Event Global). w.items) vs i v [] at
-      ∙ ap (λ (w : Vec Event Global). w.items) (sym read)),
+core_seen vs cores i v is at read = rw is (
+  omega (arith, length-map vs (λ (w : Vec Event Global). w.items), at),
+  get_or-map (λ (w : Vec Event Global). w.items) vs i v [] at ∙ ap (λ (w : Vec Event Global). w.items) (sym read),
 )
 
 -- the list of an address
 pub list_seen : (vs : List (Vec ℕ Global)) (lists : List (List ℕ)) (a : ℕ) (v : Vec ℕ Global)
     → lists ≡ map (λ v. v.items) vs → a < length vs → v ≡ get_or vs a v → get_or lists a [] ≡ v.items
-list_seen vs lists a v is at read =
-    ap (λ (ls : List (List ℕ)). get_or ls a []) is
-    ∙ (get_or-map (λ (w : Vec ℕ Global). w.items) vs a v [] at
-    ∙ ap (λ (w : Vec ℕ Global). w.items) (sym read))
+list_seen vs lists a v is at read = rw is
+    (get_or-map (λ (w : Vec ℕ Global). w.items) vs a v [] at ∙ ap (λ (w : Vec ℕ Global). w.items) (sym read))
 
 -- past the last address there is none
 pub list_past : (vs : List (Vec ℕ Global)) (lists : List (List ℕ)) (a : ℕ) → lists ≡ map (λ v. v.items) vs
     → length vs ≤ a → [] ≡ get_or lists a []
-list_past vs lists a is past = sym (get_or_past lists a [] (omega (
-  arith,
-  ap (λ (ls : List (List ℕ)). length ls) is,
-  length-map vs (λ (w : Vec ℕ Global). w.items),
-  past,
-)))
+list_past vs lists a is past = rw is (sym (get_or_past (map (λ (w : Vec ℕ Global). w.items) vs) a []
+    (omega (arith, length-map vs (λ (w : Vec ℕ Global). w.items), past))))
 
 -- the first i cores have this many events
 pub record IsCounted (cores : List (List Event)) (i count : ℕ) : Type 0 where
@@ -122,7 +104,7 @@ counted_more vs cores i count v is at read h =
         h.rest,
         ap (λ (es : List Event). length es) seen.1,
         ap (λ (cs : List (List Event)). length (placed_from i cs)) front,
-        placed_length i (get_or cores i []) (drop (i + 1) cores),
+        count_from i (get_or cores i []) (drop (i + 1) cores),
       );
     }
 

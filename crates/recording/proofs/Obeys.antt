@@ -1,6 +1,6 @@
 -- The rules that parts of a recording may break, one event or one list at a time.
 use Rattle.std.proofs.Common.{◌≡◌, ◌≢◌, ◌<◌, ◌≤◌, ◌⊎◌, ◌↔◌, inl, inr, ℕ, suc, Option, Some, None, List, []}
-use Rattle.std.proofs.Common.{◌∷◌, Bool, nat_lt, nat_eq, IsTrue, length, get_or, arith, refl, sym, ap, subst}
+use Rattle.std.proofs.Common.{◌∷◌, Bool, nat_lt, nat_eq, IsTrue, length, get_or, arith, refl, sym, ap}
 use Rattle.std.proofs.Common.{◌∙◌}
 use Rattle.std.proofs.lemmas.Bool.{cases_eq, ltb-true, lt-ltb, eqb-true, eq-eqb}
 use Rattle.recording.specs.declared.event.Event.{Event}
@@ -8,7 +8,6 @@ use Rattle.recording.specs.declared.event.Event.TheVariants.{L, S, R, C}
 use Rattle.recording.specs.Event.{read_address, written_address, value_read, value_written}
 use Rattle.recording.specs.Execution.{Execution, event_at, initial_value, source_of, Reads}
 use Rattle.recording.specs.Refusals.{HasValue}
-use Rattle.recording.specs.Tso.{IsValueOf}
 use Rattle.recording.specs.Order.{place, times}
 use Rattle.recording.specs.OrderLaws.{place_here, place_there, times_here, times_there, times_nil}
 use Rattle.recording.specs.OrderLaws.{place_in, cases_times}
@@ -29,23 +28,13 @@ pub uses_one : (v : Event) (a n : ℕ) → ((r : ℕ) × (s : Option ℕ) × (v 
     ⊎ ((r : ℕ) × (s : Option ℕ) × (v ≡ C a r s))))
     → IsTrue (nat_lt a n) ↔ UsesBelow (read_address v) (written_address v) n
 uses_one v a n is = elim is [
-  | inl l ↦ subst (λ (u : Event). IsTrue (nat_lt a n) ↔ UsesBelow (read_address u) (written_address u) n)
-      (sym l.2) (below (Some a) None a n (inl refl) (λ b uses. elim uses [ inl e ↦ cc | inr e ↦ absurd cc ]))
-  | inr other ↦ elim other [
-    | inl s ↦ subst (λ (u : Event). IsTrue (nat_lt a n) ↔ UsesBelow (read_address u) (written_address u) n)
-        (sym s.1) (below None (Some a) a n (inr refl)
-        (λ b uses. elim uses [ inl e ↦ absurd cc | inr e ↦ cc ]))
-    | inr atomic ↦ elim atomic [
-      | inl r ↦ subst
-          (λ (u : Event). IsTrue (nat_lt a n) ↔ UsesBelow (read_address u) (written_address u) n)
-          (sym r.3) (below (Some a) (Some a) a n (inl refl)
-          (λ b uses. elim uses [ inl e ↦ cc | inr e ↦ cc ]))
-      | inr c ↦ subst
-          (λ (u : Event). IsTrue (nat_lt a n) ↔ UsesBelow (read_address u) (written_address u) n)
-          (sym c.2) (below (Some a) None a n (inl refl)
-          (λ b uses. elim uses [ inl e ↦ cc | inr e ↦ absurd cc ]))
-    ]
-  ]
+  | inl l ↦ rw l.2 (below (Some a) None a n (inl refl) (λ b uses. elim uses [ inl e ↦ cc | inr e ↦ absurd cc ]))
+  | inr (inl s) ↦ rw s.1
+      (below None (Some a) a n (inr refl) (λ b uses. elim uses [ inl e ↦ absurd cc | inr e ↦ cc ]))
+  | inr (inr (inl r)) ↦ rw r.3
+      (below (Some a) (Some a) a n (inl refl) (λ b uses. elim uses [ inl e ↦ cc | inr e ↦ cc ]))
+  | inr (inr (inr c)) ↦ rw c.2
+      (below (Some a) None a n (inl refl) (λ b uses. elim uses [ inl e ↦ cc | inr e ↦ absurd cc ]))
 ]
 
 -- equal events use equal addresses
@@ -59,11 +48,8 @@ pub value_some : (x : Execution) (e a s wrote read : ℕ) → Reads x e a → so
     → wrote ≡ value_written (event_at x s) → read ≡ value_read (event_at x e)
     → IsTrue (nat_eq wrote read) ↔ HasValue x e
 value_some x e a s wrote read reads from w r = (
-  λ t b others. subst (λ (o : Option ℕ). IsValueOf x b o (value_read (event_at x e))) (sym from)
-      (sym w ∙ eqb-true wrote read t ∙ r),
-  λ all. let same : value_written (event_at x s) ≡ value_read (event_at x e) =
-      subst (λ (o : Option ℕ). IsValueOf x a o (value_read (event_at x e))) from
-      (all a reads) in eq-eqb wrote read (w ∙ same ∙ sym r),
+  λ t b others. rw from (sym w ∙ eqb-true wrote read t ∙ r),
+  λ all. let is = all a reads in eq-eqb wrote read (w ∙ (rw from at is) ∙ sym r),
 )
 
 -- a value against the initial one
@@ -72,12 +58,8 @@ pub value_none : (x : Execution) (e a begins read : ℕ) → Reads x e a → sou
     → IsTrue (nat_eq read begins) ↔ HasValue x e
 value_none x e a begins read reads from i r = (
   λ t b others.
-      let one : a ≡ b = cc in
-      subst (λ (o : Option ℕ). IsValueOf x b o (value_read (event_at x e))) (sym from)
-      (sym r ∙ eqb-true read begins t ∙ i ∙ ap (initial_value x) one),
-  λ all. let same : value_read (event_at x e) ≡ initial_value x a =
-      subst (λ (o : Option ℕ). IsValueOf x a o (value_read (event_at x e))) from
-      (all a reads) in eq-eqb read begins (r ∙ same ∙ sym i),
+      let one : a ≡ b = cc in rw from (sym r ∙ eqb-true read begins t ∙ i ∙ ap (initial_value x) one),
+  λ all. let is = all a reads in eq-eqb read begins (r ∙ (rw from at is) ∙ sym i),
 )
 
 -- each number stands where it first stands
@@ -112,5 +94,6 @@ times_once (x ∷ xs) places e = elim (cases_eq x e) [
 pub lists_once : (W : ℕ → Type 0) (xs : List ℕ) → ((j : ℕ) → j < length xs → W (get_or xs j 0))
     → ArePlaces xs → (e : ℕ) → 0 < times xs e → W e × (times xs e ≡ 1)
 lists_once W xs each places e stands =
-    let at : place xs e < length xs = place_in xs e stands in
-    (subst W (at_place xs e at) (each (place xs e) at), omega (arith, stands, times_once xs places e))
+    let at = place_in xs e stands in
+    let here = each (place xs e) at in
+    (rw (at_place xs e at) at here, omega (arith, stands, times_once xs places e))

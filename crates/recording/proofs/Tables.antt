@@ -6,7 +6,7 @@ use Rattle.recording.specs.declared.event.Event.{Event}
 use Rattle.recording.specs.declared.event.Event.TheVariants.{F}
 use Rattle.recording.specs.Execution.{Execution, event_count, event_at}
 use Rattle.recording.specs.EventLaws.{event_past}
-use Rattle.recording.specs.Numbered.{numbered, AreNumbered}
+use Rattle.recording.specs.Listed.{numbered, AreNumbered}
 use Rattle.recording.proofs.Finds.{IsBehind, behind_start, behind_more, behind_found, behind_all}
 
 -- the first i events of a list are put into a table from a number on, and the others stay
@@ -30,8 +30,7 @@ all_fences (suc n) (suc e) = all_fences n e
 -- at first there are no cores
 pub filled_start : (x : Execution) (n : ℕ) → IsFilled x 0 0 (replicate n F)
 filled_start x n = record {
-  behind = λ i. subst (λ (m : ℕ). IsBehind x.cores 0 i m) (let same : i ≡ 0 + i = omega arith in same)
-      (behind_start x.cores i);
+  behind = λ i. let same : i ≡ 0 + i = omega arith in rw (← same) (behind_start x.cores i);
   events = λ e below. absurd (omega arith);
   fences = λ e _. all_fences n e;
 }
@@ -47,8 +46,7 @@ pub filled_within : (x : Execution) (k first : ℕ) (table : List Event) (es : L
     → get_or x.cores k [] ≡ es → IsFilled x k first table → first + length es ≤ event_count x
 filled_within x k first table es at is filled = elim (cases_lt 0 (length es)) [
   | inl some ↦
-      let last : first + (length es - 1) < event_count x =
-      (behind_found x k (length es - 1) (first + (length es - 1)) at
+      let last = (behind_found x k (length es - 1) (first + (length es - 1)) at
       (omega (arith, ap (λ (fs : List Event). length fs) is, some)) (filled.behind (length es - 1))).0 in
       omega (arith, last, some)
   | inr none ↦ omega (arith, none, first_within x k first table filled)

@@ -1,33 +1,22 @@
 -- Laws of the cores of events: the events of a core stand together, and a later core has later events.
-use Rattle.std.proofs.Common.{◌≡◌, ◌<◌, ◌≤◌, ◌+◌, ◌-◌, inl, inr, ℕ, List, [], ◌∷◌, map, length, get_or, arith}
-use Rattle.std.proofs.Common.{ap, length-append}
+use Rattle.std.proofs.Common.{◌≡◌, ◌<◌, ◌≤◌, ◌+◌, ◌-◌, inl, inr, ℕ, List, [], ◌∷◌, length, get_or, arith}
+use Rattle.std.proofs.Common.{ap}
 use Rattle.std.proofs.lemmas.Bool.{cases_lt}
-use Rattle.std.proofs.lemmas.List.{length-map, get_or_past}
+use Rattle.std.proofs.lemmas.List.{get_or_past}
 use Rattle.recording.specs.declared.event.Event.{Event}
 use Rattle.recording.specs.declared.event.Event.TheVariants.{F}
 use Rattle.recording.specs.Execution.{Execution, placed_from, event_count, core_of}
-use Rattle.recording.specs.EventLaws.{placed_here, placed_behind}
-
--- how many events there are from a core on
-count_from : (k : ℕ) (es : List Event) (rest : List (List Event))
-    → length (placed_from k (es ∷ rest)) ≡ length es + length (placed_from (k + 1) rest)
-count_from k es rest =
-    let on : Event → ℕ × Event = λ e. (k, e) in
-    omega (arith, length-append (map on es) (placed_from (k + 1) rest), length-map es on)
+use Rattle.recording.specs.PlacedLaws.{placed_here, placed_behind, count_from}
 
 -- each event is on one of the cores
 core_within : (k : ℕ) (cores : List (List Event)) (i : ℕ) (d : ℕ × Event) → i < length (placed_from k cores)
     → (k ≤ (get_or (placed_from k cores) i d).0) × ((get_or (placed_from k cores) i d).0 < k + length cores)
 core_within k [] i d h = absurd (omega arith)
 core_within k (es ∷ rest) i d h = elim (cases_lt i (length es)) [
-  | inl here ↦
-      let is : (get_or (placed_from k (es ∷ rest)) i d).0 ≡ k = ap (λ (p : ℕ × Event). p.0)
-      (placed_here k es rest i d here) in (omega arith, omega arith)
+  | inl here ↦ rw (placed_here k es rest i d here) (omega arith, omega arith)
   | inr behind ↦
-      let is : (get_or (placed_from k (es ∷ rest)) i d).0 ≡ (get_or (placed_from (k + 1) rest) (i - length es) d).0 =
-      ap (λ (p : ℕ × Event). p.0) (placed_behind k es rest i d behind) in
-      let rest_within = core_within (k + 1) rest (i - length es) d (omega (arith, count_from k es rest)) in
-      (omega (arith, is, rest_within.0), omega (arith, is, rest_within.1))
+      let within = core_within (k + 1) rest (i - length es) d (omega (arith, count_from k es rest)) in
+      rw (placed_behind k es rest i d behind) (omega (arith, within), omega (arith, within))
 ]
 
 -- a later event has no earlier core
@@ -36,18 +25,9 @@ core_grows : (k : ℕ) (cores : List (List Event)) (i j : ℕ) (d : ℕ × Event
     → (get_or (placed_from k cores) i d).0 ≤ (get_or (placed_from k cores) j d).0
 core_grows k [] i j d le h = absurd (omega arith)
 core_grows k (es ∷ rest) i j d le h = elim (cases_lt i (length es)) [
-  | inl here ↦ omega (
-    arith,
-    ap (λ (p : ℕ × Event). p.0) (placed_here k es rest i d here),
-    (core_within k (es ∷ rest) j d h).0,
-  )
-  | inr behind ↦ omega (
-    arith,
-    ap (λ (p : ℕ × Event). p.0) (placed_behind k es rest i d behind),
-    ap (λ (p : ℕ × Event). p.0) (placed_behind k es rest j d (omega arith)),
-    core_grows (k + 1) rest (i - length es) (j - length es) d (omega arith)
-        (omega (arith, count_from k es rest)),
-  )
+  | inl here ↦ rw (placed_here k es rest i d here) (core_within k (es ∷ rest) j d h).0
+  | inr behind ↦ rw (placed_behind k es rest i d behind, placed_behind k es rest j d (omega arith))
+      (core_grows (k + 1) rest (i - length es) (j - length es) d (omega arith) (omega (arith, count_from k es rest)))
 ]
 
 -- an event is on a core

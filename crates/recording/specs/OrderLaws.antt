@@ -1,7 +1,6 @@
 -- Laws of places and times in a list.
 use Rattle.std.proofs.Common.{◌≡◌, ◌≢◌, ◌<◌, ◌≤◌, ◌+◌, ◌⊎◌, inl, inr, ℕ, List, [], ◌∷◌, ◌++◌, length, arith}
 use Rattle.std.proofs.Common.{refl, sym, length-append}
-use Rattle.std.proofs.lemmas.Bool.{cases_eq, cases_lt}
 use Rattle.std.proofs.lemmas.Bool.Decides.{nat_tests}
 use Rattle.recording.specs.Order.{place, times, Before}
 
@@ -37,101 +36,49 @@ place_nil e = refl
 
 -- what stands in a list has a place in it
 pub place_in : (xs : List ℕ) (e : ℕ) → 0 < times xs e → place xs e < length xs
-place_in [] e h = omega (arith, times_nil e)
-place_in (x ∷ xs) e h = elim (cases_eq x e) [
-  | inl same ↦ omega (arith, place_here xs x e same)
-  | inr other ↦ omega (
-    arith,
-    place_there xs x e other,
-    times_there xs x e other,
-    place_in xs e (omega (arith, times_there xs x e other)),
-  )
-]
+unfolding place times
+place_in [] e h = grind arith
+place_in (x ∷ xs) e h = grind (arith, nat_tests, place_in xs e)
 
 -- and the other way round
 pub times_in : (xs : List ℕ) (e : ℕ) → place xs e < length xs → 0 < times xs e
-times_in [] e h = omega (arith, place_nil e)
-times_in (x ∷ xs) e h = elim (cases_eq x e) [
-  | inl same ↦ omega (arith, times_here xs x e same)
-  | inr other ↦ omega (
-    arith,
-    times_there xs x e other,
-    times_in xs e (omega (arith, place_there xs x e other)),
-  )
-]
+unfolding place times
+times_in [] e h = grind arith
+times_in (x ∷ xs) e h = grind (arith, nat_tests, times_in xs e)
 
 -- two numbers of which one stands in the list have one place only if they are one
 pub place_one : (xs : List ℕ) (e f : ℕ) → place xs e ≡ place xs f → place xs e < length xs → e ≡ f
-place_one [] e f h l = absurd (omega (arith, place_nil e))
-place_one (x ∷ xs) e f h l = elim (cases_eq x e) [
-  | inl e_here ↦ elim (cases_eq x f) [
-    | inl f_here ↦ omega arith
-    | inr f_there ↦ absurd (omega (arith, place_here xs x e e_here, place_there xs x f f_there))
-  ]
-  | inr e_there ↦ elim (cases_eq x f) [
-    | inl f_here ↦ absurd (omega (arith, place_there xs x e e_there, place_here xs x f f_here))
-    | inr f_there ↦ place_one xs e f (omega (arith, place_there xs x e e_there, place_there xs x f f_there))
-        (omega (arith, place_there xs x e e_there))
-  ]
-]
+unfolding place
+place_one [] e f h l = absurd (omega arith)
+place_one (x ∷ xs) e f h l = grind (arith, nat_tests, place_one xs e f)
 
 -- what stands in the left part keeps its place
 pub place_append_left : (xs ys : List ℕ) (e : ℕ) → 0 < times xs e → place (xs ++ ys) e ≡ place xs e
-place_append_left [] ys e h = absurd (omega (arith, times_nil e))
-place_append_left (x ∷ xs) ys e h = elim (cases_eq x e) [
-  | inl same ↦ omega (arith, place_here xs x e same, place_here (xs ++ ys) x e same)
-  | inr other ↦ omega (
-    arith,
-    place_there xs x e other,
-    place_there (xs ++ ys) x e other,
-    place_append_left xs ys e (omega (arith, times_there xs x e other)),
-  )
-]
+unfolding place times
+place_append_left [] ys e h = absurd (omega arith)
+place_append_left (x ∷ xs) ys e h = grind (arith, nat_tests, place_append_left xs ys e)
 
 -- what does not has its place in the right part
 pub place_append_right : (xs ys : List ℕ) (e : ℕ) → times xs e ≡ 0
     → place (xs ++ ys) e ≡ length xs + place ys e
+unfolding place times
 place_append_right [] ys e h = omega arith
-place_append_right (x ∷ xs) ys e h = elim (cases_eq x e) [
-  | inl same ↦ absurd (omega (arith, times_here xs x e same))
-  | inr other ↦ omega (
-    arith,
-    place_there (xs ++ ys) x e other,
-    place_append_right xs ys e (omega (arith, times_there xs x e other)),
-  )
-]
+place_append_right (x ∷ xs) ys e h = grind (arith, nat_tests, place_append_right xs ys e)
 
 -- a number stands as often as in both parts together
 pub times_append : (xs ys : List ℕ) (e : ℕ) → times (xs ++ ys) e ≡ times xs e + times ys e
-times_append [] ys e = omega (arith, times_nil e)
-times_append (x ∷ xs) ys e = elim (cases_eq x e) [
-  | inl same ↦ omega (arith, times_here xs x e same, times_here (xs ++ ys) x e same, times_append xs ys e)
-  | inr other ↦ omega (
-    arith,
-    times_there xs x e other,
-    times_there (xs ++ ys) x e other,
-    times_append xs ys e,
-  )
-]
+unfolding times
+times_append [] ys e = omega arith
+times_append (x ∷ xs) ys e = omega (arith, times_append xs ys e)
 
 -- of two that stand in a list one stands before the other, or they are one
 pub compare_places : (xs : List ℕ) (e f : ℕ) → 0 < times xs e → 0 < times xs f
     → Before xs e f ⊎ ((e ≡ f) ⊎ Before xs f e)
-compare_places xs e f he hf =
-    let le : place xs e < length xs = place_in xs e he in
-    let lf : place xs f < length xs = place_in xs f hf in
-    elim (cases_eq (place xs e) (place xs f)) [
-      | inl same ↦ inr (inl (place_one xs e f same le))
-      | inr other ↦ either le lf other
-    ]
-  where
-    either : place xs e < length xs → place xs f < length xs → (place xs e ≡ place xs f → ⊥)
-        → Before xs e f ⊎ ((e ≡ f) ⊎ Before xs f e)
-    either le lf other = grind arith
+compare_places xs e f he hf = grind (arith, place_in xs e he, place_in xs f hf, place_one xs e f)
 
 -- a number stands in a list, or not
 pub cases_times : (xs : List ℕ) (e : ℕ) → (times xs e ≡ 0) ⊎ (0 < times xs e)
-cases_times xs e = elim (cases_lt 0 (times xs e)) [ inl there ↦ inr there | inr none ↦ inl (omega arith) ]
+cases_times xs e = grind arith
 
 -- what stands in the left part stands before what stands in the right part alone
 pub left_before_right : (u v : List ℕ) (e f : ℕ) → 0 < times u e → times u f ≡ 0 → 0 < times v f

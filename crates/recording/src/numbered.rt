@@ -2,7 +2,7 @@
 
 ghost use Rattle.std.specs.Prelude.{◌≡◌, ◌+◌, ◌≤◌, ◌<◌, ◌⊎◌, ℕ, length};
 ghost use Rattle.common.specs.declared.limits.TheConstants.{MAX_EVENTS};
-ghost use Rattle.recording.specs.Numbered.{numbered};
+ghost use Rattle.recording.specs.Listed.{numbered};
 
 use crate::event::Event;
 use crate::parts::RecordingParts;
@@ -18,7 +18,7 @@ pub(crate) struct Numbered<'p> {
 
 impl<'p> Model for Numbered<'p> {
     ghost use Rattle.recording.specs.Execution.{Execution};
-    ghost use Rattle.recording.specs.Numbered.{AreNumbered};
+    ghost use Rattle.recording.specs.Listed.{AreNumbered};
 
     ghost Value = { Execution };
 

@@ -5,6 +5,7 @@ use common::{Addr, CoreId, EventId, MAX_CORES, MAX_EVENTS};
 use std::marker::Model;
 
 /// The events of each core, and the writes and the initial value of each address.
+#[derive(Drop)]
 pub(crate) struct RecordingParts {
     cores: Vec<Vec<Event>>,
     writes: Vec<Vec<EventId>>,
@@ -22,21 +23,9 @@ impl Model for RecordingParts {
         p.init.items };
 }
 
-impl Drop for RecordingParts {
-    fn drop(self) {
-        let RecordingParts {
-            cores: _,
-            writes: _,
-            init: _,
-        } = self;
-    }
-}
-
 impl RecordingParts {
-    ghost use Rattle.std.specs.Prelude.{◌≡◌, ◌≤◌, ◌<◌, ◌↔◌, IsTrue, length, map, MatchOption};
-    ghost use Rattle.recording.specs.Event.{written_address};
+    ghost use Rattle.std.specs.Prelude.{◌≡◌, ◌≤◌, ◌<◌, length, map, MatchOption};
     ghost use Rattle.recording.specs.Execution.{event_count, event_at, core_of, write_list, initial_value};
-    ghost use Rattle.recording.specs.Execution.{Writes};
     ghost use Rattle.recording.specs.Recording.{executed};
 
     pub(crate) fn new(
@@ -74,18 +63,19 @@ impl RecordingParts {
         self.init.as_slice()
     }
 
-    /// Whether there are no more events than a recording may have.
-    pub(crate) fn has_few_events(&self) -> bool
-        ensures { IsTrue result ↔ (event_count self.now ≤ MAX_EVENTS) }
+    /// How many events there are; none where there are more than a recording may have.
+    pub(crate) fn count(&self) -> Option<usize>
+        ensures { MatchOption result (MAX_EVENTS < event_count self.now)
+            (λ n. (n ≡ event_count self.now) × (n ≤ MAX_EVENTS)) }
     {
-        let mut before = 0;
+        let mut count = 0;
         for events in &self.cores {
-            if events.len() > MAX_EVENTS - before {
-                return false;
+            if events.len() > MAX_EVENTS - count {
+                return None;
             }
-            before += events.len();
+            count += events.len();
         }
-        true
+        Some(count)
     }
 
     /// How many events there are.
@@ -93,11 +83,7 @@ impl RecordingParts {
         requires { event_count self.now ≤ MAX_EVENTS }
         ensures { result ≡ event_count self.now }
     {
-        let mut count = 0;
-        for events in &self.cores {
-            count += events.len();
-        }
-        count
+        self.count().unwrap_or(0)
     }
 
     /// The core and the event of a number; none past the last event.
@@ -136,16 +122,5 @@ impl RecordingParts {
             return 0;
         }
         self.init[address as usize]
-    }
-
-    /// Whether an event writes an address.
-    pub(crate) fn writes_to(&self, number: EventId, address: Addr) -> bool
-        requires { length self.now.cores ≤ MAX_CORES }
-        ensures { IsTrue result ↔ Writes self.now number address }
-    {
-        match self.event(number) {
-            Some((_, event)) => event.writes_to(address),
-            None => false,
-        }
     }
 }

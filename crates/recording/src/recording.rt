@@ -25,9 +25,9 @@ impl Model for Recording {
 }
 
 impl Recording {
-    ghost use Rattle.std.specs.Prelude.{◌≡◌, ◌≤◌, ◌<◌, map, ◌↔◌, MatchOption, length, IsOk, IsTrue};
+    ghost use Rattle.std.specs.Prelude.{◌≡◌, ◌≤◌, ◌<◌, map, ◌↔◌, MatchOption, length, IsOk};
     ghost use Rattle.std.specs.Prelude.{IfOk, IfErr};
-    ghost use Rattle.recording.specs.Execution.{event_count, event_at, core_of, write_list, Writes};
+    ghost use Rattle.recording.specs.Execution.{event_count, event_at, core_of, write_list};
     ghost use Rattle.recording.specs.Recording.{executed, IsRecording};
     ghost use Rattle.recording.specs.Refusals.{IsRefusal};
 
@@ -109,13 +109,6 @@ impl Recording {
             × (p.1.now ≡ event_at self.now number)) }
     {
         self.parts.event(number)
-    }
-
-    /// Whether an event writes an address; false past the last event.
-    pub fn writes_to(&self, number: EventId, address: Addr) -> bool
-        ensures { IsTrue result ↔ Writes self.now number address }
-    {
-        self.parts.writes_to(number, address)
     }
 
     /// How many addresses have a write list.

@@ -116,9 +116,9 @@ impl RecordingParts {
     pub(crate) fn refusal(&self) -> Option<RecError>
         ensures { MatchOption result (IsRecording self.now) (λ e. IsRefusal self.now e) }
     {
-        if !self.has_few_events() {
+        let Some(_) = self.count() else {
             return Some(RecError::Limits);
-        }
+        };
         Numbered::new(self).first_refusal()
     }
 }

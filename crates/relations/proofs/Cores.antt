@@ -1,6 +1,6 @@
 -- Events of one core stand together.
 use Rattle.std.proofs.Common.{◌≡◌, ◌<◌, ◌≤◌, ◌+◌, ◌↔◌, ◌⊎◌, inl, inr, ℕ, Bool, true, false, IsTrue, arith, ap, sym}
-use Rattle.std.proofs.Common.{subst, ◌∙◌}
+use Rattle.std.proofs.Common.{◌∙◌}
 use Rattle.std.proofs.lemmas.Bool.{cases_lt, iff_false}
 use Rattle.recording.specs.Execution.{Execution, event_count, core_of, ProgramOrder}
 use Rattle.recording.specs.CoreLaws.{core_between, core_later}
@@ -47,14 +47,7 @@ core_begins x start n event h other = record {
   from = omega arith;
   before = λ s low. elim (cases_lt s start) [
     | inl before ↦ omega (arith, h.before s before, core_later x start n h.from event)
-    | inr past ↦ elim (cases_lt (core_of x start) (core_of x n)) [
-      | inl later ↦ omega (arith, h.own s past low, later)
-      | inr same ↦ absurd (other (
-        omega arith,
-        event,
-        (let grows = core_later x start n h.from event in omega arith),
-      ))
-    ]
+    | inr past ↦ grind (arith, h.own s past low, core_later x start n h.from event, other)
   ];
   own = λ s from low. ap (core_of x) (let one : s ≡ n = omega arith in one);
 }
@@ -64,14 +57,10 @@ pub core_next : (x : Execution) (start n next : ℕ) (same : Bool) → n < event
     → IsTrue same ↔ ProgramOrder x start n
     → ((same ≡ false) × (next ≡ n)) ⊎ ((same ≡ true) × (next ≡ start))
     → (next ≤ n) × IsCoreSoFar x next (n + 1)
-core_next x start n next same event h own (inl other) = (
-  omega (arith, other.1),
-  subst (λ (s : ℕ). IsCoreSoFar x s (n + 1)) (sym other.1) (core_begins x start n event h (iff_false own other.0)),
-)
-core_next x start n next same event h own (inr one) = (
-  omega (arith, one.1, h.from),
-  subst (λ (s : ℕ). IsCoreSoFar x s (n + 1)) (sym one.1) (core_goes_on x start n h (own.0 one.0)),
-)
+core_next x start n next same event h own (inl other) =
+    rw other.1 (omega arith, core_begins x start n event h (iff_false own other.0))
+core_next x start n next same event h own (inr one) =
+    rw one.1 (h.from, core_goes_on x start n h (own.0 one.0))
 
 -- what is earlier on the core of an event
 pub core_so_far : (x : Execution) (start n : ℕ) → n < event_count x → (start ≤ n) × IsCoreSoFar x start (n + 1)

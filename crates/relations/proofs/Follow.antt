@@ -51,8 +51,7 @@ load_is_no_store F is = absurd cc
 store_is_kept : (d e : Event) → is_plain_load e ≡ true → (is_plain_store d && is_plain_load e) ≡ false
     → is_plain_store d ≡ false
 store_is_kept d e load kept = elim (cases_Bool (is_plain_store d)) [
-  | inl store ↦ absurd (let both : (is_plain_store d && is_plain_load e) ≡ true = rw store load in
-      let no : true ≡ false = sym both ∙ kept in cc)
+  | inl store ↦ absurd (let no = kept in let no : true ≡ false = rw (store, load) at no in cc)
   | inr free ↦ free
 ]
 

@@ -3,21 +3,20 @@ use Rattle.std.proofs.Common.{◌≡◌, ◌<◌, ◌≤◌, ◌+◌, ◌↔◌,
 use Rattle.std.proofs.Common.{get_or, length, arith, sym, ap, subst, ◌∙◌}
 use Rattle.std.specs.Prelude.{MatchOption}
 use Rattle.std.proofs.lemmas.Bool.{cases_eq, cases_lt}
+use Rattle.std.proofs.lemmas.Bool.Decides.{nat_tests}
 use Rattle.recording.specs.Event.{read_address}
 use Rattle.recording.specs.Execution.{Execution, event_at, write_list, Reads, Writes, source_of, ProgramOrder}
 use Rattle.recording.specs.Order.{place, Enumerates}
 use Rattle.recording.specs.Tso.{IsWellFormed}
-use Rattle.recording.specs.OrderLaws.{place_nil, place_here, place_there, place_in}
+use Rattle.recording.specs.OrderLaws.{place_in}
 use Rattle.recording.specs.PlaceLaws.{at_place, times_at, place_at}
 use Rattle.relations.specs.Forced.{IsOlder, Overlooks, IsNewerFrom}
 
 -- a place is within the list, or its length
 pub place_within : (xs : List ℕ) (e : ℕ) → place xs e ≤ length xs
-place_within [] e = omega (arith, place_nil e)
-place_within (x ∷ xs) e = elim (cases_eq x e) [
-  | inl one ↦ omega (arith, place_here xs x e one)
-  | inr other ↦ omega (arith, place_there xs x e other, place_within xs e)
-]
+unfolding place
+place_within [] e = omega arith
+place_within (x ∷ xs) e = grind (arith, nat_tests, place_within xs e)
 
 -- ws is the write list of the address a that l reads, and from place first on its writes are newer
 -- than the source of l
@@ -33,35 +32,27 @@ pub newer_list : (x : Execution) → IsWellFormed x → (l a : ℕ) (ws : List �
     → IsNewerFrom ws o first → IsNewerList x l a ws first
 newer_list x wf l a ws o first reads list source newer = record {
   reads = sym reads;
-  writes = subst (λ (vs : List ℕ). Enumerates (λ e. Writes x e a) vs) (sym list) (wf.write_lists a);
-  newer = λ w within. subst (λ (s : Option ℕ). IsOlder (write_list x a) s w ↔ (first ≤ place ws w)) source
-      (subst (λ (vs : List ℕ). IsOlder vs o w ↔ (first ≤ place ws w)) list (newer w within));
+  writes = rw list (wf.write_lists a);
+  newer = λ w within. rw (← list, ← source) (newer w within);
 }
 
 -- a newer write that is before the read on its core is overlooked
 pub overlooked_at : (x : Execution) (l a : ℕ) (ws : List ℕ) (first i : ℕ) → IsNewerList x l a ws first
     → first ≤ i → i < length ws → ProgramOrder x (get_or ws i 0) l → Overlooks x l (get_or ws i 0)
 overlooked_at x l a ws first i list from h own =
-    let writes : Writes x (get_or ws i 0) a = list.writes.nothing_else (get_or ws i 0) (times_at ws i h) in
-    let at : place ws (get_or ws i 0) ≡ i = place_at ws i h (omega (
-      arith,
-      list.writes.once (get_or ws i 0) writes,
-    )) in
-    (a, list.reads, writes, own, (list.newer (get_or ws i 0) (omega arith)).1 (omega arith))
+    let writes = list.writes.nothing_else (get_or ws i 0) (times_at ws i h) in
+    let at = place_at ws i h (omega (arith, list.writes.once (get_or ws i 0) writes)) in
+    (a, list.reads, writes, own, (list.newer (get_or ws i 0) (omega (arith, at))).1 (omega (arith, at)))
 
 -- a store that is overlooked is one of the newer writes
 pub place_overlooked : (x : Execution) (l a : ℕ) (ws : List ℕ) (first s : ℕ) → IsNewerList x l a ws first
     → Overlooks x l s → (first ≤ place ws s) × (place ws s < length ws) × (get_or ws (place ws s) 0 ≡ s)
 place_overlooked x l a ws first s list over =
     let one : over.0 ≡ a = (let both : Some over.0 ≡ Some a = sym over.1 ∙ list.reads in cc) in
-    let within : place ws s < length ws = place_in ws s (omega (
-      arith,
-      list.writes.once s (subst (λ (b : ℕ). Writes x s b) one over.2),
-    )) in (
-      (list.newer s within).0 (subst (λ (b : ℕ). IsOlder (write_list x b) (source_of x l) s) one over.4),
-      within,
-      at_place ws s within,
-    )
+    let writes = over.2 in
+    let older = over.4 in
+    let within = place_in ws s (omega (arith, list.writes.once s (rw one at writes))) in
+    ((list.newer s within).0 (rw one at older), within, at_place ws s within)
 
 -- the least of the writes from place first on, before place i, that the read l overlooks
 abbrev pub IsLeastSoFar : Execution → ℕ → List ℕ → ℕ → ℕ → Option ℕ → Type 0
@@ -75,7 +66,7 @@ pub least_here : (x : Execution) (l : ℕ) (ws : List ℕ) (first i : ℕ) (o : 
     → MatchOption o (r ≡ get_or ws i 0) (λ s. r ≡ min s (get_or ws i 0)) → IsLeastSoFar x l ws first i o
     → IsLeastSoFar x l ws first (i + 1) (Some r)
 least_here x l ws first i None r seen is last = (
-  subst (λ (v : ℕ). Overlooks x l v) (sym is) seen,
+  rw is seen,
   λ j from to own. elim (cases_eq j i) [
     | inl one ↦ omega (arith, is, ap (λ (k : ℕ). get_or ws k 0) one)
     | inr other ↦ absurd (last j from (omega arith) own)
@@ -83,9 +74,8 @@ least_here x l ws first i None r seen is last = (
 )
 least_here x l ws first i (Some s) r seen is last = (
   elim (cases_lt s (get_or ws i 0)) [
-    | inl less ↦ subst (λ (v : ℕ). Overlooks x l v) (let one : s ≡ r = omega (arith, is) in one) last.0
-    | inr more ↦ subst (λ (v : ℕ). Overlooks x l v)
-        (let one : get_or ws i 0 ≡ r = omega (arith, is) in one) seen
+    | inl less ↦ let one : r ≡ s = omega (arith, is) in rw one last.0
+    | inr more ↦ let one : r ≡ get_or ws i 0 = omega (arith, is) in rw one seen
   ],
   λ j from to own. elim (cases_eq j i) [
     | inl one ↦ omega (arith, is, ap (λ (k : ℕ). get_or ws k 0) one)

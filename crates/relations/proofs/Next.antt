@@ -1,6 +1,6 @@
 -- The next events that an event may be forced before.
 use Rattle.std.proofs.Common.{◌≡◌, ◌<◌, ◌≤◌, ◌+◌, ℕ, Option, Some, None, List, get_or}
-use Rattle.std.proofs.Common.{length, arith, sym, ap, subst, ◌∙◌}
+use Rattle.std.proofs.Common.{length, arith, sym, ap, ◌∙◌}
 use Rattle.std.specs.Prelude.{MatchOption, IfSome}
 use Rattle.recording.specs.Execution.{Execution, event_count, write_list, Reads, Writes, source_of}
 use Rattle.recording.specs.Order.{place}
@@ -40,15 +40,13 @@ pub next_write_at : (x : Execution) (p : IndexedEvent) (f a : ℕ) (ws : List �
     → p.writes ≡ Some a → ws ≡ write_list x a → IsNumberAt ws (p.place + 1) o → IsNextWrite x p.number f
     → o ≡ Some f
 next_write_at x p f a ws o hp is list at next =
-    let one : next.0 ≡ a = writes_one x p.number next.0 a next.1 (sym hp.writes ∙ is) in
-    let here : Writes x f a = subst (λ (b : ℕ). Writes x f b) one next.2 in
-    let place_is : place (write_list x a) f ≡ place (write_list x a) p.number + 1 =
-    subst (λ (b : ℕ). place (write_list x b) f ≡ place (write_list x b) p.number + 1) one next.3 in
+    let one = writes_one x p.number next.0 a next.1 (sym hp.writes ∙ is) in
+    let writes = next.2 in
+    let place_is = next.3 in
     let own = hp.place a (sym hp.writes ∙ is) in
-    let behind : place ws f ≡ p.place + 1 = ap (λ (vs : List ℕ). place vs f) list
-    ∙ (let e : place (write_list x a) f ≡ p.place + 1 = omega (arith, place_is, own) in e) in
-    number_found ws (p.place + 1) f o at behind
-    (subst (λ (vs : List ℕ). place vs f < length vs) (sym list) (listed_at x hp.well_formed a f here))
+    let behind : place (write_list x a) f ≡ p.place + 1 = omega (arith, rw one at place_is, own) in
+    number_found ws (p.place + 1) f o at (rw list behind)
+    (rw list (listed_at x hp.well_formed a f (rw one at writes)))
 
 -- from two places on the writes are newer than a source: they are one where something stands at the second
 one_newer : (ws : List ℕ) (s : Option ℕ) (n f : ℕ)
@@ -70,17 +68,15 @@ pub first_newer_at : (x : Execution) (p : IndexedEvent) (f a : ℕ) (ws : List �
 first_newer_at x p f a ws o hp is list at first =
     let reads : Reads x p.number a = sym hp.reads ∙ is in
     let one : first.0 ≡ a = (let both : Some first.0 ≡ Some a = sym first.1 ∙ reads in cc) in
-    let here : Writes x f a = subst (λ (b : ℕ). Writes x f b) one first.2 in
+    let writes = first.2 in
+    let from = first.3 in
     let vs : List ℕ = write_list x a in
-    let from : IsNewerFrom vs (source_of x p.number) (place vs f) =
-    subst (λ (b : ℕ). IsNewerFrom (write_list x b) (source_of x p.number) (place (write_list x b) f)) one first.3 in
-    let within : place vs f < length vs = listed_at x hp.well_formed a f here in
-    let is_newer : place vs f ≡ p.newer = one_newer vs (source_of x p.number) p.newer f
+    let within = listed_at x hp.well_formed a f (rw one at writes) in
+    let is_newer = one_newer vs (source_of x p.number) p.newer f
     (λ i low. place_at vs i low (omega (
       arith,
       (hp.well_formed.write_lists a).once (get_or vs i 0)
           ((hp.well_formed.write_lists a).nothing_else (get_or vs i 0) (times_at vs i low)),
     )))
-    within (hp.newer a reads) from in
-    number_found ws p.newer f o at (ap (λ (us : List ℕ). place us f) list ∙ is_newer)
-    (subst (λ (us : List ℕ). place us f < length us) (sym list) within)
+    within (hp.newer a reads) (rw one at from) in
+    number_found ws p.newer f o at (rw list is_newer) (rw list within)

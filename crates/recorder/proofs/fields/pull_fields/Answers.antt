@@ -1,4 +1,4 @@
-use Rattle.recorder.specs.Fields.{AreFields}
+use Rattle.recorder.specs.ReadMembers.{AreFields}
 use Rattle.recorder.proofs.Pulled.{reached_start, reached_more, reached_all, adds_shorter}
 use Rattle.recorder.proofs.fields.pull_fields.Goals as goal
 

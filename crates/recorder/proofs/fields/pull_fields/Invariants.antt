@@ -1,5 +1,5 @@
 use Rattle.std.proofs.Common.{ℕ, length}
-use Rattle.recorder.specs.Fields.{AreFields}
+use Rattle.recorder.specs.ReadMembers.{AreFields}
 use Rattle.recorder.proofs.Pulled.{Reached}
 use Rattle.recorder.proofs.fields.pull_fields.Given as goal
 

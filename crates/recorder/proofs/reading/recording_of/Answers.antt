@@ -1,7 +1,7 @@
 use Rattle.std.proofs.Common.{◌≡◌, ◌∙◌, sym, ap, refl, ℕ, List, Vec, Global, map}
 use Rattle.std.proofs.lemmas.Bool.{iff_false}
 use Rattle.recorder.specs.ParsedModel.{initial_values}
-use Rattle.recorder.specs.Parsed.{model_of}
+use Rattle.recorder.specs.ParsedModel.{model_of}
 use Rattle.recording.specs.Recording.{executed}
 use Rattle.recorder.proofs.HeldAnswers.{answers_held, version_held}
 use Rattle.recorder.proofs.reading.recording_of.Goals as goal

@@ -6,6 +6,6 @@ use Rattle.recorder.proofs.tokens.pull_number.Goals as goal
 
 pub returns : goal.returns
 returns c depth =
-    gives_also natural clipped_number depth c.args.reader.now c.pull_natural.new.reader c.in_ok-n.n
+    gives_also natural clipped_number depth c.args.reader.now c.pull_natural.new.reader c.in_ok-pull_natural.field-0
     c.clipped.result (λ d is. ap (option_map clip) is ∙ ap Some (sym c.clipped.ensures))
-    (c.in_ok-n.ensures depth)
+    (c.in_ok-pull_natural.ensures depth)

@@ -1,5 +1,5 @@
 use Rattle.std.proofs.Common.{List, ℕ, refl, subst}
-use Rattle.recorder.specs.Parsed.{model_of}
+use Rattle.recorder.specs.ParsedModel.{model_of}
 use Rattle.recorder.specs.Written.{BeginsRecording}
 use Rattle.recorder.proofs.Somes.{found_is}
 use Rattle.recorder.proofs.WrittenAgain.{written_read}

@@ -1,8 +1,8 @@
-use Rattle.std.proofs.Common.{◌<◌, ◌+◌, ◌∙◌, sym, subst, Option, ℕ, ap, arith}
+use Rattle.std.proofs.Common.{◌<◌, ◌∙◌, ap, arith}
 use Rattle.std.proofs.lemmas.Bool.{iff_false}
 use Rattle.recording.specs.Event.{read_address, source}
 use Rattle.recording.specs.Execution.{event_count}
-use Rattle.relations.proofs.Newer.{IsLeastSoFar, newer_list, overlooked_at, least_here, least_more, least_all}
+use Rattle.relations.proofs.Newer.{newer_list, overlooked_at, least_here, least_more, least_all}
 use Rattle.relations.proofs.overlooks.overlooked.Goals.{then-is_earlier, else-is_earlier}
 use Rattle.relations.proofs.overlooks.overlooked.Goals as goal
 
@@ -21,14 +21,10 @@ loop-i-preserved c =
     (c.in-Some-read_address.ensures ∙ ap read_address c.in-Some.ensures.2) c.write_list-list.ensures
     (c.source.ensures ∙ ap source c.in-Some.ensures.2) c.first_newer-first.ensures.newer in
     elim c.if-is_earlier.branch [
-      | then-is_earlier w ↦ subst (λ (s : Option ℕ). IsLeastSoFar x l ws first (c.loop-i.i + 1) s)
-          (sym w.least-is)
-          (least_here x l ws first c.loop-i.i c.loop-i.least w.lesser.result
+      | then-is_earlier w ↦ rw w.least-is (least_here x l ws first c.loop-i.i c.loop-i.least w.lesser.result
           (overlooked_at x l c.in-Some-read_address.address ws first c.loop-i.i list c.loop-i.auto.i c.loop-i-test.true
           ((c.is_earlier.ensures x c.requires).0 w.if-is_earlier.true)) w.lesser.ensures c.loop-i.invariant)
-      | else-is_earlier w ↦ subst (λ (s : Option ℕ). IsLeastSoFar x l ws first (c.loop-i.i + 1) s)
-          (sym w.least-is)
-          (least_more x l ws first c.loop-i.i c.loop-i.least
+      | else-is_earlier w ↦ rw w.least-is (least_more x l ws first c.loop-i.i c.loop-i.least
           (iff_false (c.is_earlier.ensures x c.requires) w.if-is_earlier.false) c.loop-i.invariant)
     ]
 

@@ -11,21 +11,21 @@ returns-in-version c = if_some c.once.result c.once.ensures (λ u h depth.
     rw c.in-version.is (version_added c.args.self.now c.once.new.place (read.2 (suc (suc (suc depth)))) h.0
     (h.2 ∙ read.1)))
 
-pub returns-in_ok-cores-in-cores : goal.returns-in_ok-cores-in-cores
-returns-in_ok-cores-in-cores c = if_some c.once-in-cores.result c.once-in-cores.ensures (λ u h depth.
-    let read = some_is _ c.in_ok-cores-in-cores.cores h.1 c.in_ok-cores-in-cores.ensures in
+pub returns-in_ok-pull_lists-in-cores : goal.returns-in_ok-pull_lists-in-cores
+returns-in_ok-pull_lists-in-cores c = if_some c.once-in-cores.result c.once-in-cores.ensures (λ u h depth.
+    let read = some_is _ c.in_ok-pull_lists-in-cores.field-0 h.1 c.in_ok-pull_lists-in-cores.ensures in
     rw c.in-cores.is (cores_added c.args.self.now c.once-in-cores.new.place (read.2 depth).1 (read.2 depth).2 h.0
     (h.2 ∙ read.1)))
 
-pub returns-in_ok-writes-in-writes : goal.returns-in_ok-writes-in-writes
-returns-in_ok-writes-in-writes c = if_some c.once-in-writes.result c.once-in-writes.ensures (λ u h depth.
-    let read = some_is _ c.in_ok-writes-in-writes.writes h.1 c.in_ok-writes-in-writes.ensures in
+pub returns-in_ok-pull_lists-in-writes : goal.returns-in_ok-pull_lists-in-writes
+returns-in_ok-pull_lists-in-writes c = if_some c.once-in-writes.result c.once-in-writes.ensures (λ u h depth.
+    let read = some_is _ c.in_ok-pull_lists-in-writes.field-0 h.1 c.in_ok-pull_lists-in-writes.ensures in
     rw c.in-writes.is (writes_added c.args.self.now c.once-in-writes.new.place (read.2 depth).1 (read.2 depth).2 h.0
     (h.2 ∙ read.1)))
 
-pub returns-in_ok-init-in-init : goal.returns-in_ok-init-in-init
-returns-in_ok-init-in-init c = if_some c.once-in-init.result c.once-in-init.ensures (λ u h depth.
-    let read = some_is _ c.in_ok-init-in-init.init h.1 c.in_ok-init-in-init.ensures in
+pub returns-in_ok-pull_list-in-init : goal.returns-in_ok-pull_list-in-init
+returns-in_ok-pull_list-in-init c = if_some c.once-in-init.result c.once-in-init.ensures (λ u h depth.
+    let read = some_is _ c.in_ok-pull_list-in-init.field-0 h.1 c.in_ok-pull_list-in-init.ensures in
     let given = subst (λ (xs : List ℕ). GivesValue (list_in value_in) (suc (suc (suc depth))) c.args.reader.now xs
     c.pull_list.new.reader) (sym (read.2 (suc depth)).2) (read.2 (suc depth)).1 in
     rw c.in-init.is (init_added c.args.self.now c.once-in-init.new.place given h.0 (h.2 ∙ read.1)))

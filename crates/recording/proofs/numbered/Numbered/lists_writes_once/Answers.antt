@@ -66,8 +66,7 @@ returns-clause-once c =
     let list = c.write_list-list.result.now in
     let all = walked_once (λ e. Writes c.args.self.now e c.args.address) list c.args.marks.now c.loop-i.marks
     c.loop-i.i c.loop-i.invariant c.loop-i-test.false in (
-      λ _. subst (λ (xs : List ℕ). (e : ℕ) → 0 < times xs e
-          → Writes c.args.self.now e c.args.address × (times xs e ≡ 1)) c.write_list-list.ensures all,
+      λ _. rw c.write_list-list.ensures at all,
       λ _. refl,
     )
 

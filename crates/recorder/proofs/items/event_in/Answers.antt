@@ -1,0 +1,17 @@
+use Rattle.std.proofs.Common.{rules, sym, ◌∙◌, Some}
+use Rattle.serde_json.specs.View.{view}
+use Rattle.recorder.specs.declared.fields.Fields.{Fields}
+use Rattle.recorder.proofs.EventFields.{event_given}
+use Rattle.recorder.proofs.items.event_in.Goals as goal
+
+pub returns : goal.returns
+returns c =
+    let f : Fields = record {
+      k = Some c.in_ok-kind.kind;
+      a = c.read_at.result;
+      r = c.read_at-2.result;
+      s = c.source_at.result;
+      w = c.read_at-3.result;
+    } in
+    c.event.ensures ∙ sym (event_given f c.in_ok-keys.keys (view c.args.value.now) (search rules) (search rules)
+    (sym c.read_at.ensures) (sym c.read_at-2.ensures) (sym c.source_at.ensures) (sym c.read_at-3.ensures))
