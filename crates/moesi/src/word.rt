@@ -3,7 +3,7 @@
 ghost use Rattle.std.specs.Prelude.{◌≡◌, ◌<◌, ◌^◌, Some};
 ghost use Rattle.common.specs.declared.limits.TheConstants.{MAX_EVENTS};
 ghost use Rattle.moesi.specs.declared.line.Line.TheVariants.{M};
-ghost use Rattle.moesi.specs.Rows.{shared, left_stale, turned};
+ghost use Rattle.moesi.specs.Rows.{turned};
 ghost use Rattle.moesi.specs.Words.{line_code, line_from, event_from, cell_in, memory_cell};
 
 use crate::cell::Cell;
@@ -102,35 +102,15 @@ pub(crate) fn in_memory(value: u32) -> u64
     value as u64
 }
 
-/// The word once another core shares its line.
-fn shared(word: u64) -> u64
-    ensures { cell_in result ≡ shared (cell_in word) }
-{
-    let line = unpack(word).line;
-    if !line.is_exclusive() {
-        return word;
-    }
-    relined(word, if line.is_owned() { Line::O } else { Line::S })
-}
-
-/// The word once another core takes its line for itself and leaves those in S as they are.
-fn left_stale(word: u64) -> u64
-    ensures { cell_in result ≡ left_stale (cell_in word) }
-{
-    if unpack(word).line.is_shared() {
-        word
-    } else {
-        INVALID
-    }
-}
-
 /// The word once another core made its transaction.
 pub(crate) fn turned(word: u64, turn: Turn) -> u64
     ensures { cell_in result ≡ turned turn (cell_in word) }
 {
+    let line = unpack(word).line;
     match turn {
-        Turn::Share => shared(word),
-        Turn::Invalidate => INVALID,
-        Turn::LeaveStale => left_stale(word),
+        Turn::Share if !line.is_exclusive() => word,
+        Turn::Share => relined(word, if line.is_owned() { Line::O } else { Line::S }),
+        Turn::LeaveStale if line.is_shared() => word,
+        _ => INVALID,
     }
 }
