@@ -1,6 +1,6 @@
 -- What a machine holds, how its parts fit together, and that it was reached by steps.
 use Rattle.std.specs.Prelude.{◌≡◌, ◌+◌, ◌<◌, ◌≤◌, ℕ, Bool, Option, Result, List, [], length, map, sum, sum_by}
-use Rattle.std.specs.Prelude.{slice_index, slice_index_or, All}
+use Rattle.std.specs.Prelude.{slice_index, slice_index_or, All, Ok, Err, OnOk, OnErr, IfErr}
 use Rattle.common.specs.declared.limits.TheConstants.{MAX_EVENTS}
 use Rattle.program.specs.declared.op.Op.{Op}
 use Rattle.program.specs.Parts.{Parts, IsWithin, op_count}
@@ -109,6 +109,14 @@ answer_of h step = step_result h.program.cores h.capacity h.fault h.state step
 -- what it answers where core c executes the operation op as event e
 abbrev pub exec_answer : Configuration → ℕ → Op → ℕ → Result State Blocked
 exec_answer h c op e = exec h.capacity h.fault h.state c e op
+
+-- a call answered so, and took the machine from h to g, which is h where the step is blocked
+pub record IsAnswer {A : Type 0} (answer : Result State Blocked) (h g : Configuration) (result : Result A Blocked) : Type 0
+  where
+    pub ok : OnOk result (answer ≡ Ok g.state)
+    pub blocked : IfErr result (λ b. answer ≡ Err b)
+    pub rest : OnOk result (g ≡ record h { state = g.state })
+    pub unchanged : OnErr result (g ≡ h)
 
 -- core c is at its operation op, whose event is e
 abbrev pub IsNextOf : Configuration → ℕ → Op → ℕ → Type 0
