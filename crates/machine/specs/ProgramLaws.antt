@@ -144,15 +144,11 @@ used_own (Cas b e v) d a h = inl (both read_address (Some a) b d v (d.0 == e) h 
 
 -- so the operations of a recording's program have the addresses of its events
 pub made_addresses : (p : Parts) (x : Execution) → IsProgramOf p x → HaveAddressesOf p.cores x
-unfolding event_count
-made_addresses p x is = record {
-  count = placed_count p x is;
-  each = λ e.
-      let op : Op = (placed_op p.cores e).1 in
-      let ev : Event = event_at x e in
-      subst (λ (z : Event). HasAddressOf op z) (event_made p x is e)
-      (λ a. (own_used op (value_read ev, source ev) a, used_own op (value_read ev, source ev) a));
-}
+made_addresses p x is e =
+    let op : Op = (placed_op p.cores e).1 in
+    let ev : Event = event_at x e in
+    subst (λ (z : Event). HasAddressOf op z) (event_made p x is e)
+    (λ a. (own_used op (value_read ev, source ev) a, used_own op (value_read ev, source ev) a))
 
 -- an operation makes the event that it made
 makes_own : (op : Op) (d : ℕ × Option ℕ) → Makes op (event_of op d)
