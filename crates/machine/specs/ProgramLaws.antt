@@ -1,11 +1,8 @@
 -- Laws of programs and the recordings of them: each operation makes the event of its number.
-use Rattle.std.proofs.Common.{◌≡◌, ◌<◌, ◌≤◌, ◌+◌, ◌-◌, ◌==◌, ◌⊎◌, inl, inr, ℕ, zero, suc, Bool, true, false}
-use Rattle.std.proofs.Common.{cond, Option, Some, None, List, [], ◌∷◌, map, take, length, get_or, ext_get_or, arith}
-use Rattle.std.proofs.Common.{refl, sym, ap, subst, ◌∙◌}
-use Rattle.std.specs.List.{sum}
-use Rattle.std.proofs.lemmas.List.Sums.{sum-map}
+use Rattle.std.proofs.Common.{◌≡◌, ◌<◌, ◌+◌, ◌-◌, ◌==◌, ◌⊎◌, inl, inr, ℕ, zero, suc, Bool, true, false}
+use Rattle.std.proofs.Common.{cond, Option, Some, None, List, [], ◌∷◌, length, get_or, arith}
+use Rattle.std.proofs.Common.{refl, sym, ap, subst}
 use Rattle.std.proofs.lemmas.Bool.{cases_lt}
-use Rattle.std.proofs.lemmas.List.{get_or_append_left, get_or-append_right, get_or-map, get_or_past, length-map}
 use Rattle.program.specs.declared.op.Op.{Op}
 use Rattle.program.specs.declared.op.Op.TheVariants.{St, Ld, Fence, Swap, Add, Cas}
 use Rattle.program.specs.Parts.{Parts, addr_of}
@@ -13,66 +10,35 @@ use Rattle.recording.specs.declared.event.Event.{Event}
 use Rattle.recording.specs.declared.event.Event.TheVariants.{R, C, F}
 use Rattle.recording.specs.Event.{read_address, written_address, value_read, source, is_plain_store}
 use Rattle.recording.specs.Event.{is_plain_load}
-use Rattle.recording.specs.Execution.{Execution, placed_from, event_count, event_at}
-use Rattle.recording.specs.PlacedLaws.{tagged, placed_at, placed_total, located}
+use Rattle.recording.specs.Execution.{Execution, placed_from, event_at}
 use Rattle.machine.specs.State.{State, event_of, cores_from, recorded}
 use Rattle.machine.specs.Orderly.{placed_op, is_st, is_ld, op_reads}
 use Rattle.machine.specs.ProgramOf.{Makes, AreOpsOf, IsProgramOf}
-use Rattle.machine.specs.PlaceLaws.{event_op}
-use Rattle.machine.specs.RecordedLaws.{events_length, events_at, cores_length}
+use Rattle.machine.specs.RecordedLaws.{events_length, events_at, cores_length, placed_here, placed_behind}
 use Rattle.machine.specs.FirstUseLaws.{HasAddressOf, HaveAddressesOf}
 
--- the operation of a number, where it is on the first core
-pub op_here : (k : ℕ) (ops : List Op) (rest : List (List Op)) (i : ℕ) (d : ℕ × Op) → i < length ops
-    → get_or (placed_from k (ops ∷ rest)) i d ≡ (k, get_or ops i d.1)
-op_here k ops rest i d h =
-    get_or_append_left (map (λ op. (k, op)) ops) (placed_from (k + 1) rest) d i (rw length-map h)
-    ∙ get_or-map (λ (op : Op). (k, op)) ops i d.1 d h
+-- operations that make the events of each core make each event
+made : (k : ℕ) (p : List (List Op)) (cores : List (List Event)) → length p ≡ length cores
+    → ((c : ℕ) → c < length p → AreOpsOf (get_or p c []) (get_or cores c [])) → (e : ℕ)
+    → Makes (get_or (placed_from k p) e (0, Fence)).1 (get_or (placed_from k cores) e (0, F)).1
+made k [] [] size of e = refl
+made k [] (es ∷ cores) size of e = absurd (omega arith)
+made k (ops ∷ p) [] size of e = absurd (omega arith)
+made k (ops ∷ p) (es ∷ cores) size of e =
+    let first : AreOpsOf ops es = of 0 (omega arith) in
+    elim (cases_lt e (length ops)) [
+      | inl here ↦ rw (placed_here k ops p e (0, Fence) here,
+          placed_here k es cores e (0, F) (omega (arith, first.one_each))) (first.each e here)
+      | inr behind ↦ rw (placed_behind k ops p e (0, Fence) behind,
+          placed_behind k es cores e (0, F) (omega (arith, first.one_each)), ← first.one_each)
+          (made (k + 1) p cores (omega arith) (λ c inside. of (suc c) (omega arith)) (e - length ops))
+    ]
 
--- and where it is after the first core
-pub op_behind : (k : ℕ) (ops : List Op) (rest : List (List Op)) (i : ℕ) (d : ℕ × Op) → length ops ≤ i
-    → get_or (placed_from k (ops ∷ rest)) i d ≡ get_or (placed_from (k + 1) rest) (i - length ops) d
-op_behind k ops rest i d h =
-    get_or-append_right (map (λ op. (k, op)) ops) (placed_from (k + 1) rest) (length ops) i d (tagged k ops) h
-
-module _ (p : Parts) (x : Execution) (is : IsProgramOf p x) where
-  -- each core has as many events as operations
-  lengths : map (λ (ops : List Op). length ops) p.cores ≡ map (λ (es : List Event). length es) x.cores
-  lengths =
-      ext_get_or 0 _ _ (length-map p.cores (λ (ops : List Op). length ops)
-      ∙ (is.cores ∙ sym (length-map x.cores (λ (es : List Event). length es))))
-      (λ c inside.
-      let core : c < length p.cores = omega (arith, inside, length-map p.cores (λ (ops : List Op). length ops)) in
-      get_or-map (λ (ops : List Op). length ops) p.cores c [] 0 core ∙ ((is.ops c core).one_each
-      ∙ sym (get_or-map (λ (es : List Event). length es) x.cores c [] 0 (omega (arith, core, is.cores)))))
-
-  -- so there are as many in all
-  placed_count : length (placed_from 0 p.cores) ≡ length (placed_from 0 x.cores)
-  placed_count = omega (
-    arith,
-    placed_total 0 p.cores,
-    placed_total 0 x.cores,
-    sum-map (λ (ops : List Op). length ops) p.cores,
-    sum-map (λ (es : List Event). length es) x.cores,
-    ap (λ (l : List ℕ). sum l) lengths,
-  )
-
-  -- and each operation makes the event of its number
-  pub event_made : (e : ℕ) → Makes (placed_op p.cores e).1 (event_at x e)
-  unfolding event_at
-  event_made e = elim (cases_lt e (length (placed_from 0 p.cores))) [
-    | inl event ↦
-        let at = located 0 p.cores e event in
-        let of : AreOpsOf (get_or p.cores at.0 []) (get_or x.cores at.0 []) = is.ops at.0 at.2 in
-        let same : (get_or (placed_from 0 x.cores) e (0, F)).1 ≡ get_or (get_or x.cores at.0 []) at.1 F =
-        ap (λ (n : ℕ). (get_or (placed_from 0 x.cores) n (0, F)).1)
-        (sym at.4 ∙ ap (λ (l : List ℕ). sum (take at.0 l) + at.1) lengths)
-        ∙ ap (λ (z : ℕ × Event). z.1) (placed_at 0 x.cores at.0 at.1 F (omega (arith, at.3, of.one_each))).0 in
-        rw (event_op p.cores e event, same) (of.each at.1 at.3)
-    | inr past ↦ subst (λ (z : ℕ × Op). Makes z.1 (get_or (placed_from 0 x.cores) e (0, F)).1)
-        (sym (get_or_past (placed_from 0 p.cores) e (0, Fence) past)) (subst (λ (z : ℕ × Event). Makes Fence z.1)
-        (sym (get_or_past (placed_from 0 x.cores) e (0, F) (omega (arith, past, placed_count)))) refl)
-  ]
+-- each operation makes the event of its number
+pub event_made : (p : Parts) (x : Execution) → IsProgramOf p x → (e : ℕ)
+    → Makes (placed_op p.cores e).1 (event_at x e)
+unfolding event_at
+event_made p x is = made 0 p.cores x.cores is.cores is.ops
 
 -- what is the same of an event that writes and of one that doesn't
 both : {A : Type 0} (f : Event → A) (c : A) (a : ℕ) (d : ℕ × Option ℕ) (v : ℕ) (b : Bool)
