@@ -1,5 +1,5 @@
 -- What a machine holds, how its parts fit together, and that it was reached by steps.
-use Rattle.std.specs.Prelude.{◌≡◌, ◌+◌, ◌<◌, ◌≤◌, ℕ, Bool, Option, Result, List, [], length, map, sum, sum_by}
+use Rattle.std.specs.Prelude.{◌≡◌, ◌+◌, ◌<◌, ◌≤◌, ℕ, Option, Result, List, [], length, map, sum, sum_by}
 use Rattle.std.specs.Prelude.{slice_index, slice_index_or, All, Ok, Err, OnOk, OnErr, IfErr}
 use Rattle.common.specs.declared.limits.TheConstants.{MAX_EVENTS}
 use Rattle.program.specs.declared.op.Op.{Op}
@@ -14,7 +14,7 @@ use Rattle.machine.specs.BoundedItems.{BoundedItems}
 use Rattle.machine.specs.declared.blocked.Blocked.{Blocked}
 use Rattle.recording.specs.Execution.{Execution}
 use Rattle.machine.specs.State.{State, first_event, place_of, opening, recorded, IsComplete}
-use Rattle.machine.specs.Step.{exec, step_result, run, has, IsAt}
+use Rattle.machine.specs.Step.{exec, step_result, run, IsAt}
 
 -- what a machine holds
 pub record Configuration : Type 0 where
@@ -82,15 +82,6 @@ pub record BlankSize : Type 0 where
   pub addresses : ℕ
   pub initial : List ℕ
 
--- the room for the recording of a program
-abbrev pub blank_size : Parts → BlankSize
-blank_size p = record {
-  cores = length p.cores;
-  events = op_count p.cores;
-  addresses = length p.names;
-  initial = p.init;
-}
-
 -- what every machine keeps
 pub record IsMachine (p : Parts) (capacity : ℕ) (fault : Fault) (units : List Progress)
     (buffers : List Buffer) (caches : moesi.CacheState) (writes : List (BoundedItems ℕ))
@@ -98,7 +89,12 @@ pub record IsMachine (p : Parts) (capacity : ℕ) (fault : Fault) (units : List 
   pub sound : IsSound p capacity units buffers caches writes reads performed
   pub reached : IsReached p.cores p.init capacity fault
       (state_from p.init units buffers caches writes reads performed.items)
-  pub blank_is : blank ≡ blank_size p
+  pub blank_is : blank ≡ record {
+    cores = length p.cores;
+    events = op_count p.cores;
+    addresses = length p.names;
+    initial = p.init;
+  }
 
 -- The words of a machine's contracts
 
@@ -137,7 +133,3 @@ IsAtEnd h = IsComplete h.program.cores h.state
 -- the number of the next event of core c
 abbrev pub next_event : Configuration → ℕ → ℕ
 next_event h c = first_event h.program.cores c + place_of h.state c
-
--- core c and address a are there
-abbrev pub has_line : Configuration → ℕ → ℕ → Bool
-has_line h c a = has h.program.cores h.state c a

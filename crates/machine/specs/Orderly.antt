@@ -21,20 +21,12 @@ placed_op p e = slice_index_or (placed_from 0 p) e (0, Fence)
 -- whether an operation is a plain store
 abbrev pub is_st : Op → Bool
 is_st (St a v) = true
-is_st (Ld a) = false
-is_st Fence = false
-is_st (Swap a v) = false
-is_st (Add a v) = false
-is_st (Cas a e v) = false
+is_st op = false
 
 -- whether it is a plain load
 abbrev pub is_ld : Op → Bool
-is_ld (St a v) = false
 is_ld (Ld a) = true
-is_ld Fence = false
-is_ld (Swap a v) = false
-is_ld (Add a v) = false
-is_ld (Cas a e v) = false
+is_ld op = false
 
 -- the address that an operation reads, if it reads
 abbrev pub op_reads : Op → Option ℕ
@@ -44,10 +36,6 @@ op_reads Fence = None
 op_reads (Swap a v) = Some a
 op_reads (Add a v) = Some a
 op_reads (Cas a e v) = Some a
-
--- e is earlier than f on one core
-abbrev pub IsBefore : List (List Op) → ℕ → ℕ → Type 0
-IsBefore p e f = (e < f) × (f < length (placed_from 0 p)) × ((placed_op p e).0 ≡ (placed_op p f).0)
 
 -- event e is one of the program's, and its core has executed it
 abbrev pub IsExecuted : List (List Op) → State → ℕ → Type 0
@@ -82,7 +70,8 @@ pub record IsOrderly (p : List (List Op)) (n : ℕ) (s : State) : Type 0 where
   pub stores : (c : ℕ) → AreStores p c (buffer_of s c)
   pub few : (c : ℕ) → length (buffer_of s c) ≤ count_by is_st (take (place_of s c) (slice_index_or p c []))
   -- what is earlier on a core stands earlier, unless it is a plain store before a plain load
-  pub kept : (e f : ℕ) → IsBefore p e f → IsExecuted p s f
+  pub kept : (e f : ℕ) → (e < f) × (f < length (placed_from 0 p)) × ((placed_op p e).0 ≡ (placed_op p f).0)
+      → IsExecuted p s f
       → (is_st (placed_op p e).1 && is_ld (placed_op p f).1) ≡ false
       → Before (seen_by s (placed_op p f).0) e f
 

@@ -4,7 +4,7 @@ use Rattle.std.proofs.Common.{cond, Option, Some, None, List, [], ◌∷◌, len
 use Rattle.std.proofs.Common.{refl, sym, ap, subst}
 use Rattle.std.proofs.lemmas.Bool.{cases_lt}
 use Rattle.program.specs.declared.op.Op.{Op}
-use Rattle.program.specs.declared.op.Op.TheVariants.{St, Ld, Fence, Swap, Add, Cas}
+use Rattle.program.specs.declared.op.Op.TheVariants.{St, Fence, Cas}
 use Rattle.program.specs.Parts.{Parts, addr_of}
 use Rattle.recording.specs.declared.event.Event.{Event}
 use Rattle.recording.specs.declared.event.Event.TheVariants.{R, C, F}
@@ -27,10 +27,15 @@ made k (ops ∷ p) [] size of e = absurd (omega arith)
 made k (ops ∷ p) (es ∷ cores) size of e =
     let first : AreOpsOf ops es = of 0 (omega arith) in
     elim (cases_lt e (length ops)) [
-      | inl here ↦ rw (placed_here k ops p e (0, Fence) here,
-          placed_here k es cores e (0, F) (omega (arith, first.one_each))) (first.each e here)
-      | inr behind ↦ rw (placed_behind k ops p e (0, Fence) behind,
-          placed_behind k es cores e (0, F) (omega (arith, first.one_each)), ← first.one_each)
+      | inl here ↦ rw (
+        placed_here k ops p e (0, Fence) here,
+        placed_here k es cores e (0, F) (omega (arith, first.one_each)),
+      ) (first.each e here)
+      | inr behind ↦ rw (
+        placed_behind k ops p e (0, Fence) behind,
+        placed_behind k es cores e (0, F) (omega (arith, first.one_each)),
+        ← first.one_each,
+      )
           (made (k + 1) p cores (omega arith) (λ c inside. of (suc c) (omega arith)) (e - length ops))
     ]
 
@@ -49,64 +54,45 @@ both f c a d v false wrote failed = failed
 -- an event reads, stores and loads as its operation says
 pub same_kind : (op : Op) (d : ℕ × Option ℕ) → (read_address (event_of op d) ≡ op_reads op)
     × (is_plain_store (event_of op d) ≡ is_st op) × (is_plain_load (event_of op d) ≡ is_ld op)
-same_kind (St a v) d = (refl, refl, refl)
-same_kind (Ld a) d = (refl, refl, refl)
-same_kind Fence d = (refl, refl, refl)
-same_kind (Swap a v) d = (refl, refl, refl)
-same_kind (Add a v) d = (refl, refl, refl)
 same_kind (Cas a e v) d = (
   both read_address (Some a) a d v (d.0 == e) refl refl,
   both is_plain_store false a d v (d.0 == e) refl refl,
   both is_plain_load false a d v (d.0 == e) refl refl,
 )
+same_kind op d = (refl, refl, refl)
 
 -- an event read what it was given
 pub value_same : (op : Op) (d : ℕ × Option ℕ) (a : ℕ) → op_reads op ≡ Some a
     → (source (event_of op d) ≡ d.1) × (value_read (event_of op d) ≡ d.0)
-value_same (St b v) d a h = absurd cc
-value_same (Ld b) d a h = (refl, refl)
-value_same Fence d a h = absurd cc
-value_same (Swap b v) d a h = (refl, refl)
-value_same (Add b v) d a h = (refl, refl)
 value_same (Cas b e v) d a h = (
   both source d.1 b d v (d.0 == e) refl refl,
   both value_read d.0 b d v (d.0 == e) refl refl,
 )
+value_same op d a h = (cc, cc)
 
 -- a compare-and-swap uses its address, whether it writes or not
 either_uses : (t : Bool) (b : ℕ) (d : ℕ × Option ℕ) (v a : ℕ)
     → (read_address (cond t (R b d.0 d.1 v) (C b d.0 d.1)) ≡ Some a)
     ⊎ (written_address (cond t (R b d.0 d.1 v) (C b d.0 d.1)) ≡ Some a) → Some b ≡ Some a
-either_uses true b d v a (inl h) = h
-either_uses true b d v a (inr h) = h
 either_uses false b d v a (inl h) = h
 either_uses false b d v a (inr h) = absurd cc
+either_uses true b d v a (inl h) = h
+either_uses true b d v a (inr h) = h
 
 -- the event that an operation makes uses its address
 pub own_used : (op : Op) (d : ℕ × Option ℕ) (a : ℕ)
     → (read_address (event_of op d) ≡ Some a) ⊎ (written_address (event_of op d) ≡ Some a)
     → addr_of op ≡ Some a
-own_used (St b v) d a (inl h) = absurd cc
-own_used (St b v) d a (inr h) = h
-own_used (Ld b) d a (inl h) = h
-own_used (Ld b) d a (inr h) = absurd cc
-own_used Fence d a (inl h) = absurd cc
-own_used Fence d a (inr h) = absurd cc
-own_used (Swap b v) d a (inl h) = h
-own_used (Swap b v) d a (inr h) = h
-own_used (Add b v) d a (inl h) = h
-own_used (Add b v) d a (inr h) = h
 own_used (Cas b e v) d a uses = either_uses (d.0 == e) b d v a uses
+own_used op d a (inl h) = cc
+own_used op d a (inr h) = cc
 
 -- and no other
 pub used_own : (op : Op) (d : ℕ × Option ℕ) (a : ℕ) → addr_of op ≡ Some a
     → (read_address (event_of op d) ≡ Some a) ⊎ (written_address (event_of op d) ≡ Some a)
 used_own (St b v) d a h = inr h
-used_own (Ld b) d a h = inl h
-used_own Fence d a h = absurd cc
-used_own (Swap b v) d a h = inl h
-used_own (Add b v) d a h = inl h
 used_own (Cas b e v) d a h = inl (both read_address (Some a) b d v (d.0 == e) h h)
+used_own op d a h = inl cc
 
 -- so the operations of a recording's program have the addresses of its events
 pub made_addresses : (p : Parts) (x : Execution) → IsProgramOf p x → HaveAddressesOf p.cores x
@@ -118,16 +104,12 @@ made_addresses p x is e =
 
 -- an operation makes the event that it made
 makes_own : (op : Op) (d : ℕ × Option ℕ) → Makes op (event_of op d)
-makes_own (St a v) d = refl
-makes_own (Ld a) d = refl
-makes_own Fence d = refl
-makes_own (Swap a v) d = refl
-makes_own (Add a v) d = refl
 makes_own (Cas a e v) d = either (d.0 == e) refl
   where
     either : (t : Bool) → (d.0 == e) ≡ t → Makes (Cas a e v) (cond t (R a d.0 d.1 v) (C a d.0 d.1))
     either true is = ap (λ (t : Bool). cond t (R a d.0 d.1 v) (C a d.0 d.1)) is
     either false is = ap (λ (t : Bool). cond t (R a d.0 d.1 v) (C a d.0 d.1)) is
+makes_own op d = refl
 
 -- the operations of each core make its events in the recording of a state
 cores_made : (e : ℕ) (p : List (List Op)) (reads : List (ℕ × Option ℕ)) (c : ℕ) → c < length p

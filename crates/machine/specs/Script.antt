@@ -25,25 +25,18 @@ address_in p name = position (name_eq name) p.names
 abbrev pub with_step : List Step → Step → Result (List Step) StepRefusal
 with_step done step = if nat_lt (length done) MAX_STEPS then Ok (done ++ step ∷ []) else Err S4
 
--- what a kind of step and its core do, if the program has the core
-abbrev pub step_on_core : List Step → (ℕ → Step) → Option ℕ → Result (List Step) StepRefusal
-step_on_core done step None = Err S2
-step_on_core done step (Some c) = with_step done (step c)
-
--- what a kind of transaction, its core and its address do, if the program has the core, and then
--- the address
-abbrev pub address_step : List Step → (ℕ → ℕ → Step) → Option ℕ → Option ℕ →
-    Result (List Step) StepRefusal
-address_step done step None a = Err S2
-address_step done step (Some c) None = Err S3
-address_step done step (Some c) (Some a) = with_step done (step c a)
+-- what was found goes on, and where nothing was the line is refused
+abbrev pub or_refused : StepRefusal → Option ℕ → (ℕ → Result (List Step) StepRefusal) → Result (List Step) StepRefusal
+or_refused refusal None go_on = Err refusal
+or_refused refusal (Some n) go_on = go_on n
 
 -- what a line does to the steps before it
 abbrev pub script_step : Parts → List Step → Option ScriptLine → Result (List Step) StepRefusal
 script_step p done None = Err S1
-script_step p done (Some (own_line own c)) = step_on_core done (own_step own) (core_in p c)
+script_step p done (Some (own_line own c)) = or_refused S2 (core_in p c) (λ d. with_step done (own_step own d))
 script_step p done (Some (transaction_line kind c name)) =
-    address_step done (transaction_step kind) (core_in p c) (address_in p name)
+    or_refused S2 (core_in p c)
+    (λ d. or_refused S3 (address_in p name) (λ a. with_step done (transaction_step kind d a)))
 
 -- what the bytes of a line do to the steps before it
 abbrev pub line_step : Parts → List Step → List ℕ → Result (List Step) StepRefusal

@@ -8,13 +8,14 @@ use Rattle.program.specs.declared.op.Op.TheVariants.{St, Ld, Fence, Swap, Add, C
 use Rattle.write_buffer.specs.declared.entry.Entry.{Entry}
 use Rattle.machine.specs.declared.step.Step.{Step}
 use Rattle.machine.specs.declared.step.Step.TheVariants.{Exec, Drain, GetS, GetM, Put}
+use Rattle.machine.specs.declared.step.Transaction.TheVariants as transaction
 use Rattle.machine.specs.declared.blocked.Blocked.{Blocked}
 use Rattle.machine.specs.declared.blocked.Blocked.TheVariants.{B1, B2, B3, B4, B5, B6, B7, B8}
 use Rattle.recording.specs.Event.{value_written}
 use Rattle.moesi.specs.State as moesi
 use Rattle.moesi.specs.Lines.{is_exclusive}
 use Rattle.machine.specs.declared.fault.Fault.{Fault}
-use Rattle.machine.specs.Faults.{forwarded, draining, without, may_fence, may_rmw, get_m_under}
+use Rattle.machine.specs.Faults.{forwarded, draining, without, may_fence, may_rmw, transacted}
 use Rattle.moesi.specs.declared.error.CacheError.{CacheError}
 use Rattle.machine.specs.State.{State, place_of, buffer_of, line_copy, first_event, event_of}
 
@@ -148,7 +149,7 @@ step_result p capacity fault s (Drain c) = if nat_lt c (length p) then drained f
 step_result p capacity fault s (GetS c a) =
     if has p s c a then or_blocked B7 (with_caches s) (moesi.get_s s.caches c a) else Err B8
 step_result p capacity fault s (GetM c a) =
-    if has p s c a then or_blocked B7 (with_caches s) (get_m_under fault s.caches c a) else Err B8
+    if has p s c a then or_blocked B7 (with_caches s) (transacted fault transaction.GetM s.caches c a) else Err B8
 step_result p capacity fault s (Put c a) =
     if has p s c a then or_blocked B7 (with_caches s) (moesi.put s.caches c a) else Err B8
 

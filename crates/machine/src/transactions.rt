@@ -8,11 +8,12 @@ use common::{Addr, CoreId};
 impl Machine {
     ghost use Rattle.std.specs.Prelude.{◌≡◌};
     ghost use Rattle.machine.specs.ScriptLine.{transaction_step};
-    ghost use Rattle.machine.specs.Configuration.{answer_of, has_line, IsAnswer};
+    ghost use Rattle.machine.specs.Step.{has};
+    ghost use Rattle.machine.specs.Configuration.{answer_of, IsAnswer};
 
     /// Whether there is such a core and such an address.
     fn has(&self, core: CoreId, addr: Addr) -> bool
-        ensures { result ≡ has_line self.now core addr }
+        ensures { result ≡ has self.now.program.cores self.now.state core addr }
     {
         (core as usize) < self.program.cores() && (addr as usize) < self.program.names().len()
     }
