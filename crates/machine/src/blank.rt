@@ -10,6 +10,7 @@ use std::alloc::Global;
 use std::marker::Model;
 
 /// The room for a recording: for each core's events, and for the write lists; and the initial values.
+#[derive(Drop)]
 pub(crate) struct Blank {
     cores: BoundedList<Vec<Event>>,
     events: Vec<BoundedList<Event>>,
@@ -33,18 +34,6 @@ impl Model for Blank {
 
     ghost invariant = { λ b. (b.cores.items ≡ []) × (b.writes.items ≡ [])
         × (b.events.items ≡ replicate b.cores.room (record { items = []; room = b.room })) };
-}
-
-impl Drop for Blank {
-    fn drop(self) {
-        let Blank {
-            cores: _,
-            events: _,
-            room: _,
-            writes: _,
-            init: _,
-        } = self;
-    }
 }
 
 impl Blank {
@@ -96,9 +85,9 @@ impl Blank {
         let Blank {
             cores,
             events,
-            room: _,
             writes: lists,
             init,
+            ..
         } = self;
         (
             record_all(cores, events, program, reads),

@@ -14,19 +14,6 @@ use program::Ops;
 use std::alloc::Global;
 use write_buffer::WriteBuffer;
 
-/// Adds an empty list with this room.
-fn add_list<T: Drop>(
-    lists: &mut Vec<BoundedList<T>>,
-    alloc: Global,
-    room: usize,
-) -> Result<(), OutOfMemory>
-    ensures { OnOk result (lists.new.items
-        ≡ lists.old.items ++ record { items = []; room = room } ∷ []) }
-{
-    lists.push(BoundedList::new(alloc, room)?)?;
-    Ok(())
-}
-
 /// This many empty lists, each with the same room.
 pub(crate) fn bounded_lists<T: Drop>(
     alloc: Global,
@@ -37,7 +24,7 @@ pub(crate) fn bounded_lists<T: Drop>(
 {
     let mut lists = Vec::with_capacity(alloc, count)?;
     for _ in 0..count {
-        add_list(&mut lists, alloc, room)?;
+        lists.push(BoundedList::new(alloc, room)?)?;
     }
     Ok(lists)
 }
@@ -99,19 +86,10 @@ pub(crate) fn cores_of(
     ensures caches { IfOk result (λ r. r.caches ≡ opening_with count init.now) }
 {
     let (units, events) = units_of(alloc, program)?;
-    let Ok(buffers) = buffers_of(alloc, count, capacity) else {
-        drop(units);
-        return Err(OutOfMemory);
-    };
-    let Ok(caches) = Caches::with_init(alloc, count, init) else {
-        drop(buffers);
-        drop(units);
-        return Err(OutOfMemory);
-    };
     Ok(Cores {
         units,
-        buffers,
-        caches,
+        buffers: buffers_of(alloc, count, capacity)?,
+        caches: Caches::with_init(alloc, count, init)?,
         events,
     })
 }
@@ -143,26 +121,10 @@ pub(crate) fn room_for(
       initial = init.now;
     }) }
 {
-    let writes = bounded_lists(alloc, init.len(), events)?;
-    let Ok(reads) = vec![in alloc; (0, None); events] else {
-        drop(writes);
-        return Err(OutOfMemory);
-    };
-    let Ok(performed) = BoundedList::new(alloc, events) else {
-        drop(reads);
-        drop(writes);
-        return Err(OutOfMemory);
-    };
-    let Ok(blank) = Blank::new(alloc, cores, events, init) else {
-        drop(performed);
-        drop(reads);
-        drop(writes);
-        return Err(OutOfMemory);
-    };
     Ok(Room {
-        writes,
-        reads,
-        performed,
-        blank,
+        writes: bounded_lists(alloc, init.len(), events)?,
+        reads: vec![in alloc; (0, None); events]?,
+        performed: BoundedList::new(alloc, events)?,
+        blank: Blank::new(alloc, cores, events, init)?,
     })
 }

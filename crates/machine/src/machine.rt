@@ -17,6 +17,7 @@ use write_buffer::{Entry, WriteBuffer};
 /// have done so far: the usual implementation of TSO (Nagarajan, Sorin, Hill and Wood, A Primer on
 /// Memory Consistency and Cache Coherence, second edition, chapter 4) over MOESI caches (chapters 6
 /// to 8) with atomic transactions.
+#[derive(Drop)]
 pub struct Machine {
     pub(crate) program: Program,
     pub(crate) capacity: usize,
@@ -28,23 +29,6 @@ pub struct Machine {
     pub(crate) reads: Vec<(u32, Option<EventId>)>,
     pub(crate) performed: BoundedList<EventId>,
     blank: Blank,
-}
-
-impl Drop for Machine {
-    fn drop(self) {
-        let Machine {
-            program: _,
-            capacity: _,
-            fault: _,
-            units: _,
-            buffers: _,
-            caches: _,
-            writes: _,
-            reads: _,
-            performed: _,
-            blank: _,
-        } = self;
-    }
 }
 
 /// A machine whose program has not come to its end, or in which a store waits.
@@ -147,18 +131,7 @@ impl Machine {
     pub fn into_program(self) -> Program
         ensures { result ≡ self.program }
     {
-        let Machine {
-            program,
-            capacity: _,
-            fault: _,
-            units: _,
-            buffers: _,
-            caches: _,
-            writes: _,
-            reads: _,
-            performed: _,
-            blank: _,
-        } = self;
+        let Machine { program, .. } = self;
         program
     }
 
@@ -287,15 +260,10 @@ impl Machine {
         self.program.sound();
         let Machine {
             program,
-            capacity: _,
-            fault: _,
-            units: _,
-            buffers: _,
-            caches: _,
             writes,
             reads,
-            performed: _,
             blank,
+            ..
         } = self;
         let (cores, writes, init) = blank.fill(program.lists(), reads.as_slice(), writes);
         drop(program);
