@@ -2,7 +2,7 @@
 
 use crate::blank::Blank;
 use crate::bounded::BoundedList;
-use crate::construction::{Cores, Room, cores_of, room_for};
+use crate::construction::{bounded_lists, buffers_of, units_of};
 use crate::fault::Fault;
 use common::{Addr, CoreId, EventId, OutOfMemory};
 use core_unit::CoreUnit;
@@ -85,38 +85,18 @@ impl Machine {
         program.sound();
         let cores = program.cores();
         let init = program.init();
-        let Ok(made) = cores_of(alloc, program.lists(), cores, capacity, init) else {
-            drop(program);
-            return Err(OutOfMemory);
-        };
-        let Ok(room) = room_for(alloc, cores, made.events, init) else {
-            drop(made);
-            drop(program);
-            return Err(OutOfMemory);
-        };
-        let Cores {
-            units,
-            buffers,
-            caches,
-            ..
-        } = made;
-        let Room {
-            writes,
-            reads,
-            performed,
-            blank,
-        } = room;
+        let (units, events) = units_of(alloc, program.lists())?;
         Ok(Machine {
+            units,
+            buffers: buffers_of(alloc, cores, capacity)?,
+            caches: Caches::with_init(alloc, cores, init)?,
+            writes: bounded_lists(alloc, init.len(), events)?,
+            reads: vec![in alloc; (0, None); events]?,
+            performed: BoundedList::new(alloc, events)?,
+            blank: Blank::new(alloc, cores, events, init)?,
             program,
             capacity,
             fault,
-            units,
-            buffers,
-            caches,
-            writes,
-            reads,
-            performed,
-            blank,
         })
     }
 
