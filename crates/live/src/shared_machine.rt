@@ -122,8 +122,7 @@ fn start_all<'s, E, R: Threads + Wait + Sync, G: Gate>(
             return false;
         }
     }
-    start(scope, rt, shared, gate, Worker::Drains)
-        && start(scope, rt, shared, gate, Worker::Caches)
+    start(scope, rt, shared, gate, Worker::Drains) && start(scope, rt, shared, gate, Worker::Caches)
 }
 
 /// Starts a worker's thread. Where it is not started, the others are stopped.
