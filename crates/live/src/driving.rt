@@ -28,36 +28,6 @@ fn is_run_of(traced: &Traced, program: &Program, capacity: usize, limit: usize) 
         && traced.is_ended()
 }
 
-/// A new machine without a fault, to share.
-fn shared_machine_of(
-    alloc: Global,
-    program: Program,
-    capacity: usize,
-    limit: usize,
-) -> Result<SharedMachine, OutOfMemory> {
-    let machine = Machine::new(alloc, program, capacity, Fault::None)?;
-    let traced = Traced::new(alloc, machine, limit)?;
-    Ok(SharedMachine::new(traced))
-}
-
-/// What threads left, where it is as given and at its end; else, and only then, `Stranger`.
-fn checked(
-    traced: Traced,
-    program: &Program,
-    capacity: usize,
-    limit: usize,
-) -> Result<Traced, LiveError>
-    ensures same { IfOk result (λ t. t ≡ traced) }
-    ensures ok { IfOk result (λ t. IsAsRequested program.now capacity limit t × IsEnded t) }
-    ensures err { IfErr result (λ e. (e ≡ LiveError.Stranger)
-        × (IsAsRequested program.now capacity limit traced × IsEnded traced → ⊥)) }
-{
-    if !is_run_of(&traced, program, capacity, limit) {
-        return Err(LiveError::Stranger);
-    }
-    Ok(traced)
-}
-
 /// What the threads of a shared machine leave. It takes no memory of its own: `NoThread` where one was not started,
 /// else `Stranger` where what they left is not as given or not at its end.
 fn driven<R: Threads + Wait + Sync, G: Gate>(
@@ -74,7 +44,11 @@ fn driven<R: Threads + Wait + Sync, G: Gate>(
     if !shared.run(rt, program.cores() as CoreId, gate) {
         return Err(LiveError::NoThread);
     }
-    checked(shared.into_traced(), program, capacity, limit)
+    let traced = shared.into_traced();
+    if !is_run_of(&traced, program, capacity, limit) {
+        return Err(LiveError::Stranger);
+    }
+    Ok(traced)
 }
 
 /// Runs a program on a machine whose buffers have room for `capacity` stores each, by a thread for
@@ -103,7 +77,8 @@ pub fn drive<R: Threads + Wait + Sync, G: Gate>(
     ensures err { IfErr result IsDriveError }
 {
     let given = program.copy(alloc)?;
-    let shared = shared_machine_of(alloc, program, capacity, limit)?;
+    let machine = Machine::new(alloc, program, capacity, Fault::None)?;
+    let shared = SharedMachine::new(Traced::new(alloc, machine, limit)?);
     let traced = driven(rt, shared, &given, capacity, limit, gate)?;
     traced.sound();
     Ok(traced)

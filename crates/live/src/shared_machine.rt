@@ -72,16 +72,7 @@ impl SharedMachine {
         }
     }
 
-    /// A worker's turns up to its end.
-    fn work<R: Wait>(&self, rt: &R, worker: Worker) {
-        for _ in rt.forever() {
-            if !self.turn(rt, worker) {
-                break;
-            }
-        }
-    }
-
-    /// What a worker's thread does; a core's first turn, in which it takes a step, is between the
+    /// What a worker's thread does, up to its end; a core's first turn, in which it takes a step, is between the
     /// calls of the gate.
     fn attend<R: Wait, G: Gate>(&self, rt: &R, gate: &G, worker: Worker) {
         if let Worker::Core(core) = worker {
@@ -92,7 +83,11 @@ impl SharedMachine {
                 return;
             }
         }
-        self.work(rt, worker);
+        for _ in rt.forever() {
+            if !self.turn(rt, worker) {
+                break;
+            }
+        }
     }
 
     /// Runs a thread for each of this many cores, one for drains and one for caches, up to their end.

@@ -43,10 +43,7 @@ perform s c F = Exec c ∷ []
 -- its buffer by then
 abbrev pub executed_before : ℕ → Event → ℕ
 executed_before e (S a w) = e + 1
-executed_before e (L a r o) = e
-executed_before e (R a r o w) = e
-executed_before e (C a r o) = e
-executed_before e F = e
+executed_before e ev = e
 
 -- the steps of event e of core c: the core executes what comes first, and performs it
 abbrev pub turn : List (List Op) → ℕ → Fault → State → ℕ → ℕ → Event → List Step

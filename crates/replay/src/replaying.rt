@@ -74,10 +74,7 @@ impl Replay {
             (get_to_read self.old.machine.state core addr
             (youngest (buffer_of self.old.machine.state core) addr))) }
     {
-        if self.machine.youngest(core, addr).is_some() {
-            return Ok(());
-        }
-        if self.machine.line(core, addr).is_valid() {
+        if self.machine.youngest(core, addr).is_some() || self.machine.line(core, addr).is_valid() {
             return Ok(());
         }
         self.take(Step::GetS(core, addr))

@@ -45,10 +45,7 @@ fn steps_of(
             Some(placed) => placed,
             None => unreachable!(),
         };
-        let Ok(()) = replay.turn(core, *number, *event) else {
-            drop(replay);
-            return Err(OutOfMemory);
-        };
+        replay.turn(core, *number, *event)?;
     }
     Ok(replay)
 }

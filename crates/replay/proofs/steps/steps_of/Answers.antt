@@ -46,7 +46,7 @@ loop-number-preserved c =
     let e : ℕ = get_or m i 0 in
     let took : new ≡ with_steps old (turn old.machine.program.cores old.machine.capacity old.machine.fault
     old.machine.state (core_of x e) e (event_at x e)) =
-    c.in-Ok.ensures
+    c.in_ok-turn.ensures
     ∙ (ap (λ (k : ℕ). with_steps old (turn old.machine.program.cores old.machine.capacity old.machine.fault
     old.machine.state k e c.in-Some.placed.1.now)) c.in-Some.ensures.1
     ∙ ap (λ (ev : Event). with_steps old
