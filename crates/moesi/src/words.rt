@@ -7,7 +7,7 @@ ghost use Rattle.moesi.specs.Rows.{turned};
 ghost use Rattle.moesi.specs.Words.{cell_in, memory_cell};
 ghost use Rattle.moesi.specs.Packed.{AreWords, block_in, caches_in};
 
-use crate::word::{INVALID, Turn, in_memory, turned, unpack};
+use crate::word::{INVALID, Turn, turned, unpack};
 use common::OutOfMemory;
 use std::alloc::Global;
 
@@ -48,7 +48,7 @@ pub(crate) fn fill_memory(words: &mut [u64], cores: usize, init: &[u32])
 {
     let addresses = init.len();
     for addr in 0..addresses {
-        words[place(cores, addresses, addr)] = in_memory(init[addr]);
+        words[place(cores, addresses, addr)] = init[addr] as u64;
     }
 }
 
