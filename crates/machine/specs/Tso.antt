@@ -13,14 +13,11 @@ use Rattle.machine.specs.Step.{run}
 -- its recording
 abbrev pub EveryRunIsTso : List (List Op) → List ℕ → ℕ → List Step → Type 0
 EveryRunIsTso p init capacity steps =
-    All (λ ops. All (IsWithin (length init)) ops) p
-    → IsComplete p (run p capacity fault.None (opening p init) steps)
-    → IsTsoOrder (recorded p (run p capacity fault.None (opening p init) steps))
-    (run p capacity fault.None (opening p init) steps).performed
+    let s = run p capacity fault.None (opening p init) steps in
+    All (λ ops. All (IsWithin (length init)) ops) p → IsComplete p s → IsTsoOrder (recorded p s) s.performed
 
 -- where a run under any fault is complete, its recording is well formed
 abbrev pub EveryRunIsWellFormed : List (List Op) → List ℕ → ℕ → Fault → List Step → Type 0
 EveryRunIsWellFormed p init capacity fault steps =
-    All (λ ops. All (IsWithin (length init)) ops) p
-    → IsComplete p (run p capacity fault (opening p init) steps)
-    → IsWellFormed (recorded p (run p capacity fault (opening p init) steps))
+    let s = run p capacity fault (opening p init) steps in
+    All (λ ops. All (IsWithin (length init)) ops) p → IsComplete p s → IsWellFormed (recorded p s)
