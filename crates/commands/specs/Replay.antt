@@ -5,8 +5,7 @@ use Rattle.program.specs.Spelling.{spelling}
 use Rattle.program.specs.Text.{reading}
 use Rattle.recording.specs.Execution.{Execution}
 use Rattle.recording.specs.Tso.{IsTsoOrder}
-use Rattle.machine.specs.Script.{steps_of}
-use Rattle.machine.specs.ScriptText.{script_text}
+use Rattle.machine.specs.Script.{steps_of, script_text}
 use Rattle.recording.specs.FirstUse.{IsNumberedByFirstUse}
 use Rattle.replay.specs.Program.{named_program}
 use Rattle.replay.specs.OrderReplay.{IsReplay}

@@ -21,7 +21,7 @@ use Rattle.machine.specs.declared.blocked.Blocked.{Blocked}
 use Rattle.machine.specs.declared.blocked.Blocked.TheVariants.{B4, B5, B7, B8}
 use Rattle.machine.specs.State.{State, place_of, buffer_of, line_copy, first_event, event_of}
 use Rattle.machine.specs.Step.{advanced, performed, with_read, written, with_buffer, with_caches, or_blocked}
-use Rattle.machine.specs.Step.{looked_up, read_modify_written, read_unmodified, compared_and_swapped}
+use Rattle.machine.specs.Step.{looked_up, read_modify_written, read_unmodified}
 use Rattle.machine.specs.Step.{rmw_value, exec, exec_next, drained_at, has, step_result, after, run}
 use Rattle.machine.specs.RunLaws.{guarded}
 use Rattle.machine.proofs.Static.{op_reads, is_st, is_ld}
@@ -119,7 +119,7 @@ module _ (p : List (List Op)) (capacity : ℕ) (f : Fault) (s : State) (P : Stat
 
   -- so is a compare-and-swap, which writes or only reads
   cas_kept : (c b a e v : ℕ) (t : State) → IsNext p s c b (Cas a e v) → c < length p
-      → compared_and_swapped f s c b a e v ≡ Ok t → P t
+      → exec capacity f s c b (Cas a e v) ≡ Ok t → P t
   cas_kept c b a e v t n at h = go ((line_copy s c a).0 == e) refl h
     where
       go : (q : Bool) → ((line_copy s c a).0 == e) ≡ q

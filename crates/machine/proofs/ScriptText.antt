@@ -20,10 +20,8 @@ use Rattle.machine.specs.declared.step.Transaction.TheVariants.{GetS, GetM, Put}
 use Rattle.machine.specs.declared.script_refusal.StepRefusal.{StepRefusal}
 use Rattle.machine.specs.declared.script_refusal.StepRefusal.TheVariants.{S1, S2, S3, S4}
 use Rattle.machine.specs.declared.step.Step.{Step}
-use Rattle.machine.specs.ScriptLine.{ScriptLine, own_line, transaction_line, script_line_of, own_step}
-use Rattle.machine.specs.ScriptLine.{transaction_step}
-use Rattle.machine.specs.Script.{core_in, address_in, with_step, or_refused, script_step}
-use Rattle.machine.specs.Script.{line_step, steps_of, IsStepOf}
+use Rattle.machine.specs.ScriptLine.{ScriptLine, own_line, transaction_line, script_line_of, own_step, transaction_step}
+use Rattle.machine.specs.Script.{core_in, address_in, with_step, or_refused, script_step, line_step, steps_of, IsStepOf}
 
 -- what every line keeps
 record IsScript (p : Parts) (steps : List Step) : Type 0 where

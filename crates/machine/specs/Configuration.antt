@@ -10,11 +10,22 @@ use Rattle.core_unit.specs.Progress.{Progress}
 use Rattle.moesi.specs.State as moesi
 use Rattle.machine.specs.declared.fault.Fault.{Fault}
 use Rattle.machine.specs.declared.step.Step.{Step}
-use Rattle.machine.specs.BoundedItems.{BoundedItems}
 use Rattle.machine.specs.declared.blocked.Blocked.{Blocked}
 use Rattle.recording.specs.Execution.{Execution}
 use Rattle.machine.specs.State.{State, first_event, place_of, opening, recorded, IsComplete}
 use Rattle.machine.specs.Step.{exec, step_result, run, IsAt}
+
+-- a list with room for this many items, past which it never grows
+pub record BoundedItems (T : Type 0) : Type 0 where
+  pub items : List T
+  pub room : ℕ
+
+-- each core is before its first operation, and there are this many events in all
+pub record AreUnits (p : List (List Op)) (units : List Progress) (total : ℕ) : Type 0 where
+  pub one_each : length units ≡ length p
+  pub begun : (c : ℕ) (d : Progress) → c < length p → slice_index_or units c d
+      ≡ record { first = first_event p c; place = 0 }
+  pub events : total ≡ op_count p
 
 -- what a machine holds
 pub record Configuration : Type 0 where

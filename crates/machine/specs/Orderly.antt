@@ -1,4 +1,4 @@
--- What holds of every state that a run without fault leads to.
+-- What every run keeps.
 use Rattle.std.specs.Prelude.{◌≡◌, ◌<◌, ◌≤◌, ◌+◌, ◌&&◌, ℕ, Bool, true, false, Option, Some, None}
 use Rattle.std.specs.Prelude.{List, [], ◌∷◌, ◌++◌, map, take}
 use Rattle.std.specs.Prelude.{length, slice_index_or, sum, sum_by, count_by, All}
@@ -7,11 +7,13 @@ use Rattle.program.specs.declared.op.Op.TheVariants.{St, Ld, Fence, Swap, Add, C
 use Rattle.program.specs.Parts.{IsWithin}
 use Rattle.recording.specs.Execution.{placed_from}
 use Rattle.recording.specs.Order.{times, Before}
+use Rattle.recording.specs.Tso.{IsTsoOrder, IsWellFormed}
+use Rattle.machine.specs.declared.fault.Fault.{Fault}
 use Rattle.write_buffer.specs.declared.entry.Entry.{Entry}
 use Rattle.moesi.specs.State as moesi
 use Rattle.machine.specs.declared.fault.Fault.TheVariants as fault
 use Rattle.machine.specs.declared.step.Step.{Step}
-use Rattle.machine.specs.State.{State, place_of, buffer_of, first_event, opening}
+use Rattle.machine.specs.State.{State, place_of, buffer_of, first_event, recorded, opening, IsComplete}
 use Rattle.machine.specs.Step.{run}
 
 -- the core and the operation of event e
@@ -79,3 +81,16 @@ pub record IsOrderly (p : List (List Op)) (n : ℕ) (s : State) : Type 0 where
 abbrev pub EveryStateIsOrderly : List (List Op) → List ℕ → ℕ → List Step → Type 0
 EveryStateIsOrderly p init capacity steps = All (λ ops. All (IsWithin (length init)) ops) p
     → IsOrderly p (length init) (run p capacity fault.None (opening p init) steps)
+
+-- where a run without fault is complete, the order of what it performed is one that TSO allows for
+-- its recording
+abbrev pub EveryRunIsTso : List (List Op) → List ℕ → ℕ → List Step → Type 0
+EveryRunIsTso p init capacity steps =
+    let s = run p capacity fault.None (opening p init) steps in
+    All (λ ops. All (IsWithin (length init)) ops) p → IsComplete p s → IsTsoOrder (recorded p s) s.performed
+
+-- where a run under any fault is complete, its recording is well formed
+abbrev pub EveryRunIsWellFormed : List (List Op) → List ℕ → ℕ → Fault → List Step → Type 0
+EveryRunIsWellFormed p init capacity fault steps =
+    let s = run p capacity fault (opening p init) steps in
+    All (λ ops. All (IsWithin (length init)) ops) p → IsComplete p s → IsWellFormed (recorded p s)

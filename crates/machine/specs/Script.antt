@@ -1,17 +1,18 @@
--- What a whole step script gives: its steps, or the first line at fault with its number.
+-- What a whole step script gives, its steps or the first line at fault with its number; and the text of steps.
 use Rattle.std.specs.Prelude.{◌<◌, ◌++◌, ◌∷◌, [], ℕ, List, nat_lt, length, position, Option, None, Some}
-use Rattle.std.specs.Prelude.{Result, Ok, Err, if◌then◌else◌}
+use Rattle.std.specs.Prelude.{Result, Ok, Err, if◌then◌else◌, codes, decimal}
 use Rattle.common.specs.declared.limits.TheConstants.{MAX_STEPS}
 use Rattle.program.specs.declared.name.Name.{Name}
-use Rattle.program.specs.Names.{name_eq}
+use Rattle.program.specs.Names.{name_eq, name_text}
+use Rattle.program.specs.Spelling.{name_at}
+use Rattle.std.specs.List.{flat_map}
 use Rattle.program.specs.Parts.{Parts}
 use Rattle.program.specs.Reading.{Reading, read_from}
 use Rattle.machine.specs.declared.step.Step.{Step}
 use Rattle.machine.specs.declared.step.Step.TheVariants.{Exec, Drain, GetS, GetM, Put}
 use Rattle.machine.specs.declared.script_refusal.StepRefusal.{StepRefusal}
 use Rattle.machine.specs.declared.script_refusal.StepRefusal.TheVariants.{S1, S2, S3, S4}
-use Rattle.machine.specs.ScriptLine.{ScriptLine, own_line, transaction_line, script_line_of, own_step}
-use Rattle.machine.specs.ScriptLine.{transaction_step}
+use Rattle.machine.specs.ScriptLine.{ScriptLine, own_line, transaction_line, script_line_of, own_step, transaction_step}
 
 -- the core of this number, if the program has it
 abbrev pub core_in : Parts → ℕ → Option ℕ
@@ -53,3 +54,19 @@ IsStepOf p (Drain c) = c < length p.cores
 IsStepOf p (GetS c a) = (c < length p.cores) × (a < length p.names)
 IsStepOf p (GetM c a) = (c < length p.cores) × (a < length p.names)
 IsStepOf p (Put c a) = (c < length p.cores) × (a < length p.names)
+
+-- a core, a space and the name of an address
+abbrev pub at_text : Parts → ℕ → ℕ → List ℕ
+at_text p c a = decimal c ++ 32 ∷ name_text (name_at p.names a)
+
+-- the text of a step, without its newline
+abbrev pub step_text : Parts → Step → List ℕ
+step_text p (Exec c) = codes "exec " ++ decimal c
+step_text p (Drain c) = codes "drain " ++ decimal c
+step_text p (GetS c a) = codes "gets " ++ at_text p c a
+step_text p (GetM c a) = codes "getm " ++ at_text p c a
+step_text p (Put c a) = codes "put " ++ at_text p c a
+
+-- the text of steps, a line a step
+abbrev pub script_text : Parts → List Step → List ℕ
+script_text p steps = flat_map (λ step. step_text p step ++ 10 ∷ []) steps

@@ -72,14 +72,6 @@ stored capacity s c e a v =
     then Ok (advanced (with_buffer s c (buffer_of s c ++ record { addr = a; value = v; event = e } ∷ [])) c)
     else Err B2
 
--- core c fences: it waits for an empty buffer
-abbrev pub fenced : Fault → State → ℕ → ℕ → Result State Blocked
-fenced fault s c e = if may_fence fault (buffer_of s c) then Ok (advanced (performed s e) c) else Err B3
-
--- core c loads address a: its line is valid, where no store of its own waits
-abbrev pub loaded : Fault → State → ℕ → ℕ → ℕ → Result State Blocked
-loaded fault s c e a = or_blocked B4 (λ what. advanced (performed (with_read s e what) e) c) (looked_up fault s c a)
-
 -- the value that op writes, from what the line has
 abbrev pub rmw_value : State → ℕ → Op → ℕ → ℕ
 rmw_value s c op a = value_written (event_of op (line_copy s c a))
@@ -101,21 +93,17 @@ read_unmodified fault s c n a =
     then Ok (advanced (performed (with_read s n (line_copy s c a)) n) c) else Err B5)
     else Err B3
 
--- core c swaps v into address a where its line has the value e, and else reads it alone
-abbrev pub compared_and_swapped : Fault → State → ℕ → ℕ → ℕ → ℕ → ℕ → Result State Blocked
-compared_and_swapped fault s c n a e v =
-    if (line_copy s c a).0 == e
-    then read_modify_written fault s c n (Swap a v) a
-    else read_unmodified fault s c n a
-
--- core c executes the operation op as event e
+-- core c executes the operation op as event e: a load looks for a valid line where no store of its own waits, a
+-- fence waits for an empty buffer, and a compare-and-swap writes where the line has the expected value
 abbrev pub exec : ℕ → Fault → State → ℕ → ℕ → Op → Result State Blocked
 exec capacity fault s c e (St a v) = stored capacity s c e a v
-exec capacity fault s c e (Ld a) = loaded fault s c e a
-exec capacity fault s c e Fence = fenced fault s c e
+exec capacity fault s c e (Ld a) =
+    or_blocked B4 (λ what. advanced (performed (with_read s e what) e) c) (looked_up fault s c a)
+exec capacity fault s c e Fence = if may_fence fault (buffer_of s c) then Ok (advanced (performed s e) c) else Err B3
 exec capacity fault s c e (Swap a v) = read_modify_written fault s c e (Swap a v) a
 exec capacity fault s c e (Add a v) = read_modify_written fault s c e (Add a v) a
-exec capacity fault s c n (Cas a e v) = compared_and_swapped fault s c n a e v
+exec capacity fault s c n (Cas a e v) =
+    if (line_copy s c a).0 == e then read_modify_written fault s c n (Swap a v) a else read_unmodified fault s c n a
 
 -- the next operation of core c, where one is left
 abbrev pub exec_next : List (List Op) → ℕ → Fault → State → ℕ → Option Op → Result State Blocked

@@ -39,7 +39,6 @@ impl Model for Blank {
 impl Blank {
     ghost use Rattle.std.specs.Prelude.{◌≡◌, ◌≤◌, length, map, IfOk};
     ghost use Rattle.program.specs.Parts.{op_count};
-    ghost use Rattle.machine.specs.Configuration.{BlankSize};
     ghost use Rattle.machine.specs.State.{cores_from};
 
     /// Room for the recording of this many cores and events, and of as many addresses as there are

@@ -2,7 +2,7 @@
 
 ghost use Rattle.std.specs.Prelude.{◌≡◌, ◌≤◌, ◌++◌, ◌∷◌, [], length, replicate, IfOk, OnOk, None};
 ghost use Rattle.program.specs.Parts.{op_count};
-ghost use Rattle.machine.specs.Made.{AreUnits};
+ghost use Rattle.machine.specs.Configuration.{AreUnits};
 
 use crate::bounded::BoundedList;
 use common::{EventId, MAX_EVENTS, OutOfMemory};

@@ -32,9 +32,8 @@ use Rattle.program.specs.AddressNameLaws.{names_count}
 use Rattle.machine.specs.declared.blocked.Blocked.{Blocked}
 use Rattle.machine.specs.declared.step.Step.TheVariants.{Exec, Drain, GetS, GetM, Put}
 use Rattle.machine.specs.Script.{IsStepOf}
-use Rattle.machine.specs.Tso.{EveryRunIsTso, EveryRunIsWellFormed}
+use Rattle.machine.specs.Orderly.{EveryRunIsTso, EveryRunIsWellFormed, placed_op, is_st, IsOrderly, EveryStateIsOrderly}
 use Rattle.std.proofs.lemmas.List.Elements.{All-nil, All-cons}
-use Rattle.machine.specs.Orderly.{placed_op, is_st, IsOrderly, EveryStateIsOrderly}
 use Rattle.recording.specs.PlacedLaws.{placed_total, placed_at}
 use Rattle.machine.specs.PlaceLaws.{places_within}
 use Rattle.machine.specs.RunLaws.{guarded}
