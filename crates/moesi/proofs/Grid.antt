@@ -8,8 +8,7 @@ use Rattle.std.proofs.lemmas.List.{drop_more}
 use Rattle.moesi.specs.declared.cell.Cell.{Cell}
 use Rattle.moesi.specs.Block.{Block, invalid}
 use Rattle.moesi.specs.State.{CacheState, block_of}
-use Rattle.moesi.specs.Words.{cell_in}
-use Rattle.moesi.specs.Packed.{AreWords, block_in, caches_in}
+use Rattle.moesi.specs.Words.{cell_in, AreWords, block_in, caches_in}
 
 -- two places are the same only where both their parts are: the core
 pub same_core : (n c a d b : ℕ) → a < n → b < n → c * n + a ≡ d * n + b → c ≡ d

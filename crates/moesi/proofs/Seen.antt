@@ -5,8 +5,7 @@ use Rattle.std.proofs.lemmas.List.{get_or_read}
 use Rattle.moesi.specs.declared.cell.Cell.{Cell}
 use Rattle.moesi.specs.Block.{Block, cell_of, invalid, with_line}
 use Rattle.moesi.specs.State.{CacheState, block_of, memory_of, with_block}
-use Rattle.moesi.specs.Words.{cell_in}
-use Rattle.moesi.specs.Packed.{AreWords, block_in, caches_in}
+use Rattle.moesi.specs.Words.{cell_in, AreWords, block_in, caches_in}
 use Rattle.moesi.proofs.Grid.{column, block_seen, inside, line_at}
 use Rattle.moesi.proofs.Written.{line_written, memory_written, written_twice, block_written}
 

@@ -10,8 +10,7 @@ use Rattle.moesi.specs.declared.cell.Cell.{Cell}
 use Rattle.moesi.specs.Block.{Block, invalid, with_line}
 use Rattle.moesi.specs.BlockLaws.{set_cases}
 use Rattle.moesi.specs.State.{CacheState, block_of, with_block}
-use Rattle.moesi.specs.Words.{cell_in}
-use Rattle.moesi.specs.Packed.{AreWords, block_in, caches_in}
+use Rattle.moesi.specs.Words.{cell_in, AreWords, block_in, caches_in}
 use Rattle.moesi.proofs.Grid.{same_core, same_address, inside, lines_length, line_at, block_at}
 
 -- equal functions make equal lists

@@ -28,13 +28,6 @@ set_cases (x ∷ xs) (suc c) y (suc e) d = elim (set_cases xs c y e d) [
   | inr h ↦ inr (ap suc h.0, h.1)
 ]
 
--- no line is of a kind where the first is not and none after it
-none_of : (kind : Line → Bool) (x : Cell) (xs : List Cell) → kind x.line ≡ false
-    → ((c : ℕ) → kind (slice_index_or xs c invalid).line ≡ false)
-    → (c : ℕ) → kind (slice_index_or (x ∷ xs) c invalid).line ≡ false
-none_of kind x xs e h zero = e
-none_of kind x xs e h (suc c) = h c
-
 -- what holds of each copy of the kind, and of memory without one, holds of what is found
 pub copy_where-holds : (P : ℕ × Option ℕ → Type 0) (kind : Line → Bool) (xs : List Cell) (memory : ℕ × Option ℕ)
     → kind I ≡ false
@@ -43,7 +36,8 @@ pub copy_where-holds : (P : ℕ × Option ℕ → Type 0) (kind : Line → Bool)
 copy_where-holds P kind [] memory none copies rest = rest (λ c. none)
 copy_where-holds P kind (x ∷ xs) memory none copies rest =
     cond_both (kind x.line) x.copy (copy_where kind xs memory) P (λ e. copies 0 e)
-    (λ e. copy_where-holds P kind xs memory none (λ c h. copies (suc c) h) (λ h. rest (none_of kind x xs e h)))
+    (λ e. copy_where-holds P kind xs memory none (λ c h. copies (suc c) h)
+    (λ h. rest (λ c. elim c as (λ n. kind (slice_index_or (x ∷ xs) n invalid).line ≡ false) [ zero ↦ e | suc n ↦ h n ])))
 
 -- among lines in I each is
 pub all_invalid : (n c : ℕ) → slice_index_or (replicate n invalid) c invalid ≡ invalid

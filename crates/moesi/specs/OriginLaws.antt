@@ -10,7 +10,7 @@ use Rattle.moesi.specs.Lines.{is_valid, is_owned, is_shared, supplies}
 use Rattle.moesi.specs.Block.{Block, cell_of, invalid, with_line, block_by, supplied, HasBlock}
 use Rattle.moesi.specs.Rows as row
 use Rattle.moesi.specs.State.{CacheState, block_of, at_address, with_block, Has}
-use Rattle.moesi.specs.Laws.{IsTransaction, EveryCopyWasThere, EveryWriteAddsItself}
+use Rattle.moesi.specs.Laws.{EveryCopyWasThere, EveryWriteAddsItself}
 use Rattle.moesi.specs.LineLaws.{supplier_valid, lowered_valid}
 use Rattle.moesi.specs.BlockLaws.{set_cases, copy_where-holds, turned_cell}
 use Rattle.moesi.specs.RowLaws.{taken_else, taken_then}
@@ -87,23 +87,19 @@ block_after s t a b (Ok u) h =
       | inr g ↦ inr (g.0, ap Ok (sym g.1))
     ])
 
-module _ (s t : CacheState) (c a b : ℕ) (w : ℕ × Option ℕ) where
-  -- a row that makes no data at its address makes none
-  moved : (r : Result Block CacheError) → at_address s a r ≡ Ok t
-      → ((u : Block) → r ≡ Ok u → HasBlock u w → Has s a w) → Has t b w → Has s b w
-  moved r k row h =
-      elim (block_after s t a b r k) [ inl g ↦ rw g at h | inr g ↦ rw g.0 (row (block_of t b) g.1 h) ]
-
-  -- no transaction makes up data
-  copy_was_there : IsTransaction s c a t → Has t b w → Has s b w
-  copy_was_there (inl k) = moved _ k (λ u. has_get_s (block_of s a) u c w)
-  copy_was_there (inr (inl k)) = moved _ k (λ u. has_get_m (block_of s a) u c w Invalidate)
-  copy_was_there (inr (inr k)) = moved _ k (λ u. has_put (block_of s a) u c w)
+-- a row that makes no data at its address makes none
+moved : (s t : CacheState) (a b : ℕ) (w : ℕ × Option ℕ) (r : Result Block CacheError) → at_address s a r ≡ Ok t
+    → ((u : Block) → r ≡ Ok u → HasBlock u w → Has s a w) → Has t b w → Has s b w
+moved s t a b w r k row h =
+    elim (block_after s t a b r k) [ inl g ↦ rw g at h | inr g ↦ rw g.0 (row (block_of t b) g.1 h) ]
 
 -- the laws of `Laws`: transactions
 pub every_copy_was_there : EveryCopyWasThere
-every_copy_was_there s t c a b w (inl k) = copy_was_there s t c a b w k
-every_copy_was_there s t c a b w (inr k) = moved s t c a b w _ k (λ u. has_get_m (block_of s a) u c w LeaveStale)
+every_copy_was_there s t c a b w (inl (inl k)) = moved s t a b w _ k (λ u. has_get_s (block_of s a) u c w)
+every_copy_was_there s t c a b w (inl (inr (inl k))) =
+    moved s t a b w _ k (λ u. has_get_m (block_of s a) u c w Invalidate)
+every_copy_was_there s t c a b w (inl (inr (inr k))) = moved s t a b w _ k (λ u. has_put (block_of s a) u c w)
+every_copy_was_there s t c a b w (inr k) = moved s t a b w _ k (λ u. has_get_m (block_of s a) u c w LeaveStale)
 
 -- writes
 pub every_write_adds_itself : EveryWriteAddsItself

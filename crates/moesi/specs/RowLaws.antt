@@ -32,15 +32,15 @@ pub record IsRenewed (b u : Block) (w : ℕ × Option ℕ) : Type 0 where
   pub agree : IsCoherentBlock u w
   pub lines : length u.lines ≡ length b.lines
 
--- one line becomes x, beside which the others may stand
-with_line_renewed : (b : Block) (c : ℕ) (x : Cell) (w : ℕ × Option ℕ) → c < length b.lines
-    → ((d : ℕ) → d ≢ c → compatible x.line (cell_of b d).line ≡ true)
+-- a block with its lines in number, of which one becomes x, beside which the others may stand
+with_line_renewed : (o b : Block) (c : ℕ) (x : Cell) (w : ℕ × Option ℕ) → length b.lines ≡ length o.lines
+    → c < length o.lines → ((d : ℕ) → d ≢ c → compatible x.line (cell_of b d).line ≡ true)
     → ((d e : ℕ) → d ≢ c → e ≢ c → d ≢ e → compatible (cell_of b d).line (cell_of b e).line ≡ true)
     → (is_valid x.line ≡ true → x.copy ≡ w)
     → ((d : ℕ) → d ≢ c → is_valid (cell_of b d).line ≡ true → (cell_of b d).copy ≡ w)
     → (is_owned x.line ≡ false → ((d : ℕ) → d ≢ c → is_owned (cell_of b d).line ≡ false) → b.memory ≡ w)
-    → IsRenewed b (with_line b c x) w
-with_line_renewed b c x w at own pairs copy copies clean =
+    → IsRenewed o (with_line b c x) w
+with_line_renewed o b c x w size at own pairs copy copies clean =
     let u : Block = with_line b c x in
     let cell : (d : ℕ) → ((d ≢ c) × (cell_of u d ≡ cell_of b d)) ⊎ ((d ≡ c) × (cell_of u d ≡ x)) =
     λ d. elim (set_cases b.lines c x d invalid) [
@@ -64,7 +64,7 @@ with_line_renewed b c x w at own pairs copy copies clean =
             (elim (cell c) [ inl p ↦ absurd (p.0 refl) | inr p ↦ rw p.1 at (none c) ])
             (λ d ne. elim (cell d) [ inl p ↦ rw p.1 at (none d) | inr p ↦ absurd (ne p.0) ]);
       };
-      lines = length-set b.lines c x;
+      lines = length-set b.lines c x ∙ size;
     }
 
 -- what holds of core c and of each other holds of all
@@ -76,44 +76,33 @@ module _ (b : Block) (v : ℕ × Option ℕ) (k : IsCoherentBlock b v) (c : ℕ)
   pub renewed_get_s : row.get_s b c ≡ Ok u → IsRenewed b u v
   renewed_get_s h =
       let t = taken_else _ _ _ u h in
-      let n = with_line_renewed (block_by (row.turned Share) b) c _ v
-      (omega (arith, length-map b.lines (row.turned Share)))
-      (λ d ne. rw turned_cell (fill (has_copy b) refl d))
+      rw (← t.1) (with_line_renewed b (block_by (row.turned Share) b) c _ v (length-map b.lines (row.turned Share)) at
+      (λ d ne. rw turned_cell (cond_both (has_copy b) S E (λ l. compatible l (lowered (cell_of b d).line) ≡ true)
+      (λ _. beside_lowered (cell_of b d).line)
+      (λ none. rw (invalid_line (cell_of b d).line (no_copy b.lines none d)) refl)))
       (λ d e dn en ne. simp turned_cell (both_lowered _ _ (k.pairs d e ne)))
-      (λ _. supplied_is b v k)
-      (λ d ne. rw turned_cell (λ g. k.copies d (sym (lowered_valid _) ∙ g)))
+      (λ _. supplied_is b v k) (λ d ne. rw turned_cell (λ g. k.copies d (sym (lowered_valid _) ∙ g)))
       (λ _ none. k.clean (at_all (λ d. is_owned (cell_of b d).line ≡ false) c (not_valid _ t.0)
-      (λ d ne. sym (lowered_owned _) ∙ (rw turned_cell at (none d ne))))) in
-      rw (← t.1) (record { agree = n.agree; lines = n.lines ∙ length-map b.lines (row.turned Share) })
-    where
-      fill : (q : Bool) → has_copy b ≡ q → (d : ℕ) → compatible (cond q S E) (lowered (cell_of b d).line) ≡ true
-      fill true g d = beside_lowered (cell_of b d).line
-      fill false g d = rw (invalid_line (cell_of b d).line (no_copy b.lines g d)) refl
+      (λ d ne. sym (lowered_owned _) ∙ (rw turned_cell at (none d ne))))))
 
   -- GetM renews its block
   pub renewed_get_m : row.get_m_by Invalidate b c ≡ Ok u → IsRenewed b u v
   renewed_get_m h =
-      let t = taken_else _ _ _ u h in
-      let n = with_line_renewed (block_by (row.turned Invalidate) b) c _ v
-      (omega (arith, length-map b.lines (row.turned Invalidate)))
-      (λ d ne. rw (turned_cell Invalidate b d) refl)
-      (λ d e dn en ne. rw (turned_cell Invalidate b d) refl)
-      (λ _. supplied_is b v k)
-      (λ d ne. rw (turned_cell Invalidate b d) (λ g. cc (g)))
-      (λ off none. cc (off)) in
-      rw (← t.1) (record { agree = n.agree; lines = n.lines ∙ length-map b.lines (row.turned Invalidate) })
+      rw (← (taken_else _ _ _ u h).1)
+      (with_line_renewed b (block_by (row.turned Invalidate) b) c _ v (length-map b.lines (row.turned Invalidate)) at
+      (λ d ne. rw (turned_cell Invalidate b d) refl) (λ d e dn en ne. rw (turned_cell Invalidate b d) refl)
+      (λ _. supplied_is b v k) (λ d ne. rw (turned_cell Invalidate b d) (λ g. cc (g))) (λ off none. cc (off)))
 
   -- Put renews its block
   pub renewed_put : row.put b c ≡ Ok u → IsRenewed b u v
   renewed_put h =
       let t = taken_then _ _ _ u h in
-      let n = with_line_renewed (record {
+      rw (← t.1) (with_line_renewed b (record {
         lines = b.lines;
         memory = cond (is_owned (cell_of b c).line) (cell_of b c).copy b.memory;
-      }) c invalid v at (λ d ne. refl) (λ d e dn en. k.pairs d e) (λ g. cc (g)) (λ d ne. k.copies d)
+      }) c invalid v refl at (λ d ne. refl) (λ d e dn en. k.pairs d e) (λ g. cc (g)) (λ d ne. k.copies d)
       (λ _ none. cond_both (is_owned (cell_of b c).line) (cell_of b c).copy b.memory (λ w. w ≡ v)
-      (λ _. k.copies c t.0) (λ off. k.clean (at_all (λ d. is_owned (cell_of b d).line ≡ false) c off none))) in
-      rw (← t.1) (record { agree = n.agree; lines = n.lines })
+      (λ _. k.copies c t.0) (λ off. k.clean (at_all (λ d. is_owned (cell_of b d).line ≡ false) c off none))))
 
   -- a write renews its block with its own data
   pub renewed_write : (w : ℕ × Option ℕ) → row.write b c w ≡ Ok u → IsRenewed b u w
@@ -121,6 +110,6 @@ module _ (b : Block) (v : ℕ × Option ℕ) (k : IsCoherentBlock b v) (c : ℕ)
       let t = taken_then _ _ _ u h in
       let free : (d : ℕ) → d ≢ c → (cell_of b d).line ≡ I =
       λ d ne. alone _ _ t.0 (k.pairs c d (λ e. ne (sym e))) in
-      rw (← t.1) (with_line_renewed b c _ w at (λ d ne. rw (free d ne) refl)
+      rw (← t.1) (with_line_renewed b b c _ w refl at (λ d ne. rw (free d ne) refl)
       (λ d e dn en ne. rw (free d dn) refl) (λ _. refl)
       (λ d ne. rw (free d ne) (λ g. cc (g))) (λ off none. cc (off)))

@@ -28,7 +28,7 @@ pub struct Caches {
 
 impl Model for Caches {
     ghost use Rattle.moesi.specs.State.{CacheState};
-    ghost use Rattle.moesi.specs.Packed.{caches_in, AreWords};
+    ghost use Rattle.moesi.specs.Words.{caches_in, AreWords};
 
     ghost Value = { CacheState };
 

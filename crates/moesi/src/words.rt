@@ -4,8 +4,7 @@ ghost use Rattle.std.specs.Prelude.{◌≡◌, ◌<◌, ◌+◌, ◌*◌, ◌^�
 ghost use Rattle.moesi.specs.Block.{has_copy, supplied, block_by};
 ghost use Rattle.moesi.specs.State.{with_block};
 ghost use Rattle.moesi.specs.Rows.{turned};
-ghost use Rattle.moesi.specs.Words.{cell_in, memory_cell};
-ghost use Rattle.moesi.specs.Packed.{AreWords, block_in, caches_in};
+ghost use Rattle.moesi.specs.Words.{cell_in, memory_cell, AreWords, block_in, caches_in};
 
 use crate::word::{INVALID, Turn, turned, unpack};
 use common::OutOfMemory;

@@ -4,8 +4,7 @@ use Rattle.std.proofs.Math.Bool.{or_assoc, or-false, or-true}
 use Rattle.std.proofs.lemmas.List.{drop_all}
 use Rattle.moesi.specs.declared.cell.Cell.{Cell}
 use Rattle.moesi.specs.Lines.{is_valid, supplies}
-use Rattle.moesi.specs.Words.{cell_in}
-use Rattle.moesi.specs.Packed.{block_in}
+use Rattle.moesi.specs.Words.{cell_in, block_in}
 use Rattle.moesi.specs.LineLaws.{supplier_valid}
 use Rattle.moesi.proofs.Grid.{next_place, lines_from, lines_length}
 use Rattle.moesi.proofs.words.asked.Goals as goal

@@ -4,7 +4,7 @@ use Rattle.moesi.specs.declared.cell.Cell.{Cell}
 use Rattle.moesi.specs.Block.{Block}
 use Rattle.moesi.specs.State.{CacheState, with_block}
 use Rattle.moesi.specs.Rows.{turned}
-use Rattle.moesi.specs.Packed.{block_in, caches_in}
+use Rattle.moesi.specs.Words.{block_in, caches_in}
 use Rattle.moesi.proofs.Grid.{next_place, lines_length, blocks_length, block_at}
 use Rattle.moesi.proofs.Written.{turns_more, state_same}
 use Rattle.moesi.proofs.words.turn_all.Goals as goal

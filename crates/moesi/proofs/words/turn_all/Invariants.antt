@@ -1,7 +1,7 @@
 use Rattle.std.proofs.Common.{◌≡◌, ◌+◌, ◌*◌, length}
 use Rattle.moesi.specs.Rows.{turned}
 use Rattle.moesi.specs.State.{with_block}
-use Rattle.moesi.specs.Packed.{block_in, caches_in}
+use Rattle.moesi.specs.Words.{block_in, caches_in}
 use Rattle.moesi.proofs.Written.{block_up_to}
 use Rattle.moesi.proofs.words.turn_all.Given as goal
 

@@ -3,7 +3,7 @@ use Rattle.std.proofs.lemmas.List.{with_items_is}
 use Rattle.moesi.specs.Block.{Block, block_by, has_copy, supplied}
 use Rattle.moesi.specs.Rows.{turned}
 use Rattle.moesi.specs.State.{CacheState, with_block}
-use Rattle.moesi.specs.Packed.{block_in, caches_in}
+use Rattle.moesi.specs.Words.{block_in, caches_in}
 use Rattle.moesi.proofs.Grid.{column, block_seen}
 use Rattle.moesi.proofs.caches.Caches.ask.Goals as goal
 

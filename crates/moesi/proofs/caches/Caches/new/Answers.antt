@@ -2,8 +2,7 @@ use Rattle.std.proofs.Common.{◌≡◌, ◌+◌, ◌*◌, ℕ, replicate, lengt
 use Rattle.std.proofs.lemmas.List.{length-replicate}
 use Rattle.moesi.specs.State.{opening_caches}
 use Rattle.moesi.specs.CacheLaws.{zeros}
-use Rattle.moesi.specs.Words.{cell_in, memory_cell}
-use Rattle.moesi.specs.Packed.{caches_in}
+use Rattle.moesi.specs.Words.{cell_in, memory_cell, caches_in}
 use Rattle.moesi.proofs.Filled.{filled_words}
 use Rattle.moesi.proofs.caches.Caches.new.Goals as goal
 
