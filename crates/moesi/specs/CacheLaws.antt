@@ -9,7 +9,7 @@ use Rattle.moesi.specs.Block.{Block, invalid, block_with}
 use Rattle.moesi.specs.State.{CacheState, opening_with, block_of, current, at_address, with_block, write}
 use Rattle.moesi.specs.Coherent.{IsCoherent, IsCoherentBlock}
 use Rattle.moesi.specs.Laws.{IsTransaction, OpeningIsCoherent, OpeningWithIsCoherent, EveryCallKeepsCoherence}
-use Rattle.moesi.specs.Laws.{EveryCopyIsCurrent, EveryReadIsCurrent, EveryTransactionKeepsCurrent}
+use Rattle.moesi.specs.Laws.{EveryReadIsCurrent, EveryTransactionKeepsCurrent}
 use Rattle.moesi.specs.Laws.{EveryWriteSetsCurrent}
 use Rattle.moesi.specs.BlockLaws.{set_cases, current_is, all_invalid}
 use Rattle.moesi.specs.RowLaws.{taken_then, IsRenewed, renewed_get_s, renewed_get_m, renewed_put, renewed_write}
@@ -110,10 +110,6 @@ every_call_keeps_coherence s t c a value event k core at (inl made) =
     (transaction_kept s t c a k core at made).coherent
 every_call_keeps_coherence s t c a value event k core at (inr wrote) =
     (write_kept s t c a k core at value event wrote).coherent
-
--- valid lines
-pub every_copy_is_current : EveryCopyIsCurrent
-every_copy_is_current s c a k h = (k.blocks a).copies c h
 
 -- reads
 pub every_read_is_current : EveryReadIsCurrent

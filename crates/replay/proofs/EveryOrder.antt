@@ -23,8 +23,7 @@ use Rattle.machine.specs.declared.step.Step.{Step}
 use Rattle.machine.specs.Step.{step_result, after, run, has}
 use Rattle.machine.specs.State.{State, place_of, buffer_of, first_event, opening, recorded, IsComplete}
 use Rattle.replay.specs.Program.{op_of, program_of}
-use Rattle.replay.specs.Stores.{most_stores}
-use Rattle.replay.specs.Steps.{replay_steps}
+use Rattle.replay.specs.Steps.{most_stores, replay_steps}
 use Rattle.replay.specs.OrderReplay.{IsReplay, EveryOrderIsReplayed, led_to, MakesExactlyTso}
 use Rattle.program.specs.AddressNames.{address_names}
 use Rattle.replay.specs.Program.{named_program}

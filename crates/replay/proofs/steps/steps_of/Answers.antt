@@ -3,8 +3,7 @@ use Rattle.std.proofs.Common.{get_or, drop, drop-cons, arith}
 use Rattle.recording.specs.declared.event.Event.{Event}
 use Rattle.recording.specs.Execution.{Execution, core_of, event_at}
 use Rattle.recording.specs.PlaceLaws.{times_at}
-use Rattle.replay.specs.Steps.{turn, order_steps}
-use Rattle.replay.specs.Replaying.{Replaying, with_steps}
+use Rattle.replay.specs.Steps.{turn, order_steps, Replaying, with_steps}
 use Rattle.replay.proofs.Made.{core_there}
 use Rattle.replay.proofs.WrittenSteps.{order_machine, order_more}
 use Rattle.replay.proofs.steps.steps_of.Goals as goal
