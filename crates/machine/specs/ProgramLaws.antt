@@ -1,16 +1,15 @@
 -- Laws of programs and the recordings of them: each operation makes the event of its number.
-use Rattle.std.proofs.Common.{◌≡◌, ◌<◌, ◌+◌, ◌-◌, ◌==◌, inl, inr, ℕ, zero, suc, false}
-use Rattle.std.proofs.Common.{Option, Some, None, List, [], ◌∷◌, length, get_or, arith}
-use Rattle.std.proofs.Common.{refl, sym, subst}
+use Rattle.std.proofs.Common.{◌≡◌, ◌<◌, ◌+◌, ◌-◌, ◌==◌, inl, inr, ℕ, zero, suc, false, Option, Some, None, List, []}
+use Rattle.std.proofs.Common.{◌∷◌, map, length, length-append, get_or, arith, refl, sym, subst}
 use Rattle.std.proofs.lemmas.Bool.{cases_lt, cond_both, cond-true, cond-false}
 use Rattle.program.specs.declared.op.Op.{Op}
 use Rattle.program.specs.declared.op.Op.TheVariants.{St, Fence, Cas}
 use Rattle.program.specs.Parts.{Parts}
 use Rattle.recording.specs.declared.event.Event.{Event}
 use Rattle.recording.specs.declared.event.Event.TheVariants.{R, C, F}
-use Rattle.recording.specs.Event.{read_address, value_read, source, is_plain_store}
-use Rattle.recording.specs.Event.{is_plain_load}
-use Rattle.recording.specs.Execution.{Execution, placed_from, event_at}
+use Rattle.recording.specs.Event.{read_address, value_read, source, is_plain_store, is_plain_load}
+use Rattle.recording.specs.Execution.{Execution, placed_from, event_count, event_at}
+use Rattle.recording.specs.PlacedLaws.{tagged}
 use Rattle.machine.specs.State.{State, event_of, cores_from, recorded}
 use Rattle.machine.specs.Orderly.{placed_op, is_st, is_ld, op_reads}
 use Rattle.machine.specs.ProgramOf.{Makes, AreOpsOf, IsProgramOf}
@@ -38,6 +37,30 @@ made k (ops ∷ p) (es ∷ cores) size of e =
       )
           (made (k + 1) p cores (omega arith) (λ c inside. of (suc c) (omega arith)) (e - length ops))
     ]
+
+-- there are as many operations as events
+made_count : (k : ℕ) (p : List (List Op)) (cores : List (List Event)) → length p ≡ length cores
+    → ((c : ℕ) → c < length p → AreOpsOf (get_or p c []) (get_or cores c []))
+    → length (placed_from k p) ≡ length (placed_from k cores)
+made_count k [] [] size of = refl
+made_count k [] (es ∷ cores) size of = absurd (omega arith)
+made_count k (ops ∷ p) [] size of = absurd (omega arith)
+made_count k (ops ∷ p) (es ∷ cores) size of =
+    let first : AreOpsOf ops es = of 0 (omega arith) in
+    omega (
+      arith,
+      made_count (k + 1) p cores (omega arith) (λ c inside. of (suc c) (omega arith)),
+      first.one_each,
+      tagged k ops,
+      tagged k es,
+      length-append (map (λ op. (k, op)) ops) (placed_from (k + 1) p),
+      length-append (map (λ e. (k, e)) es) (placed_from (k + 1) cores),
+    )
+
+-- so it is with the recordings of a program
+pub events_made : (p : Parts) (x : Execution) → IsProgramOf p x → length (placed_from 0 p.cores) ≡ event_count x
+unfolding event_count
+events_made p x is = made_count 0 p.cores x.cores is.cores is.ops
 
 -- each operation makes the event of its number
 pub event_made : (p : Parts) (x : Execution) → IsProgramOf p x → (e : ℕ)

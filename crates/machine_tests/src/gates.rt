@@ -66,14 +66,11 @@ fn is_told(gate: &Told) -> bool {
 fn is_driven<R: Threads + Wait + Sync>(rt: &R, alloc: Global, gate: &Told) -> Result<bool, Fail> {
     let program = program(alloc, STORE_BUFFERING)?;
     let traced = drive(rt, alloc, program, 8, 100_000, gate)?;
-    let complete = traced.machine().is_complete();
     let first = traced
         .trace()
         .iter()
         .find(|step| matches!(step, Step::Exec(_)));
-    let driven = complete && first == Some(&Step::Exec(1));
-    drop(traced);
-    Ok(driven)
+    Ok(traced.machine().is_complete() && first == Some(&Step::Exec(1)))
 }
 
 #[test]

@@ -81,11 +81,9 @@ fn answers_all(alloc: Global, cores: CoreId, rows: &[Row]) -> Result<bool, Fail>
     let mut caches = OneAddress::new(alloc, cores)?;
     for row in rows {
         if !caches.answers(row) {
-            drop(caches);
             return Ok(false);
         }
     }
-    drop(caches);
     Ok(true)
 }
 
