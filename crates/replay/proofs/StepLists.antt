@@ -9,7 +9,7 @@ use Rattle.std.proofs.lemmas.List.{length-map}
 use Rattle.std.proofs.lemmas.Option.{slice_get-get_or}
 use Rattle.std.proofs.lemmas.List.Sums.{sum_by-set, sum_by_more, sum_by-take-le}
 use Rattle.program.specs.declared.op.Op.{Op}
-use Rattle.program.specs.declared.op.Op.TheVariants.{St, Ld, Fence, Swap, Add, Cas}
+use Rattle.program.specs.declared.op.Op.TheVariants.{St, Fence}
 use Rattle.moesi.specs.declared.line.Line.TheVariants as line
 use Rattle.moesi.specs.Lines.{is_valid, is_exclusive, lowered}
 use Rattle.moesi.specs.declared.line.Line.{Line}
@@ -18,7 +18,7 @@ use Rattle.moesi.specs.State as moesi
 use Rattle.write_buffer.specs.declared.entry.Entry.{Entry}
 use Rattle.machine.specs.declared.fault.Fault.TheVariants as fault
 use Rattle.machine.specs.declared.step.Step.{Step}
-use Rattle.machine.specs.declared.step.Step.TheVariants.{Exec, Drain, GetS, GetM, Put}
+use Rattle.machine.specs.declared.step.Step.TheVariants.{Exec, GetS, GetM}
 use Rattle.machine.specs.declared.blocked.Blocked.{Blocked}
 use Rattle.machine.specs.declared.blocked.Blocked.TheVariants.{B2, B8}
 use Rattle.machine.specs.State.{State, place_of, buffer_of, first_event}
@@ -89,11 +89,7 @@ exec_more : (capacity larger : ℕ) (s t : State) (c e : ℕ) (op : Op) → capa
     → exec capacity fault.None s c e op ≡ Ok t → exec larger fault.None s c e op ≡ Ok t
 exec_more capacity larger s t c e (St a v) h took = more_room (length (buffer_of s c)) capacity larger _ t h
     took
-exec_more capacity larger s t c e (Ld a) h took = took
-exec_more capacity larger s t c e Fence h took = took
-exec_more capacity larger s t c e (Swap a v) h took = took
-exec_more capacity larger s t c e (Add a v) h took = took
-exec_more capacity larger s t c e (Cas a k v) h took = took
+exec_more capacity larger s t c e op h took = took
 
 -- so is what comes next
 next_more : (p : List (List Op)) (capacity larger : ℕ) (s t : State) (c : ℕ) (o : Option Op)
@@ -115,10 +111,7 @@ step_more : (p : List (List Op)) (capacity larger : ℕ) (s t : State) (step : S
 step_more p capacity larger s t (Exec c) h took =
     guard_more (nat_lt c (length p)) _ _ t
     (next_more p capacity larger s t c (slice_get (slice_index_or p c []) (place_of s c)) h) took
-step_more p capacity larger s t (Drain c) h took = took
-step_more p capacity larger s t (GetS c a) h took = took
-step_more p capacity larger s t (GetM c a) h took = took
-step_more p capacity larger s t (Put c a) h took = took
+step_more p capacity larger s t step h took = took
 
 -- steps that are taken with small buffers are taken with larger ones, and lead to the same state
 pub goes_more : (p : List (List Op)) (capacity larger : ℕ) → capacity ≤ larger → (steps : List Step)
@@ -134,11 +127,7 @@ goes_more p capacity larger h (step ∷ steps) s t g =
 -- a plain store has an address and a value
 store_is : (op : Op) → is_st op ≡ true → (a : ℕ) × (v : ℕ) × (op ≡ St a v)
 store_is (St a v) h = (a, v, refl)
-store_is (Ld a) h = absurd cc
-store_is Fence h = absurd cc
-store_is (Swap a v) h = absurd cc
-store_is (Add a v) h = absurd cc
-store_is (Cas a e v) h = absurd cc
+store_is op h = absurd cc
 
 -- where core c is, if it has not come to its end
 pub is_at : (p : List (List Op)) (s : State) (c : ℕ) → c < length p → place_of s c < length (get_or p c [])
