@@ -40,13 +40,6 @@ enum Call {
 type Row = (CoreId, Call, Answer, &'static [Line]);
 
 impl OneAddress {
-    fn new(alloc: Global, cores: CoreId) -> Result<OneAddress, Fail> {
-        Ok(OneAddress {
-            caches: Caches::new(alloc, cores as usize, 1)?,
-            cores,
-        })
-    }
-
     /// Whether the lines of the cores are these.
     fn are(&self, lines: &[Line]) -> bool {
         for core in 0..self.cores {
@@ -78,7 +71,10 @@ impl OneAddress {
 
 /// Whether the caches of this many cores answer the rows so, one after the other.
 fn answers_all(alloc: Global, cores: CoreId, rows: &[Row]) -> Result<bool, Fail> {
-    let mut caches = OneAddress::new(alloc, cores)?;
+    let mut caches = OneAddress {
+        caches: Caches::new(alloc, cores as usize, 1)?,
+        cores,
+    };
     for row in rows {
         if !caches.answers(row) {
             return Ok(false);
