@@ -117,11 +117,11 @@ answer_of h step = step_result h.program.cores h.capacity h.fault h.state step
 abbrev pub exec_answer : Configuration → ℕ → Op → ℕ → Result State Blocked
 exec_answer h c op e = exec h.capacity h.fault h.state c e op
 
--- a call answered so, and took the machine from h to g, which is h where the step is blocked
-pub record IsAnswer {A : Type 0} (answer : Result State Blocked) (h g : Configuration) (result : Result A Blocked) : Type 0
+-- a call answered as the row says, and took the machine from h to g, which is h where the step is blocked
+pub record IsAnswer {A : Type 0} (row : Result State Blocked) (h g : Configuration) (result : Result A Blocked) : Type 0
   where
-    pub ok : OnOk result (answer ≡ Ok g.state)
-    pub blocked : IfErr result (λ b. answer ≡ Err b)
+    pub ok : OnOk result (row ≡ Ok g.state)
+    pub blocked : IfErr result (λ b. row ≡ Err b)
     pub rest : OnOk result (g ≡ record h { state = g.state })
     pub unchanged : OnErr result (g ≡ h)
 

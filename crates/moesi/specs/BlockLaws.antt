@@ -37,7 +37,8 @@ copy_where-holds P kind [] memory none copies rest = rest (λ c. none)
 copy_where-holds P kind (x ∷ xs) memory none copies rest =
     cond_both (kind x.line) x.copy (copy_where kind xs memory) P (λ e. copies 0 e)
     (λ e. copy_where-holds P kind xs memory none (λ c h. copies (suc c) h)
-    (λ h. rest (λ c. elim c as (λ n. kind (slice_index_or (x ∷ xs) n invalid).line ≡ false) [ zero ↦ e | suc n ↦ h n ])))
+    (λ h. rest (λ c. elim c as (λ n. kind (slice_index_or (x ∷ xs) n invalid).line ≡ false)
+    [ zero ↦ e | suc n ↦ h n ])))
 
 -- among lines in I each is
 pub all_invalid : (n c : ℕ) → slice_index_or (replicate n invalid) c invalid ≡ invalid
