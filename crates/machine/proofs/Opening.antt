@@ -88,7 +88,8 @@ module _ (p : List (List Op)) (init : List ℕ) (fits : All (λ ops. All (IsWith
     writes_within =
         λ e a d is. omega (
           arith,
-          address_within (length init) (placed_op p e).1 a (op_within e) ((has_address (placed_op p e).1 d a).0 (inr is)),
+          address_within (length init) (placed_op p e).1 a (op_within e)
+              ((has_address (placed_op p e).1 d a).0 (inr is)),
           length-map init (λ v. block_with (length p) v),
         );
     reads_within =

@@ -48,7 +48,8 @@ module _ (b u : Block) (c : ℕ) (before : EmptyBlock b) where
   empty_get_s : row.get_s b c ≡ Ok u → EmptyBlock u
   empty_get_s h =
       rw (← (taken_else _ _ _ u h).1)
-      (with_line_empty (block_by (row.turned Share) b) c _ (turned_empty Share b before) (λ g. cc (g, valid_fill (has_copy b))))
+      (with_line_empty (block_by (row.turned Share) b) c _ (turned_empty Share b before)
+      (λ g. cc (g, valid_fill (has_copy b))))
 
   -- GetM keeps them so, with the fault or without
   empty_get_m : (turn : Turn) → row.get_m_by turn b c ≡ Ok u → EmptyBlock u

@@ -74,7 +74,8 @@ module _ (cores n : ℕ) (words : List ℕ) (c a w : ℕ) (size : AreWords cores
 
   -- a core's word is its line
   pub line_written : c < cores
-      → caches_in cores n now ≡ with_block (caches_in cores n words) a (with_line (block_in cores n words a) c (cell_in w))
+      → caches_in cores n now ≡ with_block (caches_in cores n words) a
+      (with_line (block_in cores n words a) c (cell_in w))
   line_written within =
       changed (with_line (block_in cores n words a) c (cell_in w))
       (rw (lines, other_core cores (λ e. omega arith)) refl)

@@ -305,7 +305,8 @@ module _ (p : List (List Op)) (n capacity : ℕ) (s : State) (f : StaysOrderly p
           let u : Block = with_line k c (record { line = l; copy = supplied b }) in
           let made : moesi.get_s s.caches c a ≡ Ok (moesi.with_block s.caches a u) = rw is refl in
           let valid : is_valid (moesi.line_of (moesi.with_block s.caches a u) c a) ≡ true =
-          ap is_valid (line_new k l (supplied b) (length-map b.lines (λ x. record { line = lowered x.line; copy = x.copy })))
+          ap is_valid (line_new k l (supplied b)
+          (length-map b.lines (λ x. record { line = lowered x.line; copy = x.copy })))
           ∙ shared_valid (has_copy b) in (
             moesi.with_block s.caches a u,
             fetched (GetS c a) u (rw (has_line p s c a core within, made) refl),

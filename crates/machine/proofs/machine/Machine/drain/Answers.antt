@@ -38,7 +38,8 @@ invariant_of-self-2 c =
     record {
       sound = drained.drained_sound c.self.invariant.sound there c.index.ensures c.self.inside.fault
           c.in-Some.ensures c.index_mut.ensures.value c.drain.ensures.entries c.drain.ensures.capacity
-          c.index_mut-2.ensures.value c.push.ensures c.push-2.ensures c.write.ensures.answer.cores c.write.ensures.answer.addresses;
+          c.index_mut-2.ensures.value c.push.ensures c.push-2.ensures
+          c.write.ensures.answer.cores c.write.ensures.answer.addresses;
       reached = reached_step (Drain c.args.core) c.self.invariant.reached
           (rw (← c.self.view_is) at (returns c).ok);
       blank_is = c.self.invariant.blank_is;

@@ -7,7 +7,8 @@ pub invariant_of-result : goal.invariant_of-result
 invariant_of-result c =
     is_machine c.args.program c.args.capacity c.cores-cores.ensures.count c.init-init.ensures.values
     c.init-init.ensures.count c.lists.ensures c.in_ok-units.ensures c.sound.ensures.within c.sound.ensures.few
-    c.in_ok-buffers_of.ensures c.in_ok-with_init.ensures.ok c.in_ok-bounded_lists.ensures (c.in_ok-vec.ensures.items_if_clones_equal (search rules))
+    c.in_ok-buffers_of.ensures c.in_ok-with_init.ensures.ok c.in_ok-bounded_lists.ensures
+    (c.in_ok-vec.ensures.items_if_clones_equal (search rules))
     c.in_ok-new.ensures c.in_ok-new-2.ensures c.args.fault
 
 pub returns : goal.returns
@@ -20,5 +21,6 @@ returns c =
     })
     (opening_held c.args.program c.args.capacity c.cores-cores.ensures.count c.init-init.ensures.values
     c.init-init.ensures.count c.lists.ensures c.in_ok-units.ensures c.sound.ensures.within c.sound.ensures.few
-    c.in_ok-buffers_of.ensures c.in_ok-with_init.ensures.ok c.in_ok-bounded_lists.ensures (c.in_ok-vec.ensures.items_if_clones_equal (search rules))
+    c.in_ok-buffers_of.ensures c.in_ok-with_init.ensures.ok c.in_ok-bounded_lists.ensures
+    (c.in_ok-vec.ensures.items_if_clones_equal (search rules))
     c.in_ok-new.ensures c.in_ok-new-2.ensures)

@@ -33,7 +33,8 @@ returns-clause-answer c =
     ] in
     taken c.args.addr (cond-true _ _ _ on)
     (set_after s c.if-is_owned.self c.set_word-2.new.self c.args.addr c.args.core
-    (record { lines = b.lines; memory = m }) invalid invalid c.requires.address first (c.set_word-2.ensures.line (rw first c.requires.core)) refl)
+    (record { lines = b.lines; memory = m }) invalid invalid c.requires.address first
+    (c.set_word-2.ensures.line (rw first c.requires.core)) refl)
 
 pub returns-clause-coherent : goal.returns-clause-coherent
 returns-clause-coherent c = λ k.
