@@ -5,13 +5,11 @@ use Rattle.program.specs.Spelling.{spelling}
 use Rattle.program.specs.Text.{reading}
 use Rattle.recording.specs.Execution.{Execution}
 use Rattle.recording.specs.Tso.{IsTsoOrder}
-use Rattle.machine.specs.Script.{steps_of}
-use Rattle.machine.specs.ScriptText.{script_text}
+use Rattle.machine.specs.Script.{steps_of, script_text}
 use Rattle.recording.specs.FirstUse.{IsNumberedByFirstUse}
 use Rattle.replay.specs.Program.{named_program}
 use Rattle.replay.specs.OrderReplay.{IsReplay}
-use Rattle.replay.specs.Steps.{replay_steps}
-use Rattle.replay.specs.Stores.{most_stores}
+use Rattle.replay.specs.Steps.{replay_steps, most_stores}
 use Rattle.verdicts.specs.Judgement.{IsOrderedVerdict}
 use Rattle.verdicts.specs.declared.printed.Answer.{Answer}
 use Rattle.inputs.specs.declared.command_error.CommandError.{CommandError}

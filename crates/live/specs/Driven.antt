@@ -4,7 +4,6 @@ use Rattle.program.specs.Parts.{Parts}
 use Rattle.machine.specs.declared.fault.Fault.TheVariants.{None}
 use Rattle.live.specs.declared.error.LiveError.{LiveError}
 use Rattle.live.specs.declared.error.LiveError.TheVariants.{Blocked, TraceFull, NoThread, Stranger}
-use Rattle.live.specs.declared.error.LiveError.TheVariants.{OutOfMemory}
 use Rattle.live.specs.Trace.{Trace}
 
 -- a machine without a fault, of this program and this capacity, that may take this many steps
@@ -16,16 +15,12 @@ pub record IsAsRequested (program : Parts) (capacity limit : ℕ) (t : Trace) : 
 
 -- what threads that were started left is not given
 abbrev pub IsThreadError : LiveError → Type 0
-IsThreadError (Blocked b) = ⊥
-IsThreadError TraceFull = ⊥
 IsThreadError NoThread = ⊤
 IsThreadError Stranger = ⊤
-IsThreadError OutOfMemory = ⊥
+IsThreadError e = ⊥
 
 -- no machine was given, and not because of one step
 abbrev pub IsDriveError : LiveError → Type 0
 IsDriveError (Blocked b) = ⊥
 IsDriveError TraceFull = ⊥
-IsDriveError NoThread = ⊤
-IsDriveError Stranger = ⊤
-IsDriveError OutOfMemory = ⊤
+IsDriveError e = ⊤

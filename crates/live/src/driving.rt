@@ -16,53 +16,16 @@ use std::alloc::Global;
 use std::sync::Wait;
 use std::thread::Threads;
 
-/// Whether a machine has no fault and is of this program, this capacity and this limit.
-fn is_given(traced: &Traced, program: &Program, capacity: usize, limit: usize) -> bool
-    ensures { IsTrue result ↔ IsAsRequested program.now capacity limit traced.now }
+/// Whether a machine has no fault, is of this program, this capacity and this limit, and is at its end.
+fn is_run_of(traced: &Traced, program: &Program, capacity: usize, limit: usize) -> bool
+    ensures { IsTrue result ↔ IsAsRequested program.now capacity limit traced.now × IsEnded traced.now }
 {
     let machine = traced.machine();
     machine.program().is_same(program)
         && machine.capacity() == capacity
         && machine.fault() == Fault::None
         && traced.limit() == limit
-}
-
-/// Whether a machine is as given and at its end.
-fn is_run_of(traced: &Traced, program: &Program, capacity: usize, limit: usize) -> bool
-    ensures { IsTrue result ↔ IsAsRequested program.now capacity limit traced.now × IsEnded traced.now }
-{
-    is_given(traced, program, capacity, limit) && traced.is_ended()
-}
-
-/// A new machine without a fault, to share.
-fn shared_machine_of(
-    alloc: Global,
-    program: Program,
-    capacity: usize,
-    limit: usize,
-) -> Result<SharedMachine, OutOfMemory> {
-    let machine = Machine::new(alloc, program, capacity, Fault::None)?;
-    let traced = Traced::new(alloc, machine, limit)?;
-    Ok(SharedMachine::new(traced))
-}
-
-/// What threads left, where it is as given and at its end; else, and only then, `Stranger`.
-fn checked(
-    traced: Traced,
-    program: &Program,
-    capacity: usize,
-    limit: usize,
-) -> Result<Traced, LiveError>
-    ensures same { IfOk result (λ t. t ≡ traced) }
-    ensures ok { IfOk result (λ t. IsAsRequested program.now capacity limit t × IsEnded t) }
-    ensures err { IfErr result (λ e. (e ≡ LiveError.Stranger)
-        × (IsAsRequested program.now capacity limit traced × IsEnded traced → ⊥)) }
-{
-    if !is_run_of(&traced, program, capacity, limit) {
-        drop(traced);
-        return Err(LiveError::Stranger);
-    }
-    Ok(traced)
+        && traced.is_ended()
 }
 
 /// What the threads of a shared machine leave. It takes no memory of its own: `NoThread` where one was not started,
@@ -79,10 +42,13 @@ fn driven<R: Threads + Wait + Sync, G: Gate>(
     ensures err { IfErr result IsThreadError }
 {
     if !shared.run(rt, program.cores() as CoreId, gate) {
-        drop(shared);
         return Err(LiveError::NoThread);
     }
-    checked(shared.into_traced(), program, capacity, limit)
+    let traced = shared.into_traced();
+    if !is_run_of(&traced, program, capacity, limit) {
+        return Err(LiveError::Stranger);
+    }
+    Ok(traced)
 }
 
 /// Runs a program on a machine whose buffers have room for `capacity` stores each, by a thread for
@@ -110,21 +76,10 @@ pub fn drive<R: Threads + Wait + Sync, G: Gate>(
         → IsTsoOrder (recording_of t.machine) t.machine.state.performed) }
     ensures err { IfErr result IsDriveError }
 {
-    let Ok(given) = program.copy(alloc) else {
-        drop(program);
-        return Err(LiveError::OutOfMemory);
-    };
-    let Ok(shared) = shared_machine_of(alloc, program, capacity, limit) else {
-        drop(given);
-        return Err(LiveError::OutOfMemory);
-    };
-    let driven = driven(rt, shared, &given, capacity, limit, gate);
-    drop(given);
-    match driven {
-        Ok(traced) => {
-            traced.sound();
-            Ok(traced)
-        }
-        Err(error) => Err(error),
-    }
+    let given = program.copy(alloc)?;
+    let machine = Machine::new(alloc, program, capacity, Fault::None)?;
+    let shared = SharedMachine::new(Traced::new(alloc, machine, limit)?);
+    let traced = driven(rt, shared, &given, capacity, limit, gate)?;
+    traced.sound();
+    Ok(traced)
 }

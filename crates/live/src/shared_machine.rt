@@ -13,20 +13,11 @@ pub type LiveMachine = Mutex<Traced>;
 
 /// What the threads share: the machine, where they sleep until it takes a step, and whether they
 /// are to stop before it has come to its end.
+#[derive(Drop)]
 pub(crate) struct SharedMachine {
     live: LiveMachine,
     moved: Condvar,
     stopped: AtomicBool,
-}
-
-impl Drop for SharedMachine {
-    fn drop(self) {
-        let SharedMachine {
-            live: _,
-            moved: _,
-            stopped: _,
-        } = self;
-    }
 }
 
 impl SharedMachine {
@@ -41,11 +32,7 @@ impl SharedMachine {
 
     /// The machine, after all threads.
     pub(crate) fn into_traced(self) -> Traced {
-        let SharedMachine {
-            live,
-            moved: _,
-            stopped: _,
-        } = self;
+        let SharedMachine { live, .. } = self;
         live.into_inner()
     }
 
@@ -63,7 +50,6 @@ impl SharedMachine {
     fn turn<R: Wait>(&self, rt: &R, worker: Worker) -> bool {
         let mut held = self.live.lock(rt);
         if self.stopped.load(Ordering::SeqCst) || held.is_ended() {
-            drop(held);
             return false;
         }
         match worker.turn(&mut held) {
@@ -77,10 +63,7 @@ impl SharedMachine {
                 drop(self.moved.wait(rt, held));
                 true
             }
-            Turn::Over => {
-                drop(held);
-                false
-            }
+            Turn::Over => false,
             Turn::Stuck => {
                 drop(held);
                 self.stop(rt);
@@ -89,16 +72,7 @@ impl SharedMachine {
         }
     }
 
-    /// A worker's turns up to its end.
-    fn work<R: Wait>(&self, rt: &R, worker: Worker) {
-        for _ in rt.forever() {
-            if !self.turn(rt, worker) {
-                break;
-            }
-        }
-    }
-
-    /// What a worker's thread does; a core's first turn, in which it takes a step, is between the
+    /// What a worker's thread does, up to its end; a core's first turn, in which it takes a step, is between the
     /// calls of the gate.
     fn attend<R: Wait, G: Gate>(&self, rt: &R, gate: &G, worker: Worker) {
         if let Worker::Core(core) = worker {
@@ -109,7 +83,11 @@ impl SharedMachine {
                 return;
             }
         }
-        self.work(rt, worker);
+        for _ in rt.forever() {
+            if !self.turn(rt, worker) {
+                break;
+            }
+        }
     }
 
     /// Runs a thread for each of this many cores, one for drains and one for caches, up to their end.
@@ -139,10 +117,7 @@ fn start_all<'s, E, R: Threads + Wait + Sync, G: Gate>(
             return false;
         }
     }
-    if !start(scope, rt, shared, gate, Worker::Drains) {
-        return false;
-    }
-    start(scope, rt, shared, gate, Worker::Caches)
+    start(scope, rt, shared, gate, Worker::Drains) && start(scope, rt, shared, gate, Worker::Caches)
 }
 
 /// Starts a worker's thread. Where it is not started, the others are stopped.

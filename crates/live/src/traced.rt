@@ -8,6 +8,7 @@ use std::marker::Model;
 
 /// A machine and the trace of the steps that it took, which lead to it from the opening state of
 /// its program.
+#[derive(Drop)]
 pub struct Traced {
     machine: Machine,
     steps: Vec<Step>,
@@ -24,16 +25,6 @@ impl Model for Traced {
 
     ghost invariant = { λ t. IsTrace (record { machine = t.machine; steps = t.steps.items; limit = t.limit })
         × (vec_len t.steps ≤ t.limit) × (t.limit ≤ vec_capacity t.steps) };
-}
-
-impl Drop for Traced {
-    fn drop(self) {
-        let Traced {
-            machine: _,
-            steps: _,
-            limit: _,
-        } = self;
-    }
 }
 
 impl Traced {
@@ -53,13 +44,9 @@ impl Traced {
         ensures { IfOk result (λ t. t
             ≡ record { machine = machine; steps = []; limit = limit }) }
     {
-        let Ok(steps) = Vec::with_capacity(alloc, limit) else {
-            drop(machine);
-            return Err(OutOfMemory);
-        };
         Ok(Traced {
+            steps: Vec::with_capacity(alloc, limit)?,
             machine,
-            steps,
             limit,
         })
     }
@@ -114,11 +101,7 @@ impl Traced {
         ensures machine { result ≡ self.machine }
         ensures replay { IsTrace self }
     {
-        let Traced {
-            machine,
-            steps: _,
-            limit: _,
-        } = self;
+        let Traced { machine, .. } = self;
         machine
     }
 

@@ -13,13 +13,12 @@ use Rattle.program.specs.declared.op.Op.{Op}
 use Rattle.program.specs.Parts.{Parts, IsWithin, op_count}
 use Rattle.write_buffer.specs.Buffer.{Buffer}
 use Rattle.core_unit.specs.Progress.{Progress}
-use Rattle.machine.specs.BoundedItems.{BoundedItems}
+use Rattle.machine.specs.Configuration.{BoundedItems, AreUnits, BlankSize, IsSound, IsEntry, IsMachine, state_from}
 use Rattle.machine.specs.declared.fault.Fault.{Fault}
 use Rattle.machine.specs.State.{first_event, opening}
-use Rattle.machine.specs.Made.{AreUnits}
+use Rattle.machine.specs.Configuration.{places_of}
 use Rattle.moesi.specs.State as moesi
 use Rattle.moesi.specs.Block.{block_with}
-use Rattle.machine.specs.Configuration.{BlankSize, IsSound, IsEntry, IsMachine, state_from, places_of}
 use Rattle.machine.proofs.Opening.{get_or_same}
 
 -- a function of all copies

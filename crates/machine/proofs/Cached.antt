@@ -1,12 +1,12 @@
 -- What a step that the caches allow does to them.
-use Rattle.std.proofs.Common.{◌≡◌, inl, inr, ℕ, zero, suc, Bool, true, false, Option, Some, None, Result, Ok}
-use Rattle.std.proofs.Common.{Err, List, [], ◌∷◌, length, map, slice_index, slice_index_or, slice_set, refl}
-use Rattle.std.proofs.Common.{sym, ap, ◌∙◌, length-set}
+use Rattle.std.proofs.Common.{◌≡◌, inl, inr, ℕ, Bool, true, false, Option, Some, None, Result, Ok}
+use Rattle.std.proofs.Common.{Err, List, length, slice_index, slice_set, refl}
+use Rattle.std.proofs.Common.{sym, ap, subst, ◌∙◌, length-set}
 use Rattle.std.specs.Prelude.{IsTrue}
 use Rattle.moesi.specs.declared.error.CacheError.{CacheError}
 use Rattle.moesi.specs.declared.error.CacheError.TheVariants.{C4}
 use Rattle.moesi.specs.Lines.{is_valid, is_exclusive}
-use Rattle.moesi.specs.Block.{Block, block_with, invalid, HasBlock}
+use Rattle.moesi.specs.Block.{Block, invalid, HasBlock}
 use Rattle.moesi.specs.Rows as row
 use Rattle.moesi.specs.State.{CacheState, block_of, line_of, copy_of, opening_with, at_address, read, write}
 use Rattle.moesi.specs.State.{Has}
@@ -14,6 +14,7 @@ use Rattle.moesi.specs.Laws.{IsTransaction, IsAnyTransaction}
 use Rattle.moesi.specs.LineLaws.{exclusive_valid}
 use Rattle.moesi.specs.BlockLaws.{all_invalid}
 use Rattle.moesi.specs.RowLaws.{taken_then}
+use Rattle.moesi.specs.CacheLaws.{opening_block}
 
 -- there are as many cores and addresses as before
 pub record IsAsLarge (s t : CacheState) : Type 0 where
@@ -98,19 +99,9 @@ unread_unwritten s c a value event e h = go (is_exclusive (line_of s c a)) refl
 -- at first the initial value with no event is there, and nothing else
 pub opening_has : (cores : ℕ) (init : List ℕ) (a : ℕ) (copy : ℕ × Option ℕ)
     → Has (opening_with cores init) a copy → copy ≡ (slice_index init a, None)
-opening_has cores init a copy h = begun init a h
-  where
-    none : Block
-    none = record { lines = []; memory = (0, None) }
-
-    has_none : (n value : ℕ) → HasBlock (block_with n value) copy → copy ≡ (value, None)
-    has_none n value (inl m) = sym m
-    has_none n value (inr k) =
-        let off : is_valid invalid.line ≡ true = rw (all_invalid n k.0) at k.1 in cc (off)
-
-    begun : (values : List ℕ) (i : ℕ)
-        → HasBlock (slice_index_or (map (λ v. block_with cores v) values) i none) copy
-        → copy ≡ (slice_index values i, None)
-    begun [] i k = has_none 0 0 k
-    begun (v ∷ values) zero k = has_none cores v k
-    begun (v ∷ values) (suc i) k = begun values i k
+opening_has cores init a copy h =
+    let o = opening_block cores init a in
+    elim (subst (λ (b : Block). HasBlock b copy) o.1 h) [
+      | inl m ↦ sym m
+      | inr k ↦ let off : is_valid invalid.line ≡ true = rw (all_invalid o.0 k.0) at k.1 in cc (off)
+    ]

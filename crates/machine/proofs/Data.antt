@@ -27,7 +27,7 @@ use Rattle.machine.specs.Faults.{forwarded}
 use Rattle.machine.specs.State.{State, place_of, buffer_of, line_copy, first_event, event_of, recorded}
 use Rattle.machine.specs.State.{opening, IsComplete}
 use Rattle.machine.specs.Step.{with_caches, forwarded_or_read, looked_up, rmw_value, run}
-use Rattle.machine.specs.Tso.{EveryRunIsWellFormed}
+use Rattle.machine.specs.Orderly.{EveryRunIsWellFormed}
 use Rattle.machine.proofs.Cached.{read_has, written_read, opening_has}
 use Rattle.machine.proofs.Static.{static_of, snapshot_of, placed_op, done_by, op_reads}
 use Rattle.machine.proofs.Newest.{times_passes, times_filter}

@@ -17,8 +17,7 @@ use Rattle.machine.specs.declared.fault.Fault.{Fault}
 use Rattle.machine.specs.Faults.{draining, without}
 use Rattle.machine.specs.declared.step.Step.TheVariants.{Drain}
 use Rattle.machine.specs.Step.{step_result}
-use Rattle.machine.specs.BoundedItems.{BoundedItems}
-use Rattle.machine.specs.Configuration.{IsSound, IsEntry, state_from, places_of}
+use Rattle.machine.specs.Configuration.{BoundedItems, IsSound, IsEntry, state_from, places_of}
 use Rattle.machine.proofs.Removed.{length_without, all_without}
 use Rattle.machine.specs.PlaceLaws.{places_within}
 use Rattle.machine.proofs.Parts.{rooms_pushed, lengths_pushed}

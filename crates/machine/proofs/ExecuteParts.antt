@@ -22,8 +22,7 @@ use Rattle.machine.specs.declared.fault.Fault.{Fault}
 use Rattle.machine.specs.Faults.{forwarded, may_fence, may_rmw}
 use Rattle.machine.specs.State.{first_event, event_of}
 use Rattle.machine.specs.Step.{exec, read_modify_written, read_unmodified, IsAt, forwarded_or_read}
-use Rattle.machine.specs.BoundedItems.{BoundedItems}
-use Rattle.machine.specs.Configuration.{IsSound, IsEntry, state_from, places_of}
+use Rattle.machine.specs.Configuration.{BoundedItems, IsSound, IsEntry, state_from, places_of}
 use Rattle.recording.specs.PlacedLaws.{placed_at, placed_total}
 use Rattle.machine.specs.PlaceLaws.{places_within}
 use Rattle.machine.proofs.Transacted.{transacted_sound}

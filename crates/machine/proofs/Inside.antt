@@ -1,8 +1,8 @@
 -- What holds of a machine's view, of the parts that it is made of.
 use Rattle.std.proofs.Common.{◌≡◌, ◌<◌, ℕ, true, length, subst, sym}
 use Rattle.program.specs.declared.op.Op.{Op}
-use Rattle.machine.specs.Configuration.{Configuration, has_line}
-use Rattle.machine.specs.Step.{IsAt}
+use Rattle.machine.specs.Configuration.{Configuration}
+use Rattle.machine.specs.Step.{has, IsAt}
 
 -- the next operation of a core
 pub at_inside : {h k : Configuration} {c : ℕ} {op : Op} {e : ℕ} → h ≡ k → IsAt k.program.cores k.state c op e
@@ -15,5 +15,6 @@ pub address_inside : {h k : Configuration} {a : ℕ} → h ≡ k → a < length 
 address_inside {h} {k} {a} same = subst (λ (g : Configuration). a < length g.program.names) (sym same)
 
 -- a core and an address
-pub line_inside : {h k : Configuration} (c a : ℕ) → h ≡ k → has_line k c a ≡ true → has_line h c a ≡ true
-line_inside {h} {k} c a same = subst (λ (g : Configuration). has_line g c a ≡ true) (sym same)
+pub line_inside : {h k : Configuration} (c a : ℕ) → h ≡ k → has k.program.cores k.state c a ≡ true
+    → has h.program.cores h.state c a ≡ true
+line_inside {h} {k} c a same = subst (λ (g : Configuration). has g.program.cores g.state c a ≡ true) (sym same)

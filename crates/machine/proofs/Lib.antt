@@ -30,3 +30,4 @@ pub mod Removed
 pub mod OneRow
 pub mod TextEnds
 pub mod Inside
+pub mod Answered

@@ -16,7 +16,7 @@ use Rattle.moesi.specs.Block.{block_with}
 use Rattle.moesi.specs.CacheLaws.{opening_with_is_coherent}
 use Rattle.recording.specs.PlacedLaws.{located, placed_total}
 use Rattle.machine.specs.PlaceLaws.{event_behind, event_op}
-use Rattle.machine.specs.ProgramLaws.{same_kind, own_used}
+use Rattle.machine.specs.ProgramLaws.{same_kind, has_address}
 use Rattle.std.proofs.lemmas.Option.{same_Some}
 use Rattle.machine.proofs.Static.{static_of, snapshot_of, placed_op}
 use Rattle.machine.proofs.Newest.{last_of, last_nil}
@@ -88,14 +88,15 @@ module _ (p : List (List Op)) (init : List ℕ) (fits : All (λ ops. All (IsWith
     writes_within =
         λ e a d is. omega (
           arith,
-          address_within (length init) (placed_op p e).1 a (op_within e) (own_used (placed_op p e).1 d a (inr is)),
+          address_within (length init) (placed_op p e).1 a (op_within e)
+              ((has_address (placed_op p e).1 d a).0 (inr is)),
           length-map init (λ v. block_with (length p) v),
         );
     reads_within =
         λ e a is. omega (
           arith,
           address_within (length init) (placed_op p e).1 a (op_within e)
-              (own_used (placed_op p e).1 (0, None) a (inl ((same_kind (placed_op p e).1 (0, None)).0 ∙ is))),
+              ((has_address (placed_op p e).1 (0, None) a).0 (inl ((same_kind (placed_op p e).1 (0, None)).0 ∙ is))),
           length-map init (λ v. block_with (length p) v),
         );
   }

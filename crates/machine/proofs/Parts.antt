@@ -12,8 +12,7 @@ use Rattle.write_buffer.specs.Buffer.{Buffer}
 use Rattle.core_unit.specs.Progress.{Progress}
 use Rattle.moesi.specs.State as moesi
 use Rattle.machine.specs.State.{first_event}
-use Rattle.machine.specs.BoundedItems.{BoundedItems}
-use Rattle.machine.specs.Configuration.{IsSound, IsEntry, places_of}
+use Rattle.machine.specs.Configuration.{BoundedItems, IsSound, IsEntry, places_of}
 use Rattle.machine.proofs.Static.{first_within}
 
 module _ {p : Parts} {capacity : ℕ} {units : List Progress} {buffers : List Buffer} {caches : moesi.CacheState}

@@ -59,9 +59,5 @@ rmw_behind f xs may none = nil_from_length xs
 -- what a load gets from its buffer is the youngest entry of its address, under every fault
 pub forwarded_youngest : (f : Fault) (xs : List Entry) (a : ℕ) (y : Entry) → forwarded f xs a ≡ Some y
     → youngest xs a ≡ Some y
-forwarded_youngest fault.None xs a y h = h
 forwarded_youngest fault.NoBypass xs a y h = absurd cc
-forwarded_youngest fault.YoungestFirst xs a y h = h
-forwarded_youngest fault.OpenFence xs a y h = h
-forwarded_youngest fault.StaleShare xs a y h = h
-forwarded_youngest fault.EarlyRmw xs a y h = h
+forwarded_youngest f xs a y h = h

@@ -21,13 +21,14 @@ use Rattle.machine.specs.declared.blocked.Blocked.{Blocked}
 use Rattle.machine.specs.declared.blocked.Blocked.TheVariants.{B4, B5, B7, B8}
 use Rattle.machine.specs.State.{State, place_of, buffer_of, line_copy, first_event, event_of}
 use Rattle.machine.specs.Step.{advanced, performed, with_read, written, with_buffer, with_caches, or_blocked}
-use Rattle.machine.specs.Step.{looked_up, read_modify_written, read_unmodified, compared_and_swapped}
+use Rattle.machine.specs.Step.{looked_up, read_modify_written, read_unmodified}
 use Rattle.machine.specs.Step.{rmw_value, exec, exec_next, drained_at, has, step_result, after, run}
 use Rattle.machine.specs.RunLaws.{guarded}
 use Rattle.machine.proofs.Static.{op_reads, is_st, is_ld}
 use Rattle.machine.proofs.Cached.{exclusive_read}
 use Rattle.machine.proofs.ExecuteEvents.{IsNext}
-use Rattle.machine.specs.Faults.{draining, get_m_under}
+use Rattle.machine.specs.declared.step.Transaction.TheVariants as transaction
+use Rattle.machine.specs.Faults.{draining, transacted}
 use Rattle.machine.proofs.DrainEvents.{drained_state}
 use Rattle.machine.proofs.Removed.{split_at, none_before, fence_behind, rmw_behind}
 
@@ -77,13 +78,9 @@ pub record IsKept (p : List (List Op)) (f : Fault) (s : State) (P : State → Ty
 
 -- GetM is a transaction under every fault, and the one that keeps coherence where there is none
 pub get_m_any : (f : Fault) (m : moesi.CacheState) (c a : ℕ) (caches : moesi.CacheState)
-    → get_m_under f m c a ≡ Ok caches → IsAnyTransaction m c a caches
-get_m_any fault.None m c a caches h = inl (inr (inl h))
-get_m_any fault.NoBypass m c a caches h = inl (inr (inl h))
-get_m_any fault.YoungestFirst m c a caches h = inl (inr (inl h))
-get_m_any fault.OpenFence m c a caches h = inl (inr (inl h))
+    → transacted f transaction.GetM m c a ≡ Ok caches → IsAnyTransaction m c a caches
 get_m_any fault.StaleShare m c a caches h = inr h
-get_m_any fault.EarlyRmw m c a caches h = inl (inr (inl h))
+get_m_any f m c a caches h = inl (inr (inl h))
 
 -- one state, answered twice
 pub ok_one : (s t : State) → (let r : Result State Blocked = Ok s in r) ≡ Ok t → s ≡ t
@@ -122,7 +119,7 @@ module _ (p : List (List Op)) (capacity : ℕ) (f : Fault) (s : State) (P : Stat
 
   -- so is a compare-and-swap, which writes or only reads
   cas_kept : (c b a e v : ℕ) (t : State) → IsNext p s c b (Cas a e v) → c < length p
-      → compared_and_swapped f s c b a e v ≡ Ok t → P t
+      → exec capacity f s c b (Cas a e v) ≡ Ok t → P t
   cas_kept c b a e v t n at h = go ((line_copy s c a).0 == e) refl h
     where
       go : (q : Bool) → ((line_copy s c a).0 == e) ≡ q
@@ -215,10 +212,10 @@ module _ (p : List (List Op)) (capacity : ℕ) (f : Fault) (s : State) (P : Stat
           (split_at (buffer_of s c) i x is) (none_before f (buffer_of s c)) wrote.1)
   step_kept (GetS c a) t h = transaction_kept c a t (moesi.get_s s.caches c a)
       (λ caches is. (inl (inl is), λ none. inl is)) h
-  step_kept (GetM c a) t h = transaction_kept c a t (get_m_under f s.caches c a)
+  step_kept (GetM c a) t h = transaction_kept c a t (transacted f transaction.GetM s.caches c a)
       (λ caches is. (
         get_m_any f s.caches c a caches is,
-        λ none. inr (inl (subst (λ (g : Fault). get_m_under g s.caches c a ≡ Ok caches) none is)),
+        λ none. inr (inl (subst (λ (g : Fault). transacted g transaction.GetM s.caches c a ≡ Ok caches) none is)),
       )) h
   step_kept (Put c a) t h = transaction_kept c a t (moesi.put s.caches c a)
       (λ caches is. (inl (inr (inr is)), λ none. inr (inr is))) h

@@ -18,12 +18,10 @@ use Rattle.machine.specs.declared.script_line.CoreStep.TheVariants.{Exec, Drain}
 use Rattle.machine.specs.declared.step.Transaction.{Transaction}
 use Rattle.machine.specs.declared.step.Transaction.TheVariants.{GetS, GetM, Put}
 use Rattle.machine.specs.declared.script_refusal.StepRefusal.{StepRefusal}
-use Rattle.machine.specs.declared.script_refusal.StepRefusal.TheVariants.{S1, S4}
+use Rattle.machine.specs.declared.script_refusal.StepRefusal.TheVariants.{S1, S2, S3, S4}
 use Rattle.machine.specs.declared.step.Step.{Step}
-use Rattle.machine.specs.ScriptLine.{ScriptLine, own_line, transaction_line, script_line_of, own_step}
-use Rattle.machine.specs.ScriptLine.{transaction_step}
-use Rattle.machine.specs.Script.{core_in, address_in, with_step, step_on_core, address_step, script_step}
-use Rattle.machine.specs.Script.{line_step, steps_of, IsStepOf}
+use Rattle.machine.specs.ScriptLine.{ScriptLine, own_line, transaction_line, script_line_of, own_step, transaction_step}
+use Rattle.machine.specs.Script.{core_in, address_in, with_step, or_refused, script_step, line_step, steps_of, IsStepOf}
 
 -- what every line keeps
 record IsScript (p : Parts) (steps : List Step) : Type 0 where
@@ -76,30 +74,25 @@ transaction_kept p GetS c a h k = (h, k)
 transaction_kept p GetM c a h k = (h, k)
 transaction_kept p Put c a h k = (h, k)
 
--- one step of a core more
-core_kept : (p : Parts) (s t : List Step) (step : ℕ → Step) (core : Option ℕ) → IsScript p s →
-    ((c : ℕ) → core ≡ Some c → IsStepOf p (step c)) → step_on_core s step core ≡ done t → IsScript p t
-core_kept p s t step None h of e = absurd cc
-core_kept p s t step (Some c) h of e = step_kept p s t (step c) h (of c refl) e
-
--- one step of a core at an address more
-address_kept : (p : Parts) (s t : List Step) (step : ℕ → ℕ → Step) (core address : Option ℕ) →
-    IsScript p s → ((c a : ℕ) → core ≡ Some c → address ≡ Some a → IsStepOf p (step c a)) →
-    address_step s step core address ≡ done t → IsScript p t
-address_kept p s t step None address h of e = absurd cc
-address_kept p s t step (Some c) None h of e = absurd cc
-address_kept p s t step (Some c) (Some a) h of e = step_kept p s t (step c a) h (of c a refl refl) e
+-- what went on was found
+found : (refusal : StepRefusal) (o : Option ℕ) (go_on : ℕ → Result (List Step) StepRefusal) (t : List Step)
+    → or_refused refusal o go_on ≡ done t → (n : ℕ) × (o ≡ Some n) × (go_on n ≡ done t)
+found refusal None go_on t e = absurd cc
+found refusal (Some n) go_on t e = (n, refl, e)
 
 -- one line more
 said_kept : (p : Parts) (s t : List Step) (said : Option ScriptLine) → IsScript p s →
     script_step p s said ≡ done t → IsScript p t
 said_kept p s t None h e = absurd cc
 said_kept p s t (Some (own_line own c)) h e =
-    core_kept p s t (own_step own) (core_in p c) h
-    (λ d is. own_kept p own d (core_within p c d is)) e
+    let core = found S2 (core_in p c) (λ d. with_step s (own_step own d)) t e in
+    step_kept p s t (own_step own core.0) h (own_kept p own core.0 (core_within p c core.0 core.1)) core.2
 said_kept p s t (Some (transaction_line kind c name)) h e =
-    address_kept p s t (transaction_step kind) (core_in p c) (address_in p name) h
-    (λ d a is at. transaction_kept p kind d a (core_within p c d is) (address_within p name a at)) e
+    let core = found S2 (core_in p c)
+    (λ d. or_refused S3 (address_in p name) (λ a. with_step s (transaction_step kind d a))) t e in
+    let at = found S3 (address_in p name) (λ a. with_step s (transaction_step kind core.0 a)) t core.2 in
+    step_kept p s t (transaction_step kind core.0 at.0) h
+    (transaction_kept p kind core.0 at.0 (core_within p c core.0 core.1) (address_within p name at.0 at.1)) at.2
 
 -- what holds after a script
 script_kept : (p : Parts) (text : List ℕ) (t : List Step) → steps_of p text ≡ Ok t → IsScript p t

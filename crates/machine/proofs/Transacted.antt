@@ -13,8 +13,7 @@ use Rattle.machine.specs.Faults.{transacted}
 use Rattle.machine.specs.ScriptLine.{transaction_step}
 use Rattle.machine.specs.State.{State}
 use Rattle.machine.specs.Step.{has, or_blocked, step_result, with_caches}
-use Rattle.machine.specs.BoundedItems.{BoundedItems}
-use Rattle.machine.specs.Configuration.{IsSound}
+use Rattle.machine.specs.Configuration.{BoundedItems, IsSound}
 
 -- the rows of transactions
 pub transaction_row : (p : List (List Op)) (capacity : ℕ) (f : Fault) (s : State) (kind : Transaction) (c a : ℕ)

@@ -1,6 +1,6 @@
 -- What a machine holds, how its parts fit together, and that it was reached by steps.
-use Rattle.std.specs.Prelude.{◌≡◌, ◌+◌, ◌<◌, ◌≤◌, ℕ, Bool, Option, Result, List, [], length, map, sum, sum_by}
-use Rattle.std.specs.Prelude.{slice_index, slice_index_or, All}
+use Rattle.std.specs.Prelude.{◌≡◌, ◌+◌, ◌<◌, ◌≤◌, ℕ, Option, Result, List, [], length, map, sum, sum_by}
+use Rattle.std.specs.Prelude.{slice_index, slice_index_or, All, Ok, Err, OnOk, OnErr, IfErr}
 use Rattle.common.specs.declared.limits.TheConstants.{MAX_EVENTS}
 use Rattle.program.specs.declared.op.Op.{Op}
 use Rattle.program.specs.Parts.{Parts, IsWithin, op_count}
@@ -10,11 +10,22 @@ use Rattle.core_unit.specs.Progress.{Progress}
 use Rattle.moesi.specs.State as moesi
 use Rattle.machine.specs.declared.fault.Fault.{Fault}
 use Rattle.machine.specs.declared.step.Step.{Step}
-use Rattle.machine.specs.BoundedItems.{BoundedItems}
 use Rattle.machine.specs.declared.blocked.Blocked.{Blocked}
 use Rattle.recording.specs.Execution.{Execution}
 use Rattle.machine.specs.State.{State, first_event, place_of, opening, recorded, IsComplete}
-use Rattle.machine.specs.Step.{exec, step_result, run, has, IsAt}
+use Rattle.machine.specs.Step.{exec, step_result, run, IsAt}
+
+-- a list with room for this many items, past which it never grows
+pub record BoundedItems (T : Type 0) : Type 0 where
+  pub items : List T
+  pub room : ℕ
+
+-- each core is before its first operation, and there are this many events in all
+pub record AreUnits (p : List (List Op)) (units : List Progress) (total : ℕ) : Type 0 where
+  pub one_each : length units ≡ length p
+  pub begun : (c : ℕ) (d : Progress) → c < length p → slice_index_or units c d
+      ≡ record { first = first_event p c; place = 0 }
+  pub events : total ≡ op_count p
 
 -- what a machine holds
 pub record Configuration : Type 0 where
@@ -82,15 +93,6 @@ pub record BlankSize : Type 0 where
   pub addresses : ℕ
   pub initial : List ℕ
 
--- the room for the recording of a program
-abbrev pub blank_size : Parts → BlankSize
-blank_size p = record {
-  cores = length p.cores;
-  events = op_count p.cores;
-  addresses = length p.names;
-  initial = p.init;
-}
-
 -- what every machine keeps
 pub record IsMachine (p : Parts) (capacity : ℕ) (fault : Fault) (units : List Progress)
     (buffers : List Buffer) (caches : moesi.CacheState) (writes : List (BoundedItems ℕ))
@@ -98,7 +100,12 @@ pub record IsMachine (p : Parts) (capacity : ℕ) (fault : Fault) (units : List 
   pub sound : IsSound p capacity units buffers caches writes reads performed
   pub reached : IsReached p.cores p.init capacity fault
       (state_from p.init units buffers caches writes reads performed.items)
-  pub blank_is : blank ≡ blank_size p
+  pub blank_is : blank ≡ record {
+    cores = length p.cores;
+    events = op_count p.cores;
+    addresses = length p.names;
+    initial = p.init;
+  }
 
 -- The words of a machine's contracts
 
@@ -109,6 +116,14 @@ answer_of h step = step_result h.program.cores h.capacity h.fault h.state step
 -- what it answers where core c executes the operation op as event e
 abbrev pub exec_answer : Configuration → ℕ → Op → ℕ → Result State Blocked
 exec_answer h c op e = exec h.capacity h.fault h.state c e op
+
+-- a call answered as the row says, and took the machine from h to g, which is h where the step is blocked
+pub record IsAnswer {A : Type 0} (row : Result State Blocked) (h g : Configuration) (result : Result A Blocked) : Type 0
+  where
+    pub ok : OnOk result (row ≡ Ok g.state)
+    pub blocked : IfErr result (λ b. row ≡ Err b)
+    pub rest : OnOk result (g ≡ record h { state = g.state })
+    pub unchanged : OnErr result (g ≡ h)
 
 -- core c is at its operation op, whose event is e
 abbrev pub IsNextOf : Configuration → ℕ → Op → ℕ → Type 0
@@ -129,7 +144,3 @@ IsAtEnd h = IsComplete h.program.cores h.state
 -- the number of the next event of core c
 abbrev pub next_event : Configuration → ℕ → ℕ
 next_event h c = first_event h.program.cores c + place_of h.state c
-
--- core c and address a are there
-abbrev pub has_line : Configuration → ℕ → ℕ → Bool
-has_line h c a = has h.program.cores h.state c a

@@ -32,15 +32,11 @@ abbrev pub may_rmw : Fault → List Entry → Bool
 may_rmw EarlyRmw entries = true
 may_rmw fault entries = length entries == 0
 
--- what GetM of core c at address a does: others become I; those in S stay with StaleShare
-abbrev pub get_m_under : Fault → moesi.CacheState → ℕ → ℕ → Result moesi.CacheState CacheError
-get_m_under StaleShare caches c a = moesi.get_m_stale caches c a
-get_m_under fault caches c a = moesi.get_m caches c a
-
--- what a transaction of core c at address a does
+-- what a transaction of core c at address a does: by GetM others become I, but those in S stay with StaleShare
 abbrev pub transacted : Fault → Transaction → moesi.CacheState → ℕ → ℕ → Result moesi.CacheState CacheError
 transacted fault GetS caches c a = moesi.get_s caches c a
-transacted fault GetM caches c a = get_m_under fault caches c a
+transacted StaleShare GetM caches c a = moesi.get_m_stale caches c a
+transacted fault GetM caches c a = moesi.get_m caches c a
 transacted fault Put caches c a = moesi.put caches c a
 
 -- the entries but the one at place i

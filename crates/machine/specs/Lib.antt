@@ -4,17 +4,12 @@ pub mod Faults
 pub mod Step
 pub mod RunLaws
 pub mod Taken
-pub mod Tso
 pub mod Orderly
 pub mod PlaceLaws
 pub mod FirstUseLaws
 pub mod ProgramOf
 pub mod ProgramLaws
 pub mod OneRow
-pub mod BoundedItems
 pub mod Configuration
-pub mod Made
 pub mod ScriptLine
-pub mod ParsedScriptLine
 pub mod Script
-pub mod ScriptText

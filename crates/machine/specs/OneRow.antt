@@ -8,7 +8,7 @@ use Rattle.machine.specs.declared.fault.Fault.TheVariants.{NoBypass, YoungestFir
 use Rattle.machine.specs.declared.fault.Fault.TheVariants.{EarlyRmw}
 use Rattle.machine.specs.declared.fault.Fault.TheVariants as fault
 use Rattle.machine.specs.declared.step.Step.{Step}
-use Rattle.machine.specs.declared.step.Step.TheVariants.{Exec, Drain, GetS, GetM, Put}
+use Rattle.machine.specs.declared.step.Step.TheVariants.{Exec, Drain, GetM}
 use Rattle.machine.specs.State.{State, place_of}
 use Rattle.machine.specs.Step.{step_result}
 
@@ -26,10 +26,7 @@ changes f step op = false
 -- the operation that a step executes, where it executes one and one is left
 abbrev pub next_op : List (List Op) → State → Step → Option Op
 next_op p s (Exec c) = slice_get (slice_index_or p c []) (place_of s c)
-next_op p s (Drain c) = None
-next_op p s (GetS c a) = None
-next_op p s (GetM c a) = None
-next_op p s (Put c a) = None
+next_op p s step = None
 
 -- a step whose row the fault leaves does what it does without fault
 abbrev pub EveryFaultChangesOneRow : Type 0

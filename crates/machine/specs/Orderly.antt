@@ -1,4 +1,4 @@
--- What holds of every state that a run without fault leads to.
+-- What every run keeps.
 use Rattle.std.specs.Prelude.{◌≡◌, ◌<◌, ◌≤◌, ◌+◌, ◌&&◌, ℕ, Bool, true, false, Option, Some, None}
 use Rattle.std.specs.Prelude.{List, [], ◌∷◌, ◌++◌, map, take}
 use Rattle.std.specs.Prelude.{length, slice_index_or, sum, sum_by, count_by, All}
@@ -7,11 +7,13 @@ use Rattle.program.specs.declared.op.Op.TheVariants.{St, Ld, Fence, Swap, Add, C
 use Rattle.program.specs.Parts.{IsWithin}
 use Rattle.recording.specs.Execution.{placed_from}
 use Rattle.recording.specs.Order.{times, Before}
+use Rattle.recording.specs.Tso.{IsTsoOrder, IsWellFormed}
+use Rattle.machine.specs.declared.fault.Fault.{Fault}
 use Rattle.write_buffer.specs.declared.entry.Entry.{Entry}
 use Rattle.moesi.specs.State as moesi
 use Rattle.machine.specs.declared.fault.Fault.TheVariants as fault
 use Rattle.machine.specs.declared.step.Step.{Step}
-use Rattle.machine.specs.State.{State, place_of, buffer_of, first_event, opening}
+use Rattle.machine.specs.State.{State, place_of, buffer_of, first_event, recorded, opening, IsComplete}
 use Rattle.machine.specs.Step.{run}
 
 -- the core and the operation of event e
@@ -21,20 +23,12 @@ placed_op p e = slice_index_or (placed_from 0 p) e (0, Fence)
 -- whether an operation is a plain store
 abbrev pub is_st : Op → Bool
 is_st (St a v) = true
-is_st (Ld a) = false
-is_st Fence = false
-is_st (Swap a v) = false
-is_st (Add a v) = false
-is_st (Cas a e v) = false
+is_st op = false
 
 -- whether it is a plain load
 abbrev pub is_ld : Op → Bool
-is_ld (St a v) = false
 is_ld (Ld a) = true
-is_ld Fence = false
-is_ld (Swap a v) = false
-is_ld (Add a v) = false
-is_ld (Cas a e v) = false
+is_ld op = false
 
 -- the address that an operation reads, if it reads
 abbrev pub op_reads : Op → Option ℕ
@@ -44,10 +38,6 @@ op_reads Fence = None
 op_reads (Swap a v) = Some a
 op_reads (Add a v) = Some a
 op_reads (Cas a e v) = Some a
-
--- e is earlier than f on one core
-abbrev pub IsBefore : List (List Op) → ℕ → ℕ → Type 0
-IsBefore p e f = (e < f) × (f < length (placed_from 0 p)) × ((placed_op p e).0 ≡ (placed_op p f).0)
 
 -- event e is one of the program's, and its core has executed it
 abbrev pub IsExecuted : List (List Op) → State → ℕ → Type 0
@@ -82,7 +72,8 @@ pub record IsOrderly (p : List (List Op)) (n : ℕ) (s : State) : Type 0 where
   pub stores : (c : ℕ) → AreStores p c (buffer_of s c)
   pub few : (c : ℕ) → length (buffer_of s c) ≤ count_by is_st (take (place_of s c) (slice_index_or p c []))
   -- what is earlier on a core stands earlier, unless it is a plain store before a plain load
-  pub kept : (e f : ℕ) → IsBefore p e f → IsExecuted p s f
+  pub kept : (e f : ℕ) → (e < f) × (f < length (placed_from 0 p)) × ((placed_op p e).0 ≡ (placed_op p f).0)
+      → IsExecuted p s f
       → (is_st (placed_op p e).1 && is_ld (placed_op p f).1) ≡ false
       → Before (seen_by s (placed_op p f).0) e f
 
@@ -90,3 +81,16 @@ pub record IsOrderly (p : List (List Op)) (n : ℕ) (s : State) : Type 0 where
 abbrev pub EveryStateIsOrderly : List (List Op) → List ℕ → ℕ → List Step → Type 0
 EveryStateIsOrderly p init capacity steps = All (λ ops. All (IsWithin (length init)) ops) p
     → IsOrderly p (length init) (run p capacity fault.None (opening p init) steps)
+
+-- where a run without fault is complete, the order of what it performed is one that TSO allows for
+-- its recording
+abbrev pub EveryRunIsTso : List (List Op) → List ℕ → ℕ → List Step → Type 0
+EveryRunIsTso p init capacity steps =
+    let s = run p capacity fault.None (opening p init) steps in
+    All (λ ops. All (IsWithin (length init)) ops) p → IsComplete p s → IsTsoOrder (recorded p s) s.performed
+
+-- where a run under any fault is complete, its recording is well formed
+abbrev pub EveryRunIsWellFormed : List (List Op) → List ℕ → ℕ → Fault → List Step → Type 0
+EveryRunIsWellFormed p init capacity fault steps =
+    let s = run p capacity fault (opening p init) steps in
+    All (λ ops. All (IsWithin (length init)) ops) p → IsComplete p s → IsWellFormed (recorded p s)

@@ -1,13 +1,14 @@
 -- Laws of the recording of a state: its events are those of the program's operations.
-use Rattle.std.proofs.Common.{◌≡◌, ◌+◌, ◌-◌, inl, inr, ℕ, zero, suc, Option, None, List, [], ◌∷◌}
-use Rattle.std.proofs.Common.{◌++◌}
-use Rattle.std.proofs.Common.{map, length, get_or, arith, refl, sym, ap, ◌∙◌, length-append}
+use Rattle.std.proofs.Common.{◌≡◌, ◌<◌, ◌≤◌, ◌+◌, ◌-◌, inl, inr, ℕ, zero, suc, Option, None, List, [], ◌∷◌}
+use Rattle.std.proofs.Common.{map, length, get_or, arith, refl, ap, ◌∙◌}
+use Rattle.std.specs.List.{sum}
+use Rattle.std.proofs.lemmas.List.Sums.{sum-map}
 use Rattle.std.proofs.lemmas.Bool.{cases_lt}
 use Rattle.std.proofs.lemmas.List.{get_or_append_left, get_or-append_right, get_or-map, length-map}
 use Rattle.recording.specs.declared.event.Event.{Event}
 use Rattle.recording.specs.declared.event.Event.TheVariants.{F}
 use Rattle.recording.specs.Execution.{placed_from, event_count, event_at, core_of}
-use Rattle.recording.specs.PlacedLaws.{tagged}
+use Rattle.recording.specs.PlacedLaws.{tagged, placed_total}
 use Rattle.program.specs.declared.op.Op.{Op}
 use Rattle.program.specs.declared.op.Op.TheVariants.{Fence}
 use Rattle.machine.specs.State.{State, event_of, events_from, cores_from, recorded}
@@ -28,65 +29,51 @@ events_at e (op ∷ ops) reads (suc i) =
     events_at (e + 1) ops reads i ∙ ap (λ (n : ℕ). event_of (get_or ops i Fence) (get_or reads n (0, None)))
     (omega arith)
 
--- a recording has the cores of its program
+-- each core of a recording has as many events as operations
+lengths : (e : ℕ) (p : List (List Op)) (reads : List (ℕ × Option ℕ))
+    → map (λ (es : List Event). length es) (cores_from e p reads) ≡ map (λ (ops : List Op). length ops) p
+lengths e [] reads = refl
+lengths e (ops ∷ p) reads = rw (events_length e ops reads, lengths (e + length ops) p reads) refl
+
+-- it has the cores of its program
 pub cores_length : (e : ℕ) (p : List (List Op)) (reads : List (ℕ × Option ℕ))
     → length (cores_from e p reads) ≡ length p
 cores_length e [] reads = refl
 cores_length e (ops ∷ p) reads = ap suc (cores_length (e + length ops) p reads)
 
--- a recording has as many events as its program has operations
-pub recorded_length : (k e : ℕ) (p : List (List Op)) (reads : List (ℕ × Option ℕ))
-    → length (placed_from k (cores_from e p reads)) ≡ length (placed_from k p)
-recorded_length k e [] reads = refl
-recorded_length k e (ops ∷ p) reads =
-    length-append (map (λ (x : Event). (k, x)) (events_from e ops reads))
-    (placed_from (k + 1) (cores_from (e + length ops) p reads))
-    ∙ (omega (
-      arith,
-      tagged k (events_from e ops reads),
-      tagged k ops,
-      events_length e ops reads,
-      recorded_length (k + 1) (e + length ops) p reads,
-    )
-    ∙ sym (length-append (map (λ (x : Op). (k, x)) ops) (placed_from (k + 1) p)))
+-- the number k of a core is that of its first events
+pub placed_here : {A : Type 0} (k : ℕ) (es : List A) (rest : List (List A)) (i : ℕ) (d : ℕ × A) → i < length es
+    → get_or (placed_from k (es ∷ rest)) i d ≡ (k, get_or es i d.1)
+placed_here {A} k es rest i d h =
+    get_or_append_left (map (λ e. (k, e)) es) (placed_from (k + 1) rest) d i (rw length-map h)
+    ∙ get_or-map (λ (e : A). (k, e)) es i d.1 d h
+
+-- and those after them are of the cores after it
+pub placed_behind : {A : Type 0} (k : ℕ) (es : List A) (rest : List (List A)) (i : ℕ) (d : ℕ × A) → length es ≤ i
+    → get_or (placed_from k (es ∷ rest)) i d ≡ get_or (placed_from (k + 1) rest) (i - length es) d
+placed_behind {A} k es rest i d h =
+    get_or-append_right (map (λ e. (k, e)) es) (placed_from (k + 1) rest) (length es) i d (tagged k es) h
 
 -- event i is that of the operation i
-pub recorded_at : (k e : ℕ) (p : List (List Op)) (reads : List (ℕ × Option ℕ)) (i : ℕ)
+recorded_at : (k e : ℕ) (p : List (List Op)) (reads : List (ℕ × Option ℕ)) (i : ℕ)
     → get_or (placed_from k (cores_from e p reads)) i (0, F)
     ≡ (
       (get_or (placed_from k p) i (0, Fence)).0,
       event_of (get_or (placed_from k p) i (0, Fence)).1 (get_or reads (e + i) (0, None)),
     )
 recorded_at k e [] reads i = refl
-recorded_at k e (ops ∷ p) reads i = elim (cases_lt i (length ops)) [
-  | inl here ↦
-      let at : get_or (map (λ x. (k, x)) ops ++ placed_from (k + 1) p) i (0, Fence)
-      ≡ (k, get_or ops i Fence) =
-      get_or_append_left (map (λ x. (k, x)) ops) (placed_from (k + 1) p) (0, Fence) i (rw length-map here)
-      ∙ get_or-map (λ (x : Op). (k, x)) ops i Fence (0, Fence) here in
-      get_or_append_left (map (λ x. (k, x)) (events_from e ops reads))
-      (placed_from (k + 1) (cores_from (e + length ops) p reads)) (0, F) i
-      (rw (length-map, events_length e ops reads) here)
-      ∙ (get_or-map (λ (x : Event). (k, x)) (events_from e ops reads) i F (0, F)
-      (rw (events_length e ops reads) here)
-      ∙ (ap (λ (x : Event). (k, x)) (events_at e ops reads i)
-      ∙ ap (λ (z : ℕ × Op). (z.0, event_of z.1 (get_or reads (e + i) (0, None)))) (sym at)))
-  | inr behind ↦
-      let at : get_or (map (λ x. (k, x)) ops ++ placed_from (k + 1) p) i (0, Fence)
-      ≡ get_or (placed_from (k + 1) p) (i - length ops) (0, Fence) =
-      get_or-append_right (map (λ x. (k, x)) ops) (placed_from (k + 1) p) (length ops) i (0, Fence)
-      (tagged k ops) behind in
-      get_or-append_right (map (λ x. (k, x)) (events_from e ops reads))
-      (placed_from (k + 1) (cores_from (e + length ops) p reads)) (length ops) i (0, F)
-      (tagged k (events_from e ops reads) ∙ events_length e ops reads) behind
-      ∙ (recorded_at (k + 1) (e + length ops) p reads (i - length ops)
-      ∙ (ap (λ (n : ℕ). (
-        (get_or (placed_from (k + 1) p) (i - length ops) (0, Fence)).0,
-        event_of (get_or (placed_from (k + 1) p) (i - length ops) (0, Fence)).1 (get_or reads n (0, None)),
-      ))
-      (omega (arith, behind))
-      ∙ ap (λ (z : ℕ × Op). (z.0, event_of z.1 (get_or reads (e + i) (0, None)))) (sym at)))
-]
+recorded_at k e (ops ∷ p) reads i =
+    let es : List Event = events_from e ops reads in
+    let rest : List (List Event) = cores_from (e + length ops) p reads in
+    let same : length es ≡ length ops = events_length e ops reads in
+    elim (cases_lt i (length ops)) [
+      | inl here ↦ rw (placed_here k ops p i (0, Fence) here, placed_here k es rest i (0, F) (rw same here))
+          (ap (λ (x : Event). (k, x)) (events_at e ops reads i))
+      | inr behind ↦
+          let at : e + i ≡ e + length ops + (i - length ops) = omega arith in
+          rw (placed_behind k ops p i (0, Fence) behind, placed_behind k es rest i (0, F) (rw same behind), same, at)
+          (recorded_at (k + 1) (e + length ops) p reads (i - length ops))
+    ]
 
 -- what event e did, in the recording of a state
 pub event_is : (p : List (List Op)) (s : State) (e : ℕ)
@@ -104,4 +91,11 @@ core_is p s e = ap (λ (z : ℕ × Event). z.0) (recorded_at 0 0 p s.reads e)
 -- how many events the recording has
 pub count_is : (p : List (List Op)) (s : State) → event_count (recorded p s) ≡ length (placed_from 0 p)
 unfolding event_count
-count_is p s = recorded_length 0 0 p s.reads
+count_is p s = omega (
+  arith,
+  placed_total 0 (cores_from 0 p s.reads),
+  placed_total 0 p,
+  sum-map (λ (es : List Event). length es) (cores_from 0 p s.reads),
+  sum-map (λ (ops : List Op). length ops) p,
+  ap (λ (l : List ℕ). sum l) (lengths 0 p s.reads),
+)

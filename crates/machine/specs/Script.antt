@@ -1,17 +1,18 @@
--- What a whole step script gives: its steps, or the first line at fault with its number.
+-- What a whole step script gives, its steps or the first line at fault with its number; and the text of steps.
 use Rattle.std.specs.Prelude.{◌<◌, ◌++◌, ◌∷◌, [], ℕ, List, nat_lt, length, position, Option, None, Some}
-use Rattle.std.specs.Prelude.{Result, Ok, Err, if◌then◌else◌}
+use Rattle.std.specs.Prelude.{Result, Ok, Err, if◌then◌else◌, codes, decimal}
 use Rattle.common.specs.declared.limits.TheConstants.{MAX_STEPS}
 use Rattle.program.specs.declared.name.Name.{Name}
-use Rattle.program.specs.Names.{name_eq}
+use Rattle.program.specs.Names.{name_eq, name_text}
+use Rattle.program.specs.Spelling.{name_at}
+use Rattle.std.specs.List.{flat_map}
 use Rattle.program.specs.Parts.{Parts}
 use Rattle.program.specs.Reading.{Reading, read_from}
 use Rattle.machine.specs.declared.step.Step.{Step}
 use Rattle.machine.specs.declared.step.Step.TheVariants.{Exec, Drain, GetS, GetM, Put}
 use Rattle.machine.specs.declared.script_refusal.StepRefusal.{StepRefusal}
 use Rattle.machine.specs.declared.script_refusal.StepRefusal.TheVariants.{S1, S2, S3, S4}
-use Rattle.machine.specs.ScriptLine.{ScriptLine, own_line, transaction_line, script_line_of, own_step}
-use Rattle.machine.specs.ScriptLine.{transaction_step}
+use Rattle.machine.specs.ScriptLine.{ScriptLine, own_line, transaction_line, script_line_of, own_step, transaction_step}
 
 -- the core of this number, if the program has it
 abbrev pub core_in : Parts → ℕ → Option ℕ
@@ -25,25 +26,18 @@ address_in p name = position (name_eq name) p.names
 abbrev pub with_step : List Step → Step → Result (List Step) StepRefusal
 with_step done step = if nat_lt (length done) MAX_STEPS then Ok (done ++ step ∷ []) else Err S4
 
--- what a kind of step and its core do, if the program has the core
-abbrev pub step_on_core : List Step → (ℕ → Step) → Option ℕ → Result (List Step) StepRefusal
-step_on_core done step None = Err S2
-step_on_core done step (Some c) = with_step done (step c)
-
--- what a kind of transaction, its core and its address do, if the program has the core, and then
--- the address
-abbrev pub address_step : List Step → (ℕ → ℕ → Step) → Option ℕ → Option ℕ →
-    Result (List Step) StepRefusal
-address_step done step None a = Err S2
-address_step done step (Some c) None = Err S3
-address_step done step (Some c) (Some a) = with_step done (step c a)
+-- what was found goes on, and where nothing was the line is refused
+abbrev pub or_refused : StepRefusal → Option ℕ → (ℕ → Result (List Step) StepRefusal) → Result (List Step) StepRefusal
+or_refused refusal None go_on = Err refusal
+or_refused refusal (Some n) go_on = go_on n
 
 -- what a line does to the steps before it
 abbrev pub script_step : Parts → List Step → Option ScriptLine → Result (List Step) StepRefusal
 script_step p done None = Err S1
-script_step p done (Some (own_line own c)) = step_on_core done (own_step own) (core_in p c)
+script_step p done (Some (own_line own c)) = or_refused S2 (core_in p c) (λ d. with_step done (own_step own d))
 script_step p done (Some (transaction_line kind c name)) =
-    address_step done (transaction_step kind) (core_in p c) (address_in p name)
+    or_refused S2 (core_in p c)
+    (λ d. or_refused S3 (address_in p name) (λ a. with_step done (transaction_step kind d a)))
 
 -- what the bytes of a line do to the steps before it
 abbrev pub line_step : Parts → List Step → List ℕ → Result (List Step) StepRefusal
@@ -60,3 +54,19 @@ IsStepOf p (Drain c) = c < length p.cores
 IsStepOf p (GetS c a) = (c < length p.cores) × (a < length p.names)
 IsStepOf p (GetM c a) = (c < length p.cores) × (a < length p.names)
 IsStepOf p (Put c a) = (c < length p.cores) × (a < length p.names)
+
+-- a core, a space and the name of an address
+abbrev pub at_text : Parts → ℕ → ℕ → List ℕ
+at_text p c a = decimal c ++ 32 ∷ name_text (name_at p.names a)
+
+-- the text of a step, without its newline
+abbrev pub step_text : Parts → Step → List ℕ
+step_text p (Exec c) = codes "exec " ++ decimal c
+step_text p (Drain c) = codes "drain " ++ decimal c
+step_text p (GetS c a) = codes "gets " ++ at_text p c a
+step_text p (GetM c a) = codes "getm " ++ at_text p c a
+step_text p (Put c a) = codes "put " ++ at_text p c a
+
+-- the text of steps, a line a step
+abbrev pub script_text : Parts → List Step → List ℕ
+script_text p steps = flat_map (λ step. step_text p step ++ 10 ∷ []) steps

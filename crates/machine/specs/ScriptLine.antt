@@ -1,10 +1,12 @@
 -- What one line of a step script says.
-use Rattle.std.specs.Prelude.{ℕ, List, ◌+◌, position, take, drop, codes, Option, None, option_map}
+use Rattle.std.specs.Prelude.{◌≡◌, ℕ, List, ◌+◌, position, take, drop, codes, Option, None, option_map}
 use Rattle.std.specs.Prelude.{option_and_then, if◌then◌else◌}
 use Rattle.program.specs.declared.name.Name.{Name}
 use Rattle.program.specs.Names.{name_of}
 use Rattle.program.specs.Lines.{begins, is_space}
-use Rattle.program.specs.Numbers.{decimal_of}
+use Rattle.program.specs.Numbers.{IsValue, decimal_of}
+use Rattle.machine.specs.declared.script_line.ParsedLine.{ParsedLine}
+use Rattle.machine.specs.declared.script_line.ParsedLine.TheVariants as parsed
 use Rattle.machine.specs.declared.script_line.CoreStep.{CoreStep}
 use Rattle.machine.specs.declared.script_line.CoreStep.TheVariants.{Exec, Drain}
 use Rattle.machine.specs.declared.step.Transaction.{Transaction}
@@ -50,3 +52,10 @@ abbrev pub transaction_step : Transaction → ℕ → ℕ → Step
 transaction_step GetS c a = steps.GetS c a
 transaction_step GetM c a = steps.GetM c a
 transaction_step Put c a = steps.Put c a
+
+-- a line as the code says it is this line
+abbrev pub SaysScriptLine : ParsedLine → ScriptLine → Type 0
+SaysScriptLine (parsed.CoreStep own number) (own_line how c) = (own ≡ how) × IsValue number c
+SaysScriptLine (parsed.Transaction kind number name) (transaction_line how c other) = (kind ≡ how)
+    × IsValue number c × (name ≡ other)
+SaysScriptLine said line = ⊥

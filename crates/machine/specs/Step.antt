@@ -8,13 +8,14 @@ use Rattle.program.specs.declared.op.Op.TheVariants.{St, Ld, Fence, Swap, Add, C
 use Rattle.write_buffer.specs.declared.entry.Entry.{Entry}
 use Rattle.machine.specs.declared.step.Step.{Step}
 use Rattle.machine.specs.declared.step.Step.TheVariants.{Exec, Drain, GetS, GetM, Put}
+use Rattle.machine.specs.declared.step.Transaction.TheVariants as transaction
 use Rattle.machine.specs.declared.blocked.Blocked.{Blocked}
 use Rattle.machine.specs.declared.blocked.Blocked.TheVariants.{B1, B2, B3, B4, B5, B6, B7, B8}
 use Rattle.recording.specs.Event.{value_written}
 use Rattle.moesi.specs.State as moesi
 use Rattle.moesi.specs.Lines.{is_exclusive}
 use Rattle.machine.specs.declared.fault.Fault.{Fault}
-use Rattle.machine.specs.Faults.{forwarded, draining, without, may_fence, may_rmw, get_m_under}
+use Rattle.machine.specs.Faults.{forwarded, draining, without, may_fence, may_rmw, transacted}
 use Rattle.moesi.specs.declared.error.CacheError.{CacheError}
 use Rattle.machine.specs.State.{State, place_of, buffer_of, line_copy, first_event, event_of}
 
@@ -71,14 +72,6 @@ stored capacity s c e a v =
     then Ok (advanced (with_buffer s c (buffer_of s c ++ record { addr = a; value = v; event = e } ∷ [])) c)
     else Err B2
 
--- core c fences: it waits for an empty buffer
-abbrev pub fenced : Fault → State → ℕ → ℕ → Result State Blocked
-fenced fault s c e = if may_fence fault (buffer_of s c) then Ok (advanced (performed s e) c) else Err B3
-
--- core c loads address a: its line is valid, where no store of its own waits
-abbrev pub loaded : Fault → State → ℕ → ℕ → ℕ → Result State Blocked
-loaded fault s c e a = or_blocked B4 (λ what. advanced (performed (with_read s e what) e) c) (looked_up fault s c a)
-
 -- the value that op writes, from what the line has
 abbrev pub rmw_value : State → ℕ → Op → ℕ → ℕ
 rmw_value s c op a = value_written (event_of op (line_copy s c a))
@@ -100,21 +93,17 @@ read_unmodified fault s c n a =
     then Ok (advanced (performed (with_read s n (line_copy s c a)) n) c) else Err B5)
     else Err B3
 
--- core c swaps v into address a where its line has the value e, and else reads it alone
-abbrev pub compared_and_swapped : Fault → State → ℕ → ℕ → ℕ → ℕ → ℕ → Result State Blocked
-compared_and_swapped fault s c n a e v =
-    if (line_copy s c a).0 == e
-    then read_modify_written fault s c n (Swap a v) a
-    else read_unmodified fault s c n a
-
--- core c executes the operation op as event e
+-- core c executes the operation op as event e: a load looks for a valid line where no store of its own waits, a
+-- fence waits for an empty buffer, and a compare-and-swap writes where the line has the expected value
 abbrev pub exec : ℕ → Fault → State → ℕ → ℕ → Op → Result State Blocked
 exec capacity fault s c e (St a v) = stored capacity s c e a v
-exec capacity fault s c e (Ld a) = loaded fault s c e a
-exec capacity fault s c e Fence = fenced fault s c e
+exec capacity fault s c e (Ld a) =
+    or_blocked B4 (λ what. advanced (performed (with_read s e what) e) c) (looked_up fault s c a)
+exec capacity fault s c e Fence = if may_fence fault (buffer_of s c) then Ok (advanced (performed s e) c) else Err B3
 exec capacity fault s c e (Swap a v) = read_modify_written fault s c e (Swap a v) a
 exec capacity fault s c e (Add a v) = read_modify_written fault s c e (Add a v) a
-exec capacity fault s c n (Cas a e v) = compared_and_swapped fault s c n a e v
+exec capacity fault s c n (Cas a e v) =
+    if (line_copy s c a).0 == e then read_modify_written fault s c n (Swap a v) a else read_unmodified fault s c n a
 
 -- the next operation of core c, where one is left
 abbrev pub exec_next : List (List Op) → ℕ → Fault → State → ℕ → Option Op → Result State Blocked
@@ -148,7 +137,7 @@ step_result p capacity fault s (Drain c) = if nat_lt c (length p) then drained f
 step_result p capacity fault s (GetS c a) =
     if has p s c a then or_blocked B7 (with_caches s) (moesi.get_s s.caches c a) else Err B8
 step_result p capacity fault s (GetM c a) =
-    if has p s c a then or_blocked B7 (with_caches s) (get_m_under fault s.caches c a) else Err B8
+    if has p s c a then or_blocked B7 (with_caches s) (transacted fault transaction.GetM s.caches c a) else Err B8
 step_result p capacity fault s (Put c a) =
     if has p s c a then or_blocked B7 (with_caches s) (moesi.put s.caches c a) else Err B8
 

@@ -10,6 +10,7 @@ use std::alloc::Global;
 use std::marker::Model;
 
 /// The room for a recording: for each core's events, and for the write lists; and the initial values.
+#[derive(Drop)]
 pub(crate) struct Blank {
     cores: BoundedList<Vec<Event>>,
     events: Vec<BoundedList<Event>>,
@@ -35,22 +36,9 @@ impl Model for Blank {
         × (b.events.items ≡ replicate b.cores.room (record { items = []; room = b.room })) };
 }
 
-impl Drop for Blank {
-    fn drop(self) {
-        let Blank {
-            cores: _,
-            events: _,
-            room: _,
-            writes: _,
-            init: _,
-        } = self;
-    }
-}
-
 impl Blank {
     ghost use Rattle.std.specs.Prelude.{◌≡◌, ◌≤◌, length, map, IfOk};
     ghost use Rattle.program.specs.Parts.{op_count};
-    ghost use Rattle.machine.specs.Configuration.{BlankSize};
     ghost use Rattle.machine.specs.State.{cores_from};
 
     /// Room for the recording of this many cores and events, and of as many addresses as there are
@@ -96,9 +84,9 @@ impl Blank {
         let Blank {
             cores,
             events,
-            room: _,
             writes: lists,
             init,
+            ..
         } = self;
         (
             record_all(cores, events, program, reads),

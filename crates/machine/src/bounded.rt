@@ -13,7 +13,7 @@ pub(crate) struct BoundedList<T: Drop> {
 
 impl<T: Drop> Model for BoundedList<T> {
     ghost use Rattle.std.specs.Prelude.{◌≤◌, vec_capacity, vec_len};
-    ghost use Rattle.machine.specs.BoundedItems.{BoundedItems};
+    ghost use Rattle.machine.specs.Configuration.{BoundedItems};
 
     ghost Value = { BoundedItems T };
 

@@ -23,7 +23,8 @@ pub enum Fault {
 }
 
 impl Fault {
-    ghost use Rattle.std.specs.Prelude.{◌≡◌, ◌<◌, Ok, Err, length, slice_get, OnOk, OnErr, IfErr};
+    ghost use Rattle.std.specs.Prelude.{◌≡◌, ◌<◌, length, slice_get};
+    ghost use Rattle.moesi.specs.State.{IsAnswer};
     ghost use Rattle.machine.specs.Faults.{forwarded, draining, without, may_fence, may_rmw, transacted};
 
     /// The store that a load of an address gets from its core's buffer.
@@ -89,11 +90,7 @@ impl Fault {
     ) -> Result<(), CacheError>
         requires core { core < caches.old.cores }
         requires address { addr < length caches.old.blocks }
-        ensures ok { OnOk result (transacted self kind caches.old core addr ≡ Ok caches.new) }
-        ensures refused { IfErr result (λ e. transacted self kind caches.old core addr ≡ Err e) }
-        ensures unchanged { OnErr result (caches.new ≡ caches.old) }
-        ensures cores { caches.new.cores ≡ caches.old.cores }
-        ensures addresses { length caches.new.blocks ≡ length caches.old.blocks }
+        ensures { IsAnswer (transacted self kind caches.old core addr) caches.old caches.new result }
     {
         match kind {
             Transaction::GetS => caches.get_s(core, addr),

@@ -5,8 +5,7 @@ ghost use Rattle.program.specs.declared.op.Op.{Op};
 ghost use Rattle.machine.specs.declared.step.Step.{Step};
 ghost use Rattle.machine.specs.declared.fault.Fault.{Fault};
 ghost use Rattle.machine.specs.OneRow.{EveryFaultChangesOneRow};
-ghost use Rattle.machine.specs.Tso.{EveryRunIsTso, EveryRunIsWellFormed};
-ghost use Rattle.machine.specs.Orderly.{EveryStateIsOrderly};
+ghost use Rattle.machine.specs.Orderly.{EveryRunIsTso, EveryRunIsWellFormed, EveryStateIsOrderly};
 
 /// Where a run without fault is complete, whatever its program, its initial values, its capacity and
 /// its steps, the order of what it performed is one that TSO allows for its recording. Under every

@@ -2,7 +2,7 @@
 
 use crate::blank::Blank;
 use crate::bounded::BoundedList;
-use crate::construction::{Cores, Room, cores_of, room_for};
+use crate::construction::{bounded_lists, buffers_of, units_of};
 use crate::fault::Fault;
 use common::{Addr, CoreId, EventId, OutOfMemory};
 use core_unit::CoreUnit;
@@ -17,6 +17,7 @@ use write_buffer::{Entry, WriteBuffer};
 /// have done so far: the usual implementation of TSO (Nagarajan, Sorin, Hill and Wood, A Primer on
 /// Memory Consistency and Cache Coherence, second edition, chapter 4) over MOESI caches (chapters 6
 /// to 8) with atomic transactions.
+#[derive(Drop)]
 pub struct Machine {
     pub(crate) program: Program,
     pub(crate) capacity: usize,
@@ -28,23 +29,6 @@ pub struct Machine {
     pub(crate) reads: Vec<(u32, Option<EventId>)>,
     pub(crate) performed: BoundedList<EventId>,
     blank: Blank,
-}
-
-impl Drop for Machine {
-    fn drop(self) {
-        let Machine {
-            program: _,
-            capacity: _,
-            fault: _,
-            units: _,
-            buffers: _,
-            caches: _,
-            writes: _,
-            reads: _,
-            performed: _,
-            blank: _,
-        } = self;
-    }
 }
 
 /// A machine whose program has not come to its end, or in which a store waits.
@@ -101,38 +85,18 @@ impl Machine {
         program.sound();
         let cores = program.cores();
         let init = program.init();
-        let Ok(made) = cores_of(alloc, program.lists(), cores, capacity, init) else {
-            drop(program);
-            return Err(OutOfMemory);
-        };
-        let Ok(room) = room_for(alloc, cores, made.events, init) else {
-            drop(made);
-            drop(program);
-            return Err(OutOfMemory);
-        };
-        let Cores {
-            units,
-            buffers,
-            caches,
-            ..
-        } = made;
-        let Room {
-            writes,
-            reads,
-            performed,
-            blank,
-        } = room;
+        let (units, events) = units_of(alloc, program.lists())?;
         Ok(Machine {
+            units,
+            buffers: buffers_of(alloc, cores, capacity)?,
+            caches: Caches::with_init(alloc, cores, init)?,
+            writes: bounded_lists(alloc, init.len(), events)?,
+            reads: vec![in alloc; (0, None); events]?,
+            performed: BoundedList::new(alloc, events)?,
+            blank: Blank::new(alloc, cores, events, init)?,
             program,
             capacity,
             fault,
-            units,
-            buffers,
-            caches,
-            writes,
-            reads,
-            performed,
-            blank,
         })
     }
 
@@ -147,18 +111,7 @@ impl Machine {
     pub fn into_program(self) -> Program
         ensures { result ≡ self.program }
     {
-        let Machine {
-            program,
-            capacity: _,
-            fault: _,
-            units: _,
-            buffers: _,
-            caches: _,
-            writes: _,
-            reads: _,
-            performed: _,
-            blank: _,
-        } = self;
+        let Machine { program, .. } = self;
         program
     }
 
@@ -287,15 +240,10 @@ impl Machine {
         self.program.sound();
         let Machine {
             program,
-            capacity: _,
-            fault: _,
-            units: _,
-            buffers: _,
-            caches: _,
             writes,
             reads,
-            performed: _,
             blank,
+            ..
         } = self;
         let (cores, writes, init) = blank.fill(program.lists(), reads.as_slice(), writes);
         drop(program);

@@ -11,7 +11,7 @@ impl Machine {
     ghost use Rattle.std.specs.Prelude.{◌≡◌, Ok, Err, IfOk, OnOk, OnErr, IfErr, length};
     ghost use Rattle.program.specs.Parts.{IsWithin};
     ghost use Rattle.machine.specs.declared.step.Step.TheVariants.{Exec};
-    ghost use Rattle.machine.specs.Configuration.{answer_of, state_behind, IsNextOf};
+    ghost use Rattle.machine.specs.Configuration.{answer_of, state_behind, IsNextOf, IsAnswer};
     ghost use Rattle.machine.specs.OneRow.{EveryFaultChangesOneRow};
 
     /// The next operation of a core, and the number of its event.
@@ -31,10 +31,7 @@ impl Machine {
 
     /// Executes the next operation of a core.
     fn exec(&mut self, core: CoreId) -> Result<(), Blocked>
-        ensures ok { OnOk result (answer_of self.old (Exec core) ≡ Ok self.new.state) }
-        ensures blocked { IfErr result (λ b. answer_of self.old (Exec core) ≡ Err b) }
-        ensures rest { OnOk result (self.new ≡ record self.old { state = self.new.state }) }
-        ensures unchanged { OnErr result (self.new ≡ self.old) }
+        ensures { IsAnswer (answer_of self.old (Exec core)) self.old self.new result }
     {
         let (op, event) = self.next_op(core)?;
         match op {

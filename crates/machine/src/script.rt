@@ -90,20 +90,6 @@ fn take_lines(steps: &mut Vec<Step>, program: &Program, text: &[u8]) -> Result<(
     Ok(())
 }
 
-/// The steps of a text, or its first line at fault.
-fn read_lines(alloc: Global, text: &[u8], program: &Program) -> Result<Vec<Step>, StepsError>
-    ensures { Answers (seen_as result (λ steps. steps.items)) (steps_of program.now text.now) }
-{
-    let mut steps = Vec::new(alloc);
-    match take_lines(&mut steps, program, text) {
-        Ok(()) => Ok(steps),
-        Err(error) => {
-            drop(steps);
-            Err(error)
-        }
-    }
-}
-
 /// The steps of a script for the program, or the first line at fault, or that memory ran out.
 ///
 /// A line is `exec C`, `drain C`, `gets C NAME`, `getm C NAME` or `put C NAME`, with the number of a
@@ -118,6 +104,7 @@ pub fn parse_steps(alloc: Global, text: &[u8], program: &Program) -> Result<Vec<
     ensures cores { IfOk result (λ steps. All (IsStepOf program.now) steps.items) }
     ensures few { IfOk result (λ steps. length steps.items ≤ MAX_STEPS) }
 {
-    let steps = read_lines(alloc, text, program)?;
+    let mut steps = Vec::new(alloc);
+    take_lines(&mut steps, program, text)?;
     Ok(steps)
 }

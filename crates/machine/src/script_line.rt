@@ -2,9 +2,8 @@
 
 ghost use Rattle.std.specs.Prelude.{◌≡◌};
 ghost use Rattle.program.specs.Reading.{SaysOption};
-ghost use Rattle.machine.specs.ScriptLine.{own_of, transaction_of, script_line_of, own_step};
-ghost use Rattle.machine.specs.ScriptLine.{transaction_step};
-ghost use Rattle.machine.specs.ParsedScriptLine.{SaysScriptLine};
+ghost use Rattle.machine.specs.ScriptLine.{own_of, transaction_of, script_line_of, own_step, transaction_step};
+ghost use Rattle.machine.specs.ScriptLine.{SaysScriptLine};
 
 use crate::step::{Step, Transaction};
 use common::{Addr, CoreId};

@@ -12,15 +12,14 @@ use program::Op;
 use write_buffer::Entry;
 
 impl Machine {
-    ghost use Rattle.std.specs.Prelude.{◌≡◌, ◌≢◌, ◌<◌, ◌⊎◌, Ok, Err, IsTrue, IsFalse, OnOk, OnErr, IfErr};
-    ghost use Rattle.std.specs.Prelude.{length};
+    ghost use Rattle.std.specs.Prelude.{◌≡◌, ◌≢◌, ◌<◌, ◌⊎◌, IsTrue, IsFalse, length};
     ghost use Rattle.program.specs.declared.op.Op.TheVariants.{St, Ld, Fence, Cas};
     ghost use Rattle.machine.specs.declared.step.Step.TheVariants.{Drain};
     ghost use Rattle.machine.specs.Step.{read_modify_written, read_unmodified};
     ghost use Rattle.moesi.specs.Lines.{is_valid};
     ghost use Rattle.moesi.specs.State.{line_of};
     ghost use Rattle.machine.specs.State.{line_copy};
-    ghost use Rattle.machine.specs.Configuration.{answer_of, exec_answer, IsNextOf};
+    ghost use Rattle.machine.specs.Configuration.{answer_of, exec_answer, IsNextOf, IsAnswer};
 
     /// Puts a store at the back of its core's buffer.
     pub(crate) fn store(
@@ -31,10 +30,7 @@ impl Machine {
         value: u32,
     ) -> Result<(), Blocked>
         requires { IsNextOf self.old core (St addr value) event }
-        ensures ok { OnOk result (exec_answer self.old core (St addr value) event ≡ Ok self.new.state) }
-        ensures blocked { IfErr result (λ b. exec_answer self.old core (St addr value) event ≡ Err b) }
-        ensures rest { OnOk result (self.new ≡ record self.old { state = self.new.state }) }
-        ensures unchanged { OnErr result (self.new ≡ self.old) }
+        ensures { IsAnswer (exec_answer self.old core (St addr value) event) self.old self.new result }
     {
         let entry = Entry { addr, value, event };
         let Ok(()) = self.buffers[core as usize].push(entry) else {
@@ -47,10 +43,7 @@ impl Machine {
     /// Reads from the core's own buffer, where the machine looks there, or else from its line.
     pub(crate) fn load(&mut self, core: CoreId, event: EventId, addr: Addr) -> Result<(), Blocked>
         requires { IsNextOf self.old core (Ld addr) event }
-        ensures ok { OnOk result (exec_answer self.old core (Ld addr) event ≡ Ok self.new.state) }
-        ensures blocked { IfErr result (λ b. exec_answer self.old core (Ld addr) event ≡ Err b) }
-        ensures rest { OnOk result (self.new ≡ record self.old { state = self.new.state }) }
-        ensures unchanged { OnErr result (self.new ≡ self.old) }
+        ensures { IsAnswer (exec_answer self.old core (Ld addr) event) self.old self.new result }
     {
         let entry = self.fault.forwarded(&self.buffers[core as usize], addr);
         let Ok(what) = forwarded_or_read(entry, self.caches.read(core, addr)) else {
@@ -65,10 +58,7 @@ impl Machine {
     /// Waits for an empty buffer, where the machine does.
     pub(crate) fn fence(&mut self, core: CoreId, event: EventId) -> Result<(), Blocked>
         requires { IsNextOf self.old core Fence event }
-        ensures ok { OnOk result (exec_answer self.old core Fence event ≡ Ok self.new.state) }
-        ensures blocked { IfErr result (λ b. exec_answer self.old core Fence event ≡ Err b) }
-        ensures rest { OnOk result (self.new ≡ record self.old { state = self.new.state }) }
-        ensures unchanged { OnErr result (self.new ≡ self.old) }
+        ensures { IsAnswer (exec_answer self.old core Fence event) self.old self.new result }
     {
         if !self.fault.may_fence(&self.buffers[core as usize]) {
             return Err(Blocked::B3);
@@ -90,10 +80,7 @@ impl Machine {
         requires address { addr < length self.old.program.names }
         requires row { exec_answer self.old core op event
             ≡ read_modify_written self.old.fault self.old.state core event op addr }
-        ensures ok { OnOk result (exec_answer self.old core op event ≡ Ok self.new.state) }
-        ensures blocked { IfErr result (λ b. exec_answer self.old core op event ≡ Err b) }
-        ensures rest { OnOk result (self.new ≡ record self.old { state = self.new.state }) }
-        ensures unchanged { OnErr result (self.new ≡ self.old) }
+        ensures { IsAnswer (exec_answer self.old core op event) self.old self.new result }
     {
         if !self.fault.may_rmw(&self.buffers[core as usize]) {
             return Err(Blocked::B3);
@@ -125,10 +112,7 @@ impl Machine {
         requires address { addr < length self.old.program.names }
         requires row { exec_answer self.old core op event
             ≡ read_unmodified self.old.fault self.old.state core event addr }
-        ensures ok { OnOk result (exec_answer self.old core op event ≡ Ok self.new.state) }
-        ensures blocked { IfErr result (λ b. exec_answer self.old core op event ≡ Err b) }
-        ensures rest { OnOk result (self.new ≡ record self.old { state = self.new.state }) }
-        ensures unchanged { OnErr result (self.new ≡ self.old) }
+        ensures { IsAnswer (exec_answer self.old core op event) self.old self.new result }
     {
         if !self.fault.may_rmw(&self.buffers[core as usize]) {
             return Err(Blocked::B3);
@@ -156,12 +140,7 @@ impl Machine {
     ) -> Result<(), Blocked>
         requires at { IsNextOf self.old core (Cas addr expected value) event }
         requires address { addr < length self.old.program.names }
-        ensures ok { OnOk result (exec_answer self.old core (Cas addr expected value) event
-            ≡ Ok self.new.state) }
-        ensures blocked { IfErr result (λ b. exec_answer self.old core (Cas addr expected value) event
-            ≡ Err b) }
-        ensures rest { OnOk result (self.new ≡ record self.old { state = self.new.state }) }
-        ensures unchanged { OnErr result (self.new ≡ self.old) }
+        ensures { IsAnswer (exec_answer self.old core (Cas addr expected value) event) self.old self.new result }
     {
         let op = Op::Cas(addr, expected, value);
         if self.has_value(core, addr, expected) {
@@ -187,10 +166,7 @@ impl Machine {
 
     /// Writes the store that leaves a core's buffer next to the core's line.
     pub(crate) fn drain(&mut self, core: CoreId) -> Result<(), Blocked>
-        ensures ok { OnOk result (answer_of self.old (Drain core) ≡ Ok self.new.state) }
-        ensures blocked { IfErr result (λ b. answer_of self.old (Drain core) ≡ Err b) }
-        ensures rest { OnOk result (self.new ≡ record self.old { state = self.new.state }) }
-        ensures unchanged { OnErr result (self.new ≡ self.old) }
+        ensures { IsAnswer (answer_of self.old (Drain core)) self.old self.new result }
     {
         if core as usize >= self.program.cores() {
             return Err(Blocked::B8);

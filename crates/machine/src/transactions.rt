@@ -6,13 +6,14 @@ use crate::step::Transaction;
 use common::{Addr, CoreId};
 
 impl Machine {
-    ghost use Rattle.std.specs.Prelude.{◌≡◌, Ok, Err, OnOk, OnErr, IfErr};
+    ghost use Rattle.std.specs.Prelude.{◌≡◌};
     ghost use Rattle.machine.specs.ScriptLine.{transaction_step};
-    ghost use Rattle.machine.specs.Configuration.{answer_of, has_line};
+    ghost use Rattle.machine.specs.Step.{has};
+    ghost use Rattle.machine.specs.Configuration.{answer_of, IsAnswer};
 
     /// Whether there is such a core and such an address.
     fn has(&self, core: CoreId, addr: Addr) -> bool
-        ensures { result ≡ has_line self.now core addr }
+        ensures { result ≡ has self.now.program.cores self.now.state core addr }
     {
         (core as usize) < self.program.cores() && (addr as usize) < self.program.names().len()
     }
@@ -25,10 +26,7 @@ impl Machine {
         core: CoreId,
         addr: Addr,
     ) -> Result<(), Blocked>
-        ensures ok { OnOk result (answer_of self.old (transaction_step kind core addr) ≡ Ok self.new.state) }
-        ensures blocked { IfErr result (λ b. answer_of self.old (transaction_step kind core addr) ≡ Err b) }
-        ensures rest { OnOk result (self.new ≡ record self.old { state = self.new.state }) }
-        ensures unchanged { OnErr result (self.new ≡ self.old) }
+        ensures { IsAnswer (answer_of self.old (transaction_step kind core addr)) self.old self.new result }
     {
         if !self.has(core, addr) {
             return Err(Blocked::B8);

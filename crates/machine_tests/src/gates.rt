@@ -45,8 +45,7 @@ impl Told {
 
 impl Gate for Told {
     fn begin(&self, worker: usize, piece: usize) {
-        let is_right = piece != 0 || is_done(&self.cores[1]);
-        self.next(worker, piece, 0, is_right);
+        self.next(worker, piece, 0, piece != 0 || is_done(&self.cores[1]));
     }
 
     fn done(&self, worker: usize, piece: usize) {
@@ -57,23 +56,13 @@ impl Gate for Told {
     }
 }
 
-/// Whether each core's first step began once and was done once.
-fn is_told(gate: &Told) -> bool {
-    is_done(&gate.cores[0]) && is_done(&gate.cores[1]) && !gate.wrong.load(Ordering::SeqCst)
-}
-
 /// Whether threads drive store buffering to its end, with a step of core 1 before those of core 0.
 fn is_driven<R: Threads + Wait + Sync>(rt: &R, alloc: Global, gate: &Told) -> Result<bool, Fail> {
     let program = program(alloc, STORE_BUFFERING)?;
     let traced = drive(rt, alloc, program, 8, 100_000, gate)?;
-    let complete = traced.machine().is_complete();
-    let first = traced
-        .trace()
-        .iter()
-        .find(|step| matches!(step, Step::Exec(_)));
-    let driven = complete && first == Some(&Step::Exec(1));
-    drop(traced);
-    Ok(driven)
+    let mut steps = traced.trace().iter();
+    let first = steps.find(|step| matches!(step, Step::Exec(_)));
+    Ok(traced.machine().is_complete() && first == Some(&Step::Exec(1)))
 }
 
 #[test]
@@ -83,6 +72,7 @@ fn a_core_waits_for_no_other(rt: HostRuntime) -> Result<(), Fail> {
         wrong: AtomicBool::new(false),
     };
     assert!(rt; is_driven(&rt, rt.alloc(), &gate)?);
-    assert!(rt; is_told(&gate));
+    assert!(rt; is_done(&gate.cores[0]) && is_done(&gate.cores[1]));
+    assert!(rt; !gate.wrong.load(Ordering::SeqCst));
     Ok(())
 }

@@ -25,26 +25,21 @@ const DONE: Answer = Ok(());
 /// A value and the event that wrote it.
 type Data = (u32, Option<EventId>);
 
-/// A call at the address, or a look at it, with its core and what it has to answer.
-enum Row {
-    GetS(CoreId, Answer),
-    GetM(CoreId, Answer),
-    Put(CoreId, Answer),
-    Write(CoreId, u32, EventId, Answer),
-    Read(CoreId, Result<Data, CacheError>),
+/// A call at the address, or a look at it.
+#[derive(Clone, Copy)]
+enum Call {
+    GetS,
+    GetM,
+    Put,
+    Write(u32, EventId),
+    Read(Data),
     Memory(Data),
-    /// The lines of all cores.
-    Lines(&'static [Line]),
 }
 
-impl OneAddress {
-    fn new(alloc: Global, cores: CoreId) -> Result<OneAddress, Fail> {
-        Ok(OneAddress {
-            caches: Caches::new(alloc, cores as usize, 1)?,
-            cores,
-        })
-    }
+/// A core's call, what it answers, and the lines of all cores after it.
+type Row = (CoreId, Call, Answer, &'static [Line]);
 
+impl OneAddress {
     /// Whether the lines of the cores are these.
     fn are(&self, lines: &[Line]) -> bool {
         for core in 0..self.cores {
@@ -57,52 +52,46 @@ impl OneAddress {
 
     /// Whether the row's call answers so.
     fn answers(&mut self, row: &Row) -> bool {
-        match row {
-            Row::GetS(core, answer) => {
-                *core < self.cores && self.caches.get_s(*core, 0) == *answer
-            }
-            Row::GetM(core, answer) => {
-                *core < self.cores && self.caches.get_m(*core, 0) == *answer
-            }
-            Row::Put(core, answer) => *core < self.cores && self.caches.put(*core, 0) == *answer,
-            Row::Write(core, value, event, answer) => {
-                *core < self.cores
-                    && (*event as usize) < MAX_EVENTS
-                    && self.caches.write(*core, 0, *value, *event) == *answer
-            }
-            Row::Read(core, answer) => *core < self.cores && self.caches.read(*core, 0) == *answer,
-            Row::Memory(data) => self.caches.memory(0) == *data,
-            Row::Lines(lines) => self.are(lines),
-        }
+        let (core, call, answer, lines) = row;
+        let answered = *core < self.cores
+            && match call {
+                Call::GetS => self.caches.get_s(*core, 0) == *answer,
+                Call::GetM => self.caches.get_m(*core, 0) == *answer,
+                Call::Put => self.caches.put(*core, 0) == *answer,
+                Call::Write(value, event) => {
+                    (*event as usize) < MAX_EVENTS
+                        && self.caches.write(*core, 0, *value, *event) == *answer
+                }
+                Call::Read(data) => self.caches.read(*core, 0) == answer.map(|()| *data),
+                Call::Memory(data) => self.caches.memory(0) == *data,
+            };
+        answered && self.are(lines)
     }
 }
 
 /// Whether the caches of this many cores answer the rows so, one after the other.
 fn answers_all(alloc: Global, cores: CoreId, rows: &[Row]) -> Result<bool, Fail> {
-    let mut caches = OneAddress::new(alloc, cores)?;
+    let mut caches = OneAddress {
+        caches: Caches::new(alloc, cores as usize, 1)?,
+        cores,
+    };
     for row in rows {
         if !caches.answers(row) {
-            drop(caches);
             return Ok(false);
         }
     }
-    drop(caches);
     Ok(true)
 }
 
 const SHARED_AND_PUT_BACK: &[Row] = &[
-    Row::GetM(0, DONE),
-    Row::Write(0, 7, 0, DONE),
-    Row::Lines(&[M, I, I]),
-    Row::GetS(1, DONE),
-    Row::Lines(&[O, S, I]),
-    Row::Put(0, DONE),
-    Row::Lines(&[I, S, I]),
-    Row::Memory((7, Some(0))),
-    Row::GetS(2, DONE),
-    Row::Lines(&[I, S, S]),
-    Row::Read(2, Ok((7, Some(0)))),
-    Row::GetS(2, Err(CacheError::C1)),
+    (0, Call::GetM, DONE, &[M, I, I]),
+    (0, Call::Write(7, 0), DONE, &[M, I, I]),
+    (1, Call::GetS, DONE, &[O, S, I]),
+    (0, Call::Put, DONE, &[I, S, I]),
+    (0, Call::Memory((7, Some(0))), DONE, &[I, S, I]),
+    (2, Call::GetS, DONE, &[I, S, S]),
+    (2, Call::Read((7, Some(0))), DONE, &[I, S, S]),
+    (2, Call::GetS, Err(CacheError::C1), &[I, S, S]),
 ];
 
 #[test]
@@ -112,24 +101,19 @@ fn a_written_line_is_shared_and_put_back(rt: HostRuntime) -> Result<(), Fail> {
 }
 
 const GIVEN_AWAY: &[Row] = &[
-    Row::GetM(0, DONE),
-    Row::Write(0, 7, 0, DONE),
-    Row::GetS(1, DONE),
-    Row::Lines(&[O, S]),
-    Row::GetM(1, DONE),
-    Row::Lines(&[I, M]),
-    Row::Read(1, Ok((7, Some(0)))),
-    Row::Memory((0, None)),
-    Row::Put(1, DONE),
-    Row::Lines(&[I, I]),
-    Row::Memory((7, Some(0))),
-    Row::GetS(0, DONE),
-    Row::Lines(&[E, I]),
-    Row::Write(0, 8, 1, DONE),
-    Row::Lines(&[M, I]),
-    Row::GetM(0, Err(CacheError::C2)),
-    Row::Read(1, Err(CacheError::C3)),
-    Row::Write(1, 9, 2, Err(CacheError::C4)),
+    (0, Call::GetM, DONE, &[M, I]),
+    (0, Call::Write(7, 0), DONE, &[M, I]),
+    (1, Call::GetS, DONE, &[O, S]),
+    (1, Call::GetM, DONE, &[I, M]),
+    (1, Call::Read((7, Some(0))), DONE, &[I, M]),
+    (1, Call::Memory((0, None)), DONE, &[I, M]),
+    (1, Call::Put, DONE, &[I, I]),
+    (1, Call::Memory((7, Some(0))), DONE, &[I, I]),
+    (0, Call::GetS, DONE, &[E, I]),
+    (0, Call::Write(8, 1), DONE, &[M, I]),
+    (0, Call::GetM, Err(CacheError::C2), &[M, I]),
+    (1, Call::Read((0, None)), Err(CacheError::C3), &[M, I]),
+    (1, Call::Write(9, 2), Err(CacheError::C4), &[M, I]),
 ];
 
 #[test]

@@ -20,25 +20,13 @@ pub fn program(alloc: Global, text: &str) -> Result<Program, Fail> {
 /// Whether a machine is complete, and TSO allows this order of its recording.
 pub fn is_order(machine: Machine, order: &[EventId]) -> bool {
     match machine.finish() {
-        Ok(recording) => {
-            let allowed = check(&recording, order);
-            drop(recording);
-            allowed
-        }
-        Err(unfinished) => {
-            drop(unfinished);
-            false
-        }
+        Ok(recording) => check(&recording, order),
+        Err(_) => false,
     }
 }
 
 /// Whether a machine is complete, and TSO allows the order of what it performed.
 pub fn performs_an_order(alloc: Global, machine: Machine) -> Result<bool, AllocError> {
-    match Vec::from_slice(alloc, machine.performed()) {
-        Ok(performed) => Ok(is_order(machine, performed.as_slice())),
-        Err(error) => {
-            drop(machine);
-            Err(error)
-        }
-    }
+    let performed = Vec::from_slice(alloc, machine.performed())?;
+    Ok(is_order(machine, performed.as_slice()))
 }

@@ -6,8 +6,7 @@ use Rattle.std.proofs.Math.Nat.{add-mul, mul-le-mul_right}
 use Rattle.moesi.specs.declared.cell.Cell.{Cell}
 use Rattle.moesi.specs.Block.{Block, invalid, block_with}
 use Rattle.moesi.specs.State.{opening_with}
-use Rattle.moesi.specs.Words.{cell_in, memory_cell}
-use Rattle.moesi.specs.Packed.{block_in, caches_in}
+use Rattle.moesi.specs.Words.{cell_in, memory_cell, block_in, caches_in}
 use Rattle.moesi.proofs.Grid.{lines_length, blocks_length, line_at, block_at}
 
 module _ (cores : ℕ) (init words : List ℕ)

@@ -1,15 +1,14 @@
 -- Places of words, and what is read there.
-use Rattle.std.proofs.Common.{◌≡◌, ◌<◌, ◌≤◌, ◌∷◌, ◌+◌, ◌*◌, ◌/◌, ◌%◌, ℕ, suc, List, length, drop, slice_index}
+use Rattle.std.proofs.Common.{◌≡◌, ◌<◌, ◌≤◌, ◌∷◌, ◌+◌, ◌*◌, ◌/◌, ◌%◌, ℕ, List, length, drop, slice_index}
 use Rattle.std.proofs.Common.{slice_index_or, arith, sym, ap, ◌∙◌}
 use Rattle.std.proofs.lemmas.List.FromFn.{get_or-map-range_with_len, length-map-range_with_len}
 use Rattle.std.proofs.lemmas.Nat.{div-mul-add, mod-mul-add}
 use Rattle.std.proofs.Math.Nat.{add-mul, mul-le-mul_right}
-use Rattle.std.proofs.Math.Seq.{drop-cons}
+use Rattle.std.proofs.lemmas.List.{drop_more}
 use Rattle.moesi.specs.declared.cell.Cell.{Cell}
 use Rattle.moesi.specs.Block.{Block, invalid}
-use Rattle.moesi.specs.State.{block_of}
-use Rattle.moesi.specs.Words.{cell_in}
-use Rattle.moesi.specs.Packed.{AreWords, block_in, caches_in}
+use Rattle.moesi.specs.State.{CacheState, block_of}
+use Rattle.moesi.specs.Words.{cell_in, AreWords, block_in, caches_in}
 
 -- two places are the same only where both their parts are: the core
 pub same_core : (n c a d b : ℕ) → a < n → b < n → c * n + a ≡ d * n + b → c ≡ d
@@ -52,12 +51,22 @@ block_at cores n words a at =
     get_or-map-range_with_len (λ b. block_in cores n words b) 0 n a a _ at (omega arith)
 
 -- the lines from a core on begin with its own
-pub lines_from : (cores n : ℕ) (words : List ℕ) (c a : ℕ) → c < cores
-    → drop c (block_in cores n words a).lines
-    ≡ cell_in (slice_index words (c * n + a)) ∷ drop (c + 1) (block_in cores n words a).lines
-lines_from cores n words c a at =
+pub lines_from : (cores n : ℕ) (words : List ℕ) (a c p : ℕ) (x : Cell) → c < cores → p ≡ c * n + a
+    → x ≡ cell_in (slice_index words p)
+    → drop c (block_in cores n words a).lines ≡ x ∷ drop (c + 1) (block_in cores n words a).lines
+lines_from cores n words a c p x core place is =
     let b : Block = block_in cores n words a in
-    let next : suc c ≡ c + 1 = omega arith in
-    drop-cons b.lines c invalid (omega (arith, lines_length cores n words a, at))
-    ∙ (ap (λ (x : Cell). x ∷ drop (suc c) b.lines) (line_at cores n words c a invalid at)
-    ∙ ap (λ (i : ℕ). cell_in (slice_index words (c * n + a)) ∷ drop i b.lines) next)
+    drop_more b.lines c invalid (omega (arith, lines_length cores n words a))
+    ∙ ap (λ (y : Cell). y ∷ drop (c + 1) b.lines)
+    (line_at cores n words c a invalid core ∙ sym (is ∙ ap (λ (i : ℕ). cell_in (slice_index words i)) place))
+
+-- an address of caches that are seen is one of their words
+pub column : (cores n : ℕ) (words : List ℕ) (s : CacheState) (a : ℕ) → caches_in cores n words ≡ s
+    → a < length s.blocks → a < n
+column cores n words s a seen at = let there = rw (← seen) at at in omega (arith, blocks_length cores n words)
+
+-- what they have of it is in the words
+pub block_seen : (cores n : ℕ) (words : List ℕ) (s : CacheState) (a : ℕ) → caches_in cores n words ≡ s
+    → a < length s.blocks → block_in cores n words a ≡ block_of s a
+block_seen cores n words s a seen at =
+    sym (block_at cores n words a (column cores n words s a seen at)) ∙ ap (λ (t : CacheState). block_of t a) seen

@@ -1,6 +1,6 @@
 -- What one address is: its line in each core's cache, and memory's data.
 use Rattle.std.specs.Prelude.{◌≡◌, ◌⊎◌, IsTrue, ℕ, Bool, if◌then◌else◌, Option, None, List, [], ◌∷◌}
-use Rattle.std.specs.Prelude.{replicate, slice_index_or}
+use Rattle.std.specs.Prelude.{replicate, slice_index_or, slice_set, map}
 use Rattle.std.specs.List.{list_any}
 use Rattle.moesi.specs.declared.line.Line.{Line}
 use Rattle.moesi.specs.declared.line.Line.TheVariants.{I}
@@ -23,6 +23,14 @@ block_with cores value = record { lines = replicate cores invalid; memory = (val
 -- what core c has of the address; a core that does not exist has nothing
 abbrev pub cell_of : Block → ℕ → Cell
 cell_of b c = slice_index_or b.lines c invalid
+
+-- core c has x
+abbrev pub with_line : Block → ℕ → Cell → Block
+with_line b c x = record { lines = slice_set b.lines c x; memory = b.memory }
+
+-- every line of the address becomes what f makes of it
+abbrev pub block_by : (Cell → Cell) → Block → Block
+block_by f b = record { lines = map f b.lines; memory = b.memory }
 
 -- the data of the first line of the kind, else memory's
 abbrev pub copy_where : (Line → Bool) → List Cell → ℕ × Option ℕ → ℕ × Option ℕ

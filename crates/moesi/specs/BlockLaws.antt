@@ -1,32 +1,44 @@
 -- Laws of the lines of one address, and of what they agree on.
-use Rattle.std.proofs.Common.{◌≡◌, ◌≢◌, inl, inr, ℕ, suc, zero, Bool, true, false, Option, List, [], ◌∷◌}
-use Rattle.std.proofs.Common.{slice_index_or, replicate, refl, sym, ap, ◌∙◌}
+use Rattle.std.proofs.Common.{◌≡◌, ◌≤◌, ◌⊎◌, inl, inr, ℕ, suc, zero, Bool, true, false, Option, List, []}
+use Rattle.std.proofs.Common.{◌∷◌, slice_index_or, slice_set, length, replicate, arith, refl, sym, ap, ◌∙◌}
 use Rattle.std.specs.List.{list_any}
-use Rattle.std.proofs.lemmas.Bool.{cond_both, cases_eq, or_parts}
+use Rattle.std.proofs.lemmas.Bool.{cond_both, or_parts}
+use Rattle.std.proofs.Math.ListN.{get_or-map}
 use Rattle.moesi.specs.declared.line.Line.{Line}
 use Rattle.moesi.specs.declared.line.Line.TheVariants.{I}
 use Rattle.moesi.specs.declared.cell.Cell.{Cell}
-use Rattle.moesi.specs.Lines.{is_valid, is_exclusive, is_owned, supplies}
-use Rattle.moesi.specs.Block.{Block, cell_of, invalid, copy_where, supplied, current_of}
+use Rattle.moesi.specs.declared.word.Turn.{Turn}
+use Rattle.moesi.specs.declared.word.Turn.TheVariants.{Share, Invalidate, LeaveStale}
+use Rattle.moesi.specs.Lines.{is_valid, supplies}
+use Rattle.moesi.specs.Block.{Block, cell_of, invalid, block_by, copy_where, supplied, current_of}
+use Rattle.moesi.specs.Rows.{turned}
 use Rattle.moesi.specs.Coherent.{IsCoherentBlock}
-use Rattle.moesi.specs.LineLaws.{not_supplier, not_valid, owned_cases, supplier_valid}
+use Rattle.moesi.specs.LineLaws.{not_supplier, not_valid, supplier_valid}
 
--- no line is of a kind where the first is not and none after it
-none_of : (kind : Line → Bool) (x : Cell) (xs : List Cell) → kind x.line ≡ false
-    → ((c : ℕ) → kind (slice_index_or xs c invalid).line ≡ false)
-    → (c : ℕ) → kind (slice_index_or (x ∷ xs) c invalid).line ≡ false
-none_of kind x xs e h zero = e
-none_of kind x xs e h (suc c) = h c
+-- an element after a write is the old one, or it is at that place and the new one
+pub set_cases : {A : Type 0} (xs : List A) (c : ℕ) (y : A) (e : ℕ) (d : A)
+    → ((e ≡ c → length xs ≤ c) × (slice_index_or (slice_set xs c y) e d ≡ slice_index_or xs e d)) ⊎
+    ((e ≡ c) × (slice_index_or (slice_set xs c y) e d ≡ y))
+set_cases [] c y e d = inl (λ k. omega arith, refl)
+set_cases (x ∷ xs) zero y zero d = inr (refl, refl)
+set_cases (x ∷ xs) zero y (suc e) d = inl (λ k. omega arith, refl)
+set_cases (x ∷ xs) (suc c) y zero d = inl (λ k. omega arith, refl)
+set_cases (x ∷ xs) (suc c) y (suc e) d = elim (set_cases xs c y e d) [
+  | inl h ↦ inl (λ k. let more : length xs ≤ c = h.0 (omega arith) in omega arith, h.1)
+  | inr h ↦ inr (ap suc h.0, h.1)
+]
 
--- what all copies of the kind are, or memory without one, is what is found
-copy_where-is : (kind : Line → Bool) (xs : List Cell) (memory v : ℕ × Option ℕ) → kind I ≡ false
-    → ((c : ℕ) → kind (slice_index_or xs c invalid).line ≡ true → (slice_index_or xs c invalid).copy ≡ v)
-    → (((c : ℕ) → kind (slice_index_or xs c invalid).line ≡ false) → memory ≡ v)
-    → copy_where kind xs memory ≡ v
-copy_where-is kind [] memory v none copies rest = rest (λ c. none)
-copy_where-is kind (x ∷ xs) memory v none copies rest =
-    cond_both (kind x.line) x.copy (copy_where kind xs memory) (λ w. w ≡ v) (λ e. copies 0 e)
-    (λ e. copy_where-is kind xs memory v none (λ c h. copies (suc c) h) (λ h. rest (none_of kind x xs e h)))
+-- what holds of each copy of the kind, and of memory without one, holds of what is found
+pub copy_where-holds : (P : ℕ × Option ℕ → Type 0) (kind : Line → Bool) (xs : List Cell) (memory : ℕ × Option ℕ)
+    → kind I ≡ false
+    → ((c : ℕ) → kind (slice_index_or xs c invalid).line ≡ true → P (slice_index_or xs c invalid).copy)
+    → (((c : ℕ) → kind (slice_index_or xs c invalid).line ≡ false) → P memory) → P (copy_where kind xs memory)
+copy_where-holds P kind [] memory none copies rest = rest (λ c. none)
+copy_where-holds P kind (x ∷ xs) memory none copies rest =
+    cond_both (kind x.line) x.copy (copy_where kind xs memory) P (λ e. copies 0 e)
+    (λ e. copy_where-holds P kind xs memory none (λ c h. copies (suc c) h)
+    (λ h. rest (λ c. elim c as (λ n. kind (slice_index_or (x ∷ xs) n invalid).line ≡ false)
+    [ zero ↦ e | suc n ↦ h n ])))
 
 -- among lines in I each is
 pub all_invalid : (n c : ℕ) → slice_index_or (replicate n invalid) c invalid ≡ invalid
@@ -41,68 +53,27 @@ no_copy [] h c = refl
 no_copy (x ∷ xs) h zero = (or_parts _ _ h).0
 no_copy (x ∷ xs) h (suc c) = no_copy xs (or_parts _ _ h).1 c
 
--- the lines of one address agree, and v is current
-pub record IsSettled (b : Block) (v : ℕ × Option ℕ) : Type 0 where
-  pub single : (c d : ℕ) → is_exclusive (cell_of b c).line ≡ true → c ≢ d
-      → is_valid (cell_of b d).line ≡ false
-  pub owned : (c d : ℕ) → is_owned (cell_of b c).line ≡ true → is_owned (cell_of b d).line ≡ true → c ≡ d
-  pub copies : (c : ℕ) → is_valid (cell_of b c).line ≡ true → (cell_of b c).copy ≡ v
-  pub clean : ((c : ℕ) → is_owned (cell_of b c).line ≡ false) → b.memory ≡ v
+-- each line turns
+pub turned_cell : (turn : Turn) (b : Block) (c : ℕ)
+    → cell_of (block_by (turned turn) b) c ≡ turned turn (cell_of b c)
+turned_cell turn b c =
+    ap (λ (x : Cell). slice_index_or (block_by (turned turn) b).lines c x) (sym (still turn))
+    ∙ get_or-map (turned turn) b.lines c invalid
+  where
+    still : (turn : Turn) → turned turn invalid ≡ invalid
+    still Share = refl
+    still Invalidate = refl
+    still LeaveStale = refl
 
-module _ (b : Block) (k : IsCoherentBlock b) where
-  -- a valid line has the current data
-  pub copy_is_current : (c : ℕ) → is_valid (cell_of b c).line ≡ true → (cell_of b c).copy ≡ current_of b
-  copy_is_current c h =
-      sym (copy_where-is is_valid b.lines b.memory (cell_of b c).copy refl (λ d g. k.copies d c g h)
-      (λ none. cc (h, none c)))
-
-  -- without an owner memory has the current data
-  memory_is_current : ((c : ℕ) → is_owned (cell_of b c).line ≡ false) → b.memory ≡ current_of b
-  memory_is_current none =
-      sym (copy_where-is is_valid b.lines b.memory b.memory refl (λ d h. k.clean d h none) (λ _. refl))
-
-  -- at most one line is owned
-  one_owned : (c d : ℕ) → is_owned (cell_of b c).line ≡ true → is_owned (cell_of b d).line ≡ true → c ≡ d
-  one_owned c d p q =
-      let other : c ≢ d → is_valid (cell_of b c).line ≡ false → c ≡ d = λ ne h. cc (p, not_valid _ h) in
-      elim (cases_eq c d) [
-        | inl e ↦ e
-        | inr ne ↦ elim (owned_cases _ p) [
-          | inr h ↦ cc (q, not_valid _ (k.single c d h ne))
-          | inl h ↦ elim (owned_cases _ q) [
-            | inr g ↦ cc (p, not_valid _ (k.single d c g (λ e. ne (sym e))))
-            | inl g ↦ k.owner c d h g
-          ]
-        ]
-      ]
-
-  -- coherent lines agree on what is current
-  pub settled_of : IsSettled b (current_of b)
-  settled_of =
-      record { single = k.single; owned = one_owned; copies = copy_is_current; clean = memory_is_current }
-
-module _ (b : Block) (v : ℕ × Option ℕ) (s : IsSettled b v) where
+module _ (b : Block) (v : ℕ × Option ℕ) (k : IsCoherentBlock b v) where
   -- a core that asks is given what is current
-  pub supplied_settled : supplied b ≡ v
-  supplied_settled =
-      copy_where-is supplies b.lines b.memory v refl (λ d h. s.copies d (supplier_valid _ h))
-      (λ none. s.clean (λ d. not_supplier _ (none d)))
+  pub supplied_is : supplied b ≡ v
+  supplied_is =
+      copy_where-holds (λ w. w ≡ v) supplies b.lines b.memory refl (λ d h. k.copies d (supplier_valid _ h))
+      (λ none. k.clean (λ d. not_supplier _ (none d)))
 
   -- what the lines agree on is current
-  pub current_settled : current_of b ≡ v
-  current_settled =
-      copy_where-is is_valid b.lines b.memory v refl s.copies (λ none. s.clean (λ d. not_valid _ (none d)))
-
-  -- lines that agree are coherent
-  pub coherent_settled : IsCoherentBlock b
-  coherent_settled = record {
-    single = s.single;
-    owner = λ c d p q. s.owned c d (ap is_owned p) (ap is_owned q);
-    copies = λ c d p q. s.copies c p ∙ sym (s.copies d q);
-    clean = λ c p none. s.copies c p ∙ sym (s.clean none);
-  }
-
--- core c has x, and every other core what f makes of its cell
-pub record IsTurned (b t : Block) (f : Cell → Cell) (c : ℕ) (x : Cell) : Type 0 where
-  pub own : cell_of t c ≡ x
-  pub others : (d : ℕ) → d ≢ c → cell_of t d ≡ f (cell_of b d)
+  pub current_is : current_of b ≡ v
+  current_is =
+      copy_where-holds (λ w. w ≡ v) is_valid b.lines b.memory refl k.copies
+      (λ none. k.clean (λ d. not_valid _ (none d)))

@@ -1,205 +1,113 @@
 -- Laws of where the copies come from.
-use Rattle.std.proofs.Common.{◌≡◌, ◌⊎◌, inl, inr, ℕ, suc, zero, Bool, true, false, cond, Option, Some, None}
-use Rattle.std.proofs.Common.{Result, Ok, Err, List, [], ◌∷◌, map, slice_index_or, slice_set, refl, sym, ap}
-use Rattle.std.proofs.Common.{◌∙◌}
-use Rattle.std.proofs.Math.ListN.{get_or-map}
-use Rattle.std.proofs.lemmas.List.{map-id}
-use Rattle.std.proofs.lemmas.Bool.{cases_Bool, cond-true, cond-false}
-use Rattle.moesi.specs.declared.line.Line.{Line}
-use Rattle.moesi.specs.declared.line.Line.TheVariants.{M}
+use Rattle.std.proofs.Common.{◌≡◌, ◌⊎◌, inl, inr, ℕ, true, cond, Option, Some, None, Result, Ok, Err, []}
+use Rattle.std.proofs.Common.{refl, sym, ap, subst}
+use Rattle.std.proofs.lemmas.Bool.{cond_both}
 use Rattle.moesi.specs.declared.cell.Cell.{Cell}
 use Rattle.moesi.specs.declared.word.Turn.{Turn}
 use Rattle.moesi.specs.declared.word.Turn.TheVariants.{Share, Invalidate, LeaveStale}
 use Rattle.moesi.specs.declared.error.CacheError.{CacheError}
 use Rattle.moesi.specs.Lines.{is_valid, is_owned, is_shared, supplies}
-use Rattle.moesi.specs.Block.{Block, cell_of, invalid, copy_where, supplied, HasBlock}
+use Rattle.moesi.specs.Block.{Block, cell_of, invalid, with_line, block_by, supplied, HasBlock}
 use Rattle.moesi.specs.Rows as row
-use Rattle.moesi.specs.State.{CacheState, block_of, at_address, Has}
-use Rattle.moesi.specs.Laws.{IsTransaction, EveryCopyWasThere, EveryWriteAddsItself}
+use Rattle.moesi.specs.State.{CacheState, block_of, at_address, with_block, Has}
+use Rattle.moesi.specs.Laws.{EveryCopyWasThere, EveryWriteAddsItself}
 use Rattle.moesi.specs.LineLaws.{supplier_valid, lowered_valid}
+use Rattle.moesi.specs.BlockLaws.{set_cases, copy_where-holds, turned_cell}
 use Rattle.moesi.specs.RowLaws.{taken_else, taken_then}
 
--- an element after a write is the old one, or it is at that place and the new one
-pub set_cases : {A : Type 0} (xs : List A) (c : ℕ) (y : A) (e : ℕ) (d : A)
-    → (slice_index_or (slice_set xs c y) e d ≡ slice_index_or xs e d) ⊎
-    ((e ≡ c) × (slice_index_or (slice_set xs c y) e d ≡ y))
-set_cases [] c y e d = inl refl
-set_cases (x ∷ xs) zero y zero d = inr (refl, refl)
-set_cases (x ∷ xs) zero y (suc e) d = inl refl
-set_cases (x ∷ xs) (suc c) y zero d = inl refl
-set_cases (x ∷ xs) (suc c) y (suc e) d = elim (set_cases xs c y e d) [
-  | inl h ↦ inl h
-  | inr h ↦ inr (ap suc h.0, h.1)
+-- what another core's transaction makes of a line: I, or as valid as it was with the same data
+pub turned_cases : (turn : Turn) (x : Cell) → (row.turned turn x ≡ invalid)
+    ⊎ ((is_valid (row.turned turn x).line ≡ is_valid x.line) × ((row.turned turn x).copy ≡ x.copy))
+turned_cases Share x = inr (lowered_valid x.line, refl)
+turned_cases Invalidate x = inl refl
+turned_cases LeaveStale x =
+    cond_both (is_shared x.line) x invalid
+    (λ y. (y ≡ invalid) ⊎ ((is_valid y.line ≡ is_valid x.line) × (y.copy ≡ x.copy)))
+    (λ _. inr (refl, refl)) (λ _. inl refl)
+
+-- what holds of all data of a block and of those of a line, if it is valid, holds of all once a core has that line
+with_line_has : (P : ℕ × Option ℕ → Type 0) (b : Block) (c : ℕ) (x : Cell)
+    → ((w : ℕ × Option ℕ) → HasBlock b w → P w) → (is_valid x.line ≡ true → P x.copy)
+    → (w : ℕ × Option ℕ) → HasBlock (with_line b c x) w → P w
+with_line_has P b c x old own w (inl e) = old w (inl e)
+with_line_has P b c x old own w (inr h) = elim (set_cases b.lines c x h.0 invalid) [
+  | inl g ↦ old w (inr (h.0, rw g.1 at h.1, rw g.1 at h.2))
+  | inr g ↦ subst P (rw g.1 at h.2) (own (rw g.1 at h.1))
 ]
 
--- what a core is given is memory's or a valid line's
-found : (xs : List Cell) (memory : ℕ × Option ℕ) → (memory ≡ copy_where supplies xs memory)
-    ⊎ ((c : ℕ) × (is_valid (slice_index_or xs c invalid).line ≡ true)
-    × ((slice_index_or xs c invalid).copy ≡ copy_where supplies xs memory))
-found [] memory = inl refl
-found (x ∷ xs) memory =
-    elim (cases_Bool (supplies x.line)) [
-      | inl h ↦ inr (
-        zero,
-        supplier_valid _ h,
-        sym (cond-true (supplies x.line) x.copy (copy_where supplies xs memory) h),
-      )
-      | inr h ↦
-          let e : copy_where supplies (x ∷ xs) memory ≡ copy_where supplies xs memory =
-          cond-false (supplies x.line) x.copy (copy_where supplies xs memory) h in
-          elim (found xs memory) [ inl g ↦ inl (g ∙ sym e) | inr g ↦ inr (suc g.0, g.1, g.2 ∙ sym e) ]
-    ]
+-- a block that another core's transaction turned has no new data
+turned_has : (turn : Turn) (b : Block) (w : ℕ × Option ℕ) → HasBlock (block_by (row.turned turn) b) w → HasBlock b w
+turned_has turn b w (inl e) = inl e
+turned_has turn b w (inr h) = elim (turned_cases turn (cell_of b h.0)) [
+  | inl g ↦ let on = rw (turned_cell turn b h.0, g) at h.1 in cc (on)
+  | inr g ↦ inr (h.0, rw (turned_cell turn b h.0, g.0) at h.1, rw (turned_cell turn b h.0, g.1) at h.2)
+]
 
--- f makes no copy
-Tame : (Cell → Cell) → Type 0
-Tame f = (y : Cell) → is_valid (f y).line ≡ true → (is_valid y.line ≡ true) × ((f y).copy ≡ y.copy)
-
--- a copy of a changed block is an old one, or memory's, or the new line's
-origin : (b : Block) (f : Cell → Cell) (c : ℕ) (x : Cell) (m copy : ℕ × Option ℕ) → Tame f
-    → f invalid ≡ invalid
-    → HasBlock (record { lines = slice_set (map f b.lines) c x; memory = m }) copy
-    → HasBlock b copy ⊎ ((m ≡ copy) ⊎ ((is_valid x.line ≡ true) × (x.copy ≡ copy)))
-unfolding Tame
-origin b f c x m copy tame still (inl h) = inr (inl h)
-origin b f c x m copy tame still (inr h) =
-    let e : ℕ = h.0 in
-    let mapped : slice_index_or (map f b.lines) e invalid ≡ f (cell_of b e) =
-    ap (λ (w : Cell). slice_index_or (map f b.lines) e w) (sym still) ∙ get_or-map f b.lines e invalid in
-    elim (set_cases (map f b.lines) c x e invalid) [
-      | inl g ↦
-          let k = tame (cell_of b e) (rw (g, mapped) at h.1) in
-          let same : (f (cell_of b e)).copy ≡ copy = rw (g, mapped) at h.2 in
-          inl (inr (e, k.0, sym k.1 ∙ same))
-      | inr g ↦ inr (inr (rw g.1 at h.1, rw g.1 at h.2))
-    ]
-
--- the same where one line alone changed
-origin_one : (b : Block) (c : ℕ) (x : Cell) (m copy : ℕ × Option ℕ)
-    → HasBlock (record { lines = slice_set b.lines c x; memory = m }) copy
-    → HasBlock b copy ⊎ ((m ≡ copy) ⊎ ((is_valid x.line ≡ true) × (x.copy ≡ copy)))
-unfolding Tame
-origin_one b c x m copy h =
-    origin b (λ y. y) c x m copy (λ y g. (g, refl)) refl
-    (rw (map-id b.lines) h)
-
--- no transaction of another core makes a copy
-tame_turned : (turn : Turn) → Tame (row.turned turn)
-unfolding Tame
-tame_turned Share y g = (sym (lowered_valid y.line) ∙ g, refl)
-tame_turned Invalidate y g = cc (g)
-tame_turned LeaveStale y g = go (is_shared y.line) refl g
-  where
-    go : (q : Bool) → is_shared y.line ≡ q → is_valid (cond q y invalid).line ≡ true
-        → (is_valid y.line ≡ true) × ((row.left_stale y).copy ≡ y.copy)
-    go true is k = (k, ap (λ (z : Cell). z.copy) (cond-true (is_shared y.line) y invalid is))
-    go false is k = cc (k)
-
--- nor of no line
-pub turned_invalid : (turn : Turn) → row.turned turn invalid ≡ invalid
-turned_invalid Share = refl
-turned_invalid Invalidate = refl
-turned_invalid LeaveStale = refl
-
-module _ (b : Block) (c : ℕ) (copy : ℕ × Option ℕ) (u : Block) (h : HasBlock u copy) where
+module _ (b u : Block) (c : ℕ) (w : ℕ × Option ℕ) where
   -- the requester's copy is what it is given, and memory stays
-  given : (f : Cell → Cell) (line : Line) → Tame f → f invalid ≡ invalid
-      → record {
-        lines = slice_set (map f b.lines) c (record { line = line; copy = supplied b });
-        memory =
-            b.memory;
-      } ≡ u → HasBlock b copy
-  given f line tame still e =
-      elim (origin b f c _ b.memory copy tame still (rw (← e) at h)) [
-        | inl k ↦ k
-        | inr k ↦ elim k [
-          | inl g ↦ inl g
-          | inr g ↦ elim (found b.lines b.memory) [
-            | inl w ↦ inl (w ∙ g.1)
-            | inr w ↦ inr (w.0, w.1, w.2 ∙ g.1)
-          ]
-        ]
-      ]
+  given : (turn : Turn) (x : Cell) → x.copy ≡ supplied b → with_line (block_by (row.turned turn) b) c x ≡ u
+      → HasBlock u w → HasBlock b w
+  given turn x is e h =
+      with_line_has (HasBlock b) _ c x (turned_has turn b) (λ _. rw is
+      (copy_where-holds (HasBlock b) supplies b.lines b.memory refl (λ d g. inr (d, supplier_valid _ g, refl))
+      (λ _. inl refl))) w (rw (← e) at h)
 
   -- GetS makes no data
-  has_get_s : row.get_s b c ≡ Ok u → HasBlock b copy
-  has_get_s e = given row.shared _ (tame_turned Share) refl (taken_else _ _ _ u e).1
+  has_get_s : row.get_s b c ≡ Ok u → HasBlock u w → HasBlock b w
+  has_get_s e = given Share _ refl (taken_else _ _ _ u e).1
 
   -- GetM makes no data, with the fault or without
-  has_get_m : (turn : Turn) → row.get_m_by turn b c ≡ Ok u → HasBlock b copy
-  has_get_m turn e = given (row.turned turn) M (tame_turned turn) (turned_invalid turn) (taken_else _ _ _ u e).1
+  has_get_m : (turn : Turn) → row.get_m_by turn b c ≡ Ok u → HasBlock u w → HasBlock b w
+  has_get_m turn e = given turn _ refl (taken_else _ _ _ u e).1
 
   -- Put makes no data
-  has_put : row.put b c ≡ Ok u → HasBlock b copy
-  has_put e =
-      let k = taken_then _ _ _ u e in
-      elim (origin_one b c invalid _ copy (rw (← k.1) at h)) [
-        | inl g ↦ g
-        | inr g ↦ elim g [
-          | inl m ↦ elim (cases_Bool (is_owned (cell_of b c).line)) [
-            | inl q ↦ inr (
-              c,
-              k.0,
-              sym (cond-true (is_owned (cell_of b c).line) (cell_of b c).copy b.memory q)
-                  ∙ m,
-            )
-            | inr q ↦ inl (sym (cond-false (is_owned (cell_of b c).line) (cell_of b c).copy b.memory q) ∙ m)
-          ]
-          | inr m ↦ cc (m.0)
-        ]
-      ]
+  has_put : row.put b c ≡ Ok u → HasBlock u w → HasBlock b w
+  has_put e h =
+      let t = taken_then _ _ _ u e in
+      let memory = cond_both (is_owned (cell_of b c).line) (cell_of b c).copy b.memory (HasBlock b)
+      (λ _. inr (c, t.0, refl)) (λ _. inl refl) in
+      with_line_has (HasBlock b)
+      (record { lines = b.lines; memory = cond (is_owned (cell_of b c).line) (cell_of b c).copy b.memory }) c invalid
+      (λ v g. elim g [ inl m ↦ subst (HasBlock b) m memory | inr m ↦ inr m ]) (λ g. cc (g)) w (rw (← t.1) at h)
 
   -- a write makes its own data alone
-  has_write : (w : ℕ × Option ℕ) → row.write b c w ≡ Ok u → HasBlock b copy ⊎ (copy ≡ w)
-  has_write w e =
-      let k = taken_then _ _ _ u e in
-      elim (origin_one b c _ b.memory copy (rw (← k.1) at h)) [
-        | inl g ↦ inl g
-        | inr g ↦ elim g [ inl m ↦ inl (inl m) | inr m ↦ inr (sym m.1) ]
-      ]
+  has_write : (v : ℕ × Option ℕ) → row.write b c v ≡ Ok u → HasBlock u w → HasBlock b w ⊎ (w ≡ v)
+  has_write v e h =
+      with_line_has (λ z. HasBlock b z ⊎ (z ≡ v)) b c _ (λ z g. inl g) (λ _. inr refl) w
+      (rw (← (taken_then _ _ _ u e).1) at h)
 
 -- a row at one address leaves the others
-at_other : (s t : CacheState) (a b : ℕ) (r : Result Block CacheError) (copy : ℕ × Option ℕ)
-    → at_address s a r ≡ Ok t → Has t b copy
-    → Has s b copy ⊎ ((u : Block) × (r ≡ Ok u) × (b ≡ a) × HasBlock u copy)
-at_other s t a b (Err e) copy k h = cc (k)
-at_other s t a b (Ok u) copy k h =
-    let e : record { cores = s.cores; blocks = slice_set s.blocks a u } ≡ t = cc (k) in
-    let g : HasBlock (slice_index_or (slice_set s.blocks a u) b (record { lines = []; memory = (0, None) }))
-    copy = rw (← e) at h in
-    elim (set_cases s.blocks a u b (record { lines = []; memory = (0, None) })) [
-      | inl q ↦ inl (rw q at g)
-      | inr q ↦ inr (u, refl, q.0, rw q.1 at g)
-    ]
+pub block_after : (s t : CacheState) (a b : ℕ) (r : Result Block CacheError) → at_address s a r ≡ Ok t
+    → (block_of t b ≡ block_of s b) ⊎ ((b ≡ a) × (r ≡ Ok (block_of t b)))
+block_after s t a b (Err e) h = cc (h)
+block_after s t a b (Ok u) h =
+    let is : with_block s a u ≡ t = cc (h) in
+    rw (← is) (elim (set_cases s.blocks a u b (record { lines = []; memory = (0, None) })) [
+      | inl g ↦ inl g.1
+      | inr g ↦ inr (g.0, ap Ok (sym g.1))
+    ])
 
-module _ (s t : CacheState) (c a b : ℕ) (copy : ℕ × Option ℕ) where
-  -- a row that makes no data at its address makes none
-  moved : (r : Result Block CacheError) → at_address s a r ≡ Ok t
-      → ((u : Block) → HasBlock u copy → r ≡ Ok u → Has s a copy) → Has t b copy → Has s b copy
-  moved r k row h =
-      elim (at_other s t a b r copy k h) [
-        | inl g ↦ g
-        | inr g ↦ rw g.2 (row g.0 g.3 g.1)
-      ]
-
-  -- no transaction makes up data
-  copy_was_there : IsTransaction s c a t → Has t b copy → Has s b copy
-  copy_was_there (inl k) = moved _ k (λ u h e. has_get_s (block_of s a) c copy u h e)
-  copy_was_there (inr (inl k)) = moved _ k (λ u h e. has_get_m (block_of s a) c copy u h Invalidate e)
-  copy_was_there (inr (inr k)) = moved _ k (λ u h e. has_put (block_of s a) c copy u h e)
+-- a row that makes no data at its address makes none
+moved : (s t : CacheState) (a b : ℕ) (w : ℕ × Option ℕ) (r : Result Block CacheError) → at_address s a r ≡ Ok t
+    → ((u : Block) → r ≡ Ok u → HasBlock u w → Has s a w) → Has t b w → Has s b w
+moved s t a b w r k row h =
+    elim (block_after s t a b r k) [ inl g ↦ rw g at h | inr g ↦ rw g.0 (row (block_of t b) g.1 h) ]
 
 -- the laws of `Laws`: transactions
 pub every_copy_was_there : EveryCopyWasThere
-every_copy_was_there s t c a b copy (inl k) = copy_was_there s t c a b copy k
-every_copy_was_there s t c a b copy (inr k) =
-    moved s t c a b copy _ k (λ u h e. has_get_m (block_of s a) c copy u h LeaveStale e)
+every_copy_was_there s t c a b w (inl (inl k)) = moved s t a b w _ k (λ u. has_get_s (block_of s a) u c w)
+every_copy_was_there s t c a b w (inl (inr (inl k))) =
+    moved s t a b w _ k (λ u. has_get_m (block_of s a) u c w Invalidate)
+every_copy_was_there s t c a b w (inl (inr (inr k))) = moved s t a b w _ k (λ u. has_put (block_of s a) u c w)
+every_copy_was_there s t c a b w (inr k) = moved s t a b w _ k (λ u. has_get_m (block_of s a) u c w LeaveStale)
 
 -- writes
 pub every_write_adds_itself : EveryWriteAddsItself
-every_write_adds_itself s t c a value event b copy k h =
-    elim (at_other s t a b _ copy k h) [
-      | inl g ↦ inl g
-      | inr g ↦ elim (has_write (block_of s a) c copy g.0 g.3 (value, Some event) g.1) [
-        | inl q ↦ inl (rw g.2 q)
-        | inr q ↦ inr (g.2, q)
+every_write_adds_itself s t c a value event b w k h =
+    elim (block_after s t a b _ k) [
+      | inl g ↦ inl (rw g at h)
+      | inr g ↦ elim (has_write (block_of s a) (block_of t b) c w (value, Some event) g.1 h) [
+        | inl q ↦ inl (rw g.0 q)
+        | inr q ↦ inr (g.0, q)
       ]
     ]

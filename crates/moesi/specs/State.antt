@@ -1,8 +1,10 @@
 -- What the caches of all cores are, with memory, and what each call does to them.
-use Rattle.std.specs.Prelude.{ℕ, Option, Some, None, Result, Ok, Err, List, [], replicate, slice_index_or}
-use Rattle.std.specs.Prelude.{slice_set, map}
+use Rattle.std.specs.Prelude.{◌≡◌, ℕ, Option, Some, None, Result, Ok, Err, OnOk, IfErr, OnErr, List, []}
+use Rattle.std.specs.Prelude.{length, replicate, slice_index_or, slice_set, map}
 use Rattle.moesi.specs.declared.line.Line.{Line}
 use Rattle.moesi.specs.declared.error.CacheError.{CacheError}
+use Rattle.moesi.specs.declared.word.Turn.{Turn}
+use Rattle.moesi.specs.declared.word.Turn.TheVariants.{Invalidate, LeaveStale}
 use Rattle.moesi.specs.Block.{Block, cell_of, block_with, current_of, HasBlock}
 use Rattle.moesi.specs.Rows as row
 
@@ -43,22 +45,30 @@ opening_with cores init = record { cores = cores; blocks = map (λ v. block_with
 abbrev pub opening_caches : ℕ → ℕ → CacheState
 opening_caches cores addresses = opening_with cores (replicate addresses 0)
 
+-- address a is b
+abbrev pub with_block : CacheState → ℕ → Block → CacheState
+with_block s a b = record { cores = s.cores; blocks = slice_set s.blocks a b }
+
 -- a row of the table, taken at address a
 abbrev pub at_address : CacheState → ℕ → Result Block CacheError → Result CacheState CacheError
-at_address s a (Ok b) = Ok (record { cores = s.cores; blocks = slice_set s.blocks a b })
+at_address s a (Ok b) = Ok (with_block s a b)
 at_address s a (Err e) = Err e
 
 -- GetS of core c at address a
 abbrev pub get_s : CacheState → ℕ → ℕ → Result CacheState CacheError
 get_s s c a = at_address s a (row.get_s (block_of s a) c)
 
--- GetM of core c at address a
-abbrev pub get_m : CacheState → ℕ → ℕ → Result CacheState CacheError
-get_m s c a = at_address s a (row.get_m (block_of s a) c)
+-- GetM of core c at address a, which turns the others
+abbrev pub get_m_by : Turn → CacheState → ℕ → ℕ → Result CacheState CacheError
+get_m_by turn s c a = at_address s a (row.get_m_by turn (block_of s a) c)
 
--- the faulty GetM of core c at address a
+-- GetM: the others become I
+abbrev pub get_m : CacheState → ℕ → ℕ → Result CacheState CacheError
+get_m s c a = get_m_by Invalidate s c a
+
+-- the faulty GetM, which leaves others in S
 abbrev pub get_m_stale : CacheState → ℕ → ℕ → Result CacheState CacheError
-get_m_stale s c a = at_address s a (row.get_m_stale (block_of s a) c)
+get_m_stale s c a = get_m_by LeaveStale s c a
 
 -- Put of core c at address a
 abbrev pub put : CacheState → ℕ → ℕ → Result CacheState CacheError
@@ -71,3 +81,12 @@ read s c a = row.read (block_of s a) c
 -- core c writes a value and its event at address a
 abbrev pub write : CacheState → ℕ → ℕ → ℕ → ℕ → Result CacheState CacheError
 write s c a value event = at_address s a (row.write (block_of s a) c (value, Some event))
+
+-- a call answered as the row says, and led from s to t, which is s where it was refused
+pub record IsAnswer {A : Type 0} (row : Result CacheState CacheError) (s t : CacheState)
+    (result : Result A CacheError) : Type 0 where
+  pub ok : OnOk result (row ≡ Ok t)
+  pub refused : IfErr result (λ e. row ≡ Err e)
+  pub unchanged : OnErr result (t ≡ s)
+  pub cores : t.cores ≡ s.cores
+  pub addresses : length t.blocks ≡ length s.blocks

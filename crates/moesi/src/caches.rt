@@ -4,11 +4,9 @@ ghost use Rattle.std.specs.Prelude.{◌≡◌, length};
 
 use crate::cell::Cell;
 use crate::error::CacheError;
-use crate::laws::{coherent_caches, copies_of_caches};
 use crate::line::Line;
-use crate::rows;
-use crate::word::{INVALID, Turn, unpack, written};
-use crate::words::{fill_memory, place, words_for};
+use crate::word::{INVALID, Turn, relined, unpack, written};
+use crate::words::{asked, fill_memory, place, turn_all, words_for};
 use common::{Addr, CoreId, EventId, OutOfMemory};
 use std::alloc::Global;
 use std::marker::Model;
@@ -30,7 +28,7 @@ pub struct Caches {
 
 impl Model for Caches {
     ghost use Rattle.moesi.specs.State.{CacheState};
-    ghost use Rattle.moesi.specs.Packed.{caches_in, AreWords};
+    ghost use Rattle.moesi.specs.Words.{caches_in, AreWords};
 
     ghost Value = { CacheState };
 
@@ -40,11 +38,13 @@ impl Model for Caches {
 }
 
 impl Caches {
-    ghost use Rattle.std.specs.Prelude.{◌≡◌, ◌<◌, Ok, Err, length, IfOk, OnOk, IfErr, OnErr};
+    ghost use Rattle.std.specs.Prelude.{◌≡◌, ◌≤◌, ◌<◌, length, IfOk};
     ghost use Rattle.common.specs.declared.limits.TheConstants.{MAX_EVENTS};
-    ghost use Rattle.moesi.specs.Block.{cell_of};
-    ghost use Rattle.moesi.specs.State.{opening_caches, opening_with, block_of, line_of, memory_of};
-    ghost use Rattle.moesi.specs.State.{get_s, get_m, get_m_stale, put, read, write};
+    ghost use Rattle.moesi.specs.Words.{cell_in};
+    ghost use Rattle.moesi.specs.Block.{cell_of, with_line, block_by, has_copy, supplied};
+    ghost use Rattle.moesi.specs.Rows.{turned};
+    ghost use Rattle.moesi.specs.State.{opening_caches, opening_with, block_of, line_of, memory_of, with_block};
+    ghost use Rattle.moesi.specs.State.{get_s, get_m_by, get_m, get_m_stale, put, read, write, IsAnswer};
     ghost use Rattle.moesi.specs.Coherent.{IsCoherent};
     ghost use Rattle.moesi.specs.Laws.{OpeningIsCoherent, OpeningWithIsCoherent, EveryCallKeepsCoherence};
     ghost use Rattle.moesi.specs.Laws.{EveryCopyIsCurrent, EveryReadIsCurrent};
@@ -58,11 +58,22 @@ impl Caches {
     pub fn new(alloc: Global, cores: usize, addresses: usize) -> Result<Caches, OutOfMemory>
         ensures { IfOk result (λ s. s ≡ opening_caches cores addresses) }
     {
-        let Some(size) = words_for(cores, addresses) else {
-            return Err(OutOfMemory);
-        };
         Ok(Caches {
-            words: vec![in alloc; INVALID; size]?,
+            words: words_for(alloc, cores, addresses)?,
+            cores,
+            addresses,
+        })
+    }
+
+    /// The caches of `with_init`.
+    fn with_memory(alloc: Global, cores: usize, init: &[u32]) -> Result<Caches, OutOfMemory>
+        ensures { IfOk result (λ s. s ≡ opening_with cores init.now) }
+    {
+        let addresses = init.len();
+        let mut words = words_for(alloc, cores, addresses)?;
+        fill_memory(&mut words, cores, init);
+        Ok(Caches {
+            words,
             cores,
             addresses,
         })
@@ -87,18 +98,30 @@ impl Caches {
         ensures writes { EveryWriteSetsCurrent }
         ensures coherence { EveryCallKeepsCoherence }
     {
-        coherent_caches();
-        let addresses = init.len();
-        let Some(size) = words_for(cores, addresses) else {
-            return Err(OutOfMemory);
-        };
-        let mut words = vec![in alloc; INVALID; size]?;
-        fill_memory(&mut words, cores, init);
-        Ok(Caches {
-            words,
-            cores,
-            addresses,
-        })
+        Caches::with_memory(alloc, cores, init)
+    }
+
+    /// A core's word of an address, and for the number of cores memory's.
+    fn word(&self, row: usize, addr: Addr) -> u64
+        requires row { row ≤ self.now.cores }
+        requires address { addr < length self.now.blocks }
+        ensures line { row < self.now.cores → cell_in result ≡ cell_of (block_of self.now addr) row }
+        ensures memory { row ≡ self.now.cores → (cell_in result).copy ≡ memory_of self.now addr }
+    {
+        self.words[place(row, self.addresses, addr as usize)]
+    }
+
+    /// Gives an address another word of a core, and for the number of cores of memory.
+    fn set_word(&mut self, row: usize, addr: Addr, word: u64)
+        requires row { row ≤ self.old.cores }
+        requires address { addr < length self.old.blocks }
+        ensures line { row < self.old.cores → self.new ≡ with_block self.old addr
+            (with_line (block_of self.old addr) row (cell_in word)) }
+        ensures memory { row ≡ self.old.cores → self.new ≡ with_block self.old addr
+            (record { lines = (block_of self.old addr).lines; memory = (cell_in word).copy }) }
+    {
+        let at = place(row, self.addresses, addr as usize);
+        self.words[at] = word;
     }
 
     /// A core's line of an address with its data.
@@ -107,7 +130,7 @@ impl Caches {
         requires address { addr < length self.now.blocks }
         ensures { result ≡ cell_of (block_of self.now addr) core }
     {
-        unpack(self.words[place(core as usize, self.addresses, addr as usize)])
+        unpack(self.word(core as usize, addr))
     }
 
     /// The state of a core's line of an address.
@@ -124,27 +147,59 @@ impl Caches {
         requires { addr < length self.now.blocks }
         ensures { result ≡ memory_of self.now addr }
     {
-        unpack(self.words[place(self.cores, self.addresses, addr as usize)]).copy
+        unpack(self.word(self.cores, addr)).copy
+    }
+
+    /// Turns each line of an address, and tells what a core that asks gets: whether some line was valid, and
+    /// a word with the data that it is given.
+    fn ask(&mut self, addr: Addr, turn: Turn) -> (bool, u64)
+        requires { addr < length self.old.blocks }
+        ensures valid { result.0 ≡ has_copy (block_of self.old addr) }
+        ensures given { (cell_in result.1).copy ≡ supplied (block_of self.old addr) }
+        ensures turned { self.new ≡ with_block self.old addr (block_by (turned turn) (block_of self.old addr)) }
+    {
+        let told = asked(&self.words, self.cores, self.addresses, addr as usize);
+        turn_all(
+            &mut self.words,
+            self.cores,
+            self.addresses,
+            addr as usize,
+            turn,
+        );
+        told
     }
 
     /// GetS: gets a core a line that it may read. C1 where its line is valid; then nothing changes.
     pub fn get_s(&mut self, core: CoreId, addr: Addr) -> Result<(), CacheError>
         requires core { core < self.old.cores }
         requires address { addr < length self.old.blocks }
-        ensures ok { OnOk result (get_s self.old core addr ≡ Ok self.new) }
-        ensures refused { IfErr result (λ e. get_s self.old core addr ≡ Err e) }
-        ensures unchanged { OnErr result (self.new ≡ self.old) }
-        ensures cores { self.new.cores ≡ self.old.cores }
-        ensures addresses { length self.new.blocks ≡ length self.old.blocks }
+        ensures answer { IsAnswer (get_s self.old core addr) self.old self.new result }
         ensures coherent { IsCoherent self.old → IsCoherent self.new }
     {
-        rows::get_s(
-            &mut self.words,
-            self.cores,
-            self.addresses,
+        if self.line(core, addr).is_valid() {
+            return Err(CacheError::C1);
+        }
+        let (valid, word) = self.ask(addr, Turn::Share);
+        self.set_word(
             core as usize,
-            addr as usize,
-        )
+            addr,
+            relined(word, if valid { Line::S } else { Line::E }),
+        );
+        Ok(())
+    }
+
+    /// GetM, which turns the other lines.
+    fn get_m_by(&mut self, core: CoreId, addr: Addr, turn: Turn) -> Result<(), CacheError>
+        requires core { core < self.old.cores }
+        requires address { addr < length self.old.blocks }
+        ensures { IsAnswer (get_m_by turn self.old core addr) self.old self.new result }
+    {
+        if self.line(core, addr).is_exclusive() {
+            return Err(CacheError::C2);
+        }
+        let (_, word) = self.ask(addr, turn);
+        self.set_word(core as usize, addr, relined(word, Line::M));
+        Ok(())
     }
 
     /// GetM: gets a core the only valid line of an address, which it may write. C2 where its line
@@ -152,21 +207,10 @@ impl Caches {
     pub fn get_m(&mut self, core: CoreId, addr: Addr) -> Result<(), CacheError>
         requires core { core < self.old.cores }
         requires address { addr < length self.old.blocks }
-        ensures ok { OnOk result (get_m self.old core addr ≡ Ok self.new) }
-        ensures refused { IfErr result (λ e. get_m self.old core addr ≡ Err e) }
-        ensures unchanged { OnErr result (self.new ≡ self.old) }
-        ensures cores { self.new.cores ≡ self.old.cores }
-        ensures addresses { length self.new.blocks ≡ length self.old.blocks }
+        ensures answer { IsAnswer (get_m self.old core addr) self.old self.new result }
         ensures coherent { IsCoherent self.old → IsCoherent self.new }
     {
-        rows::get_m(
-            &mut self.words,
-            self.cores,
-            self.addresses,
-            core as usize,
-            addr as usize,
-            Turn::Invalidate,
-        )
+        self.get_m_by(core, addr, Turn::Invalidate)
     }
 
     /// GetM with a fault: other lines in S stay as they are, with their old data, so that the caches
@@ -177,46 +221,33 @@ impl Caches {
     pub fn get_m_stale(&mut self, core: CoreId, addr: Addr) -> Result<(), CacheError>
         requires core { core < self.old.cores }
         requires address { addr < length self.old.blocks }
-        ensures ok { OnOk result (get_m_stale self.old core addr ≡ Ok self.new) }
-        ensures refused { IfErr result (λ e. get_m_stale self.old core addr ≡ Err e) }
-        ensures unchanged { OnErr result (self.new ≡ self.old) }
-        ensures cores { self.new.cores ≡ self.old.cores }
-        ensures addresses { length self.new.blocks ≡ length self.old.blocks }
+        ensures answer { IsAnswer (get_m_stale self.old core addr) self.old self.new result }
         ensures transactions { EveryCopyWasThere }
         ensures writes { EveryWriteAddsItself }
         ensures opening { OpeningHasEmptyLines }
         ensures opening_with { OpeningWithHasEmptyLines }
         ensures empty { EveryCallKeepsEmptyLines }
     {
-        copies_of_caches();
-        rows::get_m(
-            &mut self.words,
-            self.cores,
-            self.addresses,
-            core as usize,
-            addr as usize,
-            Turn::LeaveStale,
-        )
+        self.get_m_by(core, addr, Turn::LeaveStale)
     }
 
     /// Put: gives a core's line up. C3 where it is not valid; then nothing changes.
     pub fn put(&mut self, core: CoreId, addr: Addr) -> Result<(), CacheError>
         requires core { core < self.old.cores }
         requires address { addr < length self.old.blocks }
-        ensures ok { OnOk result (put self.old core addr ≡ Ok self.new) }
-        ensures refused { IfErr result (λ e. put self.old core addr ≡ Err e) }
-        ensures unchanged { OnErr result (self.new ≡ self.old) }
-        ensures cores { self.new.cores ≡ self.old.cores }
-        ensures addresses { length self.new.blocks ≡ length self.old.blocks }
+        ensures answer { IsAnswer (put self.old core addr) self.old self.new result }
         ensures coherent { IsCoherent self.old → IsCoherent self.new }
     {
-        rows::put(
-            &mut self.words,
-            self.cores,
-            self.addresses,
-            core as usize,
-            addr as usize,
-        )
+        let word = self.word(core as usize, addr);
+        let line = unpack(word).line;
+        if !line.is_valid() {
+            return Err(CacheError::C3);
+        }
+        if line.is_owned() {
+            self.set_word(self.cores, addr, relined(word, Line::I));
+        }
+        self.set_word(core as usize, addr, INVALID);
+        Ok(())
     }
 
     /// The value of a core's line, and the event that wrote it; C3 where the line is not valid.
@@ -244,18 +275,13 @@ impl Caches {
         requires core { core < self.old.cores }
         requires address { addr < length self.old.blocks }
         requires event { event < MAX_EVENTS }
-        ensures ok { OnOk result (write self.old core addr value event ≡ Ok self.new) }
-        ensures refused { IfErr result (λ e. write self.old core addr value event ≡ Err e) }
-        ensures unchanged { OnErr result (self.new ≡ self.old) }
-        ensures cores { self.new.cores ≡ self.old.cores }
-        ensures addresses { length self.new.blocks ≡ length self.old.blocks }
+        ensures answer { IsAnswer (write self.old core addr value event) self.old self.new result }
         ensures coherent { IsCoherent self.old → IsCoherent self.new }
     {
         if !self.line(core, addr).is_exclusive() {
             return Err(CacheError::C4);
         }
-        let at = place(core as usize, self.addresses, addr as usize);
-        self.words[at] = written(value, event);
+        self.set_word(core as usize, addr, written(value, event));
         Ok(())
     }
 }

@@ -4,9 +4,7 @@
 mod caches;
 mod cell;
 mod error;
-mod laws;
 mod line;
-mod rows;
 mod word;
 mod words;
 

@@ -1,7 +1,7 @@
 //! The states of a line.
 
 ghost use Rattle.std.specs.Prelude.{◌≡◌};
-ghost use Rattle.moesi.specs.Lines.{is_valid, is_exclusive, is_owned, is_shared, supplies};
+ghost use Rattle.moesi.specs.Lines.{is_valid, is_exclusive, is_owned, supplies};
 
 /// The state of one core's line of an address: whether it is valid (the core has a copy), owned
 /// (memory may lack its data), exclusive (no other core has a copy) and dirty (its data may differ
@@ -48,12 +48,5 @@ impl Line {
         ensures { result ≡ supplies self }
     {
         matches!(self, Line::E | Line::O | Line::M)
-    }
-
-    /// Whether the core may only read it, and its data are not its own to give.
-    pub(crate) fn is_shared(self) -> bool
-        ensures { result ≡ is_shared self }
-    {
-        matches!(self, Line::S)
     }
 }

@@ -3,8 +3,8 @@
 ghost use Rattle.std.specs.Prelude.{◌≡◌, ◌<◌, ◌^◌, Some};
 ghost use Rattle.common.specs.declared.limits.TheConstants.{MAX_EVENTS};
 ghost use Rattle.moesi.specs.declared.line.Line.TheVariants.{M};
-ghost use Rattle.moesi.specs.Rows.{shared, left_stale, turned};
-ghost use Rattle.moesi.specs.Words.{line_code, line_from, event_from, cell_in, memory_cell};
+ghost use Rattle.moesi.specs.Rows.{turned};
+ghost use Rattle.moesi.specs.Words.{line_code, line_from, event_from, cell_in};
 
 use crate::cell::Cell;
 use crate::line::Line;
@@ -95,42 +95,15 @@ pub(crate) fn written(value: u32, event: EventId) -> u64
     relined(((event as u64 + 1) << VALUE_BITS) + value as u64, Line::M)
 }
 
-/// The word of memory with this value and no event.
-pub(crate) fn in_memory(value: u32) -> u64
-    ensures { cell_in result ≡ memory_cell value }
-{
-    value as u64
-}
-
-/// The word once another core shares its line.
-fn shared(word: u64) -> u64
-    ensures { cell_in result ≡ shared (cell_in word) }
-{
-    let line = unpack(word).line;
-    if !line.is_exclusive() {
-        return word;
-    }
-    relined(word, if line.is_owned() { Line::O } else { Line::S })
-}
-
-/// The word once another core takes its line for itself and leaves those in S as they are.
-fn left_stale(word: u64) -> u64
-    ensures { cell_in result ≡ left_stale (cell_in word) }
-{
-    if unpack(word).line.is_shared() {
-        word
-    } else {
-        INVALID
-    }
-}
-
 /// The word once another core made its transaction.
 pub(crate) fn turned(word: u64, turn: Turn) -> u64
     ensures { cell_in result ≡ turned turn (cell_in word) }
 {
+    let line = unpack(word).line;
     match turn {
-        Turn::Share => shared(word),
-        Turn::Invalidate => INVALID,
-        Turn::LeaveStale => left_stale(word),
+        Turn::Share if !line.is_exclusive() => word,
+        Turn::Share => relined(word, if line.is_owned() { Line::O } else { Line::S }),
+        Turn::LeaveStale if line == Line::S => word,
+        _ => INVALID,
     }
 }

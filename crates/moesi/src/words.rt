@@ -1,18 +1,30 @@
 //! The words of one address, in the words of all.
 
-ghost use Rattle.std.specs.Prelude.{◌≡◌, ◌<◌, ◌+◌, ◌*◌, ◌^◌, ℕ, IfSome, length, slice_index};
-ghost use Rattle.moesi.specs.Block.{has_copy, supplied};
+ghost use Rattle.std.specs.Prelude.{◌≡◌, ◌<◌, ◌+◌, ◌*◌, ◌^◌, ℕ, IfOk, length, replicate, slice_index};
+ghost use Rattle.moesi.specs.Block.{has_copy, supplied, block_by};
+ghost use Rattle.moesi.specs.State.{with_block};
 ghost use Rattle.moesi.specs.Rows.{turned};
-ghost use Rattle.moesi.specs.Words.{cell_in, memory_cell};
-ghost use Rattle.moesi.specs.Packed.{AreWords, block_in, block_by, StaysElsewhere};
+ghost use Rattle.moesi.specs.Words.{cell_in, memory_cell, AreWords, block_in, caches_in};
 
-use crate::word::{Turn, in_memory, turned, unpack};
+use crate::word::{INVALID, Turn, turned, unpack};
+use common::OutOfMemory;
+use std::alloc::Global;
 
-/// How many words there are; none where their number is too large.
-pub(crate) fn words_for(cores: usize, addresses: usize) -> Option<usize>
-    ensures { IfSome result (λ n. n ≡ (cores + 1) * addresses) }
+/// The words of caches where no line is valid and memory is 0.
+pub(crate) fn words_for(
+    alloc: Global,
+    cores: usize,
+    addresses: usize,
+) -> Result<Vec<u64>, OutOfMemory>
+    ensures { IfOk result (λ ws. ws.items ≡ replicate ((cores + 1) * addresses) 0) }
 {
-    cores.checked_add(1)?.checked_mul(addresses)
+    let Some(rows) = cores.checked_add(1) else {
+        return Err(OutOfMemory);
+    };
+    let Some(size) = rows.checked_mul(addresses) else {
+        return Err(OutOfMemory);
+    };
+    Ok(vec![in alloc; INVALID; size]?)
 }
 
 /// The place of a core's word of an address, and for the number of cores of memory's word.
@@ -35,7 +47,7 @@ pub(crate) fn fill_memory(words: &mut [u64], cores: usize, init: &[u32])
 {
     let addresses = init.len();
     for addr in 0..addresses {
-        words[place(cores, addresses, addr)] = in_memory(init[addr]);
+        words[place(cores, addresses, addr)] = init[addr] as u64;
     }
 }
 
@@ -64,9 +76,9 @@ pub(crate) fn asked(words: &[u64], cores: usize, addresses: usize, addr: usize) 
 pub(crate) fn turn_all(words: &mut [u64], cores: usize, addresses: usize, addr: usize, turn: Turn)
     requires words { AreWords cores addresses words.old }
     requires address { addr < addresses }
-    ensures turned { block_in cores addresses words.new addr
-        ≡ block_by (turned turn) (block_in cores addresses words.old addr) }
-    ensures elsewhere { StaysElsewhere cores addresses addr words.old words.new }
+    ensures size { length words.new ≡ length words.old }
+    ensures turned { caches_in cores addresses words.new ≡ with_block (caches_in cores addresses words.old) addr
+        (block_by (turned turn) (block_in cores addresses words.old addr)) }
 {
     let mut at = addr;
     for _ in 0..cores {

@@ -23,7 +23,7 @@ use Rattle.recording.specs.PlacedLaws.{placed_total}
 use Rattle.recording.specs.Recording.{IsRecording}
 use Rattle.machine.specs.FirstUseLaws.{HaveAddressesOf, numbered_counts}
 use Rattle.machine.specs.Orderly.{placed_op}
-use Rattle.machine.specs.ProgramLaws.{made_addresses}
+use Rattle.machine.specs.ProgramLaws.{made_addresses, events_made}
 use Rattle.machine.specs.ProgramOf.{IsProgramOf}
 use Rattle.reduction.specs.RestrictedProgram.{readdressed_op, restricted_program}
 use Rattle.reduction.specs.Restriction.{AreClosed, addresses_of, kept_of, used_cores, restriction}
@@ -157,7 +157,7 @@ module _ (p : Parts) (x : Execution) (ks : List ℕ) (program : IsProgram p) (is
         few_cores = omega (arith, (restricted_is_of p x ks is).cores, y.within.few_cores);
         few_ops = omega (
           arith,
-          addresses_kept.count,
+          events_made (restricted_program p x ks) (restriction x ks) (restricted_is_of p x ks is),
           placed_total 0 (restricted_program p x ks).cores,
           y.within.few_events,
         );

@@ -15,7 +15,8 @@ use Rattle.recording.specs.Event.{value_read, source}
 use Rattle.recording.specs.Execution.{Execution, placed_from, event_at}
 use Rattle.recording.specs.Order.{place}
 use Rattle.machine.specs.Orderly.{placed_op}
-use Rattle.machine.specs.ProgramLaws.{op_here, op_behind, event_made}
+use Rattle.machine.specs.ProgramLaws.{event_made}
+use Rattle.machine.specs.RecordedLaws.{placed_here, placed_behind}
 use Rattle.machine.specs.ProgramOf.{Makes, AreOpsOf, IsProgramOf}
 use Rattle.machine.specs.State.{event_of}
 use Rattle.reduction.specs.RestrictedProgram.{readdressed, readdressed_op, restricted_program}
@@ -85,9 +86,9 @@ pub op_small : (k : ℕ) (cores : List (List Op)) (i : ℕ) → AllByRecursion (
     → Small (get_or (placed_from k cores) i (0, Fence)).1
 op_small k [] i all = tt
 op_small k (ops ∷ rest) i all = elim (cases_lt i (length ops)) [
-  | inl here ↦ subst (λ (z : ℕ × Op). Small z.1) (sym (op_here k ops rest i (0, Fence) here))
+  | inl here ↦ subst (λ (z : ℕ × Op). Small z.1) (sym (placed_here k ops rest i (0, Fence) here))
       (All-from_recursion Small ops all.0 i Fence here)
-  | inr behind ↦ subst (λ (z : ℕ × Op). Small z.1) (sym (op_behind k ops rest i (0, Fence) behind))
+  | inr behind ↦ subst (λ (z : ℕ × Op). Small z.1) (sym (placed_behind k ops rest i (0, Fence) behind))
       (op_small (k + 1) rest (i - length ops) all.1)
 ]
 
@@ -125,7 +126,7 @@ module _ (lists : List (List Op)) (i rest : ℕ) (d : List Op) (inside : i < len
       → (get_or (placed_from i (drop i lists)) rest (0, Fence)).1 ≡ get_or (get_or lists i d) rest Fence
   op_on_core here =
       ap (λ (l : List (List Op)). (get_or (placed_from i l) rest (0, Fence)).1) next
-      ∙ ap (λ (z : ℕ × Op). z.1) (op_here i (get_or lists i d) (drop (i + 1) lists) rest (0, Fence) here)
+      ∙ ap (λ (z : ℕ × Op). z.1) (placed_here i (get_or lists i d) (drop (i + 1) lists) rest (0, Fence) here)
 
   -- or on a later one
   pub op_on_later : length (get_or lists i d) ≤ rest
@@ -133,4 +134,4 @@ module _ (lists : List (List Op)) (i rest : ℕ) (d : List Op) (inside : i < len
       ≡ (get_or (placed_from (i + 1) (drop (i + 1) lists)) (rest - length (get_or lists i d)) (0, Fence)).1
   op_on_later behind =
       ap (λ (l : List (List Op)). (get_or (placed_from i l) rest (0, Fence)).1) next
-      ∙ ap (λ (z : ℕ × Op). z.1) (op_behind i (get_or lists i d) (drop (i + 1) lists) rest (0, Fence) behind)
+      ∙ ap (λ (z : ℕ × Op). z.1) (placed_behind i (get_or lists i d) (drop (i + 1) lists) rest (0, Fence) behind)

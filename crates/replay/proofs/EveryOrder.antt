@@ -23,8 +23,7 @@ use Rattle.machine.specs.declared.step.Step.{Step}
 use Rattle.machine.specs.Step.{step_result, after, run, has}
 use Rattle.machine.specs.State.{State, place_of, buffer_of, first_event, opening, recorded, IsComplete}
 use Rattle.replay.specs.Program.{op_of, program_of}
-use Rattle.replay.specs.Stores.{most_stores}
-use Rattle.replay.specs.Steps.{replay_steps}
+use Rattle.replay.specs.Steps.{most_stores, replay_steps}
 use Rattle.replay.specs.OrderReplay.{IsReplay, EveryOrderIsReplayed, led_to, MakesExactlyTso}
 use Rattle.program.specs.AddressNames.{address_names}
 use Rattle.replay.specs.Program.{named_program}
@@ -32,9 +31,8 @@ use Rattle.program.specs.AddressNameLaws.{names_count}
 use Rattle.machine.specs.declared.blocked.Blocked.{Blocked}
 use Rattle.machine.specs.declared.step.Step.TheVariants.{Exec, Drain, GetS, GetM, Put}
 use Rattle.machine.specs.Script.{IsStepOf}
-use Rattle.machine.specs.Tso.{EveryRunIsTso, EveryRunIsWellFormed}
+use Rattle.machine.specs.Orderly.{EveryRunIsTso, EveryRunIsWellFormed, placed_op, is_st, IsOrderly, EveryStateIsOrderly}
 use Rattle.std.proofs.lemmas.List.Elements.{All-nil, All-cons}
-use Rattle.machine.specs.Orderly.{placed_op, is_st, IsOrderly, EveryStateIsOrderly}
 use Rattle.recording.specs.PlacedLaws.{placed_total, placed_at}
 use Rattle.machine.specs.PlaceLaws.{places_within}
 use Rattle.machine.specs.RunLaws.{guarded}

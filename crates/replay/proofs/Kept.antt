@@ -26,7 +26,7 @@ use Rattle.machine.specs.Step.{exec, exec_next, drained_at, step_result, after, 
 use Rattle.machine.specs.Taken.{begun}
 use Rattle.machine.specs.Orderly.{placed_op}
 use Rattle.machine.specs.RecordedLaws.{event_is}
-use Rattle.machine.specs.ProgramLaws.{used_own}
+use Rattle.machine.specs.ProgramLaws.{has_address}
 use Rattle.replay.specs.OrderReplay.{led_to}
 
 -- the initial values are the same, and the same number of write lists
@@ -121,7 +121,7 @@ op_within n (Ld a) d h = h a (inl refl)
 op_within n Fence d h = tt
 op_within n (Swap a v) d h = h a (inl refl)
 op_within n (Add a v) d h = h a (inl refl)
-op_within n (Cas a e v) d h = h a (used_own (Cas a e v) d a refl)
+op_within n (Cas a e v) d h = h a ((has_address (Cas a e v) d a).1 refl)
 
 -- operations that have such addresses by number have them on each core
 pub all_within : (p : List (List Op)) (n : ℕ) → ((e : ℕ) → IsWithin n (placed_op p e).1)

@@ -8,7 +8,7 @@ use Rattle.std.proofs.Math.ListN as lists
 use Rattle.program.specs.declared.op.Op.{Op}
 use Rattle.program.specs.declared.op.Op.TheVariants.{Fence}
 use Rattle.recording.specs.declared.event.Event.{Event}
-use Rattle.recording.specs.declared.event.Event.TheVariants.{L, S, R, C, F}
+use Rattle.recording.specs.declared.event.Event.TheVariants.{S, C, F}
 use Rattle.recording.specs.Event.{read_address, source, value_read, is_plain_store}
 use Rattle.recording.specs.Execution.{Execution, placed_from, event_count, event_at, core_of}
 use Rattle.machine.specs.State.{State, event_of, cores_from, recorded}
@@ -24,19 +24,13 @@ never_next r = ne_eqb r ((r + 1) % 2 ^ 32) (λ same. absurd (omega (arith, same)
 
 -- an operation makes its event again from what that read
 pub made_again : (ev : Event) → event_of (op_of ev) (value_read ev, source ev) ≡ ev
-made_again (L a r s) = refl
-made_again (S a w) = refl
-made_again (R a r s w) = refl
 made_again (C a r s) = rw (never_next r) refl
-made_again F = refl
+made_again ev = refl
 
 -- from anything, where it reads nothing
 pub made_unread : (ev : Event) (d : ℕ × Option ℕ) → read_address ev ≡ None → event_of (op_of ev) d ≡ ev
-made_unread (L a r s) d h = absurd cc
-made_unread (S a w) d h = refl
-made_unread (R a r s w) d h = absurd cc
-made_unread (C a r s) d h = absurd cc
 made_unread F d h = refl
+made_unread ev d h = cc
 
 -- what it makes reads the same address
 pub made_reads : (ev : Event) (d : ℕ × Option ℕ) → read_address (event_of (op_of ev) d) ≡ read_address ev
@@ -50,19 +44,13 @@ made_given ev d a h = value_same (op_of ev) d a (sym (same_kind (op_of ev) d).0 
 
 -- a plain store reads nothing
 pub store_unread : (ev : Event) → is_plain_store ev ≡ true → read_address ev ≡ None
-store_unread (L a r s) h = absurd cc
 store_unread (S a w) h = refl
-store_unread (R a r s w) h = absurd cc
-store_unread (C a r s) h = absurd cc
-store_unread F h = absurd cc
+store_unread ev h = absurd cc
 
 -- it is a plain store where its event is
 pub store_same : (ev : Event) → is_st (op_of ev) ≡ is_plain_store ev
-store_same (L a r s) = refl
-store_same (S a w) = refl
-store_same (R a r s w) = refl
-store_same (C a r s) = refl
 store_same F = refl
+store_same ev = refl
 
 -- a function of what stands beside the core
 tag_map : {A B : Type 0} (f : A → B) (k : ℕ) (es : List A)

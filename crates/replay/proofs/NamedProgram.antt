@@ -16,7 +16,7 @@ use Rattle.recording.specs.Event.{is_plain_store}
 use Rattle.recording.specs.Execution.{Execution}
 use Rattle.recording.specs.Recording.{IsRecording}
 use Rattle.replay.specs.Program.{op_of, program_of}
-use Rattle.replay.specs.Stores.{most_stores}
+use Rattle.replay.specs.Steps.{most_stores}
 use Rattle.recording.specs.FirstUse.{IsNumberedByFirstUse}
 use Rattle.program.specs.AddressNames.{address_names}
 use Rattle.replay.specs.Program.{named_program}

@@ -23,19 +23,13 @@ use Rattle.replay.proofs.Turns.{IsTurn, caught_up, fence_turn, rmw_turn, cas_tur
 
 -- at most the event itself is executed before it is performed
 before_few : (e : ℕ) (ev : Event) → executed_before e ev ≤ e + 1
-before_few e (L a r o) = omega arith
 before_few e (S a w) = omega arith
-before_few e (R a r o w) = omega arith
-before_few e (C a r o) = omega arith
-before_few e F = omega arith
+before_few e ev = omega arith
 
 -- and then it is a plain store
 before_store : (e : ℕ) (ev : Event) → e < executed_before e ev → is_plain_store ev ≡ true
-before_store e (L a r o) h = absurd (omega (arith, h))
 before_store e (S a w) h = refl
-before_store e (R a r o w) h = absurd (omega (arith, h))
-before_store e (C a r o) h = absurd (omega (arith, h))
-before_store e F h = absurd (omega (arith, h))
+before_store e ev h = absurd (omega (arith, h))
 
 -- core c executes stores before its turn
 turn_behind : (p : List (List Op)) (n capacity : ℕ) (s u t : State) (c j e : ℕ) (steps : List Step)

@@ -1,7 +1,7 @@
 -- Lists of steps of which none is blocked.
 use Rattle.std.proofs.Common.{◌≡◌, ◌<◌, ◌≤◌, ◌+◌, ℕ, nat_lt, zero, suc, Bool, true, false, cond, Option, Some}
-use Rattle.std.proofs.Common.{None, Result, Ok, Err, List, [], ◌∷◌, ◌++◌, map, length, get_or, slice_get}
-use Rattle.std.proofs.Common.{slice_index_or, slice_set, replicate, arith, refl, sym, ap, subst, ◌∙◌}
+use Rattle.std.proofs.Common.{None, Result, Ok, Err, List, [], ◌∷◌, ◌++◌, length, get_or, slice_get}
+use Rattle.std.proofs.Common.{slice_index_or, replicate, arith, refl, sym, ap, subst, ◌∙◌}
 use Rattle.std.proofs.Common.{get_or-set_same, length-set}
 use Rattle.std.specs.List.{sum, count_by}
 use Rattle.std.proofs.lemmas.Bool.{lt-ltb, ltb-true}
@@ -9,16 +9,16 @@ use Rattle.std.proofs.lemmas.List.{length-map}
 use Rattle.std.proofs.lemmas.Option.{slice_get-get_or}
 use Rattle.std.proofs.lemmas.List.Sums.{sum_by-set, sum_by_more, sum_by-take-le}
 use Rattle.program.specs.declared.op.Op.{Op}
-use Rattle.program.specs.declared.op.Op.TheVariants.{St, Ld, Fence, Swap, Add, Cas}
+use Rattle.program.specs.declared.op.Op.TheVariants.{St, Fence}
 use Rattle.moesi.specs.declared.line.Line.TheVariants as line
-use Rattle.moesi.specs.Lines.{is_valid, is_exclusive}
-use Rattle.moesi.specs.Block.{Block, cell_of, invalid, has_copy, supplied}
-use Rattle.moesi.specs.Rows as row
+use Rattle.moesi.specs.Lines.{is_valid, is_exclusive, lowered}
+use Rattle.moesi.specs.declared.line.Line.{Line}
+use Rattle.moesi.specs.Block.{Block, cell_of, invalid, with_line, block_by, has_copy, supplied}
 use Rattle.moesi.specs.State as moesi
 use Rattle.write_buffer.specs.declared.entry.Entry.{Entry}
 use Rattle.machine.specs.declared.fault.Fault.TheVariants as fault
 use Rattle.machine.specs.declared.step.Step.{Step}
-use Rattle.machine.specs.declared.step.Step.TheVariants.{Exec, Drain, GetS, GetM, Put}
+use Rattle.machine.specs.declared.step.Step.TheVariants.{Exec, GetS, GetM}
 use Rattle.machine.specs.declared.blocked.Blocked.{Blocked}
 use Rattle.machine.specs.declared.blocked.Blocked.TheVariants.{B2, B8}
 use Rattle.machine.specs.State.{State, place_of, buffer_of, first_event}
@@ -89,11 +89,7 @@ exec_more : (capacity larger : ℕ) (s t : State) (c e : ℕ) (op : Op) → capa
     → exec capacity fault.None s c e op ≡ Ok t → exec larger fault.None s c e op ≡ Ok t
 exec_more capacity larger s t c e (St a v) h took = more_room (length (buffer_of s c)) capacity larger _ t h
     took
-exec_more capacity larger s t c e (Ld a) h took = took
-exec_more capacity larger s t c e Fence h took = took
-exec_more capacity larger s t c e (Swap a v) h took = took
-exec_more capacity larger s t c e (Add a v) h took = took
-exec_more capacity larger s t c e (Cas a k v) h took = took
+exec_more capacity larger s t c e op h took = took
 
 -- so is what comes next
 next_more : (p : List (List Op)) (capacity larger : ℕ) (s t : State) (c : ℕ) (o : Option Op)
@@ -115,10 +111,7 @@ step_more : (p : List (List Op)) (capacity larger : ℕ) (s t : State) (step : S
 step_more p capacity larger s t (Exec c) h took =
     guard_more (nat_lt c (length p)) _ _ t
     (next_more p capacity larger s t c (slice_get (slice_index_or p c []) (place_of s c)) h) took
-step_more p capacity larger s t (Drain c) h took = took
-step_more p capacity larger s t (GetS c a) h took = took
-step_more p capacity larger s t (GetM c a) h took = took
-step_more p capacity larger s t (Put c a) h took = took
+step_more p capacity larger s t step h took = took
 
 -- steps that are taken with small buffers are taken with larger ones, and lead to the same state
 pub goes_more : (p : List (List Op)) (capacity larger : ℕ) → capacity ≤ larger → (steps : List Step)
@@ -134,11 +127,7 @@ goes_more p capacity larger h (step ∷ steps) s t g =
 -- a plain store has an address and a value
 store_is : (op : Op) → is_st op ≡ true → (a : ℕ) × (v : ℕ) × (op ≡ St a v)
 store_is (St a v) h = (a, v, refl)
-store_is (Ld a) h = absurd cc
-store_is Fence h = absurd cc
-store_is (Swap a v) h = absurd cc
-store_is (Add a v) h = absurd cc
-store_is (Cas a e v) h = absurd cc
+store_is op h = absurd cc
 
 -- where core c is, if it has not come to its end
 pub is_at : (p : List (List Op)) (s : State) (c : ℕ) → c < length p → place_of s c < length (get_or p c [])
@@ -245,16 +234,6 @@ has_line : (p : List (List Op)) (s : State) (c a : ℕ) → c < length p → a <
     → has p s c a ≡ true
 has_line p s c a core within = rw (lt-ltb c (length p) core, lt-ltb a (length s.caches.blocks) within) refl
 
--- the caches with another block at an address
-abbrev with_block : moesi.CacheState → ℕ → Block → moesi.CacheState
-with_block s a u = record { cores = s.cores; blocks = slice_set s.blocks a u }
-
--- a core's new line is that line
-line_new : (s : moesi.CacheState) (c a : ℕ) (u : Block) → a < length s.blocks
-    → moesi.line_of (with_block s a u) c a ≡ (cell_of u c).line
-line_new s c a u within = ap (λ (b : Block). (cell_of b c).line)
-    (get_or-set_same s.blocks a u (record { lines = []; memory = (0, None) }) within)
-
 -- the steps lead from s to a state with these caches, and nothing else is changed
 abbrev pub Fetches : List (List Op) → ℕ → ℕ → State → List Step → moesi.CacheState → Type 0
 Fetches p n capacity s steps caches = StepsLead p capacity s steps (with_caches s caches) × StaysOrderly p n capacity
@@ -271,10 +250,18 @@ module _ (p : List (List Op)) (n capacity : ℕ) (s : State) (f : StaysOrderly p
   line_within : c < length (moesi.block_of s.caches a).lines
   line_within = omega (arith, core, (f.on []).lines a (omega (arith, within, (f.on []).blocks)))
 
+  -- a core's new line is that line
+  line_new : (k : Block) (l : Line) (d : ℕ × Option ℕ) → length k.lines ≡ length (moesi.block_of s.caches a).lines
+      → moesi.line_of (moesi.with_block s.caches a (with_line k c (record { line = l; copy = d }))) c a ≡ l
+  line_new k l d size =
+      ap (λ (b : Block). (cell_of b c).line) (get_or-set_same s.caches.blocks a
+      (with_line k c (record { line = l; copy = d })) (record { lines = []; memory = (0, None) }) within)
+      ∙ rw (get_or-set_same k.lines c (record { line = l; copy = d }) invalid (omega (arith, line_within))) refl
+
   -- a step that is a transaction of the line
   fetched : (step : Step) (u : Block)
-      → step_result p capacity fault.None s step ≡ Ok (with_caches s (with_block s.caches a u))
-      → Fetches p n capacity s (step ∷ []) (with_block s.caches a u)
+      → step_result p capacity fault.None s step ≡ Ok (with_caches s (moesi.with_block s.caches a u))
+      → Fetches p n capacity s (step ∷ []) (moesi.with_block s.caches a u)
   fetched step u took = (
     goes_one p capacity s _ step took,
     goes_further p n capacity s _ step f took,
@@ -292,17 +279,12 @@ module _ (p : List (List Op)) (n capacity : ℕ) (s : State) (f : StaysOrderly p
       go true is = (s.caches, ((tt, refl), f, refl), is)
       go false is =
           let b : Block = moesi.block_of s.caches a in
-          let u : Block = record {
-            lines = slice_set (map row.invalidated b.lines) c (record { line = line.M; copy = supplied b });
-            memory = b.memory;
-          } in
-          let mine : (cell_of u c).line ≡ line.M = rw (get_or-set_same (map row.invalidated b.lines) c
-          (record { line = line.M; copy = supplied b }) invalid
-          (omega (arith, line_within, length-map b.lines row.invalidated))) refl in
-          let made : moesi.get_m s.caches c a ≡ Ok (with_block s.caches a u) = rw is refl in (
-            with_block s.caches a u,
+          let k : Block = block_by (λ x. invalid) b in
+          let u : Block = with_line k c (record { line = line.M; copy = supplied b }) in
+          let made : moesi.get_m s.caches c a ≡ Ok (moesi.with_block s.caches a u) = rw is refl in (
+            moesi.with_block s.caches a u,
             fetched (GetM c a) u (rw (has_line p s c a core within, made) refl),
-            ap is_exclusive (line_new s.caches c a u within ∙ mine),
+            ap is_exclusive (line_new k line.M (supplied b) (length-map b.lines (λ x. invalid))),
           )
 
   -- a core that wants to read a line gets it, unless a store of its own waits
@@ -318,32 +300,26 @@ module _ (p : List (List Op)) (n capacity : ℕ) (s : State) (f : StaysOrderly p
       go true is = (s.caches, ((tt, refl), f, refl), (moesi.copy_of s.caches c a, rw is refl))
       go false is =
           let b : Block = moesi.block_of s.caches a in
-          let u : Block = record {
-            lines = slice_set (map row.shared b.lines) c
-                (record { line = cond (has_copy b) line.S line.E; copy = supplied b });
-            memory = b.memory;
-          } in
-          let mine : (cell_of u c).line ≡ cond (has_copy b) line.S line.E =
-          rw (get_or-set_same (map row.shared b.lines) c
-          (record { line = cond (has_copy b) line.S line.E; copy = supplied b }) invalid
-          (omega (arith, line_within, length-map b.lines row.shared))) refl in
-          let made : moesi.get_s s.caches c a ≡ Ok (with_block s.caches a u) = rw is refl in
-          let valid : is_valid (moesi.line_of (with_block s.caches a u) c a) ≡ true =
-          ap is_valid (line_new s.caches c a u within ∙ mine) ∙ shared_valid (has_copy b) in (
-            with_block s.caches a u,
+          let k : Block = block_by (λ x. record { line = lowered x.line; copy = x.copy }) b in
+          let l : Line = cond (has_copy b) line.S line.E in
+          let u : Block = with_line k c (record { line = l; copy = supplied b }) in
+          let made : moesi.get_s s.caches c a ≡ Ok (moesi.with_block s.caches a u) = rw is refl in
+          let valid : is_valid (moesi.line_of (moesi.with_block s.caches a u) c a) ≡ true =
+          ap is_valid (line_new k l (supplied b)
+          (length-map b.lines (λ x. record { line = lowered x.line; copy = x.copy })))
+          ∙ shared_valid (has_copy b) in (
+            moesi.with_block s.caches a u,
             fetched (GetS c a) u (rw (has_line p s c a core within, made) refl),
-            (moesi.copy_of (with_block s.caches a u) c a, rw valid refl),
+            (moesi.copy_of (moesi.with_block s.caches a u) c a, rw valid refl),
           )
 
 -- a line that may be written takes what is written
 pub write_made : (s : moesi.CacheState) (c a value event : ℕ) → is_exclusive (moesi.line_of s c a) ≡ true
     → (caches : moesi.CacheState) × (moesi.write s c a value event ≡ Ok caches)
-write_made s c a value event is =
-    let u : Block = record {
-      lines = slice_set (moesi.block_of s a).lines c (record { line = line.M; copy = (value, Some event) });
-      memory = (moesi.block_of s a).memory;
-    } in
-    (with_block s a u, rw is refl)
+write_made s c a value event is = (
+  moesi.with_block s a (with_line (moesi.block_of s a) c (record { line = line.M; copy = (value, Some event) })),
+  rw is refl,
+)
 
 -- at most one step gets a line
 pub few_write : (s : State) (c a : ℕ) → length (get_to_write s c a) ≤ 1

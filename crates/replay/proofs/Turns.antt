@@ -7,7 +7,7 @@ use Rattle.std.specs.List.{sum, count_by}
 use Rattle.std.proofs.lemmas.List.Sums.{sum_by-set}
 use Rattle.std.proofs.lemmas.Bool.{cases_eq, cases_lt, lt-ltb, cases_Bool, and_parts, and_right}
 use Rattle.program.specs.declared.op.Op.{Op}
-use Rattle.program.specs.declared.op.Op.TheVariants.{St, Ld, Fence, Swap, Add, Cas}
+use Rattle.program.specs.declared.op.Op.TheVariants.{St, Ld, Fence, Swap, Cas}
 use Rattle.program.specs.Parts.{IsWithin}
 use Rattle.recording.specs.declared.event.Event.TheVariants.{L, S, R, C, F}
 use Rattle.recording.specs.Event.{is_plain_store, is_plain_load}
@@ -41,12 +41,8 @@ use Rattle.replay.proofs.StepLists.{fetch_read, write_made, few_write, few_read}
 
 -- a plain store is no plain load
 store_no_load : (op : Op) → is_st op ≡ true → is_ld op ≡ false
-store_no_load (St a v) h = refl
 store_no_load (Ld a) h = absurd cc
-store_no_load Fence h = refl
-store_no_load (Swap a v) h = refl
-store_no_load (Add a v) h = refl
-store_no_load (Cas a e v) h = refl
+store_no_load op h = refl
 
 -- the state after core c's oldest store went to its line, which left these caches
 abbrev pub drained_state : State → moesi.CacheState → ℕ → Entry → List Entry → State

@@ -11,8 +11,7 @@ use Rattle.machine.specs.Step.{run}
 use Rattle.machine.specs.RunLaws.{run_append}
 use Rattle.machine.specs.Configuration.{Configuration}
 use Rattle.replay.specs.Program.{program_of}
-use Rattle.replay.specs.Steps.{executed_before, execute_to, perform, turn, order_steps}
-use Rattle.replay.specs.Replaying.{Replaying, with_steps}
+use Rattle.replay.specs.Steps.{executed_before, execute_to, perform, turn, order_steps, Replaying, with_steps}
 
 -- more steps, and then more
 pub more_steps : (r : Replaying) (xs ys : List Step) → with_steps (with_steps r xs) ys ≡ with_steps r

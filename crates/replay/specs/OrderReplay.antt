@@ -1,6 +1,7 @@
 -- That steps replay a memory order: the machine takes them all, and makes the recording again.
 use Rattle.std.specs.Prelude.{◌≡◌, ◌≤◌, ◌*◌, ◌↔◌, ℕ, List, length, Ok, All}
-use Rattle.program.specs.Parts.{Parts, IsProgram}
+use Rattle.std.specs.List.{AllByRecursion}
+use Rattle.program.specs.Parts.{Parts, IsProgram, Small, IsSmall}
 use Rattle.recording.specs.Execution.{Execution, event_count}
 use Rattle.recording.specs.Recording.{IsRecording}
 use Rattle.recording.specs.Tso.{IsTsoOrder}
@@ -11,9 +12,8 @@ use Rattle.machine.specs.Step.{run}
 use Rattle.machine.specs.Taken.{all_taken, begun}
 use Rattle.machine.specs.Script.{IsStepOf}
 use Rattle.recording.specs.FirstUse.{IsNumberedByFirstUse}
-use Rattle.replay.specs.Stores.{most_stores}
-use Rattle.replay.specs.Steps.{replay_steps}
-use Rattle.replay.specs.Program.{named_program, HasSmallValues}
+use Rattle.replay.specs.Steps.{most_stores, replay_steps}
+use Rattle.replay.specs.Program.{program_of, named_program}
 
 -- the state that steps without fault lead to from the beginning
 abbrev pub led_to : Parts → ℕ → List Step → State
@@ -33,7 +33,7 @@ pub record IsReplay (x : Execution) (m : List ℕ) (p : Parts) (capacity : ℕ) 
 -- a recording with values of 32 bits, whose addresses are numbered by first use, none unused
 pub record IsReplayable (x : Execution) : Type 0 where
   pub recording : IsRecording x
-  pub small : HasSmallValues x
+  pub small : AllByRecursion (AllByRecursion Small) (program_of x) × AllByRecursion IsSmall x.initial
   pub numbered : IsNumberedByFirstUse x
 
 -- each TSO order of a replayable recording is replayed, with any capacity of at least 1 that holds the stores of
@@ -42,13 +42,9 @@ abbrev pub EveryOrderIsReplayed : Execution → List ℕ → ℕ → Type 0
 EveryOrderIsReplayed x m capacity = IsReplayable x → IsTsoOrder x m → most_stores x.cores ≤ capacity
     → IsReplay x m (named_program x) capacity (replay_steps x m)
 
--- a program makes the recording in some run without fault, with this capacity
-abbrev pub CanMake : ℕ → Execution → Type 0
-CanMake capacity x = (p : Parts) × (steps : List Step)
-    × IsProgram p × IsComplete p.cores (led_to p capacity steps) × (recorded p.cores (led_to p capacity steps) ≡ x)
-
--- with a capacity of at least 1 that holds the stores of a core, the machine makes, among the
--- replayable recordings, exactly those that have a TSO order
+-- with a capacity of at least 1 that holds the stores of a core, some program makes, in a run without fault, among
+-- the replayable recordings exactly those that have a TSO order
 abbrev pub MakesExactlyTso : Execution → ℕ → Type 0
 MakesExactlyTso x capacity = IsReplayable x → most_stores x.cores ≤ capacity
-    → CanMake capacity x ↔ ((m : List ℕ) × IsTsoOrder x m)
+    → ((p : Parts) × (steps : List Step) × IsProgram p × IsComplete p.cores (led_to p capacity steps)
+    × (recorded p.cores (led_to p capacity steps) ≡ x)) ↔ ((m : List ℕ) × IsTsoOrder x m)

@@ -1,11 +1,10 @@
 -- The program that makes a recording again: its events' operations, a name for each address, and the
 -- initial values.
 use Rattle.std.specs.Prelude.{◌+◌, ◌%◌, ◌^◌, List, map, length}
-use Rattle.std.specs.List.{AllByRecursion}
 use Rattle.program.specs.declared.op.Op.{Op}
 use Rattle.program.specs.declared.op.Op.TheVariants.{St, Ld, Fence, Swap, Cas}
 use Rattle.program.specs.AddressNames.{address_names}
-use Rattle.program.specs.Parts.{Parts, parts_of, Small, IsSmall}
+use Rattle.program.specs.Parts.{Parts, parts_of}
 use Rattle.recording.specs.declared.event.Event.{Event}
 use Rattle.recording.specs.declared.event.Event.TheVariants.{L, S, R, C, F}
 use Rattle.recording.specs.Execution.{Execution}
@@ -26,7 +25,3 @@ program_of x = map (λ es. map op_of es) x.cores
 -- the operations of an execution, its addresses' names, and their initial values
 abbrev pub named_program : Execution → Parts
 named_program x = parts_of (address_names (length x.write_lists)) (program_of x) x.initial
-
--- what its operations write, and its initial values, are numbers of 32 bits
-abbrev pub HasSmallValues : Execution → Type 0
-HasSmallValues x = AllByRecursion (AllByRecursion Small) (program_of x) × AllByRecursion IsSmall x.initial

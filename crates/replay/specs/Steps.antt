@@ -1,10 +1,12 @@
 -- The steps that make a recording again, from a memory order of it.
 use Rattle.std.specs.Prelude.{◌+◌, ◌-◌, ℕ, if◌then◌else◌, Option, Some, None, List, [], ◌∷◌, ◌++◌}
-use Rattle.std.specs.Prelude.{replicate}
+use Rattle.std.specs.Prelude.{replicate, max, count_by}
 use Rattle.program.specs.declared.op.Op.{Op}
 use Rattle.recording.specs.declared.event.Event.{Event}
 use Rattle.recording.specs.declared.event.Event.TheVariants.{L, S, R, C, F}
+use Rattle.recording.specs.Event.{is_plain_store}
 use Rattle.recording.specs.Execution.{Execution, core_of, event_at}
+use Rattle.machine.specs.Configuration.{Configuration, state_behind}
 use Rattle.write_buffer.specs.declared.entry.Entry.{Entry}
 use Rattle.write_buffer.specs.Buffer.{youngest}
 use Rattle.moesi.specs.Lines.{is_valid, is_exclusive}
@@ -16,7 +18,6 @@ use Rattle.machine.specs.declared.step.Step.TheVariants.{Exec, Drain, GetS, GetM
 use Rattle.machine.specs.State.{State, place_of, buffer_of, first_event, opening}
 use Rattle.machine.specs.Step.{run}
 use Rattle.replay.specs.Program.{program_of}
-use Rattle.replay.specs.Stores.{most_stores}
 
 -- core c executes its events before e, as far as it has not yet
 abbrev pub execute_to : List (List Op) → State → ℕ → ℕ → List Step
@@ -43,10 +44,7 @@ perform s c F = Exec c ∷ []
 -- its buffer by then
 abbrev pub executed_before : ℕ → Event → ℕ
 executed_before e (S a w) = e + 1
-executed_before e (L a r o) = e
-executed_before e (R a r o w) = e
-executed_before e (C a r o) = e
-executed_before e F = e
+executed_before e ev = e
 
 -- the steps of event e of core c: the core executes what comes first, and performs it
 abbrev pub turn : List (List Op) → ℕ → Fault → State → ℕ → ℕ → Event → List Step
@@ -61,7 +59,24 @@ order_steps x capacity f s (e ∷ m) =
     let steps = turn (program_of x) capacity f s (core_of x e) e (event_at x e) in
     steps ++ order_steps x capacity f (run (program_of x) capacity f s steps) m
 
+-- the greatest number of plain stores on one core, and at least 1
+abbrev pub most_stores : List (List Event) → ℕ
+most_stores [] = 1
+most_stores (es ∷ rest) = max (count_by is_plain_store es) (most_stores rest)
+
 -- the steps that perform an order from the start, without fault and with the smallest buffers
 abbrev pub replay_steps : Execution → List ℕ → List Step
 replay_steps x m =
     order_steps x (most_stores x.cores) fault.None (opening (program_of x) x.initial) m
+
+-- a machine, and the steps that it has taken
+pub record Replaying : Type 0 where
+  pub machine : Configuration
+  pub steps : List Step
+
+-- the same after more steps
+abbrev pub with_steps : Replaying → List Step → Replaying
+with_steps r steps = record {
+  machine = record r.machine { state = state_behind r.machine steps };
+  steps = r.steps ++ steps;
+}

@@ -35,15 +35,8 @@ pub fn named_program(alloc: Global, recording: &Recording) -> Result<Program, Ou
 {
     recording.sound();
     let names = address_names(alloc, recording.addresses())?;
-    let Ok(cores) = cores_of(alloc, recording) else {
-        drop(names);
-        return Err(OutOfMemory);
-    };
-    let Ok(init) = values_of(alloc, recording.init()) else {
-        drop(cores);
-        drop(names);
-        return Err(OutOfMemory);
-    };
+    let cores = cores_of(alloc, recording)?;
+    let init = values_of(alloc, recording.init())?;
     match Program::new(names, cores, init) {
         Some(program) => Ok(program),
         None => unreachable!(),

@@ -16,7 +16,7 @@ pub(crate) struct Replay {
 }
 
 impl Model for Replay {
-    ghost use Rattle.replay.specs.Replaying.{Replaying};
+    ghost use Rattle.replay.specs.Steps.{Replaying};
 
     ghost Value = { Replaying };
 
@@ -28,8 +28,7 @@ impl Replay {
     ghost use Rattle.recording.specs.Event.{read_address, written_address};
     ghost use Rattle.write_buffer.specs.Buffer.{youngest};
     ghost use Rattle.machine.specs.State.{buffer_of};
-    ghost use Rattle.replay.specs.Steps.{execute_to, get_to_write, get_to_read, perform, turn};
-    ghost use Rattle.replay.specs.Replaying.{with_steps};
+    ghost use Rattle.replay.specs.Steps.{execute_to, get_to_write, get_to_read, perform, turn, with_steps};
 
     /// Takes a step.
     fn take(&mut self, step: Step) -> Result<(), OutOfMemory>
@@ -74,10 +73,7 @@ impl Replay {
             (get_to_read self.old.machine.state core addr
             (youngest (buffer_of self.old.machine.state core) addr))) }
     {
-        if self.machine.youngest(core, addr).is_some() {
-            return Ok(());
-        }
-        if self.machine.line(core, addr).is_valid() {
+        if self.machine.youngest(core, addr).is_some() || self.machine.line(core, addr).is_valid() {
             return Ok(());
         }
         self.take(Step::GetS(core, addr))

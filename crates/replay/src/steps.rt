@@ -6,8 +6,7 @@ ghost use Rattle.recording.specs.Order.{times};
 ghost use Rattle.recording.specs.Tso.{IsTsoOrder};
 ghost use Rattle.recording.specs.FirstUse.{IsNumberedByFirstUse};
 ghost use Rattle.replay.specs.Program.{program_of, named_program};
-ghost use Rattle.replay.specs.Stores.{most_stores};
-ghost use Rattle.replay.specs.Steps.{order_steps, replay_steps};
+ghost use Rattle.replay.specs.Steps.{most_stores, order_steps, replay_steps};
 ghost use Rattle.replay.specs.OrderReplay.{IsReplay};
 
 use crate::law::every_order_is_replayed;
@@ -45,10 +44,7 @@ fn steps_of(
             Some(placed) => placed,
             None => unreachable!(),
         };
-        let Ok(()) = replay.turn(core, *number, *event) else {
-            drop(replay);
-            return Err(OutOfMemory);
-        };
+        replay.turn(core, *number, *event)?;
     }
     Ok(replay)
 }

@@ -2,7 +2,7 @@
 
 ghost use Rattle.std.specs.Prelude.{◌≡◌, count_by};
 ghost use Rattle.recording.specs.Event.{is_plain_store};
-ghost use Rattle.replay.specs.Stores.{most_stores};
+ghost use Rattle.replay.specs.Steps.{most_stores};
 
 use recording::{Event, Recording};
 

@@ -2,11 +2,9 @@ use Rattle.std.proofs.Common.{◌≡◌, ℕ, List, Vec, Global, Result, Ok, Err
 use Rattle.recording.specs.Execution.{Execution}
 use Rattle.program.specs.Spelling.{spelling}
 use Rattle.program.specs.Text.{reading}
-use Rattle.machine.specs.Script.{steps_of}
-use Rattle.machine.specs.ScriptText.{script_text}
+use Rattle.machine.specs.Script.{steps_of, script_text}
 use Rattle.replay.specs.Program.{named_program}
-use Rattle.replay.specs.Steps.{replay_steps}
-use Rattle.replay.specs.Stores.{most_stores}
+use Rattle.replay.specs.Steps.{replay_steps, most_stores}
 use Rattle.commands.specs.Replay.{IsReplayText, ReplaysOrder, replay_text}
 use Rattle.commands.proofs.replay_command.replay_text.Goals as goal
 

@@ -5,9 +5,6 @@ use Rattle.machine.proofs.construction.bounded_lists.Goals as goal
 pub returns-in_err-lists : goal.returns-in_err-lists
 returns-in_err-lists g c = IfOk-from_err c.from_residual.result _ c.from_residual.ensures.0
 
-pub returns-in_err-add_list : goal.returns-in_err-add_list
-returns-in_err-add_list g c =
-    IfOk-from_err c.from_residual-in_err-add_list.result _ c.from_residual-in_err-add_list.ensures.0
-
 pub loop-preserved : goal.loop-preserved
-loop-preserved g c = rw (c.in_ok-add_list.ensures, c.loop.invariant) (replicate_more c.loop.counter _)
+loop-preserved g c =
+    rw (c.in_ok-push.ensures.items, c.in_ok-new.ensures, c.loop.invariant) (replicate_more c.loop.counter _)

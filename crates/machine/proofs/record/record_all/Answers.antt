@@ -5,7 +5,7 @@ use Rattle.std.proofs.lemmas.List.Sums.{sum_by_more, sum_by-take-le, get_or-le-s
 use Rattle.std.proofs.lemmas.List.Elements.{All-pop}
 use Rattle.recording.specs.declared.event.Event.{Event}
 use Rattle.program.specs.declared.op.Op.{Op}
-use Rattle.machine.specs.BoundedItems.{BoundedItems}
+use Rattle.machine.specs.Configuration.{BoundedItems}
 use Rattle.machine.specs.State.{events_from, cores_from}
 use Rattle.machine.proofs.record.record_all.Goals as goal
 

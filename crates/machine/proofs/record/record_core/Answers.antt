@@ -4,7 +4,7 @@ use Rattle.std.proofs.Common.{length-append, drop-cons, add-one}
 use Rattle.std.proofs.lemmas.List.{drop_all}
 use Rattle.program.specs.declared.op.Op.{Op}
 use Rattle.recording.specs.declared.event.Event.{Event}
-use Rattle.machine.specs.BoundedItems.{BoundedItems}
+use Rattle.machine.specs.Configuration.{BoundedItems}
 use Rattle.machine.specs.State.{event_of, events_from}
 use Rattle.machine.proofs.record.record_core.Goals as goal
 

@@ -2,7 +2,7 @@ use Rattle.std.proofs.Common.{◌≡◌, ◌+◌, ◌*◌, ◌||◌, drop}
 use Rattle.std.specs.List.{list_any}
 use Rattle.moesi.specs.Lines.{is_valid, supplies}
 use Rattle.moesi.specs.Block.{Block, copy_where, has_copy, supplied}
-use Rattle.moesi.specs.Packed.{block_in}
+use Rattle.moesi.specs.Words.{block_in}
 use Rattle.moesi.proofs.words.asked.Given as goal
 
 abbrev pub invariant-loop : goal.invariant-loop

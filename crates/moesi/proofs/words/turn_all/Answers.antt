@@ -1,19 +1,44 @@
-use Rattle.std.proofs.Common.{◌∙◌, arith}
+use Rattle.std.proofs.Common.{◌≡◌, ◌∙◌, ap, refl, sym, arith, List, length, length-set, map}
+use Rattle.std.proofs.lemmas.List.{take_all, drop_all, append-nil}
+use Rattle.moesi.specs.declared.cell.Cell.{Cell}
+use Rattle.moesi.specs.Block.{Block}
+use Rattle.moesi.specs.State.{CacheState, with_block}
 use Rattle.moesi.specs.Rows.{turned}
-use Rattle.moesi.proofs.Grid.{next_place}
-use Rattle.moesi.proofs.Turning.{turns_more, all_turned}
+use Rattle.moesi.specs.Words.{block_in, caches_in}
+use Rattle.moesi.proofs.Grid.{next_place, lines_length, blocks_length, block_at}
+use Rattle.moesi.proofs.Written.{turns_more, state_same}
 use Rattle.moesi.proofs.words.turn_all.Goals as goal
 
 pub loop-preserved : goal.loop-preserved
-loop-preserved c = record {
-  place = next_place c.loop.counter c.args.addresses c.args.addr c.loop.at c.loop.invariant.place;
-  turns = turns_more c.args.cores c.args.addresses c.args.words.now c.loop.words c.loop.counter c.args.addr
-      c.loop.at c.turned.result (turned c.args.turn) c.requires.words (omega arith) c.requires.address
-      c.loop.invariant.place c.turned.ensures c.loop.invariant.turns;
+loop-preserved c =
+    let s : CacheState = caches_in c.args.cores c.args.addresses c.args.words.now in
+    let b : Block = block_in c.args.cores c.args.addresses c.args.words.now c.args.addr in
+    record {
+      place = next_place c.loop.counter c.args.addresses c.args.addr c.loop.at c.loop.invariant.place;
+      size = length-set c.loop.words c.loop.at c.turned.result ∙ c.loop.invariant.size;
+      turns = turns_more c.args.cores c.args.addresses s c.loop.words c.loop.counter c.args.addr
+          c.loop.at c.turned.result (turned c.args.turn) b (c.loop.invariant.size ∙ c.requires.words) (omega arith)
+          c.requires.address (omega (arith, blocks_length c.args.cores c.args.addresses c.args.words.now))
+          (omega (arith, lines_length c.args.cores c.args.addresses c.args.words.now c.args.addr))
+          c.loop.invariant.place c.turned.ensures c.loop.invariant.turns;
+    }
+
+pub loop-init : goal.loop-init
+loop-init c = record {
+  place = omega arith;
+  size = refl;
+  turns = sym (ap (with_block (caches_in c.args.cores c.args.addresses c.args.words.now) c.args.addr)
+      (sym (block_at c.args.cores c.args.addresses c.args.words.now c.args.addr c.requires.address))
+      ∙ state_same (caches_in c.args.cores c.args.addresses c.args.words.now) c.args.addr);
 }
 
 pub returns-clause-turned : goal.returns-clause-turned
 returns-clause-turned c =
-    c.loop.invariant.turns.turned
-    ∙ all_turned c.args.cores c.args.addresses c.args.words.now c.args.addr (turned c.args.turn) c.loop.counter
-    (omega arith) (omega arith)
+    let s : CacheState = caches_in c.args.cores c.args.addresses c.args.words.now in
+    let b : Block = block_in c.args.cores c.args.addresses c.args.words.now c.args.addr in
+    let all : length b.lines ≡ c.loop.counter =
+    omega (arith, lines_length c.args.cores c.args.addresses c.args.words.now c.args.addr) in
+    c.loop.invariant.turns
+    ∙ ap (λ (ls : List Cell). with_block s c.args.addr (record { lines = ls; memory = b.memory }))
+    (rw (take_all c.loop.counter b.lines (omega arith), drop_all c.loop.counter b.lines (omega arith))
+    (append-nil (map (turned c.args.turn) b.lines)))

@@ -14,27 +14,27 @@ pub unreachable-requires : goal.unreachable-requires
 unreachable-requires c =
     let x : Execution = c.args.recording.now in
     let small : AllByRecursion (AllByRecursion Small) (program_of x) =
-    rw (← c.in-Ok.ensures.cores) c.in-Ok.ensures.small in
+    rw (← c.in_ok-cores.ensures.cores) c.in_ok-cores.ensures.small in
     let names : c.in_ok-names.names.keys ≡ address_names (length x.write_lists) =
     c.in_ok-names.ensures ∙ ap address_names c.addresses.ensures in
-    let init : c.in-Ok-values_of.init.items ≡ x.initial = c.in-Ok-values_of.ensures.values ∙ c.init.ensures.value in
+    let init : c.in_ok-init.init.items ≡ x.initial = c.in_ok-init.ensures.values ∙ c.init.ensures.value in
     let small_init : AllByRecursion IsSmall x.initial =
-    subst (λ (l : List ℕ). AllByRecursion IsSmall l) init c.in-Ok-values_of.ensures.small in
+    subst (λ (l : List ℕ). AllByRecursion IsSmall l) init c.in_ok-init.ensures.small in
     c.in-None.ensures.none refl
-    (rw names (rw c.in-Ok.ensures.cores
+    (rw names (rw c.in_ok-cores.ensures.cores
     (rw init (named_is_program x c.sound.ensures c.requires small small_init))))
 
 pub returns-clause-made : goal.returns-clause-made
 returns-clause-made c =
     let x : Execution = c.args.recording.now in
-    let cores : List (List Op) = c.in-Ok.cores.items in
-    let init : List ℕ = c.in-Ok-values_of.init.items in
+    let cores : List (List Op) = c.in_ok-cores.cores.items in
+    let init : List ℕ = c.in_ok-init.init.items in
     let names : c.in_ok-names.names.keys ≡ address_names (length x.write_lists) =
     c.in_ok-names.ensures ∙ ap address_names c.addresses.ensures in
-    let values : init ≡ x.initial = c.in-Ok-values_of.ensures.values ∙ c.init.ensures.value in
+    let values : init ≡ x.initial = c.in_ok-init.ensures.values ∙ c.init.ensures.value in
     let program : c.in-Some.program ≡ named_program x =
     c.in-Some.ensures.some
     ∙ (ap (λ (l : List Name). parts_of l cores init) names
-    ∙ (ap (λ (p : List (List Op)). parts_of (address_names (length x.write_lists)) p init) c.in-Ok.ensures.cores
+    ∙ (ap (λ (p : List (List Op)). parts_of (address_names (length x.write_lists)) p init) c.in_ok-cores.ensures.cores
     ∙ ap (λ (l : List ℕ). parts_of (address_names (length x.write_lists)) (program_of x) l) values)) in
     subst (λ (p : Parts). IsProgramOf p x) (sym program) (named_is_of x)

@@ -4,10 +4,8 @@ use Rattle.recording.specs.Execution.{Execution}
 use Rattle.machine.specs.declared.fault.Fault.TheVariants as fault
 use Rattle.machine.specs.State.{opening}
 use Rattle.machine.specs.Configuration.{Configuration}
-use Rattle.replay.specs.Stores.{most_stores}
-use Rattle.replay.specs.Steps.{order_steps, replay_steps}
+use Rattle.replay.specs.Steps.{most_stores, order_steps, replay_steps, Replaying}
 use Rattle.replay.specs.Program.{named_program}
-use Rattle.replay.specs.Replaying.{Replaying}
 use Rattle.replay.specs.OrderReplay.{IsReplayable}
 use Rattle.program.specs.AddressNameLaws.{names_count}
 use Rattle.replay.proofs.steps.replay_steps.Goals as goal

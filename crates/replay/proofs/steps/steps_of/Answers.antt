@@ -3,8 +3,7 @@ use Rattle.std.proofs.Common.{get_or, drop, drop-cons, arith}
 use Rattle.recording.specs.declared.event.Event.{Event}
 use Rattle.recording.specs.Execution.{Execution, core_of, event_at}
 use Rattle.recording.specs.PlaceLaws.{times_at}
-use Rattle.replay.specs.Steps.{turn, order_steps}
-use Rattle.replay.specs.Replaying.{Replaying, with_steps}
+use Rattle.replay.specs.Steps.{turn, order_steps, Replaying, with_steps}
 use Rattle.replay.proofs.Made.{core_there}
 use Rattle.replay.proofs.WrittenSteps.{order_machine, order_more}
 use Rattle.replay.proofs.steps.steps_of.Goals as goal
@@ -46,7 +45,7 @@ loop-number-preserved c =
     let e : ℕ = get_or m i 0 in
     let took : new ≡ with_steps old (turn old.machine.program.cores old.machine.capacity old.machine.fault
     old.machine.state (core_of x e) e (event_at x e)) =
-    c.in-Ok.ensures
+    c.in_ok-turn.ensures
     ∙ (ap (λ (k : ℕ). with_steps old (turn old.machine.program.cores old.machine.capacity old.machine.fault
     old.machine.state k e c.in-Some.placed.1.now)) c.in-Some.ensures.1
     ∙ ap (λ (ev : Event). with_steps old

@@ -1,7 +1,7 @@
 use Rattle.std.proofs.Common.{◌≡◌, ◌∙◌, [], max, map, drop, ap, sym, arith, List, Vec, Global}
 use Rattle.std.proofs.Common.{drop_of_length-le}
 use Rattle.recording.specs.declared.event.Event.{Event}
-use Rattle.replay.specs.Stores.{most_stores}
+use Rattle.replay.specs.Steps.{most_stores}
 use Rattle.replay.proofs.NamedProgram.{most_of_one, most_one}
 use Rattle.replay.proofs.stores.most_stores.Goals as goal
 

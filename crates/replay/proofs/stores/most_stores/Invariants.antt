@@ -1,5 +1,5 @@
 use Rattle.std.proofs.Common.{◌≡◌, ◌≤◌, max, map, drop}
-use Rattle.replay.specs.Stores.{most_stores}
+use Rattle.replay.specs.Steps.{most_stores}
 use Rattle.replay.proofs.stores.most_stores.Given as goal
 
 abbrev pub invariant-loop-events : goal.invariant-loop-events

@@ -3,6 +3,7 @@ use Rattle.std.proofs.lemmas.Bool.{lt-ltb, le-ltb}
 use Rattle.machine.specs.declared.step.Step.TheVariants.{Drain}
 use Rattle.machine.proofs.Parts.{lines_there, buffer_seen}
 use Rattle.machine.proofs.DrainParts as drained
+use Rattle.machine.proofs.Answered.{taken, blocked}
 use Rattle.machine.proofs.Reached.{reached_step}
 use Rattle.machine.proofs.machine.Machine.drain.Goals as goal
 
@@ -23,12 +24,13 @@ push-requires-2 c =
     drained.has_room c.self.invariant.sound there c.index.ensures c.self.inside.fault c.in-Some.ensures
     c.index_mut.ensures.value c.drain.ensures.entries c.drain.ensures.capacity
 
-pub returns-clause-ok : goal.returns-clause-ok
-returns-clause-ok c =
-    let there = subst (λ (n : ℕ). c.args.core < n) c.cores.ensures.count c.if-core-cores.false in
+pub returns : goal.returns
+returns c =
+    taken (let there = subst (λ (n : ℕ). c.args.core < n) c.cores.ensures.count c.if-core-cores.false in
     rw (← c.self.view_is) (drained.drain_taken c.self.invariant.sound there c.index.ensures c.self.inside.fault
     c.in-Some.ensures c.index_mut.ensures.value c.drain.ensures.entries c.drain.ensures.capacity
-    c.index_mut-2.ensures.value c.push.ensures c.push-2.ensures c.in-Ok.ensures.ok)
+    c.index_mut-2.ensures.value c.push.ensures c.push-2.ensures c.in-Ok.ensures.answer.ok))
+    (rw (← c.self.view_is) refl)
 
 pub invariant_of-self-2 : goal.invariant_of-self-2
 invariant_of-self-2 c =
@@ -36,16 +38,18 @@ invariant_of-self-2 c =
     record {
       sound = drained.drained_sound c.self.invariant.sound there c.index.ensures c.self.inside.fault
           c.in-Some.ensures c.index_mut.ensures.value c.drain.ensures.entries c.drain.ensures.capacity
-          c.index_mut-2.ensures.value c.push.ensures c.push-2.ensures c.write.ensures.cores c.write.ensures.addresses;
+          c.index_mut-2.ensures.value c.push.ensures c.push-2.ensures
+          c.write.ensures.answer.cores c.write.ensures.answer.addresses;
       reached = reached_step (Drain c.args.core) c.self.invariant.reached
-          (rw (← c.self.view_is) at (returns-clause-ok c));
+          (rw (← c.self.view_is) at (returns c).ok);
       blank_is = c.self.invariant.blank_is;
     }
 
-pub returns-then-core-cores-clause-blocked : goal.returns-then-core-cores-clause-blocked
-returns-then-core-cores-clause-blocked c =
-    let none = subst (λ (n : ℕ). n ≤ c.args.core) c.cores.ensures.count c.if-core-cores.true in
-    rw (← c.self.view_is) (rw (le-ltb c.args.core (length c.self.inside.program.cores) none) refl)
+pub returns-then-core-cores : goal.returns-then-core-cores
+returns-then-core-cores c =
+    blocked (let none = subst (λ (n : ℕ). n ≤ c.args.core) c.cores.ensures.count c.if-core-cores.true in
+    rw (← c.self.view_is) (rw (le-ltb c.args.core (length c.self.inside.program.cores) none) refl))
+    refl
 
 pub write-requires-clause-core : goal.write-requires-clause-core
 write-requires-clause-core c =
@@ -58,33 +62,27 @@ write-requires-clause-address c =
     subst (λ (n : ℕ). c.in-Some.entry.addr < n) (sym c.self.invariant.sound.cache_blocks)
     (drained.entry_within c.self.invariant.sound there c.index.ensures c.self.inside.fault c.in-Some.ensures).0
 
-pub returns-in_default-clause-blocked : goal.returns-in_default-clause-blocked
-returns-in_default-clause-blocked c =
-    let there = subst (λ (n : ℕ). c.args.core < n) c.cores.ensures.count c.if-core-cores.false in
+pub returns-in_default : goal.returns-in_default
+returns-in_default c =
+    blocked (let there = subst (λ (n : ℕ). c.args.core < n) c.cores.ensures.count c.if-core-cores.false in
     rw (← c.self.view_is) (rw (
       lt-ltb c.args.core (length c.self.inside.program.cores) there,
       buffer_seen c.self.invariant.sound there c.index.ensures,
       sym c.draining.ensures ∙ c.in_default.is,
-    ) refl)
+    ) refl))
+    refl
 
 pub invariant_of-self : goal.invariant_of-self
 invariant_of-self c =
-    rw c.in_default-write.ensures.unchanged c.self.invariant
+    rw c.in_default-write.ensures.answer.unchanged c.self.invariant
 
-pub returns-in_default-write-clause-unchanged : goal.returns-in_default-write-clause-unchanged
-returns-in_default-write-clause-unchanged c =
-    rw c.in_default-write.ensures.unchanged c.self.view_is
-
-pub returns-in_default-write-clause-blocked : goal.returns-in_default-write-clause-blocked
-returns-in_default-write-clause-blocked c =
-    let there = subst (λ (n : ℕ). c.args.core < n) c.cores.ensures.count c.if-core-cores.false in
+pub returns-in_default-write : goal.returns-in_default-write
+returns-in_default-write c =
+    blocked (let there = subst (λ (n : ℕ). c.args.core < n) c.cores.ensures.count c.if-core-cores.false in
     rw (← c.self.view_is) (rw (
       lt-ltb c.args.core (length c.self.inside.program.cores) there,
       buffer_seen c.self.invariant.sound there c.index.ensures,
       ← c.in-Some.ensures,
-      c.in_default-write.ensures.refused,
-    ) refl)
-
-pub returns-clause-rest : goal.returns-clause-rest
-returns-clause-rest c =
-    rw (← c.self.view_is) refl
+      c.in_default-write.ensures.answer.refused,
+    ) refl))
+    (rw c.in_default-write.ensures.answer.unchanged c.self.view_is)

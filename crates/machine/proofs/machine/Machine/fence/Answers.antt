@@ -2,6 +2,7 @@ use Rattle.std.proofs.Common.{sym, ◌∙◌, refl}
 use Rattle.machine.proofs.Parts.{few, buffer_seen}
 use Rattle.machine.proofs.ExecuteParts as executed
 use Rattle.machine.proofs.Reached.{reached_exec}
+use Rattle.machine.proofs.Answered.{taken, blocked}
 use Rattle.machine.proofs.Inside.{at_inside}
 use Rattle.machine.proofs.machine.Machine.fence.Goals as goal
 
@@ -16,11 +17,12 @@ pub advance-requires-clause-few : goal.advance-requires-clause-few
 advance-requires-clause-few c =
     few c.self.invariant.sound (at_inside c.self.view_is c.requires).core c.index_mut.ensures.value c.ops.ensures
 
-pub returns-clause-ok : goal.returns-clause-ok
-returns-clause-ok c =
-    rw (← c.self.view_is, c.push.ensures)
+pub returns : goal.returns
+returns c =
+    taken (rw (← c.self.view_is, c.push.ensures)
     (executed.fence_taken c.self.invariant.sound (at_inside c.self.view_is c.requires) c.index_mut.ensures.value
-    c.advance.ensures c.self.inside.fault c.index.ensures (sym c.may_fence.ensures ∙ c.if-not-may_fence.false))
+    c.advance.ensures c.self.inside.fault c.index.ensures (sym c.may_fence.ensures ∙ c.if-not-may_fence.false)))
+    (rw (← c.self.view_is) refl)
 
 pub invariant_of-self : goal.invariant_of-self
 invariant_of-self c =
@@ -28,21 +30,18 @@ invariant_of-self c =
     record {
       sound = executed.performed_sound c.self.invariant.sound at c.index_mut.ensures.value c.advance.ensures refl
           c.push.ensures;
-      reached = reached_exec at c.self.invariant.reached (rw (← c.self.view_is) at (returns-clause-ok c));
+      reached = reached_exec at c.self.invariant.reached (rw (← c.self.view_is) at (returns c).ok);
       blank_is = c.self.invariant.blank_is;
     }
 
 pub ops-requires : goal.ops-requires
 ops-requires c = (at_inside c.self.view_is c.requires).core
 
-pub returns-then-not-may_fence-clause-blocked : goal.returns-then-not-may_fence-clause-blocked
-returns-then-not-may_fence-clause-blocked c =
-    let core = (at_inside c.self.view_is c.requires).core in
+pub returns-then-not-may_fence : goal.returns-then-not-may_fence
+returns-then-not-may_fence c =
+    blocked (let core = (at_inside c.self.view_is c.requires).core in
     rw (← c.self.view_is) (rw (
       buffer_seen c.self.invariant.sound core c.index.ensures,
       sym c.may_fence.ensures ∙ c.if-not-may_fence.true,
-    ) refl)
-
-pub returns-clause-rest : goal.returns-clause-rest
-returns-clause-rest c =
-    rw (← c.self.view_is) refl
+    ) refl))
+    refl

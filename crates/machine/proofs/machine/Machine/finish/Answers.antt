@@ -1,9 +1,8 @@
 use Rattle.std.proofs.Common.{arith, sym, ap, ◌∙◌, subst, refl, ◌≡◌, ◌≤◌, ℕ, length, map}
 use Rattle.std.proofs.lemmas.List.{length-map}
 use Rattle.common.specs.declared.limits.TheConstants.{MAX_ADDRESSES}
-use Rattle.machine.specs.BoundedItems.{BoundedItems}
+use Rattle.machine.specs.Configuration.{BoundedItems, BlankSize, Configuration, state_from}
 use Rattle.machine.specs.State.{State, IsComplete}
-use Rattle.machine.specs.Configuration.{BlankSize, Configuration, state_from}
 use Rattle.machine.specs.ProgramLaws.{recorded_is_of}
 use Rattle.machine.specs.ProgramOf.{IsProgramOf}
 use Rattle.machine.proofs.InOrder.{IsInOrder}

@@ -1,4 +1,4 @@
-use Rattle.std.proofs.Common.{ap}
+use Rattle.std.proofs.Common.{ap, rules}
 use Rattle.machine.specs.State.{State}
 use Rattle.machine.proofs.Begins.{is_machine, opening_held}
 use Rattle.machine.proofs.machine.Machine.new.Goals as goal
@@ -6,9 +6,10 @@ use Rattle.machine.proofs.machine.Machine.new.Goals as goal
 pub invariant_of-result : goal.invariant_of-result
 invariant_of-result c =
     is_machine c.args.program c.args.capacity c.cores-cores.ensures.count c.init-init.ensures.values
-    c.init-init.ensures.count c.lists.ensures c.in-Ok.ensures.units c.sound.ensures.within c.sound.ensures.few
-    c.in-Ok.ensures.buffers c.in-Ok.ensures.caches c.in-Ok-room_for.ensures.writes c.in-Ok-room_for.ensures.reads
-    c.in-Ok-room_for.ensures.performed c.in-Ok-room_for.ensures.blank c.args.fault
+    c.init-init.ensures.count c.lists.ensures c.in_ok-units.ensures c.sound.ensures.within c.sound.ensures.few
+    c.in_ok-buffers_of.ensures c.in_ok-with_init.ensures.ok c.in_ok-bounded_lists.ensures
+    (c.in_ok-vec.ensures.items_if_clones_equal (search rules))
+    c.in_ok-new.ensures c.in_ok-new-2.ensures c.args.fault
 
 pub returns : goal.returns
 returns c =
@@ -19,6 +20,7 @@ returns c =
       state = s;
     })
     (opening_held c.args.program c.args.capacity c.cores-cores.ensures.count c.init-init.ensures.values
-    c.init-init.ensures.count c.lists.ensures c.in-Ok.ensures.units c.sound.ensures.within c.sound.ensures.few
-    c.in-Ok.ensures.buffers c.in-Ok.ensures.caches c.in-Ok-room_for.ensures.writes c.in-Ok-room_for.ensures.reads
-    c.in-Ok-room_for.ensures.performed c.in-Ok-room_for.ensures.blank)
+    c.init-init.ensures.count c.lists.ensures c.in_ok-units.ensures c.sound.ensures.within c.sound.ensures.few
+    c.in_ok-buffers_of.ensures c.in_ok-with_init.ensures.ok c.in_ok-bounded_lists.ensures
+    (c.in_ok-vec.ensures.items_if_clones_equal (search rules))
+    c.in_ok-new.ensures c.in_ok-new-2.ensures)

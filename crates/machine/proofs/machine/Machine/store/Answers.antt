@@ -6,6 +6,7 @@ use Rattle.write_buffer.specs.Buffer.{Buffer}
 use Rattle.machine.proofs.Parts.{few, buffer_seen, capacity_is}
 use Rattle.machine.proofs.ExecuteParts as executed
 use Rattle.machine.proofs.Reached.{reached_exec}
+use Rattle.machine.proofs.Answered.{taken, blocked}
 use Rattle.machine.proofs.Inside.{at_inside}
 use Rattle.machine.proofs.machine.Machine.store.Goals as goal
 
@@ -25,11 +26,12 @@ pub advance-requires-clause-few : goal.advance-requires-clause-few
 advance-requires-clause-few c =
     few c.self.invariant.sound (at_inside c.self.view_is c.requires).core c.index_mut-2.ensures.value c.ops.ensures
 
-pub returns-clause-ok : goal.returns-clause-ok
-returns-clause-ok c =
-    rw (← c.self.view_is) (executed.store_taken c.self.invariant.sound (at_inside c.self.view_is c.requires)
+pub returns : goal.returns
+returns c =
+    taken (rw (← c.self.view_is) (executed.store_taken c.self.invariant.sound (at_inside c.self.view_is c.requires)
     c.index_mut-2.ensures.value c.advance.ensures c.index_mut.ensures.value _ c.in-Ok.ensures.ok
-    c.self.inside.fault refl (c.in-Ok.ensures.variant.0 refl))
+    c.self.inside.fault refl (c.in-Ok.ensures.variant.0 refl)))
+    (rw (← c.self.view_is) refl)
 
 pub invariant_of-self-2 : goal.invariant_of-self-2
 invariant_of-self-2 c =
@@ -38,7 +40,7 @@ invariant_of-self-2 c =
       sound = executed.stored_sound c.self.invariant.sound at c.index_mut-2.ensures.value c.advance.ensures
           c.index_mut.ensures.value _ c.in-Ok.ensures.ok
           (executed.within c.self.invariant.sound at, executed.number_few c.self.invariant.sound at);
-      reached = reached_exec at c.self.invariant.reached (rw (← c.self.view_is) at (returns-clause-ok c));
+      reached = reached_exec at c.self.invariant.reached (rw (← c.self.view_is) at (returns c).ok);
       blank_is = c.self.invariant.blank_is;
     }
 
@@ -54,13 +56,9 @@ pub invariant_of-self : goal.invariant_of-self
 invariant_of-self c =
     rw (buffers_stay c.args.core c.index_mut.ensures.value c.in_default.ensures.err.1) c.self.invariant
 
-pub returns-in_default-clause-unchanged : goal.returns-in_default-clause-unchanged
-returns-in_default-clause-unchanged c =
-    rw (buffers_stay c.args.core c.index_mut.ensures.value c.in_default.ensures.err.1) c.self.view_is
-
-pub returns-in_default-clause-blocked : goal.returns-in_default-clause-blocked
-returns-in_default-clause-blocked c =
-    let core = (at_inside c.self.view_is c.requires).core in
+pub returns-in_default : goal.returns-in_default
+returns-in_default c =
+    blocked (let core = (at_inside c.self.view_is c.requires).core in
     let full : c.self.inside.capacity ≤ length c.index_mut.result.now.entries =
     omega (
       arith,
@@ -70,8 +68,5 @@ returns-in_default-clause-blocked c =
     rw (← c.self.view_is) (rw (
       buffer_seen c.self.invariant.sound core c.index_mut.ensures.value,
       le-ltb (length c.index_mut.result.now.entries) c.self.inside.capacity full,
-    ) refl)
-
-pub returns-clause-rest : goal.returns-clause-rest
-returns-clause-rest c =
-    rw (← c.self.view_is) refl
+    ) refl))
+    (rw (buffers_stay c.args.core c.index_mut.ensures.value c.in_default.ensures.err.1) c.self.view_is)

@@ -1,24 +1,11 @@
-use Rattle.std.proofs.Common.{arith}
+use Rattle.std.proofs.Common.{inl, inr}
 use Rattle.moesi.specs.Coherent.{IsCoherent}
-use Rattle.moesi.specs.CacheLaws.{get_m_kept}
-use Rattle.moesi.proofs.Answered.{column, answered, answer_keeps}
+use Rattle.moesi.specs.CacheLaws.{every_call_keeps_coherence}
+use Rattle.moesi.proofs.Answered.{answer_keeps}
 use Rattle.moesi.proofs.caches.Caches.get_m.Goals as goal
 
-pub get_m-requires-clause-address : goal.get_m-requires-clause-address
-get_m-requires-clause-address c =
-    column c.self.inside.cores c.self.inside.addresses c.self.inside.words.items c.args.addr
-    (rw (← c.self.view_is) at c.requires.address)
-
-pub returns-clause-ok : goal.returns-clause-ok
-returns-clause-ok c = (answered c.get_m.ensures c.self.inside.words c.self.view_is c.requires.address
-    c.deref_mut.ensures.value (omega arith)).ok
-
-pub returns-clause-refused : goal.returns-clause-refused
-returns-clause-refused c = (answered c.get_m.ensures c.self.inside.words c.self.view_is c.requires.address
-    c.deref_mut.ensures.value (omega arith)).refused
-
 pub returns-clause-coherent : goal.returns-clause-coherent
-returns-clause-coherent c = λ before. answer_keeps c.get_m.result IsCoherent
-    (answered c.get_m.ensures c.self.inside.words c.self.view_is c.requires.address
-    c.deref_mut.ensures.value (omega arith)) before
-    (λ t h. (get_m_kept c.args.self.now t c.args.core c.args.addr before c.requires.core c.requires.address h).coherent)
+returns-clause-coherent c = λ k.
+    answer_keeps _ IsCoherent c.get_m_by.ensures k
+    (λ t h. every_call_keeps_coherence c.args.self.now t c.args.core c.args.addr 0 0 k c.requires.core
+    c.requires.address (inl (inr (inl h))))

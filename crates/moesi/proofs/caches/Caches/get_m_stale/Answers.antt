@@ -1,16 +1,19 @@
-use Rattle.std.proofs.Common.{arith}
-use Rattle.moesi.proofs.Answered.{column, answered}
+use Rattle.std.proofs.Common.{replicate}
+use Rattle.moesi.specs.OriginLaws.{every_copy_was_there, every_write_adds_itself}
+use Rattle.moesi.proofs.Empty.{empty_opening_with, every_call_keeps_empty_lines}
 use Rattle.moesi.proofs.caches.Caches.get_m_stale.Goals as goal
 
-pub get_m-requires-clause-address : goal.get_m-requires-clause-address
-get_m-requires-clause-address c =
-    column c.self.inside.cores c.self.inside.addresses c.self.inside.words.items c.args.addr
-    (rw (← c.self.view_is) at c.requires.address)
+pub returns-clause-transactions : goal.returns-clause-transactions
+returns-clause-transactions c = every_copy_was_there
 
-pub returns-clause-ok : goal.returns-clause-ok
-returns-clause-ok c = (answered c.get_m.ensures c.self.inside.words c.self.view_is c.requires.address
-    c.deref_mut.ensures.value (omega arith)).ok
+pub returns-clause-writes : goal.returns-clause-writes
+returns-clause-writes c = every_write_adds_itself
 
-pub returns-clause-refused : goal.returns-clause-refused
-returns-clause-refused c = (answered c.get_m.ensures c.self.inside.words c.self.view_is c.requires.address
-    c.deref_mut.ensures.value (omega arith)).refused
+pub returns-clause-empty : goal.returns-clause-empty
+returns-clause-empty c = every_call_keeps_empty_lines
+
+pub returns-clause-opening : goal.returns-clause-opening
+returns-clause-opening c = λ cores addresses. empty_opening_with cores (replicate addresses 0)
+
+pub returns-clause-opening_with : goal.returns-clause-opening_with
+returns-clause-opening_with c = empty_opening_with

@@ -1,17 +1,17 @@
-use Rattle.std.proofs.Common.{ℕ, List, length, slice_index, arith, ap, ◌∙◌}
-use Rattle.std.proofs.lemmas.List.{with_items_is}
-use Rattle.moesi.specs.Packed.{caches_in}
-use Rattle.moesi.specs.CacheLaws.{zeros}
-use Rattle.moesi.proofs.Filled.{filled_words}
+use Rattle.moesi.specs.CacheLaws as laws
 use Rattle.moesi.proofs.caches.Caches.with_init.Goals as goal
 
-pub returns-clause-ok : goal.returns-clause-ok
-returns-clause-ok c =
-    ap (caches_in c.args.cores (length c.args.init.now))
-    (with_items_is c.in_ok-words.words c.fill_memory.new.words (omega arith))
-    ∙ filled_words c.args.cores c.args.init.now c.fill_memory.new.words
-    (λ i line. c.fill_memory.ensures.lines i line
-    ∙ (ap (λ (ws : List ℕ). slice_index ws i)
-    (c.deref_mut.ensures.value ∙ c.in_ok-words.ensures.items_if_clones_equal (λ y h. h))
-    ∙ zeros c.in-Some.size i))
-    c.fill_memory.ensures.memory
+pub returns-clause-opening : goal.returns-clause-opening
+returns-clause-opening c = laws.opening_is_coherent
+
+pub returns-clause-opening_with : goal.returns-clause-opening_with
+returns-clause-opening_with c = laws.opening_with_is_coherent
+
+pub returns-clause-transactions : goal.returns-clause-transactions
+returns-clause-transactions c = laws.every_transaction_keeps_current
+
+pub returns-clause-writes : goal.returns-clause-writes
+returns-clause-writes c = laws.every_write_sets_current
+
+pub returns-clause-coherence : goal.returns-clause-coherence
+returns-clause-coherence c = laws.every_call_keeps_coherence

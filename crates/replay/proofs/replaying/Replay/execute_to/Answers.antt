@@ -1,7 +1,7 @@
 use Rattle.std.proofs.Common.{◌≡◌, ◌-◌, ◌+◌, ◌∙◌, ℕ, ap, arith, replicate}
 use Rattle.machine.specs.declared.step.Step.TheVariants.{Exec}
 use Rattle.machine.specs.Configuration.{next_event}
-use Rattle.replay.specs.Replaying.{Replaying, with_steps}
+use Rattle.replay.specs.Steps.{Replaying, with_steps}
 use Rattle.replay.proofs.WrittenSteps.{one_more}
 use Rattle.replay.proofs.replaying.Replay.execute_to.Goals as goal
 

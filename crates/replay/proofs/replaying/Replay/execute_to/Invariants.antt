@@ -1,6 +1,6 @@
 use Rattle.std.proofs.Common.{◌≡◌, ◌-◌, ◌≤◌, replicate}
 use Rattle.machine.specs.declared.step.Step.TheVariants.{Exec}
-use Rattle.replay.specs.Replaying.{with_steps}
+use Rattle.replay.specs.Steps.{with_steps}
 use Rattle.replay.proofs.replaying.Replay.execute_to.Given as goal
 
 abbrev pub invariant-loop : goal.invariant-loop

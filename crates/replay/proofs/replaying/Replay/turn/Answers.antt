@@ -1,6 +1,5 @@
 use Rattle.std.proofs.Common.{◌≡◌, ◌∙◌, ℕ, ap}
-use Rattle.replay.specs.Steps.{executed_before, execute_to}
-use Rattle.replay.specs.Replaying.{with_steps}
+use Rattle.replay.specs.Steps.{executed_before, execute_to, with_steps}
 use Rattle.replay.proofs.WrittenSteps.{turn_taken, ok_then}
 use Rattle.replay.proofs.replaying.Replay.turn.Goals as goal
 
