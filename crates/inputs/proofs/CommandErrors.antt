@@ -3,7 +3,7 @@ use Rattle.std.proofs.Common.{ℕ, List, Option, Result, Ok, Err, IfErr}
 use Rattle.inputs.specs.declared.command_error.CommandError.{CommandError}
 use Rattle.inputs.specs.declared.command_error.CommandError.TheVariants.{Refused, Fault}
 use Rattle.inputs.specs.Inputs.{AreBytesOf}
-use Rattle.inputs.specs.Recording.{IsRecordingError, IsRefusedRecording}
+use Rattle.inputs.specs.Named.{IsRecordingError, IsRefusedRecording}
 
 -- the bytes of the named input are no recording
 pub unread_stop : {X : Type 0} (inputs : List ℕ → Option (List ℕ)) (name bytes : List ℕ) (r : Result X CommandError)

@@ -2,9 +2,9 @@
 ghost use Rattle.std.specs.Prelude.{◌≡◌, ◌∷◌, [], IfErr, IfOk, Ok};
 ghost use Rattle.program.specs.Text.{reading};
 ghost use Rattle.recorder.specs.Reading.{IsReadingResult};
-ghost use Rattle.inputs.specs.Inputs.{CanRead, ReadsNamed, seen};
-ghost use Rattle.inputs.specs.Program.{IsProgramAt, IsProgramError};
-ghost use Rattle.inputs.specs.Recording.{IsRecordingAt, IsRecordingError, IsRefusedRecording};
+ghost use Rattle.inputs.specs.Inputs.{CanRead, ReadsNamed};
+ghost use Rattle.inputs.specs.Named.{IsProgramAt, IsProgramError, IsRecordingAt, IsRecordingError};
+ghost use Rattle.inputs.specs.Named.{IsRefusedRecording};
 ghost use Rattle.litmus.specs.Refusals.{line_refusal_name};
 ghost use Rattle.inputs.specs.Refusal.{IsReadingError, IsRefusedAs};
 
@@ -43,11 +43,10 @@ pub fn program_at<P: Place>(
     place: &mut P,
     name: &str,
 ) -> Result<Program, CommandError>
-    requires { CanRead (P.tally place.old) }
+    requires { CanRead (P.log place.old).tally }
     ensures ok { IfOk result (λ program. IsProgramAt (P.bytes place.old) name.now program) }
     ensures err { IfErr result (IsProgramError (P.bytes place.old) name.now) }
-    ensures reads { ReadsNamed (name.now ∷ []) (seen (P.asked place.old) (P.asked place.new)
-        (P.tally place.old) (P.tally place.new)) result }
+    ensures reads { ReadsNamed (name.now ∷ []) (P.log place.old) (P.log place.new) result }
     ensures kept { P.bytes place.new ≡ P.bytes place.old }
 {
     let text = text_at(alloc, place, name)?;
@@ -81,11 +80,10 @@ pub fn recording_at<P: Place>(
     place: &mut P,
     name: &str,
 ) -> Result<Recording, CommandError>
-    requires { CanRead (P.tally place.old) }
+    requires { CanRead (P.log place.old).tally }
     ensures ok { IfOk result (λ recording. IsRecordingAt (P.bytes place.old) name.now recording) }
     ensures err { IfErr result (IsRecordingError (P.bytes place.old) name.now) }
-    ensures reads { ReadsNamed (name.now ∷ []) (seen (P.asked place.old) (P.asked place.new)
-        (P.tally place.old) (P.tally place.new)) result }
+    ensures reads { ReadsNamed (name.now ∷ []) (P.log place.old) (P.log place.new) result }
     ensures kept { P.bytes place.new ≡ P.bytes place.old }
 {
     let bytes = text_at(alloc, place, name)?;
