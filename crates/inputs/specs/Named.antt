@@ -1,15 +1,16 @@
 -- The program or the recording that a named input is, and why it is not read.
-use Rattle.std.specs.Prelude.{◌≡◌, ℕ, List, Option, Ok, Err}
+use Rattle.std.specs.Prelude.{◌≡◌, ℕ, List, Option, Some, Ok, Err, string_bytes}
 use Rattle.program.specs.Parts.{Parts}
 use Rattle.program.specs.Text.{reading}
 use Rattle.recording.specs.declared.fault.RecError.{RecError}
 use Rattle.recording.specs.Execution.{Execution}
 use Rattle.recorder.specs.Reading.{IsReadingResult}
+use Rattle.verdicts.specs.Refusal.{recording_line}
 use Rattle.litmus.specs.Refusals.{line_refusal_name}
 use Rattle.inputs.specs.declared.command_error.CommandError.{CommandError}
 use Rattle.inputs.specs.declared.command_error.CommandError.TheVariants.{Refused, Fault}
 use Rattle.inputs.specs.Inputs.{AreBytesOf, IsInputFault}
-use Rattle.inputs.specs.Refusal.{IsReadingError, IsRefusedAs}
+use Rattle.inputs.specs.Refusal.{IsReadingError}
 
 -- the input of this name is the text of the program
 pub record IsProgramAt (inputs : List ℕ → Option (List ℕ)) (name : List ℕ) (program : Parts) : Type 0 where
@@ -29,14 +30,10 @@ IsProgramError inputs name (Refused refusal) = (text : List ℕ) × AreBytesOf i
     × IsReadingError line_refusal_name (reading text) (Refused refusal)
 IsProgramError inputs name (Fault fault) = IsInputFault inputs name fault
 
--- the error is that of the refusal that the bytes have; memory alone is left open
-abbrev pub IsRefusedRecording : List ℕ → CommandError → Type 0
-IsRefusedRecording bytes error = (fault : RecError) × IsReadingResult bytes (Err fault) × IsRefusedAs fault error
-
 -- the named input is no recording, or isn't read
 abbrev pub IsRecordingError : (List ℕ → Option (List ℕ)) → List ℕ → CommandError → Type 0
 IsRecordingError inputs name (Refused refusal) = (bytes : List ℕ) × AreBytesOf inputs name bytes
-    × IsRefusedRecording bytes (Refused refusal)
+    × (fault : RecError) × IsReadingResult bytes (Err fault) × (recording_line fault ≡ Some (string_bytes refusal.line))
 IsRecordingError inputs name (Fault fault) = IsInputFault inputs name fault
 
 -- the input of this name is a program, of which this holds

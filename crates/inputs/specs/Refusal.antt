@@ -1,12 +1,10 @@
 -- The lines of refused texts.
-use Rattle.std.specs.Prelude.{◌≡◌, ◌++◌, ◌∷◌, [], ℕ, List, Some, Result, Ok, Err, codes, string_bytes}
+use Rattle.std.specs.Prelude.{◌≡◌, ◌++◌, ◌∷◌, [], ℕ, List, Result, Ok, Err, codes, string_bytes}
 use Rattle.machine.specs.declared.script_refusal.StepRefusal.{StepRefusal}
 use Rattle.machine.specs.declared.script_refusal.StepRefusal.TheVariants.{S1, S2, S3, S4}
-use Rattle.recording.specs.declared.fault.RecError.{RecError}
 use Rattle.program.specs.declared.shape_error.ShapeError.TheVariants.{K1, K2, K3, K4, K5, K6, K7}
 use Rattle.command_line.specs.declared.options.OptionRefusal.{OptionRefusal}
 use Rattle.command_line.specs.declared.options.OptionRefusal.TheVariants as refused
-use Rattle.verdicts.specs.Refusal.{recording_line}
 use Rattle.litmus.specs.Refusals.{refusal_line}
 use Rattle.inputs.specs.declared.command_error.CommandError.{CommandError}
 use Rattle.inputs.specs.declared.command_error.CommandError.TheVariants.{Refused, Fault}
@@ -42,11 +40,6 @@ option_refusal_name refused.Show = codes "K10"
 -- the line that is printed of refused options
 abbrev pub option_line : OptionRefusal → List ℕ
 option_line refusal = codes "refused: " ++ option_refusal_name refusal ++ 10 ∷ []
-
--- the error is that of a refused recording, or memory ran out
-abbrev pub IsRefusedAs : RecError → CommandError → Type 0
-IsRefusedAs fault (Refused refusal) = recording_line fault ≡ Some (string_bytes refusal.line)
-IsRefusedAs fault (Fault other) = other ≡ OutOfMemory
 
 -- the line is printed, or memory ran out
 abbrev pub IsLineError : List ℕ → CommandError → Type 0

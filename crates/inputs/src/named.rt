@@ -1,12 +1,7 @@
 //! The program or the recording that a named input is.
-ghost use Rattle.std.specs.Prelude.{◌≡◌, ◌∷◌, [], IfErr, IfOk, Ok};
-ghost use Rattle.program.specs.Text.{reading};
-ghost use Rattle.recorder.specs.Reading.{IsReadingResult};
+ghost use Rattle.std.specs.Prelude.{◌≡◌, ◌∷◌, [], IfErr, IfOk};
 ghost use Rattle.inputs.specs.Inputs.{CanRead, ReadsNamed};
 ghost use Rattle.inputs.specs.Named.{IsProgramAt, IsProgramError, IsRecordingAt, IsRecordingError};
-ghost use Rattle.inputs.specs.Named.{IsRefusedRecording};
-ghost use Rattle.litmus.specs.Refusals.{line_refusal_name};
-ghost use Rattle.inputs.specs.Refusal.{IsReadingError, IsRefusedAs};
 
 use crate::command_error::{CommandError, PrintedRefusal};
 use crate::fault::CommandFault;
@@ -16,26 +11,9 @@ use devices::Place;
 use litmus::{line_refusal_name, parse};
 use program::{LitmusError, Program};
 use recorder::read_recording;
-use recording::{RecError, Recording};
-use std::alloc::{AllocError, Global};
+use recording::Recording;
+use std::alloc::Global;
 use verdicts::recording_line;
-
-/// The program of a text, or the refusal of its first line at fault.
-fn program_of(alloc: Global, text: &[u8]) -> Result<Program, CommandError>
-    ensures ok { IfOk result (λ program. reading text.now ≡ Ok program) }
-    ensures err { IfErr result (IsReadingError line_refusal_name (reading text.now)) }
-{
-    match parse(alloc, text) {
-        Ok(program) => Ok(program),
-        Err(LitmusError::OutOfMemory) => Err(CommandError::Fault(CommandFault::OutOfMemory)),
-        Err(LitmusError::AtLine(fault, line)) => Err(CommandError::Refused(line_refusal(
-            alloc,
-            line_refusal_name(fault),
-            line,
-            text,
-        )?)),
-    }
-}
 
 /// The program of a named input, or why it is not read.
 pub fn program_at<P: Place>(
@@ -50,27 +28,15 @@ pub fn program_at<P: Place>(
     ensures kept { P.bytes place.new ≡ P.bytes place.old }
 {
     let text = text_at(alloc, place, name)?;
-    program_of(alloc, text.as_slice())
-}
-
-/// Why bytes are no recording.
-fn unread(alloc: Global, refusal: RecError) -> Result<CommandError, AllocError>
-    ensures { IfOk result (IsRefusedAs refusal) }
-{
-    match recording_line(alloc, refusal)? {
-        Some(line) => Ok(CommandError::Refused(PrintedRefusal { line, quote: None })),
-        None => Ok(CommandError::Fault(CommandFault::OutOfMemory)),
-    }
-}
-
-/// The recording that the bytes are, or their refusal.
-fn recording_of(alloc: Global, bytes: &[u8]) -> Result<Recording, CommandError>
-    ensures ok { IfOk result (λ recording. IsReadingResult bytes.now (Ok recording)) }
-    ensures err { IfErr result (IsRefusedRecording bytes.now) }
-{
-    match read_recording(alloc, bytes) {
-        Ok(recording) => Ok(recording),
-        Err(refusal) => Err(unread(alloc, refusal)?),
+    match parse(alloc, text.as_slice()) {
+        Ok(program) => Ok(program),
+        Err(LitmusError::OutOfMemory) => Err(CommandError::Fault(CommandFault::OutOfMemory)),
+        Err(LitmusError::AtLine(fault, line)) => Err(CommandError::Refused(line_refusal(
+            alloc,
+            line_refusal_name(fault),
+            line,
+            text.as_slice(),
+        )?)),
     }
 }
 
@@ -87,5 +53,11 @@ pub fn recording_at<P: Place>(
     ensures kept { P.bytes place.new ≡ P.bytes place.old }
 {
     let bytes = text_at(alloc, place, name)?;
-    recording_of(alloc, bytes.as_slice())
+    match read_recording(alloc, bytes.as_slice()) {
+        Ok(recording) => Ok(recording),
+        Err(refusal) => match recording_line(alloc, refusal)? {
+            Some(line) => Err(CommandError::Refused(PrintedRefusal { line, quote: None })),
+            None => Err(CommandError::Fault(CommandFault::OutOfMemory)),
+        },
+    }
 }
