@@ -65,7 +65,7 @@ pub unfinished_answer : (fault : Fault) (p : Parts) (s : State) (answer : Answer
     → answer.text.items ≡ codes "unfinished" ++ 10 ∷ [] → IsRunAnswer fault p s answer
 unfinished_answer fault p s answer left is text = record {
   judged = λ complete. absurd (left complete);
-  unfinished = λ still. record { outcome = is; text = text };
+  unfinished = λ still. (is, text);
   incomplete = λ same. left;
   faultless = λ none. record {
     outcome = inr is;

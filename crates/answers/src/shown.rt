@@ -1,6 +1,6 @@
 //! What is shown of a trial.
 
-ghost use Rattle.std.specs.Prelude.{◌≡◌, ◌<◌, ◌++◌, ◌∷◌, IfOk, IfSome, IfNone, Some, false, true};
+ghost use Rattle.std.specs.Prelude.{◌≡◌, ◌<◌, IfOk, IfSome, IfNone, Some, false, true};
 ghost use Rattle.machine.specs.Configuration.{Configuration, IsAtEnd, recording_of};
 ghost use Rattle.trials.specs.Judged.{IsJudgedEnd};
 ghost use Rattle.answers.specs.Campaign.{IsShownAnswer, IsShownRun, IsWholeShown, IsViolation};
@@ -16,20 +16,6 @@ use report::Answer;
 use std::alloc::Global;
 use trials::{Campaign, Judged, judged_end, run_trial};
 
-/// An answer after a text and an empty line.
-fn prepend_text(mut text: Vec<u8>, answer: Answer) -> Result<Answer, OutOfMemory>
-    ensures { IfOk result
-        (λ a. (a.outcome ≡ answer.outcome) × (a.text.items ≡ text.items ++ 10 ∷ answer.text.items)) }
-{
-    let Answer {
-        outcome,
-        text: lines,
-    } = answer;
-    text.push(b'\n')?;
-    text.extend_from_slice(&lines)?;
-    Ok(Answer { outcome, text })
-}
-
 /// The program of a run, an empty line, and what is answered of the machine in which it ends, by what is judged of it.
 fn whole_end(
     alloc: Global,
@@ -40,9 +26,14 @@ fn whole_end(
     ensures { IfOk result (λ answer. (h : Configuration) → h.program ≡ program.now → IsJudgedEnd h judged
         → IsWholeShown h.fault h.program h.state answer) }
 {
-    let text = print(alloc, program)?;
+    let mut text = print(alloc, program)?;
     let run = ended(alloc, judged)?;
-    prepend_text(text, run)
+    text.push(b'\n')?;
+    text.extend_from_slice(&run.text)?;
+    Ok(Answer {
+        outcome: run.outcome,
+        text,
+    })
 }
 
 /// What is left of the violation in which a run ends, where it is to be reduced; none where it ends in none.
