@@ -10,7 +10,7 @@ use Rattle.command_line.specs.declared.options.RunOptions.{RunOptions}
 use Rattle.command_line.specs.declared.options.TrialsOptions.{TrialsOptions}
 use Rattle.command_line.specs.Options.{AreOptions, AreTrialsOptions}
 use Rattle.program.specs.Parts.{Parts}
-use Rattle.inputs.specs.Program.{IsProgramAt}
+use Rattle.inputs.specs.Named.{IsProgramAt}
 use Rattle.commands.specs.Run.{IsRun, IsRunOf}
 
 -- options of trials are those of some entries
@@ -29,9 +29,9 @@ merge_some o (Some command) are = (are.2.1).some
 pub seeded_run : (inputs : List ℕ → Option (List ℕ)) (o : RunOptions) (program : Parts) (answer : Answer)
     → IsProgramAt inputs (string_bytes o.program) program
     → IsSeededAnswer program o.buffer o.fault o.seed o.attempts answer → o.steps ≡ None → IsRun inputs o answer
-seeded_run inputs o program answer at is none = record {
-  program = program;
-  at = at;
-  run = subst (λ (steps : Option (List ℕ)). IsRunOf inputs o program steps answer)
-      (sym (ap (λ steps. option_map string_bytes steps) none)) is;
-}
+seeded_run inputs o program answer at is none = (
+  program,
+  at,
+  subst (λ (steps : Option (List ℕ)). IsRunOf inputs o program steps answer)
+      (sym (ap (λ steps. option_map string_bytes steps) none)) is,
+)

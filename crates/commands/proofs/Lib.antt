@@ -1,7 +1,6 @@
 pub mod Asked
 pub mod Printed
 pub mod Threaded
-pub mod CommandErrors
 pub mod Asking
 pub mod Given
 pub mod Surveyed

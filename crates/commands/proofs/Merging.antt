@@ -1,10 +1,7 @@
 -- What merge answers of its texts.
-use Rattle.std.proofs.Common.{◌≡◌, ◌∙◌, ◌<◌, ◌+◌, ◌++◌, ◌∷◌, [], ℕ, List, Option, Vec, Global}
-use Rattle.std.proofs.Common.{ap, arith, get_or, inl, inr, length, map, refl, subst, sym}
-use Rattle.std.specs.List.{concat}
-use Rattle.std.proofs.lemmas.Bool.{cases_lt}
-use Rattle.std.proofs.lemmas.List.{get_or-map, get_or_append_left, length-map, map-append}
-use Rattle.std.proofs.Math.Seq.{get_or-append_seam}
+use Rattle.std.proofs.Common.{◌≡◌, ◌∙◌, ◌<◌, ◌+◌, ◌++◌, ◌∷◌, [], ℕ, List, ap, arith, get_or, length, map, refl, subst, sym}
+use Rattle.std.specs.List.{AllZip, concat}
+use Rattle.std.proofs.lemmas.List.{get_or-map}
 use Rattle.ledger.specs.declared.ledger.Ledger.{Ledger}
 use Rattle.merging.specs.declared.kind.Kind.{Kind}
 use Rattle.merging.specs.declared.kind.Kind.TheVariants.{Campaign, Survey}
@@ -16,7 +13,6 @@ use Rattle.verdicts.specs.declared.outcome.Outcome.{Outcome}
 use Rattle.verdicts.specs.declared.outcome.Outcome.TheVariants.{Refused, Unfinished}
 use Rattle.verdicts.specs.declared.printed.Answer.{Answer}
 use Rattle.answers.specs.Campaign.{ledger_outcome}
-use Rattle.inputs.specs.Inputs.{AreBytesOf}
 use Rattle.commands.specs.Merge.{IsMergeAnswer, IsMergedAnswer}
 
 -- ledgers with the same first violation and the same number without verdict come out alike
@@ -59,25 +55,18 @@ pub name_at : {X : Type 0} (f : X → List ℕ) (names : List X) (i : ℕ) (name
     → name ≡ get_or names i name → f name ≡ get_or (map f names) i []
 name_at f names i name low is = ap f is ∙ sym (get_or-map f names i name [] low)
 
--- one text more
-pub given_more : (inputs : List ℕ → Option (List ℕ)) (names : List (List ℕ)) (texts : List (Vec ℕ Global))
-    (text : Vec ℕ Global) (i : ℕ) → length texts ≡ i
-    → ((k : ℕ) → k < i → AreBytesOf inputs (get_or names k []) (get_or (map (λ v. v.items) texts) k []))
-    → AreBytesOf inputs (get_or names i []) text.items → (k : ℕ) → k < i + 1
-    → AreBytesOf inputs (get_or names k []) (get_or (map (λ v. v.items) (texts ++ text ∷ [])) k [])
-given_more inputs names texts text i size before here k low =
-    let items : List (List ℕ) = map (λ v. v.items) texts in
-    let parts : map (λ v. v.items) (texts ++ text ∷ []) ≡ items ++ text.items ∷ [] =
-    map-append (λ (v : Vec ℕ Global). v.items) texts (text ∷ []) in
-    let long : length items ≡ i = length-map texts (λ (v : Vec ℕ Global). v.items) ∙ size in
-    subst (λ (l : List (List ℕ)). AreBytesOf inputs (get_or names k []) (get_or l k [])) (sym parts)
-    (elim (cases_lt k i) [
-      | inl lower ↦ subst (λ (t : List ℕ). AreBytesOf inputs (get_or names k []) t)
-          (sym (get_or_append_left items (text.items ∷ []) [] k (omega (arith, lower, long)))) (before k lower)
-      | inr not ↦ let at : k ≡ i = omega (arith, low, not) in
-          let seam : get_or (items ++ text.items ∷ []) k [] ≡ text.items =
-          ap (λ (j : ℕ). get_or (items ++ text.items ∷ []) j []) (at ∙ sym long)
-          ∙ get_or-append_seam items text.items [] [] in
-          subst (λ (t : List ℕ). AreBytesOf inputs (get_or names k []) t) (sym seam)
-          (subst (λ (j : ℕ). AreBytesOf inputs (get_or names j []) text.items) (sym at) here)
-    ])
+-- one more of each list
+pub zip_more : {A B : Type 0} (R : A → B → Type 0) (xs : List A) (ys : List B) (x : A) (y : B) → AllZip R xs ys → R x y
+    → AllZip R (xs ++ x ∷ []) (ys ++ y ∷ [])
+zip_more R [] [] x y all one = (one, tt)
+zip_more R [] (b ∷ ys) x y all one = absurd all
+zip_more R (a ∷ xs) [] x y all one = absurd all
+zip_more R (a ∷ xs) (b ∷ ys) x y all one = (all.0, zip_more R xs ys x y all.1 one)
+
+-- the lists are as long
+pub zip_length : {A B : Type 0} (R : A → B → Type 0) (xs : List A) (ys : List B) → AllZip R xs ys
+    → length ys ≡ length xs
+zip_length R [] [] all = refl
+zip_length R [] (b ∷ ys) all = absurd all
+zip_length R (a ∷ xs) [] all = absurd all
+zip_length R (a ∷ xs) (b ∷ ys) all = omega (arith, zip_length R xs ys all.1)

@@ -1,5 +1,5 @@
 -- What a survey that tells each recording writes.
-use Rattle.std.proofs.Common.{◌≡◌, ◌++◌, ◌∙◌, ℕ, List, Option, Result, Ok, Err, IfOk, true, subst}
+use Rattle.std.proofs.Common.{◌≡◌, ◌++◌, ◌∙◌, ap, ℕ, List, Option, Result, Ok, Err, IfOk, true, subst}
 use Rattle.std.specs.Prelude.{string_bytes}
 use Rattle.std.proofs.KnownBytes.{Appends-trans}
 use Rattle.std.specs.Io.KnownBytes.{Appends}
@@ -10,24 +10,27 @@ use Rattle.verdicts.specs.declared.outcome.Outcome.{Outcome}
 use Rattle.verdicts.specs.declared.printed.Answer.{Answer}
 use Rattle.answers.specs.Survey.{IsSurveyAnswer}
 use Rattle.inputs.specs.declared.fault.CommandFault.{CommandFault}
-use Rattle.commands.specs.Survey.{IsCountedInput, IsEachWritten, TellsEach}
+use Rattle.inputs.specs.Inputs.{OfBytes}
+use Rattle.surveys.specs.Surveys.{IsSurvey}
+use Rattle.commands.specs.Perform.{Writes}
+use Rattle.commands.specs.Survey.{IsEachWritten, TellsEach}
 
 -- lines were written and then the counts
 pub each_put : (inputs : List ℕ → Option (List ℕ)) (o : SurveyOptions) (before mid after : Option (List ℕ))
     (ledger : Ledger) (counts : Answer) (r : Result Outcome CommandFault) → TellsEach o
-    → IsCountedInput inputs (string_bytes o.file) true before mid ledger → IsSurveyAnswer true ledger counts
-    → IfOk r (λ outcome. (outcome ≡ counts.outcome) × Appends mid after counts.text.items)
-    → IfOk r (IsEachWritten inputs o before after)
-each_put inputs o before mid after ledger counts (Ok outcome) tells s answered put = record {
+    → OfBytes inputs (string_bytes o.file) (λ bytes. IsSurvey bytes ledger true before mid)
+    → IsSurveyAnswer true ledger counts → Writes (λ a. a ≡ counts) mid after r → IfOk r (IsEachWritten inputs o before after)
+each_put inputs o before mid after ledger counts (Ok outcome) tells (bytes, given, s) answered put = record {
   tells = tells;
-  bytes = s.bytes;
-  given = s.given;
-  findings = s.survey.findings;
-  found = s.survey.found;
+  bytes = bytes;
+  given = given;
+  findings = s.findings;
+  found = s.found;
   ledger = ledger;
-  counted = s.survey.counted;
-  outcome_is = put.0 ∙ answered.outcome;
-  written = subst (λ (text : List ℕ). Appends before after (each_text 0 s.survey.findings ++ text)) answered.text
-      (Appends-trans before mid after (each_text 0 s.survey.findings) counts.text.items s.survey.told put.1);
+  counted = s.counted;
+  outcome_is = put.outcome_is ∙ ap (λ (a : Answer). a.outcome) put.is ∙ answered.outcome;
+  written = subst (λ (text : List ℕ). Appends before after (each_text 0 s.findings ++ text))
+      (ap (λ (a : Answer). a.text.items) put.is ∙ answered.text)
+      (Appends-trans before mid after (each_text 0 s.findings) put.answer.text.items s.told put.written);
 }
 each_put inputs o before mid after ledger counts (Err fault) tells s answered put = tt

@@ -11,7 +11,7 @@ use Rattle.machine.specs.Configuration.{Configuration}
 use Rattle.live.specs.Trace.{Trace, IsEnded, IsTrace}
 use Rattle.live.specs.Driven.{IsAsRequested}
 use Rattle.verdicts.specs.declared.printed.Answer.{Answer}
-use Rattle.inputs.specs.Program.{IsProgramAt}
+use Rattle.inputs.specs.Named.{IsProgramAt}
 use Rattle.answers.specs.Run.{IsRunAnswer}
 use Rattle.commands.specs.Run.{IsLive}
 

@@ -1,7 +1,7 @@
 //! The commands `explain`, `draw` and `reduce`.
 ghost use Rattle.std.specs.Prelude.{◌∷◌, [], IfErr, IfOk, Some, option_map, string_bytes};
-ghost use Rattle.inputs.specs.Inputs.{CanRead, ReadsNamed, seen};
-ghost use Rattle.commands.specs.Names.{maybe_name, render_names};
+ghost use Rattle.inputs.specs.Inputs.{CanRead, ReadsNamed};
+ghost use Rattle.commands.specs.Command.{maybe_name, render_names};
 ghost use Rattle.commands.specs.Render.{IsNamesError, IsRenderingError, IsRendered, IsRenderedBy};
 
 use answers::{Rendering, rendered_answer};
@@ -21,11 +21,10 @@ fn named_answer<P: Place>(
     name: &str,
     place: &mut P,
 ) -> Result<Answer, CommandError>
-    requires { CanRead (P.tally place.old) }
+    requires { CanRead (P.log place.old).tally }
     ensures ok { IfOk result (IsRenderedBy (P.bytes place.old) rendering recording.now (Some name.now)) }
-    ensures err { IfErr result (IsNamesError (P.bytes place.old) recording.now (Some name.now)) }
-    ensures reads { ReadsNamed (name.now ∷ []) (seen (P.asked place.old) (P.asked place.new)
-        (P.tally place.old) (P.tally place.new)) result }
+    ensures err { IfErr result (λ error. IsNamesError (P.bytes place.old) (Some name.now) error recording.now) }
+    ensures reads { ReadsNamed (name.now ∷ []) (P.log place.old) (P.log place.new) result }
 {
     let program = program_at(alloc, place, name)?;
     if is_program_of(&program, recording) {
@@ -43,13 +42,12 @@ fn rendered<P: Place>(
     options: &ExplainOptions,
     place: &mut P,
 ) -> Result<Answer, CommandError>
-    requires { CanRead (P.tally place.old) }
+    requires { CanRead (P.log place.old).tally }
     ensures ok { IfOk result (IsRenderedBy (P.bytes place.old) rendering recording.now
         (option_map string_bytes options.now.program)) }
-    ensures err { IfErr result (IsNamesError (P.bytes place.old) recording.now
-        (option_map string_bytes options.now.program)) }
-    ensures reads { ReadsNamed (maybe_name (option_map string_bytes options.now.program)) (seen (P.asked place.old)
-        (P.asked place.new) (P.tally place.old) (P.tally place.new)) result }
+    ensures err { IfErr result (λ error. IsNamesError (P.bytes place.old)
+        (option_map string_bytes options.now.program) error recording.now) }
+    ensures reads { ReadsNamed (maybe_name (option_map string_bytes options.now.program)) (P.log place.old) (P.log place.new) result }
 {
     match &options.program {
         Some(name) => named_answer(alloc, rendering, recording, name.as_str(), place),
@@ -64,11 +62,10 @@ pub fn render_command<P: Place>(
     options: &ExplainOptions,
     place: &mut P,
 ) -> Result<Answer, CommandError>
-    requires { CanRead (P.tally place.old) }
+    requires { CanRead (P.log place.old).tally }
     ensures ok { IfOk result (IsRendered (P.bytes place.old) rendering options.now) }
     ensures err { IfErr result (IsRenderingError (P.bytes place.old) options.now) }
-    ensures reads { ReadsNamed (render_names options.now) (seen (P.asked place.old) (P.asked place.new)
-        (P.tally place.old) (P.tally place.new)) result }
+    ensures reads { ReadsNamed (render_names options.now) (P.log place.old) (P.log place.new) result }
 {
     let recording = recording_at(alloc, place, options.file.as_str())?;
     rendered(alloc, rendering, &recording, options, place)

@@ -9,7 +9,7 @@ ghost use Rattle.machine.specs.ScriptText.{script_text};
 ghost use Rattle.verdicts.specs.Judgement.{IsVerdict, Verifies};
 ghost use Rattle.recording.specs.Tso.{IsTsoOrder};
 ghost use Rattle.recording.specs.FirstUse.{IsNumberedByFirstUse};
-ghost use Rattle.inputs.specs.Inputs.{CanRead, ReadsNamed, seen};
+ghost use Rattle.inputs.specs.Inputs.{CanRead, ReadsNamed};
 ghost use Rattle.commands.specs.Replay.{IsReplayedInput, IsReplayOf, IsReplayError, IsReplayText, parts_text};
 
 use command_line::FileOptions;
@@ -113,11 +113,10 @@ pub fn replay_command<P: Place>(
     options: &FileOptions,
     place: &mut P,
 ) -> Result<Answer, CommandError>
-    requires { CanRead (P.tally place.old) }
+    requires { CanRead (P.log place.old).tally }
     ensures ok { IfOk result (IsReplayedInput (P.bytes place.old) options.now) }
     ensures err { IfErr result (IsReplayError (P.bytes place.old) options.now) }
-    ensures reads { ReadsNamed (string_bytes options.now.file ∷ []) (seen (P.asked place.old) (P.asked place.new)
-        (P.tally place.old) (P.tally place.new)) result }
+    ensures reads { ReadsNamed (string_bytes options.now.file ∷ []) (P.log place.old) (P.log place.new) result }
 {
     let recording = recording_at(alloc, place, options.file.as_str())?;
     if is_numbered(&recording) {

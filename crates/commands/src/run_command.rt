@@ -1,11 +1,11 @@
 //! The command `run`.
 ghost use Rattle.std.specs.Prelude.{◌≡◌, ◌∷◌, [], IfErr, IfOk, Ok, option_map, string_bytes};
 ghost use Rattle.machine.specs.Script.{steps_of};
-ghost use Rattle.inputs.specs.Inputs.{CanRead, ReadsNamed, seen};
-ghost use Rattle.commands.specs.Names.{run_names};
+ghost use Rattle.inputs.specs.Inputs.{CanRead, ReadsNamed};
+ghost use Rattle.commands.specs.Command.{input_names};
+ghost use Rattle.command_line.specs.declared.options.Options.{Options};
 ghost use Rattle.inputs.specs.Refusal.{IsReadingError, step_fault_name};
-ghost use Rattle.commands.specs.Perform.{IsRunError, IsScriptError};
-ghost use Rattle.commands.specs.Run.{IsRun, IsScriptAnswer};
+ghost use Rattle.commands.specs.Run.{IsRun, IsRunError, IsScriptAnswer, IsScriptError};
 
 use answers::{script_answer, seeded_answer};
 use command_line::RunOptions;
@@ -41,11 +41,10 @@ fn script_run<P: Place>(
     name: &str,
     place: &mut P,
 ) -> Result<Answer, CommandError>
-    requires { CanRead (P.tally place.old) }
+    requires { CanRead (P.log place.old).tally }
     ensures ok { IfOk result (IsScriptAnswer (P.bytes place.old) options.now program name.now) }
-    ensures err { IfErr result (IsScriptError (P.bytes place.old) program name.now) }
-    ensures reads { ReadsNamed (name.now ∷ []) (seen (P.asked place.old) (P.asked place.new)
-        (P.tally place.old) (P.tally place.new)) result }
+    ensures err { IfErr result (λ error. IsScriptError (P.bytes place.old) name.now error program) }
+    ensures reads { ReadsNamed (name.now ∷ []) (P.log place.old) (P.log place.new) result }
 {
     let text = text_at(alloc, place, name)?;
     let steps = steps_of(alloc, text.as_slice(), &program)?;
@@ -66,11 +65,11 @@ pub fn run_command<P: Place>(
     options: &RunOptions,
     place: &mut P,
 ) -> Result<Answer, CommandError>
-    requires { CanRead (P.tally place.old) }
+    requires { CanRead (P.log place.old).tally }
     ensures ok { IfOk result (IsRun (P.bytes place.old) options.now) }
-    ensures err { IfErr result (IsRunError (P.bytes place.old) options.now (option_map string_bytes options.now.steps)) }
-    ensures reads { ReadsNamed (run_names options.now) (seen (P.asked place.old) (P.asked place.new)
-        (P.tally place.old) (P.tally place.new)) result }
+    ensures err { IfErr result
+        (IsRunError (P.bytes place.old) options.now (option_map string_bytes options.now.steps)) }
+    ensures reads { ReadsNamed (input_names (Options.Run options.now)) (P.log place.old) (P.log place.new) result }
 {
     let program = program_at(alloc, place, options.program.as_str())?;
     match &options.steps {

@@ -13,6 +13,10 @@ use Rattle.inputs.specs.declared.command_error.CommandError.TheVariants.{Refused
 abbrev pub AreBytesOf : (List ℕ → Option (List ℕ)) → List ℕ → List ℕ → Type 0
 AreBytesOf inputs name bytes = IfSome (inputs name) (λ known. bytes ≡ known)
 
+-- this holds of the bytes of the input of this name
+abbrev pub OfBytes : (List ℕ → Option (List ℕ)) → List ℕ → (List ℕ → Type 0) → Type 0
+OfBytes inputs name Holds = (bytes : List ℕ) × AreBytesOf inputs name bytes × Holds bytes
+
 -- why the input of this name isn't read: it can't be opened, a read failed, or there is no memory
 abbrev pub IsInputFault : (List ℕ → Option (List ℕ)) → List ℕ → CommandFault → Type 0
 IsInputFault inputs name (CannotOpen missing) = (string_bytes missing ≡ name) × (inputs name ≡ None)
@@ -35,6 +39,11 @@ AreRead names a b = Notes a.asked b.asked names × (b.tally ≡ a.tally)
 abbrev pub command_failed_reads : CommandError → ℕ
 command_failed_reads (Fault ReadFailed) = 1
 command_failed_reads other = 0
+
+-- how many writes failed
+abbrev pub command_failed_writes : CommandFault → ℕ
+command_failed_writes WriteFailed = 1
+command_failed_writes other = 0
 
 -- where a text is refused, each input that was opened was read to its end
 abbrev pub AreEnded : CommandError → PlaceLog → PlaceLog → Type 0

@@ -1,7 +1,4 @@
-use Rattle.std.proofs.Common.{subst, sym}
-use Rattle.command_line.specs.declared.options.Options.{Options}
-use Rattle.inputs.specs.Inputs.{ReadsNamed, seen}
-use Rattle.commands.specs.Names.{input_names}
+use Rattle.std.proofs.Common.{sym}
 use Rattle.commands.proofs.Asked.{merge_some, trials_rows}
 use Rattle.commands.proofs.Asking.{none_read}
 use Rattle.commands.proofs.perform.answer_to.Goals as goal
@@ -11,11 +8,8 @@ trials_command-requires-after_bounds g c κs within = trials_rows c.in-Trials.tr
     (rw (← c.in-Trials.is) c.requires.options.1)
 
 pub returns-in-Trials-clause-reads : goal.returns-in-Trials-clause-reads
-returns-in-Trials-clause-reads g c = subst (λ (o : Options). ReadsNamed (input_names o)
-    (seen (g.P.Place.asked c.args.place.now) (g.P.Place.asked c.args.place.now) (g.P.Place.tally c.args.place.now)
-    (g.P.Place.tally c.args.place.now)) c.trials_command.result) (sym c.in-Trials.is)
-    (none_read c.trials_command.result (g.P.Place.asked c.args.place.now) (g.P.Place.tally c.args.place.now)
-    c.trials_command.ensures.err)
+returns-in-Trials-clause-reads g c = rw c.in-Trials.is
+    (none_read c.trials_command.result (g.P.Place.log c.args.place.now) c.trials_command.ensures.err)
 
 pub merge_command-requires-clause-some : goal.merge_command-requires-clause-some
 merge_command-requires-clause-some g c κs within = merge_some c.in-Merge.merge c.requires.options.0

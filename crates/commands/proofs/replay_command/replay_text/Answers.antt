@@ -1,13 +1,14 @@
-use Rattle.std.proofs.Common.{◌≡◌, ℕ, List, Vec, Global, Result, Ok, Err, IfOk, arith}
+use Rattle.std.proofs.Common.{◌≡◌, ◌≤◌, ℕ, List, Vec, Global, Result, Ok, Err, IfOk, arith}
 use Rattle.recording.specs.Execution.{Execution}
 use Rattle.program.specs.Spelling.{spelling}
 use Rattle.program.specs.Text.{reading}
 use Rattle.machine.specs.Script.{steps_of}
 use Rattle.machine.specs.ScriptText.{script_text}
+use Rattle.replay.specs.OrderReplay.{IsReplay}
 use Rattle.replay.specs.Program.{named_program}
 use Rattle.replay.specs.Steps.{replay_steps}
 use Rattle.replay.specs.Stores.{most_stores}
-use Rattle.commands.specs.Replay.{IsReplayText, ReplaysOrder, replay_text}
+use Rattle.commands.specs.Replay.{IsReplayText, replay_text}
 use Rattle.commands.proofs.replay_command.replay_text.Goals as goal
 
 -- what is printed is the text of the replay
@@ -16,10 +17,12 @@ text_of : {E : Type 0} (r : Result (Vec ℕ Global) E) (x : Execution) (m : List
     → IfOk r (λ _. reading (spelling (named_program x)) ≡ Ok (named_program x))
     → IfOk r (λ _. steps_of (named_program x) (script_text (named_program x) (replay_steps x m))
     ≡ Ok (replay_steps x m))
-    → ReplaysOrder x m → IfOk r (λ text. IsReplayText x m text.items)
+    → ((capacity : ℕ) → most_stores x.cores ≤ capacity → IsReplay x m (named_program x) capacity (replay_steps x m))
+    → IfOk r (λ text. IsReplayText x m text.items)
 text_of (Ok text) x m is program script replay = record {
   is = is;
-  read = record { program = program; script = script };
+  program = program;
+  script = script;
   replay = replay;
 }
 text_of (Err e) x m is program script replay = tt

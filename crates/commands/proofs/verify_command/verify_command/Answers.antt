@@ -6,14 +6,12 @@ use Rattle.commands.proofs.verify_command.verify_command.Goals as goal
 pub returns-in_err-recording-clause-reads : goal.returns-in_err-recording-clause-reads
 returns-in_err-recording-clause-reads g c =
     stopped_again c.from_residual.result (string_bytes c.args.options.now.recording ∷ [])
-    (string_bytes c.args.options.now.verdict ∷ []) c.in_err-recording.field-0.0 _
-    (rw (sym c.as_str.ensures.value) c.in_err-recording.ensures.reads) c.from_residual.ensures.1
+    (string_bytes c.args.options.now.verdict ∷ []) c.in_err-recording.field-0.0 _ _
+    (rw c.as_str.ensures.value at c.in_err-recording.ensures.reads) c.from_residual.ensures.1
 
 pub returns-clause-reads : goal.returns-clause-reads
 returns-clause-reads g c =
     reads_then c.checked.result (string_bytes c.args.options.now.recording ∷ [])
-    (string_bytes c.args.options.now.verdict ∷ []) (g.P.Place.asked c.args.place.now)
-    (g.P.Place.asked c.recording_at.new.place) (g.P.Place.asked c.checked.new.place) (g.P.Place.tally c.args.place.now)
-    (g.P.Place.tally c.recording_at.new.place) (g.P.Place.tally c.checked.new.place)
-    (rw (sym c.as_str.ensures.value) c.in_ok-recording.ensures.reads)
-    (rw (sym c.as_str-2.ensures.value) c.checked.ensures.reads)
+    (string_bytes c.args.options.now.verdict ∷ []) _ _ _
+    (rw c.as_str.ensures.value at c.in_ok-recording.ensures.reads)
+    (rw c.as_str-2.ensures.value at c.checked.ensures.reads)
