@@ -1,5 +1,5 @@
 -- What is answered of a run.
-use Rattle.std.proofs.Common.{◌≡◌, ◌++◌, ◌∷◌, [], inl, inr, ℕ, List, sym, subst, ap, ◌∙◌, arith}
+use Rattle.std.proofs.Common.{◌≡◌, ◌++◌, ◌∷◌, [], inl, inr, ℕ, List, sym, subst, ap, ◌∙◌}
 use Rattle.std.specs.Prelude.{codes}
 use Rattle.rand_xoshiro.specs.SplitMix64.{splitmix_seed}
 use Rattle.rand_xoshiro.specs.Xoshiro256.{of_seed}

@@ -1,8 +1,7 @@
 //! Command lines of cases, performed.
 
-use crate::test_environment::{TestEnvironment, words_of};
 use commands::perform::perform;
-use devices::MemorySink;
+use devices::{Disk, MemorySink};
 use inputs::CommandFault;
 use report::Outcome;
 use std::alloc::{AllocError, Global};
@@ -45,6 +44,17 @@ fn printed_of(
     Ok(Printed { status, text })
 }
 
+/// The words of a command line without quotes.
+fn words_of(alloc: Global, line: &str) -> Result<Vec<String>, AllocError> {
+    let mut words = Vec::new(alloc);
+    for word in line.split(' ') {
+        if !word.is_empty() {
+            words.push(String::from_str(alloc, word)?)?;
+        }
+    }
+    Ok(words)
+}
+
 /// Performs a command line with this standard input.
 pub fn perform_words<R: Threads + Wait + Sync>(
     rt: &HostRuntime,
@@ -53,7 +63,7 @@ pub fn perform_words<R: Threads + Wait + Sync>(
     text: &[u8],
 ) -> io::Result<Printed> {
     let words = words_of(rt.alloc(), line)?;
-    let mut place = TestEnvironment::new(rt, text);
+    let mut place = Disk::new(rt, Some(text));
     let mut out = MemorySink::new(rt.alloc());
     let performed = perform(threads, rt.alloc(), &words, &mut place, &mut out);
     Ok(printed_of(rt.alloc(), out.written(), performed)?)

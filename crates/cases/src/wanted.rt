@@ -72,17 +72,8 @@ fn is_in_order(rt: &HostRuntime, path: &str, verdict: &str) -> io::Result<bool> 
     Ok(has_order(rt.alloc(), recording.as_slice(), verdict)?)
 }
 
-/// Whether a command line prints a run that is complete, and in order.
-fn is_run<R: Threads + Wait + Sync>(rt: &HostRuntime, threads: &R, line: &str) -> io::Result<bool> {
-    let found = perform_words(rt, threads, line, b"")?;
-    match str::from_utf8(found.text.as_slice()) {
-        Ok(text) => Ok(found.status == DONE && is_run_in_order(rt.alloc(), text)?),
-        Err(_) => Ok(false),
-    }
-}
-
-/// The same of a command, a program's path and an option with its value.
-fn is_run_with<R: Threads + Wait + Sync>(
+/// Whether a command with a program's path and an option with its value prints a run that is complete, and in order.
+fn is_run<R: Threads + Wait + Sync>(
     rt: &HostRuntime,
     threads: &R,
     command: &str,
@@ -91,7 +82,11 @@ fn is_run_with<R: Threads + Wait + Sync>(
     value: usize,
 ) -> io::Result<bool> {
     let line = format!(in rt.alloc(); "{command} {path}.litmus {option} {value}")?;
-    is_run(rt, threads, line.as_str())
+    let found = perform_words(rt, threads, line.as_str(), b"")?;
+    match str::from_utf8(found.text.as_slice()) {
+        Ok(text) => Ok(found.status == DONE && is_run_in_order(rt.alloc(), text)?),
+        Err(_) => Ok(false),
+    }
 }
 
 /// Whether the file at this path, which has this text, meets a rule.
@@ -105,12 +100,12 @@ fn is_met<R: Threads + Wait + Sync>(
     match rule {
         Rule::Judged => is_judged(rt, threads, path, text),
         Rule::Order => is_in_order(rt, path, text),
-        Rule::Seed(seed) => is_run_with(rt, threads, "run", path, "--seed", seed),
+        Rule::Seed(seed) => is_run(rt, threads, "run", path, "--seed", seed),
         Rule::Run => Ok(is_run_in_order(rt.alloc(), text)?),
         Rule::Kept => Ok(
             prints_back(rt.alloc(), text)
-                && is_run_with(rt, threads, "live", path, "--buffer", 1)?
-                && is_run_with(rt, threads, "live", path, "--buffer", 8)?,
+                && is_run(rt, threads, "live", path, "--buffer", 1)?
+                && is_run(rt, threads, "live", path, "--buffer", 8)?,
         ),
         Rule::PrintsBack => Ok(prints_back(rt.alloc(), text)),
     }

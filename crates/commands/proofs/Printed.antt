@@ -1,5 +1,5 @@
 -- What is printed, from what is answered.
-use Rattle.std.proofs.Common.{◌≡◌, ◌≢◌, inl, inr, sym, subst, ap, ◌∷◌, [], ℕ, List, Option, Result, Ok, Err, IfOk, IfErr}
+use Rattle.std.proofs.Common.{◌≡◌, ◌≢◌, inl, inr, subst, ◌∷◌, [], ℕ, List, Option, Result, Ok, Err, IfOk, IfErr}
 use Rattle.std.specs.Prelude.{string_bytes}
 use Rattle.command_line.specs.declared.options.JudgeOptions.{JudgeOptions}
 use Rattle.command_line.specs.declared.options.OptionFault.{OptionFault}

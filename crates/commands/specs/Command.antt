@@ -1,5 +1,5 @@
 -- What each command answers, why it stops, and which inputs it opens.
-use Rattle.std.specs.Prelude.{◌≡◌, ◌∷◌, [], ℕ, List, Option, None, Some, map, option_map, string_bytes, ⊤}
+use Rattle.std.specs.Prelude.{◌≡◌, ◌∷◌, [], ℕ, List, Option, None, Some, map, option_map, string_bytes}
 use Rattle.command_line.specs.declared.options.ExplainOptions.{ExplainOptions}
 use Rattle.command_line.specs.declared.options.Options.{Options}
 use Rattle.command_line.specs.declared.options.Options.TheVariants.{Run, Judge, Trials, Live, Replay, Explain, Draw, Reduce}

@@ -5,7 +5,7 @@ use Rattle.recorder.specs.Text.{recording_text}
 use Rattle.trials.specs.declared.judging.Judged.{Judged}
 use Rattle.trials.specs.Judged.{IsJudgement, IsJudgedEnd}
 use Rattle.verdicts.specs.VerdictAnswer.{IsVerdictAnswer}
-use Rattle.answers.proofs.Answered.{complete_answer, unfinished_answer}
+use Rattle.answers.proofs.Answered.{complete_answer}
 use Rattle.answers.proofs.runs.ended.Goals as goal
 
 -- the machine is complete

@@ -1,4 +1,3 @@
-use Rattle.std.proofs.Common.{sym}
 use Rattle.commands.proofs.Asking.{memory_stopped}
 use Rattle.commands.proofs.Threaded.{live_answer}
 use Rattle.commands.proofs.live_command.live_command.Goals as goal

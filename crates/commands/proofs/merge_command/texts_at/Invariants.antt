@@ -1,4 +1,4 @@
-use Rattle.std.proofs.Common.{◌≡◌, ◌<◌, map, take}
+use Rattle.std.proofs.Common.{◌≡◌, map, take}
 use Rattle.std.specs.List.{AllZip}
 use Rattle.std.specs.Prelude.{string_bytes}
 use Rattle.inputs.specs.Inputs.{AreBytesOf, AreRead}

@@ -1,4 +1,3 @@
-use Rattle.std.proofs.Common.{sym}
 use Rattle.commands.proofs.Asked.{merge_some, trials_rows}
 use Rattle.commands.proofs.Asking.{none_read}
 use Rattle.commands.proofs.perform.answer_to.Goals as goal

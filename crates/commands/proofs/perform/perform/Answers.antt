@@ -1,4 +1,4 @@
-use Rattle.std.proofs.Common.{IfErr, map, string_bytes}
+use Rattle.std.proofs.Common.{map, string_bytes}
 use Rattle.commands.proofs.Given.{put_more, writes_begun}
 use Rattle.commands.proofs.Printed.{shown_without, unwritten_more, writes_printed}
 use Rattle.commands.proofs.perform.perform.Goals as goal

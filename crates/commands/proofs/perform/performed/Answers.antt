@@ -1,4 +1,3 @@
-use Rattle.std.proofs.Common.{sym}
 use Rattle.commands.proofs.Given.{put_more, writes_begun}
 use Rattle.commands.proofs.Printed.{judged_printed, shown_printed, told_written, writes_printed}
 use Rattle.commands.proofs.perform.performed.Goals as goal

@@ -1,4 +1,4 @@
-use Rattle.std.proofs.Common.{◌∷◌, [], sym}
+use Rattle.std.proofs.Common.{◌∷◌, []}
 use Rattle.std.specs.Prelude.{option_map, string_bytes}
 use Rattle.commands.specs.Command.{maybe_name}
 use Rattle.commands.proofs.Asking.{reads_then, stopped_again}

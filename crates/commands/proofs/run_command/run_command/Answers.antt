@@ -1,4 +1,4 @@
-use Rattle.std.proofs.Common.{◌≡◌, ◌∷◌, [], ℕ, List, ap, sym}
+use Rattle.std.proofs.Common.{◌≡◌, ◌∷◌, [], ap}
 use Rattle.std.specs.Prelude.{option_map, string_bytes}
 use Rattle.commands.specs.Command.{maybe_name}
 use Rattle.commands.proofs.Asked.{seeded_run}

@@ -1,4 +1,4 @@
-use Rattle.std.proofs.Common.{◌∷◌, [], sym}
+use Rattle.std.proofs.Common.{◌∷◌, []}
 use Rattle.std.specs.Prelude.{string_bytes}
 use Rattle.commands.proofs.Asking.{reads_then, stopped_again}
 use Rattle.commands.proofs.verify_command.verify_command.Goals as goal
