@@ -1,7 +1,7 @@
 //! The commands `explain`, `draw` and `reduce`.
-ghost use Rattle.std.specs.Prelude.{◌∷◌, [], IfErr, IfOk, Some, option_map, string_bytes};
+ghost use Rattle.std.specs.Prelude.{◌∷◌, [], IfErr, IfOk, Some};
 ghost use Rattle.inputs.specs.Inputs.{CanRead, ReadsNamed};
-ghost use Rattle.commands.specs.Command.{maybe_name, render_names};
+ghost use Rattle.commands.specs.Command.{render_names};
 ghost use Rattle.commands.specs.Render.{IsNamesError, IsRenderingError, IsRendered, IsRenderedBy};
 
 use answers::{Rendering, rendered_answer};
@@ -34,27 +34,6 @@ fn named_answer<P: Place>(
     }
 }
 
-/// The rendering of a recording, by the program that the options name.
-fn rendered<P: Place>(
-    alloc: Global,
-    rendering: Rendering,
-    recording: &Recording,
-    options: &ExplainOptions,
-    place: &mut P,
-) -> Result<Answer, CommandError>
-    requires { CanRead (P.log place.old).tally }
-    ensures ok { IfOk result (IsRenderedBy (P.bytes place.old) rendering recording.now
-        (option_map string_bytes options.now.program)) }
-    ensures err { IfErr result (λ error. IsNamesError (P.bytes place.old)
-        (option_map string_bytes options.now.program) error recording.now) }
-    ensures reads { ReadsNamed (maybe_name (option_map string_bytes options.now.program)) (P.log place.old) (P.log place.new) result }
-{
-    match &options.program {
-        Some(name) => named_answer(alloc, rendering, recording, name.as_str(), place),
-        None => Ok(rendered_answer(alloc, rendering, recording, None)?),
-    }
-}
-
 /// Renders the recording of a named input; it is read before the program is opened.
 pub fn render_command<P: Place>(
     alloc: Global,
@@ -68,5 +47,8 @@ pub fn render_command<P: Place>(
     ensures reads { ReadsNamed (render_names options.now) (P.log place.old) (P.log place.new) result }
 {
     let recording = recording_at(alloc, place, options.file.as_str())?;
-    rendered(alloc, rendering, &recording, options, place)
+    match &options.program {
+        Some(name) => named_answer(alloc, rendering, &recording, name.as_str(), place),
+        None => Ok(rendered_answer(alloc, rendering, &recording, None)?),
+    }
 }

@@ -1,11 +1,5 @@
 //! The command `replay`.
-ghost use Rattle.std.specs.Prelude.{◌≡◌, ◌≤◌, ◌++◌, ◌∷◌, [], All, IfErr, IfOk, Ok, codes, decimal, length};
-ghost use Rattle.std.specs.Prelude.{string_bytes};
-ghost use Rattle.common.specs.declared.limits.TheConstants.{MAX_STEPS};
-ghost use Rattle.program.specs.Spelling.{spelling};
-ghost use Rattle.program.specs.Text.{reading};
-ghost use Rattle.machine.specs.Script.{IsStepOf, steps_of};
-ghost use Rattle.machine.specs.ScriptText.{script_text};
+ghost use Rattle.std.specs.Prelude.{◌≡◌, ◌++◌, ◌∷◌, [], IfErr, IfOk, codes, decimal, string_bytes};
 ghost use Rattle.verdicts.specs.Judgement.{IsVerdict, Verifies};
 ghost use Rattle.recording.specs.Tso.{IsTsoOrder};
 ghost use Rattle.recording.specs.FirstUse.{IsNumberedByFirstUse};
@@ -18,8 +12,8 @@ use devices::Place;
 use inputs::{CommandError, recording_at};
 use judge::{Verdict, judge_alone};
 use litmus::print;
-use machine::{Step, steps_text};
-use program::{Program, has_one_text};
+use machine::steps_text;
+use program::has_one_text;
 use recording::Recording;
 use replay::{is_numbered, most_stores, replay_steps};
 use report::{Answer, Outcome, verdict_answer};
@@ -49,29 +43,8 @@ fn parts_text(
     Ok(text)
 }
 
-/// A capacity, a program and steps of it, as they are printed; the program and the steps are read back.
-fn printed(
-    alloc: Global,
-    capacity: usize,
-    program: &Program,
-    steps: &[Step],
-) -> Result<Vec<u8>, OutOfMemory>
-    requires within { All (IsStepOf program.now) steps.now }
-    requires few { length steps.now ≤ MAX_STEPS }
-    ensures text { IfOk result (λ text. text.items
-        ≡ parts_text capacity (spelling program.now) (script_text program.now steps.now)) }
-    ensures program { IfOk result (λ _. reading (spelling program.now) ≡ Ok program.now) }
-    ensures script { IfOk result (λ _. steps_of program.now (script_text program.now steps.now)
-        ≡ Ok steps.now) }
-{
-    has_one_text();
-    program.sound();
-    let text = print(alloc, program)?;
-    let script = steps_text(alloc, steps, program)?;
-    parts_text(alloc, capacity, &text, &script)
-}
-
-/// The capacity, the program and the script that replay a TSO order.
+/// The capacity, the program and the script that replay a TSO order, as they are printed; the program and the script
+/// are read back.
 fn replay_text(
     alloc: Global,
     recording: &Recording,
@@ -81,9 +54,13 @@ fn replay_text(
     requires order { IsTsoOrder recording.now order.now }
     ensures { IfOk result (λ text. IsReplayText recording.now order.now text.items) }
 {
+    has_one_text();
     recording.sound();
     let (program, steps) = replay_steps(alloc, recording, order)?;
-    printed(alloc, most_stores(recording), &program, &steps)
+    program.sound();
+    let text = print(alloc, &program)?;
+    let script = steps_text(alloc, &steps, &program)?;
+    parts_text(alloc, most_stores(recording), &text, &script)
 }
 
 /// The replay of the least order of a recording, or the verdict on a violation.

@@ -1,37 +1,18 @@
 //! The command `run`.
-ghost use Rattle.std.specs.Prelude.{◌≡◌, ◌∷◌, [], IfErr, IfOk, Ok, option_map, string_bytes};
-ghost use Rattle.machine.specs.Script.{steps_of};
+ghost use Rattle.std.specs.Prelude.{◌∷◌, [], IfErr, IfOk, option_map, string_bytes};
 ghost use Rattle.inputs.specs.Inputs.{CanRead, ReadsNamed};
 ghost use Rattle.commands.specs.Command.{input_names};
 ghost use Rattle.command_line.specs.declared.options.Options.{Options};
-ghost use Rattle.inputs.specs.Refusal.{IsReadingError, step_fault_name};
 ghost use Rattle.commands.specs.Run.{IsRun, IsRunError, IsScriptAnswer, IsScriptError};
 
 use answers::{script_answer, seeded_answer};
 use command_line::RunOptions;
 use devices::Place;
 use inputs::{CommandError, CommandFault, line_refusal, program_at, step_fault_name, text_at};
-use machine::{Step, StepsError, parse_steps};
+use machine::{StepsError, parse_steps};
 use program::Program;
 use report::Answer;
 use std::alloc::Global;
-
-/// The steps of a script for a program, or the refusal of its first line at fault.
-fn steps_of(alloc: Global, text: &[u8], program: &Program) -> Result<Vec<Step>, CommandError>
-    ensures ok { IfOk result (λ steps. steps_of program.now text.now ≡ Ok steps.items) }
-    ensures err { IfErr result (IsReadingError step_fault_name (steps_of program.now text.now)) }
-{
-    match parse_steps(alloc, text, program) {
-        Ok(steps) => Ok(steps),
-        Err(StepsError::OutOfMemory) => Err(CommandError::Fault(CommandFault::OutOfMemory)),
-        Err(StepsError::AtLine(fault, line)) => Err(CommandError::Refused(line_refusal(
-            alloc,
-            step_fault_name(fault),
-            line,
-            text,
-        )?)),
-    }
-}
 
 /// The answer of a program that is run by the script of this name.
 fn script_run<P: Place>(
@@ -47,15 +28,19 @@ fn script_run<P: Place>(
     ensures reads { ReadsNamed (name.now ∷ []) (P.log place.old) (P.log place.new) result }
 {
     let text = text_at(alloc, place, name)?;
-    let steps = steps_of(alloc, text.as_slice(), &program)?;
-    drop(text);
-    Ok(script_answer(
-        alloc,
-        program,
-        options.buffer,
-        options.fault,
-        steps.as_slice(),
-    )?)
+    match parse_steps(alloc, text.as_slice(), &program) {
+        Ok(steps) => {
+            drop(text);
+            Ok(script_answer(alloc, program, options.buffer, options.fault, &steps)?)
+        }
+        Err(StepsError::OutOfMemory) => Err(CommandError::Fault(CommandFault::OutOfMemory)),
+        Err(StepsError::AtLine(fault, line)) => Err(CommandError::Refused(line_refusal(
+            alloc,
+            step_fault_name(fault),
+            line,
+            text.as_slice(),
+        )?)),
+    }
 }
 
 /// Runs the named program by the named script, or else by random steps; the program is read before the
