@@ -15,22 +15,17 @@ use Rattle.verdicts.specs.declared.printed.Answer.{Answer}
 use Rattle.answers.specs.Campaign.{ledger_outcome}
 use Rattle.commands.specs.Merge.{IsMergeAnswer, IsMergedAnswer}
 
--- ledgers with the same first violation and the same number without verdict come out alike
-same_outcome : (unjudged : Outcome) (l m : Ledger) → l.first ≡ m.first → l.unjudged ≡ m.unjudged
-    → ledger_outcome unjudged l ≡ ledger_outcome unjudged m
-same_outcome unjudged l m first count = rw (first, count) refl
-
 -- the answer to a ledger is that to another which says the same
 same_answer : (kind : Kind) (codes : List ℕ) (l m : Ledger) (answer : Answer) → HasTextOf kind codes l → HasTextOf kind codes m
     → IsMergedAnswer kind m answer → IsMergedAnswer kind l answer
 same_answer Campaign codes l m answer a b is =
     let same = one_text Campaign codes l m a b in record {
-      outcome = is.outcome ∙ sym (same_outcome Unfinished l m same.first same.unjudged);
+      outcome = rw (same.first, same.unjudged) is.outcome;
       text = is.text ∙ sym same.text;
     }
 same_answer Survey codes l m answer a b is =
     let same = one_text Survey codes l m a b in record {
-      outcome = is.outcome ∙ sym (same_outcome Refused l m same.first same.unjudged);
+      outcome = rw (same.first, same.unjudged) is.outcome;
       text = is.text ∙ sym same.text;
     }
 

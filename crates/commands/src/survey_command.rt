@@ -73,23 +73,6 @@ pub fn each_command<R: Threads + Wait + Sync, P: Place, W: Sink>(
     put(out, &counts)
 }
 
-/// Counts the recordings of the named input, of which none is told.
-fn counts_answer<R: Threads + Wait + Sync, P: Place>(
-    rt: &R,
-    alloc: Global,
-    options: &SurveyOptions,
-    place: &mut P,
-) -> Result<Answer, CommandFault>
-    requires { CanRead (P.log place.old).tally }
-    ensures ok { IfOk result (IsSurveyed (P.bytes place.old) (string_bytes options.now.file)) }
-    ensures fault { IfErr result (IsSurveyFault (P.bytes place.old) options.now) }
-    ensures reads { ReadsInput (string_bytes options.now.file) (P.log place.old) (P.log place.new) result }
-{
-    let mut out = MemorySink::new(alloc);
-    let ledger = counted(rt, alloc, options, place, &mut out, false)?;
-    Ok(survey_answer(alloc, &ledger, false)?)
-}
-
 /// The line of recording `k` of the named input; none where there are fewer.
 fn line_at<P: Place>(
     alloc: Global,
@@ -133,6 +116,10 @@ pub fn survey_command<R: Threads + Wait + Sync, P: Place>(
             Some(line) => Ok(line_answer(alloc, line.as_slice(), options.reduce)?),
             None => Err(CommandError::of_line(alloc, "refused: K11\n")),
         },
-        None => Ok(counts_answer(rt, alloc, options, place)?),
+        None => {
+            let mut out = MemorySink::new(alloc);
+            let ledger = counted(rt, alloc, options, place, &mut out, false)?;
+            Ok(survey_answer(alloc, &ledger, false)?)
+        }
     }
 }

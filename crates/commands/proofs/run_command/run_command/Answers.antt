@@ -1,15 +1,15 @@
 use Rattle.std.proofs.Common.{◌≡◌, ◌∷◌, [], ap}
 use Rattle.std.specs.Prelude.{option_map, string_bytes}
 use Rattle.commands.specs.Command.{maybe_name}
-use Rattle.commands.proofs.Asked.{seeded_run}
 use Rattle.commands.proofs.Asking.{reads_then, stopped_again}
 use Rattle.commands.proofs.run_command.run_command.Goals as goal
 
 pub returns-in_ok-seeded_answer-in-None-clause-ok : goal.returns-in_ok-seeded_answer-in-None-clause-ok
-returns-in_ok-seeded_answer-in-None-clause-ok g c =
-    seeded_run (g.P.Place.bytes c.args.place.now) c.args.options.now c.in_ok-program.program
-    c.in_ok-seeded_answer-in-None.field-0 (rw c.as_str.ensures.value at c.in_ok-program.ensures.ok)
-    c.in_ok-seeded_answer-in-None.ensures c.in-None.is
+returns-in_ok-seeded_answer-in-None-clause-ok g c = (
+  c.in_ok-program.program,
+  rw c.as_str.ensures.value at c.in_ok-program.ensures.ok,
+  rw c.in-None.is c.in_ok-seeded_answer-in-None.ensures,
+)
 
 pub returns-in_err-program-clause-reads : goal.returns-in_err-program-clause-reads
 returns-in_err-program-clause-reads g c =
