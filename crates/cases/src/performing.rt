@@ -18,15 +18,6 @@ pub struct Printed {
     pub text: Vec<u8>,
 }
 
-/// The text of a fault on standard error.
-fn fault_text(alloc: Global, fault: CommandFault) -> Result<String, AllocError> {
-    match fault {
-        // This text ends its own lines.
-        CommandFault::CommandLine(error) => format!(in alloc; "{error}"),
-        fault => format!(in alloc; "{fault}\n"),
-    }
-}
-
 /// What a command printed that came out so.
 fn printed_of(
     alloc: Global,
@@ -37,7 +28,12 @@ fn printed_of(
     let status = match performed {
         Ok(outcome) => outcome.status(),
         Err(fault) => {
-            text.extend_from_slice(fault_text(alloc, fault)?.as_bytes())?;
+            let said = match fault {
+                // This text ends its own lines.
+                CommandFault::CommandLine(error) => format!(in alloc; "{error}")?,
+                fault => format!(in alloc; "{fault}\n")?,
+            };
+            text.extend_from_slice(said.as_bytes())?;
             Outcome::Fault.status()
         }
     };

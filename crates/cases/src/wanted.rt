@@ -53,25 +53,6 @@ fn is_verdict(found: &Printed, verdict: &[u8]) -> bool
     found.status == verdict_status(verdict) && found.text.as_slice() == verdict
 }
 
-/// Whether the verdict on the recording at this path is printed, with its status.
-fn is_judged<R: Threads + Wait + Sync>(
-    rt: &HostRuntime,
-    threads: &R,
-    path: &str,
-    verdict: &str,
-) -> io::Result<bool> {
-    let line = format!(in rt.alloc(); "judge {path}.json")?;
-    let found = perform_words(rt, threads, line.as_str(), b"")?;
-    Ok(is_verdict(&found, verdict.as_bytes()))
-}
-
-/// Whether the order of a verdict is one of the recording at this path.
-fn is_in_order(rt: &HostRuntime, path: &str, verdict: &str) -> io::Result<bool> {
-    let name = format!(in rt.alloc(); "{path}.json")?;
-    let recording = fs::read(rt, name.as_str())?;
-    Ok(has_order(rt.alloc(), recording.as_slice(), verdict)?)
-}
-
 /// Whether a command with a program's path and an option with its value prints a run that is complete, and in order.
 fn is_run<R: Threads + Wait + Sync>(
     rt: &HostRuntime,
@@ -98,8 +79,16 @@ fn is_met<R: Threads + Wait + Sync>(
     text: &str,
 ) -> io::Result<bool> {
     match rule {
-        Rule::Judged => is_judged(rt, threads, path, text),
-        Rule::Order => is_in_order(rt, path, text),
+        Rule::Judged => {
+            let line = format!(in rt.alloc(); "judge {path}.json")?;
+            let found = perform_words(rt, threads, line.as_str(), b"")?;
+            Ok(is_verdict(&found, text.as_bytes()))
+        }
+        Rule::Order => {
+            let name = format!(in rt.alloc(); "{path}.json")?;
+            let recording = fs::read(rt, name.as_str())?;
+            Ok(has_order(rt.alloc(), recording.as_slice(), text)?)
+        }
         Rule::Seed(seed) => is_run(rt, threads, "run", path, "--seed", seed),
         Rule::Run => Ok(is_run_in_order(rt.alloc(), text)?),
         Rule::Kept => Ok(
