@@ -1,7 +1,7 @@
 -- What was read by parts of a command.
 use Rattle.std.proofs.Common.{◌≡◌, ◌+◌, ◌++◌, ◌∙◌, ◌<◌, [], ◌∷◌, ℕ, List, Option, Some, None, Result, Ok, Err, ap, arith}
-use Rattle.std.proofs.Common.{IfErr, IsErrAnd, append_assoc, drop, get_or, length, refl, subst, sym, take}
-use Rattle.std.proofs.lemmas.List.{append-nil, take-append-drop, take_more}
+use Rattle.std.proofs.Common.{IfErr, IsErrAnd, append_assoc, drop, get_or, length, map, refl, subst, sym, take}
+use Rattle.std.proofs.lemmas.List.{append-nil, get_or-map, take-append-drop, take_more}
 use Rattle.devices.specs.declared.place.Tally.{Tally}
 use Rattle.devices.specs.Places.{Notes, PlaceLog}
 use Rattle.inputs.specs.declared.fault.CommandFault.TheVariants.{OutOfMemory}
@@ -106,3 +106,8 @@ pub names_whole : (names : List (List ℕ)) (i : ℕ) (name : List ℕ) → i < 
     → take i names ++ (name ∷ [] ++ drop (i + 1) names) ≡ names
 names_whole names i name low is = sym (append_assoc (take i names) (name ∷ []) (drop (i + 1) names))
     ∙ ap (λ (l : List (List ℕ)). l ++ drop (i + 1) names) (names_more names i name low is) ∙ take-append-drop (i + 1) names
+
+-- a name among others
+pub name_at : {X : Type 0} (f : X → List ℕ) (names : List X) (i : ℕ) (name : X) → i < length names
+    → name ≡ get_or names i name → f name ≡ get_or (map f names) i []
+name_at f names i name low is = ap f is ∙ sym (get_or-map f names i name [] low)

@@ -1,5 +1,3 @@
 pub mod Printed
 pub mod Asking
 pub mod Given
-pub mod Held
-pub mod Merging

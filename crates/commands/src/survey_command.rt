@@ -3,7 +3,6 @@ ghost use Rattle.std.specs.Prelude.{◌≡◌, ◌≢◌, ◌∷◌, [], IfErr, 
 ghost use Rattle.devices.specs.Bytes.{CanGrow, CountsBy};
 ghost use Rattle.surveys.specs.Surveys.{IsSurvey};
 ghost use Rattle.inputs.specs.Inputs.{CanRead, OfBytes, ReadsNamed, ReadsInput, command_failed_writes};
-ghost use Rattle.surveys.specs.Shown.{IsLineOf};
 ghost use Rattle.commands.specs.Survey.{IsEachFault, IsEachWritten, IsSurveyFault, IsSurveyOf, IsSurveyError, IsSurveyed};
 ghost use Rattle.commands.specs.Survey.{TellsEach};
 
@@ -73,31 +72,6 @@ pub fn each_command<R: Threads + Wait + Sync, P: Place, W: Sink>(
     put(out, &counts)
 }
 
-/// The line of recording `k` of the named input; none where there are fewer.
-fn line_at<P: Place>(
-    alloc: Global,
-    options: &SurveyOptions,
-    k: usize,
-    place: &mut P,
-) -> Result<Option<Vec<u8>>, CommandFault>
-    requires { CanRead (P.log place.old).tally }
-    ensures ok { IfOk result (λ line. OfBytes (P.bytes place.old) (string_bytes options.now.file)
-        (λ bytes. IsLineOf bytes k (option_map (λ v. v.items) line))) }
-    ensures fault { IfErr result (IsSurveyFault (P.bytes place.old) options.now) }
-    ensures reads { ReadsInput (string_bytes options.now.file) (P.log place.old) (P.log place.new) result }
-{
-    let mut input = opened(alloc, place, options.file.as_str())?;
-    let line = line_of(alloc, &mut input, k);
-    place.take_back(input);
-    match line {
-        Ok(line) => Ok(line),
-        Err(SurveyError::ReadFailed) => Err(CommandFault::ReadFailed),
-        Err(SurveyError::WriteFailed) => unreachable!(),
-        Err(SurveyError::OutOfMemory) => Err(CommandFault::OutOfMemory),
-        Err(SurveyError::TooLong) => Err(CommandFault::TooLong),
-    }
-}
-
 /// Counts the recordings of the named input, or answers one of them.
 pub fn survey_command<R: Threads + Wait + Sync, P: Place>(
     rt: &R,
@@ -112,10 +86,21 @@ pub fn survey_command<R: Threads + Wait + Sync, P: Place>(
     ensures reads { ReadsNamed (string_bytes options.now.file ∷ []) (P.log place.old) (P.log place.new) result }
 {
     match options.show {
-        Some(k) => match line_at(alloc, options, k, place)? {
-            Some(line) => Ok(line_answer(alloc, line.as_slice(), options.reduce)?),
-            None => Err(CommandError::of_line(alloc, "refused: K11\n")),
-        },
+        Some(k) => {
+            let mut input = opened(alloc, place, options.file.as_str())?;
+            let line = line_of(alloc, &mut input, k);
+            place.take_back(input);
+            match line {
+                Ok(Some(line)) => Ok(line_answer(alloc, line.as_slice(), options.reduce)?),
+                Ok(None) => Err(CommandError::of_line(alloc, "refused: K11\n")),
+                Err(SurveyError::ReadFailed) => Err(CommandError::Fault(CommandFault::ReadFailed)),
+                Err(SurveyError::WriteFailed) => unreachable!(),
+                Err(SurveyError::OutOfMemory) => {
+                    Err(CommandError::Fault(CommandFault::OutOfMemory))
+                }
+                Err(SurveyError::TooLong) => Err(CommandError::Fault(CommandFault::TooLong)),
+            }
+        }
         None => {
             let mut out = MemorySink::new(alloc);
             let ledger = counted(rt, alloc, options, place, &mut out, false)?;

@@ -1,9 +1,56 @@
-use Rattle.std.proofs.Common.{◌<◌, ◌∙◌, ap, arith, length, map}
+use Rattle.std.proofs.Common.{◌≡◌, ◌<◌, ◌∙◌, ◌∷◌, [], ℕ, List, ap, arith, length, map, refl, subst, sym}
 use Rattle.std.proofs.lemmas.List.{length-map}
+use Rattle.std.specs.List.{AllZip, concat}
 use Rattle.std.specs.Prelude.{string_bytes}
-use Rattle.commands.specs.Merge.{merge_line}
-use Rattle.commands.proofs.Merging.{merge_answer, name_at, zip_length}
+use Rattle.ledger.specs.declared.ledger.Ledger.{Ledger}
+use Rattle.merging.specs.declared.kind.Kind.{Kind}
+use Rattle.merging.specs.declared.kind.Kind.TheVariants.{Campaign, Survey}
+use Rattle.merging.specs.declared.merged.Merged.{Merged}
+use Rattle.merging.specs.Merges.{IsMerge}
+use Rattle.merging.specs.TextOf.{HasTextOf}
+use Rattle.merging.specs.TextOfLaws.{ledger_tells, one_text}
+use Rattle.verdicts.specs.declared.printed.Answer.{Answer}
+use Rattle.commands.specs.Merge.{IsMergeAnswer, IsMergedAnswer, merge_line}
+use Rattle.commands.proofs.Asking.{name_at}
 use Rattle.commands.proofs.merge_command.merge_command.Goals as goal
+
+-- the answer to a ledger is that to another which says the same
+same_answer : (kind : Kind) (codes : List ℕ) (l m : Ledger) (answer : Answer) → HasTextOf kind codes l → HasTextOf kind codes m
+    → IsMergedAnswer kind m answer → IsMergedAnswer kind l answer
+same_answer Campaign codes l m answer a b is =
+    let same = one_text Campaign codes l m a b in record {
+      outcome = rw (same.first, same.unjudged) is.outcome;
+      text = is.text ∙ sym same.text;
+    }
+same_answer Survey codes l m answer a b is =
+    let same = one_text Survey codes l m a b in record {
+      outcome = rw (same.first, same.unjudged) is.outcome;
+      text = is.text ∙ sym same.text;
+    }
+
+-- so the answer to what is made of texts is that to all codes whose texts they are
+merge_answer : (texts : List (List ℕ)) (m : Merged) (answer : Answer) → IsMerge texts m
+    → IsMergedAnswer m.kind m.ledger answer → IsMergeAnswer texts answer
+merge_answer texts m answer is answered = record {
+  kind = m.kind;
+  codes = is.codes;
+  are = is.files_are;
+  ledger = m.ledger;
+  counted = is.ledger;
+  answered = answered;
+  only = λ other others l are counted. let o = is.only other others are in
+      subst (λ (k : Kind). IsMergedAnswer k l answer) (sym o.0)
+      (same_answer m.kind (concat others) l m.ledger answer (ledger_tells m.kind (concat others) l counted)
+      (subst (λ (k : Kind). HasTextOf k (concat others) m.ledger) o.0 o.1) answered);
+}
+
+-- the lists are as long
+zip_length : {A B : Type 0} (R : A → B → Type 0) (xs : List A) (ys : List B) → AllZip R xs ys
+    → length ys ≡ length xs
+zip_length R [] [] all = refl
+zip_length R [] (b ∷ ys) all = absurd all
+zip_length R (a ∷ xs) [] all = absurd all
+zip_length R (a ∷ xs) (b ∷ ys) all = omega (arith, zip_length R xs ys all.1)
 
 pub returns-in-Ok-merge-clause-ok : goal.returns-in-Ok-merge-clause-ok
 returns-in-Ok-merge-clause-ok g c = (

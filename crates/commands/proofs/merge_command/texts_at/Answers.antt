@@ -5,9 +5,18 @@ use Rattle.std.proofs.lemmas.List.{length-map, map-append, take-append-drop, tak
 use Rattle.inputs.specs.declared.fault.CommandFault.TheVariants.{OutOfMemory}
 use Rattle.inputs.specs.declared.command_error.CommandError.TheVariants.{Fault}
 use Rattle.inputs.specs.Inputs.{AreBytesOf, AreRead, AreStopped, IsInputFault}
-use Rattle.commands.proofs.Asking.{names_more, names_whole, read_none, read_then, stopped_after, stopped_before}
-use Rattle.commands.proofs.Merging.{name_at, zip_more}
+use Rattle.std.specs.List.{AllZip}
+use Rattle.commands.proofs.Asking.{name_at, names_more, names_whole, read_none, read_then, stopped_after}
+use Rattle.commands.proofs.Asking.{stopped_before}
 use Rattle.commands.proofs.merge_command.texts_at.Goals as goal
+
+-- one more of each list
+zip_more : {A B : Type 0} (R : A → B → Type 0) (xs : List A) (ys : List B) (x : A) (y : B) → AllZip R xs ys → R x y
+    → AllZip R (xs ++ x ∷ []) (ys ++ y ∷ [])
+zip_more R [] [] x y all one = (one, tt)
+zip_more R [] (b ∷ ys) x y all one = absurd all
+zip_more R (a ∷ xs) [] x y all one = absurd all
+zip_more R (a ∷ xs) (b ∷ ys) x y all one = (all.0, zip_more R xs ys x y all.1 one)
 
 pub loop-i-init : goal.loop-i-init
 loop-i-init g c = record {
