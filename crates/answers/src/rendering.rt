@@ -2,8 +2,7 @@
 
 ghost use Rattle.std.specs.Prelude.{◌≡◌, IfOk, IfSome, option_map};
 ghost use Rattle.verdicts.specs.Judgement.{IsVerdict, Verifies};
-ghost use Rattle.answers.specs.Rendered.{IsPicture, IsRendering, IsRenderedAnswer, IsWholeDrawing, names_of};
-ghost use Rattle.explanation.specs.Explanation.{IsExplanation};
+ghost use Rattle.answers.specs.Rendered.{IsPicture, IsRenderedAnswer, IsWholeDrawing, names_of};
 ghost use Rattle.machine.specs.ProgramOf.{IsProgramOf};
 
 use crate::reduced::reduced_answer;
@@ -96,35 +95,6 @@ fn names_of(
     }
 }
 
-/// The verdict on a recording in words.
-fn words_answer(
-    alloc: Global,
-    recording: &Recording,
-    names: &IndexSet<Name>,
-) -> Result<Answer, OutOfMemory>
-    ensures { IfOk result (IsRendering (IsExplanation recording.now names.now.keys) recording.now) }
-{
-    let verdict = judge_alone(alloc, recording)?;
-    let text = explanation_text(alloc, recording, names, &verdict)?;
-    let outcome = outcome_of(&verdict);
-    Ok(Answer { outcome, text })
-}
-
-/// The verdict on a recording as a picture.
-fn picture_answer(
-    alloc: Global,
-    all: bool,
-    recording: &Recording,
-    names: &IndexSet<Name>,
-) -> Result<Answer, OutOfMemory>
-    ensures { IfOk result (IsRendering (IsPicture all recording.now names.now.keys) recording.now) }
-{
-    let verdict = judge_alone(alloc, recording)?;
-    let text = picture_text(alloc, all, recording, names, &verdict)?;
-    let outcome = outcome_of(&verdict);
-    Ok(Answer { outcome, text })
-}
-
 /// The rendering of a recording, with the names that its program gives the addresses, or else with the usual
 /// ones; it comes out as its verdict. Fails only if out of memory.
 pub fn rendered_answer(
@@ -139,10 +109,18 @@ pub fn rendered_answer(
 {
     match rendering {
         Rendering::Words => {
-            words_answer(alloc, recording, &names_of(alloc, recording, program)?)
+            let names = names_of(alloc, recording, program)?;
+            let verdict = judge_alone(alloc, recording)?;
+            let text = explanation_text(alloc, recording, &names, &verdict)?;
+            let outcome = outcome_of(&verdict);
+            Ok(Answer { outcome, text })
         }
         Rendering::Picture { all } => {
-            picture_answer(alloc, all, recording, &names_of(alloc, recording, program)?)
+            let names = names_of(alloc, recording, program)?;
+            let verdict = judge_alone(alloc, recording)?;
+            let text = picture_text(alloc, all, recording, &names, &verdict)?;
+            let outcome = outcome_of(&verdict);
+            Ok(Answer { outcome, text })
         }
         Rendering::Reduction => reduced_answer(alloc, recording, program),
     }

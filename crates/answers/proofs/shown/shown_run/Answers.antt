@@ -1,5 +1,4 @@
-use Rattle.std.proofs.Common.{◌≡◌, ◌∙◌, Bool, List, Option, Some, false, sym, ℕ}
-use Rattle.std.proofs.lemmas.Result.{IfOk-weaker}
+use Rattle.std.proofs.Common.{◌≡◌, ◌∙◌, Bool, List, Option, Some, append_assoc, false, refl, sym, ℕ}
 use Rattle.program.specs.Parts.{Parts}
 use Rattle.recording.specs.Execution.{Execution}
 use Rattle.relations.specs.Consistency.{HasNoOrder}
@@ -26,8 +25,8 @@ pub cut_end-requires : goal.cut_end-requires
 cut_end-requires c =
     (c.args.machine, sym (c.in_ok-program.ensures ∙ c.program.ensures), c.in_ok-judged.ensures)
 
-pub whole_end-requires : goal.whole_end-requires
-whole_end-requires c = (c.args.machine, c.in_ok-judged.ensures)
+pub ended-requires : goal.ended-requires
+ended-requires c = (c.args.machine, c.in_ok-judged.ensures)
 
 pub returns-in-Some : goal.returns-in-Some
 returns-in-Some c =
@@ -44,9 +43,19 @@ returns-in-Some c =
 pub returns : goal.returns
 returns c =
     let h : Configuration = c.args.machine in
-    let program : h.program ≡ c.in_ok-program.program = sym (c.in_ok-program.ensures ∙ c.program.ensures) in
-    IfOk-weaker c.whole_end.result _ _ (λ answer whole. record {
-      whole = λ none. whole h program c.in_ok-judged.ensures;
+    let program : h.program ≡ c.in_ok-program.program = sym (c.in_ok-program.ensures ∙ c.program.ensures) in record {
+      whole = λ none. record {
+        run = c.in_ok-run-in-None.run';
+        answered = c.in_ok-run-in-None.ensures h c.in_ok-judged.ensures;
+        outcome = refl;
+        text = rw (
+          c.in_ok-extend_from_slice-in-None.ensures.items,
+          c.in_ok-push-in-None.ensures.items,
+          c.deref.ensures.value,
+          c.in_ok-text-in-None.ensures,
+          program,
+        ) (simp append_assoc);
+      };
       cut = λ yes violation. absurd ((rw c.in-None.is at c.in_ok-answer.ensures.none) yes h program
           c.in_ok-judged.ensures violation);
-    }) c.whole_end.ensures
+    }
