@@ -28,15 +28,6 @@ impl Read for Opened<'_> {
     }
 }
 
-/// Why a file is not opened.
-fn fault_of(error: io::Error) -> InputFault {
-    if error.kind() == ErrorKind::OutOfMemory {
-        InputFault::OutOfMemory
-    } else {
-        InputFault::CannotOpen
-    }
-}
-
 /// Files and standard input, or a text in its place. Progress is shown on standard error, where that is a terminal and
 /// standard input is the program's own.
 #[derive(Drop)]
@@ -57,7 +48,11 @@ impl<'a> Disk<'a> {
         Disk {
             rt,
             text,
-            tally: Tally::new(),
+            tally: Tally {
+                lent: 0,
+                failed: 0,
+                unended: 0,
+            },
             line: None,
         }
     }
@@ -85,7 +80,8 @@ impl<'a> Disk<'a> {
         }
         match File::open(self.rt, name) {
             Ok(file) => Ok(Opened::File(file)),
-            Err(error) => Err(fault_of(error)),
+            Err(error) if error.kind() == ErrorKind::OutOfMemory => Err(InputFault::OutOfMemory),
+            Err(_) => Err(InputFault::CannotOpen),
         }
     }
 }
@@ -101,12 +97,16 @@ impl<'a> Place for Disk<'a> {
 
     fn input(&mut self, name: &str) -> Result<Device<Opened<'a>>, InputFault> {
         let opened = self.opened(name)?;
-        self.tally.lend();
+        self.tally.lent += 1;
         Ok(Device::new(opened))
     }
 
     fn take_back(&mut self, input: Device<Opened<'a>>) {
-        self.tally.take_back(input.is_ended(), input.failures());
+        self.tally.lent -= 1;
+        self.tally.failed += input.failures();
+        if !input.is_ended() {
+            self.tally.unended += 1;
+        }
     }
 
     fn progress(&self, trials: Option<usize>, is_quiet: bool) -> Progress<'a> {

@@ -1,7 +1,4 @@
 //! Where a command's inputs come from, and where it shows how far it is.
-ghost use Rattle.std.specs.Prelude.{◌≡◌};
-ghost use Rattle.devices.specs.Bytes.{CanGrow};
-ghost use Rattle.devices.specs.Places.{CanTake, lent_more, taken_back};
 
 use crate::bytes::Source;
 use common::Gate;
@@ -24,39 +21,6 @@ pub struct Tally {
     pub failed: u64,
     /// How many of those that were taken back were not read to their end.
     pub unended: u64,
-}
-
-impl Tally {
-    /// No input was given.
-    pub fn new() -> Tally
-        ensures { result ≡ record { lent = 0; failed = 0; unended = 0 } }
-    {
-        Tally {
-            lent: 0,
-            failed: 0,
-            unended: 0,
-        }
-    }
-
-    /// Counts an input that is given.
-    pub fn lend(&mut self)
-        requires { CanGrow self.old.lent }
-        ensures { self.new ≡ lent_more self.old }
-    {
-        self.lent += 1;
-    }
-
-    /// Counts an input that is taken back: whether its end was met, and how many reads failed.
-    pub fn take_back(&mut self, ended: bool, failures: u64)
-        requires { CanTake self.old failures }
-        ensures { self.new ≡ taken_back self.old ended failures }
-    {
-        self.lent -= 1;
-        self.failed += failures;
-        if !ended {
-            self.unended += 1;
-        }
-    }
 }
 
 /// Gives inputs by name and takes them back; is told how far work is, and which line of an input is refused.
