@@ -1,5 +1,5 @@
 //! The command `replay`.
-ghost use Rattle.std.specs.Prelude.{◌≡◌, ◌++◌, ◌∷◌, [], IfErr, IfOk, codes, decimal, string_bytes};
+ghost use Rattle.std.specs.Prelude.{◌≡◌, ◌∷◌, [], IfErr, IfOk, string_bytes};
 ghost use Rattle.verdicts.specs.Judgement.{IsVerdict, Verifies};
 ghost use Rattle.recording.specs.Tso.{IsTsoOrder};
 ghost use Rattle.recording.specs.FirstUse.{IsNumberedByFirstUse};
@@ -17,15 +17,7 @@ use program::has_one_text;
 use recording::Recording;
 use replay::{is_numbered, most_stores, replay_steps};
 use report::{Answer, Outcome, verdict_answer};
-use std::alloc::{AllocError, Global};
-
-/// The line of a capacity, with an empty line after it.
-fn buffer_line(alloc: Global, capacity: usize) -> Result<String, AllocError>
-    ensures { IfOk result (λ text. string_bytes text
-        ≡ codes "buffer " ++ decimal capacity ++ 10 ∷ 10 ∷ []) }
-{
-    format!(in alloc; "buffer {capacity}\n\n")
-}
+use std::alloc::Global;
 
 /// A capacity, the text of a program and a script, with an empty line between them.
 fn parts_text(
@@ -36,7 +28,7 @@ fn parts_text(
 ) -> Result<Vec<u8>, OutOfMemory>
     ensures { IfOk result (λ text. text.items ≡ parts_text capacity program.now script.now) }
 {
-    let mut text = buffer_line(alloc, capacity)?.into_bytes();
+    let mut text = format!(in alloc; "buffer {capacity}\n\n")?.into_bytes();
     text.extend_from_slice(program)?;
     text.push(b'\n')?;
     text.extend_from_slice(script)?;
