@@ -42,8 +42,8 @@ fn cut_end(
     }
 }
 
-/// What is left of the violation in which a run ends, where it is to be reduced, and else its program, an empty line, and
-/// what is answered of the machine in which it ends.
+/// What is left of the violation in which a run ends, where it is to be reduced, and else its program, an empty line,
+/// and what is answered of the machine in which it ends.
 fn shown_run(alloc: Global, machine: Machine, reduced: bool) -> Result<Answer, OutOfMemory>
     ensures { IfOk result (IsShownRun machine.fault machine.program machine.state reduced) }
 {

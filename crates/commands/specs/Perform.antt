@@ -91,7 +91,8 @@ IsPrinted inputs words a b answer = ((o : Options) × AreOptions o (command_of w
     ⊎ ((error : CommandError) × IsCommandError inputs o error × AreStopped (input_names o) error a b
     × IsLine error answer)))
     ⊎ ((fault : OptionFault) × IsFault fault words
-    × (IsHelp fault answer ⊎ ((error : CommandError) × IsOptionError fault error × IsLine error answer)) × AreRead [] a b)
+    × (IsHelp fault answer ⊎ ((error : CommandError) × IsOptionError fault error × IsLine error answer))
+    × AreRead [] a b)
 
 -- what was written for the words, and how it came out: all that is printed for them, or, of a survey that tells each
 -- recording, the lines of recordings and their counts, by all of the input

@@ -22,7 +22,8 @@ pub fn verify_command<R: Threads + Wait + Sync, P: Place>(
     requires { CanRead (P.log place.old).tally }
     ensures ok { IfOk result (IsVerified (P.bytes place.old) options.now) }
     ensures err { IfErr result (IsVerifyError (P.bytes place.old) options.now) }
-    ensures reads { ReadsNamed (string_bytes options.now.recording ∷ string_bytes options.now.verdict ∷ []) (P.log place.old) (P.log place.new) result }
+    ensures reads { ReadsNamed (string_bytes options.now.recording ∷ string_bytes options.now.verdict ∷ [])
+        (P.log place.old) (P.log place.new) result }
 {
     let recording = recording_at(alloc, place, options.recording.as_str())?;
     let text = text_at(alloc, place, options.verdict.as_str())?;
