@@ -1,6 +1,6 @@
 -- What was read by parts of a command.
-use Rattle.std.proofs.Common.{◌≡◌, ◌+◌, ◌++◌, ◌∙◌, ◌<◌, [], ◌∷◌, ℕ, List, Option, Some, None, Result, Ok, Err, ap, arith}
-use Rattle.std.proofs.Common.{IfErr, IsErrAnd, append_assoc, drop, get_or, length, map, refl, subst, sym, take}
+use Rattle.std.proofs.Common.{◌≡◌, ◌+◌, ◌++◌, ◌∙◌, ◌<◌, [], ◌∷◌, ℕ, List, Option, Some, None, Result, Ok, Err, ap}
+use Rattle.std.proofs.Common.{arith, IfErr, IsErrAnd, append_assoc, drop, get_or, length, map, refl, subst, sym, take}
 use Rattle.std.proofs.lemmas.List.{append-nil, get_or-map, take-append-drop, take_more}
 use Rattle.devices.specs.declared.place.Tally.{Tally}
 use Rattle.devices.specs.Places.{Notes, PlaceLog}
@@ -105,7 +105,8 @@ names_more names i name low is = ap (λ (n : List ℕ). take i names ++ n ∷ []
 pub names_whole : (names : List (List ℕ)) (i : ℕ) (name : List ℕ) → i < length names → name ≡ get_or names i []
     → take i names ++ (name ∷ [] ++ drop (i + 1) names) ≡ names
 names_whole names i name low is = sym (append_assoc (take i names) (name ∷ []) (drop (i + 1) names))
-    ∙ ap (λ (l : List (List ℕ)). l ++ drop (i + 1) names) (names_more names i name low is) ∙ take-append-drop (i + 1) names
+    ∙ ap (λ (l : List (List ℕ)). l ++ drop (i + 1) names) (names_more names i name low is)
+    ∙ take-append-drop (i + 1) names
 
 -- a name among others
 pub name_at : {X : Type 0} (f : X → List ℕ) (names : List X) (i : ℕ) (name : X) → i < length names

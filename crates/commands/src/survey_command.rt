@@ -3,8 +3,7 @@ ghost use Rattle.std.specs.Prelude.{◌≡◌, ◌≢◌, ◌∷◌, [], IfErr, 
 ghost use Rattle.devices.specs.Bytes.{CanGrow, CountsBy};
 ghost use Rattle.surveys.specs.Surveys.{IsSurvey};
 ghost use Rattle.inputs.specs.Inputs.{CanRead, OfBytes, ReadsNamed, ReadsInput, command_failed_writes};
-ghost use Rattle.commands.specs.Survey.{IsEachFault, IsEachWritten, IsSurveyFault, IsSurveyOf, IsSurveyError, IsSurveyed};
-ghost use Rattle.commands.specs.Survey.{TellsEach};
+ghost use Rattle.commands.specs.Survey.{IsEachFault, IsEachWritten, IsSurveyOf, IsSurveyError, TellsEach};
 
 use crate::output::put;
 use answers::{line_answer, survey_answer};

@@ -63,5 +63,6 @@ returns-in_ok-text-in-Some c =
     let judged : IsJudgement h c.in-Some.field-0 = subst (λ (o : Option Judged). IsJudgedEnd h o) c.in-Some.is ends in
     complete_answer h.fault h.program h.state answer judged.complete judged.tso
     (subst (λ (x : Execution). IsVerdictAnswer x (recording_text x) answer) judged.recording
-    (subst (λ (t : List ℕ). IsVerdictAnswer c.in-Some.field-0.recording t answer) c.in_ok-text-in-Some.ensures.text found)))
+    (subst (λ (t : List ℕ). IsVerdictAnswer c.in-Some.field-0.recording t answer) c.in_ok-text-in-Some.ensures.text
+    found)))
     c.verdict_answer.ensures

@@ -11,7 +11,8 @@ use Rattle.commands.proofs.judge_command.judge_command.Goals as goal
 
 -- what judge answers holds, since every text of a verdict does
 answer_holds : EveryVerdictHolds → (inputs : List ℕ → Option (List ℕ)) (o : JudgeOptions) (bytes : List ℕ)
-    (answer : Answer) → AreBytesOf inputs (string_bytes o.file) bytes → IsAnswerOf bytes answer → IsJudged inputs o answer
+    (answer : Answer) → AreBytesOf inputs (string_bytes o.file) bytes → IsAnswerOf bytes answer
+    → IsJudged inputs o answer
 answer_holds law inputs o bytes answer given is = (bytes, given, (is, go is))
   where
     go : IsAnswerOf bytes answer → AnswerHolds bytes answer

@@ -15,8 +15,8 @@ use Rattle.commands.proofs.Asking.{name_at}
 use Rattle.commands.proofs.merge_command.merge_command.Goals as goal
 
 -- the answer to a ledger is that to another which says the same
-same_answer : (kind : Kind) (codes : List ℕ) (l m : Ledger) (answer : Answer) → HasTextOf kind codes l → HasTextOf kind codes m
-    → IsMergedAnswer kind m answer → IsMergedAnswer kind l answer
+same_answer : (kind : Kind) (codes : List ℕ) (l m : Ledger) (answer : Answer) → HasTextOf kind codes l
+    → HasTextOf kind codes m → IsMergedAnswer kind m answer → IsMergedAnswer kind l answer
 same_answer Campaign codes l m answer a b is =
     let same = one_text Campaign codes l m a b in record {
       outcome = rw (same.first, same.unjudged) is.outcome;

@@ -1,5 +1,5 @@
-use Rattle.std.proofs.Common.{◌≡◌, ◌<◌, ◌+◌, ◌++◌, ◌∷◌, ◌∙◌, [], ℕ, List, Option, Vec, Global, arith, drop, get_or, length}
-use Rattle.std.proofs.Common.{map, refl, subst, sym, take}
+use Rattle.std.proofs.Common.{◌≡◌, ◌<◌, ◌+◌, ◌++◌, ◌∷◌, ◌∙◌, [], ℕ, List, Option, Vec, Global, arith, drop, get_or}
+use Rattle.std.proofs.Common.{length, map, refl, subst, sym, take}
 use Rattle.std.specs.Prelude.{string_bytes}
 use Rattle.std.proofs.lemmas.List.{length-map, map-append, take-append-drop, take_all}
 use Rattle.inputs.specs.declared.fault.CommandFault.TheVariants.{OutOfMemory}
@@ -53,10 +53,12 @@ pub returns-in-Err-clause-reads : goal.returns-in-Err-clause-reads
 returns-in-Err-clause-reads g c =
     let names : List (List ℕ) = map string_bytes c.args.names.now in
     let low : c.loop-i.i < length names = omega (arith, length-map c.args.names.now string_bytes) in
-    subst (λ (l : List (List ℕ)). AreStopped l (Fault c.in-Err.fault) (g.P.Place.log c.args.place.now) (g.P.Place.log c.text_at.new.place))
+    subst (λ (l : List (List ℕ)). AreStopped l (Fault c.in-Err.fault) (g.P.Place.log c.args.place.now)
+    (g.P.Place.log c.text_at.new.place))
     (names_whole names c.loop-i.i c.as_str.result.now low (c.as_str.ensures.value
     ∙ name_at string_bytes c.args.names.now c.loop-i.i c.index-names-i.result (omega arith) c.index-names-i.is))
-    (stopped_after (take c.loop-i.i names) (c.as_str.result.now ∷ []) (drop (c.loop-i.i + 1) names) (Fault c.in-Err.fault) _ _ _
+    (stopped_after (take c.loop-i.i names) (c.as_str.result.now ∷ []) (drop (c.loop-i.i + 1) names)
+    (Fault c.in-Err.fault) _ _ _
     c.loop-i.invariant.read c.in-Err.ensures.reads)
 
 pub returns-in_default-clause-reads : goal.returns-in_default-clause-reads
@@ -80,8 +82,8 @@ loop-i-preserved g c =
     ∙ name_at string_bytes c.args.names.now c.loop-i.i c.index-names-i.result (omega arith) c.index-names-i.is) in
     let given = subst (λ (f : List ℕ → Option (List ℕ)). AreBytesOf f c.as_str.result.now c.in-Ok.text.items) h.kept
     c.in-Ok.ensures.given in record {
-      read = subst (λ (l : List (List ℕ)). AreRead l (g.P.Place.log c.args.place.now) (g.P.Place.log c.text_at.new.place)) more
-          (read_then _ _ _ _ _ h.read c.in-Ok.ensures.reads);
+      read = subst (λ (l : List (List ℕ)). AreRead l (g.P.Place.log c.args.place.now)
+          (g.P.Place.log c.text_at.new.place)) more (read_then _ _ _ _ _ h.read c.in-Ok.ensures.reads);
       kept = c.text_at.ensures.kept ∙ h.kept;
       given = rw (
         sym more,
