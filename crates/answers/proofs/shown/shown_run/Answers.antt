@@ -1,4 +1,4 @@
-use Rattle.std.proofs.Common.{◌≡◌, ◌∙◌, Bool, List, Option, Some, append_assoc, false, refl, sym, ℕ}
+use Rattle.std.proofs.Common.{◌≡◌, ◌∙◌, Bool, Option, Some, append_assoc, false, refl, sym}
 use Rattle.program.specs.Parts.{Parts}
 use Rattle.recording.specs.Execution.{Execution}
 use Rattle.relations.specs.Consistency.{HasNoOrder}
