@@ -33,16 +33,12 @@ pub record IsFaultlessAnswer (p : Parts) (s : State) (answer : Answer) : Type 0 
   pub done : IsComplete p.cores s → IsOrderedAnswer (recorded p.cores s) answer
   pub tso : answer.outcome ≡ Ordered → IsTsoOrder (recorded p.cores s) s.performed
 
--- that a run is unfinished
-pub record IsUnfinishedAnswer (answer : Answer) : Type 0 where
-  pub outcome : answer.outcome ≡ Unfinished
-  pub text : answer.text.items ≡ codes "unfinished" ++ 10 ∷ []
-
 -- the recording of a run that is complete and the verdict on it, or that the run is unfinished
 pub record IsRunAnswer (fault : Fault) (p : Parts) (s : State) (answer : Answer) : Type 0 where
   pub judged : IsComplete p.cores s
       → IsVerdictAnswer (recorded p.cores s) (recording_text (recorded p.cores s)) answer
-  pub unfinished : (IsComplete p.cores s → ⊥) → IsUnfinishedAnswer answer
+  pub unfinished : (IsComplete p.cores s → ⊥) → (answer.outcome ≡ Unfinished)
+      × (answer.text.items ≡ codes "unfinished" ++ 10 ∷ [])
   pub incomplete : answer.outcome ≡ Unfinished → IsComplete p.cores s → ⊥
   pub faultless : fault ≡ faults.None → IsFaultlessAnswer p s answer
 

@@ -19,13 +19,8 @@ pub record IsSurveyAnswer (after_lines : Bool) (l : Ledger) (answer : Answer) : 
   pub outcome : answer.outcome ≡ ledger_outcome Refused l
   pub text : answer.text.items ≡ empty_line after_lines ++ survey_text l
 
--- the recording that the bytes are is reduced
-pub record IsReducedLine (bytes : List ℕ) (answer : Answer) : Type 0 where
-  pub recording : Execution
-  pub read : IsReadingResult bytes (Ok recording)
-  pub reduced : IsReducedAnswer recording None answer
-
 -- what is answered to the bytes of one recording: its verdict, or what is left of its violation, or its refusal
 abbrev pub IsLineAnswer : Bool → List ℕ → Answer → Type 0
 IsLineAnswer false bytes answer = IsAnswerOf bytes answer
-IsLineAnswer true bytes answer = IsReducedLine bytes answer ⊎ IsRefusedAnswer bytes answer
+IsLineAnswer true bytes answer = ((x : Execution) × IsReadingResult bytes (Ok x) × IsReducedAnswer x None answer)
+    ⊎ IsRefusedAnswer bytes answer

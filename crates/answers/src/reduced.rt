@@ -1,6 +1,6 @@
 //! Violations that are cut down to the events that they need, as answers.
 
-ghost use Rattle.std.specs.Prelude.{◌≡◌, ◌++◌, IfOk, OnOk, IfSome, IfNone, option_map};
+ghost use Rattle.std.specs.Prelude.{◌≡◌, ◌++◌, IfOk, IfSome, IfNone, option_map};
 ghost use Rattle.recording.specs.FirstUse.{IsNumberedByFirstUse};
 ghost use Rattle.machine.specs.ProgramOf.{IsProgramOf};
 ghost use Rattle.verdicts.specs.Judgement.{IsVerdict};
@@ -35,23 +35,6 @@ fn heading_of(alloc: Global, events: &[EventId], headed: bool) -> Result<Vec<u8>
     Ok(out)
 }
 
-/// Adds a program, an empty line, and the line of a recording.
-fn put_shown(
-    alloc: Global,
-    out: &mut Vec<u8>,
-    program: &Program,
-    recording: &Recording,
-) -> Result<(), OutOfMemory>
-    ensures { OnOk result (out.new.items ≡ out.old.items ++ shown_text program.now recording.now) }
-{
-    let text = print(alloc, program)?;
-    out.extend_from_slice(&text)?;
-    out.push(b'\n')?;
-    let line = write_recording(alloc, recording)?;
-    out.extend_from_slice(&line)?;
-    Ok(())
-}
-
 /// A program, an empty line, and the line of its recording with the verdict on it, after a text.
 fn append_verdict(
     alloc: Global,
@@ -62,7 +45,11 @@ fn append_verdict(
     ensures { IfOk result
         (IsVerdictAnswer recording.now (text.items ++ shown_text program.now recording.now)) }
 {
-    put_shown(alloc, &mut text, program, recording)?;
+    let lines = print(alloc, program)?;
+    text.extend_from_slice(&lines)?;
+    text.push(b'\n')?;
+    let line = write_recording(alloc, recording)?;
+    text.extend_from_slice(&line)?;
     let verdict = judge_alone(alloc, recording)?;
     verdict_answer(alloc, text, recording, &verdict)
 }
@@ -87,26 +74,6 @@ fn program_left(
     }
 }
 
-/// What is shown of what is left of a recording.
-fn left_answer(
-    alloc: Global,
-    recording: &Recording,
-    program: Option<&Program>,
-    headed: bool,
-    reduced: &Reduced,
-) -> Result<Answer, OutOfMemory>
-    requires closed { AreClosed recording.now reduced.now.events.items }
-    requires numbered { IsNumberedByFirstUse reduced.now.recording }
-    requires program { IfSome program (λ p. IsProgramOf p.now recording.now) }
-    ensures { IfOk result (IsVerdictAnswer reduced.now.recording
-        (heading headed reduced.now.events.items ++ shown_text (program_left (option_map (λ q. q.now) program.entry)
-        recording.now reduced.now.events.items reduced.now.recording) reduced.now.recording)) }
-{
-    let text = heading_of(alloc, &reduced.events, headed)?;
-    let left = program_left(alloc, recording, program, reduced)?;
-    append_verdict(alloc, text, &left, &reduced.recording)
-}
-
 /// What is left of a violation where the events alone are kept that it needs: its program, which is what is
 /// left of the given one, an empty line, and its recording with the verdict on it, after the numbers of
 /// its events where they are asked for; none where the verdict is an order. Fails only if out of memory.
@@ -125,7 +92,9 @@ pub(crate) fn cut_answer(
 {
     match reduce(alloc, recording, verdict)? {
         Some(reduced) => {
-            let answer = left_answer(alloc, recording, program, headed, &reduced)?;
+            let text = heading_of(alloc, &reduced.events, headed)?;
+            let left = program_left(alloc, recording, program, &reduced)?;
+            let answer = append_verdict(alloc, text, &left, &reduced.recording)?;
             Ok(Some(answer))
         }
         None => Ok(None),

@@ -1,13 +1,8 @@
 //! Renderings of a recording: its verdict in words or as a picture, or what is left of it.
 
-ghost use Rattle.common.specs.declared.limits.TheConstants.{MAX_EVENTS};
-ghost use Rattle.std.specs.Prelude.{◌≡◌, ◌≤◌, IfOk, IfSome, option_map};
-ghost use Rattle.std.specs.List.{range_with_len};
-ghost use Rattle.verdicts.specs.declared.verdict.Verdict.{Verdict};
+ghost use Rattle.std.specs.Prelude.{◌≡◌, IfOk, IfSome, option_map};
 ghost use Rattle.verdicts.specs.Judgement.{IsVerdict, Verifies};
-ghost use Rattle.drawing.specs.Drawing.{IsDrawing};
-ghost use Rattle.answers.specs.Rendered.{IsPicture, IsRendering, IsRenderedAnswer, IsWholeDrawing, names_of};
-ghost use Rattle.explanation.specs.Explanation.{IsExplanation};
+ghost use Rattle.answers.specs.Rendered.{IsPicture, IsRenderedAnswer, IsWholeDrawing, names_of};
 ghost use Rattle.machine.specs.ProgramOf.{IsProgramOf};
 
 use crate::reduced::reduced_answer;
@@ -37,18 +32,6 @@ pub enum Rendering {
     Reduction,
 }
 
-/// The numbers of this many events.
-fn event_numbers(alloc: Global, count: usize) -> Result<Vec<EventId>, OutOfMemory>
-    requires { count ≤ MAX_EVENTS }
-    ensures { IfOk result (λ numbers. numbers.items ≡ range_with_len 0 count) }
-{
-    let mut numbers = Vec::new(alloc);
-    for number in 0..count as EventId {
-        numbers.push(number)?;
-    }
-    Ok(numbers)
-}
-
 /// A picture of all events of a recording.
 fn whole_drawing(
     alloc: Global,
@@ -60,30 +43,11 @@ fn whole_drawing(
     ensures { IfOk result (λ text. IsWholeDrawing recording.now names.now.keys verdict.now text.items) }
 {
     recording.sound();
-    let numbers = event_numbers(alloc, recording.len())?;
+    let mut numbers = Vec::new(alloc);
+    for number in 0..recording.len() as EventId {
+        numbers.push(number)?;
+    }
     drawing_text(alloc, recording, names, &numbers, recording, verdict)
-}
-
-/// A picture of what is left of a recording.
-fn reduced_drawing(
-    alloc: Global,
-    recording: &Recording,
-    names: &IndexSet<Name>,
-    reduced: &Reduced,
-) -> Result<Vec<u8>, OutOfMemory>
-    ensures { IfOk result (λ text. (verdict : Verdict) × IsVerdict reduced.now.recording verdict
-        × IsDrawing recording.now names.now.keys reduced.now.events.items reduced.now.recording verdict
-        text.items) }
-{
-    let verdict = judge_alone(alloc, &reduced.recording)?;
-    drawing_text(
-        alloc,
-        recording,
-        names,
-        &reduced.events,
-        &reduced.recording,
-        &verdict,
-    )
 }
 
 /// A picture of all events, or of those alone that a violation needs.
@@ -102,7 +66,15 @@ fn picture_text(
         return whole_drawing(alloc, recording, names, verdict);
     }
     match reduce(alloc, recording, verdict)? {
-        Some(reduced) => reduced_drawing(alloc, recording, names, &reduced),
+        Some(
+            Reduced {
+                events,
+                recording: rest,
+            },
+        ) => {
+            let verdict = judge_alone(alloc, &rest)?;
+            drawing_text(alloc, recording, names, &events, &rest, &verdict)
+        }
         None => whole_drawing(alloc, recording, names, verdict),
     }
 }
@@ -123,35 +95,6 @@ fn names_of(
     }
 }
 
-/// The verdict on a recording in words.
-fn words_answer(
-    alloc: Global,
-    recording: &Recording,
-    names: &IndexSet<Name>,
-) -> Result<Answer, OutOfMemory>
-    ensures { IfOk result (IsRendering (IsExplanation recording.now names.now.keys) recording.now) }
-{
-    let verdict = judge_alone(alloc, recording)?;
-    let text = explanation_text(alloc, recording, names, &verdict)?;
-    let outcome = outcome_of(&verdict);
-    Ok(Answer { outcome, text })
-}
-
-/// The verdict on a recording as a picture.
-fn picture_answer(
-    alloc: Global,
-    all: bool,
-    recording: &Recording,
-    names: &IndexSet<Name>,
-) -> Result<Answer, OutOfMemory>
-    ensures { IfOk result (IsRendering (IsPicture all recording.now names.now.keys) recording.now) }
-{
-    let verdict = judge_alone(alloc, recording)?;
-    let text = picture_text(alloc, all, recording, names, &verdict)?;
-    let outcome = outcome_of(&verdict);
-    Ok(Answer { outcome, text })
-}
-
 /// The rendering of a recording, with the names that its program gives the addresses, or else with the usual
 /// ones; it comes out as its verdict. Fails only if out of memory.
 pub fn rendered_answer(
@@ -166,10 +109,18 @@ pub fn rendered_answer(
 {
     match rendering {
         Rendering::Words => {
-            words_answer(alloc, recording, &names_of(alloc, recording, program)?)
+            let names = names_of(alloc, recording, program)?;
+            let verdict = judge_alone(alloc, recording)?;
+            let text = explanation_text(alloc, recording, &names, &verdict)?;
+            let outcome = outcome_of(&verdict);
+            Ok(Answer { outcome, text })
         }
         Rendering::Picture { all } => {
-            picture_answer(alloc, all, recording, &names_of(alloc, recording, program)?)
+            let names = names_of(alloc, recording, program)?;
+            let verdict = judge_alone(alloc, recording)?;
+            let text = picture_text(alloc, all, recording, &names, &verdict)?;
+            let outcome = outcome_of(&verdict);
+            Ok(Answer { outcome, text })
         }
         Rendering::Reduction => reduced_answer(alloc, recording, program),
     }

@@ -1,41 +1,19 @@
 //! What is answered of runs.
 
 ghost use Rattle.std.specs.Prelude.{IfOk};
-ghost use Rattle.recorder.specs.Text.{recording_text};
 ghost use Rattle.machine.specs.Configuration.{Configuration};
-ghost use Rattle.verdicts.specs.Judgement.{IsVerdict, Verifies};
 ghost use Rattle.trials.specs.Judged.{IsJudgedEnd};
-ghost use Rattle.answers.specs.Run.{IsRunAnswer, IsSeededAnswer, IsUnfinishedAnswer, state_after};
-ghost use Rattle.verdicts.specs.VerdictAnswer.{IsVerdictAnswer};
+ghost use Rattle.answers.specs.Run.{IsRunAnswer, IsSeededAnswer, state_after};
 
 use common::OutOfMemory;
-use judge::Verdict;
 use machine::{Fault, Machine, Step};
 use program::Program;
 use rand_core::SeedableRng;
 use rand_xoshiro::Xoshiro256PlusPlus;
 use recorder::write_recording;
-use recording::Recording;
 use report::{Answer, Outcome, verdict_answer};
 use std::alloc::Global;
 use trials::{Judged, judged_end, run_seeded};
-
-/// The line of a recording and the verdict on it. Fails only if out of memory.
-fn recorded(alloc: Global, recording: &Recording, verdict: &Verdict) -> Result<Answer, OutOfMemory>
-    requires found { IsVerdict recording.now verdict.now }
-    requires verified { Verifies recording.now verdict.now }
-    ensures { IfOk result (IsVerdictAnswer recording.now (recording_text recording.now)) }
-{
-    let text = write_recording(alloc, recording)?;
-    verdict_answer(alloc, text, recording, verdict)
-}
-
-/// That a run is unfinished. Fails only if out of memory.
-fn unfinished(alloc: Global) -> Result<Answer, OutOfMemory>
-    ensures { IfOk result IsUnfinishedAnswer }
-{
-    Ok(Answer::of(alloc, Outcome::Unfinished, "unfinished\n")?)
-}
 
 /// The line of a recording and the verdict on it, or that a run is unfinished, by what is judged of the
 /// machine in which it ends. Fails only if out of memory.
@@ -45,8 +23,11 @@ pub(crate) fn ended(alloc: Global, judged: Option<Judged>) -> Result<Answer, Out
         → IsRunAnswer h.fault h.program h.state answer) }
 {
     match judged {
-        Some(Judged { recording, verdict }) => recorded(alloc, &recording, &verdict),
-        None => unfinished(alloc),
+        Some(Judged { recording, verdict }) => {
+            let text = write_recording(alloc, &recording)?;
+            verdict_answer(alloc, text, &recording, &verdict)
+        }
+        None => Ok(Answer::of(alloc, Outcome::Unfinished, "unfinished\n")?),
     }
 }
 

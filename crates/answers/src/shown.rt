@@ -1,9 +1,9 @@
 //! What is shown of a trial.
 
-ghost use Rattle.std.specs.Prelude.{◌≡◌, ◌<◌, ◌++◌, ◌∷◌, IfOk, IfSome, IfNone, Some, false, true};
+ghost use Rattle.std.specs.Prelude.{◌≡◌, ◌<◌, IfOk, IfSome, IfNone, Some, false, true};
 ghost use Rattle.machine.specs.Configuration.{Configuration, IsAtEnd, recording_of};
 ghost use Rattle.trials.specs.Judged.{IsJudgedEnd};
-ghost use Rattle.answers.specs.Campaign.{IsShownAnswer, IsShownRun, IsWholeShown, IsViolation};
+ghost use Rattle.answers.specs.Campaign.{IsShownAnswer, IsShownRun, IsViolation};
 ghost use Rattle.answers.specs.Reduced.{IsCutAnswer};
 
 use crate::reduced::cut_answer;
@@ -15,35 +15,6 @@ use program::Program;
 use report::Answer;
 use std::alloc::Global;
 use trials::{Campaign, Judged, judged_end, run_trial};
-
-/// An answer after a text and an empty line.
-fn prepend_text(mut text: Vec<u8>, answer: Answer) -> Result<Answer, OutOfMemory>
-    ensures { IfOk result
-        (λ a. (a.outcome ≡ answer.outcome) × (a.text.items ≡ text.items ++ 10 ∷ answer.text.items)) }
-{
-    let Answer {
-        outcome,
-        text: lines,
-    } = answer;
-    text.push(b'\n')?;
-    text.extend_from_slice(&lines)?;
-    Ok(Answer { outcome, text })
-}
-
-/// The program of a run, an empty line, and what is answered of the machine in which it ends, by what is judged of it.
-fn whole_end(
-    alloc: Global,
-    program: &Program,
-    judged: Option<Judged>,
-) -> Result<Answer, OutOfMemory>
-    requires { (h : Configuration) × IsJudgedEnd h judged }
-    ensures { IfOk result (λ answer. (h : Configuration) → h.program ≡ program.now → IsJudgedEnd h judged
-        → IsWholeShown h.fault h.program h.state answer) }
-{
-    let text = print(alloc, program)?;
-    let run = ended(alloc, judged)?;
-    prepend_text(text, run)
-}
 
 /// What is left of the violation in which a run ends, where it is to be reduced; none where it ends in none.
 fn cut_end(
@@ -71,7 +42,8 @@ fn cut_end(
     }
 }
 
-/// What is left of the violation in which a run ends, where it is to be reduced, and else what `whole_end` answers.
+/// What is left of the violation in which a run ends, where it is to be reduced, and else its program, an empty line,
+/// and what is answered of the machine in which it ends.
 fn shown_run(alloc: Global, machine: Machine, reduced: bool) -> Result<Answer, OutOfMemory>
     ensures { IfOk result (IsShownRun machine.fault machine.program machine.state reduced) }
 {
@@ -79,7 +51,16 @@ fn shown_run(alloc: Global, machine: Machine, reduced: bool) -> Result<Answer, O
     let judged = judged_end(alloc, machine)?;
     match cut_end(alloc, &program, &judged, reduced)? {
         Some(answer) => Ok(answer),
-        None => whole_end(alloc, &program, judged),
+        None => {
+            let mut text = print(alloc, &program)?;
+            let run = ended(alloc, judged)?;
+            text.push(b'\n')?;
+            text.extend_from_slice(&run.text)?;
+            Ok(Answer {
+                outcome: run.outcome,
+                text,
+            })
+        }
     }
 }
 

@@ -1,8 +1,7 @@
 //! Command lines of cases, performed.
 
-use crate::test_environment::{TestEnvironment, words_of};
 use commands::perform::perform;
-use devices::MemorySink;
+use devices::{Disk, MemorySink};
 use inputs::CommandFault;
 use report::Outcome;
 use std::alloc::{AllocError, Global};
@@ -19,15 +18,6 @@ pub struct Printed {
     pub text: Vec<u8>,
 }
 
-/// The text of a fault on standard error.
-fn fault_text(alloc: Global, fault: CommandFault) -> Result<String, AllocError> {
-    match fault {
-        // This text ends its own lines.
-        CommandFault::CommandLine(error) => format!(in alloc; "{error}"),
-        fault => format!(in alloc; "{fault}\n"),
-    }
-}
-
 /// What a command printed that came out so.
 fn printed_of(
     alloc: Global,
@@ -38,11 +28,27 @@ fn printed_of(
     let status = match performed {
         Ok(outcome) => outcome.status(),
         Err(fault) => {
-            text.extend_from_slice(fault_text(alloc, fault)?.as_bytes())?;
+            let said = match fault {
+                // This text ends its own lines.
+                CommandFault::CommandLine(error) => format!(in alloc; "{error}")?,
+                fault => format!(in alloc; "{fault}\n")?,
+            };
+            text.extend_from_slice(said.as_bytes())?;
             Outcome::Fault.status()
         }
     };
     Ok(Printed { status, text })
+}
+
+/// The words of a command line without quotes.
+fn words_of(alloc: Global, line: &str) -> Result<Vec<String>, AllocError> {
+    let mut words = Vec::new(alloc);
+    for word in line.split(' ') {
+        if !word.is_empty() {
+            words.push(String::from_str(alloc, word)?)?;
+        }
+    }
+    Ok(words)
 }
 
 /// Performs a command line with this standard input.
@@ -53,7 +59,7 @@ pub fn perform_words<R: Threads + Wait + Sync>(
     text: &[u8],
 ) -> io::Result<Printed> {
     let words = words_of(rt.alloc(), line)?;
-    let mut place = TestEnvironment::new(rt, text);
+    let mut place = Disk::new(rt, Some(text));
     let mut out = MemorySink::new(rt.alloc());
     let performed = perform(threads, rt.alloc(), &words, &mut place, &mut out);
     Ok(printed_of(rt.alloc(), out.written(), performed)?)

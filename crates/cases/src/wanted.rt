@@ -53,36 +53,8 @@ fn is_verdict(found: &Printed, verdict: &[u8]) -> bool
     found.status == verdict_status(verdict) && found.text.as_slice() == verdict
 }
 
-/// Whether the verdict on the recording at this path is printed, with its status.
-fn is_judged<R: Threads + Wait + Sync>(
-    rt: &HostRuntime,
-    threads: &R,
-    path: &str,
-    verdict: &str,
-) -> io::Result<bool> {
-    let line = format!(in rt.alloc(); "judge {path}.json")?;
-    let found = perform_words(rt, threads, line.as_str(), b"")?;
-    Ok(is_verdict(&found, verdict.as_bytes()))
-}
-
-/// Whether the order of a verdict is one of the recording at this path.
-fn is_in_order(rt: &HostRuntime, path: &str, verdict: &str) -> io::Result<bool> {
-    let name = format!(in rt.alloc(); "{path}.json")?;
-    let recording = fs::read(rt, name.as_str())?;
-    Ok(has_order(rt.alloc(), recording.as_slice(), verdict)?)
-}
-
-/// Whether a command line prints a run that is complete, and in order.
-fn is_run<R: Threads + Wait + Sync>(rt: &HostRuntime, threads: &R, line: &str) -> io::Result<bool> {
-    let found = perform_words(rt, threads, line, b"")?;
-    match str::from_utf8(found.text.as_slice()) {
-        Ok(text) => Ok(found.status == DONE && is_run_in_order(rt.alloc(), text)?),
-        Err(_) => Ok(false),
-    }
-}
-
-/// The same of a command, a program's path and an option with its value.
-fn is_run_with<R: Threads + Wait + Sync>(
+/// Whether a command with a program's path and an option with its value prints a run that is complete, and in order.
+fn is_run<R: Threads + Wait + Sync>(
     rt: &HostRuntime,
     threads: &R,
     command: &str,
@@ -91,7 +63,11 @@ fn is_run_with<R: Threads + Wait + Sync>(
     value: usize,
 ) -> io::Result<bool> {
     let line = format!(in rt.alloc(); "{command} {path}.litmus {option} {value}")?;
-    is_run(rt, threads, line.as_str())
+    let found = perform_words(rt, threads, line.as_str(), b"")?;
+    match str::from_utf8(found.text.as_slice()) {
+        Ok(text) => Ok(found.status == DONE && is_run_in_order(rt.alloc(), text)?),
+        Err(_) => Ok(false),
+    }
 }
 
 /// Whether the file at this path, which has this text, meets a rule.
@@ -103,14 +79,22 @@ fn is_met<R: Threads + Wait + Sync>(
     text: &str,
 ) -> io::Result<bool> {
     match rule {
-        Rule::Judged => is_judged(rt, threads, path, text),
-        Rule::Order => is_in_order(rt, path, text),
-        Rule::Seed(seed) => is_run_with(rt, threads, "run", path, "--seed", seed),
+        Rule::Judged => {
+            let line = format!(in rt.alloc(); "judge {path}.json")?;
+            let found = perform_words(rt, threads, line.as_str(), b"")?;
+            Ok(is_verdict(&found, text.as_bytes()))
+        }
+        Rule::Order => {
+            let name = format!(in rt.alloc(); "{path}.json")?;
+            let recording = fs::read(rt, name.as_str())?;
+            Ok(has_order(rt.alloc(), recording.as_slice(), text)?)
+        }
+        Rule::Seed(seed) => is_run(rt, threads, "run", path, "--seed", seed),
         Rule::Run => Ok(is_run_in_order(rt.alloc(), text)?),
         Rule::Kept => Ok(
             prints_back(rt.alloc(), text)
-                && is_run_with(rt, threads, "live", path, "--buffer", 1)?
-                && is_run_with(rt, threads, "live", path, "--buffer", 8)?,
+                && is_run(rt, threads, "live", path, "--buffer", 1)?
+                && is_run(rt, threads, "live", path, "--buffer", 8)?,
         ),
         Rule::PrintsBack => Ok(prints_back(rt.alloc(), text)),
     }

@@ -6,7 +6,7 @@ ghost use Rattle.command_line.specs.Options.{AreExplainOptions, AreMergeOptions,
 ghost use Rattle.command_line.specs.Options.{AreSurveyOptions, AreValuesAsked};
 ghost use Rattle.command_line.specs.Refusals.{refusal_of};
 
-use crate::entries::{maybe_text, maybe_texts, text};
+use crate::entries::{maybe_text, maybe_texts};
 use crate::options::{
     DrawOptions, ExplainOptions, FileOptions, JudgeOptions, LiveOptions, MergeOptions, Options,
     RunOptions, SurveyOptions, TrialsOptions, VerifyOptions,
@@ -22,7 +22,10 @@ fn given(alloc: Global, matches: &ArgMatches<'_>, id: &str) -> Result<String, Al
     ensures { IfOk result (λ name. first_of id.now (rows_of (found_of matches.now))
         ≡ Some (string_bytes name)) }
 {
-    String::from_str(alloc, text(matches, id))
+    let Some(text) = maybe_text(matches, id) else {
+        unreachable!()
+    };
+    String::from_str(alloc, text)
 }
 
 /// The name that an option may give.
@@ -119,18 +122,6 @@ fn survey_options(
     })
 }
 
-/// Copies of texts.
-fn copied(alloc: Global, texts: &[&str]) -> Result<Vec<String>, AllocError>
-    ensures { IfOk result (λ names. map string_bytes names.items ≡ map (λ v. v.now) texts.now) }
-{
-    let mut names = Vec::new(alloc);
-    for text in texts {
-        let name = String::from_str(alloc, text)?;
-        names.push(name)?;
-    }
-    Ok(names)
-}
-
 /// The options of `merge`.
 fn merge_options(alloc: Global, matches: &ArgMatches<'_>) -> Result<MergeOptions, AllocError>
     requires { HasText (codes "FILE") (rows_of (found_of matches.now)) }
@@ -139,7 +130,11 @@ fn merge_options(alloc: Global, matches: &ArgMatches<'_>) -> Result<MergeOptions
     let Some(texts) = maybe_texts(matches, "FILE") else {
         unreachable!()
     };
-    let files = copied(alloc, texts)?;
+    let mut files = Vec::new(alloc);
+    for text in texts {
+        let name = String::from_str(alloc, text)?;
+        files.push(name)?;
+    }
     Ok(MergeOptions { files })
 }
 

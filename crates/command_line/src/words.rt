@@ -1,6 +1,6 @@
 //! The words of a command line.
-ghost use Rattle.std.specs.Prelude.{◌≡◌, Err, IfErr, IfOk, IsSomeAnd, map, option_map, string_bytes, true};
-ghost use Rattle.clap.specs.Words.{app_of, found_of, rows_of, subcommand_rows_of};
+ghost use Rattle.std.specs.Prelude.{◌≡◌, Err, IfErr, IfOk, IsSomeAnd, map, string_bytes, true};
+ghost use Rattle.clap.specs.Words.{app_of, subcommand_rows_of};
 ghost use Rattle.command_line.specs.Commands.{AreFaultless, asks_of_refusals, command_of, program_app};
 ghost use Rattle.command_line.specs.Entries.{HasEntries};
 ghost use Rattle.command_line.specs.Options.{AreOptions, IsCommandFault, IsFault, AreTaken};
@@ -22,20 +22,13 @@ fn read<'a>(command: Command<'a>, words: &'a [String]) -> Result<ArgMatches<'a>,
     Ok(command.try_get_matches_from(words)?)
 }
 
-/// The command that was read, with its entries.
-fn entered<'m, 'a>(matches: &'m ArgMatches<'a>) -> Option<(&'a str, &'m ArgMatches<'a>)>
-    ensures { option_map (λ p. (p.0.now, rows_of (found_of p.1.now))) result
-        ≡ subcommand_rows_of matches.now }
-{
-    matches.subcommand()
-}
-
+/// The options of the command that was read.
 fn command_options(alloc: Global, matches: &ArgMatches<'_>) -> Result<Options, OptionFault>
     requires { IsSomeAnd (subcommand_rows_of matches.now) HasEntries }
     ensures ok { IfOk result (λ o. AreOptions o (subcommand_rows_of matches.now)) }
     ensures err { IfErr result (λ fault. IsCommandFault fault (subcommand_rows_of matches.now)) }
 {
-    let Some((name, entries)) = entered(matches) else {
+    let Some((name, entries)) = matches.subcommand() else {
         unreachable!()
     };
     if names_standard_input_twice(entries) {

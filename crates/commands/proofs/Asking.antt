@@ -1,18 +1,21 @@
 -- What was read by parts of a command.
-use Rattle.std.proofs.Common.{◌≡◌, ◌+◌, ◌++◌, ◌∙◌, ◌<◌, [], ◌∷◌, ℕ, List, Option, Some, None, Result, Ok, Err, ap, arith, append_assoc}
-use Rattle.std.proofs.Common.{IfErr, IsErrAnd, drop, get_or, length, refl, subst, sym, take}
-use Rattle.std.proofs.lemmas.List.{append-nil, take-append-drop, take_more}
+use Rattle.std.proofs.Common.{◌≡◌, ◌+◌, ◌++◌, ◌∙◌, ◌<◌, [], ◌∷◌, ℕ, List, Option, Some, None, Result, Ok, Err, ap}
+use Rattle.std.proofs.Common.{arith, IfErr, IsErrAnd, append_assoc, drop, get_or, length, map, refl, subst, sym, take}
+use Rattle.std.proofs.lemmas.List.{append-nil, get_or-map, take-append-drop, take_more}
 use Rattle.devices.specs.declared.place.Tally.{Tally}
-use Rattle.devices.specs.Places.{Notes}
+use Rattle.devices.specs.Places.{Notes, PlaceLog}
 use Rattle.inputs.specs.declared.fault.CommandFault.TheVariants.{OutOfMemory}
 use Rattle.inputs.specs.declared.command_error.CommandError.{CommandError}
 use Rattle.inputs.specs.declared.command_error.CommandError.TheVariants.{Refused, Fault}
-use Rattle.inputs.specs.Inputs.{AreEnded, AreRead, AreStopped, ReadsNamed, Seen, command_failed_reads, seen}
+use Rattle.inputs.specs.Inputs.{AreEnded, AreRead, AreStopped, ReadsNamed, command_failed_reads}
 
--- nothing was asked for
-pub notes_none : (told : Option (List (List ℕ))) → Notes told told []
-notes_none None = tt
-notes_none (Some names) = sym (append-nil names)
+-- nothing was read
+pub read_none : (a : PlaceLog) → AreRead [] a a
+read_none a = (go a.asked, refl)
+  where
+    go : (told : Option (List (List ℕ))) → Notes told told []
+    go None = tt
+    go (Some names) = sym (append-nil names)
 
 -- some names were asked for, then others
 notes_then : (a b c : Option (List (List ℕ))) (xs ys : List (List ℕ)) → Notes a b xs → Notes b c ys
@@ -23,108 +26,89 @@ notes_then (Some a) (Some b) None xs ys first then = absurd then
 notes_then (Some a) (Some b) (Some c) xs ys first then =
     then ∙ ap (λ (l : List (List ℕ)). l ++ ys) first ∙ append_assoc a xs ys
 
--- where all was read, no read failed
-pub stopped_later : (names : List (List ℕ)) (error : CommandError) (s : Seen) → command_failed_reads error ≡ 0
-    → AreRead names s → AreStopped names error s
-stopped_later names error s none read = record {
-  front = names;
-  rest = [];
-  parts = sym (append-nil names);
+-- some inputs were read, then others
+pub read_then : (xs ys : List (List ℕ)) (a b c : PlaceLog) → AreRead xs a b → AreRead ys b c → AreRead (xs ++ ys) a c
+read_then xs ys a b c first then = (notes_then a.asked b.asked c.asked xs ys first.0 then.0, then.1 ∙ first.1)
+
+-- what stops where all was read, and no read failed, stops before more names would be asked for
+pub stopped_before : (xs ys : List (List ℕ)) (error : CommandError) (a b : PlaceLog) → command_failed_reads error ≡ 0
+    → AreRead xs a b → AreStopped (xs ++ ys) error a b
+stopped_before xs ys error a b none read = record {
+  front = xs;
+  rest = ys;
+  parts = refl;
   asked = read.0;
   lent = ap (λ (t : Tally). t.lent) read.1;
   failed = omega (arith, none, ap (λ (t : Tally). t.failed) read.1);
   ended = go error;
 }
   where
-    go : (error : CommandError) → AreEnded error s
+    go : (error : CommandError) → AreEnded error a b
     go (Refused refusal) = ap (λ (t : Tally). t.unended) read.1
     go (Fault fault) = tt
 
 -- without memory all was read
-pub memory_stopped : {X : Type 0} (r : Result X CommandError) (names : List (List ℕ)) (s : Seen) → AreRead names s
-    → IsErrAnd r (λ error. error ≡ Fault OutOfMemory) → ReadsNamed names s r
-memory_stopped (Ok x) names s read wanting = absurd wanting
-memory_stopped (Err error) names s read wanting =
-    subst (λ (t : CommandError). AreStopped names t s) (sym wanting)
-    (stopped_later names (Fault OutOfMemory) s refl read)
-
--- what stops before more names would be asked for
-pub stopped_before : (xs ys : List (List ℕ)) (error : CommandError) (s : Seen) → AreStopped xs error s
-    → AreStopped (xs ++ ys) error s
-stopped_before xs ys error s h = record {
-  front = h.front;
-  rest = h.rest ++ ys;
-  parts = ap (λ (l : List (List ℕ)). l ++ ys) h.parts ∙ append_assoc h.front h.rest ys;
-  asked = h.asked;
-  lent = h.lent;
-  failed = h.failed;
-  ended = h.ended;
-}
-
--- the same of what hands the error on
-pub stopped_again : {X : Type 0} (r : Result X CommandError) (xs ys : List (List ℕ)) (error : CommandError) (s : Seen)
-    → AreStopped xs error s → IsErrAnd r (λ e. e ≡ error) → ReadsNamed (xs ++ ys) s r
-stopped_again (Ok x) xs ys error s h same = absurd same
-stopped_again (Err e) xs ys error s h same =
-    subst (λ (t : CommandError). AreStopped (xs ++ ys) t s) (sym same) (stopped_before xs ys error s h)
+pub memory_stopped : {X : Type 0} (r : Result X CommandError) (names : List (List ℕ)) (a b : PlaceLog)
+    → AreRead names a b → IsErrAnd r (λ error. error ≡ Fault OutOfMemory) → ReadsNamed names a b r
+memory_stopped (Ok x) names a b read wanting = absurd wanting
+memory_stopped (Err error) names a b read wanting =
+    subst (λ (t : CommandError). AreStopped names t a b) (sym wanting)
+    (subst (λ (l : List (List ℕ)). AreStopped l (Fault OutOfMemory) a b) (append-nil names)
+    (stopped_before names [] (Fault OutOfMemory) a b refl read))
 
 -- without memory nothing was to be read
-pub none_read : {X : Type 0} (r : Result X CommandError) (a : Option (List (List ℕ))) (t : Tally)
-    → IfErr r (λ error. error ≡ Fault OutOfMemory) → ReadsNamed [] (seen a a t t) r
-none_read (Ok x) a t wanting = (notes_none a, refl)
-none_read (Err error) a t wanting = subst (λ (e : CommandError). AreStopped [] e (seen a a t t)) (sym wanting)
-    (stopped_later [] (Fault OutOfMemory) (seen a a t t) refl (notes_none a, refl))
+pub none_read : {X : Type 0} (r : Result X CommandError) (a : PlaceLog)
+    → IfErr r (λ error. error ≡ Fault OutOfMemory) → ReadsNamed [] a a r
+none_read {X} (Ok x) a wanting = read_none a
+none_read {X} (Err error) a wanting = memory_stopped {X = X} (Err error) [] a a (read_none a) wanting
 
--- what stops after others were read
-stopped_after : (xs ys : List (List ℕ)) (error : CommandError) (a b c : Option (List (List ℕ))) (t u v : Tally)
-    → AreRead xs (seen a b t u) → AreStopped ys error (seen b c u v) → AreStopped (xs ++ ys) error (seen a c t v)
-stopped_after xs ys error a b c t u v read h = record {
+-- what stops after some were read, before others
+pub stopped_after : (xs ys zs : List (List ℕ)) (error : CommandError) (a b c : PlaceLog)
+    → AreRead xs a b → AreStopped ys error b c → AreStopped (xs ++ (ys ++ zs)) error a c
+stopped_after xs ys zs error a b c read h = record {
   front = xs ++ h.front;
-  rest = h.rest;
-  parts = ap (λ (l : List (List ℕ)). xs ++ l) h.parts ∙ sym (append_assoc xs h.front h.rest);
-  asked = notes_then a b c xs h.front read.0 h.asked;
+  rest = h.rest ++ zs;
+  parts = ap (λ (l : List (List ℕ)). xs ++ l)
+      (ap (λ (l : List (List ℕ)). l ++ zs) h.parts ∙ append_assoc h.front h.rest zs)
+      ∙ sym (append_assoc xs h.front (h.rest ++ zs));
+  asked = notes_then a.asked b.asked c.asked xs h.front read.0 h.asked;
   lent = h.lent ∙ ap (λ (t : Tally). t.lent) read.1;
   failed = omega (arith, h.failed, ap (λ (t : Tally). t.failed) read.1);
   ended = go error h.ended;
 }
   where
-    go : (error : CommandError) → AreEnded error (seen b c u v) → AreEnded error (seen a c t v)
+    go : (error : CommandError) → AreEnded error b c → AreEnded error a c
     go (Refused refusal) same = same ∙ ap (λ (t : Tally). t.unended) read.1
     go (Fault fault) same = tt
 
+-- what hands on the error of the first
+pub stopped_again : {X : Type 0} (r : Result X CommandError) (xs ys : List (List ℕ)) (error : CommandError)
+    (a b : PlaceLog) → AreStopped xs error a b → IsErrAnd r (λ e. e ≡ error) → ReadsNamed (xs ++ ys) a b r
+stopped_again (Ok x) xs ys error a b h same = absurd same
+stopped_again (Err e) xs ys error a b h same = subst (λ (t : CommandError). AreStopped (xs ++ ys) t a b) (sym same)
+    (stopped_after [] xs ys error a a b (read_none a) h)
+
 -- some were read, then others or not
-pub reads_then : {X : Type 0} (r : Result X CommandError) (xs ys : List (List ℕ)) (a b c : Option (List (List ℕ)))
-    (t u v : Tally) → AreRead xs (seen a b t u) → ReadsNamed ys (seen b c u v) r
-    → ReadsNamed (xs ++ ys) (seen a c t v) r
-reads_then (Ok x) xs ys a b c t u v read h = (notes_then a b c xs ys read.0 h.0, h.1 ∙ read.1)
-reads_then (Err error) xs ys a b c t u v read h = stopped_after xs ys error a b c t u v read h
+pub reads_then : {X : Type 0} (r : Result X CommandError) (xs ys : List (List ℕ)) (a b c : PlaceLog)
+    → AreRead xs a b → ReadsNamed ys b c r → ReadsNamed (xs ++ ys) a c r
+reads_then (Ok x) xs ys a b c read h = read_then xs ys a b c read h
+reads_then (Err error) xs ys a b c read h =
+    subst (λ (l : List (List ℕ)). AreStopped (xs ++ l) error a c) (append-nil ys)
+    (stopped_after xs ys [] error a b c read h)
 
--- one input more was read
-pub read_more : (names : List (List ℕ)) (i : ℕ) (name : List ℕ) (a b c : Option (List (List ℕ))) (t u v : Tally)
-    → i < length names → name ≡ get_or names i [] → AreRead (take i names) (seen a b t u)
-    → AreRead (name ∷ []) (seen b c u v) → AreRead (take (i + 1) names) (seen a c t v)
-read_more names i name a b c t u v low is read one =
-    let all : AreRead (take i names ++ name ∷ []) (seen a c t v) =
-    (notes_then a b c (take i names) (name ∷ []) read.0 one.0, one.1 ∙ read.1) in
-    subst (λ (l : List (List ℕ)). AreRead l (seen a c t v))
-    (ap (λ (n : List ℕ). take i names ++ n ∷ []) is ∙ sym (take_more names i [] low)) all
+-- the names up to one more
+pub names_more : (names : List (List ℕ)) (i : ℕ) (name : List ℕ) → i < length names → name ≡ get_or names i []
+    → take i names ++ name ∷ [] ≡ take (i + 1) names
+names_more names i name low is = ap (λ (n : List ℕ). take i names ++ n ∷ []) is ∙ sym (take_more names i [] low)
 
--- one input more was not read
-pub stopped_among : (names : List (List ℕ)) (i : ℕ) (name : List ℕ) (error : CommandError)
-    (a b c : Option (List (List ℕ)))
-    (t u v : Tally) → i < length names → name ≡ get_or names i [] → AreRead (take i names) (seen a b t u)
-    → AreStopped (name ∷ []) error (seen b c u v) → AreStopped names error (seen a c t v)
-stopped_among names i name error a b c t u v low is read one =
-    subst (λ (l : List (List ℕ)). AreStopped l error (seen a c t v))
-    (ap (λ (l : List (List ℕ)). l ++ drop (i + 1) names)
-    (ap (λ (n : List ℕ). take i names ++ n ∷ []) is ∙ sym (take_more names i [] low))
-    ∙ take-append-drop (i + 1) names)
-    (stopped_before (take i names ++ name ∷ []) (drop (i + 1) names) error (seen a c t v)
-    (stopped_after (take i names) (name ∷ []) error a b c t u v read one))
+-- and then the others
+pub names_whole : (names : List (List ℕ)) (i : ℕ) (name : List ℕ) → i < length names → name ≡ get_or names i []
+    → take i names ++ (name ∷ [] ++ drop (i + 1) names) ≡ names
+names_whole names i name low is = sym (append_assoc (take i names) (name ∷ []) (drop (i + 1) names))
+    ∙ ap (λ (l : List (List ℕ)). l ++ drop (i + 1) names) (names_more names i name low is)
+    ∙ take-append-drop (i + 1) names
 
--- the first inputs were read, and no more
-pub stopped_behind : (names : List (List ℕ)) (i : ℕ) (error : CommandError) (s : Seen) → command_failed_reads error ≡ 0
-    → AreRead (take i names) s → AreStopped names error s
-stopped_behind names i error s none read =
-    subst (λ (l : List (List ℕ)). AreStopped l error s) (take-append-drop i names)
-    (stopped_before (take i names) (drop i names) error s (stopped_later (take i names) error s none read))
+-- a name among others
+pub name_at : {X : Type 0} (f : X → List ℕ) (names : List X) (i : ℕ) (name : X) → i < length names
+    → name ≡ get_or names i name → f name ≡ get_or (map f names) i []
+name_at f names i name low is = ap f is ∙ sym (get_or-map f names i name [] low)

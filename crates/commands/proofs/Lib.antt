@@ -1,9 +1,3 @@
-pub mod Asked
 pub mod Printed
-pub mod Threaded
-pub mod CommandErrors
 pub mod Asking
 pub mod Given
-pub mod Surveyed
-pub mod Held
-pub mod Merging

@@ -1,11 +1,8 @@
-pub mod Names
-pub mod Output
 pub mod Judge
 pub mod Replay
 pub mod Perform
 pub mod Run
 pub mod Render
-pub mod Trials
-pub mod Verify
 pub mod Survey
 pub mod Merge
+pub mod Command

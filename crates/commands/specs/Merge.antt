@@ -1,7 +1,7 @@
 -- What merge answers.
-use Rattle.std.specs.Prelude.{◌≡◌, ◌<◌, ◌+◌, ◌++◌, ◌∷◌, [], ℕ, List, Option, codes, decimal, false, length}
+use Rattle.std.specs.Prelude.{◌≡◌, ◌<◌, ◌+◌, ◌++◌, ◌∷◌, [], ℕ, List, Option, codes, decimal, false, length, map}
 use Rattle.std.specs.Prelude.{slice_index_or, string_bytes, take}
-use Rattle.std.specs.List.{concat}
+use Rattle.std.specs.List.{AllZip, concat}
 use Rattle.command_line.specs.declared.options.MergeOptions.{MergeOptions}
 use Rattle.ledger.specs.declared.ledger.Ledger.{Ledger}
 use Rattle.ledger.specs.Counts.{IsLedger}
@@ -15,17 +15,9 @@ use Rattle.verdicts.specs.declared.printed.Answer.{Answer}
 use Rattle.answers.specs.Campaign.{IsTrialsAnswer}
 use Rattle.answers.specs.Survey.{IsSurveyAnswer}
 use Rattle.inputs.specs.declared.fault.CommandFault.{CommandFault}
-use Rattle.inputs.specs.declared.fault.CommandFault.TheVariants.{OutOfMemory}
 use Rattle.inputs.specs.declared.command_error.CommandError.{CommandError}
 use Rattle.inputs.specs.declared.command_error.CommandError.TheVariants.{Refused, Fault}
 use Rattle.inputs.specs.Inputs.{AreBytesOf, IsInputFault}
-use Rattle.commands.specs.Names.{merge_names}
-
--- the texts are the bytes of the inputs of these names, in order
-pub record AreGiven (inputs : List ℕ → Option (List ℕ)) (names texts : List (List ℕ)) : Type 0 where
-  pub size : length texts ≡ length names
-  pub bytes : (k : ℕ) → k < length names
-      → AreBytesOf inputs (slice_index_or names k []) (slice_index_or texts k [])
 
 -- why the input of one of these names isn't read
 abbrev pub IsFaultAmong : (List ℕ → Option (List ℕ)) → List (List ℕ) → CommandFault → Type 0
@@ -49,11 +41,10 @@ pub record IsMergeAnswer (texts : List (List ℕ)) (answer : Answer) : Type 0 wh
   pub only : (other : Kind) (others : List (List ℕ)) (l : Ledger) → AreFiles other others texts
       → IsLedger (concat others) l → IsMergedAnswer other l answer
 
--- the answer of merge
-pub record IsMerged (inputs : List ℕ → Option (List ℕ)) (o : MergeOptions) (answer : Answer) : Type 0 where
-  pub texts : List (List ℕ)
-  pub given : AreGiven inputs (merge_names o) texts
-  pub answered : IsMergeAnswer texts answer
+-- the answer of merge, whose texts are the bytes of the named inputs, in order
+abbrev pub IsMerged : (List ℕ → Option (List ℕ)) → MergeOptions → Answer → Type 0
+IsMerged inputs o answer = (texts : List (List ℕ))
+    × AllZip (AreBytesOf inputs) (map string_bytes o.files.items) texts × IsMergeAnswer texts answer
 
 -- the name of the refusal of a text
 abbrev pub merge_refusal_name : MergeRefusal → List ℕ
@@ -78,13 +69,9 @@ pub record IsRefusedMerge (names texts : List (List ℕ)) (printed : List ℕ) :
   pub none : (kind : Kind) (codes later : List (List ℕ)) → AreFiles kind codes (take (file + 1) texts ++ later)
       → Refuses refusal (length (concat codes))
 
--- why texts are not added up: one is refused, or memory ran out
-abbrev pub IsTextsError : List (List ℕ) → List (List ℕ) → CommandError → Type 0
-IsTextsError names texts (Refused refusal) = IsRefusedMerge names texts (string_bytes refusal.line)
-IsTextsError names texts (Fault fault) = fault ≡ OutOfMemory
-
 -- why merge stops: a text is refused, or an input isn't read
 abbrev pub IsMergeError : (List ℕ → Option (List ℕ)) → MergeOptions → CommandError → Type 0
-IsMergeError inputs o (Refused refusal) = (texts : List (List ℕ)) × AreGiven inputs (merge_names o) texts
-    × IsRefusedMerge (merge_names o) texts (string_bytes refusal.line)
-IsMergeError inputs o (Fault fault) = IsFaultAmong inputs (merge_names o) fault
+IsMergeError inputs o (Refused refusal) = (texts : List (List ℕ))
+    × AllZip (AreBytesOf inputs) (map string_bytes o.files.items) texts
+    × IsRefusedMerge (map string_bytes o.files.items) texts (string_bytes refusal.line)
+IsMergeError inputs o (Fault fault) = IsFaultAmong inputs (map string_bytes o.files.items) fault

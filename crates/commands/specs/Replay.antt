@@ -14,8 +14,8 @@ use Rattle.verdicts.specs.Judgement.{IsOrderedVerdict}
 use Rattle.verdicts.specs.declared.printed.Answer.{Answer}
 use Rattle.inputs.specs.declared.command_error.CommandError.{CommandError}
 use Rattle.verdicts.specs.declared.outcome.Outcome.TheVariants.{Done, Violation}
-use Rattle.inputs.specs.Recording.{IsRecordingAt, IsRecordingError}
-use Rattle.inputs.specs.CommandErrors.{IsLineError}
+use Rattle.inputs.specs.Named.{IsRecordingError, OfRecording}
+use Rattle.inputs.specs.Refusal.{IsLineError}
 use Rattle.verdicts.specs.VerdictAnswer.{IsVerdictAnswer}
 
 -- a capacity, the text of a program and a script, with an empty line between them
@@ -29,22 +29,14 @@ replay_text x m =
     parts_text (most_stores x.cores) (spelling (named_program x))
     (script_text (named_program x) (replay_steps x m))
 
--- the printed program is read as the program, and the printed script for it as the steps
-pub record IsReadBack (x : Execution) (m : List ℕ) : Type 0 where
-  pub program : reading (spelling (named_program x)) ≡ Ok (named_program x)
-  pub script : steps_of (named_program x) (script_text (named_program x) (replay_steps x m))
-      ≡ Ok (replay_steps x m)
-
--- a machine of the recording's program, with room for the stores of a core, replays the order
-abbrev pub ReplaysOrder : Execution → List ℕ → Type 0
-ReplaysOrder x m = (capacity : ℕ) → most_stores x.cores ≤ capacity
-    → IsReplay x m (named_program x) capacity (replay_steps x m)
-
--- the text of the replay of an order, whose parts are read back and make the recording again
+-- the text of the replay of an order: the printed program is read as the program, and the printed script for it as the
+-- steps, by which a machine of the program, with room for the stores of a core, replays the order
 pub record IsReplayText (x : Execution) (m text : List ℕ) : Type 0 where
   pub is : text ≡ replay_text x m
-  pub read : IsReadBack x m
-  pub replay : ReplaysOrder x m
+  pub program : reading (spelling (named_program x)) ≡ Ok (named_program x)
+  pub script : steps_of (named_program x) (script_text (named_program x) (replay_steps x m)) ≡ Ok (replay_steps x m)
+  pub replay : (capacity : ℕ) → most_stores x.cores ≤ capacity
+      → IsReplay x m (named_program x) capacity (replay_steps x m)
 
 -- the replay of a recording's least order
 pub record IsReplayAnswer (x : Execution) (answer : Answer) : Type 0 where
@@ -64,21 +56,13 @@ abbrev pub IsReplayOf : Execution → Answer → Type 0
 IsReplayOf x answer = IsReplayAnswer x answer ⊎ IsViolationAnswer x answer
 
 -- the recording of the named input, whose addresses are numbered by first use, is replayed, or is a violation
-pub record IsReplayedInput (inputs : List ℕ
-    → Option (List ℕ)) (o : FileOptions) (answer : Answer) : Type 0 where
-  pub recording : Execution
-  pub at : IsRecordingAt inputs (string_bytes o.file) recording
-  pub numbered : IsNumberedByFirstUse recording
-  pub answered : IsReplayOf recording answer
+abbrev pub IsReplayedInput : (List ℕ → Option (List ℕ)) → FileOptions → Answer → Type 0
+IsReplayedInput inputs o answer = OfRecording inputs (string_bytes o.file)
+    (λ x. IsNumberedByFirstUse x × IsReplayOf x answer)
 
--- the addresses of the recording of the named input are not numbered by first use; memory alone is left open
-pub record IsUnnumbered (inputs : List ℕ → Option (List ℕ)) (name : List ℕ) (error : CommandError) : Type 0 where
-  pub recording : Execution
-  pub at : IsRecordingAt inputs name recording
-  pub unnumbered : ¬ IsNumberedByFirstUse recording
-  pub stopped : IsLineError (codes "refused: N8" ++ 10 ∷ []) error
-
--- why the recording of the named input is not replayed
+-- why the recording of the named input is not replayed: it isn't read, or its addresses are not numbered by first use;
+-- memory alone is left open
 abbrev pub IsReplayError : (List ℕ → Option (List ℕ)) → FileOptions → CommandError → Type 0
 IsReplayError inputs o error = IsRecordingError inputs (string_bytes o.file) error
-    ⊎ IsUnnumbered inputs (string_bytes o.file) error
+    ⊎ OfRecording inputs (string_bytes o.file)
+    (λ x. ¬ IsNumberedByFirstUse x × IsLineError (codes "refused: N8" ++ 10 ∷ []) error)

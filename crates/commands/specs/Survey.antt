@@ -1,6 +1,6 @@
 -- What survey answers.
-use Rattle.std.specs.Prelude.{◌≡◌, ◌≢◌, ◌≤◌, ◌++◌, ◌∷◌, [], ℕ, List, Option, None, Some, Bool, true, false, codes, length, string_bytes}
-use Rattle.std.specs.Prelude.{⊤}
+use Rattle.std.specs.Prelude.{◌≡◌, ◌≢◌, ◌≤◌, ◌++◌, ◌∷◌, [], ℕ, List, Option, None, Some, true, false, codes, length}
+use Rattle.std.specs.Prelude.{string_bytes, ⊤}
 use Rattle.std.specs.Io.KnownBytes.{Appends}
 use Rattle.command_line.specs.declared.options.SurveyOptions.{SurveyOptions}
 use Rattle.ledger.specs.declared.finding.Finding.{Finding}
@@ -8,9 +8,8 @@ use Rattle.ledger.specs.declared.ledger.Ledger.{Ledger}
 use Rattle.ledger.specs.Counts.{IsLedger}
 use Rattle.surveys.specs.Found.{AreFindings, codes_of}
 use Rattle.surveys.specs.Lines.{lines}
-use Rattle.surveys.specs.Shown.{IsLineAt, IsLineOf}
+use Rattle.surveys.specs.Shown.{IsLineAt}
 use Rattle.surveys.specs.Each.{each_text}
-use Rattle.surveys.specs.Surveys.{IsSurvey}
 use Rattle.ledger.specs.Counted.{survey_text}
 use Rattle.verdicts.specs.declared.printed.Answer.{Answer}
 use Rattle.verdicts.specs.declared.outcome.Outcome.{Outcome}
@@ -21,18 +20,11 @@ use Rattle.inputs.specs.declared.fault.CommandFault.{CommandFault}
 use Rattle.inputs.specs.declared.fault.CommandFault.TheVariants.{TooLong, WriteFailed}
 use Rattle.inputs.specs.declared.command_error.CommandError.{CommandError}
 use Rattle.inputs.specs.declared.command_error.CommandError.TheVariants.{Refused, Fault}
-use Rattle.inputs.specs.Inputs.{AreBytesOf, IsInputFault}
+use Rattle.inputs.specs.Inputs.{AreBytesOf, IsInputFault, OfBytes}
 
 -- a line of each recording is printed before the input's end
 abbrev pub TellsEach : SurveyOptions → Type 0
 TellsEach o = (o.each ≡ true) × (o.show ≡ None)
-
--- what is found in the lines of the named input is counted, and told where each is
-pub record IsCountedInput (inputs : List ℕ → Option (List ℕ)) (name : List ℕ) (each : Bool)
-    (before after : Option (List ℕ)) (ledger : Ledger) : Type 0 where
-  pub bytes : List ℕ
-  pub given : AreBytesOf inputs name bytes
-  pub survey : IsSurvey bytes ledger each before after
 
 -- the counts of what is found in the lines of the named input
 pub record IsSurveyed (inputs : List ℕ → Option (List ℕ)) (name : List ℕ) (answer : Answer) : Type 0 where
@@ -57,31 +49,16 @@ pub record IsEachWritten (inputs : List ℕ → Option (List ℕ)) (o : SurveyOp
   pub outcome_is : outcome ≡ ledger_outcome out.Refused ledger
   pub written : Appends before after (each_text 0 findings ++ 10 ∷ survey_text ledger)
 
--- the answer to recording k of the named input
-pub record IsShownLine (inputs : List ℕ → Option (List ℕ)) (o : SurveyOptions) (k : ℕ) (answer : Answer) : Type 0 where
-  pub bytes : List ℕ
-  pub given : AreBytesOf inputs (string_bytes o.file) bytes
-  pub line : List ℕ
-  pub at : IsLineAt bytes k line
-  pub answered : IsLineAnswer o.reduce line answer
-
 -- the answer of survey, where no recording is told, by the one that is to be shown
 abbrev pub IsSurveyOf : (List ℕ → Option (List ℕ)) → SurveyOptions → Option ℕ → Answer → Type 0
 IsSurveyOf inputs o None answer = (o.each ≢ true) × IsSurveyed inputs (string_bytes o.file) answer
-IsSurveyOf inputs o (Some k) answer = IsShownLine inputs o k answer
-
--- the line of recording k of the named input, or none where there are fewer
-pub record IsLineOfInput (inputs : List ℕ → Option (List ℕ)) (name : List ℕ) (k : ℕ) (line : Option (List ℕ))
-    : Type 0 where
-  pub bytes : List ℕ
-  pub given : AreBytesOf inputs name bytes
-  pub is : IsLineOf bytes k line
+IsSurveyOf inputs o (Some k) answer = OfBytes inputs (string_bytes o.file)
+    (λ bytes. (line : List ℕ) × IsLineAt bytes k line × IsLineAnswer o.reduce line answer)
 
 -- the named input has no recording of the number that is asked for
 abbrev pub IsPastTheEnd : (List ℕ → Option (List ℕ)) → SurveyOptions → Option ℕ → Type 0
 IsPastTheEnd inputs o None = ⊥
-IsPastTheEnd inputs o (Some k) = (bytes : List ℕ) × AreBytesOf inputs (string_bytes o.file) bytes
-    × (length (lines bytes) ≤ k)
+IsPastTheEnd inputs o (Some k) = OfBytes inputs (string_bytes o.file) (λ bytes. length (lines bytes) ≤ k)
 
 -- why the named input is not surveyed: it isn't read, or no number counts its bytes
 abbrev pub IsSurveyFault : (List ℕ → Option (List ℕ)) → SurveyOptions → CommandFault → Type 0

@@ -1,11 +1,9 @@
 //! The command `judge`.
-ghost use Rattle.std.specs.Prelude.{◌≡◌, ◌≢◌, ◌≤◌, ◌∷◌, [], Err, IfErr, IfOk, string_bytes};
+ghost use Rattle.std.specs.Prelude.{◌≡◌, ◌≢◌, ◌≤◌, ◌∷◌, [], IfErr, string_bytes};
 ghost use Rattle.devices.specs.Bytes.{CanGrow, CountsBy};
-ghost use Rattle.inputs.specs.Inputs.{CanRead, ReadsAll, seen};
-ghost use Rattle.command_line.specs.declared.options.Options.{Options};
-ghost use Rattle.commands.specs.Judge.{IsJudgeFault};
-ghost use Rattle.commands.specs.Output.{IsBegun, IsPut, command_failed_writes};
-ghost use Rattle.commands.specs.Perform.{IsAnswerTo};
+ghost use Rattle.inputs.specs.Inputs.{CanRead, ReadsAll, command_failed_writes};
+ghost use Rattle.commands.specs.Judge.{IsJudged, IsJudgeFault};
+ghost use Rattle.commands.specs.Perform.{Writes};
 
 use crate::output::flush;
 use command_line::JudgeOptions;
@@ -28,15 +26,11 @@ pub fn judge_command<R: Threads + Wait + Sync, P: Place, W: Sink>(
     out: &mut W,
 ) -> Result<Outcome, CommandFault>
     requires workers { (1 ≤ options.now.workers) × (options.now.workers ≤ MAX_WORKERS) }
-    requires inputs { CanRead (P.tally place.old) }
+    requires inputs { CanRead (P.log place.old).tally }
     requires output { CanGrow (W.write_failures out.old) }
-    ensures whole { IfOk result (IsPut (IsAnswerTo (P.bytes place.old) (Options.Judge options.now))
-        (W.written out.old) (W.written out.new)) }
-    ensures begun { result ≡ Err CommandFault.WriteFailed → IsBegun (IsAnswerTo (P.bytes place.old)
-        (Options.Judge options.now)) (W.written out.old) (W.written out.new) }
+    ensures written { Writes (IsJudged (P.bytes place.old) options.now) (W.written out.old) (W.written out.new) result }
     ensures fault { IfErr result (IsJudgeFault (P.bytes place.old) options.now) }
-    ensures reads { ReadsAll (string_bytes options.now.file ∷ []) (seen (P.asked place.old) (P.asked place.new)
-        (P.tally place.old) (P.tally place.new)) result }
+    ensures reads { ReadsAll (string_bytes options.now.file ∷ []) (P.log place.old) (P.log place.new) result }
     ensures writes { CountsBy command_failed_writes (W.write_failures out.old) (W.write_failures out.new) result }
     ensures unwritten { IfErr result (λ fault. fault ≢ CommandFault.WriteFailed → out.new ≡ out.old) }
 {
@@ -45,10 +39,7 @@ pub fn judge_command<R: Threads + Wait + Sync, P: Place, W: Sink>(
     let answered = answer(rt, alloc, &mut input, out, options.workers, &OpenGate);
     place.take_back(input);
     match answered {
-        Ok(outcome) => {
-            flush(out)?;
-            Ok(outcome)
-        }
+        Ok(outcome) => flush(out, outcome),
         Err(ReportError::ReadFailed) => Err(CommandFault::ReadFailed),
         Err(ReportError::WriteFailed) => Err(CommandFault::WriteFailed),
         Err(ReportError::OutOfMemory) => Err(CommandFault::OutOfMemory),

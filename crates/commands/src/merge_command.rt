@@ -1,10 +1,10 @@
 //! The command `merge`.
 ghost use Rattle.std.specs.Prelude.{◌≡◌, ◌<◌, IfErr, IfOk, length, map, string_bytes};
-ghost use Rattle.inputs.specs.Inputs.{CanRead, ReadsNamed, seen};
-ghost use Rattle.commands.specs.Merge.{AreGiven, IsFaultAmong, IsMergeAnswer, IsMerged, IsMergedAnswer, IsMergeError};
-ghost use Rattle.commands.specs.Merge.{IsTextsError, merge_line, merge_refusal_name};
-ghost use Rattle.commands.specs.Names.{merge_names};
-ghost use Rattle.inputs.specs.CommandErrors.{IsFaultError};
+ghost use Rattle.std.specs.List.{AllZip};
+ghost use Rattle.inputs.specs.Inputs.{AreBytesOf, CanRead, ReadsNamed};
+ghost use Rattle.commands.specs.Merge.{IsFaultAmong, IsMerged, IsMergedAnswer, IsMergeError, merge_line};
+ghost use Rattle.commands.specs.Merge.{merge_refusal_name};
+ghost use Rattle.inputs.specs.Refusal.{IsFaultError};
 
 use answers::{survey_answer, trials_answer};
 use command_line::MergeOptions;
@@ -21,12 +21,11 @@ fn texts_at<P: Place>(
     place: &mut P,
     names: &[String],
 ) -> Result<Vec<Vec<u8>>, CommandError>
-    requires { CanRead (P.tally place.old) }
-    ensures ok { IfOk result (λ texts. AreGiven (P.bytes place.old) (map string_bytes names.now)
+    requires { CanRead (P.log place.old).tally }
+    ensures ok { IfOk result (λ texts. AllZip (AreBytesOf (P.bytes place.old)) (map string_bytes names.now)
         (map (λ v. v.items) texts.items)) }
     ensures err { IfErr result (IsFaultError (IsFaultAmong (P.bytes place.old) (map string_bytes names.now))) }
-    ensures reads { ReadsNamed (map string_bytes names.now) (seen (P.asked place.old) (P.asked place.new)
-        (P.tally place.old) (P.tally place.new)) result }
+    ensures reads { ReadsNamed (map string_bytes names.now) (P.log place.old) (P.log place.new) result }
 {
     let mut texts = Vec::new(alloc);
     for i in 0..names.len() {
@@ -63,19 +62,6 @@ fn merge_refusal_name(refusal: MergeRefusal) -> &'static str
     }
 }
 
-/// The line that is printed for a line of the input of this name.
-fn merge_line(
-    alloc: Global,
-    refusal: MergeRefusal,
-    line: usize,
-    name: &str,
-) -> Result<String, AllocError>
-    ensures { IfOk result (λ text. string_bytes text ≡ merge_line refusal line name.now) }
-{
-    let number = merge_refusal_name(refusal);
-    format!(in alloc; "refused: {number} line {line} of {name}\n")
-}
-
 /// What is printed for a line of the input of this name, with the line itself.
 fn merge_refusal(
     alloc: Global,
@@ -86,34 +72,11 @@ fn merge_refusal(
 ) -> Result<PrintedRefusal, AllocError>
     ensures { IfOk result (λ printed. string_bytes printed.line ≡ merge_line refusal line name.now) }
 {
+    let number = merge_refusal_name(refusal);
     Ok(PrintedRefusal {
-        line: merge_line(alloc, refusal, line, name)?,
+        line: format!(in alloc; "refused: {number} line {line} of {name}\n")?,
         quote: Some(quoted(alloc, text, line)?),
     })
-}
-
-/// What is answered to the texts of the inputs of these names.
-fn texts_answer(alloc: Global, names: &[String], texts: &[Vec<u8>]) -> Result<Answer, CommandError>
-    requires some { 0 < length texts.now }
-    requires size { length texts.now ≡ length names.now }
-    ensures ok { IfOk result (IsMergeAnswer (map (λ v. v.items) texts.now)) }
-    ensures err { IfErr result (IsTextsError (map string_bytes names.now) (map (λ v. v.items) texts.now)) }
-{
-    match merge(alloc, texts) {
-        Ok(merged) => Ok(merged_answer(alloc, &merged)?),
-        Err(MergeError::OutOfMemory) => Err(CommandError::Fault(CommandFault::OutOfMemory)),
-        Err(
-            MergeError::Refused {
-                refusal,
-                file,
-                line,
-            },
-        ) => {
-            let name = names[file].as_str();
-            let text = texts[file].as_slice();
-            Err(CommandError::Refused(merge_refusal(alloc, refusal, line, name, text)?))
-        }
-    }
 }
 
 /// Adds up the counts of the campaigns, or of the surveys, whose texts the named inputs are.
@@ -123,14 +86,28 @@ pub fn merge_command<P: Place>(
     place: &mut P,
 ) -> Result<Answer, CommandError>
     requires some { 0 < length options.now.files.items }
-    requires inputs { CanRead (P.tally place.old) }
+    requires inputs { CanRead (P.log place.old).tally }
     ensures ok { IfOk result (IsMerged (P.bytes place.old) options.now) }
     ensures err { IfErr result (IsMergeError (P.bytes place.old) options.now) }
-    ensures reads { ReadsNamed (merge_names options.now) (seen (P.asked place.old) (P.asked place.new)
-        (P.tally place.old) (P.tally place.new)) result }
+    ensures reads { ReadsNamed (map string_bytes options.now.files.items) (P.log place.old) (P.log place.new) result }
 {
-    match texts_at(alloc, place, &options.files) {
-        Ok(texts) => texts_answer(alloc, &options.files, &texts),
-        Err(stop) => Err(stop),
+    let texts = match texts_at(alloc, place, &options.files) {
+        Ok(texts) => texts,
+        Err(stop) => return Err(stop),
+    };
+    match merge(alloc, &texts) {
+        Ok(merged) => Ok(merged_answer(alloc, &merged)?),
+        Err(MergeError::OutOfMemory) => Err(CommandError::Fault(CommandFault::OutOfMemory)),
+        Err(
+            MergeError::Refused {
+                refusal,
+                file,
+                line,
+            },
+        ) => {
+            let name = options.files[file].as_str();
+            let text = texts[file].as_slice();
+            Err(CommandError::Refused(merge_refusal(alloc, refusal, line, name, text)?))
+        }
     }
 }

@@ -1,22 +1,24 @@
 //! Answers as they are written.
-ghost use Rattle.std.specs.Prelude.{◌≡◌, ℕ, IfErr, IfOk, OnErr, take};
-ghost use Rattle.std.specs.Io.KnownBytes.{Appends, Keeps};
+ghost use Rattle.std.specs.Prelude.{◌≡◌, IfErr, IfOk};
+ghost use Rattle.std.specs.Io.KnownBytes.{Keeps};
 ghost use Rattle.devices.specs.Bytes.{CanGrow, CountsBy};
-ghost use Rattle.commands.specs.Output.{command_failed_writes};
+ghost use Rattle.inputs.specs.Inputs.{command_failed_writes};
+ghost use Rattle.commands.specs.Perform.{Writes};
 
 use devices::{Failed, Sink, write_all};
 use inputs::CommandFault;
 use report::{Answer, Outcome};
 
-/// Hands on what was written.
-pub fn flush<W: Sink>(out: &mut W) -> Result<(), CommandFault>
+/// Hands on what was written of an answer, and answers how it came out.
+pub fn flush<W: Sink>(out: &mut W, outcome: Outcome) -> Result<Outcome, CommandFault>
     requires { CanGrow (W.write_failures out.old) }
+    ensures outcome { IfOk result (λ came. came ≡ outcome) }
     ensures kept { Keeps (W.written out.old) (W.written out.new) }
     ensures fault { IfErr result (λ fault. fault ≡ CommandFault.WriteFailed) }
     ensures writes { CountsBy command_failed_writes (W.write_failures out.old) (W.write_failures out.new) result }
 {
     match out.flush() {
-        Ok(()) => Ok(()),
+        Ok(()) => Ok(outcome),
         Err(Failed) => Err(CommandFault::WriteFailed),
     }
 }
@@ -24,18 +26,12 @@ pub fn flush<W: Sink>(out: &mut W) -> Result<(), CommandFault>
 /// Writes the text of an answer and hands it on; how it came out.
 pub fn put<W: Sink>(out: &mut W, answer: &Answer) -> Result<Outcome, CommandFault>
     requires { CanGrow (W.write_failures out.old) }
-    ensures whole { IfOk result (λ outcome. (outcome ≡ answer.now.outcome)
-        × Appends (W.written out.old) (W.written out.new) answer.now.text.items) }
-    ensures begun { OnErr result ((n : ℕ) × Appends (W.written out.old) (W.written out.new)
-        (take n answer.now.text.items)) }
+    ensures written { Writes (λ a. a ≡ answer.now) (W.written out.old) (W.written out.new) result }
     ensures fault { IfErr result (λ fault. fault ≡ CommandFault.WriteFailed) }
     ensures writes { CountsBy command_failed_writes (W.write_failures out.old) (W.write_failures out.new) result }
 {
     match write_all(out, &answer.text) {
-        Ok(()) => {
-            flush(out)?;
-            Ok(answer.outcome)
-        }
+        Ok(()) => flush(out, answer.outcome),
         Err(Failed) => Err(CommandFault::WriteFailed),
     }
 }

@@ -1,16 +1,14 @@
 //! From the words of a command line to what is printed.
-ghost use Rattle.std.specs.Prelude.{◌≡◌, ◌≢◌, ◌⊎◌, [], Err, IfErr, IfNone, IfOk, IfSome, List, Option, map};
-ghost use Rattle.std.specs.Prelude.{string_bytes};
+ghost use Rattle.std.specs.Prelude.{◌≡◌, ◌≢◌, Err, IfErr, IfNone, IfOk, IfSome, List, Option, map, string_bytes};
 ghost use Rattle.clap.specs.Words.{Row, Text};
 ghost use Rattle.command_line.specs.Options.{AreOptions};
 ghost use Rattle.devices.specs.Bytes.{CanGrow, CountsBy};
-ghost use Rattle.inputs.specs.Inputs.{AreRead, CanRead, ReadsNamed, seen};
-ghost use Rattle.commands.specs.Names.{input_names};
-ghost use Rattle.commands.specs.Output.{IsBegun, IsPut, command_failed_writes};
-ghost use Rattle.commands.specs.Perform.{IsAnswerTo, IsCommandError, IsFaultFor, IsFaultOf, IsHelp, IsNoJudge};
-ghost use Rattle.commands.specs.Perform.{IsOptionError, IsPrinted, IsPrintedWithout, IsShown, IsWritten};
-ghost use Rattle.commands.specs.Perform.{PrintsAtOnce, PrintsEarly, Tallies};
+ghost use Rattle.inputs.specs.Inputs.{CanRead, ReadsNamed, command_failed_writes};
+ghost use Rattle.report.specs.Answer.{IsBegun};
+ghost use Rattle.commands.specs.Command.{IsAnswerTo, IsCommandError, input_names};
 ghost use Rattle.command_line.specs.Commands.{command_of};
+ghost use Rattle.commands.specs.Perform.{IsFaultFor, IsFaultOf, IsHelp, IsNoJudge, IsOptionError, IsPrinted, IsShown};
+ghost use Rattle.commands.specs.Perform.{IsWritten, PrintsAtOnce, PrintsEarly, Tallies};
 ghost use Rattle.commands.specs.Survey.{TellsEach};
 
 use crate::judge_command::judge_command;
@@ -71,11 +69,10 @@ fn answer_to<R: Threads + Wait + Sync, P: Place>(
     requires options { (command : Option (Text × List Row)) × AreOptions options.now command }
     requires told { IsNoJudge options.now }
     requires whole { PrintsEarly options.now → ⊥ }
-    requires inputs { CanRead (P.tally place.old) }
+    requires inputs { CanRead (P.log place.old).tally }
     ensures ok { IfOk result (IsAnswerTo (P.bytes place.old) options.now) }
     ensures err { IfErr result (IsCommandError (P.bytes place.old) options.now) }
-    ensures reads { ReadsNamed (input_names options.now) (seen (P.asked place.old) (P.asked place.new)
-        (P.tally place.old) (P.tally place.new)) result }
+    ensures reads { ReadsNamed (input_names options.now) (P.log place.old) (P.log place.new) result }
 {
     match options {
         Options::Run(run) => run_command(alloc, run, place),
@@ -102,8 +99,7 @@ fn shown<P: Place>(
 ) -> Result<Answer, CommandFault>
     ensures ok { IfOk result (IsShown answered) }
     ensures err { IfErr result (λ fault. answered ≡ Err (CommandError.Fault fault)) }
-    ensures tally { P.tally place.new ≡ P.tally place.old }
-    ensures asked { P.asked place.new ≡ P.asked place.old }
+    ensures log { P.log place.new ≡ P.log place.old }
 {
     match answered {
         Ok(answer) => Ok(answer),
@@ -151,18 +147,15 @@ fn performed<R: Threads + Wait + Sync, P: Place, W: Sink>(
     out: &mut W,
 ) -> Result<Outcome, CommandFault>
     requires options { (command : Option (Text × List Row)) × AreOptions options.now command }
-    requires inputs { CanRead (P.tally place.old) }
+    requires inputs { CanRead (P.log place.old).tally }
     requires output { CanGrow (W.write_failures out.old) }
     ensures printed { (words : List Text) → AreOptions options.now (command_of words) → IfOk result (IsWritten
-        (P.bytes place.old) words (seen (P.asked place.old) (P.asked place.new) (P.tally place.old)
-        (P.tally place.new)) (W.written out.old) (W.written out.new)) }
+        (P.bytes place.old) words (P.log place.old) (P.log place.new) (W.written out.old) (W.written out.new)) }
     ensures begun { (words : List Text) → AreOptions options.now (command_of words)
         → result ≡ Err CommandFault.WriteFailed → PrintsAtOnce words → IsBegun (IsPrinted (P.bytes place.old) words
-        (seen (P.asked place.old) (P.asked place.new) (P.tally place.old) (P.tally place.new))) (W.written out.old)
-        (W.written out.new) }
-    ensures fault { IfErr result (IsFaultFor (P.bytes place.old) options.now (seen (P.asked place.old)
-        (P.asked place.new) (P.tally place.old) (P.tally place.new))) }
-    ensures reads { Tallies (P.tally place.old) (P.tally place.new) result }
+        (P.log place.old) (P.log place.new)) (W.written out.old) (W.written out.new) }
+    ensures fault { IfErr result (IsFaultFor (P.bytes place.old) options.now (P.log place.old) (P.log place.new)) }
+    ensures reads { Tallies (P.log place.old).tally (P.log place.new).tally result }
     ensures writes { CountsBy command_failed_writes (W.write_failures out.old) (W.write_failures out.new) result }
     ensures unwritten { IfErr result (λ fault. fault ≢ CommandFault.WriteFailed → (PrintsEarly options.now → ⊥)
         → out.new ≡ out.old) }
@@ -178,27 +171,6 @@ fn performed<R: Threads + Wait + Sync, P: Place, W: Sink>(
     put(out, &answer)
 }
 
-/// Prints what is said without options: help, or why there are none.
-fn explained_options<P: Place, W: Sink>(
-    alloc: Global,
-    fault: OptionFault,
-    place: &mut P,
-    out: &mut W,
-) -> Result<Outcome, CommandFault>
-    requires { CanGrow (W.write_failures out.old) }
-    ensures printed { IfOk result (IsPut (IsPrintedWithout fault (seen (P.asked place.old) (P.asked place.new)
-        (P.tally place.old) (P.tally place.new))) (W.written out.old) (W.written out.new)) }
-    ensures begun { result ≡ Err CommandFault.WriteFailed → IsBegun (IsPrintedWithout fault (seen (P.asked place.old)
-        (P.asked place.new) (P.tally place.old) (P.tally place.new))) (W.written out.old) (W.written out.new) }
-    ensures fault { IfErr result (λ f. IsOptionError fault (CommandError.Fault f) ⊎ (f ≡ CommandFault.WriteFailed)) }
-    ensures read { AreRead [] (seen (P.asked place.old) (P.asked place.new) (P.tally place.old) (P.tally place.new)) }
-    ensures writes { CountsBy command_failed_writes (W.write_failures out.old) (W.write_failures out.new) result }
-    ensures unwritten { IfErr result (λ f. f ≢ CommandFault.WriteFailed → out.new ≡ out.old) }
-{
-    let answer = shown(place, without_options(alloc, fault))?;
-    put(out, &answer)
-}
-
 /// Does what the words ask, writes what the command prints and answers how it came out. The words
 /// come without the program's name. An error is a fault of the command line, an input that isn't read,
 /// threads under `live`, memory that ran out, or a write that failed; nothing is written before the whole answer
@@ -210,17 +182,16 @@ pub fn perform<R: Threads + Wait + Sync, P: Place, W: Sink>(
     place: &mut P,
     out: &mut W,
 ) -> Result<Outcome, CommandFault>
-    requires inputs { CanRead (P.tally place.old) }
+    requires inputs { CanRead (P.log place.old).tally }
     requires output { CanGrow (W.write_failures out.old) }
     ensures printed { IfOk result (IsWritten (P.bytes place.old) (map string_bytes words.now)
-        (seen (P.asked place.old) (P.asked place.new) (P.tally place.old) (P.tally place.new)) (W.written out.old)
-        (W.written out.new)) }
+        (P.log place.old) (P.log place.new) (W.written out.old) (W.written out.new)) }
     ensures begun { result ≡ Err CommandFault.WriteFailed → PrintsAtOnce (map string_bytes words.now) → IsBegun
-        (IsPrinted (P.bytes place.old) (map string_bytes words.now) (seen (P.asked place.old) (P.asked place.new)
-        (P.tally place.old) (P.tally place.new))) (W.written out.old) (W.written out.new) }
+        (IsPrinted (P.bytes place.old) (map string_bytes words.now) (P.log place.old) (P.log place.new))
+        (W.written out.old) (W.written out.new) }
     ensures fault { IfErr result (IsFaultOf (P.bytes place.old) (map string_bytes words.now)
-        (seen (P.asked place.old) (P.asked place.new) (P.tally place.old) (P.tally place.new))) }
-    ensures reads { Tallies (P.tally place.old) (P.tally place.new) result }
+        (P.log place.old) (P.log place.new)) }
+    ensures reads { Tallies (P.log place.old).tally (P.log place.new).tally result }
     ensures writes { CountsBy command_failed_writes (W.write_failures out.old) (W.write_failures out.new) result }
     // An error leaves the sink as it was, unless a write failed or lines of recordings came before it.
     ensures unwritten { IfErr result (λ fault. fault ≢ CommandFault.WriteFailed
@@ -228,6 +199,9 @@ pub fn perform<R: Threads + Wait + Sync, P: Place, W: Sink>(
 {
     match options(alloc, words) {
         Ok(options) => performed(rt, alloc, &options, place, out),
-        Err(fault) => explained_options(alloc, fault, place, out),
+        Err(fault) => {
+            let answer = shown(place, without_options(alloc, fault))?;
+            put(out, &answer)
+        }
     }
 }

@@ -1,7 +1,7 @@
 //! The commands `explain`, `draw` and `reduce`.
-ghost use Rattle.std.specs.Prelude.{◌∷◌, [], IfErr, IfOk, Some, option_map, string_bytes};
-ghost use Rattle.inputs.specs.Inputs.{CanRead, ReadsNamed, seen};
-ghost use Rattle.commands.specs.Names.{maybe_name, render_names};
+ghost use Rattle.std.specs.Prelude.{◌∷◌, [], IfErr, IfOk, Some};
+ghost use Rattle.inputs.specs.Inputs.{CanRead, ReadsNamed};
+ghost use Rattle.commands.specs.Command.{render_names};
 ghost use Rattle.commands.specs.Render.{IsNamesError, IsRenderingError, IsRendered, IsRenderedBy};
 
 use answers::{Rendering, rendered_answer};
@@ -21,39 +21,16 @@ fn named_answer<P: Place>(
     name: &str,
     place: &mut P,
 ) -> Result<Answer, CommandError>
-    requires { CanRead (P.tally place.old) }
+    requires { CanRead (P.log place.old).tally }
     ensures ok { IfOk result (IsRenderedBy (P.bytes place.old) rendering recording.now (Some name.now)) }
-    ensures err { IfErr result (IsNamesError (P.bytes place.old) recording.now (Some name.now)) }
-    ensures reads { ReadsNamed (name.now ∷ []) (seen (P.asked place.old) (P.asked place.new)
-        (P.tally place.old) (P.tally place.new)) result }
+    ensures err { IfErr result (λ error. IsNamesError (P.bytes place.old) (Some name.now) error recording.now) }
+    ensures reads { ReadsNamed (name.now ∷ []) (P.log place.old) (P.log place.new) result }
 {
     let program = program_at(alloc, place, name)?;
     if is_program_of(&program, recording) {
         Ok(rendered_answer(alloc, rendering, recording, Some(&program))?)
     } else {
         Err(CommandError::of_line(alloc, "refused: N9\n"))
-    }
-}
-
-/// The rendering of a recording, by the program that the options name.
-fn rendered<P: Place>(
-    alloc: Global,
-    rendering: Rendering,
-    recording: &Recording,
-    options: &ExplainOptions,
-    place: &mut P,
-) -> Result<Answer, CommandError>
-    requires { CanRead (P.tally place.old) }
-    ensures ok { IfOk result (IsRenderedBy (P.bytes place.old) rendering recording.now
-        (option_map string_bytes options.now.program)) }
-    ensures err { IfErr result (IsNamesError (P.bytes place.old) recording.now
-        (option_map string_bytes options.now.program)) }
-    ensures reads { ReadsNamed (maybe_name (option_map string_bytes options.now.program)) (seen (P.asked place.old)
-        (P.asked place.new) (P.tally place.old) (P.tally place.new)) result }
-{
-    match &options.program {
-        Some(name) => named_answer(alloc, rendering, recording, name.as_str(), place),
-        None => Ok(rendered_answer(alloc, rendering, recording, None)?),
     }
 }
 
@@ -64,12 +41,14 @@ pub fn render_command<P: Place>(
     options: &ExplainOptions,
     place: &mut P,
 ) -> Result<Answer, CommandError>
-    requires { CanRead (P.tally place.old) }
+    requires { CanRead (P.log place.old).tally }
     ensures ok { IfOk result (IsRendered (P.bytes place.old) rendering options.now) }
     ensures err { IfErr result (IsRenderingError (P.bytes place.old) options.now) }
-    ensures reads { ReadsNamed (render_names options.now) (seen (P.asked place.old) (P.asked place.new)
-        (P.tally place.old) (P.tally place.new)) result }
+    ensures reads { ReadsNamed (render_names options.now) (P.log place.old) (P.log place.new) result }
 {
     let recording = recording_at(alloc, place, options.file.as_str())?;
-    rendered(alloc, rendering, &recording, options, place)
+    match &options.program {
+        Some(name) => named_answer(alloc, rendering, &recording, name.as_str(), place),
+        None => Ok(rendered_answer(alloc, rendering, &recording, None)?),
+    }
 }

@@ -1,14 +1,9 @@
 //! The command `replay`.
-ghost use Rattle.std.specs.Prelude.{◌≡◌, ◌≤◌, ◌++◌, ◌∷◌, [], All, IfErr, IfOk, Ok, codes, decimal, length};
-ghost use Rattle.std.specs.Prelude.{string_bytes};
-ghost use Rattle.common.specs.declared.limits.TheConstants.{MAX_STEPS};
-ghost use Rattle.program.specs.Spelling.{spelling};
-ghost use Rattle.program.specs.Text.{reading};
-ghost use Rattle.machine.specs.Script.{IsStepOf, steps_of, script_text};
+ghost use Rattle.std.specs.Prelude.{◌≡◌, ◌∷◌, [], IfErr, IfOk, string_bytes};
 ghost use Rattle.verdicts.specs.Judgement.{IsVerdict, Verifies};
 ghost use Rattle.recording.specs.Tso.{IsTsoOrder};
 ghost use Rattle.recording.specs.FirstUse.{IsNumberedByFirstUse};
-ghost use Rattle.inputs.specs.Inputs.{CanRead, ReadsNamed, seen};
+ghost use Rattle.inputs.specs.Inputs.{CanRead, ReadsNamed};
 ghost use Rattle.commands.specs.Replay.{IsReplayedInput, IsReplayOf, IsReplayError, IsReplayText, parts_text};
 
 use command_line::FileOptions;
@@ -17,20 +12,12 @@ use devices::Place;
 use inputs::{CommandError, recording_at};
 use judge::{Verdict, judge_alone};
 use litmus::print;
-use machine::{Step, steps_text};
-use program::{Program, has_one_text};
+use machine::steps_text;
+use program::has_one_text;
 use recording::Recording;
 use replay::{is_numbered, most_stores, replay_steps};
 use report::{Answer, Outcome, verdict_answer};
-use std::alloc::{AllocError, Global};
-
-/// The line of a capacity, with an empty line after it.
-fn buffer_line(alloc: Global, capacity: usize) -> Result<String, AllocError>
-    ensures { IfOk result (λ text. string_bytes text
-        ≡ codes "buffer " ++ decimal capacity ++ 10 ∷ 10 ∷ []) }
-{
-    format!(in alloc; "buffer {capacity}\n\n")
-}
+use std::alloc::Global;
 
 /// A capacity, the text of a program and a script, with an empty line between them.
 fn parts_text(
@@ -41,36 +28,15 @@ fn parts_text(
 ) -> Result<Vec<u8>, OutOfMemory>
     ensures { IfOk result (λ text. text.items ≡ parts_text capacity program.now script.now) }
 {
-    let mut text = buffer_line(alloc, capacity)?.into_bytes();
+    let mut text = format!(in alloc; "buffer {capacity}\n\n")?.into_bytes();
     text.extend_from_slice(program)?;
     text.push(b'\n')?;
     text.extend_from_slice(script)?;
     Ok(text)
 }
 
-/// A capacity, a program and steps of it, as they are printed; the program and the steps are read back.
-fn printed(
-    alloc: Global,
-    capacity: usize,
-    program: &Program,
-    steps: &[Step],
-) -> Result<Vec<u8>, OutOfMemory>
-    requires within { All (IsStepOf program.now) steps.now }
-    requires few { length steps.now ≤ MAX_STEPS }
-    ensures text { IfOk result (λ text. text.items
-        ≡ parts_text capacity (spelling program.now) (script_text program.now steps.now)) }
-    ensures program { IfOk result (λ _. reading (spelling program.now) ≡ Ok program.now) }
-    ensures script { IfOk result (λ _. steps_of program.now (script_text program.now steps.now)
-        ≡ Ok steps.now) }
-{
-    has_one_text();
-    program.sound();
-    let text = print(alloc, program)?;
-    let script = steps_text(alloc, steps, program)?;
-    parts_text(alloc, capacity, &text, &script)
-}
-
-/// The capacity, the program and the script that replay a TSO order.
+/// The capacity, the program and the script that replay a TSO order, as they are printed; the program and the script
+/// are read back.
 fn replay_text(
     alloc: Global,
     recording: &Recording,
@@ -80,9 +46,13 @@ fn replay_text(
     requires order { IsTsoOrder recording.now order.now }
     ensures { IfOk result (λ text. IsReplayText recording.now order.now text.items) }
 {
+    has_one_text();
     recording.sound();
     let (program, steps) = replay_steps(alloc, recording, order)?;
-    printed(alloc, most_stores(recording), &program, &steps)
+    program.sound();
+    let text = print(alloc, &program)?;
+    let script = steps_text(alloc, &steps, &program)?;
+    parts_text(alloc, most_stores(recording), &text, &script)
 }
 
 /// The replay of the least order of a recording, or the verdict on a violation.
@@ -112,11 +82,10 @@ pub fn replay_command<P: Place>(
     options: &FileOptions,
     place: &mut P,
 ) -> Result<Answer, CommandError>
-    requires { CanRead (P.tally place.old) }
+    requires { CanRead (P.log place.old).tally }
     ensures ok { IfOk result (IsReplayedInput (P.bytes place.old) options.now) }
     ensures err { IfErr result (IsReplayError (P.bytes place.old) options.now) }
-    ensures reads { ReadsNamed (string_bytes options.now.file ∷ []) (seen (P.asked place.old) (P.asked place.new)
-        (P.tally place.old) (P.tally place.new)) result }
+    ensures reads { ReadsNamed (string_bytes options.now.file ∷ []) (P.log place.old) (P.log place.new) result }
 {
     let recording = recording_at(alloc, place, options.file.as_str())?;
     if is_numbered(&recording) {

@@ -4,11 +4,10 @@ ghost use Rattle.clap.specs.Words.{Row};
 ghost use Rattle.command_line.specs.Options.{AreTrialsOptions};
 ghost use Rattle.inputs.specs.declared.fault.CommandFault.TheVariants.{OutOfMemory};
 ghost use Rattle.inputs.specs.declared.command_error.CommandError.TheVariants.{Fault};
-ghost use Rattle.commands.specs.Trials.{IsTrials};
+ghost use Rattle.commands.specs.Run.{IsTrials};
 
 use answers::{campaign_answer, shown_answer};
 use command_line::TrialsOptions;
-use common::OpenGate;
 use devices::Place;
 use inputs::CommandError;
 use report::Answer;
@@ -30,15 +29,8 @@ pub fn trials_command<R: Threads + Wait + Sync, P: Place>(
 {
     match options.show {
         Some(k) => Ok(shown_answer(alloc, &options.campaign, k, options.reduce)?),
-        None if options.quiet => Ok(campaign_answer(
-            rt,
-            alloc,
-            &options.campaign,
-            options.workers,
-            &OpenGate,
-        )?),
         None => {
-            let progress = place.progress(Some(options.campaign.trials()));
+            let progress = place.progress(Some(options.campaign.trials()), options.quiet);
             Ok(campaign_answer(rt, alloc, &options.campaign, options.workers, &progress)?)
         }
     }

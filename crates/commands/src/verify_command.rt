@@ -1,41 +1,16 @@
 //! The command `verify`.
-ghost use Rattle.std.specs.Prelude.{◌∷◌, [], ℕ, List, IfErr, IfOk, string_bytes};
-ghost use Rattle.verification.specs.Checked.{IsCheckAnswer};
-ghost use Rattle.inputs.specs.CommandErrors.{IsFaultError};
-ghost use Rattle.inputs.specs.Inputs.{AreBytesOf, CanRead, IsInputFault, ReadsNamed, seen};
-ghost use Rattle.commands.specs.Names.{verify_names};
-ghost use Rattle.commands.specs.Verify.{IsVerified, IsVerifyError};
+ghost use Rattle.std.specs.Prelude.{◌∷◌, [], IfErr, IfOk, string_bytes};
+ghost use Rattle.inputs.specs.Inputs.{CanRead, ReadsNamed};
+ghost use Rattle.commands.specs.Judge.{IsVerified, IsVerifyError};
 
 use command_line::VerifyOptions;
 use devices::Place;
 use inputs::{CommandError, recording_at, text_at};
-use recording::Recording;
 use report::Answer;
 use std::alloc::Global;
 use std::sync::Wait;
 use std::thread::Threads;
 use verification::{check_text, finding_answer};
-
-/// What is answered to the text of this name, of a recording.
-fn checked<R: Threads + Wait + Sync, P: Place>(
-    rt: &R,
-    alloc: Global,
-    recording: &Recording,
-    name: &str,
-    workers: usize,
-    place: &mut P,
-) -> Result<Answer, CommandError>
-    requires { CanRead (P.tally place.old) }
-    ensures ok { IfOk result (λ answer. (text : List ℕ) × AreBytesOf (P.bytes place.old) name.now text
-        × IsCheckAnswer recording.now text answer) }
-    ensures err { IfErr result (IsFaultError (IsInputFault (P.bytes place.old) name.now)) }
-    ensures reads { ReadsNamed (name.now ∷ []) (seen (P.asked place.old) (P.asked place.new)
-        (P.tally place.old) (P.tally place.new)) result }
-{
-    let text = text_at(alloc, place, name)?;
-    let finding = check_text(rt, alloc, recording, text.as_slice(), workers)?;
-    Ok(finding_answer(alloc, finding)?)
-}
 
 /// Checks whether the text of one named input is that of a verdict that holds of the recording of another.
 pub fn verify_command<R: Threads + Wait + Sync, P: Place>(
@@ -44,19 +19,14 @@ pub fn verify_command<R: Threads + Wait + Sync, P: Place>(
     options: &VerifyOptions,
     place: &mut P,
 ) -> Result<Answer, CommandError>
-    requires { CanRead (P.tally place.old) }
+    requires { CanRead (P.log place.old).tally }
     ensures ok { IfOk result (IsVerified (P.bytes place.old) options.now) }
     ensures err { IfErr result (IsVerifyError (P.bytes place.old) options.now) }
-    ensures reads { ReadsNamed (verify_names options.now) (seen (P.asked place.old) (P.asked place.new)
-        (P.tally place.old) (P.tally place.new)) result }
+    ensures reads { ReadsNamed (string_bytes options.now.recording ∷ string_bytes options.now.verdict ∷ [])
+        (P.log place.old) (P.log place.new) result }
 {
     let recording = recording_at(alloc, place, options.recording.as_str())?;
-    checked(
-        rt,
-        alloc,
-        &recording,
-        options.verdict.as_str(),
-        options.workers,
-        place,
-    )
+    let text = text_at(alloc, place, options.verdict.as_str())?;
+    let finding = check_text(rt, alloc, &recording, text.as_slice(), options.workers)?;
+    Ok(finding_answer(alloc, finding)?)
 }

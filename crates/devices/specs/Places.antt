@@ -19,6 +19,11 @@ taken_back t ended failures = record {
   unended = t.unended + unended_by ended;
 }
 
+-- the names that a place was asked for, from the first on, where it tells them, and its tally
+pub record PlaceLog : Type 0 where
+  pub asked : Option (List (List ℕ))
+  pub tally : Tally
+
 -- the numbers have room for an input that is taken back
 pub record CanTake (t : Tally) (failures : ℕ) : Type 0 where
   pub lent : 0 < t.lent

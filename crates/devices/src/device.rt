@@ -46,11 +46,7 @@ impl<T> Device<T> {
     pub fn into_inner(self) -> T
         ensures { result ≡ self.inner }
     {
-        let Device {
-            inner,
-            ended: _,
-            failures: _,
-        } = self;
+        let Device { inner, .. } = self;
         inner
     }
 }

@@ -1,5 +1,4 @@
-//! The inputs of the running program: files, and standard input under the name `-`.
-ghost use Rattle.std.specs.Prelude.{◌≡◌};
+//! Files, and standard input under the name `-`.
 
 use crate::device::Device;
 use crate::place::{InputFault, Place, Tally};
@@ -8,62 +7,52 @@ use std::fs::File;
 use std::io;
 use std::io::{ErrorKind, Read, Stdin};
 
-/// An opened file, or standard input.
+/// An opened file, standard input, or a text in its place.
 #[derive(Drop)]
-pub enum Opened {
+pub enum Opened<'a> {
     /// A file.
     File(File),
     /// Standard input.
     Standard(Stdin),
+    /// A text.
+    Text(&'a [u8]),
 }
 
-impl Opened {
-    /// The input of this name, opened: `-` is standard input, and any other name that of a file.
-    pub fn at(rt: &HostRuntime, name: &str) -> Result<Opened, InputFault> {
-        if name == "-" {
-            return Ok(Opened::Standard(rt.stdin()));
-        }
-        match File::open(rt, name) {
-            Ok(file) => Ok(Opened::File(file)),
-            Err(error) => Err(fault_of(error)),
-        }
-    }
-}
-
-impl Read for Opened {
+impl Read for Opened<'_> {
     fn read(&mut self, buf: &mut [u8]) -> io::Result<usize> {
         match self {
             Opened::File(file) => file.read(buf),
             Opened::Standard(input) => input.read(buf),
+            Opened::Text(text) => text.read(buf),
         }
     }
 }
 
-/// Why a file is not opened.
-fn fault_of(error: io::Error) -> InputFault {
-    if error.kind() == ErrorKind::OutOfMemory {
-        InputFault::OutOfMemory
-    } else {
-        InputFault::CannotOpen
-    }
-}
-
-/// Files and standard input. Progress is shown on standard error, where that is a terminal.
+/// Files and standard input, or a text in its place. Progress is shown on standard error, where that is a terminal and
+/// standard input is the program's own.
 #[derive(Drop)]
 pub struct Disk<'a> {
     rt: &'a HostRuntime,
+    text: Option<&'a [u8]>,
     tally: Tally,
     line: Option<String>,
 }
 
 impl<'a> Disk<'a> {
-    /// Those of a runtime, of which none is opened.
-    pub fn new(rt: &'a HostRuntime) -> Disk<'a>
+    ghost use Rattle.std.specs.Prelude.{◌≡◌};
+
+    /// The files of a runtime, of which none is opened, and its standard input, or this text.
+    pub fn new(rt: &'a HostRuntime, text: Option<&'a [u8]>) -> Disk<'a>
         ensures { result.tally ≡ record { lent = 0; failed = 0; unended = 0 } }
     {
         Disk {
             rt,
-            tally: Tally::new(),
+            text,
+            tally: Tally {
+                lent: 0,
+                failed: 0,
+                unended: 0,
+            },
             line: None,
         }
     }
@@ -80,27 +69,48 @@ impl<'a> Disk<'a> {
     pub fn is_shown(&self) -> bool {
         is_shown(self.rt)
     }
+
+    /// The input of this name, opened: `-` is standard input, and any other name that of a file.
+    fn opened(&self, name: &str) -> Result<Opened<'a>, InputFault> {
+        if name == "-" {
+            return Ok(match self.text {
+                Some(text) => Opened::Text(text),
+                None => Opened::Standard(self.rt.stdin()),
+            });
+        }
+        match File::open(self.rt, name) {
+            Ok(file) => Ok(Opened::File(file)),
+            Err(error) if error.kind() == ErrorKind::OutOfMemory => Err(InputFault::OutOfMemory),
+            Err(_) => Err(InputFault::CannotOpen),
+        }
+    }
 }
 
 impl<'a> Place for Disk<'a> {
-    type Input = Device<Opened>;
+    type Input = Device<Opened<'a>>;
 
     type Progress = Progress<'a>;
 
-    ghost tally = { λ d. d.tally };
+    ghost use Rattle.std.specs.Prelude.{None};
 
-    fn input(&mut self, name: &str) -> Result<Device<Opened>, InputFault> {
-        let opened = Opened::at(self.rt, name)?;
-        self.tally.lend();
+    ghost log = { λ d. record { asked = None; tally = d.tally } };
+
+    fn input(&mut self, name: &str) -> Result<Device<Opened<'a>>, InputFault> {
+        let opened = self.opened(name)?;
+        self.tally.lent += 1;
         Ok(Device::new(opened))
     }
 
-    fn take_back(&mut self, input: Device<Opened>) {
-        self.tally.take_back(input.is_ended(), input.failures());
+    fn take_back(&mut self, input: Device<Opened<'a>>) {
+        self.tally.lent -= 1;
+        self.tally.failed += input.failures();
+        if !input.is_ended() {
+            self.tally.unended += 1;
+        }
     }
 
-    fn progress(&self, trials: Option<usize>) -> Progress<'a> {
-        Progress::new(self.rt, trials)
+    fn progress(&self, trials: Option<usize>, is_quiet: bool) -> Progress<'a> {
+        Progress::new(self.rt, trials, is_quiet || self.text.is_some())
     }
 
     fn refuse(&mut self, line: String) {

@@ -1,7 +1,4 @@
 //! Where a command's inputs come from, and where it shows how far it is.
-ghost use Rattle.std.specs.Prelude.{◌≡◌};
-ghost use Rattle.devices.specs.Bytes.{CanGrow};
-ghost use Rattle.devices.specs.Places.{CanTake, lent_more, taken_back};
 
 use crate::bytes::Source;
 use common::Gate;
@@ -26,46 +23,12 @@ pub struct Tally {
     pub unended: u64,
 }
 
-impl Tally {
-    /// No input was given.
-    pub fn new() -> Tally
-        ensures { result ≡ record { lent = 0; failed = 0; unended = 0 } }
-    {
-        Tally {
-            lent: 0,
-            failed: 0,
-            unended: 0,
-        }
-    }
-
-    /// Counts an input that is given.
-    pub fn lend(&mut self)
-        requires { CanGrow self.old.lent }
-        ensures { self.new ≡ lent_more self.old }
-    {
-        self.lent += 1;
-    }
-
-    /// Counts an input that is taken back: whether its end was met, and how many reads failed.
-    pub fn take_back(&mut self, ended: bool, failures: u64)
-        requires { CanTake self.old failures }
-        ensures { self.new ≡ taken_back self.old ended failures }
-    {
-        self.lent -= 1;
-        self.failed += failures;
-        if !ended {
-            self.unended += 1;
-        }
-    }
-}
-
 /// Gives inputs by name and takes them back; is told how far work is, and which line of an input is refused.
 pub trait Place {
     ghost use Rattle.std.specs.Prelude.{◌≡◌, ◌∷◌, [], ℕ, List, Option, None, IfErr, IfOk, false};
     ghost use Rattle.std.specs.Io.KnownBytes.{Keeps};
-    ghost use Rattle.devices.specs.declared.place.Tally.{Tally};
     ghost use Rattle.devices.specs.Bytes.{CanGrow};
-    ghost use Rattle.devices.specs.Places.{CanTake, Notes, lent_more, taken_back};
+    ghost use Rattle.devices.specs.Places.{CanTake, Notes, PlaceLog, lent_more, taken_back};
 
     /// An opened input, which is read from its first byte to its last.
     type Input: Source + Drop;
@@ -76,41 +39,38 @@ pub trait Place {
     /// The bytes that the input of each name gives, where they are known.
     ghost bytes: { Self → List ℕ → Option (List ℕ) } = { λ _ _. None };
 
-    /// The names that inputs were asked for by, from the first on, where they are told.
-    ghost asked: { Self → Option (List (List ℕ)) } = { λ _. None };
-
-    /// What became of the inputs that were given.
-    ghost tally: { Self → Tally };
+    /// The names that inputs were asked for by, where they are told, and what became of the inputs that were given.
+    ghost log: { Self → PlaceLog };
 
     /// The input of a name, opened, of which nothing is read.
     fn input(&mut self, name: &str) -> Result<Self::Input, InputFault>
-        requires { CanGrow (tally self.old).lent }
+        requires { CanGrow (log self.old).tally.lent }
         ensures given { IfOk result (λ input. Keeps (bytes self.old name.now) (Self.Input.left input)) }
         ensures unread { IfOk result (λ input. Self.Input.is_ended input ≡ false) }
         ensures unfailed { IfOk result (λ input. Self.Input.read_failures input ≡ 0) }
-        ensures lent { IfOk result (λ _. tally self.new ≡ lent_more (tally self.old)) }
+        ensures lent { IfOk result (λ _. (log self.new).tally ≡ lent_more (log self.old).tally) }
         // What is known can be opened, unless out of memory.
         ensures fault { IfErr result (λ fault. fault ≡ InputFault.CannotOpen
             → bytes self.old name.now ≡ None) }
-        ensures unlent { IfErr result (λ _. tally self.new ≡ tally self.old) }
-        ensures asked { Notes (asked self.old) (asked self.new) (name.now ∷ []) }
+        ensures unlent { IfErr result (λ _. (log self.new).tally ≡ (log self.old).tally) }
+        ensures asked { Notes (log self.old).asked (log self.new).asked (name.now ∷ []) }
         // To open an input changes none.
         ensures kept { bytes self.new ≡ bytes self.old };
 
     /// Takes an input back that it gave.
     fn take_back(&mut self, input: Self::Input)
-        requires { CanTake (tally self.old) (Self.Input.read_failures input) }
-        ensures tally { tally self.new
-            ≡ taken_back (tally self.old) (Self.Input.is_ended input) (Self.Input.read_failures input) }
-        ensures asked { asked self.new ≡ asked self.old }
+        requires { CanTake (log self.old).tally (Self.Input.read_failures input) }
+        ensures tally { (log self.new).tally
+            ≡ taken_back (log self.old).tally (Self.Input.is_ended input) (Self.Input.read_failures input) }
+        ensures asked { (log self.new).asked ≡ (log self.old).asked }
         ensures kept { bytes self.new ≡ bytes self.old };
 
-    /// What is told of this many trials while they last, or of recordings whose number is not known.
-    fn progress(&self, trials: Option<usize>) -> Self::Progress;
+    /// What is told of this many trials while they last, or of recordings whose number is not known; where it is to be
+    /// quiet, it shows nothing.
+    fn progress(&self, trials: Option<usize>, is_quiet: bool) -> Self::Progress;
 
     /// Takes the line of an input that is refused, as a person is shown it.
     fn refuse(&mut self, line: String)
-        ensures tally { tally self.new ≡ tally self.old }
-        ensures asked { asked self.new ≡ asked self.old }
+        ensures log { log self.new ≡ log self.old }
         ensures kept { bytes self.new ≡ bytes self.old };
 }

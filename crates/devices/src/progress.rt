@@ -71,13 +71,8 @@ pub(crate) fn is_shown(rt: &HostRuntime) -> bool {
     rt.stderr().is_terminal()
 }
 
-/// The time at which work begins, where there is a clock.
-fn beginning(rt: &HostRuntime) -> Option<Instant> {
-    Instant::now(rt).ok()
-}
-
 /// Shows how far work is, on standard error where that is a terminal. Its end takes the line away.
-/// Without a clock it shows nothing.
+/// Without a clock, or where it is quiet, it shows nothing.
 pub struct Progress<'a> {
     rt: &'a HostRuntime,
     is_terminal: bool,
@@ -90,11 +85,11 @@ pub struct Progress<'a> {
 
 impl<'a> Progress<'a> {
     /// That of a campaign of this many trials, or of a survey, which begins.
-    pub fn new(rt: &'a HostRuntime, trials: Option<usize>) -> Progress<'a> {
+    pub fn new(rt: &'a HostRuntime, trials: Option<usize>, is_quiet: bool) -> Progress<'a> {
         Progress {
             rt,
-            is_terminal: is_shown(rt),
-            begun: beginning(rt),
+            is_terminal: !is_quiet && is_shown(rt),
+            begun: Instant::now(rt).ok(),
             trials,
             done: AtomicUsize::new(0),
             found: AtomicUsize::new(0),
@@ -102,18 +97,15 @@ impl<'a> Progress<'a> {
         }
     }
 
-    fn line(&self) -> Line {
-        Line {
-            done: self.done.load(Ordering::SeqCst),
-            trials: self.trials,
-            found: self.found.load(Ordering::SeqCst),
-        }
-    }
-
     /// Writes the line that is due at this time. Of threads that would write it, one does.
     fn show(&self, elapsed: u64) {
         let last = self.last.load(Ordering::SeqCst);
-        let Some(line) = line_due(self.is_terminal, elapsed, last, self.line()) else {
+        let line = Line {
+            done: self.done.load(Ordering::SeqCst),
+            trials: self.trials,
+            found: self.found.load(Ordering::SeqCst),
+        };
+        let Some(line) = line_due(self.is_terminal, elapsed, last, line) else {
             return;
         };
         let claim = self
@@ -151,14 +143,14 @@ impl Drop for Progress<'_> {
         if self.last.load(Ordering::SeqCst) > 0 {
             let _ = eprint!(self.rt; "{BLANKS}");
         }
-        let Progress {
-            rt: _,
-            is_terminal: _,
-            begun: _,
-            trials: _,
-            done: _,
-            found: _,
-            last: _,
+        let Self {
+            rt,
+            is_terminal,
+            begun,
+            trials,
+            done,
+            found,
+            last,
         } = self;
     }
 }

@@ -47,24 +47,6 @@ pub fn read_more<R: Source>(
     }
 }
 
-/// Adds all that a source gives until its end, piece by piece.
-fn gather_all<R: Source>(
-    source: &mut R,
-    piece: &mut [u8],
-    bytes: &mut Vec<u8>,
-) -> Result<(), ReadError>
-    requires failures { CanGrow (R.read_failures source.old) }
-    requires room { 0 < length piece.old }
-    ensures gathered { OnOk result (Gathers (R.left source.old) (R.left source.new)
-        bytes.old.items bytes.new.items) }
-    ensures met { OnOk result (R.is_ended source.new ≡ true) }
-    ensures all { OnOk result (IsAtEnd (R.left source.new)) }
-    ensures count { CountsBy failed_reads (R.read_failures source.old) (R.read_failures source.new) result }
-{
-    'pieces: while read_more(source, piece, bytes)? > 0 {}
-    Ok(())
-}
-
 /// All bytes that a source gives until its end. An error is a read that failed, or that memory ran out.
 pub fn read_all<R: Source>(alloc: Global, source: &mut R) -> Result<Vec<u8>, ReadError>
     requires { CanGrow (R.read_failures source.old) }
@@ -77,7 +59,7 @@ pub fn read_all<R: Source>(alloc: Global, source: &mut R) -> Result<Vec<u8>, Rea
     let Ok(mut piece) = Vec::from_elem(alloc, 0u8, PIECE) else {
         return Err(ReadError::OutOfMemory);
     };
-    gather_all(source, &mut piece, &mut bytes)?;
+    'pieces: while read_more(source, &mut piece, &mut bytes)? > 0 {}
     Ok(bytes)
 }
 

@@ -1,5 +1,3 @@
 pub mod Inputs
-pub mod CommandErrors
-pub mod Program
-pub mod Recording
 pub mod Refusal
+pub mod Named

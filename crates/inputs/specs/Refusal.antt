@@ -1,17 +1,14 @@
 -- The lines of refused texts.
-use Rattle.std.specs.Prelude.{◌≡◌, ◌++◌, ◌∷◌, [], ℕ, List, Some, Result, Ok, Err, codes}
-use Rattle.std.specs.Prelude.{string_bytes}
+use Rattle.std.specs.Prelude.{◌≡◌, ◌++◌, ◌∷◌, [], ℕ, List, Result, Ok, Err, codes, string_bytes}
 use Rattle.machine.specs.declared.script_refusal.StepRefusal.{StepRefusal}
 use Rattle.machine.specs.declared.script_refusal.StepRefusal.TheVariants.{S1, S2, S3, S4}
-use Rattle.recording.specs.declared.fault.RecError.{RecError}
-use Rattle.program.specs.declared.shape_error.ShapeError.{ShapeError}
 use Rattle.program.specs.declared.shape_error.ShapeError.TheVariants.{K1, K2, K3, K4, K5, K6, K7}
 use Rattle.command_line.specs.declared.options.OptionRefusal.{OptionRefusal}
 use Rattle.command_line.specs.declared.options.OptionRefusal.TheVariants as refused
-use Rattle.verdicts.specs.Refusal.{recording_line}
 use Rattle.litmus.specs.Refusals.{refusal_line}
 use Rattle.inputs.specs.declared.command_error.CommandError.{CommandError}
 use Rattle.inputs.specs.declared.command_error.CommandError.TheVariants.{Refused, Fault}
+use Rattle.inputs.specs.declared.fault.CommandFault.{CommandFault}
 use Rattle.inputs.specs.declared.fault.CommandFault.TheVariants.{OutOfMemory}
 
 -- what is printed for a fault of a script's line
@@ -27,19 +24,15 @@ IsReadingError name (Ok x) (Refused refusal) = ⊥
 IsReadingError name (Err fault) (Refused refusal) = string_bytes refusal.line ≡ refusal_line (name fault.0) fault.1
 IsReadingError name reading (Fault fault) = fault ≡ OutOfMemory
 
--- the name of the refusal of a shape or a plan
-abbrev pub shape_error_name : ShapeError → List ℕ
-shape_error_name K1 = codes "K1"
-shape_error_name K2 = codes "K2"
-shape_error_name K3 = codes "K3"
-shape_error_name K4 = codes "K4"
-shape_error_name K5 = codes "K5"
-shape_error_name K6 = codes "K6"
-shape_error_name K7 = codes "K7"
-
 -- the name of the refusal of options
 abbrev pub option_refusal_name : OptionRefusal → List ℕ
-option_refusal_name (refused.Shape error) = shape_error_name error
+option_refusal_name (refused.Shape K1) = codes "K1"
+option_refusal_name (refused.Shape K2) = codes "K2"
+option_refusal_name (refused.Shape K3) = codes "K3"
+option_refusal_name (refused.Shape K4) = codes "K4"
+option_refusal_name (refused.Shape K5) = codes "K5"
+option_refusal_name (refused.Shape K6) = codes "K6"
+option_refusal_name (refused.Shape K7) = codes "K7"
 option_refusal_name refused.Workers = codes "K8"
 option_refusal_name refused.Fault = codes "K9"
 option_refusal_name refused.Show = codes "K10"
@@ -48,7 +41,12 @@ option_refusal_name refused.Show = codes "K10"
 abbrev pub option_line : OptionRefusal → List ℕ
 option_line refusal = codes "refused: " ++ option_refusal_name refusal ++ 10 ∷ []
 
--- the error is that of a refused recording, or memory ran out
-abbrev pub IsRefusedAs : RecError → CommandError → Type 0
-IsRefusedAs fault (Refused refusal) = recording_line fault ≡ Some (string_bytes refusal.line)
-IsRefusedAs fault (Fault other) = other ≡ OutOfMemory
+-- the line is printed, or memory ran out
+abbrev pub IsLineError : List ℕ → CommandError → Type 0
+IsLineError text (Refused refusal) = string_bytes refusal.line ≡ text
+IsLineError text (Fault fault) = fault ≡ OutOfMemory
+
+-- nothing is refused, and the fault is one of these
+abbrev pub IsFaultError : (CommandFault → Type 0) → CommandError → Type 0
+IsFaultError Is (Refused refusal) = ⊥
+IsFaultError Is (Fault fault) = Is fault

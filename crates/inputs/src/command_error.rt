@@ -1,5 +1,5 @@
 //! Errors of commands.
-ghost use Rattle.inputs.specs.CommandErrors.{IsLineError};
+ghost use Rattle.inputs.specs.Refusal.{IsLineError};
 
 use crate::fault::CommandFault;
 use common::OutOfMemory;

@@ -1,5 +1,5 @@
 //! What ends the program with status 1.
-ghost use Rattle.std.specs.Prelude.{◌≡◌, ◌↔◌, ◌⊎◌, true};
+ghost use Rattle.std.specs.Prelude.{◌≡◌, ◌↔◌, ◌⊎◌};
 ghost use Rattle.std.specs.IoError.{error_kind};
 
 use common::OutOfMemory;
@@ -42,20 +42,13 @@ pub enum CommandFault {
     OutOfMemory,
 }
 
-/// Whether the error is that memory ran out.
-fn wants_memory(error: io::Error) -> bool
-    ensures { (result ≡ true) ↔ (error_kind error ≡ ErrorKind.OutOfMemory) }
-{
-    error.kind() == ErrorKind::OutOfMemory
-}
-
 impl CommandFault {
     /// Why the words of the command line could not be had.
     pub fn of_words(error: io::Error) -> CommandFault
         ensures one { (result ≡ CommandFault.OutOfMemory) ⊎ (result ≡ CommandFault.NotText) }
         ensures kind { (result ≡ CommandFault.OutOfMemory) ↔ (error_kind error ≡ ErrorKind.OutOfMemory) }
     {
-        if wants_memory(error) {
+        if error.kind() == ErrorKind::OutOfMemory {
             CommandFault::OutOfMemory
         } else {
             CommandFault::NotText

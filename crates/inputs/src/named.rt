@@ -1,12 +1,7 @@
 //! The program or the recording that a named input is.
-ghost use Rattle.std.specs.Prelude.{◌≡◌, ◌∷◌, [], IfErr, IfOk, Ok};
-ghost use Rattle.program.specs.Text.{reading};
-ghost use Rattle.recorder.specs.Reading.{IsReadingResult};
-ghost use Rattle.inputs.specs.Inputs.{CanRead, ReadsNamed, seen};
-ghost use Rattle.inputs.specs.Program.{IsProgramAt, IsProgramError};
-ghost use Rattle.inputs.specs.Recording.{IsRecordingAt, IsRecordingError, IsRefusedRecording};
-ghost use Rattle.litmus.specs.Refusals.{line_refusal_name};
-ghost use Rattle.inputs.specs.Refusal.{IsReadingError, IsRefusedAs};
+ghost use Rattle.std.specs.Prelude.{◌≡◌, ◌∷◌, [], IfErr, IfOk};
+ghost use Rattle.inputs.specs.Inputs.{CanRead, ReadsNamed};
+ghost use Rattle.inputs.specs.Named.{IsProgramAt, IsProgramError, IsRecordingAt, IsRecordingError};
 
 use crate::command_error::{CommandError, PrintedRefusal};
 use crate::fault::CommandFault;
@@ -16,26 +11,9 @@ use devices::Place;
 use litmus::{line_refusal_name, parse};
 use program::{LitmusError, Program};
 use recorder::read_recording;
-use recording::{RecError, Recording};
-use std::alloc::{AllocError, Global};
+use recording::Recording;
+use std::alloc::Global;
 use verdicts::recording_line;
-
-/// The program of a text, or the refusal of its first line at fault.
-fn program_of(alloc: Global, text: &[u8]) -> Result<Program, CommandError>
-    ensures ok { IfOk result (λ program. reading text.now ≡ Ok program) }
-    ensures err { IfErr result (IsReadingError line_refusal_name (reading text.now)) }
-{
-    match parse(alloc, text) {
-        Ok(program) => Ok(program),
-        Err(LitmusError::OutOfMemory) => Err(CommandError::Fault(CommandFault::OutOfMemory)),
-        Err(LitmusError::AtLine(fault, line)) => Err(CommandError::Refused(line_refusal(
-            alloc,
-            line_refusal_name(fault),
-            line,
-            text,
-        )?)),
-    }
-}
 
 /// The program of a named input, or why it is not read.
 pub fn program_at<P: Place>(
@@ -43,35 +21,22 @@ pub fn program_at<P: Place>(
     place: &mut P,
     name: &str,
 ) -> Result<Program, CommandError>
-    requires { CanRead (P.tally place.old) }
+    requires { CanRead (P.log place.old).tally }
     ensures ok { IfOk result (λ program. IsProgramAt (P.bytes place.old) name.now program) }
     ensures err { IfErr result (IsProgramError (P.bytes place.old) name.now) }
-    ensures reads { ReadsNamed (name.now ∷ []) (seen (P.asked place.old) (P.asked place.new)
-        (P.tally place.old) (P.tally place.new)) result }
+    ensures reads { ReadsNamed (name.now ∷ []) (P.log place.old) (P.log place.new) result }
     ensures kept { P.bytes place.new ≡ P.bytes place.old }
 {
     let text = text_at(alloc, place, name)?;
-    program_of(alloc, text.as_slice())
-}
-
-/// Why bytes are no recording.
-fn unread(alloc: Global, refusal: RecError) -> Result<CommandError, AllocError>
-    ensures { IfOk result (IsRefusedAs refusal) }
-{
-    match recording_line(alloc, refusal)? {
-        Some(line) => Ok(CommandError::Refused(PrintedRefusal { line, quote: None })),
-        None => Ok(CommandError::Fault(CommandFault::OutOfMemory)),
-    }
-}
-
-/// The recording that the bytes are, or their refusal.
-fn recording_of(alloc: Global, bytes: &[u8]) -> Result<Recording, CommandError>
-    ensures ok { IfOk result (λ recording. IsReadingResult bytes.now (Ok recording)) }
-    ensures err { IfErr result (IsRefusedRecording bytes.now) }
-{
-    match read_recording(alloc, bytes) {
-        Ok(recording) => Ok(recording),
-        Err(refusal) => Err(unread(alloc, refusal)?),
+    match parse(alloc, text.as_slice()) {
+        Ok(program) => Ok(program),
+        Err(LitmusError::OutOfMemory) => Err(CommandError::Fault(CommandFault::OutOfMemory)),
+        Err(LitmusError::AtLine(fault, line)) => Err(CommandError::Refused(line_refusal(
+            alloc,
+            line_refusal_name(fault),
+            line,
+            text.as_slice(),
+        )?)),
     }
 }
 
@@ -81,13 +46,18 @@ pub fn recording_at<P: Place>(
     place: &mut P,
     name: &str,
 ) -> Result<Recording, CommandError>
-    requires { CanRead (P.tally place.old) }
+    requires { CanRead (P.log place.old).tally }
     ensures ok { IfOk result (λ recording. IsRecordingAt (P.bytes place.old) name.now recording) }
     ensures err { IfErr result (IsRecordingError (P.bytes place.old) name.now) }
-    ensures reads { ReadsNamed (name.now ∷ []) (seen (P.asked place.old) (P.asked place.new)
-        (P.tally place.old) (P.tally place.new)) result }
+    ensures reads { ReadsNamed (name.now ∷ []) (P.log place.old) (P.log place.new) result }
     ensures kept { P.bytes place.new ≡ P.bytes place.old }
 {
     let bytes = text_at(alloc, place, name)?;
-    recording_of(alloc, bytes.as_slice())
+    match read_recording(alloc, bytes.as_slice()) {
+        Ok(recording) => Ok(recording),
+        Err(refusal) => match recording_line(alloc, refusal)? {
+            Some(line) => Err(CommandError::Refused(PrintedRefusal { line, quote: None })),
+            None => Err(CommandError::Fault(CommandFault::OutOfMemory)),
+        },
+    }
 }

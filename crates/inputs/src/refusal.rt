@@ -1,7 +1,7 @@
 //! The lines of refused texts.
 ghost use Rattle.std.specs.Prelude.{◌≡◌, IfOk, string_bytes};
 ghost use Rattle.litmus.specs.Refusals.{refusal_line};
-ghost use Rattle.inputs.specs.Refusal.{option_line, option_refusal_name, shape_error_name, step_fault_name};
+ghost use Rattle.inputs.specs.Refusal.{option_line, option_refusal_name, step_fault_name};
 
 use crate::command_error::PrintedRefusal;
 use crate::meanings::quoted;
@@ -38,45 +38,29 @@ pub fn line_refusal(
     })
 }
 
-/// What is printed for a refusal of a shape or a plan.
-fn shape_error_name(error: ShapeError) -> &'static str
-    ensures { result.now ≡ shape_error_name error }
-{
-    match error {
-        ShapeError::K1 => "K1",
-        ShapeError::K2 => "K2",
-        ShapeError::K3 => "K3",
-        ShapeError::K4 => "K4",
-        ShapeError::K5 => "K5",
-        ShapeError::K6 => "K6",
-        ShapeError::K7 => "K7",
-    }
-}
-
 /// What is printed for a refusal of options.
 fn option_refusal_name(refusal: OptionRefusal) -> &'static str
     ensures { result.now ≡ option_refusal_name refusal }
 {
     match refusal {
-        OptionRefusal::Shape(error) => shape_error_name(error),
+        OptionRefusal::Shape(ShapeError::K1) => "K1",
+        OptionRefusal::Shape(ShapeError::K2) => "K2",
+        OptionRefusal::Shape(ShapeError::K3) => "K3",
+        OptionRefusal::Shape(ShapeError::K4) => "K4",
+        OptionRefusal::Shape(ShapeError::K5) => "K5",
+        OptionRefusal::Shape(ShapeError::K6) => "K6",
+        OptionRefusal::Shape(ShapeError::K7) => "K7",
         OptionRefusal::Workers => "K8",
         OptionRefusal::Fault => "K9",
         OptionRefusal::Show => "K10",
     }
 }
 
-/// The line that is printed for refused options.
-fn option_line(alloc: Global, refusal: OptionRefusal) -> Result<String, AllocError>
-    ensures { IfOk result (λ text. string_bytes text ≡ option_line refusal) }
-{
-    let name = option_refusal_name(refusal);
-    format!(in alloc; "refused: {name}\n")
-}
-
 /// What is printed for refused options.
 pub fn option_refusal(alloc: Global, refusal: OptionRefusal) -> Result<PrintedRefusal, AllocError>
     ensures { IfOk result (λ printed. string_bytes printed.line ≡ option_line refusal) }
 {
-    let line = option_line(alloc, refusal)?;
+    let name = option_refusal_name(refusal);
+    let line = format!(in alloc; "refused: {name}\n")?;
     Ok(PrintedRefusal { line, quote: None })
 }

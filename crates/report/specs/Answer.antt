@@ -31,22 +31,16 @@ abbrev pub IsAnswerOf : List ℕ → Answer → Type 0
 IsAnswerOf bytes answer = ((x : Execution) × IsReadingResult bytes (Ok x) × (verdict : Verdict) × IsVerdict x verdict
     × (answer.outcome ≡ outcome_of verdict) × IsVerdictText x verdict answer.text.items) ⊎ IsRefusedAnswer bytes answer
 
--- the answer to the bytes that were read was written, whole
-pub record IsWholeAnswer (left_before left_after written_before written_after : Option (List ℕ))
-    (outcome : Outcome) : Type 0 where
-  pub bytes : List ℕ
-  pub read : Consumes left_before left_after bytes
+-- such an answer was written, whole, and came out so
+pub record IsPut (Is : Answer → Type 0) (before after : Option (List ℕ)) (outcome : Outcome) : Type 0 where
   pub answer : Answer
-  pub is : IsAnswerOf bytes answer
+  pub is : Is answer
   pub outcome_is : outcome ≡ answer.outcome
-  pub written : Appends written_before written_after answer.text.items
+  pub written : Appends before after answer.text.items
 
--- the first bytes of the answer to the bytes that were read were written
-pub record IsAnswerBegun (left_before left_after written_before written_after : Option (List ℕ))
-    : Type 0 where
-  pub bytes : List ℕ
-  pub read : Consumes left_before left_after bytes
+-- the first bytes of such an answer were written
+pub record IsBegun (Is : Answer → Type 0) (before after : Option (List ℕ)) : Type 0 where
   pub answer : Answer
-  pub is : IsAnswerOf bytes answer
+  pub is : Is answer
   pub count : ℕ
-  pub written : Appends written_before written_after (take count answer.text.items)
+  pub written : Appends before after (take count answer.text.items)

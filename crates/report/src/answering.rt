@@ -1,10 +1,10 @@
 //! The answer to the bytes of a recording.
 
-ghost use Rattle.std.specs.Prelude.{◌≡◌, ◌≢◌, ◌≤◌, true, Err, IfErr, IfOk, OnOk};
-ghost use Rattle.std.specs.Io.KnownBytes.{IsAtEnd};
+ghost use Rattle.std.specs.Prelude.{◌≡◌, ◌≢◌, ◌≤◌, ℕ, List, true, Err, IfErr, IfOk, OnOk};
+ghost use Rattle.std.specs.Io.KnownBytes.{Consumes, IsAtEnd};
 ghost use Rattle.devices.specs.Bytes.{CanGrow, CountsBy};
 ghost use Rattle.report.specs.declared.error.ReportError.{ReportError};
-ghost use Rattle.report.specs.Answer.{IsAnswerBegun, IsAnswerOf, IsReadOrRefused, IsWholeAnswer};
+ghost use Rattle.report.specs.Answer.{IsAnswerOf, IsBegun, IsPut, IsReadOrRefused};
 ghost use Rattle.report.specs.Errors.{report_failed_reads, report_failed_writes};
 
 use crate::error::ReportError;
@@ -83,16 +83,17 @@ pub fn answer<T: Threads + Wait + Sync, R: Source, W: Sink, G: Gate>(
     requires workers { (1 ≤ workers) × (workers ≤ MAX_WORKERS) }
     requires reads { CanGrow (R.read_failures source.old) }
     requires writes { CanGrow (W.write_failures sink.old) }
-    ensures whole { IfOk result (IsWholeAnswer (R.left source.old) (R.left source.new)
-        (W.written sink.old) (W.written sink.new)) }
+    ensures whole { IfOk result (λ outcome. (bytes : List ℕ) × Consumes (R.left source.old) (R.left source.new) bytes
+        × IsPut (IsAnswerOf bytes) (W.written sink.old) (W.written sink.new) outcome) }
     ensures met { OnOk result (R.is_ended source.new ≡ true) }
     ensures all { OnOk result (IsAtEnd (R.left source.new)) }
     ensures read_before { result ≡ Err ReportError.WriteFailed → (R.is_ended source.new ≡ true)
         × IsAtEnd (R.left source.new) }
     ensures read_count { CountsBy report_failed_reads (R.read_failures source.old) (R.read_failures source.new) result }
     ensures write_count { CountsBy report_failed_writes (W.write_failures sink.old) (W.write_failures sink.new) result }
-    ensures begun { result ≡ Err ReportError.WriteFailed → IsAnswerBegun (R.left source.old)
-        (R.left source.new) (W.written sink.old) (W.written sink.new) }
+    ensures begun { result ≡ Err ReportError.WriteFailed → (bytes : List ℕ)
+        × Consumes (R.left source.old) (R.left source.new) bytes
+        × IsBegun (IsAnswerOf bytes) (W.written sink.old) (W.written sink.new) }
     ensures unwritten { IfErr result (λ e. e ≢ ReportError.WriteFailed → sink.new ≡ sink.old) }
 {
     let bytes = read_all(alloc, source)?;

@@ -1,10 +1,18 @@
+use Rattle.std.proofs.Common.{ap}
 use Rattle.std.proofs.lemmas.Result.{IfOk-weaker}
-use Rattle.answers.proofs.Answered.{seeded_answer}
+use Rattle.machine.specs.Configuration.{Configuration}
 use Rattle.answers.proofs.runs.seeded_answer.Goals as goal
 
+-- a random run keeps the program and the fault
 pub returns : goal.returns
 returns c =
-    let a = c.args in
-    IfOk-weaker c.finished.result _ _
-    (λ answer is. seeded_answer a.program a.capacity a.fault a.seed a.attempts _ _ _ _ answer
-    c.in_ok-machine.ensures c.seed_from_u64-rng.ensures c.run_seeded.ensures is) c.finished.ensures
+    let run = rw (c.in_ok-machine.ensures, c.seed_from_u64-rng.ensures) at c.run_seeded.ensures in
+    IfOk-weaker c.finished.result _ _ (λ answer is. record {
+      end = c.run_seeded.new.machine;
+      rest = _;
+      run = run;
+      answered = rw (
+        ap (λ (m : Configuration). m.program) run.leads,
+        ap (λ (m : Configuration). m.fault) run.leads,
+      ) at is;
+    }) c.finished.ensures

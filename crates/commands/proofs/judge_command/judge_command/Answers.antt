@@ -1,54 +1,42 @@
-use Rattle.std.proofs.Common.{length, List, subst, sym, rules, arith, ℕ}
-use Rattle.std.proofs.lemmas.List.{take_all}
-use Rattle.std.specs.Io.KnownBytes.{Appends}
-use Rattle.commands.proofs.Given.{all_given, handed_on}
-use Rattle.commands.proofs.Held.{answer_holds}
+use Rattle.std.proofs.Common.{ℕ, List, Option, inl, inr, rules}
+use Rattle.std.specs.Prelude.{string_bytes}
+use Rattle.command_line.specs.declared.options.JudgeOptions.{JudgeOptions}
+use Rattle.verdicts.specs.declared.printed.Answer.{Answer}
+use Rattle.report.specs.Answer.{IsAnswerOf}
+use Rattle.verification.specs.Proof.{EveryVerdictHolds}
+use Rattle.inputs.specs.Inputs.{AreBytesOf}
+use Rattle.commands.specs.Judge.{AnswerHolds, IsJudged}
+use Rattle.commands.proofs.Given.{all_given, flushed}
 use Rattle.commands.proofs.judge_command.judge_command.Goals as goal
 
-pub returns-in_ok-flush-in-Ok-clause-whole : goal.returns-in_ok-flush-in-Ok-clause-whole
-returns-in_ok-flush-in-Ok-clause-whole g c =
-    let w = c.in-Ok.ensures.whole in record {
-      answer = w.answer;
-      is = (
-        w.bytes,
-        rw (sym c.as_str.ensures.value)
-            (all_given _ _ _ w.bytes c.in_ok-input.ensures.given w.read c.in-Ok.ensures.all),
-        w.is,
-        answer_holds c.every_verdict_holds.ensures w.bytes w.answer w.is,
-      );
-      outcome_is = w.outcome_is;
-      written = handed_on _ _ _ _ w.written c.flush.ensures.kept;
-    }
+-- what judge answers holds, since every text of a verdict does
+answer_holds : EveryVerdictHolds → (inputs : List ℕ → Option (List ℕ)) (o : JudgeOptions) (bytes : List ℕ)
+    (answer : Answer) → AreBytesOf inputs (string_bytes o.file) bytes → IsAnswerOf bytes answer
+    → IsJudged inputs o answer
+answer_holds law inputs o bytes answer given is = (bytes, given, (is, go is))
+  where
+    go : IsAnswerOf bytes answer → AnswerHolds bytes answer
+    go (inl (x, read, verdict, found, outcome, printed)) told =
+        (x, read, law x answer.text.items read.3 (record { verdict = verdict; printed = printed; found = found }))
+    go (inr refused) told = absurd (told refused.outcome)
 
-pub returns-in_err-flush-in-Ok-clause-begun : goal.returns-in_err-flush-in-Ok-clause-begun
-returns-in_err-flush-in-Ok-clause-begun g c failed =
+pub returns-in-Ok-clause-written : goal.returns-in-Ok-clause-written
+returns-in-Ok-clause-written g c =
     let w = c.in-Ok.ensures.whole in
-    let text : List ℕ = w.answer.text.items in record {
-      answer = w.answer;
-      is = (
-        w.bytes,
-        rw (sym c.as_str.ensures.value)
-            (all_given _ _ _ w.bytes c.in_ok-input.ensures.given w.read c.in-Ok.ensures.all),
-        w.is,
-        answer_holds c.every_verdict_holds.ensures w.bytes w.answer w.is,
-      );
-      count = length text;
-      written = subst (λ (l : List ℕ). Appends (g.W.Sink.written c.args.out.now) (g.W.Sink.written c.flush.new.out) l)
-          (sym (take_all (length text) text (omega arith)))
-          (handed_on _ _ _ _ w.written c.flush.ensures.kept);
-    }
+    let put = w.2 in
+    flushed _ put.answer _ _ _ c.in-Ok.outcome c.flush.result
+    (answer_holds c.every_verdict_holds.ensures (g.P.Place.bytes c.args.place.now) c.args.options.now w.0 put.answer
+    (all_given _ _ _ w.0 (rw c.as_str.ensures.value at c.in_ok-input.ensures.given) w.1 c.in-Ok.ensures.all) put.is)
+    put.outcome_is put.written c.flush.ensures.kept c.flush.ensures.outcome
 
-pub returns-in-Err-WriteFailed-clause-begun : goal.returns-in-Err-WriteFailed-clause-begun
-returns-in-Err-WriteFailed-clause-begun g c failed =
-    let b = c.answer-answered.ensures.begun (search rules) in record {
-      answer = b.answer;
-      is = (
-        b.bytes,
-        rw (sym c.as_str.ensures.value) (all_given _ _ _ b.bytes c.in_ok-input.ensures.given b.read
-            (c.answer-answered.ensures.read_before (search rules)).1),
-        b.is,
-        answer_holds c.every_verdict_holds.ensures b.bytes b.answer b.is,
-      );
-      count = b.count;
-      written = b.written;
+pub returns-in-Err-WriteFailed-clause-written : goal.returns-in-Err-WriteFailed-clause-written
+returns-in-Err-WriteFailed-clause-written g c failed =
+    let b = c.answer-answered.ensures.begun (search rules) in
+    let begun = b.2 in record {
+      answer = begun.answer;
+      is = answer_holds c.every_verdict_holds.ensures (g.P.Place.bytes c.args.place.now) c.args.options.now b.0
+          begun.answer (all_given _ _ _ b.0 (rw c.as_str.ensures.value at c.in_ok-input.ensures.given) b.1
+          (c.answer-answered.ensures.read_before (search rules)).1) begun.is;
+      count = begun.count;
+      written = begun.written;
     }

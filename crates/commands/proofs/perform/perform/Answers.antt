@@ -1,6 +1,6 @@
-use Rattle.std.proofs.Common.{inr, map, string_bytes}
-use Rattle.inputs.specs.Inputs.{seen}
-use Rattle.commands.proofs.Printed.{begun_more, fault_written, unwritten_more}
+use Rattle.std.proofs.Common.{map, string_bytes}
+use Rattle.commands.proofs.Given.{put_more, writes_begun}
+use Rattle.commands.proofs.Printed.{shown_without, unwritten_more, writes_printed}
 use Rattle.commands.proofs.perform.perform.Goals as goal
 
 pub returns-in-Ok-clause-printed : goal.returns-in-Ok-clause-printed
@@ -13,14 +13,17 @@ pub returns-in-Ok-clause-unwritten : goal.returns-in-Ok-clause-unwritten
 returns-in-Ok-clause-unwritten g c = unwritten_more c.performed.result _ _ _
     (λ at_once early. at_once c.in-Ok.options c.in-Ok.ensures.ok early) c.performed.ensures.unwritten
 
-pub returns-in-Err-clause-printed : goal.returns-in-Err-clause-printed
-returns-in-Err-clause-printed g c =
-    fault_written (g.P.Place.bytes c.args.place.now) (map string_bytes c.args.words.now) c.in-Err.fault
-    (seen (g.P.Place.asked c.args.place.now) (g.P.Place.asked c.explained_options.new.place)
-    (g.P.Place.tally c.args.place.now) (g.P.Place.tally c.explained_options.new.place))
-    (g.W.Sink.written c.args.out.now) (g.W.Sink.written c.explained_options.new.out) c.explained_options.result
-    c.in-Err.ensures.err c.explained_options.ensures.printed
+pub returns-in_ok-answer-in-Err-clause-printed : goal.returns-in_ok-answer-in-Err-clause-printed
+returns-in_ok-answer-in-Err-clause-printed g c =
+    writes_printed _ (map string_bytes c.args.words.now) _ _ _ _ c.put.result
+    (put_more _ c.in_ok-answer-in-Err.answer _ _ c.put.result (shown_without _ (map string_bytes c.args.words.now)
+    c.in-Err.fault _ _ c.without_options.result c.in_ok-answer-in-Err.answer c.in-Err.ensures.err
+    c.in_ok-answer-in-Err.ensures.log c.without_options.ensures.ok c.without_options.ensures.err
+    c.in_ok-answer-in-Err.ensures.ok) c.put.ensures.written)
 
-pub returns-in-Err-clause-begun : goal.returns-in-Err-clause-begun
-returns-in-Err-clause-begun g c failed at_once = begun_more _ _ _ _
-    (λ answer is. inr (c.in-Err.fault, c.in-Err.ensures.err, is)) (c.explained_options.ensures.begun failed)
+pub returns-in_ok-answer-in-Err-clause-begun : goal.returns-in_ok-answer-in-Err-clause-begun
+returns-in_ok-answer-in-Err-clause-begun g c failed at_once = writes_begun _ _ _ c.put.result
+    (put_more _ c.in_ok-answer-in-Err.answer _ _ c.put.result (shown_without _ (map string_bytes c.args.words.now)
+    c.in-Err.fault _ _ c.without_options.result c.in_ok-answer-in-Err.answer c.in-Err.ensures.err
+    c.in_ok-answer-in-Err.ensures.log c.without_options.ensures.ok c.without_options.ensures.err
+    c.in_ok-answer-in-Err.ensures.ok) c.put.ensures.written) failed

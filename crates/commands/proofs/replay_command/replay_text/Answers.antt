@@ -1,52 +1,36 @@
-use Rattle.std.proofs.Common.{◌≡◌, ℕ, List, Vec, Global, Result, Ok, Err, IfOk, arith}
-use Rattle.recording.specs.Execution.{Execution}
-use Rattle.program.specs.Spelling.{spelling}
-use Rattle.program.specs.Text.{reading}
-use Rattle.machine.specs.Script.{steps_of, script_text}
-use Rattle.replay.specs.Program.{named_program}
-use Rattle.replay.specs.Steps.{replay_steps, most_stores}
-use Rattle.commands.specs.Replay.{IsReplayText, ReplaysOrder, replay_text}
+use Rattle.std.proofs.Common.{arith}
+use Rattle.std.proofs.lemmas.Result.{IfOk-weaker}
+use Rattle.replay.specs.Steps.{most_stores}
 use Rattle.commands.proofs.replay_command.replay_text.Goals as goal
 
--- what is printed is the text of the replay
-text_of : {E : Type 0} (r : Result (Vec ℕ Global) E) (x : Execution) (m : List ℕ)
-    → IfOk r (λ text. text.items ≡ replay_text x m)
-    → IfOk r (λ _. reading (spelling (named_program x)) ≡ Ok (named_program x))
-    → IfOk r (λ _. steps_of (named_program x) (script_text (named_program x) (replay_steps x m))
-    ≡ Ok (replay_steps x m))
-    → ReplaysOrder x m → IfOk r (λ text. IsReplayText x m text.items)
-text_of (Ok text) x m is program script replay = record {
-  is = is;
-  read = record { program = program; script = script };
-  replay = replay;
-}
-text_of (Err e) x m is program script replay = tt
-
-pub printed-requires-clause-within : goal.printed-requires-clause-within
-printed-requires-clause-within c = rw c.deref.ensures.value
+pub steps_text-requires-clause-within : goal.steps_text-requires-clause-within
+steps_text-requires-clause-within c = rw c.deref.ensures.value
     (c.in_ok-program.ensures.replay (most_stores c.args.recording.now.cores) (omega arith)).within
 
-pub printed-requires-clause-few : goal.printed-requires-clause-few
-printed-requires-clause-few c =
+pub steps_text-requires-clause-few : goal.steps_text-requires-clause-few
+steps_text-requires-clause-few c =
     let few = (c.in_ok-program.ensures.replay (most_stores c.args.recording.now.cores) (omega arith)).few in
     rw c.deref.ensures.value (omega arith)
 
 pub returns : goal.returns
 returns c =
-    text_of c.printed.result c.args.recording.now c.args.order.now
-    (rw (
-      c.most_stores.ensures,
-      c.in_ok-program.ensures.program,
-      c.deref.ensures.value,
-      c.in_ok-program.ensures.steps,
-    ) at c.printed.ensures.text)
-    (rw c.in_ok-program.ensures.program at c.printed.ensures.program)
-    (rw (
-      c.in_ok-program.ensures.program,
-      c.deref.ensures.value,
-      c.in_ok-program.ensures.steps,
-    ) at c.printed.ensures.script)
-    (λ capacity room. rw (
-      c.in_ok-program.ensures.program,
-      c.in_ok-program.ensures.steps,
-    ) at (c.in_ok-program.ensures.replay capacity room))
+    let made = c.in_ok-program.ensures in IfOk-weaker c.parts_text.result _ _ (λ text is. record {
+      is = rw (
+        c.most_stores.ensures,
+        c.deref-2.ensures.value,
+        c.in_ok-text.ensures,
+        c.deref-3.ensures.value,
+        c.in_ok-script.ensures.text,
+        made.program,
+        c.deref.ensures.value,
+        made.steps,
+      ) at is;
+      program = rw made.program at (c.has_one_text.ensures.again _ c.sound-2.ensures.lawful);
+      script = rw (
+        c.in_ok-script.ensures.text,
+        made.program,
+        c.deref.ensures.value,
+        made.steps,
+      ) at c.in_ok-script.ensures.again;
+      replay = λ capacity room. rw (made.program, made.steps) at (made.replay capacity room);
+    }) c.parts_text.ensures

@@ -1,33 +1,26 @@
-use Rattle.std.proofs.Common.{◌≡◌, ◌∷◌, [], ℕ, List, ap, subst, sym}
+use Rattle.std.proofs.Common.{◌≡◌, ◌∷◌, [], ap}
 use Rattle.std.specs.Prelude.{option_map, string_bytes}
-use Rattle.inputs.specs.Inputs.{ReadsNamed, seen}
-use Rattle.commands.specs.Names.{maybe_name}
-use Rattle.commands.proofs.Asked.{seeded_run}
+use Rattle.commands.specs.Command.{maybe_name}
 use Rattle.commands.proofs.Asking.{reads_then, stopped_again}
 use Rattle.commands.proofs.run_command.run_command.Goals as goal
 
 pub returns-in_ok-seeded_answer-in-None-clause-ok : goal.returns-in_ok-seeded_answer-in-None-clause-ok
-returns-in_ok-seeded_answer-in-None-clause-ok g c =
-    seeded_run (g.P.Place.bytes c.args.place.now) c.args.options.now c.in_ok-program.program
-    c.in_ok-seeded_answer-in-None.field-0 (rw (sym c.as_str.ensures.value) c.in_ok-program.ensures.ok)
-    c.in_ok-seeded_answer-in-None.ensures c.in-None.is
+returns-in_ok-seeded_answer-in-None-clause-ok g c = (
+  c.in_ok-program.program,
+  rw c.as_str.ensures.value at c.in_ok-program.ensures.ok,
+  rw c.in-None.is c.in_ok-seeded_answer-in-None.ensures,
+)
 
 pub returns-in_err-program-clause-reads : goal.returns-in_err-program-clause-reads
 returns-in_err-program-clause-reads g c =
     stopped_again c.from_residual.result (string_bytes c.args.options.now.program ∷ [])
-    (maybe_name (option_map string_bytes c.args.options.now.steps)) c.in_err-program.field-0.0 _
-    (rw (sym c.as_str.ensures.value) c.in_err-program.ensures.reads) c.from_residual.ensures.1
+    (maybe_name (option_map string_bytes c.args.options.now.steps)) c.in_err-program.field-0.0 _ _
+    (rw c.as_str.ensures.value at c.in_err-program.ensures.reads) c.from_residual.ensures.1
 
 pub returns-in-Some-clause-reads : goal.returns-in-Some-clause-reads
 returns-in-Some-clause-reads g c =
     let named : maybe_name (option_map string_bytes c.args.options.now.steps) ≡ string_bytes c.in-Some.name ∷ [] =
     ap (λ s. maybe_name (option_map string_bytes s)) c.in-Some.is in
-    subst (λ (l : List (List ℕ)). ReadsNamed (string_bytes c.args.options.now.program ∷ l)
-    (seen (g.P.Place.asked c.args.place.now) (g.P.Place.asked c.script_run.new.place)
-    (g.P.Place.tally c.args.place.now) (g.P.Place.tally c.script_run.new.place)) c.script_run.result) (sym named)
-    (reads_then c.script_run.result (string_bytes c.args.options.now.program ∷ [])
-    (string_bytes c.in-Some.name ∷ []) (g.P.Place.asked c.args.place.now) (g.P.Place.asked c.program_at.new.place)
-    (g.P.Place.asked c.script_run.new.place) (g.P.Place.tally c.args.place.now)
-    (g.P.Place.tally c.program_at.new.place) (g.P.Place.tally c.script_run.new.place)
-    (rw (sym c.as_str.ensures.value) c.in_ok-program.ensures.reads)
-    (rw (sym c.as_str-in-Some.ensures.value) c.script_run.ensures.reads))
+    rw named (reads_then c.script_run.result (string_bytes c.args.options.now.program ∷ [])
+    (string_bytes c.in-Some.name ∷ []) _ _ _ (rw c.as_str.ensures.value at c.in_ok-program.ensures.reads)
+    (rw c.as_str-in-Some.ensures.value at c.script_run.ensures.reads))

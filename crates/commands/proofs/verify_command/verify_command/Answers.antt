@@ -1,19 +1,41 @@
-use Rattle.std.proofs.Common.{◌∷◌, [], sym}
+use Rattle.std.proofs.Common.{◌∷◌, []}
 use Rattle.std.specs.Prelude.{string_bytes}
-use Rattle.commands.proofs.Asking.{reads_then, stopped_again}
+use Rattle.inputs.specs.declared.command_error.CommandError.TheVariants.{Fault}
+use Rattle.commands.proofs.Asking.{memory_stopped, read_then, reads_then, stopped_again}
 use Rattle.commands.proofs.verify_command.verify_command.Goals as goal
 
 pub returns-in_err-recording-clause-reads : goal.returns-in_err-recording-clause-reads
 returns-in_err-recording-clause-reads g c =
     stopped_again c.from_residual.result (string_bytes c.args.options.now.recording ∷ [])
-    (string_bytes c.args.options.now.verdict ∷ []) c.in_err-recording.field-0.0 _
-    (rw (sym c.as_str.ensures.value) c.in_err-recording.ensures.reads) c.from_residual.ensures.1
+    (string_bytes c.args.options.now.verdict ∷ []) c.in_err-recording.field-0.0 _ _
+    (rw c.as_str.ensures.value at c.in_err-recording.ensures.reads) c.from_residual.ensures.1
+
+pub returns-in_err-text-clause-reads : goal.returns-in_err-text-clause-reads
+returns-in_err-text-clause-reads g c =
+    reads_then c.from_residual-in_err-text.result (string_bytes c.args.options.now.recording ∷ [])
+    (string_bytes c.args.options.now.verdict ∷ []) _ _ _
+    (rw c.as_str.ensures.value at c.in_ok-recording.ensures.reads)
+    (stopped_again c.from_residual-in_err-text.result (string_bytes c.args.options.now.verdict ∷ []) []
+    (Fault c.in_err-text.field-0.0) _ _ (rw c.as_str-2.ensures.value at c.in_err-text.ensures.reads)
+    c.from_residual-in_err-text.ensures.1)
 
 pub returns-clause-reads : goal.returns-clause-reads
 returns-clause-reads g c =
-    reads_then c.checked.result (string_bytes c.args.options.now.recording ∷ [])
-    (string_bytes c.args.options.now.verdict ∷ []) (g.P.Place.asked c.args.place.now)
-    (g.P.Place.asked c.recording_at.new.place) (g.P.Place.asked c.checked.new.place) (g.P.Place.tally c.args.place.now)
-    (g.P.Place.tally c.recording_at.new.place) (g.P.Place.tally c.checked.new.place)
-    (rw (sym c.as_str.ensures.value) c.in_ok-recording.ensures.reads)
-    (rw (sym c.as_str-2.ensures.value) c.checked.ensures.reads)
+    read_then (string_bytes c.args.options.now.recording ∷ []) (string_bytes c.args.options.now.verdict ∷ [])
+    (g.P.Place.log c.args.place.now) (g.P.Place.log c.recording_at.new.place) (g.P.Place.log c.text_at.new.place)
+    (rw c.as_str.ensures.value at c.in_ok-recording.ensures.reads)
+    (rw c.as_str-2.ensures.value at c.in_ok-text.ensures.reads)
+
+pub returns-in_err-finding-clause-reads : goal.returns-in_err-finding-clause-reads
+returns-in_err-finding-clause-reads g c = memory_stopped c.from_residual-in_err-finding.result _ _ _
+    (read_then (string_bytes c.args.options.now.recording ∷ []) (string_bytes c.args.options.now.verdict ∷ [])
+    (g.P.Place.log c.args.place.now) (g.P.Place.log c.recording_at.new.place) (g.P.Place.log c.text_at.new.place)
+    (rw c.as_str.ensures.value at c.in_ok-recording.ensures.reads)
+    (rw c.as_str-2.ensures.value at c.in_ok-text.ensures.reads)) c.from_residual-in_err-finding.ensures.1
+
+pub returns-in_err-finding_answer-clause-reads : goal.returns-in_err-finding_answer-clause-reads
+returns-in_err-finding_answer-clause-reads g c = memory_stopped c.from_residual-in_err-finding_answer.result _ _ _
+    (read_then (string_bytes c.args.options.now.recording ∷ []) (string_bytes c.args.options.now.verdict ∷ [])
+    (g.P.Place.log c.args.place.now) (g.P.Place.log c.recording_at.new.place) (g.P.Place.log c.text_at.new.place)
+    (rw c.as_str.ensures.value at c.in_ok-recording.ensures.reads)
+    (rw c.as_str-2.ensures.value at c.in_ok-text.ensures.reads)) c.from_residual-in_err-finding_answer.ensures.1

@@ -1,6 +1,11 @@
-use Rattle.inputs.proofs.CommandErrors.{unread_stop}
+use Rattle.std.proofs.Common.{sym}
 use Rattle.inputs.proofs.named.recording_at.Goals as goal
 
-pub returns-clause-err : goal.returns-clause-err
-returns-clause-err g c = unread_stop (g.P.Place.bytes c.args.place.now) c.args.name.now c.as_slice.result.now
-    c.recording_of.result (rw c.as_slice.ensures.value c.in_ok-bytes.ensures.given) c.recording_of.ensures.err
+pub returns-in-Some-clause-err : goal.returns-in-Some-clause-err
+returns-in-Some-clause-err g c = (
+  c.as_slice.result.now,
+  rw c.as_slice.ensures.value c.in_ok-bytes.ensures.given,
+  c.in-Err.refusal,
+  c.in-Err.ensures,
+  sym (rw c.in-Some.is at c.in_ok-line-in-Err.ensures),
+)

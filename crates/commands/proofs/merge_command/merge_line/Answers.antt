@@ -1,7 +1,0 @@
-use Rattle.std.proofs.Common.{◌∙◌, append_assoc}
-use Rattle.std.proofs.lemmas.Result.{IfOk-weaker}
-use Rattle.commands.proofs.merge_command.merge_line.Goals as goal
-
-pub returns : goal.returns
-returns c = IfOk-weaker c.format.result _ _
-    (λ s h. h ∙ rw c.merge_refusal_name-number.ensures (simp append_assoc)) c.format.ensures.ok

@@ -1,0 +1,69 @@
+-- What each command answers, why it stops, and which inputs it opens.
+use Rattle.std.specs.Prelude.{◌≡◌, ◌∷◌, [], ℕ, List, Option, None, Some, map, option_map, string_bytes}
+use Rattle.command_line.specs.declared.options.ExplainOptions.{ExplainOptions}
+use Rattle.command_line.specs.declared.options.Options.{Options}
+use Rattle.command_line.specs.declared.options.Options.TheVariants.{Run, Judge, Trials, Live, Replay, Explain, Draw}
+use Rattle.command_line.specs.declared.options.Options.TheVariants.{Reduce, Verify, Survey, Merge}
+use Rattle.verdicts.specs.declared.printed.Answer.{Answer}
+use Rattle.answers.specs.declared.rendering.Rendering.TheVariants.{Words, Picture, Reduction}
+use Rattle.inputs.specs.declared.command_error.CommandError.{CommandError}
+use Rattle.inputs.specs.declared.command_error.CommandError.TheVariants.{Refused, Fault}
+use Rattle.inputs.specs.declared.fault.CommandFault.TheVariants.{OutOfMemory}
+use Rattle.commands.specs.Judge.{IsJudged, IsJudgeFault, IsVerified, IsVerifyError}
+use Rattle.commands.specs.Merge.{IsMerged, IsMergeError}
+use Rattle.commands.specs.Render.{IsRendered, IsRenderingError}
+use Rattle.commands.specs.Replay.{IsReplayedInput, IsReplayError}
+use Rattle.commands.specs.Run.{IsLive, IsLiveError, IsRun, IsRunError, IsTrials}
+use Rattle.commands.specs.Survey.{IsSurveyOf, IsSurveyError}
+
+-- a name, where there is one
+abbrev pub maybe_name : Option (List ℕ) → List (List ℕ)
+maybe_name None = []
+maybe_name (Some name) = name ∷ []
+
+-- the recording, then the program where one is named
+abbrev pub render_names : ExplainOptions → List (List ℕ)
+render_names o = string_bytes o.file ∷ maybe_name (option_map string_bytes o.program)
+
+-- the names of the inputs of a command, in the order in which they are opened
+abbrev pub input_names : Options → List (List ℕ)
+input_names (Run o) = string_bytes o.program ∷ maybe_name (option_map string_bytes o.steps)
+input_names (Judge o) = string_bytes o.file ∷ []
+input_names (Trials o) = []
+input_names (Live o) = string_bytes o.program ∷ []
+input_names (Replay o) = string_bytes o.file ∷ []
+input_names (Explain o) = render_names o
+input_names (Draw o) = render_names o.recording
+input_names (Reduce o) = render_names o
+input_names (Verify o) = string_bytes o.recording ∷ string_bytes o.verdict ∷ []
+input_names (Survey o) = string_bytes o.file ∷ []
+input_names (Merge o) = map string_bytes o.files.items
+
+-- what a command answers to its options and inputs
+abbrev pub IsAnswerTo : (List ℕ → Option (List ℕ)) → Options → Answer → Type 0
+IsAnswerTo inputs (Run o) answer = IsRun inputs o answer
+IsAnswerTo inputs (Judge o) answer = IsJudged inputs o answer
+IsAnswerTo inputs (Trials o) answer = IsTrials o o.show answer
+IsAnswerTo inputs (Live o) answer = IsLive inputs o answer
+IsAnswerTo inputs (Replay o) answer = IsReplayedInput inputs o answer
+IsAnswerTo inputs (Explain o) answer = IsRendered inputs Words o answer
+IsAnswerTo inputs (Draw o) answer = IsRendered inputs (Picture o.all) o.recording answer
+IsAnswerTo inputs (Reduce o) answer = IsRendered inputs Reduction o answer
+IsAnswerTo inputs (Verify o) answer = IsVerified inputs o answer
+IsAnswerTo inputs (Survey o) answer = IsSurveyOf inputs o o.show answer
+IsAnswerTo inputs (Merge o) answer = IsMerged inputs o answer
+
+-- why a command with these options and inputs stops
+abbrev pub IsCommandError : (List ℕ → Option (List ℕ)) → Options → CommandError → Type 0
+IsCommandError inputs (Run o) error = IsRunError inputs o (option_map string_bytes o.steps) error
+IsCommandError inputs (Judge o) (Refused refusal) = ⊥
+IsCommandError inputs (Judge o) (Fault fault) = IsJudgeFault inputs o fault
+IsCommandError inputs (Trials o) error = error ≡ Fault OutOfMemory
+IsCommandError inputs (Live o) error = IsLiveError inputs o error
+IsCommandError inputs (Replay o) error = IsReplayError inputs o error
+IsCommandError inputs (Explain o) error = IsRenderingError inputs o error
+IsCommandError inputs (Draw o) error = IsRenderingError inputs o.recording error
+IsCommandError inputs (Reduce o) error = IsRenderingError inputs o error
+IsCommandError inputs (Verify o) error = IsVerifyError inputs o error
+IsCommandError inputs (Survey o) error = IsSurveyError inputs o o.show error
+IsCommandError inputs (Merge o) error = IsMergeError inputs o error
