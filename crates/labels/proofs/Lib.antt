@@ -1,2 +1,3 @@
 pub mod Below
 pub mod Rows
+pub mod CertificateLemmas

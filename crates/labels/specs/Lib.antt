@@ -1,2 +1,1 @@
 pub mod Certified
-pub mod CertificateLaws

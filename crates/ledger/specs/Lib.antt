@@ -5,5 +5,4 @@ pub mod Counts
 pub mod Joined
 pub mod LedgerLaws
 pub mod Real
-pub mod RealLaws
 pub mod Counted

@@ -11,10 +11,10 @@ use Rattle.moesi.specs.Rows as row
 use Rattle.moesi.specs.State.{CacheState, block_of, line_of, copy_of, opening_with, at_address, read, write}
 use Rattle.moesi.specs.State.{Has}
 use Rattle.moesi.specs.Laws.{IsTransaction, IsAnyTransaction}
-use Rattle.moesi.specs.LineLaws.{exclusive_valid}
-use Rattle.moesi.specs.BlockLaws.{all_invalid}
-use Rattle.moesi.specs.RowLaws.{taken_then}
-use Rattle.moesi.specs.CacheLaws.{opening_block}
+use Rattle.moesi.proofs.LineLemmas.{exclusive_valid}
+use Rattle.moesi.proofs.BlockLemmas.{all_invalid}
+use Rattle.moesi.proofs.RowLemmas.{taken_then}
+use Rattle.moesi.proofs.CacheLemmas.{opening_block}
 
 -- there are as many cores and addresses as before
 pub record IsAsLarge (s t : CacheState) : Type 0 where

@@ -21,7 +21,7 @@ use Rattle.write_buffer.specs.declared.entry.Entry.{Entry}
 use Rattle.write_buffer.specs.Buffer.{youngest, or_else}
 use Rattle.machine.specs.declared.step.Step.{Step}
 use Rattle.moesi.specs.State as moesi
-use Rattle.moesi.specs.OriginLaws.{every_copy_was_there, every_write_adds_itself}
+use Rattle.moesi.proofs.OriginLemmas.{every_copy_was_there, every_write_adds_itself}
 use Rattle.machine.specs.declared.fault.Fault.{Fault}
 use Rattle.machine.specs.Faults.{forwarded}
 use Rattle.machine.specs.State.{State, place_of, buffer_of, line_copy, first_event, event_of, recorded}

@@ -19,7 +19,7 @@ use Rattle.machine.specs.declared.step.Step.TheVariants.{Drain}
 use Rattle.machine.specs.Step.{step_result}
 use Rattle.machine.specs.Configuration.{BoundedItems, IsSound, IsEntry, state_from, places_of}
 use Rattle.machine.proofs.Removed.{length_without, all_without}
-use Rattle.machine.specs.PlaceLaws.{places_within}
+use Rattle.machine.proofs.PlaceLemmas.{places_within}
 use Rattle.machine.proofs.Parts.{rooms_pushed, lengths_pushed}
 use Rattle.machine.proofs.Parts.{list_seen, list_short, list_room, buffer_there, buffer_seen}
 use Rattle.machine.proofs.Parts.{capacity_is, waiting_within}

@@ -24,7 +24,7 @@ use Rattle.machine.specs.State.{first_event, event_of}
 use Rattle.machine.specs.Step.{exec, read_modify_written, read_unmodified, IsAt, forwarded_or_read}
 use Rattle.machine.specs.Configuration.{BoundedItems, IsSound, IsEntry, state_from, places_of}
 use Rattle.recording.specs.PlacedLaws.{placed_at, placed_total}
-use Rattle.machine.specs.PlaceLaws.{places_within}
+use Rattle.machine.proofs.PlaceLemmas.{places_within}
 use Rattle.machine.proofs.Transacted.{transacted_sound}
 use Rattle.machine.proofs.Parts.{lengths_more, rooms_pushed, lengths_pushed}
 use Rattle.machine.proofs.Parts.{list_seen, list_short, list_room, unit_there}

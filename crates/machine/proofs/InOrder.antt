@@ -9,8 +9,8 @@ use Rattle.write_buffer.specs.declared.entry.Entry.{Entry}
 use Rattle.write_buffer.specs.Buffer.{youngest}
 use Rattle.moesi.specs.State as moesi
 use Rattle.moesi.specs.Coherent.{IsCoherent}
-use Rattle.moesi.specs.CacheLaws.{every_call_keeps_coherence, every_transaction_keeps_current}
-use Rattle.moesi.specs.CacheLaws.{every_write_sets_current}
+use Rattle.moesi.proofs.CacheLemmas.{every_call_keeps_coherence, every_transaction_keeps_current}
+use Rattle.moesi.proofs.CacheLemmas.{every_write_sets_current}
 use Rattle.machine.specs.declared.fault.Fault.TheVariants as fault
 use Rattle.machine.specs.State.{State, buffer_of, line_copy, event_of}
 use Rattle.machine.specs.Step.{with_read, with_buffer, forwarded_or_read, looked_up, rmw_value}

@@ -31,3 +31,4 @@ pub mod OneRow
 pub mod TextEnds
 pub mod Inside
 pub mod Answered
+pub mod PlaceLemmas

@@ -13,9 +13,9 @@ use Rattle.write_buffer.specs.declared.entry.Entry.{Entry}
 use Rattle.machine.specs.State.{opening}
 use Rattle.program.specs.Parts.{IsWithin, addr_of}
 use Rattle.moesi.specs.Block.{block_with}
-use Rattle.moesi.specs.CacheLaws.{opening_with_is_coherent}
+use Rattle.moesi.proofs.CacheLemmas.{opening_with_is_coherent}
 use Rattle.recording.specs.PlacedLaws.{located, placed_total}
-use Rattle.machine.specs.PlaceLaws.{event_behind, event_op}
+use Rattle.machine.proofs.PlaceLemmas.{event_behind, event_op}
 use Rattle.machine.specs.ProgramLaws.{same_kind, has_address}
 use Rattle.std.proofs.lemmas.Option.{same_Some}
 use Rattle.machine.proofs.Static.{static_of, snapshot_of, placed_op}

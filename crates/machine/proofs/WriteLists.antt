@@ -18,7 +18,7 @@ use Rattle.write_buffer.specs.Buffer.{youngest}
 use Rattle.moesi.specs.State as moesi
 use Rattle.moesi.specs.declared.error.CacheError.{CacheError}
 use Rattle.moesi.specs.Coherent.{IsCoherent}
-use Rattle.moesi.specs.CacheLaws.{every_read_is_current}
+use Rattle.moesi.proofs.CacheLemmas.{every_read_is_current}
 use Rattle.machine.specs.declared.fault.Fault.TheVariants as fault
 use Rattle.machine.specs.State.{State, buffer_of, current_copy, event_of}
 use Rattle.machine.specs.Step.{performed, written, with_read, forwarded_or_read, looked_up}

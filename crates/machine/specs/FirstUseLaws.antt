@@ -13,7 +13,7 @@ use Rattle.recording.specs.declared.event.Event.{Event}
 use Rattle.recording.specs.Event.{read_address, written_address}
 use Rattle.recording.specs.Execution.{Execution, placed_from, event_at}
 use Rattle.recording.specs.FirstUse.{Uses, IsNumberedByFirstUse}
-use Rattle.program.specs.PartLaws.{use_old, use_new}
+use Rattle.program.proofs.PartLemmas.{use_old, use_new}
 use Rattle.std.proofs.lemmas.Option.{option_and_then_some, same_Some}
 use Rattle.std.proofs.lemmas.Bool.Decides.{nat_tests}
 use Rattle.machine.specs.Orderly.{placed_op}

@@ -5,7 +5,6 @@ pub mod Step
 pub mod RunLaws
 pub mod Taken
 pub mod Orderly
-pub mod PlaceLaws
 pub mod FirstUseLaws
 pub mod ProgramOf
 pub mod ProgramLaws

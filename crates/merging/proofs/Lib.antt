@@ -4,3 +4,4 @@ pub mod CycleTexts
 pub mod WholeTexts
 pub mod UnderWay
 pub mod Files
+pub mod TextOfLemmas

@@ -11,7 +11,7 @@ use Rattle.merging.specs.declared.error.TextError.TheVariants.{Refused, OutOfMem
 use Rattle.merging.specs.declared.kind.Kind.{Kind}
 use Rattle.merging.specs.Merges.{IsFileAdded, IsFileError, IsTextAdded, IsLedgerTextError, IsNoText, Refuses}
 use Rattle.merging.specs.TextOf.{HasTextOf}
-use Rattle.merging.specs.TextOfLaws.{ledger_tells}
+use Rattle.merging.proofs.TextOfLemmas.{ledger_tells}
 use Rattle.merging.specs.Texts.{AreLedgerTexts, BeginsWithLedger, text_of}
 use Rattle.merging.proofs.WholeTexts.{text_some}
 

@@ -11,7 +11,7 @@ use Rattle.ledger.specs.Counts.{AddsUp, IsLedger}
 use Rattle.ledger.specs.Kinds.{is_ordered, is_unjudged, is_overlook, is_cycle_of}
 use Rattle.ledger.specs.LedgerLaws.{adds_up}
 use Rattle.ledger.specs.Real.{AreApart, HasCodes, IsFirstOf, violation_count}
-use Rattle.ledger.specs.RealLaws.{firsts_fit, fitting_has_codes}
+use Rattle.ledger.proofs.RealLemmas.{firsts_fit, fitting_has_codes}
 use Rattle.ledger.specs.Counted.{count_line, cycle_lines, first_line, ledger_text, place_name}
 use Rattle.merging.specs.declared.kind.Kind.{Kind}
 use Rattle.merging.specs.declared.kind.Kind.TheVariants.{Campaign, Survey}

@@ -3,4 +3,3 @@ pub mod Texts
 pub mod TextOf
 pub mod Merges
 pub mod Parts
-pub mod TextOfLaws

@@ -11,10 +11,10 @@ use Rattle.moesi.specs.Block.{Block, cell_of, invalid, with_line, block_by, has_
 use Rattle.moesi.specs.Rows as row
 use Rattle.moesi.specs.State.{CacheState, block_of, at_address, opening_with}
 use Rattle.moesi.specs.Laws.{HasEmptyLines, EveryCallKeepsEmptyLines}
-use Rattle.moesi.specs.BlockLaws.{set_cases, all_invalid, turned_cell}
-use Rattle.moesi.specs.RowLaws.{taken_else, taken_then}
-use Rattle.moesi.specs.CacheLaws.{opening_block}
-use Rattle.moesi.specs.OriginLaws.{turned_cases, block_after}
+use Rattle.moesi.proofs.BlockLemmas.{set_cases, all_invalid, turned_cell}
+use Rattle.moesi.proofs.RowLemmas.{taken_else, taken_then}
+use Rattle.moesi.proofs.CacheLemmas.{opening_block}
+use Rattle.moesi.proofs.OriginLemmas.{turned_cases, block_after}
 
 -- a cell in I has value 0 and no event
 abbrev EmptyCell : Cell → Type 0

@@ -8,7 +8,7 @@ use Rattle.std.proofs.lemmas.List.FromFn.{fill_by_all, get_or-map-range_with_len
 use Rattle.std.proofs.lemmas.List.Edits.{map_over_more}
 use Rattle.moesi.specs.declared.cell.Cell.{Cell}
 use Rattle.moesi.specs.Block.{Block, invalid, with_line}
-use Rattle.moesi.specs.BlockLaws.{set_cases}
+use Rattle.moesi.proofs.BlockLemmas.{set_cases}
 use Rattle.moesi.specs.State.{CacheState, block_of, with_block}
 use Rattle.moesi.specs.Words.{cell_in, AreWords, block_in, caches_in}
 use Rattle.moesi.proofs.Grid.{same_core, same_address, inside, lines_length, line_at, block_at}

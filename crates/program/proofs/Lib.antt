@@ -12,3 +12,4 @@ pub mod Cuts
 pub mod CoresAgain
 pub mod Again
 pub mod Soundness
+pub mod PartLemmas

@@ -12,7 +12,7 @@ use Rattle.program.specs.Parts.{use_addr}
 use Rattle.program.specs.Steps.{names_with, name_number}
 use Rattle.program.specs.Spelling.{name_at}
 use Rattle.program.specs.NameLaws.{name_laws, same_name}
-use Rattle.program.specs.PartLaws.{use_old, use_new}
+use Rattle.program.proofs.PartLemmas.{use_old, use_new}
 use Rattle.program.specs.NameListLaws.{all_push, one_more}
 
 -- a name that is among the names has the number of its place

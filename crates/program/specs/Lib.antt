@@ -5,7 +5,6 @@ pub mod Numbers
 pub mod NumberLaws
 pub mod Lines
 pub mod Parts
-pub mod PartLaws
 pub mod Steps
 pub mod Drafts
 pub mod Reading

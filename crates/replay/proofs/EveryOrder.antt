@@ -34,7 +34,7 @@ use Rattle.machine.specs.Script.{IsStepOf}
 use Rattle.machine.specs.Orderly.{EveryRunIsTso, EveryRunIsWellFormed, placed_op, is_st, IsOrderly, EveryStateIsOrderly}
 use Rattle.std.proofs.lemmas.List.Elements.{All-nil, All-cons}
 use Rattle.recording.specs.PlacedLaws.{placed_total, placed_at}
-use Rattle.machine.specs.PlaceLaws.{places_within}
+use Rattle.machine.proofs.PlaceLemmas.{places_within}
 use Rattle.machine.specs.RunLaws.{guarded}
 use Rattle.replay.proofs.NamedProgram.{named_is_program}
 use Rattle.replay.proofs.Made.{placed_is, count_same, made_again, recorded_made}

@@ -14,7 +14,7 @@ use Rattle.recording.specs.Execution.{Execution, placed_from, event_count, event
 use Rattle.machine.specs.State.{State, event_of, cores_from, recorded}
 use Rattle.replay.specs.Program.{op_of, program_of}
 use Rattle.machine.specs.Orderly.{placed_op, is_st}
-use Rattle.machine.specs.PlaceLaws.{event_behind, event_before}
+use Rattle.machine.proofs.PlaceLemmas.{event_behind, event_before}
 use Rattle.machine.specs.RecordedLaws.{events_length, event_is, core_is, count_is}
 use Rattle.machine.specs.ProgramLaws.{same_kind, value_same}
 

@@ -32,7 +32,7 @@ use Rattle.replay.specs.Program.{op_of, program_of}
 use Rattle.replay.specs.Steps.{execute_to, get_to_write, get_to_read}
 use Rattle.machine.specs.Orderly.{placed_op, is_st, is_ld, AreStores, seen_by, IsOrderly}
 use Rattle.recording.specs.PlacedLaws.{placed_at}
-use Rattle.machine.specs.PlaceLaws.{event_behind, event_before}
+use Rattle.machine.proofs.PlaceLemmas.{event_behind, event_before}
 use Rattle.replay.proofs.Made.{store_same, placed_is, count_same, core_there}
 use Rattle.replay.proofs.OrderlyRuns.{StaysOrderly, goes_further, waiting, stores_wait, waits_once}
 use Rattle.machine.specs.RunLaws.{at_taken}

@@ -6,7 +6,7 @@ use Rattle.std.specs.Io.KnownBytes.{Consumes, IsAtEnd}
 use Rattle.devices.specs.Bytes.{Gathers}
 use Rattle.ledger.specs.declared.ledger.Ledger.{Ledger}
 use Rattle.ledger.specs.Counts.{IsLedger}
-use Rattle.surveys.specs.LineLaws.{whole_nil}
+use Rattle.surveys.proofs.LineLemmas.{whole_nil}
 use Rattle.surveys.specs.Surveys.{IsSurvey, IsSurveyOfRead}
 use Rattle.surveys.specs.Tallies.{IsTallied, IsUnderWay, Ends}
 use Rattle.surveys.proofs.Found.{none_counted}

@@ -13,7 +13,7 @@ use Rattle.ledger.specs.Joined.{CanJoin, IsJoined}
 use Rattle.ledger.specs.LedgerLaws.{joined}
 use Rattle.surveys.specs.Claims.{AreFoundBelow}
 use Rattle.surveys.specs.Found.{AreFindings, codes_of}
-use Rattle.surveys.specs.LineLaws.{few_lines}
+use Rattle.surveys.proofs.LineLemmas.{few_lines}
 use Rattle.surveys.specs.Lines.{IsCut, lines}
 use Rattle.surveys.specs.Surveys.{IsSurveyOfLines, IsSurvey, IsSurveyUpTo, told_text}
 use Rattle.surveys.specs.Each.{each_text}

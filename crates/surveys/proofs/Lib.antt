@@ -6,3 +6,5 @@ pub mod Blocks
 pub mod Shown
 pub mod LineCodes
 pub mod Pieces
+pub mod FoundLemmas
+pub mod LineLemmas

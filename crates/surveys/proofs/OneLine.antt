@@ -7,7 +7,7 @@ use Rattle.std.proofs.lemmas.List.{take_rest, length-drop}
 use Rattle.std.proofs.lemmas.List.Elements.{All-from_get_or}
 use Rattle.memchr.specs.Find.{IsFirstByte, is_byte}
 use Rattle.surveys.specs.Lines.{is_end, is_some_line, lines, IsSplit}
-use Rattle.surveys.specs.LineLaws.{lines_end, lines_one}
+use Rattle.surveys.proofs.LineLemmas.{lines_end, lines_one}
 
 -- the line before the first end of a line, and those after it
 pub first_line : (rest : List ℕ) (end : ℕ) → IsFirstByte (is_byte 10) rest (Some end)

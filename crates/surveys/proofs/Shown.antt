@@ -7,7 +7,7 @@ use Rattle.std.proofs.lemmas.List.{get_or_append_left, get_or-append-add, length
 use Rattle.std.specs.Io.KnownBytes.{Consumes}
 use Rattle.devices.specs.Bytes.{Gathers}
 use Rattle.surveys.specs.Lines.{IsCut, IsSplit, IsWhole, is_some_line, lines}
-use Rattle.surveys.specs.LineLaws.{whole_append, whole_nil}
+use Rattle.surveys.proofs.LineLemmas.{whole_append, whole_nil}
 use Rattle.surveys.specs.declared.showing.Sought.{Sought}
 use Rattle.surveys.specs.declared.showing.Sought.TheVariants.{Found, Later}
 use Rattle.surveys.specs.Shown.{IsReadBeforeLine, IsLineAt, IsLineOfRead, IsReadOn, IsSought, IsSoughtFirst}

@@ -6,7 +6,7 @@ use Rattle.std.proofs.lemmas.List.{take_more, take_rest, length-drop, get_or-dro
 use Rattle.memchr.specs.Find.{IsLastByte, is_byte}
 use Rattle.ledger.specs.declared.ledger.Ledger.{Ledger}
 use Rattle.surveys.specs.Lines.{IsWhole, lines}
-use Rattle.surveys.specs.LineLaws.{whole_append, whole_end}
+use Rattle.surveys.proofs.LineLemmas.{whole_append, whole_end}
 use Rattle.surveys.specs.Surveys.{ExtendsSurvey, IsSurvey, IsSurveyUpTo}
 use Rattle.surveys.specs.Tallies.{IsTally, IsTallied, Grows}
 use Rattle.surveys.proofs.Found.{all_counted}

@@ -1,5 +1,4 @@
 pub mod Lines
-pub mod LineLaws
 pub mod Found
 pub mod Claims
 pub mod Each
@@ -7,5 +6,4 @@ pub mod Surveys
 pub mod Tallies
 pub mod Shown
 pub mod OneSurvey
-pub mod FoundLaws
 pub mod Coded

@@ -8,7 +8,7 @@ use Rattle.relations.specs.Forced.{Forced}
 use Rattle.relations.specs.Cycle.{IsCertificate, IsCycle, Leads}
 use Rattle.relations.specs.CycleLaws.{short_cycle}
 use Rattle.labels.specs.Certified.{lists_of}
-use Rattle.labels.specs.CertificateLaws.{certificates_are_shortest}
+use Rattle.labels.proofs.CertificateLemmas.{certificates_are_shortest}
 use Rattle.labels.specs.declared.certificate.Certificate.{Certificate}
 use Rattle.verdicts.specs.declared.verdict.Verdict.{Verdict}
 use Rattle.verdicts.specs.declared.verdict.Verdict.TheVariants.{Ordered, Overlook, Cycle}

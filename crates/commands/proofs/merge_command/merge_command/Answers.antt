@@ -8,7 +8,7 @@ use Rattle.merging.specs.declared.kind.Kind.TheVariants.{Campaign, Survey}
 use Rattle.merging.specs.declared.merged.Merged.{Merged}
 use Rattle.merging.specs.Merges.{IsMerge}
 use Rattle.merging.specs.TextOf.{HasTextOf}
-use Rattle.merging.specs.TextOfLaws.{ledger_tells, one_text}
+use Rattle.merging.proofs.TextOfLemmas.{ledger_tells, one_text}
 use Rattle.verdicts.specs.declared.printed.Answer.{Answer}
 use Rattle.commands.specs.Merge.{IsMergeAnswer, IsMergedAnswer, merge_line}
 use Rattle.commands.proofs.Asking.{name_at}

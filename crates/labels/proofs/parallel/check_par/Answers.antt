@@ -2,7 +2,7 @@ use Rattle.std.proofs.Common.{◌≡◌, ℕ, List, length, Vec, Global, arith, 
 use Rattle.relations.specs.Relation.{Related}
 use Rattle.relations.specs.Cycle.{IsCycle}
 use Rattle.labels.specs.Certified.{AreLabellings}
-use Rattle.labels.specs.CertificateLaws.{labelled_is_shortest}
+use Rattle.labels.proofs.CertificateLemmas.{labelled_is_shortest}
 use Rattle.labels.proofs.parallel.check_par.Goals as goal
 
 pub returns-then-is_cycle-clause-shortest : goal.returns-then-is_cycle-clause-shortest

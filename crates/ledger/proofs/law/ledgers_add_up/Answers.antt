@@ -1,5 +1,5 @@
 use Rattle.ledger.specs.LedgerLaws.{adds_up, joined, one_ledger}
-use Rattle.ledger.specs.RealLaws.{firsts_fit, fitting_has_codes}
+use Rattle.ledger.proofs.RealLemmas.{firsts_fit, fitting_has_codes}
 use Rattle.ledger.proofs.law.ledgers_add_up.Goals as goal
 
 pub returns-clause-one : goal.returns-clause-one

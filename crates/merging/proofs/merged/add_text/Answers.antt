@@ -1,7 +1,7 @@
 use Rattle.std.proofs.Common.{arith, ◌<◌, ◌+◌, ◌^◌}
 use Rattle.std.proofs.lemmas.Bool.{false≢true}
 use Rattle.ledger.specs.LedgerLaws.{joined}
-use Rattle.merging.specs.TextOfLaws.{sum_tells}
+use Rattle.merging.proofs.TextOfLemmas.{sum_tells}
 use Rattle.merging.proofs.UnderWay.{unread_fault}
 use Rattle.merging.proofs.merged.add_text.Goals as goal
 

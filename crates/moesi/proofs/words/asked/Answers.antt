@@ -5,7 +5,7 @@ use Rattle.std.proofs.lemmas.List.{drop_all}
 use Rattle.moesi.specs.declared.cell.Cell.{Cell}
 use Rattle.moesi.specs.Lines.{is_valid, supplies}
 use Rattle.moesi.specs.Words.{cell_in, block_in}
-use Rattle.moesi.specs.LineLaws.{supplier_valid}
+use Rattle.moesi.proofs.LineLemmas.{supplier_valid}
 use Rattle.moesi.proofs.Grid.{next_place, lines_from, lines_length}
 use Rattle.moesi.proofs.words.asked.Goals as goal
 

@@ -1,4 +1,4 @@
-use Rattle.surveys.specs.FoundLaws.{one_finding_of_line, one_ledger_of_bytes, one_text_of_survey}
+use Rattle.surveys.proofs.FoundLemmas.{one_finding_of_line, one_ledger_of_bytes, one_text_of_survey}
 use Rattle.surveys.proofs.law.a_survey_is_one.Goals as goal
 
 pub returns-clause-findings : goal.returns-clause-findings

@@ -1,6 +1,6 @@
 use Rattle.std.proofs.Common.{inl, inr}
 use Rattle.moesi.specs.Coherent.{IsCoherent}
-use Rattle.moesi.specs.CacheLaws.{every_call_keeps_coherence}
+use Rattle.moesi.proofs.CacheLemmas.{every_call_keeps_coherence}
 use Rattle.moesi.proofs.Answered.{answer_keeps}
 use Rattle.moesi.proofs.caches.Caches.get_m.Goals as goal
 

@@ -1,5 +1,5 @@
 use Rattle.std.proofs.Common.{replicate}
-use Rattle.moesi.specs.OriginLaws.{every_copy_was_there, every_write_adds_itself}
+use Rattle.moesi.proofs.OriginLemmas.{every_copy_was_there, every_write_adds_itself}
 use Rattle.moesi.proofs.Empty.{empty_opening_with, every_call_keeps_empty_lines}
 use Rattle.moesi.proofs.caches.Caches.get_m_stale.Goals as goal
 

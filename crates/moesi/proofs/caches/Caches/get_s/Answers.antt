@@ -10,7 +10,7 @@ use Rattle.moesi.specs.Words.{cell_in}
 use Rattle.moesi.specs.Rows.{turned}
 use Rattle.moesi.specs.State.{block_of, line_of}
 use Rattle.moesi.specs.Coherent.{IsCoherent}
-use Rattle.moesi.specs.CacheLaws.{every_call_keeps_coherence}
+use Rattle.moesi.proofs.CacheLemmas.{every_call_keeps_coherence}
 use Rattle.moesi.proofs.Answered.{taken, answer_keeps}
 use Rattle.moesi.proofs.Seen.{set_after}
 use Rattle.moesi.proofs.caches.Caches.get_s.Goals as goal

@@ -1,7 +1,7 @@
 use Rattle.std.proofs.Common.{◌≡◌, ◌+◌, ◌*◌, ℕ, replicate, length, sym, ap, subst, ◌∙◌}
 use Rattle.std.proofs.lemmas.List.{length-replicate}
 use Rattle.moesi.specs.State.{opening_caches}
-use Rattle.moesi.specs.CacheLaws.{zeros}
+use Rattle.moesi.proofs.CacheLemmas.{zeros}
 use Rattle.moesi.specs.Words.{cell_in, memory_cell, caches_in}
 use Rattle.moesi.proofs.Filled.{filled_words}
 use Rattle.moesi.proofs.caches.Caches.new.Goals as goal

@@ -5,7 +5,7 @@ use Rattle.moesi.specs.Lines.{is_valid, is_owned}
 use Rattle.moesi.specs.Block.{Block, cell_of, invalid}
 use Rattle.moesi.specs.State.{CacheState, block_of, with_block}
 use Rattle.moesi.specs.Coherent.{IsCoherent}
-use Rattle.moesi.specs.CacheLaws.{every_call_keeps_coherence}
+use Rattle.moesi.proofs.CacheLemmas.{every_call_keeps_coherence}
 use Rattle.moesi.proofs.Answered.{taken, answer_keeps}
 use Rattle.moesi.proofs.Seen.{set_after}
 use Rattle.moesi.proofs.Written.{state_same}

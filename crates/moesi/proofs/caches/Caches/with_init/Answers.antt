@@ -1,4 +1,4 @@
-use Rattle.moesi.specs.CacheLaws as laws
+use Rattle.moesi.proofs.CacheLemmas as laws
 use Rattle.moesi.proofs.caches.Caches.with_init.Goals as goal
 
 pub returns-clause-opening : goal.returns-clause-opening

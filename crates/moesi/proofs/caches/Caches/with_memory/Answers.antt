@@ -1,7 +1,7 @@
 use Rattle.std.proofs.Common.{ℕ, List, length, slice_index, arith, ap, ◌∙◌, ◌+◌, ◌*◌}
 use Rattle.std.proofs.lemmas.List.{with_items_is}
 use Rattle.moesi.specs.Words.{caches_in}
-use Rattle.moesi.specs.CacheLaws.{zeros}
+use Rattle.moesi.proofs.CacheLemmas.{zeros}
 use Rattle.moesi.proofs.Filled.{filled_words}
 use Rattle.moesi.proofs.caches.Caches.with_memory.Goals as goal
 

@@ -1,6 +1,6 @@
 use Rattle.std.proofs.Common.{◌≡◌, inr, Ok, rules}
 use Rattle.moesi.specs.State.{write}
-use Rattle.moesi.specs.CacheLaws.{every_call_keeps_coherence}
+use Rattle.moesi.proofs.CacheLemmas.{every_call_keeps_coherence}
 use Rattle.moesi.proofs.caches.Caches.write.Goals as goal
 
 pub returns-clause-coherent : goal.returns-clause-coherent

@@ -1,4 +1,4 @@
--- Laws of lines: what is read block by block has the lines of the whole.
+-- Lemmas on lines: what is read block by block has the lines of the whole.
 use Rattle.std.proofs.Common.{◌≡◌, ◌<◌, ◌≤◌, ℕ, suc, true, false, List, [], ◌∷◌, ◌++◌, filter}
 use Rattle.std.proofs.Common.{arith, refl, sym, ap, ◌∙◌, inl, inr, length, append_assoc, append-nil}
 use Rattle.std.proofs.Common.{All, lt-ltb}

@@ -1,4 +1,4 @@
--- Laws of certificates: the cycle of one is a shortest one.
+-- Lemmas on certificates: the cycle of one is a shortest one.
 use Rattle.std.proofs.Common.{◌<◌, ◌≤◌, ◌+◌, ℕ, List, [], ◌∷◌, length, get_or, arith}
 use Rattle.relations.specs.Relation.{Table, Related}
 use Rattle.relations.specs.Cycle.{Leads, IsCycle, IsShortest, IsLabelling, IsCertificate}

@@ -1,4 +1,4 @@
--- Laws of the addresses that were used.
+-- Lemmas on the addresses that were used.
 use Rattle.std.proofs.Common.{◌≡◌, ℕ, ◌+◌, ◌<◌, Some, arith}
 use Rattle.program.specs.Parts.{use_addr}
 

@@ -1,4 +1,4 @@
--- Laws of what texts tell.
+-- Lemmas on what texts tell.
 use Rattle.std.proofs.Common.{◌≡◌, ◌++◌, ◌≤◌, ℕ, List, position, arith, refl, sym, ◌∙◌}
 use Rattle.std.proofs.lemmas.List.{ext_get_or}
 use Rattle.common.specs.declared.limits.TheConstants.{MAX_EVENTS}

@@ -1,4 +1,4 @@
--- Laws of the rows of the table: when they are taken, and that the lines of the address agree afterwards.
+-- Lemmas on the rows of the table: when they are taken, and that the lines of the address agree afterwards.
 use Rattle.std.proofs.Common.{◌≡◌, ◌≢◌, ◌<◌, ◌⊎◌, inl, inr, ℕ, Bool, true, false, cond, Option, length}
 use Rattle.std.proofs.Common.{arith, refl, sym, ◌∙◌, length-set, subst, Ok, Err}
 use Rattle.std.proofs.lemmas.Bool.{cond_both, cases_eq}
@@ -11,9 +11,9 @@ use Rattle.moesi.specs.Lines.{is_valid, is_owned, lowered, compatible}
 use Rattle.moesi.specs.Block.{Block, cell_of, invalid, with_line, block_by, has_copy}
 use Rattle.moesi.specs.Rows as row
 use Rattle.moesi.specs.Coherent.{IsCoherentBlock}
-use Rattle.moesi.specs.BlockLaws.{set_cases, supplied_is, no_copy, turned_cell}
-use Rattle.moesi.specs.LineLaws.{invalid_line, not_valid, alone, compatible_both}
-use Rattle.moesi.specs.LineLaws.{lowered_owned, lowered_valid, beside_lowered, both_lowered}
+use Rattle.moesi.proofs.BlockLemmas.{set_cases, supplied_is, no_copy, turned_cell}
+use Rattle.moesi.proofs.LineLemmas.{invalid_line, not_valid, alone, compatible_both}
+use Rattle.moesi.proofs.LineLemmas.{lowered_owned, lowered_valid, beside_lowered, both_lowered}
 
 -- a row that was taken, where its guard refuses
 pub taken_else : {A : Type 0} (q : Bool) (e : CacheError) (r t : A) → cond q (Err e) (Ok r) ≡ Ok t

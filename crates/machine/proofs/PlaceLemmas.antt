@@ -1,4 +1,4 @@
--- Laws of where the events of a program stand on their cores.
+-- Lemmas on where the events of a program stand on their cores.
 use Rattle.std.proofs.Common.{◌≡◌, ◌<◌, ◌≤◌, ◌+◌, ℕ, suc, List, [], ◌∷◌, length, get_or, arith}
 use Rattle.std.proofs.Common.{sym, ap, subst, ◌∙◌}
 use Rattle.std.specs.List.{sum, sum_by}

@@ -1,4 +1,4 @@
--- Laws of what the states of a line allow.
+-- Lemmas on what the states of a line allow.
 use Rattle.std.proofs.Common.{◌≡◌, true, false, refl, ap}
 use Rattle.moesi.specs.declared.line.Line.{Line}
 use Rattle.moesi.specs.declared.line.Line.TheVariants.{I, S, E, O, M}

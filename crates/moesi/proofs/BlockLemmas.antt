@@ -1,4 +1,4 @@
--- Laws of the lines of one address, and of what they agree on.
+-- Lemmas on the lines of one address, and of what they agree on.
 use Rattle.std.proofs.Common.{◌≡◌, ◌≤◌, ◌⊎◌, inl, inr, ℕ, suc, zero, Bool, true, false, Option, List, []}
 use Rattle.std.proofs.Common.{◌∷◌, slice_index_or, slice_set, length, replicate, arith, refl, sym, ap, ◌∙◌}
 use Rattle.std.specs.List.{list_any}
@@ -13,7 +13,7 @@ use Rattle.moesi.specs.Lines.{is_valid, supplies}
 use Rattle.moesi.specs.Block.{Block, cell_of, invalid, block_by, copy_where, supplied, current_of}
 use Rattle.moesi.specs.Rows.{turned}
 use Rattle.moesi.specs.Coherent.{IsCoherentBlock}
-use Rattle.moesi.specs.LineLaws.{not_supplier, not_valid, supplier_valid}
+use Rattle.moesi.proofs.LineLemmas.{not_supplier, not_valid, supplier_valid}
 
 -- an element after a write is the old one, or it is at that place and the new one
 pub set_cases : {A : Type 0} (xs : List A) (c : ℕ) (y : A) (e : ℕ) (d : A)

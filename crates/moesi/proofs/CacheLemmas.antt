@@ -1,4 +1,4 @@
--- Laws of the caches: coherence and current data of all addresses, call by call.
+-- Lemmas on the caches: coherence and current data of all addresses, call by call.
 use Rattle.std.proofs.Common.{◌≡◌, ◌≢◌, ◌<◌, ◌⊎◌, inl, inr, ℕ, Option, Some, None, Result, Ok, Err, cond}
 use Rattle.std.proofs.Common.{[], length, replicate, suc, zero, arith, refl, sym, ap}
 use Rattle.std.proofs.Common.{◌∙◌, length-set, List, ◌∷◌, slice_index, ◌==◌}
@@ -11,8 +11,8 @@ use Rattle.moesi.specs.Coherent.{IsCoherent, IsCoherentBlock}
 use Rattle.moesi.specs.Laws.{IsTransaction, OpeningIsCoherent, OpeningWithIsCoherent, EveryCallKeepsCoherence}
 use Rattle.moesi.specs.Laws.{EveryReadIsCurrent, EveryTransactionKeepsCurrent}
 use Rattle.moesi.specs.Laws.{EveryWriteSetsCurrent}
-use Rattle.moesi.specs.BlockLaws.{set_cases, current_is, all_invalid}
-use Rattle.moesi.specs.RowLaws.{taken_then, IsRenewed, renewed_get_s, renewed_get_m, renewed_put, renewed_write}
+use Rattle.moesi.proofs.BlockLemmas.{set_cases, current_is, all_invalid}
+use Rattle.moesi.proofs.RowLemmas.{taken_then, IsRenewed, renewed_get_s, renewed_get_m, renewed_put, renewed_write}
 
 -- all addresses agree, and at a it is w that is current
 record IsRenewedAt (s t : CacheState) (a : ℕ) (w : ℕ × Option ℕ) : Type 0 where

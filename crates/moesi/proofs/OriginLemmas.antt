@@ -1,4 +1,4 @@
--- Laws of where the copies come from.
+-- Lemmas on where the copies come from.
 use Rattle.std.proofs.Common.{◌≡◌, ◌⊎◌, inl, inr, ℕ, true, cond, Option, Some, None, Result, Ok, Err, []}
 use Rattle.std.proofs.Common.{refl, sym, ap, subst}
 use Rattle.std.proofs.lemmas.Bool.{cond_both}
@@ -11,9 +11,9 @@ use Rattle.moesi.specs.Block.{Block, cell_of, invalid, with_line, block_by, supp
 use Rattle.moesi.specs.Rows as row
 use Rattle.moesi.specs.State.{CacheState, block_of, at_address, with_block, Has}
 use Rattle.moesi.specs.Laws.{EveryCopyWasThere, EveryWriteAddsItself}
-use Rattle.moesi.specs.LineLaws.{supplier_valid, lowered_valid}
-use Rattle.moesi.specs.BlockLaws.{set_cases, copy_where-holds, turned_cell}
-use Rattle.moesi.specs.RowLaws.{taken_else, taken_then}
+use Rattle.moesi.proofs.LineLemmas.{supplier_valid, lowered_valid}
+use Rattle.moesi.proofs.BlockLemmas.{set_cases, copy_where-holds, turned_cell}
+use Rattle.moesi.proofs.RowLemmas.{taken_else, taken_then}
 
 -- what another core's transaction makes of a line: I, or as valid as it was with the same data
 pub turned_cases : (turn : Turn) (x : Cell) → (row.turned turn x ≡ invalid)

@@ -1,4 +1,4 @@
--- Laws of what is found: one thing in each line, so bytes have one survey.
+-- Lemmas on what is found: one thing in each line, so bytes have one survey.
 use Rattle.std.proofs.Common.{◌≡◌, ◌≢◌, ◌++◌, ℕ, List, [], ◌∷◌, Option, None, Some, Result, Ok, Err, arith, refl, sym, ap}
 use Rattle.std.proofs.Common.{◌∙◌, subst, inl, inr}
 use Rattle.std.proofs.lemmas.Bool.{cases_lt}
