@@ -1,7 +1,8 @@
 //! Renderings of a recording: its verdict in words or as a picture, or what is left of it.
 
 ghost use Rattle.std.specs.Prelude.{◌≡◌, IfOk, IfSome, option_map};
-ghost use Rattle.verdicts.specs.Judgement.{IsVerdict, Verifies};
+ghost use Rattle.verdicts.specs.Judgement.{IsVerdict};
+ghost use Rattle.verdicts.specs.Verified.{Verifies};
 ghost use Rattle.answers.specs.Rendered.{IsPicture, IsRenderedAnswer, IsWholeDrawing, names_of};
 ghost use Rattle.machine.specs.ProgramOf.{IsProgramOf};
 

@@ -3,7 +3,7 @@
 ghost use Rattle.std.specs.Prelude.{◌<◌, IfOk, length};
 ghost use Rattle.relations.specs.Cycle.{IsCycle};
 ghost use Rattle.relations.specs.Forced.{Forced};
-ghost use Rattle.verdicts.specs.Judgement.{Verifies};
+ghost use Rattle.verdicts.specs.Verified.{Verifies};
 ghost use Rattle.verdicts.specs.declared.verdict.Verdict.TheVariants.{Overlook};
 ghost use Rattle.drawing.specs.Bold.{IsCycleEdge, AreCycleEdges, AreBold};
 

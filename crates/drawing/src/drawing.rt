@@ -2,7 +2,7 @@
 
 ghost use Rattle.std.specs.Prelude.{◌≡◌, ◌++◌, OnOk, IfOk, codes, true};
 ghost use Rattle.std.specs.List.{flat_map};
-ghost use Rattle.verdicts.specs.Judgement.{Verifies};
+ghost use Rattle.verdicts.specs.Verified.{Verifies};
 ghost use Rattle.drawing.specs.Bold.{is_ranked};
 ghost use Rattle.drawing.specs.Drawing.{graph_heading, edge_line, nodes_text, drawing_text, IsDrawing};
 

@@ -1,7 +1,7 @@
 //! A verdict in words.
 
 ghost use Rattle.std.specs.Prelude.{IfOk};
-ghost use Rattle.verdicts.specs.Judgement.{Verifies};
+ghost use Rattle.verdicts.specs.Verified.{Verifies};
 ghost use Rattle.explanation.specs.Explanation.{IsExplanation};
 
 use crate::named::Named;

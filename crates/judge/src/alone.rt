@@ -4,7 +4,8 @@ ghost use Rattle.std.specs.Prelude.{ℕ, List, IfErr, IfOk};
 ghost use Rattle.std.specs.Arc.{arc_value};
 ghost use Rattle.relations.specs.Cycle.{IsCycle};
 ghost use Rattle.relations.specs.Relation.{Related};
-ghost use Rattle.verdicts.specs.Judgement.{IsVerdict, Verifies};
+ghost use Rattle.verdicts.specs.Judgement.{IsVerdict};
+ghost use Rattle.verdicts.specs.Verified.{Verifies};
 ghost use Rattle.judge.specs.LeastCertificate.{IsCyclicTable, IsLeastCertificate};
 
 use common::OutOfMemory;

@@ -1,7 +1,7 @@
 //! The check of verdicts.
 
 ghost use Rattle.std.specs.Prelude.{◌↔◌, IfOk, IsTrue};
-ghost use Rattle.verdicts.specs.Judgement.{Verifies, Means};
+ghost use Rattle.verdicts.specs.Verified.{Verifies, Means};
 
 use common::OutOfMemory;
 use recording::Recording;

@@ -1,5 +1,5 @@
 -- What every run keeps.
-use Rattle.std.specs.Prelude.{◌≡◌, ◌<◌, ◌≤◌, ◌+◌, ◌&&◌, ℕ, Bool, true, false, Option, Some, None}
+use Rattle.std.specs.Prelude.{◌≡◌, ◌<◌, ◌≤◌, ◌+◌, ◌&&◌, ℕ, Bool, true, false, Option, Some, None, ⊤}
 use Rattle.std.specs.Prelude.{List, [], ◌∷◌, ◌++◌, map, take}
 use Rattle.std.specs.Prelude.{length, slice_index_or, sum, sum_by, count_by, All}
 use Rattle.program.specs.declared.op.Op.{Op}
@@ -46,7 +46,7 @@ IsExecuted p s e = (e < length (placed_from 0 p))
 
 -- each waiting entry is the store of its event
 abbrev pub AreStores : List (List Op) → ℕ → List Entry → Type 0
-AreStores p c [] = Unit {0}
+AreStores p c [] = ⊤
 AreStores p c (x ∷ xs) = (placed_op p x.event ≡ (c, St x.addr x.value)) × AreStores p c xs
 
 -- the events as core c sees them: what was performed, then what waits in its buffer

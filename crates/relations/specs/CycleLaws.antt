@@ -1,6 +1,7 @@
 -- Laws of cycles, and of the dictionary order.
 use Rattle.std.proofs.Common.{◌≡◌, ◌<◌, ◌≤◌, ◌+◌, ◌⊎◌, inl, inr, ℕ, zero, suc, List, [], ◌∷◌, ◌++◌, length}
 use Rattle.std.proofs.Common.{arith, refl, sym, subst}
+use Rattle.std.specs.Prelude.{⊤}
 use Rattle.std.proofs.lemmas.Bool.{cases_eq, cases_lt}
 use Rattle.std.proofs.lemmas.Bool.Decides.{nat_tests}
 use Rattle.recording.specs.OrderLaws.{times_there, cases_times}
@@ -16,7 +17,7 @@ walk_more R zero e f g w r = (g, subst (λ (x : ℕ). R x g) (sym w) r, refl)
 walk_more R (suc n) e f g w r = (w.0, w.1, walk_more R n w.0 f g w.2 r)
 
 -- a number comes first where it is no greater than the first of a list
-least_first : (x y : ℕ) → x ≤ y → (x < y) ⊎ ((x ≡ y) × Unit {0})
+least_first : (x y : ℕ) → x ≤ y → (x < y) ⊎ ((x ≡ y) × ⊤)
 least_first x y h = grind arith
 
 -- p comes first as far as it goes; where m goes on after p, it goes on with x or more. So p with x
@@ -35,7 +36,7 @@ first_more (z ∷ p) x (y ∷ ys) (inr (same, rest)) long least = inr (
 
 -- neighbours are related
 Chain : (ℕ → ℕ → Type 0) → ℕ → List ℕ → Type 0
-Chain R e [] = Unit {0}
+Chain R e [] = ⊤
 Chain R e (f ∷ fs) = R e f × Chain R f fs
 
 -- a chain that comes to d, as far as d

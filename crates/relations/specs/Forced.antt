@@ -1,5 +1,5 @@
 -- Pairs that every memory order has in order, and reads that overlook a store of their own core.
-use Rattle.std.specs.Prelude.{◌≡◌, ◌≢◌, ◌⊎◌, ◌<◌, ◌≤◌, ◌↔◌, ℕ, Option, Some, None, List, length}
+use Rattle.std.specs.Prelude.{◌≡◌, ◌≢◌, ◌⊎◌, ◌<◌, ◌≤◌, ◌↔◌, ℕ, Option, Some, None, List, length, ⊤}
 use Rattle.relations.specs.declared.reason.Reason.{Reason}
 use Rattle.relations.specs.declared.reason.Reason.TheVariants.{Po, Wo, Rf, Fr}
 use Rattle.recording.specs.Execution.{Execution, write_list, Reads, Writes, source_of, ProgramOrder, Kept}
@@ -7,7 +7,7 @@ use Rattle.recording.specs.Order.{place, Before}
 
 -- a source comes before the write w in the write list: none is the initial value, before all writes
 abbrev pub IsOlder : List ℕ → Option ℕ → ℕ → Type 0
-IsOlder ws None w = Unit {0}
+IsOlder ws None w = ⊤
 IsOlder ws (Some s) w = Before ws s w
 
 -- from place n on the writes of the list are newer than the source

@@ -3,6 +3,7 @@ use Rattle.std.proofs.Common.{◌≡◌, ◌<◌, ◌≤◌, ◌+◌, ℕ, nat_l
 use Rattle.std.proofs.Common.{None, Result, Ok, Err, List, [], ◌∷◌, ◌++◌, length, get_or, slice_get}
 use Rattle.std.proofs.Common.{slice_index_or, replicate, arith, refl, sym, ap, subst, ◌∙◌}
 use Rattle.std.proofs.Common.{get_or-set_same, length-set}
+use Rattle.std.specs.Prelude.{⊤}
 use Rattle.std.specs.List.{sum, count_by}
 use Rattle.std.proofs.lemmas.Bool.{lt-ltb, ltb-true}
 use Rattle.std.proofs.lemmas.List.{length-map}
@@ -36,7 +37,7 @@ IsTaken p capacity s step = (t : State) × (step_result p capacity fault.None s 
 
 -- each step of the list is taken: none is blocked
 abbrev pub AreTaken : List (List Op) → ℕ → State → List Step → Type 0
-AreTaken p capacity s [] = Unit {0}
+AreTaken p capacity s [] = ⊤
 AreTaken p capacity s (step ∷ steps) =
     IsTaken p capacity s step × AreTaken p capacity (after s (step_result p capacity fault.None s step)) steps
 

@@ -1,6 +1,7 @@
 -- The greedy choice of the least shortest cycle.
 use Rattle.std.proofs.Common.{◌≡◌, ◌<◌, ◌≤◌, ◌+◌, ◌-◌, inl, inr, ℕ, suc, List, [], ◌∷◌, ◌++◌, Some, None}
 use Rattle.std.proofs.Common.{length, get_or, arith, refl, sym, ap, subst, ◌∙◌, length-append}
+use Rattle.std.specs.Prelude.{⊤}
 use Rattle.std.proofs.lemmas.Bool.{cases_eq, cases_lt}
 use Rattle.relations.specs.Cycle.{Leads, IsCycle, IsShortest, ComesFirst, IsLeastCycle, Walk}
 use Rattle.relations.specs.Cycle.{IsCappedDistance, AreExactRows}
@@ -15,7 +16,7 @@ last_of e (f ∷ fs) = last_of f fs
 
 -- neighbours are related
 abbrev pub IsPath : (ℕ → ℕ → Type 0) → ℕ → List ℕ → Type 0
-IsPath R e [] = Unit {0}
+IsPath R e [] = ⊤
 IsPath R e (f ∷ fs) = R e f × IsPath R f fs
 
 -- a path and its last pair lead on

@@ -1,5 +1,5 @@
 -- Rows of labels, and the jobs that they are made for.
-use Rattle.std.specs.Prelude.{◌≡◌, ◌<◌, ℕ, Option, Some, None, List, length, map, slice_index_or, All}
+use Rattle.std.specs.Prelude.{◌≡◌, ◌<◌, ℕ, Option, Some, None, List, length, map, slice_index_or, All, ⊤}
 use Rattle.std.specs.Option.{unwrap_or}
 use Rattle.relations.specs.Relation.{Table, Related}
 use Rattle.relations.specs.Cycle.{IsCycle, IsExactRow, AreExactRows}
@@ -18,7 +18,7 @@ source_row t source cap numbers = record { relation = t; source = source; cap = 
 
 -- the length of a cycle, or none
 abbrev pub IsCycleLength : (ℕ → ℕ → Type 0) → Option ℕ → Type 0
-IsCycleLength R None = Unit {0}
+IsCycleLength R None = ⊤
 IsCycleLength R (Some k) = (c : List ℕ) × IsCycle R c × (length c ≡ k)
 
 -- the numbers are the source's distances, cut at the length of a cycle or at the number of events

@@ -11,7 +11,8 @@ use Rattle.machine.specs.Configuration.{Configuration, IsAtEnd, recording_of, st
 use Rattle.machine.specs.ProgramOf.{IsProgramOf}
 use Rattle.verdicts.specs.declared.verdict.Verdict.{Verdict}
 use Rattle.verdicts.specs.declared.verdict.Verdict.TheVariants.{Ordered, Overlook, Cycle}
-use Rattle.verdicts.specs.Judgement.{IsVerdict, Verifies}
+use Rattle.verdicts.specs.Judgement.{IsVerdict}
+use Rattle.verdicts.specs.Verified.{Verifies}
 use Rattle.trials.specs.declared.judging.Judged.{Judged}
 
 -- the machine in which a program begins

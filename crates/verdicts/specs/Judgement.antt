@@ -1,9 +1,9 @@
--- What is judged of an execution, and what the check of a verdict asks.
+-- The verdict on an execution.
 use Rattle.std.specs.Prelude.{ℕ, List, length}
 use Rattle.recording.specs.Execution.{Execution, event_count}
 use Rattle.recording.specs.Tso.{IsTsoOrder}
-use Rattle.relations.specs.Forced.{Forced, Overlooks, IsLeastOverlook}
-use Rattle.relations.specs.Cycle.{ComesFirst, IsShortest, IsLeastCycle, AreExactRows, IsCertificate}
+use Rattle.relations.specs.Forced.{Forced, IsLeastOverlook}
+use Rattle.relations.specs.Cycle.{ComesFirst, IsLeastCycle, AreExactRows}
 use Rattle.relations.specs.Respects.{IsLeastOrder}
 use Rattle.relations.specs.Consistency.{HasNoOverlook, HasNoCycle, HasNoOrder}
 use Rattle.labels.specs.Certified.{lists_of}
@@ -36,15 +36,3 @@ abbrev pub IsVerdict : Execution → Verdict → Type 0
 IsVerdict x (Ordered m) = IsOrderedVerdict x m.items
 IsVerdict x (Overlook l s) = IsOverlookVerdict x l s
 IsVerdict x (Cycle c) = IsCycleVerdict x c.cycle.items (lists_of c.rows.items)
-
--- a memory order, an overlook, or a cycle with labels that show that none is shorter
-abbrev pub Verifies : Execution → Verdict → Type 0
-Verifies x (Ordered m) = IsTsoOrder x m.items
-Verifies x (Overlook l s) = Overlooks x l s
-Verifies x (Cycle c) = IsCertificate (Forced x) (event_count x) c.cycle.items (lists_of c.rows.items)
-
--- the order is a memory order; for the others there is none, and the cycle is a shortest one
-abbrev pub Means : Execution → Verdict → Type 0
-Means x (Ordered m) = IsTsoOrder x m.items
-Means x (Overlook l s) = HasNoOrder x
-Means x (Cycle c) = IsShortest (Forced x) c.cycle.items × HasNoOrder x

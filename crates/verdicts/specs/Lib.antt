@@ -1,4 +1,5 @@
 pub mod Judgement
+pub mod Verified
 pub mod VerdictText
 pub mod Refusal
 pub mod Outcomes

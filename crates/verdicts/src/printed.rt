@@ -1,7 +1,8 @@
 //! What is printed, and how it came out.
 
 ghost use Rattle.std.specs.Prelude.{◌≡◌, IfOk};
-ghost use Rattle.verdicts.specs.Judgement.{IsVerdict, Verifies};
+ghost use Rattle.verdicts.specs.Judgement.{IsVerdict};
+ghost use Rattle.verdicts.specs.Verified.{Verifies};
 ghost use Rattle.verdicts.specs.VerdictAnswer.{IsVerdictAnswer, outcome_of};
 
 use crate::outcome::Outcome;

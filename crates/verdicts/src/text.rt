@@ -1,7 +1,7 @@
 //! The text of a verdict.
 
 ghost use Rattle.std.specs.Prelude.{◌≡◌, ◌++◌, ℕ, List, IfOk, OnOk};
-ghost use Rattle.verdicts.specs.Judgement.{Verifies};
+ghost use Rattle.verdicts.specs.Verified.{Verifies};
 ghost use Rattle.verdicts.specs.VerdictText.{order_line, overlook_line, IsVerdictText};
 
 use crate::cycle::put_cycle;

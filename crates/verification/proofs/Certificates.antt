@@ -12,7 +12,7 @@ use Rattle.labels.proofs.CertificateLemmas.{certificates_are_shortest}
 use Rattle.labels.specs.declared.certificate.Certificate.{Certificate}
 use Rattle.verdicts.specs.declared.verdict.Verdict.{Verdict}
 use Rattle.verdicts.specs.declared.verdict.Verdict.TheVariants.{Ordered, Overlook, Cycle}
-use Rattle.verdicts.specs.Judgement.{Verifies}
+use Rattle.verdicts.specs.Verified.{Verifies}
 use Rattle.verdicts.specs.VerdictText.{ArePairLines, IsVerdictText, labels_text}
 use Rattle.verification.specs.Proof.{AreRows, Are16Bit, HasShortLabels, IsProof}
 use Rattle.verification.proofs.Heads.{one_byte}

@@ -10,7 +10,7 @@ use Rattle.relations.specs.Forced.{Overlooks}
 use Rattle.labels.specs.Certified.{lists_of}
 use Rattle.verdicts.specs.declared.verdict.Verdict.{Verdict}
 use Rattle.verdicts.specs.declared.verdict.Verdict.TheVariants.{Ordered, Overlook, Cycle}
-use Rattle.verdicts.specs.Judgement.{Verifies}
+use Rattle.verdicts.specs.Verified.{Verifies}
 use Rattle.texts.specs.Numbers.{numbers_text}
 use Rattle.verdicts.specs.VerdictText.{IsVerdictText, labels_text, overlook_line}
 use Rattle.verification.specs.Proof.{IsProof, IsRow}

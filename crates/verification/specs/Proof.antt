@@ -8,7 +8,8 @@ use Rattle.labels.specs.Certified.{lists_of, Certifies}
 use Rattle.labels.specs.declared.certificate.Certificate.{Certificate}
 use Rattle.verdicts.specs.declared.verdict.Verdict.{Verdict}
 use Rattle.verdicts.specs.declared.verdict.Verdict.TheVariants.{Ordered, Overlook, Cycle}
-use Rattle.verdicts.specs.Judgement.{IsVerdict, Verifies}
+use Rattle.verdicts.specs.Judgement.{IsVerdict}
+use Rattle.verdicts.specs.Verified.{Verifies}
 use Rattle.verdicts.specs.VerdictText.{IsVerdictText}
 use Rattle.verification.specs.declared.finding.Finding.{Finding}
 use Rattle.verification.specs.declared.finding.Finding.TheVariants.{Holds}

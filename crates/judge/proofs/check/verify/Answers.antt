@@ -4,7 +4,7 @@ use Rattle.relations.specs.Relation.{Related}
 use Rattle.relations.specs.Cycle.{IsCertificate}
 use Rattle.labels.specs.Certified.{lists_of}
 use Rattle.verdicts.specs.declared.verdict.Verdict.{Verdict}
-use Rattle.verdicts.specs.Judgement.{Verifies}
+use Rattle.verdicts.specs.Verified.{Verifies}
 use Rattle.judge.proofs.check.verify.Goals as goal
 
 pub returns-in_ok-relation-in-Cycle-clause-exact : goal.returns-in_ok-relation-in-Cycle-clause-exact
