@@ -57,9 +57,9 @@ def recording_of(words):
         if word.startswith("Rf"):
             second |= {"r": first["w"], "s": number[id(first)]}
         if word.startswith("Co"):
-            before, behind, list_ = number[id(first)], number[id(second)], writes[first["a"]]
+            before, after, list_ = number[id(first)], number[id(second)], writes[first["a"]]
             list_.remove(before)
-            list_.insert(list_.index(behind), before)
+            list_.insert(list_.index(after), before)
     return {"cores": cores, "version": 1, "writes": writes}
 
 
@@ -97,11 +97,11 @@ class Reader:
 
     def word(self, first, second, reason):
         """The word of diy for a step between two loads or stores; without a reason a fence is between them."""
-        before, behind = self.events[first], self.events[second]
+        before, after = self.events[first], self.events[second]
         if reason in ("Po", None):
-            letters = "".join("W" if it["k"] == "S" else "R" for it in (before, behind))
-            return ("Po" if reason else "MFence") + ("s" if before["a"] == behind["a"] else "d") + letters
-        return {"Wo": "Co"}.get(reason, reason) + ("i" if before["core"] == behind["core"] else "e")
+            letters = "".join("W" if it["k"] == "S" else "R" for it in (before, after))
+            return ("Po" if reason else "MFence") + ("s" if before["a"] == after["a"] else "d") + letters
+        return {"Wo": "Co"}.get(reason, reason) + ("i" if before["core"] == after["core"] else "e")
 
     def diy(self, pairs):
         """The line that says a cycle of these pairs in the words of diy, if there is one."""

@@ -73,16 +73,16 @@ def restricted(recording, kept):
 def reason_of(recording, first, second):
     """Why every memory order has an event before another: the first reason, or none."""
     events, writes = events_of(recording), recording["writes"]
-    before, behind = events[first], events[second]
-    own = before["core"] == behind["core"]
-    if own and first < second and not (before["k"] == "S" and behind["k"] == "L"):
+    before, after = events[first], events[second]
+    own = before["core"] == after["core"]
+    if own and first < second and not (before["k"] == "S" and after["k"] == "L"):
         return "Po"
     for it in writes:
         if first in it and second in it and it.index(first) < it.index(second):
             return "Wo"
-    if behind.get("s") == first and not (own and first < second):
+    if after.get("s") == first and not (own and first < second):
         return "Rf"
-    if before["k"] in "LRC" and behind["k"] in "SR" and before["a"] == behind["a"] and first != second and not (own and second < first):
+    if before["k"] in "LRC" and after["k"] in "SR" and before["a"] == after["a"] and first != second and not (own and second < first):
         list_ = writes[before["a"]]
         if before["s"] is None or list_.index(before["s"]) < list_.index(second):
             return "Fr"

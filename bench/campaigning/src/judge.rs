@@ -61,8 +61,8 @@ impl Judge {
         self.after[x][y / 64] |= 1 << (y % 64);
     }
 
-    /// The first place in its list behind the source of a reading event.
-    fn behind(&self, source: u16) -> usize {
+    /// The first place in its list after the source of a reading event.
+    fn later(&self, source: u16) -> usize {
         if source == NONE {
             0
         } else {
@@ -75,9 +75,9 @@ impl Judge {
             if !reads(program.ops[load]) {
                 continue;
             }
-            let behind = self.behind(machine.reads[load].1);
+            let later = self.later(machine.reads[load].1);
             for store in program.first[self.core[load]]..load {
-                if writes(program.ops[store]) && address(program.ops[store]) == address(program.ops[load]) && self.place[store] >= behind {
+                if writes(program.ops[store]) && address(program.ops[store]) == address(program.ops[load]) && self.place[store] >= later {
                     return Some((load, store));
                 }
             }
@@ -112,7 +112,7 @@ impl Judge {
             if source != NONE && !(self.core[source as usize] == self.core[x] && (source as usize) < x) {
                 self.set(source as usize, x);
             }
-            for y in &machine.writes[address(op).unwrap()][self.behind(source)..] {
+            for y in &machine.writes[address(op).unwrap()][self.later(source)..] {
                 let y = *y as usize;
                 if y != x && !(self.core[y] == self.core[x] && y < x) {
                     self.set(x, y);
@@ -121,7 +121,7 @@ impl Judge {
         }
     }
 
-    /// Whether events can be taken one after another, each behind those that are forced before it.
+    /// Whether events can be taken one after another, each after those that are forced before it.
     fn is_ordered(&mut self) -> bool {
         self.before.clear();
         self.before.resize(self.n, 0);

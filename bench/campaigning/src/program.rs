@@ -39,7 +39,7 @@ impl Words {
     }
 }
 
-/// The operations of all cores, one core behind the other.
+/// The operations of all cores, one core after the other.
 pub struct Program {
     pub ops: Vec<Op>,
     /// The first event of each core, and the number of events.

@@ -1,5 +1,5 @@
 //! Times the judge in process, from the text of a recording to the text of its verdict, beside a plain
-//! Rust judge that does the same behind two readers, one of any JSON and one of this layout alone, and
+//! Rust judge that does the same after two readers, one of any JSON and one of this layout alone, and
 //! compares the texts.
 //!
 //! judging [--spaced] [EVENTS [KIND [SEED]]]
@@ -11,7 +11,7 @@
 //! `bench/judge_in_process` builds it against the library, `out/libtsotest.a`, and runs it.
 //! With EVENTS it prints a recording of so many events instead: of the kind `ordered`, `cyclic`,
 //! `overlook` or `ring`, or else a cyclic one, from the seed SEED, or else 0. With `--spaced` the texts
-//! have their keys in another order and a blank behind each comma and colon; the reader of one layout is
+//! have their keys in another order and a blank after each comma and colon; the reader of one layout is
 //! then left out.
 //!
 //! With `--lines` it prints so many recordings of so many events, one a line, of which three of four are

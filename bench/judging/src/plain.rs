@@ -60,7 +60,7 @@ fn cycle_text(forced: &Forced, Cycle { events, rows }: &Cycle) -> Vec<u8> {
     out
 }
 
-/// A space before each number, and a newline behind the last.
+/// A space before each number, and a newline after the last.
 fn push_numbers(out: &mut Vec<u8>, numbers: impl Iterator<Item = usize>) {
     numbers.for_each(|number| push_number(out, number));
     out.push(b'\n');

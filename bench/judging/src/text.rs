@@ -7,7 +7,7 @@ use crate::recording::{Event, Op, Recording};
 pub enum Form {
     /// Without blanks, keys in ascending order.
     Own,
-    /// With a blank behind each comma and colon, keys in descending order.
+    /// With a blank after each comma and colon, keys in descending order.
     Spaced,
 }
 

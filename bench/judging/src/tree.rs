@@ -190,7 +190,7 @@ impl Reader<'_> {
         str::from_utf8(&rest[..len]).ok()
     }
 
-    /// The character of the escape behind a backslash.
+    /// The character of the escape after a backslash.
     fn escaped(&mut self) -> Option<char> {
         Some(match self.next()? {
             b'"' => '"',

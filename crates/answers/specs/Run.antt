@@ -9,7 +9,7 @@ use Rattle.recording.specs.Tso.{IsTsoOrder}
 use Rattle.machine.specs.declared.fault.Fault.{Fault}
 use Rattle.machine.specs.declared.fault.Fault.TheVariants as faults
 use Rattle.machine.specs.declared.step.Step.{Step}
-use Rattle.machine.specs.Configuration.{Configuration, state_behind}
+use Rattle.machine.specs.Configuration.{Configuration, state_after}
 use Rattle.machine.specs.State.{State, IsComplete, recorded}
 use Rattle.verdicts.specs.Judgement.{IsOrderedVerdict}
 use Rattle.verdicts.specs.VerdictText.{order_line}
@@ -43,8 +43,8 @@ pub record IsRunAnswer (fault : Fault) (p : Parts) (s : State) (answer : Answer)
   pub faultless : fault ≡ faults.None → IsFaultlessAnswer p s answer
 
 -- the state of a program after a script, of which the steps that are blocked are skipped
-abbrev pub state_after : Parts → ℕ → Fault → List Step → State
-state_after p capacity fault script = state_behind (begun_machine p capacity fault) script
+abbrev pub script_state : Parts → ℕ → Fault → List Step → State
+script_state p capacity fault script = state_after (begun_machine p capacity fault) script
 
 -- the answer of a random run of a program, whose steps the words of a seeded generator name
 pub record IsSeededAnswer (p : Parts) (capacity : ℕ) (fault : Fault) (seed attempts : ℕ) (answer : Answer)

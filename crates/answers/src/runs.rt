@@ -3,7 +3,7 @@
 ghost use Rattle.std.specs.Prelude.{IfOk};
 ghost use Rattle.machine.specs.Configuration.{Configuration};
 ghost use Rattle.trials.specs.Judged.{IsJudgedEnd};
-ghost use Rattle.answers.specs.Run.{IsRunAnswer, IsSeededAnswer, state_after};
+ghost use Rattle.answers.specs.Run.{IsRunAnswer, IsSeededAnswer, script_state};
 
 use common::OutOfMemory;
 use machine::{Fault, Machine, Step};
@@ -40,8 +40,8 @@ pub fn finished(alloc: Global, machine: Machine) -> Result<Answer, OutOfMemory>
     ended(alloc, judged)
 }
 
-/// The answer of a program that is run by a script, of which blocked steps are skipped. An error is want
-/// of memory.
+/// The answer of a program that is run by a script, of which blocked steps are skipped. Fails only if
+/// out of memory.
 pub fn script_answer(
     alloc: Global,
     program: Program,
@@ -49,7 +49,7 @@ pub fn script_answer(
     fault: Fault,
     steps: &[Step],
 ) -> Result<Answer, OutOfMemory>
-    ensures { IfOk result (IsRunAnswer fault program (state_after program capacity fault steps.now)) }
+    ensures { IfOk result (IsRunAnswer fault program (script_state program capacity fault steps.now)) }
 {
     let mut machine = Machine::new(alloc, program, capacity, fault)?;
     machine.run(steps);

@@ -85,7 +85,7 @@ impl BestSeat {
         self.table.shared.load::<Reads>(&mut self.seat, 0)
     }
 
-    /// Another seat of the same bound, that knows the same. An error is that the count of seats is full.
+    /// Another seat of the same bound, that knows the same. Fails only if the count of seats is full.
     pub fn split(&mut self) -> Result<BestSeat, OutOfMemory>
         ensures old { AreBeside self.old self.new × (known_of self.new ≡ known_of self.old) }
         ensures new { IfOk result (λ s. AreBeside self.old s × (known_of s ≡ known_of self.old)) }

@@ -59,11 +59,11 @@ rest_next words k rest from h some fits =
     )
 
 -- what is left after the lowest bit
-pub rest_behind : (words : List ℕ) (k rest from b after : ℕ) → IsRest words k rest from → b < 64
+pub rest_after : (words : List ℕ) (k rest from b after : ℕ) → IsRest words k rest from → b < 64
     → bit_at rest b ≡ 1 → ((i : ℕ) → i < b → bit_at rest i ≡ 0)
     → bit_at after b ≡ 0 → ((i : ℕ) → i < 64 → (i ≡ b → ⊥) → bit_at after i ≡ bit_at rest i)
     → IsRest words k after (64 * k + b + 1)
-rest_behind words k rest from b after h small one low cleared others = record {
+rest_after words k rest from b after h small one low cleared others = record {
   within = h.within;
   begun = omega arith;
   ended = omega (arith, small);
@@ -91,14 +91,14 @@ pub rest_none : (words : List ℕ) (k from : ℕ) (next : Option ℕ) → IsRest
     → IsNextBit words (64 * (k + 1)) next → IsNextBit words from next
 rest_none words k from None h none = λ j above. elim (cases_lt j (64 * (k + 1))) [
   | inl here ↦ rest_empty words k from h j above here
-  | inr behind ↦ none j behind
+  | inr later ↦ none j later
 ]
 rest_none words k from (Some e) h some = (
   omega (arith, some.0, h.ended),
   some.1,
   λ j above below. elim (cases_lt j (64 * (k + 1))) [
     | inl here ↦ rest_empty words k from h j above here
-    | inr behind ↦ some.2 j behind below
+    | inr later ↦ some.2 j later below
   ],
 )
 
@@ -145,6 +145,6 @@ pub rest_of_word : (words : List ℕ) (m e after : ℕ) → IsNextBit words (64 
 rest_of_word words m e after next rest =
     let low = lowest_of_word words m e next in
     subst (IsRest words (e / 64) after) (omega arith)
-    (rest_behind words (e / 64) (get_or words (e / 64) 0) (64 * (e / 64)) (e % 64) after
+    (rest_after words (e / 64) (get_or words (e / 64) 0) (64 * (e / 64)) (e % 64) after
     (rest_whole words (e / 64) (omega (arith, bit_within words e next.1))) (omega arith) low.0 low.1 rest.0
     (λ i small other. rest.1 i other))

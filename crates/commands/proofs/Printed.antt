@@ -17,8 +17,8 @@ use Rattle.inputs.specs.declared.fault.CommandFault.TheVariants.{WriteFailed}
 use Rattle.inputs.specs.declared.command_error.CommandError.{CommandError}
 use Rattle.inputs.specs.Inputs.{AreFaulty, ReadsNamed, ReadsAll, ReadsInput}
 use Rattle.commands.specs.Command.{IsAnswerTo, IsCommandError, input_names}
-use Rattle.commands.specs.Judge.{IsJudged}
-use Rattle.commands.specs.Perform.{IsHelp, IsOptionError, IsPrinted, IsShown, IsWritten, Writes}
+use Rattle.commands.specs.Judge.{IsOfFile}
+use Rattle.commands.specs.Perform.{IsHelp, IsOptionError, IsPrinted, IsShown, IsWritten, Puts}
 use Rattle.commands.specs.Survey.{IsEachWritten}
 use Rattle.commands.proofs.Asking.{read_none}
 use Rattle.commands.proofs.Given.{writes_more}
@@ -26,7 +26,7 @@ use Rattle.commands.proofs.Given.{writes_more}
 -- what is written of what is printed is written for the words
 pub writes_printed : (inputs : List ℕ → Option (List ℕ)) (words : List Text) (a b : PlaceLog)
     (before after : Option (List ℕ)) (r : Result Outcome CommandFault)
-    → Writes (IsPrinted inputs words a b) before after r → IfOk r (IsWritten inputs words a b before after)
+    → Puts (IsPrinted inputs words a b) before after r → IfOk r (IsWritten inputs words a b before after)
 writes_printed inputs words a b before after (Ok outcome) put = inl put
 writes_printed inputs words a b before after (Err fault) begun = tt
 
@@ -41,13 +41,13 @@ told_written inputs words o a b before after (Err fault) are written reads = tt
 -- what judge writes is printed for the words that give its options
 pub judged_printed : (inputs : List ℕ → Option (List ℕ)) (words : List Text) (o : JudgeOptions) (a b : PlaceLog)
     (before after : Option (List ℕ)) (r : Result Outcome CommandFault) → AreOptions (Judge o) (command_of words)
-    → Writes (IsJudged inputs o) before after r → ReadsAll (string_bytes o.file ∷ []) a b r
-    → Writes (IsPrinted inputs words a b) before after r
+    → Puts (IsOfFile inputs o) before after r → ReadsAll (string_bytes o.file ∷ []) a b r
+    → Puts (IsPrinted inputs words a b) before after r
 judged_printed inputs words o a b before after (Ok outcome) are put read =
-    writes_more (IsJudged inputs o) (IsPrinted inputs words a b) before after (Ok outcome)
+    writes_more (IsOfFile inputs o) (IsPrinted inputs words a b) before after (Ok outcome)
     (λ answer is. inl (Judge o, are, inl (is, read))) put
 judged_printed inputs words o a b before after (Err fault) are begun reads = λ failed.
-    writes_more (IsJudged inputs o) (IsPrinted inputs words a b) before after (Err fault)
+    writes_more (IsOfFile inputs o) (IsPrinted inputs words a b) before after (Err fault)
     (λ answer is. inl (
       Judge o,
       are,

@@ -54,9 +54,9 @@ IsLine (Refused refusal) answer = (answer.outcome ≡ out.Refused) × (answer.te
 IsLine (Fault fault) answer = ⊥
 
 -- such an answer was written, whole, or, where a write failed, the first bytes of it
-abbrev pub Writes : (Answer → Type 0) → Option (List ℕ) → Option (List ℕ) → Result Outcome CommandFault → Type 0
-Writes Is before after (Ok outcome) = IsPut Is before after outcome
-Writes Is before after (Err fault) = fault ≡ WriteFailed → IsBegun Is before after
+abbrev pub Puts : (Answer → Type 0) → Option (List ℕ) → Option (List ℕ) → Result Outcome CommandFault → Type 0
+Puts Is before after (Ok outcome) = IsPut Is before after outcome
+Puts Is before after (Err fault) = fault ≡ WriteFailed → IsBegun Is before after
 
 -- what is printed for what is answered
 abbrev pub IsShown : Result Answer CommandError → Answer → Type 0

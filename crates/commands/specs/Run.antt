@@ -2,7 +2,7 @@
 use Rattle.std.specs.Prelude.{◌≡◌, ◌⊎◌, ℕ, List, Option, Some, None, Ok, length, option_map, string_bytes, ⊤}
 use Rattle.verdicts.specs.declared.printed.Answer.{Answer}
 use Rattle.answers.specs.Campaign.{IsCampaignAnswer, IsShownAnswer}
-use Rattle.answers.specs.Run.{IsRunAnswer, IsSeededAnswer, state_after}
+use Rattle.answers.specs.Run.{IsRunAnswer, IsSeededAnswer, script_state}
 use Rattle.command_line.specs.declared.options.LiveOptions.{LiveOptions}
 use Rattle.command_line.specs.declared.options.RunOptions.{RunOptions}
 use Rattle.command_line.specs.declared.options.TrialsOptions.{TrialsOptions}
@@ -23,7 +23,7 @@ use Rattle.inputs.specs.Refusal.{IsReadingError, step_fault_name}
 abbrev pub IsScriptAnswer : (List ℕ → Option (List ℕ)) → RunOptions → Parts → List ℕ → Answer → Type 0
 IsScriptAnswer inputs o program name answer = (text : List ℕ) × AreBytesOf inputs name text
     × (script : List Step) × (steps_of program text ≡ Ok script)
-    × IsRunAnswer o.fault program (state_after program o.buffer o.fault script) answer
+    × IsRunAnswer o.fault program (script_state program o.buffer o.fault script) answer
 
 -- the answer of a program, and of a script where one is named, or else of random steps
 abbrev pub IsRunOf : (List ℕ → Option (List ℕ)) → RunOptions → Parts → Option (List ℕ) → Answer → Type 0

@@ -3,7 +3,7 @@ ghost use Rattle.std.specs.Prelude.{◌≡◌, IfErr, IfOk};
 ghost use Rattle.std.specs.Io.KnownBytes.{Keeps};
 ghost use Rattle.devices.specs.Bytes.{CanGrow, CountsBy};
 ghost use Rattle.inputs.specs.Inputs.{command_failed_writes};
-ghost use Rattle.commands.specs.Perform.{Writes};
+ghost use Rattle.commands.specs.Perform.{Puts};
 
 use devices::{Failed, Sink, write_all};
 use inputs::CommandFault;
@@ -26,7 +26,7 @@ pub fn flush<W: Sink>(out: &mut W, outcome: Outcome) -> Result<Outcome, CommandF
 /// Writes the text of an answer and hands it on; how it came out.
 pub fn put<W: Sink>(out: &mut W, answer: &Answer) -> Result<Outcome, CommandFault>
     requires { CanGrow (W.write_failures out.old) }
-    ensures written { Writes (λ a. a ≡ answer.now) (W.written out.old) (W.written out.new) result }
+    ensures written { Puts (λ a. a ≡ answer.now) (W.written out.old) (W.written out.new) result }
     ensures fault { IfErr result (λ fault. fault ≡ CommandFault.WriteFailed) }
     ensures writes { CountsBy command_failed_writes (W.write_failures out.old) (W.write_failures out.new) result }
 {

@@ -172,9 +172,9 @@ fn performed<R: Threads + Wait + Sync, P: Place, W: Sink>(
 }
 
 /// Does what the words ask, writes what the command prints and answers how it came out. The words
-/// come without the program's name. An error is a fault of the command line, an input that isn't read,
-/// threads under `live`, memory that ran out, or a write that failed; nothing is written before the whole answer
-/// stands, but the lines of `survey --each`.
+/// come without the program's name. Fails by a fault of the command line, an input that isn't read, threads under
+/// `live`, running out of memory, or a write. Nothing is written before the whole answer stands, but the lines of
+/// `survey --each`.
 pub fn perform<R: Threads + Wait + Sync, P: Place, W: Sink>(
     rt: &R,
     alloc: Global,

@@ -52,7 +52,7 @@ pub trait Sink {
         ensures bytes { WriteAppends (written self.old) (written self.new) result text.now }
         ensures count { Counts (write_failures self.old) (write_failures self.new) result };
 
-    /// Hands on what was written, where it was kept back; without a body of its own nothing was. An error is
+    /// Hands on what was written, where it was kept back; without a body of its own nothing was. A failure is
     /// counted, as that of `push`.
     fn flush(&mut self) -> Result<(), Failed>
         requires { CanGrow (write_failures self.old) }

@@ -20,7 +20,7 @@ pub enum ReadError {
 const PIECE: usize = 65_536;
 
 /// Adds what a source gives next, as much as the piece has room for at most, and answers how many bytes these are, none
-/// at its end. An error is a read that failed, or that memory ran out.
+/// at its end. Fails if a read does, or out of memory.
 pub fn read_more<R: Source>(
     source: &mut R,
     piece: &mut [u8],
@@ -47,7 +47,7 @@ pub fn read_more<R: Source>(
     }
 }
 
-/// All bytes that a source gives until its end. An error is a read that failed, or that memory ran out.
+/// All bytes that a source gives until its end. Fails if a read does, or out of memory.
 pub fn read_all<R: Source>(alloc: Global, source: &mut R) -> Result<Vec<u8>, ReadError>
     requires { CanGrow (R.read_failures source.old) }
     ensures ok { IfOk result (λ bytes. Consumes (R.left source.old) (R.left source.new) bytes.items) }
@@ -63,7 +63,7 @@ pub fn read_all<R: Source>(alloc: Global, source: &mut R) -> Result<Vec<u8>, Rea
     Ok(bytes)
 }
 
-/// Writes all bytes of a text. An error is a write that failed, after a beginning of the text.
+/// Writes all bytes of a text. Fails if a write does, after a beginning of the text.
 pub fn write_all<W: Sink>(sink: &mut W, text: &[u8]) -> Result<(), Failed>
     requires { CanGrow (W.write_failures sink.old) }
     ensures ok { OnOk result (Appends (W.written sink.old) (W.written sink.new) text.now) }

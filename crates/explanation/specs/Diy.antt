@@ -144,10 +144,10 @@ told_from steps i (suc n) =
     told_by (classic_of (words_from steps i)) (words_from steps i) (told_from steps (i + 1) n)
 
 -- words were put after a text with the name of their classic test, or they are those of none
-abbrev pub IsNamedBehind : List ℕ → List ℕ → Bool → List ℕ → Type 0
-IsNamedBehind old words true new =
+abbrev pub IsNamedAfter : List ℕ → List ℕ → Bool → List ℕ → Type 0
+IsNamedAfter old words true new =
     (name : List ℕ) × (classic_of words ≡ Some name) × (new ≡ old ++ named_words words name)
-IsNamedBehind old words false new = (classic_of words ≡ None) × (new ≡ old)
+IsNamedAfter old words false new = (classic_of words ≡ None) × (new ≡ old)
 
 -- the line of steps
 abbrev pub diy_line : List Step → List ℕ

@@ -7,7 +7,7 @@ ghost use Rattle.recording.specs.Event.{is_plain_store};
 ghost use Rattle.recording.specs.Execution.{event_at};
 ghost use Rattle.explanation.specs.Diy.{IsDiyLine, IsStep, AreWordSteps, accesses, accessed, classic_of};
 ghost use Rattle.explanation.specs.Diy.{is_fence, is_plain, letter, named_by, pair_text, side_text, told_from, word};
-ghost use Rattle.explanation.specs.Diy.{IsNamedBehind, words_from, diy_line, diy_overlook_line};
+ghost use Rattle.explanation.specs.Diy.{IsNamedAfter, words_from, diy_line, diy_overlook_line};
 
 use common::{Addr, EventId, OutOfMemory};
 use event_texts::event_of;
@@ -266,7 +266,7 @@ fn put_named(
     at: usize,
 ) -> Result<bool, OutOfMemory>
     requires { at ≤ length steps.now }
-    ensures { IfOk result (λ named. IsNamedBehind out.old.items (words_from steps.now at) named out.new.items) }
+    ensures { IfOk result (λ named. IsNamedAfter out.old.items (words_from steps.now at) named out.new.items) }
 {
     let words = words_from(alloc, steps, at)?;
     let Some(name) = classic_of(words.as_str()) else {

@@ -1,5 +1,5 @@
 -- Lemmas on certificates: the cycle of one is a shortest one.
-use Rattle.std.proofs.Common.{◌<◌, ◌≤◌, ◌+◌, ℕ, List, [], ◌∷◌, length, get_or, arith}
+use Rattle.std.proofs.Common.{◌≡◌, ◌<◌, ◌≤◌, ◌+◌, ℕ, List, [], ◌∷◌, length, get_or, arith, subst, Vec, Global}
 use Rattle.relations.specs.Relation.{Table, Related}
 use Rattle.relations.specs.Cycle.{Leads, IsCycle, IsShortest, IsLabelling, IsCertificate}
 use Rattle.labels.specs.declared.certificate.Certificate.{Certificate}
@@ -33,10 +33,19 @@ certificates_are_shortest R n c rows within cert = record { cycle = cert.cyclic;
         cert.labellings v (leads_from R n within v es v h) in
         omega (arith, row.start, grows_along R (length c) n v (get_or rows v []) row v es h)
 
--- a cycle whose length the rows agree with is a shortest one
-pub labelled_is_shortest : (t : Table) (c : Certificate)
-    → ((e f : ℕ) → Related t e f → (e < length t) × (f < length t)) → IsCycle (Related t) c.cycle.items
-    → AreLabellings t (length c.cycle.items) c.rows.items → IsShortest (Related t) c.cycle.items
-labelled_is_shortest t c within cyclic rows =
+-- what was looked at is the certificate's: a cycle whose length the rows agree with is a shortest one
+pub labelled_is_shortest : (t : Table) (c : Certificate) {cycle : List ℕ} {k : ℕ} {rows : List (Vec ℕ Global)}
+    → ((e f : ℕ) → Related t e f → (e < length t) × (f < length t)) → cycle ≡ c.cycle.items
+    → k ≡ length c.cycle.items → rows ≡ c.rows.items → IsCycle (Related t) cycle → AreLabellings t k rows
+    → IsShortest (Related t) c.cycle.items
+labelled_is_shortest t c {cycle} {k} {rows} within same size same_rows cyclic agree =
     certificates_are_shortest (Related t) (length t) c.cycle.items (lists_of c.rows.items) within
-    (record { cyclic = cyclic; one_each = rows.one_each; labellings = rows.labellings })
+    (record {
+      cyclic = subst (λ (d : List ℕ). IsCycle (Related t) d) same cyclic;
+      one_each = shown.one_each;
+      labellings = shown.labellings;
+    })
+  where
+    shown : AreLabellings t (length c.cycle.items) c.rows.items
+    shown = subst (λ (d : List (Vec ℕ Global)). AreLabellings t (length c.cycle.items) d) same_rows
+        (subst (λ (n : ℕ). AreLabellings t n rows) size agree)

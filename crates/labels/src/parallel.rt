@@ -53,7 +53,7 @@ fn are_labelled(
     )
 }
 
-/// As `check`, by threads that share the rows. It can't fail for want of memory.
+/// As `check`, by threads that share the rows. It never runs out of memory.
 pub fn check_par(rt: &(impl Threads + Sync), relation: &Relation, certificate: &Certificate) -> bool
     ensures exact { IsTrue result ↔ Certifies relation.now certificate.now }
     ensures shortest { IsTrue result → IsShortest (Related relation.now) certificate.now.cycle.items }

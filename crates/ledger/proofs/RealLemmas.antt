@@ -39,10 +39,10 @@ count_no : (p : ℕ → Bool) (x : ℕ) (xs : List ℕ) → p x ≡ false → co
 count_no p x xs fails = omega (arith, count_cons p x xs, ap {B = ℕ} (λ (b : Bool). cond b 1 0) fails)
 
 -- a place one further
-fits_behind : (count total : ℕ) (o : Option ℕ) → IsFirstOf count total o
+fits_after : (count total : ℕ) (o : Option ℕ) → IsFirstOf count total o
     → IsFirstOf count (1 + total) (first_of None 1 o)
-fits_behind count total None fits = fits
-fits_behind count total (Some i) fits = (fits.0, omega (arith, fits.1))
+fits_after count total None fits = fits
+fits_after count total (Some i) fits = (fits.0, omega (arith, fits.1))
 
 -- the first place of what passes fits how many do
 first_fits : (p : ℕ → Bool) (xs : List ℕ) → IsFirstOf (count_by p xs) (length xs) (position p xs)
@@ -60,7 +60,7 @@ first_fits p (x ∷ xs) = go (p x) refl (first_fits p xs)
         (sym (count_no p x xs fails))
         (subst (λ (n : ℕ). IsFirstOf (count_by p xs) n (first_of None 1 (position p xs)))
         (let one : 1 + length xs ≡ length (x ∷ xs) = omega arith in one)
-        (fits_behind (count_by p xs) (length xs) (position p xs) rest)))
+        (fits_after (count_by p xs) (length xs) (position p xs) rest)))
 
 -- where none is counted, none has a place
 none_placed : (p : ℕ → Bool) (xs : List ℕ) → count_by p xs ≡ 0 → position p xs ≡ None
@@ -79,10 +79,10 @@ all_first p x xs all = go (p x) refl
     go false fails = absurd (omega (arith, all, count_no p x xs fails, count_by-le-length p xs))
 
 -- places one further are apart
-apart_behind : (r : ℕ) (f g : Option ℕ) → AreApart r f g → AreApart (1 + r) (first_of None 1 f) (first_of None 1 g)
-apart_behind r None g apart = tt
-apart_behind r (Some i) None apart = tt
-apart_behind r (Some i) (Some j) apart = (
+apart_after : (r : ℕ) (f g : Option ℕ) → AreApart r f g → AreApart (1 + r) (first_of None 1 f) (first_of None 1 g)
+apart_after r None g apart = tt
+apart_after r (Some i) None apart = tt
+apart_after r (Some i) (Some j) apart = (
   λ same. apart.0 (omega (arith, same)),
   elim apart.1 [
     | inl low ↦ inl (omega (arith, low))
@@ -132,7 +132,7 @@ apart_fits p q r each (x ∷ xs) = go (p x) (q x) (r x) refl refl refl (each x) 
         (position_no p x xs fails) (position_yes q x xs passes) (apart_second (count_by r (x ∷ xs)) (position p xs))
     go false false true fails not passes one rest = at (1 + count_by r xs) (first_of None 1 (position p xs))
         (first_of None 1 (position q xs)) (count_yes r x xs passes) (position_no p x xs fails) (position_no q x xs not)
-        (apart_behind (count_by r xs) (position p xs) (position q xs) rest)
+        (apart_after (count_by r xs) (position p xs) (position q xs) rest)
     go false false false fails not nor one rest = absurd (omega (
       arith,
       one,

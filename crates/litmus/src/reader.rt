@@ -104,8 +104,8 @@ impl Reader {
         }
     }
 
-    /// The program of what was read; an address without an `init` line begins with 0. An `Err` is want
-    /// of memory.
+    /// The program of what was read; an address without an `init` line begins with 0. Fails
+    /// only if out of memory.
     pub fn finish(self) -> Result<Program, OutOfMemory>
         requires { IsProgram (drafted_program (draft self)) }
         ensures { IfOk result (λ p. p ≡ drafted_program (draft self)) }

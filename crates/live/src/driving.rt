@@ -57,8 +57,8 @@ fn driven<R: Threads + Wait + Sync, G: Gate>(
 /// of the core's number. Which steps the threads choose is not said. No clause speaks of threads, lock
 /// and gate; tests do.
 ///
-/// An error is that memory ran out, before the first thread, or that of the threads: `NoThread` where one was
-/// not started, else `Stranger` where the machine at the end is not as given or not at its end: so it is
+/// Fails if out of memory, before the first thread, or by the threads: `NoThread` where one was not
+/// started, else `Stranger` where the machine at the end is not as given or not at its end: so it is
 /// where the capacity is 0 and a store keeps the machine from its end.
 pub fn drive<R: Threads + Wait + Sync, G: Gate>(
     rt: &R,

@@ -136,9 +136,9 @@ unit_more p units units' i next long next_is begun is c d inside = ap (λ (l : L
     ∙ (elim (cases_lt c i) [
       | inl before ↦ get_or_append_left units (record { first = next; place = 0 } ∷ []) d c
           (omega (arith, before, long)) ∙ begun c d before
-      | inr behind ↦
-          let last : c ≡ i = omega (arith, inside, behind) in
-          get_or-append_right units (record { first = next; place = 0 } ∷ []) i c d long behind
+      | inr after ↦
+          let last : c ≡ i = omega (arith, inside, after) in
+          get_or-append_right units (record { first = next; place = 0 } ∷ []) i c d long after
           ∙ (ap (λ (n : ℕ). get_or (record { first = next; place = 0 } ∷ []) n d)
           (let e : c - i ≡ 0 = omega (arith, last) in e)
           ∙ ap (λ (n : ℕ). record { first = n; place = 0 }) (next_is ∙ ap (first_event p) (sym last)))

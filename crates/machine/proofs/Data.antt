@@ -223,7 +223,7 @@ module _ {p : List (List Op)} {s : State} (d : IsData p s) where
           ) in
           subst (λ (k : ℕ). e < first_event p k + place_of s k) (sym own) (elim (cases_lt e b) [
             | inl below ↦ omega (arith, below, n.event)
-            | inr behind ↦ absurd (other (omega (arith, past, behind)))
+            | inr after ↦ absurd (other (omega (arith, past, after)))
           ])
       | inr away ↦ omega (
         arith,

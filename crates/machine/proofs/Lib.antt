@@ -32,3 +32,5 @@ pub mod TextEnds
 pub mod Inside
 pub mod Answered
 pub mod PlaceLemmas
+pub mod OrderLemmas
+pub mod MadeLemmas

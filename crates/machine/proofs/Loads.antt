@@ -58,17 +58,17 @@ youngest_says p s c (x ∷ xs) a stores once =
         writes ∙ ap Some is,
         λ w there wa. elim (cases_eq x.event w) [
           | inl here ↦ inl (sym here)
-          | inr behind ↦ absurd (says w (omega
-              (arith, there, times_there (map (λ (z : Entry). z.event) xs) x.event w behind)) wa)
+          | inr after ↦ absurd (says w (omega
+              (arith, there, times_there (map (λ (z : Entry). z.event) xs) x.event w after)) wa)
         ],
       )
       | inr isnt ↦ rw (not_equal x.addr a isnt) (λ w there wa. elim (cases_eq x.event w) [
         | inl here ↦ isnt (same_Some x.addr a (sym writes
             ∙ (ap (λ (e : ℕ). written_address (done_by p s e)) here ∙ wa)))
-        | inr behind ↦ says w (omega (
+        | inr after ↦ says w (omega (
           arith,
           there,
-          times_there (map (λ (z : Entry). z.event) xs) x.event w behind,
+          times_there (map (λ (z : Entry). z.event) xs) x.event w after,
         )) wa
       ])
     ]

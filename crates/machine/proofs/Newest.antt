@@ -155,21 +155,21 @@ before_more x xs s w apart s_in rest there = elim (cases_eq x w) [
     omega (arith, place_here xs x w here, place_there xs x s apart),
     omega (arith, place_there xs x s apart, place_in xs s s_in),
   )
-  | inr behind ↦ elim (rest (omega (arith, there, times_there xs x w behind))) [
+  | inr after ↦ elim (rest (omega (arith, there, times_there xs x w after))) [
     | inl is_s ↦ inl is_s
     | inr before ↦ inr (
-      omega (arith, before, place_there xs x w behind, place_there xs x s apart),
+      omega (arith, before, place_there xs x w after, place_there xs x s apart),
       omega (arith, before, place_there xs x s apart),
     )
   ]
 ]
 
 -- in a list of distinct numbers the last stands after all others
-pub last_behind : (l : List ℕ) (s : ℕ) → ((e : ℕ) → times l e ≤ 1) → last_of l ≡ Some s
+pub last_after : (l : List ℕ) (s : ℕ) → ((e : ℕ) → times l e ≤ 1) → last_of l ≡ Some s
     → (0 < times l s) × ((w : ℕ) → 0 < times l w → (w ≡ s) ⊎ Before l w s)
 unfolding last_of
-last_behind [] s once is = absurd cc
-last_behind (x ∷ []) s once is =
+last_after [] s once is = absurd cc
+last_after (x ∷ []) s once is =
     let one : x ≡ s = cc in (
       omega (arith, times_here [] x s one),
       λ w there. elim (cases_eq x w) [
@@ -177,9 +177,9 @@ last_behind (x ∷ []) s once is =
         | inr other ↦ absurd (omega (arith, there, times_there [] x w other, times_nil w))
       ],
     )
-last_behind (x ∷ (y ∷ ys)) s once is =
+last_after (x ∷ (y ∷ ys)) s once is =
     let rest : (0 < times (y ∷ ys) s) × ((w : ℕ) → 0 < times (y ∷ ys) w → (w ≡ s) ⊎ Before (y ∷ ys) w s) =
-    last_behind (y ∷ ys) s (λ e. omega (arith, once e, times_append (x ∷ []) (y ∷ ys) e)) is in
+    last_after (y ∷ ys) s (λ e. omega (arith, once e, times_append (x ∷ []) (y ∷ ys) e)) is in
     let apart : x ≢ s = λ same. omega (arith, once s, times_here (y ∷ ys) x s same, rest.0) in (
       omega (arith, rest.0, times_there (y ∷ ys) x s apart),
       λ w there. before_more x (y ∷ ys) s w apart rest.0 (rest.1 w) there,
@@ -225,7 +225,7 @@ newest_in_memory p q m buffer a holds back once none = go (last_of (filter q m))
     go (Some s) is =
         let last : (0 < times (filter q m) s)
         × ((w : ℕ) → 0 < times (filter q m) w → (w ≡ s) ⊎ Before (filter q m) w s) =
-        last_behind (filter q m) s distinct is in
+        last_after (filter q m) s distinct is in
         let qs : q s ≡ true = times_passes q m s last.0 in (
           omega (arith, last.0, times_filter q m s qs, times_append m buffer s),
           holds s qs,

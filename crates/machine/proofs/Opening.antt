@@ -15,7 +15,7 @@ use Rattle.program.specs.Parts.{IsWithin, addr_of}
 use Rattle.moesi.specs.Block.{block_with}
 use Rattle.moesi.proofs.CacheLemmas.{opening_with_is_coherent}
 use Rattle.recording.specs.PlacedLaws.{located, placed_total}
-use Rattle.machine.proofs.PlaceLemmas.{event_behind, event_op}
+use Rattle.machine.proofs.PlaceLemmas.{event_after, event_op}
 use Rattle.machine.specs.ProgramLaws.{same_kind, has_address}
 use Rattle.std.proofs.lemmas.Option.{same_Some}
 use Rattle.machine.proofs.Static.{static_of, snapshot_of, placed_op}
@@ -48,7 +48,7 @@ module _ (p : List (List Op)) (init : List ℕ) (fits : All (λ ops. All (IsWith
       omega (
         arith,
         done,
-        event_behind p e event,
+        event_after p e event,
         get_or_same {A = ℕ} (length p) ((static_of p (opening p init)).core e) 0,
       )
 

@@ -6,7 +6,8 @@ use Rattle.std.proofs.lemmas.List.{append-nil}
 use Rattle.std.proofs.lemmas.Bool.{cases_eq}
 use Rattle.recording.specs.Order.{place, times, Before, Enumerates}
 use Rattle.recording.specs.OrderLaws.{place_here, times_here, times_nil, times_append}
-use Rattle.recording.specs.OrderLaws.{place_append_right, cases_times, left_before_right, inserted}
+use Rattle.recording.specs.OrderLaws.{place_append_right, cases_times, left_before_right}
+use Rattle.machine.proofs.OrderLemmas.{inserted}
 use Rattle.machine.proofs.Seen.{Static, Snapshot, seen, Own, CanSee, IsLast, IsNewest, IsCounted, IsOrdered}
 use Rattle.machine.proofs.Seen.{performed_is_seen, not_seen, not_performed, seen_is_listed, last_seen, Grows}
 use Rattle.machine.proofs.Seen.{unmoved, moved, before_grown, is_last_grown}

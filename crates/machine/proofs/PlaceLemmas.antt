@@ -46,8 +46,8 @@ module _ (p : List (List Op)) (e : ℕ) (event : e < length (placed_from 0 p)) w
       ∙ ap (λ (z : ℕ × Op). z.1) (placed_at 0 p at.0 at.1 Fence at.3).0
 
   -- it comes after the first of its core, and before the end
-  pub event_behind : first_event p ((placed_op p e).0) ≤ e
-  event_behind =
+  pub event_after : first_event p ((placed_op p e).0) ≤ e
+  event_after =
       subst (λ (c : ℕ). first_event p c ≤ e) (sym event_core) (omega (arith, (located 0 p e event).4))
 
   -- it comes before the end of its core

@@ -47,13 +47,13 @@ pub none_before : (f : Fault) (xs : List Entry) → f ≡ fault.None → take (d
 none_before f xs none = ap (λ (g : Fault). take (draining g xs) xs) none
 
 -- without fault a fence goes on with an empty buffer
-pub fence_behind : (f : Fault) (xs : List Entry) → may_fence f xs ≡ true → f ≡ fault.None → xs ≡ []
-fence_behind f xs may none = nil_from_length xs
+pub fence_after : (f : Fault) (xs : List Entry) → may_fence f xs ≡ true → f ≡ fault.None → xs ≡ []
+fence_after f xs may none = nil_from_length xs
     (eqb-true _ _ (subst (λ (g : Fault). may_fence g xs ≡ true) none may))
 
 -- so does a read-modify-write
-pub rmw_behind : (f : Fault) (xs : List Entry) → may_rmw f xs ≡ true → f ≡ fault.None → xs ≡ []
-rmw_behind f xs may none = nil_from_length xs
+pub rmw_after : (f : Fault) (xs : List Entry) → may_rmw f xs ≡ true → f ≡ fault.None → xs ≡ []
+rmw_after f xs may none = nil_from_length xs
     (eqb-true _ _ (subst (λ (g : Fault). may_rmw g xs ≡ true) none may))
 
 -- what a load gets from its buffer is the youngest entry of its address, under every fault

@@ -30,7 +30,7 @@ use Rattle.machine.proofs.ExecuteEvents.{IsNext}
 use Rattle.machine.specs.declared.step.Transaction.TheVariants as transaction
 use Rattle.machine.specs.Faults.{draining, transacted}
 use Rattle.machine.proofs.DrainEvents.{drained_state}
-use Rattle.machine.proofs.Removed.{split_at, none_before, fence_behind, rmw_behind}
+use Rattle.machine.proofs.Removed.{split_at, none_before, fence_after, rmw_after}
 
 -- the state after core c's store went to its buffer
 abbrev pub stored_state : State → ℕ → ℕ → ℕ → ℕ → State
@@ -115,7 +115,7 @@ module _ (p : List (List Op)) (capacity : ℕ) (f : Fault) (s : State) (P : Stat
   rmw_kept c b a op t n at is h =
       let g = guarded _ _ _ t h in
       let wrote = allowed_ok B5 _ (moesi.write s.caches c a (rmw_value s c op a) b) t g.1 in
-      subst P wrote.2 (kept.rmw wrote.0 c b a op n at is (rmw_behind f (buffer_of s c) g.0) wrote.1)
+      subst P wrote.2 (kept.rmw wrote.0 c b a op n at is (rmw_after f (buffer_of s c) g.0) wrote.1)
 
   -- so is a compare-and-swap, which writes or only reads
   cas_kept : (c b a e v : ℕ) (t : State) → IsNext p s c b (Cas a e v) → c < length p
@@ -132,9 +132,9 @@ module _ (p : List (List Op)) (capacity : ℕ) (f : Fault) (s : State) (P : Stat
           subst P (ok_one _ t owned.1) (kept.look c b (Cas a e v) (line_copy s c a) n (record {
             store = refl;
             address = rw is refl;
-            allowed = λ none. inr (rmw_behind f (buffer_of s c) g.0 none);
+            allowed = λ none. inr (rmw_after f (buffer_of s c) g.0 none);
             got = λ k reads. inr (
-              rmw_behind f (buffer_of s c) g.0,
+              rmw_after f (buffer_of s c) g.0,
               rw (← same_Some a k reads) (exclusive_read s.caches c a owned.0),
             );
           }))
@@ -171,7 +171,7 @@ module _ (p : List (List Op)) (capacity : ℕ) (f : Fault) (s : State) (P : Stat
       subst P (same ∙ ok_one _ t g.1) (kept.look c b Fence (get_or s.reads b (0, None)) n (record {
         store = refl;
         address = refl;
-        allowed = λ none. inr (fence_behind f (buffer_of s c) g.0 none);
+        allowed = λ none. inr (fence_after f (buffer_of s c) g.0 none);
         got = λ k reads. absurd cc;
       }))
   exec_kept c b (Swap a v) t n at h =

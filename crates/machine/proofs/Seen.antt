@@ -4,7 +4,8 @@ use Rattle.std.proofs.Common.{Some, None, List, ◌∷◌, ◌++◌, arith, refl
 use Rattle.std.proofs.lemmas.Bool.{cases_eq}
 use Rattle.recording.specs.Order.{times, Before}
 use Rattle.recording.specs.OrderLaws.{place_in, times_in, times_append}
-use Rattle.recording.specs.OrderLaws.{place_append_left, place_append_right, cases_times, inserted, removed}
+use Rattle.recording.specs.OrderLaws.{place_append_left, place_append_right, cases_times}
+use Rattle.machine.proofs.OrderLemmas.{inserted, removed}
 
 -- what is known of the events: their number, their cores, what they write and read, and which are plain
 -- stores or loads
@@ -97,26 +98,14 @@ last_seen p o e a s w is h = (subst (λ (z : Option ℕ). IsLast p o e a z) is h
 
 -- What an event does not change: b goes between two parts of an order, and e was there before
 
--- what e could see it still sees
-can_see_same : (p : Static) (u v : List ℕ) (b e a w : ℕ) → e ≢ b → w ≢ b → CanSee p (u ++ v) e a w
-    → CanSee p (u ++ b ∷ v) e a w
-can_see_same p u v b e a w eb wb h = (
+-- what e sees in an order it sees where w is before it again
+can_see_by : (p : Static) (l m : List ℕ) (e a w : ℕ) → (Before l w e → Before m w e) → CanSee p l e a w
+    → CanSee p m e a w
+can_see_by p l m e a w moves h = (
   h.0,
   h.1,
   elim h.2 [
-    | inl before ↦ inl (inserted u v b w e wb eb before)
-    | inr own ↦ inr own
-  ],
-)
-
--- what e sees it could see
-can_see_back : (p : Static) (u v : List ℕ) (b e a w : ℕ) → e ≢ b → w ≢ b → CanSee p (u ++ b ∷ v) e a w
-    → CanSee p (u ++ v) e a w
-can_see_back p u v b e a w eb wb h = (
-  h.0,
-  h.1,
-  elim h.2 [
-    | inl before ↦ inl (removed u v b w e wb eb before)
+    | inl before ↦ inl (moves before)
     | inr own ↦ inr own
   ],
 )
@@ -142,15 +131,15 @@ is_last_same : (p : Static) (u v : List ℕ) (b e a : ℕ) → e ≢ b → times
 is_last_same p u v b e a eb fresh e_left not_own None others h = λ w seen. elim (cases_eq w b) [
   | inl same ↦ b_unseen p u v b e a eb fresh e_left not_own
       (subst (λ (z : ℕ). CanSee p (u ++ b ∷ v) e a z) same seen)
-  | inr other ↦ h w (can_see_back p u v b e a w eb other seen)
+  | inr other ↦ h w (can_see_by p (u ++ b ∷ v) (u ++ v) e a w (removed u v b w e other eb) seen)
 ]
 is_last_same p u v b e a eb fresh e_left not_own (Some s) others h =
     let sb : s ≢ b = others s refl in (
-      can_see_same p u v b e a s eb sb h.0,
+      can_see_by p (u ++ v) (u ++ b ∷ v) e a s (inserted u v b s e sb eb) h.0,
       λ w seen. elim (cases_eq w b) [
         | inl same ↦ absurd (b_unseen p u v b e a eb fresh e_left not_own
             (subst (λ (z : ℕ). CanSee p (u ++ b ∷ v) e a z) same seen))
-        | inr other ↦ elim (h.1 w (can_see_back p u v b e a w eb other seen)) [
+        | inr other ↦ elim (h.1 w (can_see_by p (u ++ b ∷ v) (u ++ v) e a w (removed u v b w e other eb) seen)) [
           | inl is ↦ inl is
           | inr before ↦ inr (inserted u v b w s other sb before)
         ]

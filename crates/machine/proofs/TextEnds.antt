@@ -26,8 +26,8 @@ module _ {S F : Type 0} (step : S → List ℕ → Result S F) (unended : F) (te
       sym reads.rest ∙ rw (nothing, some) refl
 
   -- after a newline all is read
-  pub behind_line : length text ≤ start → whole ≡ Ok s
-  behind_line ended =
+  pub ended_line : length text ≤ start → whole ≡ Ok s
+  ended_line ended =
       let none : (length (slice_range text start i) == 0) ≡ true =
       eq-eqb (length (slice_range text start i)) 0 (omega (arith, width, ended, within)) in
       sym reads.rest ∙ rw (nothing, none) refl

@@ -118,20 +118,20 @@ abbrev pub exec_answer : Configuration → ℕ → Op → ℕ → Result State B
 exec_answer h c op e = exec h.capacity h.fault h.state c e op
 
 -- a call answered as the row says, and took the machine from h to g, which is h where the step is blocked
-pub record IsAnswer {A : Type 0} (row : Result State Blocked) (h g : Configuration) (result : Result A Blocked) : Type 0
-  where
-    pub ok : OnOk result (row ≡ Ok g.state)
-    pub blocked : IfErr result (λ b. row ≡ Err b)
-    pub rest : OnOk result (g ≡ record h { state = g.state })
-    pub unchanged : OnErr result (g ≡ h)
+pub record IsStepAnswer {A : Type 0} (row : Result State Blocked) (h g : Configuration) (result : Result A Blocked)
+    : Type 0 where
+  pub ok : OnOk result (row ≡ Ok g.state)
+  pub blocked : IfErr result (λ b. row ≡ Err b)
+  pub rest : OnOk result (g ≡ record h { state = g.state })
+  pub unchanged : OnErr result (g ≡ h)
 
 -- core c is at its operation op, whose event is e
 abbrev pub IsNextOf : Configuration → ℕ → Op → ℕ → Type 0
 IsNextOf h c op e = IsAt h.program.cores h.state c op e
 
 -- the state after a list of steps
-abbrev pub state_behind : Configuration → List Step → State
-state_behind h steps = run h.program.cores h.capacity h.fault h.state steps
+abbrev pub state_after : Configuration → List Step → State
+state_after h steps = run h.program.cores h.capacity h.fault h.state steps
 
 -- the recording of what a machine has done
 abbrev pub recording_of : Configuration → Execution

@@ -55,13 +55,13 @@ use_all k m (ops ∷ cores) =
     (map-map (λ (z : ℕ × Op). z.1) (λ (op : Op). (k, op)) ops ∙ map-id ops)) ∙ use_both m ops rest)
 
 -- after k addresses an operation with this one, or with none, brings their number to m
-record Leads (k : ℕ) (address : Option ℕ) (m : ℕ) : Type 0 where
+record Brings (k : ℕ) (address : Option ℕ) (m : ℕ) : Type 0 where
   least : k ≤ m
   within : (a : ℕ) → address ≡ Some a → a < m
   used : (a : ℕ) → k ≤ a → a < m → address ≡ Some a
 
 -- where the count goes on
-leads : (k m : ℕ) (address : Option ℕ) → use_addr k address ≡ Some m → Leads k address m
+leads : (k m : ℕ) (address : Option ℕ) → use_addr k address ≡ Some m → Brings k address m
 leads k m None to =
     let same : k ≡ m = same_Some k m to in
     record { least = omega arith; within = λ a is. absurd cc; used = λ a low high. absurd (omega arith) }
@@ -107,7 +107,7 @@ record Numbers (k : ℕ) (l : List Op) (n : ℕ) : Type 0 where
   in_order : (i a b : ℕ) → address_at l i ≡ Some a → k ≤ b → b < a → (j : ℕ) × (j < i) × (address_at l j ≡ Some b)
 
 -- where the count goes on, and the others bring it to n
-numbers_more : (k m n : ℕ) (op : Op) (l : List Op) → Leads k (addr_of op) m → Numbers m l n → Numbers k (op ∷ l) n
+numbers_more : (k m n : ℕ) (op : Op) (l : List Op) → Brings k (addr_of op) m → Numbers m l n → Numbers k (op ∷ l) n
 numbers_more k m n op l one rest = record {
   least = omega (arith, one.least, rest.least);
   within = within;
@@ -133,7 +133,7 @@ numbers_more k m n op l one rest = record {
     ]
 
 -- and the other way round
-numbers_rest : (k m n : ℕ) (op : Op) (l : List Op) → Leads k (addr_of op) m → Numbers k (op ∷ l) n → Numbers m l n
+numbers_rest : (k m n : ℕ) (op : Op) (l : List Op) → Brings k (addr_of op) m → Numbers k (op ∷ l) n → Numbers m l n
 numbers_rest k m n op l one all = record {
   least = elim (cases_lt n m) [
     | inl less ↦ let above = all.within 0 n (one.used n all.least less) in absurd (omega arith)

@@ -9,11 +9,11 @@ use Rattle.recording.specs.declared.event.Event.{Event}
 use Rattle.recording.specs.declared.event.Event.TheVariants.{R, C, F}
 use Rattle.recording.specs.Event.{read_address, value_read, source, is_plain_store, is_plain_load}
 use Rattle.recording.specs.Execution.{Execution, placed_from, event_count, event_at}
-use Rattle.recording.specs.PlacedLaws.{tagged}
+use Rattle.recording.specs.PlacedLaws.{tagged, placed_here, placed_after}
 use Rattle.machine.specs.State.{State, event_of, cores_from, recorded}
 use Rattle.machine.specs.Orderly.{placed_op, is_st, is_ld, op_reads}
 use Rattle.machine.specs.ProgramOf.{Makes, AreOpsOf, IsProgramOf}
-use Rattle.machine.specs.RecordedLaws.{events_length, events_at, cores_length, placed_here, placed_behind}
+use Rattle.machine.specs.RecordedLaws.{events_length, events_at, cores_length}
 use Rattle.machine.specs.FirstUseLaws.{HasAddressOf, HaveAddressesOf}
 
 -- operations that make the events of each core make each event
@@ -30,9 +30,9 @@ made k (ops ∷ p) (es ∷ cores) size of e =
         placed_here k ops p e (0, Fence) here,
         placed_here k es cores e (0, F) (omega (arith, first.one_each)),
       ) (first.each e here)
-      | inr behind ↦ rw (
-        placed_behind k ops p e (0, Fence) behind,
-        placed_behind k es cores e (0, F) (omega (arith, first.one_each)),
+      | inr after ↦ rw (
+        placed_after k ops p e (0, Fence) after,
+        placed_after k es cores e (0, F) (omega (arith, first.one_each)),
         ← first.one_each,
       )
           (made (k + 1) p cores (omega arith) (λ c inside. of (suc c) (omega arith)) (e - length ops))
@@ -100,28 +100,3 @@ made_addresses p x is e =
     let op : Op = (placed_op p.cores e).1 in
     subst (λ (z : Event). HasAddressOf op z) (event_made p x is e)
     (has_address op (value_read (event_at x e), source (event_at x e)))
-
--- an operation makes the event that it made
-makes_own : (op : Op) (d : ℕ × Option ℕ) → Makes op (event_of op d)
-makes_own (Cas a e v) d =
-    cond_both (d.0 == e) (R a d.0 d.1 v) (C a d.0 d.1) (Makes (Cas a e v))
-    (cond-true (d.0 == e) (R a d.0 d.1 v) (C a d.0 d.1)) (cond-false (d.0 == e) (R a d.0 d.1 v) (C a d.0 d.1))
-makes_own op d = refl
-
--- the operations of each core make its events in the recording of a state
-cores_made : (e : ℕ) (p : List (List Op)) (reads : List (ℕ × Option ℕ)) (c : ℕ) → c < length p
-    → AreOpsOf (get_or p c []) (get_or (cores_from e p reads) c [])
-cores_made e [] reads c h = absurd (omega arith)
-cores_made e (ops ∷ p) reads zero h = record {
-  one_each = sym (events_length e ops reads);
-  each = λ i below. rw (events_at e ops reads i) (makes_own (get_or ops i Fence) (get_or reads (e + i) (0, None)));
-}
-cores_made e (ops ∷ p) reads (suc c) h = cores_made (e + length ops) p reads c (omega (arith, h))
-
--- so the recording of a state is one of the program
-pub recorded_is_of : (p : Parts) (s : State) → p.init ≡ s.initial → IsProgramOf p (recorded p.cores s)
-recorded_is_of p s values = record {
-  cores = sym (cores_length 0 p.cores s.reads);
-  ops = cores_made 0 p.cores s.reads;
-  values = values;
-}

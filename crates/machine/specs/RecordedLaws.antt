@@ -1,14 +1,13 @@
 -- Laws of the recording of a state: its events are those of the program's operations.
-use Rattle.std.proofs.Common.{◌≡◌, ◌<◌, ◌≤◌, ◌+◌, ◌-◌, inl, inr, ℕ, zero, suc, Option, None, List, [], ◌∷◌}
+use Rattle.std.proofs.Common.{◌≡◌, ◌+◌, ◌-◌, inl, inr, ℕ, zero, suc, Option, None, List, [], ◌∷◌}
 use Rattle.std.proofs.Common.{map, length, get_or, arith, refl, ap, ◌∙◌}
 use Rattle.std.specs.List.{sum}
 use Rattle.std.proofs.lemmas.List.Sums.{sum-map}
 use Rattle.std.proofs.lemmas.Bool.{cases_lt}
-use Rattle.std.proofs.lemmas.List.{get_or_append_left, get_or-append_right, get_or-map, length-map}
 use Rattle.recording.specs.declared.event.Event.{Event}
 use Rattle.recording.specs.declared.event.Event.TheVariants.{F}
 use Rattle.recording.specs.Execution.{placed_from, event_count, event_at, core_of}
-use Rattle.recording.specs.PlacedLaws.{tagged, placed_total}
+use Rattle.recording.specs.PlacedLaws.{placed_here, placed_after, placed_total}
 use Rattle.program.specs.declared.op.Op.{Op}
 use Rattle.program.specs.declared.op.Op.TheVariants.{Fence}
 use Rattle.machine.specs.State.{State, event_of, events_from, cores_from, recorded}
@@ -41,19 +40,6 @@ pub cores_length : (e : ℕ) (p : List (List Op)) (reads : List (ℕ × Option �
 cores_length e [] reads = refl
 cores_length e (ops ∷ p) reads = ap suc (cores_length (e + length ops) p reads)
 
--- the number k of a core is that of its first events
-pub placed_here : {A : Type 0} (k : ℕ) (es : List A) (rest : List (List A)) (i : ℕ) (d : ℕ × A) → i < length es
-    → get_or (placed_from k (es ∷ rest)) i d ≡ (k, get_or es i d.1)
-placed_here {A} k es rest i d h =
-    get_or_append_left (map (λ e. (k, e)) es) (placed_from (k + 1) rest) d i (rw length-map h)
-    ∙ get_or-map (λ (e : A). (k, e)) es i d.1 d h
-
--- and those after them are of the cores after it
-pub placed_behind : {A : Type 0} (k : ℕ) (es : List A) (rest : List (List A)) (i : ℕ) (d : ℕ × A) → length es ≤ i
-    → get_or (placed_from k (es ∷ rest)) i d ≡ get_or (placed_from (k + 1) rest) (i - length es) d
-placed_behind {A} k es rest i d h =
-    get_or-append_right (map (λ e. (k, e)) es) (placed_from (k + 1) rest) (length es) i d (tagged k es) h
-
 -- event i is that of the operation i
 recorded_at : (k e : ℕ) (p : List (List Op)) (reads : List (ℕ × Option ℕ)) (i : ℕ)
     → get_or (placed_from k (cores_from e p reads)) i (0, F)
@@ -69,9 +55,9 @@ recorded_at k e (ops ∷ p) reads i =
     elim (cases_lt i (length ops)) [
       | inl here ↦ rw (placed_here k ops p i (0, Fence) here, placed_here k es rest i (0, F) (rw same here))
           (ap (λ (x : Event). (k, x)) (events_at e ops reads i))
-      | inr behind ↦
+      | inr after ↦
           let at : e + i ≡ e + length ops + (i - length ops) = omega arith in
-          rw (placed_behind k ops p i (0, Fence) behind, placed_behind k es rest i (0, F) (rw same behind), same, at)
+          rw (placed_after k ops p i (0, Fence) after, placed_after k es rest i (0, F) (rw same after), same, at)
           (recorded_at (k + 1) (e + length ops) p reads (i - length ops))
     ]
 

@@ -40,8 +40,7 @@ impl<T: Drop> BoundedList<T> {
         self.items.as_slice()
     }
 
-    /// Adds an item at the end, where there is room. It can't fail for want of
-    /// memory.
+    /// Adds an item at the end, where there is room. It takes no memory.
     pub(crate) fn push(&mut self, x: T)
         requires { length self.old.items < self.old.room }
         ensures { self.new ≡ record { items = self.old.items ++ x ∷ []; room = self.old.room } }

@@ -24,7 +24,7 @@ pub enum Fault {
 
 impl Fault {
     ghost use Rattle.std.specs.Prelude.{◌≡◌, ◌<◌, length, slice_get};
-    ghost use Rattle.moesi.specs.State.{IsAnswer};
+    ghost use Rattle.moesi.specs.State.{IsRowAnswer};
     ghost use Rattle.machine.specs.Faults.{forwarded, draining, without, may_fence, may_rmw, transacted};
 
     /// The store that a load of an address gets from its core's buffer.
@@ -90,7 +90,7 @@ impl Fault {
     ) -> Result<(), CacheError>
         requires core { core < caches.old.cores }
         requires address { addr < length caches.old.blocks }
-        ensures { IsAnswer (transacted self kind caches.old core addr) caches.old caches.new result }
+        ensures { IsRowAnswer (transacted self kind caches.old core addr) caches.old caches.new result }
     {
         match kind {
             Transaction::GetS => caches.get_s(core, addr),

@@ -67,8 +67,8 @@ impl Machine {
     ghost use Rattle.write_buffer.specs.Buffer.{youngest};
 
     /// A machine at the start of a program, whose store buffers have room for `capacity` stores
-    /// each. What a run and its `finish` will hold is reserved here, so that they can't fail for want
-    /// of memory. Fails only if out of memory.
+    /// each. What a run and its `finish` will hold is reserved here, so that these never run out of
+    /// memory. Fails only if out of memory.
     pub fn new(
         alloc: Global,
         program: Program,

@@ -11,7 +11,7 @@ impl Machine {
     ghost use Rattle.std.specs.Prelude.{◌≡◌, Ok, Err, IfOk, OnOk, OnErr, IfErr, length};
     ghost use Rattle.program.specs.Parts.{IsWithin};
     ghost use Rattle.machine.specs.declared.step.Step.TheVariants.{Exec};
-    ghost use Rattle.machine.specs.Configuration.{answer_of, state_behind, IsNextOf, IsAnswer};
+    ghost use Rattle.machine.specs.Configuration.{answer_of, state_after, IsNextOf, IsStepAnswer};
     ghost use Rattle.machine.specs.OneRow.{EveryFaultChangesOneRow};
 
     /// The next operation of a core, and the number of its event.
@@ -31,7 +31,7 @@ impl Machine {
 
     /// Executes the next operation of a core.
     fn exec(&mut self, core: CoreId) -> Result<(), Blocked>
-        ensures { IsAnswer (answer_of self.old (Exec core)) self.old self.new result }
+        ensures { IsStepAnswer (answer_of self.old (Exec core)) self.old self.new result }
     {
         let (op, event) = self.next_op(core)?;
         match op {
@@ -67,7 +67,7 @@ impl Machine {
 
     /// Takes the steps of a list in turn; those that are blocked change nothing.
     pub fn run(&mut self, steps: &[Step])
-        ensures { self.new ≡ record self.old { state = state_behind self.old steps.now } }
+        ensures { self.new ≡ record self.old { state = state_after self.old steps.now } }
     {
         for step in steps {
             let _ = self.step(*step);

@@ -19,7 +19,7 @@ impl Machine {
     ghost use Rattle.moesi.specs.Lines.{is_valid};
     ghost use Rattle.moesi.specs.State.{line_of};
     ghost use Rattle.machine.specs.State.{line_copy};
-    ghost use Rattle.machine.specs.Configuration.{answer_of, exec_answer, IsNextOf, IsAnswer};
+    ghost use Rattle.machine.specs.Configuration.{answer_of, exec_answer, IsNextOf, IsStepAnswer};
 
     /// Puts a store at the back of its core's buffer.
     pub(crate) fn store(
@@ -30,7 +30,7 @@ impl Machine {
         value: u32,
     ) -> Result<(), Blocked>
         requires { IsNextOf self.old core (St addr value) event }
-        ensures { IsAnswer (exec_answer self.old core (St addr value) event) self.old self.new result }
+        ensures { IsStepAnswer (exec_answer self.old core (St addr value) event) self.old self.new result }
     {
         let entry = Entry { addr, value, event };
         let Ok(()) = self.buffers[core as usize].push(entry) else {
@@ -43,7 +43,7 @@ impl Machine {
     /// Reads from the core's own buffer, where the machine looks there, or else from its line.
     pub(crate) fn load(&mut self, core: CoreId, event: EventId, addr: Addr) -> Result<(), Blocked>
         requires { IsNextOf self.old core (Ld addr) event }
-        ensures { IsAnswer (exec_answer self.old core (Ld addr) event) self.old self.new result }
+        ensures { IsStepAnswer (exec_answer self.old core (Ld addr) event) self.old self.new result }
     {
         let entry = self.fault.forwarded(&self.buffers[core as usize], addr);
         let Ok(what) = forwarded_or_read(entry, self.caches.read(core, addr)) else {
@@ -58,7 +58,7 @@ impl Machine {
     /// Waits for an empty buffer, where the machine does.
     pub(crate) fn fence(&mut self, core: CoreId, event: EventId) -> Result<(), Blocked>
         requires { IsNextOf self.old core Fence event }
-        ensures { IsAnswer (exec_answer self.old core Fence event) self.old self.new result }
+        ensures { IsStepAnswer (exec_answer self.old core Fence event) self.old self.new result }
     {
         if !self.fault.may_fence(&self.buffers[core as usize]) {
             return Err(Blocked::B3);
@@ -80,7 +80,7 @@ impl Machine {
         requires address { addr < length self.old.program.names }
         requires row { exec_answer self.old core op event
             ≡ read_modify_written self.old.fault self.old.state core event op addr }
-        ensures { IsAnswer (exec_answer self.old core op event) self.old self.new result }
+        ensures { IsStepAnswer (exec_answer self.old core op event) self.old self.new result }
     {
         if !self.fault.may_rmw(&self.buffers[core as usize]) {
             return Err(Blocked::B3);
@@ -112,7 +112,7 @@ impl Machine {
         requires address { addr < length self.old.program.names }
         requires row { exec_answer self.old core op event
             ≡ read_unmodified self.old.fault self.old.state core event addr }
-        ensures { IsAnswer (exec_answer self.old core op event) self.old self.new result }
+        ensures { IsStepAnswer (exec_answer self.old core op event) self.old self.new result }
     {
         if !self.fault.may_rmw(&self.buffers[core as usize]) {
             return Err(Blocked::B3);
@@ -140,7 +140,7 @@ impl Machine {
     ) -> Result<(), Blocked>
         requires at { IsNextOf self.old core (Cas addr expected value) event }
         requires address { addr < length self.old.program.names }
-        ensures { IsAnswer (exec_answer self.old core (Cas addr expected value) event) self.old self.new result }
+        ensures { IsStepAnswer (exec_answer self.old core (Cas addr expected value) event) self.old self.new result }
     {
         let op = Op::Cas(addr, expected, value);
         if self.has_value(core, addr, expected) {
@@ -166,7 +166,7 @@ impl Machine {
 
     /// Writes the store that leaves a core's buffer next to the core's line.
     pub(crate) fn drain(&mut self, core: CoreId) -> Result<(), Blocked>
-        ensures { IsAnswer (answer_of self.old (Drain core)) self.old self.new result }
+        ensures { IsStepAnswer (answer_of self.old (Drain core)) self.old self.new result }
     {
         if core as usize >= self.program.cores() {
             return Err(Blocked::B8);

@@ -9,7 +9,7 @@ impl Machine {
     ghost use Rattle.std.specs.Prelude.{◌≡◌};
     ghost use Rattle.machine.specs.ScriptLine.{transaction_step};
     ghost use Rattle.machine.specs.Step.{has};
-    ghost use Rattle.machine.specs.Configuration.{answer_of, IsAnswer};
+    ghost use Rattle.machine.specs.Configuration.{answer_of, IsStepAnswer};
 
     /// Whether there is such a core and such an address.
     fn has(&self, core: CoreId, addr: Addr) -> bool
@@ -26,7 +26,7 @@ impl Machine {
         core: CoreId,
         addr: Addr,
     ) -> Result<(), Blocked>
-        ensures { IsAnswer (answer_of self.old (transaction_step kind core addr)) self.old self.new result }
+        ensures { IsStepAnswer (answer_of self.old (transaction_step kind core addr)) self.old self.new result }
     {
         if !self.has(core, addr) {
             return Err(Blocked::B8);

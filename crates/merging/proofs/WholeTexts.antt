@@ -109,8 +109,8 @@ other_fits : (unjudged total ordered violations : ℕ) (first : Option ℕ) → 
     → IsFirstOf unjudged total (Some (other_place first)) × AreApart ordered first (Some (other_place first))
 other_fits u total ordered violations None some sums fits = ((some, omega (arith, sums)), tt)
 other_fits u total ordered violations (Some i) some sums fits = elim (cases_lt 0 i) [
-  | inl behind ↦ let other : nat_eq i 0 ≡ false = ne_eqb i 0 (λ e. omega (arith, e, behind)) in
-      rw other ((some, omega (arith, sums)), ((λ same. omega (arith, same, behind)), inr (omega arith)))
+  | inl after ↦ let other : nat_eq i 0 ≡ false = ne_eqb i 0 (λ e. omega (arith, e, after)) in
+      rw other ((some, omega (arith, sums)), ((λ same. omega (arith, same, after)), inr (omega arith)))
   | inr not ↦ let here : nat_eq i 0 ≡ true = eq-eqb i 0 (omega (arith, not)) in
       rw here ((some, omega (arith, sums, fits.0)), ((λ same. omega (arith, same, not)), inl (omega (arith, not))))
 ]

@@ -14,7 +14,7 @@ use Rattle.merging.specs.declared.merged.Merged.{Merged}
 use Rattle.merging.specs.TextOf.{HasTextOf}
 use Rattle.merging.specs.Texts.{AreFiles, BeginsWithLedger, IsFile}
 
--- the codes, which are so many, are refused: there are too many, and by no other number
+-- this many codes are refused: there are too many, and by no other number
 abbrev pub Refuses : MergeRefusal → ℕ → Type 0
 Refuses TooMany count = 2 ^ 64 ≤ count
 Refuses NoLine count = ⊥

@@ -83,7 +83,7 @@ abbrev pub write : CacheState → ℕ → ℕ → ℕ → ℕ → Result CacheSt
 write s c a value event = at_address s a (row.write (block_of s a) c (value, Some event))
 
 -- a call answered as the row says, and led from s to t, which is s where it was refused
-pub record IsAnswer {A : Type 0} (row : Result CacheState CacheError) (s t : CacheState)
+pub record IsRowAnswer {A : Type 0} (row : Result CacheState CacheError) (s t : CacheState)
     (result : Result A CacheError) : Type 0 where
   pub ok : OnOk result (row ≡ Ok t)
   pub refused : IfErr result (λ e. row ≡ Err e)

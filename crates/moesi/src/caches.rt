@@ -38,13 +38,13 @@ impl Model for Caches {
 }
 
 impl Caches {
-    ghost use Rattle.std.specs.Prelude.{◌≡◌, ◌≤◌, ◌<◌, length, IfOk};
+    ghost use Rattle.std.specs.Prelude.{◌≡◌, ◌≤◌, ◌<◌, if◌then◌else◌, length, IfOk};
     ghost use Rattle.common.specs.declared.limits.TheConstants.{MAX_EVENTS};
     ghost use Rattle.moesi.specs.Words.{cell_in};
     ghost use Rattle.moesi.specs.Block.{cell_of, with_line, block_by, has_copy, supplied};
     ghost use Rattle.moesi.specs.Rows.{turned};
     ghost use Rattle.moesi.specs.State.{opening_caches, opening_with, block_of, line_of, memory_of, with_block};
-    ghost use Rattle.moesi.specs.State.{get_s, get_m_by, get_m, get_m_stale, put, read, write, IsAnswer};
+    ghost use Rattle.moesi.specs.State.{get_s, get_m_by, get_m, get_m_stale, put, read, write, IsRowAnswer};
     ghost use Rattle.moesi.specs.Coherent.{IsCoherent};
     ghost use Rattle.moesi.specs.Laws.{OpeningIsCoherent, OpeningWithIsCoherent, EveryCallKeepsCoherence};
     ghost use Rattle.moesi.specs.Laws.{EveryCopyIsCurrent, EveryReadIsCurrent};
@@ -54,7 +54,7 @@ impl Caches {
     ghost use Rattle.moesi.specs.Laws.{EveryCallKeepsEmptyLines};
 
     /// Caches of this many cores where no line is valid, over this many addresses with value 0 and no
-    /// event; out of memory where there is none, also for so many that no memory could hold them.
+    /// event. Fails only if out of memory, also where no memory could hold them.
     pub fn new(alloc: Global, cores: usize, addresses: usize) -> Result<Caches, OutOfMemory>
         ensures { IfOk result (λ s. s ≡ opening_caches cores addresses) }
     {
@@ -80,8 +80,7 @@ impl Caches {
     }
 
     /// Caches of this many cores where no line is valid, over as many addresses as there are initial values,
-    /// each with its value and no event; out of memory where there is none, also for so many that no
-    /// memory could hold them.
+    /// each with its value and no event. Fails only if out of memory, also where no memory could hold them.
     ///
     /// The opening caches are coherent, whatever memory begins with, and every call but the faulty
     /// `get_m_stale` keeps them so. In coherent caches a valid line has the current data, GetS, GetM and
@@ -150,41 +149,41 @@ impl Caches {
         unpack(self.word(self.cores, addr)).copy
     }
 
-    /// Turns each line of an address, and tells what a core that asks gets: whether some line was valid, and
-    /// a word with the data that it is given.
-    fn ask(&mut self, addr: Addr, turn: Turn) -> (bool, u64)
-        requires { addr < length self.old.blocks }
-        ensures valid { result.0 ≡ has_copy (block_of self.old addr) }
-        ensures given { (cell_in result.1).copy ≡ supplied (block_of self.old addr) }
-        ensures turned { self.new ≡ with_block self.old addr (block_by (turned turn) (block_of self.old addr)) }
+    /// Turns each line of an address, and then gives a core a line with the data that a core which asks is
+    /// given: in `beside` where some line was valid, else in `alone`.
+    fn take(&mut self, core: CoreId, addr: Addr, turn: Turn, beside: Line, alone: Line)
+        requires core { core < self.old.cores }
+        requires address { addr < length self.old.blocks }
+        ensures { self.new ≡ with_block self.old addr
+            (with_line (block_by (turned turn) (block_of self.old addr)) core (record {
+              line = if has_copy (block_of self.old addr) then beside else alone;
+              copy = supplied (block_of self.old addr);
+            })) }
     {
-        let told = asked(&self.words, self.cores, self.addresses, addr as usize);
+        let (valid, word) = asked(&self.words, self.cores, self.addresses, addr as usize);
+        let own = relined(word, if valid { beside } else { alone });
         turn_all(
             &mut self.words,
             self.cores,
             self.addresses,
+            core as usize,
             addr as usize,
             turn,
+            own,
         );
-        told
     }
 
     /// GetS: gets a core a line that it may read. C1 where its line is valid; then nothing changes.
     pub fn get_s(&mut self, core: CoreId, addr: Addr) -> Result<(), CacheError>
         requires core { core < self.old.cores }
         requires address { addr < length self.old.blocks }
-        ensures answer { IsAnswer (get_s self.old core addr) self.old self.new result }
+        ensures answer { IsRowAnswer (get_s self.old core addr) self.old self.new result }
         ensures coherent { IsCoherent self.old → IsCoherent self.new }
     {
         if self.line(core, addr).is_valid() {
             return Err(CacheError::C1);
         }
-        let (valid, word) = self.ask(addr, Turn::Share);
-        self.set_word(
-            core as usize,
-            addr,
-            relined(word, if valid { Line::S } else { Line::E }),
-        );
+        self.take(core, addr, Turn::Share, Line::S, Line::E);
         Ok(())
     }
 
@@ -192,13 +191,12 @@ impl Caches {
     fn get_m_by(&mut self, core: CoreId, addr: Addr, turn: Turn) -> Result<(), CacheError>
         requires core { core < self.old.cores }
         requires address { addr < length self.old.blocks }
-        ensures { IsAnswer (get_m_by turn self.old core addr) self.old self.new result }
+        ensures { IsRowAnswer (get_m_by turn self.old core addr) self.old self.new result }
     {
         if self.line(core, addr).is_exclusive() {
             return Err(CacheError::C2);
         }
-        let (_, word) = self.ask(addr, turn);
-        self.set_word(core as usize, addr, relined(word, Line::M));
+        self.take(core, addr, turn, Line::M, Line::M);
         Ok(())
     }
 
@@ -207,7 +205,7 @@ impl Caches {
     pub fn get_m(&mut self, core: CoreId, addr: Addr) -> Result<(), CacheError>
         requires core { core < self.old.cores }
         requires address { addr < length self.old.blocks }
-        ensures answer { IsAnswer (get_m self.old core addr) self.old self.new result }
+        ensures answer { IsRowAnswer (get_m self.old core addr) self.old self.new result }
         ensures coherent { IsCoherent self.old → IsCoherent self.new }
     {
         self.get_m_by(core, addr, Turn::Invalidate)
@@ -221,7 +219,7 @@ impl Caches {
     pub fn get_m_stale(&mut self, core: CoreId, addr: Addr) -> Result<(), CacheError>
         requires core { core < self.old.cores }
         requires address { addr < length self.old.blocks }
-        ensures answer { IsAnswer (get_m_stale self.old core addr) self.old self.new result }
+        ensures answer { IsRowAnswer (get_m_stale self.old core addr) self.old self.new result }
         ensures transactions { EveryCopyWasThere }
         ensures writes { EveryWriteAddsItself }
         ensures opening { OpeningHasEmptyLines }
@@ -235,7 +233,7 @@ impl Caches {
     pub fn put(&mut self, core: CoreId, addr: Addr) -> Result<(), CacheError>
         requires core { core < self.old.cores }
         requires address { addr < length self.old.blocks }
-        ensures answer { IsAnswer (put self.old core addr) self.old self.new result }
+        ensures answer { IsRowAnswer (put self.old core addr) self.old self.new result }
         ensures coherent { IsCoherent self.old → IsCoherent self.new }
     {
         let word = self.word(core as usize, addr);
@@ -275,7 +273,7 @@ impl Caches {
         requires core { core < self.old.cores }
         requires address { addr < length self.old.blocks }
         requires event { event < MAX_EVENTS }
-        ensures answer { IsAnswer (write self.old core addr value event) self.old self.new result }
+        ensures answer { IsRowAnswer (write self.old core addr value event) self.old self.new result }
         ensures coherent { IsCoherent self.old → IsCoherent self.new }
     {
         if !self.line(core, addr).is_exclusive() {

@@ -1,7 +1,7 @@
 //! The words of one address, in the words of all.
 
 ghost use Rattle.std.specs.Prelude.{◌≡◌, ◌<◌, ◌+◌, ◌*◌, ◌^◌, ℕ, IfOk, length, replicate, slice_index};
-ghost use Rattle.moesi.specs.Block.{has_copy, supplied, block_by};
+ghost use Rattle.moesi.specs.Block.{has_copy, supplied, block_by, with_line};
 ghost use Rattle.moesi.specs.State.{with_block};
 ghost use Rattle.moesi.specs.Rows.{turned};
 ghost use Rattle.moesi.specs.Words.{cell_in, memory_cell, AreWords, block_in, caches_in};
@@ -72,17 +72,27 @@ pub(crate) fn asked(words: &[u64], cores: usize, addresses: usize, addr: usize) 
     (valid, words[at])
 }
 
-/// Turns each line of the address.
-pub(crate) fn turn_all(words: &mut [u64], cores: usize, addresses: usize, addr: usize, turn: Turn)
+/// Turns each line of the address, and then gives a core's line another word.
+pub(crate) fn turn_all(
+    words: &mut [u64],
+    cores: usize,
+    addresses: usize,
+    core: usize,
+    addr: usize,
+    turn: Turn,
+    own: u64,
+)
     requires words { AreWords cores addresses words.old }
+    requires core { core < cores }
     requires address { addr < addresses }
     ensures size { length words.new ≡ length words.old }
     ensures turned { caches_in cores addresses words.new ≡ with_block (caches_in cores addresses words.old) addr
-        (block_by (turned turn) (block_in cores addresses words.old addr)) }
+        (with_line (block_by (turned turn) (block_in cores addresses words.old addr)) core (cell_in own)) }
 {
     let mut at = addr;
     for _ in 0..cores {
         words[at] = turned(words[at], turn);
         at += addresses;
     }
+    words[place(core, addresses, addr)] = own;
 }

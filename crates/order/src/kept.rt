@@ -8,7 +8,7 @@ use common::EventId;
 use recording::Recording;
 
 /// Whether no event after the one at a place is kept before it.
-fn keeps_behind(recording: &Recording, order: &[EventId], at: usize) -> bool
+fn keeps_after(recording: &Recording, order: &[EventId], at: usize) -> bool
     requires { at < length order.now }
     ensures { IsTrue result ↔ ((i : ℕ) → at < i → i < length order.now
         → ¬ Kept recording.now (slice_index order.now i) (slice_index order.now at)) }
@@ -27,7 +27,7 @@ pub(crate) fn keeps_order(recording: &Recording, order: &[EventId]) -> bool
     ensures { IsTrue result ↔ ((e f : ℕ) → Kept recording.now e f → Before order.now e f) }
 {
     for at in 0..order.len() {
-        if !keeps_behind(recording, order, at) {
+        if !keeps_after(recording, order, at) {
             return false;
         }
     }

@@ -99,8 +99,8 @@ impl Waiting {
             ≡ slice_index self.old f - one_if (relates relation.now event f) }
     {
         relation.sound();
-        let behind = &relation.successors()[event as usize];
-        let mut others = behind.numbers();
+        let after = &relation.successors()[event as usize];
+        let mut others = after.numbers();
         while let Some(other) = others.next() {
             self.lower(other);
         }

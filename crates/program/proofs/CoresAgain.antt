@@ -238,12 +238,12 @@ cores_read all h [] names back front rest k n parts used le few room small =
 cores_read all h (ops ∷ cores) names back front rest k n parts used le few room small =
     let p : Body = record { names = names; cores = front } in
     let q : Body = record { names = names; cores = front ++ [] ∷ [] } in
-    let behind = flat_map (core_text all) cores ++ rest in
+    let beyond = flat_map (core_text all) cores ++ rest in
     let b = bind_some (use_ops (length names) ops) (λ m. use_cores m cores) n used in
     let grows = cores_grow b.0 cores n b.2 in
-    let first = said_again k (plain p) (plain q) core_line (flat_map (op_text all) ops ++ behind) tt tt
+    let first = said_again k (plain p) (plain q) core_line (flat_map (op_text all) ops ++ beyond) tt tt
     (core_so p (omega (arith, few))) in
-    let inner = ops_read all h ops names back front [] behind (k + 1) b.0 parts b.1
+    let inner = ops_read all h ops names back front [] beyond (k + 1) b.0 parts b.1
     (omega (arith, grows, le)) (omega (arith, room, sum_by-cons (λ (os : List Op). length os) ops cores))
     small.0 in
     let later = cores_read all h cores inner.more inner.back (front ++ ops ∷ []) rest inner.line n
@@ -252,9 +252,9 @@ cores_read all h (ops ∷ cores) names back front rest k n parts used le few roo
     (omega (arith, room, count-append front ops, sum_by-cons (λ (os : List Op). length os) ops cores))
     small.1 in
     let start : (core_text all ops ++ flat_map (core_text all) cores) ++ rest
-    ≡ (codes "core" ++ 10 ∷ []) ++ (flat_map (op_text all) ops ++ behind) =
+    ≡ (codes "core" ++ 10 ∷ []) ++ (flat_map (op_text all) ops ++ beyond) =
     append_assoc (core_text all ops) (flat_map (core_text all) cores) rest
-    ∙ append_assoc (codes "core" ++ 10 ∷ []) (flat_map (op_text all) ops) behind in
+    ∙ append_assoc (codes "core" ++ 10 ∷ []) (flat_map (op_text all) ops) beyond in
     record {
       more = later.more;
       back = later.back;

@@ -245,8 +245,8 @@ length_more [] y = refl
 length_more (x ∷ xs) y = let h = length_more xs y in omega (arith, h)
 
 -- what stands after a text and a space
-behind_space : (text rest : List ℕ) → drop (length text + 1) (text ++ 32 ∷ rest) ≡ rest
-behind_space text rest =
+after_space : (text rest : List ℕ) → drop (length text + 1) (text ++ 32 ∷ rest) ≡ rest
+after_space text rest =
     ap (λ xs. drop (length text + 1) xs) (sym (append_assoc text (32 ∷ []) rest))
     ∙ drop_at (text ++ 32 ∷ []) rest (length text + 1) (omega (arith, length_more text 32))
 
@@ -266,7 +266,7 @@ value_again line name n named fits =
     rw (
       space_at name (decimal n) named,
       take_at text (32 ∷ decimal n) (length text) refl,
-      behind_space text (decimal n),
+      after_space text (decimal n),
       named,
       again n fits,
     ) refl
@@ -300,7 +300,7 @@ pair_again name e n first second =
     rw (
       at,
       take_at (decimal e) (32 ∷ decimal n) (length (decimal e)) refl,
-      behind_space (decimal e) (decimal n),
+      after_space (decimal e) (decimal n),
       again e first,
       again n second,
     ) refl
@@ -316,7 +316,7 @@ compare_again name e n named first second =
       append_assoc text (32 ∷ decimal e) (32 ∷ decimal n),
       space_at name pair named,
       take_at text (32 ∷ pair) (length text) refl,
-      behind_space text pair,
+      after_space text pair,
       named,
     ) (pair_again name e n first second)
 

@@ -11,7 +11,7 @@ use Rattle.std.proofs.lemmas.Option.{cond_some}
 use Rattle.program.specs.declared.name.Name.{Name}
 use Rattle.program.specs.Names.{is_letter, is_letter_or_digit, is_name, is_zero, name_eq, name_of, name_text}
 use Rattle.program.specs.Names.{padded}
-use Rattle.program.specs.TestLaws.{all_also, first_behind}
+use Rattle.program.specs.TestLaws.{all_also, first_after}
 
 -- the bytes of a name are letters and digits, and then zeros
 pub letters : (text : List ℕ) (name : Name) → name_of text ≡ Some name →
@@ -49,7 +49,7 @@ name_only text name e =
     let zeros : position_or_len is_zero (drop (length text) (replicate 8 0)) ≡ 0 =
     rw (drop-replicate {X = ℕ} (length text) 8 0) (zeros_first (8 - length text)) in
     let at : position_or_len is_zero (padded text) ≡ length text =
-    first_behind is_zero text (drop (length text) (replicate 8 0)) plain zeros in
+    first_after is_zero text (drop (length text) (replicate 8 0)) plain zeros in
     rw (← read.1, at) (take_at text (drop (length text) (replicate 8 0)) (length text) refl)
 
 -- and it is read as that name again

@@ -40,18 +40,18 @@ all_also p q h (x ∷ xs) e = let both = and_parts (p x) (list_all p xs) e in rw
     (all_also p q h xs both.1)
 
 -- the first place that passes stands after those that don't
-pub first_behind : (p : ℕ → Bool) (xs ys : List ℕ) → list_all (λ b. not (p b)) xs ≡ true →
+pub first_after : (p : ℕ → Bool) (xs ys : List ℕ) → list_all (λ b. not (p b)) xs ≡ true →
     position_or_len p ys ≡ 0 → position_or_len p (xs ++ ys) ≡ length xs
-first_behind p [] ys all first = first
-first_behind p (x ∷ xs) ys all first =
+first_after p [] ys all first = first
+first_after p (x ∷ xs) ys all first =
     let both = and_parts (not (p x)) (list_all (λ b. not (p b)) xs) all in
-    let later = first_behind p xs ys both.1 first in rw both.0 (omega (arith, later))
+    let later = first_after p xs ys both.1 first in rw both.0 (omega (arith, later))
 
 -- the place of the first that passes, after those that don't
 pub first_place : (p : ℕ → Bool) (xs ys : List ℕ) (y : ℕ) → list_all (λ b. not (p b)) xs ≡ true → p y
     ≡ true → position p (xs ++ y ∷ ys) ≡ Some (length xs)
 first_place p xs ys y all here =
     let first : position_or_len p (y ∷ ys) ≡ 0 = rw here refl in
-    let at = first_behind p xs (y ∷ ys) all first in
+    let at = first_after p xs (y ∷ ys) all first in
     let within : length xs < length (xs ++ y ∷ ys) = omega (arith, length-append xs (y ∷ ys)) in
     rw at (cond-true _ (Some (length xs)) None (lt-ltb _ _ within))

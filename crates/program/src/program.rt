@@ -46,7 +46,7 @@ impl Program {
 
     /// The program of these names, operations and initial values. None exactly where no text is of
     /// them: where a limit is passed, an address has no name, a name is unused, the names aren't in
-    /// order of first use, or there isn't one initial value for each name. It can't fail for want of
+    /// order of first use, or there isn't one initial value for each name. It takes no
     /// memory.
     pub fn new(names: IndexSet<Name>, cores: Vec<Ops>, init: Vec<u32>) -> Option<Program>
         ensures some { IfSome result (λ p. p ≡ parts_of names.keys cores.items init.items) }

@@ -10,7 +10,7 @@ use Rattle.serde_json.specs.View.{view, items_of}
 use Rattle.recording.specs.declared.event.Event.TheVariants.{L, S, R, C, F}
 use Rattle.recorder.specs.Text.{number_data, list_data, source_data, event_data}
 use Rattle.recorder.specs.Reading.{natural, value_in, source_in}
-use Rattle.recorder.specs.Reading.{event_of, event_in}
+use Rattle.recorder.specs.Reading.{member_event, event_in}
 use Rattle.recorder.specs.Written.{IsFitting}
 use Rattle.recording.specs.declared.event.Event.{Event}
 use Rattle.recorder.proofs.WrittenTexts.{push_fits}
@@ -30,7 +30,7 @@ source_again (Some n) = refl
 
 -- an event
 pub event_again : (e : Event) → IsFitting e → event_in (event_data e) ≡ Some e
-unfolding event_of
+unfolding member_event
 event_again (L a r s) h = rw (lt-ltb r (2 ^ 32) h.1, source_again s) refl
 event_again (S a w) h = rw (lt-ltb w (2 ^ 32) h.1) refl
 event_again (R a r s w) h = rw (lt-ltb r (2 ^ 32) h.1, source_again s, lt-ltb w (2 ^ 32) h.3) refl

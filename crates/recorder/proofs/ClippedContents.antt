@@ -11,7 +11,8 @@ use Rattle.recording.specs.Recording.{executed}
 use Rattle.recording.specs.Event.{is_failed_cas}
 use Rattle.recorder.specs.Text.{has_failed_cas}
 use Rattle.recorder.specs.ParsedModel.{ParsedModel, initial_values, execution_of, IsVersioned}
-use Rattle.recorder.specs.Reading.{natural, value_in, event_in, list_in, at_key, count_members, parts_of, contents_of}
+use Rattle.recorder.specs.Reading.{natural, value_in, event_in, list_in, at_key, count_members}
+use Rattle.recorder.specs.Reading.{parsed_parts, contents_of}
 use Rattle.recorder.specs.Reading.{shape_in}
 use Rattle.recorder.specs.Clipped.{clip, clip_event, clipped, clipped_shape, clipped_number, clipped_event}
 use Rattle.recorder.specs.ReadMembers.{clipped_contents}
@@ -58,8 +59,8 @@ execution_clipped c =
 
 -- what is clipped of parts
 parts_clipped : (v : Option ℕ) (cs : Option (List (List Event))) (ws : Option (List (List ℕ)))
-    (values : Option (List ℕ)) → option_map clipped_shape (parts_of v cs ws values)
-    ≡ parts_of v (option_map (map (map clip_event)) cs) (option_map (map (map clip)) ws) values
+    (values : Option (List ℕ)) → option_map clipped_shape (parsed_parts v cs ws values)
+    ≡ parsed_parts v (option_map (map (map clip_event)) cs) (option_map (map (map clip)) ws) values
 parts_clipped None cs ws values = refl
 parts_clipped (Some v) None ws values = refl
 parts_clipped (Some v) (Some cs) None values = refl
@@ -67,8 +68,8 @@ parts_clipped (Some v) (Some cs) (Some ws) values = refl
 
 -- of contents with initial values
 valued_clipped : (v : Option ℕ) (cs : Option (List (List Event))) (ws : Option (List (List ℕ)))
-    (init : Option (List ℕ)) → option_map clipped_shape (option_and_then (λ i. parts_of v cs ws (Some i)) init)
-    ≡ option_and_then (λ i. parts_of v (option_map (map (map clip_event)) cs) (option_map (map (map clip)) ws)
+    (init : Option (List ℕ)) → option_map clipped_shape (option_and_then (λ i. parsed_parts v cs ws (Some i)) init)
+    ≡ option_and_then (λ i. parsed_parts v (option_map (map (map clip_event)) cs) (option_map (map (map clip)) ws)
     (Some i)) init
 valued_clipped v cs ws None = refl
 valued_clipped v cs ws (Some i) = parts_clipped v cs ws (Some i)

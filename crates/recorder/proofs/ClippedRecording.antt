@@ -7,7 +7,7 @@ use Rattle.recording.specs.declared.event.Event.TheVariants.{F}
 use Rattle.recording.specs.Execution.{Execution, placed_from, event_at, write_list}
 use Rattle.recording.specs.Recording.{IsRecording, IsWithinLimits}
 use Rattle.recorder.specs.Clipped.{clip, clip_event, clipped}
-use Rattle.recording.specs.PlacedLaws.{placed_here, placed_behind}
+use Rattle.recording.specs.PlacedLaws.{placed_here, placed_after}
 use Rattle.recording.specs.RefusalLaws.{source_of_recording}
 use Rattle.recorder.proofs.Clipped.{event_clipped}
 use Rattle.recorder.proofs.ClippedLimits.{within_from}
@@ -29,15 +29,15 @@ cores_fixed k [] fixed = refl
 cores_fixed k (es ∷ rest) fixed = rw (
   map_fixed clip_event F es (λ i at. subst (λ (p : ℕ × Event). clip_event p.1 ≡ p.1)
       (placed_here k es rest i (0, F) at) (fixed i)),
-  cores_fixed (k + 1) rest (λ e. subst (λ (p : ℕ × Event). clip_event p.1 ≡ p.1) (behind e)
+  cores_fixed (k + 1) rest (λ e. subst (λ (p : ℕ × Event). clip_event p.1 ≡ p.1) (after e)
       (fixed (length es + e))),
 ) refl
   where
-    behind : (e : ℕ) → get_or (placed_from k (es ∷ rest)) (length es + e) (0, F)
+    after : (e : ℕ) → get_or (placed_from k (es ∷ rest)) (length es + e) (0, F)
         ≡ get_or (placed_from (k + 1) rest) e (0, F)
-    behind e =
+    after e =
         let same : length es + e - length es ≡ e = omega arith in
-        placed_behind k es rest (length es + e) (0, F) (omega arith)
+        placed_after k es rest (length es + e) (0, F) (omega arith)
         ∙ ap (λ (i : ℕ). get_or (placed_from (k + 1) rest) i (0, F)) same
 
 -- write lists are not clipped where no number is

@@ -76,23 +76,23 @@ value_alike x y same begins e has a reads =
     gives (Some w) v is = sym (ap value_written (same w)) ∙ is
 
 -- what stands after the first number stands in the list
-stands_behind : (x : ℕ) (xs : List ℕ) (e : ℕ) → 0 < times xs e → 0 < times (x ∷ xs) e
+stands_after : (x : ℕ) (xs : List ℕ) (e : ℕ) → 0 < times xs e → 0 < times (x ∷ xs) e
 unfolding times
-stands_behind x xs e stands = omega arith
+stands_after x xs e stands = omega arith
 
 -- a list whose clipped numbers are below the greatest of 16 bits was not clipped
 list_unclipped : (xs : List ℕ) → ((e : ℕ) → 0 < times (map clip xs) e → e < 2 ^ 16 - 1) → map clip xs ≡ xs
 list_unclipped [] below = refl
 list_unclipped (x ∷ xs) below =
     let first = unclipped x (below (clip x) (omega (arith, times_here (map clip xs) (clip x) (clip x) refl))) in
-    rw (first, list_unclipped xs (λ e stands. below e (stands_behind (clip x) (map clip xs) e stands))) refl
+    rw (first, list_unclipped xs (λ e stands. below e (stands_after (clip x) (map clip xs) e stands))) refl
 
 -- a list of numbers below the greatest of 16 bits is not clipped
 list_small : (xs : List ℕ) → ((e : ℕ) → 0 < times xs e → e < 2 ^ 16 - 1) → map clip xs ≡ xs
 list_small [] below = refl
 list_small (x ∷ xs) below =
     let first = small x (below x (omega (arith, times_here xs x x refl))) in
-    rw (first, list_small xs (λ e stands. below e (stands_behind x xs e stands))) refl
+    rw (first, list_small xs (λ e stands. below e (stands_after x xs e stands))) refl
 
 -- executions with the same list of an address and the same writes of it
 list_alike : (x y : Execution) (a : ℕ) → write_list x a ≡ write_list y a

@@ -7,7 +7,7 @@ use Rattle.serde_json.specs.Find.{get, as_str, as_object}
 use Rattle.recording.specs.declared.event.Event.TheVariants.{L, S, R, C}
 use Rattle.recorder.specs.declared.fields.Fields.{Fields}
 use Rattle.recording.specs.declared.event.Event.{Event}
-use Rattle.recorder.specs.Reading.{natural, value_in, source_in, at_key, read_of, event_of, count_members}
+use Rattle.recorder.specs.Reading.{natural, value_in, source_in, at_key, read_of, member_event, count_members}
 use Rattle.recorder.specs.Clipped.{clip, clip_event, clipped_number, clipped_event}
 use Rattle.recorder.specs.Pulled.{clipped_source, GivesValue, Adds}
 use Rattle.recorder.specs.ReadMembers.{count_of, AreFields}
@@ -116,9 +116,9 @@ rmw_clipped a r s (Some v) = read_clipped (λ x y z. R x y z v) (λ x y z. refl)
 
 -- of an event of a kind
 kind_clipped : (k : List ℕ) (n : ℕ) (a r : Option ℕ) (s : Option (Option ℕ)) (w : Option ℕ)
-    → option_map clip_event (event_of k n a r s w)
-    ≡ event_of k n (option_map clip a) r (option_map (option_map clip) s) w
-unfolding event_of
+    → option_map clip_event (member_event k n a r s w)
+    ≡ member_event k n (option_map clip a) r (option_map (option_map clip) s) w
+unfolding member_event
 kind_clipped k n a r s w = simp (
   map_if,
   read_clipped L (λ x y z. refl) a r s,
@@ -132,7 +132,7 @@ pub event_given : (f : Fields) (n : ℕ) (d : Data) → option_map count_members
     → at_key as_str (codes "k") d ≡ option_map (λ s. s.now) f.k → at_key clipped_number (codes "a") d ≡ f.a
     → at_key value_in (codes "r") d ≡ f.r → at_key clipped_source (codes "s") d ≡ f.s
     → at_key value_in (codes "w") d ≡ f.w
-    → clipped_event d ≡ option_and_then (λ k. event_of k.now n f.a f.r f.s f.w) f.k
+    → clipped_event d ≡ option_and_then (λ k. member_event k.now n f.a f.r f.s f.w) f.k
 event_given f n d count k a r s w =
     ap (option_map clip_event) (rw (count, k, r, w) refl) ∙ go f.k
   where
@@ -149,15 +149,16 @@ event_given f n d count k a r s w =
     source_is = sym (value_clipped clipped_source source_in (option_map clip) (λ e. refl) (get (codes "s") d)) ∙ s
 
     go : (o : Option (Bor (List ℕ)))
-        → option_map clip_event (option_and_then (λ q. event_of q n number f.r from f.w) (option_map (λ s. s.now) o))
-        ≡ option_and_then (λ q. event_of q.now n f.a f.r f.s f.w) o
+        → option_map clip_event
+        (option_and_then (λ q. member_event q n number f.r from f.w) (option_map (λ s. s.now) o))
+        ≡ option_and_then (λ q. member_event q.now n f.a f.r f.s f.w) o
     go None = refl
     go (Some q) = kind_clipped q.now n number f.r from f.w ∙ rw (address_is, source_is) refl
 
 -- so it is with the members that were read
 pub members_give : (f : Fields) (n : ℕ) (ms : Members) → AreFields f ms
     → n ≡ count_of f.k + count_of f.a + count_of f.r + count_of f.s + count_of f.w
-    → clipped_event (object ms) ≡ option_and_then (λ k. event_of k.now n f.a f.r f.s f.w) f.k
+    → clipped_event (object ms) ≡ option_and_then (λ k. member_event k.now n f.a f.r f.s f.w) f.k
 members_give f n ms h is =
     event_given f n (object ms) (ap Some (h.count ∙ sym is))
     (at_key_is as_str (codes "k") ms _ h.kind) (at_key_is clipped_number (codes "a") ms _ h.address)

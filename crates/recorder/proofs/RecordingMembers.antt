@@ -13,7 +13,7 @@ use Rattle.recorder.specs.declared.reading.Parsed.{Parsed}
 use Rattle.recorder.specs.ParsedModel.{ParsedModel}
 use Rattle.recorder.specs.ParsedModel.{model_of}
 use Rattle.recorder.specs.Held.{HoldsCores, HoldsLists, HoldsSome, StandsFor}
-use Rattle.recorder.specs.Reading.{natural, value_in, list_in, parts_of, contents_of}
+use Rattle.recorder.specs.Reading.{natural, value_in, list_in, parsed_parts, contents_of}
 use Rattle.recorder.specs.Clipped.{clipped_number, clipped_event}
 use Rattle.recorder.specs.Pulled.{GivesValue, Adds}
 use Rattle.recorder.specs.ReadMembers.{count_of}
@@ -98,7 +98,7 @@ init_added p o g none is =
 
 -- where parts are there they are these
 parts_there : (v : Option ℕ) (cs : Option (List (List Event))) (ws : Option (List (List ℕ)))
-    (values : Option (List ℕ)) (q : ParsedModel) → parts_of v cs ws values ≡ Some q
+    (values : Option (List ℕ)) (q : ParsedModel) → parsed_parts v cs ws values ≡ Some q
     → (v ≡ Some q.version) × (cs ≡ Some q.cores) × (ws ≡ Some q.write_lists) × (q.values ≡ values)
 parts_there None cs ws values q is = absurd cc
 parts_there (Some v) None ws values q is = absurd cc
@@ -115,7 +115,7 @@ parts_there (Some v) (Some cs) (Some ws) values q is =
 -- for parts that stand for others
 parts_stand : (v : Option ℕ) (cs ds : Option (List (List Event))) (ws us : Option (List (List ℕ)))
     (values : Option (List ℕ)) (q : ParsedModel) → HoldsSome HoldsCores cs ds → HoldsSome HoldsLists ws us
-    → parts_of v cs ws values ≡ Some q → (c : ParsedModel) × (parts_of v ds us values ≡ Some c) × StandsFor q c
+    → parsed_parts v cs ws values ≡ Some q → (c : ParsedModel) × (parsed_parts v ds us values ≡ Some c) × StandsFor q c
 parts_stand v cs ds ws us values q cores lists is =
     let there = parts_there v cs ws values q is in
     let all = rw there.1 at cores in
@@ -127,7 +127,7 @@ parts_stand v cs ds ws us values q cores lists is =
   where
     are : (o : Option ℕ) (es : Option (List (List Event))) (xs : Option (List (List ℕ))) {n : ℕ}
         {fs : List (List Event)} {ys : List (List ℕ)} → o ≡ Some n → es ≡ Some fs → xs ≡ Some ys
-        → parts_of o es xs values ≡ Some (record { version = n; cores = fs; write_lists = ys; values = values })
+        → parsed_parts o es xs values ≡ Some (record { version = n; cores = fs; write_lists = ys; values = values })
     are o es xs first second third = rw (first, second, third) refl
 
 -- so do contents
@@ -138,10 +138,10 @@ unfolding contents_of
 contents_stand n v cs ds ws us init q cores lists is = go (n == 3) (n == 4) init is
   where
     go : (three four : Bool) (i : Option (List ℕ))
-        → (if three then parts_of v cs ws None
-        else (if four then option_and_then (λ j. parts_of v cs ws (Some j)) i else None)) ≡ Some q
-        → (c : ParsedModel) × ((if three then parts_of v ds us None
-        else (if four then option_and_then (λ j. parts_of v ds us (Some j)) i else None)) ≡ Some c) × StandsFor q c
+        → (if three then parsed_parts v cs ws None
+        else (if four then option_and_then (λ j. parsed_parts v cs ws (Some j)) i else None)) ≡ Some q
+        → (c : ParsedModel) × ((if three then parsed_parts v ds us None
+        else (if four then option_and_then (λ j. parsed_parts v ds us (Some j)) i else None)) ≡ Some c) × StandsFor q c
     go true four i is = parts_stand v cs ds ws us None q cores lists is
     go false true None is = absurd cc
     go false true (Some j) is = parts_stand v cs ds ws us (Some j) q cores lists is

@@ -52,8 +52,8 @@ abbrev pub read_of : (ℕ → ℕ → Option ℕ → Event) → Option ℕ → O
 read_of make a r s = option_and_then (λ x. option_and_then (λ y. option_map (λ z. make x y z) s) r) a
 
 -- an event of a kind with this many keys, by what its keys give
-unfoldable pub event_of : List ℕ → ℕ → Option ℕ → Option ℕ → Option (Option ℕ) → Option ℕ → Option Event
-event_of k n a r s w =
+unfoldable pub member_event : List ℕ → ℕ → Option ℕ → Option ℕ → Option (Option ℕ) → Option ℕ → Option Event
+member_event k n a r s w =
     if bytes_eq k (codes "L") && n == 4 then read_of L a r s
     else (if bytes_eq k (codes "S") && n == 3 then option_and_then (λ x. option_map (λ v. S x v) w) a
     else (if bytes_eq k (codes "R") && n == 5 then option_and_then (λ v. read_of (λ x y z. R x y z v) a r s) w
@@ -62,15 +62,15 @@ event_of k n a r s w =
 
 -- an event: an object with its kind and what the kind has
 abbrev pub event_in : Data → Option Event
-event_in d = option_and_then (λ n. option_and_then (λ k. event_of k n
+event_in d = option_and_then (λ n. option_and_then (λ k. member_event k n
     (at_key natural (codes "a") d) (at_key value_in (codes "r") d)
     (at_key source_in (codes "s") d) (at_key value_in (codes "w") d))
     (at_key as_str (codes "k") d)) (option_map count_members (as_object d))
 
 -- contents of these parts, with initial values or without
-abbrev pub parts_of : Option ℕ → Option (List (List Event)) → Option (List (List ℕ)) → Option (List ℕ)
+abbrev pub parsed_parts : Option ℕ → Option (List (List Event)) → Option (List (List ℕ)) → Option (List ℕ)
     → Option ParsedModel
-parts_of version cores writes values =
+parsed_parts version cores writes values =
     option_and_then (λ v. option_and_then (λ cs. option_map (λ ws. record {
       version = v;
       cores = cs;
@@ -82,8 +82,8 @@ parts_of version cores writes values =
 unfoldable pub contents_of : ℕ → Option ℕ → Option (List (List Event)) → Option (List (List ℕ)) → Option (List ℕ)
     → Option ParsedModel
 contents_of n version cores writes init =
-    if n == 3 then parts_of version cores writes None
-    else (if n == 4 then option_and_then (λ values. parts_of version cores writes (Some values)) init else None)
+    if n == 3 then parsed_parts version cores writes None
+    else (if n == 4 then option_and_then (λ values. parsed_parts version cores writes (Some values)) init else None)
 
 -- the contents of a text: an object with its version, its cores, its write lists and perhaps initial values
 unfoldable pub shape_in : Data → Option ParsedModel

@@ -2,7 +2,7 @@
 
 ghost use Rattle.std.specs.Prelude.{◌≡◌, ℕ, suc, codes, Some, None, IsSome, IfSome, option_and_then, ◌+◌};
 ghost use Rattle.recorder.specs.Clipped.{clipped_event};
-ghost use Rattle.recorder.specs.Reading.{event_of};
+ghost use Rattle.recorder.specs.Reading.{member_event};
 ghost use Rattle.recorder.specs.Pulled.{AtKey, Adds, GivesValue, GivesMembers};
 ghost use Rattle.recorder.specs.ReadMembers.{AreFields, count_of};
 ghost use Rattle.serde_json.specs.Data.{Members, no_members, object};
@@ -73,9 +73,9 @@ impl<'a> Fields<'a> {
     }
 
     /// The event of an object with this many members.
-    #[tactic(auto, unfolding(crate::specs::Reading::event_of))]
+    #[tactic(auto, unfolding(crate::specs::Reading::member_event))]
     pub(crate) fn event(&self, keys: usize) -> Option<Event>
-        ensures { result ≡ option_and_then (λ k. event_of k.now keys self.now.a self.now.r self.now.s self.now.w)
+        ensures { result ≡ option_and_then (λ k. member_event k.now keys self.now.a self.now.r self.now.s self.now.w)
             self.now.k }
     {
         match (self.k?, keys) {

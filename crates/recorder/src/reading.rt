@@ -151,8 +151,8 @@ fn tree_of(alloc: Global, bytes: &[u8]) -> Result<Value, RecError>
     }
 }
 
-/// The contents of a text by its whole value, or the first refusal of the JSON and its shape; or want of
-/// memory.
+/// The contents of a text by its whole value, or the first refusal of the JSON and its shape. Else it fails
+/// only if out of memory.
 fn parsed_in_tree(alloc: Global, bytes: &[u8]) -> Result<Parsed, RecError>
     ensures found { IfOk result (λ q. IsParsedFrom bytes.now q) }
     ensures err { IfErr result (λ e. IsReadingResult bytes.now (Err e)) }

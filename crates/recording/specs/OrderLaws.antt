@@ -1,6 +1,6 @@
 -- Laws of places and times in a list.
-use Rattle.std.proofs.Common.{◌≡◌, ◌≢◌, ◌<◌, ◌≤◌, ◌+◌, ◌⊎◌, inl, inr, ℕ, List, [], ◌∷◌, ◌++◌, length, arith}
-use Rattle.std.proofs.Common.{refl, sym, length-append}
+use Rattle.std.proofs.Common.{◌≡◌, ◌≢◌, ◌<◌, ◌+◌, ◌⊎◌, ℕ, List, [], ◌∷◌, ◌++◌, length, arith, refl}
+use Rattle.std.proofs.Common.{length-append}
 use Rattle.std.proofs.lemmas.Bool.Decides.{nat_tests}
 use Rattle.recording.specs.Order.{place, times, Before}
 
@@ -104,36 +104,3 @@ before_in_right u v e f ne nf h = (
   omega (arith, place_append_right u v e ne, place_append_right u v f nf, h),
   omega (arith, place_append_right u v f nf, length-append u v, h),
 )
-
--- with b put between the two parts, what stood in the right part alone moves by one, and the rest stays
-moved : (u v : List ℕ) (b e : ℕ) → e ≢ b
-    → ((place (u ++ v) e < length u) × (place (u ++ b ∷ v) e ≡ place (u ++ v) e))
-    ⊎ ((length u ≤ place (u ++ v) e) × (place (u ++ b ∷ v) e ≡ place (u ++ v) e + 1))
-moved u v b e other = elim (cases_times u e) [
-  | inl none ↦ inr (
-    omega (arith, place_append_right u v e none),
-    omega (
-      arith,
-      place_append_right u (b ∷ v) e none,
-      place_append_right u v e none,
-      place_there v b e (λ s. other (sym s)),
-    ),
-  )
-  | inr left ↦ inl (
-    omega (arith, place_append_left u v e left, place_in u e left),
-    omega (arith, place_append_left u (b ∷ v) e left, place_append_left u v e left),
-  )
-]
-
--- the list is longer by one
-longer : (u v : List ℕ) (b : ℕ) → length (u ++ b ∷ v) ≡ length (u ++ v) + 1
-longer u v b = omega (arith, length-append u (b ∷ v), length-append u v)
-
--- to put b between the two parts changes no pair of others
-pub inserted : (u v : List ℕ) (b e f : ℕ) → e ≢ b → f ≢ b → Before (u ++ v) e f → Before (u ++ b ∷ v) e f
-inserted u v b e f eb fb h = grind (arith, moved u v b e eb, moved u v b f fb, longer u v b)
-
--- and the other way round
-pub removed : (u v : List ℕ) (b e f : ℕ) → e ≢ b → f ≢ b → Before (u ++ b ∷ v) e f → Before (u ++ v) e f
-removed u v b e f eb fb h =
-    grind (arith, moved u v b e eb, moved u v b f fb, longer u v b, length-append u v)

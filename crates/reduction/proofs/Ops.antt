@@ -16,7 +16,7 @@ use Rattle.recording.specs.Execution.{Execution, placed_from, event_at}
 use Rattle.recording.specs.Order.{place}
 use Rattle.machine.specs.Orderly.{placed_op}
 use Rattle.machine.specs.ProgramLaws.{event_made}
-use Rattle.machine.specs.RecordedLaws.{placed_here, placed_behind}
+use Rattle.recording.specs.PlacedLaws.{placed_here, placed_after}
 use Rattle.machine.specs.ProgramOf.{Makes, AreOpsOf, IsProgramOf}
 use Rattle.machine.specs.State.{event_of}
 use Rattle.reduction.specs.RestrictedProgram.{readdressed, readdressed_op, restricted_program}
@@ -88,7 +88,7 @@ op_small k [] i all = tt
 op_small k (ops ∷ rest) i all = elim (cases_lt i (length ops)) [
   | inl here ↦ subst (λ (z : ℕ × Op). Small z.1) (sym (placed_here k ops rest i (0, Fence) here))
       (All-from_recursion Small ops all.0 i Fence here)
-  | inr behind ↦ subst (λ (z : ℕ × Op). Small z.1) (sym (placed_behind k ops rest i (0, Fence) behind))
+  | inr after ↦ subst (λ (z : ℕ × Op). Small z.1) (sym (placed_after k ops rest i (0, Fence) after))
       (op_small (k + 1) rest (i - length ops) all.1)
 ]
 
@@ -132,6 +132,6 @@ module _ (lists : List (List Op)) (i rest : ℕ) (d : List Op) (inside : i < len
   pub op_on_later : length (get_or lists i d) ≤ rest
       → (get_or (placed_from i (drop i lists)) rest (0, Fence)).1
       ≡ (get_or (placed_from (i + 1) (drop (i + 1) lists)) (rest - length (get_or lists i d)) (0, Fence)).1
-  op_on_later behind =
+  op_on_later after =
       ap (λ (l : List (List Op)). (get_or (placed_from i l) rest (0, Fence)).1) next
-      ∙ ap (λ (z : ℕ × Op). z.1) (placed_behind i (get_or lists i d) (drop (i + 1) lists) rest (0, Fence) behind)
+      ∙ ap (λ (z : ℕ × Op). z.1) (placed_after i (get_or lists i d) (drop (i + 1) lists) rest (0, Fence) after)

@@ -14,7 +14,7 @@ use Rattle.recording.specs.Execution.{Execution, placed_from, event_count, event
 use Rattle.machine.specs.State.{State, event_of, cores_from, recorded}
 use Rattle.replay.specs.Program.{op_of, program_of}
 use Rattle.machine.specs.Orderly.{placed_op, is_st}
-use Rattle.machine.proofs.PlaceLemmas.{event_behind, event_before}
+use Rattle.machine.proofs.PlaceLemmas.{event_after, event_before}
 use Rattle.machine.specs.RecordedLaws.{events_length, event_is, core_is, count_is}
 use Rattle.machine.specs.ProgramLaws.{same_kind, value_same}
 
@@ -97,7 +97,7 @@ core_there x e event =
       | inr past ↦
           absurd (omega (
             arith,
-            event_behind p e here,
+            event_after p e here,
             event_before p e here,
             ap (λ (l : List Op). length l) (get_or_past p c [] past),
           ))

@@ -32,10 +32,10 @@ before_store e (S a w) h = refl
 before_store e ev h = absurd (omega (arith, h))
 
 -- core c executes stores before its turn
-turn_behind : (p : List (List Op)) (n capacity : ℕ) (s u t : State) (c j e : ℕ) (steps : List Step)
+turn_after : (p : List (List Op)) (n capacity : ℕ) (s u t : State) (c j e : ℕ) (steps : List Step)
     → StepsLead p capacity s (replicate j (Exec c)) u → HasStored p n capacity s u c j
     → IsTurn p n capacity u steps e t → IsTurn p n capacity s (replicate j (Exec c) ++ steps) e t
-turn_behind p n capacity s u t c j e steps goes stored took = record {
+turn_after p n capacity s u t c j e steps goes stored took = record {
   goes = goes_on p capacity s u t (replicate j (Exec c)) steps goes took.goes;
   fits = took.fits;
   performed = took.performed ∙ ap (λ (l : List ℕ). l ++ e ∷ []) stored.performed;
@@ -83,7 +83,7 @@ module _ (x : Execution) (m : List ℕ) (tso : IsTsoOrder x m) (n capacity : ℕ
       let took = perform_turn ran.0 ran.2.fits e rest later (event_at x e) refl
       (omega (arith, ran.2.place)) in (
         took.0,
-        rw ran.1.1 (turn_behind p n capacity s ran.0 took.0 c (far - (first_event p c + place_of s c)) e
+        rw ran.1.1 (turn_after p n capacity s ran.0 took.0 c (far - (first_event p c + place_of s c)) e
             (perform ran.0 c (event_at x e)) ran.1 ran.2 took.1),
       )
 

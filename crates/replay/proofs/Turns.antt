@@ -32,7 +32,7 @@ use Rattle.replay.specs.Program.{op_of, program_of}
 use Rattle.replay.specs.Steps.{execute_to, get_to_write, get_to_read}
 use Rattle.machine.specs.Orderly.{placed_op, is_st, is_ld, AreStores, seen_by, IsOrderly}
 use Rattle.recording.specs.PlacedLaws.{placed_at}
-use Rattle.machine.proofs.PlaceLemmas.{event_behind, event_before}
+use Rattle.machine.proofs.PlaceLemmas.{event_after, event_before}
 use Rattle.replay.proofs.Made.{store_same, placed_is, count_same, core_there}
 use Rattle.replay.proofs.OrderlyRuns.{StaysOrderly, goes_further, waiting, stores_wait, waits_once}
 use Rattle.machine.specs.RunLaws.{at_taken}
@@ -115,9 +115,9 @@ module _ (x : Execution) (m : List ℕ) (tso : IsTsoOrder x m) (n capacity : ℕ
     )
 
     -- what is earlier on its core and not performed is a plain store, and e a plain load
-    behind : (w : ℕ) → w < e → core_of x w ≡ core_of x e → times s.performed w ≡ 0
+    after : (w : ℕ) → w < e → core_of x w ≡ core_of x e → times s.performed w ≡ 0
         → (is_plain_store (event_at x w) && is_plain_load (event_at x e)) ≡ true
-    behind w earlier core new =
+    after w earlier core new =
         elim (cases_Bool (is_plain_store (event_at x w) && is_plain_load (event_at x e))) [
           | inl is ↦ is
           | inr strong ↦
@@ -142,7 +142,7 @@ module _ (x : Execution) (m : List ℕ) (tso : IsTsoOrder x m) (n capacity : ℕ
 
     -- it stands after the first of its core
     from : first_event (program_of x) (core_of x e) ≤ e
-    from = rw (← core_same e) (event_behind (program_of x) e counted)
+    from = rw (← core_same e) (event_after (program_of x) e counted)
 
     -- and before the end
     to : e < first_event (program_of x) (core_of x e) + length (get_or (program_of x) (core_of x e) [])
@@ -167,14 +167,14 @@ module _ (x : Execution) (m : List ℕ) (tso : IsTsoOrder x m) (n capacity : ℕ
     -- what its core has not executed is not performed
     new : (w : ℕ) → core_of x w ≡ core_of x e
         → next_number x s e ≤ w → times s.performed w ≡ 0
-    new w own behind_all = elim (cases_times s.performed w) [
+    new w own after_all = elim (cases_times s.performed w) [
       | inl none ↦ none
       | inr there ↦
           let done = (f.on []).executed (core_of x e) w
           (omega (arith, there, times_append s.performed (waiting s (core_of x e)) w)) in
           absurd (omega (
             arith,
-            behind_all,
+            after_all,
             subst (λ (c : ℕ). w < first_event (program_of x) c + place_of s c)
                 (core_same w ∙ own) done.1,
           ))
@@ -187,7 +187,7 @@ module _ (x : Execution) (m : List ℕ) (tso : IsTsoOrder x m) (n capacity : ℕ
         let w : ℕ = first_event (program_of x) (core_of x e) + i in
         let at = op_there i (omega (arith, earlier, to)) in
         let both : (is_plain_store (event_at x w) && is_plain_load (event_at x e)) ≡ true =
-        behind w earlier at.1 (new w at.1 (omega (arith, next))) in
+        after w earlier at.1 (new w at.1 (omega (arith, next))) in
         ap is_st at.0 ∙ (store_same (event_at x w)
         ∙ (and_parts (is_plain_store (event_at x w)) (is_plain_load (event_at x e)) both).0)
 
@@ -258,7 +258,7 @@ module _ (x : Execution) (m : List ℕ) (tso : IsTsoOrder x m) (n capacity : ℕ
               let there : 0 < times (waiting s (core_of x e)) y.event =
               rw is (omega (arith, times_here (map (λ (z : Entry). z.event) ys) y.event y.event refl)) in
               let own = waits y.event there in
-              let both = behind y.event (omega (arith, own.2, is_next plain)) own.0 own.3 in
+              let both = after y.event (omega (arith, own.2, is_next plain)) own.0 own.3 in
               absurd (let clash : true ≡ false =
               sym ((and_parts (is_plain_store (event_at x y.event)) (is_plain_load (event_at x e))
               both).1) ∙ strong in cc)
@@ -291,7 +291,7 @@ module _ (x : Execution) (m : List ℕ) (tso : IsTsoOrder x m) (n capacity : ℕ
               | inl one ↦ (y, ys, is, one)
               | inr other ↦ elim (cases_lt w e) [
                 | inl less ↦
-                    let both = behind w less own.0 own.3 in
+                    let both = after w less own.0 own.3 in
                     absurd (let clash : true ≡ false =
                     sym ((and_parts (is_plain_store (event_at x w)) (is_plain_load (event_at x e))
                     both).1) ∙ strong in cc)

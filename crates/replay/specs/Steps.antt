@@ -6,7 +6,7 @@ use Rattle.recording.specs.declared.event.Event.{Event}
 use Rattle.recording.specs.declared.event.Event.TheVariants.{L, S, R, C, F}
 use Rattle.recording.specs.Event.{is_plain_store}
 use Rattle.recording.specs.Execution.{Execution, core_of, event_at}
-use Rattle.machine.specs.Configuration.{Configuration, state_behind}
+use Rattle.machine.specs.Configuration.{Configuration, state_after}
 use Rattle.write_buffer.specs.declared.entry.Entry.{Entry}
 use Rattle.write_buffer.specs.Buffer.{youngest}
 use Rattle.moesi.specs.Lines.{is_valid, is_exclusive}
@@ -77,6 +77,6 @@ pub record Replaying : Type 0 where
 -- the same after more steps
 abbrev pub with_steps : Replaying → List Step → Replaying
 with_steps r steps = record {
-  machine = record r.machine { state = state_behind r.machine steps };
+  machine = record r.machine { state = state_after r.machine steps };
   steps = r.steps ++ steps;
 }

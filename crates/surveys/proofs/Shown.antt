@@ -13,9 +13,9 @@ use Rattle.surveys.specs.declared.showing.Sought.TheVariants.{Found, Later}
 use Rattle.surveys.specs.Shown.{IsReadBeforeLine, IsLineAt, IsLineOfRead, IsReadOn, IsSought, IsSoughtFirst}
 
 -- a line after others
-pub line_behind : (all front back : List ℕ) (k m : ℕ) (line : List ℕ) → lines all ≡ lines front ++ lines back
+pub line_after : (all front back : List ℕ) (k m : ℕ) (line : List ℕ) → lines all ≡ lines front ++ lines back
     → IsLineAt back m line → k ≡ length (lines front) + m → IsLineAt all k line
-line_behind all front back k m line cut at is = (
+line_after all front back k m line cut at is = (
   omega (
     arith,
     at.0,
@@ -140,7 +140,7 @@ module _ (u v w : Option (List ℕ)) (k m n : ℕ) (old block : List ℕ) (is : 
   there x more rest size sought line read first found = record {
     bytes = (is.front ++ block) ++ more;
     read = Consumes-trans u w x (is.front ++ block) more filled read;
-    is = line_behind ((is.front ++ block) ++ more) is.front (block ++ more) k m line.items
+    is = line_after ((is.front ++ block) ++ more) is.front (block ++ more) k m line.items
         (ap lines (append_assoc is.front block more) ∙ is.whole (block ++ more))
         (line_before (block ++ more) first.front (rest ++ more) m line.items
         (ap (λ (t : List ℕ). lines (t ++ more)) first.cut ∙ (ap lines (append_assoc first.front rest more)
@@ -152,7 +152,7 @@ module _ (u v w : Option (List ℕ)) (k m n : ℕ) (old block : List ℕ) (is : 
   at_last line at = record {
     bytes = is.front ++ block;
     read = filled;
-    is = line_behind (is.front ++ block) is.front block k m line (is.whole block) at is.before;
+    is = line_after (is.front ++ block) is.front block k m line (is.whole block) at is.before;
   }
 
   -- or nowhere

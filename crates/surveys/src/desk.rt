@@ -103,7 +103,7 @@ impl Places {
         }
     }
 
-    /// Whether more than so many bytes lie here, a worker has the oldest piece, and no other one waits.
+    /// Whether more than this many bytes lie here, a worker has the oldest piece, and no other one waits.
     fn is_behind(&self, kept: usize) -> bool {
         if self.bytes <= kept || self.has_waiting() {
             return false;
@@ -114,7 +114,7 @@ impl Places {
         }
     }
 
-    /// Puts a piece with so many recordings; false where all places are used.
+    /// Puts a piece with this many recordings; false where all places are used.
     fn put(&mut self, bytes: Vec<u8>, recordings: usize) -> bool {
         let at = self.next_put;
         let length = bytes.len();
@@ -158,7 +158,7 @@ impl Places {
         Some(piece)
     }
 
-    /// What the thread that collects does next, which leaves so many bytes here.
+    /// What the thread that collects does next, which leaves at most this many bytes here.
     fn turn(&mut self, kept: usize) -> Turn {
         if self.bytes <= kept {
             return Turn::Over;
@@ -184,7 +184,7 @@ enum Turn {
     Judge(usize, Piece),
 }
 
-/// Lines at the front of these bytes, of so many bytes, and how many of them are not empty.
+/// How many bytes the first lines have that make a piece, and how many of those lines are not empty.
 fn first_lines(bytes: &[u8]) -> (usize, usize)
     requires { 0 < length bytes.now }
     ensures some { 0 < result.0 }
@@ -231,7 +231,7 @@ impl Desk {
         })
     }
 
-    /// Puts a piece with so many recordings; false where all places are used or memory runs out.
+    /// Puts a piece with this many recordings; false where all places are used or memory runs out.
     fn put<R: Wait>(&self, rt: &R, alloc: Global, bytes: &[u8], recordings: usize) -> bool {
         let mut copy = Vec::new(alloc);
         let Ok(()) = copy.extend_from_slice(bytes) else {
@@ -300,7 +300,7 @@ impl Desk {
         held.turn(kept)
     }
 
-    /// The oldest piece, judged; none where no more than so many bytes lie here.
+    /// The oldest piece, judged; none where no more than this many bytes lie here.
     pub(crate) fn collect<R: Wait, G: Gate>(
         &self,
         rt: &R,

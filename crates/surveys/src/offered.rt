@@ -43,7 +43,7 @@ fn count_piece(
     Ok((total, length))
 }
 
-/// Adds the lines of the pieces with which these bytes begin, in order, until at most so many bytes lie on the desk;
+/// Adds the lines of the pieces with which these bytes begin, in order, until at most this many bytes lie on the desk;
 /// answers the number of bytes with those, and how many those are.
 fn count_pieces<R: Wait, G: Gate>(
     rt: &R,
@@ -80,7 +80,7 @@ fn count_pieces<R: Wait, G: Gate>(
 }
 
 /// Offers the whole lines of a block to workers, of which this many bytes have no end of a line that was not offered,
-/// and adds those of the first pieces to a ledger, until at most so many bytes lie on the desk; leaves in the block
+/// and adds those of the first pieces to a ledger, until at most this many bytes lie on the desk; leaves in the block
 /// what comes after these.
 pub(crate) fn count_offered<R: Wait, G: Gate>(
     rt: &R,

@@ -59,7 +59,7 @@ fn count_part<R: Threads + Sync, W: Sink, G: Gate>(
 }
 
 /// Adds the whole lines of a block, of which this many bytes have no end of a line, to a ledger, and leaves what
-/// comes after them; where none is told and there is a desk, those lines that do not stay there, so many bytes at most.
+/// comes after them. Where none is told and there is a desk, lines of at most `kept` bytes may stay there.
 fn count_whole<R: Threads + Wait + Sync, W: Sink, G: Gate>(
     rt: &R,
     alloc: Global,

@@ -33,30 +33,17 @@ in_length [] i v e = absurd (some-ne-none v (sym e))
 in_length (x ∷ xs) zero v e = omega arith
 in_length (x ∷ xs) (suc i) v e = let h = in_length xs i v e in omega arith
 
--- the same word for the trial k, at any trial
-at_any : (words : List ℕ) (k n : ℕ) (v : SeatKnowledge) → k < length words
-    → ((j : ℕ) → j ≢ k → FitsAt v j (get_or words j 0)) → FitsAt v k n → (j : ℕ)
-    → FitsAt v j (get_or (set words k n) j 0)
-at_any words k n v low others here j = dite (ℕ_discrete j k)
-    (λ is. subst (λ (z : ℕ × ℕ). FitsAt v z.0 z.1)
+-- what holds of the words of the other trials, and of the new word of trial k, holds of each
+words_any : (P : ℕ → ℕ → Type 0) (words : List ℕ) (k n : ℕ) → k < length words
+    → ((j : ℕ) → j ≢ k → P j (get_or words j 0)) → P k n → (j : ℕ) → P j (get_or (set words k n) j 0)
+words_any P words k n low others here j = dite (ℕ_discrete j k)
+    (λ is. subst (λ (z : ℕ × ℕ). P z.0 z.1)
     (λ i. (
       sym is i,
       sym (ap (λ (q : ℕ). get_or (set words k n) q 0) is ∙ get_or-set_same words k n 0 low)
           i,
     )) here)
-    (λ ne. subst (FitsAt v j) (sym (get_or-set_other words k j n 0 ne)) (others j ne))
-
-words_any : (c : Plan) (words : List ℕ) (k n : ℕ) → k < length words
-    → ((j : ℕ) → IsDeskWord c j (get_or words j 0)) → IsDeskWord c k n → (j : ℕ)
-    → IsDeskWord c j (get_or (set words k n) j 0)
-words_any c words k n low others here j = dite (ℕ_discrete j k)
-    (λ is. subst (λ (z : ℕ × ℕ). IsDeskWord c z.0 z.1)
-    (λ i. (
-      sym is i,
-      sym (ap (λ (q : ℕ). get_or (set words k n) q 0) is ∙ get_or-set_same words k n 0 low)
-          i,
-    )) here)
-    (λ ne. subst (IsDeskWord c j) (sym (get_or-set_other words k j n 0 ne)) (others j))
+    (λ ne. subst (P j) (sym (get_or-set_other words k j n 0 ne)) (others j ne))
 
 -- a fact of each view, after the view of one seat changed
 each_set : (P : ℕ → SeatKnowledge → Type 0) (views : List SeatKnowledge) (id : ℕ) (w : SeatKnowledge) → P id w
@@ -126,12 +113,12 @@ moved c s r id k n v w at low ok camp same mine_else mine others apart grows min
     let here : get_elem? (set s.views id w) id ≡ some w = set_here s.views id w (in_length s.views id v at) in
     record {
       size = length-set s.words k n ∙ r.size;
-      words = words_any c s.words k n wide r.words ok;
+      words = words_any (IsDeskWord c) s.words k n wide (λ j _. r.words j) ok;
       carried = each_set (λ j u. u.live ≡ true → u.campaign ≡ c) s.views id w camp
           (λ j u ne e. r.carried j u e);
       fits = each_set (λ j u. (q : ℕ) → FitsAt u q (get_or (set s.words k n) q 0)) s.views id w
-          (at_any s.words k n w wide mine_else mine)
-          (λ j u ne e. at_any s.words k n u wide (λ q _. r.fits j u e q) (others j u ne e));
+          (words_any (FitsAt w) s.words k n wide mine_else mine)
+          (λ j u ne e. words_any (FitsAt u) s.words k n wide (λ q _. r.fits j u e q) (others j u ne e));
       alone = alone_set s.views id w r.alone apart;
       owned = λ q filled. dite (ℕ_discrete q k)
           (λ is. let full : n ≢ 0 = λ e. filled (ap (λ (z : ℕ). get_or (set s.words k n) z 0) is

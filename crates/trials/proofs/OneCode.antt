@@ -19,7 +19,7 @@ use Rattle.trials.specs.Campaigns.{Plan}
 use Rattle.trials.specs.Codes.{IsCode, AreCodes, IsShortEnd, end_code}
 use Rattle.trials.specs.Judged.{IsEndVerdict}
 use Rattle.trials.specs.OneLedger.{HasItsKind}
-use Rattle.trials.specs.Schedule.{IsRandomRun, configuration_behind}
+use Rattle.trials.specs.Schedule.{IsRandomRun, configuration_after}
 
 module _ (attempts : ℕ) (h : Configuration) (rng : List ℕ) where
   -- no run ends before another
@@ -44,7 +44,7 @@ module _ (attempts : ℕ) (h : Configuration) (rng : List ℕ) where
   -- and end in one machine
   one_end : (e f : Configuration) (r s : List ℕ) → IsRandomRun attempts h rng e r
       → IsRandomRun attempts h rng f s → e ≡ f
-  one_end e f r s x y = x.leads ∙ (ap (configuration_behind h rng) (one_length e f r s x y) ∙ sym y.leads)
+  one_end e f r s x y = x.leads ∙ (ap (configuration_after h rng) (one_length e f r s x y) ∙ sym y.leads)
 
 -- so has what is judged of a machine
 one_judged : (h : Configuration) (v w : Option Verdict) → IsEndVerdict h v → IsEndVerdict h w

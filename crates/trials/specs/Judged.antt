@@ -7,7 +7,7 @@ use Rattle.machine.specs.declared.fault.Fault.{Fault}
 use Rattle.machine.specs.declared.fault.Fault.TheVariants as faults
 use Rattle.machine.specs.declared.step.Step.{Step}
 use Rattle.machine.specs.Taken.{begun}
-use Rattle.machine.specs.Configuration.{Configuration, IsAtEnd, recording_of, state_behind}
+use Rattle.machine.specs.Configuration.{Configuration, IsAtEnd, recording_of, state_after}
 use Rattle.machine.specs.ProgramOf.{IsProgramOf}
 use Rattle.verdicts.specs.declared.verdict.Verdict.{Verdict}
 use Rattle.verdicts.specs.declared.verdict.Verdict.TheVariants.{Ordered, Overlook, Cycle}
@@ -26,7 +26,7 @@ begun_machine program capacity fault = record {
 
 -- the machine after a list of steps
 abbrev pub ran : Configuration → List Step → Configuration
-ran h steps = record h { state = state_behind h steps }
+ran h steps = record h { state = state_after h steps }
 
 -- the recording of a machine, none where it is not complete
 abbrev pub IsEndRecording : Configuration → Option Execution → Type 0

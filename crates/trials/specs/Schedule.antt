@@ -6,7 +6,7 @@ use Rattle.rand_xoshiro.specs.Xoshiro256.{plus_plus}
 use Rattle.litmus.specs.Random.{after_words}
 use Rattle.machine.specs.declared.step.Step.{Step}
 use Rattle.machine.specs.declared.step.Step.TheVariants.{Exec, Drain, GetS, GetM, Put}
-use Rattle.machine.specs.Configuration.{Configuration, IsAtEnd, state_behind}
+use Rattle.machine.specs.Configuration.{Configuration, IsAtEnd, state_after}
 
 -- how many steps a machine has
 abbrev pub step_count : ℕ → ℕ → ℕ
@@ -41,8 +41,8 @@ abbrev pub schedule : Configuration → List ℕ → List Step
 schedule h words = map (step_of_word (length h.program.cores) (length h.program.names)) words
 
 -- the machine after the steps that the next n words of a generator name
-abbrev pub configuration_behind : Configuration → List ℕ → ℕ → Configuration
-configuration_behind h rng n = record h { state = state_behind h (schedule h (first_words plus_plus n rng)) }
+abbrev pub configuration_after : Configuration → List ℕ → ℕ → Configuration
+configuration_after h rng n = record h { state = state_after h (schedule h (first_words plus_plus n rng)) }
 
 -- a run of this many attempts at most ends here: at the first moment at which the machine is
 -- complete, or at the last attempt
@@ -50,7 +50,7 @@ pub record IsRandomRun (attempts : ℕ) (h : Configuration) (rng : List ℕ) (en
     (rest : List ℕ) : Type 0 where
   pub taken : ℕ
   pub within : taken ≤ attempts
-  pub leads : end ≡ configuration_behind h rng taken
+  pub leads : end ≡ configuration_after h rng taken
   pub words : rest ≡ after_words taken rng
   pub ended : IsAtEnd end ⊎ (taken ≡ attempts)
-  pub before : (n : ℕ) → n < taken → ¬ IsAtEnd (configuration_behind h rng n)
+  pub before : (n : ℕ) → n < taken → ¬ IsAtEnd (configuration_after h rng n)

@@ -42,8 +42,8 @@ pub fn judged_end(alloc: Global, machine: Machine) -> Result<Option<Judged>, Out
     }
 }
 
-/// The verdict on the recording of a machine; none exactly where it is not complete. An `Err` is want of
-/// memory.
+/// The verdict on the recording of a machine; none exactly where it is not complete. Fails only if out
+/// of memory.
 pub(crate) fn end_verdict(alloc: Global, machine: Machine) -> Result<Option<Verdict>, OutOfMemory>
     ensures judged { IfOk result (IsEndVerdict machine) }
     ensures lawful { IfOk result (λ verdict. machine.fault ≡ faults.None → IsLawful verdict) }

@@ -91,17 +91,16 @@ pub(crate) fn steps_divisor(cores: usize, addresses: usize) -> Divisor
 /// blocked.
 pub(crate) fn step_of_word(
     cores: usize,
-    addresses: usize,
+    _addresses: usize,
     table: &[Step],
     count: Divisor,
     word: u64,
 ) -> Step
-    requires table { AreSteps cores addresses table.now }
-    requires room { step_count cores addresses ≤ length table.now }
-    requires count { 0 < cores → count.number ≡ step_count cores addresses }
-    ensures { result ≡ step_of_word cores addresses word }
+    requires table { AreSteps cores _addresses table.now }
+    requires room { step_count cores _addresses ≤ length table.now }
+    requires count { 0 < cores → count.number ≡ step_count cores _addresses }
+    ensures { result ≡ step_of_word cores _addresses word }
 {
-    let _ = addresses;
     if cores == 0 {
         return Step::Exec(0);
     }

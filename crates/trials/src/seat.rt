@@ -30,8 +30,8 @@ pub struct DeskSeat {
 }
 
 impl DeskSeat {
-    /// A second seat, with an empty share, that has seen the same. An `Err` is that the desk's count of seats
-    /// is full, and leaves the seat as it was.
+    /// A second seat, with an empty share, that has seen the same. Fails only if the desk's count of seats is
+    /// full, and then leaves the seat as it was.
     pub fn split(&mut self) -> Result<DeskSeat, OutOfMemory>
         ensures same { self.new.seat.table_id ≡ self.old.seat.table_id }
         ensures old { OnOk result (self.new.seat.me.0 ≡ with_others self.old.seat.me.0) }

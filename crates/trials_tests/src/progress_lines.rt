@@ -3,7 +3,7 @@ use devices::Line;
 use std::alloc::{AllocError, Global};
 use std::test::Fail;
 
-/// Whether the line has this text of so many done and found, of a campaign of so many trials or of a survey.
+/// Whether the line has this text at these numbers of done and found, of a campaign of these trials or of a survey.
 fn is(
     alloc: Global,
     done: usize,

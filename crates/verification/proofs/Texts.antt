@@ -12,10 +12,10 @@ text_push numbers n = flat_map-append (λ k. 32 ∷ decimal k) numbers (n ∷ []
     ∙ ap (λ (t : List ℕ). numbers_text numbers ++ 32 ∷ t) (append-nil (decimal n))
 
 -- what stands after a number
-pub behind_number : (ns more : List ℕ) → (b : ℕ) × (back : List ℕ) × (is_digit b ≡ false)
+pub after_number : (ns more : List ℕ) → (b : ℕ) × (back : List ℕ) × (is_digit b ≡ false)
     × (numbers_text ns ++ 10 ∷ more ≡ b ∷ back)
-behind_number [] more = (10, more, refl, refl)
-behind_number (n ∷ ns) more = (32, (decimal n ++ numbers_text ns) ++ 10 ∷ more, refl, refl)
+after_number [] more = (10, more, refl, refl)
+after_number (n ∷ ns) more = (32, (decimal n ++ numbers_text ns) ++ 10 ∷ more, refl, refl)
 
 -- the number at a place, and what stands after it
 pub next_number : (ns more rest : List ℕ) (i : ℕ) → i < length ns → rest ≡ numbers_text (drop i ns) ++ 10 ∷ more
@@ -26,7 +26,7 @@ next_number ns more rest i low is =
     let x = get_or ns i 0 in
     let later = drop (i + 1) ns in
     let last : (b : ℕ) × (back : List ℕ) × (is_digit b ≡ false) × (numbers_text later ++ 10 ∷ more ≡ b ∷ back) =
-    behind_number later more in
+    after_number later more in
     let next : suc i ≡ i + 1 = omega arith in
     let front : drop i ns ≡ x ∷ later = drop-cons ns i 0 low ∙ ap (λ (j : ℕ). x ∷ drop j ns) next in (
       last.0,

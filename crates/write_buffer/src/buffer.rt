@@ -28,8 +28,7 @@ impl WriteBuffer {
     ghost use Rattle.std.specs.Prelude.{IsOk, IsTrue, length, slice_get};
     ghost use Rattle.write_buffer.specs.Buffer.{Buffer, youngest};
 
-    /// An empty buffer for this many entries; out of memory where there is none, also for so many that no
-    /// memory could hold them.
+    /// An empty buffer for this many entries. Fails only if out of memory, also where no memory could hold them.
     pub fn new(alloc: Global, capacity: usize) -> Result<WriteBuffer, OutOfMemory>
         ensures { IfOk result (λ b. b ≡ record { entries = []; capacity = capacity }) }
     {

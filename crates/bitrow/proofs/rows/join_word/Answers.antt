@@ -6,7 +6,7 @@ use Rattle.bitrow.specs.Bits.{is_in, bits_of, IsNext, IsWidth}
 use Rattle.bitrow.specs.Rows.{Marked}
 use Rattle.bitrow.specs.Walks.{IsRest}
 use Rattle.bitrow.proofs.Members.{bits_bit, bits_next}
-use Rattle.bitrow.proofs.Rests.{lowest, rest_next, rest_whole, rest_behind, rest_empty}
+use Rattle.bitrow.proofs.Rests.{lowest, rest_next, rest_whole, rest_after, rest_empty}
 use Rattle.bitrow.proofs.Unions.{number_in, labels_more, joins_more, labels_on, joins_on}
 use Rattle.bitrow.proofs.rows.join_word.Goals as goal
 
@@ -67,7 +67,7 @@ loop-rest-preserved g c =
     let next : IsNext (bits_of words) from (Some number) = bits_next words from (Some number)
     (rest_next words k rest from inv.rest c.loop-rest-test.true inv.fits) in
     let left : IsRest words k c.without_lowest-rest.result (number + 1) =
-    rest_behind words k rest from (trailing_zeros w64 rest) c.without_lowest-rest.result inv.rest low.0 low.1 low.2
+    rest_after words k rest from (trailing_zeros w64 rest) c.without_lowest-rest.result inv.rest low.0 low.1 low.2
     after.0
     (λ i _ other. after.1 i other) in (
       number + 1,

@@ -1,7 +1,7 @@
 use Rattle.program.specs.ReadingLaws.{byte_read, line_read}
 use Rattle.machine.specs.declared.script_refusal.StepRefusal.TheVariants.{S1}
 use Rattle.machine.specs.Script.{line_step}
-use Rattle.machine.proofs.TextEnds.{within_line, behind_line}
+use Rattle.machine.proofs.TextEnds.{within_line, ended_line}
 use Rattle.machine.proofs.script.take_lines.Goals as goal
 use Rattle.machine.proofs.script.take_lines.Goals.{then-b-eq10+in_ok-take_line, else-b-eq10}
 
@@ -28,5 +28,5 @@ returns-then-start-text c =
 pub returns : goal.returns
 returns c =
     let at = c.loop-i in
-    behind_line (line_step c.args.program.now) S1 c.args.text.now _ at.number at.steps.items at.start at.i at.invariant
+    ended_line (line_step c.args.program.now) S1 c.args.text.now _ at.number at.steps.items at.start at.i at.invariant
     at.auto.i-end c.loop-i-test.false c.if-start-text.false

@@ -9,8 +9,8 @@ use Rattle.litmus.specs.Random.{after_words}
 use Rattle.machine.specs.declared.step.Step.{Step}
 use Rattle.machine.specs.Configuration.{Configuration, IsAtEnd}
 use Rattle.trials.specs.Judged.{ran}
-use Rattle.trials.specs.Schedule.{configuration_behind, step_of_word}
-use Rattle.trials.proofs.RandomRuns.{after_more, behind_more}
+use Rattle.trials.specs.Schedule.{configuration_after, step_of_word}
+use Rattle.trials.proofs.RandomRuns.{after_more, configuration_more}
 use Rattle.trials.proofs.running.run_by.Goals as goal
 
 pub attempts-init : goal.attempts-init
@@ -45,10 +45,10 @@ attempts-preserved c =
     record {
       leads = c.attempt-went_on.ensures.ran
           ∙ (ap (λ (x : Configuration). ran x (c.step_of_word-step.result ∷ [])) h.leads
-          ∙ (ap (λ (s : Step). ran (configuration_behind m g n) (s ∷ [])) named ∙ sym (behind_more m g n)));
+          ∙ (ap (λ (s : Step). ran (configuration_after m g n) (s ∷ [])) named ∙ sym (configuration_more m g n)));
       words = ap (λ (x : ℕ × List ℕ). x.1) c.next_word.ensures
           ∙ (ap (λ (r : List ℕ). (plus_plus r).1) h.words ∙ sym (after_more n g));
-      before = below_more (λ (k : ℕ). IsAtEnd (configuration_behind m g k) → ⊥) n h.before
+      before = below_more (λ (k : ℕ). IsAtEnd (configuration_after m g k) → ⊥) n h.before
           (λ end. absurd (let clash : true ≡ false =
           sym (c.is_at_end.ensures.1 (subst IsAtEnd (sym h.leads) end)) ∙ c.if-is_at_end.false in cc));
       within = omega (arith, c.attempts-test.true);

@@ -1,7 +1,7 @@
 use Rattle.std.proofs.Common.{◌+◌, ◌*◌, Some, None, arith, refl, subst, ℕ, w64}
 use Rattle.std.specs.Int.{trailing_zeros}
 use Rattle.bitrow.specs.Walks.{IsRest}
-use Rattle.bitrow.proofs.Rests.{lowest, rest_next, rest_behind, rest_none, rest_of_word, lowest_of_word, some_bit}
+use Rattle.bitrow.proofs.Rests.{lowest, rest_next, rest_after, rest_none, rest_of_word, lowest_of_word, some_bit}
 use Rattle.bitrow.proofs.Members.{row_next, bit_below}
 use Rattle.bitrow.proofs.numbers.Numbers.next.Goals as goal
 
@@ -26,7 +26,7 @@ invariant_of-self c =
     let low = lowest s.rest c.if-self-ne0.true (omega arith) in
     let after = c.without_lowest-self-inside.ensures.bits _ low.1 low.2 in (
       c.self.invariant.0,
-      rest_behind s.words.now s.at s.rest s.from _ c.without_lowest-self-inside.result
+      rest_after s.words.now s.at s.rest s.from _ c.without_lowest-self-inside.result
           c.self.invariant.1 low.0 low.1 low.2 after.0 (λ i _ other. after.1 i other),
     )
 

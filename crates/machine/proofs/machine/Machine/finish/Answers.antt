@@ -3,12 +3,12 @@ use Rattle.std.proofs.lemmas.List.{length-map}
 use Rattle.common.specs.declared.limits.TheConstants.{MAX_ADDRESSES}
 use Rattle.machine.specs.Configuration.{BoundedItems, BlankSize, Configuration, state_from}
 use Rattle.machine.specs.State.{State, IsComplete}
-use Rattle.machine.specs.ProgramLaws.{recorded_is_of}
 use Rattle.machine.specs.ProgramOf.{IsProgramOf}
 use Rattle.machine.proofs.InOrder.{IsInOrder}
 use Rattle.machine.proofs.Complete.{complete_is_tso}
 use Rattle.machine.proofs.Reached.{reached_data, reached_in_order}
 use Rattle.machine.proofs.Recorded.{complete_recording}
+use Rattle.machine.proofs.MadeLemmas.{recorded_is_of}
 use Rattle.machine.proofs.machine.Machine.finish.Goals as goal
 
 pub new-requires : goal.new-requires
