@@ -6,13 +6,12 @@
 //!
 //! With SHOW it prints, instead of the counts, what `tsotest trials --show` does.
 
-mod judge;
 mod machine;
 mod program;
-mod show;
+mod run;
 
-use judge::{Judge, Verdict};
 use machine::{Fault, Machine};
+use plain::{Kind, Recording};
 use program::{Program, Words};
 use std::collections::BTreeMap;
 use std::sync::atomic::{AtomicUsize, Ordering};
@@ -43,15 +42,15 @@ impl Counts {
         self.first = Some(self.first.map_or(k, |it| it.min(k)));
     }
 
-    fn count(&mut self, k: usize, verdict: Option<Verdict>) {
-        match verdict {
+    fn count(&mut self, k: usize, kind: Option<Kind>) {
+        match kind {
             None => self.unfinished += 1,
-            Some(Verdict::Ordered) => self.ordered += 1,
-            Some(Verdict::Overlook(..)) => {
+            Some(Kind::Ordered) => self.ordered += 1,
+            Some(Kind::Overlook) => {
                 self.overlook += 1;
                 self.violation(k);
             }
-            Some(Verdict::Cycle(length)) => {
+            Some(Kind::Cycle(length)) => {
                 *self.cycles.entry(length).or_default() += 1;
                 self.violation(k);
             }
@@ -85,22 +84,23 @@ impl Counts {
 struct Worker {
     program: Program,
     machine: Machine,
-    judge: Judge,
+    recording: Recording,
 }
 
 impl Worker {
     fn new() -> Worker {
-        Worker { program: Program::new(), machine: Machine::new(), judge: Judge::new() }
+        Worker { program: Program::new(), machine: Machine::new(), recording: Recording::default() }
     }
 
-    fn trial(&mut self, campaign: &Campaign, k: usize) -> Option<Verdict> {
+    /// The recording of a trial; none where it is unfinished.
+    fn trial(&mut self, campaign: &Campaign, k: usize) -> Option<&Recording> {
         let mut words = Words::seeded(campaign.seed.wrapping_add(k as u64));
         self.program.draw(campaign.cores, campaign.ops, campaign.addresses, &mut words);
         self.run(campaign, words)
     }
 
-    /// The verdict on the run of the program by these words.
-    fn run(&mut self, campaign: &Campaign, mut words: Words) -> Option<Verdict> {
+    /// The recording of the run of the program by these words; none where it is unfinished.
+    fn run(&mut self, campaign: &Campaign, mut words: Words) -> Option<&Recording> {
         self.machine.open(&self.program, 8, campaign.fault);
         for _ in 0..campaign.attempts {
             if self.machine.is_complete() {
@@ -108,20 +108,23 @@ impl Worker {
             }
             self.machine.attempt(&self.program, words.next());
         }
-        self.machine.is_complete().then(|| self.judge.judge(&self.program, &self.machine))
+        if !self.machine.is_complete() {
+            return None;
+        }
+        run::record(&self.program, &self.machine, &mut self.recording);
+        Some(&self.recording)
     }
 
     fn shown(&mut self, campaign: &Campaign, k: usize) -> String {
-        let verdict = self.trial(campaign, k);
+        let verdict = self.trial(campaign, k).map(plain::judge);
         self.program.text() + "\n" + &self.text(verdict)
     }
 
-    /// What `tsotest run` prints of the run that was judged.
-    fn text(&self, verdict: Option<Verdict>) -> String {
-        let (program, machine) = (&self.program, &self.machine);
+    /// What `tsotest run` prints of the run, and of the verdict on it.
+    fn text(&self, verdict: Option<Vec<u8>>) -> String {
         match verdict {
             None => "unfinished\n".to_string(),
-            Some(it) => show::recording(program, machine) + &show::verdict(program, machine, &self.judge, it),
+            Some(it) => run::line(&self.program, &self.machine) + &String::from_utf8(it).expect("a text"),
         }
     }
 }
@@ -133,7 +136,7 @@ fn work(campaign: &Campaign, next: &AtomicUsize) -> Counts {
         if k >= campaign.trials {
             return counts;
         }
-        counts.count(k, worker.trial(campaign, k));
+        counts.count(k, worker.trial(campaign, k).map(plain::kind));
     }
 }
 
@@ -166,7 +169,7 @@ fn main() {
         let campaign = Campaign { seed: number(2, 0) as u64, attempts: number(3, 100_000), ..campaign };
         let mut worker = Worker::new();
         worker.program = Program::parse(&std::fs::read_to_string(&words[1]).expect("a program"));
-        let verdict = worker.run(&campaign, Words::seeded(campaign.seed));
+        let verdict = worker.run(&campaign, Words::seeded(campaign.seed)).map(plain::judge);
         return print!("{}", worker.text(verdict));
     }
     if words.len() > 8 {

@@ -1,8 +1,8 @@
 //! Reads a recording by way of a tree of any JSON. It tests the shape, and not whether the sources and
 //! write lists are those of the events.
 
-use crate::recording::{Event, Op, Recording};
 use crate::tree::{self, Value};
+use plain::{Event, Op, Recording};
 
 /// The recording of a text of any layout.
 pub fn read(text: &str) -> Option<Recording> {

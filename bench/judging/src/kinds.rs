@@ -1,7 +1,7 @@
 //! Recordings of four kinds, each of 8 cores, or of 16 past 256 events, from a seed.
 
 use crate::making::Making;
-use crate::recording::{Op, Recording};
+use plain::{Op, Recording};
 
 /// How many addresses the cores use that take turns.
 const ADDRESSES: usize = 8;

@@ -20,14 +20,10 @@
 //! with `--compare` all programs judge the recording of a file once, and their texts must be equal.
 
 mod by_key;
-mod forced;
 mod kinds;
 mod library;
 mod making;
-mod newer;
-mod plain;
 mod reader;
-mod recording;
 mod survey;
 mod table;
 mod text;

@@ -1,6 +1,6 @@
 //! A recording while it is made.
 
-use crate::recording::{Event, Op, Recording};
+use plain::{Event, Op, Recording};
 
 /// Xorshift of 64 bits.
 pub struct Random(u64);
@@ -100,7 +100,9 @@ impl Making {
     pub fn made(self) -> Recording {
         let Recording { events, mut writes } = self.recording;
         let used = |event: &Event| match event.op {
-            Op::Load { address, .. } | Op::Store { address } => address + 1,
+            Op::Load { address, .. } | Op::Store { address } | Op::Rmw { address, .. } => {
+                address + 1
+            }
             Op::Fence => 0,
         };
         let addresses = events.iter().map(used).max().unwrap_or(0);

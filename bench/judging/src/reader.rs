@@ -1,7 +1,7 @@
 //! Reads a recording that is laid out as `Form::Own` has it, byte by byte, and no other text. It refuses what the
 //! library refuses.
 
-use crate::recording::{Event, Op, Recording};
+use plain::{Event, Op, Recording};
 
 const CORES: usize = 16;
 const EVENTS: usize = 512;
@@ -98,7 +98,8 @@ fn is_well_formed(recording: &Recording, values: &[u32]) -> bool {
                 stores += 1;
                 address < writes.len()
             }
-            Op::Fence => true,
+            // This layout has no read-modify-write.
+            Op::Fence | Op::Rmw { .. } => true,
         };
         if !is_right {
             return false;

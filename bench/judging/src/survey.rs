@@ -1,7 +1,7 @@
 //! A plain survey for comparison: judges recordings, one a line, by threads, and counts the verdicts.
 
 use crate::by_key;
-use crate::plain::{self, Kind};
+use plain::{self, Kind};
 use std::collections::BTreeMap;
 use std::io::{BufRead, BufReader};
 use std::sync::{Mutex, mpsc};

@@ -1,6 +1,6 @@
 //! The text of a recording.
 
-use crate::recording::{Event, Op, Recording};
+use plain::{Event, Op, Recording};
 
 /// How a text is laid out.
 #[derive(Clone, Copy)]
@@ -40,24 +40,32 @@ impl Form {
         format!("{{{}}}", self.joined(pairs))
     }
 
-    /// The text of an event. A store writes its number and 1.
+    /// The text of an event. What it writes is its number and 1.
     fn event(self, number: usize, event: &Event) -> String {
         let kind = |letter: &str| ("k", format!("\"{letter}\""));
+        let read = |source: Option<usize>| ("r", source.map_or(0, |store| store + 1).to_string());
+        let source_of = |source: Option<usize>| {
+            (
+                "s",
+                source.map_or("null".to_string(), |store| store.to_string()),
+            )
+        };
+        let written = ("w", (number + 1).to_string());
         match event.op {
             Op::Load { address, source } => self.object([
                 ("a", address.to_string()),
                 kind("L"),
-                ("r", source.map_or(0, |store| store + 1).to_string()),
-                (
-                    "s",
-                    source.map_or("null".to_string(), |store| store.to_string()),
-                ),
+                read(source),
+                source_of(source),
             ]),
-            Op::Store { address } => self.object([
+            Op::Rmw { address, source } => self.object([
                 ("a", address.to_string()),
-                kind("S"),
-                ("w", (number + 1).to_string()),
+                kind("R"),
+                read(source),
+                source_of(source),
+                written,
             ]),
+            Op::Store { address } => self.object([("a", address.to_string()), kind("S"), written]),
             Op::Fence => self.object([kind("F")]),
         }
     }

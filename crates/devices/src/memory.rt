@@ -40,20 +40,6 @@ impl<'a> MemorySource<'a> {
             failures: 0,
         }
     }
-
-    /// Whether the end was met.
-    pub fn is_ended(&self) -> bool
-        ensures { result ≡ self.now.ended }
-    {
-        self.ended
-    }
-
-    /// How many reads failed.
-    pub fn failures(&self) -> u64
-        ensures { result ≡ self.now.failures }
-    {
-        self.failures
-    }
 }
 
 impl Source for MemorySource<'_> {

@@ -6,6 +6,7 @@ use Rattle.recording.specs.Event.{read_address, written_address}
 use Rattle.recording.specs.Execution.{Execution, event_count, event_at, core_of, write_list, source_of}
 use Rattle.recording.specs.Order.{place}
 use Rattle.relations.specs.declared.reason.Reason.{Reason}
+use Rattle.relations.specs.Forced.{first_newer_place}
 use Rattle.relations.specs.declared.reason.Reason.TheVariants.{Po, Wo, Rf, Fr}
 use Rattle.drawing.specs.declared.edges.Edge.{Edge}
 
@@ -27,11 +28,6 @@ next_on_core x e = if nat_lt (e + 1) (event_count x) && (core_of x (e + 1) == co
 abbrev pub next_in_list : Execution → ℕ → Option ℕ → Option ℕ
 next_in_list x e None = None
 next_in_list x e (Some a) = slice_get (write_list x a) (place (write_list x a) e + 1)
-
--- where the first write of a list stands that is newer than a source
-abbrev pub first_newer_place : List ℕ → Option ℕ → ℕ
-first_newer_place list None = 0
-first_newer_place list (Some s) = place list s + 1
 
 -- an event, if it is not e
 abbrev pub other_than : ℕ → Option ℕ → Option ℕ

@@ -1,14 +1,14 @@
 //! Edges of a picture.
 
 ghost use Rattle.std.specs.Prelude.{◌≡◌, slice_get};
-ghost use Rattle.drawing.specs.Edges.{edge_to, edge_from, next_on_core, next_in_list, first_newer_place};
+ghost use Rattle.drawing.specs.Edges.{edge_to, edge_from, next_on_core, next_in_list};
 ghost use Rattle.drawing.specs.Edges.{other_than, first_newer, po_edge, rf_edge, co_edge, fr_edge};
 ghost use Rattle.drawing.specs.Edges.{is_same_edge, is_drawn};
 
 use common::{Addr, EventId};
 use event_texts::event_of;
 use recording::{Recording, place};
-use relations::Reason;
+use relations::{Reason, first_newer_place};
 
 /// An edge from one event to another, with the reason for it.
 #[derive(Clone, Copy)]
@@ -81,16 +81,6 @@ fn next_in_list(recording: &Recording, number: EventId, address: Option<Addr>) -
     };
     let list = recording.write_list(address);
     item_at(list, place(list, number) + 1)
-}
-
-/// Where the first write of a list stands that is newer than a source.
-fn first_newer_place(list: &[EventId], source: Option<EventId>) -> usize
-    ensures { result ≡ first_newer_place list.now source }
-{
-    match source {
-        Some(source) => place(list, source) + 1,
-        None => 0,
-    }
 }
 
 /// An event, if it is not this one.

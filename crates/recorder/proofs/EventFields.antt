@@ -5,7 +5,7 @@ use Rattle.json.specs.Token.{Token}
 use Rattle.serde_json.specs.Data.{Data, Members, object}
 use Rattle.serde_json.specs.Find.{get, as_str, as_object}
 use Rattle.recording.specs.declared.event.Event.TheVariants.{L, S, R, C}
-use Rattle.recorder.specs.declared.fields.Fields.{Fields}
+use Rattle.recorder.specs.declared.tokens.events.Fields.{Fields}
 use Rattle.recording.specs.declared.event.Event.{Event}
 use Rattle.recorder.specs.Reading.{natural, value_in, source_in, at_key, read_of, member_event, count_members}
 use Rattle.recorder.specs.Clipped.{clip, clip_event, clipped_number, clipped_event}

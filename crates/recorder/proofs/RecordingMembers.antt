@@ -8,7 +8,7 @@ use Rattle.json.specs.Json.{value}
 use Rattle.serde_json.specs.Read.{max_depth}
 use Rattle.serde_json.specs.Data.{Members, object}
 use Rattle.recording.specs.declared.event.Event.{Event}
-use Rattle.recorder.specs.declared.pulled_members.ReadMembers.{ReadMembers}
+use Rattle.recorder.specs.declared.tokens.ReadMembers.{ReadMembers}
 use Rattle.recorder.specs.declared.reading.Parsed.{Parsed}
 use Rattle.recorder.specs.ParsedModel.{ParsedModel}
 use Rattle.recorder.specs.ParsedModel.{model_of}

@@ -3,8 +3,8 @@ use Rattle.std.specs.Prelude.{◌≡◌, ◌+◌, ℕ, List, Option, Some, None,
 use Rattle.serde_json.specs.Data.{Data, Members}
 use Rattle.serde_json.specs.Find.{as_str}
 use Rattle.recording.specs.declared.event.Event.{Event}
-use Rattle.recorder.specs.declared.fields.Fields.{Fields}
-use Rattle.recorder.specs.declared.pulled_members.ReadMembers.{ReadMembers}
+use Rattle.recorder.specs.declared.tokens.events.Fields.{Fields}
+use Rattle.recorder.specs.declared.tokens.ReadMembers.{ReadMembers}
 use Rattle.recorder.specs.declared.reading.Parsed.{Parsed}
 use Rattle.recorder.specs.Text.{IsReadAs}
 use Rattle.recorder.specs.ParsedModel.{ParsedModel, model_of}

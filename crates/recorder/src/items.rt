@@ -7,12 +7,12 @@ ghost use Rattle.recorder.specs.Clipped.{clipped_event};
 ghost use Rattle.recorder.specs.Pulled.{clipped_source};
 ghost use Rattle.serde_json.specs.Find.{as_object};
 
-use crate::cursor::Cursor;
-use crate::fields::{Fields, pull_event};
-use crate::tokens::{pull_number, pull_value};
+use crate::tokens::events::{Fields, pull_event};
+use crate::tokens::values::{pull_number, pull_value};
 use crate::values::event_members;
 use crate::versions::has_failed;
-use crate::written_events::take_event;
+use crate::written::cursor::Cursor;
+use crate::written::events::take_event;
 use common::{MAX_ADDRESSES, MAX_CORES, MAX_EVENTS};
 use json::Reader;
 use recording::Event;

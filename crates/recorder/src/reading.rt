@@ -10,7 +10,7 @@ ghost use Rattle.recorder.specs.Text.{IsReadAs};
 ghost use Rattle.recorder.specs.Clipped.{clipped_shape};
 
 use crate::items::{Item, keys_of};
-use crate::pulled_members::{ReadMembers, parsed_by_tokens};
+use crate::tokens::{ReadMembers, parsed_by_tokens};
 use crate::versions::has_failed_cas;
 use crate::written::written;
 use common::EventId;

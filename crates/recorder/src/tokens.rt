@@ -1,81 +1,152 @@
-//! Single JSON values of a recording, read from the tokens of its text. Where a value is not in its
-//! simplest form, nothing is told of it.
+//! The reader by tokens, for speed: of any text it gives the contents that its tree gives, or gives up.
 
-ghost use Rattle.std.specs.Prelude.{◌≡◌, ℕ, ◌∷◌, suc, IfSome, IsTrue};
-ghost use Rattle.json.specs.Token.{begin_array, begin_object};
-ghost use Rattle.serde_json.specs.Find.{as_str};
-ghost use Rattle.recorder.specs.Reading.{natural, value_word, value_in};
-ghost use Rattle.recorder.specs.Clipped.{clip, clipped_number};
-ghost use Rattle.recorder.specs.Pulled.{clipped_source, GivesValue};
+ghost use Rattle.std.specs.Prelude.{◌≡◌, ◌+◌, ℕ, suc, [], IfOk, IfSome, option_map, map};
+ghost use Rattle.serde_json.specs.Data.{no_members};
+ghost use Rattle.serde_json.specs.Read.{max_depth};
+ghost use Rattle.recorder.specs.ParsedModel.{ParsedModel};
+ghost use Rattle.recorder.specs.ParsedModel.{model_of};
+ghost use Rattle.recorder.specs.Held.{StandsFor};
+ghost use Rattle.recorder.specs.ReadMembers.{count_of};
+ghost use Rattle.recorder.specs.Reading.{contents_of};
+ghost use Rattle.recorder.specs.ReadMembers.{AreParts, clipped_contents, IsParsedFrom};
+ghost use Rattle.recorder.specs.Pulled.{Adds, GivesValue, GivesMembers};
 
-use crate::cursor::plain_number;
-use json::{Reader, Token};
+pub(crate) mod events;
+mod lists;
+pub(crate) mod values;
 
-pub(crate) fn begins_array(reader: &mut Reader<'_>) -> bool
-    ensures { IsTrue result → reader.old ≡ begin_array ∷ reader.new }
-{
-    matches!(reader.next(), Some(Token::BeginArray))
+use crate::reading::Parsed;
+use crate::tokens::events::once;
+use crate::tokens::lists::{pull_list, pull_lists};
+use crate::tokens::values::{begins_object, pull_natural};
+use common::EventId;
+use json::{Reader, Scratch};
+use recording::Event;
+use std::alloc::{AllocError, Global};
+
+/// The members that were read of a recording.
+#[derive(Drop)]
+pub(crate) struct ReadMembers {
+    pub(crate) version: Option<u64>,
+    pub(crate) cores: Option<Vec<Vec<Event>>>,
+    pub(crate) writes: Option<Vec<Vec<EventId>>>,
+    pub(crate) init: Option<Vec<u32>>,
 }
 
-pub(crate) fn begins_object(reader: &mut Reader<'_>) -> bool
-    ensures { IsTrue result → reader.old ≡ begin_object ∷ reader.new }
-{
-    matches!(reader.next(), Some(Token::BeginObject))
-}
+impl ReadMembers {
+    fn new() -> ReadMembers
+        ensures { AreParts result no_members }
+    {
+        ReadMembers {
+            version: None,
+            cores: None,
+            writes: None,
+            init: None,
+        }
+    }
 
-/// The text of a string.
-pub(crate) fn pull_text<'a>(reader: &mut Reader<'a>) -> Option<&'a str>
-    ensures { IfSome result (λ s. (depth : ℕ) → GivesValue as_str depth reader.old s.now reader.new) }
-{
-    match reader.next()? {
-        Token::String(text) => Some(text),
-        _ => None,
+    /// Reads one member more, of a key that is new.
+    fn pull(
+        &mut self,
+        alloc: Global,
+        key: &str,
+        reader: &mut Reader<'_>,
+    ) -> Result<Option<()>, AllocError>
+        ensures { IfOk result (λ o. IfSome o (λ _. (depth : ℕ)
+            → Adds AreParts key.now (suc (suc (suc depth))) reader.old reader.new self.old self.new)) }
+    {
+        match key {
+            "version" => Ok(once(&mut self.version, pull_natural(reader))),
+            "cores" => Ok(once(&mut self.cores, pull_lists(alloc, reader)?)),
+            "writes" => Ok(once(&mut self.writes, pull_lists(alloc, reader)?)),
+            "init" => Ok(once(&mut self.init, pull_list(alloc, reader)?)),
+            _ => Ok(None),
+        }
+    }
+
+    /// How many members were read.
+    fn len(&self) -> usize
+        ensures { result ≡ count_of self.now.version + count_of self.now.cores + count_of self.now.writes
+            + count_of self.now.init }
+    {
+        self.version.is_some() as usize
+            + self.cores.is_some() as usize
+            + self.writes.is_some() as usize
+            + self.init.is_some() as usize
+    }
+
+    /// The contents of an object with this many members.
+    #[tactic(auto, unfolding(crate::specs::Reading::contents_of))]
+    pub(crate) fn found(self, keys: usize) -> Option<Parsed>
+        ensures { option_map model_of result ≡ contents_of keys self.version
+            (option_map (λ v. map (λ w. w.items) v.items) self.cores)
+            (option_map (λ v. map (λ w. w.items) v.items) self.writes) (option_map (λ v. v.items) self.init) }
+    {
+        let ReadMembers {
+            version,
+            cores,
+            writes,
+            init,
+        } = self;
+        let init = match keys {
+            3 => None,
+            4 => Some(init?),
+            _ => return None,
+        };
+        Some(Parsed {
+            version: version?,
+            cores: cores?,
+            writes: writes?,
+            init,
+        })
     }
 }
 
-/// A natural number.
-pub(crate) fn pull_natural(reader: &mut Reader<'_>) -> Option<u64>
-    ensures { IfSome result (λ n. (depth : ℕ) → GivesValue natural depth reader.old n reader.new) }
+/// The members of an object that has begun.
+fn pull_members(alloc: Global, reader: &mut Reader<'_>) -> Result<Option<ReadMembers>, AllocError>
+    ensures { IfOk result (λ o. IfSome o (λ p. (depth : ℕ)
+        → GivesMembers AreParts (suc (suc (suc depth))) reader.old reader.new p)) }
 {
-    match reader.next()? {
-        Token::Number(text) => plain_number(text),
-        _ => None,
+    let mut read_members = ReadMembers::new();
+    'members: loop {
+        let Ok(key) = reader.next_key() else {
+            return Ok(None);
+        };
+        let Some(key) = key else {
+            return Ok(Some(read_members));
+        };
+        let Some(()) = read_members.pull(alloc, key, reader)? else {
+            return Ok(None);
+        };
     }
 }
 
-fn clipped(n: u64) -> u16
-    ensures { result ≡ clip n }
+fn pull_parsed(alloc: Global, reader: &mut Reader<'_>) -> Result<Option<Parsed>, AllocError>
+    ensures { IfOk result (λ o. IfSome o (λ q. (c : ParsedModel)
+        × GivesValue clipped_contents max_depth reader.old c [] × StandsFor (model_of q) c)) }
 {
-    u16::try_from(n).unwrap_or(u16::MAX)
-}
-
-/// The number of an event or of an address; the greatest of 16 bits where it is greater.
-pub(crate) fn pull_number(reader: &mut Reader<'_>) -> Option<u16>
-    ensures { IfSome result (λ n. (depth : ℕ) → GivesValue clipped_number depth reader.old n reader.new) }
-{
-    Some(clipped(pull_natural(reader)?))
-}
-
-fn word(n: u64) -> Option<u32>
-    ensures { result ≡ value_word n }
-{
-    u32::try_from(n).ok()
-}
-
-/// A value of 32 bits.
-pub(crate) fn pull_value(reader: &mut Reader<'_>) -> Option<u32>
-    ensures { IfSome result (λ n. (depth : ℕ) → GivesValue value_in depth reader.old n reader.new) }
-{
-    word(pull_natural(reader)?)
-}
-
-/// The source of a read.
-pub(crate) fn pull_source(reader: &mut Reader<'_>) -> Option<Option<u16>>
-    ensures { IfSome result (λ s. (depth : ℕ) → GivesValue clipped_source depth reader.old s reader.new) }
-{
-    match reader.next()? {
-        Token::Null => Some(None),
-        Token::Number(text) => Some(Some(clipped(plain_number(text)?))),
-        _ => None,
+    if !begins_object(reader) {
+        return Ok(None);
     }
+    let Some(read_members) = pull_members(alloc, reader)? else {
+        return Ok(None);
+    };
+    let None = reader.next() else {
+        return Ok(None);
+    };
+    let keys = read_members.len();
+    Ok(read_members.found(keys))
+}
+
+/// What a text in the simplest form has; nothing is told of other texts.
+pub(crate) fn parsed_by_tokens(alloc: Global, bytes: &[u8]) -> Result<Option<Parsed>, AllocError>
+    ensures { IfOk result (λ o. IfSome o (λ q. IsParsedFrom bytes.now q)) }
+{
+    let Ok(text) = str::from_utf8(bytes) else {
+        return Ok(None);
+    };
+    let mut scratch = Scratch::new(alloc);
+    let mut reader = Reader::new(text, &mut scratch)?;
+    let found = pull_parsed(alloc, &mut reader)?;
+    Ok(found)
 }

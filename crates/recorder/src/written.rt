@@ -1,13 +1,18 @@
-//! The contents of a recording's text, read from a text in the layout of `write_recording`.
+//! The reader of the layout of `write_recording`, for speed: of a text in it, it gives the contents that its tree
+//! gives, or gives up.
 
 ghost use Rattle.std.specs.Prelude.{◌≡◌, option_map, IfOk, IfSome};
 ghost use Rattle.recorder.specs.ReadMembers.{IsParsedFrom};
 ghost use Rattle.recorder.specs.ParsedModel.{model_of};
 ghost use Rattle.recorder.specs.Written.{IsHead, version_of, BeginsRecording};
 
-use crate::cursor::Cursor;
+pub(crate) mod cursor;
+pub(crate) mod events;
+mod lists;
+
 use crate::reading::Parsed;
-use crate::written_lists::{take_list, take_lists};
+use crate::written::cursor::Cursor;
+use crate::written::lists::{take_list, take_lists};
 use common::{MAX_ADDRESSES, MAX_CORES};
 use std::alloc::{AllocError, Global};
 

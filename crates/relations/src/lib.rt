@@ -15,7 +15,7 @@ mod relation;
 
 pub use laws::{forced_is_exact, ordered_is_acyclic, relation_is_forced};
 pub use neighbours::next_in_cycle;
-pub use overlooks::overlook;
+pub use overlooks::{first_newer_place, overlook};
 pub use pair::is_overlook;
 pub use places::Places;
 pub use reason::Reason;

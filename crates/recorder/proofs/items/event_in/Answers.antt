@@ -1,6 +1,6 @@
 use Rattle.std.proofs.Common.{rules, sym, ◌∙◌, Some}
 use Rattle.serde_json.specs.View.{view}
-use Rattle.recorder.specs.declared.fields.Fields.{Fields}
+use Rattle.recorder.specs.declared.tokens.events.Fields.{Fields}
 use Rattle.recorder.proofs.EventFields.{event_given}
 use Rattle.recorder.proofs.items.event_in.Goals as goal
 

@@ -1,0 +1,10 @@
+use Rattle.std.proofs.Common.{ap, sym, ◌∙◌, option_and_then}
+use Rattle.recorder.specs.Reading.{natural, value_word, value_in}
+use Rattle.recorder.proofs.Somes.{known}
+use Rattle.recorder.proofs.Pulled.{gives_also}
+use Rattle.recorder.proofs.tokens.values.pull_value.Goals as goal
+
+pub returns : goal.returns
+returns c = known c.word.result (λ value word depth.
+    gives_also natural value_in depth c.args.reader.now c.pull_natural.new.reader c.in_ok-pull_natural.field-0 value
+    (λ d is. ap (option_and_then value_word) is ∙ sym c.word.ensures ∙ word) (c.in_ok-pull_natural.ensures depth))

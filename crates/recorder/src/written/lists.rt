@@ -1,0 +1,77 @@
+//! Lists of a recording, read from a text in the layout of `write_recording`. Nothing is told of a list that is
+//! longer than a recording's may be.
+
+ghost use Rattle.std.specs.Prelude.{IfOk, IfSome, map};
+ghost use Rattle.std.specs.List.{AllByRecursion};
+ghost use Rattle.recorder.specs.Text.{list_data};
+ghost use Rattle.recorder.specs.Written.{Begins};
+
+use crate::items::Item;
+use crate::written::cursor::Cursor;
+use common::MAX_EVENTS;
+use std::alloc::{AllocError, Global};
+
+/// For how many items a list has room at first.
+const ROOM: usize = 32;
+
+/// A list of at most this many items.
+pub(crate) fn take_list<T: Item>(
+    alloc: Global,
+    rest: &mut Cursor<'_>,
+    most: usize,
+) -> Result<Option<Vec<T>>, AllocError>
+    ensures { IfOk result (λ o. IfSome o (λ v.
+        Begins (list_data T.datum) (AllByRecursion T.fits) rest.old v.items rest.new)) }
+{
+    if !rest.take(b"[") {
+        return Ok(None);
+    }
+    let mut found = Vec::with_capacity(alloc, ROOM)?;
+    if rest.take(b"]") {
+        return Ok(Some(found));
+    }
+    'items: while found.len() < most {
+        let Some(item) = T::take(rest) else {
+            return Ok(None);
+        };
+        found.push(item)?;
+        if rest.take(b"]") {
+            return Ok(Some(found));
+        }
+        if !rest.take(b",") {
+            return Ok(None);
+        }
+    }
+    Ok(None)
+}
+
+/// At most this many lists, none longer than a core may be.
+pub(crate) fn take_lists<T: Item>(
+    alloc: Global,
+    rest: &mut Cursor<'_>,
+    most: usize,
+) -> Result<Option<Vec<Vec<T>>>, AllocError>
+    ensures { IfOk result (λ o. IfSome o (λ v. Begins (list_data (list_data T.datum))
+        (AllByRecursion (AllByRecursion T.fits)) rest.old (map (λ w. w.items) v.items) rest.new)) }
+{
+    if !rest.take(b"[") {
+        return Ok(None);
+    }
+    let mut found = Vec::with_capacity(alloc, most)?;
+    if rest.take(b"]") {
+        return Ok(Some(found));
+    }
+    'items: while found.len() < most {
+        let Some(list) = take_list(alloc, rest, MAX_EVENTS)? else {
+            return Ok(None);
+        };
+        found.push(list)?;
+        if rest.take(b"]") {
+            return Ok(Some(found));
+        }
+        if !rest.take(b",") {
+            return Ok(None);
+        }
+    }
+    Ok(None)
+}
