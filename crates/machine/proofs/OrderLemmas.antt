@@ -3,7 +3,6 @@ use Rattle.std.proofs.Common.{◌≡◌, ◌≢◌, ◌<◌, ◌≤◌, ◌+◌,
 use Rattle.std.proofs.Common.{length-append}
 use Rattle.recording.specs.Order.{place, Before}
 use Rattle.recording.specs.OrderLaws.{place_there, place_in, place_append_left, place_append_right, cases_times}
-use Rattle.recording.specs.Order.{times}
 
 -- with b put between the two parts, what stood in the right part alone moves by one, and the rest stays
 moved : (u v : List ℕ) (b e : ℕ) → e ≢ b

@@ -1,7 +1,7 @@
 -- Laws of programs and the recordings of them: each operation makes the event of its number.
-use Rattle.std.proofs.Common.{◌≡◌, ◌<◌, ◌+◌, ◌-◌, ◌==◌, inl, inr, ℕ, zero, suc, false, Option, Some, None, List, []}
-use Rattle.std.proofs.Common.{◌∷◌, map, length, length-append, get_or, arith, refl, sym, subst}
-use Rattle.std.proofs.lemmas.Bool.{cases_lt, cond_both, cond-true, cond-false}
+use Rattle.std.proofs.Common.{◌≡◌, ◌<◌, ◌+◌, ◌-◌, ◌==◌, inl, inr, ℕ, suc, false, Option, Some, List, []}
+use Rattle.std.proofs.Common.{◌∷◌, map, length, length-append, get_or, arith, refl, subst}
+use Rattle.std.proofs.lemmas.Bool.{cases_lt, cond_both}
 use Rattle.program.specs.declared.op.Op.{Op}
 use Rattle.program.specs.declared.op.Op.TheVariants.{St, Fence, Cas}
 use Rattle.program.specs.Parts.{Parts}
@@ -10,10 +10,9 @@ use Rattle.recording.specs.declared.event.Event.TheVariants.{R, C, F}
 use Rattle.recording.specs.Event.{read_address, value_read, source, is_plain_store, is_plain_load}
 use Rattle.recording.specs.Execution.{Execution, placed_from, event_count, event_at}
 use Rattle.recording.specs.PlacedLaws.{tagged, placed_here, placed_after}
-use Rattle.machine.specs.State.{State, event_of, cores_from, recorded}
+use Rattle.machine.specs.State.{event_of}
 use Rattle.machine.specs.Orderly.{placed_op, is_st, is_ld, op_reads}
 use Rattle.machine.specs.ProgramOf.{Makes, AreOpsOf, IsProgramOf}
-use Rattle.machine.specs.RecordedLaws.{events_length, events_at, cores_length}
 use Rattle.machine.specs.FirstUseLaws.{HasAddressOf, HaveAddressesOf}
 
 -- operations that make the events of each core make each event
