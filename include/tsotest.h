@@ -23,7 +23,7 @@ extern "C" {
 #define TSOTEST_MAX_EVENTS 512
 #define TSOTEST_MAX_ADDRESSES 16
 
-/* No verdict on a recording of so many events is longer, in bytes. It grows with the square of the events, since a cycle comes
+/* No verdict on a recording of this many events is longer, in bytes. It grows with the square of the events, since a cycle comes
  * with a row of labels for each event: 18 KB for 64 events, 1.06 MB for 512. An order or an overlook takes 4 bytes an event. */
 #define TSOTEST_VERDICT_BYTES(events) ((size_t)13 + (size_t)(events) * (26 + 4 * (size_t)(events)))
 #define TSOTEST_MAX_VERDICT_BYTES TSOTEST_VERDICT_BYTES(TSOTEST_MAX_EVENTS)

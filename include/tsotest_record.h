@@ -135,7 +135,7 @@ static inline int tsotest_record_fail(struct tsotest_record *r, enum tsotest_fau
     return -1;
 }
 
-/* Begins a recording of so many cores that may use the addresses of the last one. */
+/* Begins a recording of this many cores that may use the addresses of the last one. */
 static inline void tsotest_begin_(struct tsotest_record *r, int cores)
 {
     r->error = TSOTEST_NO_FAULT;
@@ -146,7 +146,7 @@ static inline void tsotest_begin_(struct tsotest_record *r, int cores)
         tsotest_record_fail(r, TSOTEST_FULL, "%d cores: a recording has %d at most", cores, TSOTEST_RECORD_CORES);
 }
 
-/* Begins a recording of so many cores, and forgets what was there. */
+/* Begins a recording of this many cores, and forgets what was there. */
 static inline void tsotest_record_begin(struct tsotest_record *r, int cores)
 {
     tsotest_begin_(r, cores);

@@ -225,7 +225,7 @@ class Recorder:
     """
 
     def __init__(self, cores):
-        """Begins a recording of so many cores, 0 to 16."""
+        """Begins a recording of this many cores, 0 to 16."""
         if not 0 <= cores <= MAX_CORES:
             raise NoRecording(f"{cores} cores: a recording has {MAX_CORES} at most")
         self.cores, self._events, self._commits, self._initial, self._addresses = cores, [], [], {}, set()

@@ -1,4 +1,4 @@
-/* Records events and judges them, over and over for a second, by so many threads. Prints recordings a second, and of each the microseconds of the
+/* Records events and judges them, over and over for a second, by this many threads. Prints recordings a second, and of each the microseconds of the
  * recorder and of the judge by one thread. bench/testbench makes the file. Usage: recording FILE THREADS */
 #define _POSIX_C_SOURCE 199309L
 #include "tsotest.h"

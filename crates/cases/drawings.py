@@ -23,7 +23,7 @@ class Lines:
         return bool(self.rest) and self.rest.pop(0) == line
 
     def take_all(self, pattern, most=None):
-        """What the pattern finds in the next lines, as long as it does, and in no more than so many."""
+        """What the pattern finds in the next lines, as long as it does, and in no more than this many."""
         while self.rest and most != 0 and (found := pattern.fullmatch(self.rest[0])):
             self.rest.pop(0)
             most = most and most - 1

@@ -163,7 +163,7 @@ class Reader:
         return says and self.is_line(lines[5], source)
 
     def reads(self, number, earlier):
-        """What is said of a read behind these events: the last write of its address, in memory or in its core's buffer."""
+        """What is said of a read after these events: the last write of its address, in memory or in its core's buffer."""
         event, name = self.events[number], self.name(number)
         source = event["s"]
         own = [it for it in range(number) if self.is_write(it, event["a"]) and self.events[it]["core"] == event["core"]]
@@ -181,8 +181,8 @@ class Reader:
         event = self.events[number]
         return event["k"] in "SR" and event["a"] == address
 
-    def writes_behind(self, number, earlier):
-        """What is said of a write behind these events."""
+    def writes_after(self, number, earlier):
+        """What is said of a write after these events."""
         name = self.name(number)
         seen = [it for it in earlier if self.is_write(it, self.events[number]["a"])]
         return f"the next write of {name} behind {seen[-1]}" if seen else f"the first write of {name}"
@@ -195,7 +195,7 @@ class Reader:
         for i, number in enumerate(order):
             kind, earlier = self.events[number]["k"], order[:i]
             below = [self.reads(number, earlier)] if kind in "LRC" else []
-            below += [self.writes_behind(number, earlier)] if kind in "SR" else []
+            below += [self.writes_after(number, earlier)] if kind in "SR" else []
             below += ["behind what its core did before it"] if kind == "F" else []
             if len(lines) < at + 1 + len(below) or not self.is_line(lines[at], number):
                 return False

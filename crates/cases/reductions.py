@@ -203,7 +203,7 @@ def is_reduced_once(program, recording, verdict):
 
 
 def of_recordings(program, seed, least):
-    """How many of so many violations of random recordings are reduced as here."""
+    """How many of this many violations of random recordings are reduced as here."""
     dice, found, same = random.Random(seed), 0, 0
     while found < least:
         recording = made(dice)
@@ -214,7 +214,7 @@ def of_recordings(program, seed, least):
 
 
 def of_trials(program, seed, least):
-    """How many of so many violations of random trials are shown reduced as here."""
+    """How many of this many violations of random trials are shown reduced as here."""
     dice, found, same = random.Random(seed), 0, 0
     while found < least:
         options = f"--cores {dice.randint(2, 6)} --ops {dice.randint(4, 24)} --addresses {dice.randint(1, 4)}"

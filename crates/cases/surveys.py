@@ -1,7 +1,7 @@
 #!/usr/bin/env python3
 """Says what `survey` prints of recordings, by what `judge` prints of each.
 
-With a program and a number, whether the program says so of so many random recordings, of which some are refused, by 1, 2, 8 and 32 workers.
+With a program and a number, whether the program says so of this many random recordings, of which some are refused, by 1, 2, 8 and 32 workers.
 Usage: crates/cases/surveys.py PROGRAM N [SEED]
 """
 import json

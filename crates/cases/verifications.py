@@ -1,7 +1,7 @@
 #!/usr/bin/env python3
 """Says of a recording and a text whether it is that of a verdict that holds of the recording, or else the first line at fault.
 
-With a program and a number, whether the program says the same of the verdicts of so many random recordings, and of each with one thing changed.
+With a program and a number, whether the program says the same of the verdicts of this many random recordings, and of each with one thing changed.
 Usage: crates/cases/verifications.py RECORDING VERDICT, or crates/cases/verifications.py PROGRAM N [SEED]
 """
 import json
@@ -46,7 +46,7 @@ class Lines:
 
 
 def values(count):
-    """The pattern of so many numbers, a space before each."""
+    """The pattern of this many numbers, a space before each."""
     return b"".join([b" " + NUMBER] * count)
 
 
@@ -201,7 +201,7 @@ def is_verified(program, recording, text, dice):
 
 
 def of_recordings(program, seed, count):
-    """How many of so many verdicts on random recordings are verified as here."""
+    """How many of this many verdicts on random recordings are verified as here."""
     dice, same = random.Random(seed), 0
     for _ in range(count):
         recording = json.dumps(made(dice))

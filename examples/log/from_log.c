@@ -11,7 +11,7 @@
  *   commit CORE ADDRESS VALUE       a write reached memory
  *   commit EVENT                    the same, by its event
  *
- * Numbers are decimal, or hexadecimal behind 0x. A line that begins with # is left out. The recording goes to standard output.
+ * Numbers are decimal, or hexadecimal after 0x. A line that begins with # is left out. The recording goes to standard output.
  * The status is 0, or 1 where the log gives none: standard error says why.
  *
  *   cc -O2 -I include examples/log/from_log.c -o from_log && ./from_log < examples/log/mp.log | tsotest explain - */
@@ -22,7 +22,7 @@
 
 enum { MOST = 4 };
 
-/* The numbers of a line behind its word, or -1. */
+/* The numbers of a line after its word, or -1. */
 static int numbers(char *at, uint64_t *found)
 {
     int count = 0;
@@ -39,7 +39,7 @@ static int numbers(char *at, uint64_t *found)
     }
 }
 
-/* Records what a line with so many numbers says; 0, or -1. */
+/* Records what a line with this many numbers says; 0, or -1. */
 static int record(struct tsotest_record *r, const char *word, int count, const uint64_t *n)
 {
     int first = n[0] > 100000 ? -1 : (int)n[0];

@@ -31,7 +31,7 @@ impl Kind {
         Kind::ALL.into_iter().find(|kind| kind.name() == name)
     }
 
-    /// What the verdict on a recording of so many events begins with.
+    /// What the verdict on a recording of this many events begins with.
     pub fn beginning(self, events: usize) -> String {
         match self {
             Kind::Ordered => "ordered: ".to_string(),
@@ -42,12 +42,12 @@ impl Kind {
     }
 }
 
-/// How many cores a recording of so many events has.
+/// How many cores a recording of this many events has.
 fn cores_of(events: usize) -> usize {
     if events > 256 { 16 } else { 8 }
 }
 
-/// The recording of a kind, of so many events, at least four to a core and as many on each.
+/// The recording of a kind, of this many events, at least four to a core and as many on each.
 pub fn recording(events: usize, kind: Kind, seed: u64) -> Recording {
     let cores = cores_of(events);
     assert!(

@@ -9,12 +9,12 @@
 //! judging --compare FILE
 //!
 //! `bench/judge_in_process` builds it against the library, `out/libtsotest.a`, and runs it.
-//! With EVENTS it prints a recording of so many events instead: of the kind `ordered`, `cyclic`,
+//! With EVENTS it prints a recording of this many events instead: of the kind `ordered`, `cyclic`,
 //! `overlook` or `ring`, or else a cyclic one, from the seed SEED, or else 0. With `--spaced` the texts
 //! have their keys in another order and a blank after each comma and colon; the reader of one layout is
 //! then left out.
 //!
-//! With `--lines` it prints so many recordings of so many events, one a line, of which three of four are
+//! With `--lines` it prints this many recordings of this many events, one a line, of which three of four are
 //! ordered and the others of the other kinds; with `--survey` it counts the verdicts of such a file, by
 //! threads; with `--library` it judges each line of it by one call of the library and prints the seconds;
 //! with `--compare` all programs judge the recording of a file once, and their texts must be equal.

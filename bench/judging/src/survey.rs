@@ -56,7 +56,7 @@ impl Counts {
     }
 }
 
-/// The lines of a file, so many at once, each lot with the number of its first.
+/// The lines of a file, this many at once, each lot with the number of its first.
 fn lots(file: &str) -> impl Iterator<Item = (usize, Vec<String>)> {
     let file = fs::File::open(file).expect("a file");
     let mut lines = BufReader::with_capacity(1 << 20, file).lines();
@@ -75,7 +75,7 @@ fn count_lot(counts: &mut Counts, (first, lot): (usize, Vec<String>)) {
     }
 }
 
-/// Prints the counts of the recordings of a file, by so many threads.
+/// Prints the counts of the recordings of a file, by this many threads.
 pub fn print(file: &str, threads: usize) {
     let mut all = Counts::default();
     if threads == 1 {

@@ -13,7 +13,7 @@ pub struct Line {
     pub times: Vec<Times>,
 }
 
-/// Prints the head of the ratios to so many counterparts.
+/// Prints the head of the ratios to this many counterparts.
 pub fn print_head(counterparts: usize) {
     println!(
         "The proved library's time over that of a plain judge behind a tree of any JSON (tree)"

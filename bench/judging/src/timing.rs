@@ -13,7 +13,7 @@ pub struct Times {
 /// One program: from the text of a recording to the text of its verdict.
 pub type Program<'a> = &'a mut dyn FnMut(&str);
 
-/// Lets the programs judge a row of recordings in turn, so many times. Each call is timed by itself, so
+/// Lets the programs judge a row of recordings in turn, this many times. Each call is timed by itself, so
 /// that one that is interrupted spoils no other.
 pub fn in_turn(rounds: usize, row: &[String], programs: &mut [Program]) -> Vec<Times> {
     let mut times = vec![vec![Vec::with_capacity(rounds); row.len()]; programs.len()];

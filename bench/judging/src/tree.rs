@@ -96,7 +96,7 @@ impl Reader<'_> {
         }
     }
 
-    /// The next value, in which so many arrays and objects may stand in one another.
+    /// The next value, in which this many arrays and objects may stand in one another.
     fn value(&mut self, nesting: usize) -> Option<Value> {
         self.skip_blanks();
         match self.peek()? {
