@@ -1,7 +1,6 @@
 -- The operations of the events that are kept make these.
-use Rattle.std.proofs.Common.{◌≡◌, ◌<◌, ◌≤◌, ◌+◌, ◌-◌, ◌==◌, inl, inr, ℕ, zero, suc, Bool, true, false, cond, Option}
-use Rattle.std.proofs.Common.{List, [], ◌∷◌, map, option_map, length, get_or, drop, arith, ap, sym, subst, refl, ◌∙◌}
-use Rattle.std.proofs.Common.{drop-cons}
+use Rattle.std.proofs.Common.{◌≡◌, ◌<◌, ◌+◌, ◌-◌, ◌==◌, inl, inr, ℕ, zero, suc, Bool, true, false, cond, Option}
+use Rattle.std.proofs.Common.{List, [], ◌∷◌, map, option_map, length, get_or, arith, ap, sym, subst, refl, ◌∙◌}
 use Rattle.std.specs.List.{AllByRecursion}
 use Rattle.std.proofs.lemmas.Bool.{cases_lt}
 use Rattle.std.proofs.lemmas.List.{get_or-map, length-map}
@@ -112,26 +111,3 @@ pub all_mapped : {A B : Type 0} (P : B → Type 0) (f : A → B) → ((x : A) �
     → AllByRecursion P (map f xs)
 all_mapped P f each [] = tt
 all_mapped P f each (x ∷ xs) = (each x, all_mapped P f each xs)
-
--- what stands at a number counted core by core, as the cores are walked
-module _ (lists : List (List Op)) (i rest : ℕ) (d : List Op) (inside : i < length lists) where
-  -- the cores from i on
-  next : drop i lists ≡ get_or lists i d ∷ drop (i + 1) lists
-  next =
-      let one : suc i ≡ i + 1 = omega arith in
-      drop-cons lists i d inside ∙ ap (λ (n : ℕ). get_or lists i d ∷ drop n lists) one
-
-  -- it is on this core
-  pub op_on_core : rest < length (get_or lists i d)
-      → (get_or (placed_from i (drop i lists)) rest (0, Fence)).1 ≡ get_or (get_or lists i d) rest Fence
-  op_on_core here =
-      ap (λ (l : List (List Op)). (get_or (placed_from i l) rest (0, Fence)).1) next
-      ∙ ap (λ (z : ℕ × Op). z.1) (placed_here i (get_or lists i d) (drop (i + 1) lists) rest (0, Fence) here)
-
-  -- or on a later one
-  pub op_on_later : length (get_or lists i d) ≤ rest
-      → (get_or (placed_from i (drop i lists)) rest (0, Fence)).1
-      ≡ (get_or (placed_from (i + 1) (drop (i + 1) lists)) (rest - length (get_or lists i d)) (0, Fence)).1
-  op_on_later after =
-      ap (λ (l : List (List Op)). (get_or (placed_from i l) rest (0, Fence)).1) next
-      ∙ ap (λ (z : ℕ × Op). z.1) (placed_after i (get_or lists i d) (drop (i + 1) lists) rest (0, Fence) after)
