@@ -1,7 +1,5 @@
 //! Remainders of many words by one number.
 
-ghost use Rattle.std.specs.Prelude.{◌≡◌, ◌<◌, ◌%◌};
-
 /// A number by which many words are divided, with 2^64 divided by it, which spares the divisions.
 #[derive(Clone, Copy)]
 pub(crate) struct Divisor {
@@ -9,34 +7,14 @@ pub(crate) struct Divisor {
     share: u64,
 }
 
-/// What is left of a word where this many times the number are taken, or once more.
-#[tactic(auto, using(crate::proofs::Remainders::rest_is, crate::proofs::Remainders::next_is))]
-fn rest_of(word: u64, number: u64, times: u64) -> u64
-    requires { 0 < number }
-    ensures { result ≡ word % number }
-{
-    let Some(taken) = times.checked_mul(number) else {
-        return word % number;
-    };
-    let Some(rest) = word.checked_sub(taken) else {
-        return word % number;
-    };
-    if rest < number {
-        return rest;
-    }
-    if rest - number < number {
-        return rest - number;
-    }
-    word % number
-}
-
 impl Divisor {
-    ghost use Rattle.std.specs.Prelude.{◌≡◌, ◌<◌, ◌%◌};
+    ghost use Rattle.std.specs.Prelude.{◌≡◌, ◌<◌, ◌≤◌, ◌*◌, ◌%◌, ◌^◌};
 
     /// The divisor of this number, which is not 0.
     pub(crate) fn new(number: u64) -> Divisor
         requires { 0 < number }
-        ensures { result.number ≡ number }
+        ensures number { result.number ≡ number }
+        ensures share { result.share * result.number ≤ 2 ^ 64 }
     {
         Divisor {
             number,
@@ -46,10 +24,19 @@ impl Divisor {
 
     /// The remainder of a word.
     pub(crate) fn remainder(self, word: u64) -> u64
-        requires { 0 < self.number }
+        requires number { 0 < self.number }
+        requires share { self.share * self.number ≤ 2 ^ 64 }
         ensures { result ≡ word % self.number }
     {
         let product = (word as u128).wrapping_mul(self.share as u128);
-        rest_of(word, self.number, (product >> 64) as u64)
+        let times = (product >> 64) as u64;
+        let rest = word - times * self.number;
+        if rest < self.number {
+            return rest;
+        }
+        if rest - self.number < self.number {
+            return rest - self.number;
+        }
+        word % self.number
     }
 }

@@ -1,6 +1,6 @@
 //! The steps that words name.
 
-ghost use Rattle.std.specs.Prelude.{◌≡◌, ◌<◌, ◌≤◌, ◌*◌, ◌/◌, ◌%◌, length};
+ghost use Rattle.std.specs.Prelude.{◌≡◌, ◌<◌, ◌≤◌, ◌*◌, ◌/◌, ◌%◌, ◌^◌, length};
 ghost use Rattle.trials.specs.Schedule.{AreSteps, step_at, step_count, step_of_word, transaction_at};
 
 use crate::divisor::Divisor;
@@ -82,7 +82,8 @@ pub(crate) fn fill(cores: usize, addresses: usize, table: &mut [Step])
 #[tactic(auto, using(crate::proofs::Lines::few_lines))]
 pub(crate) fn steps_divisor(cores: usize, addresses: usize) -> Divisor
     requires few { (cores ≤ MAX_CORES) × (addresses ≤ MAX_ADDRESSES) }
-    ensures { 0 < cores → result.number ≡ step_count cores addresses }
+    ensures number { 0 < cores → result.number ≡ step_count cores addresses }
+    ensures share { result.share * result.number ≤ 2 ^ 64 }
 {
     Divisor::new(step_count(cores, addresses).max(1) as u64)
 }
@@ -99,6 +100,7 @@ pub(crate) fn step_of_word(
     requires table { AreSteps cores _addresses table.now }
     requires room { step_count cores _addresses ≤ length table.now }
     requires count { 0 < cores → count.number ≡ step_count cores _addresses }
+    requires share { count.share * count.number ≤ 2 ^ 64 }
     ensures { result ≡ step_of_word cores _addresses word }
 {
     if cores == 0 {
