@@ -48,6 +48,7 @@ impl Machine {
 
     /// Takes one step, or answers the first guard that is false and changes nothing. Each fault changes one
     /// row of the table of steps, and leaves the others as they are.
+    #[inline(always)]
     pub fn step(&mut self, step: Step) -> Result<(), Blocked>
         ensures ok { OnOk result (answer_of self.old step ≡ Ok self.new.state) }
         ensures blocked { IfErr result (λ b. answer_of self.old step ≡ Err b) }
