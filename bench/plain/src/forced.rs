@@ -73,7 +73,11 @@ impl Forced {
             if let Some(source) = source.filter(|source| !newer.is_own(*source, load)) {
                 self.put(source, load, READS_FROM);
             }
-            for store in newer.than(address, source).iter().filter(|store| **store != load) {
+            for store in newer
+                .than(address, source)
+                .iter()
+                .filter(|store| **store != load)
+            {
                 self.put(load, *store, FROM_READ);
             }
         }

@@ -17,7 +17,7 @@ use Rattle.inputs.specs.declared.fault.CommandFault.TheVariants.{WriteFailed}
 use Rattle.inputs.specs.declared.command_error.CommandError.{CommandError}
 use Rattle.inputs.specs.Inputs.{AreFaulty, ReadsNamed, ReadsAll, ReadsInput}
 use Rattle.commands.specs.Command.{IsAnswerTo, IsCommandError, input_names}
-use Rattle.commands.specs.Judge.{IsOfFile}
+use Rattle.commands.specs.Judge.{IsFileAnswer}
 use Rattle.commands.specs.Perform.{IsHelp, IsOptionError, IsPrinted, IsShown, IsWritten, Puts}
 use Rattle.commands.specs.Survey.{IsEachWritten}
 use Rattle.commands.proofs.Asking.{read_none}
@@ -41,13 +41,13 @@ told_written inputs words o a b before after (Err fault) are written reads = tt
 -- what judge writes is printed for the words that give its options
 pub judged_printed : (inputs : List ℕ → Option (List ℕ)) (words : List Text) (o : JudgeOptions) (a b : PlaceLog)
     (before after : Option (List ℕ)) (r : Result Outcome CommandFault) → AreOptions (Judge o) (command_of words)
-    → Puts (IsOfFile inputs o) before after r → ReadsAll (string_bytes o.file ∷ []) a b r
+    → Puts (IsFileAnswer inputs o) before after r → ReadsAll (string_bytes o.file ∷ []) a b r
     → Puts (IsPrinted inputs words a b) before after r
 judged_printed inputs words o a b before after (Ok outcome) are put read =
-    writes_more (IsOfFile inputs o) (IsPrinted inputs words a b) before after (Ok outcome)
+    writes_more (IsFileAnswer inputs o) (IsPrinted inputs words a b) before after (Ok outcome)
     (λ answer is. inl (Judge o, are, inl (is, read))) put
 judged_printed inputs words o a b before after (Err fault) are begun reads = λ failed.
-    writes_more (IsOfFile inputs o) (IsPrinted inputs words a b) before after (Err fault)
+    writes_more (IsFileAnswer inputs o) (IsPrinted inputs words a b) before after (Err fault)
     (λ answer is. inl (
       Judge o,
       are,

@@ -9,7 +9,7 @@ use Rattle.answers.specs.declared.rendering.Rendering.TheVariants.{Words, Pictur
 use Rattle.inputs.specs.declared.command_error.CommandError.{CommandError}
 use Rattle.inputs.specs.declared.command_error.CommandError.TheVariants.{Refused, Fault}
 use Rattle.inputs.specs.declared.fault.CommandFault.TheVariants.{OutOfMemory}
-use Rattle.commands.specs.Judge.{IsOfFile, IsJudgeFault, IsVerified, IsVerifyError}
+use Rattle.commands.specs.Judge.{IsFileAnswer, IsJudgeFault, IsVerified, IsVerifyError}
 use Rattle.commands.specs.Merge.{IsMerged, IsMergeError}
 use Rattle.commands.specs.Render.{IsRendered, IsRenderingError}
 use Rattle.commands.specs.Replay.{IsReplayedInput, IsReplayError}
@@ -42,7 +42,7 @@ input_names (Merge o) = map string_bytes o.files.items
 -- what a command answers to its options and inputs
 abbrev pub IsAnswerTo : (List ℕ → Option (List ℕ)) → Options → Answer → Type 0
 IsAnswerTo inputs (Run o) answer = IsRun inputs o answer
-IsAnswerTo inputs (Judge o) answer = IsOfFile inputs o answer
+IsAnswerTo inputs (Judge o) answer = IsFileAnswer inputs o answer
 IsAnswerTo inputs (Trials o) answer = IsTrials o o.show answer
 IsAnswerTo inputs (Live o) answer = IsLive inputs o answer
 IsAnswerTo inputs (Replay o) answer = IsReplayedInput inputs o answer

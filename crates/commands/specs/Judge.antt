@@ -22,8 +22,8 @@ AnswerHolds bytes answer = answer.outcome ≢ Refused → (x : Execution) × IsR
     × IsProof x answer.text.items
 
 -- the answer to the bytes of the named input, which holds
-abbrev pub IsOfFile : (List ℕ → Option (List ℕ)) → JudgeOptions → Answer → Type 0
-IsOfFile inputs o answer = OfBytes inputs (string_bytes o.file)
+abbrev pub IsFileAnswer : (List ℕ → Option (List ℕ)) → JudgeOptions → Answer → Type 0
+IsFileAnswer inputs o answer = OfBytes inputs (string_bytes o.file)
     (λ bytes. IsAnswerOf bytes answer × AnswerHolds bytes answer)
 
 -- why nothing is answered: the named input isn't read, or a write failed

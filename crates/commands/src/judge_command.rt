@@ -2,7 +2,7 @@
 ghost use Rattle.std.specs.Prelude.{◌≡◌, ◌≢◌, ◌≤◌, ◌∷◌, [], IfErr, string_bytes};
 ghost use Rattle.devices.specs.Bytes.{CanGrow, CountsBy};
 ghost use Rattle.inputs.specs.Inputs.{CanRead, ReadsAll, command_failed_writes};
-ghost use Rattle.commands.specs.Judge.{IsOfFile, IsJudgeFault};
+ghost use Rattle.commands.specs.Judge.{IsFileAnswer, IsJudgeFault};
 ghost use Rattle.commands.specs.Perform.{Puts};
 
 use crate::output::flush;
@@ -28,7 +28,8 @@ pub fn judge_command<R: Threads + Wait + Sync, P: Place, W: Sink>(
     requires workers { (1 ≤ options.now.workers) × (options.now.workers ≤ MAX_WORKERS) }
     requires inputs { CanRead (P.log place.old).tally }
     requires output { CanGrow (W.write_failures out.old) }
-    ensures written { Puts (IsOfFile (P.bytes place.old) options.now) (W.written out.old) (W.written out.new) result }
+    ensures written { Puts (IsFileAnswer (P.bytes place.old) options.now) (W.written out.old) (W.written out.new)
+        result }
     ensures fault { IfErr result (IsJudgeFault (P.bytes place.old) options.now) }
     ensures reads { ReadsAll (string_bytes options.now.file ∷ []) (P.log place.old) (P.log place.new) result }
     ensures writes { CountsBy command_failed_writes (W.write_failures out.old) (W.write_failures out.new) result }

@@ -1,5 +1,5 @@
-//! The reader by tokens, for speed: it gives the contents that a text's tree gives, or gives up, and saves three quarters
-//! of the tree's instructions.
+//! The reader by tokens, for speed: it gives the contents that a text's tree gives, or gives up, and saves three
+//! quarters of the tree's instructions.
 
 ghost use Rattle.std.specs.Prelude.{◌≡◌, ◌+◌, ℕ, suc, [], IfOk, IfSome, option_map, map};
 ghost use Rattle.serde_json.specs.Data.{no_members};

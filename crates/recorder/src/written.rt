@@ -1,5 +1,5 @@
-//! The reader of the layout of `write_recording`, for speed: it gives the contents that a text's tree gives, or gives up,
-//! and saves three quarters of the instructions of the reader by tokens.
+//! The reader of the layout of `write_recording`, for speed: it gives the contents that a text's tree gives, or gives
+//! up, and saves three quarters of the instructions of the reader by tokens.
 
 ghost use Rattle.std.specs.Prelude.{◌≡◌, option_map, IfOk, IfSome};
 ghost use Rattle.recorder.specs.ReadMembers.{IsParsedFrom};

@@ -5,14 +5,14 @@ use Rattle.verdicts.specs.declared.printed.Answer.{Answer}
 use Rattle.report.specs.Answer.{IsAnswerOf}
 use Rattle.verification.specs.Proof.{EveryVerdictHolds}
 use Rattle.inputs.specs.Inputs.{AreBytesOf}
-use Rattle.commands.specs.Judge.{AnswerHolds, IsOfFile}
+use Rattle.commands.specs.Judge.{AnswerHolds, IsFileAnswer}
 use Rattle.commands.proofs.Given.{all_given, flushed}
 use Rattle.commands.proofs.judge_command.judge_command.Goals as goal
 
 -- what judge answers holds, since every text of a verdict does
 answer_holds : EveryVerdictHolds → (inputs : List ℕ → Option (List ℕ)) (o : JudgeOptions) (bytes : List ℕ)
     (answer : Answer) → AreBytesOf inputs (string_bytes o.file) bytes → IsAnswerOf bytes answer
-    → IsOfFile inputs o answer
+    → IsFileAnswer inputs o answer
 answer_holds law inputs o bytes answer given is = (bytes, given, (is, go is))
   where
     go : IsAnswerOf bytes answer → AnswerHolds bytes answer
