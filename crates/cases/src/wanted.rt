@@ -1,12 +1,12 @@
-//! What files of classic tests, which have the names of the field, and other files of a folder have to meet.
+//! What the files of a folder have to meet. Those of classic tests have the names of the field.
 
 ghost use Rattle.std.specs.Prelude.{◌≡◌, ◌↔◌, IsTrue};
 ghost use Rattle.cases.specs.PrintedStatus.{verdict_status};
 
-use crate::files::{is_shown, names_in};
+use crate::case::{Case, cases_of};
 use crate::performing::{Printed, perform_words};
 use crate::rules::{has_order, is_run_in_order, prints_back};
-use crate::tally::Counts;
+use crate::tally::Tally;
 use std::sync::Wait;
 use std::thread::Threads;
 use std::{fs, io};
@@ -14,6 +14,8 @@ use std::{fs, io};
 /// What a file, or the one of its name that ends otherwise, has to meet.
 #[derive(Clone, Copy)]
 pub enum Rule {
+    /// Each case of the file prints what it is to print.
+    Performed,
     /// A verdict is printed of the recording beside it.
     Judged,
     /// The order of a verdict, if it is one, is one of the recording beside it, and its reverse is none.
@@ -70,65 +72,85 @@ fn is_run<R: Threads + Wait + Sync>(
     }
 }
 
-/// Whether the file at this path, which has this text, meets a rule.
-fn is_met<R: Threads + Wait + Sync>(
+/// Whether what differs at this path is shown: what is wrong has to differ.
+pub fn is_shown(path: &str) -> bool {
+    !path.starts_with("wrong")
+}
+
+/// Performs a case, and answers whether it prints what it is to print, with its status. Where it differs,
+/// it is shown.
+fn perform_one<R: Threads + Wait + Sync>(
     rt: &HostRuntime,
     threads: &R,
-    rule: Rule,
-    path: &str,
-    text: &str,
+    file: &str,
+    case: &Case<'_>,
 ) -> io::Result<bool> {
-    match rule {
-        Rule::Judged => {
-            let line = format!(in rt.alloc(); "judge {path}.json")?;
-            let found = perform_words(rt, threads, line.as_str(), b"")?;
-            Ok(is_verdict(&found, text.as_bytes()))
+    let Some(command) = case.command else {
+        if is_shown(file) {
+            println!(rt; "differs: {file}\nno command before {}", case.wanted)?;
         }
-        Rule::Order => {
-            let name = format!(in rt.alloc(); "{path}.json")?;
-            let recording = fs::read(rt, name.as_str())?;
-            Ok(has_order(rt.alloc(), recording.as_slice(), text)?)
-        }
-        Rule::Seed(seed) => is_run(rt, threads, "run", path, "--seed", seed),
-        Rule::Run => Ok(is_run_in_order(rt.alloc(), text)?),
-        Rule::Kept => Ok(
-            prints_back(rt.alloc(), text)
-                && is_run(rt, threads, "live", path, "--buffer", 1)?
-                && is_run(rt, threads, "live", path, "--buffer", 8)?,
-        ),
-        Rule::PrintsBack => Ok(prints_back(rt.alloc(), text)),
+        return Ok(false);
+    };
+    let found = perform_words(rt, threads, command, case.input.as_bytes())?;
+    let is_met = case.is_met(found.status, found.text.as_slice());
+    if !is_met && is_shown(file) {
+        let text = String::from_utf8_lossy(rt.alloc(), found.text.as_slice())?;
+        println!(rt;
+            "differs: {file}\n$ tsotest{command}\n? {}\n{text}",
+            found.status
+        )?;
     }
+    Ok(is_met)
 }
 
-/// Counts whether the file at this path meets a rule, by its kind.
-fn count(counts: &mut Counts, path: &str, rule: Rule, is_as_wanted: bool) {
-    if !is_shown(path) {
-        return counts.wrong.count(is_as_wanted);
-    }
-    match rule {
-        Rule::Judged => counts.verdicts.count(is_as_wanted),
-        Rule::Order => counts.orders.count(is_as_wanted),
-        Rule::Seed(_) => counts.runs.count(is_as_wanted),
-        _ => counts.programs.count(is_as_wanted),
-    }
-}
-
-/// Counts whether the file at this path with this ending meets a rule, and names it where it is to meet it and does
-/// not.
+/// Counts whether the file at this path with this ending meets a rule, and names it where it does not; of a file of
+/// cases each of them.
 fn count_one<R: Threads + Wait + Sync>(
     rt: &HostRuntime,
     threads: &R,
     path: &str,
     ending: &str,
     rule: Rule,
-    counts: &mut Counts,
+    tally: &mut Tally,
 ) -> io::Result<()> {
     let name = format!(in rt.alloc(); "{path}{ending}")?;
     let text = fs::read_to_string(rt, name.as_str())?;
-    let is_as_wanted = is_met(rt, threads, rule, path, text.as_str())?;
-    count(counts, path, rule, is_as_wanted);
+    let is_as_wanted = match rule {
+        Rule::Performed => {
+            for case in &cases_of(rt.alloc(), text.as_str())? {
+                if !case.is_remark() {
+                    tally.count(perform_one(rt, threads, path, case)?);
+                }
+            }
+            return Ok(());
+        }
+        Rule::Judged => {
+            let line = format!(in rt.alloc(); "judge {path}.json")?;
+            is_verdict(
+                &perform_words(rt, threads, line.as_str(), b"")?,
+                text.as_bytes(),
+            )
+        }
+        Rule::Order => {
+            let recording = format!(in rt.alloc(); "{path}.json")?;
+            has_order(
+                rt.alloc(),
+                fs::read(rt, recording.as_str())?.as_slice(),
+                text.as_str(),
+            )?
+        }
+        Rule::Seed(seed) => is_run(rt, threads, "run", path, "--seed", seed)?,
+        Rule::Run => is_run_in_order(rt.alloc(), text.as_str())?,
+        Rule::Kept => {
+            prints_back(rt.alloc(), text.as_str())
+                && is_run(rt, threads, "live", path, "--buffer", 1)?
+                && is_run(rt, threads, "live", path, "--buffer", 8)?
+        }
+        Rule::PrintsBack => prints_back(rt.alloc(), text.as_str()),
+    };
+    tally.count(is_as_wanted);
     if !is_as_wanted && is_shown(path) {
-        println!(rt; "differs: {path}")?;
+        println!(rt; "differs: {name}")?;
     }
     Ok(())
 }
@@ -140,11 +162,14 @@ pub fn count_all<R: Threads + Wait + Sync>(
     folder: &str,
     ending: &str,
     rule: Rule,
-    counts: &mut Counts,
-) -> io::Result<()> {
-    for name in &names_in(rt, folder, ending)? {
-        let path = format!(in rt.alloc(); "{folder}/{name}")?;
-        count_one(rt, threads, path.as_str(), ending, rule, counts)?;
+) -> io::Result<Tally> {
+    let mut tally = Tally::new();
+    for entry in fs::read_dir(rt, folder)? {
+        let entry = entry?;
+        if let Some(name) = entry.file_name().strip_suffix(ending) {
+            let path = format!(in rt.alloc(); "{folder}/{name}")?;
+            count_one(rt, threads, path.as_str(), ending, rule, &mut tally)?;
+        }
     }
-    Ok(())
+    Ok(tally)
 }

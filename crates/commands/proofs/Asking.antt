@@ -6,8 +6,8 @@ use Rattle.devices.specs.declared.place.Tally.{Tally}
 use Rattle.devices.specs.Places.{Notes, PlaceLog}
 use Rattle.inputs.specs.declared.fault.CommandFault.TheVariants.{OutOfMemory}
 use Rattle.inputs.specs.declared.command_error.CommandError.{CommandError}
-use Rattle.inputs.specs.declared.command_error.CommandError.TheVariants.{Refused, Fault}
-use Rattle.inputs.specs.Inputs.{AreEnded, AreRead, AreStopped, ReadsNamed, command_failed_reads}
+use Rattle.inputs.specs.declared.command_error.CommandError.TheVariants.{Fault}
+use Rattle.inputs.specs.Inputs.{AreRead, AreStopped, IsStoppedBy, ReadsNamed}
 
 -- nothing was read
 pub read_none : (a : PlaceLog) → AreRead [] a a
@@ -30,33 +30,27 @@ notes_then (Some a) (Some b) (Some c) xs ys first then =
 pub read_then : (xs ys : List (List ℕ)) (a b c : PlaceLog) → AreRead xs a b → AreRead ys b c → AreRead (xs ++ ys) a c
 read_then xs ys a b c first then = (notes_then a.asked b.asked c.asked xs ys first.0 then.0, then.1 ∙ first.1)
 
--- what stops where all was read, and no read failed, stops before more names would be asked for
-pub stopped_before : (xs ys : List (List ℕ)) (error : CommandError) (a b : PlaceLog) → command_failed_reads error ≡ 0
-    → AreRead xs a b → AreStopped (xs ++ ys) error a b
-stopped_before xs ys error a b none read = record {
+-- out of memory where all was read, before more names would be asked for
+pub stopped_before : (xs ys : List (List ℕ)) (a b : PlaceLog) → AreRead xs a b
+    → AreStopped (xs ++ ys) (Fault OutOfMemory) a b
+stopped_before xs ys a b read = record {
   front = xs;
   rest = ys;
   parts = refl;
   asked = read.0;
-  lent = ap (λ (t : Tally). t.lent) read.1;
-  failed = omega (arith, none, ap (λ (t : Tally). t.failed) read.1);
-  ended = go error;
+  stopped = (ap (λ (t : Tally). t.lent) read.1, omega (arith, ap (λ (t : Tally). t.failed) read.1));
 }
-  where
-    go : (error : CommandError) → AreEnded error a b
-    go (Refused refusal) = ap (λ (t : Tally). t.unended) read.1
-    go (Fault fault) = tt
 
--- without memory all was read
+-- out of memory all was read
 pub memory_stopped : {X : Type 0} (r : Result X CommandError) (names : List (List ℕ)) (a b : PlaceLog)
     → AreRead names a b → IsErrAnd r (λ error. error ≡ Fault OutOfMemory) → ReadsNamed names a b r
 memory_stopped (Ok x) names a b read wanting = absurd wanting
 memory_stopped (Err error) names a b read wanting =
     subst (λ (t : CommandError). AreStopped names t a b) (sym wanting)
     (subst (λ (l : List (List ℕ)). AreStopped l (Fault OutOfMemory) a b) (append-nil names)
-    (stopped_before names [] (Fault OutOfMemory) a b refl read))
+    (stopped_before names [] a b read))
 
--- without memory nothing was to be read
+-- out of memory nothing was to be read
 pub none_read : {X : Type 0} (r : Result X CommandError) (a : PlaceLog)
     → IfErr r (λ error. error ≡ Fault OutOfMemory) → ReadsNamed [] a a r
 none_read {X} (Ok x) a wanting = read_none a
@@ -72,14 +66,8 @@ stopped_after xs ys zs error a b c read h = record {
       (ap (λ (l : List (List ℕ)). l ++ zs) h.parts ∙ append_assoc h.front h.rest zs)
       ∙ sym (append_assoc xs h.front (h.rest ++ zs));
   asked = notes_then a.asked b.asked c.asked xs h.front read.0 h.asked;
-  lent = h.lent ∙ ap (λ (t : Tally). t.lent) read.1;
-  failed = omega (arith, h.failed, ap (λ (t : Tally). t.failed) read.1);
-  ended = go error h.ended;
+  stopped = subst (λ (t : Tally). IsStoppedBy error t c.tally) read.1 h.stopped;
 }
-  where
-    go : (error : CommandError) → AreEnded error b c → AreEnded error a c
-    go (Refused refusal) same = same ∙ ap (λ (t : Tally). t.unended) read.1
-    go (Fault fault) same = tt
 
 -- what hands on the error of the first
 pub stopped_again : {X : Type 0} (r : Result X CommandError) (xs ys : List (List ℕ)) (error : CommandError)

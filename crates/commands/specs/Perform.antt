@@ -1,5 +1,5 @@
 -- What is printed for the words of a command line.
-use Rattle.std.specs.Prelude.{◌≡◌, ◌≢◌, ◌⊎◌, ◌+◌, ◌∷◌, [], ℕ, List, Option, Result, Ok, Err, string_bytes, ⊤}
+use Rattle.std.specs.Prelude.{◌≡◌, ◌≢◌, ◌⊎◌, ◌∷◌, [], ℕ, List, Option, Result, Ok, Err, string_bytes, ⊤}
 use Rattle.clap.specs.Words.{Text, kind_of}
 use Rattle.clap.specs.declared.error.Error.{Error}
 use Rattle.clap.specs.declared.error.kind.ErrorKind.TheVariants.{DisplayHelp, DisplayVersion}
@@ -22,7 +22,7 @@ use Rattle.command_line.specs.declared.options.OptionFault.TheVariants as refuse
 use Rattle.command_line.specs.declared.options.SurveyOptions.{SurveyOptions}
 use Rattle.command_line.specs.Commands.{command_of}
 use Rattle.command_line.specs.Options.{AreOptions, IsFault}
-use Rattle.inputs.specs.Inputs.{AreRead, AreStopped, command_failed_reads}
+use Rattle.inputs.specs.Inputs.{AreRead, AreStopped, IsStoppedBy}
 use Rattle.inputs.specs.Refusal.{option_line}
 use Rattle.report.specs.Answer.{IsBegun, IsPut}
 use Rattle.commands.specs.Command.{IsAnswerTo, IsCommandError, input_names}
@@ -32,36 +32,45 @@ use Rattle.commands.specs.Survey.{IsEachWritten, TellsEach}
 abbrev pub IsMistake : Error → Type 0
 IsMistake error = (kind_of error ≢ DisplayHelp) × (kind_of error ≢ DisplayVersion)
 
--- without options help was asked for; its text no clause says
-abbrev pub IsHelp : OptionFault → Answer → Type 0
-IsHelp (Clap error) answer = (answer.outcome ≡ Done) × (IsMistake error → ⊥)
-IsHelp refused.RefusalMeanings answer = answer.outcome ≡ Done
-IsHelp other answer = ⊥
+-- without options help was asked for, whose text no clause says, or there is a line of refusal, which is that of the
+-- options, or a fault, which is what clap says, or standard input that is named twice
+abbrev pub IsWithoutOptions : OptionFault → Result Answer CommandError → Type 0
+IsWithoutOptions (Clap error) (Ok answer) = (answer.outcome ≡ Done) × (IsMistake error → ⊥)
+IsWithoutOptions refused.RefusalMeanings (Ok answer) = answer.outcome ≡ Done
+IsWithoutOptions (refused.Refused refusal) (Err (Refused printed)) = string_bytes printed.line ≡ option_line refusal
+IsWithoutOptions (Clap error) (Err (Fault (CommandLine said))) = (said ≡ error) × IsMistake error
+IsWithoutOptions refused.StandardInputTwice (Err (Fault fault.StandardInputTwice)) = ⊤
+IsWithoutOptions other (Err (Fault fault.OutOfMemory)) = ⊤
+IsWithoutOptions other answered = ⊥
 
--- without options a line of refusal is that of the options, and a fault is what clap says, or standard input that is
--- named twice
-abbrev pub IsOptionError : OptionFault → CommandError → Type 0
-IsOptionError (refused.Refused refusal) (Refused printed) = string_bytes printed.line ≡ option_line refusal
-IsOptionError other (Refused printed) = ⊥
-IsOptionError (Clap error) (Fault (CommandLine said)) = (said ≡ error) × IsMistake error
-IsOptionError refused.StandardInputTwice (Fault fault.StandardInputTwice) = ⊤
-IsOptionError other (Fault fault.OutOfMemory) = ⊤
-IsOptionError other (Fault fault) = ⊥
+-- what a command with these options answers, by all of its inputs, or why it stops, by the inputs up to there
+abbrev pub IsDone : (List ℕ → Option (List ℕ)) → Options → PlaceLog → PlaceLog → Result Answer CommandError → Type 0
+IsDone inputs o a b (Ok answer) = IsAnswerTo inputs o answer × AreRead (input_names o) a b
+IsDone inputs o a b (Err error) = IsCommandError inputs o error × AreStopped (input_names o) error a b
 
--- a line of refusal as it is printed
-abbrev pub IsLine : CommandError → Answer → Type 0
-IsLine (Refused refusal) answer = (answer.outcome ≡ out.Refused) × (answer.text.items ≡ string_bytes refusal.line)
-IsLine (Fault fault) answer = ⊥
+-- what is answered to the words: what the command does that they ask for, or, where they give no options, help or why
+-- there are none, for which no input is opened
+abbrev pub IsAnswered : (List ℕ → Option (List ℕ)) → List Text → PlaceLog → PlaceLog → Result Answer CommandError
+    → Type 0
+IsAnswered inputs words a b answered = ((o : Options) × AreOptions o (command_of words) × IsDone inputs o a b answered)
+    ⊎ ((fault : OptionFault) × IsFault fault words × IsWithoutOptions fault answered × AreRead [] a b)
+
+-- an answer as it is printed, or a line of refusal
+abbrev pub IsShown : Result Answer CommandError → Answer → Type 0
+IsShown (Ok answer) printed = printed ≡ answer
+IsShown (Err (Refused refusal)) printed = (printed.outcome ≡ out.Refused)
+    × (printed.text.items ≡ string_bytes refusal.line)
+IsShown (Err (Fault fault)) printed = ⊥
+
+-- what is printed for the words
+abbrev pub IsPrinted : (List ℕ → Option (List ℕ)) → List Text → PlaceLog → PlaceLog → Answer → Type 0
+IsPrinted inputs words a b printed =
+    (answered : Result Answer CommandError) × IsAnswered inputs words a b answered × IsShown answered printed
 
 -- such an answer was written, whole, or, where a write failed, the first bytes of it
 abbrev pub Puts : (Answer → Type 0) → Option (List ℕ) → Option (List ℕ) → Result Outcome CommandFault → Type 0
 Puts Is before after (Ok outcome) = IsPut Is before after outcome
 Puts Is before after (Err fault) = fault ≡ WriteFailed → IsBegun Is before after
-
--- what is printed for what is answered
-abbrev pub IsShown : Result Answer CommandError → Answer → Type 0
-IsShown (Ok answer) printed = printed ≡ answer
-IsShown (Err error) printed = IsLine error printed
 
 -- the options are those of another command than judge
 abbrev pub IsNoJudge : Options → Type 0
@@ -77,40 +86,34 @@ PrintsEarly other = ⊥
 abbrev pub PrintsAtOnce : List Text → Type 0
 PrintsAtOnce words = (o : Options) → AreOptions o (command_of words) → PrintsEarly o → ⊥
 
+-- the lines of recordings and their counts were written, by all of the input, for words that ask for them
+abbrev pub IsToldFor : (List ℕ → Option (List ℕ)) → List Text → PlaceLog → PlaceLog → Option (List ℕ)
+    → Option (List ℕ) → Outcome → Type 0
+IsToldFor inputs words a b before after outcome = (o : SurveyOptions) × AreOptions (Survey o) (command_of words)
+    × IsEachWritten inputs o before after outcome × AreRead (string_bytes o.file ∷ []) a b
+
+-- what was written for the words, and how it came out: all that is printed for them, or the lines of recordings; or,
+-- where a write failed, and all is printed at once, the first bytes of it
+abbrev pub IsWritten : (List ℕ → Option (List ℕ)) → List Text → PlaceLog → PlaceLog → Option (List ℕ)
+    → Option (List ℕ) → Result Outcome CommandFault → Type 0
+IsWritten inputs words a b before after (Ok outcome) =
+    IsPut (IsPrinted inputs words a b) before after outcome ⊎ IsToldFor inputs words a b before after outcome
+IsWritten inputs words a b before after (Err fault) =
+    fault ≡ WriteFailed → PrintsAtOnce words → IsBegun (IsPrinted inputs words a b) before after
+
 -- why nothing is printed for these options, or not all
 abbrev pub IsFaultFor : (List ℕ → Option (List ℕ)) → Options → PlaceLog → PlaceLog → CommandFault → Type 0
 IsFaultFor inputs o a b WriteFailed = ⊤
-IsFaultFor inputs o a b fault = IsCommandError inputs o (Fault fault) × AreStopped (input_names o) (Fault fault) a b
-
--- what is printed for the words: the answer of the command that they ask for, by all of its inputs; the line of a
--- refusal, by the inputs up to it; or, where they give no options, help or the line of a refusal, for which no input is
--- opened
-abbrev pub IsPrinted : (List ℕ → Option (List ℕ)) → List Text → PlaceLog → PlaceLog → Answer → Type 0
-IsPrinted inputs words a b answer = ((o : Options) × AreOptions o (command_of words)
-    × ((IsAnswerTo inputs o answer × AreRead (input_names o) a b)
-    ⊎ ((error : CommandError) × IsCommandError inputs o error × AreStopped (input_names o) error a b
-    × IsLine error answer)))
-    ⊎ ((fault : OptionFault) × IsFault fault words
-    × (IsHelp fault answer ⊎ ((error : CommandError) × IsOptionError fault error × IsLine error answer))
-    × AreRead [] a b)
-
--- what was written for the words, and how it came out: all that is printed for them, or, of a survey that tells each
--- recording, the lines of recordings and their counts, by all of the input
-abbrev pub IsWritten : (List ℕ → Option (List ℕ)) → List Text → PlaceLog → PlaceLog → Option (List ℕ)
-    → Option (List ℕ) → Outcome → Type 0
-IsWritten inputs words a b before after outcome = IsPut (IsPrinted inputs words a b) before after outcome
-    ⊎ ((o : SurveyOptions) × AreOptions (Survey o) (command_of words) × IsEachWritten inputs o before after outcome
-    × AreRead (string_bytes o.file ∷ []) a b)
+IsFaultFor inputs o a b fault = IsDone inputs o a b (Err (Fault fault))
 
 -- why nothing is printed for the words, or not all
 abbrev pub IsFaultOf : (List ℕ → Option (List ℕ)) → List Text → PlaceLog → PlaceLog → CommandFault → Type 0
 IsFaultOf inputs words a b fault =
     ((o : Options) × AreOptions o (command_of words) × IsFaultFor inputs o a b fault)
-    ⊎ ((f : OptionFault) × IsFault f words × (IsOptionError f (Fault fault) ⊎ (fault ≡ WriteFailed)) × AreRead [] a b)
+    ⊎ ((f : OptionFault) × IsFault f words × (IsWithoutOptions f (Err (Fault fault)) ⊎ (fault ≡ WriteFailed))
+    × AreRead [] a b)
 
--- the tally after a command: each input that was opened was taken back, a read failed exactly where this is the fault,
--- and without a fault each input was read to its end
+-- the tally after a command: without a fault each input was read to its end and taken back
 abbrev pub Tallies : {X : Type 0} → Tally → Tally → Result X CommandFault → Type 0
 Tallies before after (Ok x) = after ≡ before
-Tallies before after (Err fault) = (after.lent ≡ before.lent)
-    × (after.failed ≡ before.failed + command_failed_reads (Fault fault))
+Tallies before after (Err fault) = IsStoppedBy (Fault fault) before after

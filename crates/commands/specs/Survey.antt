@@ -26,32 +26,28 @@ use Rattle.inputs.specs.Inputs.{AreBytesOf, IsInputFault, OfBytes}
 abbrev pub TellsEach : SurveyOptions → Type 0
 TellsEach o = (o.each ≡ true) × (o.show ≡ None)
 
--- the counts of what is found in the lines of the named input
-pub record IsSurveyed (inputs : List ℕ → Option (List ℕ)) (name : List ℕ) (answer : Answer) : Type 0 where
+-- what is found in the lines of the named input, in order, and the ledger of its codes
+pub record IsSurveyed (inputs : List ℕ → Option (List ℕ)) (name : List ℕ) (findings : List Finding) (ledger : Ledger)
+    : Type 0 where
   pub bytes : List ℕ
   pub given : AreBytesOf inputs name bytes
-  pub findings : List Finding
   pub found : AreFindings (lines bytes) findings
-  pub ledger : Ledger
   pub counted : IsLedger (codes_of findings) ledger
-  pub answered : IsSurveyAnswer false ledger answer
 
--- a line of what is found in each line of the named input was written, in order, an empty line, and their counts
+-- a line of each was written, an empty line, and their counts
 pub record IsEachWritten (inputs : List ℕ → Option (List ℕ)) (o : SurveyOptions) (before after : Option (List ℕ))
     (outcome : Outcome) : Type 0 where
   pub tells : TellsEach o
-  pub bytes : List ℕ
-  pub given : AreBytesOf inputs (string_bytes o.file) bytes
   pub findings : List Finding
-  pub found : AreFindings (lines bytes) findings
   pub ledger : Ledger
-  pub counted : IsLedger (codes_of findings) ledger
+  pub surveyed : IsSurveyed inputs (string_bytes o.file) findings ledger
   pub outcome_is : outcome ≡ ledger_outcome out.Refused ledger
   pub written : Appends before after (each_text 0 findings ++ 10 ∷ survey_text ledger)
 
 -- the answer of survey, where no recording is told, by the one that is to be shown
 abbrev pub IsSurveyOf : (List ℕ → Option (List ℕ)) → SurveyOptions → Option ℕ → Answer → Type 0
-IsSurveyOf inputs o None answer = (o.each ≢ true) × IsSurveyed inputs (string_bytes o.file) answer
+IsSurveyOf inputs o None answer = (o.each ≢ true) × (findings : List Finding) × (ledger : Ledger)
+    × IsSurveyed inputs (string_bytes o.file) findings ledger × IsSurveyAnswer false ledger answer
 IsSurveyOf inputs o (Some k) answer = OfBytes inputs (string_bytes o.file)
     (λ bytes. (line : List ℕ) × IsLineAt bytes k line × IsLineAnswer o.reduce line answer)
 

@@ -4,11 +4,10 @@ ghost use Rattle.clap.specs.Words.{Row, Text};
 ghost use Rattle.command_line.specs.Options.{AreOptions};
 ghost use Rattle.devices.specs.Bytes.{CanGrow, CountsBy};
 ghost use Rattle.inputs.specs.Inputs.{CanRead, ReadsNamed, command_failed_writes};
-ghost use Rattle.report.specs.Answer.{IsBegun};
 ghost use Rattle.commands.specs.Command.{IsAnswerTo, IsCommandError, input_names};
 ghost use Rattle.command_line.specs.Commands.{command_of};
-ghost use Rattle.commands.specs.Perform.{IsFaultFor, IsFaultOf, IsHelp, IsNoJudge, IsOptionError, IsPrinted, IsShown};
-ghost use Rattle.commands.specs.Perform.{IsWritten, PrintsAtOnce, PrintsEarly, Tallies};
+ghost use Rattle.commands.specs.Perform.{IsFaultFor, IsFaultOf, IsNoJudge, IsShown, IsWithoutOptions, IsWritten};
+ghost use Rattle.commands.specs.Perform.{PrintsAtOnce, PrintsEarly, Tallies};
 ghost use Rattle.commands.specs.Survey.{TellsEach};
 
 use crate::judge_command::judge_command;
@@ -33,8 +32,7 @@ use std::thread::Threads;
 
 /// The answer where there are no options: the help that was asked for, a refusal or a fault.
 fn without_options(alloc: Global, fault: OptionFault) -> Result<Answer, CommandError>
-    ensures ok { IfOk result (IsHelp fault) }
-    ensures err { IfErr result (IsOptionError fault) }
+    ensures { IsWithoutOptions fault result }
 {
     match fault {
         OptionFault::Clap(error) => {
@@ -149,11 +147,8 @@ fn performed<R: Threads + Wait + Sync, P: Place, W: Sink>(
     requires options { (command : Option (Text × List Row)) × AreOptions options.now command }
     requires inputs { CanRead (P.log place.old).tally }
     requires output { CanGrow (W.write_failures out.old) }
-    ensures printed { (words : List Text) → AreOptions options.now (command_of words) → IfOk result (IsWritten
-        (P.bytes place.old) words (P.log place.old) (P.log place.new) (W.written out.old) (W.written out.new)) }
-    ensures begun { (words : List Text) → AreOptions options.now (command_of words)
-        → result ≡ Err CommandFault.WriteFailed → PrintsAtOnce words → IsBegun (IsPrinted (P.bytes place.old) words
-        (P.log place.old) (P.log place.new)) (W.written out.old) (W.written out.new) }
+    ensures written { (words : List Text) → AreOptions options.now (command_of words) → IsWritten (P.bytes place.old)
+        words (P.log place.old) (P.log place.new) (W.written out.old) (W.written out.new) result }
     ensures fault { IfErr result (IsFaultFor (P.bytes place.old) options.now (P.log place.old) (P.log place.new)) }
     ensures reads { Tallies (P.log place.old).tally (P.log place.new).tally result }
     ensures writes { CountsBy command_failed_writes (W.write_failures out.old) (W.write_failures out.new) result }
@@ -184,11 +179,8 @@ pub fn perform<R: Threads + Wait + Sync, P: Place, W: Sink>(
 ) -> Result<Outcome, CommandFault>
     requires inputs { CanRead (P.log place.old).tally }
     requires output { CanGrow (W.write_failures out.old) }
-    ensures printed { IfOk result (IsWritten (P.bytes place.old) (map string_bytes words.now)
-        (P.log place.old) (P.log place.new) (W.written out.old) (W.written out.new)) }
-    ensures begun { result ≡ Err CommandFault.WriteFailed → PrintsAtOnce (map string_bytes words.now) → IsBegun
-        (IsPrinted (P.bytes place.old) (map string_bytes words.now) (P.log place.old) (P.log place.new))
-        (W.written out.old) (W.written out.new) }
+    ensures written { IsWritten (P.bytes place.old) (map string_bytes words.now) (P.log place.old) (P.log place.new)
+        (W.written out.old) (W.written out.new) result }
     ensures fault { IfErr result (IsFaultOf (P.bytes place.old) (map string_bytes words.now)
         (P.log place.old) (P.log place.new)) }
     ensures reads { Tallies (P.log place.old).tally (P.log place.new).tally result }

@@ -1,9 +1,10 @@
 //! The command `survey`.
-ghost use Rattle.std.specs.Prelude.{◌≡◌, ◌≢◌, ◌∷◌, [], IfErr, IfOk, Some, false, option_map, string_bytes, true};
+ghost use Rattle.std.specs.Prelude.{◌≡◌, ◌≢◌, ◌∷◌, [], IfErr, IfOk, List, string_bytes, true};
+ghost use Rattle.std.specs.Io.KnownBytes.{Appends};
 ghost use Rattle.devices.specs.Bytes.{CanGrow, CountsBy};
-ghost use Rattle.surveys.specs.Surveys.{IsSurvey};
-ghost use Rattle.inputs.specs.Inputs.{CanRead, OfBytes, ReadsNamed, ReadsInput, command_failed_writes};
-ghost use Rattle.commands.specs.Survey.{IsEachFault, IsEachWritten, IsSurveyOf, IsSurveyError, TellsEach};
+ghost use Rattle.surveys.specs.Surveys.{told_text};
+ghost use Rattle.inputs.specs.Inputs.{CanRead, ReadsNamed, ReadsInput, command_failed_writes};
+ghost use Rattle.commands.specs.Survey.{IsEachFault, IsEachWritten, IsSurveyed, IsSurveyOf, IsSurveyError, TellsEach};
 
 use crate::output::put;
 use answers::{line_answer, survey_answer};
@@ -14,7 +15,7 @@ use report::{Answer, Outcome};
 use std::alloc::Global;
 use std::sync::Wait;
 use std::thread::Threads;
-use surveys::{Ledger, SurveyError, line_of, survey};
+use surveys::{Finding, Ledger, SurveyError, line_of, survey};
 
 /// Counts the recordings of the named input, and writes the line of each where it is told.
 fn counted<R: Threads + Wait + Sync, P: Place, W: Sink>(
@@ -27,8 +28,9 @@ fn counted<R: Threads + Wait + Sync, P: Place, W: Sink>(
 ) -> Result<Ledger, CommandFault>
     requires inputs { CanRead (P.log place.old).tally }
     requires output { CanGrow (W.write_failures out.old) }
-    ensures ok { IfOk result (λ ledger. OfBytes (P.bytes place.old) (string_bytes options.now.file)
-        (λ bytes. IsSurvey bytes ledger each (W.written out.old) (W.written out.new))) }
+    ensures ok { IfOk result (λ ledger. (findings : List Finding)
+        × IsSurveyed (P.bytes place.old) (string_bytes options.now.file) findings ledger
+        × Appends (W.written out.old) (W.written out.new) (told_text each 0 findings)) }
     ensures fault { IfErr result (IsEachFault (P.bytes place.old) options.now) }
     ensures reads { ReadsInput (string_bytes options.now.file) (P.log place.old) (P.log place.new) result }
     ensures writes { CountsBy command_failed_writes (W.write_failures out.old) (W.write_failures out.new) result }

@@ -35,9 +35,9 @@ pub record CanRead (t : Tally) : Type 0 where
 abbrev pub AreRead : List (List ℕ) → PlaceLog → PlaceLog → Type 0
 AreRead names a b = Notes a.asked b.asked names × (b.tally ≡ a.tally)
 
--- how many reads failed where a command stops
-abbrev pub command_failed_reads : CommandError → ℕ
-command_failed_reads (Fault ReadFailed) = 1
+-- how many reads failed
+abbrev pub command_failed_reads : CommandFault → ℕ
+command_failed_reads ReadFailed = 1
 command_failed_reads other = 0
 
 -- how many writes failed
@@ -45,21 +45,20 @@ abbrev pub command_failed_writes : CommandFault → ℕ
 command_failed_writes WriteFailed = 1
 command_failed_writes other = 0
 
--- where a text is refused, each input that was opened was read to its end
-abbrev pub AreEnded : CommandError → PlaceLog → PlaceLog → Type 0
-AreEnded (Refused refusal) a b = b.tally.unended ≡ a.tally.unended
-AreEnded (Fault fault) a b = ⊤
+-- each input that was opened was taken back, and a read failed exactly where this is why a command stops; where a text
+-- is refused, each was read to its end
+abbrev pub IsStoppedBy : CommandError → Tally → Tally → Type 0
+IsStoppedBy (Refused refusal) before after = after ≡ before
+IsStoppedBy (Fault fault) before after = (after.lent ≡ before.lent)
+    × (after.failed ≡ before.failed + command_failed_reads fault)
 
--- some of the names, from the first on, were asked for, in this order, each once; each input that was opened was taken
--- back; a read failed exactly where this is why the command stops
+-- some of the names, from the first on, were asked for, in this order, each once
 pub record AreStopped (names : List (List ℕ)) (error : CommandError) (a b : PlaceLog) : Type 0 where
   pub front : List (List ℕ)
   pub rest : List (List ℕ)
   pub parts : names ≡ front ++ rest
   pub asked : Notes a.asked b.asked front
-  pub lent : b.tally.lent ≡ a.tally.lent
-  pub failed : b.tally.failed ≡ a.tally.failed + command_failed_reads error
-  pub ended : AreEnded error a b
+  pub stopped : IsStoppedBy error a.tally b.tally
 
 -- the inputs of these names were read, or not all were
 abbrev pub ReadsNamed : {X : Type 0} → List (List ℕ) → PlaceLog → PlaceLog → Result X CommandError → Type 0

@@ -32,15 +32,10 @@ IsAnswerOf bytes answer = ((x : Execution) × IsReadingResult bytes (Ok x) × (v
     × (answer.outcome ≡ outcome_of verdict) × IsVerdictText x verdict answer.text.items) ⊎ IsRefusedAnswer bytes answer
 
 -- such an answer was written, whole, and came out so
-pub record IsPut (Is : Answer → Type 0) (before after : Option (List ℕ)) (outcome : Outcome) : Type 0 where
-  pub answer : Answer
-  pub is : Is answer
-  pub outcome_is : outcome ≡ answer.outcome
-  pub written : Appends before after answer.text.items
+abbrev pub IsPut : (Answer → Type 0) → Option (List ℕ) → Option (List ℕ) → Outcome → Type 0
+IsPut Is before after outcome = (answer : Answer) × Is answer × (outcome ≡ answer.outcome)
+    × Appends before after answer.text.items
 
 -- the first bytes of such an answer were written
-pub record IsBegun (Is : Answer → Type 0) (before after : Option (List ℕ)) : Type 0 where
-  pub answer : Answer
-  pub is : Is answer
-  pub count : ℕ
-  pub written : Appends before after (take count answer.text.items)
+abbrev pub IsBegun : (Answer → Type 0) → Option (List ℕ) → Option (List ℕ) → Type 0
+IsBegun Is before after = (answer : Answer) × Is answer × (n : ℕ) × Appends before after (take n answer.text.items)

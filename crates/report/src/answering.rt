@@ -9,7 +9,7 @@ ghost use Rattle.report.specs.Errors.{report_failed_reads, report_failed_writes}
 
 use crate::error::ReportError;
 use common::{Gate, MAX_WORKERS, OutOfMemory};
-use devices::{Failed, Sink, Source, read_all, write_all};
+use devices::{Failed, ReadError, Sink, Source, read_all, write_all};
 use judge::{judge_alone, judge_gated};
 use recorder::read_recording;
 use recording::Recording;
@@ -96,7 +96,11 @@ pub fn answer<T: Threads + Wait + Sync, R: Source, W: Sink, G: Gate>(
         × IsBegun (IsAnswerOf bytes) (W.written sink.old) (W.written sink.new) }
     ensures unwritten { IfErr result (λ e. e ≢ ReportError.WriteFailed → sink.new ≡ sink.old) }
 {
-    let bytes = read_all(alloc, source)?;
+    let bytes = match read_all(alloc, source) {
+        Ok(bytes) => bytes,
+        Err(ReadError::ReadFailed) => return Err(ReportError::ReadFailed),
+        Err(ReadError::OutOfMemory) => return Err(ReportError::OutOfMemory),
+    };
     let Answer { outcome, text } = answer_by(rt, alloc, &bytes, workers, gate)?;
     match write_all(sink, &text) {
         Ok(()) => Ok(outcome),

@@ -1,7 +1,6 @@
 //! Why there is no whole answer.
 
 use common::OutOfMemory;
-use devices::ReadError;
 use thiserror::Error;
 
 /// Why there is no whole answer.
@@ -26,19 +25,5 @@ impl From<OutOfMemory> for ReportError {
 
     fn from(_refused: OutOfMemory) -> ReportError {
         ReportError::OutOfMemory
-    }
-}
-
-impl From<ReadError> for ReportError {
-    ghost use Rattle.std.specs.Prelude.{◌≡◌};
-    ghost use Rattle.report.specs.Errors.{report_error_of};
-
-    ghost from_gives = { λ error e. e ≡ report_error_of error };
-
-    fn from(error: ReadError) -> ReportError {
-        match error {
-            ReadError::ReadFailed => ReportError::ReadFailed,
-            ReadError::OutOfMemory => ReportError::OutOfMemory,
-        }
     }
 }

@@ -22,21 +22,19 @@ answer_holds law inputs o bytes answer given is = (bytes, given, (is, go is))
 
 pub returns-in-Ok-clause-written : goal.returns-in-Ok-clause-written
 returns-in-Ok-clause-written g c =
-    let w = c.in-Ok.ensures.whole in
-    let put = w.2 in
-    flushed _ put.answer _ _ _ c.in-Ok.outcome c.flush.result
-    (answer_holds c.every_verdict_holds.ensures (g.P.Place.bytes c.args.place.now) c.args.options.now w.0 put.answer
-    (all_given _ _ _ w.0 (rw c.as_str.ensures.value at c.in_ok-input.ensures.given) w.1 c.in-Ok.ensures.all) put.is)
-    put.outcome_is put.written c.flush.ensures.kept c.flush.ensures.outcome
+    let (bytes, read, (answer, is, out, written)) = c.in-Ok.ensures.whole in
+    flushed _ answer _ _ _ c.in-Ok.outcome c.flush.result
+    (answer_holds c.every_verdict_holds.ensures (g.P.Place.bytes c.args.place.now) c.args.options.now bytes answer
+    (all_given _ _ _ bytes (rw c.as_str.ensures.value at c.in_ok-input.ensures.given) read c.in-Ok.ensures.all) is)
+    out written c.flush.ensures.kept c.flush.ensures.outcome
 
 pub returns-in-Err-WriteFailed-clause-written : goal.returns-in-Err-WriteFailed-clause-written
 returns-in-Err-WriteFailed-clause-written g c failed =
-    let b = c.answer-answered.ensures.begun (search rules) in
-    let begun = b.2 in record {
-      answer = begun.answer;
-      is = answer_holds c.every_verdict_holds.ensures (g.P.Place.bytes c.args.place.now) c.args.options.now b.0
-          begun.answer (all_given _ _ _ b.0 (rw c.as_str.ensures.value at c.in_ok-input.ensures.given) b.1
-          (c.answer-answered.ensures.read_before (search rules)).1) begun.is;
-      count = begun.count;
-      written = begun.written;
-    }
+    let (bytes, read, (answer, is, count, begun)) = c.answer-answered.ensures.begun (search rules) in (
+      answer,
+      answer_holds c.every_verdict_holds.ensures (g.P.Place.bytes c.args.place.now) c.args.options.now bytes answer
+          (all_given _ _ _ bytes (rw c.as_str.ensures.value at c.in_ok-input.ensures.given) read
+          (c.answer-answered.ensures.read_before (search rules)).1) is,
+      count,
+      begun,
+    )

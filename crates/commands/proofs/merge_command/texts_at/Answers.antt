@@ -67,7 +67,7 @@ returns-in_default-clause-reads g c =
     let low : c.loop-i.i < length names = omega (arith, length-map c.args.names.now string_bytes) in
     subst (λ (l : List (List ℕ)). AreStopped l (Fault OutOfMemory) (g.P.Place.log c.args.place.now)
     (g.P.Place.log c.text_at.new.place)) (take-append-drop (c.loop-i.i + 1) names)
-    (stopped_before (take (c.loop-i.i + 1) names) (drop (c.loop-i.i + 1) names) (Fault OutOfMemory) _ _ refl
+    (stopped_before (take (c.loop-i.i + 1) names) (drop (c.loop-i.i + 1) names) _ _
     (rw (← names_more names c.loop-i.i c.as_str.result.now low (c.as_str.ensures.value
     ∙ name_at string_bytes c.args.names.now c.loop-i.i c.index-names-i.result (omega arith) c.index-names-i.is))
     (read_then _ _ _ _ _ c.loop-i.invariant.read c.in-Ok.ensures.reads)))

@@ -7,9 +7,5 @@ returns-in-Ok-clause-written g c = flushed _ c.args.answer.now _ _ _ c.args.answ
     (rw c.deref.ensures.value at c.in-Ok.ensures.ok) c.flush.ensures.kept c.flush.ensures.outcome
 
 pub returns-in-Err-clause-written : goal.returns-in-Err-clause-written
-returns-in-Err-clause-written g c failed = record {
-  answer = c.args.answer.now;
-  is = refl;
-  count = c.in-Err.ensures.err.0;
-  written = rw c.deref.ensures.value at c.in-Err.ensures.err.1;
-}
+returns-in-Err-clause-written g c failed =
+    (c.args.answer.now, refl, c.in-Err.ensures.err.0, rw c.deref.ensures.value at c.in-Err.ensures.err.1)

@@ -5,8 +5,13 @@ use Rattle.commands.proofs.survey_command.counted.Goals as goal
 pub returns-in-Ok-clause-ok : goal.returns-in-Ok-clause-ok
 returns-in-Ok-clause-ok g c =
     let s = c.in-Ok.ensures.whole in (
-      s.bytes,
-      rw (sym c.as_str.ensures.value) (all_given _ _ _ s.bytes c.in_ok-input.ensures.given s.read
-          c.in-Ok.ensures.all),
-      s.survey,
+      s.survey.findings,
+      record {
+        bytes = s.bytes;
+        given = rw (sym c.as_str.ensures.value) (all_given _ _ _ s.bytes c.in_ok-input.ensures.given s.read
+            c.in-Ok.ensures.all);
+        found = s.survey.found;
+        counted = s.survey.counted;
+      },
+      s.survey.told,
     )
