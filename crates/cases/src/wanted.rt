@@ -103,8 +103,8 @@ fn perform_one<R: Threads + Wait + Sync>(
     Ok(is_met)
 }
 
-/// Counts whether the file at this path with this ending meets a rule, and names it where it does not; of a file of
-/// cases each of them.
+/// Counts whether the file at this path with this ending meets a rule, and names it where it does not. Of a file of
+/// cases it counts each case.
 fn count_one<R: Threads + Wait + Sync>(
     rt: &HostRuntime,
     threads: &R,
@@ -119,7 +119,7 @@ fn count_one<R: Threads + Wait + Sync>(
         Rule::Performed => {
             for case in &cases_of(rt.alloc(), text.as_str())? {
                 if !case.is_remark() {
-                    tally.count(perform_one(rt, threads, path, case)?);
+                    tally.count(perform_one(rt, threads, name.as_str(), case)?);
                 }
             }
             return Ok(());
