@@ -130,6 +130,7 @@ impl Sink for MemorySink {
         self.before_failing -= n;
         Ok(n)
     }
+
     fn flush(&mut self) -> Result<(), Failed> {
         Ok(())
     }
