@@ -4,7 +4,9 @@ ghost use Rattle.devices.specs.Bytes.{CanGrow};
 
 use crate::recordings::{MESSAGE_PASSING, STORE_BUFFERING};
 use common::OpenGate;
-use report::{Device, MemorySink, MemorySource, Outcome, ReportError, Source, answer};
+use report::{
+    Device, Failed, MemorySink, MemorySource, Outcome, ReportError, Sink, Source, answer,
+};
 use std::alloc::Global;
 use std::io;
 use std::io::{ErrorKind, Read, Write};
@@ -189,6 +191,28 @@ fn an_interrupted_write_leaves_a_beginning(rt: HostRuntime) -> Result<(), Fail> 
             )
         );
     }
+    Ok(())
+}
+
+/// A writer that takes all, and hands nothing on.
+#[derive(Drop)]
+struct Stuck;
+
+impl Write for Stuck {
+    fn write(&mut self, buf: &[u8]) -> io::Result<usize> {
+        Ok(buf.len())
+    }
+
+    fn flush(&mut self) -> io::Result<()> {
+        Err(io::Error::from(ErrorKind::Interrupted))
+    }
+}
+
+#[test]
+fn a_device_is_flushed_by_its_writer(rt: HostRuntime) -> Result<(), Fail> {
+    let mut device = Device::new(Stuck);
+    assert!(rt; device.push(CYCLE) == Ok(123));
+    assert!(rt; device.flush() == Err(Failed));
     Ok(())
 }
 
