@@ -1,11 +1,12 @@
 //! Command lines of cases, performed.
 
 use commands::perform::perform;
-use devices::{Disk, MemorySink};
+use devices::{Device, Disk};
 use inputs::CommandFault;
 use report::Outcome;
 use std::alloc::{AllocError, Global};
 use std::io;
+use std::io::{ErrorKind, Write};
 use std::sync::Wait;
 use std::thread::Threads;
 
@@ -18,13 +19,39 @@ pub struct Printed {
     pub text: Vec<u8>,
 }
 
+/// A writer that keeps back what it takes until it is flushed.
+#[derive(Drop)]
+struct Buffered {
+    kept: Vec<u8>,
+    flushed: Vec<u8>,
+}
+
+impl Write for Buffered {
+    fn write(&mut self, buf: &[u8]) -> io::Result<usize> {
+        match self.kept.extend_from_slice(buf) {
+            Ok(()) => Ok(buf.len()),
+            Err(_) => Err(io::Error::from(ErrorKind::OutOfMemory)),
+        }
+    }
+
+    fn flush(&mut self) -> io::Result<()> {
+        match self.flushed.extend_from_slice(&self.kept) {
+            Ok(()) => {
+                self.kept.clear();
+                Ok(())
+            }
+            Err(_) => Err(io::Error::from(ErrorKind::OutOfMemory)),
+        }
+    }
+}
+
 /// What a command printed that came out so.
 fn printed_of(
     alloc: Global,
-    written: &[u8],
+    flushed: &[u8],
     performed: Result<Outcome, CommandFault>,
 ) -> Result<Printed, AllocError> {
-    let mut text = Vec::from_slice(alloc, written)?;
+    let mut text = Vec::from_slice(alloc, flushed)?;
     let status = match performed {
         Ok(outcome) => outcome.status(),
         Err(fault) => {
@@ -60,7 +87,10 @@ pub fn perform_words<R: Threads + Wait + Sync>(
 ) -> io::Result<Printed> {
     let words = words_of(rt.alloc(), line)?;
     let mut place = Disk::new(rt, Some(text));
-    let mut out = MemorySink::new(rt.alloc());
+    let mut out = Device::new(Buffered {
+        kept: Vec::new(rt.alloc()),
+        flushed: Vec::new(rt.alloc()),
+    });
     let performed = perform(threads, rt.alloc(), &words, &mut place, &mut out);
-    Ok(printed_of(rt.alloc(), out.written(), performed)?)
+    Ok(printed_of(rt.alloc(), &out.into_inner().flushed, performed)?)
 }

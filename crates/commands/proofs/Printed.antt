@@ -1,5 +1,6 @@
 -- What is written, from what is answered.
-use Rattle.std.proofs.Common.{◌≡◌, ◌≢◌, ◌∷◌, [], inl, inr, ℕ, List, Option, Result, Ok, Err, IfOk, IfErr, refl, subst, sym}
+use Rattle.std.proofs.Common.{◌≡◌, ◌≢◌, ◌∷◌, [], inl, inr, ℕ, List, Option, Result, Ok, Err, IfOk, IfErr, refl}
+use Rattle.std.proofs.Common.{subst, sym}
 use Rattle.std.specs.Prelude.{string_bytes}
 use Rattle.command_line.specs.declared.options.JudgeOptions.{JudgeOptions}
 use Rattle.command_line.specs.declared.options.Options.{Options}
@@ -17,7 +18,7 @@ use Rattle.inputs.specs.declared.command_error.CommandError.{CommandError}
 use Rattle.inputs.specs.Inputs.{AreFaulty, ReadsAll, ReadsInput, ReadsNamed}
 use Rattle.commands.specs.Command.{IsAnswerTo, IsCommandError, input_names}
 use Rattle.commands.specs.Judge.{IsFileAnswer}
-use Rattle.commands.specs.Perform.{IsDone, IsPrinted, IsWritten, Puts}
+use Rattle.commands.specs.Perform.{IsPerformed, IsPrinted, IsWritten, Puts}
 use Rattle.commands.specs.Survey.{IsEachWritten, TellsEach}
 
 -- what is put of what is printed for the words is written for them
@@ -63,11 +64,11 @@ told_written inputs words o a b before after (Err fault) are told written reads 
     λ failed at_once. absurd (at_once (Survey o) are told)
 
 -- what a command answers, or why it stops, by what it reads
-pub done : (inputs : List ℕ → Option (List ℕ)) (o : Options) (a b : PlaceLog) (r : Result Answer CommandError)
+pub performed : (inputs : List ℕ → Option (List ℕ)) (o : Options) (a b : PlaceLog) (r : Result Answer CommandError)
     → IfOk r (IsAnswerTo inputs o) → IfErr r (IsCommandError inputs o) → ReadsNamed (input_names o) a b r
-    → IsDone inputs o a b r
-done inputs o a b (Ok answer) is stops reads = (is, reads)
-done inputs o a b (Err error) is stops reads = (stops, reads)
+    → IsPerformed inputs o a b r
+performed inputs o a b (Ok answer) is stops reads = (is, reads)
+performed inputs o a b (Err error) is stops reads = (stops, reads)
 
 -- nothing is written where all of the answer is printed at once
 pub unwritten_more : (r : Result Outcome CommandFault) (early at_once same : Type 0) → (at_once → early → ⊥)

@@ -44,15 +44,17 @@ IsWithoutOptions other (Err (Fault fault.OutOfMemory)) = ⊤
 IsWithoutOptions other answered = ⊥
 
 -- what a command with these options answers, by all of its inputs, or why it stops, by the inputs up to there
-abbrev pub IsDone : (List ℕ → Option (List ℕ)) → Options → PlaceLog → PlaceLog → Result Answer CommandError → Type 0
-IsDone inputs o a b (Ok answer) = IsAnswerTo inputs o answer × AreRead (input_names o) a b
-IsDone inputs o a b (Err error) = IsCommandError inputs o error × AreStopped (input_names o) error a b
+abbrev pub IsPerformed : (List ℕ → Option (List ℕ)) → Options → PlaceLog → PlaceLog → Result Answer CommandError
+    → Type 0
+IsPerformed inputs o a b (Ok answer) = IsAnswerTo inputs o answer × AreRead (input_names o) a b
+IsPerformed inputs o a b (Err error) = IsCommandError inputs o error × AreStopped (input_names o) error a b
 
 -- what is answered to the words: what the command does that they ask for, or, where they give no options, help or why
 -- there are none, for which no input is opened
-abbrev pub IsAnswered : (List ℕ → Option (List ℕ)) → List Text → PlaceLog → PlaceLog → Result Answer CommandError
+abbrev pub IsAnsweredFor : (List ℕ → Option (List ℕ)) → List Text → PlaceLog → PlaceLog → Result Answer CommandError
     → Type 0
-IsAnswered inputs words a b answered = ((o : Options) × AreOptions o (command_of words) × IsDone inputs o a b answered)
+IsAnsweredFor inputs words a b answered =
+    ((o : Options) × AreOptions o (command_of words) × IsPerformed inputs o a b answered)
     ⊎ ((fault : OptionFault) × IsFault fault words × IsWithoutOptions fault answered × AreRead [] a b)
 
 -- an answer as it is printed, or a line of refusal
@@ -65,7 +67,7 @@ IsShown (Err (Fault fault)) printed = ⊥
 -- what is printed for the words
 abbrev pub IsPrinted : (List ℕ → Option (List ℕ)) → List Text → PlaceLog → PlaceLog → Answer → Type 0
 IsPrinted inputs words a b printed =
-    (answered : Result Answer CommandError) × IsAnswered inputs words a b answered × IsShown answered printed
+    (answered : Result Answer CommandError) × IsAnsweredFor inputs words a b answered × IsShown answered printed
 
 -- such an answer was written, whole, or, where a write failed, the first bytes of it
 abbrev pub Puts : (Answer → Type 0) → Option (List ℕ) → Option (List ℕ) → Result Outcome CommandFault → Type 0
@@ -104,7 +106,7 @@ IsWritten inputs words a b before after (Err fault) =
 -- why nothing is printed for these options, or not all
 abbrev pub IsFaultFor : (List ℕ → Option (List ℕ)) → Options → PlaceLog → PlaceLog → CommandFault → Type 0
 IsFaultFor inputs o a b WriteFailed = ⊤
-IsFaultFor inputs o a b fault = IsDone inputs o a b (Err (Fault fault))
+IsFaultFor inputs o a b fault = IsPerformed inputs o a b (Err (Fault fault))
 
 -- why nothing is printed for the words, or not all
 abbrev pub IsFaultOf : (List ℕ → Option (List ℕ)) → List Text → PlaceLog → PlaceLog → CommandFault → Type 0

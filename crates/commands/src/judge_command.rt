@@ -1,5 +1,5 @@
 //! The command `judge`.
-ghost use Rattle.std.specs.Prelude.{◌≡◌, ◌≢◌, ◌≤◌, ◌∷◌, [], IfErr, OnOk, string_bytes, true};
+ghost use Rattle.std.specs.Prelude.{◌≡◌, ◌≢◌, ◌≤◌, ◌∷◌, [], IfErr, string_bytes};
 ghost use Rattle.devices.specs.Bytes.{CanGrow, CountsBy};
 ghost use Rattle.inputs.specs.Inputs.{CanRead, ReadsAll, command_failed_writes};
 ghost use Rattle.commands.specs.Judge.{IsFileAnswer, IsJudgeFault};
@@ -30,7 +30,6 @@ pub fn judge_command<R: Threads + Wait + Sync, P: Place, W: Sink>(
     requires output { CanGrow (W.write_failures out.old) }
     ensures written { Puts (IsFileAnswer (P.bytes place.old) options.now) (W.written out.old) (W.written out.new)
         result }
-    ensures flushed { OnOk result (W.is_flushed out.new ≡ true) }
     ensures fault { IfErr result (IsJudgeFault (P.bytes place.old) options.now) }
     ensures reads { ReadsAll (string_bytes options.now.file ∷ []) (P.log place.old) (P.log place.new) result }
     ensures writes { CountsBy command_failed_writes (W.write_failures out.old) (W.write_failures out.new) result }

@@ -1,5 +1,5 @@
 //! Answers as they are written.
-ghost use Rattle.std.specs.Prelude.{◌≡◌, IfErr, IfOk, OnOk, true};
+ghost use Rattle.std.specs.Prelude.{◌≡◌, IfErr, IfOk};
 ghost use Rattle.std.specs.Io.KnownBytes.{Keeps};
 ghost use Rattle.devices.specs.Bytes.{CanGrow, CountsBy};
 ghost use Rattle.inputs.specs.Inputs.{command_failed_writes};
@@ -14,7 +14,6 @@ pub fn flush<W: Sink>(out: &mut W, outcome: Outcome) -> Result<Outcome, CommandF
     requires { CanGrow (W.write_failures out.old) }
     ensures outcome { IfOk result (λ came. came ≡ outcome) }
     ensures kept { Keeps (W.written out.old) (W.written out.new) }
-    ensures flushed { OnOk result (W.is_flushed out.new ≡ true) }
     ensures fault { IfErr result (λ fault. fault ≡ CommandFault.WriteFailed) }
     ensures writes { CountsBy command_failed_writes (W.write_failures out.old) (W.write_failures out.new) result }
 {
@@ -28,7 +27,6 @@ pub fn flush<W: Sink>(out: &mut W, outcome: Outcome) -> Result<Outcome, CommandF
 pub fn put<W: Sink>(out: &mut W, answer: &Answer) -> Result<Outcome, CommandFault>
     requires { CanGrow (W.write_failures out.old) }
     ensures written { Puts (λ a. a ≡ answer.now) (W.written out.old) (W.written out.new) result }
-    ensures flushed { OnOk result (W.is_flushed out.new ≡ true) }
     ensures fault { IfErr result (λ fault. fault ≡ CommandFault.WriteFailed) }
     ensures writes { CountsBy command_failed_writes (W.write_failures out.old) (W.write_failures out.new) result }
 {

@@ -1,6 +1,5 @@
 //! From the words of a command line to what is printed.
-ghost use Rattle.std.specs.Prelude.{◌≡◌, ◌≢◌, Err, IfErr, IfNone, IfOk, IfSome, List, OnOk, Option, map};
-ghost use Rattle.std.specs.Prelude.{string_bytes, true};
+ghost use Rattle.std.specs.Prelude.{◌≡◌, ◌≢◌, Err, IfErr, IfNone, IfOk, IfSome, List, Option, map, string_bytes};
 ghost use Rattle.clap.specs.Words.{Row, Text};
 ghost use Rattle.command_line.specs.Options.{AreOptions};
 ghost use Rattle.devices.specs.Bytes.{CanGrow, CountsBy};
@@ -150,7 +149,6 @@ fn performed<R: Threads + Wait + Sync, P: Place, W: Sink>(
     requires output { CanGrow (W.write_failures out.old) }
     ensures written { (words : List Text) → AreOptions options.now (command_of words) → IsWritten (P.bytes place.old)
         words (P.log place.old) (P.log place.new) (W.written out.old) (W.written out.new) result }
-    ensures flushed { OnOk result (W.is_flushed out.new ≡ true) }
     ensures fault { IfErr result (IsFaultFor (P.bytes place.old) options.now (P.log place.old) (P.log place.new)) }
     ensures reads { Tallies (P.log place.old).tally (P.log place.new).tally result }
     ensures writes { CountsBy command_failed_writes (W.write_failures out.old) (W.write_failures out.new) result }
@@ -183,7 +181,6 @@ pub fn perform<R: Threads + Wait + Sync, P: Place, W: Sink>(
     requires output { CanGrow (W.write_failures out.old) }
     ensures written { IsWritten (P.bytes place.old) (map string_bytes words.now) (P.log place.old) (P.log place.new)
         (W.written out.old) (W.written out.new) result }
-    ensures flushed { OnOk result (W.is_flushed out.new ≡ true) }
     ensures fault { IfErr result (IsFaultOf (P.bytes place.old) (map string_bytes words.now)
         (P.log place.old) (P.log place.new)) }
     ensures reads { Tallies (P.log place.old).tally (P.log place.new).tally result }

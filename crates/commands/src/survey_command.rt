@@ -1,5 +1,5 @@
 //! The command `survey`.
-ghost use Rattle.std.specs.Prelude.{◌≡◌, ◌≢◌, ◌∷◌, [], IfErr, IfOk, List, OnOk, string_bytes, true};
+ghost use Rattle.std.specs.Prelude.{◌≡◌, ◌≢◌, ◌∷◌, [], IfErr, IfOk, List, string_bytes, true};
 ghost use Rattle.std.specs.Io.KnownBytes.{Appends};
 ghost use Rattle.devices.specs.Bytes.{CanGrow, CountsBy};
 ghost use Rattle.surveys.specs.Surveys.{told_text};
@@ -64,7 +64,6 @@ pub fn each_command<R: Threads + Wait + Sync, P: Place, W: Sink>(
     requires output { CanGrow (W.write_failures out.old) }
     ensures whole { IfOk result (IsEachWritten (P.bytes place.old) options.now (W.written out.old)
         (W.written out.new)) }
-    ensures flushed { OnOk result (W.is_flushed out.new ≡ true) }
     ensures fault { IfErr result (IsEachFault (P.bytes place.old) options.now) }
     ensures reads { ReadsInput (string_bytes options.now.file) (P.log place.old) (P.log place.new) result }
     ensures writes { CountsBy command_failed_writes (W.write_failures out.old) (W.write_failures out.new) result }

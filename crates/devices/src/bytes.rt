@@ -32,16 +32,13 @@ pub trait Source {
 
 /// What takes bytes, one after the other.
 pub trait Sink {
-    ghost use Rattle.std.specs.Prelude.{◌≡◌, ℕ, List, Option, Bool, OnOk, true};
+    ghost use Rattle.std.specs.Prelude.{ℕ, List, Option};
     ghost use Rattle.std.specs.Io.{WritesAtMost};
     ghost use Rattle.std.specs.Io.KnownBytes.{Keeps, WriteAppends};
     ghost use Rattle.devices.specs.Bytes.{CanGrow, Counts, TakesSome};
 
     /// The bytes that were written so far, where they are known.
     ghost written: { Self → Option (List ℕ) };
-
-    /// Whether all that was written was handed on.
-    ghost is_flushed: { Self → Bool };
 
     /// How many writes failed.
     ghost write_failures: { Self → ℕ };
@@ -55,10 +52,13 @@ pub trait Sink {
         ensures bytes { WriteAppends (written self.old) (written self.new) result text.now }
         ensures count { Counts (write_failures self.old) (write_failures self.new) result };
 
-    /// Hands on what was written, where it was kept back. A failure is counted, as that of `push`.
+    /// Hands on what was written, where it was kept back; without a body of its own nothing was. A failure is
+    /// counted, as that of `push`.
     fn flush(&mut self) -> Result<(), Failed>
         requires { CanGrow (write_failures self.old) }
-        ensures flushed { OnOk result (is_flushed self.new ≡ true) }
         ensures kept { Keeps (written self.old) (written self.new) }
-        ensures count { Counts (write_failures self.old) (write_failures self.new) result };
+        ensures count { Counts (write_failures self.old) (write_failures self.new) result }
+    {
+        Ok(())
+    }
 }

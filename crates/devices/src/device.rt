@@ -9,7 +9,6 @@ use std::io::{Read, Write};
 pub struct Device<T> {
     inner: T,
     ended: bool,
-    flushed: bool,
     failures: u64,
 }
 
@@ -25,7 +24,6 @@ impl<T> Device<T> {
         Device {
             inner,
             ended: false,
-            flushed: true,
             failures: 0,
         }
     }
@@ -77,12 +75,9 @@ impl<T: Read> Source for Device<T> {
 impl<T: Write> Sink for Device<T> {
     ghost written = { λ d. T.contents d.inner };
 
-    ghost is_flushed = { λ d. d.flushed };
-
     ghost write_failures = { λ d. d.failures };
 
     fn push(&mut self, text: &[u8]) -> Result<usize, Failed> {
-        self.flushed = false;
         match self.inner.write(text) {
             Ok(n) if n > 0 || text.is_empty() => Ok(n),
             _ => {
@@ -94,10 +89,7 @@ impl<T: Write> Sink for Device<T> {
 
     fn flush(&mut self) -> Result<(), Failed> {
         match self.inner.flush() {
-            Ok(()) => {
-                self.flushed = true;
-                Ok(())
-            }
+            Ok(()) => Ok(()),
             Err(_) => {
                 self.failures += 1;
                 Err(Failed)

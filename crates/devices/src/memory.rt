@@ -113,11 +113,9 @@ impl MemorySink {
 }
 
 impl Sink for MemorySink {
-    ghost use Rattle.std.specs.Prelude.{Some, true};
+    ghost use Rattle.std.specs.Prelude.{Some};
 
     ghost written = { λ s. Some s.written.items };
-
-    ghost is_flushed = { λ _. true };
 
     ghost write_failures = { λ s. s.failures };
 
@@ -129,9 +127,5 @@ impl Sink for MemorySink {
         }
         self.before_failing -= n;
         Ok(n)
-    }
-
-    fn flush(&mut self) -> Result<(), Failed> {
-        Ok(())
     }
 }

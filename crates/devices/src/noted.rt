@@ -36,8 +36,6 @@ impl<T> Noted<T> {
 impl<T: Sink> Sink for Noted<T> {
     ghost written = { λ n. T.written n.inner };
 
-    ghost is_flushed = { λ n. T.is_flushed n.inner };
-
     ghost write_failures = { λ n. T.write_failures n.inner };
 
     fn push(&mut self, text: &[u8]) -> Result<usize, Failed> {

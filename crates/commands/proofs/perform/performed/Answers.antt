@@ -1,5 +1,5 @@
 use Rattle.std.proofs.Common.{inl}
-use Rattle.commands.proofs.Printed.{done, judged_written, put_written, told_written}
+use Rattle.commands.proofs.Printed.{judged_written, performed, put_written, told_written}
 use Rattle.commands.proofs.perform.performed.Goals as goal
 
 pub returns-in-Some-clause-written : goal.returns-in-Some-clause-written
@@ -27,7 +27,7 @@ returns-clause-written g c words are =
       inl (
         c.args.options.now,
         are,
-        done inputs c.args.options.now before after answered c.answer_to-answered.ensures.ok
+        performed inputs c.args.options.now before after answered c.answer_to-answered.ensures.ok
             c.answer_to-answered.ensures.err c.answer_to-answered.ensures.reads,
       ),
       c.in_ok-answer.ensures.ok,
