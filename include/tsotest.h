@@ -1,3 +1,4 @@
+/* SPDX-License-Identifier: MIT OR Apache-2.0 */
 /* tsotest.h: the commands of tsotest as calls: recordings of multiprocessors judged under Total Store Order (TSO).
  *
  * The text of a recording goes in. What the command of the same name prints comes out, with its exit status: texts, statuses

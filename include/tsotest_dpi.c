@@ -1,3 +1,4 @@
+/* SPDX-License-Identifier: MIT OR Apache-2.0 */
 /* The bodies of tsotest_dpi.sv. Values have two states here: an X or a Z of the design arrives as 0, so test for them where they
  * may come. */
 #define _POSIX_C_SOURCE 199309L

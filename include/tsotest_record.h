@@ -1,3 +1,4 @@
+/* SPDX-License-Identifier: MIT OR Apache-2.0 */
 /* tsotest_record.h: makes the text of a recording from what a testbench sees.
  *
  * A testbench tells two things as they happen:

@@ -1,3 +1,4 @@
+# SPDX-License-Identifier: MIT OR Apache-2.0
 """The commands of tsotest as calls: recordings of multiprocessors judged under Total Store Order (TSO), in process.
 
     import tsotest

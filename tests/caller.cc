@@ -1,3 +1,4 @@
+// SPDX-License-Identifier: MIT OR Apache-2.0
 // A testbench in C++: a recorder beside the library, in a class, and what a violation is told.
 #include "tsotest.h"
 #include "tsotest_record.h"

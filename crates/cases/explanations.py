@@ -185,7 +185,7 @@ class Reader:
         """What is said of a write after these events."""
         name = self.name(number)
         seen = [it for it in earlier if self.is_write(it, self.events[number]["a"])]
-        return f"the next write of {name} behind {seen[-1]}" if seen else f"the first write of {name}"
+        return f"the next write of {name} after {seen[-1]}" if seen else f"the first write of {name}"
 
     def is_order(self, lines, order):
         """Whether the lines are each event of an order, and what makes its place lawful."""
@@ -196,7 +196,7 @@ class Reader:
             kind, earlier = self.events[number]["k"], order[:i]
             below = [self.reads(number, earlier)] if kind in "LRC" else []
             below += [self.writes_after(number, earlier)] if kind in "SR" else []
-            below += ["behind what its core did before it"] if kind == "F" else []
+            below += ["after what its core did before it"] if kind == "F" else []
             if len(lines) < at + 1 + len(below) or not self.is_line(lines[at], number):
                 return False
             if not all(self.is_below(line, text) for line, text in zip(lines[at + 1 :], below)):

@@ -1,3 +1,4 @@
+/* SPDX-License-Identifier: MIT OR Apache-2.0 */
 /* Makes a recording of a log, for benches that print and don't call: a line for each event, on standard input.
  *
  *   cores N                         first

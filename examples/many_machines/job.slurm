@@ -1,4 +1,5 @@
 #!/bin/sh
+# SPDX-License-Identifier: MIT OR Apache-2.0
 #SBATCH --job-name=tsotest
 #SBATCH --array=0-15258
 #SBATCH --time=00:10:00

@@ -17,18 +17,18 @@ use Rattle.verdicts.specs.declared.outcome.Outcome.TheVariants.{Done, Unfinished
 use Rattle.answers.specs.Reduced.{IsCutAnswer}
 use Rattle.answers.specs.Run.{IsRunAnswer}
 
--- a violation where there is one, else how what has no verdict comes out, where there is such
+-- a violation where there is one, else the outcome of what has no verdict, where there is such
 abbrev pub ledger_outcome : Outcome → Ledger → Outcome
 ledger_outcome unjudged l =
     if is_some l.first then Violation
     else (if nat_lt 0 l.unjudged then unjudged else Done)
 
--- the text of a campaign's ledger, and how it comes out
+-- the text of a campaign's ledger, and its outcome
 pub record IsTrialsAnswer (l : Ledger) (answer : Answer) : Type 0 where
   pub outcome : answer.outcome ≡ ledger_outcome Unfinished l
   pub text : answer.text.items ≡ campaign_text l
 
--- the text of the ledger of all trials of a campaign, and how they came out
+-- the text of the ledger of all trials of a campaign, and their outcome
 pub record IsCampaignAnswer (p : Plan) (answer : Answer) : Type 0 where
   pub codes : List ℕ
   pub all : AreCodes p codes

@@ -42,7 +42,7 @@ abbrev pub names_of : Option Parts → Execution → List Name
 names_of (Some p) x = p.names
 names_of None x = address_names (length x.write_lists)
 
--- a text that tells the verdict on a recording, and how it comes out
+-- a text that says the verdict on a recording, and the outcome
 pub record IsRendering (tells : Verdict → List ℕ → Type 0) (x : Execution) (answer : Answer) : Type 0 where
   pub verdict : Verdict
   pub found : IsVerdict x verdict

@@ -12,7 +12,7 @@ use std::sync::Wait;
 use std::thread::Threads;
 use trials::{Campaign, Ledger, run_campaign};
 
-/// How a ledger comes out: a violation comes before what has no verdict, which comes out so.
+/// The outcome of a ledger: `Violation` where there is one, else the given outcome where something has no verdict.
 fn outcome_of(ledger: &Ledger, unjudged: Outcome) -> Outcome
     ensures { result ≡ ledger_outcome unjudged ledger.now }
 {
@@ -35,7 +35,7 @@ pub fn trials_answer(alloc: Global, ledger: &Ledger) -> Result<Answer, OutOfMemo
     Ok(Answer { outcome, text })
 }
 
-/// The answer to the ledger of all trials of a campaign, by 1 to `MAX_WORKERS` workers; the gate is told of each
+/// The answer to the ledger of all trials of a campaign, by 1 to `MAX_WORKERS` workers; the gate hears of each
 /// claim, each violation and each filing. Fails only if out of memory.
 pub fn campaign_answer<R: Threads + Wait + Sync, G: Gate>(
     rt: &R,

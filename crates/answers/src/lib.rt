@@ -1,4 +1,4 @@
-//! What commands answer of values: what is printed on standard output, and how it comes out.
+//! What commands answer of values: what is printed on standard output, and the outcome.
 #![tactic(auto)]
 
 mod campaigns;

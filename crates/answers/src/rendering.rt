@@ -97,7 +97,7 @@ fn names_of(
 }
 
 /// The rendering of a recording, with the names that its program gives the addresses, or else with the usual
-/// ones; it comes out as its verdict. Fails only if out of memory.
+/// ones; the outcome is that of its verdict. Fails only if out of memory.
 pub fn rendered_answer(
     alloc: Global,
     rendering: Rendering,

@@ -2,7 +2,7 @@
 
 use commands::perform::perform;
 use devices::{Device, Disk};
-use inputs::CommandFault;
+use inputs::CommandError;
 use report::Outcome;
 use std::alloc::{AllocError, Global};
 use std::io;
@@ -49,19 +49,19 @@ impl Write for Buffered {
 fn printed_of(
     alloc: Global,
     flushed: &[u8],
-    performed: Result<Outcome, CommandFault>,
+    performed: Result<Outcome, CommandError>,
 ) -> Result<Printed, AllocError> {
     let mut text = Vec::from_slice(alloc, flushed)?;
     let status = match performed {
         Ok(outcome) => outcome.status(),
-        Err(fault) => {
-            let said = match fault {
+        Err(error) => {
+            let said = match error {
                 // This text ends its own lines.
-                CommandFault::CommandLine(error) => format!(in alloc; "{error}")?,
-                fault => format!(in alloc; "{fault}\n")?,
+                CommandError::CommandLine(said) => format!(in alloc; "{said}")?,
+                error => format!(in alloc; "{error}\n")?,
             };
             text.extend_from_slice(said.as_bytes())?;
-            Outcome::Fault.status()
+            Outcome::Error.status()
         }
     };
     Ok(Printed { status, text })
@@ -86,11 +86,11 @@ pub fn perform_words<R: Threads + Wait + Sync>(
     text: &[u8],
 ) -> io::Result<Printed> {
     let words = words_of(rt.alloc(), line)?;
-    let mut place = Disk::new(rt, Some(text));
+    let mut host = Disk::new(rt, Some(text));
     let mut out = Device::new(Buffered {
         kept: Vec::new(rt.alloc()),
         flushed: Vec::new(rt.alloc()),
     });
-    let performed = perform(threads, rt.alloc(), &words, &mut place, &mut out);
+    let performed = perform(threads, rt.alloc(), &words, &mut host, &mut out);
     Ok(printed_of(rt.alloc(), &out.into_inner().flushed, performed)?)
 }

@@ -9,11 +9,11 @@ use Rattle.command_line.specs.Entries.{HasEntries}
 use Rattle.command_line.proofs.Taken.{command_is_whole}
 use Rattle.clap.specs.declared.error.Error.{Error}
 use Rattle.clap.specs.declared.error.kind.ErrorKind.TheVariants as kinds
-use Rattle.command_line.specs.declared.options.OptionFault.{OptionFault}
-use Rattle.command_line.specs.declared.options.OptionFault.TheVariants.{Clap, RefusalMeanings, StandardInputTwice, Refused}
-use Rattle.command_line.specs.declared.options.OptionFault.TheVariants.{OutOfMemory}
+use Rattle.command_line.specs.declared.options.OptionStop.{OptionStop}
+use Rattle.command_line.specs.declared.options.OptionStop.TheVariants.{Clap, RefusalMeanings, StandardInputTwice, Refused}
+use Rattle.command_line.specs.declared.options.OptionStop.TheVariants.{OutOfMemory}
 use Rattle.command_line.specs.Commands.{program_app}
-use Rattle.command_line.specs.Options.{IsFault, IsSaid, AreTaken}
+use Rattle.command_line.specs.Options.{IsOptionStop, IsSaid, AreTaken}
 
 -- what doesn't hold where a test passes, doesn't let it pass
 not_passed : {P : Type 0} (b : Bool) → (b ≡ true → P) → (P → ⊥) → b ≡ false
@@ -29,9 +29,9 @@ among e words said found = elim found [
 ]
 
 -- a fault other than out of memory comes of words that clap doesn't take, and is one that it finds in them
-said_fault : (e : Error) (f : OptionFault) (words : List Text)
+said_fault : (e : Error) (f : OptionStop) (words : List Text)
     → (takes program_app words ≡ true → kind_of e ≡ kinds.OutOfMemory) →
-    HasKind (fault_of program_app words) e → IsSaid e f → IsFault f words
+    HasKind (fault_of program_app words) e → IsSaid e f → IsOptionStop f words
 said_fault e (Clap x) words passes found said = (
   not_passed (takes program_app words) passes said.1,
   subst
@@ -44,17 +44,17 @@ said_fault e (Refused refusal) words passes found said = absurd said
 said_fault e OutOfMemory words passes found said = tt
 
 -- the same of an answer that is clap's error, of a command that is the program's
-pub err_fault : {T : Type 0} (r : Result T OptionFault) (e : Error) (words : List Text) (app : App)
+pub err_fault : {T : Type 0} (r : Result T OptionStop) (e : Error) (words : List Text) (app : App)
     → app ≡ program_app → (takes app words ≡ true → kind_of e ≡ kinds.OutOfMemory)
     → (is_simple_and_free app ≡ true → HasKind (fault_of app words) e)
-    → IsErrAnd r (IsSaid e) → IfErr r (λ fault. IsFault fault words)
+    → IsErrAnd r (IsSaid e) → IfErr r (λ stop. IsOptionStop stop words)
 err_fault {T} r e words app is = subst
     (λ (x : App). (takes x words ≡ true → kind_of e ≡ kinds.OutOfMemory)
     → (is_simple_and_free x ≡ true → HasKind (fault_of x words) e) → IsErrAnd r (IsSaid e)
-    → IfErr r (λ fault. IsFault fault words)) (sym is) (λ passes found. go r passes (found refl))
+    → IfErr r (λ stop. IsOptionStop stop words)) (sym is) (λ passes found. go r passes (found refl))
   where
-    go : (r : Result T OptionFault) → (takes program_app words ≡ true → kind_of e ≡ kinds.OutOfMemory)
-        → HasKind (fault_of program_app words) e → IsErrAnd r (IsSaid e) → IfErr r (λ fault. IsFault fault words)
+    go : (r : Result T OptionStop) → (takes program_app words ≡ true → kind_of e ≡ kinds.OutOfMemory)
+        → HasKind (fault_of program_app words) e → IsErrAnd r (IsSaid e) → IfErr r (λ stop. IsOptionStop stop words)
     go (Ok x) passes found said = tt
     go (Err f) passes found said = said_fault e f words passes found said
 

@@ -95,8 +95,8 @@ asks_of_refusals (first ∷ second ∷ []) = bytes_eq first (codes "help") && by
 asks_of_refusals words = false
 
 -- clap finds no fault in the words
-abbrev pub AreFaultless : List Text → Type 0
-AreFaultless words = fault_of program_app words ≡ []
+abbrev pub HaveNoMistake : List Text → Type 0
+HaveNoMistake words = fault_of program_app words ≡ []
 
 -- the command that clap reads of the words, and the entries of its arguments and options
 abbrev pub command_of : List Text → Option (Text × List Row)

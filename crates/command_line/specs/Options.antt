@@ -19,13 +19,13 @@ use Rattle.command_line.specs.declared.options.LiveOptions.{LiveOptions}
 use Rattle.command_line.specs.declared.options.FileOptions.{FileOptions}
 use Rattle.command_line.specs.declared.options.DrawOptions.{DrawOptions}
 use Rattle.command_line.specs.declared.options.ExplainOptions.{ExplainOptions}
-use Rattle.command_line.specs.declared.options.OptionFault.{OptionFault}
-use Rattle.command_line.specs.declared.options.OptionFault.TheVariants.{Clap, RefusalMeanings, StandardInputTwice, Refused}
-use Rattle.command_line.specs.declared.options.OptionFault.TheVariants.{OutOfMemory}
+use Rattle.command_line.specs.declared.options.OptionStop.{OptionStop}
+use Rattle.command_line.specs.declared.options.OptionStop.TheVariants.{Clap, RefusalMeanings, StandardInputTwice, Refused}
+use Rattle.command_line.specs.declared.options.OptionStop.TheVariants.{OutOfMemory}
 use Rattle.command_line.specs.declared.options.TheConstants.{ATTEMPTS, BUFFER, DEFAULT_SEED, LIMIT, TRIALS}
 use Rattle.command_line.specs.declared.options.TheConstants.{WORKERS}
 use Rattle.command_line.specs.declared.values.Values.{Values}
-use Rattle.command_line.specs.Commands.{AreFaultless, asks_of_refusals, command_of, program_app}
+use Rattle.command_line.specs.Commands.{HaveNoMistake, asks_of_refusals, command_of, program_app}
 use Rattle.command_line.specs.Entries.{HasEntries, machine_fault_of, names_standard_input_twice, number_of, number_or, show_of}
 use Rattle.clap.specs.Words.{all_of, one_of, subcommand_rows_of}
 use Rattle.clap.specs.declared.parser.matches.ArgMatches.{ArgMatches}
@@ -152,35 +152,35 @@ AreOptions o (Some command) = (names_standard_input_twice command.1 ≡ false) �
 
 -- why the entries of the command that was read give no options: standard input is named twice, or else their first
 -- refusal
-abbrev pub IsEntryFault : OptionFault → List Row → Type 0
-IsEntryFault StandardInputTwice rows = names_standard_input_twice rows ≡ true
-IsEntryFault (Refused refusal) rows = (names_standard_input_twice rows ≡ false) × (refusal_of rows ≡ Some refusal)
-IsEntryFault other rows = ⊥
+abbrev pub IsEntryStop : OptionStop → List Row → Type 0
+IsEntryStop StandardInputTwice rows = names_standard_input_twice rows ≡ true
+IsEntryStop (Refused refusal) rows = (names_standard_input_twice rows ≡ false) × (refusal_of rows ≡ Some refusal)
+IsEntryStop other rows = ⊥
 
 -- why the command that was read gives no options: its entries, or that memory ran out
-abbrev pub IsCommandFault : OptionFault → Option (Text × List Row) → Type 0
-IsCommandFault OutOfMemory command = ⊤
-IsCommandFault fault None = ⊥
-IsCommandFault fault (Some command) = IsEntryFault fault command.1
+abbrev pub IsMatchesStop : OptionStop → Option (Text × List Row) → Type 0
+IsMatchesStop OutOfMemory command = ⊤
+IsMatchesStop fault None = ⊥
+IsMatchesStop fault (Some command) = IsEntryStop fault command.1
 
 -- why the words give no options: they ask what refusals mean, clap finds a fault in them, or it takes them and their
 -- entries give none
-abbrev pub IsFault : OptionFault → List Text → Type 0
-IsFault RefusalMeanings words = asks_of_refusals words ≡ true
-IsFault StandardInputTwice words = AreFaultless words × IsCommandFault StandardInputTwice (command_of words)
-IsFault (Clap error) words = (takes program_app words ≡ false)
+abbrev pub IsOptionStop : OptionStop → List Text → Type 0
+IsOptionStop RefusalMeanings words = asks_of_refusals words ≡ true
+IsOptionStop StandardInputTwice words = HaveNoMistake words × IsMatchesStop StandardInputTwice (command_of words)
+IsOptionStop (Clap error) words = (takes program_app words ≡ false)
     × IsAmong (kind_of error) (fault_of program_app words)
-IsFault (Refused refusal) words = AreFaultless words × IsCommandFault (Refused refusal) (command_of words)
-IsFault OutOfMemory words = ⊤
+IsOptionStop (Refused refusal) words = HaveNoMistake words × IsMatchesStop (Refused refusal) (command_of words)
+IsOptionStop OutOfMemory words = ⊤
 
 -- what clap's error is as a fault of the options
-abbrev pub IsSaid : Error → OptionFault → Type 0
+abbrev pub IsSaid : Error → OptionStop → Type 0
 IsSaid e (Clap error) = (error ≡ e) × (kind_of e ≢ kinds.OutOfMemory)
 IsSaid e OutOfMemory = kind_of e ≡ kinds.OutOfMemory
 IsSaid e other = ⊥
 
 -- clap takes the words, and m has the command that it reads of them, which has the entries that it requires
 pub record AreTaken (words : List Text) (m : ArgMatches) : Type 0 where
-  pub faultless : AreFaultless words
+  pub faultless : HaveNoMistake words
   pub command : subcommand_rows_of m ≡ command_of words
   pub whole : IsSomeAnd (subcommand_rows_of m) HasEntries

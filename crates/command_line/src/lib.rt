@@ -11,6 +11,6 @@ mod values;
 pub mod words;
 
 pub use options::{
-    DrawOptions, ExplainOptions, FileOptions, JudgeOptions, LiveOptions, MergeOptions, OptionFault,
-    OptionRefusal, Options, RunOptions, SurveyOptions, TrialsOptions, VerifyOptions,
+    DrawOptions, ExplainOptions, FileOptions, JudgeOptions, LiveOptions, MergeOptions,
+    OptionRefusal, OptionStop, Options, RunOptions, SurveyOptions, TrialsOptions, VerifyOptions,
 };

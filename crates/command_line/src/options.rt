@@ -165,7 +165,7 @@ pub struct VerifyOptions {
     pub workers: usize,
 }
 
-/// What `survey` is asked: the name of the recordings, what is told of them, and the workers.
+/// What `survey` is asked: the name of the recordings, what is reported of them, and the workers.
 #[derive(Debug, Drop)]
 pub struct SurveyOptions {
     /// The name of the recordings.
@@ -218,7 +218,7 @@ pub enum OptionRefusal {
 
 /// Why the words gave no options.
 #[derive(Debug, Drop)]
-pub enum OptionFault {
+pub enum OptionStop {
     /// What `clap` says: a fault of the command line, or the help that was asked for.
     Clap(clap::Error),
     /// The words ask what refusals mean.
@@ -231,37 +231,37 @@ pub enum OptionFault {
     OutOfMemory,
 }
 
-impl From<AllocError> for OptionFault {
+impl From<AllocError> for OptionStop {
     ghost use Rattle.std.specs.Prelude.{◌≡◌};
-    ghost use Rattle.command_line.specs.declared.options.OptionFault.TheVariants.{OutOfMemory};
+    ghost use Rattle.command_line.specs.declared.options.OptionStop.TheVariants.{OutOfMemory};
 
     ghost from_gives = { λ _ e. e ≡ OutOfMemory };
 
-    fn from(_refused: AllocError) -> OptionFault {
-        OptionFault::OutOfMemory
+    fn from(_refused: AllocError) -> OptionStop {
+        OptionStop::OutOfMemory
     }
 }
 
-impl From<clap::Error> for OptionFault {
+impl From<clap::Error> for OptionStop {
     ghost use Rattle.command_line.specs.Options.{IsSaid};
 
     ghost from_gives = { IsSaid };
 
-    fn from(error: clap::Error) -> OptionFault {
+    fn from(error: clap::Error) -> OptionStop {
         if error.kind() == ErrorKind::OutOfMemory {
-            return OptionFault::OutOfMemory;
+            return OptionStop::OutOfMemory;
         }
-        OptionFault::Clap(error)
+        OptionStop::Clap(error)
     }
 }
 
-impl From<OptionRefusal> for OptionFault {
+impl From<OptionRefusal> for OptionStop {
     ghost use Rattle.std.specs.Prelude.{◌≡◌};
-    ghost use Rattle.command_line.specs.declared.options.OptionFault.TheVariants.{Refused};
+    ghost use Rattle.command_line.specs.declared.options.OptionStop.TheVariants.{Refused};
 
     ghost from_gives = { λ refusal e. e ≡ Refused refusal };
 
-    fn from(refusal: OptionRefusal) -> OptionFault {
-        OptionFault::Refused(refusal)
+    fn from(refusal: OptionRefusal) -> OptionStop {
+        OptionStop::Refused(refusal)
     }
 }

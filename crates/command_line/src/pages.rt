@@ -38,7 +38,7 @@ const RUN: Page = Page {
     about: "Runs a litmus program by a script or by random steps and judges its recording",
     more: "Runs a litmus program by a script or by random steps, prints its recording and judges it.
 
-A program has a line `core` for each core, and behind it a line for each of its operations:
+A program has a line `core` for each core, and after it a line for each of its operations:
 `st NAME VALUE` stores, `ld NAME` loads, `fence` is a full fence; `swap NAME VALUE` writes,
 `add NAME VALUE` adds, and `cas NAME EXPECT VALUE` writes where it reads what it expects,
 each at once with reading the old value. Behind the last operation `init NAME VALUE` says
@@ -147,7 +147,7 @@ const REPLAY: Page = Page {
     more: "Gives a program and a script whose run makes a recording again.
 
 The line `buffer N` says which `--buffer` is enough. Behind an empty line stands a litmus
-program, which names its addresses a0, a1 and so on, and behind another empty line a
+program, which names its addresses a0, a1 and so on, and after another empty line a
 script. The run performs the first memory order, in dictionary order, that TSO allows for
 the recording. A violation is answered as by `judge`. The recording's addresses have to be
 numbered in the order of their first use, and each has to be used.",
@@ -214,7 +214,7 @@ const REDUCE: Page = Page {
 
 A violation needs the events of its verdict, the write that each of them read, and so on.
 The line `events` has their numbers. Behind an empty line stands a litmus program of these
-events alone, and behind another empty line their recording and its verdict, which is the
+events alone, and after another empty line their recording and its verdict, which is the
 same one with the numbers that they have there. The addresses are named a0, a1 and so on, or
 as in the program of --program, whose operations and initial values have to be those of the
 recording. A recording that TSO allows is answered as by `judge`.",

@@ -1,38 +1,38 @@
 //! The words of a command line.
 ghost use Rattle.std.specs.Prelude.{◌≡◌, Err, IfErr, IfOk, IsSomeAnd, map, string_bytes, true};
 ghost use Rattle.clap.specs.Words.{app_of, subcommand_rows_of};
-ghost use Rattle.command_line.specs.Commands.{AreFaultless, asks_of_refusals, command_of, program_app};
+ghost use Rattle.command_line.specs.Commands.{HaveNoMistake, asks_of_refusals, command_of, program_app};
 ghost use Rattle.command_line.specs.Entries.{HasEntries};
-ghost use Rattle.command_line.specs.Options.{AreOptions, IsCommandFault, IsFault, AreTaken};
+ghost use Rattle.command_line.specs.Options.{AreOptions, IsMatchesStop, IsOptionStop, AreTaken};
 
 use crate::build::command;
 use crate::entries::names_standard_input_twice;
 use crate::named::named_options;
-use crate::options::{OptionFault, Options};
+use crate::options::{OptionStop, Options};
 use crate::values::read_values;
 use clap::{ArgMatches, Command};
 use std::alloc::Global;
 
 /// What `clap` reads of the words.
-fn read<'a>(command: Command<'a>, words: &'a [String]) -> Result<ArgMatches<'a>, OptionFault>
+fn read<'a>(command: Command<'a>, words: &'a [String]) -> Result<ArgMatches<'a>, OptionStop>
     requires { app_of command ≡ program_app }
     ensures ok { IfOk result (AreTaken (map string_bytes words.entry.now)) }
-    ensures err { IfErr result (λ fault. IsFault fault (map string_bytes words.entry.now)) }
+    ensures err { IfErr result (λ stop. IsOptionStop stop (map string_bytes words.entry.now)) }
 {
     Ok(command.try_get_matches_from(words)?)
 }
 
 /// The options of the command that was read.
-fn command_options(alloc: Global, matches: &ArgMatches<'_>) -> Result<Options, OptionFault>
+fn command_options(alloc: Global, matches: &ArgMatches<'_>) -> Result<Options, OptionStop>
     requires { IsSomeAnd (subcommand_rows_of matches.now) HasEntries }
     ensures ok { IfOk result (λ o. AreOptions o (subcommand_rows_of matches.now)) }
-    ensures err { IfErr result (λ fault. IsCommandFault fault (subcommand_rows_of matches.now)) }
+    ensures err { IfErr result (λ stop. IsMatchesStop stop (subcommand_rows_of matches.now)) }
 {
     let Some((name, entries)) = matches.subcommand() else {
         unreachable!()
     };
     if names_standard_input_twice(entries) {
-        return Err(OptionFault::StandardInputTwice);
+        return Err(OptionStop::StandardInputTwice);
     }
     let values = read_values(entries)?;
     Ok(named_options(alloc, name, entries, &values)?)
@@ -49,14 +49,14 @@ fn asks_of_refusals(words: &[String]) -> bool
 }
 
 /// The options that the words ask for. They come without the program's name.
-pub fn options(alloc: Global, words: &[String]) -> Result<Options, OptionFault>
+pub fn options(alloc: Global, words: &[String]) -> Result<Options, OptionStop>
     ensures ok { IfOk result (λ o. AreOptions o (command_of (map string_bytes words.now))) }
-    ensures err { IfErr result (λ fault. IsFault fault (map string_bytes words.now)) }
-    ensures taken { IfOk result (λ _. AreFaultless (map string_bytes words.now)) }
-    ensures meanings { asks_of_refusals (map string_bytes words.now) ≡ true → result ≡ Err OptionFault.RefusalMeanings }
+    ensures err { IfErr result (λ stop. IsOptionStop stop (map string_bytes words.now)) }
+    ensures taken { IfOk result (λ _. HaveNoMistake (map string_bytes words.now)) }
+    ensures meanings { asks_of_refusals (map string_bytes words.now) ≡ true → result ≡ Err OptionStop.RefusalMeanings }
 {
     if asks_of_refusals(words) {
-        return Err(OptionFault::RefusalMeanings);
+        return Err(OptionStop::RefusalMeanings);
     }
     let matches = read(command(alloc)?, words)?;
     command_options(alloc, &matches)

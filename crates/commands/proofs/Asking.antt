@@ -2,15 +2,15 @@
 use Rattle.std.proofs.Common.{◌≡◌, ◌+◌, ◌++◌, ◌∙◌, ◌<◌, [], ◌∷◌, ℕ, List, Option, Some, None, Result, Ok, Err, ap}
 use Rattle.std.proofs.Common.{arith, IfErr, IsErrAnd, append_assoc, drop, get_or, length, map, refl, subst, sym, take}
 use Rattle.std.proofs.lemmas.List.{append-nil, get_or-map, take-append-drop, take_more}
-use Rattle.devices.specs.declared.place.Tally.{Tally}
-use Rattle.devices.specs.Places.{Notes, PlaceLog}
-use Rattle.inputs.specs.declared.fault.CommandFault.TheVariants.{OutOfMemory}
-use Rattle.inputs.specs.declared.command_error.CommandError.{CommandError}
-use Rattle.inputs.specs.declared.command_error.CommandError.TheVariants.{Fault}
+use Rattle.devices.specs.declared.host.Tally.{Tally}
+use Rattle.devices.specs.Host.{Notes, HostLog}
+use Rattle.inputs.specs.declared.command_error.CommandError.TheVariants.{OutOfMemory}
+use Rattle.inputs.specs.declared.command_stop.CommandStop.{CommandStop}
+use Rattle.inputs.specs.declared.command_stop.CommandStop.TheVariants.{Failed}
 use Rattle.inputs.specs.Inputs.{AreRead, AreStopped, IsStoppedBy, ReadsNamed}
 
 -- nothing was read
-pub read_none : (a : PlaceLog) → AreRead [] a a
+pub read_none : (a : HostLog) → AreRead [] a a
 read_none a = (go a.asked, refl)
   where
     go : (told : Option (List (List ℕ))) → Notes told told []
@@ -27,12 +27,12 @@ notes_then (Some a) (Some b) (Some c) xs ys first then =
     then ∙ ap (λ (l : List (List ℕ)). l ++ ys) first ∙ append_assoc a xs ys
 
 -- some inputs were read, then others
-pub read_then : (xs ys : List (List ℕ)) (a b c : PlaceLog) → AreRead xs a b → AreRead ys b c → AreRead (xs ++ ys) a c
+pub read_then : (xs ys : List (List ℕ)) (a b c : HostLog) → AreRead xs a b → AreRead ys b c → AreRead (xs ++ ys) a c
 read_then xs ys a b c first then = (notes_then a.asked b.asked c.asked xs ys first.0 then.0, then.1 ∙ first.1)
 
 -- out of memory where all was read, before more names would be asked for
-pub stopped_before : (xs ys : List (List ℕ)) (a b : PlaceLog) → AreRead xs a b
-    → AreStopped (xs ++ ys) (Fault OutOfMemory) a b
+pub stopped_before : (xs ys : List (List ℕ)) (a b : HostLog) → AreRead xs a b
+    → AreStopped (xs ++ ys) (Failed OutOfMemory) a b
 stopped_before xs ys a b read = record {
   front = xs;
   rest = ys;
@@ -42,47 +42,47 @@ stopped_before xs ys a b read = record {
 }
 
 -- out of memory all was read
-pub memory_stopped : {X : Type 0} (r : Result X CommandError) (names : List (List ℕ)) (a b : PlaceLog)
-    → AreRead names a b → IsErrAnd r (λ error. error ≡ Fault OutOfMemory) → ReadsNamed names a b r
+pub memory_stopped : {X : Type 0} (r : Result X CommandStop) (names : List (List ℕ)) (a b : HostLog)
+    → AreRead names a b → IsErrAnd r (λ stop. stop ≡ Failed OutOfMemory) → ReadsNamed names a b r
 memory_stopped (Ok x) names a b read wanting = absurd wanting
-memory_stopped (Err error) names a b read wanting =
-    subst (λ (t : CommandError). AreStopped names t a b) (sym wanting)
-    (subst (λ (l : List (List ℕ)). AreStopped l (Fault OutOfMemory) a b) (append-nil names)
+memory_stopped (Err stop) names a b read wanting =
+    subst (λ (t : CommandStop). AreStopped names t a b) (sym wanting)
+    (subst (λ (l : List (List ℕ)). AreStopped l (Failed OutOfMemory) a b) (append-nil names)
     (stopped_before names [] a b read))
 
 -- out of memory nothing was to be read
-pub none_read : {X : Type 0} (r : Result X CommandError) (a : PlaceLog)
-    → IfErr r (λ error. error ≡ Fault OutOfMemory) → ReadsNamed [] a a r
+pub none_read : {X : Type 0} (r : Result X CommandStop) (a : HostLog)
+    → IfErr r (λ stop. stop ≡ Failed OutOfMemory) → ReadsNamed [] a a r
 none_read {X} (Ok x) a wanting = read_none a
-none_read {X} (Err error) a wanting = memory_stopped {X = X} (Err error) [] a a (read_none a) wanting
+none_read {X} (Err stop) a wanting = memory_stopped {X = X} (Err stop) [] a a (read_none a) wanting
 
 -- what stops after some were read, before others
-pub stopped_after : (xs ys zs : List (List ℕ)) (error : CommandError) (a b c : PlaceLog)
-    → AreRead xs a b → AreStopped ys error b c → AreStopped (xs ++ (ys ++ zs)) error a c
-stopped_after xs ys zs error a b c read h = record {
+pub stopped_after : (xs ys zs : List (List ℕ)) (stop : CommandStop) (a b c : HostLog)
+    → AreRead xs a b → AreStopped ys stop b c → AreStopped (xs ++ (ys ++ zs)) stop a c
+stopped_after xs ys zs stop a b c read h = record {
   front = xs ++ h.front;
   rest = h.rest ++ zs;
   parts = ap (λ (l : List (List ℕ)). xs ++ l)
       (ap (λ (l : List (List ℕ)). l ++ zs) h.parts ∙ append_assoc h.front h.rest zs)
       ∙ sym (append_assoc xs h.front (h.rest ++ zs));
   asked = notes_then a.asked b.asked c.asked xs h.front read.0 h.asked;
-  stopped = subst (λ (t : Tally). IsStoppedBy error t c.tally) read.1 h.stopped;
+  stopped = subst (λ (t : Tally). IsStoppedBy stop t c.tally) read.1 h.stopped;
 }
 
--- what hands on the error of the first
-pub stopped_again : {X : Type 0} (r : Result X CommandError) (xs ys : List (List ℕ)) (error : CommandError)
-    (a b : PlaceLog) → AreStopped xs error a b → IsErrAnd r (λ e. e ≡ error) → ReadsNamed (xs ++ ys) a b r
-stopped_again (Ok x) xs ys error a b h same = absurd same
-stopped_again (Err e) xs ys error a b h same = subst (λ (t : CommandError). AreStopped (xs ++ ys) t a b) (sym same)
-    (stopped_after [] xs ys error a a b (read_none a) h)
+-- what hands on the stop of the first
+pub stopped_again : {X : Type 0} (r : Result X CommandStop) (xs ys : List (List ℕ)) (stop : CommandStop)
+    (a b : HostLog) → AreStopped xs stop a b → IsErrAnd r (λ e. e ≡ stop) → ReadsNamed (xs ++ ys) a b r
+stopped_again (Ok x) xs ys stop a b h same = absurd same
+stopped_again (Err e) xs ys stop a b h same = subst (λ (t : CommandStop). AreStopped (xs ++ ys) t a b) (sym same)
+    (stopped_after [] xs ys stop a a b (read_none a) h)
 
 -- some were read, then others or not
-pub reads_then : {X : Type 0} (r : Result X CommandError) (xs ys : List (List ℕ)) (a b c : PlaceLog)
+pub reads_then : {X : Type 0} (r : Result X CommandStop) (xs ys : List (List ℕ)) (a b c : HostLog)
     → AreRead xs a b → ReadsNamed ys b c r → ReadsNamed (xs ++ ys) a c r
 reads_then (Ok x) xs ys a b c read h = read_then xs ys a b c read h
-reads_then (Err error) xs ys a b c read h =
-    subst (λ (l : List (List ℕ)). AreStopped (xs ++ l) error a c) (append-nil ys)
-    (stopped_after xs ys [] error a b c read h)
+reads_then (Err stop) xs ys a b c read h =
+    subst (λ (l : List (List ℕ)). AreStopped (xs ++ l) stop a c) (append-nil ys)
+    (stopped_after xs ys [] stop a b c read h)
 
 -- the names up to one more
 pub names_more : (names : List (List ℕ)) (i : ℕ) (name : List ℕ) → i < length names → name ≡ get_or names i []

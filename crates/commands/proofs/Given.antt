@@ -7,7 +7,7 @@ use Rattle.std.proofs.KnownBytes.{Appends-kept}
 use Rattle.std.proofs.lemmas.List.{append-nil, take_all}
 use Rattle.verdicts.specs.declared.outcome.Outcome.{Outcome}
 use Rattle.verdicts.specs.declared.printed.Answer.{Answer}
-use Rattle.inputs.specs.declared.fault.CommandFault.{CommandFault}
+use Rattle.inputs.specs.declared.command_error.CommandError.{CommandError}
 use Rattle.report.specs.Answer.{IsPut}
 use Rattle.commands.specs.Perform.{Puts}
 
@@ -22,11 +22,11 @@ all_given (Some xs) (Some ys) (Some zs) bytes keeps read end =
 
 -- what is written and handed on, or not, is the answer, or a beginning of it
 pub flushed : (Is : Answer → Type 0) (answer : Answer) (before middle after : Option (List ℕ)) (outcome : Outcome)
-    (r : Result Outcome CommandFault) → Is answer → outcome ≡ answer.outcome → Appends before middle answer.text.items
+    (r : Result Outcome CommandError) → Is answer → outcome ≡ answer.outcome → Appends before middle answer.text.items
     → Keeps middle after → IfOk r (λ came. came ≡ outcome) → Puts Is before after r
 flushed Is answer before middle after outcome (Ok came) is out written keeps same =
     (answer, is, same ∙ out, Appends-kept before middle after answer.text.items written keeps)
-flushed Is answer before middle after outcome (Err fault) is out written keeps same = λ failed.
+flushed Is answer before middle after outcome (Err error) is out written keeps same = λ failed.
     let text = answer.text.items in (
       answer,
       is,
@@ -35,8 +35,8 @@ flushed Is answer before middle after outcome (Err fault) is out written keeps s
           (Appends-kept before middle after text written keeps),
     )
 
--- without an error all of it was written
-pub put_whole : (Is : Answer → Type 0) (before after : Option (List ℕ)) (r : Result Outcome CommandFault)
+-- without a stop all of it was written
+pub put_whole : (Is : Answer → Type 0) (before after : Option (List ℕ)) (r : Result Outcome CommandError)
     → Puts Is before after r → IfOk r (IsPut Is before after)
 put_whole Is before after (Ok outcome) put = put
-put_whole Is before after (Err fault) begun = tt
+put_whole Is before after (Err error) begun = tt

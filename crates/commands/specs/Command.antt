@@ -6,15 +6,15 @@ use Rattle.command_line.specs.declared.options.Options.TheVariants.{Run, Judge, 
 use Rattle.command_line.specs.declared.options.Options.TheVariants.{Reduce, Verify, Survey, Merge}
 use Rattle.verdicts.specs.declared.printed.Answer.{Answer}
 use Rattle.answers.specs.declared.rendering.Rendering.TheVariants.{Words, Picture, Reduction}
-use Rattle.inputs.specs.declared.command_error.CommandError.{CommandError}
-use Rattle.inputs.specs.declared.command_error.CommandError.TheVariants.{Refused, Fault}
-use Rattle.inputs.specs.declared.fault.CommandFault.TheVariants.{OutOfMemory}
-use Rattle.commands.specs.Judge.{IsFileAnswer, IsJudgeFault, IsVerified, IsVerifyError}
-use Rattle.commands.specs.Merge.{IsMerged, IsMergeError}
-use Rattle.commands.specs.Render.{IsRendered, IsRenderingError}
-use Rattle.commands.specs.Replay.{IsReplayedInput, IsReplayError}
-use Rattle.commands.specs.Run.{IsLive, IsLiveError, IsRun, IsRunError, IsTrials}
-use Rattle.commands.specs.Survey.{IsSurveyOf, IsSurveyError}
+use Rattle.inputs.specs.declared.command_stop.CommandStop.{CommandStop}
+use Rattle.inputs.specs.declared.command_stop.CommandStop.TheVariants.{Refused, Failed}
+use Rattle.inputs.specs.declared.command_error.CommandError.TheVariants.{OutOfMemory}
+use Rattle.commands.specs.Judge.{IsFileAnswer, IsJudgeError, IsVerified, IsVerifyStop}
+use Rattle.commands.specs.Merge.{IsMerged, IsMergeStop}
+use Rattle.commands.specs.Render.{IsRendered, IsRenderingStop}
+use Rattle.commands.specs.Replay.{IsReplayedInput, IsReplayStop}
+use Rattle.commands.specs.Run.{IsLive, IsLiveStop, IsRun, IsRunStop, IsTrials}
+use Rattle.commands.specs.Survey.{IsSurveyOf, IsSurveyStop}
 
 -- a name, where there is one
 abbrev pub maybe_name : Option (List ℕ) → List (List ℕ)
@@ -54,16 +54,16 @@ IsAnswerTo inputs (Survey o) answer = IsSurveyOf inputs o o.show answer
 IsAnswerTo inputs (Merge o) answer = IsMerged inputs o answer
 
 -- why a command with these options and inputs stops
-abbrev pub IsCommandError : (List ℕ → Option (List ℕ)) → Options → CommandError → Type 0
-IsCommandError inputs (Run o) error = IsRunError inputs o (option_map string_bytes o.steps) error
-IsCommandError inputs (Judge o) (Refused refusal) = ⊥
-IsCommandError inputs (Judge o) (Fault fault) = IsJudgeFault inputs o fault
-IsCommandError inputs (Trials o) error = error ≡ Fault OutOfMemory
-IsCommandError inputs (Live o) error = IsLiveError inputs o error
-IsCommandError inputs (Replay o) error = IsReplayError inputs o error
-IsCommandError inputs (Explain o) error = IsRenderingError inputs o error
-IsCommandError inputs (Draw o) error = IsRenderingError inputs o.recording error
-IsCommandError inputs (Reduce o) error = IsRenderingError inputs o error
-IsCommandError inputs (Verify o) error = IsVerifyError inputs o error
-IsCommandError inputs (Survey o) error = IsSurveyError inputs o o.show error
-IsCommandError inputs (Merge o) error = IsMergeError inputs o error
+abbrev pub IsCommandStop : (List ℕ → Option (List ℕ)) → Options → CommandStop → Type 0
+IsCommandStop inputs (Run o) stop = IsRunStop inputs o (option_map string_bytes o.steps) stop
+IsCommandStop inputs (Judge o) (Refused refusal) = ⊥
+IsCommandStop inputs (Judge o) (Failed error) = IsJudgeError inputs o error
+IsCommandStop inputs (Trials o) stop = stop ≡ Failed OutOfMemory
+IsCommandStop inputs (Live o) stop = IsLiveStop inputs o stop
+IsCommandStop inputs (Replay o) stop = IsReplayStop inputs o stop
+IsCommandStop inputs (Explain o) stop = IsRenderingStop inputs o stop
+IsCommandStop inputs (Draw o) stop = IsRenderingStop inputs o.recording stop
+IsCommandStop inputs (Reduce o) stop = IsRenderingStop inputs o stop
+IsCommandStop inputs (Verify o) stop = IsVerifyStop inputs o stop
+IsCommandStop inputs (Survey o) stop = IsSurveyStop inputs o o.show stop
+IsCommandStop inputs (Merge o) stop = IsMergeStop inputs o stop

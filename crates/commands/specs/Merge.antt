@@ -14,15 +14,15 @@ use Rattle.merging.specs.Texts.{AreFiles}
 use Rattle.verdicts.specs.declared.printed.Answer.{Answer}
 use Rattle.answers.specs.Campaign.{IsTrialsAnswer}
 use Rattle.answers.specs.Survey.{IsSurveyAnswer}
-use Rattle.inputs.specs.declared.fault.CommandFault.{CommandFault}
 use Rattle.inputs.specs.declared.command_error.CommandError.{CommandError}
-use Rattle.inputs.specs.declared.command_error.CommandError.TheVariants.{Refused, Fault}
-use Rattle.inputs.specs.Inputs.{AreBytesOf, IsInputFault}
+use Rattle.inputs.specs.declared.command_stop.CommandStop.{CommandStop}
+use Rattle.inputs.specs.declared.command_stop.CommandStop.TheVariants.{Refused, Failed}
+use Rattle.inputs.specs.Inputs.{AreBytesOf, IsInputError}
 
 -- why the input of one of these names isn't read
-abbrev pub IsFaultAmong : (List ℕ → Option (List ℕ)) → List (List ℕ) → CommandFault → Type 0
-IsFaultAmong inputs names fault =
-    (k : ℕ) × (k < length names) × IsInputFault inputs (slice_index_or names k []) fault
+abbrev pub IsErrorAmong : (List ℕ → Option (List ℕ)) → List (List ℕ) → CommandError → Type 0
+IsErrorAmong inputs names error =
+    (k : ℕ) × (k < length names) × IsInputError inputs (slice_index_or names k []) error
 
 -- the counts of a ledger, and how they come out
 abbrev pub IsMergedAnswer : Kind → Ledger → Answer → Type 0
@@ -70,8 +70,8 @@ pub record IsRefusedMerge (names texts : List (List ℕ)) (printed : List ℕ) :
       → Refuses refusal (length (concat codes))
 
 -- why merge stops: a text is refused, or an input isn't read
-abbrev pub IsMergeError : (List ℕ → Option (List ℕ)) → MergeOptions → CommandError → Type 0
-IsMergeError inputs o (Refused refusal) = (texts : List (List ℕ))
+abbrev pub IsMergeStop : (List ℕ → Option (List ℕ)) → MergeOptions → CommandStop → Type 0
+IsMergeStop inputs o (Refused refusal) = (texts : List (List ℕ))
     × AllZip (AreBytesOf inputs) (map string_bytes o.files.items) texts
     × IsRefusedMerge (map string_bytes o.files.items) texts (string_bytes refusal.line)
-IsMergeError inputs o (Fault fault) = IsFaultAmong inputs (map string_bytes o.files.items) fault
+IsMergeStop inputs o (Failed error) = IsErrorAmong inputs (map string_bytes o.files.items) error

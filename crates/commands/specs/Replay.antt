@@ -12,10 +12,10 @@ use Rattle.replay.specs.OrderReplay.{IsReplay}
 use Rattle.replay.specs.Steps.{replay_steps, most_stores}
 use Rattle.verdicts.specs.Judgement.{IsOrderedVerdict}
 use Rattle.verdicts.specs.declared.printed.Answer.{Answer}
-use Rattle.inputs.specs.declared.command_error.CommandError.{CommandError}
+use Rattle.inputs.specs.declared.command_stop.CommandStop.{CommandStop}
 use Rattle.verdicts.specs.declared.outcome.Outcome.TheVariants.{Done, Violation}
-use Rattle.inputs.specs.Named.{IsRecordingError, OfRecording}
-use Rattle.inputs.specs.Refusal.{IsLineError}
+use Rattle.inputs.specs.Named.{IsRecordingStop, OfRecording}
+use Rattle.inputs.specs.Refusal.{IsLineStop}
 use Rattle.verdicts.specs.VerdictAnswer.{IsVerdictAnswer}
 
 -- a capacity, the text of a program and a script, with an empty line between them
@@ -62,7 +62,7 @@ IsReplayedInput inputs o answer = OfRecording inputs (string_bytes o.file)
 
 -- why the recording of the named input is not replayed: it isn't read, or its addresses are not numbered by first use;
 -- memory alone is left open
-abbrev pub IsReplayError : (List ℕ → Option (List ℕ)) → FileOptions → CommandError → Type 0
-IsReplayError inputs o error = IsRecordingError inputs (string_bytes o.file) error
+abbrev pub IsReplayStop : (List ℕ → Option (List ℕ)) → FileOptions → CommandStop → Type 0
+IsReplayStop inputs o stop = IsRecordingStop inputs (string_bytes o.file) stop
     ⊎ OfRecording inputs (string_bytes o.file)
-    (λ x. ¬ IsNumberedByFirstUse x × IsLineError (codes "refused: N8" ++ 10 ∷ []) error)
+    (λ x. ¬ IsNumberedByFirstUse x × IsLineStop (codes "refused: N8" ++ 10 ∷ []) stop)

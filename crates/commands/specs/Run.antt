@@ -12,12 +12,12 @@ use Rattle.machine.specs.declared.step.Step.{Step}
 use Rattle.machine.specs.State.{State, IsComplete}
 use Rattle.machine.specs.Taken.{all_taken, begun}
 use Rattle.machine.specs.Script.{steps_of}
-use Rattle.inputs.specs.declared.command_error.CommandError.{CommandError}
-use Rattle.inputs.specs.declared.command_error.CommandError.TheVariants.{Refused, Fault}
-use Rattle.inputs.specs.declared.fault.CommandFault.TheVariants.{NoThread, Stranger}
-use Rattle.inputs.specs.Inputs.{AreBytesOf, IsInputFault}
-use Rattle.inputs.specs.Named.{IsProgramAt, IsProgramError, OfProgram}
-use Rattle.inputs.specs.Refusal.{IsReadingError, step_fault_name}
+use Rattle.inputs.specs.declared.command_stop.CommandStop.{CommandStop}
+use Rattle.inputs.specs.declared.command_stop.CommandStop.TheVariants.{Refused, Failed}
+use Rattle.inputs.specs.declared.command_error.CommandError.TheVariants.{NoThread, Stranger}
+use Rattle.inputs.specs.Inputs.{AreBytesOf, IsInputError}
+use Rattle.inputs.specs.Named.{IsProgramAt, IsProgramStop, OfProgram}
+use Rattle.inputs.specs.Refusal.{IsReadingStop, step_refusal_name}
 
 -- the answer of a program and the script of this name
 abbrev pub IsScriptAnswer : (List ℕ → Option (List ℕ)) → RunOptions → Parts → List ℕ → Answer → Type 0
@@ -36,16 +36,16 @@ IsRun inputs o answer = OfProgram inputs (string_bytes o.program)
     (λ program. IsRunOf inputs o program (option_map string_bytes o.steps) answer)
 
 -- the script of this name is refused for the program, or isn't read
-abbrev pub IsScriptError : (List ℕ → Option (List ℕ)) → List ℕ → CommandError → Parts → Type 0
-IsScriptError inputs name (Refused refusal) program = (text : List ℕ) × AreBytesOf inputs name text
-    × IsReadingError step_fault_name (steps_of program text) (Refused refusal)
-IsScriptError inputs name (Fault fault) program = IsInputFault inputs name fault
+abbrev pub IsScriptStop : (List ℕ → Option (List ℕ)) → List ℕ → CommandStop → Parts → Type 0
+IsScriptStop inputs name (Refused refusal) program = (text : List ℕ) × AreBytesOf inputs name text
+    × IsReadingStop step_refusal_name (steps_of program text) (Refused refusal)
+IsScriptStop inputs name (Failed error) program = IsInputError inputs name error
 
 -- why a run stops: its program does, or the script where one is named
-abbrev pub IsRunError : (List ℕ → Option (List ℕ)) → RunOptions → Option (List ℕ) → CommandError → Type 0
-IsRunError inputs o (Some name) error = IsProgramError inputs (string_bytes o.program) error
-    ⊎ OfProgram inputs (string_bytes o.program) (IsScriptError inputs name error)
-IsRunError inputs o None error = IsProgramError inputs (string_bytes o.program) error
+abbrev pub IsRunStop : (List ℕ → Option (List ℕ)) → RunOptions → Option (List ℕ) → CommandStop → Type 0
+IsRunStop inputs o (Some name) stop = IsProgramStop inputs (string_bytes o.program) stop
+    ⊎ OfProgram inputs (string_bytes o.program) (IsScriptStop inputs name stop)
+IsRunStop inputs o None stop = IsProgramStop inputs (string_bytes o.program) stop
 
 -- the answer of the named program, and of the steps that threads chose: they come to an end, or are
 -- as many as may be
@@ -59,11 +59,11 @@ pub record IsLive (inputs : List ℕ → Option (List ℕ)) (o : LiveOptions) (a
   pub answered : IsRunAnswer fault.None program state answer
 
 -- the named program is refused or isn't read, or it is read and threads fail
-abbrev pub IsLiveError : (List ℕ → Option (List ℕ)) → LiveOptions → CommandError → Type 0
-IsLiveError inputs o (Refused refusal) = IsProgramError inputs (string_bytes o.program) (Refused refusal)
-IsLiveError inputs o (Fault NoThread) = OfProgram inputs (string_bytes o.program) (λ _. ⊤)
-IsLiveError inputs o (Fault Stranger) = OfProgram inputs (string_bytes o.program) (λ _. ⊤)
-IsLiveError inputs o (Fault fault) = IsInputFault inputs (string_bytes o.program) fault
+abbrev pub IsLiveStop : (List ℕ → Option (List ℕ)) → LiveOptions → CommandStop → Type 0
+IsLiveStop inputs o (Refused refusal) = IsProgramStop inputs (string_bytes o.program) (Refused refusal)
+IsLiveStop inputs o (Failed NoThread) = OfProgram inputs (string_bytes o.program) (λ _. ⊤)
+IsLiveStop inputs o (Failed Stranger) = OfProgram inputs (string_bytes o.program) (λ _. ⊤)
+IsLiveStop inputs o (Failed error) = IsInputError inputs (string_bytes o.program) error
 
 -- the answer of trials: the counts of all of them, or the one that is to be shown
 abbrev pub IsTrials : TrialsOptions → Option ℕ → Answer → Type 0

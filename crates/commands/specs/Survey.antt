@@ -16,11 +16,11 @@ use Rattle.verdicts.specs.declared.outcome.Outcome.{Outcome}
 use Rattle.verdicts.specs.declared.outcome.Outcome.TheVariants as out
 use Rattle.answers.specs.Campaign.{ledger_outcome}
 use Rattle.answers.specs.Survey.{IsLineAnswer, IsSurveyAnswer}
-use Rattle.inputs.specs.declared.fault.CommandFault.{CommandFault}
-use Rattle.inputs.specs.declared.fault.CommandFault.TheVariants.{TooLong, WriteFailed}
 use Rattle.inputs.specs.declared.command_error.CommandError.{CommandError}
-use Rattle.inputs.specs.declared.command_error.CommandError.TheVariants.{Refused, Fault}
-use Rattle.inputs.specs.Inputs.{AreBytesOf, IsInputFault, OfBytes}
+use Rattle.inputs.specs.declared.command_error.CommandError.TheVariants.{TooLong, WriteFailed}
+use Rattle.inputs.specs.declared.command_stop.CommandStop.{CommandStop}
+use Rattle.inputs.specs.declared.command_stop.CommandStop.TheVariants.{Refused, Failed}
+use Rattle.inputs.specs.Inputs.{AreBytesOf, IsInputError, OfBytes}
 
 -- a line of each recording is printed before the input's end
 abbrev pub TellsEach : SurveyOptions → Type 0
@@ -44,7 +44,7 @@ pub record IsEachWritten (inputs : List ℕ → Option (List ℕ)) (o : SurveyOp
   pub outcome_is : outcome ≡ ledger_outcome out.Refused ledger
   pub written : Appends before after (each_text 0 findings ++ 10 ∷ survey_text ledger)
 
--- the answer of survey, where no recording is told, by the one that is to be shown
+-- the answer of survey, where no recording is reported, by the one that is to be shown
 abbrev pub IsSurveyOf : (List ℕ → Option (List ℕ)) → SurveyOptions → Option ℕ → Answer → Type 0
 IsSurveyOf inputs o None answer = (o.each ≢ true) × (findings : List Finding) × (ledger : Ledger)
     × IsSurveyed inputs (string_bytes o.file) findings ledger × IsSurveyAnswer false ledger answer
@@ -57,17 +57,17 @@ IsPastTheEnd inputs o None = ⊥
 IsPastTheEnd inputs o (Some k) = OfBytes inputs (string_bytes o.file) (λ bytes. length (lines bytes) ≤ k)
 
 -- why the named input is not surveyed: it isn't read, or no number counts its bytes
-abbrev pub IsSurveyFault : (List ℕ → Option (List ℕ)) → SurveyOptions → CommandFault → Type 0
-IsSurveyFault inputs o TooLong = ⊤
-IsSurveyFault inputs o fault = IsInputFault inputs (string_bytes o.file) fault
+abbrev pub IsSurveyError : (List ℕ → Option (List ℕ)) → SurveyOptions → CommandError → Type 0
+IsSurveyError inputs o TooLong = ⊤
+IsSurveyError inputs o error = IsInputError inputs (string_bytes o.file) error
 
--- why not all of it is told: it is not surveyed, or a write failed
-abbrev pub IsEachFault : (List ℕ → Option (List ℕ)) → SurveyOptions → CommandFault → Type 0
-IsEachFault inputs o WriteFailed = ⊤
-IsEachFault inputs o fault = IsSurveyFault inputs o fault
+-- why not all of it is reported: it is not surveyed, or a write failed
+abbrev pub IsEachError : (List ℕ → Option (List ℕ)) → SurveyOptions → CommandError → Type 0
+IsEachError inputs o WriteFailed = ⊤
+IsEachError inputs o error = IsSurveyError inputs o error
 
 -- why nothing is surveyed: there is no recording with the number that is asked for, or the input isn't read
-abbrev pub IsSurveyError : (List ℕ → Option (List ℕ)) → SurveyOptions → Option ℕ → CommandError → Type 0
-IsSurveyError inputs o show (Refused refusal) = IsPastTheEnd inputs o show
+abbrev pub IsSurveyStop : (List ℕ → Option (List ℕ)) → SurveyOptions → Option ℕ → CommandStop → Type 0
+IsSurveyStop inputs o show (Refused refusal) = IsPastTheEnd inputs o show
     × (string_bytes refusal.line ≡ codes "refused: K11" ++ 10 ∷ [])
-IsSurveyError inputs o show (Fault fault) = IsSurveyFault inputs o fault
+IsSurveyStop inputs o show (Failed error) = IsSurveyError inputs o error

@@ -1,13 +1,13 @@
 //! The command `live`.
 ghost use Rattle.std.specs.Prelude.{◌∷◌, [], IfErr, IfOk, string_bytes};
 ghost use Rattle.inputs.specs.Inputs.{CanRead, ReadsNamed};
-ghost use Rattle.commands.specs.Run.{IsLive, IsLiveError};
+ghost use Rattle.commands.specs.Run.{IsLive, IsLiveStop};
 
 use answers::finished;
 use command_line::LiveOptions;
 use common::OpenGate;
-use devices::Place;
-use inputs::{CommandError, CommandFault, program_at};
+use devices::Host;
+use inputs::{CommandError, CommandStop, program_at};
 use live::{LiveError, drive};
 use report::Answer;
 use std::alloc::Global;
@@ -15,23 +15,23 @@ use std::sync::Wait;
 use std::thread::Threads;
 
 /// Runs the program of a named input by threads.
-pub fn live_command<R: Threads + Wait + Sync, P: Place>(
+pub fn live_command<R: Threads + Wait + Sync, H: Host>(
     rt: &R,
     alloc: Global,
     options: &LiveOptions,
-    place: &mut P,
-) -> Result<Answer, CommandError>
-    requires { CanRead (P.log place.old).tally }
-    ensures ok { IfOk result (IsLive (P.bytes place.old) options.now) }
-    ensures err { IfErr result (IsLiveError (P.bytes place.old) options.now) }
-    ensures reads { ReadsNamed (string_bytes options.now.program ∷ []) (P.log place.old) (P.log place.new) result }
+    host: &mut H,
+) -> Result<Answer, CommandStop>
+    requires { CanRead (H.log host.old).tally }
+    ensures ok { IfOk result (IsLive (H.bytes host.old) options.now) }
+    ensures err { IfErr result (IsLiveStop (H.bytes host.old) options.now) }
+    ensures reads { ReadsNamed (string_bytes options.now.program ∷ []) (H.log host.old) (H.log host.new) result }
 {
-    let program = program_at(alloc, place, options.program.as_str())?;
+    let program = program_at(alloc, host, options.program.as_str())?;
     let traced = match drive(rt, alloc, program, options.buffer, options.limit, &OpenGate) {
         Ok(traced) => traced,
-        Err(LiveError::NoThread) => return Err(CommandError::Fault(CommandFault::NoThread)),
-        Err(LiveError::Stranger) => return Err(CommandError::Fault(CommandFault::Stranger)),
-        Err(LiveError::OutOfMemory) => return Err(CommandError::Fault(CommandFault::OutOfMemory)),
+        Err(LiveError::NoThread) => return Err(CommandStop::Failed(CommandError::NoThread)),
+        Err(LiveError::Stranger) => return Err(CommandStop::Failed(CommandError::Stranger)),
+        Err(LiveError::OutOfMemory) => return Err(CommandStop::Failed(CommandError::OutOfMemory)),
         Err(LiveError::Blocked(_) | LiveError::TraceFull) => unreachable!(),
     };
     Ok(finished(alloc, traced.into_machine())?)

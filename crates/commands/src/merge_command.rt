@@ -2,39 +2,39 @@
 ghost use Rattle.std.specs.Prelude.{◌≡◌, ◌<◌, IfErr, IfOk, length, map, string_bytes};
 ghost use Rattle.std.specs.List.{AllZip};
 ghost use Rattle.inputs.specs.Inputs.{AreBytesOf, CanRead, ReadsNamed};
-ghost use Rattle.commands.specs.Merge.{IsFaultAmong, IsMerged, IsMergedAnswer, IsMergeError, merge_line};
+ghost use Rattle.commands.specs.Merge.{IsErrorAmong, IsMerged, IsMergedAnswer, IsMergeStop, merge_line};
 ghost use Rattle.commands.specs.Merge.{merge_refusal_name};
-ghost use Rattle.inputs.specs.Refusal.{IsFaultError};
+ghost use Rattle.inputs.specs.Refusal.{IsFailure};
 
 use answers::{survey_answer, trials_answer};
 use command_line::MergeOptions;
 use common::OutOfMemory;
-use devices::Place;
-use inputs::{CommandError, CommandFault, PrintedRefusal, quoted, text_at};
+use devices::Host;
+use inputs::{CommandError, CommandStop, PrintedRefusal, quoted, text_at};
 use merging::{Kind, MergeError, MergeRefusal, Merged, merge};
 use report::Answer;
 use std::alloc::{AllocError, Global};
 
 /// All bytes of the inputs of these names, in order.
-fn texts_at<P: Place>(
+fn texts_at<H: Host>(
     alloc: Global,
-    place: &mut P,
+    host: &mut H,
     names: &[String],
-) -> Result<Vec<Vec<u8>>, CommandError>
-    requires { CanRead (P.log place.old).tally }
-    ensures ok { IfOk result (λ texts. AllZip (AreBytesOf (P.bytes place.old)) (map string_bytes names.now)
+) -> Result<Vec<Vec<u8>>, CommandStop>
+    requires { CanRead (H.log host.old).tally }
+    ensures ok { IfOk result (λ texts. AllZip (AreBytesOf (H.bytes host.old)) (map string_bytes names.now)
         (map (λ v. v.items) texts.items)) }
-    ensures err { IfErr result (IsFaultError (IsFaultAmong (P.bytes place.old) (map string_bytes names.now))) }
-    ensures reads { ReadsNamed (map string_bytes names.now) (P.log place.old) (P.log place.new) result }
+    ensures err { IfErr result (IsFailure (IsErrorAmong (H.bytes host.old) (map string_bytes names.now))) }
+    ensures reads { ReadsNamed (map string_bytes names.now) (H.log host.old) (H.log host.new) result }
 {
     let mut texts = Vec::new(alloc);
     for i in 0..names.len() {
-        let text = match text_at(alloc, place, names[i].as_str()) {
+        let text = match text_at(alloc, host, names[i].as_str()) {
             Ok(text) => text,
-            Err(fault) => return Err(CommandError::Fault(fault)),
+            Err(error) => return Err(CommandStop::Failed(error)),
         };
         let Ok(()) = texts.push(text) else {
-            return Err(CommandError::Fault(CommandFault::OutOfMemory));
+            return Err(CommandStop::Failed(CommandError::OutOfMemory));
         };
     }
     Ok(texts)
@@ -80,24 +80,24 @@ fn merge_refusal(
 }
 
 /// Adds up the counts of the campaigns, or of the surveys, whose texts the named inputs are.
-pub fn merge_command<P: Place>(
+pub fn merge_command<H: Host>(
     alloc: Global,
     options: &MergeOptions,
-    place: &mut P,
-) -> Result<Answer, CommandError>
+    host: &mut H,
+) -> Result<Answer, CommandStop>
     requires some { 0 < length options.now.files.items }
-    requires inputs { CanRead (P.log place.old).tally }
-    ensures ok { IfOk result (IsMerged (P.bytes place.old) options.now) }
-    ensures err { IfErr result (IsMergeError (P.bytes place.old) options.now) }
-    ensures reads { ReadsNamed (map string_bytes options.now.files.items) (P.log place.old) (P.log place.new) result }
+    requires inputs { CanRead (H.log host.old).tally }
+    ensures ok { IfOk result (IsMerged (H.bytes host.old) options.now) }
+    ensures err { IfErr result (IsMergeStop (H.bytes host.old) options.now) }
+    ensures reads { ReadsNamed (map string_bytes options.now.files.items) (H.log host.old) (H.log host.new) result }
 {
-    let texts = match texts_at(alloc, place, &options.files) {
+    let texts = match texts_at(alloc, host, &options.files) {
         Ok(texts) => texts,
         Err(stop) => return Err(stop),
     };
     match merge(alloc, &texts) {
         Ok(merged) => Ok(merged_answer(alloc, &merged)?),
-        Err(MergeError::OutOfMemory) => Err(CommandError::Fault(CommandFault::OutOfMemory)),
+        Err(MergeError::OutOfMemory) => Err(CommandStop::Failed(CommandError::OutOfMemory)),
         Err(
             MergeError::Refused {
                 refusal,
@@ -107,7 +107,7 @@ pub fn merge_command<P: Place>(
         ) => {
             let name = options.files[file].as_str();
             let text = texts[file].as_slice();
-            Err(CommandError::Refused(merge_refusal(alloc, refusal, line, name, text)?))
+            Err(CommandStop::Refused(merge_refusal(alloc, refusal, line, name, text)?))
         }
     }
 }

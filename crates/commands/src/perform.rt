@@ -4,9 +4,9 @@ ghost use Rattle.clap.specs.Words.{Row, Text};
 ghost use Rattle.command_line.specs.Options.{AreOptions};
 ghost use Rattle.devices.specs.Bytes.{CanGrow, CountsBy};
 ghost use Rattle.inputs.specs.Inputs.{CanRead, ReadsNamed, command_failed_writes};
-ghost use Rattle.commands.specs.Command.{IsAnswerTo, IsCommandError, input_names};
+ghost use Rattle.commands.specs.Command.{IsAnswerTo, IsCommandStop, input_names};
 ghost use Rattle.command_line.specs.Commands.{command_of};
-ghost use Rattle.commands.specs.Perform.{IsFaultFor, IsFaultOf, IsNoJudge, IsShown, IsWithoutOptions, IsWritten};
+ghost use Rattle.commands.specs.Perform.{IsErrorFor, IsErrorOf, IsNoJudge, IsShown, IsWithoutOptions, IsWritten};
 ghost use Rattle.commands.specs.Perform.{PrintsAtOnce, PrintsEarly, Tallies};
 ghost use Rattle.commands.specs.Survey.{TellsEach};
 
@@ -22,22 +22,22 @@ use crate::trials_command::trials_command;
 use crate::verify_command::verify_command;
 use answers::Rendering;
 use command_line::words::options;
-use command_line::{JudgeOptions, OptionFault, Options, SurveyOptions};
-use devices::{Place, Sink};
-use inputs::{CommandError, CommandFault, PrintedRefusal, REFUSAL_MEANINGS, option_refusal};
+use command_line::{JudgeOptions, OptionStop, Options, SurveyOptions};
+use devices::{Host, Sink};
+use inputs::{CommandError, CommandStop, PrintedRefusal, REFUSAL_MEANINGS, option_refusal};
 use report::{Answer, Outcome};
 use std::alloc::Global;
 use std::sync::Wait;
 use std::thread::Threads;
 
-/// The answer where there are no options: the help that was asked for, a refusal or a fault.
-fn without_options(alloc: Global, fault: OptionFault) -> Result<Answer, CommandError>
-    ensures { IsWithoutOptions fault result }
+/// The answer where there are no options: the help that was asked for, a refusal or an error.
+fn without_options(alloc: Global, stop: OptionStop) -> Result<Answer, CommandStop>
+    ensures { IsWithoutOptions stop result }
 {
-    match fault {
-        OptionFault::Clap(error) => {
+    match stop {
+        OptionStop::Clap(error) => {
             if error.use_stderr() {
-                return Err(CommandError::Fault(CommandFault::CommandLine(error)));
+                return Err(CommandStop::Failed(CommandError::CommandLine(error)));
             }
             let text = format!(in alloc; "{error}")?;
             Ok(Answer {
@@ -45,72 +45,70 @@ fn without_options(alloc: Global, fault: OptionFault) -> Result<Answer, CommandE
                 text: text.into_bytes(),
             })
         }
-        OptionFault::RefusalMeanings => Ok(Answer::of(alloc, Outcome::Done, REFUSAL_MEANINGS)?),
-        OptionFault::StandardInputTwice => Err(CommandError::Fault(
-            CommandFault::StandardInputTwice,
+        OptionStop::RefusalMeanings => Ok(Answer::of(alloc, Outcome::Done, REFUSAL_MEANINGS)?),
+        OptionStop::StandardInputTwice => Err(CommandStop::Failed(
+            CommandError::StandardInputTwice,
         )),
-        OptionFault::Refused(refusal) => Err(CommandError::Refused(option_refusal(
-            alloc, refusal,
-        )?)),
-        OptionFault::OutOfMemory => Err(CommandError::Fault(CommandFault::OutOfMemory)),
+        OptionStop::Refused(refusal) => Err(CommandStop::Refused(option_refusal(alloc, refusal)?)),
+        OptionStop::OutOfMemory => Err(CommandStop::Failed(CommandError::OutOfMemory)),
     }
 }
 
 /// What the command answers that these options ask for, which are not those of `judge`, or of a survey that tells each
 /// recording.
-fn answer_to<R: Threads + Wait + Sync, P: Place>(
+fn answer_to<R: Threads + Wait + Sync, H: Host>(
     rt: &R,
     alloc: Global,
     options: &Options,
-    place: &mut P,
-) -> Result<Answer, CommandError>
+    host: &mut H,
+) -> Result<Answer, CommandStop>
     requires options { (command : Option (Text × List Row)) × AreOptions options.now command }
     requires told { IsNoJudge options.now }
     requires whole { PrintsEarly options.now → ⊥ }
-    requires inputs { CanRead (P.log place.old).tally }
-    ensures ok { IfOk result (IsAnswerTo (P.bytes place.old) options.now) }
-    ensures err { IfErr result (IsCommandError (P.bytes place.old) options.now) }
-    ensures reads { ReadsNamed (input_names options.now) (P.log place.old) (P.log place.new) result }
+    requires inputs { CanRead (H.log host.old).tally }
+    ensures ok { IfOk result (IsAnswerTo (H.bytes host.old) options.now) }
+    ensures err { IfErr result (IsCommandStop (H.bytes host.old) options.now) }
+    ensures reads { ReadsNamed (input_names options.now) (H.log host.old) (H.log host.new) result }
 {
     match options {
-        Options::Run(run) => run_command(alloc, run, place),
+        Options::Run(run) => run_command(alloc, run, host),
         Options::Judge(_) => unreachable!(),
-        Options::Trials(trials) => trials_command(rt, alloc, trials, place),
-        Options::Live(live) => live_command(rt, alloc, live, place),
-        Options::Replay(replay) => replay_command(alloc, replay, place),
-        Options::Explain(explain) => render_command(alloc, Rendering::Words, explain, place),
+        Options::Trials(trials) => trials_command(rt, alloc, trials, host),
+        Options::Live(live) => live_command(rt, alloc, live, host),
+        Options::Replay(replay) => replay_command(alloc, replay, host),
+        Options::Explain(explain) => render_command(alloc, Rendering::Words, explain, host),
         Options::Draw(draw) => {
             let rendering = Rendering::Picture { all: draw.all };
-            render_command(alloc, rendering, &draw.recording, place)
+            render_command(alloc, rendering, &draw.recording, host)
         }
-        Options::Reduce(reduce) => render_command(alloc, Rendering::Reduction, reduce, place),
-        Options::Verify(verify) => verify_command(rt, alloc, verify, place),
-        Options::Survey(survey) => survey_command(rt, alloc, survey, place),
-        Options::Merge(merge) => merge_command(alloc, merge, place),
+        Options::Reduce(reduce) => render_command(alloc, Rendering::Reduction, reduce, host),
+        Options::Verify(verify) => verify_command(rt, alloc, verify, host),
+        Options::Survey(survey) => survey_command(rt, alloc, survey, host),
+        Options::Merge(merge) => merge_command(alloc, merge, host),
     }
 }
 
-/// What the command answers or why it stops, as what is printed; the place is told of a line that is refused.
-fn shown<P: Place>(
-    place: &mut P,
-    answered: Result<Answer, CommandError>,
-) -> Result<Answer, CommandFault>
+/// What the command answers or why it stops, as what is printed; the host is shown the line of an input that is refused.
+fn shown<H: Host>(
+    host: &mut H,
+    answered: Result<Answer, CommandStop>,
+) -> Result<Answer, CommandError>
     ensures ok { IfOk result (IsShown answered) }
-    ensures err { IfErr result (λ fault. answered ≡ Err (CommandError.Fault fault)) }
-    ensures log { P.log place.new ≡ P.log place.old }
+    ensures err { IfErr result (λ error. answered ≡ Err (CommandStop.Failed error)) }
+    ensures log { H.log host.new ≡ H.log host.old }
 {
     match answered {
         Ok(answer) => Ok(answer),
-        Err(CommandError::Refused(PrintedRefusal { line, quote })) => {
+        Err(CommandStop::Refused(PrintedRefusal { line, quote })) => {
             if let Some(quote) = quote {
-                place.refuse(quote);
+                host.refuse(quote);
             }
             Ok(Answer {
                 outcome: Outcome::Refused,
                 text: line.into_bytes(),
             })
         }
-        Err(CommandError::Fault(fault)) => Err(fault),
+        Err(CommandStop::Failed(error)) => Err(error),
     }
 }
 
@@ -125,7 +123,7 @@ fn judging(options: &Options) -> Option<&JudgeOptions>
     }
 }
 
-/// The options of `survey`, where these are its and each recording is told.
+/// The options of `survey`, where these are its and each recording is reported.
 fn telling_each(options: &Options) -> Option<&SurveyOptions>
     ensures some { IfSome result (λ o. (options.now ≡ Options.Survey o.now) × TellsEach o.now) }
     ensures none { IfNone result (PrintsEarly options.now → ⊥) }
@@ -137,62 +135,62 @@ fn telling_each(options: &Options) -> Option<&SurveyOptions>
 }
 
 /// Prints what these options ask for.
-fn performed<R: Threads + Wait + Sync, P: Place, W: Sink>(
+fn performed<R: Threads + Wait + Sync, H: Host, W: Sink>(
     rt: &R,
     alloc: Global,
     options: &Options,
-    place: &mut P,
+    host: &mut H,
     out: &mut W,
-) -> Result<Outcome, CommandFault>
+) -> Result<Outcome, CommandError>
     requires options { (command : Option (Text × List Row)) × AreOptions options.now command }
-    requires inputs { CanRead (P.log place.old).tally }
+    requires inputs { CanRead (H.log host.old).tally }
     requires output { CanGrow (W.write_failures out.old) }
-    ensures written { (words : List Text) → AreOptions options.now (command_of words) → IsWritten (P.bytes place.old)
-        words (P.log place.old) (P.log place.new) (W.written out.old) (W.written out.new) result }
-    ensures fault { IfErr result (IsFaultFor (P.bytes place.old) options.now (P.log place.old) (P.log place.new)) }
-    ensures reads { Tallies (P.log place.old).tally (P.log place.new).tally result }
+    ensures written { (words : List Text) → AreOptions options.now (command_of words) → IsWritten (H.bytes host.old)
+        words (H.log host.old) (H.log host.new) (W.written out.old) (W.written out.new) result }
+    ensures error { IfErr result (IsErrorFor (H.bytes host.old) options.now (H.log host.old) (H.log host.new)) }
+    ensures reads { Tallies (H.log host.old).tally (H.log host.new).tally result }
     ensures writes { CountsBy command_failed_writes (W.write_failures out.old) (W.write_failures out.new) result }
-    ensures unwritten { IfErr result (λ fault. fault ≢ CommandFault.WriteFailed → (PrintsEarly options.now → ⊥)
+    ensures unwritten { IfErr result (λ error. error ≢ CommandError.WriteFailed → (PrintsEarly options.now → ⊥)
         → out.new ≡ out.old) }
 {
     if let Some(judge) = judging(options) {
-        return judge_command(rt, alloc, judge, place, out);
+        return judge_command(rt, alloc, judge, host, out);
     }
     if let Some(survey) = telling_each(options) {
-        return each_command(rt, alloc, survey, place, out);
+        return each_command(rt, alloc, survey, host, out);
     }
-    let answered = answer_to(rt, alloc, options, place);
-    let answer = shown(place, answered)?;
+    let answered = answer_to(rt, alloc, options, host);
+    let answer = shown(host, answered)?;
     put(out, &answer)
 }
 
-/// Does what the words ask, writes what the command prints and answers how it came out. The words
-/// come without the program's name. Fails by a fault of the command line, an input that isn't read, threads under
+/// Does what the words ask and writes what the command prints. Answers the outcome. The words
+/// come without the program's name. Fails by an error of the command line, an input that isn't read, threads under
 /// `live`, running out of memory, or a write. Nothing is written before the whole answer stands, but the lines of
 /// `survey --each`.
-pub fn perform<R: Threads + Wait + Sync, P: Place, W: Sink>(
+pub fn perform<R: Threads + Wait + Sync, H: Host, W: Sink>(
     rt: &R,
     alloc: Global,
     words: &[String],
-    place: &mut P,
+    host: &mut H,
     out: &mut W,
-) -> Result<Outcome, CommandFault>
-    requires inputs { CanRead (P.log place.old).tally }
+) -> Result<Outcome, CommandError>
+    requires inputs { CanRead (H.log host.old).tally }
     requires output { CanGrow (W.write_failures out.old) }
-    ensures written { IsWritten (P.bytes place.old) (map string_bytes words.now) (P.log place.old) (P.log place.new)
+    ensures written { IsWritten (H.bytes host.old) (map string_bytes words.now) (H.log host.old) (H.log host.new)
         (W.written out.old) (W.written out.new) result }
-    ensures fault { IfErr result (IsFaultOf (P.bytes place.old) (map string_bytes words.now)
-        (P.log place.old) (P.log place.new)) }
-    ensures reads { Tallies (P.log place.old).tally (P.log place.new).tally result }
+    ensures error { IfErr result (IsErrorOf (H.bytes host.old) (map string_bytes words.now)
+        (H.log host.old) (H.log host.new)) }
+    ensures reads { Tallies (H.log host.old).tally (H.log host.new).tally result }
     ensures writes { CountsBy command_failed_writes (W.write_failures out.old) (W.write_failures out.new) result }
     // An error leaves the sink as it was, unless a write failed or lines of recordings came before it.
-    ensures unwritten { IfErr result (λ fault. fault ≢ CommandFault.WriteFailed
+    ensures unwritten { IfErr result (λ error. error ≢ CommandError.WriteFailed
         → PrintsAtOnce (map string_bytes words.now) → out.new ≡ out.old) }
 {
     match options(alloc, words) {
-        Ok(options) => performed(rt, alloc, &options, place, out),
-        Err(fault) => {
-            let answer = shown(place, without_options(alloc, fault))?;
+        Ok(options) => performed(rt, alloc, &options, host, out),
+        Err(stop) => {
+            let answer = shown(host, without_options(alloc, stop))?;
             put(out, &answer)
         }
     }

@@ -5,12 +5,12 @@ ghost use Rattle.verdicts.specs.Verified.{Verifies};
 ghost use Rattle.recording.specs.Tso.{IsTsoOrder};
 ghost use Rattle.recording.specs.FirstUse.{IsNumberedByFirstUse};
 ghost use Rattle.inputs.specs.Inputs.{CanRead, ReadsNamed};
-ghost use Rattle.commands.specs.Replay.{IsReplayedInput, IsReplayOf, IsReplayError, IsReplayText, parts_text};
+ghost use Rattle.commands.specs.Replay.{IsReplayedInput, IsReplayOf, IsReplayStop, IsReplayText, parts_text};
 
 use command_line::FileOptions;
 use common::{EventId, OutOfMemory};
-use devices::Place;
-use inputs::{CommandError, recording_at};
+use devices::Host;
+use inputs::{CommandStop, recording_at};
 use judge::{Verdict, judge_alone};
 use litmus::print;
 use machine::steps_text;
@@ -78,21 +78,21 @@ fn replay_of(alloc: Global, recording: &Recording, verdict: &Verdict) -> Result<
 }
 
 /// Replays the recording of a named input, whose addresses have to be numbered by first use.
-pub fn replay_command<P: Place>(
+pub fn replay_command<H: Host>(
     alloc: Global,
     options: &FileOptions,
-    place: &mut P,
-) -> Result<Answer, CommandError>
-    requires { CanRead (P.log place.old).tally }
-    ensures ok { IfOk result (IsReplayedInput (P.bytes place.old) options.now) }
-    ensures err { IfErr result (IsReplayError (P.bytes place.old) options.now) }
-    ensures reads { ReadsNamed (string_bytes options.now.file ∷ []) (P.log place.old) (P.log place.new) result }
+    host: &mut H,
+) -> Result<Answer, CommandStop>
+    requires { CanRead (H.log host.old).tally }
+    ensures ok { IfOk result (IsReplayedInput (H.bytes host.old) options.now) }
+    ensures err { IfErr result (IsReplayStop (H.bytes host.old) options.now) }
+    ensures reads { ReadsNamed (string_bytes options.now.file ∷ []) (H.log host.old) (H.log host.new) result }
 {
-    let recording = recording_at(alloc, place, options.file.as_str())?;
+    let recording = recording_at(alloc, host, options.file.as_str())?;
     if is_numbered(&recording) {
         let verdict = judge_alone(alloc, &recording)?;
         Ok(replay_of(alloc, &recording, &verdict)?)
     } else {
-        Err(CommandError::of_line(alloc, "refused: N8\n"))
+        Err(CommandStop::of_line(alloc, "refused: N8\n"))
     }
 }

@@ -3,40 +3,40 @@ ghost use Rattle.std.specs.Prelude.{◌∷◌, [], IfErr, IfOk, option_map, stri
 ghost use Rattle.inputs.specs.Inputs.{CanRead, ReadsNamed};
 ghost use Rattle.commands.specs.Command.{input_names};
 ghost use Rattle.command_line.specs.declared.options.Options.{Options};
-ghost use Rattle.commands.specs.Run.{IsRun, IsRunError, IsScriptAnswer, IsScriptError};
+ghost use Rattle.commands.specs.Run.{IsRun, IsRunStop, IsScriptAnswer, IsScriptStop};
 
 use answers::{script_answer, seeded_answer};
 use command_line::RunOptions;
-use devices::Place;
-use inputs::{CommandError, CommandFault, line_refusal, program_at, step_fault_name, text_at};
+use devices::Host;
+use inputs::{CommandError, CommandStop, line_refusal, program_at, step_refusal_name, text_at};
 use machine::{StepsError, parse_steps};
 use program::Program;
 use report::Answer;
 use std::alloc::Global;
 
 /// The answer of a program that is run by the script of this name.
-fn script_run<P: Place>(
+fn script_run<H: Host>(
     alloc: Global,
     program: Program,
     options: &RunOptions,
     name: &str,
-    place: &mut P,
-) -> Result<Answer, CommandError>
-    requires { CanRead (P.log place.old).tally }
-    ensures ok { IfOk result (IsScriptAnswer (P.bytes place.old) options.now program name.now) }
-    ensures err { IfErr result (λ error. IsScriptError (P.bytes place.old) name.now error program) }
-    ensures reads { ReadsNamed (name.now ∷ []) (P.log place.old) (P.log place.new) result }
+    host: &mut H,
+) -> Result<Answer, CommandStop>
+    requires { CanRead (H.log host.old).tally }
+    ensures ok { IfOk result (IsScriptAnswer (H.bytes host.old) options.now program name.now) }
+    ensures err { IfErr result (λ stop. IsScriptStop (H.bytes host.old) name.now stop program) }
+    ensures reads { ReadsNamed (name.now ∷ []) (H.log host.old) (H.log host.new) result }
 {
-    let text = text_at(alloc, place, name)?;
+    let text = text_at(alloc, host, name)?;
     match parse_steps(alloc, text.as_slice(), &program) {
         Ok(steps) => {
             drop(text);
             Ok(script_answer(alloc, program, options.buffer, options.fault, &steps)?)
         }
-        Err(StepsError::OutOfMemory) => Err(CommandError::Fault(CommandFault::OutOfMemory)),
-        Err(StepsError::AtLine(fault, line)) => Err(CommandError::Refused(line_refusal(
+        Err(StepsError::OutOfMemory) => Err(CommandStop::Failed(CommandError::OutOfMemory)),
+        Err(StepsError::AtLine(refusal, line)) => Err(CommandStop::Refused(line_refusal(
             alloc,
-            step_fault_name(fault),
+            step_refusal_name(refusal),
             line,
             text.as_slice(),
         )?)),
@@ -45,20 +45,20 @@ fn script_run<P: Place>(
 
 /// Runs the named program by the named script, or else by random steps; the program is read before the
 /// script is opened.
-pub fn run_command<P: Place>(
+pub fn run_command<H: Host>(
     alloc: Global,
     options: &RunOptions,
-    place: &mut P,
-) -> Result<Answer, CommandError>
-    requires { CanRead (P.log place.old).tally }
-    ensures ok { IfOk result (IsRun (P.bytes place.old) options.now) }
+    host: &mut H,
+) -> Result<Answer, CommandStop>
+    requires { CanRead (H.log host.old).tally }
+    ensures ok { IfOk result (IsRun (H.bytes host.old) options.now) }
     ensures err { IfErr result
-        (IsRunError (P.bytes place.old) options.now (option_map string_bytes options.now.steps)) }
-    ensures reads { ReadsNamed (input_names (Options.Run options.now)) (P.log place.old) (P.log place.new) result }
+        (IsRunStop (H.bytes host.old) options.now (option_map string_bytes options.now.steps)) }
+    ensures reads { ReadsNamed (input_names (Options.Run options.now)) (H.log host.old) (H.log host.new) result }
 {
-    let program = program_at(alloc, place, options.program.as_str())?;
+    let program = program_at(alloc, host, options.program.as_str())?;
     match &options.steps {
-        Some(name) => script_run(alloc, program, options, name.as_str(), place),
+        Some(name) => script_run(alloc, program, options, name.as_str(), host),
         None => Ok(seeded_answer(
             alloc,
             program,

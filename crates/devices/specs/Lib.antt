@@ -1,3 +1,3 @@
 pub mod Bytes
-pub mod Places
+pub mod Host
 pub mod Progress

@@ -1,7 +1,7 @@
 //! Files, and standard input under the name `-`.
 
 use crate::device::Device;
-use crate::place::{InputFault, Place, Tally};
+use crate::host::{Host, InputError, Tally};
 use crate::progress::{Progress, is_shown};
 use std::fs::File;
 use std::io;
@@ -71,7 +71,7 @@ impl<'a> Disk<'a> {
     }
 
     /// The input of this name, opened: `-` is standard input, and any other name that of a file.
-    fn opened(&self, name: &str) -> Result<Opened<'a>, InputFault> {
+    fn opened(&self, name: &str) -> Result<Opened<'a>, InputError> {
         if name == "-" {
             return Ok(match self.text {
                 Some(text) => Opened::Text(text),
@@ -80,13 +80,13 @@ impl<'a> Disk<'a> {
         }
         match File::open(self.rt, name) {
             Ok(file) => Ok(Opened::File(file)),
-            Err(error) if error.kind() == ErrorKind::OutOfMemory => Err(InputFault::OutOfMemory),
-            Err(_) => Err(InputFault::CannotOpen),
+            Err(error) if error.kind() == ErrorKind::OutOfMemory => Err(InputError::OutOfMemory),
+            Err(_) => Err(InputError::CannotOpen),
         }
     }
 }
 
-impl<'a> Place for Disk<'a> {
+impl<'a> Host for Disk<'a> {
     type Input = Device<Opened<'a>>;
 
     type Progress = Progress<'a>;
@@ -95,7 +95,7 @@ impl<'a> Place for Disk<'a> {
 
     ghost log = { λ d. record { asked = None; tally = d.tally } };
 
-    fn input(&mut self, name: &str) -> Result<Device<Opened<'a>>, InputFault> {
+    fn input(&mut self, name: &str) -> Result<Device<Opened<'a>>, InputError> {
         let opened = self.opened(name)?;
         self.tally.lent += 1;
         Ok(Device::new(opened))

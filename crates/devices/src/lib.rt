@@ -4,17 +4,17 @@
 mod bytes;
 mod device;
 mod disk;
+mod host;
 mod memory;
 mod noted;
-mod place;
 mod progress;
 mod whole;
 
 pub use bytes::{Failed, Sink, Source};
 pub use device::Device;
 pub use disk::{Disk, Opened};
+pub use host::{Host, InputError, Tally};
 pub use memory::{MemorySink, MemorySource};
 pub use noted::Noted;
-pub use place::{InputFault, Place, Tally};
 pub use progress::{BETWEEN_LINES, FIRST_LINE, Line, Progress, line_due};
 pub use whole::{ReadError, read_all, read_more, write_all};

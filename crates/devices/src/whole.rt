@@ -17,18 +17,18 @@ pub enum ReadError {
 }
 
 /// How many bytes are asked for at once.
-const PIECE: usize = 65_536;
+const CHUNK: usize = 65_536;
 
-/// Adds what a source gives next, as much as the piece has room for at most, and answers how many bytes these are, none
+/// Adds what a source gives next, as much as the chunk has room for at most, and answers how many bytes these are, none
 /// at its end. Fails if a read does, or out of memory.
 pub fn read_more<R: Source>(
     source: &mut R,
-    piece: &mut [u8],
+    chunk: &mut [u8],
     bytes: &mut Vec<u8>,
 ) -> Result<usize, ReadError>
     requires failures { CanGrow (R.read_failures source.old) }
-    requires room { 0 < length piece.old }
-    ensures kept { length piece.new ≡ length piece.old }
+    requires room { 0 < length chunk.old }
+    ensures kept { length chunk.new ≡ length chunk.old }
     ensures gathered { OnOk result (Gathers (R.left source.old) (R.left source.new)
         bytes.old.items bytes.new.items) }
     ensures number { IfOk result (λ n. length bytes.new.items ≡ length bytes.old.items + n) }
@@ -36,9 +36,9 @@ pub fn read_more<R: Source>(
     ensures all { IfOk result (λ n. n ≡ 0 → IsAtEnd (R.left source.new)) }
     ensures count { CountsBy failed_reads (R.read_failures source.old) (R.read_failures source.new) result }
 {
-    match source.pull(piece) {
+    match source.pull(chunk) {
         Ok(n) => {
-            let Ok(()) = bytes.extend_from_slice(&piece[..n]) else {
+            let Ok(()) = bytes.extend_from_slice(&chunk[..n]) else {
                 return Err(ReadError::OutOfMemory);
             };
             Ok(n)
@@ -56,10 +56,10 @@ pub fn read_all<R: Source>(alloc: Global, source: &mut R) -> Result<Vec<u8>, Rea
     ensures count { CountsBy failed_reads (R.read_failures source.old) (R.read_failures source.new) result }
 {
     let mut bytes = Vec::new(alloc);
-    let Ok(mut piece) = Vec::from_elem(alloc, 0u8, PIECE) else {
+    let Ok(mut chunk) = Vec::from_elem(alloc, 0u8, CHUNK) else {
         return Err(ReadError::OutOfMemory);
     };
-    'pieces: while read_more(source, &mut piece, &mut bytes)? > 0 {}
+    'chunks: while read_more(source, &mut chunk, &mut bytes)? > 0 {}
     Ok(bytes)
 }
 

@@ -25,7 +25,7 @@ read_line x names m e a s = indent x ++ source_words m e (address_text names a) 
 unfoldable pub write_words : List ℕ → ℕ → List ℕ → List ℕ
 write_words list e address = if place list e == 0
     then codes "the first write of " ++ address
-    else codes "the next write of " ++ address ++ (codes " behind " ++ decimal (slice_index list (place list e - 1)))
+    else codes "the next write of " ++ address ++ (codes " after " ++ decimal (slice_index list (place list e - 1)))
 
 -- the line that says where an event stands among the writes of an address
 abbrev pub write_line : Execution → List Name → ℕ → ℕ → List ℕ
@@ -37,7 +37,7 @@ lawful_lines x names m e (L a r s) = read_line x names m e a s
 lawful_lines x names m e (S a w) = write_line x names e a
 lawful_lines x names m e (R a r s w) = read_line x names m e a s ++ write_line x names e a
 lawful_lines x names m e (C a r s) = read_line x names m e a s
-lawful_lines x names m e F = indent x ++ (codes "behind what its core did before it" ++ 10 ∷ [])
+lawful_lines x names m e F = indent x ++ (codes "after what its core did before it" ++ 10 ∷ [])
 
 -- the lines of an event
 abbrev pub placed_lines : Execution → List Name → List ℕ → ℕ → List ℕ

@@ -69,11 +69,11 @@ impl<'a> Named<'a> {
         earlier: EventId,
     ) -> Result<(), OutOfMemory>
         ensures { OnOk result (out.new.items ≡ out.old.items ++ (codes "the next write of "
-            ++ address_text self.now.names.now.keys address ++ (codes " behind " ++ decimal earlier))) }
+            ++ address_text self.now.names.now.keys address ++ (codes " after " ++ decimal earlier))) }
     {
         put_text(out, b"the next write of ")?;
         put_address(out, self.names, address)?;
-        put_text_and_number(out, b" behind ", earlier as usize)
+        put_text_and_number(out, b" after ", earlier as usize)
     }
 
     /// Adds what stands before an event in the write list of an address, in which it stands.
@@ -134,7 +134,7 @@ impl<'a> Named<'a> {
             Event::C { a, s, .. } => self.put_read_line(out, order, number, a, s),
             Event::F => {
                 put_indent(out, self.recording)?;
-                put_text(out, b"behind what its core did before it\n")
+                put_text(out, b"after what its core did before it\n")
             }
         }
     }

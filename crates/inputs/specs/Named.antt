@@ -7,10 +7,10 @@ use Rattle.recording.specs.Execution.{Execution}
 use Rattle.recorder.specs.Reading.{IsReadingResult}
 use Rattle.verdicts.specs.Refusal.{recording_line}
 use Rattle.litmus.specs.Refusals.{line_refusal_name}
-use Rattle.inputs.specs.declared.command_error.CommandError.{CommandError}
-use Rattle.inputs.specs.declared.command_error.CommandError.TheVariants.{Refused, Fault}
-use Rattle.inputs.specs.Inputs.{AreBytesOf, IsInputFault}
-use Rattle.inputs.specs.Refusal.{IsReadingError}
+use Rattle.inputs.specs.declared.command_stop.CommandStop.{CommandStop}
+use Rattle.inputs.specs.declared.command_stop.CommandStop.TheVariants.{Refused, Failed}
+use Rattle.inputs.specs.Inputs.{AreBytesOf, IsInputError}
+use Rattle.inputs.specs.Refusal.{IsReadingStop}
 
 -- the input of this name is the text of the program
 pub record IsProgramAt (inputs : List ℕ → Option (List ℕ)) (name : List ℕ) (program : Parts) : Type 0 where
@@ -25,16 +25,16 @@ pub record IsRecordingAt (inputs : List ℕ → Option (List ℕ)) (name : List 
   pub read : IsReadingResult bytes (Ok x)
 
 -- the named program is refused or isn't read
-abbrev pub IsProgramError : (List ℕ → Option (List ℕ)) → List ℕ → CommandError → Type 0
-IsProgramError inputs name (Refused refusal) = (text : List ℕ) × AreBytesOf inputs name text
-    × IsReadingError line_refusal_name (reading text) (Refused refusal)
-IsProgramError inputs name (Fault fault) = IsInputFault inputs name fault
+abbrev pub IsProgramStop : (List ℕ → Option (List ℕ)) → List ℕ → CommandStop → Type 0
+IsProgramStop inputs name (Refused refusal) = (text : List ℕ) × AreBytesOf inputs name text
+    × IsReadingStop line_refusal_name (reading text) (Refused refusal)
+IsProgramStop inputs name (Failed error) = IsInputError inputs name error
 
 -- the named input is no recording, or isn't read
-abbrev pub IsRecordingError : (List ℕ → Option (List ℕ)) → List ℕ → CommandError → Type 0
-IsRecordingError inputs name (Refused refusal) = (bytes : List ℕ) × AreBytesOf inputs name bytes
-    × (fault : RecError) × IsReadingResult bytes (Err fault) × (recording_line fault ≡ Some (string_bytes refusal.line))
-IsRecordingError inputs name (Fault fault) = IsInputFault inputs name fault
+abbrev pub IsRecordingStop : (List ℕ → Option (List ℕ)) → List ℕ → CommandStop → Type 0
+IsRecordingStop inputs name (Refused refusal) = (bytes : List ℕ) × AreBytesOf inputs name bytes
+    × (refused : RecError) × IsReadingResult bytes (Err refused) × (recording_line refused ≡ Some (string_bytes refusal.line))
+IsRecordingStop inputs name (Failed error) = IsInputError inputs name error
 
 -- the input of this name is a program, of which this holds
 abbrev pub OfProgram : (List ℕ → Option (List ℕ)) → List ℕ → (Parts → Type 0) → Type 0

@@ -6,23 +6,24 @@ use Rattle.program.specs.declared.shape_error.ShapeError.TheVariants.{K1, K2, K3
 use Rattle.command_line.specs.declared.options.OptionRefusal.{OptionRefusal}
 use Rattle.command_line.specs.declared.options.OptionRefusal.TheVariants as refused
 use Rattle.litmus.specs.Refusals.{refusal_line}
+use Rattle.inputs.specs.declared.command_stop.CommandStop.{CommandStop}
+use Rattle.inputs.specs.declared.command_stop.CommandStop.TheVariants.{Refused, Failed}
 use Rattle.inputs.specs.declared.command_error.CommandError.{CommandError}
-use Rattle.inputs.specs.declared.command_error.CommandError.TheVariants.{Refused, Fault}
-use Rattle.inputs.specs.declared.fault.CommandFault.{CommandFault}
-use Rattle.inputs.specs.declared.fault.CommandFault.TheVariants.{OutOfMemory}
+use Rattle.inputs.specs.declared.command_error.CommandError.TheVariants.{OutOfMemory}
 
--- what is printed for a fault of a script's line
-abbrev pub step_fault_name : StepRefusal → List ℕ
-step_fault_name S1 = codes "S1"
-step_fault_name S2 = codes "S2"
-step_fault_name S3 = codes "S3"
-step_fault_name S4 = codes "S4"
+-- the name of the refusal of a script's line
+abbrev pub step_refusal_name : StepRefusal → List ℕ
+step_refusal_name S1 = codes "S1"
+step_refusal_name S2 = codes "S2"
+step_refusal_name S3 = codes "S3"
+step_refusal_name S4 = codes "S4"
 
--- the error is that of a text which reads as a fault, or memory ran out
-abbrev pub IsReadingError : {X F : Type 0} → (F → List ℕ) → Result X (F × ℕ) → CommandError → Type 0
-IsReadingError name (Ok x) (Refused refusal) = ⊥
-IsReadingError name (Err fault) (Refused refusal) = string_bytes refusal.line ≡ refusal_line (name fault.0) fault.1
-IsReadingError name reading (Fault fault) = fault ≡ OutOfMemory
+-- the text is refused by this name and line, or memory ran out
+abbrev pub IsReadingStop : {X F : Type 0} → (F → List ℕ) → Result X (F × ℕ) → CommandStop → Type 0
+IsReadingStop name (Ok x) (Refused refusal) = ⊥
+IsReadingStop name (Err refused_at) (Refused refusal) = string_bytes refusal.line
+    ≡ refusal_line (name refused_at.0) refused_at.1
+IsReadingStop name reading (Failed error) = error ≡ OutOfMemory
 
 -- the name of the refusal of options
 abbrev pub option_refusal_name : OptionRefusal → List ℕ
@@ -42,11 +43,11 @@ abbrev pub option_line : OptionRefusal → List ℕ
 option_line refusal = codes "refused: " ++ option_refusal_name refusal ++ 10 ∷ []
 
 -- the line is printed, or memory ran out
-abbrev pub IsLineError : List ℕ → CommandError → Type 0
-IsLineError text (Refused refusal) = string_bytes refusal.line ≡ text
-IsLineError text (Fault fault) = fault ≡ OutOfMemory
+abbrev pub IsLineStop : List ℕ → CommandStop → Type 0
+IsLineStop text (Refused refusal) = string_bytes refusal.line ≡ text
+IsLineStop text (Failed error) = error ≡ OutOfMemory
 
--- nothing is refused, and the fault is one of these
-abbrev pub IsFaultError : (CommandFault → Type 0) → CommandError → Type 0
-IsFaultError Is (Refused refusal) = ⊥
-IsFaultError Is (Fault fault) = Is fault
+-- nothing is refused, and the error is one of these
+abbrev pub IsFailure : (CommandError → Type 0) → CommandStop → Type 0
+IsFailure Is (Refused refusal) = ⊥
+IsFailure Is (Failed error) = Is error

@@ -1,71 +1,68 @@
-//! Errors of commands.
-ghost use Rattle.inputs.specs.Refusal.{IsLineError};
+//! What ends the program with status 1.
+ghost use Rattle.std.specs.Prelude.{◌≡◌, ◌↔◌, ◌⊎◌};
+ghost use Rattle.std.specs.IoError.{error_kind};
 
-use crate::fault::CommandFault;
 use common::OutOfMemory;
-use std::alloc::{AllocError, Global};
+use std::io;
+use std::io::ErrorKind;
+use thiserror::Error;
 
-/// What is printed of a text, a number or a name that is refused.
-#[derive(Debug, Drop)]
-pub struct PrintedRefusal {
-    /// The line that is printed.
-    pub line: String,
-    /// The line of the input that is at fault, between quotation marks, where it is one line.
-    pub quote: Option<String>,
-}
-
-/// Why a command fails: it has no usual answer.
-#[derive(Debug, Drop)]
+/// Why a command fails. Its text goes to standard error.
+#[derive(Debug, Drop, Error)]
 pub enum CommandError {
-    /// A text, a number or a name is refused.
-    Refused(PrintedRefusal),
-    /// A fault: the program ends with status `FAULT`.
-    Fault(CommandFault),
+    /// The words are not a command.
+    #[error("{0}")]
+    CommandLine(clap::Error),
+    /// The command line names standard input for two inputs.
+    #[error("tsotest: standard input is named for two inputs")]
+    StandardInputTwice,
+    /// A word of the command line is not UTF-8.
+    #[error("tsotest: the command line is not text")]
+    NotText,
+    /// No file of this name can be opened.
+    #[error("tsotest: cannot open {0}")]
+    CannotOpen(String),
+    /// An opened input can't be read to its end.
+    #[error("tsotest: read failed")]
+    ReadFailed,
+    /// No number of 64 bits counts the bytes of an input.
+    #[error("tsotest: the input is too long")]
+    TooLong,
+    /// Standard output takes no more bytes.
+    #[error("tsotest: write failed")]
+    WriteFailed,
+    /// A thread was not started.
+    #[error("tsotest: no thread")]
+    NoThread,
+    /// Threads left no run of the program.
+    #[error("tsotest: stranger")]
+    Stranger,
+    /// There is no memory.
+    #[error("tsotest: out of memory")]
+    OutOfMemory,
 }
 
 impl CommandError {
-    /// The error that prints this line, or that memory ran out.
-    pub fn of_line(alloc: Global, line: &str) -> CommandError
-        ensures { IsLineError line.now result }
+    /// Why the words of the command line could not be had.
+    pub fn of_words(error: io::Error) -> CommandError
+        ensures one { (result ≡ CommandError.OutOfMemory) ⊎ (result ≡ CommandError.NotText) }
+        ensures kind { (result ≡ CommandError.OutOfMemory) ↔ (error_kind error ≡ ErrorKind.OutOfMemory) }
     {
-        match String::from_str(alloc, line) {
-            Ok(line) => CommandError::Refused(PrintedRefusal { line, quote: None }),
-            Err(_) => CommandError::Fault(CommandFault::OutOfMemory),
+        if error.kind() == ErrorKind::OutOfMemory {
+            CommandError::OutOfMemory
+        } else {
+            CommandError::NotText
         }
-    }
-}
-
-impl From<CommandFault> for CommandError {
-    ghost use Rattle.std.specs.Prelude.{◌≡◌};
-    ghost use Rattle.inputs.specs.declared.command_error.CommandError.TheVariants.{Fault};
-
-    ghost from_gives = { λ fault error. error ≡ Fault fault };
-
-    fn from(fault: CommandFault) -> CommandError {
-        CommandError::Fault(fault)
     }
 }
 
 impl From<OutOfMemory> for CommandError {
     ghost use Rattle.std.specs.Prelude.{◌≡◌};
-    ghost use Rattle.inputs.specs.declared.command_error.CommandError.TheVariants.{Fault};
-    ghost use Rattle.inputs.specs.declared.fault.CommandFault.TheVariants.{OutOfMemory};
+    ghost use Rattle.inputs.specs.declared.command_error.CommandError.TheVariants.{OutOfMemory};
 
-    ghost from_gives = { λ _ error. error ≡ Fault OutOfMemory };
+    ghost from_gives = { λ _ e. e ≡ OutOfMemory };
 
     fn from(_refused: OutOfMemory) -> CommandError {
-        CommandError::Fault(CommandFault::OutOfMemory)
-    }
-}
-
-impl From<AllocError> for CommandError {
-    ghost use Rattle.std.specs.Prelude.{◌≡◌};
-    ghost use Rattle.inputs.specs.declared.command_error.CommandError.TheVariants.{Fault};
-    ghost use Rattle.inputs.specs.declared.fault.CommandFault.TheVariants.{OutOfMemory};
-
-    ghost from_gives = { λ _ error. error ≡ Fault OutOfMemory };
-
-    fn from(_refused: AllocError) -> CommandError {
-        CommandError::Fault(CommandFault::OutOfMemory)
+        CommandError::OutOfMemory
     }
 }

@@ -2,15 +2,15 @@
 #![tactic(auto)]
 
 mod command_error;
-mod fault;
+mod command_stop;
 mod meanings;
 mod named;
 mod reading;
 mod refusal;
 
-pub use command_error::{CommandError, PrintedRefusal};
-pub use fault::CommandFault;
+pub use command_error::CommandError;
+pub use command_stop::{CommandStop, PrintedRefusal};
 pub use meanings::{REFUSAL_MEANINGS, explained, quoted};
 pub use named::{program_at, recording_at};
 pub use reading::{opened, text_at};
-pub use refusal::{line_refusal, option_refusal, step_fault_name};
+pub use refusal::{line_refusal, option_refusal, step_refusal_name};

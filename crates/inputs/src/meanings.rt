@@ -10,7 +10,7 @@ pub const REFUSAL_MEANINGS: &str =
     "A line `refused: ..` of standard output names one of these. N is the number that it has.
 
 Of a program, whose lines are counted from 1:
-L1   line N is no line of a program (words are parted by one space, each line ends with a newline, `core` comes before operations and `init` after them)
+L1   line N is no line of a program (words are separated by one space, each line ends with a newline, `core` comes before operations and `init` after them)
 L2   line N begins a seventeenth core (a program has at most 16 cores)
 L3   line N is a 513th operation (a program has at most 512 operations)
 L4   line N uses a seventeenth address (a program has at most 16 addresses)
@@ -38,7 +38,7 @@ N9   the recording is not one of the program (cores, operations, values written 
 
 Of texts of campaigns or surveys, whose lines are counted from 1, with the name of the file:
 M1   line N is no line of such a text (it has each line that `trials` or `survey` prints, whole; lengths of cycles ascend, up to 512, and each has a count)
-M2   line N begins a text that no list of outcomes has (its counts add up, and behind the first of a kind there is room for all of it)
+M2   line N begins a text that no list of outcomes has (its counts add up, and after the first of a kind there is room for all of it)
 M3   line N begins a text of the other kind than the first (all are those of campaigns, or all those of surveys)
 M4   line N begins a text with which there are 2^64 or more (a count has 64 bits)
 

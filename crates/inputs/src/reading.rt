@@ -1,51 +1,51 @@
 //! Named inputs as bytes.
 ghost use Rattle.std.specs.Prelude.{◌≡◌, ◌∷◌, [], IfErr, IfOk, false};
 ghost use Rattle.std.specs.Io.KnownBytes.{Keeps};
-ghost use Rattle.devices.specs.Places.{Notes, lent_more};
-ghost use Rattle.inputs.specs.declared.command_error.CommandError.TheVariants.{Fault};
-ghost use Rattle.inputs.specs.Inputs.{AreBytesOf, AreStopped, CanRead, IsInputFault, ReadsInput};
+ghost use Rattle.devices.specs.Host.{Notes, lent_more};
+ghost use Rattle.inputs.specs.declared.command_stop.CommandStop.TheVariants.{Failed};
+ghost use Rattle.inputs.specs.Inputs.{AreBytesOf, AreStopped, CanRead, IsInputError, ReadsInput};
 
-use crate::fault::CommandFault;
-use devices::{InputFault, Place, ReadError, read_all};
+use crate::command_error::CommandError;
+use devices::{Host, InputError, ReadError, read_all};
 use std::alloc::Global;
 
 /// An input of this name, opened, or why it is not.
-pub fn opened<P: Place>(alloc: Global, place: &mut P, name: &str) -> Result<P::Input, CommandFault>
-    requires { CanRead (P.log place.old).tally }
-    ensures given { IfOk result (λ input. Keeps (P.bytes place.old name.now) (P.Input.left input)) }
-    ensures unread { IfOk result (λ input. P.Input.is_ended input ≡ false) }
-    ensures unfailed { IfOk result (λ input. P.Input.read_failures input ≡ 0) }
-    ensures lent { IfOk result (λ _. (P.log place.new).tally ≡ lent_more (P.log place.old).tally) }
-    ensures asked { IfOk result (λ _. Notes (P.log place.old).asked (P.log place.new).asked (name.now ∷ [])) }
-    ensures fault { IfErr result (IsInputFault (P.bytes place.old) name.now) }
-    ensures stopped { IfErr result (λ fault.
-        AreStopped (name.now ∷ []) (Fault fault) (P.log place.old) (P.log place.new)) }
-    ensures kept { P.bytes place.new ≡ P.bytes place.old }
+pub fn opened<H: Host>(alloc: Global, host: &mut H, name: &str) -> Result<H::Input, CommandError>
+    requires { CanRead (H.log host.old).tally }
+    ensures given { IfOk result (λ input. Keeps (H.bytes host.old name.now) (H.Input.left input)) }
+    ensures unread { IfOk result (λ input. H.Input.is_ended input ≡ false) }
+    ensures unfailed { IfOk result (λ input. H.Input.read_failures input ≡ 0) }
+    ensures lent { IfOk result (λ _. (H.log host.new).tally ≡ lent_more (H.log host.old).tally) }
+    ensures asked { IfOk result (λ _. Notes (H.log host.old).asked (H.log host.new).asked (name.now ∷ [])) }
+    ensures error { IfErr result (IsInputError (H.bytes host.old) name.now) }
+    ensures stopped { IfErr result (λ error.
+        AreStopped (name.now ∷ []) (Failed error) (H.log host.old) (H.log host.new)) }
+    ensures kept { H.bytes host.new ≡ H.bytes host.old }
 {
-    match place.input(name) {
+    match host.input(name) {
         Ok(input) => Ok(input),
-        Err(InputFault::OutOfMemory) => Err(CommandFault::OutOfMemory),
-        Err(InputFault::CannotOpen) => match String::from_str(alloc, name) {
-            Ok(name) => Err(CommandFault::CannotOpen(name)),
-            Err(_) => Err(CommandFault::OutOfMemory),
+        Err(InputError::OutOfMemory) => Err(CommandError::OutOfMemory),
+        Err(InputError::CannotOpen) => match String::from_str(alloc, name) {
+            Ok(name) => Err(CommandError::CannotOpen(name)),
+            Err(_) => Err(CommandError::OutOfMemory),
         },
     }
 }
 
 /// All bytes of a named input.
-pub fn text_at<P: Place>(alloc: Global, place: &mut P, name: &str) -> Result<Vec<u8>, CommandFault>
-    requires { CanRead (P.log place.old).tally }
-    ensures given { IfOk result (λ text. AreBytesOf (P.bytes place.old) name.now text.items) }
-    ensures fault { IfErr result (IsInputFault (P.bytes place.old) name.now) }
-    ensures reads { ReadsInput name.now (P.log place.old) (P.log place.new) result }
-    ensures kept { P.bytes place.new ≡ P.bytes place.old }
+pub fn text_at<H: Host>(alloc: Global, host: &mut H, name: &str) -> Result<Vec<u8>, CommandError>
+    requires { CanRead (H.log host.old).tally }
+    ensures given { IfOk result (λ text. AreBytesOf (H.bytes host.old) name.now text.items) }
+    ensures error { IfErr result (IsInputError (H.bytes host.old) name.now) }
+    ensures reads { ReadsInput name.now (H.log host.old) (H.log host.new) result }
+    ensures kept { H.bytes host.new ≡ H.bytes host.old }
 {
-    let mut input = opened(alloc, place, name)?;
+    let mut input = opened(alloc, host, name)?;
     let read = read_all(alloc, &mut input);
-    place.take_back(input);
+    host.take_back(input);
     match read {
         Ok(bytes) => Ok(bytes),
-        Err(ReadError::ReadFailed) => Err(CommandFault::ReadFailed),
-        Err(ReadError::OutOfMemory) => Err(CommandFault::OutOfMemory),
+        Err(ReadError::ReadFailed) => Err(CommandError::ReadFailed),
+        Err(ReadError::OutOfMemory) => Err(CommandError::OutOfMemory),
     }
 }

@@ -1,9 +1,9 @@
 //! The lines of refused texts.
 ghost use Rattle.std.specs.Prelude.{◌≡◌, IfOk, string_bytes};
 ghost use Rattle.litmus.specs.Refusals.{refusal_line};
-ghost use Rattle.inputs.specs.Refusal.{option_line, option_refusal_name, step_fault_name};
+ghost use Rattle.inputs.specs.Refusal.{option_line, option_refusal_name, step_refusal_name};
 
-use crate::command_error::PrintedRefusal;
+use crate::command_stop::PrintedRefusal;
 use crate::meanings::quoted;
 use command_line::OptionRefusal;
 use litmus::refusal_line;
@@ -11,11 +11,11 @@ use machine::StepRefusal;
 use program::ShapeError;
 use std::alloc::{AllocError, Global};
 
-/// What is printed for a fault of a script's line.
-pub fn step_fault_name(fault: StepRefusal) -> &'static str
-    ensures { result.now ≡ step_fault_name fault }
+/// The name of the refusal of a script's line.
+pub fn step_refusal_name(refusal: StepRefusal) -> &'static str
+    ensures { result.now ≡ step_refusal_name refusal }
 {
-    match fault {
+    match refusal {
         StepRefusal::S1 => "S1",
         StepRefusal::S2 => "S2",
         StepRefusal::S3 => "S3",

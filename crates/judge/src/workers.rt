@@ -65,7 +65,7 @@ pub fn judge_gated<R: Threads + Wait + Sync, G: Gate>(
     }
 }
 
-/// The same with a gate that does nothing.
+/// What `judge_gated` answers, with a gate that does nothing.
 pub fn judge<R: Threads + Wait + Sync>(
     rt: &R,
     alloc: Global,

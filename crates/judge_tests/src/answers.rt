@@ -108,7 +108,7 @@ fn a_failed_read_leaves_nothing_written(rt: HostRuntime) -> Result<(), Fail> {
     Ok(())
 }
 
-/// Whether the answer to message passing comes out so where writes fail after this many bytes, which are all that is
+/// Whether this is the answer to message passing where writes fail after this many bytes, which are all that is
 /// written.
 fn is_written<R: Threads + Wait + Sync>(
     rt: &R,

@@ -164,7 +164,7 @@ fn is_right(alloc: Global, recording: &Recording, events: &[EventId]) -> bool {
     names(&verdict, events) && verify(alloc, recording, &verdict) == Ok(true)
 }
 
-/// The same of the recording of a text.
+/// Whether these rows are found in the recording of a text.
 fn is_judged(alloc: Global, text: &str, events: &[EventId]) -> bool {
     match recorded(alloc, text) {
         Some(recording) => is_right(alloc, &recording, events),

@@ -3,7 +3,7 @@ use Rattle.std.specs.Prelude.{◌++◌, ◌∷◌, [], ℕ, List, codes, decimal
 use Rattle.program.specs.declared.refusal.LineRefusal.{LineRefusal}
 use Rattle.program.specs.declared.refusal.LineRefusal.TheVariants.{L1, L2, L3, L4, L5, L6, L7, L8}
 
--- what is printed for a fault of a program's line
+-- the name of the refusal of a program's line
 abbrev pub line_refusal_name : LineRefusal → List ℕ
 line_refusal_name L1 = codes "L1"
 line_refusal_name L2 = codes "L2"

@@ -6,11 +6,11 @@ ghost use Rattle.litmus.specs.Refusals.{line_refusal_name, refusal_line};
 use program::LineRefusal;
 use std::alloc::{AllocError, Global};
 
-/// What is printed for a fault of a program's line.
-pub fn line_refusal_name(fault: LineRefusal) -> &'static str
-    ensures { result.now ≡ line_refusal_name fault }
+/// The name of the refusal of a program's line.
+pub fn line_refusal_name(refusal: LineRefusal) -> &'static str
+    ensures { result.now ≡ line_refusal_name refusal }
 {
-    match fault {
+    match refusal {
         LineRefusal::L1 => "L1",
         LineRefusal::L2 => "L2",
         LineRefusal::L3 => "L3",

@@ -53,7 +53,7 @@ fn driven<R: Threads + Wait + Sync, G: Gate>(
 
 /// Runs a program on a machine whose buffers have room for `capacity` stores each, by a thread for
 /// each core, one for drains and one for caches, until it is complete or has taken `limit` steps.
-/// Each step is taken under one lock. The gate is told of each core's first turn, as piece and worker
+/// Each step is taken under one lock. The gate hears of each core's first turn, as piece and worker
 /// of the core's number. Which steps the threads choose is not said. No clause speaks of threads, lock
 /// and gate; tests do.
 ///

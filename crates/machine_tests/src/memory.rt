@@ -21,7 +21,8 @@ fn is_driven<R: Threads + Wait + Sync>(rt: &R, alloc: Global, program: Program) 
     }
 }
 
-/// The same of the program of a text.
+/// Whether threads drive the program of a text to its end, in an order of TSO; none where there is no memory or no
+/// thread.
 fn is_usual<R: Threads + Wait + Sync>(rt: &R, alloc: Global, text: &str) -> Option<bool> {
     match parse(alloc, text.as_bytes()) {
         Ok(program) => is_driven(rt, alloc, program),

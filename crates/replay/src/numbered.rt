@@ -23,7 +23,7 @@ fn used_after(used: usize, event: Event) -> Option<usize>
     if addr == used { Some(used + 1) } else { None }
 }
 
-/// The same after all events of a core.
+/// The numbering by first use after all events of a core.
 fn used_in(first: usize, events: &[Event]) -> Option<usize>
     ensures { result ≡ use_ops first (map op_of events.now) }
 {

@@ -31,7 +31,7 @@ abbrev pub IsAnswerOf : List ℕ → Answer → Type 0
 IsAnswerOf bytes answer = ((x : Execution) × IsReadingResult bytes (Ok x) × (verdict : Verdict) × IsVerdict x verdict
     × (answer.outcome ≡ outcome_of verdict) × IsVerdictText x verdict answer.text.items) ⊎ IsRefusedAnswer bytes answer
 
--- such an answer was written, whole, and came out so
+-- such an answer was written, whole, and this is its outcome
 abbrev pub IsPut : (Answer → Type 0) → Option (List ℕ) → Option (List ℕ) → Outcome → Type 0
 IsPut Is before after outcome = (answer : Answer) × Is answer × (outcome ≡ answer.outcome)
     × Appends before after answer.text.items

@@ -34,8 +34,8 @@ pub fn read_or_refuse(alloc: Global, bytes: &[u8]) -> Result<Result<Recording, A
     }
 }
 
-/// The text of the verdict on the recording that the bytes are, or the line of their refusal. It waits for nobody and
-/// starts no thread. Fails only if out of memory.
+/// The text of the verdict on the recording that the bytes are, or the line of their refusal. It does not block
+/// and starts no thread. Fails only if out of memory.
 pub fn answer_alone(alloc: Global, bytes: &[u8]) -> Result<Answer, OutOfMemory>
     ensures { IfOk result (IsAnswerOf bytes.now) }
 {
@@ -48,7 +48,7 @@ pub fn answer_alone(alloc: Global, bytes: &[u8]) -> Result<Answer, OutOfMemory>
     }
 }
 
-/// The same by workers, between calls of the gate.
+/// What `answer_alone` answers, by workers that call the gate.
 fn answer_by<T: Threads + Wait + Sync, G: Gate>(
     rt: &T,
     alloc: Global,

@@ -81,7 +81,7 @@ pub fn shortest_cycle(
     certificate_of(alloc, relation, rows)
 }
 
-/// The same, from rows that 1 to `MAX_WORKERS` workers make, as in `run_jobs`.
+/// What `shortest_cycle` answers, from rows that 1 to `MAX_WORKERS` workers make, as in `run_jobs`.
 pub fn shortest_cycle_by<R: Threads + Wait + Sync, G: Gate>(
     rt: &R,
     alloc: Global,

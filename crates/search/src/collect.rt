@@ -122,7 +122,7 @@ pub(crate) fn relation_of(jobs: &Vec<SourceJob>) -> Result<Arc<Relation>, OutOfM
 
 /// The rows of jobs that share the seat's relation and name each of its events, as `run_alone` gives
 /// them, made by 1 to `MAX_WORKERS` workers that share the bound: the calling thread is worker 0, and
-/// one that is not started is done without. The gate is called round each source, which is tested.
+/// one whose thread does not start is left out. The gate is called round each source, which is tested.
 /// Afterwards the seat knows the length of the shortest cycles, if there is a cycle; after an error,
 /// where memory ran out, it may know more than before.
 pub fn run_jobs<R: Threads + Wait + Sync, G: Gate>(

@@ -30,8 +30,8 @@ pub(crate) fn empty_slots(
     Ok(slots)
 }
 
-/// Puts a row into its source's place. A row of a stranger, or one whose place is filled, is let
-/// go.
+/// Puts a row into its source's place. A row of a stranger, or one whose place is filled, is
+/// dropped.
 fn put_row(row: LabelRow, slots: &mut Vec<Option<LabelRow>>)
     ensures { (t : Table) (lengths : List ℕ) → IsRowFor t lengths row → AreSlots t lengths slots.old.items
         → AreSlots t lengths slots.new.items }

@@ -68,7 +68,7 @@ fn work<G: Gate>(
     WorkerRows { seat, rows }
 }
 
-/// Starts a thread for a worker, and keeps it. One that is not started is done without.
+/// Starts a thread for a worker, and keeps it. A worker whose thread does not start is left out.
 fn start<'s, E, G: Gate>(
     scope: &Scope<'s, E>,
     alloc: Global,

@@ -5,6 +5,6 @@ pub mod Tallied
 pub mod Blocks
 pub mod Shown
 pub mod LineCodes
-pub mod Pieces
+pub mod Batches
 pub mod FoundLemmas
 pub mod LineLemmas

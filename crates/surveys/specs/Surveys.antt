@@ -12,11 +12,11 @@ use Rattle.surveys.specs.Each.{each_text}
 use Rattle.surveys.specs.Found.{AreFindings, codes_of}
 use Rattle.surveys.specs.Lines.{IsCut, lines}
 
--- what is told of recordings, of which the first has this number: of each its line, or nothing
+-- what is reported of recordings, of which the first has this number: of each its line, or nothing
 abbrev pub told_text : Bool → ℕ → List Finding → List ℕ
 told_text each first findings = if each then each_text first findings else []
 
--- what is found in lines, in order: the ledger of its codes, and what is told of it
+-- what is found in lines, in order: the ledger of its codes, and what is reported of it
 pub record IsSurveyOfLines (all : List (List ℕ)) (ledger : Ledger) (each : Bool) (before after : Option (List ℕ))
     : Type 0 where
   pub findings : List Finding

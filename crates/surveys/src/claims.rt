@@ -28,7 +28,7 @@ fn next_place(next: &AtomicUsize, places: usize) -> Option<usize>
     if place < places { Some(place) } else { None }
 }
 
-/// Judges a line, of which the gate is told under this number.
+/// Judges a line, of which the gate hears under this number.
 fn judge_one<G: Gate>(
     alloc: Global,
     lines: &[&[u8]],

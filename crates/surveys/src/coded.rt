@@ -33,7 +33,7 @@ fn add_code<G: Gate>(
     Ok(())
 }
 
-/// The codes of what is found in the lines of some bytes, in order, by this worker; the gate is told of each recording,
+/// The codes of what is found in the lines of some bytes, in order, by this worker; the gate hears of each recording,
 /// the first of which has this number. Fails only if out of memory.
 pub(crate) fn judge_lines<G: Gate>(
     alloc: Global,
@@ -55,7 +55,7 @@ pub(crate) fn judge_lines<G: Gate>(
 }
 
 /// The codes of what is found in the lines of some bytes, in order, as `Finding::code` has them; an empty line has
-/// none. It waits for nobody and starts no thread. Fails only if out of memory.
+/// none. It does not block and starts no thread. Fails only if out of memory.
 pub fn codes_of_lines(alloc: Global, bytes: &[u8]) -> Result<Vec<u64>, OutOfMemory>
     ensures { IfOk result (λ codes. AreLineCodes bytes.now codes.items) }
 {

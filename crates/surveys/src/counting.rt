@@ -24,7 +24,7 @@ use std::thread::Threads;
 /// How many lines are judged at once at most.
 const LINES: usize = 16_384;
 
-/// The same where each is told as soon as those before it are judged.
+/// How many lines are judged at once at most where each is reported as soon as those before it are judged.
 const TOLD_LINES: usize = 64;
 
 /// Puts what a worker found to its places.
@@ -89,7 +89,7 @@ fn all_findings(
 }
 
 /// What is found in lines, in order, by this many workers, at most `MAX_WORKERS`. Each claims a line at a time, and
-/// what they leave out the calling thread judges, which is a worker too. The gate is told of each claim, each violation
+/// what they leave out the calling thread judges, which is a worker too. The gate hears of each claim, each violation
 /// and each end, by the number of the line, where the first has this one. Fails only if out of memory.
 fn findings_of<R: Threads + Sync, G: Gate>(
     rt: &R,
@@ -118,7 +118,7 @@ fn ledger_of(alloc: Global, findings: &[Finding]) -> Result<Ledger, OutOfMemory>
     Ledger::count(alloc, &codes)
 }
 
-/// Writes the lines of what is found, the first of which has this number, where each is told, and hands them on.
+/// Writes the lines of what is found, the first of which has this number, where each is reported, and flushes them.
 fn write_findings<W: Sink>(
     alloc: Global,
     sink: &mut W,
@@ -152,7 +152,7 @@ fn lines_at_once(each: bool) -> usize {
     if each { TOLD_LINES } else { LINES }
 }
 
-/// Adds the first lines of the bytes to the ledger of those before them, where they are told too, and answers
+/// Adds the first lines of the bytes to the ledger of those before them, where each is reported too, and answers
 /// what comes after them.
 fn count_some<'a, R: Threads + Sync, W: Sink, G: Gate>(
     rt: &R,
@@ -184,7 +184,7 @@ fn count_some<'a, R: Threads + Sync, W: Sink, G: Gate>(
     Ok(rest)
 }
 
-/// Adds all lines of the bytes to the ledger of those before them, where they are told too.
+/// Adds all lines of the bytes to the ledger of those before them, where each is reported too.
 pub(crate) fn count_all<R: Threads + Sync, W: Sink, G: Gate>(
     rt: &R,
     alloc: Global,

@@ -11,7 +11,7 @@ use devices::{Source, read_more};
 use memchr::memrchr;
 
 /// How many bytes are asked for at once.
-pub(crate) const PIECE: usize = 65_536;
+pub(crate) const CHUNK: usize = 65_536;
 
 /// How many bytes a block has at least, but for the last one.
 pub(crate) const BLOCK: usize = 4_194_304;
@@ -19,13 +19,13 @@ pub(crate) const BLOCK: usize = 4_194_304;
 /// Fills up a block, or, where it is to be prompt, takes what there is; false where the source has ended.
 pub(crate) fn fill<R: Source>(
     source: &mut R,
-    piece: &mut [u8],
+    chunk: &mut [u8],
     block: &mut Vec<u8>,
     prompt: bool,
 ) -> Result<bool, SurveyError>
     requires failures { CanGrow (R.read_failures source.old) }
-    requires room { 0 < length piece.old }
-    ensures kept { length piece.new ≡ length piece.old }
+    requires room { 0 < length chunk.old }
+    ensures kept { length chunk.new ≡ length chunk.old }
     ensures gathered { OnOk result (Gathers (R.left source.old) (R.left source.new)
         block.old.items block.new.items) }
     ensures more { IfOk result (λ more. more ≡ true → length block.old.items < length block.new.items) }
@@ -34,17 +34,17 @@ pub(crate) fn fill<R: Source>(
     ensures count { CountsBy survey_failed_reads (R.read_failures source.old) (R.read_failures source.new) result }
     ensures writes { IfErr result (λ e. survey_failed_writes e ≡ 0) }
 {
-    let first = read_more(source, piece, block)?;
+    let first = read_more(source, chunk, block)?;
     if first == 0 {
         return Ok(false);
     }
-    let mut is_full = first == piece.len();
-    'pieces: while block.len() < BLOCK && (is_full || !prompt) {
-        let next = read_more(source, piece, block)?;
+    let mut is_full = first == chunk.len();
+    'chunks: while block.len() < BLOCK && (is_full || !prompt) {
+        let next = read_more(source, chunk, block)?;
         if next == 0 {
             return Ok(false);
         }
-        is_full = next == piece.len();
+        is_full = next == chunk.len();
     }
     Ok(true)
 }

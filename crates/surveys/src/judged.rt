@@ -37,8 +37,8 @@ fn found_in(alloc: Global, recording: &Recording) -> Result<Finding, OutOfMemory
     }
 }
 
-/// What is found in the recording that the bytes of a line give, or its refusal. It waits for nobody. Fails only
-/// if out of memory.
+/// What is found in the recording that the bytes of a line give, or its refusal. It does not block. Fails
+/// only if out of memory.
 pub(crate) fn finding_of_line(alloc: Global, bytes: &[u8]) -> Result<Finding, OutOfMemory>
     ensures { IfOk result (IsLineFinding bytes.now) }
 {
@@ -56,7 +56,7 @@ fn report_violation<G: Gate>(gate: &G, worker: usize, number: usize, finding: Fi
     }
 }
 
-/// What is found in the bytes of a line, of which the gate is told under this number. Fails only if out of memory.
+/// What is found in the bytes of a line, of which the gate hears under this number. Fails only if out of memory.
 pub(crate) fn judge_line<G: Gate>(
     alloc: Global,
     bytes: &[u8],

@@ -1,10 +1,10 @@
 //! Surveys of many recordings, one a line.
 #![tactic(auto)]
 
+mod batch;
 mod claims;
 mod coded;
 mod counting;
-mod desk;
 mod each;
 mod error;
 mod filling;
@@ -12,7 +12,7 @@ mod judged;
 mod law;
 mod lines;
 mod offered;
-mod piece;
+mod queue;
 mod showing;
 mod surveying;
 mod workers;

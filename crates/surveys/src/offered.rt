@@ -1,26 +1,26 @@
-//! Pieces that are offered to workers, and counted in order.
+//! Batches that are offered to workers, and counted in order.
 
 ghost use Rattle.std.specs.Prelude.{◌≡◌, ◌≤◌, ℕ, List, Option, false, IfErr, IfOk, drop, length};
 ghost use Rattle.surveys.specs.Surveys.{survey_failed_reads, survey_failed_writes};
 ghost use Rattle.surveys.specs.Tallies.{IsTallied, IsTally};
 
-use crate::desk::Desk;
+use crate::batch::Batch;
 use crate::error::SurveyError;
 use crate::filling::{keep_rest, last_end};
-use crate::piece::Piece;
+use crate::queue::WorkQueue;
 use common::Gate;
 use ledger::Ledger;
 use std::alloc::Global;
 use std::sync::Wait;
 
-/// Adds the lines of a piece to a ledger, and its length to the number of bytes; answers both, and a length of 0 where
+/// Adds the lines of a batch to a ledger, and its length to the number of bytes; answers both, and a length of 0 where
 /// the bytes do not begin with it, whole.
-fn count_piece(
+fn count_batch(
     alloc: Global,
     ledger: &mut Ledger,
     counted: usize,
     bytes: &[u8],
-    piece: Piece,
+    batch: Batch,
 ) -> Result<(usize, usize), SurveyError>
     requires { (front : List ℕ) × (start : Option (List ℕ)) × (now : Option (List ℕ))
         × IsTally false front ledger.old counted start now }
@@ -30,11 +30,11 @@ fn count_piece(
     ensures reads { IfErr result (λ e. survey_failed_reads e ≡ 0) }
     ensures writes { IfErr result (λ e. survey_failed_writes e ≡ 0) }
 {
-    let length = piece.bytes().len();
-    if !bytes.starts_with(piece.bytes()) || last_end(piece.bytes(), 0) != length {
+    let length = batch.bytes().len();
+    if !bytes.starts_with(batch.bytes()) || last_end(batch.bytes(), 0) != length {
         return Ok((counted, 0));
     }
-    let codes = piece.into_codes(alloc)?;
+    let codes = batch.into_codes(alloc)?;
     let more = Ledger::count(alloc, &codes)?;
     let Some(total) = counted.checked_add(length) else {
         return Err(SurveyError::TooLong);
@@ -43,12 +43,12 @@ fn count_piece(
     Ok((total, length))
 }
 
-/// Adds the lines of the pieces with which these bytes begin, in order, until at most this many bytes lie on the desk;
+/// Adds the lines of the batches with which these bytes begin, in order, until at most this many bytes lie on the queue;
 /// answers the number of bytes with those, and how many those are.
-fn count_pieces<R: Wait, G: Gate>(
+fn count_batches<R: Wait, G: Gate>(
     rt: &R,
     alloc: Global,
-    desk: &Desk,
+    queue: &WorkQueue,
     ledger: &mut Ledger,
     counted: usize,
     bytes: &[u8],
@@ -65,11 +65,11 @@ fn count_pieces<R: Wait, G: Gate>(
 {
     let mut total = counted;
     let mut from = 0;
-    'pieces: while from < bytes.len() {
-        let Some(piece) = desk.collect(rt, alloc, kept, gate) else {
+    'batches: while from < bytes.len() {
+        let Some(batch) = queue.collect(rt, alloc, kept, gate) else {
             break;
         };
-        let (more, length) = count_piece(alloc, ledger, total, &bytes[from..], piece)?;
+        let (more, length) = count_batch(alloc, ledger, total, &bytes[from..], batch)?;
         total = more;
         from += length;
         if length == 0 {
@@ -80,12 +80,12 @@ fn count_pieces<R: Wait, G: Gate>(
 }
 
 /// Offers the whole lines of a block to workers, of which this many bytes have no end of a line that was not offered,
-/// and adds those of the first pieces to a ledger, until at most this many bytes lie on the desk; leaves in the block
+/// and adds those of the first batches to a ledger, until at most this many bytes lie on the queue; leaves in the block
 /// what comes after these.
 pub(crate) fn count_offered<R: Wait, G: Gate>(
     rt: &R,
     alloc: Global,
-    desk: &Desk,
+    queue: &WorkQueue,
     ledger: &mut Ledger,
     counted: usize,
     block: &mut Vec<u8>,
@@ -101,10 +101,10 @@ pub(crate) fn count_offered<R: Wait, G: Gate>(
     ensures writes { IfErr result (λ e. survey_failed_writes e ≡ 0) }
 {
     let end = last_end(block, seen);
-    let is_offered = desk.offer(rt, alloc, &block[..end]);
-    // Pieces that are counted leave room for those that had none.
+    let is_offered = queue.offer(rt, alloc, &block[..end]);
+    // Batches that are counted leave room for those that had none.
     let kept = if is_offered { kept } else { 0 };
-    let (total, end) = count_pieces(rt, alloc, desk, ledger, counted, block, kept, gate)?;
+    let (total, end) = count_batches(rt, alloc, queue, ledger, counted, block, kept, gate)?;
     keep_rest(block, end);
     Ok(total)
 }

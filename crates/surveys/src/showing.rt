@@ -7,7 +7,7 @@ ghost use Rattle.surveys.specs.Shown.{IsLineOfRead, IsReadOn, IsSought, IsSought
 ghost use Rattle.surveys.specs.Surveys.{survey_failed_reads, survey_failed_writes};
 
 use crate::error::SurveyError;
-use crate::filling::{PIECE, fill, keep_rest, last_end};
+use crate::filling::{CHUNK, fill, keep_rest, last_end};
 use crate::lines::split_line;
 use common::OutOfMemory;
 use devices::Source;
@@ -69,11 +69,11 @@ fn line_in_whole(
 /// Reads what a source still gives, by way of a block.
 fn read_rest<R: Source>(
     source: &mut R,
-    piece: &mut [u8],
+    chunk: &mut [u8],
     block: &mut Vec<u8>,
 ) -> Result<(), SurveyError>
     requires failures { CanGrow (R.read_failures source.old) }
-    requires room { 0 < length piece.old }
+    requires room { 0 < length chunk.old }
     ensures read { OnOk result (IsReadOn (R.left source.old) (R.left source.new)) }
     ensures met { OnOk result (R.is_ended source.new ≡ true) }
     ensures all { OnOk result (IsAtEnd (R.left source.new)) }
@@ -82,7 +82,7 @@ fn read_rest<R: Source>(
 {
     let mut counted = 0usize;
     block.clear();
-    'filled: while fill(source, piece, block, true)? {
+    'filled: while fill(source, chunk, block, true)? {
         let Some(total) = counted.checked_add(block.len()) else {
             return Err(SurveyError::TooLong);
         };
@@ -92,15 +92,15 @@ fn read_rest<R: Source>(
     Ok(())
 }
 
-/// The same of all that a source gives, which is read to its end.
+/// The line of this number of all that a source gives, which is read to its end.
 fn line_from<R: Source>(
     alloc: Global,
     source: &mut R,
-    piece: &mut [u8],
+    chunk: &mut [u8],
     number: usize,
 ) -> Result<Option<Vec<u8>>, SurveyError>
     requires failures { CanGrow (R.read_failures source.old) }
-    requires room { 0 < length piece.old }
+    requires room { 0 < length chunk.old }
     ensures read { IfOk result (λ line. IsLineOfRead (R.left source.old) (R.left source.new) number
         (option_map (λ v. v.items) line)) }
     ensures met { OnOk result (R.is_ended source.new ≡ true) }
@@ -112,11 +112,11 @@ fn line_from<R: Source>(
     let mut left = number;
     let mut counted = 0usize;
     let mut seen = 0;
-    'filled: while fill(source, piece, &mut block, false)? {
+    'filled: while fill(source, chunk, &mut block, false)? {
         let (sought, end) = line_in_whole(alloc, &mut block, seen, left)?;
         left = match sought {
             Sought::Found(line) => {
-                read_rest(source, piece, &mut block)?;
+                read_rest(source, chunk, &mut block)?;
                 return Ok(Some(line));
             }
             Sought::Later(later) => later,
@@ -149,8 +149,8 @@ pub fn line_of<R: Source>(
     ensures reads { CountsBy survey_failed_reads (R.read_failures source.old) (R.read_failures source.new) result }
     ensures writes { IfErr result (λ e. survey_failed_writes e ≡ 0) }
 {
-    let Ok(mut piece) = Vec::from_elem(alloc, 0u8, PIECE) else {
+    let Ok(mut chunk) = Vec::from_elem(alloc, 0u8, CHUNK) else {
         return Err(SurveyError::OutOfMemory);
     };
-    line_from(alloc, source, &mut piece, number)
+    line_from(alloc, source, &mut chunk, number)
 }

@@ -12,11 +12,11 @@ ghost use Rattle.surveys.specs.Surveys.{IsSurvey, IsSurveyOfRead, survey_failed_
 ghost use Rattle.surveys.specs.Tallies.{Ends, Grows, IsTallied, IsTally};
 
 use crate::counting::count_all;
-use crate::desk::Desk;
 use crate::error::SurveyError;
-use crate::filling::{BLOCK, PIECE, fill, keep_rest, last_end};
+use crate::filling::{BLOCK, CHUNK, fill, keep_rest, last_end};
 use crate::law::a_survey_is_one;
 use crate::offered::count_offered;
+use crate::queue::WorkQueue;
 use crate::workers::with_workers;
 use common::Gate;
 use devices::{Sink, Source};
@@ -25,7 +25,7 @@ use std::alloc::Global;
 use std::sync::Wait;
 use std::thread::Threads;
 
-/// How many bytes stay on the desk while the next ones are read.
+/// How many bytes stay on the queue while the next ones are read.
 const KEPT: usize = BLOCK / 2;
 
 /// Adds the lines of the next bytes to a ledger, and their number to the number of bytes.
@@ -59,7 +59,7 @@ fn count_part<R: Threads + Sync, W: Sink, G: Gate>(
 }
 
 /// Adds the whole lines of a block, of which this many bytes have no end of a line, to a ledger, and leaves what
-/// comes after them. Where none is told and there is a desk, lines of at most `kept` bytes may stay there.
+/// comes after them. Where none is reported and there is a queue, lines of at most `kept` bytes may stay there.
 fn count_whole<R: Threads + Wait + Sync, W: Sink, G: Gate>(
     rt: &R,
     alloc: Global,
@@ -70,7 +70,7 @@ fn count_whole<R: Threads + Wait + Sync, W: Sink, G: Gate>(
     block: &mut Vec<u8>,
     seen: usize,
     workers: usize,
-    desk: Option<&Desk>,
+    queue: Option<&WorkQueue>,
     kept: usize,
     gate: &G,
 ) -> Result<usize, SurveyError>
@@ -83,9 +83,9 @@ fn count_whole<R: Threads + Wait + Sync, W: Sink, G: Gate>(
     ensures writes { CountsBy survey_failed_writes (W.write_failures sink.old) (W.write_failures sink.new) result }
     ensures silent { each ≢ true → sink.new ≡ sink.old }
 {
-    match desk {
-        Some(desk) if !each => {
-            return count_offered(rt, alloc, desk, ledger, counted, block, seen, kept, gate);
+    match queue {
+        Some(queue) if !each => {
+            return count_offered(rt, alloc, queue, ledger, counted, block, seen, kept, gate);
         }
         _ => {}
     }
@@ -112,16 +112,16 @@ fn count_blocks<T: Threads + Wait + Sync, R: Source, W: Sink, G: Gate>(
     source: &mut R,
     sink: &mut W,
     each: bool,
-    piece: &mut [u8],
+    chunk: &mut [u8],
     ledger: &mut Ledger,
     block: &mut Vec<u8>,
     workers: usize,
-    desk: Option<&Desk>,
+    queue: Option<&WorkQueue>,
     gate: &G,
 ) -> Result<(), SurveyError>
     requires reads { CanGrow (R.read_failures source.old) }
     requires writes { CanGrow (W.write_failures sink.old) }
-    requires room { 0 < length piece.old }
+    requires room { 0 < length chunk.old }
     requires empty { block.old.items ≡ [] }
     requires none { IsLedger [] ledger.old }
     ensures whole { OnOk result (IsSurveyOfRead (R.left source.old) (R.left source.new) ledger.new
@@ -134,20 +134,20 @@ fn count_blocks<T: Threads + Wait + Sync, R: Source, W: Sink, G: Gate>(
 {
     let mut counted = 0;
     let mut seen = 0;
-    'filled: while fill(source, piece, block, each)? {
+    'filled: while fill(source, chunk, block, each)? {
         counted = count_whole(
-            rt, alloc, sink, each, ledger, counted, block, seen, workers, desk, KEPT, gate,
+            rt, alloc, sink, each, ledger, counted, block, seen, workers, queue, KEPT, gate,
         )?;
         seen = block.len();
     }
     counted = count_whole(
-        rt, alloc, sink, each, ledger, counted, block, seen, workers, desk, 0, gate,
+        rt, alloc, sink, each, ledger, counted, block, seen, workers, queue, 0, gate,
     )?;
     count_part(rt, alloc, sink, each, ledger, counted, block, workers, gate)?;
     Ok(())
 }
 
-/// Does so by this many workers. Where none is told, each but the calling thread has a thread of its own that lasts as
+/// Counts the lines of a source by this many workers. Where none is reported, each but the calling thread has a thread of its own that lasts as
 /// long.
 fn count_by_workers<T: Threads + Wait + Sync, R: Source, W: Sink, G: Gate>(
     rt: &T,
@@ -155,14 +155,14 @@ fn count_by_workers<T: Threads + Wait + Sync, R: Source, W: Sink, G: Gate>(
     source: &mut R,
     sink: &mut W,
     each: bool,
-    piece: &mut [u8],
+    chunk: &mut [u8],
     ledger: &mut Ledger,
     workers: usize,
     gate: &G,
 ) -> Result<(), SurveyError>
     requires reads { CanGrow (R.read_failures source.old) }
     requires writes { CanGrow (W.write_failures sink.old) }
-    requires room { 0 < length piece.old }
+    requires room { 0 < length chunk.old }
     requires none { IsLedger [] ledger.old }
     ensures whole { OnOk result (IsSurveyOfRead (R.left source.old) (R.left source.new) ledger.new
         each (W.written sink.old) (W.written sink.new)) }
@@ -176,18 +176,18 @@ fn count_by_workers<T: Threads + Wait + Sync, R: Source, W: Sink, G: Gate>(
     let block = &mut block;
     if each || workers < 2 {
         return count_blocks(
-            rt, alloc, source, sink, each, piece, ledger, block, workers, None, gate,
+            rt, alloc, source, sink, each, chunk, ledger, block, workers, None, gate,
         );
     }
     // The room of the block is taken before the threads take theirs.
-    let Ok(()) = block.reserve(BLOCK + PIECE) else {
+    let Ok(()) = block.reserve(BLOCK + CHUNK) else {
         return Err(SurveyError::OutOfMemory);
     };
-    let desk = Desk::new(alloc)?;
-    let desk = &desk;
+    let queue = WorkQueue::new(alloc)?;
+    let queue = &queue;
     let mut counting = || -> Result<(), SurveyError>
         requires { CanGrow (R.read_failures source.now) × CanGrow (W.write_failures sink.now)
-            × (0 < length piece.now) × IsLedger [] ledger.now × (block.now.items ≡ []) }
+            × (0 < length chunk.now) × IsLedger [] ledger.now × (block.now.items ≡ []) }
         ensures { OnOk result (IsSurveyOfRead (R.left source.entry.now) (R.left source.exit.now) ledger.exit.now
             each (W.written sink.entry.now) (W.written sink.exit.now))
             × OnOk result (R.is_ended source.exit.now ≡ true)
@@ -202,25 +202,25 @@ fn count_by_workers<T: Threads + Wait + Sync, R: Source, W: Sink, G: Gate>(
             source,
             sink,
             each,
-            piece,
+            chunk,
             ledger,
             block,
             1,
-            Some(desk),
+            Some(queue),
             gate,
         )
     };
-    with_workers(rt, alloc, desk, workers, gate, &mut counting)
+    with_workers(rt, alloc, queue, workers, gate, &mut counting)
 }
 
 /// Reads the lines of a source to its end, a recording each, judges them by this many workers, at most `MAX_WORKERS`,
-/// and counts them in order; where each is told, its line is written to the sink. The calling thread is a worker, and
+/// and counts them in order; where each is reported, its line is written to the sink. The calling thread is a worker, and
 /// reads; each other worker has a thread of its own where one can be made, for as long as the survey lasts, or, where
-/// each is told, for a block. The gate is told that a worker begins a recording, that it is a violation, and that the
+/// each is reported, for a block. The gate hears that a worker begins a recording, that it is a violation, and that the
 /// worker is done, by the numbers of the recordings, from 0. `ReadFailed` exactly where a read failed, and
-/// `WriteFailed` where a write did; where none is told, nothing is written. The memory is that of two blocks, or of
+/// `WriteFailed` where a write did; where none is reported, nothing is written. The memory is that of two blocks, or of
 /// the longest line, whatever the length. One thing is found in a line, however often and by however many workers it
-/// is judged, so any two surveys of the same bytes count and tell the same.
+/// is judged, so any two surveys of the same bytes count and report the same.
 pub fn survey<T: Threads + Wait + Sync, R: Source, W: Sink, G: Gate>(
     rt: &T,
     alloc: Global,
@@ -247,7 +247,7 @@ pub fn survey<T: Threads + Wait + Sync, R: Source, W: Sink, G: Gate>(
 {
     a_survey_is_one();
     let mut ledger = Ledger::count(alloc, &[])?;
-    let Ok(mut piece) = Vec::from_elem(alloc, 0u8, PIECE) else {
+    let Ok(mut chunk) = Vec::from_elem(alloc, 0u8, CHUNK) else {
         return Err(SurveyError::OutOfMemory);
     };
     count_by_workers(
@@ -256,7 +256,7 @@ pub fn survey<T: Threads + Wait + Sync, R: Source, W: Sink, G: Gate>(
         source,
         sink,
         each,
-        &mut piece,
+        &mut chunk,
         &mut ledger,
         workers,
         gate,

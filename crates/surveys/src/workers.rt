@@ -1,25 +1,25 @@
-//! Threads that judge what is put to a desk.
+//! Threads that judge what is put to a queue.
 
 ghost use Rattle.std.specs.Prelude.{◌≡◌};
 
-use crate::desk::Desk;
+use crate::queue::WorkQueue;
 use common::{Gate, MAX_WORKERS};
 use std::alloc::Global;
 use std::sync::Wait;
 use std::thread;
 use std::thread::{Scope, Threads};
 
-/// Starts the workers but the first, of this many, at most `MAX_WORKERS`. One that has no thread is done without.
+/// Starts the workers but the first, of this many, at most `MAX_WORKERS`. One whose thread does not start is left out.
 fn start_workers<'s, E, R: Threads + Wait + Sync, G: Gate>(
     scope: &Scope<'s, E>,
     rt: &'s R,
     alloc: Global,
-    desk: &'s Desk,
+    queue: &'s WorkQueue,
     workers: usize,
     gate: &'s G,
 ) {
     for worker in 1..workers.min(MAX_WORKERS) {
-        let _ = scope.spawn(move || desk.work(rt, alloc, gate, worker));
+        let _ = scope.spawn(move || queue.work(rt, alloc, gate, worker));
     }
 }
 
@@ -34,12 +34,12 @@ fn take_back<T>(x: &mut T)
     ensures { x.new ≡ x.old }
 {}
 
-/// Calls a closure while the workers but the first, of this many, judge what it puts to the desk, and then closes the
-/// desk.
+/// Calls a closure while the workers but the first, of this many, judge what it puts to the queue, and then closes the
+/// queue.
 pub(crate) fn with_workers<'a, R: Threads + Wait + Sync, G: Gate, F: FnMut() -> A, A>(
     rt: &R,
     alloc: Global,
-    desk: &Desk,
+    queue: &WorkQueue,
     workers: usize,
     gate: &G,
     f: &'a mut F,
@@ -56,10 +56,10 @@ pub(crate) fn with_workers<'a, R: Threads + Wait + Sync, G: Gate, F: FnMut() -> 
             ensures { (result.0.ghost_name ≡ lent.entry.f.ghost_name)
                 × F.step lent.entry.f.now result.1 result.0.now }
         {
-            start_workers(scope, rt, alloc, desk, workers, gate);
+            start_workers(scope, rt, alloc, queue, workers, gate);
             let Lent { f } = lent;
             let answer = f();
-            desk.close(rt);
+            queue.close(rt);
             (f, answer)
         },
     );

@@ -93,8 +93,8 @@ fn ledger_of(
 }
 
 /// Runs the trials of a campaign by this many workers, 1 to `MAX_WORKERS`, of which the calling thread is
-/// worker 0 and another one that isn't started is done without. Each worker claims trials in ascending order,
-/// from the first of its share on, and then those before it; the gate is told of each claim, each violation
+/// worker 0, and a worker whose thread doesn't start is left out. Each worker claims trials in ascending order,
+/// from the first of its share on, and then those before it; the gate hears of each claim, each violation
 /// and each filing. What they left out the calling thread computes. Fails only if out of memory.
 ///
 /// A trial of a campaign has one code, however often and wherever it is run, so any two ledgers of a

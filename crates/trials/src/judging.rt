@@ -23,7 +23,7 @@ pub struct Judged {
 }
 
 /// The recording of a machine and the verdict on it; none exactly where the machine is not complete. It
-/// waits for nobody. Fails only if out of memory.
+/// does not block. Fails only if out of memory.
 pub fn judged_end(alloc: Global, machine: Machine) -> Result<Option<Judged>, OutOfMemory>
     ensures { IfOk result (IsJudgedEnd machine) }
 {

@@ -48,7 +48,7 @@ fn filed(campaign: &Campaign, k: usize, verdict: Option<Verdict>) -> Filed
     Filed::new(campaign, k, end_code(verdict))
 }
 
-/// A trial below the number of trials, with its code. It waits for nobody, and fails only if out of memory.
+/// A trial below the number of trials, with its code. It does not block. Fails only if out of memory.
 pub fn trial(alloc: Global, campaign: &Campaign, k: usize) -> Result<Filed, OutOfMemory>
     requires { k < campaign.now.trials }
     ensures { IfOk result (λ f. (f.campaign ≡ campaign.now) × (f.trial ≡ k)) }

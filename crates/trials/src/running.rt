@@ -44,7 +44,7 @@ fn attempt(machine: &mut Machine, step: Step) -> bool
     machine.step(step).is_ok() && matches!(step, Step::Exec(_) | Step::Drain(_))
 }
 
-/// The same, with a table that has room for the machine's steps.
+/// Takes random steps, as `run_seeded` does, with a table that has room for the machine's steps.
 fn run_by(table: &mut [Step], machine: &mut Machine, rng: &mut Xoshiro256PlusPlus, attempts: usize)
     requires room { step_count (length machine.old.program.cores) (length machine.old.program.names)
         ≤ length table.old }

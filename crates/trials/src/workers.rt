@@ -20,7 +20,7 @@ fn report_violation<G: Gate>(gate: &G, worker: usize, filed: &Filed) {
     }
 }
 
-/// Claims a trial, and files it where the word was open and there is memory. The gate is told of the claim, of
+/// Claims a trial, and files it where the word was open and there is memory. The gate hears of the claim, of
 /// a violation, and last of the filing.
 pub fn try_one<G: Gate>(
     alloc: Global,
@@ -78,7 +78,7 @@ fn work<G: Gate>(
     seat
 }
 
-/// Starts a worker. One that has no seat or no thread is done without.
+/// Starts a worker. One without a seat or a thread is left out.
 fn start<'s, E, G: Gate>(
     scope: &Scope<'s, E>,
     alloc: Global,

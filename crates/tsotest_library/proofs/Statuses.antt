@@ -44,8 +44,8 @@ pub data Put (Is : Answer → Type 0) (status : ℕ) (old new : List ℕ) (n : �
 pub put_by : (Is : Answer → Type 0) (r : Result Answer OutOfMemory) (status : ℕ) (old new : List ℕ) (n : ℕ) → IfOk r Is
     → IfOk r (λ a. status ≡ status_of a.outcome) → IfOk r (λ a. IsWrittenWhole a.text.items old new n)
     → IfErr r (λ e. status ≡ 1) → IfErr r (λ e. IsNothing old new n) → Put Is status old new n
-put_by Is (Ok a) status old new n is given written fault nothing = answered a is given written
-put_by Is (Err e) status old new n is given written fault nothing = unanswered fault nothing
+put_by Is (Ok a) status old new n is given written error nothing = answered a is given written
+put_by Is (Err e) status old new n is given written error nothing = unanswered error nothing
 
 -- 0 says that all is well
 pub put_0 : {Is : Answer → Type 0} {status : ℕ} {old new : List ℕ} {n : ℕ} (well : Outcome) → status_of well ≡ 0
@@ -57,7 +57,7 @@ put_0 well zero out (answered a is given written) same = record {
   outcome_is = status_0 well a.outcome (out a is) (sym given ∙ same);
   written = written;
 }
-put_0 well zero out (unanswered fault nothing) same = absurd (omega (arith, fault, same))
+put_0 well zero out (unanswered error nothing) same = absurd (omega (arith, error, same))
 
 -- 2 a violation
 pub put_2 : {Is : Answer → Type 0} {status : ℕ} {old new : List ℕ} {n : ℕ} (well : Outcome) → status_of well ≡ 0
@@ -69,7 +69,7 @@ put_2 well zero out (answered a is given written) same = record {
   outcome_is = status_2 well a.outcome zero (out a is) (sym given ∙ same);
   written = written;
 }
-put_2 well zero out (unanswered fault nothing) same = absurd (omega (arith, fault, same))
+put_2 well zero out (unanswered error nothing) same = absurd (omega (arith, error, same))
 
 -- 3 a refusal
 pub put_3 : {Is : Answer → Type 0} {status : ℕ} {old new : List ℕ} {n : ℕ} (well : Outcome) → status_of well ≡ 0
@@ -81,7 +81,7 @@ put_3 well zero out (answered a is given written) same = record {
   outcome_is = status_3 well a.outcome zero (out a is) (sym given ∙ same);
   written = written;
 }
-put_3 well zero out (unanswered fault nothing) same = absurd (omega (arith, fault, same))
+put_3 well zero out (unanswered error nothing) same = absurd (omega (arith, error, same))
 
 -- codes are put, of a survey that comes out so
 pub codes_put : {lines codes old new : List ℕ} {n : ℕ} {o : Outcome} (well : Outcome) → AreLineCodes lines codes

@@ -19,20 +19,20 @@ pub record IsNothing (old new : List ℕ) (n : ℕ) : Type 0 where
   pub size : n ≡ 0
   pub stays : new ≡ old
 
--- the text of such an answer, which came out so
+-- the text of such an answer, with its outcome
 pub record IsAnswered (Is : Answer → Type 0) (outcome : Outcome) (old new : List ℕ) (n : ℕ) : Type 0 where
   pub answer : Answer
   pub is : Is answer
   pub outcome_is : answer.outcome ≡ outcome
   pub written : IsWrittenWhole answer.text.items old new n
 
--- how a survey of recordings with these codes comes out
+-- the outcome of a survey of recordings with these codes
 pub record IsOutcomeOf (codes : List ℕ) (outcome : Outcome) : Type 0 where
   pub ledger : Ledger
   pub counted : IsLedger codes ledger
   pub is : outcome ≡ ledger_outcome Refused ledger
 
--- the codes of what is found in the lines, in order; a survey of them comes out so
+-- the codes of what is found in the lines, in order, and the outcome of a survey of them
 pub record AreCodesAnswered (lines : List ℕ) (outcome : Outcome) (old new : List ℕ) (n : ℕ) : Type 0 where
   pub codes : List ℕ
   pub are : AreLineCodes lines codes

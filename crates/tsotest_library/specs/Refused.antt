@@ -11,11 +11,11 @@ use Rattle.verdicts.specs.declared.printed.Answer.{Answer}
 
 -- the first line of the text at fault
 pub record IsLineRefused (text : List ℕ) (answer : Answer) : Type 0 where
-  pub fault : LineRefusal
+  pub refusal : LineRefusal
   pub line : ℕ
-  pub read : reading text ≡ Err (fault, line)
+  pub read : reading text ≡ Err (refusal, line)
   pub outcome : answer.outcome ≡ Refused
-  pub printed : answer.text.items ≡ refusal_line (line_refusal_name fault) line
+  pub printed : answer.text.items ≡ refusal_line (line_refusal_name refusal) line
 
 -- the text is that of a program, and the recording is none of it
 pub record IsOtherProgram (x : Execution) (text : List ℕ) (answer : Answer) : Type 0 where

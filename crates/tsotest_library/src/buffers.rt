@@ -17,7 +17,7 @@ pub(crate) fn put_text(text: &[u8], out: &mut [u8], len: &mut usize)
     }
 }
 
-/// The same of codes.
+/// Writes codes to the front of `out` where it has room, and their number to `len`.
 pub(crate) fn put_codes(found: &[u64], codes: &mut [u64], count: &mut usize)
     ensures { IsWrittenWhole found.now codes.old codes.new count.new }
 {
@@ -32,7 +32,7 @@ pub(crate) fn put_codes(found: &[u64], codes: &mut [u64], count: &mut usize)
 pub(crate) fn put_answer(answer: Result<Answer, OutOfMemory>, out: &mut [u8], len: &mut usize) -> u8
     ensures given { IfOk answer (λ a. result ≡ status_of a.outcome) }
     ensures written { IfOk answer (λ a. IsWrittenWhole a.text.items out.old out.new len.new) }
-    ensures fault { IfErr answer (λ _. result ≡ 1) }
+    ensures error { IfErr answer (λ _. result ≡ 1) }
     ensures nothing { IfErr answer (λ _. IsNothing out.old out.new len.new) }
 {
     match answer {
@@ -42,7 +42,7 @@ pub(crate) fn put_answer(answer: Result<Answer, OutOfMemory>, out: &mut [u8], le
         }
         Err(_) => {
             *len = 0;
-            Outcome::Fault.status()
+            Outcome::Error.status()
         }
     }
 }

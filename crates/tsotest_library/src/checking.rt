@@ -8,17 +8,18 @@ use common::OutOfMemory;
 use recording::Recording;
 use report::{Answer, read_or_refuse};
 use std::alloc::Global;
-use verification::{check_text_alone, finding_answer};
+use verification::{check_text_alone, text_check_answer};
 
 /// Whether a text is that of a verdict that holds of a recording, as an answer. Fails only if out of memory.
 fn checked(alloc: Global, recording: &Recording, text: &[u8]) -> Result<Answer, OutOfMemory>
     ensures { IfOk result (IsCheckAnswer recording.now text.now) }
 {
-    let finding = check_text_alone(alloc, recording, text)?;
-    Ok(finding_answer(alloc, finding)?)
+    let check = check_text_alone(alloc, recording, text)?;
+    Ok(text_check_answer(alloc, check)?)
 }
 
-/// The same of the recording that the bytes are, or the line of their refusal. Fails only if out of memory.
+/// Whether a text is that of a verdict that holds of the recording that the bytes are, as an answer, or the line of
+/// their refusal. Fails only if out of memory.
 pub(crate) fn check_answer(alloc: Global, bytes: &[u8], text: &[u8]) -> Result<Answer, OutOfMemory>
     ensures { IfOk result (IsCheckOf bytes.now text.now) }
 {

@@ -164,10 +164,10 @@ pub extern "C" fn tsotest_survey(
 {
     *count = 0;
     let Ok(found) = codes_of_lines(alloc, lines) else {
-        return Outcome::Fault.status();
+        return Outcome::Error.status();
     };
     let Ok(outcome) = counting::outcome_of(alloc, &found) else {
-        return Outcome::Fault.status();
+        return Outcome::Error.status();
     };
     buffers::put_codes(&found, codes, count);
     outcome.status()

@@ -29,8 +29,8 @@ fn own_program(
             let refused = Answer::of(alloc, Outcome::Refused, "refused: N9\n")?;
             Ok(Err(refused))
         }
-        Err(LitmusError::AtLine(fault, line)) => {
-            let text = refusal_line(alloc, line_refusal_name(fault), line)?;
+        Err(LitmusError::AtLine(refusal, line)) => {
+            let text = refusal_line(alloc, line_refusal_name(refusal), line)?;
             Ok(Err(Answer {
                 outcome: Outcome::Refused,
                 text: text.into_bytes(),

@@ -1,9 +1,9 @@
-//! How a command came out.
+//! The outcome of a command.
 
 ghost use Rattle.std.specs.Prelude.{◌≡◌};
 ghost use Rattle.verdicts.specs.Outcomes.{status_of};
 
-/// How a command came out.
+/// The outcome of a command.
 #[derive(Clone, Copy, Debug, PartialEq, Eq)]
 pub enum Outcome {
     /// TSO allows the recording.
@@ -16,18 +16,18 @@ pub enum Outcome {
     Unfinished,
     /// What was asked for stands there, and it says nothing else.
     Done,
-    /// A fault of the command line, a file, memory or a thread.
-    Fault,
+    /// The command line, a file, memory or a thread failed.
+    Error,
 }
 
 impl Outcome {
-    /// The exit status of a command that came out so.
+    /// The exit status of a command with this outcome.
     pub fn status(self) -> u8
         ensures { result ≡ status_of self }
     {
         match self {
             Outcome::Ordered | Outcome::Done => 0,
-            Outcome::Fault => 1,
+            Outcome::Error => 1,
             Outcome::Violation => 2,
             Outcome::Refused => 3,
             Outcome::Unfinished => 4,

@@ -1,4 +1,4 @@
-//! What is printed, and how it came out.
+//! What is printed, and the outcome.
 
 ghost use Rattle.std.specs.Prelude.{◌≡◌, IfOk};
 ghost use Rattle.verdicts.specs.Judgement.{IsVerdict};
@@ -12,10 +12,10 @@ use common::OutOfMemory;
 use recording::Recording;
 use std::alloc::{AllocError, Global};
 
-/// What a command prints on standard output, and how it came out.
+/// What a command prints on standard output, and its outcome.
 #[derive(Drop)]
 pub struct Answer {
-    /// How it came out.
+    /// The outcome.
     pub outcome: Outcome,
     /// The bytes for standard output.
     pub text: Vec<u8>,
@@ -31,7 +31,7 @@ impl Answer {
     }
 }
 
-/// How a verdict comes out: only an order is no violation.
+/// The outcome of a verdict: only an order is no violation.
 pub fn outcome_of(verdict: &Verdict) -> Outcome
     ensures { result ≡ outcome_of verdict.now }
 {

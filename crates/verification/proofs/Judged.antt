@@ -17,8 +17,8 @@ use Rattle.verdicts.specs.declared.verdict.Verdict.{Verdict}
 use Rattle.verdicts.specs.declared.verdict.Verdict.TheVariants.{Ordered, Overlook, Cycle}
 use Rattle.verdicts.specs.Judgement.{IsCycleVerdict, IsOrderedVerdict, IsOverlookVerdict, IsVerdict}
 use Rattle.verdicts.specs.VerdictText.{IsVerdictText}
-use Rattle.verification.specs.declared.finding.Finding.{Finding}
-use Rattle.verification.specs.declared.finding.Finding.TheVariants.{Holds}
+use Rattle.verification.specs.declared.text_check.TextCheck.{TextCheck}
+use Rattle.verification.specs.declared.text_check.TextCheck.TheVariants.{Holds}
 use Rattle.verification.specs.Proof.{Are16Bit, EveryVerdictHolds, IsTextOfVerdict, IsProof}
 
 module _ (x : Execution) (is : IsRecording x) where
@@ -71,6 +71,6 @@ judged_is_proof x text is judged = proof_of x is text judged.verdict judged.prin
 
 -- so what is said of a text exactly where it is a proof is said of that of the verdict
 pub judged_holds : (x : Execution) (text : List ℕ) → IsRecording x → EveryVerdictHolds
-    → (r : Result Finding OutOfMemory) → IfOk r (λ f. (f ≡ Holds) ↔ IsProof x text)
+    → (r : Result TextCheck OutOfMemory) → IfOk r (λ f. (f ≡ Holds) ↔ IsProof x text)
     → IfOk r (λ f. IsTextOfVerdict x text → f ≡ Holds)
 judged_holds x text is law r exact = IfOk-weaker r _ _ (λ f says judged. says.1 (law x text is judged)) exact

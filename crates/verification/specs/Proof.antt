@@ -11,8 +11,8 @@ use Rattle.verdicts.specs.declared.verdict.Verdict.TheVariants.{Ordered, Overloo
 use Rattle.verdicts.specs.Judgement.{IsVerdict}
 use Rattle.verdicts.specs.Verified.{Verifies}
 use Rattle.verdicts.specs.VerdictText.{IsVerdictText}
-use Rattle.verification.specs.declared.finding.Finding.{Finding}
-use Rattle.verification.specs.declared.finding.Finding.TheVariants.{Holds}
+use Rattle.verification.specs.declared.text_check.TextCheck.{TextCheck}
+use Rattle.verification.specs.declared.text_check.TextCheck.TheVariants.{Holds}
 
 -- numbers of 16 bits
 abbrev pub Are16Bit : List ℕ → Type 0
@@ -42,10 +42,10 @@ pub record IsProof (x : Execution) (text : List ℕ) : Type 0 where
   pub short : HasShortLabels verdict
 
 -- what is read of the lines of a cycle: a certificate, with which they are a proof exactly where it certifies and
--- nothing is left, or the fault of what is no proof
-abbrev pub IsReadCycle : Execution → Table → List ℕ → List ℕ → Result Certificate Finding → Type 0
+-- nothing is left, or why the text is no proof
+abbrev pub IsReadCycle : Execution → Table → List ℕ → List ℕ → Result Certificate TextCheck → Type 0
 IsReadCycle x t before after (Ok c) = IsProof x (codes "cycle of " ++ before) ↔ (Certifies t c × (after ≡ []))
-IsReadCycle x t before after (Err fault) = (fault ≢ Holds) × ¬ IsProof x (codes "cycle of " ++ before)
+IsReadCycle x t before after (Err failure) = (failure ≢ Holds) × ¬ IsProof x (codes "cycle of " ++ before)
 
 -- the text of the verdict on an execution
 pub record IsTextOfVerdict (x : Execution) (text : List ℕ) : Type 0 where

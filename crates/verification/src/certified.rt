@@ -8,13 +8,13 @@ ghost use Rattle.relations.specs.Forced.{Forced};
 ghost use Rattle.relations.specs.Relation.{Related};
 ghost use Rattle.labels.specs.Certified.{Certifies};
 ghost use Rattle.verdicts.specs.VerdictText.{ArePairLines};
-ghost use Rattle.verification.specs.declared.finding.Finding.TheVariants.{Holds};
+ghost use Rattle.verification.specs.declared.text_check.TextCheck.TheVariants.{Holds};
 ghost use Rattle.verification.specs.Proof.{Are16Bit, IsProof, IsReadCycle};
 
 use crate::cursor::Cursor;
 use crate::cycle::pairs;
-use crate::finding::Finding;
 use crate::rows::rows;
+use crate::text_check::TextCheck;
 use common::{EventId, MAX_EVENTS, OutOfMemory};
 use labels::{Certificate, check, check_par, is_labelling};
 use recording::Recording;
@@ -83,26 +83,26 @@ fn certifies<R: Threads + Sync>(
 }
 
 /// The line of the first row that is at fault; where none is, the line that began last.
-fn fault_of(rest: &Cursor<'_>, relation: &Relation, certificate: &Certificate) -> Finding
+fn failure_of(rest: &Cursor<'_>, relation: &Relation, certificate: &Certificate) -> TextCheck
     ensures { result ≢ Holds }
 {
     relation.sound();
     let size = certificate.cycle.len();
     for v in 0..certificate.rows.len() {
         if v < relation.len() && !is_labelling(relation, size, v as EventId, &certificate.rows[v]) {
-            return Finding::FaultAt(size.wrapping_add(v).wrapping_add(2));
+            return TextCheck::FailsAt(size.wrapping_add(v).wrapping_add(2));
         }
     }
-    rest.fault()
+    rest.failure()
 }
 
-/// Takes a cycle of forced pairs and a row of labels for each event, whatever these are; else finds the fault.
+/// Takes a cycle of forced pairs and a row of labels for each event, whatever these are; else says where they fail.
 fn read_certificate(
     rest: &mut Cursor<'_>,
     alloc: Global,
     places: &Places<'_>,
     relation: &Relation,
-) -> Result<Result<Certificate, Finding>, OutOfMemory>
+) -> Result<Result<Certificate, TextCheck>, OutOfMemory>
     requires related { (e f : ℕ) → Related relation.now e f ↔ Forced places.now e f }
     requires size { length relation.now ≡ event_count places.now }
     ensures { IfOk result (IsReadCycle places.now relation.now rest.old rest.new) }
@@ -111,7 +111,7 @@ fn read_certificate(
     relation_is_forced();
     let count = relation.len();
     let Some(events) = cycle(rest, alloc, places, count)? else {
-        return Ok(Err(rest.fault()));
+        return Ok(Err(rest.failure()));
     };
     let mut certificate = Certificate {
         cycle: events,
@@ -119,22 +119,22 @@ fn read_certificate(
     };
     let all = rows(rest, alloc, count, &mut certificate.rows)?;
     if !all {
-        return Ok(Err(fault_of(rest, relation, &certificate)));
+        return Ok(Err(failure_of(rest, relation, &certificate)));
     }
     Ok(Ok(certificate))
 }
 
 /// What is found of a certificate that passes its check, or doesn't, and of what is left.
-fn finding_of(
+fn check_of(
     rest: &mut Cursor<'_>,
     relation: &Relation,
     certificate: &Certificate,
     passes: bool,
-) -> Finding
+) -> TextCheck
     ensures { (result ≡ Holds) ↔ (IsTrue passes × (rest.old ≡ [])) }
 {
     if !passes {
-        return fault_of(rest, relation, certificate);
+        return failure_of(rest, relation, certificate);
     }
     rest.end()
 }
@@ -146,7 +146,7 @@ pub(crate) fn check_cycle<R: Threads + Sync>(
     recording: &Recording,
     rest: &mut Cursor<'_>,
     workers: usize,
-) -> Result<Finding, OutOfMemory>
+) -> Result<TextCheck, OutOfMemory>
     ensures { IfOk result (λ f. (f ≡ Holds) ↔ IsProof recording.now (codes "cycle of " ++ rest.old)) }
 {
     let relation = Relation::of(alloc, recording)?;
@@ -154,18 +154,18 @@ pub(crate) fn check_cycle<R: Threads + Sync>(
     match read_certificate(rest, alloc, &places, &relation)? {
         Ok(certificate) => {
             let passes = certifies(rt, &relation, &certificate, workers);
-            Ok(finding_of(rest, &relation, &certificate, passes))
+            Ok(check_of(rest, &relation, &certificate, passes))
         }
-        Err(fault) => Ok(fault),
+        Err(failure) => Ok(failure),
     }
 }
 
-/// The same on the calling thread.
+/// What `check_cycle` answers, on the calling thread alone.
 pub(crate) fn check_cycle_alone(
     alloc: Global,
     recording: &Recording,
     rest: &mut Cursor<'_>,
-) -> Result<Finding, OutOfMemory>
+) -> Result<TextCheck, OutOfMemory>
     ensures { IfOk result (λ f. (f ≡ Holds) ↔ IsProof recording.now (codes "cycle of " ++ rest.old)) }
 {
     let relation = Relation::of(alloc, recording)?;
@@ -173,8 +173,8 @@ pub(crate) fn check_cycle_alone(
     match read_certificate(rest, alloc, &places, &relation)? {
         Ok(certificate) => {
             let passes = check(&relation, &certificate);
-            Ok(finding_of(rest, &relation, &certificate, passes))
+            Ok(check_of(rest, &relation, &certificate, passes))
         }
-        Err(fault) => Ok(fault),
+        Err(failure) => Ok(failure),
     }
 }

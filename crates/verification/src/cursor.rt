@@ -5,7 +5,7 @@ ghost use Rattle.std.specs.Prelude.{slice_index, take};
 ghost use Rattle.program.specs.Numbers.{is_digit};
 ghost use Rattle.program.specs.declared.number.Number.TheVariants.{Value};
 
-use crate::finding::Finding;
+use crate::text_check::TextCheck;
 use program::{Number, decimal};
 use std::marker::Model;
 
@@ -74,7 +74,7 @@ impl<'a> Cursor<'a> {
     ghost use Rattle.std.specs.Prelude.{◌≡◌, ◌≢◌, ◌<◌, ◌^◌, ◌++◌, ◌∷◌, ◌↔◌, [], ℕ, List, Some, IfSome, IsTrue, false};
     ghost use Rattle.std.specs.Prelude.{decimal};
     ghost use Rattle.program.specs.Numbers.{is_digit};
-    ghost use Rattle.verification.specs.declared.finding.Finding.TheVariants.{Holds};
+    ghost use Rattle.verification.specs.declared.text_check.TextCheck.TheVariants.{Holds};
 
     /// A whole text.
     pub(crate) fn new(text: &'a [u8]) -> Cursor<'a>
@@ -98,13 +98,13 @@ impl<'a> Cursor<'a> {
     }
 
     /// The line that began last is at fault, or is due where nothing is left of the text.
-    pub(crate) fn fault(&self) -> Finding
+    pub(crate) fn failure(&self) -> TextCheck
         ensures { result ≢ Holds }
     {
         if self.line_start.is_empty() {
-            return Finding::EndsEarly;
+            return TextCheck::EndsEarly;
         }
-        Finding::FaultAt(self.line)
+        TextCheck::FailsAt(self.line)
     }
 
     /// Takes this text, and says whether it stands next; else nothing is taken.
@@ -145,13 +145,13 @@ impl<'a> Cursor<'a> {
     }
 
     /// Whether nothing is left, or else the line at fault.
-    pub(crate) fn end(&mut self) -> Finding
+    pub(crate) fn end(&mut self) -> TextCheck
         ensures { (result ≡ Holds) ↔ (self.old ≡ []) }
     {
         self.begin_line();
         if self.rest.is_empty() {
-            return Finding::Holds;
+            return TextCheck::Holds;
         }
-        self.fault()
+        self.failure()
     }
 }

@@ -5,15 +5,15 @@ mod answered;
 mod certified;
 mod cursor;
 mod cycle;
-mod finding;
 mod law;
 mod numbers;
 mod ordered;
 mod overlooked;
 mod rows;
 mod text;
+mod text_check;
 
-pub use answered::finding_answer;
-pub use finding::Finding;
+pub use answered::text_check_answer;
 pub use law::every_verdict_holds;
 pub use text::{check_text, check_text_alone};
+pub use text_check::TextCheck;

@@ -2,12 +2,12 @@
 
 ghost use Rattle.std.specs.Prelude.{◌≡◌, ◌++◌, ◌↔◌, IfOk, IsTrue, codes};
 ghost use Rattle.recording.specs.Tso.{IsTsoOrder};
-ghost use Rattle.verification.specs.declared.finding.Finding.TheVariants.{Holds};
+ghost use Rattle.verification.specs.declared.text_check.TextCheck.TheVariants.{Holds};
 ghost use Rattle.verification.specs.Proof.{IsProof};
 
 use crate::cursor::Cursor;
-use crate::finding::Finding;
 use crate::numbers::numbers;
+use crate::text_check::TextCheck;
 use common::{EventId, OutOfMemory};
 use recording::Recording;
 use std::alloc::Global;
@@ -24,15 +24,15 @@ pub(crate) fn check_order(
     alloc: Global,
     recording: &Recording,
     rest: &mut Cursor<'_>,
-) -> Result<Finding, OutOfMemory>
+) -> Result<TextCheck, OutOfMemory>
     ensures { IfOk result (λ f. (f ≡ Holds) ↔ IsProof recording.now (codes "ordered:" ++ rest.old)) }
 {
     recording.sound();
     let Some(events) = numbers(rest, alloc, recording.len())? else {
-        return Ok(rest.fault());
+        return Ok(rest.failure());
     };
     if !is_tso_order(recording, &events) {
-        return Ok(rest.fault());
+        return Ok(rest.failure());
     }
     Ok(rest.end())
 }

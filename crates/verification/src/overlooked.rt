@@ -1,11 +1,11 @@
 //! The check of the line of an overlook.
 
 ghost use Rattle.std.specs.Prelude.{◌≡◌, ◌<◌, ◌^◌, ◌++◌, ◌∷◌, ◌↔◌, ℕ, List, Some, IfSome, codes, decimal};
-ghost use Rattle.verification.specs.declared.finding.Finding.TheVariants.{Holds};
+ghost use Rattle.verification.specs.declared.text_check.TextCheck.TheVariants.{Holds};
 ghost use Rattle.verification.specs.Proof.{IsProof};
 
 use crate::cursor::Cursor;
-use crate::finding::Finding;
+use crate::text_check::TextCheck;
 use common::EventId;
 use recording::Recording;
 use relations::is_overlook;
@@ -33,15 +33,15 @@ fn overlook(rest: &mut Cursor<'_>) -> Option<(EventId, EventId)>
 }
 
 /// Whether what is left is the overlook of a verdict that holds.
-pub(crate) fn check_overlook(recording: &Recording, rest: &mut Cursor<'_>) -> Finding
+pub(crate) fn check_overlook(recording: &Recording, rest: &mut Cursor<'_>) -> TextCheck
     ensures { (result ≡ Holds) ↔ IsProof recording.now (codes "overlook: load " ++ rest.old) }
 {
     recording.sound();
     let Some((load, store)) = overlook(rest) else {
-        return rest.fault();
+        return rest.failure();
     };
     if !is_overlook(recording, load, store) {
-        return rest.fault();
+        return rest.failure();
     }
     rest.end()
 }

@@ -1,15 +1,15 @@
 //! The check of a text.
 
 ghost use Rattle.std.specs.Prelude.{◌≡◌, ◌++◌, ◌↔◌, ℕ, List, IfOk, codes};
-ghost use Rattle.verification.specs.declared.finding.Finding.TheVariants.{Holds};
+ghost use Rattle.verification.specs.declared.text_check.TextCheck.TheVariants.{Holds};
 ghost use Rattle.verification.specs.Proof.{IsTextOfVerdict, IsProof};
 
 use crate::certified::{check_cycle, check_cycle_alone};
 use crate::cursor::Cursor;
-use crate::finding::Finding;
 use crate::law::every_verdict_holds;
 use crate::ordered::check_order;
 use crate::overlooked::check_overlook;
+use crate::text_check::TextCheck;
 use common::OutOfMemory;
 use recording::Recording;
 use std::alloc::Global;
@@ -20,7 +20,7 @@ fn check_line(
     alloc: Global,
     recording: &Recording,
     rest: &mut Cursor<'_>,
-) -> Result<Finding, OutOfMemory>
+) -> Result<TextCheck, OutOfMemory>
     requires { (more : List ℕ) → rest.old ≡ codes "cycle of " ++ more → ⊥ }
     ensures { IfOk result (λ f. (f ≡ Holds) ↔ IsProof recording.now rest.old) }
 {
@@ -30,7 +30,7 @@ fn check_line(
     if rest.take(b"overlook: load ") {
         return Ok(check_overlook(recording, rest));
     }
-    Ok(rest.fault())
+    Ok(rest.failure())
 }
 
 /// Whether a text is that of a verdict that holds of a recording, whoever wrote it: the line of any memory
@@ -45,7 +45,7 @@ pub fn check_text<R: Threads + Sync>(
     recording: &Recording,
     text: &[u8],
     workers: usize,
-) -> Result<Finding, OutOfMemory>
+) -> Result<TextCheck, OutOfMemory>
     ensures exact { IfOk result (λ f. (f ≡ Holds) ↔ IsProof recording.now text.now) }
     ensures judged { IfOk result (λ f. IsTextOfVerdict recording.now text.now → f ≡ Holds) }
 {
@@ -58,12 +58,12 @@ pub fn check_text<R: Threads + Sync>(
     check_line(alloc, recording, &mut rest)
 }
 
-/// The same, and it waits for nobody and starts no thread.
+/// What `check_text` answers, without threads: it does not block. Fails only if out of memory.
 pub fn check_text_alone(
     alloc: Global,
     recording: &Recording,
     text: &[u8],
-) -> Result<Finding, OutOfMemory>
+) -> Result<TextCheck, OutOfMemory>
     ensures exact { IfOk result (λ f. (f ≡ Holds) ↔ IsProof recording.now text.now) }
     ensures judged { IfOk result (λ f. IsTextOfVerdict recording.now text.now → f ≡ Holds) }
 {

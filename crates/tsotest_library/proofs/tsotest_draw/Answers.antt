@@ -12,7 +12,7 @@ returns-clause-allowed c zero =
     (put_by (IsRenderedOf (Picture c.args.all) c.args.recording.now c.args.program.now)
     c.rendered_answer_of-answer.result c.put_answer.result c.args.out.now c.put_answer.new.out c.put_answer.new.len
     c.rendered_answer_of-answer.ensures c.put_answer.ensures.given c.put_answer.ensures.written
-    c.put_answer.ensures.fault c.put_answer.ensures.nothing) zero
+    c.put_answer.ensures.error c.put_answer.ensures.nothing) zero
 
 pub returns-clause-violation : goal.returns-clause-violation
 returns-clause-violation c two =
@@ -20,7 +20,7 @@ returns-clause-violation c two =
     (put_by (IsRenderedOf (Picture c.args.all) c.args.recording.now c.args.program.now)
     c.rendered_answer_of-answer.result c.put_answer.result c.args.out.now c.put_answer.new.out c.put_answer.new.len
     c.rendered_answer_of-answer.ensures c.put_answer.ensures.given c.put_answer.ensures.written
-    c.put_answer.ensures.fault c.put_answer.ensures.nothing) two
+    c.put_answer.ensures.error c.put_answer.ensures.nothing) two
 
 pub returns-clause-refused : goal.returns-clause-refused
 returns-clause-refused c three =
@@ -28,4 +28,4 @@ returns-clause-refused c three =
     (put_by (IsRenderedOf (Picture c.args.all) c.args.recording.now c.args.program.now)
     c.rendered_answer_of-answer.result c.put_answer.result c.args.out.now c.put_answer.new.out c.put_answer.new.len
     c.rendered_answer_of-answer.ensures c.put_answer.ensures.given c.put_answer.ensures.written
-    c.put_answer.ensures.fault c.put_answer.ensures.nothing) three
+    c.put_answer.ensures.error c.put_answer.ensures.nothing) three

@@ -11,7 +11,7 @@ returns-clause-allowed c zero =
     (put_by (IsJudgedOf c.args.recording.now)
     c.judged_answer.result c.put_answer.result c.args.out.now c.put_answer.new.out c.put_answer.new.len
     c.judged_answer.ensures c.put_answer.ensures.given c.put_answer.ensures.written
-    c.put_answer.ensures.fault c.put_answer.ensures.nothing) zero
+    c.put_answer.ensures.error c.put_answer.ensures.nothing) zero
 
 pub returns-clause-violation : goal.returns-clause-violation
 returns-clause-violation c two =
@@ -19,7 +19,7 @@ returns-clause-violation c two =
     (put_by (IsJudgedOf c.args.recording.now)
     c.judged_answer.result c.put_answer.result c.args.out.now c.put_answer.new.out c.put_answer.new.len
     c.judged_answer.ensures c.put_answer.ensures.given c.put_answer.ensures.written
-    c.put_answer.ensures.fault c.put_answer.ensures.nothing) two
+    c.put_answer.ensures.error c.put_answer.ensures.nothing) two
 
 pub returns-clause-refused : goal.returns-clause-refused
 returns-clause-refused c three =
@@ -27,4 +27,4 @@ returns-clause-refused c three =
     (put_by (IsJudgedOf c.args.recording.now)
     c.judged_answer.result c.put_answer.result c.args.out.now c.put_answer.new.out c.put_answer.new.len
     c.judged_answer.ensures c.put_answer.ensures.given c.put_answer.ensures.written
-    c.put_answer.ensures.fault c.put_answer.ensures.nothing) three
+    c.put_answer.ensures.error c.put_answer.ensures.nothing) three

@@ -24,7 +24,7 @@ pub returns-in-Ok-clause-written : goal.returns-in-Ok-clause-written
 returns-in-Ok-clause-written g c =
     let (bytes, read, (answer, is, out, written)) = c.in-Ok.ensures.whole in
     flushed _ answer _ _ _ c.in-Ok.outcome c.flush.result
-    (answer_holds c.every_verdict_holds.ensures (g.P.Place.bytes c.args.place.now) c.args.options.now bytes answer
+    (answer_holds c.every_verdict_holds.ensures (g.H.Host.bytes c.args.host.now) c.args.options.now bytes answer
     (all_given _ _ _ bytes (rw c.as_str.ensures.value at c.in_ok-input.ensures.given) read c.in-Ok.ensures.all) is)
     out written c.flush.ensures.kept c.flush.ensures.outcome
 
@@ -32,7 +32,7 @@ pub returns-in-Err-WriteFailed-clause-written : goal.returns-in-Err-WriteFailed-
 returns-in-Err-WriteFailed-clause-written g c failed =
     let (bytes, read, (answer, is, count, begun)) = c.answer-answered.ensures.begun (search rules) in (
       answer,
-      answer_holds c.every_verdict_holds.ensures (g.P.Place.bytes c.args.place.now) c.args.options.now bytes answer
+      answer_holds c.every_verdict_holds.ensures (g.H.Host.bytes c.args.host.now) c.args.options.now bytes answer
           (all_given _ _ _ bytes (rw c.as_str.ensures.value at c.in_ok-input.ensures.given) read
           (c.answer-answered.ensures.read_before (search rules)).1) is,
       count,

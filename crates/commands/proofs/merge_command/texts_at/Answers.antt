@@ -2,9 +2,9 @@ use Rattle.std.proofs.Common.{◌≡◌, ◌<◌, ◌+◌, ◌++◌, ◌∷◌, 
 use Rattle.std.proofs.Common.{length, map, refl, subst, sym, take}
 use Rattle.std.specs.Prelude.{string_bytes}
 use Rattle.std.proofs.lemmas.List.{length-map, map-append, take-append-drop, take_all}
-use Rattle.inputs.specs.declared.fault.CommandFault.TheVariants.{OutOfMemory}
-use Rattle.inputs.specs.declared.command_error.CommandError.TheVariants.{Fault}
-use Rattle.inputs.specs.Inputs.{AreBytesOf, AreRead, AreStopped, IsInputFault}
+use Rattle.inputs.specs.declared.command_error.CommandError.TheVariants.{OutOfMemory}
+use Rattle.inputs.specs.declared.command_stop.CommandStop.TheVariants.{Failed}
+use Rattle.inputs.specs.Inputs.{AreBytesOf, AreRead, AreStopped, IsInputError}
 use Rattle.std.specs.List.{AllZip}
 use Rattle.commands.proofs.Asking.{name_at, names_more, names_whole, read_none, read_then, stopped_after}
 use Rattle.commands.proofs.Asking.{stopped_before}
@@ -20,7 +20,7 @@ zip_more R (a ∷ xs) (b ∷ ys) x y all one = (all.0, zip_more R xs ys x y all.
 
 pub loop-i-init : goal.loop-i-init
 loop-i-init g c = record {
-  read = read_none (g.P.Place.log c.args.place.now);
+  read = read_none (g.H.Host.log c.args.host.now);
   kept = refl;
   given = rw c.new-texts.ensures.items tt;
 }
@@ -31,8 +31,8 @@ returns-in-Err-clause-err g c =
     ∙ name_at string_bytes c.args.names.now c.loop-i.i c.index-names-i.result (omega arith) c.index-names-i.is in (
       c.loop-i.i,
       omega (arith, length-map c.args.names.now string_bytes),
-      rw (← name) (subst (λ (f : List ℕ → Option (List ℕ)). IsInputFault f c.as_str.result.now c.in-Err.fault)
-          c.loop-i.invariant.kept c.in-Err.ensures.fault),
+      rw (← name) (subst (λ (f : List ℕ → Option (List ℕ)). IsInputError f c.as_str.result.now c.in-Err.error)
+          c.loop-i.invariant.kept c.in-Err.ensures.error),
     )
 
 pub returns-in_default-clause-err : goal.returns-in_default-clause-err
@@ -45,7 +45,7 @@ returns-clause-ok g c =
 
 pub returns-clause-reads : goal.returns-clause-reads
 returns-clause-reads g c =
-    subst (λ (l : List (List ℕ)). AreRead l (g.P.Place.log c.args.place.now) (g.P.Place.log c.loop-i.place))
+    subst (λ (l : List (List ℕ)). AreRead l (g.H.Host.log c.args.host.now) (g.H.Host.log c.loop-i.host))
     (take_all c.loop-i.i (map string_bytes c.args.names.now)
     (omega (arith, length-map c.args.names.now string_bytes))) c.loop-i.invariant.read
 
@@ -53,20 +53,20 @@ pub returns-in-Err-clause-reads : goal.returns-in-Err-clause-reads
 returns-in-Err-clause-reads g c =
     let names : List (List ℕ) = map string_bytes c.args.names.now in
     let low : c.loop-i.i < length names = omega (arith, length-map c.args.names.now string_bytes) in
-    subst (λ (l : List (List ℕ)). AreStopped l (Fault c.in-Err.fault) (g.P.Place.log c.args.place.now)
-    (g.P.Place.log c.text_at.new.place))
+    subst (λ (l : List (List ℕ)). AreStopped l (Failed c.in-Err.error) (g.H.Host.log c.args.host.now)
+    (g.H.Host.log c.text_at.new.host))
     (names_whole names c.loop-i.i c.as_str.result.now low (c.as_str.ensures.value
     ∙ name_at string_bytes c.args.names.now c.loop-i.i c.index-names-i.result (omega arith) c.index-names-i.is))
     (stopped_after (take c.loop-i.i names) (c.as_str.result.now ∷ []) (drop (c.loop-i.i + 1) names)
-    (Fault c.in-Err.fault) _ _ _
+    (Failed c.in-Err.error) _ _ _
     c.loop-i.invariant.read c.in-Err.ensures.reads)
 
 pub returns-in_default-clause-reads : goal.returns-in_default-clause-reads
 returns-in_default-clause-reads g c =
     let names : List (List ℕ) = map string_bytes c.args.names.now in
     let low : c.loop-i.i < length names = omega (arith, length-map c.args.names.now string_bytes) in
-    subst (λ (l : List (List ℕ)). AreStopped l (Fault OutOfMemory) (g.P.Place.log c.args.place.now)
-    (g.P.Place.log c.text_at.new.place)) (take-append-drop (c.loop-i.i + 1) names)
+    subst (λ (l : List (List ℕ)). AreStopped l (Failed OutOfMemory) (g.H.Host.log c.args.host.now)
+    (g.H.Host.log c.text_at.new.host)) (take-append-drop (c.loop-i.i + 1) names)
     (stopped_before (take (c.loop-i.i + 1) names) (drop (c.loop-i.i + 1) names) _ _
     (rw (← names_more names c.loop-i.i c.as_str.result.now low (c.as_str.ensures.value
     ∙ name_at string_bytes c.args.names.now c.loop-i.i c.index-names-i.result (omega arith) c.index-names-i.is))
@@ -82,8 +82,8 @@ loop-i-preserved g c =
     ∙ name_at string_bytes c.args.names.now c.loop-i.i c.index-names-i.result (omega arith) c.index-names-i.is) in
     let given = subst (λ (f : List ℕ → Option (List ℕ)). AreBytesOf f c.as_str.result.now c.in-Ok.text.items) h.kept
     c.in-Ok.ensures.given in record {
-      read = subst (λ (l : List (List ℕ)). AreRead l (g.P.Place.log c.args.place.now)
-          (g.P.Place.log c.text_at.new.place)) more (read_then _ _ _ _ _ h.read c.in-Ok.ensures.reads);
+      read = subst (λ (l : List (List ℕ)). AreRead l (g.H.Host.log c.args.host.now)
+          (g.H.Host.log c.text_at.new.host)) more (read_then _ _ _ _ _ h.read c.in-Ok.ensures.reads);
       kept = c.text_at.ensures.kept ∙ h.kept;
       given = rw (
         sym more,

@@ -6,8 +6,8 @@ use Rattle.commands.proofs.merge_command.texts_at.Given as goal
 
 abbrev pub invariant-loop-i : goal.invariant-loop-i
 invariant-loop-i g l = record {
-  read : AreRead (take l.i (map string_bytes l.names)) (g.P.Place.log l.fn.place) (g.P.Place.log l.place);
-  kept : g.P.Place.bytes l.place ≡ g.P.Place.bytes l.fn.place;
-  given : AllZip (AreBytesOf (g.P.Place.bytes l.fn.place)) (take l.i (map string_bytes l.names))
+  read : AreRead (take l.i (map string_bytes l.names)) (g.H.Host.log l.fn.host) (g.H.Host.log l.host);
+  kept : g.H.Host.bytes l.host ≡ g.H.Host.bytes l.fn.host;
+  given : AllZip (AreBytesOf (g.H.Host.bytes l.fn.host)) (take l.i (map string_bytes l.names))
       (map (λ v. v.items) l.texts.items);
 }

@@ -25,7 +25,7 @@ trials_command-requires-after_bounds g c κs within = trials_rows c.in-Trials.tr
 
 pub returns-in-Trials-clause-reads : goal.returns-in-Trials-clause-reads
 returns-in-Trials-clause-reads g c = rw c.in-Trials.is
-    (none_read c.trials_command.result (g.P.Place.log c.args.place.now) c.trials_command.ensures.err)
+    (none_read c.trials_command.result (g.H.Host.log c.args.host.now) c.trials_command.ensures.err)
 
 pub merge_command-requires-clause-some : goal.merge_command-requires-clause-some
 merge_command-requires-clause-some g c κs within = merge_some c.in-Merge.merge c.requires.options.0

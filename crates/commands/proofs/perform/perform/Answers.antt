@@ -15,7 +15,7 @@ returns-in_ok-answer-in-Err-clause-written g c =
     put_written _ (map string_bytes c.args.words.now) _ _ _ _ _ c.in_ok-answer-in-Err.answer c.put.result
     c.in_ok-answer-in-Err.ensures.log (
       c.without_options.result,
-      inr (c.in-Err.fault, c.in-Err.ensures.err, c.without_options.ensures, read_none (g.P.Place.log c.args.place.now)),
+      inr (c.in-Err.stop, c.in-Err.ensures.err, c.without_options.ensures, read_none (g.H.Host.log c.args.host.now)),
       c.in_ok-answer-in-Err.ensures.ok,
     )
     c.put.ensures.written

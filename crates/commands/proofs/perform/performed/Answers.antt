@@ -4,23 +4,23 @@ use Rattle.commands.proofs.perform.performed.Goals as goal
 
 pub returns-in-Some-clause-written : goal.returns-in-Some-clause-written
 returns-in-Some-clause-written g c words are =
-    judged_written (g.P.Place.bytes c.args.place.now) words c.in-Some.judge.now (g.P.Place.log c.args.place.now)
-    (g.P.Place.log c.judge_command.new.place) _ _ c.judge_command.result (rw c.in-Some.ensures.some at are)
+    judged_written (g.H.Host.bytes c.args.host.now) words c.in-Some.judge.now (g.H.Host.log c.args.host.now)
+    (g.H.Host.log c.judge_command.new.host) _ _ c.judge_command.result (rw c.in-Some.ensures.some at are)
     c.judge_command.ensures.written c.judge_command.ensures.reads
 
 pub returns-in-Some-telling_each-clause-written : goal.returns-in-Some-telling_each-clause-written
 returns-in-Some-telling_each-clause-written g c words are =
     let told = c.in-Some-telling_each.ensures.some in
-    told_written (g.P.Place.bytes c.args.place.now) words c.in-Some-telling_each.survey.now
-    (g.P.Place.log c.args.place.now) (g.P.Place.log c.each_command.new.place) (g.W.Sink.written c.args.out.now)
+    told_written (g.H.Host.bytes c.args.host.now) words c.in-Some-telling_each.survey.now
+    (g.H.Host.log c.args.host.now) (g.H.Host.log c.each_command.new.host) (g.W.Sink.written c.args.out.now)
     (g.W.Sink.written c.each_command.new.out) c.each_command.result (rw told.0 at are) told.1
     c.each_command.ensures.whole c.each_command.ensures.reads
 
 pub returns-clause-written : goal.returns-clause-written
 returns-clause-written g c words are =
-    let inputs = g.P.Place.bytes c.args.place.now in
-    let before = g.P.Place.log c.args.place.now in
-    let after = g.P.Place.log c.answer_to-answered.new.place in
+    let inputs = g.H.Host.bytes c.args.host.now in
+    let before = g.H.Host.log c.args.host.now in
+    let after = g.H.Host.log c.answer_to-answered.new.host in
     let answered = c.answer_to-answered.result in
     put_written inputs words before after _ _ _ c.in_ok-answer.answer c.put.result c.in_ok-answer.ensures.log (
       answered,

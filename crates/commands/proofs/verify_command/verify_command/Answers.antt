@@ -1,6 +1,6 @@
 use Rattle.std.proofs.Common.{◌∷◌, []}
 use Rattle.std.specs.Prelude.{string_bytes}
-use Rattle.inputs.specs.declared.command_error.CommandError.TheVariants.{Fault}
+use Rattle.inputs.specs.declared.command_stop.CommandStop.TheVariants.{Failed}
 use Rattle.commands.proofs.Asking.{memory_stopped, read_then, reads_then, stopped_again}
 use Rattle.commands.proofs.verify_command.verify_command.Goals as goal
 
@@ -16,26 +16,26 @@ returns-in_err-text-clause-reads g c =
     (string_bytes c.args.options.now.verdict ∷ []) _ _ _
     (rw c.as_str.ensures.value at c.in_ok-recording.ensures.reads)
     (stopped_again c.from_residual-in_err-text.result (string_bytes c.args.options.now.verdict ∷ []) []
-    (Fault c.in_err-text.field-0.0) _ _ (rw c.as_str-2.ensures.value at c.in_err-text.ensures.reads)
+    (Failed c.in_err-text.field-0.0) _ _ (rw c.as_str-2.ensures.value at c.in_err-text.ensures.reads)
     c.from_residual-in_err-text.ensures.1)
 
 pub returns-clause-reads : goal.returns-clause-reads
 returns-clause-reads g c =
     read_then (string_bytes c.args.options.now.recording ∷ []) (string_bytes c.args.options.now.verdict ∷ [])
-    (g.P.Place.log c.args.place.now) (g.P.Place.log c.recording_at.new.place) (g.P.Place.log c.text_at.new.place)
+    (g.H.Host.log c.args.host.now) (g.H.Host.log c.recording_at.new.host) (g.H.Host.log c.text_at.new.host)
     (rw c.as_str.ensures.value at c.in_ok-recording.ensures.reads)
     (rw c.as_str-2.ensures.value at c.in_ok-text.ensures.reads)
 
-pub returns-in_err-finding-clause-reads : goal.returns-in_err-finding-clause-reads
-returns-in_err-finding-clause-reads g c = memory_stopped c.from_residual-in_err-finding.result _ _ _
+pub returns-in_err-check-clause-reads : goal.returns-in_err-check-clause-reads
+returns-in_err-check-clause-reads g c = memory_stopped c.from_residual-in_err-check.result _ _ _
     (read_then (string_bytes c.args.options.now.recording ∷ []) (string_bytes c.args.options.now.verdict ∷ [])
-    (g.P.Place.log c.args.place.now) (g.P.Place.log c.recording_at.new.place) (g.P.Place.log c.text_at.new.place)
+    (g.H.Host.log c.args.host.now) (g.H.Host.log c.recording_at.new.host) (g.H.Host.log c.text_at.new.host)
     (rw c.as_str.ensures.value at c.in_ok-recording.ensures.reads)
-    (rw c.as_str-2.ensures.value at c.in_ok-text.ensures.reads)) c.from_residual-in_err-finding.ensures.1
+    (rw c.as_str-2.ensures.value at c.in_ok-text.ensures.reads)) c.from_residual-in_err-check.ensures.1
 
-pub returns-in_err-finding_answer-clause-reads : goal.returns-in_err-finding_answer-clause-reads
-returns-in_err-finding_answer-clause-reads g c = memory_stopped c.from_residual-in_err-finding_answer.result _ _ _
+pub returns-in_err-check_answer-clause-reads : goal.returns-in_err-check_answer-clause-reads
+returns-in_err-check_answer-clause-reads g c = memory_stopped c.from_residual-in_err-check_answer.result _ _ _
     (read_then (string_bytes c.args.options.now.recording ∷ []) (string_bytes c.args.options.now.verdict ∷ [])
-    (g.P.Place.log c.args.place.now) (g.P.Place.log c.recording_at.new.place) (g.P.Place.log c.text_at.new.place)
+    (g.H.Host.log c.args.host.now) (g.H.Host.log c.recording_at.new.host) (g.H.Host.log c.text_at.new.host)
     (rw c.as_str.ensures.value at c.in_ok-recording.ensures.reads)
-    (rw c.as_str-2.ensures.value at c.in_ok-text.ensures.reads)) c.from_residual-in_err-finding_answer.ensures.1
+    (rw c.as_str-2.ensures.value at c.in_ok-text.ensures.reads)) c.from_residual-in_err-check_answer.ensures.1

@@ -8,7 +8,7 @@ invariant-filled g l = record {
       IsReadBeforeLine (g.R.Source.left l.fn.source) (g.R.Source.left l.source) l.block.items l.number l.left
       l.counted;
   reads : g.R.Source.read_failures l.source ≡ g.R.Source.read_failures l.fn.source;
-  size : length l.piece ≡ length l.fn.piece;
+  size : length l.chunk ≡ length l.fn.chunk;
 }
 
 abbrev pub decreases-filled : goal.decreases-filled

@@ -7,7 +7,7 @@ invariant-filled g l = record {
   read : IsReadOn (g.R.Source.left l.fn.source) (g.R.Source.left l.source);
   reads : g.R.Source.read_failures l.source ≡ g.R.Source.read_failures l.fn.source;
   empty : l.block.items ≡ [];
-  size : length l.piece ≡ length l.fn.piece;
+  size : length l.chunk ≡ length l.fn.chunk;
 }
 
 abbrev pub decreases-filled : goal.decreases-filled

@@ -1,7 +1,7 @@
 use Rattle.std.proofs.Common.{◌∙◌, arith, List, ℕ, subst, refl, sym}
 use Rattle.surveys.specs.Tallies.{Ends, IsUnderWay}
 use Rattle.surveys.proofs.Blocks.{begun, gone_on, same_size}
-use Rattle.surveys.proofs.Pieces.{all_ended}
+use Rattle.surveys.proofs.Batches.{all_ended}
 use Rattle.surveys.proofs.surveying.count_blocks.Goals as goal
 
 pub filled-init : goal.filled-init

@@ -10,7 +10,7 @@ invariant-filled g l = record {
   reads : g.R.Source.read_failures l.source ≡ g.R.Source.read_failures l.fn.source;
   writes : g.W.Sink.write_failures l.sink ≡ g.W.Sink.write_failures l.fn.sink;
   silent : l.each ≢ true → l.sink ≡ l.fn.sink;
-  size : length l.piece ≡ length l.fn.piece;
+  size : length l.chunk ≡ length l.fn.chunk;
 }
 
 abbrev pub decreases-filled : goal.decreases-filled

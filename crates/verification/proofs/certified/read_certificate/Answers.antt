@@ -11,7 +11,7 @@ use Rattle.verification.proofs.certified.read_certificate.Goals as goal
 
 pub returns-in_default : goal.returns-in_default
 returns-in_default c = (
-  c.fault.ensures,
+  c.failure.ensures,
   λ proof. let x = c.args.places.now in
       let n = length c.args.relation.now in
       let p = cycle_of x n (sym c.requires.size) c.sound.ensures.square.few
@@ -24,7 +24,7 @@ returns-in_default c = (
 
 pub returns-then-not-all : goal.returns-then-not-all
 returns-then-not-all c = (
-  c.fault_of.ensures,
+  c.failure_of.ensures,
   λ proof. let x = c.args.places.now in
       let n = length c.args.relation.now in
       let p = cycle_of x n (sym c.requires.size) c.sound.ensures.square.few

@@ -8,7 +8,7 @@ use Rattle.verification.proofs.ordered.check_order.Goals as goal
 
 pub returns-in_default : goal.returns-in_default
 returns-in_default c = (
-  λ is. absurd (c.fault.ensures is),
+  λ is. absurd (c.failure.ensures is),
   λ proof. let x = c.args.recording.now in
       let m : (m : List ℕ) × IsTsoOrder x m × (c.args.rest.now ≡ numbers_text m ++ 10 ∷ []) =
       order_of x c.args.rest.now proof in
@@ -19,7 +19,7 @@ returns-in_default c = (
 
 pub returns-then-not-is_tso_order : goal.returns-then-not-is_tso_order
 returns-then-not-is_tso_order c = (
-  λ is. absurd (c.fault-then-not-is_tso_order.ensures is),
+  λ is. absurd (c.failure-then-not-is_tso_order.ensures is),
   λ proof. let x = c.args.recording.now in
       let m : (m : List ℕ) × IsTsoOrder x m × (c.args.rest.now ≡ numbers_text m ++ 10 ∷ []) =
       order_of x c.args.rest.now proof in

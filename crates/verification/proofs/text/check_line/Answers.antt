@@ -1,6 +1,6 @@
 use Rattle.std.proofs.Common.{◌≡◌, ◌↔◌, List, ℕ, refl, sym, subst, ◌∙◌}
 use Rattle.std.proofs.lemmas.Bool.{false≢true}
-use Rattle.verification.specs.declared.finding.Finding.TheVariants.{Holds}
+use Rattle.verification.specs.declared.text_check.TextCheck.TheVariants.{Holds}
 use Rattle.verification.specs.Proof.{IsProof}
 use Rattle.verification.proofs.Heads.{begins}
 use Rattle.verification.proofs.text.check_line.Goals as goal
@@ -12,7 +12,7 @@ returns-then-take-2 c =
 
 pub returns : goal.returns
 returns c = (
-  λ is. absurd (c.fault.ensures is),
+  λ is. absurd (c.failure.ensures is),
   λ proof. absurd (begins c.args.recording.now c.args.rest.now proof.verdict proof.printed
       (λ more starts. false≢true (c.if-take.ensures.only more starts).0)
       (λ more starts. false≢true (c.if-take-2.ensures.only more (c.if-take.ensures.kept refl ∙ starts)).0)

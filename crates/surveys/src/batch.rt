@@ -1,4 +1,4 @@
-//! Pieces of a block.
+//! Batches of a block.
 
 ghost use Rattle.std.specs.Prelude.{◌≡◌, IfOk};
 ghost use Rattle.surveys.specs.Coded.{AreLineCodes};
@@ -10,13 +10,13 @@ use std::marker::Model;
 
 /// Lines, and the codes of what is found in them where they are judged. Contracts see the bytes.
 #[derive(Drop)]
-pub(crate) struct Piece {
+pub(crate) struct Batch {
     bytes: Vec<u8>,
     first: usize,
     codes: Option<Vec<u64>>,
 }
 
-impl Model for Piece {
+impl Model for Batch {
     ghost use Rattle.std.specs.Prelude.{ℕ, List, IfSome};
     ghost use Rattle.surveys.specs.Coded.{AreLineCodes};
 
@@ -27,12 +27,12 @@ impl Model for Piece {
     ghost invariant = { λ p. IfSome p.codes (λ codes. AreLineCodes p.bytes.items codes.items) };
 }
 
-impl Piece {
+impl Batch {
     /// Lines that are not judged, the first of which has this number.
-    pub(crate) fn new(bytes: Vec<u8>, first: usize) -> Piece
+    pub(crate) fn new(bytes: Vec<u8>, first: usize) -> Batch
         ensures { result ≡ bytes.items }
     {
-        Piece {
+        Batch {
             bytes,
             first,
             codes: None,
@@ -46,7 +46,7 @@ impl Piece {
         &self.bytes
     }
 
-    /// Judges the lines, of which the gate is told, unless memory runs out.
+    /// Judges the lines, of which the gate hears, unless memory runs out.
     pub(crate) fn judge<G: Gate>(&mut self, alloc: Global, gate: &G, worker: usize)
         ensures { self.new ≡ self.old }
     {
@@ -60,7 +60,7 @@ impl Piece {
     pub(crate) fn into_codes(self, alloc: Global) -> Result<Vec<u64>, OutOfMemory>
         ensures { IfOk result (λ codes. AreLineCodes self codes.items) }
     {
-        let Piece {
+        let Batch {
             bytes,
             first: _,
             codes,

@@ -3,13 +3,13 @@ use Rattle.std.proofs.lemmas.Bool.Decides.{Decides-eqb}
 use Rattle.std.proofs.lemmas.Slice.Eq.{starts_is}
 use Rattle.ledger.specs.Counts.{IsLedger}
 use Rattle.surveys.specs.Lines.{IsWhole}
-use Rattle.surveys.proofs.Pieces.{piece_joins, piece_tallied, whole_all}
-use Rattle.surveys.proofs.offered.count_piece.Goals as goal
+use Rattle.surveys.proofs.Batches.{batch_joins, batch_tallied, whole_all}
+use Rattle.surveys.proofs.offered.count_batch.Goals as goal
 
 pub add-requires : goal.add-requires
 add-requires c =
     let r = c.requires in
-    piece_joins c.args.ledger.now c.in_ok-more.more c.args.counted c.args.piece c.in_ok-codes.codes.items
+    batch_joins c.args.ledger.now c.in_ok-more.more c.args.counted c.args.batch c.in_ok-codes.codes.items
     c.in_ok-codes.ensures (subst (λ (cs : List ℕ). IsLedger cs c.in_ok-more.more) c.deref.ensures.value
     c.in_ok-more.ensures) r.0 r.1 r.2 r.3
     (omega (arith, c.in-Some.ensures, ap (λ (b : List ℕ). length b) c.bytes-length.ensures))
@@ -17,16 +17,16 @@ add-requires c =
 pub returns-clause-ok : goal.returns-clause-ok
 returns-clause-ok c = λ w.
     let bytes : List ℕ = c.args.bytes.now in
-    let piece : List ℕ = c.args.piece in
+    let batch : List ℕ = c.args.batch in
     let size = ap (λ (b : List ℕ). length b) c.bytes-length.ensures in
-    let begins : bytes ≡ piece ++ drop (length piece) bytes =
+    let begins : bytes ≡ batch ++ drop (length batch) bytes =
     subst (λ (b : List ℕ). bytes ≡ b ++ drop (length b) bytes) c.bytes.ensures
     ((starts_is Decides-eqb bytes c.bytes.result.now true c.if-not-starts_with.ensures.value).0 refl) in
-    let whole : IsWhole piece =
-    whole_all c.last_end.result c.bytes-else-not-starts_with.result.now piece c.bytes-else-not-starts_with.ensures
+    let whole : IsWhole batch =
+    whole_all c.last_end.result c.bytes-else-not-starts_with.result.now batch c.bytes-else-not-starts_with.ensures
     (omega (arith, c.if-last_end-length.false, size)) c.last_end.ensures.whole in
-    piece_tallied c.args.ledger.now c.in_ok-more.more c.args.counted piece c.in_ok-codes.codes.items
+    batch_tallied c.args.ledger.now c.in_ok-more.more c.args.counted batch c.in_ok-codes.codes.items
     c.in_ok-codes.ensures (subst (λ (cs : List ℕ). IsLedger cs c.in_ok-more.more) c.deref.ensures.value
     c.in_ok-more.ensures) c.add.new.self c.in-Some.total bytes (drop (length c.bytes-length.result.now) bytes) w
-    (begins ∙ ap (λ (n : ℕ). piece ++ drop n bytes) (sym size)) whole (omega (arith, c.in-Some.ensures, size))
+    (begins ∙ ap (λ (n : ℕ). batch ++ drop n bytes) (sym size)) whole (omega (arith, c.in-Some.ensures, size))
     c.add.ensures

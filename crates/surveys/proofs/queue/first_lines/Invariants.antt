@@ -1,5 +1,5 @@
 use Rattle.std.proofs.Common.{◌<◌, length}
-use Rattle.surveys.proofs.desk.first_lines.Given as goal
+use Rattle.surveys.proofs.queue.first_lines.Given as goal
 
 abbrev pub invariant-lines : goal.invariant-lines
 invariant-lines l = length l.rest < length l.bytes

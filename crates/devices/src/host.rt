@@ -5,14 +5,14 @@ use common::Gate;
 
 /// Why an input was not given.
 #[derive(Clone, Copy, Debug, PartialEq, Eq)]
-pub enum InputFault {
+pub enum InputError {
     /// There is no input of this name, or it can't be opened.
     CannotOpen,
     /// There is no memory for it.
     OutOfMemory,
 }
 
-/// What became of the inputs that a place gave.
+/// Counts of the inputs that a host gave.
 #[derive(Clone, Copy, Debug, Drop, PartialEq, Eq)]
 pub struct Tally {
     /// How many were given and not yet taken back.
@@ -23,34 +23,34 @@ pub struct Tally {
     pub unended: u64,
 }
 
-/// Gives inputs by name and takes them back; is told how far work is, and which line of an input is refused.
-pub trait Place {
+/// Gives inputs by name and takes them back; shows how far work is, and which line of an input is refused.
+pub trait Host {
     ghost use Rattle.std.specs.Prelude.{◌≡◌, ◌∷◌, [], ℕ, List, Option, None, IfErr, IfOk, false};
     ghost use Rattle.std.specs.Io.KnownBytes.{Keeps};
     ghost use Rattle.devices.specs.Bytes.{CanGrow};
-    ghost use Rattle.devices.specs.Places.{CanTake, Notes, PlaceLog, lent_more, taken_back};
+    ghost use Rattle.devices.specs.Host.{CanTake, Notes, HostLog, lent_more, taken_back};
 
     /// An opened input, which is read from its first byte to its last.
     type Input: Source + Drop;
 
-    /// What is told of pieces of work.
+    /// The gate that hears of pieces of work.
     type Progress: Gate + Drop;
 
     /// The bytes that the input of each name gives, where they are known.
     ghost bytes: { Self → List ℕ → Option (List ℕ) } = { λ _ _. None };
 
-    /// The names that inputs were asked for by, where they are told, and what became of the inputs that were given.
-    ghost log: { Self → PlaceLog };
+    /// The names that inputs were asked for by, where they are known, and counts of the inputs that were given.
+    ghost log: { Self → HostLog };
 
     /// The input of a name, opened, of which nothing is read.
-    fn input(&mut self, name: &str) -> Result<Self::Input, InputFault>
+    fn input(&mut self, name: &str) -> Result<Self::Input, InputError>
         requires { CanGrow (log self.old).tally.lent }
         ensures given { IfOk result (λ input. Keeps (bytes self.old name.now) (Self.Input.left input)) }
         ensures unread { IfOk result (λ input. Self.Input.is_ended input ≡ false) }
         ensures unfailed { IfOk result (λ input. Self.Input.read_failures input ≡ 0) }
         ensures lent { IfOk result (λ _. (log self.new).tally ≡ lent_more (log self.old).tally) }
         // What is known can be opened, unless out of memory.
-        ensures fault { IfErr result (λ fault. fault ≡ InputFault.CannotOpen
+        ensures error { IfErr result (λ error. error ≡ InputError.CannotOpen
             → bytes self.old name.now ≡ None) }
         ensures unlent { IfErr result (λ _. (log self.new).tally ≡ (log self.old).tally) }
         ensures asked { Notes (log self.old).asked (log self.new).asked (name.now ∷ []) }
@@ -65,8 +65,8 @@ pub trait Place {
         ensures asked { (log self.new).asked ≡ (log self.old).asked }
         ensures kept { bytes self.new ≡ bytes self.old };
 
-    /// What is told of this many trials while they last, or of recordings whose number is not known; where it is to be
-    /// quiet, it shows nothing.
+    /// A gate that shows the progress of this many trials, or of recordings whose number is not known. A quiet one shows
+    /// nothing.
     fn progress(&self, trials: Option<usize>, is_quiet: bool) -> Self::Progress;
 
     /// Takes the line of an input that is refused, as a person is shown it.

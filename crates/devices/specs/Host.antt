@@ -1,6 +1,6 @@
--- What a place gives, and what became of it.
+-- The inputs that a host gives, counted.
 use Rattle.std.specs.Prelude.{◌≡◌, ◌<◌, ◌+◌, ◌-◌, ◌^◌, ◌++◌, ℕ, List, Option, Some, None, Bool, true, false, ⊤}
-use Rattle.devices.specs.declared.place.Tally.{Tally}
+use Rattle.devices.specs.declared.host.Tally.{Tally}
 
 -- an input more is lent
 abbrev pub lent_more : Tally → Tally
@@ -19,8 +19,8 @@ taken_back t ended failures = record {
   unended = t.unended + unended_by ended;
 }
 
--- the names that a place was asked for, from the first on, where it tells them, and its tally
-pub record PlaceLog : Type 0 where
+-- the names that a host was asked for, from the first on, where they are known, and its tally
+pub record HostLog : Type 0 where
   pub asked : Option (List (List ℕ))
   pub tally : Tally
 
@@ -30,8 +30,8 @@ pub record CanTake (t : Tally) (failures : ℕ) : Type 0 where
   pub failed : t.failed + failures < 2 ^ 64
   pub unended : t.unended + 1 < 2 ^ 64
 
--- where names are told, these are told after the others
+-- where names are known, these come after the others
 abbrev pub Notes : Option (List (List ℕ)) → Option (List (List ℕ)) → List (List ℕ) → Type 0
 Notes None new names = ⊤
-Notes (Some told) None names = ⊥
-Notes (Some told) (Some new) names = new ≡ told ++ names
+Notes (Some asked) None names = ⊥
+Notes (Some asked) (Some new) names = new ≡ asked ++ names

@@ -1,4 +1,4 @@
--- Pieces that are tallied one after another.
+-- Batches that are tallied one after another.
 use Rattle.std.proofs.Common.{◌≡◌, ◌≤◌, ◌+◌, ◌++◌, ◌<◌, ◌^◌, [], ℕ, List, Bool, Option, false, arith, ap, refl, sym, subst}
 use Rattle.std.proofs.Common.{◌∙◌, append_assoc, append-nil, drop, length, length-append, take, take-append-drop}
 use Rattle.std.proofs.KnownBytes.{Appends-nil, Consumes-nil}
@@ -15,34 +15,34 @@ use Rattle.surveys.proofs.Blocks.{all_read}
 use Rattle.surveys.proofs.Found.{part_joined, part_joins}
 use Rattle.surveys.proofs.Tallied.{grown, up_to_front}
 
-module _ (l m : Ledger) (n : ℕ) (piece codes : List ℕ) (coded : AreLineCodes piece codes) (counted : IsLedger codes m) where
-  -- the codes of a piece can be counted
-  pub piece_joins : (front : List ℕ) (start now : Option (List ℕ)) → IsTally false front l n start now
-      → n + length piece < 2 ^ 64 → CanJoin l m
-  piece_joins front start now tally few =
-      part_joins (front ++ piece) piece [] (lines piece) coded.findings l false start now
-      (up_to_front false front piece l n start now tally) (sym (append-nil (lines piece))) coded.found m
+module _ (l m : Ledger) (n : ℕ) (batch codes : List ℕ) (coded : AreLineCodes batch codes) (counted : IsLedger codes m) where
+  -- the codes of a batch can be counted
+  pub batch_joins : (front : List ℕ) (start now : Option (List ℕ)) → IsTally false front l n start now
+      → n + length batch < 2 ^ 64 → CanJoin l m
+  batch_joins front start now tally few =
+      part_joins (front ++ batch) batch [] (lines batch) coded.findings l false start now
+      (up_to_front false front batch l n start now tally) (sym (append-nil (lines batch))) coded.found m
       (subst (λ (cs : List ℕ). IsLedger cs m) coded.are counted)
-      (omega (arith, tally.size, length-append front piece, few))
+      (omega (arith, tally.size, length-append front batch, few))
 
   -- and are then tallied
-  pub piece_tallied : (both : Ledger) (k : ℕ) (bytes rest : List ℕ) (w : Option (List ℕ)) → bytes ≡ piece ++ rest
-      → IsWhole piece → k ≡ n + length piece → IsJoined l m both → IsTallied false bytes rest l n w both k w
-  piece_tallied both k bytes rest w cut whole size join =
-      let on : ExtendsSurvey piece [] false l w both w = λ all start so_far.
-      part_joined all piece [] (lines piece) coded.findings l false start w so_far (sym (append-nil (lines piece)))
+  pub batch_tallied : (both : Ledger) (k : ℕ) (bytes rest : List ℕ) (w : Option (List ℕ)) → bytes ≡ batch ++ rest
+      → IsWhole batch → k ≡ n + length batch → IsJoined l m both → IsTallied false bytes rest l n w both k w
+  batch_tallied both k bytes rest w cut whole size join =
+      let on : ExtendsSurvey batch [] false l w both w = λ all start so_far.
+      part_joined all batch [] (lines batch) coded.findings l false start w so_far (sym (append-nil (lines batch)))
       coded.found m both w (subst (λ (cs : List ℕ). IsLedger cs m) coded.are counted) join (Appends-nil w) in
       record {
-        more = piece;
+        more = batch;
         cut = cut;
-        grows = λ front start tally. grown false front piece l both n k start w w tally on size whole;
+        grows = λ front start tally. grown false front batch l both n k start w w tally on size whole;
       }
 
 -- what is whole to its end
-pub whole_all : (end : ℕ) (bytes piece : List ℕ) → bytes ≡ piece → end ≡ length piece → IsWhole (take end bytes)
-    → IsWhole piece
-whole_all end bytes piece same size whole = subst (λ (b : List ℕ). IsWhole b)
-    (ap (λ (b : List ℕ). take end b) same ∙ take_all end piece (omega (arith, size))) whole
+pub whole_all : (end : ℕ) (bytes batch : List ℕ) → bytes ≡ batch → end ≡ length batch → IsWhole (take end bytes)
+    → IsWhole batch
+whole_all end bytes batch same size whole = subst (λ (b : List ℕ). IsWhole b)
+    (ap (λ (b : List ℕ). take end b) same ∙ take_all end batch (omega (arith, size))) whole
 
 -- what comes after two parts
 pub dropped : (from n : ℕ) (bytes : List ℕ) → from ≤ length bytes → drop (from + n) bytes ≡ drop n (drop from bytes)
@@ -54,7 +54,7 @@ dropped from n bytes within =
     (subst (λ (b : List ℕ). drop (length front + n) b ≡ drop n rest) (take-append-drop from bytes)
     (drop-append-add front rest n))
 
--- no piece is tallied
+-- no batch is tallied
 pub none_tallied : (each : Bool) (bytes : List ℕ) (l : Ledger) (n : ℕ) (w : Option (List ℕ))
     → IsTallied each bytes bytes l n w l n w
 none_tallied each bytes l n w = record {

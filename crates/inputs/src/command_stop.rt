@@ -1,0 +1,71 @@
+//! Why a command stops before its answer.
+ghost use Rattle.inputs.specs.Refusal.{IsLineStop};
+
+use crate::command_error::CommandError;
+use common::OutOfMemory;
+use std::alloc::{AllocError, Global};
+
+/// What is printed of a text, a number or a name that is refused.
+#[derive(Debug, Drop)]
+pub struct PrintedRefusal {
+    /// The line that is printed.
+    pub line: String,
+    /// The line of the input that is at fault, between quotation marks, where it is one line.
+    pub quote: Option<String>,
+}
+
+/// Why a command stops before its usual answer.
+#[derive(Debug, Drop)]
+pub enum CommandStop {
+    /// A text, a number or a name is refused.
+    Refused(PrintedRefusal),
+    /// The command failed: the program ends with status 1.
+    Failed(CommandError),
+}
+
+impl CommandStop {
+    /// The refusal that prints this line, or that memory ran out.
+    pub fn of_line(alloc: Global, line: &str) -> CommandStop
+        ensures { IsLineStop line.now result }
+    {
+        match String::from_str(alloc, line) {
+            Ok(line) => CommandStop::Refused(PrintedRefusal { line, quote: None }),
+            Err(_) => CommandStop::Failed(CommandError::OutOfMemory),
+        }
+    }
+}
+
+impl From<CommandError> for CommandStop {
+    ghost use Rattle.std.specs.Prelude.{◌≡◌};
+    ghost use Rattle.inputs.specs.declared.command_stop.CommandStop.TheVariants.{Failed};
+
+    ghost from_gives = { λ error stop. stop ≡ Failed error };
+
+    fn from(error: CommandError) -> CommandStop {
+        CommandStop::Failed(error)
+    }
+}
+
+impl From<OutOfMemory> for CommandStop {
+    ghost use Rattle.std.specs.Prelude.{◌≡◌};
+    ghost use Rattle.inputs.specs.declared.command_stop.CommandStop.TheVariants.{Failed};
+    ghost use Rattle.inputs.specs.declared.command_error.CommandError.TheVariants.{OutOfMemory};
+
+    ghost from_gives = { λ _ stop. stop ≡ Failed OutOfMemory };
+
+    fn from(_refused: OutOfMemory) -> CommandStop {
+        CommandStop::Failed(CommandError::OutOfMemory)
+    }
+}
+
+impl From<AllocError> for CommandStop {
+    ghost use Rattle.std.specs.Prelude.{◌≡◌};
+    ghost use Rattle.inputs.specs.declared.command_stop.CommandStop.TheVariants.{Failed};
+    ghost use Rattle.inputs.specs.declared.command_error.CommandError.TheVariants.{OutOfMemory};
+
+    ghost from_gives = { λ _ stop. stop ≡ Failed OutOfMemory };
+
+    fn from(_refused: AllocError) -> CommandStop {
+        CommandStop::Failed(CommandError::OutOfMemory)
+    }
+}

@@ -1,0 +1,326 @@
+//! A queue, on which batches of a block wait for workers, and from which they are collected in order.
+
+ghost use Rattle.std.specs.Prelude.{◌≤◌, ◌<◌, length};
+
+use crate::batch::Batch;
+use crate::lines::split_line;
+use common::{Gate, OutOfMemory};
+use std::alloc::Global;
+use std::mem::replace;
+use std::sync::{Condvar, Mutex, Wait};
+
+/// How many batches lie on a queue at most.
+const SLOTS: usize = 512;
+
+/// How many bytes a batch has at least, but for the last one of a block.
+const BATCH: usize = 16_384;
+
+/// What lies at a slot.
+#[derive(Drop)]
+enum Slot {
+    /// Nothing.
+    Free,
+    /// A batch that no worker has taken.
+    Waiting(Batch),
+    /// Nothing, since a worker has taken the batch.
+    Taken,
+    /// A batch that its worker has put back.
+    Judged(Batch),
+}
+
+impl Slot {
+    /// Whether a worker has its batch.
+    fn is_taken(&self) -> bool {
+        matches!(self, Slot::Taken)
+    }
+
+    /// Whether it has a batch that no worker has taken.
+    fn is_waiting(&self) -> bool {
+        matches!(self, Slot::Waiting(_))
+    }
+
+    /// Puts a batch here; false where the slot is not free.
+    fn put(&mut self, batch: Batch) -> bool {
+        if !matches!(self, Slot::Free) {
+            return false;
+        }
+        *self = Slot::Waiting(batch);
+        true
+    }
+
+    /// Takes a batch that waits.
+    fn take(&mut self) -> Option<Batch> {
+        match replace(self, Slot::Taken) {
+            Slot::Waiting(batch) => Some(batch),
+            other => {
+                *self = other;
+                None
+            }
+        }
+    }
+
+    /// Takes a judged batch away.
+    fn collect(&mut self) -> Option<Batch> {
+        match replace(self, Slot::Free) {
+            Slot::Judged(batch) => Some(batch),
+            other => {
+                *self = other;
+                None
+            }
+        }
+    }
+}
+
+/// The slots of a queue, which are used in turn.
+#[derive(Drop)]
+struct Slots {
+    slots: Vec<Slot>,
+    /// Where the next batch is put.
+    next_put: usize,
+    /// Where the next batch is taken.
+    next_taken: usize,
+    /// Where the oldest batch lies.
+    oldest: usize,
+    /// How many bytes the batches have that were put and not collected.
+    bytes: usize,
+    /// How many recordings were put.
+    recordings: usize,
+    is_closed: bool,
+}
+
+impl Slots {
+    /// The slot after this one.
+    fn after(&self, slot: usize) -> usize {
+        let next = slot.wrapping_add(1);
+        if next < self.slots.len() { next } else { 0 }
+    }
+
+    /// Whether a batch waits for a worker.
+    fn has_waiting(&self) -> bool {
+        match self.slots.get(self.next_taken) {
+            Some(slot) => slot.is_waiting(),
+            None => false,
+        }
+    }
+
+    /// Whether more than this many bytes lie here, a worker has the oldest batch, and no other one waits.
+    fn is_behind(&self, kept: usize) -> bool {
+        if self.bytes <= kept || self.has_waiting() {
+            return false;
+        }
+        match self.slots.get(self.oldest) {
+            Some(slot) => slot.is_taken(),
+            None => false,
+        }
+    }
+
+    /// Puts a batch with this many recordings; false where all slots are used.
+    fn put(&mut self, bytes: Vec<u8>, recordings: usize) -> bool {
+        let at = self.next_put;
+        let length = bytes.len();
+        let batch = Batch::new(bytes, self.recordings);
+        let is_put = match self.slots.get_mut(at) {
+            Some(slot) => slot.put(batch),
+            None => false,
+        };
+        if is_put {
+            self.next_put = self.after(at);
+            self.bytes = self.bytes.wrapping_add(length);
+            self.recordings = self.recordings.wrapping_add(recordings);
+        }
+        is_put
+    }
+
+    /// Takes the next batch that waits, and says where it lay; none after the end.
+    fn take(&mut self) -> Option<(usize, Batch)> {
+        if self.is_closed {
+            return None;
+        }
+        let at = self.next_taken;
+        let batch = self.slots.get_mut(at)?.take()?;
+        self.next_taken = self.after(at);
+        Some((at, batch))
+    }
+
+    /// Puts a judged batch back to where it lay.
+    fn put_back(&mut self, at: usize, batch: Batch) {
+        if let Some(slot) = self.slots.get_mut(at) {
+            *slot = Slot::Judged(batch);
+        }
+    }
+
+    /// Takes the oldest batch away if it is judged.
+    fn collect(&mut self) -> Option<Batch> {
+        let at = self.oldest;
+        let batch = self.slots.get_mut(at)?.collect()?;
+        self.oldest = self.after(at);
+        self.bytes = self.bytes.wrapping_sub(batch.bytes().len());
+        Some(batch)
+    }
+
+    /// What the thread that collects does next, which leaves at most this many bytes here.
+    fn turn(&mut self, kept: usize) -> Turn {
+        if self.bytes <= kept {
+            return Turn::Over;
+        }
+        if let Some(batch) = self.collect() {
+            return Turn::Collected(batch);
+        }
+        match self.take() {
+            Some((at, batch)) => Turn::Judge(at, batch),
+            None => Turn::Over,
+        }
+    }
+}
+
+/// What the thread that collects does next.
+#[derive(Drop)]
+enum Turn {
+    /// Nothing more.
+    Over,
+    /// It has the oldest batch.
+    Collected(Batch),
+    /// It judges the batch that lay at this slot.
+    Judge(usize, Batch),
+}
+
+/// How many bytes the first lines have that make a batch, and how many of those lines are not empty.
+fn first_lines(bytes: &[u8]) -> (usize, usize)
+    requires { 0 < length bytes.now }
+    ensures some { 0 < result.0 }
+    ensures within { result.0 ≤ length bytes.now }
+{
+    let (line, mut rest) = split_line(bytes);
+    let mut recordings = usize::from(!line.is_empty());
+    'lines: while !rest.is_empty() && bytes.len() - rest.len() < BATCH {
+        let (line, more) = split_line(rest);
+        recordings = recordings.wrapping_add(usize::from(!line.is_empty()));
+        rest = more;
+    }
+    (bytes.len() - rest.len(), recordings)
+}
+
+/// A queue. One thread puts batches and collects them; it judges those that wait as worker 0 where it would have to
+/// wait itself. No clause says who judges a batch, or that it comes back as it was: what is collected is compared.
+#[derive(Drop)]
+pub(crate) struct WorkQueue {
+    slots: Mutex<Slots>,
+    was_put: Condvar,
+    was_judged: Condvar,
+}
+
+impl WorkQueue {
+    /// A queue with all its slots free, after which it needs no memory. Fails only if out of memory.
+    pub(crate) fn new(alloc: Global) -> Result<WorkQueue, OutOfMemory> {
+        let mut slots = Vec::with_capacity(alloc, SLOTS)?;
+        for _ in 0..SLOTS {
+            slots.push(Slot::Free)?;
+        }
+        Ok(WorkQueue {
+            slots: Mutex::new(Slots {
+                slots,
+                next_put: 0,
+                next_taken: 0,
+                oldest: 0,
+                bytes: 0,
+                recordings: 0,
+                is_closed: false,
+            }),
+            was_put: Condvar::new(),
+            was_judged: Condvar::new(),
+        })
+    }
+
+    /// Puts a batch with this many recordings; false where all slots are used or memory runs out.
+    fn put<R: Wait>(&self, rt: &R, alloc: Global, bytes: &[u8], recordings: usize) -> bool {
+        let mut copy = Vec::new(alloc);
+        let Ok(()) = copy.extend_from_slice(bytes) else {
+            return false;
+        };
+        let is_put = self.slots.lock(rt).put(copy, recordings);
+        self.was_put.notify_one();
+        is_put
+    }
+
+    /// Puts these lines, of which those that lie here are the first; false where all slots are used or memory runs
+    /// out before.
+    pub(crate) fn offer<R: Wait>(&self, rt: &R, alloc: Global, lines: &[u8]) -> bool {
+        let from = self.slots.lock(rt).bytes.min(lines.len());
+        let mut rest = &lines[from..];
+        'batches: while !rest.is_empty() {
+            let (end, recordings) = first_lines(rest);
+            if !self.put(rt, alloc, &rest[..end], recordings) {
+                return false;
+            }
+            rest = &rest[end..];
+        }
+        true
+    }
+
+    /// Judges a batch, and puts it back to where it lay.
+    fn judge<R: Wait, G: Gate>(
+        &self,
+        rt: &R,
+        alloc: Global,
+        at: usize,
+        mut batch: Batch,
+        gate: &G,
+        worker: usize,
+    ) {
+        batch.judge(alloc, gate, worker);
+        self.slots.lock(rt).put_back(at, batch);
+        self.was_judged.notify_one();
+    }
+
+    /// The next batch that waits, and where it lay; none where the queue is closed.
+    fn take<R: Wait>(&self, rt: &R) -> Option<(usize, Batch)> {
+        let held = self.slots.lock(rt);
+        let mut held = self.was_put.wait_while(rt, held, |slots| {
+            !slots.is_closed && !slots.has_waiting()
+        });
+        held.take()
+    }
+
+    /// Judges batches until the queue is closed.
+    pub(crate) fn work<R: Wait, G: Gate>(&self, rt: &R, alloc: Global, gate: &G, worker: usize) {
+        for _ in rt.forever() {
+            let Some((at, batch)) = self.take(rt) else {
+                break;
+            };
+            self.judge(rt, alloc, at, batch, gate, worker);
+        }
+    }
+
+    /// What the thread that collects does next. It waits only for a batch that a worker has.
+    fn turn<R: Wait>(&self, rt: &R, kept: usize) -> Turn {
+        let held = self.slots.lock(rt);
+        let mut held = self
+            .was_judged
+            .wait_while(rt, held, |slots| slots.is_behind(kept));
+        held.turn(kept)
+    }
+
+    /// The oldest batch, judged; none where no more than this many bytes lie here.
+    pub(crate) fn collect<R: Wait, G: Gate>(
+        &self,
+        rt: &R,
+        alloc: Global,
+        kept: usize,
+        gate: &G,
+    ) -> Option<Batch> {
+        for _ in rt.forever() {
+            match self.turn(rt, kept) {
+                Turn::Over => return None,
+                Turn::Collected(batch) => return Some(batch),
+                Turn::Judge(at, batch) => self.judge(rt, alloc, at, batch, gate, 0),
+            }
+        }
+        unreachable!()
+    }
+
+    /// Ends the work of all workers.
+    pub(crate) fn close<R: Wait>(&self, rt: &R) {
+        self.slots.lock(rt).is_closed = true;
+        self.was_put.notify_all();
+    }
+}

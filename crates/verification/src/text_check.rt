@@ -1,0 +1,12 @@
+//! Whether a text is that of a verdict that holds.
+
+/// Whether a text is that of a verdict that holds of a recording.
+#[derive(Clone, Copy, Debug, PartialEq, Eq)]
+pub enum TextCheck {
+    /// It is.
+    Holds,
+    /// It is not: this line, counted from 1, is the first with which no such text goes on.
+    FailsAt(usize),
+    /// It is not: each line may stand in such a text, and more lines are due.
+    EndsEarly,
+}
