@@ -112,8 +112,8 @@ IsErrorFor inputs o a b error = IsPerformed inputs o a b (Err (Failed error))
 abbrev pub IsErrorOf : (List ℕ → Option (List ℕ)) → List Text → HostLog → HostLog → CommandError → Type 0
 IsErrorOf inputs words a b error =
     ((o : Options) × AreOptions o (command_of words) × IsErrorFor inputs o a b error)
-    ⊎ ((stop : OptionStop) × IsOptionStop stop words × (IsWithoutOptions stop (Err (Failed error)) ⊎ (error ≡ WriteFailed))
-    × AreRead [] a b)
+    ⊎ ((stop : OptionStop) × IsOptionStop stop words
+    × (IsWithoutOptions stop (Err (Failed error)) ⊎ (error ≡ WriteFailed)) × AreRead [] a b)
 
 -- the tally after a command: without an error each input was read to its end and taken back
 abbrev pub Tallies : {X : Type 0} → Tally → Tally → Result X CommandError → Type 0

@@ -88,7 +88,8 @@ fn answer_to<R: Threads + Wait + Sync, H: Host>(
     }
 }
 
-/// What the command answers or why it stops, as what is printed; the host is shown the line of an input that is refused.
+/// What the command answers or why it stops, as what is printed. The host is shown the line of an input that is
+/// refused.
 fn shown<H: Host>(
     host: &mut H,
     answered: Result<Answer, CommandStop>,

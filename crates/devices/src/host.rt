@@ -65,8 +65,8 @@ pub trait Host {
         ensures asked { (log self.new).asked ≡ (log self.old).asked }
         ensures kept { bytes self.new ≡ bytes self.old };
 
-    /// A gate that shows the progress of this many trials, or of recordings whose number is not known. A quiet one shows
-    /// nothing.
+    /// A gate that shows the progress of this many trials, or of recordings whose number is not known. A quiet one
+    /// shows nothing.
     fn progress(&self, trials: Option<usize>, is_quiet: bool) -> Self::Progress;
 
     /// Takes the line of an input that is refused, as a person is shown it.

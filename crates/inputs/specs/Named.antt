@@ -33,7 +33,8 @@ IsProgramStop inputs name (Failed error) = IsInputError inputs name error
 -- the named input is no recording, or isn't read
 abbrev pub IsRecordingStop : (List ℕ → Option (List ℕ)) → List ℕ → CommandStop → Type 0
 IsRecordingStop inputs name (Refused refusal) = (bytes : List ℕ) × AreBytesOf inputs name bytes
-    × (refused : RecError) × IsReadingResult bytes (Err refused) × (recording_line refused ≡ Some (string_bytes refusal.line))
+    × (refused : RecError) × IsReadingResult bytes (Err refused)
+    × (recording_line refused ≡ Some (string_bytes refusal.line))
 IsRecordingStop inputs name (Failed error) = IsInputError inputs name error
 
 -- the input of this name is a program, of which this holds

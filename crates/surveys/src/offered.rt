@@ -43,8 +43,8 @@ fn count_batch(
     Ok((total, length))
 }
 
-/// Adds the lines of the batches with which these bytes begin, in order, until at most this many bytes lie on the queue;
-/// answers the number of bytes with those, and how many those are.
+/// Adds the lines of the batches with which these bytes begin, in order, until at most this many bytes lie on the
+/// queue; answers the number of bytes with those, and how many those are.
 fn count_batches<R: Wait, G: Gate>(
     rt: &R,
     alloc: Global,

@@ -147,8 +147,8 @@ fn count_blocks<T: Threads + Wait + Sync, R: Source, W: Sink, G: Gate>(
     Ok(())
 }
 
-/// Counts the lines of a source by this many workers. Where none is reported, each but the calling thread has a thread of its own that lasts as
-/// long.
+/// Counts the lines of a source by this many workers. Where none is reported, each but the calling thread has a thread
+/// of its own that lasts as long.
 fn count_by_workers<T: Threads + Wait + Sync, R: Source, W: Sink, G: Gate>(
     rt: &T,
     alloc: Global,
@@ -214,13 +214,13 @@ fn count_by_workers<T: Threads + Wait + Sync, R: Source, W: Sink, G: Gate>(
 }
 
 /// Reads the lines of a source to its end, a recording each, judges them by this many workers, at most `MAX_WORKERS`,
-/// and counts them in order; where each is reported, its line is written to the sink. The calling thread is a worker, and
-/// reads; each other worker has a thread of its own where one can be made, for as long as the survey lasts, or, where
-/// each is reported, for a block. The gate hears that a worker begins a recording, that it is a violation, and that the
-/// worker is done, by the numbers of the recordings, from 0. `ReadFailed` exactly where a read failed, and
-/// `WriteFailed` where a write did; where none is reported, nothing is written. The memory is that of two blocks, or of
-/// the longest line, whatever the length. One thing is found in a line, however often and by however many workers it
-/// is judged, so any two surveys of the same bytes count and report the same.
+/// and counts them in order. Where each is reported, its line is written to the sink; else nothing is written. The
+/// calling thread is a worker, and reads. Each other worker has a thread of its own where one can be made, for as long
+/// as the survey lasts, or, where each is reported, for a block. The gate hears that a worker begins a recording, that
+/// it is a violation, and that the worker is done, by the numbers of the recordings, from 0. Fails by `ReadFailed`
+/// exactly where a read failed, and by `WriteFailed` where a write did. The memory is that of two blocks, or of the
+/// longest line, whatever the length. One thing is found in a line, however often and by however many workers it is
+/// judged, so any two surveys of the same bytes count and report the same.
 pub fn survey<T: Threads + Wait + Sync, R: Source, W: Sink, G: Gate>(
     rt: &T,
     alloc: Global,
