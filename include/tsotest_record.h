@@ -312,9 +312,11 @@ static inline int tsotest_record_commit_event(struct tsotest_record *r, int even
 }
 
 /* Begins the next recording where memory keeps what the last one left there: as many cores, and of each address the value that
- * reached memory last is the initial one. */
+ * reached memory last is the initial one. After a fault it does nothing: only tsotest_record_begin goes on. */
 static inline void tsotest_record_continue(struct tsotest_record *r)
 {
+    if (r->error)
+        return;
     for (int i = 0; i < r->commits; i++)
         r->initial[r->commit[i].address] = r->commit[i].written;
     tsotest_begin_(r, r->cores);

@@ -83,6 +83,113 @@ static void texts(void)
     gives(tsotest_program_text, "core\nst a0 5\nld a0\ncore\nst a0 5\n");
 }
 
+/* A failed compare-and-swap expects one more than it read, modulo 2^32. */
+static void expected_value(void)
+{
+    tsotest_record_begin(&r, 1);
+    tsotest_record_initial(&r, 0x40, 4294967295u);
+    tsotest_record_failed_cas(&r, 0, 0x40, 4294967295u);
+    gives(tsotest_program_text, "core\ncas x40 0 0\ninit x40 4294967295\n");
+}
+
+/* A name has at most 8 characters: an x and 7 digits. */
+static void names(void)
+{
+    tsotest_record_begin(&r, 1);
+    tsotest_record_load(&r, 0, 0x10000000, 0);
+    tsotest_record_load(&r, 0, 0xFFFFFFF, 0);
+    tsotest_record_load(&r, 0, 0x10000001, 0);
+    gives(tsotest_program_text, "core\nld a0\nld xfffffff\nld a2\n");
+}
+
+/* The source of a read stays where its value comes later, though two writes wrote that value. */
+static void late_value(void)
+{
+    tsotest_record_begin(&r, 2);
+    int a = tsotest_record_store(&r, 0, 0x40, 5), b = tsotest_record_store(&r, 1, 0x40, 5), l = tsotest_record_load(&r, 1, 0x40, 0);
+    tsotest_record_commit_event(&r, a);
+    tsotest_record_commit_event(&r, b);
+    assert(tsotest_record_source(&r, l, b) == l && tsotest_record_value(&r, l, 5) == l);
+    gives(tsotest_recording_text, "{\"cores\":[[{\"a\":0,\"k\":\"S\",\"w\":5}],[{\"a\":0,\"k\":\"S\",\"w\":5},"
+                                  "{\"a\":0,\"k\":\"L\",\"r\":5,\"s\":1}]],\"version\":1,\"writes\":[[0,1]]}\n");
+}
+
+/* The next run begins with the last write of each address, and with the initial value of one that nobody wrote. After a fault it does
+ * not begin. */
+static void next_runs(void)
+{
+    tsotest_record_begin(&r, 2);
+    tsotest_record_initial(&r, 0x44, 8);
+    for (uint32_t value = 1; value <= 3; value++) {
+        tsotest_record_store(&r, 0, 0x40, value);
+        tsotest_record_commit(&r, 0, 0x40, value);
+    }
+    tsotest_record_load(&r, 1, 0x44, 8);
+    assert(tsotest_recording_text(&r, out, sizeof out, &len) == TSOTEST_NO_FAULT);
+    for (int run = 0; run < 2; run++) {
+        tsotest_record_continue(&r);
+        tsotest_record_load(&r, 1, 0x40, 3);
+        tsotest_record_load(&r, 1, 0x44, 8);
+        gives(tsotest_recording_text, "{\"cores\":[[],[{\"a\":0,\"k\":\"L\",\"r\":3,\"s\":null},{\"a\":1,\"k\":\"L\",\"r\":8,\"s\":null}]],"
+                                      "\"init\":[3,8],\"version\":2,\"writes\":[[],[]]}\n");
+    }
+    /* The write that does not fit is not committed either. */
+    tsotest_record_begin(&r, 1);
+    for (uint32_t i = 1; i <= TSOTEST_RECORD_EVENTS + 1; i++) {
+        tsotest_record_store(&r, 0, 0x40, i);
+        tsotest_record_commit(&r, 0, 0x40, i);
+    }
+    fails(TSOTEST_FULL, false, "512 events");
+    tsotest_record_continue(&r);
+    assert(tsotest_record_load(&r, 0, 0x40, TSOTEST_RECORD_EVENTS + 1) == -1);
+    fails(TSOTEST_FULL, false, "512 events");
+    tsotest_record_begin(&r, 1);
+    tsotest_record_load(&r, 0, 0x40, 0);
+    gives(tsotest_recording_text, "{\"cores\":[[{\"a\":0,\"k\":\"L\",\"r\":0,\"s\":null}]],\"version\":1,\"writes\":[[]]}\n");
+}
+
+/* The text that tsotest_write_log writes. */
+static void logs(const char *text)
+{
+    FILE *file = tmpfile();
+    assert(file && tsotest_write_log(&r, file) == TSOTEST_NO_FAULT);
+    rewind(file);
+    len = fread(out, 1, sizeof out, file);
+    fclose(file);
+    if (len != strlen(text) || memcmp(out, text, len)) {
+        printf("want\n%sgot\n%.*s", text, (int)len, out);
+        abort();
+    }
+}
+
+/* The log has all that was recorded, in the words that examples/log/from_log.c reads, also where a fault gives no recording. */
+static void written_logs(void)
+{
+    tsotest_record_begin(&r, 2);
+    tsotest_record_initial(&r, 0x40, 7);
+    tsotest_record_initial(&r, 0x44, 9);
+    tsotest_record_load(&r, 0, 0x48, 0);
+    int a = tsotest_record_store(&r, 0, 0x44, 9), b = tsotest_record_rmw(&r, 1, 0x44, 9, 9), c = tsotest_record_failed_cas(&r, 1, 0x44, 9);
+    tsotest_record_fence(&r, 1);
+    tsotest_record_source(&r, b, TSOTEST_INITIAL);
+    tsotest_record_source(&r, c, a);
+    tsotest_record_commit_event(&r, b);
+    tsotest_record_commit(&r, 0, 0x44, 9);
+    const char *log = "cores 2\ninit 0x40 7\ninit 0x44 9\nld 0 0x48 0\nst 0 0x44 9\nrmw 1 0x44 9 9\ncas 1 0x44 9\nfence 1\n"
+                      "source 2 init\nsource 3 1\ncommit 2\ncommit 0 0x44 9\n";
+    logs(log);
+    tsotest_record_load(&r, 2, 0x40, 7);
+    strcat(strcpy(out, log), "# core 2: the recording has 2\n");
+    char with_fault[512];
+    strcpy(with_fault, out);
+    logs(with_fault);
+    FILE *full = fopen("/dev/full", "w");
+    if (full) {
+        assert(tsotest_write_log(&r, full) == TSOTEST_WRITE_FAILED);
+        fclose(full);
+    }
+}
+
 /* The longest texts. */
 static void longest(void)
 {
@@ -151,6 +258,9 @@ static void refusals(void)
     tsotest_record_store(&r, 1, 0x40, 1);
     tsotest_record_commit(&r, 0, 0x44, 1);
     fails(TSOTEST_LOST_STORE, true, "operation 1 of core 1 wrote 1 to 0x40, which never reached memory");
+    tsotest_record_begin(&r, 1);
+    tsotest_record_rmw(&r, 0, 0x40, 0, 6);
+    fails(TSOTEST_LOST_STORE, true, "operation 0 of core 0 wrote 6 to 0x40, which never reached memory");
     tsotest_record_begin(&r, 2);
     tsotest_record_store(&r, 0, 0x40, 1);
     tsotest_record_commit(&r, 1, 0x40, 1);
@@ -179,6 +289,11 @@ static void refusals(void)
 int main(void)
 {
     texts();
+    expected_value();
+    names();
+    late_value();
+    next_runs();
+    written_logs();
     longest();
     refusals();
     assert(sizeof r <= 20 * 1024);
