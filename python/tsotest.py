@@ -66,9 +66,15 @@ class Kind(IntEnum):
     """What is found of a recording of many."""
 
     ORDERED = 0
+    """TSO allows the recording."""
     OVERLOOK = 1
+    """A load overlooks a store of its own core."""
     CYCLE = 2
-    REFUSED = 3
+    """Events would each have to come before the next."""
+    UNREAD = 3
+    """The text is refused."""
+    REFUSED = UNREAD
+    """Another name of `UNREAD`."""
 
 
 class Finding(NamedTuple):
@@ -90,7 +96,7 @@ class Finding(NamedTuple):
     @property
     def refusal(self):
         """Of a refusal 1 to 7 for N1 to N7, and the event of N5 and N6 or the address of N7."""
-        return divmod(self.code, 65536) if self.kind == Kind.REFUSED else None
+        return divmod(self.code, 65536) if self.kind == Kind.UNREAD else None
 
 
 def _candidates():
@@ -125,7 +131,17 @@ def _library():
 
 
 def _bytes(text):
-    return text.encode() if isinstance(text, str) else bytes(text)
+    """The bytes of a text: of a `str` its UTF-8, of anything like `bytes` what it holds."""
+    return text.encode("utf-8", "surrogatepass") if isinstance(text, str) else bytes(memoryview(text))
+
+
+def _is_text(it):
+    return isinstance(it, (str, bytes, bytearray, memoryview))
+
+
+def _line(recording):
+    """A recording on one line. A line end and a carriage return mean the same to JSON: space, and in a string neither is lawful."""
+    return _bytes(recording).replace(b"\n", b"\r") or b"\r"
 
 
 def _answer(call, *given):
@@ -171,9 +187,13 @@ def verify(recording, verdict):
     return _answer(_library().tsotest_verify, text, len(text), own, len(own))
 
 
-def survey(lines):
-    """What is found in each line of a text, an empty one aside, or in each of some recordings: a list of `Finding`."""
-    text = _bytes(lines if isinstance(lines, (str, bytes, bytearray)) else b"\n".join(_bytes(it).rstrip(b"\n") for it in lines))
+def survey(recordings):
+    """What is found in many recordings: a list of `Finding`.
+
+    Of one text (`str`, `bytes`, `bytearray`, `memoryview`) each line is a recording, and an empty line is none. Of anything else each
+    item is a recording, in any layout, and has one finding: of an item that is no recording, an empty one too, the kind is `UNREAD`.
+    """
+    text = _bytes(recordings) if _is_text(recordings) else b"\n".join(map(_line, recordings))
     room, count = text.count(b"\n") + 1, ctypes.c_size_t()
     codes = (ctypes.c_uint64 * room)()
     if _library().tsotest_survey(text, len(text), codes, room, ctypes.byref(count)) == 1:
@@ -185,7 +205,7 @@ def _kind_of(code):
     if code >= 1048576:
         return Kind.OVERLOOK
     if code >= 65536:
-        return Kind.REFUSED
+        return Kind.UNREAD
     return Kind.CYCLE if code >= 16 else Kind.ORDERED
 
 
@@ -222,7 +242,8 @@ class Recorder:
     writes of each address reach memory (`commit`); cores and addresses in any order against each other. `recording` then gives
     the text. It finds the write that each read got its value from by the value: let no two writes of an address write the same
     value, nor the initial one. Where values repeat, tell sources by `source` and commits by `commit_event`. Each call that
-    records an event gives its number, from 0. A `NoRecording` says what is wrong.
+    records an event gives its number, from 0. A `NoRecording` says what is wrong. The first one is kept: each later call raises it again,
+    `next` too, since what came after it was not recorded.
     """
 
     def __init__(self, cores):
@@ -230,9 +251,11 @@ class Recorder:
         if not 0 <= cores <= MAX_CORES:
             raise NoRecording(f"{cores} cores: a recording has {MAX_CORES} at most")
         self.cores, self._events, self._commits, self._initial, self._addresses = cores, [], [], {}, set()
+        self._fault = None
 
     def next(self):
         """The recorder of a run that begins with what this one left in memory: of each address the value that reached it last."""
+        self._go_on()
         following = Recorder(self.cores)
         following._initial = {**self._initial, **{address: value for _, address, value, _ in self._commits}}
         following._addresses = set(self._addresses)
@@ -271,7 +294,7 @@ class Recorder:
         """Tells the write that a read got its value from: an event, or `None` for the initial value."""
         read = self._read(event)
         if write is not None and not (0 <= write < len(self._events) and self._events[write].written is not None and self._events[write].address == read.address):
-            raise NoRecording(f"event {write} is no write of the address that event {event} read")
+            self._fail(f"event {write} is no write of the address that event {event} read")
         read.told = write
 
     def commit(self, core, address, value):
@@ -281,9 +304,10 @@ class Recorder:
         self._commit(core, address, value, None)
 
     def commit_event(self, event):
-        """The same of a write that was recorded already, by its event."""
+        """A write that was recorded already reached memory, told by its event."""
+        self._go_on()
         if not (0 <= event < len(self._events) and self._events[event].written is not None):
-            raise NoRecording(f"event {event} is no write")
+            self._fail(f"event {event} is no write")
         it = self._events[event]
         self._commit(it.core, it.address, it.written, event)
 
@@ -308,32 +332,45 @@ class Recorder:
         """The verdict on what was recorded."""
         return judge(self.recording())
 
+    def _fail(self, message, is_of_design=False):
+        """Keeps a fault, and raises it."""
+        self._fault = message, is_of_design
+        raise NoRecording(*self._fault)
+
+    def _go_on(self):
+        """Raises the fault that is kept."""
+        if self._fault:
+            raise NoRecording(*self._fault)
+
     def _core(self, core):
+        self._go_on()
         if not 0 <= core < self.cores:
-            raise NoRecording(f"core {core}: the recording has {self.cores}")
+            self._fail(f"core {core}: the recording has {self.cores}")
 
     def _used(self, address):
+        self._go_on()
         if len(self._addresses | {address}) > MAX_ADDRESSES:
-            raise NoRecording(f"address 0x{address:x} is the 17th: a recording has {MAX_ADDRESSES} at most")
+            self._fail(f"address 0x{address:x} is the 17th: a recording has {MAX_ADDRESSES} at most")
         self._addresses.add(address)
 
     def _event(self, kind, core, address, read, written):
         self._core(core)
         if len(self._events) == MAX_EVENTS:
-            raise NoRecording(f"more than {MAX_EVENTS} events")
+            self._fail(f"more than {MAX_EVENTS} events")
         if address is not None:
             self._used(address)
         self._events.append(_Event(kind, core, address, read, written))
         return len(self._events) - 1
 
     def _read(self, event):
+        self._go_on()
         if not (0 <= event < len(self._events) and self._events[event].read is not None):
-            raise NoRecording(f"event {event} is no read")
+            self._fail(f"event {event} is no read")
         return self._events[event]
 
     def _commit(self, core, address, value, event):
         if len(self._commits) == MAX_EVENTS:
-            raise NoRecording(f"more than {MAX_EVENTS} commits")
+            self._fail(f"more than {MAX_EVENTS} commits")
         self._commits.append((core, address, value, event))
 
     def _by_core(self):
@@ -345,6 +382,7 @@ class Recorder:
 
     def _settle(self):
         """Finds what was not told: the addresses that events use, in order of first use, and of each its writes in memory order."""
+        self._go_on()
         ordered = [it for core in self._by_core() for it in core]
         for number, it in enumerate(ordered):
             it.number = number
@@ -364,17 +402,17 @@ class Recorder:
             if event is None:
                 own = [it for it in writes.get((address, value), []) if self._events[it].core == core]
                 if len(own) > 1:
-                    raise NoRecording(f"core {core} wrote {value} to 0x{address:x} twice")
+                    self._fail(f"core {core} wrote {value} to 0x{address:x} twice")
                 if not own:
-                    raise NoRecording(f"core {core}: the value {value} reached 0x{address:x}, and this core executed no such write", True)
+                    self._fail(f"core {core}: the value {value} reached 0x{address:x}, and this core executed no such write", True)
                 event = own[0]
             if event in seen:
-                raise NoRecording(f"core {core}: the value {value} reached 0x{address:x} twice", True)
+                self._fail(f"core {core}: the value {value} reached 0x{address:x} twice", True)
             seen.add(event)
             committed.setdefault(address, []).append(event)
         for event, it in enumerate(self._events):
             if it.written is not None and event not in seen:
-                raise NoRecording(f"{self._place(event)} wrote {it.written} to 0x{it.address:x}, which never reached memory", True)
+                self._fail(f"{self._place(event)} wrote {it.written} to 0x{it.address:x}, which never reached memory", True)
         return committed
 
     def _settle_source(self, event, it, writes):
@@ -383,13 +421,13 @@ class Recorder:
         if it.told == "unknown":
             found = ([None] if it.read == initial else []) + writes.get((it.address, it.read), [])
             if not found:
-                raise NoRecording(f"{self._place(event)} read {it.read} from 0x{it.address:x}, which nobody wrote there", True)
+                self._fail(f"{self._place(event)} read {it.read} from 0x{it.address:x}, which nobody wrote there", True)
             if len(found) > 1:
-                raise NoRecording(f"{self._place(event)} read {it.read} from 0x{it.address:x}, of which there are {len(found)} sources")
+                self._fail(f"{self._place(event)} read {it.read} from 0x{it.address:x}, of which there are {len(found)} sources")
             it.source = found[0]
         there = initial if it.source is None else self._events[it.source].written
         if it.read != there:
-            raise NoRecording(f"{self._place(event)} read {it.read} from 0x{it.address:x}, and its source wrote {there}", True)
+            self._fail(f"{self._place(event)} read {it.read} from 0x{it.address:x}, and its source wrote {there}", True)
 
     def _event_text(self, it, names):
         parts = [f'"a":{names.index(it.address)}'] if it.address is not None else []

@@ -2,6 +2,7 @@
 #include "tsotest.h"
 
 #include <assert.h>
+#include <stdarg.h>
 #include <stdio.h>
 #include <stdlib.h>
 
@@ -167,29 +168,143 @@ static void kinds(void)
     assert(tsotest_kind_of("refused: N1\n", 12) == TSOTEST_UNREAD && tsotest_kind_of("", 0) == TSOTEST_UNREAD);
 }
 
+/* Adds to a text of this length, of which 65,536 bytes are there. */
+static int added(char *text, int at, const char *format, ...)
+{
+    va_list words;
+    va_start(words, format);
+    at += vsnprintf(text + at, (size_t)(65536 - at), format, words);
+    va_end(words);
+    assert(at < 65536);
+    return at;
+}
+
+/* A recording of one core: fences, these events, and these write lists. */
+static char *after_fences(char *text, int fences, const char *events, const char *writes)
+{
+    int at = added(text, 0, "{\"version\":1,\"cores\":[[");
+    for (int i = 0; i < fences; i++)
+        at = added(text, at, "{\"k\":\"F\"},");
+    added(text, at, "%s]],\"writes\":%s}", events, writes);
+    return text;
+}
+
+/* A ring round 16 cores: each reads what the one before it wrote, and then writes. */
+static char *ring(char *text)
+{
+    int at = added(text, 0, "{\"version\":1,\"cores\":[");
+    for (int c = 0; c < 16; c++)
+        at = added(text, at, "%s[{\"k\":\"L\",\"a\":%d,\"r\":1,\"s\":%d},{\"k\":\"S\",\"a\":%d,\"w\":1}]", c ? "," : "", (c + 15) % 16,
+                   2 * ((c + 15) % 16) + 1, c);
+    at = added(text, at, "],\"writes\":[");
+    for (int c = 0; c < 16; c++)
+        at = added(text, at, "%s[%d]", c ? "," : "", 2 * c + 1);
+    added(text, at, "]}");
+    return text;
+}
+
+/* A recording of empty cores. */
+static char *empty_cores(char *text, int cores)
+{
+    int at = added(text, 0, "{\"version\":1,\"cores\":[");
+    for (int c = 0; c < cores; c++)
+        at = added(text, at, "%s[]", c ? "," : "");
+    added(text, at, "],\"writes\":[]}");
+    return text;
+}
+
+/* A recording of one core that stores once to each address, with a write list for all of them but the last few. */
+static char *stores(char *text, int addresses, int without)
+{
+    int at = added(text, 0, "{\"version\":1,\"cores\":[[");
+    for (int a = 0; a < addresses; a++)
+        at = added(text, at, "%s{\"k\":\"S\",\"a\":%d,\"w\":1}", a ? "," : "", a);
+    at = added(text, at, "]],\"writes\":[");
+    for (int a = 0; a < addresses; a++)
+        at = added(text, at, a < addresses - without ? "%s[%d]" : "%s[]", a ? "," : "", a);
+    added(text, at, "]}");
+    return text;
+}
+
+/* The code that the library gives a recording says this. */
+static void finds(const char *recording, struct tsotest_finding want)
+{
+    uint64_t code;
+    size_t count;
+    tsotest_survey(recording, strlen(recording), &code, 1, &count);
+    assert(count == 1);
+    struct tsotest_finding got = tsotest_finding_of(code);
+    if (got.kind != want.kind || got.load != want.load || got.store != want.store || got.cycle != want.cycle
+        || got.refusal != want.refusal || got.at != want.at) {
+        printf("code %llu: kind %d, load %u, store %u, cycle %u, refusal %u, at %u: %.99s\n", (unsigned long long)code, got.kind, got.load,
+               got.store, got.cycle, got.refusal, got.at, recording);
+        abort();
+    }
+}
+
+/* The codes of the library are those that tsotest.h takes apart, each at its least and its greatest. */
+static void codes(void)
+{
+    char *text = malloc(65536);
+    const char *load = "{\"k\":\"L\",\"a\":0,\"r\":1,\"s\":0}", *initial = "{\"k\":\"L\",\"a\":0,\"r\":1,\"s\":null}";
+    const char *pair = "{\"k\":\"S\",\"a\":0,\"w\":1},{\"k\":\"L\",\"a\":0,\"r\":0,\"s\":null}";
+    finds(ORDERED, (struct tsotest_finding){TSOTEST_ORDERED, 0, 0, 0, 0, 0});
+    finds(OVERLOOK, (struct tsotest_finding){TSOTEST_OVERLOOK, 1, 0, 0, 0, 0});
+    finds(after_fences(text, 510, pair, "[[510]]"), (struct tsotest_finding){TSOTEST_OVERLOOK, 511, 510, 0, 0, 0});
+    finds(CYCLE, (struct tsotest_finding){TSOTEST_CYCLE, 0, 0, 1, 0, 0});
+    finds(ring(text), (struct tsotest_finding){TSOTEST_CYCLE, 0, 0, 32, 0, 0});
+    finds("no JSON", (struct tsotest_finding){TSOTEST_UNREAD, 0, 0, 0, 1, 0});
+    finds("{}", (struct tsotest_finding){TSOTEST_UNREAD, 0, 0, 0, 2, 0});
+    finds("{\"version\":3,\"cores\":[],\"writes\":[]}", (struct tsotest_finding){TSOTEST_UNREAD, 0, 0, 0, 3, 0});
+    finds("{\"version\":1,\"cores\":[[{\"k\":\"S\",\"a\":0,\"w\":1}]],\"writes\":[]}", (struct tsotest_finding){TSOTEST_UNREAD, 0, 0, 0, 4, 0});
+    finds(after_fences(text, 0, load, "[[]]"), (struct tsotest_finding){TSOTEST_UNREAD, 0, 0, 0, 5, 0});
+    finds(after_fences(text, 511, load, "[[]]"), (struct tsotest_finding){TSOTEST_UNREAD, 0, 0, 0, 5, 511});
+    finds(after_fences(text, 0, initial, "[[]]"), (struct tsotest_finding){TSOTEST_UNREAD, 0, 0, 0, 6, 0});
+    finds(after_fences(text, 511, initial, "[[]]"), (struct tsotest_finding){TSOTEST_UNREAD, 0, 0, 0, 6, 511});
+    finds(stores(text, 16, 16), (struct tsotest_finding){TSOTEST_UNREAD, 0, 0, 0, 7, 0});
+    finds(stores(text, 16, 1), (struct tsotest_finding){TSOTEST_UNREAD, 0, 0, 0, 7, 15});
+    free(text);
+}
+
+/* A recording has this much, and no more. */
+static void limits(void)
+{
+    char *text = malloc(65536);
+    const struct tsotest_finding ordered = {TSOTEST_ORDERED, 0, 0, 0, 0, 0}, too_much = {TSOTEST_UNREAD, 0, 0, 0, 4, 0};
+    const char *fence = "{\"k\":\"F\"}";
+    finds(empty_cores(text, TSOTEST_MAX_CORES), ordered);
+    finds(empty_cores(text, TSOTEST_MAX_CORES + 1), too_much);
+    finds(after_fences(text, TSOTEST_MAX_EVENTS - 1, fence, "[]"), ordered);
+    finds(after_fences(text, TSOTEST_MAX_EVENTS, fence, "[]"), too_much);
+    finds(stores(text, TSOTEST_MAX_ADDRESSES, 0), ordered);
+    finds(stores(text, TSOTEST_MAX_ADDRESSES + 1, 0), too_much);
+    free(text);
+}
+
+/* The bound for verdicts is the length of the longest text that the format has: a cycle of all 512 events, numbers of three digits each. */
+static void bound(void)
+{
+    char line[32];
+    int pair = sprintf(line, "%d -> %d Po\n", 511, 510), label = sprintf(line, " %d", 511), row = sprintf(line, "labels %d:\n", 511);
+    size_t longest = (size_t)sprintf(line, "cycle of %d\n", 512) + 512 * (size_t)(pair + row + 512 * label);
+    assert(TSOTEST_MAX_VERDICT_BYTES == longest && TSOTEST_VERDICT_BYTES(0) == 13);
+}
+
 /* The longest verdicts stay below the bound. */
 static void longest(void)
 {
     char *text = malloc(65536), *big = malloc(TSOTEST_MAX_VERDICT_BYTES);
-    int at = sprintf(text, "{\"version\":1,\"cores\":[[");
+    int at = added(text, 0, "{\"version\":1,\"cores\":[[");
     /* 512 stores of one address whose write list is backwards. */
     for (int i = 0; i < 512; i++)
-        at += sprintf(text + at, "%s{\"k\":\"S\",\"a\":0,\"w\":1}", i ? "," : "");
-    at += sprintf(text + at, "]],\"writes\":[[");
+        at = added(text, at, "%s{\"k\":\"S\",\"a\":0,\"w\":1}", i ? "," : "");
+    at = added(text, at, "]],\"writes\":[[");
     for (int i = 511; i >= 0; i--)
-        at += sprintf(text + at, "%d%s", i, i ? "," : "]]}");
+        at = added(text, at, "%d%s", i, i ? "," : "]]}");
     assert(tsotest_judge(text, (size_t)at, big, TSOTEST_MAX_VERDICT_BYTES, &len) == TSOTEST_VIOLATION);
     assert(len <= TSOTEST_MAX_VERDICT_BYTES && tsotest_kind_of(big, len) == TSOTEST_CYCLE);
-    /* A ring round 16 cores: each reads what the one before it wrote, and then writes. */
-    at = sprintf(text, "{\"version\":1,\"cores\":[");
-    for (int c = 0; c < 16; c++)
-        at += sprintf(text + at, "%s[{\"k\":\"L\",\"a\":%d,\"r\":1,\"s\":%d},{\"k\":\"S\",\"a\":%d,\"w\":1}]", c ? "," : "", (c + 15) % 16,
-                      2 * ((c + 15) % 16) + 1, c);
-    at += sprintf(text + at, "],\"writes\":[");
-    for (int c = 0; c < 16; c++)
-        at += sprintf(text + at, "%s[%d]", c ? "," : "", 2 * c + 1);
-    at += sprintf(text + at, "]}");
-    assert(tsotest_judge(text, (size_t)at, big, TSOTEST_MAX_VERDICT_BYTES, &len) == TSOTEST_VIOLATION);
+    ring(text);
+    assert(tsotest_judge(text, strlen(text), big, TSOTEST_MAX_VERDICT_BYTES, &len) == TSOTEST_VIOLATION);
     assert(len <= TSOTEST_VERDICT_BYTES(32) && memcmp(big, "cycle of 32\n", 12) == 0);
     memset(text, '[', 65536);
     assert(tsotest_judge(text, 65536, out, sizeof out, &len) == TSOTEST_REFUSED);
@@ -202,6 +317,9 @@ int main(void)
     answers();
     surveys();
     kinds();
+    codes();
+    limits();
+    bound();
     longest();
     wants(version, NULL, NULL, TSOTEST_ALLOWED, "tsotest 0.9.0\n");
     return 0;

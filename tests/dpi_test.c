@@ -1,7 +1,15 @@
 /* The bodies of tsotest_dpi.sv, called as a simulator calls them. Usage: dpi_test PREFIX */
+#define _DEFAULT_SOURCE
 #include "tsotest_dpi.c"
 
 #include <assert.h>
+#include <signal.h>
+#include <sys/resource.h>
+#include <unistd.h>
+
+/* The recorder has the limits of the library. */
+_Static_assert(TSOTEST_RECORD_CORES == TSOTEST_MAX_CORES && TSOTEST_RECORD_EVENTS == TSOTEST_MAX_EVENTS
+                   && TSOTEST_RECORD_ADDRESSES == TSOTEST_MAX_ADDRESSES, "limits");
 
 enum { ALLOWED = 0, OVERLOOK = 1, CYCLE = 2 };
 
@@ -14,6 +22,133 @@ static void message_passing(uint32_t read)
     tsotest_dpi_load(1, 0x40, read);
     tsotest_dpi_commit(0, 0x40, 1);
     tsotest_dpi_commit(0, 0x44, 2);
+}
+
+/* How many lines a text has. */
+static int lines_of(const char *text)
+{
+    int lines = 0;
+    for (; *text; text++)
+        lines += *text == '\n';
+    return lines;
+}
+
+/* A value that two writes wrote is a fault of the testbench, and so is a core that is not there; values and writes that are not what
+ * memory does are faults of the design. */
+static void faults(void)
+{
+    tsotest_dpi_begin(2);
+    tsotest_dpi_store(0, 0x40, 3);
+    tsotest_dpi_store(1, 0x40, 3);
+    tsotest_dpi_load(0, 0x40, 3);
+    tsotest_dpi_commit(0, 0x40, 3);
+    tsotest_dpi_commit(1, 0x40, 3);
+    assert(tsotest_dpi_judge() == MISUSED && strstr(tsotest_dpi_message(), "read 3 from 0x40, of which there are 2 sources"));
+    tsotest_dpi_begin(1);
+    tsotest_dpi_fence(1);
+    assert(tsotest_dpi_judge() == MISUSED && strstr(tsotest_dpi_message(), "core 1: the recording has 1"));
+    tsotest_dpi_begin(1);
+    tsotest_dpi_rmw(0, 0x40, 0, 1);
+    assert(tsotest_dpi_judge() == BROKEN && strstr(tsotest_dpi_message(), "wrote 1 to 0x40, which never reached memory"));
+    tsotest_dpi_begin(1);
+    tsotest_dpi_commit(0, 0x40, 1);
+    tsotest_dpi_fence(0);
+    assert(tsotest_dpi_judge() == BROKEN && strstr(tsotest_dpi_message(), "the value 1 reached 0x40"));
+}
+
+/* After `continue` there is no verdict until the next judging; after a fault the fault stays until `begin`. */
+static void continued(void)
+{
+    message_passing(1);
+    assert(tsotest_dpi_judge() == ALLOWED && *tsotest_dpi_verdict());
+    tsotest_dpi_continue();
+    assert(!*tsotest_dpi_verdict());
+    tsotest_dpi_load(0, 0x44, 2);
+    for (int i = 0; i < TSOTEST_RECORD_EVENTS; i++)
+        tsotest_dpi_fence(0);
+    assert(tsotest_dpi_judge() == MISUSED && strstr(tsotest_dpi_message(), "more than 512 events"));
+    tsotest_dpi_continue();
+    tsotest_dpi_load(0, 0x44, 2);
+    assert(tsotest_dpi_judge() == MISUSED && strstr(tsotest_dpi_message(), "more than 512 events"));
+    message_passing(1);
+    assert(tsotest_dpi_judge() == ALLOWED && !*tsotest_dpi_message());
+}
+
+/* 512 stores to one address that memory takes backwards: a cycle of two, whose verdict has a row of 512 labels of at least a space and
+ * a digit for each event. */
+static void backwards(void)
+{
+    tsotest_dpi_begin(1);
+    for (uint32_t i = 1; i <= 512; i++) {
+        tsotest_dpi_store(0, 0x40, i);
+        tsotest_dpi_commit(0, 0x40, 513 - i);
+    }
+    assert(tsotest_dpi_judge() == CYCLE);
+}
+
+/* 512 atomics, each of which reads what the one before it wrote. */
+static void chained(void)
+{
+    tsotest_dpi_begin(16);
+    for (uint32_t i = 0; i < 512; i++) {
+        tsotest_dpi_rmw((int)i / 32, 0xFFFFFFF, i ? 4294960000u + i : 0, 4294960001u + i);
+        tsotest_dpi_commit((int)i / 32, 0xFFFFFFF, 4294960001u + i);
+    }
+    assert(tsotest_dpi_judge() == ALLOWED);
+}
+
+/* Texts of more than 64 KB are whole: a verdict, and an explanation, which has a line for an order and then three for each atomic. */
+static void long_texts(void)
+{
+    size_t len;
+    backwards();
+    assert(lines_of(tsotest_dpi_verdict()) == 1 + 2 + 512 && strlen(tsotest_dpi_verdict()) > 512 * 512 * 2);
+    chained();
+    const char *words = tsotest_dpi_explanation(), *text = tsotest_dpi_recording(), *names = tsotest_dpi_program();
+    char *direct = malloc(TSOTEST_MAX_VERDICT_BYTES);
+    assert(tsotest_explain(text, strlen(text), names, strlen(names), direct, TSOTEST_MAX_VERDICT_BYTES, &len) == TSOTEST_ALLOWED);
+    assert(lines_of(words) == 1 + 3 * 512 && strlen(words) > 65536 && strlen(words) == len && !memcmp(words, direct, len));
+    free(direct);
+}
+
+/* Seconds are those of all calls: they don't go back after a short one. */
+static void seconds_of_all(void)
+{
+    backwards();
+    double before = tsotest_dpi_seconds();
+    message_passing(1);
+    assert(before > 0 && tsotest_dpi_judge() == ALLOWED && tsotest_dpi_seconds() > before);
+}
+
+/* `save` answers 1 where one of its files can't be opened, or has no room. */
+static void unsaved(const char *prefix)
+{
+    const char *suffixes[] = {".log", ".json", ".litmus", ".verdict"};
+    char path[1024], own[1000];
+    snprintf(own, sizeof own, "%s-full", prefix);
+    message_passing(0);
+    assert(tsotest_dpi_judge() == CYCLE && tsotest_dpi_save("/nowhere/at/all") == 1);
+    for (int i = 0; i < 4; i++) {
+        const char *places[] = {"/dev/full", "/nowhere/at/all"};
+        for (int k = access("/dev/full", W_OK) == 0 ? 0 : 1; k < 2; k++) {
+            assert(tsotest_dpi_save(own) == 0);
+            snprintf(path, sizeof path, "%s%s", own, suffixes[i]);
+            assert(unlink(path) == 0 && symlink(places[k], path) == 0);
+            assert(tsotest_dpi_save(own) == 1);
+            assert(unlink(path) == 0);
+        }
+    }
+    /* A file that may not grow past the first bytes of a long verdict. */
+    struct rlimit was, least;
+    backwards();
+    assert(getrlimit(RLIMIT_FSIZE, &was) == 0);
+    least = was;
+    least.rlim_cur = 100000;
+    signal(SIGXFSZ, SIG_IGN);
+    assert(setrlimit(RLIMIT_FSIZE, &least) == 0);
+    int answer = tsotest_dpi_save(own);
+    assert(setrlimit(RLIMIT_FSIZE, &was) == 0);
+    assert(answer == 1 && tsotest_dpi_save(own) == 0);
 }
 
 int main(int argc, char **argv)
@@ -35,7 +170,7 @@ int main(int argc, char **argv)
     assert(tsotest_dpi_judge() == CYCLE && !strcmp(tsotest_dpi_message(), ""));
     assert(!strcmp(tsotest_dpi_program(), "core\nst x40 1\nst x44 2\ncore\nld x44\nld x40\n"));
     assert(strstr(tsotest_dpi_explanation(), "(MP)") && !strncmp(tsotest_dpi_reduction(), "events 0 1 2 3\n\ncore\nst x40 1\n", 30));
-    assert(tsotest_dpi_save(argv[1]) == 0 && tsotest_dpi_save("/nowhere/at/all") == 1);
+    assert(tsotest_dpi_save(argv[1]) == 0);
 
     tsotest_dpi_begin(1);
     tsotest_dpi_initial(0x40, 5);
@@ -50,7 +185,11 @@ int main(int argc, char **argv)
     assert(!*tsotest_dpi_explanation() && !*tsotest_dpi_reduction());
     tsotest_dpi_begin(17);
     assert(tsotest_dpi_judge() == MISUSED && strstr(tsotest_dpi_message(), "17 cores"));
-    assert(tsotest_dpi_seconds() > 0);
+    faults();
+    continued();
+    long_texts();
+    seconds_of_all();
+    unsaved(argv[1]);
     struct text *texts[] = {&recording, &program, &verdict, &explanation, &reduction};
     for (int i = 0; i < 5; i++)
         free(texts[i]->bytes);

@@ -2,6 +2,7 @@
 """The Python module over the shared library: each call beside the command of the built program, on recordings of all kinds; the
 recorder's faults; threads. Usage: python_test.py PROGRAM
 """
+import json
 import subprocess
 import sys
 import tempfile
@@ -63,13 +64,87 @@ def surveyed(program):
                 told = "overlook: load {} store {}".format(*finding.overlook)
             case tsotest.Kind.CYCLE:
                 told = f"cycle of {finding.cycle}"
-            case tsotest.Kind.REFUSED:
+            case tsotest.Kind.UNREAD:
                 kind, at = finding.refusal
                 told = f"refused: N{kind}" + (f" event {at}" if kind in (5, 6) else f" address {at}" if kind == 7 else "")
         if told != line:
             yield f"survey: {finding}, and the program {line}"
-    if tsotest.survey(file.read_text().splitlines()) != found:
+    lines = [line for line in file.read_text().splitlines() if line]
+    if tsotest.survey(lines) != found:
         yield "a survey of lines"
+    if tsotest.survey("\n".join(lines)) != found:
+        yield "a survey without a last newline"
+
+
+ORDERED, OVERLOOKED = '{"cores":[[{"k":"F"}]],"version":1,"writes":[]}', '{"cores":[[{"a":0,"k":"S","w":1},{"a":0,"k":"L","r":0,"s":null}]],"version":1,"writes":[[0]]}'
+
+
+def layouts():
+    """A recording has one finding, whatever its layout and its type, and so has a text that is none."""
+    long = json.dumps(json.loads(OVERLOOKED), indent=2)
+    kinds = tsotest.Kind
+    wanted = [
+        ([long, ORDERED], [kinds.OVERLOOK, kinds.ORDERED]),
+        ([ORDERED, "", long + "\n", "\n\n", ORDERED + "\n"], [kinds.ORDERED, kinds.UNREAD, kinds.OVERLOOK, kinds.UNREAD, kinds.ORDERED]),
+        ([long.replace("\n", "\r\n"), " ", "\r", "none", "\ud800"], [kinds.OVERLOOK, *[kinds.UNREAD] * 4]),
+        ([long.encode(), bytearray(ORDERED.encode()), memoryview(long.encode())], [kinds.OVERLOOK, kinds.ORDERED, kinds.OVERLOOK]),
+        ((it for it in (ORDERED, OVERLOOKED)), [kinds.ORDERED, kinds.OVERLOOK]),
+        (["[\n]", ORDERED + ORDERED, ORDERED + "\n" + ORDERED], [kinds.UNREAD] * 3),
+        ([], []),
+        ("", []),
+        (memoryview(f"{OVERLOOKED}\n\n{ORDERED}".encode()), [kinds.OVERLOOK, kinds.ORDERED]),
+        (bytearray(f"\n{ORDERED}\n".encode()), [kinds.ORDERED]),
+    ]
+    for given, want in wanted:
+        found = [it.kind for it in tsotest.survey(given)]
+        if found != want:
+            yield f"a survey finds {found}, want {want}"
+    # A line end in a string is no JSON, in whatever layout the recording is.
+    if tsotest.survey([ORDERED.replace("F", "\n")])[0].refusal != (1, 0):
+        yield "a line end in a string"
+    for call in (tsotest.judge, lambda it: tsotest.survey([it])):
+        for it in (72, None, [1], 1.5):
+            try:
+                call(it)
+                yield f"{it!r} is taken for a text"
+            except TypeError:
+                pass
+
+
+def coded():
+    """The codes of the library, and what a recording has at most, are what the module says."""
+    def of(*cores, version=1, writes=(), **more):
+        return json.dumps({"cores": cores, "version": version, "writes": writes, **more})
+
+    fence, load = {"k": "F"}, {"a": 0, "k": "L", "r": 1}
+    store = {"a": 0, "k": "S", "w": 1}
+    ring = [[{"a": (c + 15) % 16, "k": "L", "r": 1, "s": 2 * ((c + 15) % 16) + 1}, {"a": c, "k": "S", "w": 1}] for c in range(16)]
+    kinds = tsotest.Kind
+    wanted = [
+        (of([fence]), (kinds.ORDERED, None, None, None)),
+        (of([store, {"a": 0, "k": "L", "r": 0, "s": None}], writes=[[0]]), (kinds.OVERLOOK, (1, 0), None, None)),
+        (of([*[fence] * 510, store, {"a": 0, "k": "L", "r": 0, "s": None}], writes=[[510]]), (kinds.OVERLOOK, (511, 510), None, None)),
+        (of([{"a": 0, "k": "R", "r": 1, "s": 0, "w": 1}], writes=[[0]]), (kinds.CYCLE, None, 1, None)),
+        (of(*ring, writes=[[2 * c + 1] for c in range(16)]), (kinds.CYCLE, None, 32, None)),
+        ("no JSON", (kinds.UNREAD, None, None, (1, 0))),
+        ("{}", (kinds.UNREAD, None, None, (2, 0))),
+        (of(version=3), (kinds.UNREAD, None, None, (3, 0))),
+        (of([store]), (kinds.UNREAD, None, None, (4, 0))),
+        (of([*[fence] * 511, {**load, "s": 0}], writes=[[]]), (kinds.UNREAD, None, None, (5, 511))),
+        (of([*[fence] * 511, {**load, "s": None}], writes=[[]]), (kinds.UNREAD, None, None, (6, 511))),
+        (of([{**store, "a": a} for a in range(16)], writes=[*[[a] for a in range(15)], []]), (kinds.UNREAD, None, None, (7, 15))),
+    ]
+    limits = [
+        (tsotest.MAX_CORES, lambda n: of(*[[]] * n)),
+        (tsotest.MAX_EVENTS, lambda n: of([fence] * n)),
+        (tsotest.MAX_ADDRESSES, lambda n: of([{**store, "a": a} for a in range(n)], writes=[[a] for a in range(n)])),
+    ]
+    for most, text in limits:
+        wanted += [(text(most), (kinds.ORDERED, None, None, None)), (text(most + 1), (kinds.UNREAD, None, None, (4, 0)))]
+    for text, want in wanted:
+        it = tsotest.survey([text])[0]
+        if (it.kind, it.overlook, it.cycle, it.refusal) != want:
+            yield f"code {it.code} is {it.kind!r}, {it.overlook}, {it.cycle}, {it.refusal}; want {want}"
 
 
 def refused(what, words, is_of_design):
@@ -124,12 +199,55 @@ def recorders():
         yield following.recording()
 
 
+def next_runs():
+    """The next run begins with the last write of each address and with the initial value of one that nobody wrote; after a fault it does
+    not begin."""
+    r = tsotest.Recorder(2)
+    r.initial(0x44, 8)
+    for value in (1, 2, 3):
+        r.store(0, 0x40, value)
+        r.commit(0, 0x40, value)
+    r.load(1, 0x44, 8)
+    for _ in range(2):
+        r.recording()
+        r = r.next()
+        r.load(1, 0x40, 3)
+        r.load(1, 0x44, 8)
+        want = '{"cores":[[],[{"a":0,"k":"L","r":3,"s":null},{"a":1,"k":"L","r":8,"s":null}]],"init":[3,8],"version":2,"writes":[[],[]]}\n'
+        if r.recording() != want:
+            yield r.recording()
+    full = tsotest.Recorder(1)
+    for value in range(1, 514):
+        try:
+            full.store(0, 0x40, value)
+            full.commit(0, 0x40, value)
+        except tsotest.NoRecording:
+            pass
+    for call in (full.next, full.recording, full.program, full.judge, lambda: full.load(0, 0x40, 512), lambda: full.commit(0, 0x40, 512)):
+        if not refused(call, "more than 512 events", False):
+            yield "a recorder goes on after a fault"
+
+
+def names():
+    """A name has at most 8 characters: an x and 7 digits."""
+    r = tsotest.Recorder(1)
+    for address in (0x10000000, 0xFFFFFFF, 0x10000001):
+        r.load(0, address, 0)
+    if r.program() != "core\nld a0\nld xfffffff\nld a2\n":
+        yield r.program()
+    r = tsotest.Recorder(1)
+    r.initial(0x40, 4294967295)
+    r.failed_cas(0, 0x40, 4294967295)
+    if r.program() != "core\ncas x40 0 0\ninit x40 4294967295\n":
+        yield r.program()
+
+
 def main():
     program = Path(sys.argv[1]).resolve()
     files = [it.relative_to(DATA) for folder in ("classics", "limits", "recordings") for it in sorted(DATA.glob(f"{folder}/*.json"))]
     with ThreadPoolExecutor(4) as pool:
         failed = [it for part in pool.map(lambda file: [*differs(program, file)], files) for it in part]
-    failed += [*surveyed(program), *recorders()]
+    failed += [*surveyed(program), *layouts(), *coded(), *recorders(), *next_runs(), *names()]
     if tsotest.version() + "\n" != commanded(program, ["--version"])[1]:
         failed.append(f"the version is {tsotest.version()}")
     print(*failed, sep="\n", end="\n" * bool(failed))
